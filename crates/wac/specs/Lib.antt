@@ -1,0 +1,9 @@
+pub mod Ends
+pub mod FirstLanguage
+pub mod Plain
+pub mod PlainViews
+pub mod Packages
+pub mod FirstEncoding
+pub mod EncodeViews
+pub mod WorkspaceView
+pub mod StoredKeys

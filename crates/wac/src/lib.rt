@@ -1,0 +1,11 @@
+//! A workspace of WebAssembly components, and the sources that compose them.
+#![tactic(auto)]
+
+mod ends;
+mod first;
+mod packages;
+mod workspace;
+
+pub use ends::{ByteSink, ByteSource, MAX_SOURCE_LENGTH, StreamError};
+pub use first::parse::ParseFault;
+pub use workspace::{AddPackageError, Workspace};

@@ -1,0 +1,14 @@
+pub mod LebLaws
+pub mod Codes
+pub mod OneReading
+pub mod Loops
+pub mod Rows
+pub mod Components
+pub mod Steps
+pub mod Replace
+pub mod SameWirings
+pub mod OneWiring
+pub mod Earlier
+pub mod Written
+pub mod Extending
+pub mod Distinct

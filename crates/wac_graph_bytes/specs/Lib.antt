@@ -1,0 +1,12 @@
+pub mod Leb
+pub mod Entries
+pub mod Spelling
+pub mod Sizes
+pub mod ComponentNames
+pub mod Wirings
+pub mod Typing
+pub mod Meaning
+pub mod Writing
+pub mod Views
+pub mod Declaring
+pub mod Counting

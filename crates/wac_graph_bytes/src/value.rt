@@ -1,0 +1,33 @@
+//! What stands in entries and holds no memory.
+
+pub use wac_types_base::PrimitiveType;
+
+/// What an index counts.
+#[derive(Clone, Copy, Debug, PartialEq, Eq, Hash)]
+pub enum Sort {
+    Func,
+    Ty,
+    Component,
+    Instance,
+    Module,
+}
+
+/// The type of a value: a primitive type, or the index of a type entry.
+#[derive(Clone, Copy, Debug, PartialEq, Eq, Hash)]
+pub enum ValueType {
+    Primitive(PrimitiveType),
+    Index(u32),
+}
+
+/// What an import is, or what an export is said to be.
+#[derive(Clone, Copy, Debug, PartialEq, Eq, Hash)]
+pub enum Description {
+    Module(u32),
+    Func(u32),
+    /// The type of that index.
+    Equal(u32),
+    /// A fresh resource.
+    Resource,
+    Component(u32),
+    Instance(u32),
+}

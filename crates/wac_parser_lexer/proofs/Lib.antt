@@ -1,0 +1,13 @@
+pub mod Joins
+pub mod Suffixes
+pub mod WordLaws
+pub mod CommentLaws
+pub mod TextLaws
+pub mod AsciiLaws
+pub mod BlockLaws
+pub mod FrontLaws
+pub mod PieceLaws
+pub mod ItemLaws
+pub mod DocLaws
+pub mod StandLaws
+pub mod RefusedLaws

@@ -1,0 +1,10 @@
+use Rattle.std.proofs.Common.{◌≡◌, List, map, IfOk, ap, subst, ◌∙◌}
+use Rattle.wac_parser_lexer.specs.Items.{Doc, docs_ahead}
+use Rattle.wac_parser_lexer.specs.Docs.{doc_of}
+use Rattle.wac_parser_lexer.proofs.DocLaws.{docs_first}
+use Rattle.wac_parser_lexer.proofs.lexer.Lexer.comments.Goals as goal
+
+pub returns : goal.returns
+returns c =
+    let P : List Doc → Type 0 = λ (ds : List Doc). IfOk c.docs_from.result (λ v. map doc_of v.items ≡ ds) in
+    subst P (docs_first c.self.inside.source.now c.self.inside.at c.self.inside.last ∙ ap docs_ahead c.self.view_is) c.docs_from.ensures

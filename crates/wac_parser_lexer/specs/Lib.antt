@@ -1,0 +1,11 @@
+pub mod Words
+pub mod Longest
+pub mod Spellings
+pub mod Tokens
+pub mod Scan
+pub mod Front
+pub mod Pieces
+pub mod Items
+pub mod Docs
+pub mod Stands
+pub mod Refused

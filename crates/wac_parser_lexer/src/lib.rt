@@ -1,0 +1,25 @@
+//! The tokens of a source.
+#![tactic(auto)]
+
+mod docs;
+mod error;
+mod front;
+mod laws;
+mod lexer;
+mod pieces;
+mod refused;
+mod scan;
+mod span;
+mod token;
+
+pub use error::Error;
+pub use laws::{items_in_order, longest_token, pieces_of_sources};
+pub use lexer::Lexer;
+pub use span::{SourceSpan, span_in};
+pub use token::Token;
+
+/// What a lexer answers.
+pub type LexerResult<T> = Result<T, Error>;
+
+#[cfg(test)]
+mod tests;

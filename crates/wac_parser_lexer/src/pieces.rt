@@ -1,0 +1,86 @@
+//! A text cut into blanks, comments, tokens and faults.
+
+ghost use Rattle.std.specs.Prelude.{◌≡◌, ◌<◌, ◌≤◌, length, IfSome};
+ghost use Rattle.std.specs.List.{prefix_len};
+ghost use Rattle.wac_parser_lexer.specs.Pieces as spec;
+
+use crate::LexerResult;
+use crate::error::Error;
+use crate::front::token_at;
+use crate::scan::block_comment_len;
+use crate::token::Token;
+
+fn is_blank(b: u8) -> bool
+    ensures { result ≡ spec.is_blank b }
+{
+    b == b' ' || b == b'\t' || b == b'\r' || b == b'\n'
+}
+
+fn is_continuation(b: u8) -> bool
+    ensures { result ≡ spec.is_continuation b }
+{
+    127 < b && b < 192
+}
+
+fn is_comment(token: Token) -> bool
+    ensures { result ≡ spec.is_comment token }
+{
+    matches!(token, Token::Comment | Token::BlockComment)
+}
+
+/// Whether the text begins with a `/*` that has no `*/`.
+fn is_unclosed(z: &[u8]) -> bool
+    ensures { result ≡ spec.is_unclosed z.now }
+{
+    match z {
+        [b'/', b'*', ..] => block_comment_len(z) == 0,
+        _ => false,
+    }
+}
+
+fn continuations_len(z: &[u8]) -> usize
+    ensures value { result ≡ prefix_len spec.is_continuation z.now }
+    ensures fits { result ≤ length z.now }
+{
+    z.iter().take_while(|b| is_continuation(**b)).count()
+}
+
+/// How many bytes the first character has.
+fn char_len(z: &[u8]) -> usize
+    requires { 0 < length z.now }
+    ensures value { result ≡ spec.char_len z.now }
+    ensures fits { (1 ≤ result) × (result ≤ length z.now) }
+{
+    1 + continuations_len(&z[1..])
+}
+
+/// A token, or the fault at a character that begins none.
+fn token_or_fault(z: &[u8], found: Option<(Token, usize)>) -> (Option<LexerResult<Token>>, usize)
+    requires some { 0 < length z.now }
+    requires within { IfSome found (λ t. (1 ≤ t.1) × (t.1 ≤ length z.now)) }
+    ensures value { result ≡ spec.token_or_fault z.now found }
+    ensures fits { (1 ≤ result.1) × (result.1 ≤ length z.now) }
+{
+    match found {
+        Some((token, len)) if is_comment(token) => (None, len),
+        Some((token, len)) => (Some(Ok(token)), len),
+        None if z[0] == b'"' => (Some(Err(Error::UnterminatedString)), 1),
+        None => (Some(Err(Error::UnexpectedToken)), char_len(z)),
+    }
+}
+
+/// What stands at the front of a text, nothing for blanks and comments, and how long it is.
+#[tactic(auto, unfolding(crate::specs::Pieces::front_piece))]
+pub(crate) fn front_piece(z: &[u8]) -> (Option<LexerResult<Token>>, usize)
+    requires { 0 < length z.now }
+    ensures value { result ≡ spec.front_piece z.now }
+    ensures fits { (1 ≤ result.1) × (result.1 ≤ length z.now) }
+{
+    if is_blank(z[0]) {
+        return (None, 1);
+    }
+    if is_unclosed(z) {
+        return (Some(Err(Error::UnterminatedComment)), z.len());
+    }
+    token_or_fault(z, token_at(z))
+}

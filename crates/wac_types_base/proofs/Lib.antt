@@ -1,0 +1,13 @@
+pub mod GraphLemmas
+pub mod Relation
+pub mod Looked
+pub mod Loops
+pub mod Adding
+pub mod Standing
+pub mod Places
+pub mod Walking
+pub mod Replacing
+pub mod Slots
+pub mod Examples
+pub mod Copying
+pub mod PairNames

@@ -1,0 +1,7 @@
+use Rattle.std.proofs.Common.{◌≡◌, ◌∙◌, ap, refl, sym}
+use Rattle.wac_types_base.specs.Entries.{entries_of, value_at}
+use Rattle.wac_types_base.proofs.Looked.{looked}
+use Rattle.wac_types_base.proofs.containers.NamedMap.get.Goals as goal
+
+pub returns : goal.returns
+returns g c = c.get.ensures.value ∙ looked c.args.name.now c.self.inside.map.entries ∙ ap (λ l. value_at l c.args.name.now) c.self.view_is

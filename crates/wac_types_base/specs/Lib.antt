@@ -1,0 +1,12 @@
+pub mod Graph
+pub mod Entries
+pub mod Record
+pub mod Collection
+pub mod Copying
+pub mod Tree
+pub mod Fits
+pub mod Stated
+pub mod Discrete
+pub mod Reaching
+pub mod View
+pub mod Copies

@@ -1,0 +1,28 @@
+//! The types of the component model, as collections of entries with typed ids.
+#![tactic(auto)]
+
+pub mod containers;
+mod copies;
+pub mod copy;
+pub mod core_types;
+pub mod defined;
+pub mod ids;
+pub mod item;
+mod remap;
+pub mod types;
+pub mod types_mut;
+pub mod walk;
+
+pub use containers::{Items, NamedMap, Names, Text};
+pub use copy::copy_world;
+pub use core_types::{
+    CoreExtern, CoreFuncType, CoreImports, CoreRefType, CoreType, HeapType, ModuleType,
+};
+pub use defined::{
+    DefinedType, Enum, Flags, FuncType, Interface, Record, Resource, ResourceAlias, UsedType,
+    Variant, World,
+};
+pub use ids::{DefinedTypeId, FuncTypeId, InterfaceId, ModuleTypeId, ResourceId, WorldId};
+pub use item::{ExternKind, FuncKind, ItemKind, PrimitiveType, Type, ValueType};
+pub use types::Types;
+pub use types_mut::TypesMut;
