@@ -23,9 +23,10 @@ use Rattle.wac_graph_bytes.specs.Typing.{Meaning, Item, Made, Part, Known, Code,
 use Rattle.wac_graph_bytes.specs.Meaning.{State, start, step, steps, adds, arguments_of}
 use Rattle.wac_graph_bytes.specs.Views.{view, params_view, argument_view, arguments_view}
 use Rattle.wac_graph_bytes.specs.Counting.{count_of, is_sort, entry_sort}
-use Rattle.wac_graph_bytes.specs.Meaning.{AreDistinct, IsApart, IsMade}
+use Rattle.wac_graph_bytes.specs.Meaning.{IsApart, IsMade}
+use Rattle.wac_types_base.specs.Entries.{AreDistinct}
 use Rattle.wac_graph_bytes.proofs.Written.{IsWhole}
-use Rattle.std.specs.List.{AllByRecursion, IsDistinct}
+use Rattle.std.specs.List.{AllByRecursion}
 use Rattle.wac_graph_bytes.proofs.Steps.{steps_push, get_last, counted}
 use Rattle.wac.specs.Plain.{Plain}
 use Rattle.wac.specs.declared.first.plain.PlainItem.{PlainItem}
@@ -202,13 +203,11 @@ asked_names : (fs : List (Name × Plain)) → names_of (map asked fs) ≡ names_
 asked_names [] = refl
 asked_names (f ∷ fs) = ap (λ (t : List Name). f.0 ∷ t) (asked_names fs)
 
-none_distinct : AreDistinct []
-unfolding IsDistinct
+none_distinct : AreDistinct {N = Name} []
 none_distinct = tt
 
 one_distinct : (n : Name) → AreDistinct (n ∷ [])
-unfolding IsDistinct
-one_distinct n = (tt, tt)
+one_distinct n = (λ a. a, tt)
 
 -- no component and no instance stands behind the imports
 pub few_components : (w : Worlds) (fs : List (Name × Plain)) (es : List CodeEntry) (n : ℕ) → ReadsTo w es (after_imports fs) → count_of sort.Component es ≡ 4294967295 → n ≤ length fs
@@ -242,3 +241,11 @@ whole_state w fs bytes (Some e) distinct = record {
   exports = one_distinct e.0;
   exports_apart = (tt, tt);
 }
+
+-- no entries
+pub empty_reads : (w : Worlds) (es : List CodeEntry) → es ≡ [] → ReadsTo w es start
+unfolding steps
+empty_reads w es e = ap (λ (t : List CodeEntry). steps w start (map view t)) e
+
+pub empty_whole : (w : Worlds) → IsWhole w start
+empty_whole w = record { stated = tt; imports = none_distinct; instances = tt; exports = none_distinct; exports_apart = tt }

@@ -7,7 +7,8 @@ use Rattle.wac_types_base.specs.Entries.{Name}
 use Rattle.wac.specs.declared.packages.StoredPackage.{StoredPackage}
 use Rattle.wac.specs.declared.workspace.Workspace.TheInside.{Inside}
 use Rattle.wac.specs.Packages.{VersionParts, Package, HasKey, HasBytes}
-use Rattle.wac.specs.WorkspaceView.{package_view, held}
+use Rattle.wac.specs.PackageView.{package_view}
+use Rattle.wac.specs.WorkspaceView.{held}
 use Rattle.wac.specs.StoredKeys.{IsKeyOf, IsAmongThem}
 
 among_map : {X Y : Type 0} (f : X → Y) (x : X) (xs : List X) → Among x xs → Among (f x) (map f xs)

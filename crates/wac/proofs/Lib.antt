@@ -4,3 +4,9 @@ pub mod PlainLaws
 pub mod EncodingLaws
 pub mod Searching
 pub mod Holding
+pub mod WorldLaws
+pub mod WorldTrees
+pub mod LabelLaws
+pub mod FirstSame
+pub mod InstanceTrees
+pub mod Wired

@@ -5,5 +5,9 @@ pub mod PlainViews
 pub mod Packages
 pub mod FirstEncoding
 pub mod EncodeViews
+pub mod PackageView
 pub mod WorkspaceView
 pub mod StoredKeys
+pub mod FirstMeaning
+pub mod FaultViews
+pub mod Composing

@@ -75,3 +75,7 @@ plain_under c n k = if is_label n then (plain_item c k >>= λ p. Some (n, p)) el
 -- each item under its name, if all are such functions under such names
 abbrev pub plain_items : Collection → List (Name × ItemKind) → Option (List (Name × Plain))
 plain_items c xs = each (λ x. plain_under c x.0 x.1) xs
+
+-- the functions that a world imports, if its imports and its exports are all such functions under such names
+abbrev pub plain_imports : Collection → World → Option (List (Name × Plain))
+plain_imports c w = plain_items c w.imports >>= λ is. plain_items c w.exports >>= λ es. Some is

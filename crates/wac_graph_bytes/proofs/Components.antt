@@ -1,7 +1,6 @@
 -- A component that is written section by section.
-use Rattle.std.proofs.Common.{◌≡◌, ℕ, ◌≤◌, Bool, true, List, [], ◌∷◌, ◌++◌, length, take, map, Option, Some, None, refl, sym, ap, ◌∙◌, append_assoc, arith, cond}
-use Rattle.std.specs.Prelude.{◌&&◌}
-use Rattle.std.specs.List.{flat_map, list_all}
+use Rattle.std.proofs.Common.{◌≡◌, ℕ, List, ◌++◌, sym, ap, ◌∙◌, append_assoc}
+use Rattle.std.specs.List.{flat_map}
 use Rattle.std.proofs.lemmas.List.Concat.{flat_map-append}
 use Rattle.wac_graph_bytes.specs.Entries.{Section}
 use Rattle.wac_graph_bytes.specs.Spelling.{section_bytes, preamble, component_bytes}

@@ -11,10 +11,10 @@ use Rattle.wac_graph_bytes.specs.declared.value.Sort.TheVariants as sort
 use Rattle.wac_graph_bytes.specs.Entries.{Entry, Argument, Alias, ExportAlias, OuterAlias, Core, Nested, Instantiate, Aliased, Typed, Imported, Exported, Section, Custom, CoreTypes, NestedComponent, Instances, Aliases, Types, Imports, Exports, section_entries, entries_of}
 use Rattle.wac_graph_bytes.specs.Leb.{unsigned}
 use Rattle.wac_graph_bytes.proofs.Replace.{Uses-weaker}
-use Rattle.wac_graph_bytes.specs.Spelling.{section_bytes, component_bytes, contents, preamble}
+use Rattle.wac_graph_bytes.specs.Spelling.{section_bytes, component_bytes, preamble}
 use Rattle.wac_graph_bytes.specs.Wirings.{Source, Absent, Outer, Inst, Projection, Bundle, Definition, IsNamed, IsPlain, IsClosed, Uses, Tag, OfBytes, OfDependency, Instantiation, Wiring, IsOrdered}
 use Rattle.wac_graph_bytes.specs.Typing.{◌>>=◌, Meaning, Item, Made, Part, Known, Code, Scope, space, with_one, with_core, found, found_at, Worlds, item_of, item_tree, part_of, export_named, item_of_sort, described, module_tree, type_of, alias_sort, alias_of, same_name}
-use Rattle.wac_graph_bytes.specs.Meaning.{source_of, tag_of, arguments_of, Listed, nothing_listed, makes, adds, imports_one, exports_one, states, State, start, step, steps, source_at, instantiation, wiring_of, Means}
+use Rattle.wac_graph_bytes.specs.Meaning.{source_of, tag_of, arguments_of, Listed, makes, adds, imports_one, exports_one, states, State, start, step, steps, source_at, instantiation, Means}
 use Rattle.wac_graph_bytes.proofs.Steps.{bind_some, some_of, some_is, states_keeps, core_kept}
 
 -- ---- what is kept: numbers below n, nested strings shorter than l
@@ -171,10 +171,10 @@ unfolding step
 sound_step w l st last (Core ds) e short h =
     let a = bind_some (module_tree ds) (λ t. Some (record st { scope = with_core t st.scope })) last e in
     subst (λ (x : State). IsSound l x) (some_is (record st { scope = with_core a.0 st.scope }) last a.2) (record {
-        scope = λ s i m e. h.scope s i m (ap (λ (xs : List Meaning). slice_get xs i) (sym (core_kept s a.0 st.scope)) ∙ e);
-        instances = h.instances;
-        exports = h.exports;
-      })
+      scope = λ s i m e. h.scope s i m (ap (λ (xs : List Meaning). slice_get xs i) (sym (core_kept s a.0 st.scope)) ∙ e);
+      instances = h.instances;
+      exports = h.exports;
+    })
 sound_step w l st last (Nested bytes) e short h = subst (λ (x : State). IsSound l x) (some_is (adds sort.Component (Code bytes) st) last e) (sound_adds l sort.Component (Code bytes) st h short)
 sound_step w l st last (Instantiate c as') e short h =
     let a = bind_some (found (st.scope ∷ []) sort.Component c >>= tag_of) (λ tag. arguments_of st.scope as' >>= λ arguments. Some (makes tag arguments st)) last e in
@@ -193,10 +193,10 @@ sound_step w l st last (Imported n d) e short h =
     let a = bind_some (described w (st.scope ∷ []) n d) (λ i. Some (imports_one n i st)) last e in
     let m = Item n a.0.0 a.0.1 in
     subst (λ (x : State). IsSound l x) (some_is (imports_one n a.0 st) last a.2) (record {
-        scope = scope_push (length st.listed.instances) l a.0.0 m st.scope h.scope tt;
-        instances = h.instances;
-        exports = h.exports;
-      })
+      scope = scope_push (length st.listed.instances) l a.0.0 m st.scope h.scope tt;
+      instances = h.instances;
+      exports = h.exports;
+    })
 sound_step w l st last (Exported x) e short h =
     let a = bind_some (found (st.scope ∷ []) x.sort x.index) (λ m. source_of m >>= λ y. states w m x.name x.stated st >>= λ st. Some (exports_one x.name x.sort m y st)) last e in
     let b = bind_some (source_of a.0) (λ y. states w a.0 x.name x.stated st >>= λ st. Some (exports_one x.name x.sort a.0 y st)) last a.2 in
@@ -209,10 +209,10 @@ sound_step w l st last (Exported x) e short h =
     let mid_is : mid ≡ c.0 = ap (λ (s : Scope). record { scope = s; listed = st.listed; stated = c.0.stated }) (sym k.scope) ∙ ap (λ (y : Listed). record { scope = c.0.scope; listed = y; stated = c.0.stated }) (sym k.listed) in
     let f : State → State = λ s. exports_one x.name x.sort a.0 b.0 s in
     subst (λ (x : State). IsSound l x) (ap f mid_is ∙ some_is (f c.0) last c.2) (record {
-        scope = scope_push n l x.sort a.0 st.scope h.scope below;
-        instances = h.instances;
-        exports = all_push (λ (a : Name × Source ℕ). Under n a.1) st.listed.exports (x.name, b.0) h.exports under;
-      })
+      scope = scope_push n l x.sort a.0 st.scope h.scope below;
+      instances = h.instances;
+      exports = all_push (λ (a : Name × Source ℕ). Under n a.1) st.listed.exports (x.name, b.0) h.exports under;
+    })
 
 sound_steps : (w : Worlds) (l : ℕ) (es : List Entry) (st last : State) → steps w st es ≡ Some last → AllByRecursion (NestedShort l) es → IsSound l st → IsSound l last
 unfolding steps

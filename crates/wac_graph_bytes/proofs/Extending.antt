@@ -1,11 +1,9 @@
 -- One more declaration behind the others.
-use Rattle.std.proofs.Common.{◌≡◌, ℕ, List, [], ◌∷◌, ◌++◌, Option, Some, None, refl, sym, ap, ◌∙◌, string_bytes}
-use Rattle.wac_types_base.specs.Tree.{Tree}
-use Rattle.wac_graph_bytes.specs.declared.value.Sort.{Sort}
+use Rattle.std.proofs.Common.{◌≡◌, List, [], ◌∷◌, ◌++◌, Option, Some, None, refl, sym, ap, ◌∙◌, string_bytes}
 use Rattle.wac_graph_bytes.specs.declared.value.Sort.TheVariants as sort
 use Rattle.wac_graph_bytes.specs.declared.entry.Declaration.{Declaration, Module, Defined, ComponentType', InstanceType', Alias, Import, Export}
 use Rattle.wac_graph_bytes.specs.Entries.{Declarations, End}
-use Rattle.wac_graph_bytes.specs.Typing.{◌>>=◌, Worlds, Scope, Meaning, Known, with_core, Inside, nothing_inside, defined, described, alias_of, alias_sort, module_tree, instance_tree, component_tree, adds_inside, imports_inside, exports_inside, declared}
+use Rattle.wac_graph_bytes.specs.Typing.{◌>>=◌, Worlds, Scope, Known, with_core, Inside, nothing_inside, defined, described, alias_of, alias_sort, module_tree, instance_tree, component_tree, adds_inside, imports_inside, exports_inside, declared}
 use Rattle.wac_graph_bytes.specs.Views.{defined_view, alias_view, module_view, before, row_view, declarations_of}
 
 pub bind_assoc : {A B C : Type 0} (o : Option A) (f : A → Option B) (g : B → Option C) → ((o >>= f) >>= g) ≡ (o >>= λ x. f x >>= g)

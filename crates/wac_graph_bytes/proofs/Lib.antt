@@ -12,3 +12,8 @@ pub mod Earlier
 pub mod Written
 pub mod Extending
 pub mod Distinct
+pub mod NameForms
+pub mod NameKinds
+pub mod Exemplified
+pub mod Rowed
+pub mod Looked

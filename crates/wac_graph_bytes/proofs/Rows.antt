@@ -111,8 +111,8 @@ all_written old out ds i le e f g =
     let n = count_is ds in
     let t = take_all i ds le in (
       e ∙ ap (λ (n : ℕ). old ++ (unsigned n ++ flat_map one_bytes (take i ds))) (sym n)
-      ∙ ap (λ (t : List Declaration). old ++ (unsigned (declaration_count (declarations_of ds)) ++ flat_map one_bytes t)) t
-      ∙ ap (λ (t : List ℕ). old ++ (unsigned (declaration_count (declarations_of ds)) ++ t)) (bytes_are ds),
+          ∙ ap (λ (t : List Declaration). old ++ (unsigned (declaration_count (declarations_of ds)) ++ flat_map one_bytes t)) t
+          ∙ ap (λ (t : List ℕ). old ++ (unsigned (declaration_count (declarations_of ds)) ++ t)) (bytes_are ds),
       and_from _ _ (ap (λ (n : ℕ). small n) n ∙ f) (sym (fits_are ds) ∙ ap (λ (t : List Declaration). list_all one_fits t) (sym t) ∙ g),
     )
 

@@ -1,7 +1,7 @@
 -- Wirings that are the same up to a renaming of instances.
 use Rattle.std.specs.Prelude.{slice_get}
 use Rattle.std.proofs.Common.{◌≡◌, ℕ, List, Option, Some, None, refl, sym, ap, ◌∙◌}
-use Rattle.wac_graph_bytes.specs.Wirings.{Source, Absent, Outer, Inst, Projection, Bundle, Definition, IsNamed, IsPlain, IsClosed, project, replace, rename, renamed, Uses, Instantiation, Wiring, Same, IsWritten}
+use Rattle.wac_graph_bytes.specs.Wirings.{Source, Absent, Outer, Inst, Projection, Bundle, Definition, IsNamed, IsPlain, IsClosed, project, rename, renamed, Uses, Instantiation, Wiring, Same, IsWritten}
 use Rattle.wac_types_base.specs.Entries.{Name}
 use Rattle.wac_graph_bytes.proofs.Replace.{replace-replace, Uses-weaker, uses_any}
 

@@ -1,9 +1,8 @@
 -- One more entry: what it adds, and that what stood stands.
-use Rattle.std.proofs.Common.{◌≡◌, ℕ, zero, suc, ◌+◌, ◌<◌, Bool, true, false, cond, List, [], ◌∷◌, ◌++◌, length, map, Option, Some, None, refl, sym, ap, ◌∙◌, subst, arith}
-use Rattle.std.specs.Prelude.{slice_get, string_bytes}
-use Rattle.std.specs.List.{count_by}
-use Rattle.std.proofs.lemmas.List.{length_push, map_push}
-use Rattle.std.proofs.lemmas.List.Sums.{sum_by_push, sum_by-cons}
+use Rattle.std.proofs.Common.{◌≡◌, ℕ, zero, suc, ◌+◌, cond, List, [], ◌∷◌, ◌++◌, length, map, Option, Some, None, refl, sym, ap, ◌∙◌, subst, arith}
+use Rattle.std.specs.Prelude.{slice_get}
+use Rattle.std.proofs.lemmas.List.{length_push}
+use Rattle.std.proofs.lemmas.List.Sums.{sum_by-cons}
 use Rattle.wac_types_base.specs.Entries.{Name}
 use Rattle.wac_types_base.specs.Tree.{Tree}
 use Rattle.wac_graph_bytes.specs.declared.value.Sort.{Sort}
@@ -11,9 +10,8 @@ use Rattle.wac_graph_bytes.specs.declared.value.Sort.TheVariants as sort
 use Rattle.wac_graph_bytes.specs.declared.value.Description.{Description}
 use Rattle.wac_graph_bytes.specs.declared.value.Description.TheVariants as desc
 use Rattle.wac_graph_bytes.specs.declared.entry.Entry.{Entry as CodeEntry}
-use Rattle.wac_graph_bytes.specs.Entries.{Entry, Argument, Core, Nested, Instantiate, Aliased, Typed, Imported, Exported}
-use Rattle.wac_graph_bytes.specs.Wirings.{Source, Tag}
-use Rattle.wac_graph_bytes.specs.Typing.{◌>>=◌, Meaning, Item, Made, Part, Known, Code, Scope, space, with_one, with_core, found, Worlds, item_of, described, described_as, type_at, as_sort, module_tree, type_of, alias_sort, alias_of}
+use Rattle.wac_graph_bytes.specs.Entries.{Entry, Core, Nested, Instantiate, Aliased, Typed, Imported, Exported}
+use Rattle.wac_graph_bytes.specs.Typing.{◌>>=◌, Meaning, Item, Made, Known, Code, Scope, space, with_one, with_core, found, Worlds, item_of, described, type_at, as_sort, module_tree, type_of, alias_sort, alias_of}
 use Rattle.wac_graph_bytes.specs.Meaning.{source_of, tag_of, arguments_of, makes, adds, imports_one, exports_one, states, State, start, step, steps}
 use Rattle.wac_graph_bytes.specs.Views.{view}
 use Rattle.wac_graph_bytes.specs.Counting.{same_sort, description_sort, entry_sort, is_sort, is_core, count_of, core_count}

@@ -1,17 +1,15 @@
 -- What a written component means: the sections of entries have these entries, and fit.
-use Rattle.std.proofs.Common.{◌≡◌, ℕ, Bool, true, false, List, [], ◌∷◌, ◌++◌, length, map, Option, Some, None, refl, sym, ap, ◌∙◌}
+use Rattle.std.proofs.Common.{◌≡◌, ℕ, Bool, true, false, List, [], ◌∷◌, ◌++◌, length, map, Option, Some, None, refl, ap, ◌∙◌}
 use Rattle.std.specs.Prelude.{◌&&◌}
-use Rattle.std.specs.List.{AllByRecursion, flat_map, list_all}
-use Rattle.std.proofs.lemmas.List.{append-nil}
-use Rattle.wac_types_base.specs.Entries.{Name, names_of}
+use Rattle.std.specs.List.{AllByRecursion, list_all}
+use Rattle.wac_types_base.specs.Entries.{Name, names_of, AreDistinct}
 use Rattle.wac_graph_bytes.specs.declared.value.Sort.{Sort}
 use Rattle.wac_graph_bytes.specs.Entries.{Entry, Core, Nested, Instantiate, Aliased, Typed, Imported, Exported, Section, section_entries, entries_of}
 use Rattle.wac_graph_bytes.specs.Spelling.{component_bytes, contents}
 use Rattle.wac_graph_bytes.specs.Sizes.{section_fits, name_fits, small}
-use Rattle.wac_graph_bytes.specs.Wirings.{Source}
 use Rattle.wac_graph_bytes.specs.Typing.{Worlds, item_tree}
-use Rattle.wac_graph_bytes.specs.Meaning.{State, start, steps, wiring_of, AreDistinct, IsApart, IsMade, Means}
-use Rattle.wac_graph_bytes.specs.Writing.{section_of, entry_fits, debug_part_fits, debug_names, debug_names_fit, debug_if, debug_if_fits, producers, producers_fit, producers_if, producers_if_fit, sections_for, sections_fit}
+use Rattle.wac_graph_bytes.specs.Meaning.{State, start, steps, wiring_of, IsApart, IsMade, Means}
+use Rattle.wac_graph_bytes.specs.Writing.{section_of, entry_fits, debug_part_fits, debug_names, debug_if, debug_if_fits, producers, producers_if, producers_if_fit, sections_for, sections_fit}
 
 -- the two tests of a conjunction
 pub and_parts : (a b : Bool) → (a && b) ≡ true → (a ≡ true) × (b ≡ true)

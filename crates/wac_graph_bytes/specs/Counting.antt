@@ -1,5 +1,5 @@
 -- Which index each entry adds, and how many there are.
-use Rattle.std.specs.Prelude.{◌≡◌, ℕ, Bool, true, false, List, Option, Some, None, count_by}
+use Rattle.std.specs.Prelude.{ℕ, Bool, true, false, List, Option, Some, None, count_by}
 use Rattle.wac_graph_bytes.specs.declared.value.Sort.{Sort}
 use Rattle.wac_graph_bytes.specs.declared.value.Sort.TheVariants as sort
 use Rattle.wac_graph_bytes.specs.declared.value.Description.{Description}

@@ -1,6 +1,6 @@
 -- The entries of a component, in order, as the binary format of the component model has them. A name is its bytes,
 -- an index a number.
-use Rattle.std.specs.Prelude.{ℕ, Bool, List, [], ◌∷◌, ◌++◌, map, Option}
+use Rattle.std.specs.Prelude.{ℕ, Bool, List, [], ◌∷◌, map, Option}
 use Rattle.std.specs.List.{flat_map}
 use Rattle.wac_types_base.specs.Entries.{Name}
 use Rattle.wac_types_base.specs.declared.item.PrimitiveType.{PrimitiveType}

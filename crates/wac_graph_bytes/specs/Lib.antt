@@ -3,6 +3,7 @@ pub mod Entries
 pub mod Spelling
 pub mod Sizes
 pub mod ComponentNames
+pub mod NameTests
 pub mod Wirings
 pub mod Typing
 pub mod Meaning
@@ -10,3 +11,4 @@ pub mod Writing
 pub mod Views
 pub mod Declaring
 pub mod Counting
+pub mod Examples

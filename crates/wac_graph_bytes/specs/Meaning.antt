@@ -1,13 +1,13 @@
 -- The wiring that a component's entries state, and what a byte string means.
-use Rattle.std.specs.Prelude.{◌≡◌, ◌≢◌, ℕ, Bool, true, false, List, [], ◌∷◌, ◌++◌, length, map, Option, Some, None, slice_get, if◌then◌else◌, ◌||◌}
+use Rattle.std.specs.Prelude.{◌≡◌, ℕ, Bool, true, false, List, [], ◌∷◌, ◌++◌, length, Option, Some, None, slice_get, if◌then◌else◌, ◌||◌}
 use Rattle.std.specs.Option.{option_map}
-use Rattle.std.specs.List.{AllByRecursion, IsDistinct}
+use Rattle.std.specs.List.{AllByRecursion}
 use Rattle.wac_types_base.specs.Tree.{Tree}
 use Rattle.wac_graph_bytes.specs.declared.value.Sort.{Sort}
 use Rattle.wac_graph_bytes.specs.declared.value.Sort.TheVariants as sort
 use Rattle.wac_graph_bytes.specs.declared.value.Description.{Description}
-use Rattle.wac_types_base.specs.Entries.{Name, names_of, value_at}
-use Rattle.wac_graph_bytes.specs.Entries.{ExportEntry, Argument, Entry, Core, Nested, Instantiate, Aliased, Typed, Imported, Exported, Section, entries_of}
+use Rattle.wac_types_base.specs.Entries.{Name, names_of, value_at, AreDistinct}
+use Rattle.wac_graph_bytes.specs.Entries.{Argument, Entry, Core, Nested, Instantiate, Aliased, Typed, Imported, Exported, Section, entries_of}
 use Rattle.wac_graph_bytes.specs.Spelling.{component_bytes}
 use Rattle.wac_graph_bytes.specs.Sizes.{section_fits}
 use Rattle.wac_graph_bytes.specs.ComponentNames.{IsDependency}
@@ -126,10 +126,6 @@ wiring_of l = record {
 }
 
 -- ---- what a byte string means
-
--- no two of the names are the same
-abbrev pub AreDistinct : List Name → Type 0
-AreDistinct ns = IsDistinct same_name ns
 
 -- it asks for no package
 abbrev pub IsApart : Listed → Source ℕ → Type 0

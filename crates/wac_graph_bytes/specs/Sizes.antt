@@ -1,13 +1,11 @@
 -- Which entries can be written: each count, length and size in them is a number of 32 bits.
-use Rattle.std.specs.Prelude.{ℕ, ◌^◌, Bool, true, false, List, [], ◌∷◌, length, nat_lt, ◌&&◌, ◌||◌, Option, Some, None}
+use Rattle.std.specs.Prelude.{ℕ, ◌^◌, Bool, true, List, length, nat_lt, ◌&&◌, ◌||◌, Option, Some, None}
 use Rattle.std.specs.List.{list_all}
-use Rattle.wac_graph_bytes.specs.declared.value.ValueType.{ValueType}
-use Rattle.wac_graph_bytes.specs.declared.module.CoreValue.{CoreValue}
 use Rattle.wac_graph_bytes.specs.declared.module.Limits.{Limits}
 use Rattle.wac_graph_bytes.specs.declared.module.CoreDescription.{CoreDescription}
 use Rattle.wac_graph_bytes.specs.declared.module.CoreDescription.TheVariants as core
 use Rattle.wac_types_base.specs.Entries.{Name}
-use Rattle.wac_graph_bytes.specs.Entries.{DefinedType, PrimitiveEntry, RecordEntry, VariantEntry, ListEntry, OptionEntry, FixedListEntry, TupleEntry, FlagsEntry, EnumEntry, ResultEntry, OwnEntry, BorrowEntry, StreamEntry, FutureEntry, FuncEntry, Alias, ExportAlias, OuterAlias, CoreDeclaration, CoreImport, CoreSignature, CoreExport, Declarations, End, CoreThen, TypeThen, ComponentTypeThen, InstanceTypeThen, AliasThen, ImportThen, ExportThen, TypeEntry, PlainType, ComponentType, InstanceType, ExportEntry, Argument, Section, Custom, CoreTypes, NestedComponent, Instances, Aliases, Types, Imports, Exports}
+use Rattle.wac_graph_bytes.specs.Entries.{DefinedType, RecordEntry, VariantEntry, FixedListEntry, TupleEntry, FlagsEntry, EnumEntry, FuncEntry, Alias, ExportAlias, OuterAlias, CoreDeclaration, CoreImport, CoreSignature, CoreExport, Declarations, End, CoreThen, TypeThen, ComponentTypeThen, InstanceTypeThen, AliasThen, ImportThen, ExportThen, TypeEntry, PlainType, ComponentType, InstanceType, ExportEntry, Argument, Section, Custom, CoreTypes, NestedComponent, Instances, Aliases, Types, Imports, Exports}
 use Rattle.wac_graph_bytes.specs.Spelling.{contents, declaration_count}
 
 -- a number of 32 bits

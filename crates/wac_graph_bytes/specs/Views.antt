@@ -1,9 +1,8 @@
 -- What the entries of the code are, without where they lie in memory.
-use Rattle.std.specs.Prelude.{◌≡◌, ℕ, List, [], ◌∷◌, ◌++◌, map, Option, string_bytes, String}
+use Rattle.std.specs.Prelude.{ℕ, List, [], ◌∷◌, map, Option, string_bytes}
 use Rattle.wac_types_base.specs.Entries.{Name, texts_of}
 use Rattle.wac_graph_bytes.specs.declared.value.Sort.{Sort}
 use Rattle.wac_graph_bytes.specs.declared.value.ValueType.{ValueType}
-use Rattle.wac_graph_bytes.specs.declared.value.Description.{Description}
 use Rattle.wac_graph_bytes.specs.declared.entry.Param.{Param}
 use Rattle.wac_graph_bytes.specs.declared.entry.Case.{Case}
 use Rattle.wac_graph_bytes.specs.declared.entry.NamedIndex.{NamedIndex}

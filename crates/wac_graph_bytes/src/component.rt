@@ -104,11 +104,7 @@ fn push_debug_part(alloc: Global, out: &mut Vec<u8>, names: &SortNames) -> Resul
 
 /// What the section of the names for debuggers holds.
 #[tactic(auto, using(crate::proofs::Loops::unfit_item))]
-fn push_debug_inside(
-    alloc: Global,
-    out: &mut Vec<u8>,
-    names: &[SortNames],
-) -> Result<(), SizeError>
+fn push_debug_inside(alloc: Global, out: &mut Vec<u8>, names: &[SortNames]) -> Result<(), SizeError>
     ensures { let all = all_names_view names.now in Appends result out.old.items out.new.items (contents (debug_names all)) (list_all debug_part_fits all) }
 {
     push_name(out, "component-name")?;

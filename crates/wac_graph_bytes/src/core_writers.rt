@@ -142,10 +142,7 @@ pub fn push_core_declaration(out: &mut Vec<u8>, d: &CoreDeclaration) -> Result<(
 
 /// A core module type: its declarations.
 #[tactic(auto, using(crate::proofs::Loops::unfit_item))]
-pub fn push_core_type(
-    out: &mut Vec<u8>,
-    declarations: &[CoreDeclaration],
-) -> Result<(), SizeError>
+pub fn push_core_type(out: &mut Vec<u8>, declarations: &[CoreDeclaration]) -> Result<(), SizeError>
     ensures { Appends result out.old.items out.new.items (core_type (module_view declarations.now)) (core_type_fits (module_view declarations.now)) }
 {
     out.push(0x50)?;

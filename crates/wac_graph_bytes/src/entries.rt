@@ -77,10 +77,7 @@ pub fn push_export(out: &mut Vec<u8>, e: &Export) -> Result<(), SizeError>
 }
 
 /// A component type.
-pub fn push_component_type(
-    out: &mut Vec<u8>,
-    declarations: &[Declaration],
-) -> Result<(), SizeError>
+pub fn push_component_type(out: &mut Vec<u8>, declarations: &[Declaration]) -> Result<(), SizeError>
     ensures { Appends result out.old.items out.new.items (type_entry (ComponentType (declarations_of declarations.now))) (type_fits (ComponentType (declarations_of declarations.now))) }
 {
     out.push(0x41)?;
@@ -88,10 +85,7 @@ pub fn push_component_type(
 }
 
 /// An instance type.
-pub fn push_instance_type(
-    out: &mut Vec<u8>,
-    declarations: &[Declaration],
-) -> Result<(), SizeError>
+pub fn push_instance_type(out: &mut Vec<u8>, declarations: &[Declaration]) -> Result<(), SizeError>
     ensures { Appends result out.old.items out.new.items (type_entry (InstanceType (declarations_of declarations.now))) (type_fits (InstanceType (declarations_of declarations.now))) }
 {
     out.push(0x42)?;

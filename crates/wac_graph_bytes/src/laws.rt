@@ -1,10 +1,13 @@
 //! Laws over the definitions alone: each is the contract of a function without a body.
-ghost use Rattle.std.specs.Prelude.{◌≡◌, ◌<◌, List, ℕ, length, Some};
-ghost use Rattle.wac_graph_bytes.specs.Entries.{Section};
+ghost use Rattle.std.specs.Prelude.{◌≡◌, ◌<◌, List, ℕ, length, Some, []};
+ghost use Rattle.wac_graph_bytes.specs.Entries.{Section, InstanceType};
 ghost use Rattle.wac_graph_bytes.specs.Spelling.{component_bytes};
 ghost use Rattle.wac_graph_bytes.specs.Wirings.{Wiring, Instantiation, OfBytes, Same, IsClosed, IsOrdered, IsWritten};
-ghost use Rattle.wac_graph_bytes.specs.Typing.{Worlds};
+ghost use Rattle.wac_graph_bytes.specs.Typing.{Worlds, no_scope, type_of};
 ghost use Rattle.wac_graph_bytes.specs.Meaning.{Means};
+ghost use Rattle.wac_graph_bytes.specs.Examples.{passed_bytes, passed_wiring, twice_bytes, empty_bytes, empty_wiring, interface_declarations, interface_collection, interface_id};
+ghost use Rattle.wac_types_base.specs.Tree.{tree_of};
+ghost use Rattle.wac_types_base.specs.declared.item.ItemKind.{ItemKind};
 
 /// A byte string is the spelling of at most one list of sections.
 pub fn one_reading()
@@ -34,4 +37,13 @@ pub fn sources_are_earlier()
 /// A nested string is shorter than the one around it.
 pub fn nested_is_shorter()
     ensures { (worlds : Worlds) (bytes : List ℕ) (v : Wiring ℕ) → Means worlds bytes v → (k : ℕ) (x : Instantiation ℕ) (nested : List ℕ) → v.at k ≡ Some x → x.tag ≡ OfBytes nested → length nested < length bytes }
+{}
+
+/// Two byte strings from outside mean what they should; one that exports a name twice means nothing; an instance type has the tree of the same interface in a
+/// collection.
+pub fn examples()
+    ensures passed { (worlds : Worlds) → Means worlds passed_bytes passed_wiring }
+    ensures twice { (worlds : Worlds) (v : Wiring ℕ) → Means worlds twice_bytes v → ⊥ }
+    ensures empty { (worlds : Worlds) → Means worlds empty_bytes empty_wiring }
+    ensures interface { (worlds : Worlds) → type_of worlds no_scope (InstanceType interface_declarations) ≡ tree_of interface_collection (ItemKind.Instance interface_id) }
 {}

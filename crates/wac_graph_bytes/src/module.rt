@@ -1,4 +1,10 @@
 //! Core module types.
+ghost use Rattle.std.specs.Prelude.{◌≡◌, ◌≢◌, IfSome, None};
+ghost use Rattle.wac_graph_bytes.specs.declared.module.CoreReference.{CoreReference};
+ghost use Rattle.wac_graph_bytes.specs.declared.module.CoreValue.{CoreValue};
+ghost use Rattle.wac_graph_bytes.specs.Typing.{core_reference_type, core_type};
+
+use wac_types_base::{CoreRefType, CoreType, HeapType};
 
 /// What a core reference points to.
 #[derive(Clone, Copy, Debug, PartialEq, Eq, Hash)]
@@ -45,4 +51,31 @@ pub enum CoreDeclaration {
     /// The parameters and results of a function.
     Signature(Vec<CoreValue>, Vec<CoreValue>),
     Export(String, CoreDescription),
+}
+
+/// How that reference type is written, if it can be.
+pub fn core_reference(ty: CoreRefType) -> Option<CoreReference>
+    ensures written { IfSome result (λ r. core_reference_type r ≡ ty) }
+    ensures none { result ≡ None → (r : CoreReference) → core_reference_type r ≢ ty }
+{
+    match (ty.nullable, ty.heap_type) {
+        (true, HeapType::Func) => Some(CoreReference::Func),
+        (true, HeapType::Extern) => Some(CoreReference::Extern),
+        _ => None,
+    }
+}
+
+/// How that core type is written, if it can be.
+pub fn core_value(ty: CoreType) -> Option<CoreValue>
+    ensures written { IfSome result (λ v. core_type v ≡ ty) }
+    ensures none { result ≡ None → (v : CoreValue) → core_type v ≢ ty }
+{
+    match ty {
+        CoreType::I32 => Some(CoreValue::I32),
+        CoreType::I64 => Some(CoreValue::I64),
+        CoreType::F32 => Some(CoreValue::F32),
+        CoreType::F64 => Some(CoreValue::F64),
+        CoreType::V128 => Some(CoreValue::V128),
+        CoreType::Ref(r) => core_reference(r).map(CoreValue::Reference),
+    }
 }

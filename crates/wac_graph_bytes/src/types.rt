@@ -81,10 +81,7 @@ pub fn push_answer(out: &mut Vec<u8>, ty: Option<ValueType>) -> Result<(), Alloc
     ensures { OnOk result (out.new.items ≡ out.old.items ++ answer ty) }
 {
     match ty {
-        None => {
-            out.push(0x01)?;
-            out.push(0x00)?;
-        }
+        None => out.extend_from_slice(&[0x01, 0x00])?,
         Some(ty) => {
             out.push(0x00)?;
             push_value_type(out, ty)?;
@@ -163,11 +160,7 @@ fn push_one_type(out: &mut Vec<u8>, byte: u8, ty: ValueType) -> Result<(), Alloc
 }
 
 /// A byte, and a type or none.
-fn push_one_optional(
-    out: &mut Vec<u8>,
-    byte: u8,
-    ty: Option<ValueType>,
-) -> Result<(), AllocError>
+fn push_one_optional(out: &mut Vec<u8>, byte: u8, ty: Option<ValueType>) -> Result<(), AllocError>
     ensures { OnOk result (out.new.items ≡ out.old.items ++ byte ∷ optional ty) }
 {
     out.push(byte)?;
@@ -181,7 +174,6 @@ fn push_labels(out: &mut Vec<u8>, byte: u8, names: &[String]) -> Result<(), Size
     out.push(byte)?;
     push_names(out, names)
 }
-
 
 /// A list of a length that is always the same.
 fn push_fixed_size_list(out: &mut Vec<u8>, ty: ValueType, length: u32) -> Result<(), SizeError>

@@ -11,3 +11,6 @@ pub mod ItemLaws
 pub mod DocLaws
 pub mod StandLaws
 pub mod RefusedLaws
+pub mod KindLaws
+pub mod CutLaws
+pub mod CharLaws

@@ -11,7 +11,7 @@ use Rattle.wac_parser_lexer.specs.Tokens.{IsNext}
 use Rattle.wac_parser_lexer.specs.Front.{token_at}
 use Rattle.wac_parser_lexer.specs.Pieces.{is_blank, is_continuation, is_comment, is_unclosed, char_len, token_or_fault, front_piece, Piece, skipped, item, piece_by, pieces_at}
 use Rattle.wac_parser_lexer.specs.Items.{Doc, doc_in, items_of}
-use Rattle.wac_parser_lexer.specs.Stands.{IsFirst, HasNoToken, HasNoComment, IsSkipped, IsItem, Stands, StandInOrder}
+use Rattle.wac_parser_lexer.specs.Stands.{IsFirst, HasNoToken, HasNoComment, IsUnclosed, IsPlain, IsSkipped, IsItem, Stands, StandInOrder}
 use Rattle.wac_parser_lexer.proofs.WordLaws.{run_fits}
 use Rattle.wac_parser_lexer.proofs.BlockLaws.{block_longest}
 use Rattle.wac_parser_lexer.proofs.FrontLaws.{token_next, token_none, token_some}
@@ -40,22 +40,22 @@ first_of_next z kind n word rest size next =
 token_is : (z : List ℕ) (kind : Token) (n : ℕ) → token_at z ≡ Some (kind, n) → (1 ≤ n) × IsFirst z kind n
 token_is z kind n e = let t = token_next z kind n e in first_of_next z kind n t.0 t.1 t.2 t.3
 
-comment_by : (z : List ℕ) (kind : Token) (n : ℕ) → (1 ≤ n) × IsFirst z kind n → (t : Bool) → is_comment kind ≡ t → IsPiece z (cond t None (Some (Ok kind)), n)
-comment_by z kind n f true e = (f.0, f.1.0, inr (kind, e, f.1))
-comment_by z kind n f false e = (f.0, f.1.0, (e, f.1))
+comment_by : (z : List ℕ) (kind : Token) (n : ℕ) → IsPlain z → (1 ≤ n) × IsFirst z kind n → (t : Bool) → is_comment kind ≡ t → IsPiece z (cond t None (Some (Ok kind)), n)
+comment_by z kind n plain f true e = (f.0, f.1.0, inr (plain, (kind, e, f.1)))
+comment_by z kind n plain f false e = (f.0, f.1.0, (plain, e, f.1))
 
-char_fits : (z : List ℕ) → 0 < length z → char_len z ≤ length z
+pub char_fits : (z : List ℕ) → 0 < length z → char_len z ≤ length z
 char_fits [] some = absurd (omega arith)
 char_fits (b ∷ z) some = let f = run_fits is_continuation z in omega (arith, f)
 
-quote_by : (z : List ℕ) → 0 < length z → HasNoToken z → (t : Bool) → eqb (get_or z 0 0) 34 ≡ t
+quote_by : (z : List ℕ) → 0 < length z → IsPlain z → HasNoToken z → (t : Bool) → eqb (get_or z 0 0) 34 ≡ t
     → IsPiece z (cond {A = Option (Result Token Error) × ℕ} t (Some (Err fault.UnterminatedString), 1) (Some (Err fault.UnexpectedToken), char_len z))
-quote_by z some none true e = (omega arith, omega arith, (eqb-true (get_or z 0 0) 34 e, none, refl))
-quote_by z some none false e = (omega arith, char_fits z some, (e, none, refl))
+quote_by z some plain none true e = (omega arith, omega arith, (plain, eqb-true (get_or z 0 0) 34 e, none, refl))
+quote_by z some plain none false e = (omega arith, char_fits z some, (plain, some, e, none, refl))
 
-scan_by : (z : List ℕ) → 0 < length z → (t : Option (Token × ℕ)) → token_at z ≡ t → IsPiece z (token_or_fault z t)
-scan_by z some (Some t) e = comment_by z t.0 t.1 (token_is z t.0 t.1 e) (is_comment t.0) refl
-scan_by z some None e = quote_by z some (token_none z e) (eqb (get_or z 0 0) 34) refl
+scan_by : (z : List ℕ) → 0 < length z → IsPlain z → (t : Option (Token × ℕ)) → token_at z ≡ t → IsPiece z (token_or_fault z t)
+scan_by z some plain (Some t) e = comment_by z t.0 t.1 plain (token_is z t.0 t.1 e) (is_comment t.0) refl
+scan_by z some plain None e = quote_by z some plain (token_none z e) (eqb (get_or z 0 0) 34) refl
 
 two_front : (z : List ℕ) (b c : ℕ) → b ≢ 0 → c ≢ 0 → get_or z 0 0 ≡ b → get_or z 1 0 ≡ c → (rest : List ℕ) × (z ≡ b ∷ c ∷ rest)
 two_front [] b c h k e f = absurd (h (sym e))
@@ -68,22 +68,32 @@ no_comment z e word rest split is =
     let s = block_longest.some word is in
     absurd (omega (arith, g, s, e, ap block_comment_len split))
 
-unclosed_is : (z : List ℕ) → is_unclosed z ≡ true → (rest : List ℕ) × (z ≡ 47 ∷ 42 ∷ rest) × HasNoComment z × (length z ≡ length z)
+pub unclosed_is : (z : List ℕ) → is_unclosed z ≡ true → IsUnclosed z
 unclosed_is z h =
     let t = both_true (opens_comment (get_or z 0 0) (get_or z 1 0)) (eqb (block_comment_len z) 0) h in
     let o = both_true (eqb (get_or z 0 0) 47) (eqb (get_or z 1 0) 42) t.0 in
     let f = two_front z 47 42 (λ e. omega arith) (λ e. omega arith) (eqb-true (get_or z 0 0) 47 o.0) (eqb-true (get_or z 1 0) 42 o.1) in
-    (f.0, f.1, no_comment z (eqb-true (block_comment_len z) 0 t.1), refl)
+    (f.0, f.1, no_comment z (eqb-true (block_comment_len z) 0 t.1))
 
-unclosed_by : (z : List ℕ) → 0 < length z → (t : Bool) → is_unclosed z ≡ t
+none_long : (z : List ℕ) → HasNoComment z → (n : ℕ) → block_comment_len z ≡ n → n ≡ 0
+none_long z none zero e = refl
+none_long z none (suc n) e = let f = block_longest.found z (omega (arith, e)) in absurd (none f.0 f.1 f.2 f.4)
+
+pub is_unclosed_of : (z : List ℕ) → IsUnclosed z → is_unclosed z ≡ true
+is_unclosed_of z h =
+    let zero_long = none_long z h.2 (block_comment_len z) refl in
+    let front : opens_comment (get_or z 0 0) (get_or z 1 0) ≡ true = ap (λ (y : List ℕ). opens_comment (get_or y 0 0) (get_or y 1 0)) h.1 in
+    rw (front, zero_long) refl
+
+unclosed_by : (z : List ℕ) → 0 < length z → is_blank (get_or z 0 0) ≡ false → (t : Bool) → is_unclosed z ≡ t
     → IsPiece z (cond {A = Option (Result Token Error) × ℕ} t (Some (Err fault.UnterminatedComment), length z) (token_or_fault z (token_at z)))
-unclosed_by z some true e = (omega arith, omega arith, unclosed_is z e)
-unclosed_by z some false e = scan_by z some (token_at z) refl
+unclosed_by z some plain true e = (omega arith, omega arith, (unclosed_is z e, refl))
+unclosed_by z some plain false e = scan_by z some (plain, λ u. (let t = is_unclosed_of z u in cc)) (token_at z) refl
 
 blank_by : (z : List ℕ) → 0 < length z → (t : Bool) → is_blank (get_or z 0 0) ≡ t
     → IsPiece z (cond {A = Option (Result Token Error) × ℕ} t (None, 1) (cond (is_unclosed z) (Some (Err fault.UnterminatedComment), length z) (token_or_fault z (token_at z))))
 blank_by z some true e = (omega arith, omega arith, inl (e, refl))
-blank_by z some false e = unclosed_by z some (is_unclosed z) refl
+blank_by z some false e = unclosed_by z some e (is_unclosed z) refl
 
 front_is : (z : List ℕ) → 0 < length z → IsPiece z (front_piece z)
 unfolding front_piece
@@ -140,11 +150,11 @@ stands_within source at (skipped span text ∷ ps) h = let w = stands_within sou
 stands_within source at (item token span ∷ ps) h = let w = stands_within source (at + span.length) ps h.2 in omega (arith, w)
 
 item_some : (z : List ℕ) (token : Result Token Error) (n : ℕ) → IsItem z token n → 0 < n
-item_some z (Ok kind) zero h = let some = token_some kind (take zero z) h.1.1.is in absurd (omega arith)
+item_some z (Ok kind) zero h = let some = token_some kind (take zero z) h.2.1.is in absurd (omega arith)
 item_some z (Ok kind) (suc n) h = omega arith
-item_some z (Err fault.UnterminatedComment) n h = omega (arith, h.3, ap length h.1)
-item_some z (Err fault.UnterminatedString) n h = omega (arith, h.2)
-item_some z (Err fault.UnexpectedToken) n h = omega (arith, h.2)
+item_some z (Err fault.UnterminatedComment) n h = omega (arith, h.1, ap length h.0.1)
+item_some z (Err fault.UnterminatedString) n h = omega (arith, h.3)
+item_some z (Err fault.UnexpectedToken) n h = omega (arith, h.4)
 item_some z (Err (fault.DisallowedBidirectionalOverride c)) n h = absurd h
 item_some z (Err (fault.DiscouragedUnicodeCodepoint c)) n h = absurd h
 item_some z (Err (fault.DisallowedControlCode c)) n h = absurd h

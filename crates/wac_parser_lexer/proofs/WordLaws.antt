@@ -81,7 +81,7 @@ word_greatest [] rest h = absurd h
 word_greatest (c ∷ cs) rest (inl h) = rw h.0 (omega (arith, run_greatest is_lower_word_byte cs rest h.1))
 word_greatest (c ∷ cs) rest (inr h) = rw (upper_not_lower c h.0, h.0) (omega (arith, run_greatest is_upper_word_byte cs rest h.1))
 
-word_some : (w : List ℕ) → IsWord w → 0 < length w
+pub word_some : (w : List ℕ) → IsWord w → 0 < length w
 word_some [] h = absurd h
 word_some (c ∷ cs) h = omega arith
 
@@ -90,7 +90,7 @@ word_longest = record { found = word_found; greatest = word_greatest; some = wor
 
 -- ---- bytes that do not stand in a word
 
-abbrev Lacks : ℕ → List ℕ → Type 0
+abbrev pub Lacks : ℕ → List ℕ → Type 0
 Lacks x w = (i : ℕ) → i < length w → get_or w i 0 ≢ x
 
 lacks_by : (x : ℕ) (p : ℕ → Bool) → p x ≡ false → (w : List ℕ) → AllByRecursion (λ b. p b ≡ true) w → Lacks x w
@@ -98,7 +98,7 @@ lacks_by x p refused [] h i l = absurd (omega arith)
 lacks_by x p refused (b ∷ w) h zero l = λ e. (let a = ap p e in cc)
 lacks_by x p refused (b ∷ w) h (suc i) l = lacks_by x p refused w h.1 i (omega arith)
 
-lacks_front : (x c : ℕ) (cs : List ℕ) → c ≢ x → Lacks x cs → Lacks x (c ∷ cs)
+pub lacks_front : (x c : ℕ) (cs : List ℕ) → c ≢ x → Lacks x cs → Lacks x (c ∷ cs)
 lacks_front x c cs h k zero l = h
 lacks_front x c cs h k (suc i) l = k i (omega arith)
 
@@ -107,11 +107,11 @@ word_lacks x a b c d [] h = absurd h
 word_lacks x a b c d (f ∷ w) (inl h) = lacks_front x f w (λ e. (let g = ap is_lower e in cc)) (lacks_by x is_lower_word_byte a w h.1)
 word_lacks x a b c d (f ∷ w) (inr h) = lacks_front x f w (λ e. (let g = ap is_upper e in cc)) (lacks_by x is_upper_word_byte b w h.1)
 
-append_lacks : (x : ℕ) (v w : List ℕ) → Lacks x v → Lacks x w → Lacks x (v ++ w)
+pub append_lacks : (x : ℕ) (v w : List ℕ) → Lacks x v → Lacks x w → Lacks x (v ++ w)
 append_lacks x [] w h k = k
 append_lacks x (b ∷ v) w h k = lacks_front x b (v ++ w) (h zero (omega arith)) (append_lacks x v w (λ i l. h (suc i) (omega arith)) k)
 
-joined_lacks : (x joint : ℕ) (L : List ℕ → Type 0) → ((w : List ℕ) → L w → Lacks x w) → joint ≢ x → (w : List ℕ) → Joined L joint w → Lacks x w
+pub joined_lacks : (x joint : ℕ) (L : List ℕ → Type 0) → ((w : List ℕ) → L w → Lacks x w) → joint ≢ x → (w : List ℕ) → Joined L joint w → Lacks x w
 joined_lacks x joint L h apart _ (one {w = w} is) = h w is
 joined_lacks x joint L h apart _ (more {w = v} {ws = ws} is j) = append_lacks x v (joint ∷ ws) (h v is) (lacks_front x joint ws apart (joined_lacks x joint L h apart ws j))
 
@@ -125,7 +125,7 @@ label_longest = joined_longest IsWord word_len 45 word_longest (word_lacks 45 re
 label_lacks_colon : (w : List ℕ) → IsLabel w → Lacks 58 w
 label_lacks_colon = joined_lacks 58 45 IsWord (word_lacks 58 refl refl refl refl) (λ e. omega arith)
 
-ident_lacks_colon : (w : List ℕ) → IsIdent w → Lacks 58 w
+pub ident_lacks_colon : (w : List ℕ) → IsIdent w → Lacks 58 w
 ident_lacks_colon w (inl h) = label_lacks_colon w h
 ident_lacks_colon w (inr h) = rw h.2 (lacks_front 58 37 h.0 (λ e. omega arith) (label_lacks_colon h.0 h.1))
 
@@ -198,17 +198,17 @@ ident_lacks : (x : ℕ) → is_lower_word_byte x ≡ false → is_upper_word_byt
 ident_lacks x a b c d e f w (inl h) = label_lacks x a b c d e w h
 ident_lacks x a b c d e f w (inr h) = rw h.2 (lacks_front x 37 h.0 f (label_lacks x a b c d e h.0 h.1))
 
-ident_lacks_slash : (w : List ℕ) → IsIdent w → Lacks 47 w
+pub ident_lacks_slash : (w : List ℕ) → IsIdent w → Lacks 47 w
 ident_lacks_slash = ident_lacks 47 refl refl refl refl (λ e. omega arith) (λ e. omega arith)
 
 ident_lacks_at : (w : List ℕ) → IsIdent w → Lacks 64 w
 ident_lacks_at = ident_lacks 64 refl refl refl refl (λ e. omega arith) (λ e. omega arith)
 
 -- what follows lacks a byte where both parts and the joint do
-followed_lacks : (x joint : ℕ) (L M : List ℕ → Type 0) → ((w : List ℕ) → L w → Lacks x w) → ((w : List ℕ) → M w → Lacks x w) → joint ≢ x → (w : List ℕ) → Followed L joint M w → Lacks x w
+pub followed_lacks : (x joint : ℕ) (L M : List ℕ → Type 0) → ((w : List ℕ) → L w → Lacks x w) → ((w : List ℕ) → M w → Lacks x w) → joint ≢ x → (w : List ℕ) → Followed L joint M w → Lacks x w
 followed_lacks x joint L M h k apart w f = rw f.4 (append_lacks x f.0 (joint ∷ f.1) (h f.0 f.2) (lacks_front x joint f.1 apart (k f.1 f.3)))
 
-names_lacks : (x : ℕ) → ((w : List ℕ) → IsIdent w → Lacks x w) → 58 ≢ x → (w : List ℕ) → IsNames w → Lacks x w
+pub names_lacks : (x : ℕ) → ((w : List ℕ) → IsIdent w → Lacks x w) → 58 ≢ x → (w : List ℕ) → IsNames w → Lacks x w
 names_lacks x h apart = followed_lacks x 58 IsIdent (Joined IsIdent 58) h (joined_lacks x 58 IsIdent h apart) apart
 
 path_lacks_at : (w : List ℕ) → IsPath w → Lacks 64 w
@@ -222,7 +222,7 @@ pub path_longest : IsLongest IsPath path_len
 unfolding path_len
 path_longest = followed_longest IsNames (Joined IsIdent 47) names_len (idents_len 47) 47 names_longest (idents_longest 47 ident_lacks_slash) (names_lacks 47 ident_lacks_slash (λ e. omega arith))
 
-run_lacks : (x : ℕ) (p : ℕ → Bool) → p x ≡ false → (w : List ℕ) → IsRun p w → Lacks x w
+pub run_lacks : (x : ℕ) (p : ℕ → Bool) → p x ≡ false → (w : List ℕ) → IsRun p w → Lacks x w
 run_lacks x p e w h = lacks_by x p e w (passes_run p w h)
 
 version_parts_longest : IsLongest (Joined (IsRun is_version_byte) 46) version_parts_len

@@ -37,3 +37,7 @@ abbrev pub ScanIsLongest : Type 0
 ScanIsLongest =
     ((z : List ℕ) (kind : Token) (n : ℕ) → token_at z ≡ Some (kind, n) → (word : List ℕ) × (rest : List ℕ) × (length word ≡ n) × IsNext z kind word rest)
     × ((z : List ℕ) → token_at z ≡ None → (kind : Token) (word rest : List ℕ) → z ≡ word ++ rest → IsToken kind word → ⊥)
+
+-- The longest token at the front of a text is what the scan gives, of one kind and one length alone.
+abbrev pub LongestIsScanned : Type 0
+LongestIsScanned = (z : List ℕ) (kind : Token) (word rest : List ℕ) → IsNext z kind word rest → token_at z ≡ Some (kind, length word)

@@ -1,5 +1,7 @@
 -- What the pieces and the items of a source are, said of the source.
 use Rattle.std.specs.Prelude.{◌≡◌, ℕ, ◌+◌, ◌<◌, ◌≤◌, ◌⊎◌, true, false, ◌==◌, List, [], ◌∷◌, ◌++◌, length, take, drop, slice_index, Result, Ok, Err}
+use Rattle.std.specs.Char.{encode_utf8, len_utf8}
+use Rattle.std.specs.Str.{IsUtf8}
 use Rattle.wac_parser_lexer.specs.declared.token.Token.{Token}
 use Rattle.wac_parser_lexer.specs.declared.error.Error.{Error}
 use Rattle.wac_parser_lexer.specs.declared.error.Error.TheVariants as fault
@@ -20,16 +22,24 @@ HasNoToken z = (kind : Token) (word rest : List ℕ) → z ≡ word ++ rest → 
 abbrev pub HasNoComment : List ℕ → Type 0
 HasNoComment z = (word rest : List ℕ) → z ≡ word ++ rest → IsBlockComment word → ⊥
 
+-- The text begins with a `/*` that has no `*/`.
+abbrev pub IsUnclosed : List ℕ → Type 0
+IsUnclosed z = (rest : List ℕ) × (z ≡ 47 ∷ 42 ∷ rest) × HasNoComment z
+
+-- Neither a blank nor such a `/*` is at the front.
+abbrev pub IsPlain : List ℕ → Type 0
+IsPlain z = (is_blank (slice_index z 0) ≡ false) × (IsUnclosed z → ⊥)
+
 -- So many bytes at the front of the text are skipped: a blank, or a comment.
 abbrev pub IsSkipped : List ℕ → ℕ → Type 0
-IsSkipped z n = ((is_blank (slice_index z 0) ≡ true) × (n ≡ 1)) ⊎ ((kind : Token) × (is_comment kind ≡ true) × IsFirst z kind n)
+IsSkipped z n = ((is_blank (slice_index z 0) ≡ true) × (n ≡ 1)) ⊎ (IsPlain z × ((kind : Token) × (is_comment kind ≡ true) × IsFirst z kind n))
 
 -- So many bytes at the front of the text are this item.
 abbrev pub IsItem : List ℕ → Result Token Error → ℕ → Type 0
-IsItem z (Ok kind) n = (is_comment kind ≡ false) × IsFirst z kind n
-IsItem z (Err fault.UnterminatedComment) n = (rest : List ℕ) × (z ≡ 47 ∷ 42 ∷ rest) × HasNoComment z × (n ≡ length z)
-IsItem z (Err fault.UnterminatedString) n = (slice_index z 0 ≡ 34) × HasNoToken z × (n ≡ 1)
-IsItem z (Err fault.UnexpectedToken) n = ((slice_index z 0 == 34) ≡ false) × HasNoToken z × (n ≡ char_len z)
+IsItem z (Ok kind) n = IsPlain z × (is_comment kind ≡ false) × IsFirst z kind n
+IsItem z (Err fault.UnterminatedComment) n = IsUnclosed z × (n ≡ length z)
+IsItem z (Err fault.UnterminatedString) n = IsPlain z × (slice_index z 0 ≡ 34) × HasNoToken z × (n ≡ 1)
+IsItem z (Err fault.UnexpectedToken) n = IsPlain z × (0 < length z) × ((slice_index z 0 == 34) ≡ false) × HasNoToken z × (n ≡ char_len z)
 IsItem z (Err _) n = ⊥
 
 -- The pieces are those of the source from this place on, one behind the other, to its end.
@@ -44,10 +54,14 @@ StandInOrder source from [] = from ≤ length source
 StandInOrder source from (i ∷ is) =
     (from ≤ i.span.offset) × (0 < i.span.length) × IsItem (drop i.span.offset source) i.token i.span.length × StandInOrder source (i.span.offset + i.span.length) is
 
--- every source is cut whole into pieces
+-- every source is cut whole into its pieces, and in no other way
 abbrev pub SourcesAreCut : Type 0
-SourcesAreCut = (source : List ℕ) → Stands source 0 (pieces_at source 0)
+SourcesAreCut = (source : List ℕ) → Stands source 0 (pieces_at source 0) × ((ps : List Piece) → Stands source 0 ps → ps ≡ pieces_at source 0)
 
 -- the items of every source stand in order
 abbrev pub ItemsStandInOrder : Type 0
 ItemsStandInOrder = (source : List ℕ) → StandInOrder source 0 (input_of source).items
+
+-- the fault at a character of a text is over that character alone
+abbrev pub FaultIsOneCharacter : Type 0
+FaultIsOneCharacter = (z : List ℕ) → IsUtf8 z → 0 < length z → (c : ℕ) × (rest : List ℕ) × (z ≡ encode_utf8 c ++ rest) × (char_len z ≡ len_utf8 c)

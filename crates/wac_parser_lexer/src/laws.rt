@@ -1,14 +1,19 @@
 //! What holds of the definitions, for those who read a source by them.
 
-ghost use Rattle.wac_parser_lexer.specs.Front.{ScanIsLongest};
-ghost use Rattle.wac_parser_lexer.specs.Stands.{SourcesAreCut, ItemsStandInOrder};
+ghost use Rattle.wac_parser_lexer.specs.Front.{ScanIsLongest, LongestIsScanned};
+ghost use Rattle.wac_parser_lexer.specs.Stands.{SourcesAreCut, ItemsStandInOrder, FaultIsOneCharacter};
 
 /// The scan of a token gives the longest one, and a keyword where an identifier is as long.
 pub fn longest_token()
     ensures { ScanIsLongest }
 {}
 
-/// Every source is cut whole into blanks, comments, tokens and faults.
+/// The longest token at a place is of one kind and one length alone, which the scan gives.
+pub fn only_longest_token()
+    ensures { LongestIsScanned }
+{}
+
+/// Every source is cut whole into blanks, comments, tokens and faults, and in one way alone.
 pub fn pieces_of_sources()
     ensures { SourcesAreCut }
 {}
@@ -16,4 +21,9 @@ pub fn pieces_of_sources()
 /// The items of a source stand in order, none over another, and each is what stands at its span.
 pub fn items_in_order()
     ensures { ItemsStandInOrder }
+{}
+
+/// The fault at a character that begins no token is over that character alone.
+pub fn unexpected_is_one_character()
+    ensures { FaultIsOneCharacter }
 {}

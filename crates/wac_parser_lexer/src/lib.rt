@@ -13,7 +13,10 @@ mod span;
 mod token;
 
 pub use error::Error;
-pub use laws::{items_in_order, longest_token, pieces_of_sources};
+pub use laws::{
+    items_in_order, longest_token, only_longest_token, pieces_of_sources,
+    unexpected_is_one_character,
+};
 pub use lexer::Lexer;
 pub use span::{SourceSpan, span_in};
 pub use token::Token;

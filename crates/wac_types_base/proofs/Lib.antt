@@ -4,10 +4,12 @@ pub mod Looked
 pub mod Loops
 pub mod Adding
 pub mod Standing
-pub mod Places
 pub mod Walking
 pub mod Replacing
 pub mod Slots
 pub mod Examples
 pub mod Copying
 pub mod PairNames
+pub mod Telling
+pub mod Used
+pub mod Visited

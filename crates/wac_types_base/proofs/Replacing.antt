@@ -1,18 +1,29 @@
 -- Replacing a node's entry, where none of the new children leads back to it.
 use Rattle.std.proofs.Common.{◌≡◌, ℕ, zero, suc, ◌+◌, ◌<◌, ◌≤◌, List, [], ◌∷◌, length, Option, Some, None, IsSome, is_some, Bool, true, false, refl, sym, ap, subst, ◌∙◌, ◌⊎◌, inl, inr, arith, slice_get, slice_set, ◌==◌, ◌&&◌, nat_lt, if◌then◌else◌, length-append, length-set}
 use Rattle.std.proofs.lemmas.List.{length-map}
-use Rattle.wac_types_base.proofs.Standing.{is_some-entry_at, is_some-labelled}
+use Rattle.wac_types_base.proofs.Standing.{is_some-labelled}
 use Rattle.std.proofs.lemmas.Bool.Decides.{nat_tests}
 use Rattle.std.specs.Option.{option_map}
 use Rattle.wac_types_base.specs.declared.item.ValueType.{ValueType}
 use Rattle.wac_types_base.specs.declared.item.«Type».{«Type» as TypeKind}
 use Rattle.wac_types_base.specs.declared.item.ItemKind.{ItemKind}
+use Rattle.wac_types_base.specs.declared.defined.DefinedType.{DefinedType}
+use Rattle.wac_types_base.specs.declared.ids.DefinedTypeId.{DefinedTypeId}
+use Rattle.wac_types_base.specs.declared.defined.Resource.{Resource}
+use Rattle.wac_types_base.specs.declared.ids.ResourceId.{ResourceId}
+use Rattle.wac_types_base.specs.declared.defined.FuncType.{FuncType}
+use Rattle.wac_types_base.specs.declared.ids.FuncTypeId.{FuncTypeId}
 use Rattle.wac_types_base.specs.declared.defined.Interface.{Interface}
 use Rattle.wac_types_base.specs.declared.ids.InterfaceId.{InterfaceId}
+use Rattle.wac_types_base.specs.declared.defined.World.{World}
+use Rattle.wac_types_base.specs.declared.ids.WorldId.{WorldId}
+use Rattle.wac_types_base.specs.declared.core_types.ModuleType.{ModuleType}
+use Rattle.wac_types_base.specs.declared.ids.ModuleTypeId.{ModuleTypeId}
 use Rattle.wac_types_base.specs.Record.{Collection}
-use Rattle.wac_types_base.specs.Collection.{Shape, Entry, Slot, SlotStands, HasChildren, entry_at, labelled, type_of, interface_entry, value_node, type_node, item_node, Stands, rows, depth, IsAcyclic, unfolding_of, with_interface}
+use Rattle.wac_types_base.specs.Collection.{Shape, Entry, Slot, SlotStands, HasChildren, entry_at, labelled, type_of, borrow_of, own_of, defined_entry, resource_entry, func_entry, interface_entry, world_entry, module_entry, value_node, type_node, item_node, Stands, rows, depth, IsAcyclic, unfolding_of}
 use Rattle.wac_types_base.specs.Graph.{Whole, Wholes, node, both, skip, wholes_by, grow, whole, UnfoldsWithin, Among}
-use Rattle.wac_types_base.specs.Reaching.{Reaches, here, below, IsInterface, LeadsBack, KeepsOthers}
+use Rattle.wac_types_base.specs.Reaching.{Reaches, here, below, value_entry_kind, entry_kind, NamesEntry, LeadsBack, KeepsOthers, KeepsStanding, with_defined_type, with_resource, with_func_type, with_interface, with_world, with_module_type}
+use Rattle.wac_types_base.specs.Discrete.{ItemKind-discrete}
 use Rattle.wac_types_base.proofs.Adding.{All-among, children_in_rows}
 use Rattle.wac_types_base.proofs.GraphLemmas.{unfolds_within_rows, both-some, skip-some, grow-some, row_of, value_of, is_there, no_depth, node_of, node_has, whole-extends, whole-changed, child_of_whole}
 
@@ -82,114 +93,369 @@ entry_at-set_other f n es i x col j h = guarded-same (col == n) _ _ (λ e. ap (o
 pub entry_at-set_same : {E : Type 0} (f : E → Entry) (n : ℕ) (es : List E) (i : ℕ) (x : E) (col : ℕ) → col ≡ n → i < length es → entry_at f n (slice_set es i x) col i ≡ Some (f x)
 entry_at-set_same f n es i x col e h = rw (number_same col n e, slice_get-set_same es i x h) refl
 
-same_id : (i j : InterfaceId) → j.collection ≡ i.collection → j.index ≡ i.index → j ≡ i
-same_id i j p q =
-    let first : ℕ → InterfaceId = λ a. record { collection = a; index = j.index } in
-    let second : ℕ → InterfaceId = λ b. record { collection = i.collection; index = b } in
+names_or_not : (t k : ItemKind) → NamesEntry t k ⊎ (NamesEntry t k → ⊥)
+names_or_not t k = decided (ItemKind-discrete (entry_kind k) t)
+  where
+    decided : Dec (entry_kind k ≡ t) → NamesEntry t k ⊎ (NamesEntry t k → ⊥)
+    decided (yes e) = inl e
+    decided (no h) = inr h
+
+-- a kind has its entry's node, with its own label
+labelled_same : (o : Option Entry) → o ≡ labelled (λ s. s) o
+labelled_same None = refl
+labelled_same (Some e) = refl
+
+labelled_twice : (l m : Shape → Shape) (o : Option Entry) → labelled l (labelled m o) ≡ labelled (λ s. l (m s)) o
+labelled_twice l m None = refl
+labelled_twice l m (Some e) = refl
+
+module _ (c : Collection) where
+  value_wrapped : (v : ValueType) → (l : Shape → Shape) × (value_node c v ≡ labelled l (item_node c (value_entry_kind v)))
+  unfolding item_node
+  value_wrapped (ValueType.Primitive p) = (λ s. s, refl)
+  value_wrapped (ValueType.Borrow r) = (borrow_of, refl)
+  value_wrapped (ValueType.Own r) = (own_of, refl)
+  value_wrapped (ValueType.Defined d) = (λ s. s, labelled_same (value_node c (ValueType.Defined d)))
+
+  node_wrapped : (k : ItemKind) → (l : Shape → Shape) × (item_node c k ≡ labelled l (item_node c (entry_kind k)))
+  unfolding item_node
+  node_wrapped (ItemKind.Ty (TypeKind.Resource r)) = (λ s. s, labelled_same (type_node c (TypeKind.Resource r)))
+  node_wrapped (ItemKind.Ty (TypeKind.Func f)) = (type_of, refl)
+  node_wrapped (ItemKind.Ty (TypeKind.Value v)) = let w = value_wrapped v in (λ s. type_of (w.0 s), ap (labelled type_of) w.1 ∙ labelled_twice type_of w.0 (item_node c (value_entry_kind v)))
+  node_wrapped (ItemKind.Ty (TypeKind.Interface i)) = (type_of, refl)
+  node_wrapped (ItemKind.Ty (TypeKind.World i)) = (type_of, refl)
+  node_wrapped (ItemKind.Ty (TypeKind.Module i)) = (type_of, refl)
+  node_wrapped (ItemKind.Func f) = (λ s. s, labelled_same (item_node c (ItemKind.Func f)))
+  node_wrapped (ItemKind.Instance f) = (λ s. s, labelled_same (item_node c (ItemKind.Instance f)))
+  node_wrapped (ItemKind.Component f) = (λ s. s, labelled_same (item_node c (ItemKind.Component f)))
+  node_wrapped (ItemKind.Module f) = (λ s. s, labelled_same (item_node c (ItemKind.Module f)))
+  node_wrapped (ItemKind.Value v) = value_wrapped v
+
+labelled_there : (l : Shape → Shape) (o : Option Entry) → IsSome o → IsSome (labelled l o)
+labelled_there l None h = h
+labelled_there l (Some e) h = refl
+
+-- one entry is another, whose children stood and do not lead back
+module _ (c d : Collection) (t : ItemKind) (e : Entry)
+    (unchanged : (k : ItemKind) → (NamesEntry t k → ⊥) → item_node d k ≡ item_node c k)
+    (changed : item_node d t ≡ Some e) (stood : Stands c t) (same_rows : length (rows d) ≡ length (rows c))
+    (acyclic : IsAcyclic c) (has : HasChildren c e) (apart : LeadsBack c t e → ⊥) where
+  names_stood : (k : ItemKind) → NamesEntry t k → Stands c k
+  names_stood k is =
+      let w = node_wrapped c k in
+      subst (λ o. IsSome o) (sym w.1) (labelled_there w.0 (item_node c (entry_kind k)) (subst (λ j. Stands c j) (sym is) stood))
+
+  new_node : (k : ItemKind) → NamesEntry t k → (s : Shape) × (item_node d k ≡ Some (s, e.1))
+  new_node k is =
+      let w = node_wrapped d k in
+      (w.0 e.0, w.1 ∙ ap (λ j. labelled w.0 (item_node d j)) is ∙ ap (labelled w.0) changed)
+
+  pub replaced-acyclic : IsAcyclic d
+  unfolding IsAcyclic Fresh
+  replaced-acyclic =
+      unfolds_within_rows (item_node d) (depth c + suc (depth c)) (rows d) (children_in_rows d)
+      (replaced_within (item_node c) (item_node d) (NamesEntry t) unchanged (names_or_not t)
+      (λ k is. let n = new_node k is in (n.0, e.1, n.1, λ j m. (All-among (SlotStands c) e.1 (Some j) has m, λ r. apart (j, m, r))))
+      (λ k stands. elim (names_or_not t k) [ inl is ↦ names_stood k is | inr other ↦ subst (λ o. IsSome o) (unchanged k other) stands ])
+      (depth c) acyclic)
+
+  pub replaced-keeps : KeepsOthers c d t
+  unfolding IsAcyclic unfolding_of
+  replaced-keeps k stands unreached =
+      let v = value_of _ (acyclic k stands) in
+      let same_depth : depth d ≡ depth c = ap (λ n. n + 2) same_rows in
+      rw same_depth (whole-unreached (item_node c) (item_node d) (NamesEntry t) unchanged (depth c) k v.0 unreached v.1 ∙ sym v.1)
+
+  pub replaced-stand : KeepsStanding c d
+  replaced-stand k stands = elim (names_or_not t k) [
+    | inl is ↦ let n = new_node k is in is_there _ (n.0, e.1) n.1
+    | inr other ↦ subst (λ o. IsSome o) (sym (unchanged k other)) stands
+  ]
+
+defined_same : (i j : DefinedTypeId) → j.collection ≡ i.collection → j.index ≡ i.index → ItemKind.Value (ValueType.Defined j) ≡ ItemKind.Value (ValueType.Defined i)
+defined_same i j p q =
+    let first : ℕ → ItemKind = λ a. ItemKind.Value (ValueType.Defined (record { collection = a; index = j.index })) in
+    let second : ℕ → ItemKind = λ b. ItemKind.Value (ValueType.Defined (record { collection = i.collection; index = b })) in
     ap first p ∙ ap second q
 
-both_hold : (a b i n : ℕ) → a ≡ b → i < n → ((a == b) && nat_lt i n) ≡ true
-both_hold a b i n h k = rw (number_same a b h) (test i n k)
-  where
-    test : (i n : ℕ) → i < n → nat_lt i n ≡ true
-    test i n k = grind (arith, nat_tests)
+module _ (c : Collection) (id : DefinedTypeId) (own : id.collection ≡ c.number) (within : id.index < length c.defined_types) (x : DefinedType) where
+  defined_value_unchanged : (v : ValueType) → (NamesEntry (ItemKind.Value (ValueType.Defined id)) (ItemKind.Value v) → ⊥) → value_node (with_defined_type c id.index x) v ≡ value_node c v
+  defined_value_unchanged (ValueType.Primitive p) h = refl
+  defined_value_unchanged (ValueType.Borrow j) h = refl
+  defined_value_unchanged (ValueType.Own j) h = refl
+  defined_value_unchanged (ValueType.Defined j) h = entry_at-set_other defined_entry c.number c.defined_types id.index x j.collection j.index (λ p q. h (defined_same id j (p ∙ sym own) q))
 
-same_or_not : (a b : ℕ) → (a ≡ b) ⊎ (a ≡ b → ⊥)
-same_or_not a b = by_test (a == b) refl
-  where
-    by_test : (t : Bool) → (a == b) ≡ t → (a ≡ b) ⊎ (a ≡ b → ⊥)
-    by_test true e = inl (same_number a b e)
-    by_test false e = inr (λ p. absurd (cc (number_same a b p, e)))
+  defined_type_unchanged : (t : TypeKind) → (NamesEntry (ItemKind.Value (ValueType.Defined id)) (ItemKind.Ty t) → ⊥) → type_node (with_defined_type c id.index x) t ≡ type_node c t
+  defined_type_unchanged (TypeKind.Resource j) h = refl
+  defined_type_unchanged (TypeKind.Func j) h = refl
+  defined_type_unchanged (TypeKind.Value v) h = ap (labelled type_of) (defined_value_unchanged v h)
+  defined_type_unchanged (TypeKind.Interface j) h = refl
+  defined_type_unchanged (TypeKind.World j) h = refl
+  defined_type_unchanged (TypeKind.Module j) h = refl
 
-same_id_or_not : (i j : InterfaceId) → (j ≡ i) ⊎ (j ≡ i → ⊥)
-same_id_or_not i j = elim (same_or_not j.collection i.collection) [
-  | inr a ↦ inr (λ e. a (ap (λ i. i.collection) e))
-  | inl p ↦ elim (same_or_not j.index i.index) [
-    | inr a ↦ inr (λ e. a (ap (λ i. i.index) e))
-    | inl q ↦ inl (same_id i j p q)
-  ]
-]
+  pub defined_unchanged : (k : ItemKind) → (NamesEntry (ItemKind.Value (ValueType.Defined id)) k → ⊥) → item_node (with_defined_type c id.index x) k ≡ item_node c k
+  unfolding item_node
+  defined_unchanged (ItemKind.Ty t) h = defined_type_unchanged t h
+  defined_unchanged (ItemKind.Func j) h = refl
+  defined_unchanged (ItemKind.Instance j) h = refl
+  defined_unchanged (ItemKind.Component j) h = refl
+  defined_unchanged (ItemKind.Module j) h = refl
+  defined_unchanged (ItemKind.Value v) h = defined_value_unchanged v h
 
-type_is_or_not : (i : InterfaceId) (t : TypeKind) → IsInterface i (ItemKind.Ty t) ⊎ (IsInterface i (ItemKind.Ty t) → ⊥)
-type_is_or_not i (TypeKind.Interface j) = same_id_or_not i j
-type_is_or_not i (TypeKind.Resource r) = inr (λ h. h)
-type_is_or_not i (TypeKind.Func f) = inr (λ h. h)
-type_is_or_not i (TypeKind.Value v) = inr (λ h. h)
-type_is_or_not i (TypeKind.World w) = inr (λ h. h)
-type_is_or_not i (TypeKind.Module m) = inr (λ h. h)
+  pub defined_changed : item_node (with_defined_type c id.index x) (ItemKind.Value (ValueType.Defined id)) ≡ Some (defined_entry x)
+  unfolding item_node
+  defined_changed = entry_at-set_same defined_entry c.number c.defined_types id.index x id.collection own within
 
-is_or_not : (i : InterfaceId) (k : ItemKind) → IsInterface i k ⊎ (IsInterface i k → ⊥)
-is_or_not i (ItemKind.Ty t) = type_is_or_not i t
-is_or_not i (ItemKind.Instance j) = same_id_or_not i j
-is_or_not i (ItemKind.Func f) = inr (λ h. h)
-is_or_not i (ItemKind.Component w) = inr (λ h. h)
-is_or_not i (ItemKind.Module m) = inr (λ h. h)
-is_or_not i (ItemKind.Value v) = inr (λ h. h)
+  pub defined_rows : length (rows (with_defined_type c id.index x)) ≡ length (rows c)
+  unfolding rows
+  defined_rows = simp (length-append, length-map, length-set)
+
+  module _ (stood : Stands c (ItemKind.Value (ValueType.Defined id))) (acyclic : IsAcyclic c) (has : HasChildren c (defined_entry x)) (apart : LeadsBack c (ItemKind.Value (ValueType.Defined id)) (defined_entry x) → ⊥) where
+    pub defined_acyclic : IsAcyclic (with_defined_type c id.index x)
+    defined_acyclic = replaced-acyclic c (with_defined_type c id.index x) (ItemKind.Value (ValueType.Defined id)) (defined_entry x) defined_unchanged defined_changed stood defined_rows acyclic has apart
+
+    pub defined_keeps : KeepsOthers c (with_defined_type c id.index x) (ItemKind.Value (ValueType.Defined id))
+    defined_keeps = replaced-keeps c (with_defined_type c id.index x) (ItemKind.Value (ValueType.Defined id)) (defined_entry x) defined_unchanged defined_changed stood defined_rows acyclic has apart
+
+    pub defined_stand : KeepsStanding c (with_defined_type c id.index x)
+    defined_stand = replaced-stand c (with_defined_type c id.index x) (ItemKind.Value (ValueType.Defined id)) (defined_entry x) defined_unchanged defined_changed stood defined_rows acyclic has apart
+
+resource_same : (i j : ResourceId) → j.collection ≡ i.collection → j.index ≡ i.index → ItemKind.Ty (TypeKind.Resource j) ≡ ItemKind.Ty (TypeKind.Resource i)
+resource_same i j p q =
+    let first : ℕ → ItemKind = λ a. ItemKind.Ty (TypeKind.Resource (record { collection = a; index = j.index })) in
+    let second : ℕ → ItemKind = λ b. ItemKind.Ty (TypeKind.Resource (record { collection = i.collection; index = b })) in
+    ap first p ∙ ap second q
+
+module _ (c : Collection) (id : ResourceId) (own : id.collection ≡ c.number) (within : id.index < length c.resources) (x : Resource) where
+  resource_value_unchanged : (v : ValueType) → (NamesEntry (ItemKind.Ty (TypeKind.Resource id)) (ItemKind.Value v) → ⊥) → value_node (with_resource c id.index x) v ≡ value_node c v
+  resource_value_unchanged (ValueType.Primitive p) h = refl
+  resource_value_unchanged (ValueType.Borrow j) h = ap (labelled borrow_of) (entry_at-set_other resource_entry c.number c.resources id.index x j.collection j.index (λ p q. h (resource_same id j (p ∙ sym own) q)))
+  resource_value_unchanged (ValueType.Own j) h = ap (labelled own_of) (entry_at-set_other resource_entry c.number c.resources id.index x j.collection j.index (λ p q. h (resource_same id j (p ∙ sym own) q)))
+  resource_value_unchanged (ValueType.Defined j) h = refl
+
+  resource_type_unchanged : (t : TypeKind) → (NamesEntry (ItemKind.Ty (TypeKind.Resource id)) (ItemKind.Ty t) → ⊥) → type_node (with_resource c id.index x) t ≡ type_node c t
+  resource_type_unchanged (TypeKind.Resource j) h = entry_at-set_other resource_entry c.number c.resources id.index x j.collection j.index (λ p q. h (resource_same id j (p ∙ sym own) q))
+  resource_type_unchanged (TypeKind.Func j) h = refl
+  resource_type_unchanged (TypeKind.Value v) h = ap (labelled type_of) (resource_value_unchanged v h)
+  resource_type_unchanged (TypeKind.Interface j) h = refl
+  resource_type_unchanged (TypeKind.World j) h = refl
+  resource_type_unchanged (TypeKind.Module j) h = refl
+
+  pub resource_unchanged : (k : ItemKind) → (NamesEntry (ItemKind.Ty (TypeKind.Resource id)) k → ⊥) → item_node (with_resource c id.index x) k ≡ item_node c k
+  unfolding item_node
+  resource_unchanged (ItemKind.Ty t) h = resource_type_unchanged t h
+  resource_unchanged (ItemKind.Func j) h = refl
+  resource_unchanged (ItemKind.Instance j) h = refl
+  resource_unchanged (ItemKind.Component j) h = refl
+  resource_unchanged (ItemKind.Module j) h = refl
+  resource_unchanged (ItemKind.Value v) h = resource_value_unchanged v h
+
+  pub resource_changed : item_node (with_resource c id.index x) (ItemKind.Ty (TypeKind.Resource id)) ≡ Some (resource_entry x)
+  unfolding item_node
+  resource_changed = entry_at-set_same resource_entry c.number c.resources id.index x id.collection own within
+
+  pub resource_rows : length (rows (with_resource c id.index x)) ≡ length (rows c)
+  unfolding rows
+  resource_rows = simp (length-append, length-map, length-set)
+
+  module _ (stood : Stands c (ItemKind.Ty (TypeKind.Resource id))) (acyclic : IsAcyclic c) (has : HasChildren c (resource_entry x)) (apart : LeadsBack c (ItemKind.Ty (TypeKind.Resource id)) (resource_entry x) → ⊥) where
+    pub resource_acyclic : IsAcyclic (with_resource c id.index x)
+    resource_acyclic = replaced-acyclic c (with_resource c id.index x) (ItemKind.Ty (TypeKind.Resource id)) (resource_entry x) resource_unchanged resource_changed stood resource_rows acyclic has apart
+
+    pub resource_keeps : KeepsOthers c (with_resource c id.index x) (ItemKind.Ty (TypeKind.Resource id))
+    resource_keeps = replaced-keeps c (with_resource c id.index x) (ItemKind.Ty (TypeKind.Resource id)) (resource_entry x) resource_unchanged resource_changed stood resource_rows acyclic has apart
+
+    pub resource_stand : KeepsStanding c (with_resource c id.index x)
+    resource_stand = replaced-stand c (with_resource c id.index x) (ItemKind.Ty (TypeKind.Resource id)) (resource_entry x) resource_unchanged resource_changed stood resource_rows acyclic has apart
+
+func_same : (i j : FuncTypeId) → j.collection ≡ i.collection → j.index ≡ i.index → ItemKind.Func j ≡ ItemKind.Func i
+func_same i j p q =
+    let first : ℕ → ItemKind = λ a. ItemKind.Func (record { collection = a; index = j.index }) in
+    let second : ℕ → ItemKind = λ b. ItemKind.Func (record { collection = i.collection; index = b }) in
+    ap first p ∙ ap second q
+
+module _ (c : Collection) (id : FuncTypeId) (own : id.collection ≡ c.number) (within : id.index < length c.func_types) (x : FuncType) where
+  func_value_unchanged : (v : ValueType) → (NamesEntry (ItemKind.Func id) (ItemKind.Value v) → ⊥) → value_node (with_func_type c id.index x) v ≡ value_node c v
+  func_value_unchanged (ValueType.Primitive p) h = refl
+  func_value_unchanged (ValueType.Borrow j) h = refl
+  func_value_unchanged (ValueType.Own j) h = refl
+  func_value_unchanged (ValueType.Defined j) h = refl
+
+  func_type_unchanged : (t : TypeKind) → (NamesEntry (ItemKind.Func id) (ItemKind.Ty t) → ⊥) → type_node (with_func_type c id.index x) t ≡ type_node c t
+  func_type_unchanged (TypeKind.Resource j) h = refl
+  func_type_unchanged (TypeKind.Func j) h = ap (labelled type_of) (entry_at-set_other func_entry c.number c.func_types id.index x j.collection j.index (λ p q. h (func_same id j (p ∙ sym own) q)))
+  func_type_unchanged (TypeKind.Value v) h = ap (labelled type_of) (func_value_unchanged v h)
+  func_type_unchanged (TypeKind.Interface j) h = refl
+  func_type_unchanged (TypeKind.World j) h = refl
+  func_type_unchanged (TypeKind.Module j) h = refl
+
+  pub func_unchanged : (k : ItemKind) → (NamesEntry (ItemKind.Func id) k → ⊥) → item_node (with_func_type c id.index x) k ≡ item_node c k
+  unfolding item_node
+  func_unchanged (ItemKind.Ty t) h = func_type_unchanged t h
+  func_unchanged (ItemKind.Func j) h = entry_at-set_other func_entry c.number c.func_types id.index x j.collection j.index (λ p q. h (func_same id j (p ∙ sym own) q))
+  func_unchanged (ItemKind.Instance j) h = refl
+  func_unchanged (ItemKind.Component j) h = refl
+  func_unchanged (ItemKind.Module j) h = refl
+  func_unchanged (ItemKind.Value v) h = func_value_unchanged v h
+
+  pub func_changed : item_node (with_func_type c id.index x) (ItemKind.Func id) ≡ Some (func_entry x)
+  unfolding item_node
+  func_changed = entry_at-set_same func_entry c.number c.func_types id.index x id.collection own within
+
+  pub func_rows : length (rows (with_func_type c id.index x)) ≡ length (rows c)
+  unfolding rows
+  func_rows = simp (length-append, length-map, length-set)
+
+  module _ (stood : Stands c (ItemKind.Func id)) (acyclic : IsAcyclic c) (has : HasChildren c (func_entry x)) (apart : LeadsBack c (ItemKind.Func id) (func_entry x) → ⊥) where
+    pub func_acyclic : IsAcyclic (with_func_type c id.index x)
+    func_acyclic = replaced-acyclic c (with_func_type c id.index x) (ItemKind.Func id) (func_entry x) func_unchanged func_changed stood func_rows acyclic has apart
+
+    pub func_keeps : KeepsOthers c (with_func_type c id.index x) (ItemKind.Func id)
+    func_keeps = replaced-keeps c (with_func_type c id.index x) (ItemKind.Func id) (func_entry x) func_unchanged func_changed stood func_rows acyclic has apart
+
+    pub func_stand : KeepsStanding c (with_func_type c id.index x)
+    func_stand = replaced-stand c (with_func_type c id.index x) (ItemKind.Func id) (func_entry x) func_unchanged func_changed stood func_rows acyclic has apart
+
+interface_same : (i j : InterfaceId) → j.collection ≡ i.collection → j.index ≡ i.index → ItemKind.Instance j ≡ ItemKind.Instance i
+interface_same i j p q =
+    let first : ℕ → ItemKind = λ a. ItemKind.Instance (record { collection = a; index = j.index }) in
+    let second : ℕ → ItemKind = λ b. ItemKind.Instance (record { collection = i.collection; index = b }) in
+    ap first p ∙ ap second q
 
 module _ (c : Collection) (id : InterfaceId) (own : id.collection ≡ c.number) (within : id.index < length c.interfaces) (x : Interface) where
-  type_unchanged : (t : TypeKind) → (IsInterface id (ItemKind.Ty t) → ⊥) → type_node (with_interface c id.index x) t ≡ type_node c t
-  type_unchanged (TypeKind.Resource r) h = refl
-  type_unchanged (TypeKind.Func f) h = refl
-  type_unchanged (TypeKind.Value v) h = refl
-  type_unchanged (TypeKind.Interface j) h = ap (labelled type_of) (entry_at-set_other interface_entry c.number c.interfaces id.index x j.collection j.index (λ p q. h (same_id id j (p ∙ sym own) q)))
-  type_unchanged (TypeKind.World w) h = refl
-  type_unchanged (TypeKind.Module m) h = refl
+  interface_value_unchanged : (v : ValueType) → (NamesEntry (ItemKind.Instance id) (ItemKind.Value v) → ⊥) → value_node (with_interface c id.index x) v ≡ value_node c v
+  interface_value_unchanged (ValueType.Primitive p) h = refl
+  interface_value_unchanged (ValueType.Borrow j) h = refl
+  interface_value_unchanged (ValueType.Own j) h = refl
+  interface_value_unchanged (ValueType.Defined j) h = refl
 
-  pub item_unchanged : (k : ItemKind) → (IsInterface id k → ⊥) → item_node (with_interface c id.index x) k ≡ item_node c k
+  interface_type_unchanged : (t : TypeKind) → (NamesEntry (ItemKind.Instance id) (ItemKind.Ty t) → ⊥) → type_node (with_interface c id.index x) t ≡ type_node c t
+  interface_type_unchanged (TypeKind.Resource j) h = refl
+  interface_type_unchanged (TypeKind.Func j) h = refl
+  interface_type_unchanged (TypeKind.Value v) h = ap (labelled type_of) (interface_value_unchanged v h)
+  interface_type_unchanged (TypeKind.Interface j) h = ap (labelled type_of) (entry_at-set_other interface_entry c.number c.interfaces id.index x j.collection j.index (λ p q. h (interface_same id j (p ∙ sym own) q)))
+  interface_type_unchanged (TypeKind.World j) h = refl
+  interface_type_unchanged (TypeKind.Module j) h = refl
+
+  pub interface_unchanged : (k : ItemKind) → (NamesEntry (ItemKind.Instance id) k → ⊥) → item_node (with_interface c id.index x) k ≡ item_node c k
   unfolding item_node
-  item_unchanged (ItemKind.Ty t) h = type_unchanged t h
-  item_unchanged (ItemKind.Func f) h = refl
-  item_unchanged (ItemKind.Instance j) h = entry_at-set_other interface_entry c.number c.interfaces id.index x j.collection j.index (λ p q. h (same_id id j (p ∙ sym own) q))
-  item_unchanged (ItemKind.Component w) h = refl
-  item_unchanged (ItemKind.Module m) h = refl
-  item_unchanged (ItemKind.Value v) h = refl
+  interface_unchanged (ItemKind.Ty t) h = interface_type_unchanged t h
+  interface_unchanged (ItemKind.Func j) h = refl
+  interface_unchanged (ItemKind.Instance j) h = entry_at-set_other interface_entry c.number c.interfaces id.index x j.collection j.index (λ p q. h (interface_same id j (p ∙ sym own) q))
+  interface_unchanged (ItemKind.Component j) h = refl
+  interface_unchanged (ItemKind.Module j) h = refl
+  interface_unchanged (ItemKind.Value v) h = interface_value_unchanged v h
 
-  -- the children of the interface are then those of the new entry
-  type_changed : (t : TypeKind) → IsInterface id (ItemKind.Ty t) → type_node (with_interface c id.index x) t ≡ Some (type_of (interface_entry x).0, (interface_entry x).1)
-  type_changed (TypeKind.Interface j) is = rw (ap (λ i. i.index) is) (ap (labelled type_of) (entry_at-set_same interface_entry c.number c.interfaces id.index x j.collection (ap (λ i. i.collection) is ∙ own) within))
-  type_changed (TypeKind.Resource r) is = absurd is
-  type_changed (TypeKind.Func r) is = absurd is
-  type_changed (TypeKind.Value r) is = absurd is
-  type_changed (TypeKind.World r) is = absurd is
-  type_changed (TypeKind.Module r) is = absurd is
-
-  item_changed : (k : ItemKind) → IsInterface id k → (s : Shape) × (item_node (with_interface c id.index x) k ≡ Some (s, (interface_entry x).1))
+  pub interface_changed : item_node (with_interface c id.index x) (ItemKind.Instance id) ≡ Some (interface_entry x)
   unfolding item_node
-  item_changed (ItemKind.Ty t) is = (type_of (interface_entry x).0, type_changed t is)
-  item_changed (ItemKind.Instance j) is = ((interface_entry x).0, rw (ap (λ i. i.index) is) (entry_at-set_same interface_entry c.number c.interfaces id.index x j.collection (ap (λ i. i.collection) is ∙ own) within))
-  item_changed (ItemKind.Func r) is = absurd is
-  item_changed (ItemKind.Component r) is = absurd is
-  item_changed (ItemKind.Module r) is = absurd is
-  item_changed (ItemKind.Value r) is = absurd is
+  interface_changed = entry_at-set_same interface_entry c.number c.interfaces id.index x id.collection own within
 
-  there : (j : InterfaceId) → j ≡ id → is_some (entry_at interface_entry c.number c.interfaces j.collection j.index) ≡ true
-  there j is =
-      let p : j.collection ≡ c.number = ap (λ i. i.collection) is ∙ own in
-      let q : j.index ≡ id.index = ap (λ i. i.index) is in
-      is_some-entry_at interface_entry c.number c.interfaces j.collection j.index ∙ both_hold j.collection c.number j.index (length c.interfaces) p (omega (arith, q, within))
-
-  still_stood : (k : ItemKind) → IsInterface id k → IsSome (item_node c k)
-  unfolding item_node
-  still_stood (ItemKind.Ty (TypeKind.Interface j)) is = is_some-labelled type_of (entry_at interface_entry c.number c.interfaces j.collection j.index) ∙ there j is
-  still_stood (ItemKind.Instance j) is = there j is
-  still_stood _ is = absurd is
-
-  pub IsAcyclic-with_interface : IsAcyclic c → HasChildren c (interface_entry x) → (LeadsBack c id (interface_entry x) → ⊥) → IsAcyclic (with_interface c id.index x)
-  unfolding IsAcyclic Fresh
-  IsAcyclic-with_interface h has apart =
-      unfolds_within_rows (item_node (with_interface c id.index x)) (depth c + suc (depth c)) (rows (with_interface c id.index x)) (children_in_rows (with_interface c id.index x))
-      (replaced_within (item_node c) (item_node (with_interface c id.index x)) (IsInterface id) item_unchanged (is_or_not id)
-      (λ k is. let e = item_changed k is in (e.0, (interface_entry x).1, e.1, λ j m. (All-among (SlotStands c) (interface_entry x).1 (Some j) has m, λ r. apart (j, m, r))))
-      (λ k stands. elim (is_or_not id k) [ inl is ↦ still_stood k is | inr not ↦ subst (λ o. IsSome o) (item_unchanged k not) stands ])
-      (depth c) h)
-
-  length-rows-with_interface : length (rows (with_interface c id.index x)) ≡ length (rows c)
+  pub interface_rows : length (rows (with_interface c id.index x)) ≡ length (rows c)
   unfolding rows
-  length-rows-with_interface = simp (length-append, length-map, length-set)
+  interface_rows = simp (length-append, length-map, length-set)
 
-  pub KeepsOthers-with_interface : IsAcyclic c → HasChildren c (interface_entry x) → (LeadsBack c id (interface_entry x) → ⊥) → KeepsOthers c (with_interface c id.index x) id
-  unfolding IsAcyclic unfolding_of
-  KeepsOthers-with_interface h has apart k stands unreached =
-      let t = value_of _ (h k stands) in
-      let same_depth : depth (with_interface c id.index x) ≡ depth c = ap (λ n. n + 2) length-rows-with_interface in
-      rw same_depth (whole-unreached (item_node c) (item_node (with_interface c id.index x)) (IsInterface id) item_unchanged (depth c) k t.0 unreached t.1 ∙ sym t.1)
+  module _ (stood : Stands c (ItemKind.Instance id)) (acyclic : IsAcyclic c) (has : HasChildren c (interface_entry x)) (apart : LeadsBack c (ItemKind.Instance id) (interface_entry x) → ⊥) where
+    pub interface_acyclic : IsAcyclic (with_interface c id.index x)
+    interface_acyclic = replaced-acyclic c (with_interface c id.index x) (ItemKind.Instance id) (interface_entry x) interface_unchanged interface_changed stood interface_rows acyclic has apart
+
+    pub interface_keeps : KeepsOthers c (with_interface c id.index x) (ItemKind.Instance id)
+    interface_keeps = replaced-keeps c (with_interface c id.index x) (ItemKind.Instance id) (interface_entry x) interface_unchanged interface_changed stood interface_rows acyclic has apart
+
+    pub interface_stand : KeepsStanding c (with_interface c id.index x)
+    interface_stand = replaced-stand c (with_interface c id.index x) (ItemKind.Instance id) (interface_entry x) interface_unchanged interface_changed stood interface_rows acyclic has apart
+
+world_same : (i j : WorldId) → j.collection ≡ i.collection → j.index ≡ i.index → ItemKind.Component j ≡ ItemKind.Component i
+world_same i j p q =
+    let first : ℕ → ItemKind = λ a. ItemKind.Component (record { collection = a; index = j.index }) in
+    let second : ℕ → ItemKind = λ b. ItemKind.Component (record { collection = i.collection; index = b }) in
+    ap first p ∙ ap second q
+
+module _ (c : Collection) (id : WorldId) (own : id.collection ≡ c.number) (within : id.index < length c.worlds) (x : World) where
+  world_value_unchanged : (v : ValueType) → (NamesEntry (ItemKind.Component id) (ItemKind.Value v) → ⊥) → value_node (with_world c id.index x) v ≡ value_node c v
+  world_value_unchanged (ValueType.Primitive p) h = refl
+  world_value_unchanged (ValueType.Borrow j) h = refl
+  world_value_unchanged (ValueType.Own j) h = refl
+  world_value_unchanged (ValueType.Defined j) h = refl
+
+  world_type_unchanged : (t : TypeKind) → (NamesEntry (ItemKind.Component id) (ItemKind.Ty t) → ⊥) → type_node (with_world c id.index x) t ≡ type_node c t
+  world_type_unchanged (TypeKind.Resource j) h = refl
+  world_type_unchanged (TypeKind.Func j) h = refl
+  world_type_unchanged (TypeKind.Value v) h = ap (labelled type_of) (world_value_unchanged v h)
+  world_type_unchanged (TypeKind.Interface j) h = refl
+  world_type_unchanged (TypeKind.World j) h = ap (labelled type_of) (entry_at-set_other world_entry c.number c.worlds id.index x j.collection j.index (λ p q. h (world_same id j (p ∙ sym own) q)))
+  world_type_unchanged (TypeKind.Module j) h = refl
+
+  pub world_unchanged : (k : ItemKind) → (NamesEntry (ItemKind.Component id) k → ⊥) → item_node (with_world c id.index x) k ≡ item_node c k
+  unfolding item_node
+  world_unchanged (ItemKind.Ty t) h = world_type_unchanged t h
+  world_unchanged (ItemKind.Func j) h = refl
+  world_unchanged (ItemKind.Instance j) h = refl
+  world_unchanged (ItemKind.Component j) h = entry_at-set_other world_entry c.number c.worlds id.index x j.collection j.index (λ p q. h (world_same id j (p ∙ sym own) q))
+  world_unchanged (ItemKind.Module j) h = refl
+  world_unchanged (ItemKind.Value v) h = world_value_unchanged v h
+
+  pub world_changed : item_node (with_world c id.index x) (ItemKind.Component id) ≡ Some (world_entry x)
+  unfolding item_node
+  world_changed = entry_at-set_same world_entry c.number c.worlds id.index x id.collection own within
+
+  pub world_rows : length (rows (with_world c id.index x)) ≡ length (rows c)
+  unfolding rows
+  world_rows = simp (length-append, length-map, length-set)
+
+  module _ (stood : Stands c (ItemKind.Component id)) (acyclic : IsAcyclic c) (has : HasChildren c (world_entry x)) (apart : LeadsBack c (ItemKind.Component id) (world_entry x) → ⊥) where
+    pub world_acyclic : IsAcyclic (with_world c id.index x)
+    world_acyclic = replaced-acyclic c (with_world c id.index x) (ItemKind.Component id) (world_entry x) world_unchanged world_changed stood world_rows acyclic has apart
+
+    pub world_keeps : KeepsOthers c (with_world c id.index x) (ItemKind.Component id)
+    world_keeps = replaced-keeps c (with_world c id.index x) (ItemKind.Component id) (world_entry x) world_unchanged world_changed stood world_rows acyclic has apart
+
+    pub world_stand : KeepsStanding c (with_world c id.index x)
+    world_stand = replaced-stand c (with_world c id.index x) (ItemKind.Component id) (world_entry x) world_unchanged world_changed stood world_rows acyclic has apart
+
+module_same : (i j : ModuleTypeId) → j.collection ≡ i.collection → j.index ≡ i.index → ItemKind.Module j ≡ ItemKind.Module i
+module_same i j p q =
+    let first : ℕ → ItemKind = λ a. ItemKind.Module (record { collection = a; index = j.index }) in
+    let second : ℕ → ItemKind = λ b. ItemKind.Module (record { collection = i.collection; index = b }) in
+    ap first p ∙ ap second q
+
+module _ (c : Collection) (id : ModuleTypeId) (own : id.collection ≡ c.number) (within : id.index < length c.modules) (x : ModuleType) where
+  module_value_unchanged : (v : ValueType) → (NamesEntry (ItemKind.Module id) (ItemKind.Value v) → ⊥) → value_node (with_module_type c id.index x) v ≡ value_node c v
+  module_value_unchanged (ValueType.Primitive p) h = refl
+  module_value_unchanged (ValueType.Borrow j) h = refl
+  module_value_unchanged (ValueType.Own j) h = refl
+  module_value_unchanged (ValueType.Defined j) h = refl
+
+  module_type_unchanged : (t : TypeKind) → (NamesEntry (ItemKind.Module id) (ItemKind.Ty t) → ⊥) → type_node (with_module_type c id.index x) t ≡ type_node c t
+  module_type_unchanged (TypeKind.Resource j) h = refl
+  module_type_unchanged (TypeKind.Func j) h = refl
+  module_type_unchanged (TypeKind.Value v) h = ap (labelled type_of) (module_value_unchanged v h)
+  module_type_unchanged (TypeKind.Interface j) h = refl
+  module_type_unchanged (TypeKind.World j) h = refl
+  module_type_unchanged (TypeKind.Module j) h = ap (labelled type_of) (entry_at-set_other module_entry c.number c.modules id.index x j.collection j.index (λ p q. h (module_same id j (p ∙ sym own) q)))
+
+  pub module_unchanged : (k : ItemKind) → (NamesEntry (ItemKind.Module id) k → ⊥) → item_node (with_module_type c id.index x) k ≡ item_node c k
+  unfolding item_node
+  module_unchanged (ItemKind.Ty t) h = module_type_unchanged t h
+  module_unchanged (ItemKind.Func j) h = refl
+  module_unchanged (ItemKind.Instance j) h = refl
+  module_unchanged (ItemKind.Component j) h = refl
+  module_unchanged (ItemKind.Module j) h = entry_at-set_other module_entry c.number c.modules id.index x j.collection j.index (λ p q. h (module_same id j (p ∙ sym own) q))
+  module_unchanged (ItemKind.Value v) h = module_value_unchanged v h
+
+  pub module_changed : item_node (with_module_type c id.index x) (ItemKind.Module id) ≡ Some (module_entry x)
+  unfolding item_node
+  module_changed = entry_at-set_same module_entry c.number c.modules id.index x id.collection own within
+
+  pub module_rows : length (rows (with_module_type c id.index x)) ≡ length (rows c)
+  unfolding rows
+  module_rows = simp (length-append, length-map, length-set)
+
+  module _ (stood : Stands c (ItemKind.Module id)) (acyclic : IsAcyclic c) (has : HasChildren c (module_entry x)) (apart : LeadsBack c (ItemKind.Module id) (module_entry x) → ⊥) where
+    pub module_acyclic : IsAcyclic (with_module_type c id.index x)
+    module_acyclic = replaced-acyclic c (with_module_type c id.index x) (ItemKind.Module id) (module_entry x) module_unchanged module_changed stood module_rows acyclic has apart
+
+    pub module_keeps : KeepsOthers c (with_module_type c id.index x) (ItemKind.Module id)
+    module_keeps = replaced-keeps c (with_module_type c id.index x) (ItemKind.Module id) (module_entry x) module_unchanged module_changed stood module_rows acyclic has apart
+
+    pub module_stand : KeepsStanding c (with_module_type c id.index x)
+    module_stand = replaced-stand c (with_module_type c id.index x) (ItemKind.Module id) (module_entry x) module_unchanged module_changed stood module_rows acyclic has apart

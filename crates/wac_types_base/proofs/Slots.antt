@@ -1,5 +1,5 @@
 -- The places of what stands, by its entry.
-use Rattle.std.proofs.Common.{◌≡◌, ℕ, List, [], Option, Some, None, IsSome, is_some, Bool, true, false, ◌==◌, slice_get, refl, sym, ap, subst, ◌∙◌, if◌then◌else◌}
+use Rattle.std.proofs.Common.{◌≡◌, ℕ, List, [], Option, Some, None, IsSome, is_some, Bool, true, false, ◌==◌, slice_get, refl, sym, ap, subst, ◌∙◌, if◌then◌else◌, IsTrue, ◌↔◌}
 use Rattle.std.proofs.lemmas.Bool.Decides.{nat_tests}
 use Rattle.std.specs.Option.{option_map}
 use Rattle.wac_types_base.specs.declared.item.PrimitiveType.{PrimitiveType}
@@ -127,5 +127,26 @@ module _ (c : Collection) where
   pub stands_typed_module : (id : ModuleTypeId) → Stands c (ItemKind.Ty (TypeKind.Module id)) → Stands c (ItemKind.Module id)
   unfolding item_node
   stands_typed_module id = stands-labelled type_of (entry_at module_entry c.number c.modules id.collection id.index)
+
+typed_test : (b : Bool) (o : Option Entry) → (IsTrue b ↔ IsSome (labelled type_of o)) → (IsTrue b ↔ IsSome o)
+typed_test b None h = h
+typed_test b (Some e) h = (λ t. refl, λ s. h.1 refl)
+
+module _ (c : Collection) where
+  pub has_func : (k : ItemKind) (id : FuncTypeId) (b : Bool) → k ≡ ItemKind.Func id → (IsTrue b ↔ Stands c (ItemKind.Ty (TypeKind.Func id))) → (IsTrue b ↔ Stands c k)
+  unfolding item_node
+  has_func k id b is h = subst (λ k. IsTrue b ↔ Stands c k) (sym is) (typed_test b (entry_at func_entry c.number c.func_types id.collection id.index) h)
+
+  pub has_interface : (k : ItemKind) (id : InterfaceId) (b : Bool) → k ≡ ItemKind.Instance id → (IsTrue b ↔ Stands c (ItemKind.Ty (TypeKind.Interface id))) → (IsTrue b ↔ Stands c k)
+  unfolding item_node
+  has_interface k id b is h = subst (λ k. IsTrue b ↔ Stands c k) (sym is) (typed_test b (entry_at interface_entry c.number c.interfaces id.collection id.index) h)
+
+  pub has_world : (k : ItemKind) (id : WorldId) (b : Bool) → k ≡ ItemKind.Component id → (IsTrue b ↔ Stands c (ItemKind.Ty (TypeKind.World id))) → (IsTrue b ↔ Stands c k)
+  unfolding item_node
+  has_world k id b is h = subst (λ k. IsTrue b ↔ Stands c k) (sym is) (typed_test b (entry_at world_entry c.number c.worlds id.collection id.index) h)
+
+  pub has_module : (k : ItemKind) (id : ModuleTypeId) (b : Bool) → k ≡ ItemKind.Module id → (IsTrue b ↔ Stands c (ItemKind.Ty (TypeKind.Module id))) → (IsTrue b ↔ Stands c k)
+  unfolding item_node
+  has_module k id b is h = subst (λ k. IsTrue b ↔ Stands c k) (sym is) (typed_test b (entry_at module_entry c.number c.modules id.collection id.index) h)
 
 pub ruleset slots = (slots_func, slots_interface, slots_world, slots_resource, slots_defined, slots_primitive, slots_module, slots_borrow, slots_own, slots_typed_func, slots_typed_value, slots_typed_interface, slots_typed_world, slots_typed_module, stands_borrow, stands_own, stands_typed_func, stands_typed_value, stands_typed_interface, stands_typed_world, stands_typed_module)

@@ -1,5 +1,5 @@
 -- A collection as a graph: the label and the children of what an item kind names, and its unfolding.
-use Rattle.std.specs.Prelude.{◌≡◌, ℕ, zero, suc, ◌+◌, List, [], ◌∷◌, ◌++◌, map, length, Option, Some, None, IsSome, is_some, Bool, ◌==◌, slice_get, if◌then◌else◌, All, slice_set}
+use Rattle.std.specs.Prelude.{◌≡◌, ℕ, zero, suc, ◌+◌, List, [], ◌∷◌, ◌++◌, map, length, Option, Some, None, IsSome, is_some, Bool, ◌==◌, slice_get, if◌then◌else◌, All}
 use Rattle.std.specs.Option.{option_map}
 use Rattle.wac_types_base.specs.declared.item.PrimitiveType.{PrimitiveType}
 use Rattle.wac_types_base.specs.declared.item.ValueType.{ValueType}
@@ -204,10 +204,6 @@ size_in (Some t) = nodes t
 -- how large the unfolding of a kind is
 abbrev pub size_of : Collection → ItemKind → ℕ
 size_of c k = size_in (unfolding_of c k)
-
--- c, with another interface at an index
-abbrev pub with_interface : Collection → ℕ → Interface → Collection
-with_interface c i x = record c { interfaces = slice_set c.interfaces i x }
 
 -- what stood still stands with its tree
 pub record Grows (old new : Collection) : Type 0 where

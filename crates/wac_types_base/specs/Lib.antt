@@ -10,3 +10,6 @@ pub mod Discrete
 pub mod Reaching
 pub mod View
 pub mod Copies
+pub mod Resolving
+pub mod Implicit
+pub mod Visiting

@@ -1,9 +1,12 @@
 -- Stated types: the finite unfolding of an id with its identifiers, uses and owners, and the words that make and read it.
-use Rattle.std.specs.Prelude.{◌≡◌, ℕ, ◌+◌, Bool, true, false, ◌||◌, List, [], ◌∷◌, ◌++◌, map, length, Option, Some, None, codes, drop, ⊤}
+use Rattle.std.specs.Prelude.{◌≡◌, ℕ, ◌+◌, Bool, true, false, ◌||◌, List, [], ◌∷◌, ◌++◌, map, length, Option, Some, None, option_map, codes, drop, ⊤}
 use Rattle.wac_types_base.specs.declared.item.PrimitiveType.{PrimitiveType}
+use Rattle.wac_types_base.specs.declared.item.ItemKind.{ItemKind}
+use Rattle.wac_types_base.specs.declared.defined.DefinedType.{DefinedType}
 use Rattle.wac_types_base.specs.Entries.{Name}
+use Rattle.wac_types_base.specs.Record.{Collection}
 use Rattle.wac_types_base.specs.Graph.{Whole, Wholes, node, no_more, more, hole}
-use Rattle.wac_types_base.specs.Collection.{Shape, primitive, tuple, list, fixed_size_list, option, result, variant, record_of, flags, enum, alias, stream, future, resource, resource_alias, func, interface, world, module_type, type_of, borrow_of, own_of}
+use Rattle.wac_types_base.specs.Collection.{Entry, unfolding_of, Shape, primitive, tuple, list, fixed_size_list, option, result, variant, record_of, flags, enum, alias, stream, future, resource, resource_alias, func, interface, world, module_type, type_of, borrow_of, own_of}
 
 abbrev pub Stated : Type 0
 Stated = Whole Shape
@@ -49,6 +52,21 @@ names xs = map (λ x. x.0) xs
 
 abbrev pub filled : {A : Type 0} → List (Name × A) → List (Option A)
 filled xs = map (λ x. Some x.1) xs
+
+-- ---- the stated type of an id, and of an entry
+
+-- the type that is there; where there is none it does not matter which
+abbrev pub stated_in : Option Stated → Stated
+stated_in None = node alias no_more
+stated_in (Some t) = t
+
+-- what a kind that stands names
+abbrev pub stated_of : Collection → ItemKind → Stated
+stated_of c k = stated_in (unfolding_of c k)
+
+-- what an entry would name
+abbrev pub stated_entry : Collection → Entry → Stated
+stated_entry c e = node e.0 (row (map (option_map (stated_of c)) e.1))
 
 -- ---- making
 
@@ -226,10 +244,11 @@ any_place p (Some x ∷ os) = p x.1 || any_place p os
 
 abbrev pub borrows_at : Shape → List (Option (Stated × Bool)) → Bool
 borrows_at (borrow_of s) os = true
+borrows_at (own_of s) os = false
 borrows_at s os = any_place (λ b. b) os
 
--- a borrow stands in a value type
-abbrev pub contains_borrow : Stated → Bool
+-- a borrow stands in a value type; what a handle's resource is made of does not count
+unfoldable pub contains_borrow : Stated → Bool
 contains_borrow = folded borrows_at
 
 abbrev pub in_first_place : List (Option (Stated × Name)) → Name
@@ -271,6 +290,21 @@ value_word stream os = codes "stream"
 value_word future os = codes "future"
 value_word s os = []
 
+-- how a defined type is called that is no alias
+abbrev pub word_of : DefinedType → Name
+word_of (DefinedType.Tuple ts) = codes "tuple"
+word_of (DefinedType.List t) = codes "list"
+word_of (DefinedType.FixedSizeList t n) = codes "fixed size list"
+word_of (DefinedType.Option t) = codes "option"
+word_of (DefinedType.Result ok err) = codes "result"
+word_of (DefinedType.Variant v) = codes "variant"
+word_of (DefinedType.Record r) = codes "record"
+word_of (DefinedType.Flags f) = codes "flags"
+word_of (DefinedType.Enum e) = codes "enum"
+word_of (DefinedType.Alias t) = codes "alias"
+word_of (DefinedType.Stream o) = codes "stream"
+word_of (DefinedType.Future o) = codes "future"
+
 abbrev pub kind_word : Kind → Name → Name
 kind_word IsFunction n = codes "function"
 kind_word IsInstance n = codes "instance"
@@ -285,9 +319,9 @@ kind_word IsWorld n = codes "world"
 kind_word IsModuleType n = codes "module type"
 
 -- how a value type is called
-abbrev pub value_desc : Stated → Name
+unfoldable pub value_desc : Stated → Name
 value_desc = folded value_word
 
 -- how an item is called
-abbrev pub desc : Stated → Name
+unfoldable pub desc : Stated → Name
 desc t = kind_word (kind_of t) (value_desc (untyped t))

@@ -6,11 +6,16 @@ mod copies;
 pub mod copy;
 pub mod core_types;
 pub mod defined;
+pub mod desc;
 pub mod ids;
+pub mod implicit;
 pub mod item;
 mod remap;
+pub mod replace;
+pub mod resolve;
 pub mod types;
 pub mod types_mut;
+pub mod visit;
 pub mod walk;
 
 pub use containers::{Items, NamedMap, Names, Text};
@@ -23,6 +28,12 @@ pub use defined::{
     Variant, World,
 };
 pub use ids::{DefinedTypeId, FuncTypeId, InterfaceId, ModuleTypeId, ResourceId, WorldId};
+pub use implicit::TargetError;
 pub use item::{ExternKind, FuncKind, ItemKind, PrimitiveType, Type, ValueType};
+pub use replace::CycleError;
 pub use types::Types;
 pub use types_mut::TypesMut;
+pub use walk::Places;
+
+#[cfg(test)]
+mod tests;

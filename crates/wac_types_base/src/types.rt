@@ -1,6 +1,8 @@
 //! A collection of types.
 
 ghost use Rattle.std.specs.Prelude.{◌≡◌, ◌∷◌, ◌++◌, [], OnOk, OnErr, IfOk, length, IsTrue, IsSome, ◌↔◌, All, slice_get, Some, ◌&&◌, ◌==◌, nat_lt, is_some};
+ghost use Rattle.std.specs.Slice.Iter.{iter_rest};
+ghost use Rattle.std.specs.Iterator.Adapters.{IterYieldsInOrder};
 ghost use Rattle.wac_types_base.specs.Record.{Collection};
 ghost use Rattle.wac_types_base.specs.Collection.{Stands, IsAcyclic, empty, HasChildren, Grows, item_node, func_entry, interface_entry, world_entry, defined_entry, resource_entry};
 
@@ -11,17 +13,18 @@ use crate::item::{ItemKind, Type, ValueType};
 use std::alloc::{AllocError, Global};
 use std::marker::Model;
 use std::ops::Index;
+use std::slice::Iter;
 
 /// A collection of types: six lists, under a number that the caller chose. Its ids carry the number.
 #[derive(Drop)]
 pub struct Types {
     number: u64,
-    defined_types: Vec<DefinedType>,
-    resources: Vec<Resource>,
-    func_types: Vec<FuncType>,
-    interfaces: Vec<Interface>,
-    worlds: Vec<World>,
-    modules: Vec<ModuleType>,
+    pub(crate) defined_types: Vec<DefinedType>,
+    pub(crate) resources: Vec<Resource>,
+    pub(crate) func_types: Vec<FuncType>,
+    pub(crate) interfaces: Vec<Interface>,
+    pub(crate) worlds: Vec<World>,
+    pub(crate) modules: Vec<ModuleType>,
 }
 
 impl Model for Types {
@@ -290,6 +293,57 @@ impl Types {
         ensures acyclic { IsAcyclic self.now }
     {
         &self.modules[id.index]
+    }
+}
+
+// The entries, in order of adding.
+impl Types {
+    /// The defined types.
+    pub fn defined_types(&self) -> Iter<'_, DefinedType>
+        ensures rest { iter_rest result ≡ self.now.defined_types }
+        ensures runs { IterYieldsInOrder DefinedType }
+    {
+        self.defined_types.iter()
+    }
+
+    /// The resources.
+    pub fn resources(&self) -> Iter<'_, Resource>
+        ensures rest { iter_rest result ≡ self.now.resources }
+        ensures runs { IterYieldsInOrder Resource }
+    {
+        self.resources.iter()
+    }
+
+    /// The function types.
+    pub fn func_types(&self) -> Iter<'_, FuncType>
+        ensures rest { iter_rest result ≡ self.now.func_types }
+        ensures runs { IterYieldsInOrder FuncType }
+    {
+        self.func_types.iter()
+    }
+
+    /// The interfaces.
+    pub fn interfaces(&self) -> Iter<'_, Interface>
+        ensures rest { iter_rest result ≡ self.now.interfaces }
+        ensures runs { IterYieldsInOrder Interface }
+    {
+        self.interfaces.iter()
+    }
+
+    /// The worlds.
+    pub fn worlds(&self) -> Iter<'_, World>
+        ensures rest { iter_rest result ≡ self.now.worlds }
+        ensures runs { IterYieldsInOrder World }
+    {
+        self.worlds.iter()
+    }
+
+    /// The module types.
+    pub fn modules(&self) -> Iter<'_, ModuleType>
+        ensures rest { iter_rest result ≡ self.now.modules }
+        ensures runs { IterYieldsInOrder ModuleType }
+    {
+        self.modules.iter()
     }
 }
 

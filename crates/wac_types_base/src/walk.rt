@@ -1,8 +1,9 @@
 //! The places of an entry, and walks over them.
 
-ghost use Rattle.std.specs.Prelude.{◌≡◌, ◌<◌, Some, slice_get, OnSome, ◌^◌, ◌∷◌, []};
+ghost use Rattle.std.specs.Prelude.{IsTrue, ◌↔◌, ◌≡◌, ◌<◌, Some, slice_get, OnSome, ◌^◌, ◌∷◌, []};
 ghost use Rattle.wac_types_base.specs.Collection.{Stands, IsAcyclic, slots_of, func_entry, interface_entry, world_entry, resource_entry, defined_entry, value_slot, option_slot, item_node, HasChildren};
 
+use crate::core_types::ModuleType;
 use crate::defined::{DefinedType, FuncType, Interface, Resource, World};
 use crate::item::{ItemKind, Type, ValueType};
 use crate::types::Types;
@@ -206,5 +207,110 @@ impl Types {
             ValueType::Own(id) => resource_place(self.resource(id), at),
             ValueType::Defined(id) => defined_place(self.defined_type(id), at),
         }
+    }
+}
+
+/// An entry with places for ids.
+pub trait Places {
+    ghost use Rattle.wac_types_base.specs.Collection.{Entry};
+
+    ghost entry: { Self → Entry };
+
+    /// What is in a place, and none behind the last.
+    fn place(&self, at: u128) -> Option<Option<ItemKind>>
+        ensures place { result ≡ slice_get (entry self.now).1 at }
+        ensures small { OnSome result (at < 2 ^ 66) };
+}
+
+impl Places for DefinedType {
+    ghost use Rattle.wac_types_base.specs.Collection.{defined_entry};
+
+    ghost entry = { defined_entry };
+
+    fn place(&self, at: u128) -> Option<Option<ItemKind>> {
+        defined_place(self, at)
+    }
+}
+
+impl Places for Resource {
+    ghost use Rattle.wac_types_base.specs.Collection.{resource_entry};
+
+    ghost entry = { resource_entry };
+
+    fn place(&self, at: u128) -> Option<Option<ItemKind>> {
+        resource_place(self, at)
+    }
+}
+
+impl Places for FuncType {
+    ghost use Rattle.wac_types_base.specs.Collection.{func_entry};
+
+    ghost entry = { func_entry };
+
+    fn place(&self, at: u128) -> Option<Option<ItemKind>> {
+        func_place(self, at)
+    }
+}
+
+impl Places for Interface {
+    ghost use Rattle.wac_types_base.specs.Collection.{interface_entry};
+
+    ghost entry = { interface_entry };
+
+    fn place(&self, at: u128) -> Option<Option<ItemKind>> {
+        interface_place(self, at)
+    }
+}
+
+impl Places for World {
+    ghost use Rattle.wac_types_base.specs.Collection.{world_entry};
+
+    ghost entry = { world_entry };
+
+    fn place(&self, at: u128) -> Option<Option<ItemKind>> {
+        world_place(self, at)
+    }
+}
+
+impl Places for ModuleType {
+    ghost use Rattle.wac_types_base.specs.Collection.{module_entry};
+
+    ghost entry = { module_entry };
+
+    fn place(&self, at: u128) -> Option<Option<ItemKind>> {
+        None
+    }
+}
+
+impl Types {
+    /// Whether what the kind names stands here.
+    #[tactic(auto, using(crate::proofs::Standing::standing))]
+    pub fn has(&self, kind: ItemKind) -> bool
+        ensures { IsTrue result ↔ Stands self.now kind }
+    {
+        match kind {
+            ItemKind::Ty(ty) => self.contains(ty),
+            ItemKind::Func(id) => self.contains(Type::Func(id)),
+            ItemKind::Instance(id) => self.contains(Type::Interface(id)),
+            ItemKind::Component(id) => self.contains(Type::World(id)),
+            ItemKind::Module(id) => self.contains(Type::Module(id)),
+            ItemKind::Value(ty) => self.contains_value(ty),
+        }
+    }
+
+    /// Whether all ids in an entry stand here, as adding it asks.
+    pub fn has_ids_of<E: Places>(&self, entry: &E) -> bool
+        ensures { IsTrue result ↔ HasChildren self.now (E.entry entry.now) }
+    {
+        let mut at: u128 = 0;
+        while let Some(place) = entry.place(at) {
+            if let Some(child) = place {
+                if !self.has(child) {
+                    return false;
+                }
+            }
+            at += 1;
+        }
+        true
     }
 }

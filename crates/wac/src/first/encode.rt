@@ -6,11 +6,11 @@ ghost use Rattle.wac_graph_bytes.specs.declared.value.Sort.TheVariants as sort;
 ghost use Rattle.wac_graph_bytes.specs.declared.fault.SizeError.TheVariants.{TooLarge};
 ghost use Rattle.wac_graph_bytes.specs.Typing.{Worlds};
 ghost use Rattle.wac_graph_bytes.specs.Views.{params_view, argument_view, arguments_view};
-ghost use Rattle.wac_graph_bytes.specs.Meaning.{Means, State, AreDistinct, wiring_of};
+ghost use Rattle.wac_graph_bytes.specs.Meaning.{Means, State, nothing_listed, wiring_of};
 ghost use Rattle.wac_graph_bytes.proofs.Written.{IsWhole};
 ghost use Rattle.wac_graph_bytes.specs.Views.{view, processor_view};
 ghost use Rattle.wac_graph_bytes.specs.Writing.{sections_fit};
-ghost use Rattle.wac_types_base.specs.Entries.{names_of};
+ghost use Rattle.wac_types_base.specs.Entries.{AreDistinct, names_of};
 ghost use Rattle.wac.specs.Plain.{Plain};
 
 ghost use Rattle.wac.specs.EncodeViews.{export_names};
@@ -142,6 +142,15 @@ fn finish(alloc: Global, b: &Builder, processor: &Processor) -> Result<Vec<u8>, 
     let mut out = Vec::new(alloc);
     push_component(alloc, &mut out, &b.entries, Some(processor), &[])?;
     Ok(out)
+}
+
+/// A component of no imports, no instances and no exports.
+pub fn write_empty(alloc: Global, processor: &Processor) -> Result<Vec<u8>, SizeError>
+    ensures means { (w : Worlds) → IfOk result (λ v. Means w v.items (wiring_of nothing_listed)) }
+    ensures large { result ≡ Err TooLarge → sections_fit [] (Some (processor_view processor.now)) [] ≡ false }
+{
+    let b = Builder::new(alloc);
+    finish(alloc, &b, processor)
 }
 
 /// A component that imports these functions, instantiates the nested one with them, and exports one of its exports, if

@@ -1,13 +1,14 @@
 //! Worlds whose items are functions over primitive types.
 ghost use Rattle.std.specs.Prelude.{◌≡◌, ◌&&◌, ◌||◌, ◌==◌, ℕ, List, Option, Some, None, IfOk, IfSome, option_map, string_bytes, slice_get};
-ghost use Rattle.wac_types_base.specs.Collection.{Stands};
-ghost use Rattle.wac_types_base.specs.Entries.{Name};
+ghost use Rattle.wac_types_base.specs.Collection.{IsAcyclic, Stands};
+ghost use Rattle.wac_types_base.specs.Entries.{AreDistinct, Name, names_of};
 ghost use Rattle.wac_types_base.specs.declared.item.ItemKind.{ItemKind};
-ghost use Rattle.wac.specs.Plain.{is_letter, is_digit, is_label, goes_on, primitive_of, plain_param, plain_under, plain_params, plain_result, plain_func, plain_item, plain_items};
+ghost use Rattle.wac_types_base.specs.declared.defined.World.{World};
+ghost use Rattle.wac.specs.Plain.{is_letter, is_digit, is_label, goes_on, primitive_of, plain_param, plain_under, plain_params, plain_result, plain_func, plain_item, plain_items, plain_imports};
 ghost use Rattle.wac.specs.PlainViews.{param_view, params_view, func_view, item_view, items_view};
 
 use std::alloc::{AllocError, Global};
-use wac_types_base::{FuncType, FuncTypeId, ItemKind, NamedMap, PrimitiveType, Types, ValueType};
+use wac_types_base::{FuncType, ItemKind, NamedMap, PrimitiveType, Types, ValueType, WorldId};
 
 /// A parameter of a primitive type.
 #[derive(Debug, Drop)]
@@ -144,7 +145,8 @@ fn plain_under(alloc: Global, types: &Types, name: &str, item: ItemKind) -> Resu
 /// The items, where each is such a function under a label.
 pub fn plain_items_of(alloc: Global, types: &Types, items: &NamedMap<ItemKind>) -> Result<Option<Vec<PlainItem>>, AllocError>
     requires { (n : ℕ) (e : Name × ItemKind) → slice_get items.now n ≡ Some e → Stands types.now e.1 }
-    ensures { IfOk result (λ o. option_map (λ v. items_view v.items) o ≡ plain_items types.now items.now) }
+    ensures plain { IfOk result (λ o. option_map (λ v. items_view v.items) o ≡ plain_items types.now items.now) }
+    ensures distinct { AreDistinct (names_of items.now) }
 {
     let mut all = Vec::new(alloc);
     for at in 0..items.len() {
@@ -155,4 +157,26 @@ pub fn plain_items_of(alloc: Global, types: &Types, items: &NamedMap<ItemKind>) 
         all.push(found)?;
     }
     Ok(Some(all))
+}
+
+/// The functions that a world imports, where its items are all such functions under labels.
+pub fn plain_imports_of(
+    alloc: Global,
+    types: &Types,
+    id: WorldId,
+) -> Result<Option<Vec<PlainItem>>, AllocError>
+    requires { Stands types.now (ItemKind.Component id) }
+    ensures plain { (w : World) × (slice_get types.now.worlds id.index ≡ Some w) × IfOk result (λ o. option_map (λ v. items_view v.items) o ≡ plain_imports types.now w) }
+    ensures acyclic { IsAcyclic types.now }
+    ensures own { id.collection ≡ types.now.number }
+    ensures distinct { IfOk result (λ o. IfSome o (λ v. AreDistinct (names_of (items_view v.items)))) }
+{
+    let world = types.world(id);
+    let Some(imports) = plain_items_of(alloc, types, &world.imports)? else {
+        return Ok(None);
+    };
+    if plain_items_of(alloc, types, &world.exports)?.is_none() {
+        return Ok(None);
+    }
+    Ok(Some(imports))
 }

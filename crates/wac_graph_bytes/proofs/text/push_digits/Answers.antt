@@ -1,5 +1,4 @@
-use Rattle.std.proofs.Common.{◌≡◌, ◌++◌, ◌∷◌, [], ℕ, List, ap, sym, ◌∙◌, arith, append_assoc}
-use Rattle.wac_graph_bytes.specs.Leb.{digits}
+use Rattle.std.proofs.Common.{◌++◌, ℕ, List, ap, sym, ◌∙◌, append_assoc}
 use Rattle.wac_graph_bytes.proofs.LebLaws.{digits_last, digits_more}
 use Rattle.wac_graph_bytes.proofs.text.push_digits.Goals as goal
 

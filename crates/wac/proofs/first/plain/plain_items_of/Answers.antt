@@ -7,8 +7,8 @@ use Rattle.wac.specs.PlainViews.{item_view, items_view}
 use Rattle.wac.proofs.PlainLaws.{each_none, each_more}
 use Rattle.wac.proofs.first.plain.plain_items_of.Goals as goal
 
-pub returns-in_default : goal.returns-in_default
-returns-in_default c =
+pub returns-in_default-clause-plain : goal.returns-in_default-clause-plain
+returns-in_default-clause-plain c =
     each_none (λ x. plain_under c.args.types.now x.0 x.1) c.args.items.now (items_view c.loop-at.all.items) c.loop-at.at _ c.loop-at.invariant c.entry.ensures
     (sym c.in_ok-found.ensures ∙ ap (λ (o : Option PlainItem). option_map item_view o) c.in_default.is)
 

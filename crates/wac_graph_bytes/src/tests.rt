@@ -1,0 +1,3 @@
+mod names;
+mod sections;
+mod tables;

@@ -1,0 +1,42 @@
+use Rattle.std.proofs.Common.{◌≡◌, ◌<◌, length, refl, sym, subst, ap, ◌∙◌, arith}
+use Rattle.wac_types_base.specs.declared.item.ItemKind.{ItemKind}
+use Rattle.wac_types_base.specs.declared.item.ValueType.{ValueType}
+use Rattle.wac_types_base.specs.declared.item.«Type».{«Type» as TypeKind}
+use Rattle.wac_types_base.specs.Record.{Collection}
+use Rattle.wac_types_base.specs.Collection.{HasChildren, Stands, IsAcyclic, defined_entry}
+use Rattle.wac_types_base.specs.Reaching.{LeadsBack, KeepsOthers, KeepsStanding, with_defined_type}
+use Rattle.wac_types_base.proofs.Standing.{defined_found}
+use Rattle.wac_types_base.proofs.Replacing.{defined_acyclic, defined_keeps, defined_stand}
+use Rattle.wac_types_base.proofs.types.Types.replace_defined_type.Goals as goal
+
+pub index_mut-requires : goal.index_mut-requires
+index_mut-requires c =
+    let f = defined_found c.args.self.now c.args.id c.requires.stands in
+    let same = ap (λ v. length v.defined_types) c.self.view_is in
+    grind (arith, f.within, same)
+
+pub invariant_of-self : goal.invariant_of-self
+invariant_of-self c =
+    let stood = subst (λ v. Stands v (ItemKind.Value (ValueType.Defined c.args.id))) (sym c.self.view_is) c.requires.stands in
+    let f = defined_found _ c.args.id stood in
+    defined_acyclic _ c.args.id f.own f.within c.args.ty stood c.self.invariant
+    (subst (λ v. HasChildren v (defined_entry c.args.ty)) (sym c.self.view_is) c.requires.children)
+    (λ l. absurd (cc (c.if-leads_back.ensures.1 (subst (λ v. LeadsBack v (ItemKind.Value (ValueType.Defined c.args.id)) (defined_entry c.args.ty)) c.self.view_is l))))
+
+pub returns-clause-keeps : goal.returns-clause-keeps
+returns-clause-keeps c =
+    let stood = subst (λ v. Stands v (ItemKind.Value (ValueType.Defined c.args.id))) (sym c.self.view_is) c.requires.stands in
+    let f = defined_found _ c.args.id stood in
+    let k = defined_keeps _ c.args.id f.own f.within c.args.ty stood c.self.invariant
+    (subst (λ v. HasChildren v (defined_entry c.args.ty)) (sym c.self.view_is) c.requires.children)
+    (λ l. absurd (cc (c.if-leads_back.ensures.1 (subst (λ v. LeadsBack v (ItemKind.Value (ValueType.Defined c.args.id)) (defined_entry c.args.ty)) c.self.view_is l)))) in
+    rw (← c.self.view_is) k
+
+pub returns-clause-stand : goal.returns-clause-stand
+returns-clause-stand c =
+    let stood = subst (λ v. Stands v (ItemKind.Value (ValueType.Defined c.args.id))) (sym c.self.view_is) c.requires.stands in
+    let f = defined_found _ c.args.id stood in
+    let k = defined_stand _ c.args.id f.own f.within c.args.ty stood c.self.invariant
+    (subst (λ v. HasChildren v (defined_entry c.args.ty)) (sym c.self.view_is) c.requires.children)
+    (λ l. absurd (cc (c.if-leads_back.ensures.1 (subst (λ v. LeadsBack v (ItemKind.Value (ValueType.Defined c.args.id)) (defined_entry c.args.ty)) c.self.view_is l)))) in
+    rw (← c.self.view_is) k

@@ -1,0 +1,42 @@
+use Rattle.std.proofs.Common.{◌≡◌, ◌<◌, length, refl, sym, subst, ap, ◌∙◌, arith}
+use Rattle.wac_types_base.specs.declared.item.ItemKind.{ItemKind}
+use Rattle.wac_types_base.specs.declared.item.ValueType.{ValueType}
+use Rattle.wac_types_base.specs.declared.item.«Type».{«Type» as TypeKind}
+use Rattle.wac_types_base.specs.Record.{Collection}
+use Rattle.wac_types_base.specs.Collection.{HasChildren, Stands, IsAcyclic, func_entry}
+use Rattle.wac_types_base.specs.Reaching.{LeadsBack, KeepsOthers, KeepsStanding, with_func_type}
+use Rattle.wac_types_base.proofs.Standing.{func_found}
+use Rattle.wac_types_base.proofs.Replacing.{func_acyclic, func_keeps, func_stand}
+use Rattle.wac_types_base.proofs.types.Types.replace_func_type.Goals as goal
+
+pub index_mut-requires : goal.index_mut-requires
+index_mut-requires c =
+    let f = func_found c.args.self.now c.args.id c.requires.stands in
+    let same = ap (λ v. length v.func_types) c.self.view_is in
+    grind (arith, f.within, same)
+
+pub invariant_of-self : goal.invariant_of-self
+invariant_of-self c =
+    let stood = subst (λ v. Stands v (ItemKind.Func c.args.id)) (sym c.self.view_is) c.requires.stands in
+    let f = func_found _ c.args.id stood in
+    func_acyclic _ c.args.id f.own f.within c.args.func stood c.self.invariant
+    (subst (λ v. HasChildren v (func_entry c.args.func)) (sym c.self.view_is) c.requires.children)
+    (λ l. absurd (cc (c.if-leads_back.ensures.1 (subst (λ v. LeadsBack v (ItemKind.Func c.args.id) (func_entry c.args.func)) c.self.view_is l))))
+
+pub returns-clause-keeps : goal.returns-clause-keeps
+returns-clause-keeps c =
+    let stood = subst (λ v. Stands v (ItemKind.Func c.args.id)) (sym c.self.view_is) c.requires.stands in
+    let f = func_found _ c.args.id stood in
+    let k = func_keeps _ c.args.id f.own f.within c.args.func stood c.self.invariant
+    (subst (λ v. HasChildren v (func_entry c.args.func)) (sym c.self.view_is) c.requires.children)
+    (λ l. absurd (cc (c.if-leads_back.ensures.1 (subst (λ v. LeadsBack v (ItemKind.Func c.args.id) (func_entry c.args.func)) c.self.view_is l)))) in
+    rw (← c.self.view_is) k
+
+pub returns-clause-stand : goal.returns-clause-stand
+returns-clause-stand c =
+    let stood = subst (λ v. Stands v (ItemKind.Func c.args.id)) (sym c.self.view_is) c.requires.stands in
+    let f = func_found _ c.args.id stood in
+    let k = func_stand _ c.args.id f.own f.within c.args.func stood c.self.invariant
+    (subst (λ v. HasChildren v (func_entry c.args.func)) (sym c.self.view_is) c.requires.children)
+    (λ l. absurd (cc (c.if-leads_back.ensures.1 (subst (λ v. LeadsBack v (ItemKind.Func c.args.id) (func_entry c.args.func)) c.self.view_is l)))) in
+    rw (← c.self.view_is) k
