@@ -167,10 +167,10 @@ pub one_export : (w : Worlds) (fs : List (Name × Plain)) (b : List ℕ) (name n
 one_export w fs b name n es es1 es2 i k s t reads has zero_i sn tn e1 ks e2 =
     let first : ReadsTo w es1 (adds sort.Func (part b n) (after_instance fs b)) =
     rw e1 (reads_push w es (code.Alias (alias.Export sort.Func i s)) (after_instance fs b) (adds sort.Func (part b n) (after_instance fs b)) reads
-        (ap (λ (j : ℕ). step w (after_instance fs b) (Aliased (ExportAlias sort.Func j (string_bytes s)))) zero_i ∙ ap (λ (m : Name). step w (after_instance fs b) (Aliased (ExportAlias sort.Func 0 m))) sn ∙ alias_step w fs b n has)) in
+    (ap (λ (j : ℕ). step w (after_instance fs b) (Aliased (ExportAlias sort.Func j (string_bytes s)))) zero_i ∙ ap (λ (m : Name). step w (after_instance fs b) (Aliased (ExportAlias sort.Func 0 m))) sn ∙ alias_step w fs b n has)) in
     let here : k ≡ length (map imported fs) = ks ∙ sym (counted w es (after_instance fs b) sort.Func reads) in
     rw e2 (reads_push w es1 (code.Export (record { name = t; sort = sort.Func; index = k; stated = None })) (adds sort.Func (part b n) (after_instance fs b)) (after_export fs b name n) first
-        (ap (λ (m : Name). step w (adds sort.Func (part b n) (after_instance fs b)) (Exported (record { name = m; sort = sort.Func; index = k; stated = None }))) tn ∙ export_step w fs b name n k here))
+    (ap (λ (m : Name). step w (adds sort.Func (part b n) (after_instance fs b)) (Exported (record { name = m; sort = sort.Func; index = k; stated = None }))) tn ∙ export_step w fs b name n k here))
 
 pub alias_types : (w : Worlds) (fs : List (Name × Plain)) (b : List ℕ) (es : List CodeEntry) → ReadsTo w es (after_instance fs b) → count_of sort.Func es ≡ 4294967295 → 4294967294 ≤ length fs
 alias_types w fs b es reads e = omega (arith, counted w es (after_instance fs b) sort.Func reads, e, length-map fs imported)

@@ -57,7 +57,6 @@ get_put n t (field m u xs) = by_order (get_put n t xs) (slice_cmp nat_cmp n m) r
     by_order rest Ordering.Equal e = at_equal (slice_cmp nat_cmp n n) t (get n xs) ((compared n n).1 refl)
     by_order rest Ordering.Greater e = at_other (slice_cmp nat_cmp n m) u (get n (put n t xs)) (λ q. absurd (unequal (sym e ∙ q))) ∙ rest
 
-
 get_other : (n m : Name) (t : Tree) (xs : Fields) → (n ≡ m → ⊥) → get n (put m t xs) ≡ get n xs
 get_other n m t no_fields h = at_other (slice_cmp nat_cmp n m) t None (λ e. h ((compared n m).0 e))
 get_other n m t (field k u xs) h = by_order (get_other n m t xs h) (slice_cmp nat_cmp m k) refl

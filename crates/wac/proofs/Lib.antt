@@ -10,3 +10,4 @@ pub mod LabelLaws
 pub mod FirstSame
 pub mod InstanceTrees
 pub mod Wired
+pub mod StreamLaws

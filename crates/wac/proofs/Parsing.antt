@@ -60,7 +60,7 @@ next_spelled source now form d items mid rest spans at s h long kept p q =
     let there : at < length spans = omega (arith, h, long) in
     let both = Spells-more source (take at form) (get_or form at d ∷ []) items mid rest (take at spans) (s ∷ []) p (subst (λ (z : List ℕ). Spells z (get_or form at d ∷ []) mid (s ∷ []) rest) kept q) in
     subst (λ (f : List Token). Spells source f items (take (at + 1) (set spans at s)) rest) (sym (take_more form at d h))
-      (subst (λ (t : List SourceSpan). Spells source (take at form ++ get_or form at d ∷ []) items t rest) (sym (take_more_set spans at s there)) both)
+    (subst (λ (t : List SourceSpan). Spells source (take at form ++ get_or form at d ∷ []) items t rest) (sym (take_more_set spans at s there)) both)
 
 -- the form ends there
 pub stops_here : (source now : List ℕ) (form : List Token) (d : Token) (items rest : List Item) (spans : List SourceSpan) (at : ℕ) (f : ParseFault) → at < length form → now ≡ source
@@ -130,4 +130,4 @@ whole source now later items mid rest last p l e kept kept_too package_ let_ exp
 pub more_within : (now source : List ℕ) (spans : List SourceSpan) (at : ℕ) (s : SourceSpan) → at < length spans → now ≡ source → All (λ (t : SourceSpan). IsSpanIn source t) (take at spans) → IsSpanIn now s → All (λ (t : SourceSpan). IsSpanIn source t) (take (at + 1) (set spans at s))
 more_within now source spans at s h kept before here =
     subst (λ (ts : List SourceSpan). All (λ (t : SourceSpan). IsSpanIn source t) ts) (sym (take_more_set spans at s h))
-      (All-push (λ (t : SourceSpan). IsSpanIn source t) (take at spans) s before (subst (λ (z : List ℕ). IsSpanIn z s) kept here))
+    (All-push (λ (t : SourceSpan). IsSpanIn source t) (take at spans) s before (subst (λ (z : List ℕ). IsSpanIn z s) kept here))

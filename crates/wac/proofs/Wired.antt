@@ -85,8 +85,7 @@ module _ (c : Collection) (acyclic : IsAcyclic c) where
         let b = past_items c w.imports (items w.exports) a.0 a.1 in
         let f = found_plain w.exports plain_parts.0 (λ i x h. export_stands c acyclic id w stands there own i x h) plain_parts.2 n k named in
         let row = ap (λ (r : Row). past (names_of w.imports) r) a.2 ∙ b.2 in
-        let is = fields (names_of w.imports) (past (use_names w.uses) (trees t.0)) in
-        (
+        let is = fields (names_of w.imports) (past (use_names w.uses) (trees t.0)) in (
           fields (names_of w.exports) (trees b.0),
           is,
           f.0,

@@ -46,7 +46,6 @@ IsNext kind (i ∷ items) = i.token ≡ Ok kind
 
 -- ---- a document of the language
 
-
 abbrev pub HasPackage : SourceSpan → List SourceSpan → Type 0
 HasPackage p spans = slice_get spans 1 ≡ Some p
 

@@ -11,3 +11,4 @@ pub mod StoredKeys
 pub mod FirstMeaning
 pub mod FaultViews
 pub mod Composing
+pub mod Streaming

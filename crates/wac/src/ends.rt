@@ -1,11 +1,12 @@
 //! The ends of a stream: a reader to its end, and bytes to a writer.
-ghost use Rattle.std.specs.Prelude.{◌≡◌, ◌++◌, ◌+◌, ◌≤◌, ◌<◌, ℕ, List, length, take, Option, Some, Ok, Err, IfOk, IfSome, OnOk, OnErr, IsErrOf, ◌⊎◌, ◌≢◌, []};
+ghost use Rattle.std.specs.Prelude.{◌≡◌, ◌++◌, ◌+◌, ◌≤◌, ◌<◌, ℕ, List, length, take, Option, Some, None, Ok, Err, IfOk, IfSome, OnOk, OnErr, IsErrOf, ◌⊎◌, ◌≢◌, []};
 ghost use Rattle.std.specs.Io.{ReadsAtMost, WritesAtMost};
 ghost use Rattle.std.specs.Io.KnownBytes.{ReadConsumes, WriteAppends, Consumes, Appends, IsAtEnd};
 ghost use Rattle.wac.specs.Ends.{Calls, CountsRead, CountsWrite, FailedOnce, NoneFailed, CallsAtMost, AppendsPrefix};
 
+use crate::first::fault::ComposeError;
 use std::alloc::{AllocError, Global};
-use std::io::{self, Read, Write};
+use std::io::{self, Read, Stdin, Write};
 
 /// The most bytes that a source may have.
 pub const MAX_SOURCE_LENGTH: usize = 16_777_216;
@@ -44,6 +45,8 @@ pub enum StreamError {
     SourceTooLong,
     /// The source is no UTF-8.
     NotUtf8,
+    /// The source is refused.
+    Compose(ComposeError),
     /// The writer failed, or took nothing.
     Write,
     Memory,
@@ -56,6 +59,17 @@ impl From<AllocError> for StreamError {
 
     fn from(_: AllocError) -> Self {
         StreamError::Memory
+    }
+}
+
+impl From<ComposeError> for StreamError {
+    ghost use Rattle.std.specs.Prelude.{◌≡◌};
+    ghost use Rattle.wac.specs.declared.ends.StreamError.{StreamError};
+
+    ghost from_gives = { λ f e. e ≡ StreamError.Compose f };
+
+    fn from(error: ComposeError) -> Self {
+        StreamError::Compose(error)
     }
 }
 
@@ -128,4 +142,20 @@ pub fn write_bytes<W: ByteSink>(writer: &mut W, bytes: &[u8]) -> Result<(), Stre
         written += write_piece(writer, &bytes[written..])?;
     }
     Ok(())
+}
+
+impl ByteSource for Stdin {
+    ghost calls = { λ _. None };
+
+    fn read_some(&mut self, buf: &mut [u8]) -> io::Result<usize> {
+        self.read(buf)
+    }
+}
+
+impl ByteSink for Vec<u8> {
+    ghost calls = { λ _. None };
+
+    fn write_some(&mut self, buf: &[u8]) -> io::Result<usize> {
+        self.write(buf)
+    }
 }

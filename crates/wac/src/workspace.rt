@@ -7,6 +7,9 @@ ghost use Rattle.wac_types_base.specs.declared.item.ItemKind.{ItemKind};
 ghost use Rattle.wac.specs.StoredKeys.{IsKeyOf, IsAmongThem};
 ghost use Rattle.wac_types_base.specs.Copying.{IsCopy};
 
+use crate::first::compose::compose_over;
+use crate::first::fault::ComposeError;
+use crate::first::output::Output;
 use crate::packages::{StoredPackage, are_same_versions};
 use semver::Version;
 use std::alloc::{AllocError, AllocFailed, Global};
@@ -215,6 +218,24 @@ impl Workspace {
         self.packages.push(package)?;
         self.next = after;
         Ok(())
+    }
+}
+
+impl Workspace {
+    ghost use Rattle.std.specs.Prelude.{IfOk, IfErr};
+    ghost use Rattle.wac.specs.Composing.{IsComposed, IsRefused};
+
+    /// Composes the component of the document that the source is. Spans of faults are offsets in the source, in bytes.
+    pub fn compose(&self, source: &str) -> Result<Output, ComposeError>
+        ensures composed { IfOk result (IsComposed self.now.packages source.now) }
+        ensures refused { IfErr result (IsRefused self.now.packages source.now) }
+    {
+        compose_over(self.alloc, &self.packages, source)
+    }
+
+    /// Where the workspace takes its memory.
+    pub(crate) fn allocator(&self) -> Global {
+        self.alloc
     }
 }
 

@@ -6,6 +6,7 @@ ghost use Rattle.wac_types_base.specs.Entries.{imports_in, pairs_of, names_of, v
 use crate::containers::{Items, NamedMap};
 use indexmap::IndexMap;
 use std::alloc::{AllocError, Global};
+use std::fmt;
 use std::marker::Model;
 
 /// A heap type.
@@ -170,4 +171,78 @@ impl CoreImports {
 pub struct ModuleType {
     pub imports: CoreImports,
     pub exports: NamedMap<CoreExtern>,
+}
+
+impl fmt::Display for HeapType {
+    fn fmt<W: fmt::Write>(&self, f: &mut fmt::Formatter<W>) -> fmt::Result {
+        f.write_str(match self {
+            HeapType::Concrete(_) => "concrete",
+            HeapType::Func => "func",
+            HeapType::Extern => "extern",
+            HeapType::Any => "any",
+            HeapType::None => "none",
+            HeapType::NoExtern => "noextern",
+            HeapType::NoFunc => "nofunc",
+            HeapType::Eq => "eq",
+            HeapType::Struct => "struct",
+            HeapType::Array => "array",
+            HeapType::I31 => "i31",
+            HeapType::Exn => "exn",
+            HeapType::NoExn => "noexn",
+            HeapType::Cont => "cont",
+            HeapType::NoCont => "nocont",
+        })
+    }
+}
+
+impl fmt::Display for CoreRefType {
+    fn fmt<W: fmt::Write>(&self, f: &mut fmt::Formatter<W>) -> fmt::Result {
+        f.write_str(if self.nullable { "(ref null " } else { "(ref " })?;
+        fmt::Display::fmt(&self.heap_type, f)?;
+        f.write_str(")")
+    }
+}
+
+impl fmt::Display for CoreType {
+    fn fmt<W: fmt::Write>(&self, f: &mut fmt::Formatter<W>) -> fmt::Result {
+        match self {
+            CoreType::I32 => f.write_str("i32"),
+            CoreType::I64 => f.write_str("i64"),
+            CoreType::F32 => f.write_str("f32"),
+            CoreType::F64 => f.write_str("f64"),
+            CoreType::V128 => f.write_str("v128"),
+            CoreType::Ref(ty) => fmt::Display::fmt(ty, f),
+        }
+    }
+}
+
+fn fmt_types<W: fmt::Write>(types: &[CoreType], f: &mut fmt::Formatter<W>) -> fmt::Result {
+    f.write_str("[")?;
+    for (at, ty) in types.iter().enumerate() {
+        if at > 0 {
+            f.write_str(", ")?;
+        }
+        fmt::Display::fmt(ty, f)?;
+    }
+    f.write_str("]")
+}
+
+impl fmt::Display for CoreFuncType {
+    fn fmt<W: fmt::Write>(&self, f: &mut fmt::Formatter<W>) -> fmt::Result {
+        fmt_types(self.params.as_slice(), f)?;
+        f.write_str(" -> ")?;
+        fmt_types(self.results.as_slice(), f)
+    }
+}
+
+impl fmt::Display for CoreExtern {
+    fn fmt<W: fmt::Write>(&self, f: &mut fmt::Formatter<W>) -> fmt::Result {
+        f.write_str(match self {
+            CoreExtern::Func(_) => "function",
+            CoreExtern::Table { .. } => "table",
+            CoreExtern::Memory { .. } => "memory",
+            CoreExtern::Global { .. } => "global",
+            CoreExtern::Tag(_) => "tag",
+        })
+    }
 }

@@ -59,8 +59,7 @@ impl Builder {
     {
         let index = self.types;
         let next = next_of(index)?;
-        self.entries
-            .push(Entry::Defined(DefinedType::Func(is_async, params, answer)))?;
+        self.entries.push(Entry::Defined(DefinedType::Func(is_async, params, answer)))?;
         self.types = next;
         Ok(index)
     }
@@ -101,8 +100,7 @@ impl Builder {
     {
         let index = self.instances;
         let next = next_of(index)?;
-        self.entries
-            .push(Entry::Instantiate(component, arguments))?;
+        self.entries.push(Entry::Instantiate(component, arguments))?;
         self.instances = next;
         Ok(index)
     }

@@ -104,10 +104,7 @@ fn no_component(
     if let Some(x) = document.export {
         let name = String::from_str(alloc, ident_value(lexer.source(x.id)))?;
         let span = x.id;
-        return Err(ComposeError::Resolution(ResolutionFault::UndefinedName {
-            name,
-            span,
-        }));
+        return Err(ComposeError::Resolution(ResolutionFault::UndefinedName { name, span }));
     }
     let processor = processor(alloc)?;
     let bytes = write_empty(alloc, &processor)?;

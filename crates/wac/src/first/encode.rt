@@ -12,7 +12,6 @@ ghost use Rattle.wac_graph_bytes.specs.Views.{view, processor_view};
 ghost use Rattle.wac_graph_bytes.specs.Writing.{sections_fit};
 ghost use Rattle.wac_types_base.specs.Entries.{AreDistinct, names_of};
 ghost use Rattle.wac.specs.Plain.{Plain};
-
 ghost use Rattle.wac.specs.EncodeViews.{export_names};
 ghost use Rattle.wac.specs.PlainViews.{item_view, items_view, params_view as plain_params_view};
 ghost use Rattle.wac.specs.FirstEncoding.{param_entry, answer_entry, ReadsTo, after_imports, after_instance, after_export, numbered, HasFunc, HasExport, last_state, IsTooLarge};

@@ -73,7 +73,10 @@ fn plain_param(alloc: Global, name: &str, ty: ValueType) -> Result<Option<PlainP
 }
 
 /// The parameters, where each has a primitive type.
-fn plain_params_of(alloc: Global, params: &NamedMap<ValueType>) -> Result<Option<Vec<PlainParam>>, AllocError>
+fn plain_params_of(
+    alloc: Global,
+    params: &NamedMap<ValueType>,
+) -> Result<Option<Vec<PlainParam>>, AllocError>
     ensures { IfOk result (λ o. option_map (λ v. params_view v.items) o ≡ plain_params params.now) }
 {
     let mut all = Vec::new(alloc);
@@ -117,7 +120,11 @@ fn plain_func_of(alloc: Global, func: &FuncType) -> Result<Option<PlainFunc>, Al
 }
 
 /// The item, where it is a function over primitive types.
-fn plain_item_of(alloc: Global, types: &Types, item: ItemKind) -> Result<Option<PlainFunc>, AllocError>
+fn plain_item_of(
+    alloc: Global,
+    types: &Types,
+    item: ItemKind,
+) -> Result<Option<PlainFunc>, AllocError>
     requires { Stands types.now item }
     ensures { IfOk result (λ o. option_map func_view o ≡ plain_item types.now item) }
 {
@@ -128,7 +135,12 @@ fn plain_item_of(alloc: Global, types: &Types, item: ItemKind) -> Result<Option<
 }
 
 /// The item under its name, where it is such a function under a label.
-fn plain_under(alloc: Global, types: &Types, name: &str, item: ItemKind) -> Result<Option<PlainItem>, AllocError>
+fn plain_under(
+    alloc: Global,
+    types: &Types,
+    name: &str,
+    item: ItemKind,
+) -> Result<Option<PlainItem>, AllocError>
     requires { Stands types.now item }
     ensures { IfOk result (λ o. option_map item_view o ≡ plain_under types.now name.now item) }
 {
@@ -143,7 +155,11 @@ fn plain_under(alloc: Global, types: &Types, name: &str, item: ItemKind) -> Resu
 }
 
 /// The items, where each is such a function under a label.
-pub fn plain_items_of(alloc: Global, types: &Types, items: &NamedMap<ItemKind>) -> Result<Option<Vec<PlainItem>>, AllocError>
+pub fn plain_items_of(
+    alloc: Global,
+    types: &Types,
+    items: &NamedMap<ItemKind>,
+) -> Result<Option<Vec<PlainItem>>, AllocError>
     requires { (n : ℕ) (e : Name × ItemKind) → slice_get items.now n ≡ Some e → Stands types.now e.1 }
     ensures plain { IfOk result (λ o. option_map (λ v. items_view v.items) o ≡ plain_items types.now items.now) }
     ensures distinct { AreDistinct (names_of items.now) }

@@ -98,10 +98,7 @@ pub fn instance_of<'p>(
 {
     let Some(package) = find(packages, name) else {
         let name = String::from_str(alloc, name)?;
-        return Err(ComposeError::Resolution(ResolutionFault::UnknownPackage {
-            name,
-            span,
-        }));
+        return Err(ComposeError::Resolution(ResolutionFault::UnknownPackage { name, span }));
     };
     let Some(imports) = plain_imports_of(alloc, &package.types, package.world)? else {
         return Err(ComposeError::Resolution(ResolutionFault::Unsupported { span }));
@@ -145,18 +142,13 @@ pub fn export_of<'a>(
     if !is_same_text(name, ident_value(lexer.source(l.id))) {
         let name = String::from_str(alloc, name)?;
         let span = x.id;
-        return Err(ComposeError::Resolution(ResolutionFault::UndefinedName {
-            name,
-            span,
-        }));
+        return Err(ComposeError::Resolution(ResolutionFault::UndefinedName { name, span }));
     }
     let export = ident_value(lexer.source(x.export));
     if !world.exports.contains(export) {
         let name = String::from_str(alloc, export)?;
         let span = through(x.dot, x.export);
-        return Err(ComposeError::Resolution(
-            ResolutionFault::MissingInstanceExport { name, span },
-        ));
+        return Err(ComposeError::Resolution(ResolutionFault::MissingInstanceExport { name, span }));
     }
     let Some(name) = label_of(lexer.source(x.name)) else {
         let span = x.name;

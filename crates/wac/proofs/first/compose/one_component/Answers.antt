@@ -38,19 +38,19 @@ returns-in_err-bytes-clause-refused c =
     let named = subst (λ (n : Name). package_named ps n ≡ Some handed) c.source.ensures found.named in
     let named_processor = processor_view c.in_ok-processor.processor in
     let unwritten = size_unwritten ps _ c.args.document _ p.0 p.2 (λ is. record {
-        statement = c.args.l;
-        handed = handed;
-        world = found.world;
-        imports = imports;
-        export = export;
-        there = c.requires.instance;
-        named = named;
-        known = found.there;
-        plain = found.plain;
-        exported = c.in_ok-export.ensures.named found.world found.there;
-        large = subst (λ (q : Name × Name). IsTooLarge imports handed.bytes export q) c.in_ok-processor.ensures (subst (λ (xs : List PlainItem). IsTooLarge (items_view xs) handed.bytes export named_processor) c.deref.ensures.value
-        (subst (λ (b : List ℕ). IsTooLarge (items_view c.deref.result.now) b export named_processor) c.deref-2.ensures.value (c.in_err-bytes.ensures.large (ap Err is))));
-      }) in
+      statement = c.args.l;
+      handed = handed;
+      world = found.world;
+      imports = imports;
+      export = export;
+      there = c.requires.instance;
+      named = named;
+      known = found.there;
+      plain = found.plain;
+      exported = c.in_ok-export.ensures.named found.world found.there;
+      large = subst (λ (q : Name × Name). IsTooLarge imports handed.bytes export q) c.in_ok-processor.ensures (subst (λ (xs : List PlainItem). IsTooLarge (items_view xs) handed.bytes export named_processor) c.deref.ensures.value
+          (subst (λ (b : List ℕ). IsTooLarge (items_view c.deref.result.now) b export named_processor) c.deref-2.ensures.value (c.in_err-bytes.ensures.large (ap Err is))));
+    }) in
     rw p.1 unwritten
 
 pub returns-clause-means : goal.returns-clause-means
