@@ -5,6 +5,8 @@ mod ends;
 mod first;
 mod packages;
 mod stream;
+#[cfg(test)]
+mod tests;
 mod workspace;
 
 pub use ends::{ByteSink, ByteSource, MAX_SOURCE_LENGTH, StreamError};
