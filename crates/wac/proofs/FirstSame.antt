@@ -1,4 +1,5 @@
 -- The ascribed wiring of one instance, and what its entries state.
+use Rattle.wac_graph_bytes.specs.Typing.{◌>>=◌}
 use Rattle.std.proofs.Common.{◌≡◌, ℕ, zero, suc, Bool, true, false, List, [], ◌∷◌, map, Option, Some, None, refl, sym, ap, ◌∙◌, subst, if◌then◌else◌}
 use Rattle.std.specs.Prelude.{slice_get, ◌==◌}
 use Rattle.std.specs.Option.{option_map}
@@ -14,7 +15,7 @@ use Rattle.wac_types_base.specs.Collection.{IsAcyclic}
 use Rattle.wac_graph_bytes.specs.Wirings.{Source, Absent, Outer, Inst, Projection, OfBytes, Instantiation, Wiring, Same, rename, renamed}
 use Rattle.wac_graph_bytes.specs.Meaning.{source_at, wiring_of, instantiation, nothing_listed}
 use Rattle.wac.specs.Packages.{Package}
-use Rattle.wac.specs.Plain.{◌>>=◌, Plain, plain_items, plain_imports}
+use Rattle.wac.specs.Plain.{Plain, plain_items, plain_imports}
 use Rattle.wac.specs.FirstEncoding.{asked, binding, last_state, ExportNames}
 use Rattle.wac.specs.FirstMeaning.{bindings, exported, one_instance, no_wiring}
 

@@ -3,6 +3,7 @@ pub mod Parsing
 pub mod PlainLaws
 pub mod EncodingLaws
 pub mod Searching
+pub mod Apart
 pub mod Holding
 pub mod WorldLaws
 pub mod WorldTrees

@@ -1,11 +1,12 @@
 -- Reading a list of items from its front.
+use Rattle.wac_graph_bytes.specs.Typing.{◌>>=◌}
 use Rattle.std.proofs.Common.{◌≡◌, ℕ, zero, suc, ◌+◌, List, [], ◌∷◌, ◌++◌, drop, Option, Some, None, refl, ap, sym, ◌∙◌, append_assoc, arith, length, ◌≤◌, ◌<◌, take, get_or}
 use Rattle.std.specs.Prelude.{option_map, slice_get}
 use Rattle.std.proofs.lemmas.List.{append-nil, take_more, map_push}
 use Rattle.wac.specs.declared.first.plain.PlainItem.{PlainItem}
 use Rattle.wac.specs.PlainViews.{item_view, items_view}
 use Rattle.std.proofs.Math.ListN.{drop_of_length-le}
-use Rattle.wac.specs.Plain.{each, ◌>>=◌}
+use Rattle.wac.specs.Plain.{each}
 use Rattle.std.proofs.lemmas.Option.{none-some, same_Some}
 
 -- the rest behind what has been read

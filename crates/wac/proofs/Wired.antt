@@ -16,14 +16,13 @@ use Rattle.wac_types_base.specs.Tree.{Tree, Row, Fields, component, tree, trees,
 use Rattle.wac_types_base.proofs.Slots.{entry_at-is}
 use Rattle.wac_graph_bytes.specs.declared.value.Sort.TheVariants as sort
 use Rattle.wac_graph_bytes.specs.Wirings.{OfBytes, Wiring, Same}
-use Rattle.wac_graph_bytes.specs.Typing.{Worlds, Made, same_name, get, part_of, item_of_sort}
-use Rattle.wac_graph_bytes.specs.Typing as typing
+use Rattle.wac_graph_bytes.specs.Typing.{◌>>=◌, Worlds, Made, same_name, get, part_of, item_of_sort}
 use Rattle.wac_graph_bytes.specs.Meaning.{Means, wiring_of, nothing_listed}
 use Rattle.wac.specs.declared.first.document.Document.{Document}
 use Rattle.wac.specs.declared.first.document.LetStatement.{LetStatement}
 use Rattle.wac.specs.declared.first.document.ExportStatement.{ExportStatement}
 use Rattle.wac.specs.Packages.{Package}
-use Rattle.wac.specs.Plain.{◌>>=◌, Plain, plain_items, plain_imports, plain_under}
+use Rattle.wac.specs.Plain.{Plain, plain_items, plain_imports, plain_under}
 use Rattle.wac.specs.FirstEncoding.{plain_tree, asked, part, HasFunc, HasExport, ExportNames, last_state}
 use Rattle.wac.specs.FirstMeaning.{AreTrue, Ascribes, nothing, one, Cause, Names, Refuses, package_named, world_of, instance_tree, exports_of_tree, one_instance, no_wiring, is_none}
 use Rattle.wac.specs.Composing.{HasMeaning, IsOversized, IsUnwritten, processor_name}
@@ -97,7 +96,7 @@ module _ (c : Collection) (acyclic : IsAcyclic c) where
 has_func : (worlds : Worlds) (p : Package) (n : Name) (es is : Fields) (f : Plain) → worlds (OfBytes p.bytes) ≡ instance_tree p → tree_of p.types (ItemKind.Component p.world) ≡ Some (component is es) → get n es ≡ Some (plain_tree f) → HasFunc worlds p.bytes n
 has_func worlds p n es is f knows whole there =
     ap (λ (o : Option Tree). part_of o (Made 0 (OfBytes p.bytes)) sort.Func n) (knows ∙ ap (λ (o : Option Tree). o >>= exports_of_tree) whole)
-    ∙ ap (λ (o : Option Tree). typing.◌>>=◌ (typing.◌>>=◌ o (item_of_sort sort.Func)) (λ t. Some (part p.bytes n))) there
+    ∙ ap (λ (o : Option Tree). (o >>= item_of_sort sort.Func) >>= (λ t. Some (part p.bytes n))) there
 
 has_export : (worlds : Worlds) (bytes source : List ℕ) (l : LetStatement) (w : World) (o : Option ExportStatement) (e : Option ExportNames) → Names source l w o e → ((n : Name) → is_some (value_at w.exports n) ≡ true → HasFunc worlds bytes n) → HasExport worlds bytes e
 has_export worlds bytes source l w None e h f = subst (λ (t : Option ExportNames). HasExport worlds bytes t) (sym h) tt

@@ -21,8 +21,8 @@ use Rattle.wac_types_base.proofs.GraphLemmas.{value_of, is_there, grow-some, gro
 use Rattle.wac_types_base.proofs.Slots.{entry_at-is}
 use Rattle.wac_types_base.proofs.Standing.{func_found}
 use Rattle.std.proofs.lemmas.Option.{same_Some, none-some}
-use Rattle.wac_graph_bytes.specs.Typing.{get, get_at}
-use Rattle.wac.specs.Plain.{◌>>=◌, Plain, primitive_of, plain_param, plain_params, plain_result, plain_func, plain_item, plain_under, plain_items, each, is_label}
+use Rattle.wac_graph_bytes.specs.Typing.{◌>>=◌, get, get_at}
+use Rattle.wac.specs.Plain.{Plain, primitive_of, plain_param, plain_params, plain_result, plain_func, plain_item, plain_under, plain_items, each, is_label}
 use Rattle.wac.specs.FirstEncoding.{primitive_tree, plain_row, answer_row, plain_tree, asked}
 
 deeper : (c : Collection) (n : ℕ) (k : ItemKind) (t : Whole Shape) → whole (item_node c) n k ≡ Some t → grow (item_node c k) (whole (item_node c) n) ≡ Some t

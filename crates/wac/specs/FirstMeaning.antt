@@ -6,13 +6,13 @@ use Rattle.wac_types_base.specs.Entries.{Name, value_at, names_of}
 use Rattle.wac_types_base.specs.declared.item.ItemKind.{ItemKind}
 use Rattle.wac_types_base.specs.declared.defined.World.{World}
 use Rattle.wac_types_base.specs.Tree.{Tree, instance, component, tree_of}
-use Rattle.wac_graph_bytes.specs.Wirings.{Source, Absent, Outer, Inst, Projection, Tag, OfBytes, Instantiation, Wiring}
-use Rattle.wac_graph_bytes.specs.Typing.{Worlds, same_name}
+use Rattle.wac_graph_bytes.specs.Wirings.{Source, Absent, Outer, Inst, Projection, Tag, OfBytes, OfDependency, Instantiation, Wiring}
+use Rattle.wac_graph_bytes.specs.Typing.{◌>>=◌, Worlds, same_name}
 use Rattle.wac_graph_bytes.specs.Meaning.{source_at}
 use Rattle.wac.specs.declared.first.document.Document.{Document}
 use Rattle.wac.specs.declared.first.document.LetStatement.{LetStatement}
 use Rattle.wac.specs.declared.first.document.ExportStatement.{ExportStatement}
-use Rattle.wac.specs.Plain.{◌>>=◌, Plain, plain_imports, is_label}
+use Rattle.wac.specs.Plain.{Plain, plain_imports, is_label}
 use Rattle.wac.specs.Packages.{Package, VersionParts}
 
 -- ---- what texts mean
@@ -55,6 +55,12 @@ instance_tree p = tree_of p.types (ItemKind.Component p.world) >>= exports_of_tr
 abbrev pub AreTrue : List Package → Worlds → Type 0
 AreTrue [] worlds = Unit {0}
 AreTrue (p ∷ ps) worlds = (worlds (OfBytes p.bytes) ≡ instance_tree p) × AreTrue ps worlds
+
+-- the worlds that are stated of the packages
+abbrev pub stated_worlds : List Package → Worlds
+stated_worlds [] tag = None
+stated_worlds (p ∷ ps) (OfBytes bytes) = if same_name p.bytes bytes then instance_tree p else stated_worlds ps (OfBytes bytes)
+stated_worlds (p ∷ ps) (OfDependency n) = None
 
 -- ---- the wiring
 

@@ -32,6 +32,11 @@ HasKey w name version = (p : Package) × Among p w.packages × (p.name ≡ name)
 abbrev pub HasBytes : Held → List ℕ → Type 0
 HasBytes w bytes = (p : Package) × Among p w.packages × (p.bytes ≡ bytes)
 
+-- No two packages have one key, and no two the same bytes.
+abbrev pub AreApart : List Package → Type 0
+AreApart [] = Unit {0}
+AreApart (p ∷ ps) = ((q : Package) → Among q ps → ((q.name ≡ p.name) × (q.version ≡ p.version) → ⊥) × (q.bytes ≡ p.bytes → ⊥)) × AreApart ps
+
 -- One more package: it has the key and the bytes that were handed in, and under the next number a copy of the world.
 pub record AddsPackage (old new : Held) (name : Name) (version : Option VersionParts) (bytes : List ℕ) (types : Collection) (world : WorldId) : Type 0 where
   pub copy : Collection

@@ -1,4 +1,5 @@
 -- Worlds whose items are functions over primitive types, under labels in lower case.
+use Rattle.wac_graph_bytes.specs.Typing.{◌>>=◌}
 use Rattle.std.specs.Prelude.{◌≡◌, ℕ, Bool, true, false, ◌&&◌, ◌||◌, ◌==◌, nat_le, List, [], ◌∷◌, Option, Some, None, option_map, slice_get, if◌then◌else◌}
 use Rattle.wac_types_base.specs.declared.item.PrimitiveType.{PrimitiveType}
 use Rattle.wac_types_base.specs.declared.item.ValueType.{ValueType}
@@ -7,11 +8,6 @@ use Rattle.wac_types_base.specs.declared.defined.FuncType.{FuncType}
 use Rattle.wac_types_base.specs.declared.defined.World.{World}
 use Rattle.wac_types_base.specs.Record.{Collection}
 use Rattle.wac_types_base.specs.Entries.{Name, names_of}
-
-infixl 10 ◌>>=◌
-abbrev pub ◌>>=◌ : {A B : Type 0} → Option A → (A → Option B) → Option B
-None >>= f = None
-(Some x) >>= f = f x
 
 -- what each becomes, if each becomes something
 abbrev pub each : {X Y : Type 0} → (X → Option Y) → List X → Option (List Y)

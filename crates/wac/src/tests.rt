@@ -1,5 +1,11 @@
 //! The first language, over a workspace that holds `p:p` or nothing.
 
+mod memory;
+mod reader;
+mod reader_tests;
+mod streams;
+mod streams_tests;
+
 use super::*;
 use std::alloc::Global;
 use std::test::Fail;

@@ -223,7 +223,18 @@ impl Workspace {
 
 impl Workspace {
     ghost use Rattle.std.specs.Prelude.{IfOk, IfErr};
+    ghost use Rattle.wac.specs.Packages.{AreApart};
     ghost use Rattle.wac.specs.Composing.{IsComposed, IsRefused};
+    ghost use Rattle.wac.specs.FirstMeaning.{AreTrue, stated_worlds};
+
+    /// No two packages have one key, and no two the same bytes; so there are worlds that are true of them. It does
+    /// nothing: its contract tells so.
+    pub fn see_apart(&self)
+        ensures apart { AreApart self.now.packages }
+        ensures stated { AreTrue self.now.packages (stated_worlds self.now.packages) }
+    {
+        let _ = &self.next;
+    }
 
     /// Composes the component of the document that the source is. Spans of faults are offsets in the source, in bytes.
     pub fn compose(&self, source: &str) -> Result<Output, ComposeError>

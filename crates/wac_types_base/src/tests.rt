@@ -32,6 +32,20 @@ fn interface(alloc: Global, exports: NamedMap<ItemKind>) -> Interface {
     }
 }
 
+fn resource(alloc: Global) -> Result<Resource, AllocError> {
+    Ok(Resource {
+        name: text(alloc, "r")?,
+        alias: None,
+    })
+}
+
+fn module(alloc: Global) -> ModuleType {
+    ModuleType {
+        imports: CoreImports::new(alloc),
+        exports: NamedMap::new(alloc),
+    }
+}
+
 fn world(alloc: Global, exports: NamedMap<ItemKind>) -> World {
     World {
         id: None,
@@ -176,11 +190,7 @@ fn parents_are_visited_first(rt: HostRuntime) -> Result<(), Fail> {
     );
     assert!(rt; visited.is_ok());
     assert_eq!(rt; seen, 211);
-    let module = ModuleType {
-        imports: CoreImports::new(alloc),
-        exports: NamedMap::new(alloc),
-    };
-    let _ = types.add_module_type(module)?;
+    let _ = types.add_module_type(module(alloc))?;
     assert_eq!(rt; types.modules().count(), 1);
     assert_eq!(rt; types.defined_types().count(), 2);
     Ok(())
@@ -208,5 +218,159 @@ fn ladder_is_copied_once(rt: HostRuntime) -> Result<(), Fail> {
     let mut other = Types::new(alloc, 2);
     let _ = copy_world(alloc, &types, w, &mut other.adding())?;
     assert_eq!(rt; other.interfaces().count(), 40);
+    Ok(())
+}
+
+// Each entry is added, and replaced by an equal one.
+#[test]
+fn entries_are_added_and_replaced(rt: HostRuntime) -> Result<(), Fail> {
+    let alloc = rt.alloc();
+    let mut types = Types::new(alloc, 1);
+    assert!(rt; types.has_ids_of(&DefinedType::List(U32)));
+    let list = types.add_defined_type(DefinedType::List(U32))?;
+    assert!(rt; types.has_ids_of(&DefinedType::List(U32)));
+    assert!(rt; types.has(ItemKind::Value(ValueType::Defined(list))));
+    assert!(rt;
+        types
+            .replace_defined_type(list, DefinedType::List(U32))
+            .is_ok()
+    );
+    let (first, second) = (resource(alloc)?, resource(alloc)?);
+    assert!(rt; types.has_ids_of(&first));
+    let id = types.add_resource(first)?;
+    assert!(rt; types.has(ItemKind::Ty(Type::Resource(id))));
+    assert!(rt; types.has_ids_of(&second));
+    assert!(rt; types.replace_resource(id, second).is_ok());
+    let (first, second) = (func(alloc), func(alloc));
+    assert!(rt; types.has_ids_of(&first));
+    let id = types.add_func_type(first)?;
+    assert!(rt; types.has(ItemKind::Func(id)));
+    assert!(rt; types.has_ids_of(&second));
+    assert!(rt; types.replace_func_type(id, second).is_ok());
+    let id = types.add_module_type(module(alloc))?;
+    assert!(rt; types.has(ItemKind::Module(id)));
+    assert!(rt; types.has_ids_of(&module(alloc)));
+    assert!(rt; types.replace_module_type(id, module(alloc)).is_ok());
+    Ok(())
+}
+
+#[test]
+fn worlds_are_added_and_replaced(rt: HostRuntime) -> Result<(), Fail> {
+    let alloc = rt.alloc();
+    let mut types = Types::new(alloc, 1);
+    let (first, second) = (
+        interface(alloc, NamedMap::new(alloc)),
+        interface(alloc, NamedMap::new(alloc)),
+    );
+    assert!(rt; types.has_ids_of(&first));
+    let i = types.add_interface(first)?;
+    assert!(rt; types.has(ItemKind::Instance(i)));
+    assert!(rt; types.has_ids_of(&second));
+    assert!(rt; types.replace_interface(i, second).is_ok());
+    let (first, second) = (
+        world(alloc, one(alloc, "i", ItemKind::Instance(i))?),
+        world(alloc, one(alloc, "i", ItemKind::Instance(i))?),
+    );
+    assert!(rt; types.has_ids_of(&first));
+    let w = types.add_world(first)?;
+    assert!(rt; types.has(ItemKind::Component(w)));
+    assert!(rt; types.has_ids_of(&second));
+    assert!(rt; types.replace_world(w, second).is_ok());
+    assert_eq!(rt; types.worlds().count(), 1);
+    assert_eq!(rt; types.resources().count(), 0);
+    assert_eq!(rt; types.func_types().count(), 0);
+    Ok(())
+}
+
+// The same calls through what is lent for adding.
+#[test]
+fn entries_are_added_through_a_loan(rt: HostRuntime) -> Result<(), Fail> {
+    let alloc = rt.alloc();
+    let mut types = Types::new(alloc, 1);
+    let mut lent = types.adding();
+    assert!(rt; lent.types().has_ids_of(&DefinedType::List(U32)));
+    assert_eq!(rt; lent.add_defined_type(DefinedType::List(U32))?.index, 0);
+    let r = resource(alloc)?;
+    assert!(rt; lent.types().has_ids_of(&r));
+    assert_eq!(rt; lent.add_resource(r)?.index, 0);
+    let f = func(alloc);
+    assert!(rt; lent.types().has_ids_of(&f));
+    assert_eq!(rt; lent.add_func_type(f)?.index, 0);
+    let i = interface(alloc, NamedMap::new(alloc));
+    assert!(rt; lent.types().has_ids_of(&i));
+    let i = lent.add_interface(i)?;
+    let w = world(alloc, one(alloc, "i", ItemKind::Instance(i))?);
+    assert!(rt; lent.types().has_ids_of(&w));
+    assert_eq!(rt; lent.add_world(w)?.index, 0);
+    assert_eq!(rt; lent.add_module_type(module(alloc))?.index, 0);
+    assert_eq!(rt; lent.number(), 1);
+    Ok(())
+}
+
+#[test]
+fn copied_item_has_the_same_kind(rt: HostRuntime) -> Result<(), Fail> {
+    let alloc = rt.alloc();
+    let mut types = Types::new(alloc, 1);
+    assert!(rt; types.has_ids_of(&DefinedType::Option(U32)));
+    let _ = types.add_defined_type(DefinedType::Option(U32))?;
+    assert!(rt; types.has_ids_of(&DefinedType::List(U32)));
+    let list = ItemKind::Value(ValueType::Defined(types.add_defined_type(DefinedType::List(U32))?));
+    assert!(rt; types.has(list));
+    let mut other = Types::new(alloc, 2);
+    let copied = copy::copy_item(alloc, &types, list, &mut other)?;
+    let wanted = DefinedTypeId {
+        collection: 2,
+        index: 0,
+    };
+    assert_eq!(rt; copied, ItemKind::Value(ValueType::Defined(wanted)));
+    Ok(())
+}
+
+#[test]
+fn printed_texts(rt: HostRuntime) -> Result<(), Fail> {
+    let alloc = rt.alloc();
+    let id = InterfaceId {
+        collection: 4,
+        index: 12,
+    };
+    assert_eq!(rt; format!(in alloc; "{id}")?.as_str(), "12");
+    let kinds = format!(in alloc;
+        "{}, {}, {}, {}",
+        FuncKind::Free,
+        FuncKind::Method,
+        FuncKind::Static,
+        FuncKind::Constructor
+    )?;
+    assert_eq!(rt;
+        kinds.as_str(),
+        "function, method, static method, constructor"
+    );
+    let kinds = format!(in alloc; "{}, {}", ExternKind::Import, ExternKind::Export)?;
+    assert_eq!(rt; kinds.as_str(), "import, export");
+    let funcref = CoreRefType {
+        nullable: true,
+        heap_type: HeapType::Func,
+    };
+    let params = Vec::from_slice(alloc, &[CoreType::I32, CoreType::Ref(funcref)])?;
+    let ty = CoreFuncType {
+        params: Items::from_vec(params),
+        results: Items::new(alloc),
+    };
+    assert_eq!(rt;
+        format!(in alloc; "{ty}")?.as_str(),
+        "[i32, (ref null func)] -> []"
+    );
+    let item = CoreExtern::Tag(ty);
+    assert_eq!(rt; format!(in alloc; "{item}")?.as_str(), "tag");
+    let fault = TargetError::UsedWithoutIdentifier;
+    assert_eq!(rt;
+        format!(in alloc; "{fault}")?.as_str(),
+        "a used interface has no identifier"
+    );
+    let fault = CycleError::Cycle;
+    assert_eq!(rt;
+        format!(in alloc; "{fault}")?.as_str(),
+        "the entry would reach itself"
+    );
     Ok(())
 }

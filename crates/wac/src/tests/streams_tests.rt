@@ -1,6 +1,7 @@
 use super::streams::{Endless, FailsAtOnce, SliceSource, TakesNothing, VecSink};
+use super::{ONE, add};
 use crate::ends::{read_source, write_bytes};
-use crate::{MAX_SOURCE_LENGTH, StreamError};
+use crate::*;
 use std::test::Fail;
 
 #[test]
@@ -69,5 +70,47 @@ fn sinks(rt: HostRuntime) -> Result<(), Fail> {
     later.fails_at = Some(3);
     assert!(rt; matches!(write_bytes(&mut later, b"abc"), Err(StreamError::Write)));
     assert_eq!(rt; later.taken.as_slice(), b"ab".as_slice());
+    Ok(())
+}
+
+#[test]
+fn composed_from_end_to_end(rt: HostRuntime) -> Result<(), Fail> {
+    let alloc = rt.alloc();
+    let mut workspace = Workspace::new(alloc);
+    assert!(rt; matches!(add(alloc, &mut workspace, "p:p"), Some(Ok(()))));
+    let mut source = SliceSource::new(
+        b"package m:m; let x = new p:p { ... }; export x.g as \"g\";",
+    );
+    source.most = 7;
+    let mut sink = VecSink::byte_by_byte(alloc);
+    assert!(rt; compose_stream(&workspace, &mut source, &mut sink).is_ok());
+    assert_eq!(rt; sink.taken.as_slice(), ONE.as_slice());
+    Ok(())
+}
+
+#[test]
+fn composing_refused(rt: HostRuntime) -> Result<(), Fail> {
+    let alloc = rt.alloc();
+    let workspace = Workspace::new(alloc);
+    let mut sink = VecSink::new(alloc);
+    let mut fails = FailsAtOnce { calls: 0 };
+    let outcome = compose_stream(&workspace, &mut fails, &mut sink);
+    assert!(rt; matches!(outcome, Err(StreamError::Read)));
+    let outcome = compose_stream(
+        &workspace,
+        &mut SliceSource::new(b"package a:b;\xff"),
+        &mut sink,
+    );
+    assert!(rt; matches!(outcome, Err(StreamError::NotUtf8)));
+    let outcome = compose_stream(&workspace, &mut SliceSource::new(b"package a:b"), &mut sink);
+    assert!(rt; matches!(outcome, Err(StreamError::Compose(_))));
+    assert_eq!(rt; sink.calls, 0);
+    let mut none = TakesNothing { calls: 0 };
+    let outcome = compose_stream(
+        &workspace,
+        &mut SliceSource::new(b"package a:b;"),
+        &mut none,
+    );
+    assert!(rt; matches!(outcome, Err(StreamError::Write)));
     Ok(())
 }

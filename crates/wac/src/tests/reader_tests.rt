@@ -545,11 +545,11 @@ fn names_are(
     }
     let import = format!(in alloc; "0a 01 {spelled} 01 00")?;
     let export = format!(in alloc; "0b 01 {spelled} 01 00 00")?;
-    let func = "07 01 40 00 01 00";
-    let bytes = component_of(rt, alloc, &[func, import.as_str()])?;
+    let func = format!(in alloc; "07 01 40 00 01 00")?;
+    let bytes = component_of(rt, alloc, &[func.as_str(), import.as_str()])?;
     assert_eq!(rt; read(alloc, &bytes).is_ok(), imported, "import {name}");
-    let f = "0a 01 00 01 66 01 00";
-    let bytes = component_of(rt, alloc, &[func, f, export.as_str()])?;
+    let f = format!(in alloc; "0a 01 00 01 66 01 00")?;
+    let bytes = component_of(rt, alloc, &[func.as_str(), f.as_str(), export.as_str()])?;
     assert_eq!(rt; read(alloc, &bytes).is_ok(), exported, "export {name}");
     Ok(())
 }
