@@ -5,9 +5,8 @@ use Rattle.std.specs.Option.{option_map}
 use Rattle.semver.specs.Identifiers.{parts_of}
 use Rattle.wac_types_base.specs.Graph.{Among}
 use Rattle.wac_types_base.specs.Entries.{Name}
-use Rattle.wac_types_base.specs.Tree.{Tree}
-use Rattle.wac_graph_bytes.specs.Wirings.{Tag, OfBytes}
-use Rattle.wac_graph_bytes.specs.Typing.{Worlds, same_name}
+use Rattle.wac_graph_bytes.specs.Wirings.{OfBytes}
+use Rattle.wac_graph_bytes.specs.Typing.{same_name}
 use Rattle.wac_graph_bytes.proofs.Distinct.{same_name_decides}
 use Rattle.wac.specs.declared.packages.StoredPackage.{StoredPackage}
 use Rattle.wac.specs.declared.workspace.Workspace.TheInside.{Inside}

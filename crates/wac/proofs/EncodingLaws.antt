@@ -1,13 +1,12 @@
 -- One entry after another: the state behind each of those that write one instance.
-use Rattle.std.proofs.Common.{◌≡◌, ℕ, zero, suc, ◌+◌, ◌<◌, ◌≤◌, take, cond, Bool, true, false, List, [], ◌∷◌, ◌++◌, length, map, Option, Some, None, refl, sym, ap, ◌∙◌, subst, arith, rules, append_assoc}
+use Rattle.std.proofs.Common.{◌≡◌, ℕ, suc, ◌+◌, ◌≤◌, take, cond, Bool, List, [], ◌∷◌, ◌++◌, length, map, Option, Some, None, refl, sym, ap, ◌∙◌, subst, arith, append_assoc}
 use Rattle.std.specs.Prelude.{slice_get, string_bytes, String}
-use Rattle.std.proofs.lemmas.List.{length-map, length-take, length_push, map_push, map-append, append-nil}
+use Rattle.std.proofs.lemmas.List.{length-map, length-take, length_push, map_push, map-append}
 use Rattle.std.proofs.lemmas.List.Sums.{sum_by_push}
 use Rattle.std.specs.Global.{Vec, Global}
 use Rattle.wac_types_base.specs.Entries.{Name, names_of}
 use Rattle.wac_types_base.specs.declared.item.PrimitiveType.{PrimitiveType}
 use Rattle.wac_types_base.specs.Tree.{Tree, Row}
-use Rattle.wac_graph_bytes.specs.declared.value.Sort.{Sort}
 use Rattle.wac_graph_bytes.specs.declared.value.Sort.TheVariants as sort
 use Rattle.wac_graph_bytes.specs.declared.value.ValueType.{ValueType}
 use Rattle.wac_graph_bytes.specs.declared.value.Description.TheVariants as desc
@@ -18,12 +17,12 @@ use Rattle.wac_graph_bytes.specs.declared.entry.Entry.TheVariants as code
 use Rattle.wac_graph_bytes.specs.declared.entry.DefinedType.TheVariants as defined
 use Rattle.wac_graph_bytes.specs.declared.entry.Alias.TheVariants as alias
 use Rattle.wac_graph_bytes.specs.Entries.{Entry, Argument, Nested, Instantiate, Aliased, Typed, Imported, Exported, ExportAlias, PlainType, FuncEntry}
-use Rattle.wac_graph_bytes.specs.Wirings.{Source, Outer, Inst, Projection, OfBytes}
-use Rattle.wac_graph_bytes.specs.Typing.{Meaning, Item, Made, Part, Known, Code, Scope, Worlds, fields_of, value_if}
+use Rattle.wac_graph_bytes.specs.Wirings.{Source, Inst, Projection, OfBytes}
+use Rattle.wac_graph_bytes.specs.Typing.{Meaning, Known, Code, Scope, Worlds, fields_of}
 use Rattle.wac_graph_bytes.specs.Meaning.{State, start, step, steps, adds, arguments_of}
 use Rattle.wac_graph_bytes.specs.Views.{view, params_view, argument_view, arguments_view}
 use Rattle.wac_graph_bytes.specs.Counting.{count_of, is_sort, entry_sort}
-use Rattle.wac_graph_bytes.specs.Meaning.{IsApart, IsMade}
+use Rattle.wac_graph_bytes.specs.Meaning.{IsApart}
 use Rattle.wac_types_base.specs.Entries.{AreDistinct}
 use Rattle.wac_graph_bytes.proofs.Written.{IsWhole}
 use Rattle.std.specs.List.{AllByRecursion}

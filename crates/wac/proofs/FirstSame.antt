@@ -1,23 +1,20 @@
 -- The ascribed wiring of one instance, and what its entries state.
 use Rattle.wac_graph_bytes.specs.Typing.{◌>>=◌}
-use Rattle.std.proofs.Common.{◌≡◌, ℕ, zero, suc, Bool, true, false, List, [], ◌∷◌, map, Option, Some, None, refl, sym, ap, ◌∙◌, subst, if◌then◌else◌}
+use Rattle.std.proofs.Common.{◌≡◌, ℕ, zero, suc, Bool, true, false, List, [], ◌∷◌, map, Option, Some, None, refl, sym, ap, ◌∙◌, if◌then◌else◌}
 use Rattle.std.specs.Prelude.{slice_get, ◌==◌}
 use Rattle.std.specs.Option.{option_map}
 use Rattle.std.specs.Cmp.Lexicographic.{pointwise}
 use Rattle.std.specs.List.{AllByRecursion}
 use Rattle.std.proofs.lemmas.Option.{same_Some, none-some}
 use Rattle.wac_types_base.specs.Entries.{Name, names_of, value_at}
-use Rattle.wac_types_base.specs.declared.item.ItemKind.{ItemKind}
 use Rattle.wac_types_base.specs.declared.defined.World.{World}
-use Rattle.wac_types_base.specs.Record.{Collection}
-use Rattle.wac_types_base.specs.Tree.{Tree, tree_of}
-use Rattle.wac_types_base.specs.Collection.{IsAcyclic}
-use Rattle.wac_graph_bytes.specs.Wirings.{Source, Absent, Outer, Inst, Projection, OfBytes, Instantiation, Wiring, Same, rename, renamed}
+use Rattle.wac_types_base.specs.Tree.{tree_of}
+use Rattle.wac_graph_bytes.specs.Wirings.{Source, Absent, Outer, Inst, Projection, OfBytes, Instantiation, Same, rename, renamed}
 use Rattle.wac_graph_bytes.specs.Meaning.{source_at, wiring_of, instantiation, nothing_listed}
 use Rattle.wac.specs.Packages.{Package}
-use Rattle.wac.specs.Plain.{Plain, plain_items, plain_imports}
+use Rattle.wac.specs.Plain.{Plain}
 use Rattle.wac.specs.FirstEncoding.{asked, binding, last_state, ExportNames}
-use Rattle.wac.specs.FirstMeaning.{bindings, exported, one_instance, no_wiring}
+use Rattle.wac.specs.FirstMeaning.{bindings, one_instance, no_wiring}
 
 abbrev id : ℕ → ℕ
 id k = k

@@ -1,6 +1,6 @@
 -- What a supported package's instances export.
-use Rattle.std.proofs.Common.{◌≡◌, ℕ, Bool, true, false, List, [], ◌∷◌, ◌++◌, map, Option, Some, None, refl, sym, ap, ◌∙◌, subst, if◌then◌else◌}
-use Rattle.std.specs.Prelude.{slice_get, ◌==◌}
+use Rattle.std.proofs.Common.{◌≡◌, Bool, true, false, List, [], ◌∷◌, ◌++◌, Option, Some, None, refl, sym, ap, ◌∙◌, if◌then◌else◌}
+use Rattle.std.specs.Prelude.{◌==◌}
 use Rattle.std.specs.Option.{option_map}
 use Rattle.std.specs.Bool.{Decides}
 use Rattle.std.specs.Cmp.Lexicographic.{pointwise, slice_cmp}
@@ -12,10 +12,10 @@ use Rattle.std.proofs.lemmas.Map.Text.{is_eq-slice_cmp}
 use Rattle.wac_types_base.specs.declared.item.ItemKind.{ItemKind}
 use Rattle.wac_types_base.specs.declared.defined.UsedType.{UsedType}
 use Rattle.wac_types_base.specs.Record.{Collection}
-use Rattle.wac_types_base.specs.Entries.{Name, names_of, values_of, value_at}
+use Rattle.wac_types_base.specs.Entries.{Name, names_of, value_at}
 use Rattle.wac_types_base.specs.Graph.{Whole, Wholes, wholes_by}
 use Rattle.wac_types_base.specs.Collection.{Shape, Slot, unfolding_of, items, used, use_names}
-use Rattle.wac_types_base.specs.Tree.{Tree, Row, Fields, no_fields, field, tree, trees, tree_of, fields, put, put_at, past}
+use Rattle.wac_types_base.specs.Tree.{Tree, Fields, no_fields, field, tree, trees, tree_of, fields, put, put_at, past}
 use Rattle.wac_types_base.proofs.GraphLemmas.{both-some}
 use Rattle.wac_graph_bytes.specs.Typing.{get, get_at}
 

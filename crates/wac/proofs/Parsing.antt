@@ -1,5 +1,5 @@
 -- The first item, and what stands behind a form.
-use Rattle.std.proofs.Common.{◌≡◌, true, false, ℕ, zero, suc, ◌+◌, ◌≤◌, ◌<◌, take, drop, get_or, All, arith, append_assoc, List, [], ◌∷◌, ◌++◌, length, Option, Some, None, Result, Ok, Err, refl, ap, sym, ◌∙◌, subst}
+use Rattle.std.proofs.Common.{◌≡◌, true, false, ℕ, zero, suc, ◌+◌, ◌≤◌, ◌<◌, take, drop, get_or, All, arith, append_assoc, List, [], ◌∷◌, ◌++◌, length, Option, Some, Result, Ok, refl, ap, sym, ◌∙◌, subst}
 use Rattle.std.specs.Prelude.{Contains, slice_get, slice_index_or, Bool}
 use Rattle.std.proofs.Math.ListN.{set}
 use Rattle.std.proofs.lemmas.List.{take_more, take_more_set, take-append-drop, take_all}
@@ -13,7 +13,7 @@ use Rattle.wac_parser_lexer.specs.declared.token.Token.{Token}
 use Rattle.wac_parser_lexer.specs.declared.token.Token.TheVariants as token
 use Rattle.wac_parser_lexer.specs.declared.error.Error.{Error}
 use Rattle.wac.specs.declared.first.parse.ParseFault.TheVariants as fault
-use Rattle.wac.specs.FirstLanguage.{IsItem, IsNot, IsNext, Spells, Stops, fault_at, fault_of_item, package_form, let_form, export_form, TakesPackage, TakesLet, TakesExport, IsDocument, IsFault, in_package, in_let, in_export, behind}
+use Rattle.wac.specs.FirstLanguage.{IsNot, IsNext, Spells, Stops, fault_at, fault_of_item, package_form, let_form, export_form, TakesPackage, TakesLet, TakesExport, IsDocument, IsFault, in_let, in_export, behind}
 use Rattle.wac.specs.declared.first.document.LetStatement.{LetStatement}
 use Rattle.wac.specs.declared.first.document.ExportStatement.{ExportStatement}
 

@@ -1,5 +1,5 @@
 -- The component of one instance means what its document ascribes.
-use Rattle.std.proofs.Common.{◌≡◌, ℕ, zero, suc, Bool, true, false, List, [], ◌∷◌, ◌++◌, map, Option, Some, None, is_some, refl, sym, ap, ◌∙◌, subst, if◌then◌else◌}
+use Rattle.std.proofs.Common.{◌≡◌, ℕ, suc, Bool, true, false, List, [], ◌∷◌, ◌++◌, Option, Some, None, is_some, refl, sym, ap, ◌∙◌, subst, if◌then◌else◌}
 use Rattle.std.specs.Prelude.{slice_get, ◌==◌, ◌&&◌}
 use Rattle.std.specs.Option.{option_map}
 use Rattle.std.specs.Cmp.Lexicographic.{pointwise}
@@ -15,7 +15,7 @@ use Rattle.wac_types_base.specs.Collection.{Shape, Stands, IsAcyclic, items, ite
 use Rattle.wac_types_base.specs.Tree.{Tree, Row, Fields, component, tree, trees, tree_of, fields, past}
 use Rattle.wac_types_base.proofs.Slots.{entry_at-is}
 use Rattle.wac_graph_bytes.specs.declared.value.Sort.TheVariants as sort
-use Rattle.wac_graph_bytes.specs.Wirings.{OfBytes, Wiring, Same}
+use Rattle.wac_graph_bytes.specs.Wirings.{OfBytes}
 use Rattle.wac_graph_bytes.specs.Typing.{◌>>=◌, Worlds, Made, same_name, get, part_of, item_of_sort}
 use Rattle.wac_graph_bytes.specs.Meaning.{Means, wiring_of, nothing_listed}
 use Rattle.wac.specs.declared.first.document.Document.{Document}
@@ -23,8 +23,8 @@ use Rattle.wac.specs.declared.first.document.LetStatement.{LetStatement}
 use Rattle.wac.specs.declared.first.document.ExportStatement.{ExportStatement}
 use Rattle.wac.specs.Packages.{Package}
 use Rattle.wac.specs.Plain.{Plain, plain_items, plain_imports, plain_under}
-use Rattle.wac.specs.FirstEncoding.{plain_tree, asked, part, HasFunc, HasExport, ExportNames, last_state}
-use Rattle.wac.specs.FirstMeaning.{AreTrue, Ascribes, nothing, one, Cause, Names, Refuses, package_named, world_of, instance_tree, exports_of_tree, one_instance, no_wiring, is_none}
+use Rattle.wac.specs.FirstEncoding.{plain_tree, part, HasFunc, HasExport, ExportNames, last_state}
+use Rattle.wac.specs.FirstMeaning.{AreTrue, nothing, one, Cause, Names, Refuses, package_named, world_of, instance_tree, exports_of_tree, one_instance, no_wiring, is_none}
 use Rattle.wac.specs.Composing.{HasMeaning, IsOversized, IsUnwritten, processor_name}
 use Rattle.wac.specs.FaultViews.{IsFaultOf, IsSizeFault}
 use Rattle.wac.specs.declared.first.fault.ResolutionFault.TheVariants as fault

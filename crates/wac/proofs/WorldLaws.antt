@@ -1,5 +1,5 @@
 -- The items of a world that stands.
-use Rattle.std.proofs.Common.{◌≡◌, ℕ, zero, suc, ◌+◌, List, [], ◌∷◌, ◌++◌, map, length, Option, Some, None, refl, sym, ap, ◌∙◌, subst, arith}
+use Rattle.std.proofs.Common.{◌≡◌, ℕ, zero, suc, ◌+◌, List, [], ◌∷◌, ◌++◌, length, Some, sym, ap, ◌∙◌, arith}
 use Rattle.std.specs.Prelude.{slice_get}
 use Rattle.std.proofs.lemmas.List.{append-nil}
 use Rattle.wac_types_base.specs.declared.item.ItemKind.{ItemKind}
@@ -7,7 +7,7 @@ use Rattle.wac_types_base.specs.declared.ids.WorldId.{WorldId}
 use Rattle.wac_types_base.specs.declared.defined.World.{World}
 use Rattle.wac_types_base.specs.Record.{Collection}
 use Rattle.wac_types_base.specs.Entries.{Name}
-use Rattle.wac_types_base.specs.Collection.{Slot, Stands, IsAcyclic, slots_of, items, used, world_entry}
+use Rattle.wac_types_base.specs.Collection.{Slot, Stands, IsAcyclic, items, used, world_entry}
 use Rattle.wac_types_base.proofs.Slots.{slots_world}
 use Rattle.wac_types_base.proofs.Walking.{child_smaller}
 

@@ -1,28 +1,24 @@
 -- The trees of a world's items, and of its instances.
-use Rattle.std.proofs.Common.{◌≡◌, ℕ, zero, suc, ◌+◌, ◌≤◌, Bool, true, false, List, [], ◌∷◌, ◌++◌, map, length, Option, Some, None, IsSome, is_some, refl, sym, ap, ◌∙◌, subst, arith, if◌then◌else◌}
-use Rattle.std.specs.Prelude.{slice_get, ◌==◌, ◌&&◌}
+use Rattle.std.proofs.Common.{◌≡◌, ℕ, zero, suc, Bool, true, false, List, [], ◌∷◌, ◌++◌, map, Option, Some, None, refl, sym, ap, ◌∙◌, subst, arith, if◌then◌else◌}
+use Rattle.std.specs.Prelude.{slice_get, ◌==◌}
 use Rattle.std.specs.Option.{option_map}
-use Rattle.std.specs.Cmp.Lexicographic.{pointwise, slice_cmp}
-use Rattle.std.specs.Ordering.{nat_cmp}
-use Rattle.std.specs.declared.cmp.Ordering.{Ordering}
+use Rattle.std.specs.Cmp.Lexicographic.{pointwise}
 use Rattle.wac_types_base.specs.declared.item.PrimitiveType.{PrimitiveType}
 use Rattle.wac_types_base.specs.declared.item.ValueType.{ValueType}
 use Rattle.wac_types_base.specs.declared.item.ItemKind.{ItemKind}
-use Rattle.wac_types_base.specs.declared.ids.WorldId.{WorldId}
 use Rattle.wac_types_base.specs.declared.ids.FuncTypeId.{FuncTypeId}
 use Rattle.wac_types_base.specs.declared.defined.FuncType.{FuncType}
-use Rattle.wac_types_base.specs.declared.defined.World.{World}
 use Rattle.wac_types_base.specs.Record.{Collection}
 use Rattle.wac_types_base.specs.Entries.{Name, names_of, values_of, value_at}
-use Rattle.wac_types_base.specs.Graph.{Whole, Wholes, node, no_more, more, hole, whole, grow, close, wholes_by, both, skip}
-use Rattle.wac_types_base.specs.Collection.{Shape, Slot, Entry, primitive, func, world, item_node, Stands, IsAcyclic, unfolding_of, depth, func_entry, world_entry, items, used, use_names, value_slot, option_slot}
-use Rattle.wac_types_base.specs.Tree.{Tree, Row, Fields, rigid, instance, component, end, place, gap, tree, trees, tree_at, tree_of, fields, put, put_at, past, no_fields, field}
-use Rattle.wac_types_base.proofs.GraphLemmas.{value_of, is_there, grow-some, grow-extends, whole-extends, both-some, skip-some}
+use Rattle.wac_types_base.specs.Graph.{Whole, Wholes, node, no_more, more, hole, whole, grow, wholes_by, both}
+use Rattle.wac_types_base.specs.Collection.{Shape, Slot, Entry, primitive, func, item_node, Stands, IsAcyclic, unfolding_of, depth, func_entry, value_slot, option_slot}
+use Rattle.wac_types_base.specs.Tree.{Tree, Row, rigid, place, tree, trees, tree_of}
+use Rattle.wac_types_base.proofs.GraphLemmas.{value_of, is_there, grow-some, grow-extends, whole-extends, both-some}
 use Rattle.wac_types_base.proofs.Slots.{entry_at-is}
 use Rattle.wac_types_base.proofs.Standing.{func_found}
 use Rattle.std.proofs.lemmas.Option.{same_Some, none-some}
-use Rattle.wac_graph_bytes.specs.Typing.{◌>>=◌, get, get_at}
-use Rattle.wac.specs.Plain.{Plain, primitive_of, plain_param, plain_params, plain_result, plain_func, plain_item, plain_under, plain_items, each, is_label}
+use Rattle.wac_graph_bytes.specs.Typing.{◌>>=◌}
+use Rattle.wac.specs.Plain.{Plain, plain_params, plain_result, plain_func, plain_item, plain_under, plain_items, is_label}
 use Rattle.wac.specs.FirstEncoding.{primitive_tree, plain_row, answer_row, plain_tree, asked}
 
 deeper : (c : Collection) (n : ℕ) (k : ItemKind) (t : Whole Shape) → whole (item_node c) n k ≡ Some t → grow (item_node c k) (whole (item_node c) n) ≡ Some t

@@ -1,5 +1,5 @@
 -- What a stream's two ends tell of their calls.
-use Rattle.std.specs.Prelude.{◌≡◌, ℕ, ◌+◌, ◌≤◌, ◌==◌, ◌&&◌, not, List, ◌++◌, length, Result, Ok, Err, Option, Some, None, IfSome, IfOk, is_ok, if◌then◌else◌, OnErr}
+use Rattle.std.specs.Prelude.{◌≡◌, ℕ, ◌+◌, ◌≤◌, ◌==◌, ◌&&◌, not, List, ◌++◌, length, Result, Ok, Err, Option, Some, IfSome, is_ok, if◌then◌else◌}
 use Rattle.std.specs.Io.KnownBytes.{Appends}
 
 -- how many calls an end has had, and how many of them gave nothing of what they were asked for

@@ -11,7 +11,7 @@ use Rattle.wac_graph_bytes.specs.declared.entry.Entry.{Entry as CodeEntry}
 use Rattle.wac_graph_bytes.specs.Entries.{Argument}
 use Rattle.wac_graph_bytes.specs.Wirings.{Source, Outer, Inst, Projection, OfBytes}
 use Rattle.wac_graph_bytes.specs.Typing.{Meaning, Item, Made, Part, Known, Code, Worlds, part_of}
-use Rattle.wac_graph_bytes.specs.Meaning.{State, Listed, steps, start}
+use Rattle.wac_graph_bytes.specs.Meaning.{State, steps, start}
 use Rattle.wac_graph_bytes.specs.Views.{view}
 use Rattle.wac_graph_bytes.specs.Writing.{sections_fit}
 use Rattle.wac.specs.Plain.{Plain}

@@ -1,5 +1,5 @@
 -- The first language: `package P;`, then at most one `let X = new P { ... };`, then at most one `export X.Y as "Z";`.
-use Rattle.std.specs.Prelude.{◌≡◌, ℕ, ◌+◌, ◌-◌, Bool, true, false, ◌==◌, List, [], ◌∷◌, ◌++◌, length, drop, Option, Some, None, IfSome, option_map, slice_get, Result, Ok, Err, Contains}
+use Rattle.std.specs.Prelude.{◌≡◌, ℕ, ◌-◌, List, [], ◌∷◌, ◌++◌, length, Option, Some, None, slice_get, Result, Ok, Err, Contains}
 use Rattle.wac_parser_lexer.specs.Items.{Item}
 use Rattle.wac_parser_lexer.specs.Pieces.{text_at, IsSpanIn}
 use Rattle.wac_parser_lexer.specs.declared.span.SourceSpan.{SourceSpan}

@@ -6,14 +6,14 @@ use Rattle.wac_types_base.specs.Entries.{Name, value_at, names_of}
 use Rattle.wac_types_base.specs.declared.item.ItemKind.{ItemKind}
 use Rattle.wac_types_base.specs.declared.defined.World.{World}
 use Rattle.wac_types_base.specs.Tree.{Tree, instance, component, tree_of}
-use Rattle.wac_graph_bytes.specs.Wirings.{Source, Absent, Outer, Inst, Projection, Tag, OfBytes, OfDependency, Instantiation, Wiring}
+use Rattle.wac_graph_bytes.specs.Wirings.{Source, Absent, Outer, Inst, Projection, OfBytes, OfDependency, Wiring}
 use Rattle.wac_graph_bytes.specs.Typing.{◌>>=◌, Worlds, same_name}
 use Rattle.wac_graph_bytes.specs.Meaning.{source_at}
 use Rattle.wac.specs.declared.first.document.Document.{Document}
 use Rattle.wac.specs.declared.first.document.LetStatement.{LetStatement}
 use Rattle.wac.specs.declared.first.document.ExportStatement.{ExportStatement}
 use Rattle.wac.specs.Plain.{Plain, plain_imports, is_label}
-use Rattle.wac.specs.Packages.{Package, VersionParts}
+use Rattle.wac.specs.Packages.{Package}
 
 -- ---- what texts mean
 

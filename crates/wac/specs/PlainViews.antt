@@ -1,5 +1,5 @@
 -- What contracts see of the code's functions over primitive types.
-use Rattle.std.specs.Prelude.{List, ℕ, map, string_bytes}
+use Rattle.std.specs.Prelude.{List, map, string_bytes}
 use Rattle.wac_types_base.specs.declared.item.PrimitiveType.{PrimitiveType}
 use Rattle.wac_types_base.specs.Entries.{Name}
 use Rattle.wac.specs.declared.first.plain.PlainParam.{PlainParam}

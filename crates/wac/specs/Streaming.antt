@@ -1,5 +1,5 @@
 -- What composing from a reader to a writer does, and why it doesn't.
-use Rattle.std.specs.Prelude.{◌≡◌, ◌<◌, ℕ, List, [], Option, IfSome, length}
+use Rattle.std.specs.Prelude.{◌<◌, ℕ, List, [], Option, IfSome, length}
 use Rattle.std.specs.Io.KnownBytes.{Consumes, Appends, IsAtEnd}
 use Rattle.std.specs.Str.{IsUtf8}
 use Rattle.wac.specs.declared.first.output.Output.{Output}

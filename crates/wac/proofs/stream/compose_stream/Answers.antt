@@ -1,4 +1,4 @@
-use Rattle.std.proofs.Common.{List, ℕ, ap, ◌∙◌, subst}
+use Rattle.std.proofs.Common.{List, ℕ, ◌∙◌, subst}
 use Rattle.wac.specs.Composing.{IsComposed}
 use Rattle.wac.specs.Ends.{AppendsPrefix}
 use Rattle.std.specs.Io.KnownBytes.{Appends}

@@ -1,8 +1,4 @@
 use Rattle.std.proofs.Common.{refl}
-use Rattle.std.specs.Option.{option_copied, option_map}
-use Rattle.semver.specs.Identifiers.{parts_of}
-use Rattle.wac.specs.declared.packages.StoredPackage.{StoredPackage}
-use Rattle.wac.specs.StoredKeys.{IsKeyOf, IsAmongThem}
 use Rattle.wac.proofs.Searching.{found_here, none_more, none_of_all}
 use Rattle.wac.proofs.Parsing.{never}
 use Rattle.wac.proofs.workspace.has_bytes.Goals as goal

@@ -1,8 +1,6 @@
 use Rattle.std.proofs.Common.{◌≡◌, take}
-use Rattle.std.specs.Option.{option_copied, option_map}
-use Rattle.semver.specs.Identifiers.{parts_of}
 use Rattle.wac.specs.declared.packages.StoredPackage.{StoredPackage}
-use Rattle.wac.specs.StoredKeys.{IsKeyOf, IsAmongThem}
+use Rattle.wac.specs.StoredKeys.{IsAmongThem}
 use Rattle.wac.proofs.workspace.has_bytes.Given as goal
 
 abbrev pub invariant-loop-p : goal.invariant-loop-p

@@ -1,4 +1,4 @@
-use Rattle.std.proofs.Common.{◌≡◌, take}
+use Rattle.std.proofs.Common.{take}
 use Rattle.std.specs.Option.{option_copied, option_map}
 use Rattle.semver.specs.Identifiers.{parts_of}
 use Rattle.wac.specs.declared.packages.StoredPackage.{StoredPackage}

@@ -1,4 +1,4 @@
-use Rattle.std.proofs.Common.{◌≡◌, List, ℕ, Some, [], ap, ◌∙◌, sym, subst, false, Err}
+use Rattle.std.proofs.Common.{◌≡◌, Some, [], ap, ◌∙◌, subst, false, Err}
 use Rattle.std.proofs.lemmas.Result.{err_from_is_err_and}
 use Rattle.wac_types_base.specs.Entries.{Name}
 use Rattle.wac_graph_bytes.specs.Writing.{sections_fit}

@@ -1,4 +1,4 @@
-use Rattle.std.proofs.Common.{◌≡◌, List, ℕ, Some, Option, map, ap, ◌∙◌, sym, subst, Err}
+use Rattle.std.proofs.Common.{◌≡◌, List, ℕ, Some, map, ap, subst, Err}
 use Rattle.std.specs.Option.{option_map}
 use Rattle.std.proofs.lemmas.Result.{err_from_is_err_and}
 use Rattle.wac_types_base.specs.Entries.{Name}
@@ -7,7 +7,7 @@ use Rattle.wac.specs.EncodeViews.{export_names}
 use Rattle.wac.specs.PlainViews.{items_view}
 use Rattle.wac.specs.PackageView.{package_view}
 use Rattle.wac.specs.FirstEncoding.{IsTooLarge}
-use Rattle.wac.specs.FirstMeaning.{Lacks, Cause, at_instance, at_export, package_named}
+use Rattle.wac.specs.FirstMeaning.{Lacks, at_instance, at_export, package_named}
 use Rattle.wac.specs.declared.first.plain.PlainItem.{PlainItem}
 use Rattle.wac.proofs.Wired.{MeansAt, meaning_of, unwritten, size_unwritten}
 use Rattle.wac.proofs.first.compose.one_component.Goals as goal

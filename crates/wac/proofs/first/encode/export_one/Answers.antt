@@ -1,6 +1,4 @@
-use Rattle.std.proofs.Common.{◌≡◌, ◌≤◌, ◌+◌, ℕ, List, ap, ◌∙◌, sym, arith, length}
 use Rattle.std.proofs.lemmas.Result.{err_from_is_err_and}
-use Rattle.std.proofs.lemmas.List.{length-map}
 use Rattle.wac.proofs.EncodingLaws.{one_export, alias_types, export_types}
 use Rattle.wac.proofs.first.encode.export_one.Goals as goal
 

@@ -1,10 +1,9 @@
-use Rattle.std.proofs.Common.{◌≡◌, ◌++◌, ◌∷◌, [], ℕ, List, take, ap, ◌∙◌, sym, subst, refl, map, None}
+use Rattle.std.proofs.Common.{List, take, ap, ◌∙◌, sym, subst, refl, None}
 use Rattle.std.proofs.lemmas.Result.{err_from_is_err_and}
 use Rattle.wac_types_base.specs.Entries.{Name}
 use Rattle.wac_graph_bytes.specs.declared.entry.NamedIndex.{NamedIndex}
 use Rattle.wac_graph_bytes.specs.Typing.{Worlds}
 use Rattle.wac_graph_bytes.specs.Views.{arguments_view}
-use Rattle.wac.specs.declared.first.plain.PlainItem.{PlainItem}
 use Rattle.wac.specs.Plain.{Plain}
 use Rattle.wac.specs.PlainViews.{item_view, items_view}
 use Rattle.wac.specs.FirstEncoding.{ReadsTo, after_imports, numbered}

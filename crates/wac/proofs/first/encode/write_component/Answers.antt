@@ -1,4 +1,4 @@
-use Rattle.std.proofs.Common.{◌≡◌, inl, inr, arith, None}
+use Rattle.std.proofs.Common.{inl, inr, arith, None}
 use Rattle.std.proofs.lemmas.List.{length-map}
 use Rattle.wac_graph_bytes.specs.Typing.{Worlds}
 use Rattle.std.proofs.lemmas.Result.{err_from_is_err_and}

@@ -1,4 +1,4 @@
-use Rattle.std.proofs.Common.{List, ℕ, ap, ◌∙◌}
+use Rattle.std.proofs.Common.{ap, ◌∙◌}
 use Rattle.wac_parser_lexer.specs.Items.{Input}
 use Rattle.wac.proofs.Parsing.{refused_item, never, kept_source}
 use Rattle.wac.proofs.first.parse.take_token.Goals as goal

@@ -1,4 +1,4 @@
-use Rattle.std.proofs.Common.{◌≡◌, ℕ, List, Bool, true, false, is_some, string_bytes, ap, ◌∙◌, sym, subst, refl}
+use Rattle.std.proofs.Common.{ℕ, List, is_some, string_bytes, ap, ◌∙◌, sym, subst, refl}
 use Rattle.wac_types_base.specs.Entries.{Name, value_at}
 use Rattle.wac_parser_lexer.specs.declared.span.SourceSpan.{SourceSpan}
 use Rattle.wac.specs.Plain.{is_label}

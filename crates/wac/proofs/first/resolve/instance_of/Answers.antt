@@ -1,9 +1,8 @@
-use Rattle.std.proofs.Common.{◌≡◌, ℕ, List, Option, Some, None, ap, ◌∙◌, sym, subst, map}
+use Rattle.std.proofs.Common.{Option, ap, ◌∙◌, sym, subst, map}
 use Rattle.std.specs.Option.{option_map}
 use Rattle.wac_types_base.specs.Entries.{Name}
-use Rattle.wac.specs.declared.packages.StoredPackage.{StoredPackage}
 use Rattle.wac.specs.declared.first.plain.PlainItem.{PlainItem}
-use Rattle.wac.specs.FirstMeaning.{Cause, IsUnknownPackage, Lacks, no_package, no_support}
+use Rattle.wac.specs.FirstMeaning.{IsUnknownPackage, Lacks, no_package, no_support}
 use Rattle.std.specs.Global.{Vec}
 use Rattle.wac.specs.PlainViews.{items_view}
 use Rattle.wac.specs.PackageView.{package_view}

@@ -1,6 +1,3 @@
-use Rattle.std.proofs.Common.{◌≡◌, ℕ, List, ap, ◌∙◌, sym, subst, take, drop}
-use Rattle.std.specs.Str.{IsUtf8}
-use Rattle.wac.specs.Plain.{is_label}
 use Rattle.wac.proofs.LabelLaws.{not_value}
 use Rattle.wac.proofs.first.resolve.string_value.Goals as goal
 
