@@ -1,5 +1,5 @@
 -- Adding entries keeps each tree, and the collection acyclic.
-use Rattle.std.proofs.Common.{◌≡◌, ℕ, zero, suc, ◌+◌, ◌<◌, ◌≤◌, List, [], ◌∷◌, ◌++◌, map, length, Option, Some, None, IsSome, is_some, Bool, true, false, ◌==◌, if◌then◌else◌, slice_get, All, get_or, refl, sym, ap, subst, ◌∙◌, ◌⊎◌, inl, inr, arith, length-append, append-nil}
+use Rattle.std.proofs.Common.{◌≡◌, ℕ, zero, suc, ◌+◌, ◌<◌, List, [], ◌∷◌, ◌++◌, map, length, Option, Some, None, Bool, true, false, ◌==◌, if◌then◌else◌, slice_get, All, refl, sym, ap, subst, ◌∙◌, ◌⊎◌, inl, inr, arith, length-append, append-nil}
 use Rattle.std.proofs.lemmas.List.{length-map}
 use Rattle.std.specs.Option.{option_map}
 use Rattle.wac_types_base.specs.declared.item.ValueType.{ValueType}
@@ -12,9 +12,9 @@ use Rattle.wac_types_base.specs.declared.defined.DefinedType.{DefinedType}
 use Rattle.wac_types_base.specs.declared.defined.Resource.{Resource}
 use Rattle.wac_types_base.specs.declared.core_types.ModuleType.{ModuleType}
 use Rattle.wac_types_base.specs.Record.{Collection}
-use Rattle.wac_types_base.specs.Graph.{Whole, whole, UnfoldsWithin, Among}
+use Rattle.wac_types_base.specs.Graph.{Among}
 use Rattle.wac_types_base.specs.Collection.{Shape, Entry, Slot, SlotStands, entry_at, labelled, defined_entry, resource_entry, func_entry, interface_entry, world_entry, module_entry, value_node, type_node, item_node, rows, depth, Stands, unfolding_of, IsAcyclic, empty, HasChildren, KeepsTrees, Grows, plus}
-use Rattle.wac_types_base.proofs.GraphLemmas.{row_of, value_of, is_there, whole-extends, node_has, child_within}
+use Rattle.wac_types_base.proofs.GraphLemmas.{row_of, value_of, is_there, whole-extends, node_has}
 
 pub All-among : {X : Type 0} (P : X → Type 0) (xs : List X) (x : X) → All P xs → Among x xs → P x
 All-among P [] x a m = absurd m

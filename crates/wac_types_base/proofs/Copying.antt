@@ -1,5 +1,5 @@
 -- An entry with the same label, whose places are copies, is a copy; and what that gives for the entries that are copied.
-use Rattle.std.proofs.Common.{◌≡◌, ℕ, zero, suc, ◌+◌, ◌<◌, ◌≤◌, List, [], ◌∷◌, ◌++◌, All, length, Option, Some, None, IsSome, is_some, get_or, refl, sym, ap, subst, ◌∙◌, arith, inl, inr, ◌⊎◌, slice_get, take, map, Bool, true, false, nat_eq, cond}
+use Rattle.std.proofs.Common.{◌≡◌, ℕ, zero, suc, ◌<◌, List, [], ◌∷◌, ◌++◌, All, length, Option, Some, None, IsSome, get_or, refl, sym, ap, subst, ◌∙◌, arith, inl, inr, slice_get, map, Bool, true, false, nat_eq, cond}
 use Rattle.std.proofs.lemmas.Bool.Decides.{nat_tests}
 use Rattle.std.specs.Option.{option_map}
 use Rattle.std.specs.declared.hash.FoldHasher.{FoldHasher}
@@ -10,7 +10,6 @@ use Rattle.wac_types_base.specs.declared.copies.Copies.{Copies}
 use Rattle.wac_types_base.specs.declared.item.ItemKind.{ItemKind}
 use Rattle.wac_types_base.specs.declared.item.ValueType.{ValueType}
 use Rattle.wac_types_base.specs.declared.item.«Type».{«Type» as TypeKind}
-use Rattle.wac_types_base.specs.declared.item.PrimitiveType.{PrimitiveType}
 use Rattle.wac_types_base.specs.declared.defined.DefinedType.{DefinedType}
 use Rattle.wac_types_base.specs.declared.defined.Resource.{Resource}
 use Rattle.wac_types_base.specs.declared.defined.ResourceAlias.{ResourceAlias}
@@ -25,14 +24,13 @@ use Rattle.wac_types_base.specs.declared.ids.FuncTypeId.{FuncTypeId}
 use Rattle.wac_types_base.specs.declared.ids.InterfaceId.{InterfaceId}
 use Rattle.wac_types_base.specs.declared.ids.WorldId.{WorldId}
 use Rattle.wac_types_base.specs.declared.ids.ModuleTypeId.{ModuleTypeId}
-use Rattle.wac_types_base.specs.Entries.{Name, names_of, values_of, with_values}
+use Rattle.wac_types_base.specs.Entries.{Name, values_of, with_values}
 use Rattle.wac_types_base.specs.Record.{Collection}
-use Rattle.wac_types_base.specs.Graph.{Whole, Wholes, node, both, skip, wholes_by, close, grow, whole, Among}
-use Rattle.wac_types_base.specs.Collection.{Shape, Entry, Slot, SlotStands, HasChildren, item_node, labelled, Stands, depth, IsAcyclic, unfolding_of, KeepsTrees, Grows, defined_entry, resource_entry, func_entry, interface_entry, world_entry, module_entry, value_slot, option_slot, slots_in, slots_of, primitive, type_of, own_of, borrow_of, use_names, used, items}
+use Rattle.wac_types_base.specs.Graph.{Whole, Wholes, node, skip, wholes_by, close, grow, whole, Among}
+use Rattle.wac_types_base.specs.Collection.{Shape, Entry, Slot, SlotStands, HasChildren, item_node, labelled, Stands, depth, IsAcyclic, unfolding_of, Grows, defined_entry, resource_entry, func_entry, interface_entry, world_entry, module_entry, value_slot, option_slot, slots_in, slots_of, primitive, type_of, own_of, borrow_of, use_names, used, items}
 use Rattle.wac_types_base.specs.Copying.{IsCopy, SlotsCopied, none_copied, hole_copied, place_copied}
-use Rattle.wac_types_base.specs.Copies.{copy_or, defined_id, resource_id, func_id, interface_id, world_id, module_id, value_copy, option_copy, type_copy, kind_copy, known, Knows, defined_copy, resource_copy, func_copy, used_copy, interface_copy, world_copy, defined_at, resource_at, func_at, interface_at, world_at, module_at, EachCopied, AreCopies, HasNone, KeepsKnown, KnowsPlaces}
-use Rattle.wac_types_base.proofs.GraphLemmas.{value_of, is_there, no_depth, grow-some, grow-extends, whole-extends, node_of}
-use Rattle.wac_types_base.proofs.Adding.{Grows-refl, Grows-trans}
+use Rattle.wac_types_base.specs.Copies.{copy_or, defined_id, resource_id, func_id, interface_id, world_id, module_id, value_copy, option_copy, type_copy, kind_copy, Knows, defined_copy, resource_copy, func_copy, used_copy, interface_copy, world_copy, defined_at, resource_at, func_at, interface_at, world_at, module_at, EachCopied, AreCopies, HasNone, KnowsPlaces}
+use Rattle.wac_types_base.proofs.GraphLemmas.{value_of, is_there, no_depth, grow-extends, whole-extends}
 use Rattle.wac_types_base.proofs.Walking.{child_smaller, slice_get-Among}
 use Rattle.wac_types_base.proofs.Standing.{defined_found, resource_found, func_found, interface_found, world_found, module_found}
 use Rattle.wac_types_base.proofs.Slots.{entry_at-is, stands_borrow, stands_own, stands_typed_func, stands_typed_value, stands_typed_interface, stands_typed_world, stands_typed_module, slots_borrow, slots_own, slots_typed_func, slots_typed_value, slots_typed_interface, slots_typed_world, slots_typed_module}

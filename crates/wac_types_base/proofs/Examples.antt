@@ -1,14 +1,13 @@
 -- A small collection, and the trees in it, by computation.
-use Rattle.std.proofs.Common.{◌≡◌, ℕ, List, [], ◌∷◌, Option, Some, None, true, false, refl}
+use Rattle.std.proofs.Common.{◌≡◌, [], ◌∷◌, Some, None, false, refl}
 use Rattle.wac_types_base.specs.declared.item.PrimitiveType.{PrimitiveType}
 use Rattle.wac_types_base.specs.declared.item.ValueType.{ValueType}
-use Rattle.wac_types_base.specs.declared.item.«Type».{«Type» as TypeKind}
 use Rattle.wac_types_base.specs.declared.item.ItemKind.{ItemKind}
 use Rattle.wac_types_base.specs.declared.defined.FuncType.{FuncType}
 use Rattle.wac_types_base.specs.declared.defined.Interface.{Interface}
 use Rattle.wac_types_base.specs.Record.{Collection}
-use Rattle.wac_types_base.specs.Graph.{Whole, whole, node, no_more, more, hole}
-use Rattle.wac_types_base.specs.Collection.{Shape, empty, item_node, rows, unfolding_of, func, interface, primitive}
+use Rattle.wac_types_base.specs.Graph.{whole}
+use Rattle.wac_types_base.specs.Collection.{empty, item_node, rows, unfolding_of, func, primitive}
 use Rattle.wac_types_base.specs.Tree.{Tree, tree_of, rigid, instance, place, gap, end, field, no_fields}
 
 -- func(x: u32), and an interface that exports it as b and then as a

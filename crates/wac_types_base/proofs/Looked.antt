@@ -1,5 +1,5 @@
 -- A look-up among entries with texts as keys, by their bytes.
-use Rattle.std.proofs.Common.{◌≡◌, ℕ, zero, suc, ◌+◌, ◌<◌, ◌≤◌, List, [], ◌∷◌, ◌++◌, map, length, take, Option, Some, None, ◌==◌, ◌||◌, cond, Bool, true, false, not, if◌then◌else◌, refl, sym, ap, subst, ◌∙◌, slice_get, get_or, inl, inr, arith}
+use Rattle.std.proofs.Common.{◌≡◌, ℕ, zero, suc, ◌+◌, ◌<◌, List, [], ◌∷◌, ◌++◌, length, take, Some, ◌==◌, ◌||◌, cond, Bool, true, false, if◌then◌else◌, refl, sym, ap, subst, ◌∙◌, slice_get, get_or, inl, inr, arith}
 use Rattle.std.proofs.lemmas.Slice.Eq.{bytes_eq-Decides}
 use Rattle.std.specs.List.{IsDistinct, AllByRecursion, list_any}
 use Rattle.indexmap.specs.IndexSet.{insert_key}

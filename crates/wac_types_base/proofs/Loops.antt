@@ -1,5 +1,5 @@
 -- One more step of a loop over a list.
-use Rattle.std.proofs.Common.{◌≡◌, ℕ, zero, suc, ◌+◌, ◌<◌, ◌≤◌, List, [], ◌∷◌, ◌++◌, map, length, take, Option, Some, None, refl, sym, ap, ◌∙◌, slice_get, get_or, arith}
+use Rattle.std.proofs.Common.{◌≡◌, ℕ, zero, suc, ◌+◌, ◌<◌, ◌≤◌, List, [], ◌∷◌, ◌++◌, map, length, take, Some, refl, sym, ap, ◌∙◌, slice_get, get_or, arith}
 use Rattle.wac_types_base.specs.Entries.{names_of, values_of, with_values}
 use Rattle.wac_types_base.proofs.Looked.{take-one_more}
 

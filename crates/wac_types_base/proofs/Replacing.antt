@@ -1,7 +1,6 @@
 -- Replacing a node's entry, where none of the new children leads back to it.
-use Rattle.std.proofs.Common.{◌≡◌, ℕ, zero, suc, ◌+◌, ◌<◌, ◌≤◌, List, [], ◌∷◌, length, Option, Some, None, IsSome, is_some, Bool, true, false, refl, sym, ap, subst, ◌∙◌, ◌⊎◌, inl, inr, arith, slice_get, slice_set, ◌==◌, ◌&&◌, nat_lt, if◌then◌else◌, length-append, length-set}
+use Rattle.std.proofs.Common.{◌≡◌, ℕ, zero, suc, ◌+◌, ◌<◌, List, [], ◌∷◌, length, Option, Some, None, IsSome, Bool, true, false, refl, sym, ap, subst, ◌∙◌, ◌⊎◌, inl, inr, arith, slice_get, slice_set, ◌==◌, if◌then◌else◌, length-append, length-set}
 use Rattle.std.proofs.lemmas.List.{length-map}
-use Rattle.wac_types_base.proofs.Standing.{is_some-labelled}
 use Rattle.std.proofs.lemmas.Bool.Decides.{nat_tests}
 use Rattle.std.specs.Option.{option_map}
 use Rattle.wac_types_base.specs.declared.item.ValueType.{ValueType}
@@ -20,12 +19,12 @@ use Rattle.wac_types_base.specs.declared.ids.WorldId.{WorldId}
 use Rattle.wac_types_base.specs.declared.core_types.ModuleType.{ModuleType}
 use Rattle.wac_types_base.specs.declared.ids.ModuleTypeId.{ModuleTypeId}
 use Rattle.wac_types_base.specs.Record.{Collection}
-use Rattle.wac_types_base.specs.Collection.{Shape, Entry, Slot, SlotStands, HasChildren, entry_at, labelled, type_of, borrow_of, own_of, defined_entry, resource_entry, func_entry, interface_entry, world_entry, module_entry, value_node, type_node, item_node, Stands, rows, depth, IsAcyclic, unfolding_of}
-use Rattle.wac_types_base.specs.Graph.{Whole, Wholes, node, both, skip, wholes_by, grow, whole, UnfoldsWithin, Among}
+use Rattle.wac_types_base.specs.Collection.{Shape, Entry, SlotStands, HasChildren, entry_at, labelled, type_of, borrow_of, own_of, defined_entry, resource_entry, func_entry, interface_entry, world_entry, module_entry, value_node, type_node, item_node, Stands, rows, depth, IsAcyclic, unfolding_of}
+use Rattle.wac_types_base.specs.Graph.{Whole, Wholes, wholes_by, whole, UnfoldsWithin, Among}
 use Rattle.wac_types_base.specs.Reaching.{Reaches, here, below, value_entry_kind, entry_kind, NamesEntry, LeadsBack, KeepsOthers, KeepsStanding, with_defined_type, with_resource, with_func_type, with_interface, with_world, with_module_type}
 use Rattle.wac_types_base.specs.Discrete.{ItemKind-discrete}
 use Rattle.wac_types_base.proofs.Adding.{All-among, children_in_rows}
-use Rattle.wac_types_base.proofs.GraphLemmas.{unfolds_within_rows, both-some, skip-some, grow-some, row_of, value_of, is_there, no_depth, node_of, node_has, whole-extends, whole-changed, child_of_whole}
+use Rattle.wac_types_base.proofs.GraphLemmas.{unfolds_within_rows, both-some, skip-some, grow-some, value_of, is_there, node_has, whole-changed}
 
 module _ {R S : Type 0} where
   pub row-same : (w w' : R → Option (Whole S)) (rs : List (Option R)) → ((c : R) (t : Whole S) → Among (Some c) rs → w c ≡ Some t → w' c ≡ Some t) → (ts : Wholes S) → wholes_by w rs ≡ Some ts → wholes_by w' rs ≡ Some ts

@@ -1,6 +1,5 @@
 -- The places of what stands, by its entry.
-use Rattle.std.proofs.Common.{◌≡◌, ℕ, List, [], Option, Some, None, IsSome, is_some, Bool, true, false, ◌==◌, slice_get, refl, sym, ap, subst, ◌∙◌, if◌then◌else◌, IsTrue, ◌↔◌}
-use Rattle.std.proofs.lemmas.Bool.Decides.{nat_tests}
+use Rattle.std.proofs.Common.{◌≡◌, ℕ, List, [], Option, Some, None, IsSome, Bool, true, false, ◌==◌, slice_get, refl, sym, ap, subst, if◌then◌else◌, IsTrue, ◌↔◌}
 use Rattle.std.specs.Option.{option_map}
 use Rattle.wac_types_base.specs.declared.item.PrimitiveType.{PrimitiveType}
 use Rattle.wac_types_base.specs.declared.item.ValueType.{ValueType}
@@ -19,9 +18,7 @@ use Rattle.wac_types_base.specs.declared.ids.ResourceId.{ResourceId}
 use Rattle.wac_types_base.specs.declared.ids.DefinedTypeId.{DefinedTypeId}
 use Rattle.wac_types_base.specs.declared.ids.ModuleTypeId.{ModuleTypeId}
 use Rattle.wac_types_base.specs.Record.{Collection}
-use Rattle.wac_types_base.specs.Collection.{Shape, Entry, Slot, entry_at, labelled, type_of, borrow_of, own_of, defined_entry, resource_entry, module_entry, func_entry, interface_entry, world_entry, value_node, type_node, item_node, Stands, slots_in, slots_of}
-use Rattle.wac_types_base.proofs.GraphLemmas.{value_of, is_there}
-use Rattle.wac_types_base.proofs.Adding.{guarded-some, option_map-some, labelled-some}
+use Rattle.wac_types_base.specs.Collection.{Shape, Entry, entry_at, labelled, type_of, borrow_of, own_of, defined_entry, resource_entry, module_entry, func_entry, interface_entry, world_entry, value_node, item_node, Stands, slots_in, slots_of}
 use Rattle.wac_types_base.proofs.Replacing.{number_same}
 
 pub entry_at-is : {E : Type 0} (f : E → Entry) (n : ℕ) (es : List E) (col i : ℕ) (x : E) → slice_get es i ≡ Some x → col ≡ n → entry_at f n es col i ≡ Some (f x)

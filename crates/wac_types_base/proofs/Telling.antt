@@ -1,5 +1,5 @@
 -- The stated type of an id, step by step, and what its words tell of it.
-use Rattle.std.proofs.Common.{◌≡◌, ℕ, zero, suc, ◌+◌, ◌*◌, ◌<◌, ◌≤◌, List, [], ◌∷◌, ◌++◌, map, length, Option, Some, None, IsSome, Bool, true, false, ◌||◌, slice_get, refl, sym, ap, subst, ◌∙◌, arith, inl, inr}
+use Rattle.std.proofs.Common.{◌≡◌, ℕ, zero, suc, ◌<◌, ◌≤◌, List, [], ◌∷◌, map, length, Option, Some, None, IsSome, Bool, true, false, ◌||◌, slice_get, refl, sym, ap, subst, ◌∙◌, arith, inl, inr}
 use Rattle.std.specs.Prelude.{codes}
 use Rattle.std.specs.Option.{option_map}
 use Rattle.wac_types_base.specs.declared.item.PrimitiveType.{PrimitiveType}
@@ -11,21 +11,17 @@ use Rattle.wac_types_base.specs.declared.defined.Resource.{Resource}
 use Rattle.wac_types_base.specs.declared.defined.ResourceAlias.{ResourceAlias}
 use Rattle.wac_types_base.specs.declared.ids.DefinedTypeId.{DefinedTypeId}
 use Rattle.wac_types_base.specs.declared.ids.ResourceId.{ResourceId}
-use Rattle.wac_types_base.specs.declared.ids.FuncTypeId.{FuncTypeId}
-use Rattle.wac_types_base.specs.declared.ids.InterfaceId.{InterfaceId}
-use Rattle.wac_types_base.specs.declared.ids.WorldId.{WorldId}
 use Rattle.wac_types_base.specs.Entries.{Name, values_of}
 use Rattle.wac_types_base.specs.Record.{Collection}
-use Rattle.wac_types_base.specs.Graph.{Whole, Wholes, node, no_more, more, hole, nodes, nodes_all, wholes_by, close, grow, Among}
-use Rattle.wac_types_base.specs.Collection.{Shape, Entry, Slot, SlotStands, HasChildren, item_node, value_node, labelled, entry_at, Stands, IsAcyclic, unfolding_of, size_in, size_of, slots_in, slots_of, defined_entry, resource_entry, resource_entry_at, func_entry, interface_entry, world_entry, module_entry, value_slot, option_slot, primitive, resource, resource_alias, alias, type_of, borrow_of, own_of}
-use Rattle.wac_types_base.specs.Stated.{Stated, row, folded, folded_row, stated_in, stated_of, stated_entry, any_place, borrows_at, contains_borrow, value_word, value_desc, primitive_word, word_of, in_first_place, Kind, IsFunction, IsInstance, IsComponent, IsModule, IsValue, IsResource, IsFunctionType, IsValueType, IsInterface, IsWorld, IsModuleType, type_kind, shape_kind, kind_of, untyped, untyped_shape, promote, promote_by, kind_word, desc}
+use Rattle.wac_types_base.specs.Graph.{nodes, nodes_all, wholes_by, close, grow, Among}
+use Rattle.wac_types_base.specs.Collection.{Shape, Entry, Slot, SlotStands, HasChildren, item_node, value_node, labelled, entry_at, Stands, IsAcyclic, unfolding_of, size_in, size_of, slots_in, defined_entry, resource_entry, resource_entry_at, func_entry, interface_entry, world_entry, module_entry, value_slot, option_slot, primitive, alias, type_of, borrow_of, own_of}
+use Rattle.wac_types_base.specs.Stated.{Stated, row, folded, folded_row, stated_in, stated_of, stated_entry, any_place, borrows_at, contains_borrow, value_desc, primitive_word, word_of, Kind, IsFunction, IsInstance, IsComponent, IsModule, IsValue, IsResource, IsFunctionType, IsValueType, IsInterface, IsWorld, IsModuleType, type_kind, shape_kind, kind_of, untyped, promote, promote_by, kind_word, desc}
 use Rattle.wac_types_base.specs.Resolving.{promoted, IsNoAlias}
 use Rattle.wac_types_base.specs.Tree.{tree, tree_of}
 use Rattle.wac_types_base.proofs.GraphLemmas.{value_of, is_there}
 use Rattle.wac_types_base.proofs.Adding.{All-among, labelled-some, guarded-some, option_map-some}
 use Rattle.wac_types_base.proofs.Walking.{child_smaller, slice_get-Among, Among-slice_get}
 use Rattle.wac_types_base.proofs.Slots.{entry_at-is, stands_typed_value}
-use Rattle.wac_types_base.proofs.Standing.{Found, resource_found, defined_found}
 use Rattle.wac_types_base.proofs.Copying.{unfolding_step, Among-All}
 
 -- ---- one step

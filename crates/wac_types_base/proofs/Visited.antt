@@ -1,5 +1,5 @@
 -- Visits, step by step.
-use Rattle.std.proofs.Common.{◌≡◌, ℕ, zero, suc, ◌+◌, ◌<◌, ◌≤◌, List, [], ◌∷◌, ◌++◌, length, drop, Option, Some, None, Result, Ok, Err, slice_get, refl, sym, ap, subst, ◌∙◌, arith, inl, inr}
+use Rattle.std.proofs.Common.{◌≡◌, ℕ, zero, suc, ◌+◌, ◌<◌, List, [], ◌∷◌, ◌++◌, drop, Option, Some, None, Result, Ok, Err, slice_get, refl, sym, subst, arith, inl, inr}
 use Rattle.std.specs.Prelude.{⊤}
 use Rattle.wac_types_base.specs.declared.ids.DefinedTypeId.{DefinedTypeId}
 use Rattle.wac_types_base.specs.declared.item.ItemKind.{ItemKind}

@@ -1,9 +1,9 @@
 -- What walks over a collection rest on: a child that stands in a place is smaller.
-use Rattle.std.proofs.Common.{◌≡◌, ℕ, zero, suc, ◌+◌, ◌<◌, ◌≤◌, List, [], ◌∷◌, length, Option, Some, None, IsSome, is_some, slice_get, refl, sym, ap, subst, ◌∙◌, ◌⊎◌, inl, inr, arith, below_more}
+use Rattle.std.proofs.Common.{◌≡◌, ℕ, zero, suc, ◌+◌, ◌<◌, List, [], ◌∷◌, length, Option, Some, None, slice_get, sym, ap, subst, inl, inr, arith, below_more}
 use Rattle.wac_types_base.specs.declared.item.ItemKind.{ItemKind}
 use Rattle.wac_types_base.specs.Record.{Collection}
-use Rattle.wac_types_base.specs.Graph.{Whole, whole, nodes, Among}
-use Rattle.wac_types_base.specs.Collection.{Shape, Entry, Slot, item_node, Stands, IsAcyclic, unfolding_of, slots_in, slots_of, size_in, size_of, depth}
+use Rattle.wac_types_base.specs.Graph.{Among}
+use Rattle.wac_types_base.specs.Collection.{item_node, Stands, IsAcyclic, unfolding_of, slots_in, slots_of, size_in, size_of, depth}
 use Rattle.wac_types_base.specs.Reaching.{Reaches, here, below}
 use Rattle.wac_types_base.proofs.GraphLemmas.{value_of, is_there, node_of, child_within}
 

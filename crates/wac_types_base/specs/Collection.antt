@@ -1,5 +1,5 @@
 -- A collection as a graph: the label and the children of what an item kind names, and its unfolding.
-use Rattle.std.specs.Prelude.{◌≡◌, ℕ, zero, suc, ◌+◌, List, [], ◌∷◌, ◌++◌, map, length, Option, Some, None, IsSome, is_some, Bool, ◌==◌, slice_get, if◌then◌else◌, All}
+use Rattle.std.specs.Prelude.{◌≡◌, ℕ, ◌+◌, List, [], ◌∷◌, ◌++◌, map, length, Option, Some, None, IsSome, Bool, ◌==◌, slice_get, if◌then◌else◌, All}
 use Rattle.std.specs.Option.{option_map}
 use Rattle.wac_types_base.specs.declared.item.PrimitiveType.{PrimitiveType}
 use Rattle.wac_types_base.specs.declared.item.ValueType.{ValueType}
@@ -13,10 +13,9 @@ use Rattle.wac_types_base.specs.declared.defined.FuncType.{FuncType}
 use Rattle.wac_types_base.specs.declared.defined.Interface.{Interface}
 use Rattle.wac_types_base.specs.declared.defined.World.{World}
 use Rattle.wac_types_base.specs.declared.core_types.ModuleType.{ModuleType}
-use Rattle.wac_types_base.specs.declared.ids.FuncTypeId.{FuncTypeId}
 use Rattle.wac_types_base.specs.Record.{Collection}
 use Rattle.wac_types_base.specs.Entries.{Name, names_of, values_of}
-use Rattle.wac_types_base.specs.Graph.{Whole, Wholes, whole, UnfoldsWithin, nodes}
+use Rattle.wac_types_base.specs.Graph.{Whole, whole, UnfoldsWithin, nodes}
 
 -- what an entry says, but for the ids in it
 pub data Shape : Type 0 where

@@ -1,5 +1,5 @@
 -- What has been copied into another collection, and entries with the ids of the copies.
-use Rattle.std.specs.Prelude.{◌≡◌, ℕ, List, map, Option, Some, None, IsSome, nat_eq, option_map}
+use Rattle.std.specs.Prelude.{◌≡◌, ℕ, map, Option, Some, None, IsSome, nat_eq, option_map}
 use Rattle.std.specs.HashMap.{HashMap, get, IsEmpty}
 use Rattle.wac_types_base.specs.declared.copies.Copies.{Copies}
 use Rattle.wac_types_base.specs.declared.ids.DefinedTypeId.{DefinedTypeId}

@@ -1,5 +1,5 @@
 -- Equality of names, labels and trees is decided.
-use Rattle.std.proofs.Common.{◌≡◌, ℕ, List, Option, Bool, refl, sym, ap, ◌∙◌}
+use Rattle.std.proofs.Common.{◌≡◌, ℕ, refl, sym, ap, ◌∙◌}
 use Rattle.std.specs.Coded.{Coded, codes}
 use native.Mathlib.Decide.{ℕ_discrete}
 use base.Stored.{Gv, gnil, gnum, gcons}

@@ -1,5 +1,5 @@
 -- The entries of a map whose keys are texts, with the texts as their bytes.
-use Rattle.std.specs.Prelude.{◌≡◌, ℕ, List, [], ◌∷◌, map, Option, Some, None, if◌then◌else◌, ◌==◌, ◌||◌, ◌++◌, Bool, false, string_bytes, String}
+use Rattle.std.specs.Prelude.{ℕ, List, [], ◌∷◌, map, Option, Some, None, if◌then◌else◌, ◌==◌, ◌||◌, ◌++◌, Bool, false, string_bytes, String}
 use Rattle.wac_types_base.specs.Graph.{Among}
 use Rattle.std.specs.Cmp.Lexicographic.{pointwise}
 

@@ -1,5 +1,5 @@
 -- The order on trees: `Fits a b` where what is asked for as b may be given as a.
-use Rattle.std.specs.Prelude.{◌≡◌, List}
+use Rattle.std.specs.Prelude.{List}
 use Rattle.wac_types_base.specs.declared.core_types.CoreExtern.{CoreExtern}
 use Rattle.wac_types_base.specs.Entries.{Name}
 use Rattle.wac_types_base.specs.Graph.{Among}

@@ -1,5 +1,5 @@
 -- What is at the end of aliases.
-use Rattle.std.specs.Prelude.{◌≡◌, List, Option, Some, None, slice_get}
+use Rattle.std.specs.Prelude.{◌≡◌, Some, None, slice_get}
 use Rattle.wac_types_base.specs.declared.ids.ResourceId.{ResourceId}
 use Rattle.wac_types_base.specs.declared.ids.DefinedTypeId.{DefinedTypeId}
 use Rattle.wac_types_base.specs.declared.item.ValueType.{ValueType}

@@ -1,5 +1,5 @@
 -- Stated types: the finite unfolding of an id with its identifiers, uses and owners, and the words that make and read it.
-use Rattle.std.specs.Prelude.{◌≡◌, ℕ, ◌+◌, Bool, true, false, ◌||◌, List, [], ◌∷◌, ◌++◌, map, length, Option, Some, None, option_map, codes, drop, ⊤}
+use Rattle.std.specs.Prelude.{◌+◌, Bool, true, false, ◌||◌, List, [], ◌∷◌, ◌++◌, map, length, Option, Some, None, option_map, codes, drop, ⊤}
 use Rattle.wac_types_base.specs.declared.item.PrimitiveType.{PrimitiveType}
 use Rattle.wac_types_base.specs.declared.item.ItemKind.{ItemKind}
 use Rattle.wac_types_base.specs.declared.defined.DefinedType.{DefinedType}

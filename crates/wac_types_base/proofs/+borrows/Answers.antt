@@ -1,10 +1,9 @@
-use Rattle.std.proofs.Common.{◌≡◌, ℕ, ◌+◌, ◌*◌, ◌<◌, ◌≤◌, ◌∙◌, length, Option, Some, None, true, false, slice_get, refl, sym, ap, subst, arith, below_more}
+use Rattle.std.proofs.Common.{◌≡◌, ◌∙◌, Some, false, slice_get, sym, ap, arith, below_more}
 use Rattle.wac_types_base.specs.declared.item.ItemKind.{ItemKind}
-use Rattle.wac_types_base.specs.declared.item.ValueType.{ValueType}
-use Rattle.wac_types_base.specs.Collection.{defined_entry, size_of, Stands}
-use Rattle.wac_types_base.specs.Stated.{stated_of, stated_entry, contains_borrow}
+use Rattle.wac_types_base.specs.Collection.{defined_entry}
+use Rattle.wac_types_base.specs.Stated.{stated_of, contains_borrow}
 use Rattle.wac_types_base.proofs.Walking.{some_place, no_place}
-use Rattle.wac_types_base.proofs.Telling.{row_size, place_stands, borrows_in_places, slot_with, slots_without, value_places, primitive_borrow, borrow_borrow, own_borrow, defined_stated, defined_size, defined_children}
+use Rattle.wac_types_base.proofs.Telling.{place_stands, borrows_in_places, slot_with, slots_without, value_places, primitive_borrow, borrow_borrow, own_borrow, defined_stated, defined_size, defined_children}
 use Rattle.wac_types_base.proofs.+borrows.Goals as goal
 use Rattle.wac_types_base.proofs.+borrows.Goals.{defined::DefinedType::contains_borrow-in-Some-place+in-Value+else-contains_borrow, defined::DefinedType::contains_borrow-in-Some-place+in_default-child, defined::DefinedType::contains_borrow-in_default-place}
 

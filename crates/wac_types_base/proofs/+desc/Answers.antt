@@ -1,5 +1,4 @@
-use Rattle.std.proofs.Common.{◌≡◌, ◌<◌, ◌∙◌, sym, ap, arith}
-use Rattle.wac_types_base.specs.declared.item.ItemKind.{ItemKind}
+use Rattle.std.proofs.Common.{◌∙◌, sym, ap, arith}
 use Rattle.wac_types_base.specs.Stated.{value_desc}
 use Rattle.wac_types_base.proofs.Telling.{primitive_desc, borrow_desc, own_desc, alias_desc, defined_desc, defined_stated, defined_size, defined_children}
 use Rattle.wac_types_base.proofs.+desc.Goals as goal

@@ -1,7 +1,5 @@
-use Rattle.std.proofs.Common.{◌≡◌, ℕ, ◌+◌, ◌<◌, ◌≤◌, length, Some, None, slice_get, refl, sym, ap, subst, ◌∙◌, arith}
-use Rattle.wac_types_base.specs.declared.item.ItemKind.{ItemKind}
-use Rattle.wac_types_base.specs.Collection.{slots_of, size_of, Stands, IsAcyclic}
-use Rattle.wac_types_base.specs.Copies.{Knows}
+use Rattle.std.proofs.Common.{Some, sym, ap, ◌∙◌, arith}
+use Rattle.wac_types_base.specs.Collection.{slots_of}
 use Rattle.wac_types_base.proofs.Walking.{child_smaller, some_place, no_place, slice_get-Among}
 use Rattle.wac_types_base.proofs.copy.+copy_below.Goals as goal
 

@@ -1,9 +1,9 @@
-use Rattle.std.proofs.Common.{◌≡◌, ◌+◌, ◌<◌, ◌++◌, ◌∙◌, drop, length, get_or, slice_get, Option, Some, None, sym, ap, subst, arith}
+use Rattle.std.proofs.Common.{◌≡◌, ◌+◌, ◌∙◌, drop, get_or, slice_get, Some, sym, ap, subst}
 use Rattle.wac_types_base.specs.declared.item.ItemKind.{ItemKind}
 use Rattle.wac_types_base.specs.declared.item.«Type».{«Type» as TypeKind}
 use Rattle.wac_types_base.specs.Collection.{Stands}
 use Rattle.wac_types_base.specs.Graph.{Among}
-use Rattle.wac_types_base.specs.Implicit.{by_identifier, used_interfaces, all_uses, then_on, shown}
+use Rattle.wac_types_base.specs.Implicit.{by_identifier, all_uses, then_on, shown}
 use Rattle.wac_types_base.proofs.Copying.{get_or-Among}
 use Rattle.wac_types_base.proofs.Used.{interface_uses_stand, no_uses, place_or, all_step, uses_of}
 use Rattle.wac_types_base.proofs.implicit.add_used_by.Goals as goal

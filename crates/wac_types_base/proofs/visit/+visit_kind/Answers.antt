@@ -1,6 +1,5 @@
-use Rattle.std.proofs.Common.{◌≡◌, ◌+◌, ◌<◌, length, Option, Some, None, slice_get, sym, ap, subst, ◌∙◌, arith}
-use Rattle.wac_types_base.specs.declared.item.ItemKind.{ItemKind}
-use Rattle.wac_types_base.specs.Collection.{Stands, slots_of, size_of}
+use Rattle.std.proofs.Common.{◌+◌, Some, sym, ap, subst, ◌∙◌, arith}
+use Rattle.wac_types_base.specs.Collection.{slots_of}
 use Rattle.wac_types_base.specs.Visiting.{call_with}
 use Rattle.wac_types_base.proofs.Walking.{child_smaller, some_place}
 use Rattle.wac_types_base.proofs.Visited.{Rest, rest_hole, rest_next, visited_all, own_refused, visited_refused, no_child}

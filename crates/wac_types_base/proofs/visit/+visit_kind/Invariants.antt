@@ -1,4 +1,4 @@
-use Rattle.std.proofs.Common.{◌≡◌, ℕ, List, ◌-◌, drop, length, Result}
+use Rattle.std.proofs.Common.{List, ◌-◌, drop, length, Result}
 use Rattle.std.specs.Prelude.{⊤}
 use Rattle.wac_types_base.specs.declared.ids.DefinedTypeId.{DefinedTypeId}
 use Rattle.wac_types_base.specs.Collection.{size_of, slots_of}

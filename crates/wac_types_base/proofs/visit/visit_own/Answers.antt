@@ -1,4 +1,4 @@
-use Rattle.std.proofs.Common.{◌≡◌, ◌∙◌, refl, sym}
+use Rattle.std.proofs.Common.{◌∙◌, refl, sym}
 use Rattle.wac_types_base.specs.Visiting.{call_with}
 use Rattle.wac_types_base.proofs.Visited.{called_none, called_some}
 use Rattle.wac_types_base.proofs.visit.visit_own.Goals as goal

@@ -1,4 +1,4 @@
-use Rattle.std.proofs.Common.{◌≡◌, ◌∙◌, ap, sym, Some, get_or}
+use Rattle.std.proofs.Common.{◌∙◌, ap, sym, Some, get_or}
 use Rattle.std.specs.Prelude.{string_bytes}
 use Rattle.wac_types_base.proofs.Looked.{entry-place}
 use Rattle.wac_types_base.proofs.containers.NamedMap.entry.Goals as goal

@@ -1,5 +1,5 @@
-use Rattle.std.proofs.Common.{◌≡◌, ◌∙◌, ap, refl, sym}
-use Rattle.wac_types_base.specs.Entries.{entries_of, value_at}
+use Rattle.std.proofs.Common.{◌∙◌, ap}
+use Rattle.wac_types_base.specs.Entries.{value_at}
 use Rattle.wac_types_base.proofs.Looked.{looked}
 use Rattle.wac_types_base.proofs.containers.NamedMap.get.Goals as goal
 

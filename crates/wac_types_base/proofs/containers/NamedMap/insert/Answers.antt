@@ -1,6 +1,6 @@
-use Rattle.std.proofs.Common.{◌≡◌, ◌∙◌, ap, refl, sym}
+use Rattle.std.proofs.Common.{◌∙◌, ap}
 use Rattle.std.specs.Prelude.{string_bytes}
-use Rattle.wac_types_base.specs.Entries.{entries_of, value_at, put_entry}
+use Rattle.wac_types_base.specs.Entries.{entries_of, put_entry}
 use Rattle.wac_types_base.proofs.Looked.{inserted}
 use Rattle.wac_types_base.proofs.containers.NamedMap.insert.Goals as goal
 

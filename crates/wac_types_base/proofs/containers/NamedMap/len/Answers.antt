@@ -1,4 +1,4 @@
-use Rattle.std.proofs.Common.{◌≡◌, subst, ap}
+use Rattle.std.proofs.Common.{subst}
 use Rattle.wac_types_base.specs.Entries.{AreDistinct, names_of}
 use Rattle.wac_types_base.proofs.Looked.{names-distinct}
 use Rattle.wac_types_base.proofs.containers.NamedMap.len.Goals as goal

@@ -1,6 +1,6 @@
-use Rattle.std.proofs.Common.{◌≡◌, ◌∙◌, ap}
-use Rattle.wac_types_base.specs.Entries.{entries_of, texts_of, names_of, values_of}
-use Rattle.wac_types_base.proofs.Looked.{names-entries, values-entries}
+use Rattle.std.proofs.Common.{◌∙◌, ap}
+use Rattle.wac_types_base.specs.Entries.{texts_of, names_of}
+use Rattle.wac_types_base.proofs.Looked.{names-entries}
 use Rattle.wac_types_base.proofs.containers.NamedMap.names.Goals as goal
 
 pub returns : goal.returns

@@ -1,4 +1,4 @@
-use Rattle.std.proofs.Common.{◌≡◌, ◌∙◌}
+use Rattle.std.proofs.Common.{◌∙◌}
 use Rattle.std.specs.Prelude.{string_bytes}
 use Rattle.wac_types_base.proofs.Looked.{put_entry-new}
 use Rattle.wac_types_base.proofs.containers.NamedMap.push.Goals as goal

@@ -1,4 +1,4 @@
-use Rattle.std.proofs.Common.{◌≡◌, ◌∙◌, ap}
+use Rattle.std.proofs.Common.{◌∙◌, ap}
 use Rattle.wac_types_base.specs.Entries.{has_name}
 use Rattle.wac_types_base.proofs.Looked.{any-texts}
 use Rattle.wac_types_base.proofs.containers.Names.contains.Goals as goal

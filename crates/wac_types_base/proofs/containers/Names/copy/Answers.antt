@@ -1,7 +1,6 @@
-use Rattle.std.proofs.Common.{◌≡◌, ◌<◌, ◌∙◌, arith, ap, sym, subst, take, Some, slice_get, length, get_or}
+use Rattle.std.proofs.Common.{◌≡◌, ◌<◌, ◌∙◌, arith, ap, sym, take, Some, slice_get, length}
 use Rattle.std.specs.Prelude.{string_bytes}
-use Rattle.wac_types_base.specs.Entries.{texts_of, put_name}
-use Rattle.wac_types_base.specs.Graph.{Among}
+use Rattle.wac_types_base.specs.Entries.{put_name}
 use Rattle.wac_types_base.proofs.Looked.{put_name-new, distinct-before, take-one_more, text-place}
 use Rattle.wac_types_base.proofs.containers.Names.copy.Goals as goal
 

@@ -1,5 +1,5 @@
-use Rattle.std.proofs.Common.{◌≡◌, ◌∙◌, ap, not, Result, Ok, Err, Bool}
-use Rattle.std.specs.Prelude.{string_bytes, IfOk, OnOk}
+use Rattle.std.proofs.Common.{◌∙◌, ap, not, Result, Ok, Err, Bool}
+use Rattle.std.specs.Prelude.{string_bytes, IfOk}
 use Rattle.wac_types_base.specs.Entries.{has_name, put_name, texts_of}
 use Rattle.wac_types_base.proofs.Looked.{any-texts, texts-insert}
 use Rattle.wac_types_base.proofs.containers.Names.insert.Goals as goal

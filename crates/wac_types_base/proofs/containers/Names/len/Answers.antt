@@ -1,4 +1,4 @@
-use Rattle.std.proofs.Common.{◌≡◌, subst}
+use Rattle.std.proofs.Common.{subst}
 use Rattle.wac_types_base.specs.Entries.{AreDistinct}
 use Rattle.wac_types_base.proofs.Looked.{texts-distinct}
 use Rattle.wac_types_base.proofs.containers.Names.len.Goals as goal

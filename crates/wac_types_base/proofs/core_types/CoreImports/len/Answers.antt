@@ -1,4 +1,4 @@
-use Rattle.std.proofs.Common.{◌≡◌, subst}
+use Rattle.std.proofs.Common.{subst}
 use Rattle.wac_types_base.specs.Entries.{AreDistinct, names_of}
 use Rattle.wac_types_base.proofs.PairNames.{pair_names-distinct}
 use Rattle.wac_types_base.proofs.core_types.CoreImports.len.Goals as goal

@@ -1,4 +1,4 @@
-use Rattle.std.proofs.Common.{◌≡◌, ◌∙◌, ap}
+use Rattle.std.proofs.Common.{◌∙◌, ap}
 use Rattle.wac_types_base.specs.Entries.{pairs_of, names_of}
 use Rattle.wac_types_base.proofs.PairNames.{pair-names}
 use Rattle.wac_types_base.proofs.core_types.CoreImports.names.Goals as goal

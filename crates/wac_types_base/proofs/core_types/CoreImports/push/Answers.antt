@@ -1,4 +1,4 @@
-use Rattle.std.proofs.Common.{◌≡◌, ◌++◌, ◌∷◌, [], ◌∙◌, ap, sym, subst}
+use Rattle.std.proofs.Common.{◌++◌, ◌∷◌, [], ◌∙◌, ap, sym, subst}
 use Rattle.std.specs.Prelude.{string_bytes}
 use Rattle.wac_types_base.specs.Entries.{imports_in, IsNew}
 use Rattle.wac_types_base.proofs.PairNames.{pair-insert}

@@ -1,4 +1,4 @@
-use Rattle.std.proofs.Common.{◌≡◌, ◌∙◌, ap}
+use Rattle.std.proofs.Common.{◌∙◌, ap}
 use Rattle.wac_types_base.specs.Entries.{values_of}
 use Rattle.wac_types_base.proofs.PairNames.{pair-values}
 use Rattle.wac_types_base.proofs.core_types.CoreImports.values.Goals as goal

@@ -1,4 +1,4 @@
-use Rattle.std.proofs.Common.{◌≡◌, [], ◌∙◌, Option, Some, None, refl, sym, ap, subst}
+use Rattle.std.proofs.Common.{◌∙◌, refl, sym, ap, subst}
 use Rattle.wac_types_base.specs.Entries.{values_of}
 use Rattle.wac_types_base.specs.Graph.{Among}
 use Rattle.wac_types_base.specs.Implicit.{by_identifier, used_interfaces, all_uses, then_on, shown}

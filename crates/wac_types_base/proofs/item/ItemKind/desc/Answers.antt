@@ -1,4 +1,4 @@
-use Rattle.std.proofs.Common.{◌≡◌, sym}
+use Rattle.std.proofs.Common.{sym}
 use Rattle.wac_types_base.specs.declared.item.ItemKind.{ItemKind}
 use Rattle.wac_types_base.proofs.Telling.{desc_word}
 use Rattle.wac_types_base.proofs.item.ItemKind.desc.Goals as goal

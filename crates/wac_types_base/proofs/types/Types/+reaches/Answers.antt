@@ -1,7 +1,6 @@
-use Rattle.std.proofs.Common.{◌≡◌, ℕ, ◌+◌, ◌<◌, ◌≤◌, length, Some, None, slice_get, refl, sym, ap, subst, ◌∙◌, arith}
-use Rattle.wac_types_base.specs.declared.item.ItemKind.{ItemKind}
-use Rattle.wac_types_base.specs.Collection.{slots_of, size_of, item_node, Stands, IsAcyclic}
-use Rattle.wac_types_base.specs.Reaching.{Reaches, here, below, NamesEntry}
+use Rattle.std.proofs.Common.{◌≡◌, Some, refl, sym, ap, subst, ◌∙◌, arith}
+use Rattle.wac_types_base.specs.Collection.{slots_of, item_node}
+use Rattle.wac_types_base.specs.Reaching.{Reaches, here, NamesEntry}
 use Rattle.wac_types_base.proofs.Walking.{child_smaller, reaches_by, reaches_none, one_more, some_place}
 use Rattle.wac_types_base.proofs.types.Types.+reaches.Goals as goal
 use Rattle.wac_types_base.proofs.types.Types.+reaches.Goals.{in-Some-place+else-reaches, in_default-place}

@@ -1,6 +1,6 @@
 use Rattle.std.proofs.Common.{◌≡◌, ℕ, ◌<◌, ◌-◌, length, Some, slice_get}
 use Rattle.wac_types_base.specs.declared.item.ItemKind.{ItemKind}
-use Rattle.wac_types_base.specs.Collection.{slots_of, size_of, item_node, Stands, IsAcyclic}
+use Rattle.wac_types_base.specs.Collection.{slots_of, size_of, item_node}
 use Rattle.wac_types_base.specs.Reaching.{Reaches, NamesEntry}
 use Rattle.wac_types_base.proofs.types.Types.+reaches.Given as goal
 

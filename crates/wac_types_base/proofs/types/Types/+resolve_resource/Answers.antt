@@ -1,6 +1,5 @@
-use Rattle.std.proofs.Common.{◌≡◌, ◌<◌, ◌∙◌, sym, arith}
-use Rattle.wac_types_base.specs.Collection.{size_of}
-use Rattle.wac_types_base.specs.Resolving.{IsRootOf, root, through_source}
+use Rattle.std.proofs.Common.{◌∙◌, sym, arith}
+use Rattle.wac_types_base.specs.Resolving.{root, through_source}
 use Rattle.wac_types_base.proofs.Telling.{resource_source, resource_alias_tree}
 use Rattle.wac_types_base.proofs.types.Types.+resolve_resource.Goals as goal
 

@@ -1,7 +1,7 @@
-use Rattle.std.proofs.Common.{◌≡◌, ◌<◌, ◌∙◌, Some, slice_get, refl, sym, ap, subst, arith}
+use Rattle.std.proofs.Common.{◌∙◌, Some, refl, sym, ap, subst, arith}
 use Rattle.wac_types_base.specs.declared.item.ItemKind.{ItemKind}
 use Rattle.wac_types_base.specs.declared.item.ValueType.{ValueType}
-use Rattle.wac_types_base.specs.Collection.{Stands, size_of}
+use Rattle.wac_types_base.specs.Collection.{Stands}
 use Rattle.wac_types_base.specs.Tree.{tree_of}
 use Rattle.wac_types_base.specs.Resolving.{ResolvesTo, resolved, through_alias}
 use Rattle.wac_types_base.proofs.Telling.{value_source, value_alias_tree, no_alias}

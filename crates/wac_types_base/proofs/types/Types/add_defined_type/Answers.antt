@@ -1,4 +1,3 @@
-use Rattle.wac_types_base.specs.Collection.{HasChildren, defined_entry, Grows, IsAcyclic}
 use Rattle.wac_types_base.proofs.Adding.{IsAcyclic-add_defined_type, Grows-add_defined_type, Grows-refl}
 use Rattle.wac_types_base.proofs.types.Types.add_defined_type.Goals as goal
 

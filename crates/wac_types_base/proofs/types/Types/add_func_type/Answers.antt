@@ -1,4 +1,3 @@
-use Rattle.wac_types_base.specs.Collection.{HasChildren, func_entry, Grows, IsAcyclic}
 use Rattle.wac_types_base.proofs.Adding.{IsAcyclic-add_func_type, Grows-add_func_type, Grows-refl}
 use Rattle.wac_types_base.proofs.types.Types.add_func_type.Goals as goal
 

@@ -1,4 +1,3 @@
-use Rattle.wac_types_base.specs.Collection.{HasChildren, interface_entry, Grows, IsAcyclic}
 use Rattle.wac_types_base.proofs.Adding.{IsAcyclic-add_interface, Grows-add_interface, Grows-refl}
 use Rattle.wac_types_base.proofs.types.Types.add_interface.Goals as goal
 

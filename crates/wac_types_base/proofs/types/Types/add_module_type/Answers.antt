@@ -1,4 +1,3 @@
-use Rattle.wac_types_base.specs.Collection.{Grows, IsAcyclic}
 use Rattle.wac_types_base.proofs.Adding.{IsAcyclic-add_module_type, Grows-add_module_type, Grows-refl}
 use Rattle.wac_types_base.proofs.types.Types.add_module_type.Goals as goal
 

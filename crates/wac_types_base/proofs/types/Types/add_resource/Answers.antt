@@ -1,4 +1,3 @@
-use Rattle.wac_types_base.specs.Collection.{HasChildren, resource_entry, Grows, IsAcyclic}
 use Rattle.wac_types_base.proofs.Adding.{IsAcyclic-add_resource, Grows-add_resource, Grows-refl}
 use Rattle.wac_types_base.proofs.types.Types.add_resource.Goals as goal
 

@@ -1,4 +1,3 @@
-use Rattle.wac_types_base.specs.Collection.{HasChildren, world_entry, Grows, IsAcyclic}
 use Rattle.wac_types_base.proofs.Adding.{IsAcyclic-add_world, Grows-add_world, Grows-refl}
 use Rattle.wac_types_base.proofs.types.Types.add_world.Goals as goal
 

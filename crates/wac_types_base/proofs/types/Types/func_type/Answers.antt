@@ -1,5 +1,4 @@
-use Rattle.std.proofs.Common.{ap, arith, ◌∙◌, ◌<◌, length, get_or}
-use Rattle.wac_types_base.specs.Collection.{Stands, item_node}
+use Rattle.std.proofs.Common.{ap, arith, ◌∙◌, length, get_or}
 use Rattle.wac_types_base.proofs.Standing.{func_found, read}
 use Rattle.wac_types_base.proofs.types.Types.func_type.Goals as goal
 

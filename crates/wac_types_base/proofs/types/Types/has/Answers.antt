@@ -1,4 +1,3 @@
-use Rattle.std.proofs.Common.{◌≡◌}
 use Rattle.wac_types_base.proofs.Slots.{has_func, has_interface, has_world, has_module}
 use Rattle.wac_types_base.proofs.types.Types.has.Goals as goal
 

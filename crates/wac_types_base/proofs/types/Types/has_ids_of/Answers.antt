@@ -1,4 +1,4 @@
-use Rattle.std.proofs.Common.{◌≡◌, ℕ, ◌+◌, ◌<◌, length, List, Bool, true, false, not, Option, Some, None, slice_get, refl, sym, ap, subst, ◌∙◌, arith, below_more}
+use Rattle.std.proofs.Common.{◌≡◌, List, Bool, true, false, Some, None, slice_get, refl, sym, ap, subst, ◌∙◌, arith, below_more}
 use Rattle.wac_types_base.specs.declared.item.ItemKind.{ItemKind}
 use Rattle.wac_types_base.specs.Collection.{Slot, SlotStands, Stands}
 use Rattle.wac_types_base.specs.Graph.{Among}

@@ -1,5 +1,4 @@
-use Rattle.std.proofs.Common.{◌≡◌, ℕ, ◌+◌, ◌<◌, ◌≤◌, length, Some, None, slice_get, refl, sym, ap, subst, ◌∙◌, arith}
-use Rattle.wac_types_base.specs.declared.item.ItemKind.{ItemKind}
+use Rattle.std.proofs.Common.{◌≡◌, Some, refl, sym, ap, subst, ◌∙◌, arith}
 use Rattle.wac_types_base.specs.Collection.{item_node, SlotStands}
 use Rattle.wac_types_base.specs.Reaching.{Reaches, NamesEntry}
 use Rattle.wac_types_base.proofs.Adding.{All-among}

@@ -1,10 +1,7 @@
-use Rattle.std.proofs.Common.{◌≡◌, ◌<◌, length, refl, sym, subst, ap, ◌∙◌, arith}
+use Rattle.std.proofs.Common.{length, sym, subst, ap, arith}
 use Rattle.wac_types_base.specs.declared.item.ItemKind.{ItemKind}
-use Rattle.wac_types_base.specs.declared.item.ValueType.{ValueType}
-use Rattle.wac_types_base.specs.declared.item.«Type».{«Type» as TypeKind}
-use Rattle.wac_types_base.specs.Record.{Collection}
-use Rattle.wac_types_base.specs.Collection.{HasChildren, Stands, IsAcyclic, func_entry}
-use Rattle.wac_types_base.specs.Reaching.{LeadsBack, KeepsOthers, KeepsStanding, with_func_type}
+use Rattle.wac_types_base.specs.Collection.{HasChildren, Stands, func_entry}
+use Rattle.wac_types_base.specs.Reaching.{LeadsBack}
 use Rattle.wac_types_base.proofs.Standing.{func_found}
 use Rattle.wac_types_base.proofs.Replacing.{func_acyclic, func_keeps, func_stand}
 use Rattle.wac_types_base.proofs.types.Types.replace_func_type.Goals as goal

@@ -1,10 +1,7 @@
-use Rattle.std.proofs.Common.{◌≡◌, ◌<◌, length, refl, sym, subst, ap, ◌∙◌, arith}
+use Rattle.std.proofs.Common.{length, sym, subst, ap, arith}
 use Rattle.wac_types_base.specs.declared.item.ItemKind.{ItemKind}
-use Rattle.wac_types_base.specs.declared.item.ValueType.{ValueType}
-use Rattle.wac_types_base.specs.declared.item.«Type».{«Type» as TypeKind}
-use Rattle.wac_types_base.specs.Record.{Collection}
-use Rattle.wac_types_base.specs.Collection.{HasChildren, Stands, IsAcyclic, interface_entry}
-use Rattle.wac_types_base.specs.Reaching.{LeadsBack, KeepsOthers, KeepsStanding, with_interface}
+use Rattle.wac_types_base.specs.Collection.{HasChildren, Stands, interface_entry}
+use Rattle.wac_types_base.specs.Reaching.{LeadsBack}
 use Rattle.wac_types_base.proofs.Standing.{interface_found}
 use Rattle.wac_types_base.proofs.Replacing.{interface_acyclic, interface_keeps, interface_stand}
 use Rattle.wac_types_base.proofs.types.Types.replace_interface.Goals as goal

@@ -1,10 +1,7 @@
-use Rattle.std.proofs.Common.{◌≡◌, ◌<◌, length, refl, sym, subst, ap, ◌∙◌, arith}
+use Rattle.std.proofs.Common.{length, sym, subst, ap, arith}
 use Rattle.wac_types_base.specs.declared.item.ItemKind.{ItemKind}
-use Rattle.wac_types_base.specs.declared.item.ValueType.{ValueType}
-use Rattle.wac_types_base.specs.declared.item.«Type».{«Type» as TypeKind}
-use Rattle.wac_types_base.specs.Record.{Collection}
-use Rattle.wac_types_base.specs.Collection.{HasChildren, Stands, IsAcyclic, world_entry}
-use Rattle.wac_types_base.specs.Reaching.{LeadsBack, KeepsOthers, KeepsStanding, with_world}
+use Rattle.wac_types_base.specs.Collection.{HasChildren, Stands, world_entry}
+use Rattle.wac_types_base.specs.Reaching.{LeadsBack}
 use Rattle.wac_types_base.proofs.Standing.{world_found}
 use Rattle.wac_types_base.proofs.Replacing.{world_acyclic, world_keeps, world_stand}
 use Rattle.wac_types_base.proofs.types.Types.replace_world.Goals as goal
