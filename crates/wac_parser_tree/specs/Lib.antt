@@ -1,0 +1,4 @@
+pub mod Trees
+pub mod Views
+pub mod Accessors
+pub mod Segments

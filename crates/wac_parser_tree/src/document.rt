@@ -1,0 +1,154 @@
+//! A whole document.
+
+ghost use Rattle.std.specs.Prelude.{◌≡◌, IfOk, map};
+ghost use Rattle.std.specs.Option.{option_map};
+ghost use Rattle.wac_parser_tree.specs.Views.{view_document, view_package_directive, view_package_path, view_statement, view_type_statement};
+
+use crate::declaration::TypeDecl;
+use crate::export::ExportStatement;
+use crate::import::{ImportStatement, PackageName, PackagePath};
+use crate::interface::InterfaceDecl;
+use crate::let_statement::LetStatement;
+use crate::text::{DocComment, clone_docs};
+use crate::world::WorldDecl;
+use std::alloc::{AllocError, Global};
+use std::fmt;
+
+/// A document: a package directive, then statements.
+#[derive(Drop)]
+pub struct Document<'a> {
+    /// The doc comments of the package.
+    pub docs: Vec<DocComment<'a>>,
+    /// The package directive.
+    pub directive: PackageDirective<'a>,
+    /// The statements, in the order of the source.
+    pub statements: Vec<Statement<'a>>,
+}
+
+impl fmt::Debug for Document<'_> {
+    fn fmt<W: fmt::Write>(&self, f: &mut fmt::Formatter<W>) -> fmt::Result {
+        f.write_str("Document { docs: ")?;
+        fmt::Debug::fmt(&self.docs, f)?;
+        f.write_str(", directive: ")?;
+        fmt::Debug::fmt(&self.directive, f)?;
+        f.write_str(", statements: ")?;
+        let mut list = f.debug_list();
+        for statement in &self.statements {
+            list.entry(statement);
+        }
+        list.finish()?;
+        f.write_str(" }")
+    }
+}
+
+/// A directive `package NAME [targets PATH];`.
+#[derive(Debug, Drop)]
+pub struct PackageDirective<'a> {
+    /// The name of the package that the document composes.
+    pub package: PackageName<'a>,
+    /// The world that the package targets, if it names one.
+    pub targets: Option<PackagePath<'a>>,
+}
+
+/// A statement of a document.
+#[derive(Debug, Drop)]
+pub enum Statement<'a> {
+    /// An import.
+    Import(ImportStatement<'a>),
+    /// A type.
+    Ty(TypeStatement<'a>),
+    /// A name for an expression.
+    Let(LetStatement<'a>),
+    /// An export.
+    Export(ExportStatement<'a>),
+}
+
+/// A statement that declares a type.
+#[derive(Debug, Drop)]
+pub enum TypeStatement<'a> {
+    /// An interface.
+    Interface(InterfaceDecl<'a>),
+    /// A world.
+    World(WorldDecl<'a>),
+    /// Any other type.
+    Ty(TypeDecl<'a>),
+}
+
+impl<'a> TypeStatement<'a> {
+    /// An equal statement.
+    pub fn clone(&self, alloc: Global) -> Result<Self, AllocError>
+        ensures { IfOk result (λ t. view_type_statement t ≡ view_type_statement self.now) }
+    {
+        match self {
+            TypeStatement::Interface(interface) => Ok(TypeStatement::Interface(interface.clone(
+                alloc,
+            )?)),
+            TypeStatement::World(world) => Ok(TypeStatement::World(world.clone(alloc)?)),
+            TypeStatement::Ty(ty) => Ok(TypeStatement::Ty(ty.clone(alloc)?)),
+        }
+    }
+}
+
+impl<'a> Statement<'a> {
+    /// An equal statement.
+    pub fn clone(&self, alloc: Global) -> Result<Self, AllocError>
+        ensures { IfOk result (λ t. view_statement t ≡ view_statement self.now) }
+    {
+        match self {
+            Statement::Import(import) => Ok(Statement::Import(import.clone(alloc)?)),
+            Statement::Ty(ty) => Ok(Statement::Ty(ty.clone(alloc)?)),
+            Statement::Let(statement) => Ok(Statement::Let(statement.clone(alloc)?)),
+            Statement::Export(export) => Ok(Statement::Export(export.clone(alloc)?)),
+        }
+    }
+}
+
+fn clone_statements<'a>(
+    alloc: Global,
+    statements: &Vec<Statement<'a>>,
+) -> Result<Vec<Statement<'a>>, AllocError>
+    ensures { IfOk result (λ v. map view_statement v.items ≡ map view_statement statements.now.items) }
+{
+    let mut copies = Vec::new(alloc);
+    for statement in statements {
+        copies.push(statement.clone(alloc)?)?;
+    }
+    Ok(copies)
+}
+
+impl<'a> PackageDirective<'a> {
+    /// An equal directive.
+    pub fn clone(&self, alloc: Global) -> Result<Self, AllocError>
+        ensures { IfOk result (λ t. view_package_directive t ≡ view_package_directive self.now) }
+    {
+        Ok(PackageDirective {
+            package: self.package.clone(alloc)?,
+            targets: clone_target(alloc, &self.targets)?,
+        })
+    }
+}
+
+impl<'a> Document<'a> {
+    /// An equal document.
+    pub fn clone(&self, alloc: Global) -> Result<Self, AllocError>
+        ensures { IfOk result (λ t. view_document t ≡ view_document self.now) }
+    {
+        Ok(Document {
+            docs: clone_docs(alloc, &self.docs)?,
+            directive: self.directive.clone(alloc)?,
+            statements: clone_statements(alloc, &self.statements)?,
+        })
+    }
+}
+
+fn clone_target<'a>(
+    alloc: Global,
+    target: &Option<PackagePath<'a>>,
+) -> Result<Option<PackagePath<'a>>, AllocError>
+    ensures { IfOk result (λ t. option_map view_package_path t ≡ option_map view_package_path target.now) }
+{
+    match target {
+        Some(path) => Ok(Some(path.clone(alloc)?)),
+        None => Ok(None),
+    }
+}

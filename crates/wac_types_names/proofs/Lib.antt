@@ -1,0 +1,11 @@
+pub mod NameForms
+pub mod InterfaceForms
+pub mod TrackTexts
+pub mod VersionOrder
+pub mod Latest
+pub mod Maps
+pub mod Giving
+pub mod Lent
+pub mod TrackLaws
+pub mod Copied
+pub mod Defining

@@ -1,0 +1,12 @@
+pub mod Versions
+pub mod Tracks
+pub mod NameMaps
+pub mod KeyTexts
+pub mod Spellings
+pub mod Lending
+pub mod InterfaceNames
+pub mod NameTests
+pub mod Packaged
+pub mod Viewed
+pub mod Keys
+pub mod Packages

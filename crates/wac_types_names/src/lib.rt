@@ -1,0 +1,21 @@
+//! Names on version tracks, packages and their keys.
+#![tactic(auto)]
+
+mod copies;
+mod definitions;
+mod interface_name;
+mod laws;
+pub mod names;
+pub mod package;
+mod spelling;
+mod track;
+
+pub use laws::{compatible_names, examples, one_name_a_version, order_of_insertion};
+pub use names::{
+    NameMap, NameMapError, NameMapIntern, NameMapNoIntern, alternate_lookup_key,
+    are_semver_compatible,
+};
+pub use package::{BorrowedKey, BorrowedPackageKey, Package, PackageKey, same_key};
+
+#[cfg(test)]
+mod tests;
