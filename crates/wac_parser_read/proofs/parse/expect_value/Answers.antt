@@ -1,0 +1,24 @@
+use Rattle.std.proofs.Common.{◌≡◌, false, sym, ◌∙◌}
+use Rattle.wac_parser_read.specs.Ahead.{tried, fresh}
+use Rattle.wac_parser_read.proofs.Tried.{first_missed, begins_same, said_behind, some_behind}
+use Rattle.wac_parser_read.proofs.parse.expect_value.Goals as goal
+
+pub returns-then-peek-clause-some : goal.returns-then-peek-clause-some
+returns-then-peek-clause-some g c =
+    let first = first_missed c.args.until c.args.lexer.now _ _ _ c.new-lookahead.ensures c.peek.ensures.value c.peek.ensures.after c.requires in
+    sym (begins_same c.args.until g.T.Peek.first c.args.lexer.now _ _ first c.peek-2.ensures.value) ∙ c.if-peek.true
+
+pub error-requires : goal.error-requires
+error-requires g c =
+    let first = first_missed c.args.until c.args.lexer.now _ _ _ c.new-lookahead.ensures c.peek.ensures.value c.peek.ensures.after c.requires in
+    some_behind c.args.until g.T.Peek.first c.args.lexer.now _ _ first (c.peek-2.ensures.after c.if-peek.false)
+
+pub returns-clause-none : goal.returns-clause-none
+returns-clause-none g c =
+    let first = first_missed c.args.until c.args.lexer.now _ _ _ c.new-lookahead.ensures c.peek.ensures.value c.peek.ensures.after c.requires in
+    sym (begins_same c.args.until g.T.Peek.first c.args.lexer.now _ _ first c.peek-2.ensures.value) ∙ c.if-peek.false
+
+pub returns-clause-fault : goal.returns-clause-fault
+returns-clause-fault g c =
+    let first = first_missed c.args.until c.args.lexer.now _ _ _ c.new-lookahead.ensures c.peek.ensures.value c.peek.ensures.after c.requires in
+    c.error.ensures ∙ said_behind c.args.until g.T.Peek.first c.args.lexer.now _ _ first (c.peek-2.ensures.after c.if-peek.false)

@@ -1,0 +1,20 @@
+-- What the answers of parsers of parts say, without where they lie in memory.
+use Rattle.std.specs.Prelude.{List, map, Option, Some, None}
+use Rattle.std.specs.declared.alloc.Global.{Global}
+use Rattle.std.specs.declared.boxed.Box.{Box}
+use Rattle.std.specs.declared.vec.Vec.{Vec}
+use Rattle.wac_parser_lexer.specs.declared.span.SourceSpan.{SourceSpan}
+use Rattle.wac_parser_tree.specs.declared.value_type.«Type».{«Type»}
+use Rattle.wac_parser_tree.specs.Trees as t
+use Rattle.wac_parser_tree.specs.Views.{view_ty}
+
+-- the views of a list
+abbrev pub view_all : {T X : Type 0} → (T → X) → Vec T Global → List X
+view_all view v = map view v.items
+
+abbrev pub view_maybe : Option (Box «Type» Global) → t.MaybeTy
+view_maybe None = t.no_ty
+view_maybe (Some b) = t.some_ty (view_ty b.value)
+
+abbrev pub view_payload : Option (Box «Type» Global) × SourceSpan → t.MaybeTy × SourceSpan
+view_payload p = (view_maybe p.0, p.1)

@@ -1,0 +1,480 @@
+//! Declarations of types.
+
+ghost use Rattle.wac_parser_read.specs.Places.{IsBehind};
+ghost use Rattle.std.specs.Prelude.{◌≡◌, ◌∷◌, [], ◌<◌, ◌≤◌, OnOk};
+ghost use Rattle.std.specs.Option.{option_map};
+ghost use Rattle.wac_parser_lexer.specs.declared.token.Token.TheVariants as k;
+ghost use Rattle.wac_parser_tree.specs.Trees as t;
+ghost use Rattle.wac_parser_tree.specs.Views.{view_ty, view_variant_case, view_variant_decl, view_field, view_record_decl, view_flag, view_flags_decl, view_enum_case, view_enum_decl, view_type_alias_kind, view_type_alias, view_type_decl, view_item_type_decl};
+ghost use Rattle.wac_parser_read.specs.Views.{view_all};
+ghost use Rattle.wac_parser_read.specs.Rules.{left};
+ghost use Rattle.wac_parser_read.specs.Reads.{Reads};
+ghost use Rattle.wac_parser_read.specs.Ahead as ahead;
+ghost use Rattle.wac_parser_read.specs.Declarations as grammar;
+
+use crate::base::{none_of, optional, parse_token, sees, sees_any};
+use crate::error::{DeclaredType, Error, MemberKind, ParseResult};
+use crate::lookahead::Lookahead;
+use crate::parse::{Parse, Peek, parse_delimited};
+use crate::text::{doc_comments, ident};
+use crate::value_type::{ALIAS_FIRST, FUNC_FIRST, TYPE_FIRST};
+use std::alloc::Global;
+use wac_parser_lexer::{Lexer, Token};
+use wac_parser_tree::{
+    EnumCase, EnumDecl, Field, Flag, FlagsDecl, FuncType, ItemTypeDecl, NamedType, RecordDecl,
+    ResourceDecl, Type, TypeAlias, TypeAliasKind, TypeDecl, VariantCase, VariantDecl,
+};
+
+/// The tokens with which a declaration of a document begins.
+pub(crate) const TYPE_DECL_FIRST: [Token; 5] = [
+    Token::VariantKeyword,
+    Token::RecordKeyword,
+    Token::FlagsKeyword,
+    Token::EnumKeyword,
+    Token::TypeKeyword,
+];
+
+/// The tokens with which a declaration of an interface or a world begins.
+pub(crate) const ITEM_TYPE_DECL_FIRST: [Token; 6] = [
+    Token::ResourceKeyword,
+    Token::VariantKeyword,
+    Token::RecordKeyword,
+    Token::FlagsKeyword,
+    Token::EnumKeyword,
+    Token::TypeKeyword,
+];
+
+/// The type of a case in parentheses, or none.
+#[tactic(auto, using(crate::proofs::Behind::stays, crate::proofs::Behind::passes, crate::proofs::Behind::goes_further), unfolding(crate::specs::Declarations::case_type))]
+fn case_type<'a>(alloc: Global, lexer: &mut Lexer<'a>) -> ParseResult<Option<Type<'a>>>
+    ensures value { Reads (option_map view_ty) grammar.case_type lexer.old result lexer.new }
+    ensures keeps { OnOk result (left lexer.new ≤ left lexer.old) }
+    ensures goes_on { IsBehind lexer.new lexer.old }
+{
+    if !optional(lexer, Token::OpenParen)? {
+        return Ok(None);
+    }
+    let ty = Type::parse(alloc, lexer)?;
+    parse_token(lexer, Token::CloseParen)?;
+    Ok(Some(ty))
+}
+
+impl<'a> Peek for VariantCase<'a> {
+    ghost first = { k.Ident ∷ [] };
+
+    fn peek(lookahead: &mut Lookahead) -> bool
+        ensures { ahead.Tries (k.Ident ∷ []) lookahead.old result lookahead.new }
+    {
+        lookahead.peek(Token::Ident)
+    }
+}
+
+impl<'a> Parse<'a> for VariantCase<'a> {
+    ghost Plain = { t.VariantCase };
+
+    ghost view = { view_variant_case };
+
+    ghost rule = { grammar.variant_case };
+
+    #[tactic(auto, using(crate::proofs::Behind::stays, crate::proofs::Behind::passes, crate::proofs::Behind::goes_further), unfolding(crate::specs::Declarations::variant_case))]
+    fn parse(alloc: Global, lexer: &mut Lexer<'a>) -> ParseResult<VariantCase<'a>> {
+        let docs = doc_comments(alloc, lexer)?;
+        let id = ident(lexer)?;
+        let ty = case_type(alloc, lexer)?;
+        Ok(VariantCase { docs, id, ty })
+    }
+}
+
+/// The cases of a variant in braces, at least one.
+#[tactic(auto, using(crate::proofs::Behind::stays, crate::proofs::Behind::passes, crate::proofs::Behind::goes_further), unfolding(crate::specs::Declarations::variant_cases))]
+fn variant_cases<'a>(alloc: Global, lexer: &mut Lexer<'a>) -> ParseResult<Vec<VariantCase<'a>>>
+    ensures value { Reads (view_all view_variant_case) grammar.variant_cases lexer.old result lexer.new }
+    ensures takes { OnOk result (left lexer.new < left lexer.old) }
+    ensures goes_on { IsBehind lexer.new lexer.old }
+{
+    parse_token(lexer, Token::OpenBrace)?;
+    let items: Vec<VariantCase<'a>> = parse_delimited(alloc, lexer, Token::CloseBrace, true)?;
+    let close = parse_token(lexer, Token::CloseBrace)?;
+    if items.is_empty() {
+        return Err(Error::EmptyType {
+            ty: DeclaredType::Variant,
+            kind: MemberKind::Case,
+            span: close,
+        });
+    }
+    Ok(items)
+}
+
+impl<'a> Peek for VariantDecl<'a> {
+    ghost first = { k.VariantKeyword ∷ [] };
+
+    fn peek(lookahead: &mut Lookahead) -> bool
+        ensures { ahead.Tries (k.VariantKeyword ∷ []) lookahead.old result lookahead.new }
+    {
+        lookahead.peek(Token::VariantKeyword)
+    }
+}
+
+impl<'a> Parse<'a> for VariantDecl<'a> {
+    ghost Plain = { t.VariantDecl };
+
+    ghost view = { view_variant_decl };
+
+    ghost rule = { grammar.variant_decl };
+
+    #[tactic(auto, using(crate::proofs::Behind::stays, crate::proofs::Behind::passes, crate::proofs::Behind::goes_further), unfolding(crate::specs::Declarations::variant_decl))]
+    fn parse(alloc: Global, lexer: &mut Lexer<'a>) -> ParseResult<VariantDecl<'a>> {
+        let docs = doc_comments(alloc, lexer)?;
+        parse_token(lexer, Token::VariantKeyword)?;
+        let id = ident(lexer)?;
+        let cases = variant_cases(alloc, lexer)?;
+        Ok(VariantDecl { docs, id, cases })
+    }
+}
+
+impl<'a> Peek for Field<'a> {
+    ghost first = { k.Ident ∷ [] };
+
+    fn peek(lookahead: &mut Lookahead) -> bool
+        ensures { ahead.Tries (k.Ident ∷ []) lookahead.old result lookahead.new }
+    {
+        lookahead.peek(Token::Ident)
+    }
+}
+
+impl<'a> Parse<'a> for Field<'a> {
+    ghost Plain = { t.Field };
+
+    ghost view = { view_field };
+
+    ghost rule = { grammar.field };
+
+    #[tactic(auto, using(crate::proofs::Behind::stays, crate::proofs::Behind::passes, crate::proofs::Behind::goes_further), unfolding(crate::specs::Declarations::field))]
+    fn parse(alloc: Global, lexer: &mut Lexer<'a>) -> ParseResult<Field<'a>> {
+        let docs = doc_comments(alloc, lexer)?;
+        let named = NamedType::parse(alloc, lexer)?;
+        Ok(Field {
+            docs,
+            id: named.id,
+            ty: named.ty,
+        })
+    }
+}
+
+/// The fields of a record in braces, at least one.
+#[tactic(auto, using(crate::proofs::Behind::stays, crate::proofs::Behind::passes, crate::proofs::Behind::goes_further), unfolding(crate::specs::Declarations::record_fields))]
+fn record_fields<'a>(alloc: Global, lexer: &mut Lexer<'a>) -> ParseResult<Vec<Field<'a>>>
+    ensures value { Reads (view_all view_field) grammar.record_fields lexer.old result lexer.new }
+    ensures takes { OnOk result (left lexer.new < left lexer.old) }
+    ensures goes_on { IsBehind lexer.new lexer.old }
+{
+    parse_token(lexer, Token::OpenBrace)?;
+    let items: Vec<Field<'a>> = parse_delimited(alloc, lexer, Token::CloseBrace, true)?;
+    let close = parse_token(lexer, Token::CloseBrace)?;
+    if items.is_empty() {
+        return Err(Error::EmptyType {
+            ty: DeclaredType::Record,
+            kind: MemberKind::Field,
+            span: close,
+        });
+    }
+    Ok(items)
+}
+
+impl<'a> Peek for RecordDecl<'a> {
+    ghost first = { k.RecordKeyword ∷ [] };
+
+    fn peek(lookahead: &mut Lookahead) -> bool
+        ensures { ahead.Tries (k.RecordKeyword ∷ []) lookahead.old result lookahead.new }
+    {
+        lookahead.peek(Token::RecordKeyword)
+    }
+}
+
+impl<'a> Parse<'a> for RecordDecl<'a> {
+    ghost Plain = { t.RecordDecl };
+
+    ghost view = { view_record_decl };
+
+    ghost rule = { grammar.record_decl };
+
+    #[tactic(auto, using(crate::proofs::Behind::stays, crate::proofs::Behind::passes, crate::proofs::Behind::goes_further), unfolding(crate::specs::Declarations::record_decl))]
+    fn parse(alloc: Global, lexer: &mut Lexer<'a>) -> ParseResult<RecordDecl<'a>> {
+        let docs = doc_comments(alloc, lexer)?;
+        parse_token(lexer, Token::RecordKeyword)?;
+        let id = ident(lexer)?;
+        let fields = record_fields(alloc, lexer)?;
+        Ok(RecordDecl { docs, id, fields })
+    }
+}
+
+impl<'a> Peek for Flag<'a> {
+    ghost first = { k.Ident ∷ [] };
+
+    fn peek(lookahead: &mut Lookahead) -> bool
+        ensures { ahead.Tries (k.Ident ∷ []) lookahead.old result lookahead.new }
+    {
+        lookahead.peek(Token::Ident)
+    }
+}
+
+impl<'a> Parse<'a> for Flag<'a> {
+    ghost Plain = { t.Flag };
+
+    ghost view = { view_flag };
+
+    ghost rule = { grammar.flag };
+
+    #[tactic(auto, using(crate::proofs::Behind::stays, crate::proofs::Behind::passes, crate::proofs::Behind::goes_further), unfolding(crate::specs::Declarations::flag))]
+    fn parse(alloc: Global, lexer: &mut Lexer<'a>) -> ParseResult<Flag<'a>> {
+        let docs = doc_comments(alloc, lexer)?;
+        let id = ident(lexer)?;
+        Ok(Flag { docs, id })
+    }
+}
+
+/// The flags in braces, at least one.
+#[tactic(auto, using(crate::proofs::Behind::stays, crate::proofs::Behind::passes, crate::proofs::Behind::goes_further), unfolding(crate::specs::Declarations::flags_members))]
+fn flags_members<'a>(alloc: Global, lexer: &mut Lexer<'a>) -> ParseResult<Vec<Flag<'a>>>
+    ensures value { Reads (view_all view_flag) grammar.flags_members lexer.old result lexer.new }
+    ensures takes { OnOk result (left lexer.new < left lexer.old) }
+    ensures goes_on { IsBehind lexer.new lexer.old }
+{
+    parse_token(lexer, Token::OpenBrace)?;
+    let items: Vec<Flag<'a>> = parse_delimited(alloc, lexer, Token::CloseBrace, true)?;
+    let close = parse_token(lexer, Token::CloseBrace)?;
+    if items.is_empty() {
+        return Err(Error::EmptyType {
+            ty: DeclaredType::Flags,
+            kind: MemberKind::Flag,
+            span: close,
+        });
+    }
+    Ok(items)
+}
+
+impl<'a> Peek for FlagsDecl<'a> {
+    ghost first = { k.FlagsKeyword ∷ [] };
+
+    fn peek(lookahead: &mut Lookahead) -> bool
+        ensures { ahead.Tries (k.FlagsKeyword ∷ []) lookahead.old result lookahead.new }
+    {
+        lookahead.peek(Token::FlagsKeyword)
+    }
+}
+
+impl<'a> Parse<'a> for FlagsDecl<'a> {
+    ghost Plain = { t.FlagsDecl };
+
+    ghost view = { view_flags_decl };
+
+    ghost rule = { grammar.flags_decl };
+
+    #[tactic(auto, using(crate::proofs::Behind::stays, crate::proofs::Behind::passes, crate::proofs::Behind::goes_further), unfolding(crate::specs::Declarations::flags_decl))]
+    fn parse(alloc: Global, lexer: &mut Lexer<'a>) -> ParseResult<FlagsDecl<'a>> {
+        let docs = doc_comments(alloc, lexer)?;
+        parse_token(lexer, Token::FlagsKeyword)?;
+        let id = ident(lexer)?;
+        let flags = flags_members(alloc, lexer)?;
+        Ok(FlagsDecl { docs, id, flags })
+    }
+}
+
+impl<'a> Peek for EnumCase<'a> {
+    ghost first = { k.Ident ∷ [] };
+
+    fn peek(lookahead: &mut Lookahead) -> bool
+        ensures { ahead.Tries (k.Ident ∷ []) lookahead.old result lookahead.new }
+    {
+        lookahead.peek(Token::Ident)
+    }
+}
+
+impl<'a> Parse<'a> for EnumCase<'a> {
+    ghost Plain = { t.EnumCase };
+
+    ghost view = { view_enum_case };
+
+    ghost rule = { grammar.enum_case };
+
+    #[tactic(auto, using(crate::proofs::Behind::stays, crate::proofs::Behind::passes, crate::proofs::Behind::goes_further), unfolding(crate::specs::Declarations::enum_case))]
+    fn parse(alloc: Global, lexer: &mut Lexer<'a>) -> ParseResult<EnumCase<'a>> {
+        let docs = doc_comments(alloc, lexer)?;
+        let id = ident(lexer)?;
+        Ok(EnumCase { docs, id })
+    }
+}
+
+/// The cases of an enum in braces, at least one.
+#[tactic(auto, using(crate::proofs::Behind::stays, crate::proofs::Behind::passes, crate::proofs::Behind::goes_further), unfolding(crate::specs::Declarations::enum_cases))]
+fn enum_cases<'a>(alloc: Global, lexer: &mut Lexer<'a>) -> ParseResult<Vec<EnumCase<'a>>>
+    ensures value { Reads (view_all view_enum_case) grammar.enum_cases lexer.old result lexer.new }
+    ensures takes { OnOk result (left lexer.new < left lexer.old) }
+    ensures goes_on { IsBehind lexer.new lexer.old }
+{
+    parse_token(lexer, Token::OpenBrace)?;
+    let items: Vec<EnumCase<'a>> = parse_delimited(alloc, lexer, Token::CloseBrace, true)?;
+    let close = parse_token(lexer, Token::CloseBrace)?;
+    if items.is_empty() {
+        return Err(Error::EmptyType {
+            ty: DeclaredType::Enum,
+            kind: MemberKind::Case,
+            span: close,
+        });
+    }
+    Ok(items)
+}
+
+impl<'a> Peek for EnumDecl<'a> {
+    ghost first = { k.EnumKeyword ∷ [] };
+
+    fn peek(lookahead: &mut Lookahead) -> bool
+        ensures { ahead.Tries (k.EnumKeyword ∷ []) lookahead.old result lookahead.new }
+    {
+        lookahead.peek(Token::EnumKeyword)
+    }
+}
+
+impl<'a> Parse<'a> for EnumDecl<'a> {
+    ghost Plain = { t.EnumDecl };
+
+    ghost view = { view_enum_decl };
+
+    ghost rule = { grammar.enum_decl };
+
+    #[tactic(auto, using(crate::proofs::Behind::stays, crate::proofs::Behind::passes, crate::proofs::Behind::goes_further), unfolding(crate::specs::Declarations::enum_decl))]
+    fn parse(alloc: Global, lexer: &mut Lexer<'a>) -> ParseResult<EnumDecl<'a>> {
+        let docs = doc_comments(alloc, lexer)?;
+        parse_token(lexer, Token::EnumKeyword)?;
+        let id = ident(lexer)?;
+        let cases = enum_cases(alloc, lexer)?;
+        Ok(EnumDecl { docs, id, cases })
+    }
+}
+
+impl<'a> Parse<'a> for TypeAliasKind<'a> {
+    ghost Plain = { t.TypeAliasKind };
+
+    ghost view = { view_type_alias_kind };
+
+    ghost rule = { grammar.type_alias_kind };
+
+    #[tactic(auto, using(crate::proofs::Behind::stays, crate::proofs::Behind::passes, crate::proofs::Behind::goes_further), unfolding(crate::specs::Declarations::type_alias_kind))]
+    fn parse(alloc: Global, lexer: &mut Lexer<'a>) -> ParseResult<TypeAliasKind<'a>> {
+        if sees_any(lexer, &FUNC_FIRST) {
+            return Ok(TypeAliasKind::Func(FuncType::parse(alloc, lexer)?));
+        }
+        if sees_any(lexer, &TYPE_FIRST) {
+            return Ok(TypeAliasKind::Ty(Type::parse(alloc, lexer)?));
+        }
+        Err(none_of(lexer, &ALIAS_FIRST))
+    }
+}
+
+impl<'a> Peek for TypeAlias<'a> {
+    ghost first = { k.TypeKeyword ∷ [] };
+
+    fn peek(lookahead: &mut Lookahead) -> bool
+        ensures { ahead.Tries (k.TypeKeyword ∷ []) lookahead.old result lookahead.new }
+    {
+        lookahead.peek(Token::TypeKeyword)
+    }
+}
+
+impl<'a> Parse<'a> for TypeAlias<'a> {
+    ghost Plain = { t.TypeAlias };
+
+    ghost view = { view_type_alias };
+
+    ghost rule = { grammar.type_alias };
+
+    #[tactic(auto, using(crate::proofs::Behind::stays, crate::proofs::Behind::passes, crate::proofs::Behind::goes_further), unfolding(crate::specs::Declarations::type_alias))]
+    fn parse(alloc: Global, lexer: &mut Lexer<'a>) -> ParseResult<TypeAlias<'a>> {
+        let docs = doc_comments(alloc, lexer)?;
+        parse_token(lexer, Token::TypeKeyword)?;
+        let id = ident(lexer)?;
+        parse_token(lexer, Token::Equals)?;
+        let kind = TypeAliasKind::parse(alloc, lexer)?;
+        parse_token(lexer, Token::Semicolon)?;
+        Ok(TypeAlias { docs, id, kind })
+    }
+}
+
+impl<'a> Peek for TypeDecl<'a> {
+    ghost first = { grammar.type_decl_first };
+
+    fn peek(lookahead: &mut Lookahead) -> bool
+        ensures { ahead.Tries (grammar.type_decl_first) lookahead.old result lookahead.new }
+    {
+        lookahead.peek_any(&TYPE_DECL_FIRST)
+    }
+}
+
+impl<'a> Parse<'a> for TypeDecl<'a> {
+    ghost Plain = { t.TypeDecl };
+
+    ghost view = { view_type_decl };
+
+    ghost rule = { grammar.type_decl };
+
+    #[tactic(auto, using(crate::proofs::Behind::stays, crate::proofs::Behind::passes, crate::proofs::Behind::goes_further), unfolding(crate::specs::Declarations::type_decl))]
+    fn parse(alloc: Global, lexer: &mut Lexer<'a>) -> ParseResult<TypeDecl<'a>> {
+        if sees(lexer, Token::VariantKeyword) {
+            return Ok(TypeDecl::Variant(VariantDecl::parse(alloc, lexer)?));
+        }
+        if sees(lexer, Token::RecordKeyword) {
+            return Ok(TypeDecl::Record(RecordDecl::parse(alloc, lexer)?));
+        }
+        if sees(lexer, Token::FlagsKeyword) {
+            return Ok(TypeDecl::Flags(FlagsDecl::parse(alloc, lexer)?));
+        }
+        if sees(lexer, Token::EnumKeyword) {
+            return Ok(TypeDecl::Enum(EnumDecl::parse(alloc, lexer)?));
+        }
+        if sees(lexer, Token::TypeKeyword) {
+            return Ok(TypeDecl::Alias(TypeAlias::parse(alloc, lexer)?));
+        }
+        Err(none_of(lexer, &TYPE_DECL_FIRST))
+    }
+}
+
+impl<'a> Peek for ItemTypeDecl<'a> {
+    ghost first = { grammar.item_type_decl_first };
+
+    fn peek(lookahead: &mut Lookahead) -> bool
+        ensures { ahead.Tries (grammar.item_type_decl_first) lookahead.old result lookahead.new }
+    {
+        lookahead.peek_any(&ITEM_TYPE_DECL_FIRST)
+    }
+}
+
+impl<'a> Parse<'a> for ItemTypeDecl<'a> {
+    ghost Plain = { t.ItemTypeDecl };
+
+    ghost view = { view_item_type_decl };
+
+    ghost rule = { grammar.item_type_decl };
+
+    #[tactic(auto, using(crate::proofs::Behind::stays, crate::proofs::Behind::passes, crate::proofs::Behind::goes_further), unfolding(crate::specs::Declarations::item_type_decl))]
+    fn parse(alloc: Global, lexer: &mut Lexer<'a>) -> ParseResult<ItemTypeDecl<'a>> {
+        if sees(lexer, Token::ResourceKeyword) {
+            return Ok(ItemTypeDecl::Resource(ResourceDecl::parse(alloc, lexer)?));
+        }
+        if sees(lexer, Token::VariantKeyword) {
+            return Ok(ItemTypeDecl::Variant(VariantDecl::parse(alloc, lexer)?));
+        }
+        if sees(lexer, Token::RecordKeyword) {
+            return Ok(ItemTypeDecl::Record(RecordDecl::parse(alloc, lexer)?));
+        }
+        if sees(lexer, Token::FlagsKeyword) {
+            return Ok(ItemTypeDecl::Flags(FlagsDecl::parse(alloc, lexer)?));
+        }
+        if sees(lexer, Token::EnumKeyword) {
+            return Ok(ItemTypeDecl::Enum(EnumDecl::parse(alloc, lexer)?));
+        }
+        if sees(lexer, Token::TypeKeyword) {
+            return Ok(ItemTypeDecl::Alias(TypeAlias::parse(alloc, lexer)?));
+        }
+        Err(none_of(lexer, &ITEM_TYPE_DECL_FIRST))
+    }
+}

@@ -1,0 +1,197 @@
+//! Documents.
+
+ghost use Rattle.std.specs.Prelude.{◌≡◌, ◌∷◌, [], ◌<◌, ◌≤◌, OnOk};
+ghost use Rattle.wac_parser_read.specs.Views.{view_all};
+ghost use Rattle.wac_parser_read.specs.Rules.{all_of};
+ghost use Rattle.wac_parser_lexer.specs.declared.token.Token.TheVariants as k;
+ghost use Rattle.wac_parser_tree.specs.Trees as t;
+ghost use Rattle.wac_parser_tree.specs.Views.{view_type_statement, view_statement, view_package_directive, view_document};
+ghost use Rattle.wac_parser_read.specs.Rules.{Rule, left};
+ghost use Rattle.wac_parser_read.specs.Reads.{Reads, ReadsSource};
+ghost use Rattle.wac_parser_read.specs.Ahead as ahead;
+ghost use Rattle.wac_parser_read.specs.Documents as grammar;
+
+use crate::base::{none_of, parse_token, sees, sees_any};
+use crate::declaration::TYPE_DECL_FIRST;
+use crate::error::{Error, ParseResult};
+use crate::lookahead::Lookahead;
+use crate::parse::{Parse, Peek, parse_optional};
+use crate::text::doc_comments;
+use std::alloc::Global;
+use wac_parser_lexer::{Lexer, Token};
+use wac_parser_tree::{
+    Document, ExportStatement, ImportStatement, InterfaceDecl, LetStatement, PackageDirective,
+    PackageName, Statement, TypeDecl, TypeStatement, WorldDecl,
+};
+
+/// The tokens with which a declaration begins.
+const TYPE_STATEMENT_FIRST: [Token; 7] = [
+    Token::InterfaceKeyword,
+    Token::WorldKeyword,
+    Token::VariantKeyword,
+    Token::RecordKeyword,
+    Token::FlagsKeyword,
+    Token::EnumKeyword,
+    Token::TypeKeyword,
+];
+
+/// The tokens with which a statement begins.
+const STATEMENT_FIRST: [Token; 10] = [
+    Token::ImportKeyword,
+    Token::LetKeyword,
+    Token::ExportKeyword,
+    Token::InterfaceKeyword,
+    Token::WorldKeyword,
+    Token::VariantKeyword,
+    Token::RecordKeyword,
+    Token::FlagsKeyword,
+    Token::EnumKeyword,
+    Token::TypeKeyword,
+];
+
+impl<'a> Peek for TypeStatement<'a> {
+    ghost first = { grammar.type_statement_first };
+
+    fn peek(lookahead: &mut Lookahead) -> bool
+        ensures { ahead.Tries (grammar.type_statement_first) lookahead.old result lookahead.new }
+    {
+        lookahead.peek_any(&TYPE_STATEMENT_FIRST)
+    }
+}
+
+impl<'a> Parse<'a> for TypeStatement<'a> {
+    ghost Plain = { t.TypeStatement };
+
+    ghost view = { view_type_statement };
+
+    ghost rule = { grammar.type_statement };
+
+    #[tactic(auto, using(crate::proofs::Behind::stays, crate::proofs::Behind::passes, crate::proofs::Behind::goes_further), unfolding(crate::specs::Documents::type_statement))]
+    fn parse(alloc: Global, lexer: &mut Lexer<'a>) -> ParseResult<TypeStatement<'a>> {
+        if sees(lexer, Token::InterfaceKeyword) {
+            return Ok(TypeStatement::Interface(InterfaceDecl::parse(alloc, lexer)?));
+        }
+        if sees(lexer, Token::WorldKeyword) {
+            return Ok(TypeStatement::World(WorldDecl::parse(alloc, lexer)?));
+        }
+        if sees_any(lexer, &TYPE_DECL_FIRST) {
+            return Ok(TypeStatement::Ty(TypeDecl::parse(alloc, lexer)?));
+        }
+        Err(none_of(lexer, &TYPE_STATEMENT_FIRST))
+    }
+}
+
+impl<'a> Peek for Statement<'a> {
+    ghost first = { grammar.statement_first };
+
+    fn peek(lookahead: &mut Lookahead) -> bool
+        ensures { ahead.Tries (grammar.statement_first) lookahead.old result lookahead.new }
+    {
+        lookahead.peek_any(&STATEMENT_FIRST)
+    }
+}
+
+impl<'a> Parse<'a> for Statement<'a> {
+    ghost Plain = { t.Statement };
+
+    ghost view = { view_statement };
+
+    ghost rule = { grammar.statement };
+
+    #[tactic(auto, using(crate::proofs::Behind::stays, crate::proofs::Behind::passes, crate::proofs::Behind::goes_further), unfolding(crate::specs::Documents::statement))]
+    fn parse(alloc: Global, lexer: &mut Lexer<'a>) -> ParseResult<Statement<'a>> {
+        if sees(lexer, Token::ImportKeyword) {
+            return Ok(Statement::Import(ImportStatement::parse(alloc, lexer)?));
+        }
+        if sees(lexer, Token::LetKeyword) {
+            return Ok(Statement::Let(LetStatement::parse(alloc, lexer)?));
+        }
+        if sees(lexer, Token::ExportKeyword) {
+            return Ok(Statement::Export(ExportStatement::parse(alloc, lexer)?));
+        }
+        if sees_any(lexer, &TYPE_STATEMENT_FIRST) {
+            return Ok(Statement::Ty(TypeStatement::parse(alloc, lexer)?));
+        }
+        Err(none_of(lexer, &STATEMENT_FIRST))
+    }
+}
+
+impl<'a> Peek for PackageDirective<'a> {
+    ghost first = { k.PackageKeyword ∷ [] };
+
+    fn peek(lookahead: &mut Lookahead) -> bool
+        ensures { ahead.Tries (k.PackageKeyword ∷ []) lookahead.old result lookahead.new }
+    {
+        lookahead.peek(Token::PackageKeyword)
+    }
+}
+
+impl<'a> Parse<'a> for PackageDirective<'a> {
+    ghost Plain = { t.PackageDirective };
+
+    ghost view = { view_package_directive };
+
+    ghost rule = { grammar.package_directive };
+
+    #[tactic(auto, using(crate::proofs::Behind::stays, crate::proofs::Behind::passes, crate::proofs::Behind::goes_further), unfolding(crate::specs::Documents::package_directive, crate::specs::Documents::targets))]
+    fn parse(alloc: Global, lexer: &mut Lexer<'a>) -> ParseResult<PackageDirective<'a>> {
+        parse_token(lexer, Token::PackageKeyword)?;
+        let package = PackageName::parse(alloc, lexer)?;
+        let targets = parse_optional(alloc, lexer, Token::TargetsKeyword)?;
+        parse_token(lexer, Token::Semicolon)?;
+        Ok(PackageDirective { package, targets })
+    }
+}
+
+/// The statements to the end.
+fn statements<'a>(alloc: Global, lexer: &mut Lexer<'a>) -> ParseResult<Vec<Statement<'a>>>
+    ensures value { Reads (view_all view_statement) (all_of grammar.statement) lexer.old result lexer.new }
+{
+    let mut statements = Vec::new(alloc);
+    'statements: while lexer.peek().is_some() {
+        statements.push(Statement::parse(alloc, lexer)?)?;
+    }
+    Ok(statements)
+}
+
+/// A whole document.
+#[tactic(auto, unfolding(crate::specs::Documents::document))]
+fn document<'a>(alloc: Global, lexer: &mut Lexer<'a>) -> ParseResult<Document<'a>>
+    ensures value { Reads view_document grammar.document lexer.old result lexer.new }
+{
+    let docs = doc_comments(alloc, lexer)?;
+    let directive = PackageDirective::parse(alloc, lexer)?;
+    let statements = statements(alloc, lexer)?;
+    Ok(Document {
+        docs,
+        directive,
+        statements,
+    })
+}
+
+/// The parse of a whole source.
+pub trait ParseDocument<'a>: Sized + Drop {
+    /// The document that a source spells.
+    ghost Plain: { Type 0 };
+
+    ghost view: { Self → Plain };
+
+    ghost rule: { Rule Plain };
+
+    /// Parses a source.
+    fn parse(alloc: Global, source: &'a str) -> ParseResult<Self>
+        ensures { ReadsSource view rule source.now result };
+}
+
+impl<'a> ParseDocument<'a> for Document<'a> {
+    ghost Plain = { t.Document };
+
+    ghost view = { view_document };
+
+    ghost rule = { grammar.document };
+
+    fn parse(alloc: Global, source: &'a str) -> ParseResult<Document<'a>> {
+        let mut lexer = Lexer::new(source)?;
+        document(alloc, &mut lexer)
+    }
+}

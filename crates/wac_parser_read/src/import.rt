@@ -1,0 +1,115 @@
+//! Imports.
+
+ghost use Rattle.std.specs.Prelude.{◌≡◌, ◌∷◌, [], ◌<◌, ◌≤◌, OnOk};
+ghost use Rattle.wac_parser_lexer.specs.declared.token.Token.TheVariants as k;
+ghost use Rattle.wac_parser_tree.specs.Trees as t;
+ghost use Rattle.wac_parser_tree.specs.Views.{view_extern_name, view_import_type, view_import_statement};
+ghost use Rattle.wac_parser_read.specs.Ahead as ahead;
+ghost use Rattle.wac_parser_read.specs.Expressions.{name_first};
+ghost use Rattle.wac_parser_read.specs.Documents as grammar;
+
+use crate::base::{none_of, parse_token, sees, sees_any};
+use crate::error::ParseResult;
+use crate::expr::NAME_FIRST;
+use crate::lookahead::Lookahead;
+use crate::parse::{Parse, Peek, parse_optional};
+use crate::text::{doc_comments, ident};
+use crate::value_type::FUNC_FIRST;
+use std::alloc::Global;
+use wac_parser_lexer::{Lexer, Token};
+use wac_parser_tree::{
+    ExternName, FuncType, Ident, ImportStatement, ImportType, InlineInterface, PackagePath, String,
+};
+
+/// The tokens with which the type of an import begins.
+const IMPORT_TYPE_FIRST: [Token; 5] = [
+    Token::AsyncKeyword,
+    Token::FuncKeyword,
+    Token::InterfaceKeyword,
+    Token::PackagePath,
+    Token::Ident,
+];
+
+impl<'a> Peek for ExternName<'a> {
+    ghost first = { name_first };
+
+    fn peek(lookahead: &mut Lookahead) -> bool
+        ensures { ahead.Tries (name_first) lookahead.old result lookahead.new }
+    {
+        lookahead.peek_any(&NAME_FIRST)
+    }
+}
+
+impl<'a> Parse<'a> for ExternName<'a> {
+    ghost Plain = { t.ExternName };
+
+    ghost view = { view_extern_name };
+
+    ghost rule = { grammar.extern_name };
+
+    #[tactic(auto, using(crate::proofs::Behind::stays, crate::proofs::Behind::passes, crate::proofs::Behind::goes_further), unfolding(crate::specs::Documents::extern_name))]
+    fn parse(alloc: Global, lexer: &mut Lexer<'a>) -> ParseResult<ExternName<'a>> {
+        if sees(lexer, Token::Ident) {
+            return Ok(ExternName::Ident(Ident::parse(alloc, lexer)?));
+        }
+        if sees(lexer, Token::String) {
+            return Ok(ExternName::String(String::parse(alloc, lexer)?));
+        }
+        Err(none_of(lexer, &NAME_FIRST))
+    }
+}
+
+impl<'a> Parse<'a> for ImportType<'a> {
+    ghost Plain = { t.ImportType };
+
+    ghost view = { view_import_type };
+
+    ghost rule = { grammar.import_type };
+
+    #[tactic(auto, using(crate::proofs::Behind::stays, crate::proofs::Behind::passes, crate::proofs::Behind::goes_further), unfolding(crate::specs::Documents::import_type))]
+    fn parse(alloc: Global, lexer: &mut Lexer<'a>) -> ParseResult<ImportType<'a>> {
+        if sees_any(lexer, &FUNC_FIRST) {
+            return Ok(ImportType::Func(FuncType::parse(alloc, lexer)?));
+        }
+        if sees(lexer, Token::InterfaceKeyword) {
+            return Ok(ImportType::Interface(InlineInterface::parse(alloc, lexer)?));
+        }
+        if sees(lexer, Token::PackagePath) {
+            return Ok(ImportType::Package(PackagePath::parse(alloc, lexer)?));
+        }
+        if sees(lexer, Token::Ident) {
+            return Ok(ImportType::Ident(Ident::parse(alloc, lexer)?));
+        }
+        Err(none_of(lexer, &IMPORT_TYPE_FIRST))
+    }
+}
+
+impl<'a> Peek for ImportStatement<'a> {
+    ghost first = { k.ImportKeyword ∷ [] };
+
+    fn peek(lookahead: &mut Lookahead) -> bool
+        ensures { ahead.Tries (k.ImportKeyword ∷ []) lookahead.old result lookahead.new }
+    {
+        lookahead.peek(Token::ImportKeyword)
+    }
+}
+
+impl<'a> Parse<'a> for ImportStatement<'a> {
+    ghost Plain = { t.ImportStatement };
+
+    ghost view = { view_import_statement };
+
+    ghost rule = { grammar.import_statement };
+
+    #[tactic(auto, using(crate::proofs::Behind::stays, crate::proofs::Behind::passes, crate::proofs::Behind::goes_further), unfolding(crate::specs::Documents::import_statement, crate::specs::Documents::import_name))]
+    fn parse(alloc: Global, lexer: &mut Lexer<'a>) -> ParseResult<ImportStatement<'a>> {
+        let docs = doc_comments(alloc, lexer)?;
+        parse_token(lexer, Token::ImportKeyword)?;
+        let id = ident(lexer)?;
+        let name = parse_optional(alloc, lexer, Token::AsKeyword)?;
+        parse_token(lexer, Token::Colon)?;
+        let ty = ImportType::parse(alloc, lexer)?;
+        parse_token(lexer, Token::Semicolon)?;
+        Ok(ImportStatement { docs, id, name, ty })
+    }
+}

@@ -1,0 +1,262 @@
+//! Interfaces.
+
+ghost use Rattle.wac_parser_read.specs.Places.{IsBehind};
+ghost use Rattle.std.specs.Prelude.{◌≡◌, ◌∷◌, [], ◌<◌, ◌≤◌, OnOk};
+ghost use Rattle.wac_parser_lexer.specs.declared.token.Token.TheVariants as k;
+ghost use Rattle.wac_parser_tree.specs.Trees as t;
+ghost use Rattle.wac_parser_tree.specs.Views.{view_use_path, view_use_item, view_use, view_interface_export, view_interface_item, view_interface_decl, view_inline_interface};
+ghost use Rattle.wac_parser_read.specs.Views.{view_all};
+ghost use Rattle.wac_parser_read.specs.Rules.{left};
+ghost use Rattle.wac_parser_read.specs.Reads.{Reads};
+ghost use Rattle.wac_parser_read.specs.Ahead as ahead;
+ghost use Rattle.wac_parser_read.specs.Worlds as grammar;
+
+use crate::base::{none_of, parse_token, sees, sees_any};
+use crate::declaration::ITEM_TYPE_DECL_FIRST;
+use crate::error::ParseResult;
+use crate::lookahead::Lookahead;
+use crate::parse::{Parse, Peek, parse_delimited, parse_optional};
+use crate::text::{doc_comments, ident};
+use std::alloc::Global;
+use wac_parser_lexer::{Lexer, Token};
+use wac_parser_tree::{
+    FuncTypeRef, Ident, InlineInterface, InterfaceDecl, InterfaceExport, InterfaceItem,
+    ItemTypeDecl, PackagePath, Use, UseItem, UsePath,
+};
+
+/// The tokens with which a path begins.
+pub(crate) const PATH_FIRST: [Token; 2] = [Token::PackagePath, Token::Ident];
+
+/// The tokens with which an item of an interface begins.
+const INTERFACE_ITEM_FIRST: [Token; 8] = [
+    Token::UseKeyword,
+    Token::Ident,
+    Token::ResourceKeyword,
+    Token::VariantKeyword,
+    Token::RecordKeyword,
+    Token::FlagsKeyword,
+    Token::EnumKeyword,
+    Token::TypeKeyword,
+];
+
+impl<'a> Peek for UsePath<'a> {
+    ghost first = { grammar.path_first };
+
+    fn peek(lookahead: &mut Lookahead) -> bool
+        ensures { ahead.Tries (grammar.path_first) lookahead.old result lookahead.new }
+    {
+        lookahead.peek_any(&PATH_FIRST)
+    }
+}
+
+impl<'a> Parse<'a> for UsePath<'a> {
+    ghost Plain = { t.UsePath };
+
+    ghost view = { view_use_path };
+
+    ghost rule = { grammar.use_path };
+
+    #[tactic(auto, using(crate::proofs::Behind::stays, crate::proofs::Behind::passes, crate::proofs::Behind::goes_further), unfolding(crate::specs::Worlds::use_path))]
+    fn parse(alloc: Global, lexer: &mut Lexer<'a>) -> ParseResult<UsePath<'a>> {
+        if sees(lexer, Token::PackagePath) {
+            return Ok(UsePath::Package(PackagePath::parse(alloc, lexer)?));
+        }
+        if sees(lexer, Token::Ident) {
+            return Ok(UsePath::Ident(Ident::parse(alloc, lexer)?));
+        }
+        Err(none_of(lexer, &PATH_FIRST))
+    }
+}
+
+impl<'a> Peek for UseItem<'a> {
+    ghost first = { k.Ident ∷ [] };
+
+    fn peek(lookahead: &mut Lookahead) -> bool
+        ensures { ahead.Tries (k.Ident ∷ []) lookahead.old result lookahead.new }
+    {
+        lookahead.peek(Token::Ident)
+    }
+}
+
+impl<'a> Parse<'a> for UseItem<'a> {
+    ghost Plain = { t.UseItem };
+
+    ghost view = { view_use_item };
+
+    ghost rule = { grammar.use_item };
+
+    #[tactic(auto, using(crate::proofs::Behind::stays, crate::proofs::Behind::passes, crate::proofs::Behind::goes_further), unfolding(crate::specs::Worlds::use_item, crate::specs::Worlds::use_as))]
+    fn parse(alloc: Global, lexer: &mut Lexer<'a>) -> ParseResult<UseItem<'a>> {
+        let id = ident(lexer)?;
+        let as_id = parse_optional(alloc, lexer, Token::AsKeyword)?;
+        Ok(UseItem { id, as_id })
+    }
+}
+
+/// The used types in braces.
+#[tactic(auto, using(crate::proofs::Behind::stays, crate::proofs::Behind::passes, crate::proofs::Behind::goes_further), unfolding(crate::specs::Worlds::use_items))]
+fn use_items<'a>(alloc: Global, lexer: &mut Lexer<'a>) -> ParseResult<Vec<UseItem<'a>>>
+    ensures value { Reads (view_all view_use_item) grammar.use_items lexer.old result lexer.new }
+    ensures takes { OnOk result (left lexer.new < left lexer.old) }
+    ensures goes_on { IsBehind lexer.new lexer.old }
+{
+    parse_token(lexer, Token::OpenBrace)?;
+    let items = parse_delimited(alloc, lexer, Token::CloseBrace, true)?;
+    parse_token(lexer, Token::CloseBrace)?;
+    Ok(items)
+}
+
+impl<'a> Peek for Use<'a> {
+    ghost first = { k.UseKeyword ∷ [] };
+
+    fn peek(lookahead: &mut Lookahead) -> bool
+        ensures { ahead.Tries (k.UseKeyword ∷ []) lookahead.old result lookahead.new }
+    {
+        lookahead.peek(Token::UseKeyword)
+    }
+}
+
+impl<'a> Parse<'a> for Use<'a> {
+    ghost Plain = { t.Use };
+
+    ghost view = { view_use };
+
+    ghost rule = { grammar.use_types };
+
+    #[tactic(auto, using(crate::proofs::Behind::stays, crate::proofs::Behind::passes, crate::proofs::Behind::goes_further), unfolding(crate::specs::Worlds::use_types))]
+    fn parse(alloc: Global, lexer: &mut Lexer<'a>) -> ParseResult<Use<'a>> {
+        let docs = doc_comments(alloc, lexer)?;
+        parse_token(lexer, Token::UseKeyword)?;
+        let path = UsePath::parse(alloc, lexer)?;
+        parse_token(lexer, Token::Dot)?;
+        let items = use_items(alloc, lexer)?;
+        parse_token(lexer, Token::Semicolon)?;
+        Ok(Use { docs, path, items })
+    }
+}
+
+impl<'a> Peek for InterfaceExport<'a> {
+    ghost first = { k.Ident ∷ [] };
+
+    fn peek(lookahead: &mut Lookahead) -> bool
+        ensures { ahead.Tries (k.Ident ∷ []) lookahead.old result lookahead.new }
+    {
+        lookahead.peek(Token::Ident)
+    }
+}
+
+impl<'a> Parse<'a> for InterfaceExport<'a> {
+    ghost Plain = { t.InterfaceExport };
+
+    ghost view = { view_interface_export };
+
+    ghost rule = { grammar.interface_export };
+
+    #[tactic(auto, using(crate::proofs::Behind::stays, crate::proofs::Behind::passes, crate::proofs::Behind::goes_further), unfolding(crate::specs::Worlds::interface_export))]
+    fn parse(alloc: Global, lexer: &mut Lexer<'a>) -> ParseResult<InterfaceExport<'a>> {
+        let docs = doc_comments(alloc, lexer)?;
+        let id = ident(lexer)?;
+        parse_token(lexer, Token::Colon)?;
+        let ty = FuncTypeRef::parse(alloc, lexer)?;
+        parse_token(lexer, Token::Semicolon)?;
+        Ok(InterfaceExport { docs, id, ty })
+    }
+}
+
+impl<'a> Peek for InterfaceItem<'a> {
+    ghost first = { grammar.interface_item_first };
+
+    fn peek(lookahead: &mut Lookahead) -> bool
+        ensures { ahead.Tries (grammar.interface_item_first) lookahead.old result lookahead.new }
+    {
+        lookahead.peek_any(&INTERFACE_ITEM_FIRST)
+    }
+}
+
+impl<'a> Parse<'a> for InterfaceItem<'a> {
+    ghost Plain = { t.InterfaceItem };
+
+    ghost view = { view_interface_item };
+
+    ghost rule = { grammar.interface_item };
+
+    #[tactic(auto, using(crate::proofs::Behind::stays, crate::proofs::Behind::passes, crate::proofs::Behind::goes_further), unfolding(crate::specs::Worlds::interface_item))]
+    fn parse(alloc: Global, lexer: &mut Lexer<'a>) -> ParseResult<InterfaceItem<'a>> {
+        if sees(lexer, Token::UseKeyword) {
+            let types = Use::parse(alloc, lexer)?;
+            return Ok(InterfaceItem::Use(Box::new(alloc, types)?));
+        }
+        if sees(lexer, Token::Ident) {
+            return Ok(InterfaceItem::Export(InterfaceExport::parse(alloc, lexer)?));
+        }
+        if sees_any(lexer, &ITEM_TYPE_DECL_FIRST) {
+            return Ok(InterfaceItem::Ty(ItemTypeDecl::parse(alloc, lexer)?));
+        }
+        Err(none_of(lexer, &INTERFACE_ITEM_FIRST))
+    }
+}
+
+/// The items of an interface in braces.
+#[tactic(auto, using(crate::proofs::Behind::stays, crate::proofs::Behind::passes, crate::proofs::Behind::goes_further), unfolding(crate::specs::Worlds::interface_items))]
+fn interface_items<'a>(alloc: Global, lexer: &mut Lexer<'a>) -> ParseResult<Vec<InterfaceItem<'a>>>
+    ensures value { Reads (view_all view_interface_item) grammar.interface_items lexer.old result lexer.new }
+    ensures takes { OnOk result (left lexer.new < left lexer.old) }
+    ensures goes_on { IsBehind lexer.new lexer.old }
+{
+    parse_token(lexer, Token::OpenBrace)?;
+    let items = parse_delimited(alloc, lexer, Token::CloseBrace, false)?;
+    parse_token(lexer, Token::CloseBrace)?;
+    Ok(items)
+}
+
+impl<'a> Peek for InterfaceDecl<'a> {
+    ghost first = { k.InterfaceKeyword ∷ [] };
+
+    fn peek(lookahead: &mut Lookahead) -> bool
+        ensures { ahead.Tries (k.InterfaceKeyword ∷ []) lookahead.old result lookahead.new }
+    {
+        lookahead.peek(Token::InterfaceKeyword)
+    }
+}
+
+impl<'a> Parse<'a> for InterfaceDecl<'a> {
+    ghost Plain = { t.InterfaceDecl };
+
+    ghost view = { view_interface_decl };
+
+    ghost rule = { grammar.interface_decl };
+
+    #[tactic(auto, using(crate::proofs::Behind::stays, crate::proofs::Behind::passes, crate::proofs::Behind::goes_further), unfolding(crate::specs::Worlds::interface_decl))]
+    fn parse(alloc: Global, lexer: &mut Lexer<'a>) -> ParseResult<InterfaceDecl<'a>> {
+        let docs = doc_comments(alloc, lexer)?;
+        parse_token(lexer, Token::InterfaceKeyword)?;
+        let id = ident(lexer)?;
+        let items = interface_items(alloc, lexer)?;
+        Ok(InterfaceDecl { docs, id, items })
+    }
+}
+
+impl<'a> Peek for InlineInterface<'a> {
+    ghost first = { k.InterfaceKeyword ∷ [] };
+
+    fn peek(lookahead: &mut Lookahead) -> bool
+        ensures { ahead.Tries (k.InterfaceKeyword ∷ []) lookahead.old result lookahead.new }
+    {
+        lookahead.peek(Token::InterfaceKeyword)
+    }
+}
+
+impl<'a> Parse<'a> for InlineInterface<'a> {
+    ghost Plain = { t.InlineInterface };
+
+    ghost view = { view_inline_interface };
+
+    ghost rule = { grammar.inline_interface };
+
+    #[tactic(auto, using(crate::proofs::Behind::stays, crate::proofs::Behind::passes, crate::proofs::Behind::goes_further), unfolding(crate::specs::Worlds::inline_interface))]
+    fn parse(alloc: Global, lexer: &mut Lexer<'a>) -> ParseResult<InlineInterface<'a>> {
+        parse_token(lexer, Token::InterfaceKeyword)?;
+        let items = interface_items(alloc, lexer)?;
+        Ok(InlineInterface { items })
+    }
+}

@@ -1,0 +1,48 @@
+//! Names for expressions.
+
+ghost use Rattle.std.specs.Prelude.{◌≡◌, ◌∷◌, [], ◌<◌, ◌≤◌, OnOk};
+ghost use Rattle.wac_parser_lexer.specs.declared.token.Token.TheVariants as k;
+ghost use Rattle.wac_parser_tree.specs.Trees as t;
+ghost use Rattle.wac_parser_tree.specs.Views.{view_let_statement};
+ghost use Rattle.wac_parser_read.specs.Rules.{left};
+ghost use Rattle.wac_parser_read.specs.Reads.{Reads};
+ghost use Rattle.wac_parser_read.specs.Ahead as ahead;
+ghost use Rattle.wac_parser_read.specs.Documents as grammar;
+
+use crate::base::parse_token;
+use crate::error::ParseResult;
+use crate::lookahead::Lookahead;
+use crate::parse::{Parse, Peek};
+use crate::text::{doc_comments, ident};
+use std::alloc::Global;
+use wac_parser_lexer::{Lexer, Token};
+use wac_parser_tree::{Expr, LetStatement};
+
+impl<'a> Peek for LetStatement<'a> {
+    ghost first = { k.LetKeyword ∷ [] };
+
+    fn peek(lookahead: &mut Lookahead) -> bool
+        ensures { ahead.Tries (k.LetKeyword ∷ []) lookahead.old result lookahead.new }
+    {
+        lookahead.peek(Token::LetKeyword)
+    }
+}
+
+impl<'a> Parse<'a> for LetStatement<'a> {
+    ghost Plain = { t.LetStatement };
+
+    ghost view = { view_let_statement };
+
+    ghost rule = { grammar.let_statement };
+
+    #[tactic(auto, using(crate::proofs::Behind::stays, crate::proofs::Behind::passes, crate::proofs::Behind::goes_further), unfolding(crate::specs::Documents::let_statement))]
+    fn parse(alloc: Global, lexer: &mut Lexer<'a>) -> ParseResult<LetStatement<'a>> {
+        let docs = doc_comments(alloc, lexer)?;
+        parse_token(lexer, Token::LetKeyword)?;
+        let id = ident(lexer)?;
+        parse_token(lexer, Token::Equals)?;
+        let expr = Expr::parse(alloc, lexer)?;
+        parse_token(lexer, Token::Semicolon)?;
+        Ok(LetStatement { docs, id, expr })
+    }
+}

@@ -1,0 +1,119 @@
+//! Names, strings and doc comments.
+
+ghost use Rattle.wac_parser_read.specs.Places.{IsBehind};
+ghost use Rattle.std.specs.Prelude.{◌≡◌, ◌∷◌, [], ◌<◌, ◌≤◌, ◌+◌, ◌^◌, true, false, map, IfOk, OnOk};
+ghost use Rattle.wac_parser_lexer.specs.Items.{docs_ahead};
+ghost use Rattle.wac_parser_lexer.specs.declared.token.Token.TheVariants as k;
+ghost use Rattle.wac_parser_tree.specs.Trees as t;
+ghost use Rattle.wac_parser_tree.specs.Views.{view_ident, view_string, view_doc_comment};
+ghost use Rattle.wac_parser_read.specs.Rules.{left};
+ghost use Rattle.wac_parser_read.specs.Reads.{Reads};
+ghost use Rattle.wac_parser_read.specs.Names as grammar;
+ghost use Rattle.wac_parser_read.specs.Ahead as ahead;
+
+use crate::base::parse_token;
+use crate::error::ParseResult;
+use crate::lookahead::Lookahead;
+use crate::parse::{Parse, Peek};
+use std::alloc::Global;
+use wac_parser_lexer::{Lexer, Token};
+use wac_parser_tree::{DocComment, Ident, String};
+
+/// The doc comments before the next item, or before the end.
+#[tactic(auto, unfolding(crate::specs::Names::docs))]
+pub(crate) fn doc_comments<'a>(alloc: Global, lexer: &Lexer<'a>) -> ParseResult<Vec<DocComment<'a>>>
+    ensures { Reads (λ v. map view_doc_comment v.items) grammar.docs lexer.now result lexer.now }
+{
+    let comments = lexer.comments(alloc)?;
+    let mut docs = Vec::new(alloc);
+    for c in &comments {
+        docs.push(DocComment {
+            comment: c.0,
+            span: c.1,
+        })?;
+    }
+    Ok(docs)
+}
+
+fn strip_percent(text: &str) -> &str
+    ensures { result.now ≡ grammar.strip_percent text.now }
+{
+    text.strip_prefix("%").unwrap_or(text)
+}
+
+fn strip_open(text: &str) -> &str
+    ensures { result.now ≡ grammar.strip_open text.now }
+{
+    text.strip_prefix("\"").unwrap_or(text)
+}
+
+fn strip_close(text: &str) -> &str
+    ensures { result.now ≡ grammar.strip_close text.now }
+{
+    text.strip_suffix("\"").unwrap_or(text)
+}
+
+impl<'a> Peek for Ident<'a> {
+    ghost first = { k.Ident ∷ [] };
+
+    fn peek(lookahead: &mut Lookahead) -> bool
+        ensures { ahead.Tries (k.Ident ∷ []) lookahead.old result lookahead.new }
+    {
+        lookahead.peek(Token::Ident)
+    }
+}
+
+/// An identifier, whose span lies in the source.
+#[tactic(auto, using(crate::proofs::Behind::stays, crate::proofs::Behind::passes, crate::proofs::Behind::goes_further), unfolding(crate::specs::Names::ident))]
+pub(crate) fn ident<'a>(lexer: &mut Lexer<'a>) -> ParseResult<Ident<'a>>
+    ensures value { Reads view_ident grammar.ident lexer.old result lexer.new }
+    ensures small { IfOk result (λ id. id.span.offset + id.span.length < 2 ^ 64) }
+    ensures takes { OnOk result (left lexer.new < left lexer.old) }
+    ensures goes_on { IsBehind lexer.new lexer.old }
+{
+    let span = parse_token(lexer, Token::Ident)?;
+    Ok(Ident {
+        string: strip_percent(lexer.source(span)),
+        span,
+    })
+}
+
+impl<'a> Parse<'a> for Ident<'a> {
+    ghost Plain = { t.Ident };
+
+    ghost view = { view_ident };
+
+    ghost rule = { grammar.ident };
+
+    #[tactic(auto, using(crate::proofs::Behind::stays, crate::proofs::Behind::passes, crate::proofs::Behind::goes_further))]
+    fn parse(_alloc: Global, lexer: &mut Lexer<'a>) -> ParseResult<Ident<'a>> {
+        ident(lexer)
+    }
+}
+
+impl<'a> Peek for String<'a> {
+    ghost first = { k.String ∷ [] };
+
+    fn peek(lookahead: &mut Lookahead) -> bool
+        ensures { ahead.Tries (k.String ∷ []) lookahead.old result lookahead.new }
+    {
+        lookahead.peek(Token::String)
+    }
+}
+
+impl<'a> Parse<'a> for String<'a> {
+    ghost Plain = { t.StringLiteral };
+
+    ghost view = { view_string };
+
+    ghost rule = { grammar.string };
+
+    #[tactic(auto, using(crate::proofs::Behind::stays, crate::proofs::Behind::passes, crate::proofs::Behind::goes_further), unfolding(crate::specs::Names::string))]
+    fn parse(_alloc: Global, lexer: &mut Lexer<'a>) -> ParseResult<String<'a>> {
+        let span = parse_token(lexer, Token::String)?;
+        Ok(String {
+            value: strip_close(strip_open(lexer.source(span))),
+            span,
+        })
+    }
+}

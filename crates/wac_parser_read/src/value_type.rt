@@ -1,0 +1,576 @@
+//! Types of values and of functions.
+
+ghost use Rattle.wac_parser_read.specs.Places.{IsBehind};
+ghost use Rattle.std.specs.Prelude.{◌≡◌, ◌∷◌, [], ◌+◌, ◌<◌, ◌≤◌, ◌^◌, true, map, Option, OnOk, OnSome};
+ghost use Rattle.std.specs.Option.{option_map};
+ghost use Rattle.wac_parser_lexer.specs.declared.token.Token.TheVariants as k;
+ghost use Rattle.wac_parser_lexer.specs.declared.span.SourceSpan.{SourceSpan};
+ghost use Rattle.wac_parser_tree.specs.Trees as t;
+ghost use Rattle.wac_parser_tree.specs.Views.{view_ty, view_boxed_ty, view_named_type, view_result_list, view_func_type, view_func_type_ref};
+ghost use Rattle.wac_parser_read.specs.Views.{view_all, view_maybe, view_payload};
+ghost use Rattle.wac_parser_lexer.specs.Items.{rest_input};
+ghost use Rattle.wac_parser_read.specs.Rules.{left, list_of, span_of_items};
+ghost use Rattle.wac_parser_read.specs.Reads.{Reads};
+ghost use Rattle.wac_parser_read.specs.Ahead as ahead;
+ghost use Rattle.wac_parser_read.specs.ValueTypes as grammar;
+
+use crate::base::{behind, next_span, none_of, optional, parse_token, sees, sees_any, too_deep};
+use crate::error::{Error, ParseResult};
+use crate::lookahead::Lookahead;
+use crate::parse::{Parse, Peek, expect_value, parse_delimited};
+use std::alloc::Global;
+use wac_parser_lexer::{Lexer, SourceSpan, Token};
+use wac_parser_tree::{FuncType, FuncTypeRef, Ident, NamedType, ResultList, Type};
+
+/// How deep types and expressions may be nested.
+pub const MAX_LEVELS: usize = 128;
+
+/// The tokens with which a type begins.
+pub(crate) const TYPE_FIRST: [Token; 22] = [
+    Token::U8Keyword,
+    Token::S8Keyword,
+    Token::U16Keyword,
+    Token::S16Keyword,
+    Token::U32Keyword,
+    Token::S32Keyword,
+    Token::U64Keyword,
+    Token::S64Keyword,
+    Token::F32Keyword,
+    Token::F64Keyword,
+    Token::CharKeyword,
+    Token::BoolKeyword,
+    Token::StringKeyword,
+    Token::TupleKeyword,
+    Token::ListKeyword,
+    Token::OptionKeyword,
+    Token::ResultKeyword,
+    Token::BorrowKeyword,
+    Token::StreamKeyword,
+    Token::FutureKeyword,
+    Token::ErrorContextKeyword,
+    Token::Ident,
+];
+
+/// `_`, and the tokens with which a type begins.
+const OMITTED_FIRST: [Token; 23] = [
+    Token::Underscore,
+    Token::U8Keyword,
+    Token::S8Keyword,
+    Token::U16Keyword,
+    Token::S16Keyword,
+    Token::U32Keyword,
+    Token::S32Keyword,
+    Token::U64Keyword,
+    Token::S64Keyword,
+    Token::F32Keyword,
+    Token::F64Keyword,
+    Token::CharKeyword,
+    Token::BoolKeyword,
+    Token::StringKeyword,
+    Token::TupleKeyword,
+    Token::ListKeyword,
+    Token::OptionKeyword,
+    Token::ResultKeyword,
+    Token::BorrowKeyword,
+    Token::StreamKeyword,
+    Token::FutureKeyword,
+    Token::ErrorContextKeyword,
+    Token::Ident,
+];
+
+/// The tokens with which what an alias names begins.
+pub(crate) const ALIAS_FIRST: [Token; 24] = [
+    Token::AsyncKeyword,
+    Token::FuncKeyword,
+    Token::U8Keyword,
+    Token::S8Keyword,
+    Token::U16Keyword,
+    Token::S16Keyword,
+    Token::U32Keyword,
+    Token::S32Keyword,
+    Token::U64Keyword,
+    Token::S64Keyword,
+    Token::F32Keyword,
+    Token::F64Keyword,
+    Token::CharKeyword,
+    Token::BoolKeyword,
+    Token::StringKeyword,
+    Token::TupleKeyword,
+    Token::ListKeyword,
+    Token::OptionKeyword,
+    Token::ResultKeyword,
+    Token::BorrowKeyword,
+    Token::StreamKeyword,
+    Token::FutureKeyword,
+    Token::ErrorContextKeyword,
+    Token::Ident,
+];
+
+/// The tokens with which a function type begins.
+pub(crate) const FUNC_FIRST: [Token; 2] = [Token::AsyncKeyword, Token::FuncKeyword];
+
+/// From the start of one span to the end of another.
+pub(crate) fn through(a: SourceSpan, b: SourceSpan) -> SourceSpan
+    requires { b.offset + b.length < 2 ^ 64 }
+    ensures { result ≡ grammar.through a b }
+{
+    SourceSpan {
+        offset: a.offset,
+        length: (b.offset + b.length).saturating_sub(a.offset),
+    }
+}
+
+/// The type that a keyword is by itself.
+fn keyword_type<'a>(token: Token, span: SourceSpan) -> Option<Type<'a>>
+    ensures { option_map view_ty result ≡ option_map (λ make. make span) (grammar.keyword_type token) }
+{
+    match token {
+        Token::U8Keyword => Some(Type::U8(span)),
+        Token::S8Keyword => Some(Type::S8(span)),
+        Token::U16Keyword => Some(Type::U16(span)),
+        Token::S16Keyword => Some(Type::S16(span)),
+        Token::U32Keyword => Some(Type::U32(span)),
+        Token::S32Keyword => Some(Type::S32(span)),
+        Token::U64Keyword => Some(Type::U64(span)),
+        Token::S64Keyword => Some(Type::S64(span)),
+        Token::F32Keyword => Some(Type::F32(span)),
+        Token::F64Keyword => Some(Type::F64(span)),
+        Token::CharKeyword => Some(Type::Char(span)),
+        Token::BoolKeyword => Some(Type::Bool(span)),
+        Token::StringKeyword => Some(Type::String(span)),
+        Token::ErrorContextKeyword => Some(Type::ErrorContext(span)),
+        _ => None,
+    }
+}
+
+/// Takes the next item where it is a type by itself.
+#[tactic(auto, using(crate::proofs::Behind::stays, crate::proofs::Behind::passes, crate::proofs::Behind::goes_further))]
+fn next_keyword_type<'a>(lexer: &mut Lexer<'a>) -> Option<Type<'a>>
+    ensures value { grammar.TakesKeyword (option_map view_ty result) lexer.old lexer.new }
+    ensures takes { OnSome result (left lexer.new < left lexer.old) }
+    ensures goes_on { IsBehind lexer.new lexer.old }
+{
+    match lexer.peek() {
+        Some((Ok(token), span)) => {
+            let ty = keyword_type(token, span)?;
+            lexer.next();
+            Some(ty)
+        }
+        _ => None,
+    }
+}
+
+/// A type nested no deeper than so many levels.
+#[cycle(ty)]
+#[tactic(auto, using(crate::proofs::Behind::stays, crate::proofs::Behind::passes, crate::proofs::Behind::goes_further))]
+pub(crate) fn ty_within<'a>(
+    alloc: Global,
+    lexer: &mut Lexer<'a>,
+    levels: usize,
+) -> ParseResult<Type<'a>>
+    ensures value { Reads view_ty (grammar.ty levels) lexer.old result lexer.new }
+    ensures takes { OnOk result (left lexer.new < left lexer.old) }
+    ensures goes_on { IsBehind lexer.new lexer.old }
+{
+    if levels == 0 {
+        return Err(too_deep(lexer, &TYPE_FIRST));
+    }
+    ty_level(alloc, lexer, levels - 1)
+}
+
+#[cycle(ty)]
+#[tactic(auto, using(crate::proofs::Behind::stays, crate::proofs::Behind::passes, crate::proofs::Behind::goes_further))]
+fn ty_level<'a>(alloc: Global, lexer: &mut Lexer<'a>, inside: usize) -> ParseResult<Type<'a>>
+    ensures value { Reads view_ty (grammar.ty_level (grammar.ty inside)) lexer.old result lexer.new }
+    ensures takes { OnOk result (left lexer.new < left lexer.old) }
+    ensures goes_on { IsBehind lexer.new lexer.old }
+{
+    match next_keyword_type(lexer) {
+        Some(ty) => Ok(ty),
+        None => composed_ty(alloc, lexer, inside),
+    }
+}
+
+#[cycle(ty)]
+#[tactic(auto, using(crate::proofs::Behind::stays, crate::proofs::Behind::passes, crate::proofs::Behind::goes_further), unfolding(crate::specs::ValueTypes::composed_ty))]
+fn composed_ty<'a>(alloc: Global, lexer: &mut Lexer<'a>, inside: usize) -> ParseResult<Type<'a>>
+    ensures value { Reads view_ty (grammar.composed_ty (grammar.ty inside)) lexer.old result lexer.new }
+    ensures takes { OnOk result (left lexer.new < left lexer.old) }
+    ensures goes_on { IsBehind lexer.new lexer.old }
+{
+    if sees(lexer, Token::TupleKeyword) {
+        tuple_ty(alloc, lexer, inside)
+    } else if sees(lexer, Token::ListKeyword) {
+        list_ty(alloc, lexer, inside)
+    } else if sees(lexer, Token::OptionKeyword) {
+        option_ty(alloc, lexer, inside)
+    } else if sees(lexer, Token::ResultKeyword) {
+        result_ty(alloc, lexer, inside)
+    } else if sees(lexer, Token::BorrowKeyword) {
+        borrow_ty(alloc, lexer)
+    } else if sees(lexer, Token::StreamKeyword) {
+        stream_ty(alloc, lexer, inside)
+    } else if sees(lexer, Token::FutureKeyword) {
+        future_ty(alloc, lexer, inside)
+    } else if sees(lexer, Token::Ident) {
+        Ok(Type::Ident(Ident::parse(alloc, lexer)?))
+    } else {
+        Err(none_of(lexer, &TYPE_FIRST))
+    }
+}
+
+#[cycle(ty)]
+#[tactic(auto, using(crate::proofs::Behind::stays, crate::proofs::Behind::passes, crate::proofs::Behind::goes_further), unfolding(crate::specs::ValueTypes::tuple_ty))]
+fn tuple_ty<'a>(alloc: Global, lexer: &mut Lexer<'a>, inside: usize) -> ParseResult<Type<'a>>
+    ensures value { Reads view_ty (grammar.tuple_ty (grammar.ty inside)) lexer.old result lexer.new }
+    ensures takes { OnOk result (left lexer.new < left lexer.old) }
+    ensures goes_on { IsBehind lexer.new lexer.old }
+{
+    let start = parse_token(lexer, Token::TupleKeyword)?;
+    parse_token(lexer, Token::OpenAngle)?;
+    if !sees_any(lexer, &TYPE_FIRST) {
+        return Err(none_of(lexer, &TYPE_FIRST));
+    }
+    let types = types(alloc, lexer, inside)?;
+    let close = parse_token(lexer, Token::CloseAngle)?;
+    Ok(Type::Tuple(types, through(start, close)))
+}
+
+/// The types up to a closing angle.
+#[cycle(ty)]
+#[tactic(auto, using(crate::proofs::Behind::stays, crate::proofs::Behind::passes, crate::proofs::Behind::goes_further))]
+fn types<'a>(alloc: Global, lexer: &mut Lexer<'a>, inside: usize) -> ParseResult<Vec<Type<'a>>>
+    ensures value { Reads (view_all view_ty) (list_of (grammar.ty inside) grammar.type_first k.CloseAngle true) lexer.old result lexer.new }
+    ensures keeps { OnOk result (left lexer.new ≤ left lexer.old) }
+    ensures goes_on { IsBehind lexer.new lexer.old }
+{
+    let mut types = Vec::new(alloc);
+    'types: while !sees(lexer, Token::CloseAngle) {
+        expect_value::<Type<'_>>(lexer, Token::CloseAngle)?;
+        types.push(ty_within(alloc, lexer, inside)?)?;
+        behind(lexer, Token::CloseAngle, true)?;
+    }
+    Ok(types)
+}
+
+#[cycle(ty)]
+#[tactic(auto, using(crate::proofs::Behind::stays, crate::proofs::Behind::passes, crate::proofs::Behind::goes_further), unfolding(crate::specs::ValueTypes::list_ty))]
+fn list_ty<'a>(alloc: Global, lexer: &mut Lexer<'a>, inside: usize) -> ParseResult<Type<'a>>
+    ensures value { Reads view_ty (grammar.list_ty (grammar.ty inside)) lexer.old result lexer.new }
+    ensures takes { OnOk result (left lexer.new < left lexer.old) }
+    ensures goes_on { IsBehind lexer.new lexer.old }
+{
+    let start = parse_token(lexer, Token::ListKeyword)?;
+    parse_token(lexer, Token::OpenAngle)?;
+    let ty = ty_within(alloc, lexer, inside)?;
+    let close = parse_token(lexer, Token::CloseAngle)?;
+    Ok(Type::List(Box::new(alloc, ty)?, through(start, close)))
+}
+
+#[cycle(ty)]
+#[tactic(auto, using(crate::proofs::Behind::stays, crate::proofs::Behind::passes, crate::proofs::Behind::goes_further), unfolding(crate::specs::ValueTypes::option_ty))]
+fn option_ty<'a>(alloc: Global, lexer: &mut Lexer<'a>, inside: usize) -> ParseResult<Type<'a>>
+    ensures value { Reads view_ty (grammar.option_ty (grammar.ty inside)) lexer.old result lexer.new }
+    ensures takes { OnOk result (left lexer.new < left lexer.old) }
+    ensures goes_on { IsBehind lexer.new lexer.old }
+{
+    let start = parse_token(lexer, Token::OptionKeyword)?;
+    parse_token(lexer, Token::OpenAngle)?;
+    let ty = ty_within(alloc, lexer, inside)?;
+    let close = parse_token(lexer, Token::CloseAngle)?;
+    Ok(Type::Option(Box::new(alloc, ty)?, through(start, close)))
+}
+
+#[tactic(auto, using(crate::proofs::Behind::stays, crate::proofs::Behind::passes, crate::proofs::Behind::goes_further), unfolding(crate::specs::ValueTypes::borrow_ty))]
+fn borrow_ty<'a>(alloc: Global, lexer: &mut Lexer<'a>) -> ParseResult<Type<'a>>
+    ensures value { Reads view_ty grammar.borrow_ty lexer.old result lexer.new }
+    ensures takes { OnOk result (left lexer.new < left lexer.old) }
+    ensures goes_on { IsBehind lexer.new lexer.old }
+{
+    let start = parse_token(lexer, Token::BorrowKeyword)?;
+    parse_token(lexer, Token::OpenAngle)?;
+    let id = Ident::parse(alloc, lexer)?;
+    let close = parse_token(lexer, Token::CloseAngle)?;
+    Ok(Type::Borrow(id, through(start, close)))
+}
+
+/// A type in a box.
+#[cycle(ty)]
+#[tactic(auto, using(crate::proofs::Behind::stays, crate::proofs::Behind::passes, crate::proofs::Behind::goes_further))]
+fn boxed_ty<'a>(alloc: Global, lexer: &mut Lexer<'a>, inside: usize) -> ParseResult<Box<Type<'a>>>
+    ensures value { Reads view_boxed_ty (grammar.ty inside) lexer.old result lexer.new }
+    ensures takes { OnOk result (left lexer.new < left lexer.old) }
+    ensures goes_on { IsBehind lexer.new lexer.old }
+{
+    let ty = ty_within(alloc, lexer, inside)?;
+    Ok(Box::new(alloc, ty)?)
+}
+
+/// `_` or a type.
+#[cycle(ty)]
+#[tactic(auto, using(crate::proofs::Behind::stays, crate::proofs::Behind::passes, crate::proofs::Behind::goes_further), unfolding(crate::specs::ValueTypes::omitted_or))]
+fn omitted_or<'a>(
+    alloc: Global,
+    lexer: &mut Lexer<'a>,
+    inside: usize,
+) -> ParseResult<Option<Box<Type<'a>>>>
+    ensures value { Reads view_maybe (grammar.omitted_or (grammar.ty inside)) lexer.old result lexer.new }
+    ensures takes { OnOk result (left lexer.new < left lexer.old) }
+    ensures goes_on { IsBehind lexer.new lexer.old }
+{
+    if sees(lexer, Token::Underscore) {
+        parse_token(lexer, Token::Underscore)?;
+        return Ok(None);
+    }
+    if !sees_any(lexer, &TYPE_FIRST) {
+        return Err(none_of(lexer, &OMITTED_FIRST));
+    }
+    Ok(Some(boxed_ty(alloc, lexer, inside)?))
+}
+
+#[cycle(ty)]
+#[tactic(auto, using(crate::proofs::Behind::stays, crate::proofs::Behind::passes, crate::proofs::Behind::goes_further), unfolding(crate::specs::ValueTypes::second_part))]
+fn second_part<'a>(
+    alloc: Global,
+    lexer: &mut Lexer<'a>,
+    inside: usize,
+) -> ParseResult<Option<Box<Type<'a>>>>
+    ensures value { Reads view_maybe (grammar.second_part (grammar.ty inside)) lexer.old result lexer.new }
+    ensures keeps { OnOk result (left lexer.new ≤ left lexer.old) }
+    ensures goes_on { IsBehind lexer.new lexer.old }
+{
+    if optional(lexer, Token::Comma)? {
+        return omitted_or(alloc, lexer, inside);
+    }
+    Ok(None)
+}
+
+#[cycle(ty)]
+#[tactic(auto, using(crate::proofs::Behind::stays, crate::proofs::Behind::passes, crate::proofs::Behind::goes_further), unfolding(crate::specs::ValueTypes::result_ty, crate::specs::ValueTypes::result_parts))]
+fn result_ty<'a>(alloc: Global, lexer: &mut Lexer<'a>, inside: usize) -> ParseResult<Type<'a>>
+    ensures value { Reads view_ty (grammar.result_ty (grammar.ty inside)) lexer.old result lexer.new }
+    ensures takes { OnOk result (left lexer.new < left lexer.old) }
+    ensures goes_on { IsBehind lexer.new lexer.old }
+{
+    let start = parse_token(lexer, Token::ResultKeyword)?;
+    if !optional(lexer, Token::OpenAngle)? {
+        return Ok(Type::Result {
+            ok: None,
+            err: None,
+            span: start,
+        });
+    }
+    let ok = omitted_or(alloc, lexer, inside)?;
+    let err = second_part(alloc, lexer, inside)?;
+    let close = parse_token(lexer, Token::CloseAngle)?;
+    Ok(Type::Result {
+        ok,
+        err,
+        span: through(start, close),
+    })
+}
+
+/// What stands behind a keyword: nothing, or a type in angles; and the span of all.
+#[cycle(ty)]
+#[tactic(auto, using(crate::proofs::Behind::stays, crate::proofs::Behind::passes, crate::proofs::Behind::goes_further), unfolding(crate::specs::ValueTypes::payload))]
+fn payload<'a>(
+    alloc: Global,
+    lexer: &mut Lexer<'a>,
+    start: SourceSpan,
+    inside: usize,
+) -> ParseResult<(Option<Box<Type<'a>>>, SourceSpan)>
+    ensures value { Reads view_payload (grammar.payload (grammar.ty inside) start) lexer.old result lexer.new }
+    ensures keeps { OnOk result (left lexer.new ≤ left lexer.old) }
+    ensures goes_on { IsBehind lexer.new lexer.old }
+{
+    if !optional(lexer, Token::OpenAngle)? {
+        return Ok((None, start));
+    }
+    let ty = boxed_ty(alloc, lexer, inside)?;
+    let close = parse_token(lexer, Token::CloseAngle)?;
+    Ok((Some(ty), through(start, close)))
+}
+
+/// Takes the next item, a keyword, and what stands behind it: nothing, or a type in angles, which
+/// is given with the span of all.
+#[tactic(auto, using(crate::proofs::Behind::stays, crate::proofs::Behind::passes, crate::proofs::Behind::goes_further), unfolding(crate::specs::ValueTypes::value_type))]
+pub fn parse_optional_payload<'a>(
+    alloc: Global,
+    lexer: &mut Lexer<'a>,
+) -> ParseResult<(Option<Box<Type<'a>>>, SourceSpan)>
+    requires { 0 < left lexer.old }
+    ensures value { Reads view_payload (grammar.payload grammar.value_type (span_of_items lexer.old.items)) (rest_input lexer.old) result lexer.new }
+    ensures goes_on { IsBehind lexer.new lexer.old }
+{
+    let start = next_span(lexer);
+    lexer.next();
+    payload(alloc, lexer, start, MAX_LEVELS)
+}
+
+#[cycle(ty)]
+#[tactic(auto, using(crate::proofs::Behind::stays, crate::proofs::Behind::passes, crate::proofs::Behind::goes_further), unfolding(crate::specs::ValueTypes::stream_ty))]
+fn stream_ty<'a>(alloc: Global, lexer: &mut Lexer<'a>, inside: usize) -> ParseResult<Type<'a>>
+    ensures value { Reads view_ty (grammar.stream_ty (grammar.ty inside)) lexer.old result lexer.new }
+    ensures takes { OnOk result (left lexer.new < left lexer.old) }
+    ensures goes_on { IsBehind lexer.new lexer.old }
+{
+    let start = parse_token(lexer, Token::StreamKeyword)?;
+    let (ty, span) = payload(alloc, lexer, start, inside)?;
+    Ok(Type::Stream(ty, span))
+}
+
+#[cycle(ty)]
+#[tactic(auto, using(crate::proofs::Behind::stays, crate::proofs::Behind::passes, crate::proofs::Behind::goes_further), unfolding(crate::specs::ValueTypes::future_ty))]
+fn future_ty<'a>(alloc: Global, lexer: &mut Lexer<'a>, inside: usize) -> ParseResult<Type<'a>>
+    ensures value { Reads view_ty (grammar.future_ty (grammar.ty inside)) lexer.old result lexer.new }
+    ensures takes { OnOk result (left lexer.new < left lexer.old) }
+    ensures goes_on { IsBehind lexer.new lexer.old }
+{
+    let start = parse_token(lexer, Token::FutureKeyword)?;
+    let (ty, span) = payload(alloc, lexer, start, inside)?;
+    Ok(Type::Future(ty, span))
+}
+
+impl<'a> Peek for Type<'a> {
+    ghost first = { grammar.type_first };
+
+    fn peek(lookahead: &mut Lookahead) -> bool
+        ensures { ahead.Tries grammar.type_first lookahead.old result lookahead.new }
+    {
+        lookahead.peek_any(&TYPE_FIRST)
+    }
+}
+
+impl<'a> Parse<'a> for Type<'a> {
+    ghost Plain = { t.Ty };
+
+    ghost view = { view_ty };
+
+    ghost rule = { grammar.value_type };
+
+    #[tactic(auto, using(crate::proofs::Behind::stays, crate::proofs::Behind::passes, crate::proofs::Behind::goes_further), unfolding(crate::specs::ValueTypes::value_type))]
+    fn parse(alloc: Global, lexer: &mut Lexer<'a>) -> ParseResult<Type<'a>> {
+        ty_within(alloc, lexer, MAX_LEVELS)
+    }
+}
+
+impl<'a> Peek for NamedType<'a> {
+    ghost first = { k.Ident ∷ [] };
+
+    fn peek(lookahead: &mut Lookahead) -> bool
+        ensures { ahead.Tries (k.Ident ∷ []) lookahead.old result lookahead.new }
+    {
+        Ident::peek(lookahead)
+    }
+}
+
+impl<'a> Parse<'a> for NamedType<'a> {
+    ghost Plain = { t.NamedType };
+
+    ghost view = { view_named_type };
+
+    ghost rule = { grammar.named_type };
+
+    #[tactic(auto, using(crate::proofs::Behind::stays, crate::proofs::Behind::passes, crate::proofs::Behind::goes_further), unfolding(crate::specs::ValueTypes::named_type))]
+    fn parse(alloc: Global, lexer: &mut Lexer<'a>) -> ParseResult<NamedType<'a>> {
+        let id = Ident::parse(alloc, lexer)?;
+        parse_token(lexer, Token::Colon)?;
+        let ty = Type::parse(alloc, lexer)?;
+        Ok(NamedType { id, ty })
+    }
+}
+
+/// A type where one begins.
+#[tactic(auto, using(crate::proofs::Behind::stays, crate::proofs::Behind::passes, crate::proofs::Behind::goes_further), unfolding(crate::specs::ValueTypes::result_list))]
+fn result_list<'a>(alloc: Global, lexer: &mut Lexer<'a>) -> ParseResult<ResultList<'a>>
+    ensures value { Reads view_result_list grammar.result_list lexer.old result lexer.new }
+    ensures keeps { OnOk result (left lexer.new ≤ left lexer.old) }
+    ensures goes_on { IsBehind lexer.new lexer.old }
+{
+    if sees_any(lexer, &TYPE_FIRST) {
+        return Ok(ResultList::Scalar(Type::parse(alloc, lexer)?));
+    }
+    Ok(ResultList::Empty)
+}
+
+/// An arrow and a type, or nothing.
+#[tactic(auto, using(crate::proofs::Behind::stays, crate::proofs::Behind::passes, crate::proofs::Behind::goes_further), unfolding(crate::specs::ValueTypes::func_results))]
+fn func_results<'a>(alloc: Global, lexer: &mut Lexer<'a>) -> ParseResult<ResultList<'a>>
+    ensures value { Reads view_result_list grammar.func_results lexer.old result lexer.new }
+    ensures keeps { OnOk result (left lexer.new ≤ left lexer.old) }
+    ensures goes_on { IsBehind lexer.new lexer.old }
+{
+    if optional(lexer, Token::Arrow)? {
+        return result_list(alloc, lexer);
+    }
+    Ok(ResultList::Empty)
+}
+
+/// Parameters in parentheses.
+#[tactic(auto, using(crate::proofs::Behind::stays, crate::proofs::Behind::passes, crate::proofs::Behind::goes_further), unfolding(crate::specs::ValueTypes::func_params))]
+pub(crate) fn func_params<'a>(
+    alloc: Global,
+    lexer: &mut Lexer<'a>,
+) -> ParseResult<Vec<NamedType<'a>>>
+    ensures value { Reads (view_all view_named_type) grammar.func_params lexer.old result lexer.new }
+    ensures takes { OnOk result (left lexer.new < left lexer.old) }
+    ensures goes_on { IsBehind lexer.new lexer.old }
+{
+    parse_token(lexer, Token::OpenParen)?;
+    let params = parse_delimited(alloc, lexer, Token::CloseParen, true)?;
+    parse_token(lexer, Token::CloseParen)?;
+    Ok(params)
+}
+
+impl<'a> Peek for FuncType<'a> {
+    ghost first = { grammar.func_first };
+
+    fn peek(lookahead: &mut Lookahead) -> bool
+        ensures { ahead.Tries grammar.func_first lookahead.old result lookahead.new }
+    {
+        lookahead.peek_any(&FUNC_FIRST)
+    }
+}
+
+impl<'a> Parse<'a> for FuncType<'a> {
+    ghost Plain = { t.FuncType };
+
+    ghost view = { view_func_type };
+
+    ghost rule = { grammar.func_type };
+
+    #[tactic(auto, using(crate::proofs::Behind::stays, crate::proofs::Behind::passes, crate::proofs::Behind::goes_further), unfolding(crate::specs::ValueTypes::func_type))]
+    fn parse(alloc: Global, lexer: &mut Lexer<'a>) -> ParseResult<FuncType<'a>> {
+        let is_async = optional(lexer, Token::AsyncKeyword)?;
+        parse_token(lexer, Token::FuncKeyword)?;
+        let params = func_params(alloc, lexer)?;
+        let results = func_results(alloc, lexer)?;
+        Ok(FuncType {
+            is_async,
+            params,
+            results,
+        })
+    }
+}
+
+impl<'a> Parse<'a> for FuncTypeRef<'a> {
+    ghost Plain = { t.FuncTypeRef };
+
+    ghost view = { view_func_type_ref };
+
+    ghost rule = { grammar.func_type_ref };
+
+    #[tactic(auto, using(crate::proofs::Behind::stays, crate::proofs::Behind::passes, crate::proofs::Behind::goes_further), unfolding(crate::specs::ValueTypes::func_type_ref))]
+    fn parse(alloc: Global, lexer: &mut Lexer<'a>) -> ParseResult<FuncTypeRef<'a>> {
+        if sees_any(lexer, &FUNC_FIRST) {
+            return Ok(FuncTypeRef::Func(FuncType::parse(alloc, lexer)?));
+        }
+        if sees(lexer, Token::Ident) {
+            return Ok(FuncTypeRef::Ident(Ident::parse(alloc, lexer)?));
+        }
+        Err(none_of(
+            lexer,
+            &[Token::AsyncKeyword, Token::FuncKeyword, Token::Ident],
+        ))
+    }
+}
