@@ -1,7 +1,7 @@
 -- Places behind others.
 use Rattle.std.proofs.Common.{◌≡◌, List, subst, sym}
 use Rattle.wac_parser_lexer.specs.Items.{Input, rest_input}
-use Rattle.wac_parser_read.specs.Places.{IsBehind, here, on}
+use Rattle.wac_parser_grammar.specs.Places.{IsBehind, here, on}
 
 pub stays : (s : Input) → IsBehind s s
 stays s = here
@@ -12,3 +12,6 @@ passes s r e = let P : Input → Type 0 = λ (m : Input). IsBehind m s in subst 
 pub goes_further : (a b c : Input) → IsBehind a b → IsBehind b c → IsBehind a c
 goes_further a b b' h here = h
 goes_further a b c h (on j) = on (goes_further a b _ h j)
+
+-- how a place behind another is found
+pub ruleset places = (stays, passes, goes_further)

@@ -7,7 +7,7 @@ use Rattle.std.specs.Str.{IsCharBoundary}
 use Rattle.std.specs.Str.Pattern.{FindsTextSuffix, StripsSuffix}
 use Rattle.std.proofs.lemmas.Bool.{lt-ltb, le-ltb}
 use Rattle.std.proofs.lemmas.Str.Pattern.{ends_text}
-use Rattle.wac_parser_read.specs.Names.{strip_close, before, behind_first}
+use Rattle.wac_parser_grammar.specs.Names.{strip_close, before, behind_first}
 
 has_suffix : (n s x : List ℕ) → StripsSuffix (FindsTextSuffix n) s x → (ends_with nat_eq s n ≡ true) × (x ≡ take (length s - length n) s)
 has_suffix n s x h =

@@ -6,8 +6,8 @@ use Rattle.std.proofs.lemmas.List.{length-append}
 use Rattle.wac_parser_lexer.specs.declared.token.Token.{Token}
 use Rattle.wac_parser_lexer.specs.declared.span.SourceSpan.{SourceSpan}
 use Rattle.wac_parser_lexer.specs.Items.{Input, first_item, shown_span}
-use Rattle.wac_parser_read.specs.Faults.{Fault}
-use Rattle.wac_parser_read.specs.Ahead.{Ahead, Tries, is_token, is_any, token_of, sees, sees_any, remember, count_of, none_found, refused_at, none_of, fresh, tried, tried_all, by_attempts, said}
+use Rattle.wac_parser_grammar.specs.Faults.{Fault}
+use Rattle.wac_parser_grammar.specs.Ahead.{Ahead, Tries, is_token, is_any, token_of, sees, sees_any, remember, count_of, none_found, refused_at, none_of, fresh, tried, tried_all, by_attempts, said}
 
 remember-set : (n : ℕ) (ks : List Token) (k : Token) → length ks < n → slice_set (remember n ks) (length ks) (Some k) ≡ remember n (ks ++ k ∷ [])
 remember-set zero ks k h = absurd (omega arith)

@@ -8,11 +8,11 @@ use Rattle.wac_parser_lexer.specs.declared.token.Token.{Token}
 use Rattle.wac_parser_lexer.specs.declared.error.Error.{Error}
 use Rattle.wac_parser_lexer.specs.Items.{Input, Doc, Item, first_item, first_of_items, rest_input}
 use Rattle.wac_parser_tree.specs.Trees as t
-use Rattle.wac_parser_read.specs.Faults.{Fault, nested_too_deep}
-use Rattle.wac_parser_read.specs.Ahead.{same_token, token_of, next_token, sees, sees_any, none_of}
-use Rattle.wac_parser_read.specs.Reads.{Reads}
-use Rattle.wac_parser_read.specs.Rules.{Rule, token, span_of_items}
-use Rattle.wac_parser_read.specs.ValueTypes.{TakesKeyword, keyword_made, keyword_type, keyword_or, keyword_at, keyword_type_or, too_deep}
+use Rattle.wac_parser_grammar.specs.Faults.{Fault, nested_too_deep}
+use Rattle.wac_parser_grammar.specs.Ahead.{same_token, token_of, next_token, sees, sees_any, none_of}
+use Rattle.wac_parser_grammar.specs.Reads.{Reads}
+use Rattle.wac_parser_grammar.specs.Rules.{Rule, token, span_of_items}
+use Rattle.wac_parser_grammar.specs.ValueTypes.{TakesKeyword, keyword_made, keyword_type, keyword_or, keyword_at, keyword_type_or, too_deep}
 
 err_by : {X : Type 0} (b : Bool) (x y f : Fault) → f ≡ cond b x y → ◌≡◌ {A = Result (X × Input) Fault} (cond b (Err x) (Err y)) (Err f)
 err_by true x y f e = ap Err (sym e)

@@ -8,11 +8,11 @@ use Rattle.std.specs.Option.{is_some}
 use Rattle.wac_parser_lexer.specs.Items.{Input, Item, first_item, first_of_items}
 use Rattle.wac_parser_tree.specs.Trees as t
 use Rattle.wac_parser_tree.specs.Accessors.{postfix_expr_span}
-use Rattle.wac_parser_read.specs.Faults.{Fault}
-use Rattle.wac_parser_read.specs.Ahead.{sees_any}
-use Rattle.wac_parser_read.specs.Rules.{and_then, front, after_front, read_while, read_all, has_item, left}
-use Rattle.wac_parser_read.specs.ValueTypes.{through}
-use Rattle.wac_parser_read.specs.Expressions.{spanning}
+use Rattle.wac_parser_grammar.specs.Faults.{Fault}
+use Rattle.wac_parser_grammar.specs.Ahead.{sees_any}
+use Rattle.wac_parser_grammar.specs.Rules.{and_then, front, after_front, read_while, read_all, has_item, left}
+use Rattle.wac_parser_grammar.specs.ValueTypes.{through}
+use Rattle.wac_parser_grammar.specs.Expressions.{spanning}
 
 front_after : {X : Type 0} (xs : List X) (x : X) (o : Result (List X × Input) Fault) → after_front xs (front x o) ≡ after_front (xs ++ x ∷ []) o
 front_after xs x (Err e) = refl

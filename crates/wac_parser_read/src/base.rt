@@ -1,19 +1,19 @@
 //! One token at a time.
 
-ghost use Rattle.wac_parser_read.specs.Places.{IsBehind};
+ghost use Rattle.wac_parser_grammar.specs.Places.{IsBehind};
 ghost use Rattle.std.specs.Prelude.{◌≡◌, ◌<◌, ◌≤◌, length, if◌then◌else◌, IfOk, OnOk};
-ghost use Rattle.wac_parser_read.specs.Faults.{fault_of, nested_too_deep};
+ghost use Rattle.wac_parser_grammar.specs.Faults.{fault_of, nested_too_deep};
 ghost use Rattle.wac_parser_lexer.specs.Pieces.{IsSpanIn};
-ghost use Rattle.wac_parser_read.specs.Ahead as ahead;
-ghost use Rattle.wac_parser_read.specs.Rules as rules;
-ghost use Rattle.wac_parser_read.specs.Reads.{Reads};
+ghost use Rattle.wac_parser_grammar.specs.Ahead as ahead;
+ghost use Rattle.wac_parser_grammar.specs.Rules as rules;
+ghost use Rattle.wac_parser_grammar.specs.Reads.{Reads};
 
-use crate::error::{Error, ParseResult};
 use crate::lookahead::{Lookahead, same_token};
+use wac_parser_grammar::{Error, ParseResult};
 use wac_parser_lexer::{Lexer, SourceSpan, Token};
 
 /// Takes the next item, which must be this token, and gives its span.
-#[tactic(auto, using(crate::proofs::Behind::stays, crate::proofs::Behind::passes, crate::proofs::Behind::goes_further), unfolding(crate::specs::Ahead::sees, crate::specs::Ahead::missed))]
+#[tactic(auto, using(crate::proofs::Behind::places), unfolding(wac_parser_grammar::specs::Ahead::sees, wac_parser_grammar::specs::Ahead::missed))]
 pub fn parse_token(lexer: &mut Lexer<'_>, expected: Token) -> ParseResult<SourceSpan>
     ensures value { Reads (λ x. x) (rules.token expected) lexer.old result lexer.new }
     ensures within { IfOk result (λ span. IsSpanIn lexer.new.source span) }
@@ -42,7 +42,7 @@ pub fn parse_token(lexer: &mut Lexer<'_>, expected: Token) -> ParseResult<Source
 }
 
 /// Whether this token comes next.
-#[tactic(auto, unfolding(crate::specs::Ahead::sees))]
+#[tactic(auto, unfolding(wac_parser_grammar::specs::Ahead::sees))]
 pub(crate) fn sees(lexer: &Lexer<'_>, token: Token) -> bool
     ensures { result ≡ ahead.sees token lexer.now }
 {
@@ -53,7 +53,7 @@ pub(crate) fn sees(lexer: &Lexer<'_>, token: Token) -> bool
 }
 
 /// Whether one of these tokens comes next.
-#[tactic(auto, unfolding(crate::specs::Ahead::sees_any))]
+#[tactic(auto, unfolding(wac_parser_grammar::specs::Ahead::sees_any))]
 pub(crate) fn sees_any(lexer: &Lexer<'_>, tokens: &[Token]) -> bool
     ensures { result ≡ ahead.sees_any tokens.now lexer.now }
 {
@@ -94,7 +94,7 @@ pub(crate) fn too_deep(lexer: &Lexer<'_>, first: &[Token]) -> Error
 }
 
 /// Whether any token comes next.
-#[tactic(auto, unfolding(crate::specs::Rules::sees_token))]
+#[tactic(auto, unfolding(wac_parser_grammar::specs::Rules::sees_token))]
 fn sees_token(lexer: &Lexer<'_>) -> bool
     ensures { result ≡ rules.sees_token lexer.now }
 {
@@ -102,7 +102,7 @@ fn sees_token(lexer: &Lexer<'_>) -> bool
 }
 
 /// Takes the token where it comes next, and answers whether it did; a faulty item is refused.
-#[tactic(auto, using(crate::proofs::Behind::stays, crate::proofs::Behind::passes, crate::proofs::Behind::goes_further), unfolding(crate::specs::Rules::optional, crate::specs::Rules::fault_ahead))]
+#[tactic(auto, using(crate::proofs::Behind::places), unfolding(wac_parser_grammar::specs::Rules::optional, wac_parser_grammar::specs::Rules::fault_ahead))]
 pub(crate) fn optional(lexer: &mut Lexer<'_>, token: Token) -> ParseResult<bool>
     ensures value { Reads (λ x. x) (rules.optional token) lexer.old result lexer.new }
     ensures keeps { OnOk result (rules.left lexer.new ≤ rules.left lexer.old) }
@@ -119,7 +119,7 @@ pub(crate) fn optional(lexer: &mut Lexer<'_>, token: Token) -> ParseResult<bool>
 }
 
 /// Takes what stands behind a value of a list.
-#[tactic(auto, using(crate::proofs::Behind::stays, crate::proofs::Behind::passes, crate::proofs::Behind::goes_further), unfolding(crate::specs::Rules::behind))]
+#[tactic(auto, using(crate::proofs::Behind::places), unfolding(wac_parser_grammar::specs::Rules::behind))]
 pub(crate) fn behind(lexer: &mut Lexer<'_>, until: Token, with_commas: bool) -> ParseResult<()>
     ensures value { Reads (λ x. x) (rules.behind until with_commas) lexer.old result lexer.new }
     ensures keeps { OnOk result (rules.left lexer.new ≤ rules.left lexer.old) }

@@ -1,24 +1,24 @@
 //! Declarations of types.
 
-ghost use Rattle.wac_parser_read.specs.Places.{IsBehind};
+ghost use Rattle.wac_parser_grammar.specs.Places.{IsBehind};
 ghost use Rattle.std.specs.Prelude.{◌≡◌, ◌∷◌, [], ◌<◌, ◌≤◌, OnOk};
 ghost use Rattle.std.specs.Option.{option_map};
 ghost use Rattle.wac_parser_lexer.specs.declared.token.Token.TheVariants as k;
 ghost use Rattle.wac_parser_tree.specs.Trees as t;
 ghost use Rattle.wac_parser_tree.specs.Views.{view_ty, view_variant_case, view_variant_decl, view_field, view_record_decl, view_flag, view_flags_decl, view_enum_case, view_enum_decl, view_type_alias_kind, view_type_alias, view_type_decl, view_item_type_decl};
 ghost use Rattle.wac_parser_read.specs.Views.{view_all};
-ghost use Rattle.wac_parser_read.specs.Rules.{left};
-ghost use Rattle.wac_parser_read.specs.Reads.{Reads};
-ghost use Rattle.wac_parser_read.specs.Ahead as ahead;
-ghost use Rattle.wac_parser_read.specs.Declarations as grammar;
+ghost use Rattle.wac_parser_grammar.specs.Rules.{left};
+ghost use Rattle.wac_parser_grammar.specs.Reads.{Reads};
+ghost use Rattle.wac_parser_grammar.specs.Ahead as ahead;
+ghost use Rattle.wac_parser_grammar.specs.Declarations as grammar;
 
 use crate::base::{none_of, optional, parse_token, sees, sees_any};
-use crate::error::{DeclaredType, Error, MemberKind, ParseResult};
 use crate::lookahead::Lookahead;
 use crate::parse::{Parse, Peek, parse_delimited};
 use crate::text::{doc_comments, ident};
 use crate::value_type::{ALIAS_FIRST, FUNC_FIRST, TYPE_FIRST};
 use std::alloc::Global;
+use wac_parser_grammar::{DeclaredType, Error, MemberKind, ParseResult};
 use wac_parser_lexer::{Lexer, Token};
 use wac_parser_tree::{
     EnumCase, EnumDecl, Field, Flag, FlagsDecl, FuncType, ItemTypeDecl, NamedType, RecordDecl,
@@ -45,7 +45,7 @@ pub(crate) const ITEM_TYPE_DECL_FIRST: [Token; 6] = [
 ];
 
 /// The type of a case in parentheses, or none.
-#[tactic(auto, using(crate::proofs::Behind::stays, crate::proofs::Behind::passes, crate::proofs::Behind::goes_further), unfolding(crate::specs::Declarations::case_type))]
+#[tactic(auto, using(crate::proofs::Behind::places), unfolding(wac_parser_grammar::specs::Declarations::case_type))]
 fn case_type<'a>(alloc: Global, lexer: &mut Lexer<'a>) -> ParseResult<Option<Type<'a>>>
     ensures value { Reads (option_map view_ty) grammar.case_type lexer.old result lexer.new }
     ensures keeps { OnOk result (left lexer.new ≤ left lexer.old) }
@@ -76,7 +76,7 @@ impl<'a> Parse<'a> for VariantCase<'a> {
 
     ghost rule = { grammar.variant_case };
 
-    #[tactic(auto, using(crate::proofs::Behind::stays, crate::proofs::Behind::passes, crate::proofs::Behind::goes_further), unfolding(crate::specs::Declarations::variant_case))]
+    #[tactic(auto, using(crate::proofs::Behind::places), unfolding(wac_parser_grammar::specs::Declarations::variant_case))]
     fn parse(alloc: Global, lexer: &mut Lexer<'a>) -> ParseResult<VariantCase<'a>> {
         let docs = doc_comments(alloc, lexer)?;
         let id = ident(lexer)?;
@@ -86,7 +86,7 @@ impl<'a> Parse<'a> for VariantCase<'a> {
 }
 
 /// The cases of a variant in braces, at least one.
-#[tactic(auto, using(crate::proofs::Behind::stays, crate::proofs::Behind::passes, crate::proofs::Behind::goes_further), unfolding(crate::specs::Declarations::variant_cases))]
+#[tactic(auto, using(crate::proofs::Behind::places), unfolding(wac_parser_grammar::specs::Declarations::variant_cases))]
 fn variant_cases<'a>(alloc: Global, lexer: &mut Lexer<'a>) -> ParseResult<Vec<VariantCase<'a>>>
     ensures value { Reads (view_all view_variant_case) grammar.variant_cases lexer.old result lexer.new }
     ensures takes { OnOk result (left lexer.new < left lexer.old) }
@@ -122,7 +122,7 @@ impl<'a> Parse<'a> for VariantDecl<'a> {
 
     ghost rule = { grammar.variant_decl };
 
-    #[tactic(auto, using(crate::proofs::Behind::stays, crate::proofs::Behind::passes, crate::proofs::Behind::goes_further), unfolding(crate::specs::Declarations::variant_decl))]
+    #[tactic(auto, using(crate::proofs::Behind::places), unfolding(wac_parser_grammar::specs::Declarations::variant_decl))]
     fn parse(alloc: Global, lexer: &mut Lexer<'a>) -> ParseResult<VariantDecl<'a>> {
         let docs = doc_comments(alloc, lexer)?;
         parse_token(lexer, Token::VariantKeyword)?;
@@ -149,7 +149,7 @@ impl<'a> Parse<'a> for Field<'a> {
 
     ghost rule = { grammar.field };
 
-    #[tactic(auto, using(crate::proofs::Behind::stays, crate::proofs::Behind::passes, crate::proofs::Behind::goes_further), unfolding(crate::specs::Declarations::field))]
+    #[tactic(auto, using(crate::proofs::Behind::places), unfolding(wac_parser_grammar::specs::Declarations::field))]
     fn parse(alloc: Global, lexer: &mut Lexer<'a>) -> ParseResult<Field<'a>> {
         let docs = doc_comments(alloc, lexer)?;
         let named = NamedType::parse(alloc, lexer)?;
@@ -162,7 +162,7 @@ impl<'a> Parse<'a> for Field<'a> {
 }
 
 /// The fields of a record in braces, at least one.
-#[tactic(auto, using(crate::proofs::Behind::stays, crate::proofs::Behind::passes, crate::proofs::Behind::goes_further), unfolding(crate::specs::Declarations::record_fields))]
+#[tactic(auto, using(crate::proofs::Behind::places), unfolding(wac_parser_grammar::specs::Declarations::record_fields))]
 fn record_fields<'a>(alloc: Global, lexer: &mut Lexer<'a>) -> ParseResult<Vec<Field<'a>>>
     ensures value { Reads (view_all view_field) grammar.record_fields lexer.old result lexer.new }
     ensures takes { OnOk result (left lexer.new < left lexer.old) }
@@ -198,7 +198,7 @@ impl<'a> Parse<'a> for RecordDecl<'a> {
 
     ghost rule = { grammar.record_decl };
 
-    #[tactic(auto, using(crate::proofs::Behind::stays, crate::proofs::Behind::passes, crate::proofs::Behind::goes_further), unfolding(crate::specs::Declarations::record_decl))]
+    #[tactic(auto, using(crate::proofs::Behind::places), unfolding(wac_parser_grammar::specs::Declarations::record_decl))]
     fn parse(alloc: Global, lexer: &mut Lexer<'a>) -> ParseResult<RecordDecl<'a>> {
         let docs = doc_comments(alloc, lexer)?;
         parse_token(lexer, Token::RecordKeyword)?;
@@ -225,7 +225,7 @@ impl<'a> Parse<'a> for Flag<'a> {
 
     ghost rule = { grammar.flag };
 
-    #[tactic(auto, using(crate::proofs::Behind::stays, crate::proofs::Behind::passes, crate::proofs::Behind::goes_further), unfolding(crate::specs::Declarations::flag))]
+    #[tactic(auto, using(crate::proofs::Behind::places), unfolding(wac_parser_grammar::specs::Declarations::flag))]
     fn parse(alloc: Global, lexer: &mut Lexer<'a>) -> ParseResult<Flag<'a>> {
         let docs = doc_comments(alloc, lexer)?;
         let id = ident(lexer)?;
@@ -234,7 +234,7 @@ impl<'a> Parse<'a> for Flag<'a> {
 }
 
 /// The flags in braces, at least one.
-#[tactic(auto, using(crate::proofs::Behind::stays, crate::proofs::Behind::passes, crate::proofs::Behind::goes_further), unfolding(crate::specs::Declarations::flags_members))]
+#[tactic(auto, using(crate::proofs::Behind::places), unfolding(wac_parser_grammar::specs::Declarations::flags_members))]
 fn flags_members<'a>(alloc: Global, lexer: &mut Lexer<'a>) -> ParseResult<Vec<Flag<'a>>>
     ensures value { Reads (view_all view_flag) grammar.flags_members lexer.old result lexer.new }
     ensures takes { OnOk result (left lexer.new < left lexer.old) }
@@ -270,7 +270,7 @@ impl<'a> Parse<'a> for FlagsDecl<'a> {
 
     ghost rule = { grammar.flags_decl };
 
-    #[tactic(auto, using(crate::proofs::Behind::stays, crate::proofs::Behind::passes, crate::proofs::Behind::goes_further), unfolding(crate::specs::Declarations::flags_decl))]
+    #[tactic(auto, using(crate::proofs::Behind::places), unfolding(wac_parser_grammar::specs::Declarations::flags_decl))]
     fn parse(alloc: Global, lexer: &mut Lexer<'a>) -> ParseResult<FlagsDecl<'a>> {
         let docs = doc_comments(alloc, lexer)?;
         parse_token(lexer, Token::FlagsKeyword)?;
@@ -297,7 +297,7 @@ impl<'a> Parse<'a> for EnumCase<'a> {
 
     ghost rule = { grammar.enum_case };
 
-    #[tactic(auto, using(crate::proofs::Behind::stays, crate::proofs::Behind::passes, crate::proofs::Behind::goes_further), unfolding(crate::specs::Declarations::enum_case))]
+    #[tactic(auto, using(crate::proofs::Behind::places), unfolding(wac_parser_grammar::specs::Declarations::enum_case))]
     fn parse(alloc: Global, lexer: &mut Lexer<'a>) -> ParseResult<EnumCase<'a>> {
         let docs = doc_comments(alloc, lexer)?;
         let id = ident(lexer)?;
@@ -306,7 +306,7 @@ impl<'a> Parse<'a> for EnumCase<'a> {
 }
 
 /// The cases of an enum in braces, at least one.
-#[tactic(auto, using(crate::proofs::Behind::stays, crate::proofs::Behind::passes, crate::proofs::Behind::goes_further), unfolding(crate::specs::Declarations::enum_cases))]
+#[tactic(auto, using(crate::proofs::Behind::places), unfolding(wac_parser_grammar::specs::Declarations::enum_cases))]
 fn enum_cases<'a>(alloc: Global, lexer: &mut Lexer<'a>) -> ParseResult<Vec<EnumCase<'a>>>
     ensures value { Reads (view_all view_enum_case) grammar.enum_cases lexer.old result lexer.new }
     ensures takes { OnOk result (left lexer.new < left lexer.old) }
@@ -342,7 +342,7 @@ impl<'a> Parse<'a> for EnumDecl<'a> {
 
     ghost rule = { grammar.enum_decl };
 
-    #[tactic(auto, using(crate::proofs::Behind::stays, crate::proofs::Behind::passes, crate::proofs::Behind::goes_further), unfolding(crate::specs::Declarations::enum_decl))]
+    #[tactic(auto, using(crate::proofs::Behind::places), unfolding(wac_parser_grammar::specs::Declarations::enum_decl))]
     fn parse(alloc: Global, lexer: &mut Lexer<'a>) -> ParseResult<EnumDecl<'a>> {
         let docs = doc_comments(alloc, lexer)?;
         parse_token(lexer, Token::EnumKeyword)?;
@@ -359,7 +359,7 @@ impl<'a> Parse<'a> for TypeAliasKind<'a> {
 
     ghost rule = { grammar.type_alias_kind };
 
-    #[tactic(auto, using(crate::proofs::Behind::stays, crate::proofs::Behind::passes, crate::proofs::Behind::goes_further), unfolding(crate::specs::Declarations::type_alias_kind))]
+    #[tactic(auto, using(crate::proofs::Behind::places), unfolding(wac_parser_grammar::specs::Declarations::type_alias_kind))]
     fn parse(alloc: Global, lexer: &mut Lexer<'a>) -> ParseResult<TypeAliasKind<'a>> {
         if sees_any(lexer, &FUNC_FIRST) {
             return Ok(TypeAliasKind::Func(FuncType::parse(alloc, lexer)?));
@@ -388,7 +388,7 @@ impl<'a> Parse<'a> for TypeAlias<'a> {
 
     ghost rule = { grammar.type_alias };
 
-    #[tactic(auto, using(crate::proofs::Behind::stays, crate::proofs::Behind::passes, crate::proofs::Behind::goes_further), unfolding(crate::specs::Declarations::type_alias))]
+    #[tactic(auto, using(crate::proofs::Behind::places), unfolding(wac_parser_grammar::specs::Declarations::type_alias))]
     fn parse(alloc: Global, lexer: &mut Lexer<'a>) -> ParseResult<TypeAlias<'a>> {
         let docs = doc_comments(alloc, lexer)?;
         parse_token(lexer, Token::TypeKeyword)?;
@@ -417,7 +417,7 @@ impl<'a> Parse<'a> for TypeDecl<'a> {
 
     ghost rule = { grammar.type_decl };
 
-    #[tactic(auto, using(crate::proofs::Behind::stays, crate::proofs::Behind::passes, crate::proofs::Behind::goes_further), unfolding(crate::specs::Declarations::type_decl))]
+    #[tactic(auto, using(crate::proofs::Behind::places), unfolding(wac_parser_grammar::specs::Declarations::type_decl))]
     fn parse(alloc: Global, lexer: &mut Lexer<'a>) -> ParseResult<TypeDecl<'a>> {
         if sees(lexer, Token::VariantKeyword) {
             return Ok(TypeDecl::Variant(VariantDecl::parse(alloc, lexer)?));
@@ -455,7 +455,7 @@ impl<'a> Parse<'a> for ItemTypeDecl<'a> {
 
     ghost rule = { grammar.item_type_decl };
 
-    #[tactic(auto, using(crate::proofs::Behind::stays, crate::proofs::Behind::passes, crate::proofs::Behind::goes_further), unfolding(crate::specs::Declarations::item_type_decl))]
+    #[tactic(auto, using(crate::proofs::Behind::places), unfolding(wac_parser_grammar::specs::Declarations::item_type_decl))]
     fn parse(alloc: Global, lexer: &mut Lexer<'a>) -> ParseResult<ItemTypeDecl<'a>> {
         if sees(lexer, Token::ResourceKeyword) {
             return Ok(ItemTypeDecl::Resource(ResourceDecl::parse(alloc, lexer)?));

@@ -2,22 +2,22 @@
 
 ghost use Rattle.std.specs.Prelude.{◌≡◌, ◌∷◌, [], ◌<◌, ◌≤◌, OnOk};
 ghost use Rattle.wac_parser_read.specs.Views.{view_all};
-ghost use Rattle.wac_parser_read.specs.Rules.{all_of};
+ghost use Rattle.wac_parser_grammar.specs.Rules.{all_of};
 ghost use Rattle.wac_parser_lexer.specs.declared.token.Token.TheVariants as k;
 ghost use Rattle.wac_parser_tree.specs.Trees as t;
 ghost use Rattle.wac_parser_tree.specs.Views.{view_type_statement, view_statement, view_package_directive, view_document};
-ghost use Rattle.wac_parser_read.specs.Rules.{Rule, left};
-ghost use Rattle.wac_parser_read.specs.Reads.{Reads, ReadsSource};
-ghost use Rattle.wac_parser_read.specs.Ahead as ahead;
-ghost use Rattle.wac_parser_read.specs.Documents as grammar;
+ghost use Rattle.wac_parser_grammar.specs.Rules.{Rule, left};
+ghost use Rattle.wac_parser_grammar.specs.Reads.{Reads, ReadsSource};
+ghost use Rattle.wac_parser_grammar.specs.Ahead as ahead;
+ghost use Rattle.wac_parser_grammar.specs.Documents as grammar;
 
 use crate::base::{none_of, parse_token, sees, sees_any};
 use crate::declaration::TYPE_DECL_FIRST;
-use crate::error::{Error, ParseResult};
 use crate::lookahead::Lookahead;
 use crate::parse::{Parse, Peek, parse_optional};
 use crate::text::doc_comments;
 use std::alloc::Global;
+use wac_parser_grammar::{Error, ParseResult};
 use wac_parser_lexer::{Lexer, Token};
 use wac_parser_tree::{
     Document, ExportStatement, ImportStatement, InterfaceDecl, LetStatement, PackageDirective,
@@ -66,7 +66,7 @@ impl<'a> Parse<'a> for TypeStatement<'a> {
 
     ghost rule = { grammar.type_statement };
 
-    #[tactic(auto, using(crate::proofs::Behind::stays, crate::proofs::Behind::passes, crate::proofs::Behind::goes_further), unfolding(crate::specs::Documents::type_statement))]
+    #[tactic(auto, using(crate::proofs::Behind::places), unfolding(wac_parser_grammar::specs::Documents::type_statement))]
     fn parse(alloc: Global, lexer: &mut Lexer<'a>) -> ParseResult<TypeStatement<'a>> {
         if sees(lexer, Token::InterfaceKeyword) {
             return Ok(TypeStatement::Interface(InterfaceDecl::parse(alloc, lexer)?));
@@ -98,7 +98,7 @@ impl<'a> Parse<'a> for Statement<'a> {
 
     ghost rule = { grammar.statement };
 
-    #[tactic(auto, using(crate::proofs::Behind::stays, crate::proofs::Behind::passes, crate::proofs::Behind::goes_further), unfolding(crate::specs::Documents::statement))]
+    #[tactic(auto, using(crate::proofs::Behind::places), unfolding(wac_parser_grammar::specs::Documents::statement))]
     fn parse(alloc: Global, lexer: &mut Lexer<'a>) -> ParseResult<Statement<'a>> {
         if sees(lexer, Token::ImportKeyword) {
             return Ok(Statement::Import(ImportStatement::parse(alloc, lexer)?));
@@ -133,7 +133,7 @@ impl<'a> Parse<'a> for PackageDirective<'a> {
 
     ghost rule = { grammar.package_directive };
 
-    #[tactic(auto, using(crate::proofs::Behind::stays, crate::proofs::Behind::passes, crate::proofs::Behind::goes_further), unfolding(crate::specs::Documents::package_directive, crate::specs::Documents::targets))]
+    #[tactic(auto, using(crate::proofs::Behind::places), unfolding(wac_parser_grammar::specs::Documents::package_directive, wac_parser_grammar::specs::Documents::targets))]
     fn parse(alloc: Global, lexer: &mut Lexer<'a>) -> ParseResult<PackageDirective<'a>> {
         parse_token(lexer, Token::PackageKeyword)?;
         let package = PackageName::parse(alloc, lexer)?;
@@ -155,7 +155,7 @@ fn statements<'a>(alloc: Global, lexer: &mut Lexer<'a>) -> ParseResult<Vec<State
 }
 
 /// A whole document.
-#[tactic(auto, unfolding(crate::specs::Documents::document))]
+#[tactic(auto, unfolding(wac_parser_grammar::specs::Documents::document))]
 fn document<'a>(alloc: Global, lexer: &mut Lexer<'a>) -> ParseResult<Document<'a>>
     ensures value { Reads view_document grammar.document lexer.old result lexer.new }
 {

@@ -1,24 +1,25 @@
 //! Expressions.
+#![tactic(auto, using(crate::proofs::Behind::places))]
 
-ghost use Rattle.wac_parser_read.specs.Places.{IsBehind};
+ghost use Rattle.wac_parser_grammar.specs.Places.{IsBehind};
 ghost use Rattle.std.specs.Prelude.{◌≡◌, ◌∷◌, [], ◌+◌, ◌<◌, ◌≤◌, ◌^◌, true, map, IfOk, OnOk};
 ghost use Rattle.wac_parser_lexer.specs.declared.token.Token.TheVariants as k;
 ghost use Rattle.wac_parser_tree.specs.Trees as t;
 ghost use Rattle.wac_parser_tree.specs.Accessors.{postfix_expr_span};
 ghost use Rattle.wac_parser_tree.specs.Views.{view_expr, view_primary_expr, view_new_expr, view_nested_expr, view_instantiation_argument, view_named_instantiation_argument, view_instantiation_argument_name, view_access_expr, view_named_access_expr, view_postfix_expr};
 ghost use Rattle.wac_parser_read.specs.Views.{view_all};
-ghost use Rattle.wac_parser_read.specs.Rules.{left, list_of, while_of};
-ghost use Rattle.wac_parser_read.specs.Reads.{Reads};
-ghost use Rattle.wac_parser_read.specs.Ahead as ahead;
-ghost use Rattle.wac_parser_read.specs.Expressions as grammar;
+ghost use Rattle.wac_parser_grammar.specs.Rules.{left, list_of, while_of};
+ghost use Rattle.wac_parser_grammar.specs.Reads.{Reads};
+ghost use Rattle.wac_parser_grammar.specs.Ahead as ahead;
+ghost use Rattle.wac_parser_grammar.specs.Expressions as grammar;
 
 use crate::base::{behind, none_of, parse_token, sees, sees_any, too_deep};
-use crate::error::{Error, ParseResult};
 use crate::lookahead::Lookahead;
 use crate::parse::{Parse, Peek, expect_value};
 use crate::text::ident;
 use crate::value_type::{MAX_LEVELS, through};
 use std::alloc::Global;
+use wac_parser_grammar::{Error, ParseResult};
 use wac_parser_lexer::{Lexer, SourceSpan, Token};
 use wac_parser_tree::{
     AccessExpr, Expr, Ident, InstantiationArgument, InstantiationArgumentName, NamedAccessExpr,
@@ -39,7 +40,6 @@ pub(crate) const NAME_FIRST: [Token; 2] = [Token::Ident, Token::String];
 
 /// An expression nested no deeper than so many levels.
 #[cycle(expr)]
-#[tactic(auto, using(crate::proofs::Behind::stays, crate::proofs::Behind::passes, crate::proofs::Behind::goes_further))]
 fn expr_within<'a>(alloc: Global, lexer: &mut Lexer<'a>, levels: usize) -> ParseResult<Expr<'a>>
     ensures value { Reads view_expr (grammar.expr levels) lexer.old result lexer.new }
     ensures takes { OnOk result (left lexer.new < left lexer.old) }
@@ -52,7 +52,7 @@ fn expr_within<'a>(alloc: Global, lexer: &mut Lexer<'a>, levels: usize) -> Parse
 }
 
 #[cycle(expr)]
-#[tactic(auto, using(crate::proofs::Behind::stays, crate::proofs::Behind::passes, crate::proofs::Behind::goes_further), unfolding(crate::specs::Expressions::expr_level))]
+#[tactic(auto, using(crate::proofs::Behind::places), unfolding(wac_parser_grammar::specs::Expressions::expr_level))]
 fn expr_level<'a>(alloc: Global, lexer: &mut Lexer<'a>, inside: usize) -> ParseResult<Expr<'a>>
     ensures value { Reads view_expr (grammar.expr_level (grammar.expr inside)) lexer.old result lexer.new }
     ensures takes { OnOk result (left lexer.new < left lexer.old) }
@@ -68,7 +68,7 @@ fn expr_level<'a>(alloc: Global, lexer: &mut Lexer<'a>, inside: usize) -> ParseR
 }
 
 #[cycle(expr)]
-#[tactic(auto, using(crate::proofs::Behind::stays, crate::proofs::Behind::passes, crate::proofs::Behind::goes_further), unfolding(crate::specs::Expressions::primary_expr))]
+#[tactic(auto, using(crate::proofs::Behind::places), unfolding(wac_parser_grammar::specs::Expressions::primary_expr))]
 fn primary_expr<'a>(
     alloc: Global,
     lexer: &mut Lexer<'a>,
@@ -91,7 +91,7 @@ fn primary_expr<'a>(
 }
 
 #[cycle(expr)]
-#[tactic(auto, using(crate::proofs::Behind::stays, crate::proofs::Behind::passes, crate::proofs::Behind::goes_further), unfolding(crate::specs::Expressions::nested_expr))]
+#[tactic(auto, using(crate::proofs::Behind::places), unfolding(wac_parser_grammar::specs::Expressions::nested_expr))]
 fn nested_expr<'a>(
     alloc: Global,
     lexer: &mut Lexer<'a>,
@@ -111,7 +111,7 @@ fn nested_expr<'a>(
 }
 
 #[cycle(expr)]
-#[tactic(auto, using(crate::proofs::Behind::stays, crate::proofs::Behind::passes, crate::proofs::Behind::goes_further), unfolding(crate::specs::Expressions::new_expr))]
+#[tactic(auto, using(crate::proofs::Behind::places), unfolding(wac_parser_grammar::specs::Expressions::new_expr))]
 fn new_expr<'a>(alloc: Global, lexer: &mut Lexer<'a>, inside: usize) -> ParseResult<NewExpr<'a>>
     ensures value { Reads view_new_expr (grammar.new_expr (grammar.expr inside)) lexer.old result lexer.new }
     ensures takes { OnOk result (left lexer.new < left lexer.old) }
@@ -131,7 +131,6 @@ fn new_expr<'a>(alloc: Global, lexer: &mut Lexer<'a>, inside: usize) -> ParseRes
 
 /// The arguments up to a closing brace.
 #[cycle(expr)]
-#[tactic(auto, using(crate::proofs::Behind::stays, crate::proofs::Behind::passes, crate::proofs::Behind::goes_further))]
 fn arguments<'a>(
     alloc: Global,
     lexer: &mut Lexer<'a>,
@@ -151,7 +150,7 @@ fn arguments<'a>(
 }
 
 #[cycle(expr)]
-#[tactic(auto, using(crate::proofs::Behind::stays, crate::proofs::Behind::passes, crate::proofs::Behind::goes_further), unfolding(crate::specs::Expressions::instantiation_argument))]
+#[tactic(auto, using(crate::proofs::Behind::places), unfolding(wac_parser_grammar::specs::Expressions::instantiation_argument))]
 fn instantiation_argument<'a>(
     alloc: Global,
     lexer: &mut Lexer<'a>,
@@ -174,7 +173,7 @@ fn instantiation_argument<'a>(
 }
 
 /// `...`, with an identifier behind it or not.
-#[tactic(auto, using(crate::proofs::Behind::stays, crate::proofs::Behind::passes, crate::proofs::Behind::goes_further), unfolding(crate::specs::Expressions::spread_or_fill))]
+#[tactic(auto, using(crate::proofs::Behind::places), unfolding(wac_parser_grammar::specs::Expressions::spread_or_fill))]
 fn spread_or_fill<'a>(
     alloc: Global,
     lexer: &mut Lexer<'a>,
@@ -192,7 +191,7 @@ fn spread_or_fill<'a>(
 
 /// An identifier, which a colon makes the name of an argument.
 #[cycle(expr)]
-#[tactic(auto, using(crate::proofs::Behind::stays, crate::proofs::Behind::passes, crate::proofs::Behind::goes_further), unfolding(crate::specs::Expressions::ident_argument))]
+#[tactic(auto, using(crate::proofs::Behind::places), unfolding(wac_parser_grammar::specs::Expressions::ident_argument))]
 fn ident_argument<'a>(
     alloc: Global,
     lexer: &mut Lexer<'a>,
@@ -212,7 +211,7 @@ fn ident_argument<'a>(
 
 /// A string, which only a colon makes an argument.
 #[cycle(expr)]
-#[tactic(auto, using(crate::proofs::Behind::stays, crate::proofs::Behind::passes, crate::proofs::Behind::goes_further), unfolding(crate::specs::Expressions::string_argument))]
+#[tactic(auto, using(crate::proofs::Behind::places), unfolding(wac_parser_grammar::specs::Expressions::string_argument))]
 fn string_argument<'a>(
     alloc: Global,
     lexer: &mut Lexer<'a>,
@@ -236,7 +235,7 @@ fn string_argument<'a>(
 
 /// The colon and the expression behind the name of an argument.
 #[cycle(expr)]
-#[tactic(auto, using(crate::proofs::Behind::stays, crate::proofs::Behind::passes, crate::proofs::Behind::goes_further), unfolding(crate::specs::Expressions::argument_value))]
+#[tactic(auto, using(crate::proofs::Behind::places), unfolding(wac_parser_grammar::specs::Expressions::argument_value))]
 fn argument_value<'a>(
     alloc: Global,
     lexer: &mut Lexer<'a>,
@@ -252,7 +251,7 @@ fn argument_value<'a>(
     Ok(NamedInstantiationArgument { name, expr })
 }
 
-#[tactic(auto, using(crate::proofs::Behind::stays, crate::proofs::Behind::passes, crate::proofs::Behind::goes_further), unfolding(crate::specs::Expressions::postfix_expr))]
+#[tactic(auto, using(crate::proofs::Behind::places), unfolding(wac_parser_grammar::specs::Expressions::postfix_expr))]
 fn postfix_expr<'a>(alloc: Global, lexer: &mut Lexer<'a>) -> ParseResult<PostfixExpr<'a>>
     ensures value { Reads view_postfix_expr grammar.postfix_expr lexer.old result lexer.new }
     ensures small { IfOk result (λ p. (postfix_expr_span (view_postfix_expr p)).offset + (postfix_expr_span (view_postfix_expr p)).length < 2 ^ 64) }
@@ -265,7 +264,7 @@ fn postfix_expr<'a>(alloc: Global, lexer: &mut Lexer<'a>) -> ParseResult<Postfix
     Ok(PostfixExpr::NamedAccess(named_access_expr(alloc, lexer)?))
 }
 
-#[tactic(auto, using(crate::proofs::Behind::stays, crate::proofs::Behind::passes, crate::proofs::Behind::goes_further), unfolding(crate::specs::Expressions::access_expr))]
+#[tactic(auto, using(crate::proofs::Behind::places), unfolding(wac_parser_grammar::specs::Expressions::access_expr))]
 fn access_expr<'a>(lexer: &mut Lexer<'a>) -> ParseResult<AccessExpr<'a>>
     ensures value { Reads view_access_expr grammar.access_expr lexer.old result lexer.new }
     ensures small { IfOk result (λ p. p.span.offset + p.span.length < 2 ^ 64) }
@@ -280,7 +279,7 @@ fn access_expr<'a>(lexer: &mut Lexer<'a>) -> ParseResult<AccessExpr<'a>>
     })
 }
 
-#[tactic(auto, using(crate::proofs::Behind::stays, crate::proofs::Behind::passes, crate::proofs::Behind::goes_further), unfolding(crate::specs::Expressions::named_access_expr))]
+#[tactic(auto, using(crate::proofs::Behind::places), unfolding(wac_parser_grammar::specs::Expressions::named_access_expr))]
 fn named_access_expr<'a>(alloc: Global, lexer: &mut Lexer<'a>) -> ParseResult<NamedAccessExpr<'a>>
     ensures value { Reads view_named_access_expr grammar.named_access_expr lexer.old result lexer.new }
     ensures small { IfOk result (λ p. p.span.offset + p.span.length < 2 ^ 64) }
@@ -297,7 +296,6 @@ fn named_access_expr<'a>(alloc: Global, lexer: &mut Lexer<'a>) -> ParseResult<Na
 }
 
 /// The accesses behind an expression, and the span from its start to the last one's end.
-#[tactic(auto, using(crate::proofs::Behind::stays, crate::proofs::Behind::passes, crate::proofs::Behind::goes_further))]
 fn postfix_exprs<'a>(
     alloc: Global,
     lexer: &mut Lexer<'a>,
@@ -325,7 +323,7 @@ impl<'a> Parse<'a> for Expr<'a> {
 
     ghost rule = { grammar.expression };
 
-    #[tactic(auto, using(crate::proofs::Behind::stays, crate::proofs::Behind::passes, crate::proofs::Behind::goes_further), unfolding(crate::specs::Expressions::expression))]
+    #[tactic(auto, using(crate::proofs::Behind::places), unfolding(wac_parser_grammar::specs::Expressions::expression))]
     fn parse(alloc: Global, lexer: &mut Lexer<'a>) -> ParseResult<Expr<'a>> {
         expr_within(alloc, lexer, MAX_LEVELS)
     }
@@ -338,7 +336,6 @@ impl<'a> Parse<'a> for PrimaryExpr<'a> {
 
     ghost rule = { grammar.primary_expr (grammar.expr 127) };
 
-    #[tactic(auto, using(crate::proofs::Behind::stays, crate::proofs::Behind::passes, crate::proofs::Behind::goes_further))]
     fn parse(alloc: Global, lexer: &mut Lexer<'a>) -> ParseResult<PrimaryExpr<'a>> {
         primary_expr(alloc, lexer, MAX_LEVELS - 1)
     }
@@ -361,7 +358,6 @@ impl<'a> Parse<'a> for NewExpr<'a> {
 
     ghost rule = { grammar.new_expr (grammar.expr 127) };
 
-    #[tactic(auto, using(crate::proofs::Behind::stays, crate::proofs::Behind::passes, crate::proofs::Behind::goes_further))]
     fn parse(alloc: Global, lexer: &mut Lexer<'a>) -> ParseResult<NewExpr<'a>> {
         new_expr(alloc, lexer, MAX_LEVELS - 1)
     }
@@ -384,7 +380,6 @@ impl<'a> Parse<'a> for NestedExpr<'a> {
 
     ghost rule = { grammar.nested_expr (grammar.expr 127) };
 
-    #[tactic(auto, using(crate::proofs::Behind::stays, crate::proofs::Behind::passes, crate::proofs::Behind::goes_further))]
     fn parse(alloc: Global, lexer: &mut Lexer<'a>) -> ParseResult<NestedExpr<'a>> {
         nested_expr(alloc, lexer, MAX_LEVELS - 1)
     }
@@ -407,7 +402,6 @@ impl<'a> Parse<'a> for InstantiationArgument<'a> {
 
     ghost rule = { grammar.instantiation_argument (grammar.expr 127) };
 
-    #[tactic(auto, using(crate::proofs::Behind::stays, crate::proofs::Behind::passes, crate::proofs::Behind::goes_further))]
     fn parse(alloc: Global, lexer: &mut Lexer<'a>) -> ParseResult<InstantiationArgument<'a>> {
         instantiation_argument(alloc, lexer, MAX_LEVELS - 1)
     }
@@ -430,7 +424,7 @@ impl<'a> Parse<'a> for NamedInstantiationArgument<'a> {
 
     ghost rule = { grammar.named_argument (grammar.expr 127) };
 
-    #[tactic(auto, using(crate::proofs::Behind::stays, crate::proofs::Behind::passes, crate::proofs::Behind::goes_further), unfolding(crate::specs::Expressions::named_argument))]
+    #[tactic(auto, using(crate::proofs::Behind::places), unfolding(wac_parser_grammar::specs::Expressions::named_argument))]
     fn parse(alloc: Global, lexer: &mut Lexer<'a>) -> ParseResult<NamedInstantiationArgument<'a>> {
         let name = InstantiationArgumentName::parse(alloc, lexer)?;
         argument_value(alloc, lexer, name, MAX_LEVELS - 1)
@@ -454,7 +448,7 @@ impl<'a> Parse<'a> for InstantiationArgumentName<'a> {
 
     ghost rule = { grammar.argument_name };
 
-    #[tactic(auto, using(crate::proofs::Behind::stays, crate::proofs::Behind::passes, crate::proofs::Behind::goes_further), unfolding(crate::specs::Expressions::argument_name))]
+    #[tactic(auto, using(crate::proofs::Behind::places), unfolding(wac_parser_grammar::specs::Expressions::argument_name))]
     fn parse(alloc: Global, lexer: &mut Lexer<'a>) -> ParseResult<InstantiationArgumentName<'a>> {
         if sees(lexer, Token::Ident) {
             return Ok(InstantiationArgumentName::Ident(Ident::parse(alloc, lexer)?));
@@ -483,7 +477,6 @@ impl<'a> Parse<'a> for AccessExpr<'a> {
 
     ghost rule = { grammar.access_expr };
 
-    #[tactic(auto, using(crate::proofs::Behind::stays, crate::proofs::Behind::passes, crate::proofs::Behind::goes_further))]
     fn parse(_alloc: Global, lexer: &mut Lexer<'a>) -> ParseResult<AccessExpr<'a>> {
         access_expr(lexer)
     }
@@ -506,7 +499,6 @@ impl<'a> Parse<'a> for NamedAccessExpr<'a> {
 
     ghost rule = { grammar.named_access_expr };
 
-    #[tactic(auto, using(crate::proofs::Behind::stays, crate::proofs::Behind::passes, crate::proofs::Behind::goes_further))]
     fn parse(alloc: Global, lexer: &mut Lexer<'a>) -> ParseResult<NamedAccessExpr<'a>> {
         named_access_expr(alloc, lexer)
     }

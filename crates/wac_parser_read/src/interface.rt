@@ -1,23 +1,23 @@
 //! Interfaces.
 
-ghost use Rattle.wac_parser_read.specs.Places.{IsBehind};
+ghost use Rattle.wac_parser_grammar.specs.Places.{IsBehind};
 ghost use Rattle.std.specs.Prelude.{◌≡◌, ◌∷◌, [], ◌<◌, ◌≤◌, OnOk};
 ghost use Rattle.wac_parser_lexer.specs.declared.token.Token.TheVariants as k;
 ghost use Rattle.wac_parser_tree.specs.Trees as t;
 ghost use Rattle.wac_parser_tree.specs.Views.{view_use_path, view_use_item, view_use, view_interface_export, view_interface_item, view_interface_decl, view_inline_interface};
 ghost use Rattle.wac_parser_read.specs.Views.{view_all};
-ghost use Rattle.wac_parser_read.specs.Rules.{left};
-ghost use Rattle.wac_parser_read.specs.Reads.{Reads};
-ghost use Rattle.wac_parser_read.specs.Ahead as ahead;
-ghost use Rattle.wac_parser_read.specs.Worlds as grammar;
+ghost use Rattle.wac_parser_grammar.specs.Rules.{left};
+ghost use Rattle.wac_parser_grammar.specs.Reads.{Reads};
+ghost use Rattle.wac_parser_grammar.specs.Ahead as ahead;
+ghost use Rattle.wac_parser_grammar.specs.Worlds as grammar;
 
 use crate::base::{none_of, parse_token, sees, sees_any};
 use crate::declaration::ITEM_TYPE_DECL_FIRST;
-use crate::error::ParseResult;
 use crate::lookahead::Lookahead;
 use crate::parse::{Parse, Peek, parse_delimited, parse_optional};
 use crate::text::{doc_comments, ident};
 use std::alloc::Global;
+use wac_parser_grammar::ParseResult;
 use wac_parser_lexer::{Lexer, Token};
 use wac_parser_tree::{
     FuncTypeRef, Ident, InlineInterface, InterfaceDecl, InterfaceExport, InterfaceItem,
@@ -56,7 +56,7 @@ impl<'a> Parse<'a> for UsePath<'a> {
 
     ghost rule = { grammar.use_path };
 
-    #[tactic(auto, using(crate::proofs::Behind::stays, crate::proofs::Behind::passes, crate::proofs::Behind::goes_further), unfolding(crate::specs::Worlds::use_path))]
+    #[tactic(auto, using(crate::proofs::Behind::places), unfolding(wac_parser_grammar::specs::Worlds::use_path))]
     fn parse(alloc: Global, lexer: &mut Lexer<'a>) -> ParseResult<UsePath<'a>> {
         if sees(lexer, Token::PackagePath) {
             return Ok(UsePath::Package(PackagePath::parse(alloc, lexer)?));
@@ -85,7 +85,7 @@ impl<'a> Parse<'a> for UseItem<'a> {
 
     ghost rule = { grammar.use_item };
 
-    #[tactic(auto, using(crate::proofs::Behind::stays, crate::proofs::Behind::passes, crate::proofs::Behind::goes_further), unfolding(crate::specs::Worlds::use_item, crate::specs::Worlds::use_as))]
+    #[tactic(auto, using(crate::proofs::Behind::places), unfolding(wac_parser_grammar::specs::Worlds::use_item, wac_parser_grammar::specs::Worlds::use_as))]
     fn parse(alloc: Global, lexer: &mut Lexer<'a>) -> ParseResult<UseItem<'a>> {
         let id = ident(lexer)?;
         let as_id = parse_optional(alloc, lexer, Token::AsKeyword)?;
@@ -94,7 +94,7 @@ impl<'a> Parse<'a> for UseItem<'a> {
 }
 
 /// The used types in braces.
-#[tactic(auto, using(crate::proofs::Behind::stays, crate::proofs::Behind::passes, crate::proofs::Behind::goes_further), unfolding(crate::specs::Worlds::use_items))]
+#[tactic(auto, using(crate::proofs::Behind::places), unfolding(wac_parser_grammar::specs::Worlds::use_items))]
 fn use_items<'a>(alloc: Global, lexer: &mut Lexer<'a>) -> ParseResult<Vec<UseItem<'a>>>
     ensures value { Reads (view_all view_use_item) grammar.use_items lexer.old result lexer.new }
     ensures takes { OnOk result (left lexer.new < left lexer.old) }
@@ -123,7 +123,7 @@ impl<'a> Parse<'a> for Use<'a> {
 
     ghost rule = { grammar.use_types };
 
-    #[tactic(auto, using(crate::proofs::Behind::stays, crate::proofs::Behind::passes, crate::proofs::Behind::goes_further), unfolding(crate::specs::Worlds::use_types))]
+    #[tactic(auto, using(crate::proofs::Behind::places), unfolding(wac_parser_grammar::specs::Worlds::use_types))]
     fn parse(alloc: Global, lexer: &mut Lexer<'a>) -> ParseResult<Use<'a>> {
         let docs = doc_comments(alloc, lexer)?;
         parse_token(lexer, Token::UseKeyword)?;
@@ -152,7 +152,7 @@ impl<'a> Parse<'a> for InterfaceExport<'a> {
 
     ghost rule = { grammar.interface_export };
 
-    #[tactic(auto, using(crate::proofs::Behind::stays, crate::proofs::Behind::passes, crate::proofs::Behind::goes_further), unfolding(crate::specs::Worlds::interface_export))]
+    #[tactic(auto, using(crate::proofs::Behind::places), unfolding(wac_parser_grammar::specs::Worlds::interface_export))]
     fn parse(alloc: Global, lexer: &mut Lexer<'a>) -> ParseResult<InterfaceExport<'a>> {
         let docs = doc_comments(alloc, lexer)?;
         let id = ident(lexer)?;
@@ -180,7 +180,7 @@ impl<'a> Parse<'a> for InterfaceItem<'a> {
 
     ghost rule = { grammar.interface_item };
 
-    #[tactic(auto, using(crate::proofs::Behind::stays, crate::proofs::Behind::passes, crate::proofs::Behind::goes_further), unfolding(crate::specs::Worlds::interface_item))]
+    #[tactic(auto, using(crate::proofs::Behind::places), unfolding(wac_parser_grammar::specs::Worlds::interface_item))]
     fn parse(alloc: Global, lexer: &mut Lexer<'a>) -> ParseResult<InterfaceItem<'a>> {
         if sees(lexer, Token::UseKeyword) {
             let types = Use::parse(alloc, lexer)?;
@@ -197,7 +197,7 @@ impl<'a> Parse<'a> for InterfaceItem<'a> {
 }
 
 /// The items of an interface in braces.
-#[tactic(auto, using(crate::proofs::Behind::stays, crate::proofs::Behind::passes, crate::proofs::Behind::goes_further), unfolding(crate::specs::Worlds::interface_items))]
+#[tactic(auto, using(crate::proofs::Behind::places), unfolding(wac_parser_grammar::specs::Worlds::interface_items))]
 fn interface_items<'a>(alloc: Global, lexer: &mut Lexer<'a>) -> ParseResult<Vec<InterfaceItem<'a>>>
     ensures value { Reads (view_all view_interface_item) grammar.interface_items lexer.old result lexer.new }
     ensures takes { OnOk result (left lexer.new < left lexer.old) }
@@ -226,7 +226,7 @@ impl<'a> Parse<'a> for InterfaceDecl<'a> {
 
     ghost rule = { grammar.interface_decl };
 
-    #[tactic(auto, using(crate::proofs::Behind::stays, crate::proofs::Behind::passes, crate::proofs::Behind::goes_further), unfolding(crate::specs::Worlds::interface_decl))]
+    #[tactic(auto, using(crate::proofs::Behind::places), unfolding(wac_parser_grammar::specs::Worlds::interface_decl))]
     fn parse(alloc: Global, lexer: &mut Lexer<'a>) -> ParseResult<InterfaceDecl<'a>> {
         let docs = doc_comments(alloc, lexer)?;
         parse_token(lexer, Token::InterfaceKeyword)?;
@@ -253,7 +253,7 @@ impl<'a> Parse<'a> for InlineInterface<'a> {
 
     ghost rule = { grammar.inline_interface };
 
-    #[tactic(auto, using(crate::proofs::Behind::stays, crate::proofs::Behind::passes, crate::proofs::Behind::goes_further), unfolding(crate::specs::Worlds::inline_interface))]
+    #[tactic(auto, using(crate::proofs::Behind::places), unfolding(wac_parser_grammar::specs::Worlds::inline_interface))]
     fn parse(alloc: Global, lexer: &mut Lexer<'a>) -> ParseResult<InlineInterface<'a>> {
         parse_token(lexer, Token::InterfaceKeyword)?;
         let items = interface_items(alloc, lexer)?;

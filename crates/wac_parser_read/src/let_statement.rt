@@ -4,17 +4,17 @@ ghost use Rattle.std.specs.Prelude.{◌≡◌, ◌∷◌, [], ◌<◌, ◌≤◌
 ghost use Rattle.wac_parser_lexer.specs.declared.token.Token.TheVariants as k;
 ghost use Rattle.wac_parser_tree.specs.Trees as t;
 ghost use Rattle.wac_parser_tree.specs.Views.{view_let_statement};
-ghost use Rattle.wac_parser_read.specs.Rules.{left};
-ghost use Rattle.wac_parser_read.specs.Reads.{Reads};
-ghost use Rattle.wac_parser_read.specs.Ahead as ahead;
-ghost use Rattle.wac_parser_read.specs.Documents as grammar;
+ghost use Rattle.wac_parser_grammar.specs.Rules.{left};
+ghost use Rattle.wac_parser_grammar.specs.Reads.{Reads};
+ghost use Rattle.wac_parser_grammar.specs.Ahead as ahead;
+ghost use Rattle.wac_parser_grammar.specs.Documents as grammar;
 
 use crate::base::parse_token;
-use crate::error::ParseResult;
 use crate::lookahead::Lookahead;
 use crate::parse::{Parse, Peek};
 use crate::text::{doc_comments, ident};
 use std::alloc::Global;
+use wac_parser_grammar::ParseResult;
 use wac_parser_lexer::{Lexer, Token};
 use wac_parser_tree::{Expr, LetStatement};
 
@@ -35,7 +35,7 @@ impl<'a> Parse<'a> for LetStatement<'a> {
 
     ghost rule = { grammar.let_statement };
 
-    #[tactic(auto, using(crate::proofs::Behind::stays, crate::proofs::Behind::passes, crate::proofs::Behind::goes_further), unfolding(crate::specs::Documents::let_statement))]
+    #[tactic(auto, using(crate::proofs::Behind::places), unfolding(wac_parser_grammar::specs::Documents::let_statement))]
     fn parse(alloc: Global, lexer: &mut Lexer<'a>) -> ParseResult<LetStatement<'a>> {
         let docs = doc_comments(alloc, lexer)?;
         parse_token(lexer, Token::LetKeyword)?;

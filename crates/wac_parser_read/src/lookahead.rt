@@ -1,14 +1,14 @@
 //! A look at the next item.
 
 ghost use Rattle.std.specs.Prelude.{◌≡◌, ◌<◌, true, false, if◌then◌else◌};
-ghost use Rattle.wac_parser_read.specs.Ahead as spec;
-ghost use Rattle.wac_parser_read.specs.Faults.{fault_of};
+ghost use Rattle.wac_parser_grammar.specs.Ahead as spec;
+ghost use Rattle.wac_parser_grammar.specs.Faults.{fault_of};
 
-use crate::error::Error;
 use std::marker::Model;
+use wac_parser_grammar::Error;
 use wac_parser_lexer::{Lexer, LexerResult, SourceSpan, Token};
 
-#[tactic(auto, unfolding(crate::specs::Ahead::same_token))]
+#[tactic(auto, unfolding(wac_parser_grammar::specs::Ahead::same_token))]
 pub(crate) fn same_token(a: Token, b: Token) -> bool
     ensures { result ≡ spec.same_token a b }
 {
@@ -25,7 +25,7 @@ pub struct Lookahead {
 }
 
 impl Model for Lookahead {
-    ghost use Rattle.wac_parser_read.specs.Ahead.{Ahead};
+    ghost use Rattle.wac_parser_grammar.specs.Ahead.{Ahead};
 
     ghost Value = { Ahead };
 
@@ -91,7 +91,7 @@ impl Lookahead {
     }
 
     /// The fault that the tried tokens make.
-    #[tactic(auto, unfolding(crate::specs::Ahead::said))]
+    #[tactic(auto, unfolding(wac_parser_grammar::specs::Ahead::said))]
     pub fn error(self) -> Error
         requires { 0 < self.count }
         ensures { fault_of result ≡ spec.said self }

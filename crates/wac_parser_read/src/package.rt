@@ -6,18 +6,18 @@ ghost use Rattle.semver.specs.Identifiers.{parts_of};
 ghost use Rattle.wac_parser_lexer.specs.declared.token.Token.TheVariants as k;
 ghost use Rattle.wac_parser_tree.specs.Trees as t;
 ghost use Rattle.wac_parser_tree.specs.Views.{view_package_name, view_package_path};
-ghost use Rattle.wac_parser_read.specs.Reads.{Reads};
+ghost use Rattle.wac_parser_grammar.specs.Reads.{Reads};
 ghost use Rattle.wac_parser_lexer.specs.Items.{Input};
 ghost use Rattle.semver.specs.Parse.{version_parts};
-ghost use Rattle.wac_parser_read.specs.declared.error.Error.TheVariants.{Memory};
-ghost use Rattle.wac_parser_read.specs.Faults as fault;
-ghost use Rattle.wac_parser_read.specs.Names as grammar;
+ghost use Rattle.wac_parser_grammar.specs.declared.error.Error.TheVariants.{Memory};
+ghost use Rattle.wac_parser_grammar.specs.Faults as fault;
+ghost use Rattle.wac_parser_grammar.specs.Names as grammar;
 
 use crate::base::parse_token;
-use crate::error::{Error, ParseResult};
 use crate::parse::Parse;
 use semver::Version;
 use std::alloc::{AllocError, Global};
+use wac_parser_grammar::{Error, ParseResult};
 use wac_parser_lexer::{Lexer, SourceSpan, Token};
 use wac_parser_tree::{PackageName, PackagePath};
 
@@ -73,7 +73,7 @@ fn read_version(alloc: Global, text: &str, span: SourceSpan) -> ParseResult<Opti
 }
 
 /// The version behind the `@` of a name that stands at a span, if it has one.
-#[tactic(auto, unfolding(crate::specs::Names::version_of))]
+#[tactic(auto, unfolding(wac_parser_grammar::specs::Names::version_of))]
 fn version_of(
     alloc: Global,
     version: Option<&str>,
@@ -95,7 +95,7 @@ impl<'a> Parse<'a> for PackageName<'a> {
 
     ghost rule = { grammar.package_name };
 
-    #[tactic(auto, using(crate::proofs::Behind::stays, crate::proofs::Behind::passes, crate::proofs::Behind::goes_further), unfolding(crate::specs::Names::package_name, crate::specs::Names::version_of))]
+    #[tactic(auto, using(crate::proofs::Behind::places), unfolding(wac_parser_grammar::specs::Names::package_name, wac_parser_grammar::specs::Names::version_of))]
     fn parse(alloc: Global, lexer: &mut Lexer<'a>) -> ParseResult<PackageName<'a>> {
         let span = parse_token(lexer, Token::PackageName)?;
         let string = lexer.source(span);
@@ -117,7 +117,7 @@ impl<'a> Parse<'a> for PackagePath<'a> {
 
     ghost rule = { grammar.package_path };
 
-    #[tactic(auto, using(crate::proofs::Behind::stays, crate::proofs::Behind::passes, crate::proofs::Behind::goes_further), unfolding(crate::specs::Names::package_path, crate::specs::Names::version_of))]
+    #[tactic(auto, using(crate::proofs::Behind::places), unfolding(wac_parser_grammar::specs::Names::package_path, wac_parser_grammar::specs::Names::version_of))]
     fn parse(alloc: Global, lexer: &mut Lexer<'a>) -> ParseResult<PackagePath<'a>> {
         let span = parse_token(lexer, Token::PackagePath)?;
         let string = lexer.source(span);

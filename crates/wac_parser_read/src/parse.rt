@@ -1,19 +1,20 @@
 //! What can be parsed, and lists of it.
+#![tactic(auto, using(crate::proofs::Behind::places))]
 
-ghost use Rattle.wac_parser_read.specs.Places.{IsBehind};
+ghost use Rattle.wac_parser_grammar.specs.Places.{IsBehind};
 ghost use Rattle.std.specs.Prelude.{◌≡◌, ◌∷◌, [], ◌<◌, ◌≤◌, Bool, false, true, OnOk, OnErr, IfErr, if◌then◌else◌, List, map};
 ghost use Rattle.wac_parser_lexer.specs.declared.token.Token.{Token};
 ghost use Rattle.wac_parser_lexer.specs.Items.{Input};
-ghost use Rattle.wac_parser_read.specs.Ahead as ahead;
-ghost use Rattle.wac_parser_read.specs.Faults.{Fault, fault_of};
-ghost use Rattle.wac_parser_read.specs.Rules.{Rule, left, list_of, optional_of};
+ghost use Rattle.wac_parser_grammar.specs.Ahead as ahead;
+ghost use Rattle.wac_parser_grammar.specs.Faults.{Fault, fault_of};
+ghost use Rattle.wac_parser_grammar.specs.Rules.{Rule, left, list_of, optional_of};
 ghost use Rattle.std.specs.Option.{option_map};
-ghost use Rattle.wac_parser_read.specs.Reads.{Reads};
+ghost use Rattle.wac_parser_grammar.specs.Reads.{Reads};
 
 use crate::base::{behind, optional, sees};
-use crate::error::{Error, ParseResult};
 use crate::lookahead::Lookahead;
 use std::alloc::Global;
+use wac_parser_grammar::{Error, ParseResult};
 use wac_parser_lexer::{Lexer, Token};
 
 /// A part of a document that is known by its first token.
@@ -59,7 +60,6 @@ pub(crate) fn expect_value<T: Peek>(lexer: &Lexer<'_>, until: Token) -> ParseRes
 }
 
 /// The values up to a token, each followed by a comma or not; one behind the last may be left out.
-#[tactic(auto, using(crate::proofs::Behind::stays, crate::proofs::Behind::passes, crate::proofs::Behind::goes_further))]
 pub fn parse_delimited<'a, T: Parse<'a> + Peek>(
     alloc: Global,
     lexer: &mut Lexer<'a>,
@@ -80,7 +80,6 @@ pub fn parse_delimited<'a, T: Parse<'a> + Peek>(
 }
 
 /// A part behind the token, where that comes next; a faulty item there is refused.
-#[tactic(auto, using(crate::proofs::Behind::stays, crate::proofs::Behind::passes, crate::proofs::Behind::goes_further))]
 pub fn parse_optional<'a, T: Parse<'a>>(
     alloc: Global,
     lexer: &mut Lexer<'a>,

@@ -1,26 +1,27 @@
 //! Names, strings and doc comments.
+#![tactic(auto, using(crate::proofs::Behind::places))]
 
-ghost use Rattle.wac_parser_read.specs.Places.{IsBehind};
+ghost use Rattle.wac_parser_grammar.specs.Places.{IsBehind};
 ghost use Rattle.std.specs.Prelude.{◌≡◌, ◌∷◌, [], ◌<◌, ◌≤◌, ◌+◌, ◌^◌, true, false, map, IfOk, OnOk};
 ghost use Rattle.wac_parser_lexer.specs.Items.{docs_ahead};
 ghost use Rattle.wac_parser_lexer.specs.declared.token.Token.TheVariants as k;
 ghost use Rattle.wac_parser_tree.specs.Trees as t;
 ghost use Rattle.wac_parser_tree.specs.Views.{view_ident, view_string, view_doc_comment};
-ghost use Rattle.wac_parser_read.specs.Rules.{left};
-ghost use Rattle.wac_parser_read.specs.Reads.{Reads};
-ghost use Rattle.wac_parser_read.specs.Names as grammar;
-ghost use Rattle.wac_parser_read.specs.Ahead as ahead;
+ghost use Rattle.wac_parser_grammar.specs.Rules.{left};
+ghost use Rattle.wac_parser_grammar.specs.Reads.{Reads};
+ghost use Rattle.wac_parser_grammar.specs.Names as grammar;
+ghost use Rattle.wac_parser_grammar.specs.Ahead as ahead;
 
 use crate::base::parse_token;
-use crate::error::ParseResult;
 use crate::lookahead::Lookahead;
 use crate::parse::{Parse, Peek};
 use std::alloc::Global;
+use wac_parser_grammar::ParseResult;
 use wac_parser_lexer::{Lexer, Token};
 use wac_parser_tree::{DocComment, Ident, String};
 
 /// The doc comments before the next item, or before the end.
-#[tactic(auto, unfolding(crate::specs::Names::docs))]
+#[tactic(auto, unfolding(wac_parser_grammar::specs::Names::docs))]
 pub(crate) fn doc_comments<'a>(alloc: Global, lexer: &Lexer<'a>) -> ParseResult<Vec<DocComment<'a>>>
     ensures { Reads (λ v. map view_doc_comment v.items) grammar.docs lexer.now result lexer.now }
 {
@@ -64,7 +65,7 @@ impl<'a> Peek for Ident<'a> {
 }
 
 /// An identifier, whose span lies in the source.
-#[tactic(auto, using(crate::proofs::Behind::stays, crate::proofs::Behind::passes, crate::proofs::Behind::goes_further), unfolding(crate::specs::Names::ident))]
+#[tactic(auto, using(crate::proofs::Behind::places), unfolding(wac_parser_grammar::specs::Names::ident))]
 pub(crate) fn ident<'a>(lexer: &mut Lexer<'a>) -> ParseResult<Ident<'a>>
     ensures value { Reads view_ident grammar.ident lexer.old result lexer.new }
     ensures small { IfOk result (λ id. id.span.offset + id.span.length < 2 ^ 64) }
@@ -85,7 +86,6 @@ impl<'a> Parse<'a> for Ident<'a> {
 
     ghost rule = { grammar.ident };
 
-    #[tactic(auto, using(crate::proofs::Behind::stays, crate::proofs::Behind::passes, crate::proofs::Behind::goes_further))]
     fn parse(_alloc: Global, lexer: &mut Lexer<'a>) -> ParseResult<Ident<'a>> {
         ident(lexer)
     }
@@ -108,7 +108,7 @@ impl<'a> Parse<'a> for String<'a> {
 
     ghost rule = { grammar.string };
 
-    #[tactic(auto, using(crate::proofs::Behind::stays, crate::proofs::Behind::passes, crate::proofs::Behind::goes_further), unfolding(crate::specs::Names::string))]
+    #[tactic(auto, using(crate::proofs::Behind::places), unfolding(wac_parser_grammar::specs::Names::string))]
     fn parse(_alloc: Global, lexer: &mut Lexer<'a>) -> ParseResult<String<'a>> {
         let span = parse_token(lexer, Token::String)?;
         Ok(String {

@@ -1,6 +1,7 @@
 //! Types of values and of functions.
+#![tactic(auto, using(crate::proofs::Behind::places))]
 
-ghost use Rattle.wac_parser_read.specs.Places.{IsBehind};
+ghost use Rattle.wac_parser_grammar.specs.Places.{IsBehind};
 ghost use Rattle.std.specs.Prelude.{◌≡◌, ◌∷◌, [], ◌+◌, ◌<◌, ◌≤◌, ◌^◌, true, map, Option, OnOk, OnSome};
 ghost use Rattle.std.specs.Option.{option_map};
 ghost use Rattle.wac_parser_lexer.specs.declared.token.Token.TheVariants as k;
@@ -9,16 +10,16 @@ ghost use Rattle.wac_parser_tree.specs.Trees as t;
 ghost use Rattle.wac_parser_tree.specs.Views.{view_ty, view_boxed_ty, view_named_type, view_result_list, view_func_type, view_func_type_ref};
 ghost use Rattle.wac_parser_read.specs.Views.{view_all, view_maybe, view_payload};
 ghost use Rattle.wac_parser_lexer.specs.Items.{rest_input};
-ghost use Rattle.wac_parser_read.specs.Rules.{left, list_of, span_of_items};
-ghost use Rattle.wac_parser_read.specs.Reads.{Reads};
-ghost use Rattle.wac_parser_read.specs.Ahead as ahead;
-ghost use Rattle.wac_parser_read.specs.ValueTypes as grammar;
+ghost use Rattle.wac_parser_grammar.specs.Rules.{left, list_of, span_of_items};
+ghost use Rattle.wac_parser_grammar.specs.Reads.{Reads};
+ghost use Rattle.wac_parser_grammar.specs.Ahead as ahead;
+ghost use Rattle.wac_parser_grammar.specs.ValueTypes as grammar;
 
 use crate::base::{behind, next_span, none_of, optional, parse_token, sees, sees_any, too_deep};
-use crate::error::{Error, ParseResult};
 use crate::lookahead::Lookahead;
 use crate::parse::{Parse, Peek, expect_value, parse_delimited};
 use std::alloc::Global;
+use wac_parser_grammar::{Error, ParseResult};
 use wac_parser_lexer::{Lexer, SourceSpan, Token};
 use wac_parser_tree::{FuncType, FuncTypeRef, Ident, NamedType, ResultList, Type};
 
@@ -144,7 +145,6 @@ fn keyword_type<'a>(token: Token, span: SourceSpan) -> Option<Type<'a>>
 }
 
 /// Takes the next item where it is a type by itself.
-#[tactic(auto, using(crate::proofs::Behind::stays, crate::proofs::Behind::passes, crate::proofs::Behind::goes_further))]
 fn next_keyword_type<'a>(lexer: &mut Lexer<'a>) -> Option<Type<'a>>
     ensures value { grammar.TakesKeyword (option_map view_ty result) lexer.old lexer.new }
     ensures takes { OnSome result (left lexer.new < left lexer.old) }
@@ -162,7 +162,6 @@ fn next_keyword_type<'a>(lexer: &mut Lexer<'a>) -> Option<Type<'a>>
 
 /// A type nested no deeper than so many levels.
 #[cycle(ty)]
-#[tactic(auto, using(crate::proofs::Behind::stays, crate::proofs::Behind::passes, crate::proofs::Behind::goes_further))]
 pub(crate) fn ty_within<'a>(
     alloc: Global,
     lexer: &mut Lexer<'a>,
@@ -179,7 +178,6 @@ pub(crate) fn ty_within<'a>(
 }
 
 #[cycle(ty)]
-#[tactic(auto, using(crate::proofs::Behind::stays, crate::proofs::Behind::passes, crate::proofs::Behind::goes_further))]
 fn ty_level<'a>(alloc: Global, lexer: &mut Lexer<'a>, inside: usize) -> ParseResult<Type<'a>>
     ensures value { Reads view_ty (grammar.ty_level (grammar.ty inside)) lexer.old result lexer.new }
     ensures takes { OnOk result (left lexer.new < left lexer.old) }
@@ -192,7 +190,7 @@ fn ty_level<'a>(alloc: Global, lexer: &mut Lexer<'a>, inside: usize) -> ParseRes
 }
 
 #[cycle(ty)]
-#[tactic(auto, using(crate::proofs::Behind::stays, crate::proofs::Behind::passes, crate::proofs::Behind::goes_further), unfolding(crate::specs::ValueTypes::composed_ty))]
+#[tactic(auto, using(crate::proofs::Behind::places), unfolding(wac_parser_grammar::specs::ValueTypes::composed_ty))]
 fn composed_ty<'a>(alloc: Global, lexer: &mut Lexer<'a>, inside: usize) -> ParseResult<Type<'a>>
     ensures value { Reads view_ty (grammar.composed_ty (grammar.ty inside)) lexer.old result lexer.new }
     ensures takes { OnOk result (left lexer.new < left lexer.old) }
@@ -220,7 +218,7 @@ fn composed_ty<'a>(alloc: Global, lexer: &mut Lexer<'a>, inside: usize) -> Parse
 }
 
 #[cycle(ty)]
-#[tactic(auto, using(crate::proofs::Behind::stays, crate::proofs::Behind::passes, crate::proofs::Behind::goes_further), unfolding(crate::specs::ValueTypes::tuple_ty))]
+#[tactic(auto, using(crate::proofs::Behind::places), unfolding(wac_parser_grammar::specs::ValueTypes::tuple_ty))]
 fn tuple_ty<'a>(alloc: Global, lexer: &mut Lexer<'a>, inside: usize) -> ParseResult<Type<'a>>
     ensures value { Reads view_ty (grammar.tuple_ty (grammar.ty inside)) lexer.old result lexer.new }
     ensures takes { OnOk result (left lexer.new < left lexer.old) }
@@ -238,7 +236,6 @@ fn tuple_ty<'a>(alloc: Global, lexer: &mut Lexer<'a>, inside: usize) -> ParseRes
 
 /// The types up to a closing angle.
 #[cycle(ty)]
-#[tactic(auto, using(crate::proofs::Behind::stays, crate::proofs::Behind::passes, crate::proofs::Behind::goes_further))]
 fn types<'a>(alloc: Global, lexer: &mut Lexer<'a>, inside: usize) -> ParseResult<Vec<Type<'a>>>
     ensures value { Reads (view_all view_ty) (list_of (grammar.ty inside) grammar.type_first k.CloseAngle true) lexer.old result lexer.new }
     ensures keeps { OnOk result (left lexer.new ≤ left lexer.old) }
@@ -254,7 +251,7 @@ fn types<'a>(alloc: Global, lexer: &mut Lexer<'a>, inside: usize) -> ParseResult
 }
 
 #[cycle(ty)]
-#[tactic(auto, using(crate::proofs::Behind::stays, crate::proofs::Behind::passes, crate::proofs::Behind::goes_further), unfolding(crate::specs::ValueTypes::list_ty))]
+#[tactic(auto, using(crate::proofs::Behind::places), unfolding(wac_parser_grammar::specs::ValueTypes::list_ty))]
 fn list_ty<'a>(alloc: Global, lexer: &mut Lexer<'a>, inside: usize) -> ParseResult<Type<'a>>
     ensures value { Reads view_ty (grammar.list_ty (grammar.ty inside)) lexer.old result lexer.new }
     ensures takes { OnOk result (left lexer.new < left lexer.old) }
@@ -268,7 +265,7 @@ fn list_ty<'a>(alloc: Global, lexer: &mut Lexer<'a>, inside: usize) -> ParseResu
 }
 
 #[cycle(ty)]
-#[tactic(auto, using(crate::proofs::Behind::stays, crate::proofs::Behind::passes, crate::proofs::Behind::goes_further), unfolding(crate::specs::ValueTypes::option_ty))]
+#[tactic(auto, using(crate::proofs::Behind::places), unfolding(wac_parser_grammar::specs::ValueTypes::option_ty))]
 fn option_ty<'a>(alloc: Global, lexer: &mut Lexer<'a>, inside: usize) -> ParseResult<Type<'a>>
     ensures value { Reads view_ty (grammar.option_ty (grammar.ty inside)) lexer.old result lexer.new }
     ensures takes { OnOk result (left lexer.new < left lexer.old) }
@@ -281,7 +278,7 @@ fn option_ty<'a>(alloc: Global, lexer: &mut Lexer<'a>, inside: usize) -> ParseRe
     Ok(Type::Option(Box::new(alloc, ty)?, through(start, close)))
 }
 
-#[tactic(auto, using(crate::proofs::Behind::stays, crate::proofs::Behind::passes, crate::proofs::Behind::goes_further), unfolding(crate::specs::ValueTypes::borrow_ty))]
+#[tactic(auto, using(crate::proofs::Behind::places), unfolding(wac_parser_grammar::specs::ValueTypes::borrow_ty))]
 fn borrow_ty<'a>(alloc: Global, lexer: &mut Lexer<'a>) -> ParseResult<Type<'a>>
     ensures value { Reads view_ty grammar.borrow_ty lexer.old result lexer.new }
     ensures takes { OnOk result (left lexer.new < left lexer.old) }
@@ -296,7 +293,6 @@ fn borrow_ty<'a>(alloc: Global, lexer: &mut Lexer<'a>) -> ParseResult<Type<'a>>
 
 /// A type in a box.
 #[cycle(ty)]
-#[tactic(auto, using(crate::proofs::Behind::stays, crate::proofs::Behind::passes, crate::proofs::Behind::goes_further))]
 fn boxed_ty<'a>(alloc: Global, lexer: &mut Lexer<'a>, inside: usize) -> ParseResult<Box<Type<'a>>>
     ensures value { Reads view_boxed_ty (grammar.ty inside) lexer.old result lexer.new }
     ensures takes { OnOk result (left lexer.new < left lexer.old) }
@@ -308,7 +304,7 @@ fn boxed_ty<'a>(alloc: Global, lexer: &mut Lexer<'a>, inside: usize) -> ParseRes
 
 /// `_` or a type.
 #[cycle(ty)]
-#[tactic(auto, using(crate::proofs::Behind::stays, crate::proofs::Behind::passes, crate::proofs::Behind::goes_further), unfolding(crate::specs::ValueTypes::omitted_or))]
+#[tactic(auto, using(crate::proofs::Behind::places), unfolding(wac_parser_grammar::specs::ValueTypes::omitted_or))]
 fn omitted_or<'a>(
     alloc: Global,
     lexer: &mut Lexer<'a>,
@@ -329,7 +325,7 @@ fn omitted_or<'a>(
 }
 
 #[cycle(ty)]
-#[tactic(auto, using(crate::proofs::Behind::stays, crate::proofs::Behind::passes, crate::proofs::Behind::goes_further), unfolding(crate::specs::ValueTypes::second_part))]
+#[tactic(auto, using(crate::proofs::Behind::places), unfolding(wac_parser_grammar::specs::ValueTypes::second_part))]
 fn second_part<'a>(
     alloc: Global,
     lexer: &mut Lexer<'a>,
@@ -346,7 +342,7 @@ fn second_part<'a>(
 }
 
 #[cycle(ty)]
-#[tactic(auto, using(crate::proofs::Behind::stays, crate::proofs::Behind::passes, crate::proofs::Behind::goes_further), unfolding(crate::specs::ValueTypes::result_ty, crate::specs::ValueTypes::result_parts))]
+#[tactic(auto, using(crate::proofs::Behind::places), unfolding(wac_parser_grammar::specs::ValueTypes::result_ty, wac_parser_grammar::specs::ValueTypes::result_parts))]
 fn result_ty<'a>(alloc: Global, lexer: &mut Lexer<'a>, inside: usize) -> ParseResult<Type<'a>>
     ensures value { Reads view_ty (grammar.result_ty (grammar.ty inside)) lexer.old result lexer.new }
     ensures takes { OnOk result (left lexer.new < left lexer.old) }
@@ -372,7 +368,7 @@ fn result_ty<'a>(alloc: Global, lexer: &mut Lexer<'a>, inside: usize) -> ParseRe
 
 /// What stands behind a keyword: nothing, or a type in angles; and the span of all.
 #[cycle(ty)]
-#[tactic(auto, using(crate::proofs::Behind::stays, crate::proofs::Behind::passes, crate::proofs::Behind::goes_further), unfolding(crate::specs::ValueTypes::payload))]
+#[tactic(auto, using(crate::proofs::Behind::places), unfolding(wac_parser_grammar::specs::ValueTypes::payload))]
 fn payload<'a>(
     alloc: Global,
     lexer: &mut Lexer<'a>,
@@ -393,7 +389,7 @@ fn payload<'a>(
 
 /// Takes the next item, a keyword, and what stands behind it: nothing, or a type in angles, which
 /// is given with the span of all.
-#[tactic(auto, using(crate::proofs::Behind::stays, crate::proofs::Behind::passes, crate::proofs::Behind::goes_further), unfolding(crate::specs::ValueTypes::value_type))]
+#[tactic(auto, using(crate::proofs::Behind::places), unfolding(wac_parser_grammar::specs::ValueTypes::value_type))]
 pub fn parse_optional_payload<'a>(
     alloc: Global,
     lexer: &mut Lexer<'a>,
@@ -408,7 +404,7 @@ pub fn parse_optional_payload<'a>(
 }
 
 #[cycle(ty)]
-#[tactic(auto, using(crate::proofs::Behind::stays, crate::proofs::Behind::passes, crate::proofs::Behind::goes_further), unfolding(crate::specs::ValueTypes::stream_ty))]
+#[tactic(auto, using(crate::proofs::Behind::places), unfolding(wac_parser_grammar::specs::ValueTypes::stream_ty))]
 fn stream_ty<'a>(alloc: Global, lexer: &mut Lexer<'a>, inside: usize) -> ParseResult<Type<'a>>
     ensures value { Reads view_ty (grammar.stream_ty (grammar.ty inside)) lexer.old result lexer.new }
     ensures takes { OnOk result (left lexer.new < left lexer.old) }
@@ -420,7 +416,7 @@ fn stream_ty<'a>(alloc: Global, lexer: &mut Lexer<'a>, inside: usize) -> ParseRe
 }
 
 #[cycle(ty)]
-#[tactic(auto, using(crate::proofs::Behind::stays, crate::proofs::Behind::passes, crate::proofs::Behind::goes_further), unfolding(crate::specs::ValueTypes::future_ty))]
+#[tactic(auto, using(crate::proofs::Behind::places), unfolding(wac_parser_grammar::specs::ValueTypes::future_ty))]
 fn future_ty<'a>(alloc: Global, lexer: &mut Lexer<'a>, inside: usize) -> ParseResult<Type<'a>>
     ensures value { Reads view_ty (grammar.future_ty (grammar.ty inside)) lexer.old result lexer.new }
     ensures takes { OnOk result (left lexer.new < left lexer.old) }
@@ -448,7 +444,7 @@ impl<'a> Parse<'a> for Type<'a> {
 
     ghost rule = { grammar.value_type };
 
-    #[tactic(auto, using(crate::proofs::Behind::stays, crate::proofs::Behind::passes, crate::proofs::Behind::goes_further), unfolding(crate::specs::ValueTypes::value_type))]
+    #[tactic(auto, using(crate::proofs::Behind::places), unfolding(wac_parser_grammar::specs::ValueTypes::value_type))]
     fn parse(alloc: Global, lexer: &mut Lexer<'a>) -> ParseResult<Type<'a>> {
         ty_within(alloc, lexer, MAX_LEVELS)
     }
@@ -471,7 +467,7 @@ impl<'a> Parse<'a> for NamedType<'a> {
 
     ghost rule = { grammar.named_type };
 
-    #[tactic(auto, using(crate::proofs::Behind::stays, crate::proofs::Behind::passes, crate::proofs::Behind::goes_further), unfolding(crate::specs::ValueTypes::named_type))]
+    #[tactic(auto, using(crate::proofs::Behind::places), unfolding(wac_parser_grammar::specs::ValueTypes::named_type))]
     fn parse(alloc: Global, lexer: &mut Lexer<'a>) -> ParseResult<NamedType<'a>> {
         let id = Ident::parse(alloc, lexer)?;
         parse_token(lexer, Token::Colon)?;
@@ -481,7 +477,7 @@ impl<'a> Parse<'a> for NamedType<'a> {
 }
 
 /// A type where one begins.
-#[tactic(auto, using(crate::proofs::Behind::stays, crate::proofs::Behind::passes, crate::proofs::Behind::goes_further), unfolding(crate::specs::ValueTypes::result_list))]
+#[tactic(auto, using(crate::proofs::Behind::places), unfolding(wac_parser_grammar::specs::ValueTypes::result_list))]
 fn result_list<'a>(alloc: Global, lexer: &mut Lexer<'a>) -> ParseResult<ResultList<'a>>
     ensures value { Reads view_result_list grammar.result_list lexer.old result lexer.new }
     ensures keeps { OnOk result (left lexer.new ≤ left lexer.old) }
@@ -494,7 +490,7 @@ fn result_list<'a>(alloc: Global, lexer: &mut Lexer<'a>) -> ParseResult<ResultLi
 }
 
 /// An arrow and a type, or nothing.
-#[tactic(auto, using(crate::proofs::Behind::stays, crate::proofs::Behind::passes, crate::proofs::Behind::goes_further), unfolding(crate::specs::ValueTypes::func_results))]
+#[tactic(auto, using(crate::proofs::Behind::places), unfolding(wac_parser_grammar::specs::ValueTypes::func_results))]
 fn func_results<'a>(alloc: Global, lexer: &mut Lexer<'a>) -> ParseResult<ResultList<'a>>
     ensures value { Reads view_result_list grammar.func_results lexer.old result lexer.new }
     ensures keeps { OnOk result (left lexer.new ≤ left lexer.old) }
@@ -507,7 +503,7 @@ fn func_results<'a>(alloc: Global, lexer: &mut Lexer<'a>) -> ParseResult<ResultL
 }
 
 /// Parameters in parentheses.
-#[tactic(auto, using(crate::proofs::Behind::stays, crate::proofs::Behind::passes, crate::proofs::Behind::goes_further), unfolding(crate::specs::ValueTypes::func_params))]
+#[tactic(auto, using(crate::proofs::Behind::places), unfolding(wac_parser_grammar::specs::ValueTypes::func_params))]
 pub(crate) fn func_params<'a>(
     alloc: Global,
     lexer: &mut Lexer<'a>,
@@ -539,7 +535,7 @@ impl<'a> Parse<'a> for FuncType<'a> {
 
     ghost rule = { grammar.func_type };
 
-    #[tactic(auto, using(crate::proofs::Behind::stays, crate::proofs::Behind::passes, crate::proofs::Behind::goes_further), unfolding(crate::specs::ValueTypes::func_type))]
+    #[tactic(auto, using(crate::proofs::Behind::places), unfolding(wac_parser_grammar::specs::ValueTypes::func_type))]
     fn parse(alloc: Global, lexer: &mut Lexer<'a>) -> ParseResult<FuncType<'a>> {
         let is_async = optional(lexer, Token::AsyncKeyword)?;
         parse_token(lexer, Token::FuncKeyword)?;
@@ -560,7 +556,7 @@ impl<'a> Parse<'a> for FuncTypeRef<'a> {
 
     ghost rule = { grammar.func_type_ref };
 
-    #[tactic(auto, using(crate::proofs::Behind::stays, crate::proofs::Behind::passes, crate::proofs::Behind::goes_further), unfolding(crate::specs::ValueTypes::func_type_ref))]
+    #[tactic(auto, using(crate::proofs::Behind::places), unfolding(wac_parser_grammar::specs::ValueTypes::func_type_ref))]
     fn parse(alloc: Global, lexer: &mut Lexer<'a>) -> ParseResult<FuncTypeRef<'a>> {
         if sees_any(lexer, &FUNC_FIRST) {
             return Ok(FuncTypeRef::Func(FuncType::parse(alloc, lexer)?));

@@ -3,8 +3,8 @@ use Rattle.std.specs.Option.{is_some}
 use Rattle.std.proofs.lemmas.Result.{err_from_is_err_and}
 use Rattle.std.proofs.lemmas.List.{map-append, length-append}
 use Rattle.wac_parser_tree.specs.Views.{view_statement}
-use Rattle.wac_parser_read.specs.Rules.{left, read_all}
-use Rattle.wac_parser_read.specs.Documents.{statement}
+use Rattle.wac_parser_grammar.specs.Rules.{left, read_all}
+use Rattle.wac_parser_grammar.specs.Documents.{statement}
 use Rattle.wac_parser_read.proofs.Whiles.{test_item, goes_all, While-more, While-ends, While-fails, item_ahead, item_left}
 use Rattle.wac_parser_read.proofs.document.statements.Goals as goal
 

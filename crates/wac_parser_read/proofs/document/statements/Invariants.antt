@@ -1,7 +1,7 @@
 use Rattle.std.proofs.Common.{◌+◌, ◌≡◌, ◌≤◌, ℕ, length, map}
 use Rattle.wac_parser_tree.specs.Views.{view_statement}
-use Rattle.wac_parser_read.specs.Rules.{read_all, after_front, left}
-use Rattle.wac_parser_read.specs.Documents.{statement}
+use Rattle.wac_parser_grammar.specs.Rules.{read_all, after_front, left}
+use Rattle.wac_parser_grammar.specs.Documents.{statement}
 use Rattle.wac_parser_read.proofs.document.statements.Given as goal
 
 abbrev pub invariant-statements : goal.invariant-statements

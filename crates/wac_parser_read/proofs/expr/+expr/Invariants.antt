@@ -1,8 +1,8 @@
 use Rattle.std.proofs.Common.{◌+◌, ◌*◌, ◌≡◌, ◌≤◌, ℕ, length, map, true}
 use Rattle.wac_parser_tree.specs.Views.{view_instantiation_argument}
-use Rattle.wac_parser_read.specs.Places.{IsBehind}
-use Rattle.wac_parser_read.specs.Rules.{read_list, after_front, left}
-use Rattle.wac_parser_read.specs.Expressions.{expr, instantiation_argument, argument_first}
+use Rattle.wac_parser_grammar.specs.Places.{IsBehind}
+use Rattle.wac_parser_grammar.specs.Rules.{read_list, after_front, left}
+use Rattle.wac_parser_grammar.specs.Expressions.{expr, instantiation_argument, argument_first}
 use Rattle.wac_parser_lexer.specs.declared.token.Token.TheVariants.{CloseBrace}
 use Rattle.wac_parser_read.proofs.expr.+expr.Given as goal
 

@@ -3,12 +3,12 @@ use Rattle.std.proofs.lemmas.Result.{err_from_is_err_and}
 use Rattle.std.proofs.lemmas.List.{map-append, length-append}
 use Rattle.wac_parser_tree.specs.Views.{view_postfix_expr}
 use Rattle.wac_parser_tree.specs.Accessors.{postfix_expr_span}
-use Rattle.wac_parser_read.specs.ValueTypes.{through}
-use Rattle.wac_parser_read.specs.Ahead.{sees_any}
-use Rattle.wac_parser_read.specs.Rules.{left, read_while}
-use Rattle.wac_parser_read.specs.Expressions.{postfix_expr, postfix_first, spanning}
+use Rattle.wac_parser_grammar.specs.ValueTypes.{through}
+use Rattle.wac_parser_grammar.specs.Ahead.{sees_any}
+use Rattle.wac_parser_grammar.specs.Rules.{left, read_while}
+use Rattle.wac_parser_grammar.specs.Expressions.{postfix_expr, postfix_first, spanning}
 use Rattle.wac_parser_read.proofs.Behind.{goes_further}
-use Rattle.wac_parser_read.proofs.Lists.{begun_some}
+use Rattle.wac_parser_grammar.proofs.Lists.{begun_some}
 use Rattle.wac_parser_read.proofs.Whiles.{goes_while, While-more, While-ends, While-fails, spanning_more}
 use Rattle.wac_parser_read.proofs.expr.postfix_exprs.Goals as goal
 

@@ -1,8 +1,8 @@
 use Rattle.std.proofs.Common.{◌+◌, ◌≡◌, ◌≤◌, ℕ, length, map}
 use Rattle.wac_parser_tree.specs.Views.{view_postfix_expr}
-use Rattle.wac_parser_read.specs.Places.{IsBehind}
-use Rattle.wac_parser_read.specs.Rules.{read_while, after_front, left}
-use Rattle.wac_parser_read.specs.Expressions.{postfix_expr, postfix_first, spanning}
+use Rattle.wac_parser_grammar.specs.Places.{IsBehind}
+use Rattle.wac_parser_grammar.specs.Rules.{read_while, after_front, left}
+use Rattle.wac_parser_grammar.specs.Expressions.{postfix_expr, postfix_first, spanning}
 use Rattle.wac_parser_read.proofs.expr.postfix_exprs.Given as goal
 
 abbrev pub invariant-postfix : goal.invariant-postfix

@@ -1,8 +1,8 @@
 use Rattle.std.proofs.Common.{ℕ, List, Option, Bor, sym, subst}
 use Rattle.std.specs.Option.{option_map}
 use Rattle.semver.specs.Identifiers.{parts_of}
-use Rattle.wac_parser_read.specs.Names.{version_by}
-use Rattle.wac_parser_read.specs.Reads.{Reads}
+use Rattle.wac_parser_grammar.specs.Names.{version_by}
+use Rattle.wac_parser_grammar.specs.Reads.{Reads}
 use Rattle.wac_parser_read.proofs.package.version_of.Goals as goal
 
 pub returns-in-Some : goal.returns-in-Some

@@ -1,9 +1,9 @@
 use Rattle.std.proofs.Common.{Err, ◌≡◌, ◌∷◌, [], ◌<◌, ◌≤◌, Bool, false, true, map, length, sym, ap, ◌∙◌, arith}
 use Rattle.std.proofs.lemmas.Result.{err_from_is_err_and}
 use Rattle.std.proofs.lemmas.List.{map-append, length-append}
-use Rattle.wac_parser_read.specs.Rules.{left}
+use Rattle.wac_parser_grammar.specs.Rules.{left}
 use Rattle.wac_parser_read.proofs.Behind.{goes_further}
-use Rattle.wac_parser_read.proofs.Lists.{Rests-more, Rests-ends, Rests-begins_not, Rests-fails, Rests-fails_behind, begun_some}
+use Rattle.wac_parser_grammar.proofs.Lists.{Rests-more, Rests-ends, Rests-begins_not, Rests-fails, Rests-fails_behind, begun_some}
 use Rattle.wac_parser_read.proofs.parse.parse_delimited.Goals as goal
 
 pub returns-in_err-expect_value-clause-value : goal.returns-in_err-expect_value-clause-value

@@ -1,6 +1,6 @@
 use Rattle.std.proofs.Common.{◌+◌, ◌≡◌, ◌≤◌, ℕ, length, map}
-use Rattle.wac_parser_read.specs.Places.{IsBehind}
-use Rattle.wac_parser_read.specs.Rules.{read_list, after_front, left}
+use Rattle.wac_parser_grammar.specs.Places.{IsBehind}
+use Rattle.wac_parser_grammar.specs.Rules.{read_list, after_front, left}
 use Rattle.wac_parser_read.proofs.parse.parse_delimited.Given as goal
 
 abbrev pub invariant-items : goal.invariant-items

@@ -1,7 +1,7 @@
 use Rattle.std.proofs.Common.{◌≡◌, map, take}
 use Rattle.wac_parser_lexer.specs.Docs.{doc_of}
 use Rattle.wac_parser_tree.specs.Views.{view_doc_comment}
-use Rattle.wac_parser_read.specs.Names.{doc_comment}
+use Rattle.wac_parser_grammar.specs.Names.{doc_comment}
 use Rattle.wac_parser_read.proofs.text.doc_comments.Given as goal
 
 abbrev pub invariant-loop-c : goal.invariant-loop-c

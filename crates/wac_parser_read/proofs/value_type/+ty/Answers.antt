@@ -3,10 +3,10 @@ use Rattle.std.proofs.lemmas.Result.{err_from_is_err_and}
 use Rattle.std.proofs.lemmas.List.{map-append, length-append}
 use Rattle.wac_parser_lexer.specs.declared.token.Token.TheVariants as k
 use Rattle.wac_parser_tree.specs.Views.{view_ty}
-use Rattle.wac_parser_read.specs.Rules.{left}
-use Rattle.wac_parser_read.specs.ValueTypes.{ty, ty_level, composed_ty, type_first}
+use Rattle.wac_parser_grammar.specs.Rules.{left}
+use Rattle.wac_parser_grammar.specs.ValueTypes.{ty, ty_level, composed_ty, type_first}
 use Rattle.wac_parser_read.proofs.Behind.{goes_further}
-use Rattle.wac_parser_read.proofs.Lists.{deeper, Rests-more, Rests-ends, Rests-begins_not, Rests-fails, Rests-fails_behind, begun_some}
+use Rattle.wac_parser_grammar.proofs.Lists.{deeper, Rests-more, Rests-ends, Rests-begins_not, Rests-fails, Rests-fails_behind, begun_some}
 use Rattle.wac_parser_read.proofs.Types.{too_deep_reads, taken_type, passed_type}
 use Rattle.wac_parser_read.proofs.value_type.+ty.Goals as goal
 

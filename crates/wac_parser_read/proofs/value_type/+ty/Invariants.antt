@@ -1,8 +1,8 @@
 use Rattle.std.proofs.Common.{◌+◌, ◌*◌, ◌≡◌, ◌≤◌, ℕ, length, map, true}
 use Rattle.wac_parser_tree.specs.Views.{view_ty}
-use Rattle.wac_parser_read.specs.Places.{IsBehind}
-use Rattle.wac_parser_read.specs.Rules.{read_list, after_front, left}
-use Rattle.wac_parser_read.specs.ValueTypes.{ty, type_first}
+use Rattle.wac_parser_grammar.specs.Places.{IsBehind}
+use Rattle.wac_parser_grammar.specs.Rules.{read_list, after_front, left}
+use Rattle.wac_parser_grammar.specs.ValueTypes.{ty, type_first}
 use Rattle.wac_parser_lexer.specs.declared.token.Token.TheVariants.{CloseAngle}
 use Rattle.wac_parser_read.proofs.value_type.+ty.Given as goal
 

@@ -1,5 +1,5 @@
 use Rattle.std.proofs.Common.{◌≡◌, drop}
-use Rattle.wac_parser_read.specs.Ahead.{tried_all}
+use Rattle.wac_parser_grammar.specs.Ahead.{tried_all}
 use Rattle.wac_parser_read.proofs.lookahead.Lookahead.add_all.Given as goal
 
 abbrev pub invariant-loop-token : goal.invariant-loop-token

@@ -1,5 +1,5 @@
 use Rattle.std.proofs.Common.{◌≡◌, take, drop, false}
-use Rattle.wac_parser_read.specs.Ahead.{tried_all, is_any, token_of}
+use Rattle.wac_parser_grammar.specs.Ahead.{tried_all, is_any, token_of}
 use Rattle.wac_parser_read.proofs.lookahead.Lookahead.peek_any.Given as goal
 
 abbrev pub invariant-loop-token : goal.invariant-loop-token

@@ -1,0 +1,67 @@
+-- The faults of statements and documents stand in the source.
+use Rattle.std.proofs.Common.{◌≡◌, ℕ, zero, suc, ◌⊎◌, inl, inr, Bool, true, false, List, [], ◌∷◌, ◌++◌, Option, Some, None, Result, Ok, Err, refl, ap, sym, subst, ◌∙◌, cond}
+use Rattle.wac_parser_lexer.specs.declared.span.SourceSpan.{SourceSpan}
+use Rattle.wac_parser_lexer.specs.declared.token.Token.{Token}
+use Rattle.wac_parser_lexer.specs.declared.token.Token.TheVariants as k
+use Rattle.wac_parser_lexer.specs.Items.{Input}
+use Rattle.wac_parser_tree.specs.Trees as t
+use Rattle.wac_parser_grammar.specs.Rules.{Rule, ◌>>=◌, token, look, choose, begin, begin_any, pure, refuse, list_of}
+use Rattle.wac_parser_grammar.proofs.Faithful.{Faithful, Any, Else, anywhere, bind_faithful, pure_faithful, look_faithful, choose_faithful, none_both, refuse_faithful, cause_faithful, token_faithful, begin_faithful, begin_any_faithful, optional_faithful}
+use Rattle.wac_parser_grammar.proofs.FaithfulLists.{list_faithful, while_faithful, all_faithful}
+use Rattle.wac_parser_grammar.specs.ValueTypes.{func_first}
+use Rattle.wac_parser_grammar.specs.Expressions.{name_first}
+use Rattle.wac_parser_grammar.specs.Declarations.{type_decl_first}
+use Rattle.wac_parser_grammar.specs.Documents.{statement_first, type_statement_first, extern_name, import_type, import_name, import_statement, let_statement, export_options, export_statement, type_statement, statement, targets, package_directive, document}
+use Rattle.wac_parser_grammar.proofs.NameFaults.{docs_faithful, ident_faithful, string_faithful, package_name_faithful, package_path_faithful}
+use Rattle.wac_parser_grammar.proofs.TypeFaults.{func_type_faithful}
+use Rattle.wac_parser_grammar.proofs.ExprFaults.{expression_faithful}
+use Rattle.wac_parser_grammar.proofs.DeclFaults.{type_decl_faithful}
+use Rattle.wac_parser_grammar.proofs.WorldFaults.{inline_interface_faithful, interface_decl_faithful, world_decl_faithful}
+
+pub extern_name_faithful : Faithful Any extern_name
+unfolding extern_name
+extern_name_faithful = begin_faithful k.Ident _ _ (bind_faithful _ _ (ident_faithful) (λ v0. pure_faithful _)) (begin_faithful k.String _ _ (bind_faithful _ _ (anywhere (string_faithful)) (λ v0. pure_faithful _)) (refuse_faithful _ (λ s h. none_both _ _ _ h.0.1 h.1)))
+
+pub import_type_faithful : Faithful Any import_type
+unfolding import_type
+import_type_faithful = begin_any_faithful func_first _ _ (bind_faithful _ _ (func_type_faithful) (λ v0. pure_faithful _)) (begin_faithful k.InterfaceKeyword _ _ (bind_faithful _ _ (anywhere (inline_interface_faithful)) (λ v0. pure_faithful _)) (begin_faithful k.PackagePath _ _ (bind_faithful _ _ (anywhere (package_path_faithful)) (λ v0. pure_faithful _)) (begin_faithful k.Ident _ _ (bind_faithful _ _ (anywhere (ident_faithful)) (λ v0. pure_faithful _)) (refuse_faithful _ (λ s h. none_both _ _ _ h.0.0.0.1 (none_both _ _ _ h.0.0.1 (none_both _ _ _ h.0.1 h.1)))))))
+
+pub import_name_faithful : Faithful Any import_name
+unfolding import_name
+import_name_faithful = bind_faithful _ _ (optional_faithful k.AsKeyword) (λ v0. choose_faithful v0 _ _ (bind_faithful _ _ (extern_name_faithful) (λ v1. pure_faithful _)) (pure_faithful _))
+
+pub import_statement_faithful : Faithful Any import_statement
+unfolding import_statement
+import_statement_faithful = bind_faithful _ _ (docs_faithful) (λ v0. bind_faithful _ _ (token_faithful k.ImportKeyword) (λ v1. bind_faithful _ _ (ident_faithful) (λ v2. bind_faithful _ _ (import_name_faithful) (λ v3. bind_faithful _ _ (token_faithful k.Colon) (λ v4. bind_faithful _ _ (import_type_faithful) (λ v5. bind_faithful _ _ (token_faithful k.Semicolon) (λ v6. pure_faithful _)))))))
+
+pub let_statement_faithful : Faithful Any let_statement
+unfolding let_statement
+let_statement_faithful = bind_faithful _ _ (docs_faithful) (λ v0. bind_faithful _ _ (token_faithful k.LetKeyword) (λ v1. bind_faithful _ _ (ident_faithful) (λ v2. bind_faithful _ _ (token_faithful k.Equals) (λ v3. bind_faithful _ _ (expression_faithful) (λ v4. bind_faithful _ _ (token_faithful k.Semicolon) (λ v5. pure_faithful _))))))
+
+pub export_options_faithful : Faithful Any export_options
+unfolding export_options
+export_options_faithful = begin_faithful k.Ellipsis _ _ (bind_faithful _ _ (token_faithful k.Ellipsis) (λ v0. pure_faithful _)) (begin_faithful k.AsKeyword _ _ (bind_faithful _ _ (bind_faithful _ _ (anywhere (token_faithful k.AsKeyword)) (λ v0. extern_name_faithful)) (λ v0. pure_faithful _)) (pure_faithful _))
+
+pub export_statement_faithful : Faithful Any export_statement
+unfolding export_statement
+export_statement_faithful = bind_faithful _ _ (docs_faithful) (λ v0. bind_faithful _ _ (token_faithful k.ExportKeyword) (λ v1. bind_faithful _ _ (expression_faithful) (λ v2. bind_faithful _ _ (export_options_faithful) (λ v3. bind_faithful _ _ (token_faithful k.Semicolon) (λ v4. pure_faithful _)))))
+
+pub type_statement_faithful : Faithful Any type_statement
+unfolding type_statement
+type_statement_faithful = begin_faithful k.InterfaceKeyword _ _ (bind_faithful _ _ (interface_decl_faithful) (λ v0. pure_faithful _)) (begin_faithful k.WorldKeyword _ _ (bind_faithful _ _ (anywhere (world_decl_faithful)) (λ v0. pure_faithful _)) (begin_any_faithful type_decl_first _ _ (bind_faithful _ _ (anywhere (type_decl_faithful)) (λ v0. pure_faithful _)) (refuse_faithful _ (λ s h. none_both _ _ _ h.0.0.1 (none_both _ _ _ h.0.1 h.1)))))
+
+pub statement_faithful : Faithful Any statement
+unfolding statement
+statement_faithful = begin_faithful k.ImportKeyword _ _ (bind_faithful _ _ (import_statement_faithful) (λ v0. pure_faithful _)) (begin_faithful k.LetKeyword _ _ (bind_faithful _ _ (anywhere (let_statement_faithful)) (λ v0. pure_faithful _)) (begin_faithful k.ExportKeyword _ _ (bind_faithful _ _ (anywhere (export_statement_faithful)) (λ v0. pure_faithful _)) (begin_any_faithful type_statement_first _ _ (bind_faithful _ _ (anywhere (type_statement_faithful)) (λ v0. pure_faithful _)) (refuse_faithful _ (λ s h. none_both _ _ _ h.0.0.0.1 (none_both _ _ _ h.0.0.1 (none_both _ _ _ h.0.1 h.1)))))))
+
+pub targets_faithful : Faithful Any targets
+unfolding targets
+targets_faithful = bind_faithful _ _ (optional_faithful k.TargetsKeyword) (λ v0. choose_faithful v0 _ _ (bind_faithful _ _ (package_path_faithful) (λ v1. pure_faithful _)) (pure_faithful _))
+
+pub package_directive_faithful : Faithful Any package_directive
+unfolding package_directive
+package_directive_faithful = bind_faithful _ _ (token_faithful k.PackageKeyword) (λ v0. bind_faithful _ _ (package_name_faithful) (λ v1. bind_faithful _ _ (targets_faithful) (λ v2. bind_faithful _ _ (token_faithful k.Semicolon) (λ v3. pure_faithful _))))
+
+pub document_faithful : Faithful Any document
+unfolding document
+document_faithful = bind_faithful _ _ (docs_faithful) (λ v0. bind_faithful _ _ (package_directive_faithful) (λ v1. bind_faithful _ _ (all_faithful statement statement_faithful) (λ v2. pure_faithful _)))

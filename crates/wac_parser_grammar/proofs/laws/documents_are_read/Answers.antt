@@ -1,0 +1,37 @@
+use Rattle.std.proofs.Common.{◌≡◌, ◌↔◌, ℕ, List, [], ◌∷◌, Option, Some, None, Result, Ok, Err, refl, ap, sym, subst, ◌∙◌}
+use Rattle.wac_parser_lexer.specs.declared.span.SourceSpan.{SourceSpan}
+use Rattle.wac_parser_lexer.specs.declared.error.Error.{Error}
+use Rattle.wac_parser_lexer.specs.Items.{Input, input_of}
+use Rattle.wac_parser_lexer.specs.Refused.{first_refused}
+use Rattle.wac_parser_tree.specs.Trees as t
+use Rattle.wac_parser_grammar.specs.Faults.{Fault}
+use Rattle.wac_parser_grammar.specs.Rules.{Rule, IsAll}
+use Rattle.wac_parser_grammar.specs.Reads.{by_refusal, read_source}
+use Rattle.wac_parser_grammar.specs.Documents.{document, statement}
+use Rattle.wac_parser_grammar.specs.Laws.{IsDocument}
+use Rattle.wac_parser_grammar.proofs.Exact.{Exact}
+use Rattle.wac_parser_grammar.proofs.DocumentLaws.{document_exact}
+use Rattle.wac_parser_grammar.proofs.laws.documents_are_read.Goals as goal
+
+all_ends : (xs : List t.Statement) (s r : Input) → IsAll statement.Is xs s r → r.items ≡ []
+all_ends [] s r h = ap (λ (m : Input). m.items) h.1 ∙ h.0
+all_ends (x ∷ xs) s r h = all_ends xs h.0 r h.2
+
+document_ends : (d : t.Document) (s r : Input) → document.Is d s r → r.items ≡ []
+unfolding document
+document_ends d s r h =
+    let all = all_ends h.3.3.0 h.3.1 h.3.3.1 h.3.3.2 in ap (λ (m : Input). m.items) h.3.3.3.1 ∙ all
+
+read_by : (o : Option (Error × SourceSpan)) (r : Result (t.Document × Input) Fault) (d : t.Document) → by_refusal o r ≡ Ok d → (o ≡ None) × (end : Input) × (r ≡ Ok (d, end))
+read_by (Some e) r d h = cc
+read_by None (Ok p) d h = (refl, p.1, let same : p.0 ≡ d = cc in ap (λ (x : t.Document). Ok (x, p.1)) same)
+read_by None (Err f) d h = cc
+
+pub returns : goal.returns
+returns c = λ source d. (
+  (λ e.
+      let b = read_by (first_refused source) (document.read (input_of source)) d e in
+      let is = document_exact.sound (input_of source) d b.1 b.2 in
+      (b.0, b.1, document_ends d (input_of source) b.1 is, is)),
+  (λ h. rw (h.0, document_exact.complete (input_of source) d h.1 h.3) refl),
+)

@@ -1,0 +1,82 @@
+-- Each rule, by its own law.
+use Rattle.std.proofs.Common.{◌≡◌, ℕ, Err}
+use Rattle.wac_parser_grammar.specs.Rules.{Rule}
+use Rattle.wac_parser_grammar.specs.Laws.{FaultsStand}
+use Rattle.wac_parser_grammar.specs.Expressions.{expr}
+use Rattle.wac_parser_grammar.proofs.ExprLaws.{expr_exact, expr_takes}
+use Rattle.wac_parser_grammar.proofs.Faithful.{Faithful, Any}
+use Rattle.wac_parser_grammar.proofs.NameFaults.{docs_faithful, ident_faithful, string_faithful, package_name_faithful, package_path_faithful}
+use Rattle.wac_parser_grammar.proofs.TypeFaults.{value_type_faithful, named_type_faithful, func_type_faithful, func_type_ref_faithful}
+use Rattle.wac_parser_grammar.proofs.ExprFaults.{argument_name_faithful, access_expr_faithful, named_access_expr_faithful, expression_faithful, instantiation_argument_faithful, named_argument_faithful, nested_expr_faithful, new_expr_faithful, primary_expr_faithful, expr_faithful}
+use Rattle.wac_parser_grammar.proofs.DeclFaults.{variant_case_faithful, variant_decl_faithful, field_faithful, record_decl_faithful, flag_faithful, flags_decl_faithful, enum_case_faithful, enum_decl_faithful, type_alias_kind_faithful, type_alias_faithful, constructor_faithful, method_faithful, resource_method_faithful, resource_decl_faithful, type_decl_faithful, item_type_decl_faithful}
+use Rattle.wac_parser_grammar.proofs.WorldFaults.{use_path_faithful, use_item_faithful, use_types_faithful, interface_export_faithful, interface_item_faithful, interface_decl_faithful, inline_interface_faithful, extern_type_faithful, named_world_item_faithful, world_item_path_faithful, world_import_faithful, world_export_faithful, world_ref_faithful, world_include_item_faithful, world_include_faithful, world_item_faithful, world_decl_faithful}
+use Rattle.wac_parser_grammar.proofs.DocumentFaults.{extern_name_faithful, import_type_faithful, import_statement_faithful, let_statement_faithful, export_options_faithful, export_statement_faithful, type_statement_faithful, statement_faithful, package_directive_faithful, document_faithful}
+use Rattle.wac_parser_grammar.proofs.laws.faults_stand.Goals as goal
+
+stand : {X : Type 0} (p : Rule X) → Faithful Any p → FaultsStand p
+stand p e = λ s f h. e.stands s f tt h
+
+pub returns : goal.returns
+returns c = record {
+  docs = stand _ docs_faithful;
+  ident = stand _ ident_faithful;
+  string = stand _ string_faithful;
+  package_name = stand _ package_name_faithful;
+  package_path = stand _ package_path_faithful;
+  value_type = stand _ value_type_faithful;
+  named_type = stand _ named_type_faithful;
+  func_type = stand _ func_type_faithful;
+  func_type_ref = stand _ func_type_ref_faithful;
+  argument_name = stand _ argument_name_faithful;
+  access_expr = stand _ access_expr_faithful;
+  named_access_expr = stand _ named_access_expr_faithful;
+  expression = stand _ expression_faithful;
+  instantiation_argument = λ depth. stand _ (instantiation_argument_faithful (expr depth) (expr_exact depth) (expr_takes depth) (expr_faithful depth));
+  named_argument = λ depth. stand _ (named_argument_faithful (expr depth) (expr_exact depth) (expr_takes depth) (expr_faithful depth));
+  nested_expr = λ depth. stand _ (nested_expr_faithful (expr depth) (expr_exact depth) (expr_takes depth) (expr_faithful depth));
+  new_expr = λ depth. stand _ (new_expr_faithful (expr depth) (expr_exact depth) (expr_takes depth) (expr_faithful depth));
+  primary_expr = λ depth. stand _ (primary_expr_faithful (expr depth) (expr_exact depth) (expr_takes depth) (expr_faithful depth));
+  variant_case = stand _ variant_case_faithful;
+  variant_decl = stand _ variant_decl_faithful;
+  field = stand _ field_faithful;
+  record_decl = stand _ record_decl_faithful;
+  flag = stand _ flag_faithful;
+  flags_decl = stand _ flags_decl_faithful;
+  enum_case = stand _ enum_case_faithful;
+  enum_decl = stand _ enum_decl_faithful;
+  type_alias_kind = stand _ type_alias_kind_faithful;
+  type_alias = stand _ type_alias_faithful;
+  constructor = stand _ constructor_faithful;
+  method = stand _ method_faithful;
+  resource_method = stand _ resource_method_faithful;
+  resource_decl = stand _ resource_decl_faithful;
+  type_decl = stand _ type_decl_faithful;
+  item_type_decl = stand _ item_type_decl_faithful;
+  use_path = stand _ use_path_faithful;
+  use_item = stand _ use_item_faithful;
+  use_types = stand _ use_types_faithful;
+  interface_export = stand _ interface_export_faithful;
+  interface_item = stand _ interface_item_faithful;
+  interface_decl = stand _ interface_decl_faithful;
+  inline_interface = stand _ inline_interface_faithful;
+  extern_type = stand _ extern_type_faithful;
+  named_world_item = stand _ named_world_item_faithful;
+  world_item_path = stand _ world_item_path_faithful;
+  world_import = stand _ world_import_faithful;
+  world_export = stand _ world_export_faithful;
+  world_ref = stand _ world_ref_faithful;
+  world_include_item = stand _ world_include_item_faithful;
+  world_include = stand _ world_include_faithful;
+  world_item = stand _ world_item_faithful;
+  world_decl = stand _ world_decl_faithful;
+  extern_name = stand _ extern_name_faithful;
+  import_type = stand _ import_type_faithful;
+  import_statement = stand _ import_statement_faithful;
+  let_statement = stand _ let_statement_faithful;
+  export_options = stand _ export_options_faithful;
+  export_statement = stand _ export_statement_faithful;
+  type_statement = stand _ type_statement_faithful;
+  statement = stand _ statement_faithful;
+  package_directive = stand _ package_directive_faithful;
+  document = stand _ document_faithful;
+}

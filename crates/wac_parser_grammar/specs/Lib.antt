@@ -1,0 +1,17 @@
+pub mod Places
+pub mod Faults
+pub mod Ahead
+pub mod Rules
+pub mod Reads
+pub mod Names
+pub mod ValueTypes
+pub mod Expressions
+pub mod Declarations
+pub mod Worlds
+pub mod Documents
+pub mod Standing
+pub mod Laws
+pub mod Forms
+pub mod FormsOfDeclarations
+pub mod FormLaws
+pub mod FormDepths

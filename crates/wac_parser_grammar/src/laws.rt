@@ -1,0 +1,30 @@
+//! What holds of the definitions, for those who reason by them.
+
+ghost use Rattle.wac_parser_grammar.specs.Laws.{RulesAreExact, TreesAreBegun, DocumentsAreRead, AllFaultsStand, DocumentFaultsStand};
+
+/// Each rule reads a value exactly where the items spell it, with exactly those items.
+pub fn rules_are_exact()
+    ensures { RulesAreExact }
+{}
+
+/// Where a tree is spelled that is known by its first token, one of those tokens comes next, and
+/// is taken.
+pub fn trees_are_begun()
+    ensures { TreesAreBegun }
+{}
+
+/// A source is read as a document exactly where it spells it.
+pub fn documents_are_read()
+    ensures { DocumentsAreRead }
+{}
+
+/// Each fault that a rule meets is that of an item of the source, or of its end, and names what
+/// stands there: no expected token does.
+pub fn faults_stand()
+    ensures { AllFaultsStand }
+{}
+
+/// A source that is not read as a document has a fault that stands in it.
+pub fn document_faults_stand()
+    ensures { DocumentFaultsStand }
+{}
