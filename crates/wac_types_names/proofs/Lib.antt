@@ -1,5 +1,4 @@
-pub mod NameForms
-pub mod InterfaceForms
+pub mod Places
 pub mod TrackTexts
 pub mod VersionOrder
 pub mod Latest

@@ -4,8 +4,6 @@ pub mod NameMaps
 pub mod KeyTexts
 pub mod Spellings
 pub mod Lending
-pub mod InterfaceNames
-pub mod NameTests
 pub mod Packaged
 pub mod Viewed
 pub mod Keys

@@ -1,13 +1,30 @@
 //! The definitions of a package.
 
-ghost use Rattle.std.specs.Prelude.{◌≡◌, IfOk};
+ghost use Rattle.std.specs.Prelude.{◌≡◌, IfOk, Some};
+ghost use Rattle.std.specs.Bool.{Decides};
+ghost use Rattle.wac_graph_bytes.specs.ComponentNames.{IsInterfaceName};
+ghost use Rattle.wac_graph_bytes.specs.declared.names.NameKind.TheVariants as kind;
 ghost use Rattle.wac_types_base.specs.Collection.{Stands};
 ghost use Rattle.wac_types_base.specs.declared.item.«Type».{«Type» as TypeKind};
 ghost use Rattle.wac_types_names.specs.Packages.{meaning, IsMeaning, DefinitionsOf};
 
-use crate::interface_name::is_interface_name;
 use std::alloc::{AllocError, Global};
+use wac_graph_bytes::{NameKind, component_name};
 use wac_types_base::{ItemKind, NamedMap, Type, Types, WorldId};
+
+/// Whether a name of that kind is one of an interface.
+fn is_interface(name: Option<NameKind>) -> bool
+    ensures { Decides result (name ≡ Some kind.Interface) }
+{
+    matches!(name, Some(NameKind::Interface))
+}
+
+/// Whether the text is the name of an interface.
+fn is_interface_name(alloc: Global, text: &str) -> Result<bool, AllocError>
+    ensures { IfOk result (λ b. Decides b (IsInterfaceName text.now)) }
+{
+    Ok(is_interface(component_name(alloc, text)?))
+}
 
 /// The type of an instance or a component.
 fn meaning_of(item: ItemKind) -> Option<ItemKind>

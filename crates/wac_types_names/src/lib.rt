@@ -3,7 +3,6 @@
 
 mod copies;
 mod definitions;
-mod interface_name;
 mod laws;
 pub mod names;
 pub mod package;

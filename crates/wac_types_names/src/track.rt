@@ -1,11 +1,10 @@
 //! Names on version tracks.
 
-ghost use Rattle.std.specs.Prelude.{◌≡◌, ◌↔◌, ◌<◌, ◌≤◌, ◌+◌, ◌==◌, ℕ, length, drop, take, slice_index, Some, None, IsTrue, IsOk, IfOk, option_map, MatchOption};
+ghost use Rattle.std.specs.Prelude.{◌≡◌, position, ◌↔◌, ◌<◌, ◌≤◌, ◌+◌, ◌==◌, ℕ, length, drop, take, slice_index, Some, None, IsTrue, IsOk, IfOk, option_map, MatchOption};
 ghost use Rattle.std.specs.List.{position_or_len};
 ghost use Rattle.semver.specs.Identifiers.{parts_of};
 ghost use Rattle.wac_types_names.specs.Tracks.{read_version, track_text, lookup_key, AreCompatible, key_view};
 
-use crate::interface_name::place_of;
 use semver::{Error, Version};
 use std::alloc::{AllocError, Global};
 
@@ -24,6 +23,13 @@ fn read_version(alloc: Global, text: &str) -> Result<Option<Version>, AllocError
             }
         }
     }
+}
+
+/// Where the first such byte stands.
+fn place_of(text: &[u8], byte: u8) -> Option<usize>
+    ensures { result ≡ position (λ b. b == byte) text.now }
+{
+    text.iter().position(|b| *b == byte)
 }
 
 /// Where the first dot from that place on stands.

@@ -1,0 +1,5 @@
+use Rattle.wac_graph_bytes.specs.declared.names.NameKind.TheVariants as kind
+use Rattle.wac_types_names.proofs.definitions.is_interface_name.Goals as goal
+
+pub returns : goal.returns
+returns c = let named = c.in_ok-component_name.ensures.kind kind.Interface in (λ e. named.0 (c.is_interface.ensures.0 e), λ h. c.is_interface.ensures.1 (named.1 h))
