@@ -1,17 +1,14 @@
 -- The faults of declarations stand in the source.
-use Rattle.std.proofs.Common.{◌≡◌, ℕ, zero, suc, ◌⊎◌, inl, inr, Bool, true, false, List, [], ◌∷◌, ◌++◌, Option, Some, None, Result, Ok, Err, refl, ap, sym, subst, ◌∙◌, cond}
-use Rattle.wac_parser_lexer.specs.declared.span.SourceSpan.{SourceSpan}
+use Rattle.std.proofs.Common.{Bool, false, List}
 use Rattle.wac_parser_lexer.specs.declared.token.Token.{Token}
 use Rattle.wac_parser_lexer.specs.declared.token.Token.TheVariants as k
-use Rattle.wac_parser_lexer.specs.Items.{Input}
-use Rattle.wac_parser_tree.specs.Trees as t
-use Rattle.wac_parser_grammar.specs.Rules.{Rule, ◌>>=◌, token, look, choose, begin, begin_any, pure, refuse, list_of}
-use Rattle.wac_parser_grammar.proofs.Faithful.{Faithful, Any, Else, anywhere, bind_faithful, pure_faithful, look_faithful, choose_faithful, none_both, refuse_faithful, cause_faithful, token_faithful, begin_faithful, begin_any_faithful, optional_faithful}
-use Rattle.wac_parser_grammar.proofs.FaithfulLists.{list_faithful, while_faithful, all_faithful}
+use Rattle.wac_parser_grammar.specs.Rules.{Rule}
+use Rattle.wac_parser_grammar.proofs.Faithful.{Faithful, Any, anywhere, bind_faithful, pure_faithful, choose_faithful, none_both, refuse_faithful, token_faithful, begin_faithful, begin_any_faithful, optional_faithful}
+use Rattle.wac_parser_grammar.proofs.FaithfulLists.{list_faithful}
 use Rattle.wac_parser_grammar.specs.declared.error.DeclaredType.TheVariants as declared
 use Rattle.wac_parser_grammar.specs.declared.error.MemberKind.TheVariants as member
 use Rattle.wac_parser_grammar.specs.ValueTypes.{type_first, func_first}
-use Rattle.wac_parser_grammar.specs.Declarations.{type_decl_first, item_type_decl_first, method_first, body, members, case_type, variant_case, variant_cases, variant_decl, field, record_fields, record_decl, flag, flags_members, flags_decl, enum_case, enum_cases, enum_decl, type_alias_kind, type_alias, constructor, static_mark, method, resource_method, resource_methods, resource_decl, type_decl, item_type_decl}
+use Rattle.wac_parser_grammar.specs.Declarations.{method_first, body, case_type, variant_case, variant_cases, variant_decl, field, record_fields, record_decl, flag, flags_members, flags_decl, enum_case, enum_cases, enum_decl, type_alias_kind, type_alias, constructor, static_mark, method, resource_method, resource_methods, resource_decl, type_decl, item_type_decl}
 use Rattle.wac_parser_grammar.proofs.Exact.{Exact, Takes}
 use Rattle.wac_parser_grammar.proofs.DeclLaws.{variant_case_exact, variant_case_begins, variant_case_takes, field_exact, field_begins, field_takes, flag_exact, flag_begins, flag_takes, enum_case_exact, enum_case_begins, enum_case_takes, resource_method_exact, resource_method_takes}
 use Rattle.wac_parser_grammar.proofs.EarlierFaults.{members_faithful}

@@ -1,17 +1,10 @@
 -- The faults of statements and documents stand in the source.
-use Rattle.std.proofs.Common.{◌≡◌, ℕ, zero, suc, ◌⊎◌, inl, inr, Bool, true, false, List, [], ◌∷◌, ◌++◌, Option, Some, None, Result, Ok, Err, refl, ap, sym, subst, ◌∙◌, cond}
-use Rattle.wac_parser_lexer.specs.declared.span.SourceSpan.{SourceSpan}
-use Rattle.wac_parser_lexer.specs.declared.token.Token.{Token}
 use Rattle.wac_parser_lexer.specs.declared.token.Token.TheVariants as k
-use Rattle.wac_parser_lexer.specs.Items.{Input}
-use Rattle.wac_parser_tree.specs.Trees as t
-use Rattle.wac_parser_grammar.specs.Rules.{Rule, ◌>>=◌, token, look, choose, begin, begin_any, pure, refuse, list_of}
-use Rattle.wac_parser_grammar.proofs.Faithful.{Faithful, Any, Else, anywhere, bind_faithful, pure_faithful, look_faithful, choose_faithful, none_both, refuse_faithful, cause_faithful, token_faithful, begin_faithful, begin_any_faithful, optional_faithful}
-use Rattle.wac_parser_grammar.proofs.FaithfulLists.{list_faithful, while_faithful, all_faithful}
+use Rattle.wac_parser_grammar.proofs.Faithful.{Faithful, Any, anywhere, bind_faithful, pure_faithful, choose_faithful, none_both, refuse_faithful, token_faithful, begin_faithful, begin_any_faithful, optional_faithful}
+use Rattle.wac_parser_grammar.proofs.FaithfulLists.{all_faithful}
 use Rattle.wac_parser_grammar.specs.ValueTypes.{func_first}
-use Rattle.wac_parser_grammar.specs.Expressions.{name_first}
 use Rattle.wac_parser_grammar.specs.Declarations.{type_decl_first}
-use Rattle.wac_parser_grammar.specs.Documents.{statement_first, type_statement_first, extern_name, import_type, import_name, import_statement, let_statement, export_options, export_statement, type_statement, statement, targets, package_directive, document}
+use Rattle.wac_parser_grammar.specs.Documents.{type_statement_first, extern_name, import_type, import_name, import_statement, let_statement, export_options, export_statement, type_statement, statement, targets, package_directive, document}
 use Rattle.wac_parser_grammar.proofs.NameFaults.{docs_faithful, ident_faithful, string_faithful, package_name_faithful, package_path_faithful}
 use Rattle.wac_parser_grammar.proofs.TypeFaults.{func_type_faithful}
 use Rattle.wac_parser_grammar.proofs.ExprFaults.{expression_faithful}

@@ -1,5 +1,5 @@
 -- Faults that stand at a token before the place where they are found.
-use Rattle.std.proofs.Common.{◌≡◌, ℕ, ◌⊎◌, inl, inr, true, List, [], ◌∷◌, Option, Some, None, Result, Ok, Err, length, refl, ap, subst, sym, ◌∙◌}
+use Rattle.std.proofs.Common.{◌≡◌, ℕ, inl, inr, true, List, [], ◌∷◌, Option, Some, None, Result, Ok, Err, length, refl, ap, subst, sym, ◌∙◌}
 use Rattle.semver.specs.Parse.{version_parts}
 use Rattle.semver.specs.declared.error.Error.{Error}
 use Rattle.wac_parser_lexer.specs.declared.span.SourceSpan.{SourceSpan}
@@ -15,7 +15,7 @@ use Rattle.wac_parser_grammar.specs.Rules.{Rule, ◌>>=◌, token, pure, slice, 
 use Rattle.wac_parser_grammar.specs.Names.{behind_first, end_of, version_read, version_by, version_of}
 use Rattle.wac_parser_grammar.specs.Declarations.{some_member, members}
 use Rattle.wac_parser_grammar.specs.Places.{IsBehind, here, on}
-use Rattle.wac_parser_grammar.specs.Standing.{IsNamed, StandsAt, Stands}
+use Rattle.wac_parser_grammar.specs.Standing.{IsNamed, Stands}
 use Rattle.wac_parser_grammar.proofs.Exact.{Exact, Takes, Begins, token_exact}
 use Rattle.wac_parser_grammar.proofs.ExactLists.{list_exact}
 use Rattle.wac_parser_grammar.proofs.Faithful.{Faithful, Any, ok_inside, err_inside, behind_trans, stands_behind, both, one_of, stands_here, token_faithful}

@@ -1,6 +1,6 @@
 -- A rule reads just what it says.
-use Rattle.std.proofs.Common.{◌≡◌, ◌≢◌, ℕ, zero, suc, ◌+◌, ◌-◌, ◌<◌, ◌≤◌, ◌⊎◌, inl, inr, Bool, true, false, List, [], ◌∷◌, ◌++◌, length, Option, Some, None, Result, Ok, Err, refl, ap, subst, sym, ◌∙◌, arith, rules, cond}
-use denote.Enum.Bare.{sameb, same_true, true_same}
+use Rattle.std.proofs.Common.{◌≡◌, ◌<◌, ◌≤◌, inl, inr, Bool, true, false, List, [], ◌∷◌, length, Option, Some, None, Result, Ok, Err, refl, ap, subst, sym, ◌∙◌, arith, rules, cond}
+use denote.Enum.Bare.{same_true, true_same}
 use Rattle.wac_parser_lexer.specs.contracts.token.Token.{the_type}
 use Rattle.wac_parser_lexer.specs.declared.span.SourceSpan.{SourceSpan}
 use Rattle.wac_parser_lexer.specs.declared.token.Token.{Token}
@@ -8,9 +8,8 @@ use Rattle.wac_parser_lexer.specs.declared.token.Token.TheVariants as k
 use Rattle.wac_parser_lexer.specs.declared.error.Error.{Error}
 use Rattle.wac_parser_lexer.specs.Items.{Doc, Input, Item, first_item, first_of_items, rest_input, rest_of_items, docs_left, next_span}
 use Rattle.wac_parser_grammar.specs.Faults.{Fault}
-use Rattle.wac_parser_grammar.specs.Ahead.{same_token, is_token, is_any, token_of, sees, sees_any, none_of, missed}
-use Rattle.wac_parser_grammar.specs.Rules.{Rule, span_of_items, fault_ahead, sees_token, and_then, ◌>>=◌, pure, refuse, token, look, choose, begin, begin_any, unfaulty_by, unfaulty, optional, comma, behind, front, read_list, IsListOf, list_of, IsWhile, read_while, while_of, IsAll, has_item, read_all, all_of, left}
-use Rattle.wac_parser_grammar.proofs.Lists.{begun_some}
+use Rattle.wac_parser_grammar.specs.Ahead.{same_token, is_token, is_any, token_of, sees, sees_any, missed}
+use Rattle.wac_parser_grammar.specs.Rules.{Rule, span_of_items, fault_ahead, sees_token, and_then, ◌>>=◌, pure, refuse, token, look, choose, begin, begin_any, unfaulty_by, unfaulty, optional, comma, behind, left}
 
 pub record Exact {X : Type 0} (p : Rule X) : Type 0 where
   pub sound : (s : Input) (x : X) (r : Input) → p.read s ≡ Ok (x, r) → p.Is x s r

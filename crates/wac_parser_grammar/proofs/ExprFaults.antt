@@ -1,14 +1,11 @@
 -- The faults of expressions stand in the source.
-use Rattle.std.proofs.Common.{◌≡◌, ℕ, zero, suc, ◌⊎◌, inl, inr, Bool, true, false, List, [], ◌∷◌, ◌++◌, Option, Some, None, Result, Ok, Err, refl, ap, sym, subst, ◌∙◌, cond}
-use Rattle.wac_parser_lexer.specs.declared.span.SourceSpan.{SourceSpan}
-use Rattle.wac_parser_lexer.specs.declared.token.Token.{Token}
+use Rattle.std.proofs.Common.{ℕ, zero, suc, inr, true, [], ◌∷◌}
 use Rattle.wac_parser_lexer.specs.declared.token.Token.TheVariants as k
-use Rattle.wac_parser_lexer.specs.Items.{Input}
 use Rattle.wac_parser_tree.specs.Trees as t
-use Rattle.wac_parser_grammar.specs.Rules.{Rule, ◌>>=◌, token, look, choose, begin, begin_any, pure, refuse, list_of}
-use Rattle.wac_parser_grammar.proofs.Faithful.{Faithful, Any, Else, anywhere, bind_faithful, pure_faithful, look_faithful, choose_faithful, none_both, refuse_faithful, cause_faithful, token_faithful, begin_faithful, begin_any_faithful, optional_faithful}
-use Rattle.wac_parser_grammar.proofs.FaithfulLists.{list_faithful, while_faithful, all_faithful}
-use Rattle.wac_parser_grammar.specs.Expressions.{expr_first, postfix_first, argument_first, name_first, argument_name, access_expr, named_access_expr, postfix_expr, spread_or_fill, nested_expr, argument_value, named_argument, ident_argument, string_argument, instantiation_argument, new_expr, primary_expr, expr_level, expr, expression}
+use Rattle.wac_parser_grammar.specs.Rules.{Rule, ◌>>=◌, pure}
+use Rattle.wac_parser_grammar.proofs.Faithful.{Faithful, Any, anywhere, bind_faithful, pure_faithful, none_both, refuse_faithful, token_faithful, begin_faithful, begin_any_faithful}
+use Rattle.wac_parser_grammar.proofs.FaithfulLists.{list_faithful, while_faithful}
+use Rattle.wac_parser_grammar.specs.Expressions.{expr_first, postfix_first, argument_first, argument_name, access_expr, named_access_expr, postfix_expr, spread_or_fill, nested_expr, argument_value, named_argument, ident_argument, string_argument, instantiation_argument, new_expr, primary_expr, expr_level, expr, expression}
 use Rattle.wac_parser_grammar.proofs.Exact.{Exact, Takes}
 use Rattle.wac_parser_grammar.proofs.ExprLaws.{postfix_expr_exact, postfix_expr_takes, instantiation_argument_exact, instantiation_argument_takes, expr_exact, expr_takes}
 use Rattle.wac_parser_grammar.proofs.Faithful.{too_deep_faithful}

@@ -1,14 +1,12 @@
 -- The rules of expressions read just what they say.
-use Rattle.std.proofs.Common.{◌≡◌, ℕ, zero, suc, Bool, true, false, List, [], ◌∷◌, Option, Some, None, Result, Ok, Err, refl, arith}
-use Rattle.wac_parser_lexer.specs.declared.span.SourceSpan.{SourceSpan}
-use Rattle.wac_parser_lexer.specs.declared.token.Token.{Token}
+use Rattle.std.proofs.Common.{ℕ, zero, suc, true, [], ◌∷◌}
 use Rattle.wac_parser_lexer.specs.declared.token.Token.TheVariants as k
 use Rattle.wac_parser_tree.specs.Trees as t
-use Rattle.wac_parser_grammar.specs.Rules.{Rule, ◌>>=◌, token, look, choose, begin, begin_any, pure, refuse, list_of}
-use Rattle.wac_parser_grammar.proofs.Exact.{Exact, Takes, Keeps, Begins, bind, pure_exact, refuse_exact, look_exact, choose_exact, begin_exact, begin_any_exact, token_exact, optional_exact, bind_takes, bind_keeps, then_takes, still_keeps, pure_keeps, look_keeps, refuse_takes, token_takes, choose_takes, choose_keeps, begin_takes, begin_keeps, begin_any_takes, begin_any_keeps, optional_keeps, token_begins, bind_begins, Silent, silent_begins, refuse_begins, begin_begins, last_begins}
-use Rattle.wac_parser_grammar.proofs.ExactLists.{list_exact, list_keeps, while_exact, while_keeps, all_exact, all_keeps}
+use Rattle.wac_parser_grammar.specs.Rules.{Rule}
+use Rattle.wac_parser_grammar.proofs.Exact.{Exact, Takes, Begins, bind, pure_exact, refuse_exact, begin_exact, begin_any_exact, token_exact, bind_takes, bind_keeps, still_keeps, pure_keeps, refuse_takes, token_takes, begin_takes, begin_keeps, begin_any_takes, begin_any_keeps, token_begins, bind_begins, refuse_begins, begin_begins}
+use Rattle.wac_parser_grammar.proofs.ExactLists.{list_exact, list_keeps, while_exact, while_keeps}
 use Rattle.wac_parser_grammar.specs.Expressions.{expr_first, postfix_first, argument_first, name_first, argument_name, access_expr, named_access_expr, postfix_expr, spread_or_fill, nested_expr, argument_value, named_argument, ident_argument, string_argument, instantiation_argument, new_expr, primary_expr, expr_level, expr, expression}
-use Rattle.wac_parser_grammar.proofs.NameLaws.{ident_exact, ident_takes, ident_begins, string_exact, string_takes, string_begins, package_name_exact, package_name_takes}
+use Rattle.wac_parser_grammar.proofs.NameLaws.{ident_exact, ident_takes, string_exact, string_takes, package_name_exact, package_name_takes}
 
 pub argument_name_exact : Exact argument_name
 unfolding argument_name

@@ -1,21 +1,19 @@
 -- The faults of a rule stand in the source.
-use Rattle.std.proofs.Common.{◌≡◌, ◌≢◌, ℕ, zero, suc, ◌+◌, ◌-◌, ◌<◌, ◌≤◌, ◌⊎◌, inl, inr, Bool, true, false, List, [], ◌∷◌, ◌++◌, length, Option, Some, None, Result, Ok, Err, refl, ap, subst, sym, ◌∙◌, arith, rules, cond}
-use denote.Enum.Bare.{sameb, same_true, true_same}
+use Rattle.std.proofs.Common.{◌≡◌, ◌≢◌, ℕ, zero, suc, ◌≤◌, ◌⊎◌, inl, inr, Bool, true, false, List, [], ◌∷◌, ◌++◌, length, Option, Some, None, Result, Ok, Err, refl, ap, subst, sym, ◌∙◌, arith, cond}
+use denote.Enum.Bare.{true_same}
 use Rattle.wac_parser_lexer.specs.contracts.token.Token.{the_type}
 use Rattle.wac_parser_lexer.specs.declared.span.SourceSpan.{SourceSpan}
 use Rattle.wac_parser_lexer.specs.declared.token.Token.{Token}
 use Rattle.wac_parser_lexer.specs.declared.token.Token.TheVariants as k
 use Rattle.wac_parser_lexer.specs.declared.error.Error.{Error}
 use Rattle.wac_parser_lexer.specs.Items.{Input, Item, first_item, first_of_items, rest_of_items, rest_input, shown_span}
-use Rattle.wac_parser_grammar.specs.Faults.{Fault, lexer, expected, expected_multiple, nested_too_deep}
+use Rattle.wac_parser_grammar.specs.Faults.{Fault, lexer, expected, nested_too_deep}
 use Rattle.wac_parser_grammar.specs.Ahead.{same_token, is_token, is_any, token_of, next_token, sees, sees_any, remember, none_found, refused_at, none_of, missed}
-use Rattle.wac_parser_grammar.specs.Rules.{Rule, span_of_items, fault_of_item, fault_ahead, sees_token, and_then, ◌>>=◌, pure, refuse, token, look, choose, begin, begin_any, unfaulty_by, unfaulty, optional, comma, behind, front, read_list, list_of, read_while, while_of, has_item, read_all, all_of, left}
+use Rattle.wac_parser_grammar.specs.Rules.{Rule, span_of_items, fault_of_item, fault_ahead, sees_token, and_then, ◌>>=◌, pure, refuse, token, look, choose, begin, begin_any, unfaulty_by, unfaulty, optional, comma, behind, left}
 use Rattle.wac_parser_grammar.specs.ValueTypes.{type_first, too_deep}
 use Rattle.wac_parser_grammar.specs.Expressions.{expr_first}
 use Rattle.wac_parser_grammar.specs.Places.{IsBehind, here, on}
 use Rattle.wac_parser_grammar.specs.Standing.{IsFound, IsNoneOf, StandsAt, Stands}
-use Rattle.wac_parser_grammar.proofs.Lists.{begun_some}
-use Rattle.wac_parser_grammar.proofs.Exact.{Exact, Takes}
 
 -- Where the condition holds, the rule goes on to a place behind, or its fault stands.
 pub record Faithful {X : Type 0} (C : Input → Type 0) (p : Rule X) : Type 0 where

@@ -1,12 +1,12 @@
 -- The faults of lists and repetitions stand in the source.
-use Rattle.std.proofs.Common.{◌≡◌, ◌≢◌, ℕ, zero, suc, ◌+◌, ◌-◌, ◌<◌, ◌≤◌, ◌⊎◌, inl, inr, Bool, true, false, List, [], ◌∷◌, ◌++◌, length, Option, Some, None, Result, Ok, Err, refl, ap, subst, sym, ◌∙◌, arith, cond}
+use Rattle.std.proofs.Common.{◌≡◌, ℕ, zero, suc, ◌≤◌, ◌⊎◌, inl, inr, Bool, true, false, List, [], ◌∷◌, Result, Ok, Err, refl, ap, subst, sym, arith, cond}
 use Rattle.wac_parser_lexer.specs.declared.token.Token.{Token}
-use Rattle.wac_parser_lexer.specs.Items.{Input, Item}
+use Rattle.wac_parser_lexer.specs.Items.{Input}
 use Rattle.wac_parser_grammar.specs.Faults.{Fault}
 use Rattle.wac_parser_grammar.specs.Ahead.{sees, sees_any, none_of}
 use Rattle.wac_parser_grammar.specs.Rules.{Rule, and_then, behind, front, read_list, list_of, read_while, while_of, has_item, read_all, all_of, left}
-use Rattle.wac_parser_grammar.specs.Places.{IsBehind, here, on}
-use Rattle.wac_parser_grammar.specs.Standing.{StandsAt, Stands}
+use Rattle.wac_parser_grammar.specs.Places.{IsBehind, here}
+use Rattle.wac_parser_grammar.specs.Standing.{Stands}
 use Rattle.wac_parser_grammar.proofs.Lists.{begun_some}
 use Rattle.wac_parser_grammar.proofs.Exact.{Exact, Takes}
 use Rattle.wac_parser_grammar.proofs.Faithful.{Faithful, Any, ok_inside, err_inside, behind_trans, stands_behind, both, one_of, none_one, none_both, none_stands, stands_here, behind_faithful, behind_left}

@@ -1,12 +1,9 @@
 -- The rules of names read just what they say.
-use Rattle.std.proofs.Common.{◌≡◌, ℕ, zero, suc, Bool, true, false, List, [], ◌∷◌, Option, Some, None, Result, Ok, Err, refl, arith}
+use Rattle.std.proofs.Common.{ℕ, List, [], ◌∷◌, Option, Some, None, Result, Ok, Err}
 use Rattle.wac_parser_lexer.specs.declared.span.SourceSpan.{SourceSpan}
-use Rattle.wac_parser_lexer.specs.declared.token.Token.{Token}
 use Rattle.wac_parser_lexer.specs.declared.token.Token.TheVariants as k
 use Rattle.wac_parser_tree.specs.Trees as t
-use Rattle.wac_parser_grammar.specs.Rules.{Rule, ◌>>=◌, token, look, choose, begin, begin_any, pure, refuse, list_of}
-use Rattle.wac_parser_grammar.proofs.Exact.{Exact, Takes, Keeps, Begins, bind, pure_exact, refuse_exact, look_exact, choose_exact, begin_exact, begin_any_exact, token_exact, optional_exact, bind_takes, bind_keeps, then_takes, still_keeps, pure_keeps, look_keeps, refuse_takes, token_takes, choose_takes, choose_keeps, begin_takes, begin_keeps, begin_any_takes, begin_any_keeps, optional_keeps, token_begins, bind_begins, Silent, silent_begins, refuse_begins, begin_begins, last_begins}
-use Rattle.wac_parser_grammar.proofs.ExactLists.{list_exact, list_keeps, while_exact, while_keeps, all_exact, all_keeps}
+use Rattle.wac_parser_grammar.proofs.Exact.{Exact, Takes, Keeps, Begins, bind, pure_exact, refuse_exact, look_exact, token_exact, bind_takes, bind_keeps, still_keeps, pure_keeps, look_keeps, refuse_takes, token_takes, token_begins, bind_begins, Silent}
 use Rattle.semver.specs.Parse.{version_parts}
 use Rattle.wac_parser_grammar.specs.Names.{docs, ident, string, version_read, version_by, version_of, behind_first, package_name, package_path}
 

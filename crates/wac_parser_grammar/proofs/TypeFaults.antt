@@ -1,15 +1,15 @@
 -- The faults of types stand in the source.
-use Rattle.std.proofs.Common.{◌≡◌, ℕ, zero, suc, ◌⊎◌, inl, inr, Bool, true, false, List, [], ◌∷◌, ◌++◌, Option, Some, None, Result, Ok, Err, refl, ap, sym, subst, ◌∙◌, cond}
+use Rattle.std.proofs.Common.{◌≡◌, ℕ, zero, suc, inl, true, false, List, [], ◌∷◌, ◌++◌, Option, Some, None, refl, ap, ◌∙◌}
 use Rattle.wac_parser_lexer.specs.declared.span.SourceSpan.{SourceSpan}
 use Rattle.wac_parser_lexer.specs.declared.token.Token.{Token}
 use Rattle.wac_parser_lexer.specs.declared.token.Token.TheVariants as k
 use Rattle.wac_parser_lexer.specs.Items.{Input}
 use Rattle.wac_parser_tree.specs.Trees as t
-use Rattle.wac_parser_grammar.specs.Rules.{Rule, ◌>>=◌, token, look, choose, begin, begin_any, pure, refuse, list_of}
-use Rattle.wac_parser_grammar.proofs.Faithful.{Faithful, Any, Else, anywhere, bind_faithful, pure_faithful, look_faithful, choose_faithful, none_both, refuse_faithful, cause_faithful, token_faithful, begin_faithful, begin_any_faithful, optional_faithful}
-use Rattle.wac_parser_grammar.proofs.FaithfulLists.{list_faithful, while_faithful, all_faithful}
+use Rattle.wac_parser_grammar.specs.Rules.{Rule}
+use Rattle.wac_parser_grammar.proofs.Faithful.{Faithful, Any, anywhere, bind_faithful, pure_faithful, choose_faithful, none_both, refuse_faithful, token_faithful, begin_faithful, begin_any_faithful, optional_faithful}
+use Rattle.wac_parser_grammar.proofs.FaithfulLists.{list_faithful}
 use Rattle.wac_parser_grammar.specs.Ahead.{same_token, is_any, next_token, sees_any}
-use Rattle.wac_parser_grammar.specs.ValueTypes.{type_first, func_first, keyword_type, keyword_or, keyword_at, keyword_type_or, too_deep, tuple_ty, list_ty, option_ty, omitted_or, second_part, result_parts, result_ty, payload, stream_ty, future_ty, borrow_ty, composed_ty, ty_level, ty, value_type, named_type, result_list, func_results, func_params, func_type, func_type_ref}
+use Rattle.wac_parser_grammar.specs.ValueTypes.{type_first, func_first, keyword_type, keyword_or, keyword_at, keyword_type_or, tuple_ty, list_ty, option_ty, omitted_or, second_part, result_parts, result_ty, payload, stream_ty, future_ty, borrow_ty, composed_ty, ty_level, ty, value_type, named_type, result_list, func_results, func_params, func_type, func_type_ref}
 use Rattle.wac_parser_grammar.proofs.Exact.{Exact, Takes}
 use Rattle.wac_parser_grammar.proofs.TypeLaws.{ty_exact, ty_takes, named_type_exact, named_type_takes}
 use Rattle.wac_parser_grammar.proofs.Faithful.{narrow, none_left, none_right, none_is_any, too_deep_faithful}

@@ -1,16 +1,11 @@
 -- The faults of interfaces and worlds stand in the source.
-use Rattle.std.proofs.Common.{◌≡◌, ℕ, zero, suc, ◌⊎◌, inl, inr, Bool, true, false, List, [], ◌∷◌, ◌++◌, Option, Some, None, Result, Ok, Err, refl, ap, sym, subst, ◌∙◌, cond}
-use Rattle.wac_parser_lexer.specs.declared.span.SourceSpan.{SourceSpan}
-use Rattle.wac_parser_lexer.specs.declared.token.Token.{Token}
+use Rattle.std.proofs.Common.{true, false, [], ◌∷◌}
 use Rattle.wac_parser_lexer.specs.declared.token.Token.TheVariants as k
-use Rattle.wac_parser_lexer.specs.Items.{Input}
 use Rattle.wac_parser_tree.specs.Trees as t
-use Rattle.wac_parser_grammar.specs.Rules.{Rule, ◌>>=◌, token, look, choose, begin, begin_any, pure, refuse, list_of}
-use Rattle.wac_parser_grammar.proofs.Faithful.{Faithful, Any, Else, anywhere, bind_faithful, pure_faithful, look_faithful, choose_faithful, none_both, refuse_faithful, cause_faithful, token_faithful, begin_faithful, begin_any_faithful, optional_faithful}
-use Rattle.wac_parser_grammar.proofs.FaithfulLists.{list_faithful, while_faithful, all_faithful}
+use Rattle.wac_parser_grammar.proofs.Faithful.{Faithful, Any, anywhere, bind_faithful, pure_faithful, choose_faithful, none_both, refuse_faithful, token_faithful, begin_faithful, begin_any_faithful, optional_faithful}
 use Rattle.wac_parser_grammar.specs.ValueTypes.{func_first}
 use Rattle.wac_parser_grammar.specs.Declarations.{item_type_decl_first}
-use Rattle.wac_parser_grammar.specs.Worlds.{path_first, interface_item_first, world_item_first, use_path, use_as, use_item, use_items, use_types, interface_export, interface_item, interface_items, interface_decl, inline_interface, extern_type, item_type, named_world_item, ident_path, world_item_path, world_import, world_export, world_ref, world_include_item, include_items, include_with, world_include, world_item, world_items, world_decl}
+use Rattle.wac_parser_grammar.specs.Worlds.{interface_item_first, world_item_first, use_path, use_as, use_item, use_items, use_types, interface_export, interface_item, interface_items, interface_decl, inline_interface, extern_type, item_type, named_world_item, ident_path, world_item_path, world_import, world_export, world_ref, world_include_item, include_items, include_with, world_include, world_item, world_items, world_decl}
 use Rattle.wac_parser_grammar.proofs.WorldLaws.{use_item_exact, use_item_takes, interface_item_exact, interface_item_takes, world_include_item_exact, world_include_item_takes, world_item_exact, world_item_takes}
 use Rattle.wac_parser_grammar.proofs.NameFaults.{docs_faithful, ident_faithful, package_path_faithful}
 use Rattle.wac_parser_grammar.proofs.TypeFaults.{func_type_faithful, func_type_ref_faithful}

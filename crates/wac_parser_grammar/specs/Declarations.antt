@@ -8,7 +8,7 @@ use Rattle.wac_parser_grammar.specs.declared.error.DeclaredType.{DeclaredType}
 use Rattle.wac_parser_grammar.specs.declared.error.DeclaredType.TheVariants as declared
 use Rattle.wac_parser_grammar.specs.declared.error.MemberKind.{MemberKind}
 use Rattle.wac_parser_grammar.specs.declared.error.MemberKind.TheVariants as member
-use Rattle.wac_parser_grammar.specs.Faults.{Fault, empty_type}
+use Rattle.wac_parser_grammar.specs.Faults.{empty_type}
 use Rattle.wac_parser_grammar.specs.Ahead.{none_of}
 use Rattle.wac_parser_grammar.specs.Rules.{Rule, ◌>>=◌, ◌>>◌, pure, refuse, token, choose, begin, begin_any, optional, list_of}
 use Rattle.wac_parser_grammar.specs.Names.{docs, ident}

@@ -1,10 +1,10 @@
 -- How statements and documents are written.
-use Rattle.std.specs.Prelude.{List, [], ◌∷◌, Option, Some, None}
+use Rattle.std.specs.Prelude.{List, [], ◌∷◌, Option}
 use Rattle.wac_parser_lexer.specs.declared.token.Token.{Token}
 use Rattle.wac_parser_lexer.specs.declared.token.Token.TheVariants as k
 use Rattle.wac_parser_tree.specs.Trees as t
 use Rattle.wac_parser_grammar.specs.Ahead.{none_of}
-use Rattle.wac_parser_grammar.specs.Rules.{Rule, ◌>>=◌, ◌>>◌, pure, refuse, token, choose, begin, begin_any, optional_of, all_of}
+use Rattle.wac_parser_grammar.specs.Rules.{Rule, ◌>>=◌, ◌>>◌, pure, refuse, token, begin, begin_any, optional_of, all_of}
 use Rattle.wac_parser_grammar.specs.Names.{docs, ident, string, package_name, package_path}
 use Rattle.wac_parser_grammar.specs.ValueTypes.{func_first, func_type}
 use Rattle.wac_parser_grammar.specs.Expressions.{name_first, expression}

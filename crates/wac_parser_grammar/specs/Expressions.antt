@@ -1,12 +1,11 @@
 -- How expressions are written.
-use Rattle.std.specs.Prelude.{◌≡◌, ℕ, zero, suc, ◌+◌, ◌-◌, Bool, true, false, if◌then◌else◌, List, [], ◌∷◌, length, Option, Some, None, Result, Ok, Err}
+use Rattle.std.specs.Prelude.{ℕ, zero, suc, true, List, [], ◌∷◌, Some}
 use Rattle.wac_parser_lexer.specs.declared.span.SourceSpan.{SourceSpan}
 use Rattle.wac_parser_lexer.specs.declared.token.Token.{Token}
 use Rattle.wac_parser_lexer.specs.declared.token.Token.TheVariants as k
-use Rattle.wac_parser_lexer.specs.Items.{Input}
 use Rattle.wac_parser_tree.specs.Trees as t
 use Rattle.wac_parser_tree.specs.Accessors.{primary_expr_span, postfix_expr_span}
-use Rattle.wac_parser_grammar.specs.Faults.{Fault, expected}
+use Rattle.wac_parser_grammar.specs.Faults.{expected}
 use Rattle.wac_parser_grammar.specs.Ahead.{none_of}
 use Rattle.wac_parser_grammar.specs.Rules.{Rule, ◌>>=◌, ◌>>◌, pure, refuse, token, begin, begin_any, list_of, while_of}
 use Rattle.wac_parser_grammar.specs.Names.{ident, string, package_name}

@@ -1,14 +1,14 @@
 -- How names, strings and doc comments are written.
-use Rattle.std.specs.Prelude.{ℕ, ◌+◌, ◌-◌, ◌==◌, nat_eq, nat_lt, Bool, if◌then◌else◌, List, [], ◌∷◌, map, length, take, drop, codes, Option, Some, None, unwrap_or, Result, Ok, Err}
+use Rattle.std.specs.Prelude.{ℕ, ◌+◌, ◌-◌, ◌==◌, nat_eq, nat_lt, if◌then◌else◌, List, [], map, length, take, drop, codes, Option, Some, None, unwrap_or, Result, Ok, Err}
 use Rattle.std.specs.List.{starts_with, ends_with, position_or_len, before_first, after_first}
 use Rattle.semver.specs.Parse.{version_parts}
 use Rattle.semver.specs.declared.error.Error.{Error}
 use Rattle.wac_parser_lexer.specs.declared.span.SourceSpan.{SourceSpan}
 use Rattle.wac_parser_lexer.specs.declared.token.Token.TheVariants as k
-use Rattle.wac_parser_lexer.specs.Items.{Doc, Input, docs_ahead}
+use Rattle.wac_parser_lexer.specs.Items.{Doc, docs_ahead}
 use Rattle.wac_parser_tree.specs.Trees as t
-use Rattle.wac_parser_grammar.specs.Faults.{Fault, invalid_version}
-use Rattle.wac_parser_grammar.specs.Rules.{Rule, ◌>>=◌, ◌>>◌, pure, refuse, token, look, slice}
+use Rattle.wac_parser_grammar.specs.Faults.{invalid_version}
+use Rattle.wac_parser_grammar.specs.Rules.{Rule, ◌>>=◌, pure, refuse, token, look, slice}
 
 abbrev pub doc_comment : Doc → t.DocComment
 doc_comment d = record { comment = d.comment; span = d.span }

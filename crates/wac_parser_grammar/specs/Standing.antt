@@ -1,5 +1,5 @@
 -- Which faults stand in a source.
-use Rattle.std.specs.Prelude.{◌≡◌, ◌≢◌, ℕ, ◌⊎◌, true, List, [], ◌∷◌, length, Option, Some, None, Result, Ok, Err}
+use Rattle.std.specs.Prelude.{◌≡◌, ◌≢◌, ◌⊎◌, true, List, [], ◌∷◌, length, Option, Some, None, Ok, Err}
 use Rattle.semver.specs.Parse.{version_parts}
 use Rattle.semver.specs.declared.error.Error as version_error
 use Rattle.wac_parser_lexer.specs.declared.span.SourceSpan.{SourceSpan}

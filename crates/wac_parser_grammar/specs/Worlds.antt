@@ -1,10 +1,10 @@
 -- How interfaces and worlds are written.
-use Rattle.std.specs.Prelude.{Bool, true, false, List, [], ◌∷◌, Option, Some, None}
+use Rattle.std.specs.Prelude.{true, false, List, [], ◌∷◌, Option}
 use Rattle.wac_parser_lexer.specs.declared.token.Token.{Token}
 use Rattle.wac_parser_lexer.specs.declared.token.Token.TheVariants as k
 use Rattle.wac_parser_tree.specs.Trees as t
 use Rattle.wac_parser_grammar.specs.Ahead.{none_of}
-use Rattle.wac_parser_grammar.specs.Rules.{Rule, ◌>>=◌, ◌>>◌, pure, refuse, token, choose, begin, begin_any, optional, optional_of, list_of}
+use Rattle.wac_parser_grammar.specs.Rules.{Rule, ◌>>=◌, ◌>>◌, pure, refuse, token, choose, begin, begin_any, optional, optional_of}
 use Rattle.wac_parser_grammar.specs.Names.{docs, ident, package_path}
 use Rattle.wac_parser_grammar.specs.ValueTypes.{func_first, func_type, func_type_ref}
 use Rattle.wac_parser_grammar.specs.Declarations.{body, item_type_decl_first, item_type_decl}

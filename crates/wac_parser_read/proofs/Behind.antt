@@ -1,5 +1,5 @@
 -- Places behind others.
-use Rattle.std.proofs.Common.{◌≡◌, List, subst, sym}
+use Rattle.std.proofs.Common.{◌≡◌, subst, sym}
 use Rattle.wac_parser_lexer.specs.Items.{Input, rest_input}
 use Rattle.wac_parser_grammar.specs.Places.{IsBehind, here, on}
 

@@ -1,13 +1,12 @@
 -- What is cut off a text.
-use Rattle.std.proofs.Common.{◌≡◌, ℕ, ◌-◌, ◌≤◌, ◌<◌, true, false, List, [], ◌∷◌, ◌++◌, length, take, drop, Option, Some, None, Bor, refl, ap, sym, subst, ◌∙◌, arith, MatchOption}
-use Rattle.std.specs.Prelude.{nat_eq, nat_lt, codes}
-use Rattle.std.specs.Option.{option_map, unwrap_or}
-use Rattle.std.specs.List.{ends_with, position_or_len, before_first, after_first}
+use Rattle.std.proofs.Common.{◌≡◌, ℕ, ◌-◌, true, false, List, length, take, Option, Some, None, Bor, ap, sym, subst, ◌∙◌, arith, MatchOption}
+use Rattle.std.specs.Prelude.{nat_eq, codes}
+use Rattle.std.specs.Option.{unwrap_or}
+use Rattle.std.specs.List.{ends_with}
 use Rattle.std.specs.Str.{IsCharBoundary}
 use Rattle.std.specs.Str.Pattern.{FindsTextSuffix, StripsSuffix}
-use Rattle.std.proofs.lemmas.Bool.{lt-ltb, le-ltb}
 use Rattle.std.proofs.lemmas.Str.Pattern.{ends_text}
-use Rattle.wac_parser_grammar.specs.Names.{strip_close, before, behind_first}
+use Rattle.wac_parser_grammar.specs.Names.{strip_close}
 
 has_suffix : (n s x : List ℕ) → StripsSuffix (FindsTextSuffix n) s x → (ends_with nat_eq s n ≡ true) × (x ≡ take (length s - length n) s)
 has_suffix n s x h =

@@ -1,5 +1,5 @@
 -- What a lookahead says of the tokens that were tried.
-use Rattle.std.proofs.Common.{◌≡◌, ℕ, zero, suc, ◌+◌, ◌-◌, ◌<◌, ◌≤◌, ◌^◌, nat_lt, min, Bool, true, false, List, [], ◌∷◌, ◌++◌, length, slice_set, Option, Some, None, Result, Ok, Err, refl, ap, sym, ◌∙◌, arith, append_assoc, append-nil, cond, subst}
+use Rattle.std.proofs.Common.{◌≡◌, ℕ, zero, suc, ◌+◌, ◌-◌, ◌<◌, ◌≤◌, ◌^◌, nat_lt, min, Bool, true, false, List, [], ◌∷◌, ◌++◌, length, slice_set, Option, Some, None, Ok, Err, refl, ap, sym, ◌∙◌, arith, append_assoc, append-nil, cond, subst}
 use Rattle.std.proofs.lemmas.Bool.{ltb-true, ltb-false}
 use Rattle.std.proofs.lemmas.Grind.{common_steps}
 use Rattle.std.proofs.lemmas.List.{length-append}
@@ -7,7 +7,7 @@ use Rattle.wac_parser_lexer.specs.declared.token.Token.{Token}
 use Rattle.wac_parser_lexer.specs.declared.span.SourceSpan.{SourceSpan}
 use Rattle.wac_parser_lexer.specs.Items.{Input, first_item, shown_span}
 use Rattle.wac_parser_grammar.specs.Faults.{Fault}
-use Rattle.wac_parser_grammar.specs.Ahead.{Ahead, Tries, is_token, is_any, token_of, sees, sees_any, remember, count_of, none_found, refused_at, none_of, fresh, tried, tried_all, by_attempts, said}
+use Rattle.wac_parser_grammar.specs.Ahead.{Ahead, is_token, is_any, token_of, sees, sees_any, remember, count_of, none_found, refused_at, none_of, fresh, tried, tried_all, by_attempts, said}
 
 remember-set : (n : ℕ) (ks : List Token) (k : Token) → length ks < n → slice_set (remember n ks) (length ks) (Some k) ≡ remember n (ks ++ k ∷ [])
 remember-set zero ks k h = absurd (omega arith)

@@ -1,17 +1,17 @@
 -- Where types begin, and where the depth is spent.
-use Rattle.std.proofs.Common.{◌≡◌, ℕ, zero, suc, Bool, true, false, List, [], ◌∷◌, Option, Some, None, Result, Ok, Err, refl, ap, sym, subst, ◌∙◌, rules, cond}
-use denote.Enum.Bare.{sameb, true_same}
+use Rattle.std.proofs.Common.{◌≡◌, ℕ, Bool, true, false, List, [], ◌∷◌, Option, Some, None, Result, Ok, Err, refl, ap, sym, subst, ◌∙◌, cond}
+use denote.Enum.Bare.{true_same}
 use Rattle.std.specs.Option.{option_map}
 use Rattle.wac_parser_lexer.specs.contracts.token.Token.{the_type}
 use Rattle.wac_parser_lexer.specs.declared.span.SourceSpan.{SourceSpan}
 use Rattle.wac_parser_lexer.specs.declared.token.Token.{Token}
 use Rattle.wac_parser_lexer.specs.declared.error.Error.{Error}
-use Rattle.wac_parser_lexer.specs.Items.{Input, Doc, Item, first_item, first_of_items, rest_input}
+use Rattle.wac_parser_lexer.specs.Items.{Input, Doc, Item, first_item, rest_input}
 use Rattle.wac_parser_tree.specs.Trees as t
 use Rattle.wac_parser_grammar.specs.Faults.{Fault, nested_too_deep}
-use Rattle.wac_parser_grammar.specs.Ahead.{same_token, token_of, next_token, sees, sees_any, none_of}
+use Rattle.wac_parser_grammar.specs.Ahead.{same_token, token_of, sees, sees_any, none_of}
 use Rattle.wac_parser_grammar.specs.Reads.{Reads}
-use Rattle.wac_parser_grammar.specs.Rules.{Rule, token, span_of_items}
+use Rattle.wac_parser_grammar.specs.Rules.{Rule, span_of_items}
 use Rattle.wac_parser_grammar.specs.ValueTypes.{TakesKeyword, keyword_made, keyword_type, keyword_or, keyword_at, keyword_type_or, too_deep}
 
 err_by : {X : Type 0} (b : Bool) (x y f : Fault) → f ≡ cond b x y → ◌≡◌ {A = Result (X × Input) Fault} (cond b (Err x) (Err y)) (Err f)

@@ -1,5 +1,5 @@
 -- A loop that reads values as long as one begins, or to the end.
-use Rattle.std.proofs.Common.{◌≡◌, ℕ, zero, suc, ◌+◌, ◌-◌, ◌<◌, ◌≤◌, Bool, true, false, List, [], ◌∷◌, ◌++◌, length, map, Option, Result, Ok, Err, refl, ap, sym, ◌∙◌, arith, append_assoc, cond}
+use Rattle.std.proofs.Common.{◌≡◌, ℕ, zero, suc, ◌+◌, ◌-◌, ◌<◌, ◌≤◌, Bool, true, false, List, [], ◌∷◌, ◌++◌, length, Option, Result, Ok, Err, refl, ap, sym, ◌∙◌, arith, append_assoc}
 use Rattle.std.proofs.lemmas.List.{append-nil}
 use Rattle.wac_parser_lexer.specs.declared.span.SourceSpan.{SourceSpan}
 use Rattle.wac_parser_lexer.specs.declared.token.Token.{Token}
@@ -10,7 +10,7 @@ use Rattle.wac_parser_tree.specs.Trees as t
 use Rattle.wac_parser_tree.specs.Accessors.{postfix_expr_span}
 use Rattle.wac_parser_grammar.specs.Faults.{Fault}
 use Rattle.wac_parser_grammar.specs.Ahead.{sees_any}
-use Rattle.wac_parser_grammar.specs.Rules.{and_then, front, after_front, read_while, read_all, has_item, left}
+use Rattle.wac_parser_grammar.specs.Rules.{front, after_front, read_while, read_all, has_item, left}
 use Rattle.wac_parser_grammar.specs.ValueTypes.{through}
 use Rattle.wac_parser_grammar.specs.Expressions.{spanning}
 

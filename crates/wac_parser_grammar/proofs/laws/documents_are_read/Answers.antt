@@ -1,15 +1,13 @@
-use Rattle.std.proofs.Common.{◌≡◌, ◌↔◌, ℕ, List, [], ◌∷◌, Option, Some, None, Result, Ok, Err, refl, ap, sym, subst, ◌∙◌}
+use Rattle.std.proofs.Common.{◌≡◌, List, [], ◌∷◌, Option, Some, None, Result, Ok, Err, refl, ap, ◌∙◌}
 use Rattle.wac_parser_lexer.specs.declared.span.SourceSpan.{SourceSpan}
 use Rattle.wac_parser_lexer.specs.declared.error.Error.{Error}
 use Rattle.wac_parser_lexer.specs.Items.{Input, input_of}
 use Rattle.wac_parser_lexer.specs.Refused.{first_refused}
 use Rattle.wac_parser_tree.specs.Trees as t
 use Rattle.wac_parser_grammar.specs.Faults.{Fault}
-use Rattle.wac_parser_grammar.specs.Rules.{Rule, IsAll}
-use Rattle.wac_parser_grammar.specs.Reads.{by_refusal, read_source}
+use Rattle.wac_parser_grammar.specs.Rules.{IsAll}
+use Rattle.wac_parser_grammar.specs.Reads.{by_refusal}
 use Rattle.wac_parser_grammar.specs.Documents.{document, statement}
-use Rattle.wac_parser_grammar.specs.Laws.{IsDocument}
-use Rattle.wac_parser_grammar.proofs.Exact.{Exact}
 use Rattle.wac_parser_grammar.proofs.DocumentLaws.{document_exact}
 use Rattle.wac_parser_grammar.proofs.laws.documents_are_read.Goals as goal
 

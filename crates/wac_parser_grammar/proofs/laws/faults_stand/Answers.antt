@@ -1,5 +1,4 @@
 -- Each rule, by its own law.
-use Rattle.std.proofs.Common.{◌≡◌, ℕ, Err}
 use Rattle.wac_parser_grammar.specs.Rules.{Rule}
 use Rattle.wac_parser_grammar.specs.Laws.{FaultsStand}
 use Rattle.wac_parser_grammar.specs.Expressions.{expr}

@@ -1,6 +1,4 @@
 -- Each rule, by its own law.
-use Rattle.std.proofs.Common.{◌≡◌, ℕ, List, Ok}
-use Rattle.wac_parser_lexer.specs.declared.token.Token.{Token}
 use Rattle.wac_parser_grammar.specs.Rules.{Rule}
 use Rattle.wac_parser_grammar.specs.Laws.{IsExact}
 use Rattle.wac_parser_grammar.specs.Expressions.{expr}

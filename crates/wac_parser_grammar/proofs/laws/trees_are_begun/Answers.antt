@@ -1,5 +1,5 @@
 -- Each tree, by its own law.
-use Rattle.std.proofs.Common.{◌≡◌, ℕ, List}
+use Rattle.std.proofs.Common.{List}
 use Rattle.wac_parser_lexer.specs.declared.token.Token.{Token}
 use Rattle.wac_parser_grammar.specs.Rules.{Rule}
 use Rattle.wac_parser_grammar.specs.Laws.{IsBegun}

@@ -1,4 +1,4 @@
-use Rattle.std.proofs.Common.{◌≡◌, ◌∙◌}
+use Rattle.std.proofs.Common.{◌∙◌}
 use Rattle.wac_parser_read.proofs.Tried.{none_tried, none_said}
 use Rattle.wac_parser_read.proofs.base.none_of.Goals as goal
 

@@ -1,5 +1,4 @@
-use Rattle.std.proofs.Common.{◌≡◌, false, sym, ◌∙◌}
-use Rattle.wac_parser_grammar.specs.Ahead.{tried, fresh}
+use Rattle.std.proofs.Common.{sym, ◌∙◌}
 use Rattle.wac_parser_read.proofs.Tried.{first_missed, begins_same, said_behind, some_behind}
 use Rattle.wac_parser_read.proofs.parse.expect_value.Goals as goal
 

@@ -1,4 +1,4 @@
-use Rattle.std.proofs.Common.{◌≡◌, refl, sym, ap, ◌∙◌}
+use Rattle.std.proofs.Common.{refl, ap, ◌∙◌}
 use Rattle.wac_parser_read.proofs.TextLaws.{closed}
 use Rattle.wac_parser_read.proofs.text.strip_close.Goals as goal
 

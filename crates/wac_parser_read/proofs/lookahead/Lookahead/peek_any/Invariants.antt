@@ -1,4 +1,4 @@
-use Rattle.std.proofs.Common.{◌≡◌, take, drop, false}
+use Rattle.std.proofs.Common.{◌≡◌, drop}
 use Rattle.wac_parser_grammar.specs.Ahead.{tried_all, is_any, token_of}
 use Rattle.wac_parser_read.proofs.lookahead.Lookahead.peek_any.Given as goal
 
