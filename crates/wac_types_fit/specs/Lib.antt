@@ -1,0 +1,9 @@
+pub mod Ordered
+pub mod Trees
+pub mod Lookups
+pub mod Frames
+pub mod Checking
+pub mod Errors
+pub mod Directions
+pub mod Targets
+pub mod Meets

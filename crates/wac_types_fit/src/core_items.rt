@@ -1,0 +1,366 @@
+//! Whether one module type fits another.
+
+ghost use Rattle.std.specs.Prelude.{◌≡◌, IsTrue, ◌↔◌, OnOk, IfOk, Some, None, Option, List, [], ◌∷◌, string_bytes, ◌==◌, ◌&&◌};
+ghost use Rattle.std.specs.Cmp.Lexicographic.{pointwise};
+ghost use Rattle.std.specs.Option.{option_copied};
+ghost use Rattle.wac_types_base.specs.declared.core_types.CoreExtern.{CoreExtern};
+ghost use Rattle.wac_types_base.specs.declared.item.ExternKind.{ExternKind};
+ghost use Rattle.wac_types_base.specs.Entries.{Name, AreDistinct, names_of, value_at};
+ghost use Rattle.wac_types_base.specs.Fits.{Fits};
+ghost use Rattle.wac_types_fit.specs.Frames.{Step, Disagree, joined_name};
+ghost use Rattle.wac_types_fit.specs.Errors.{IfMismatch, steps_of};
+ghost use Rattle.wac_types_fit.specs.Checking.{HasAll, LacksOne, module_tree, import_at, IsTable, IsMemory, IsGlobal};
+
+use crate::errors::{SubtypeError, behind, mismatch, within};
+use std::alloc::{AllocError, Global};
+use wac_types_base::{
+    CoreExtern, CoreFuncType, CoreImports, CoreRefType, CoreType, ExternKind, HeapType, ModuleType,
+    NamedMap,
+};
+
+fn same_heap_types(a: HeapType, b: HeapType) -> bool
+    ensures { IsTrue result ↔ (a ≡ b) }
+{
+    match a {
+        HeapType::Concrete(m) => match b {
+            HeapType::Concrete(n) => m == n,
+            _ => false,
+        },
+        HeapType::Func => matches!(b, HeapType::Func),
+        HeapType::Extern => matches!(b, HeapType::Extern),
+        HeapType::Any => matches!(b, HeapType::Any),
+        HeapType::None => matches!(b, HeapType::None),
+        HeapType::NoExtern => matches!(b, HeapType::NoExtern),
+        HeapType::NoFunc => matches!(b, HeapType::NoFunc),
+        HeapType::Eq => matches!(b, HeapType::Eq),
+        HeapType::Struct => matches!(b, HeapType::Struct),
+        HeapType::Array => matches!(b, HeapType::Array),
+        HeapType::I31 => matches!(b, HeapType::I31),
+        HeapType::Exn => matches!(b, HeapType::Exn),
+        HeapType::NoExn => matches!(b, HeapType::NoExn),
+        HeapType::Cont => matches!(b, HeapType::Cont),
+        HeapType::NoCont => matches!(b, HeapType::NoCont),
+    }
+}
+
+fn same_refs(a: CoreRefType, b: CoreRefType) -> bool
+    ensures { IsTrue result ↔ (a ≡ b) }
+{
+    a.nullable == b.nullable && same_heap_types(a.heap_type, b.heap_type)
+}
+
+fn same_core_types(a: CoreType, b: CoreType) -> bool
+    ensures { IsTrue result ↔ (a ≡ b) }
+{
+    match a {
+        CoreType::I32 => matches!(b, CoreType::I32),
+        CoreType::I64 => matches!(b, CoreType::I64),
+        CoreType::F32 => matches!(b, CoreType::F32),
+        CoreType::F64 => matches!(b, CoreType::F64),
+        CoreType::V128 => matches!(b, CoreType::V128),
+        CoreType::Ref(x) => match b {
+            CoreType::Ref(y) => same_refs(x, y),
+            _ => false,
+        },
+    }
+}
+
+fn same_lists(a: &[CoreType], b: &[CoreType]) -> bool
+    ensures { IsTrue result ↔ (a.now ≡ b.now) }
+{
+    if a.len() != b.len() {
+        return false;
+    }
+    for at in 0..a.len() {
+        if !same_core_types(a[at], b[at]) {
+            return false;
+        }
+    }
+    true
+}
+
+fn same_signatures(a: &CoreFuncType, b: &CoreFuncType) -> bool
+    ensures { IsTrue result ↔ (a.now ≡ b.now) }
+{
+    same_lists(a.params.as_slice(), b.params.as_slice())
+        && same_lists(a.results.as_slice(), b.results.as_slice())
+}
+
+fn same_limits(a: Option<u64>, b: Option<u64>) -> bool
+    ensures { IsTrue result ↔ (a ≡ b) }
+{
+    match a {
+        None => b.is_none(),
+        Some(m) => match b {
+            None => false,
+            Some(n) => m == n,
+        },
+    }
+}
+
+fn same_page_sizes(a: Option<u32>, b: Option<u32>) -> bool
+    ensures { IsTrue result ↔ (a ≡ b) }
+{
+    match a {
+        None => b.is_none(),
+        Some(m) => match b {
+            None => false,
+            Some(n) => m == n,
+        },
+    }
+}
+
+fn same_tables(a: &CoreExtern, b: &CoreExtern) -> bool
+    requires { IsTable a.now }
+    ensures { IsTrue result ↔ (a.now ≡ b.now) }
+{
+    match a {
+        CoreExtern::Table {
+            element_type,
+            initial,
+            maximum,
+            table64,
+            shared,
+        } => match b {
+            CoreExtern::Table {
+                element_type: other_type,
+                initial: other_initial,
+                maximum: other_maximum,
+                table64: other_table64,
+                shared: other_shared,
+            } => {
+                same_refs(*element_type, *other_type)
+                    && *initial == *other_initial
+                    && same_limits(*maximum, *other_maximum)
+                    && *table64 == *other_table64
+                    && *shared == *other_shared
+            }
+            _ => false,
+        },
+        _ => false,
+    }
+}
+
+fn same_memories(a: &CoreExtern, b: &CoreExtern) -> bool
+    requires { IsMemory a.now }
+    ensures { IsTrue result ↔ (a.now ≡ b.now) }
+{
+    match a {
+        CoreExtern::Memory {
+            memory64,
+            shared,
+            initial,
+            maximum,
+            page_size_log2,
+        } => match b {
+            CoreExtern::Memory {
+                memory64: other_memory64,
+                shared: other_shared,
+                initial: other_initial,
+                maximum: other_maximum,
+                page_size_log2: other_page_size,
+            } => {
+                *memory64 == *other_memory64
+                    && *shared == *other_shared
+                    && *initial == *other_initial
+                    && same_limits(*maximum, *other_maximum)
+                    && same_page_sizes(*page_size_log2, *other_page_size)
+            }
+            _ => false,
+        },
+        _ => false,
+    }
+}
+
+fn same_globals(a: &CoreExtern, b: &CoreExtern) -> bool
+    requires { IsGlobal a.now }
+    ensures { IsTrue result ↔ (a.now ≡ b.now) }
+{
+    match a {
+        CoreExtern::Global {
+            val_type,
+            mutable,
+            shared,
+        } => match b {
+            CoreExtern::Global {
+                val_type: other_type,
+                mutable: other_mutable,
+                shared: other_shared,
+            } => {
+                same_core_types(*val_type, *other_type)
+                    && *mutable == *other_mutable
+                    && *shared == *other_shared
+            }
+            _ => false,
+        },
+        _ => false,
+    }
+}
+
+/// Whether two core items are the same.
+fn same_items(a: &CoreExtern, b: &CoreExtern) -> bool
+    ensures { IsTrue result ↔ (a.now ≡ b.now) }
+{
+    match a {
+        CoreExtern::Func(x) => match b {
+            CoreExtern::Func(y) => same_signatures(x, y),
+            _ => false,
+        },
+        CoreExtern::Tag(x) => match b {
+            CoreExtern::Tag(y) => same_signatures(x, y),
+            _ => false,
+        },
+        CoreExtern::Table { .. } => same_tables(a, b),
+        CoreExtern::Memory { .. } => same_memories(a, b),
+        CoreExtern::Global { .. } => same_globals(a, b),
+    }
+}
+
+/// What a core item is called.
+fn item_desc(item: &CoreExtern) -> &'static str {
+    match item {
+        CoreExtern::Func(_) => "core function",
+        CoreExtern::Table { .. } => "core table",
+        CoreExtern::Memory { .. } => "core memory",
+        CoreExtern::Global { .. } => "core global",
+        CoreExtern::Tag(_) => "core tag",
+    }
+}
+
+/// Whether the item that is given, if any, is the one that is asked.
+fn item_fits(
+    alloc: Global,
+    turned: bool,
+    given: Option<&CoreExtern>,
+    asked: &CoreExtern,
+) -> Result<(), SubtypeError>
+    ensures yes { OnOk result (option_copied given.entry ≡ Some asked.now) }
+    ensures no { IfMismatch result (λ ss. (ss ≡ []) × (option_copied given.entry ≡ Some asked.now → ⊥)) }
+{
+    match given {
+        None => Err(mismatch(alloc, turned, None, Some(item_desc(asked)))),
+        Some(given) => {
+            if same_items(given, asked) {
+                Ok(())
+            } else {
+                Err(mismatch(
+                    alloc,
+                    turned,
+                    Some(item_desc(given)),
+                    Some(item_desc(asked)),
+                ))
+            }
+        }
+    }
+}
+
+/// Whether an import has these names.
+fn is_named(found: &(String, String), from: &str, name: &str) -> bool
+    ensures { result ≡ (pointwise ◌==◌ (string_bytes found.now.0) from.now && pointwise ◌==◌ (string_bytes found.now.1) name.now) }
+{
+    found.0.as_str() == from && found.1.as_str() == name
+}
+
+/// The import of two names.
+fn import_of<'a>(imports: &'a CoreImports, from: &str, name: &str) -> Option<&'a CoreExtern>
+    ensures { option_copied result ≡ import_at imports.now (from.now, name.now) }
+{
+    for at in 0..imports.len() {
+        let names = &imports.names()[at];
+        let item = &imports.values()[at];
+        if is_named(names, from, name) {
+            return Some(item);
+        }
+    }
+    None
+}
+
+/// The name of a module and a name in it, as one.
+fn join_names(alloc: Global, from: &str, name: &str) -> Result<String, AllocError>
+    ensures { IfOk result (λ s. string_bytes s ≡ joined_name (from.now, name.now)) }
+{
+    let mut joined = String::from_str(alloc, from)?;
+    joined.push_str("::")?;
+    joined.push_str(name)?;
+    Ok(joined)
+}
+
+/// The fault, behind an import of these names.
+fn behind_import(alloc: Global, from: &str, name: &str, fault: SubtypeError) -> SubtypeError
+    ensures { (ss : List Step) → steps_of result ≡ Some ss → (rest : List Step) × (steps_of fault ≡ Some rest) × (ss ≡ (ExternKind.Import, joined_name (from.now, name.now)) ∷ rest) }
+{
+    match join_names(alloc, from, name) {
+        Err(_) => SubtypeError::Memory,
+        Ok(joined) => behind(ExternKind::Import, joined, fault),
+    }
+}
+
+/// Whether each import asked is one of those given.
+fn imports_fit(
+    alloc: Global,
+    turned: bool,
+    given: &CoreImports,
+    asked: &CoreImports,
+) -> Result<(), SubtypeError>
+    ensures yes { OnOk result (HasAll import_at given.now asked.now) }
+    ensures no { IfMismatch result (LacksOne import_at ExternKind.Import joined_name given.now asked.now) }
+{
+    for at in 0..asked.len() {
+        let names = &asked.names()[at];
+        let item = &asked.values()[at];
+        let from = names.0.as_str();
+        let name = names.1.as_str();
+        match item_fits(alloc, turned, import_of(given, from, name), item) {
+            Ok(()) => {}
+            Err(fault) => return Err(behind_import(alloc, from, name, fault)),
+        }
+    }
+    Ok(())
+}
+
+/// Whether each export asked is one of those given.
+fn exports_fit(
+    alloc: Global,
+    turned: bool,
+    given: &NamedMap<CoreExtern>,
+    asked: &NamedMap<CoreExtern>,
+) -> Result<(), SubtypeError>
+    ensures yes { OnOk result (HasAll value_at given.now asked.now) }
+    ensures no { IfMismatch result (LacksOne value_at ExternKind.Export (λ n. n) given.now asked.now) }
+{
+    for at in 0..asked.len() {
+        let (name, item) = asked.entry(at);
+        match item_fits(alloc, turned, given.get(name), item) {
+            Ok(()) => {}
+            Err(fault) => return Err(within(alloc, ExternKind::Export, name, fault)),
+        }
+    }
+    Ok(())
+}
+
+/// No name of a module type stands twice. It does nothing: its contract tells so.
+fn see_distinct(ty: &ModuleType)
+    ensures imports { AreDistinct (names_of ty.now.imports) }
+    ensures exports { AreDistinct (names_of ty.now.exports) }
+{
+    let _ = ty.imports.len();
+    let _ = ty.exports.len();
+}
+
+/// Whether a module type fits another: its imports the other way round, and its exports.
+pub(crate) fn modules_fit(
+    alloc: Global,
+    turned: bool,
+    given: &ModuleType,
+    asked: &ModuleType,
+) -> Result<(), SubtypeError>
+    ensures yes { OnOk result (Fits (module_tree given.now) (module_tree asked.now)) }
+    ensures no { IfMismatch result (λ ss. Disagree ss (module_tree given.now) (module_tree asked.now)) }
+{
+    see_distinct(given);
+    see_distinct(asked);
+    match imports_fit(alloc, !turned, &asked.imports, &given.imports) {
+        Err(fault) => Err(fault),
+        Ok(()) => exports_fit(alloc, turned, &given.exports, &asked.exports),
+    }
+}

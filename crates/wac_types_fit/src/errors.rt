@@ -1,0 +1,113 @@
+//! Why something does not fit.
+
+ghost use Rattle.std.specs.Prelude.{◌≡◌, [], ◌∷◌, List, Some, string_bytes};
+ghost use Rattle.wac_types_fit.specs.Frames.{Step};
+ghost use Rattle.wac_types_fit.specs.Errors.{steps_of};
+
+use std::alloc::Global;
+use std::error::Error;
+use std::fmt;
+use wac_types_base::ExternKind;
+
+/// Why something does not fit.
+#[derive(Debug, Drop)]
+pub enum SubtypeError {
+    /// The frames lead, from the outside in, to two items that disagree, or to one that is missing.
+    Mismatch {
+        frames: Vec<(ExternKind, String)>,
+        expected: Option<&'static str>,
+        found: Option<&'static str>,
+    },
+    /// There was no memory.
+    Memory,
+}
+
+/// What is given and what is asked disagree; none where it is missing.
+pub(crate) fn mismatch(
+    alloc: Global,
+    turned: bool,
+    given: Option<&'static str>,
+    asked: Option<&'static str>,
+) -> SubtypeError
+    ensures { steps_of result ≡ Some [] }
+{
+    let (expected, found) = if turned {
+        (given, asked)
+    } else {
+        (asked, given)
+    };
+    SubtypeError::Mismatch {
+        frames: Vec::new(alloc),
+        expected,
+        found,
+    }
+}
+
+/// The fault, one frame further out.
+pub(crate) fn behind(kind: ExternKind, name: String, fault: SubtypeError) -> SubtypeError
+    ensures { (ss : List Step) → steps_of result ≡ Some ss → (rest : List Step) × (steps_of fault ≡ Some rest) × (ss ≡ (kind, string_bytes name) ∷ rest) }
+{
+    match fault {
+        SubtypeError::Memory => SubtypeError::Memory,
+        SubtypeError::Mismatch {
+            mut frames,
+            expected,
+            found,
+        } => match frames.insert(0, (kind, name)) {
+            Err(_) => SubtypeError::Memory,
+            Ok(()) => SubtypeError::Mismatch {
+                frames,
+                expected,
+                found,
+            },
+        },
+    }
+}
+
+/// The fault, behind an item of this name.
+pub(crate) fn within(
+    alloc: Global,
+    kind: ExternKind,
+    name: &str,
+    fault: SubtypeError,
+) -> SubtypeError
+    ensures { (ss : List Step) → steps_of result ≡ Some ss → (rest : List Step) × (steps_of fault ≡ Some rest) × (ss ≡ (kind, name.now) ∷ rest) }
+{
+    match String::from_str(alloc, name) {
+        Err(_) => SubtypeError::Memory,
+        Ok(name) => behind(kind, name, fault),
+    }
+}
+
+fn fmt_items<W: fmt::Write>(
+    expected: Option<&'static str>,
+    found: Option<&'static str>,
+    f: &mut fmt::Formatter<W>,
+) -> fmt::Result {
+    match (expected, found) {
+        (Some(expected), Some(found)) => write!(f, "expected {expected}, found {found}"),
+        (Some(expected), None) => write!(f, "expected {expected}, found nothing"),
+        (None, Some(found)) => write!(f, "expected nothing, found {found}"),
+        (None, None) => f.write_str("expected nothing"),
+    }
+}
+
+impl fmt::Display for SubtypeError {
+    fn fmt<W: fmt::Write>(&self, f: &mut fmt::Formatter<W>) -> fmt::Result {
+        match self {
+            SubtypeError::Memory => f.write_str("out of memory"),
+            SubtypeError::Mismatch {
+                frames,
+                expected,
+                found,
+            } => {
+                for (kind, name) in frames {
+                    write!(f, "{kind} `{name}`: ")?;
+                }
+                fmt_items(*expected, *found, f)
+            }
+        }
+    }
+}
+
+impl Error for SubtypeError {}

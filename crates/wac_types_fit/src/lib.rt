@@ -1,0 +1,20 @@
+//! What fits what: the order on types, its checker, and the target of a component.
+#![tactic(auto)]
+
+pub mod cache;
+mod check;
+pub mod checker;
+mod core_items;
+pub mod errors;
+mod laws;
+pub mod targets;
+mod values;
+
+pub use cache::{Cache, new_cache};
+pub use checker::{SubtypeCheck, SubtypeChecker};
+pub use errors::SubtypeError;
+pub use laws::{meets_of_plain_trees, order_on_trees, refusals_are_true};
+pub use targets::{TargetValidationReport, TargetValidationResult, validate_target};
+
+#[cfg(test)]
+mod tests;

@@ -1,0 +1,184 @@
+//! Whether two values, functions or resources have one tree.
+
+ghost use Rattle.std.specs.Prelude.{◌≡◌, IsTrue, ◌↔◌};
+ghost use Rattle.wac_types_base.specs.declared.item.ItemKind.{ItemKind};
+ghost use Rattle.wac_types_base.specs.declared.item.ValueType.{ValueType};
+ghost use Rattle.wac_types_base.specs.declared.item.«Type».{«Type» as TypeKind};
+ghost use Rattle.wac_types_base.specs.Entries.{texts_of};
+ghost use Rattle.wac_types_base.specs.Collection.{Stands, defined_entry};
+ghost use Rattle.wac_types_base.specs.Resolving.{IsNoAlias};
+ghost use Rattle.wac_types_fit.specs.Trees.{SameTree};
+ghost use Rattle.wac_types_fit.specs.Checking.{value_in, HoldsValues, ValueStands, value_tree, place_trees};
+
+use wac_types_base::replace::is_same;
+use wac_types_base::{DefinedType, FuncTypeId, ItemKind, ResourceId, Types, ValueType};
+
+/// Whether the names are the same, in order.
+fn same_names(a: &[String], b: &[String]) -> bool
+    ensures { IsTrue result ↔ (texts_of a.now ≡ texts_of b.now) }
+{
+    a == b
+}
+
+/// Whether two defined types are the same but for the types in them.
+fn same_label(a: &DefinedType, b: &DefinedType) -> bool
+    ensures { IsTrue result ↔ ((defined_entry a.now).0 ≡ (defined_entry b.now).0) }
+{
+    match a {
+        DefinedType::Tuple(_) => matches!(b, DefinedType::Tuple(_)),
+        DefinedType::List(_) => matches!(b, DefinedType::List(_)),
+        DefinedType::FixedSizeList(_, m) => match b {
+            DefinedType::FixedSizeList(_, n) => *m == *n,
+            _ => false,
+        },
+        DefinedType::Option(_) => matches!(b, DefinedType::Option(_)),
+        DefinedType::Result { .. } => matches!(b, DefinedType::Result { .. }),
+        DefinedType::Variant(v) => match b {
+            DefinedType::Variant(w) => same_names(v.cases.names(), w.cases.names()),
+            _ => false,
+        },
+        DefinedType::Record(v) => match b {
+            DefinedType::Record(w) => same_names(v.fields.names(), w.fields.names()),
+            _ => false,
+        },
+        DefinedType::Flags(v) => match b {
+            DefinedType::Flags(w) => same_names(v.0.as_slice(), w.0.as_slice()),
+            _ => false,
+        },
+        DefinedType::Enum(v) => match b {
+            DefinedType::Enum(w) => same_names(v.0.as_slice(), w.0.as_slice()),
+            _ => false,
+        },
+        DefinedType::Alias(_) => matches!(b, DefinedType::Alias(_)),
+        DefinedType::Stream(_) => matches!(b, DefinedType::Stream(_)),
+        DefinedType::Future(_) => matches!(b, DefinedType::Future(_)),
+    }
+}
+
+/// Whether two resources have one root name.
+pub(crate) fn same_resources(a: ResourceId, at: &Types, b: ResourceId, bt: &Types) -> bool
+    requires given { Stands at.now (ItemKind.Ty (TypeKind.Resource a)) }
+    requires asked { Stands bt.now (ItemKind.Ty (TypeKind.Resource b)) }
+    ensures { IsTrue result ↔ SameTree at.now (ItemKind.Ty (TypeKind.Resource a)) bt.now (ItemKind.Ty (TypeKind.Resource b)) }
+{
+    let given = at.resource(at.resolve_resource(a));
+    let asked = bt.resource(bt.resolve_resource(b));
+    given.name.is(asked.name.as_str())
+}
+
+/// The value type in a place.
+fn value_of(place: Option<ItemKind>) -> Option<ValueType>
+    ensures { result ≡ value_in place }
+{
+    match place {
+        Some(ItemKind::Value(ty)) => Some(ty),
+        _ => None,
+    }
+}
+
+/// Whether two value types have one tree.
+#[cycle(values)]
+pub(crate) fn same_values(a: ValueType, at: &Types, b: ValueType, bt: &Types) -> bool
+    requires given { Stands at.now (ItemKind.Value a) }
+    requires asked { Stands bt.now (ItemKind.Value b) }
+    ensures { IsTrue result ↔ SameTree at.now (ItemKind.Value a) bt.now (ItemKind.Value b) }
+{
+    at.see_acyclic();
+    bt.see_acyclic();
+    same_resolved(at.resolve_value_type(a), at, bt.resolve_value_type(b), bt)
+}
+
+/// The same of two that are no aliases.
+#[cycle(values)]
+fn same_resolved(a: ValueType, at: &Types, b: ValueType, bt: &Types) -> bool
+    requires given { Stands at.now (ItemKind.Value a) }
+    requires asked { Stands bt.now (ItemKind.Value b) }
+    requires given_end { IsNoAlias at.now a }
+    requires asked_end { IsNoAlias bt.now b }
+    ensures { IsTrue result ↔ SameTree at.now (ItemKind.Value a) bt.now (ItemKind.Value b) }
+{
+    at.see_acyclic();
+    bt.see_acyclic();
+    match a {
+        ValueType::Primitive(_) => match b {
+            ValueType::Primitive(_) => is_same(ItemKind::Value(a), ItemKind::Value(b)),
+            _ => false,
+        },
+        ValueType::Borrow(r) => match b {
+            ValueType::Borrow(s) => same_resources(r, at, s, bt),
+            _ => false,
+        },
+        ValueType::Own(r) => match b {
+            ValueType::Own(s) => same_resources(r, at, s, bt),
+            _ => false,
+        },
+        ValueType::Defined(d) => match b {
+            ValueType::Defined(e) => {
+                let given = at.defined_type(d);
+                let asked = bt.defined_type(e);
+                same_label(given, asked)
+                    && same_places(ItemKind::Value(a), at, ItemKind::Value(b), bt)
+            }
+            _ => false,
+        },
+    }
+}
+
+/// Whether the same trees are in the places of two kinds, all of them values.
+#[cycle(values)]
+pub(crate) fn same_places(a: ItemKind, at: &Types, b: ItemKind, bt: &Types) -> bool
+    requires given { Stands at.now a }
+    requires asked { Stands bt.now b }
+    requires given_values { HoldsValues at.now a }
+    requires asked_values { HoldsValues bt.now b }
+    ensures { IsTrue result ↔ (place_trees at.now a ≡ place_trees bt.now b) }
+{
+    at.see_acyclic();
+    bt.see_acyclic();
+    let mut index: u128 = 0;
+    while let Some(given) = at.place(a, index) {
+        match bt.place(b, index) {
+            None => return false,
+            Some(asked) => {
+                if !same_place(value_of(given), at, value_of(asked), bt) {
+                    return false;
+                }
+            }
+        }
+        index += 1;
+    }
+    bt.place(b, index).is_none()
+}
+
+/// Whether the same tree is in two places.
+#[cycle(values)]
+fn same_place(a: Option<ValueType>, at: &Types, b: Option<ValueType>, bt: &Types) -> bool
+    requires given { ValueStands at.now a }
+    requires asked { ValueStands bt.now b }
+    ensures { IsTrue result ↔ (value_tree at.now a ≡ value_tree bt.now b) }
+{
+    match a {
+        None => b.is_none(),
+        Some(x) => match b {
+            None => false,
+            Some(y) => same_values(x, at, y, bt),
+        },
+    }
+}
+
+/// Whether two function types have one tree.
+pub(crate) fn same_funcs(a: FuncTypeId, at: &Types, b: FuncTypeId, bt: &Types) -> bool
+    requires given { Stands at.now (ItemKind.Func a) }
+    requires asked { Stands bt.now (ItemKind.Func b) }
+    ensures { IsTrue result ↔ SameTree at.now (ItemKind.Func a) bt.now (ItemKind.Func b) }
+{
+    let given = at.func_type(a);
+    let asked = bt.func_type(b);
+    if given.is_async != asked.is_async {
+        return false;
+    }
+    if !same_names(given.params.names(), asked.params.names()) {
+        return false;
+    }
+    same_places(ItemKind::Func(a), at, ItemKind::Func(b), bt)
+}
