@@ -70,7 +70,7 @@ other_kind (component is es) (component js fs) h = absurd (h refl)
 other_kind (core_module is es) (core_module js fs) h = absurd (h refl)
 other_kind t u h = ends tt (not_both t u h)
 
-abbrev is_type : Kind → Bool
+abbrev pub is_type : Kind → Bool
 is_type IsFunction = false
 is_type IsInstance = false
 is_type IsComponent = false
@@ -95,7 +95,7 @@ no_thing : (t : Tree) (k : Kind) → is_type k ≡ false → typed (tree_kind t)
 no_thing t k h e = absurd (cc (typed_is_type (tree_kind t), ap is_type e, h))
 
 -- a tree without parts that could fit otherwise
-abbrev IsFlatTree : Tree → Type 0
+abbrev pub IsFlatTree : Tree → Type 0
 IsFlatTree (rigid s r) = Unit {0}
 IsFlatTree (instance xs) = ⊥
 IsFlatTree (component is es) = ⊥
@@ -219,7 +219,7 @@ module _ (c : Collection) (acyclic : IsAcyclic c) where
   kind_is (ItemKind.Value v) s = value_is v s
 
   -- the tree of a function, a value or a resource, or of the type of a function or value
-  flat_is : (k : ItemKind) → IsFlat k → Stands c k → IsFlatTree (tree_in c k)
+  pub flat_is : (k : ItemKind) → IsFlat k → Stands c k → IsFlatTree (tree_in c k)
   flat_is (ItemKind.Ty (TypeKind.Resource r)) f s = subst IsFlatTree (sym (resource_is r s).1) tt
   flat_is (ItemKind.Ty (TypeKind.Func g)) f s = subst IsFlatTree (sym (type_func c acyclic g s)) (function_flat (tree_in c (ItemKind.Func g)) (func_is g (stands_typed_func c g s)))
   flat_is (ItemKind.Ty (TypeKind.Value v)) f s = subst IsFlatTree (sym (type_value c acyclic v s)) (value_flat (tree_in c (ItemKind.Value v)) (value_is v (stands_typed_value c v s)))
@@ -242,7 +242,7 @@ kinds_disagree c d a b j k s r h = other_kind (tree_in c j) (tree_in d k) (λ e.
 
 -- ---- kinds of ids
 
-types_are_types : (t : TypeKind) → is_type (item_kind (ItemKind.Ty t)) ≡ true
+pub types_are_types : (t : TypeKind) → is_type (item_kind (ItemKind.Ty t)) ≡ true
 types_are_types (TypeKind.Resource r) = refl
 types_are_types (TypeKind.Func r) = refl
 types_are_types (TypeKind.Value r) = refl
@@ -258,7 +258,7 @@ not_func (ItemKind.Func f) h e = h f refl
 not_func (ItemKind.Ty t) h e = no_type t IsFunction refl e
 not_func k h e = absurd (cc e)
 
-not_instance : (k : ItemKind) → ((f : InterfaceId) → k ≡ ItemKind.Instance f → ⊥) → item_kind k ≡ IsInstance → ⊥
+pub not_instance : (k : ItemKind) → ((f : InterfaceId) → k ≡ ItemKind.Instance f → ⊥) → item_kind k ≡ IsInstance → ⊥
 not_instance (ItemKind.Instance f) h e = h f refl
 not_instance (ItemKind.Ty t) h e = no_type t IsInstance refl e
 not_instance k h e = absurd (cc e)
@@ -278,7 +278,7 @@ not_value (ItemKind.Value f) h e = h f refl
 not_value (ItemKind.Ty t) h e = no_type t IsValue refl e
 not_value k h e = absurd (cc e)
 
-not_type : (k : ItemKind) → ((t : TypeKind) → k ≡ ItemKind.Ty t → ⊥) → is_type (item_kind k) ≡ true → ⊥
+pub not_type : (k : ItemKind) → ((t : TypeKind) → k ≡ ItemKind.Ty t → ⊥) → is_type (item_kind k) ≡ true → ⊥
 not_type (ItemKind.Ty t) h e = h t refl
 not_type k h e = absurd (cc e)
 
@@ -303,7 +303,7 @@ module _ (c d : Collection) (a : IsAcyclic c) (b : IsAcyclic d) (j k : ItemKind)
 
 -- ---- kinds of types
 
-abbrev kind_of_type : TypeKind → Kind
+abbrev pub kind_of_type : TypeKind → Kind
 kind_of_type t = item_kind (ItemKind.Ty t)
 
 not_resource_type : (t : TypeKind) → ((f : ResourceId) → t ≡ TypeKind.Resource f → ⊥) → kind_of_type t ≡ IsResource → ⊥
@@ -318,7 +318,7 @@ not_value_type : (t : TypeKind) → ((f : ValueType) → t ≡ TypeKind.Value f 
 not_value_type (TypeKind.Value f) h e = h f refl
 not_value_type t h e = absurd (cc e)
 
-not_interface_type : (t : TypeKind) → ((f : InterfaceId) → t ≡ TypeKind.Interface f → ⊥) → kind_of_type t ≡ IsInterface → ⊥
+pub not_interface_type : (t : TypeKind) → ((f : InterfaceId) → t ≡ TypeKind.Interface f → ⊥) → kind_of_type t ≡ IsInterface → ⊥
 not_interface_type (TypeKind.Interface f) h e = h f refl
 not_interface_type t h e = absurd (cc e)
 

@@ -120,7 +120,7 @@ fields_meet xs ys zs a b h = record {
 types_great : (t u m x : Tree) → IsMeet m (t ∷ u ∷ []) → InOrder x → Fits x (type_item t) → Fits x (type_item u) → Fits x (type_item m)
 types_great t u m x h o (type_fits {t = w} f) (type_fits g) = type_fits (h.greatest w o (f, (g, tt)))
 
-types_meet : (t u m : Tree) → IsMeet m (t ∷ u ∷ []) → IsMeet (type_item m) (type_item t ∷ type_item u ∷ [])
+pub types_meet : (t u m : Tree) → IsMeet m (t ∷ u ∷ []) → IsMeet (type_item m) (type_item t ∷ type_item u ∷ [])
 types_meet t u m h = record {
   ordered = h.ordered;
   fits = (type_fits h.fits.0, (type_fits h.fits.1.0, tt));

@@ -6,4 +6,5 @@ pub mod Checking
 pub mod Errors
 pub mod Directions
 pub mod Targets
+pub mod TargetSteps
 pub mod Meets

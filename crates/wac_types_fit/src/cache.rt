@@ -1,6 +1,6 @@
 //! The pairs that are known to fit.
 
-ghost use Rattle.std.specs.Prelude.{◌≡◌, IsTrue, []};
+ghost use Rattle.std.specs.Prelude.{◌≡◌, IsTrue, OnOk, []};
 ghost use Rattle.wac_types_base.specs.declared.item.ItemKind.{ItemKind};
 ghost use Rattle.wac_types_base.specs.Record.{Collection};
 ghost use Rattle.wac_types_fit.specs.Checking.{HasPair, OnlyMore, IsTrueOf};
@@ -25,9 +25,10 @@ pub(crate) fn knows(cache: &Cache, a: ItemKind, b: ItemKind) -> bool
 
 /// Remembers that the pair fits.
 pub(crate) fn remember(cache: &mut Cache, a: ItemKind, b: ItemKind) -> Result<(), AllocError>
-    ensures { OnlyMore cache.old.keys cache.new.keys a b }
+    ensures only { OnlyMore cache.old.keys cache.new.keys a b }
+    ensures remembered { OnOk result (HasPair cache.new.keys a b) }
 {
-    let _ = cache.insert((a, b))?;
+    let _ = cache.replace((a, b))?;
     Ok(())
 }
 

@@ -7,7 +7,7 @@ ghost use Rattle.wac_types_base.specs.Collection.{Stands};
 ghost use Rattle.wac_types_fit.specs.Frames.{Step, Disagree};
 ghost use Rattle.wac_types_fit.specs.Errors.{IfMismatch};
 ghost use Rattle.wac_types_fit.specs.Trees.{tree_in, Fit, SameTree, OneOrApart, IsInside};
-ghost use Rattle.wac_types_fit.specs.Checking.{IsTrueOf, OnlyTrue, AreInside, GivesName, GivesAll, NameDisagrees, ItemsDisagree, IsFlat};
+ghost use Rattle.wac_types_fit.specs.Checking.{HasPair, IsTrueOf, OnlyTrue, AreInside, GivesName, GivesAll, NameDisagrees, ItemsDisagree, IsFlat};
 
 use crate::cache::{Cache, knows, remember};
 use crate::core_items::modules_fit;
@@ -76,6 +76,7 @@ pub(crate) fn fits(
     requires cache { IsTrueOf at.now bt.now cache.old.keys }
     ensures yes { OnOk result (Fit at.now a bt.now b) }
     ensures no { IfMismatch result (λ ss. Disagree ss (tree_in at.now a) (tree_in bt.now b)) }
+    ensures remembered { OnOk result (HasPair cache.new.keys a b) }
     ensures only { OnlyTrue at.now bt.now cache.old.keys cache.new.keys }
     ensures cache { IsTrueOf at.now bt.now cache.new.keys }
 {

@@ -65,7 +65,7 @@ pub(crate) fn behind(kind: ExternKind, name: String, fault: SubtypeError) -> Sub
 }
 
 /// The fault, behind an item of this name.
-pub(crate) fn within(
+pub fn within(
     alloc: Global,
     kind: ExternKind,
     name: &str,

@@ -13,7 +13,8 @@ ghost use Rattle.wac_types_base.specs.Resolving.{promoted};
 ghost use Rattle.wac_types_base.specs.Implicit.{shown, by_identifier, implicit_interfaces};
 ghost use Rattle.wac_types_fit.specs.Errors.{steps_of};
 ghost use Rattle.wac_types_fit.specs.Checking.{IsTrueOf};
-ghost use Rattle.wac_types_fit.specs.Targets.{Report, target_import, ImportDiffers, ExportDiffers, IsLacking, AreThose, AreLacking, Differing, IsReport, IsEmptyReport, Tells, mismatches, name_if, entry_if, PairChecked, ImportChecked, ExportChecked, KindStands, GivesStanding, AllStand};
+ghost use Rattle.wac_types_fit.specs.Targets.{Report, target_import, ImportDiffers, ExportDiffers, ImportLeads, ExportLeads, IsLacking, AreThose, AreLacking, Differing, IsReport, IsEmptyReport, Tells};
+ghost use Rattle.wac_types_fit.specs.TargetSteps.{mismatches, name_if, entry_if, PairChecked, ImportChecked, ExportChecked, KindStands, GivesStanding, AllStand};
 
 use crate::cache::{Cache, new_cache};
 use crate::check::fits;
@@ -36,7 +37,8 @@ pub struct TargetValidationReport {
 
 impl Model for TargetValidationReport {
     ghost use Rattle.wac_types_base.specs.Entries.{texts_of, entries_of};
-    ghost use Rattle.wac_types_fit.specs.Targets.{Report, mismatches};
+    ghost use Rattle.wac_types_fit.specs.Targets.{Report};
+    ghost use Rattle.wac_types_fit.specs.TargetSteps.{mismatches};
 
     ghost Value = { Report };
 
@@ -210,7 +212,7 @@ fn add_fault(
     fault: SubtypeError,
     found: &mut Vec<(String, ExternKind, SubtypeError)>,
 ) -> Result<(), AllocError>
-    ensures { OnOk result (IsSome (steps_of fault) × (mismatches found.new.items ≡ mismatches found.old.items ++ (name.now, side) ∷ [])) }
+    ensures { OnOk result (IsSome (steps_of fault) × (mismatches found.new.items ≡ mismatches found.old.items ++ (name.now, side, steps_of fault) ∷ [])) }
 {
     match fault {
         SubtypeError::Memory => Err(AllocError),
@@ -335,7 +337,7 @@ fn check_imports(
     requires given { GivesStanding types.now (target_import (shown implicit.now.entries) target.now.imports) }
     requires asked { AllStand types.now imports.now }
     requires cache { IsTrueOf types.now types.now cache.old.keys }
-    ensures checked { OnOk result (Differing (ImportDiffers types.now (target_import (shown implicit.now.entries) target.now.imports)) ExternKind.Import imports.now (mismatches found.old.items) (mismatches found.new.items)) }
+    ensures checked { OnOk result (Differing (ImportDiffers types.now (target_import (shown implicit.now.entries) target.now.imports)) (ImportLeads types.now (target_import (shown implicit.now.entries) target.now.imports)) ExternKind.Import imports.now (mismatches found.old.items) (mismatches found.new.items)) }
     ensures cache { IsTrueOf types.now types.now cache.new.keys }
 {
     for at in 0..imports.len() {
@@ -358,7 +360,7 @@ fn check_exports(
     requires given { GivesStanding types.now (value_at component.now.exports) }
     requires asked { AllStand types.now exports.now }
     requires cache { IsTrueOf types.now types.now cache.old.keys }
-    ensures checked { OnOk result (Differing (ExportDiffers types.now (value_at component.now.exports)) ExternKind.Export exports.now (mismatches found.old.items) (mismatches found.new.items)) }
+    ensures checked { OnOk result (Differing (ExportDiffers types.now (value_at component.now.exports)) (ExportLeads types.now (value_at component.now.exports)) ExternKind.Export exports.now (mismatches found.old.items) (mismatches found.new.items)) }
     ensures cache { IsTrueOf types.now types.now cache.new.keys }
 {
     for at in 0..exports.len() {

@@ -17,20 +17,20 @@ use Rattle.wac_types_fit.proofs.check.+fits.Goals as goal
 pub fits-returns-in-Ok-remember-clause-only : goal.fits-returns-in-Ok-remember-clause-only
 fits-returns-in-Ok-remember-clause-only t c =
     only_trans c.args.at.now c.args.bt.now c.args.cache.now.keys c.unfolded.new.cache.keys c.remember.new.cache.keys c.unfolded.ensures.only
-    (only_more c.args.at.now c.args.bt.now c.unfolded.new.cache.keys c.remember.new.cache.keys c.args.a c.args.b (record { given = c.requires.given; asked = c.requires.asked; fits = c.in-Ok.ensures.yes }) c.remember.ensures)
+    (only_more c.args.at.now c.args.bt.now c.unfolded.new.cache.keys c.remember.new.cache.keys c.args.a c.args.b (record { given = c.requires.given; asked = c.requires.asked; fits = c.in-Ok.ensures.yes }) c.remember.ensures.only)
 
 pub fits-returns-in-Ok-remember-clause-cache : goal.fits-returns-in-Ok-remember-clause-cache
 fits-returns-in-Ok-remember-clause-cache t c =
-    remember_true c.args.at.now c.args.bt.now c.see_acyclic.ensures c.see_acyclic-2.ensures c.requires.apart c.unfolded.new.cache.keys c.remember.new.cache.keys c.args.a c.args.b c.requires.given c.requires.asked c.in-Ok.ensures.yes c.unfolded.ensures.cache c.remember.ensures
+    remember_true c.args.at.now c.args.bt.now c.see_acyclic.ensures c.see_acyclic-2.ensures c.requires.apart c.unfolded.new.cache.keys c.remember.new.cache.keys c.args.a c.args.b c.requires.given c.requires.asked c.in-Ok.ensures.yes c.unfolded.ensures.cache c.remember.ensures.only
 
 pub fits-returns-in-Err-remember-clause-only : goal.fits-returns-in-Err-remember-clause-only
 fits-returns-in-Err-remember-clause-only t c =
     only_trans c.args.at.now c.args.bt.now c.args.cache.now.keys c.unfolded.new.cache.keys c.remember.new.cache.keys c.unfolded.ensures.only
-    (only_more c.args.at.now c.args.bt.now c.unfolded.new.cache.keys c.remember.new.cache.keys c.args.a c.args.b (record { given = c.requires.given; asked = c.requires.asked; fits = c.in-Ok.ensures.yes }) c.remember.ensures)
+    (only_more c.args.at.now c.args.bt.now c.unfolded.new.cache.keys c.remember.new.cache.keys c.args.a c.args.b (record { given = c.requires.given; asked = c.requires.asked; fits = c.in-Ok.ensures.yes }) c.remember.ensures.only)
 
 pub fits-returns-in-Err-remember-clause-cache : goal.fits-returns-in-Err-remember-clause-cache
 fits-returns-in-Err-remember-clause-cache t c =
-    remember_true c.args.at.now c.args.bt.now c.see_acyclic.ensures c.see_acyclic-2.ensures c.requires.apart c.unfolded.new.cache.keys c.remember.new.cache.keys c.args.a c.args.b c.requires.given c.requires.asked c.in-Ok.ensures.yes c.unfolded.ensures.cache c.remember.ensures
+    remember_true c.args.at.now c.args.bt.now c.see_acyclic.ensures c.see_acyclic-2.ensures c.requires.apart c.unfolded.new.cache.keys c.remember.new.cache.keys c.args.a c.args.b c.requires.given c.requires.asked c.in-Ok.ensures.yes c.unfolded.ensures.cache c.remember.ensures.only
 
 pub instances_fit-items_fit-requires : goal.instances_fit-items_fit-requires
 instances_fit-items_fit-requires t c =

@@ -2,13 +2,14 @@ use Rattle.std.proofs.Common.{◌∙◌}
 use Rattle.wac_types_base.specs.declared.item.ExternKind.{ExternKind}
 use Rattle.wac_types_base.specs.Entries.{value_at}
 use Rattle.wac_types_base.proofs.Walking.{Among-slice_get}
-use Rattle.wac_types_fit.specs.Targets.{ExportDiffers, mismatches}
+use Rattle.wac_types_fit.specs.Targets.{ExportDiffers, ExportLeads}
+use Rattle.wac_types_fit.specs.TargetSteps.{mismatches}
 use Rattle.wac_types_fit.proofs.Reports.{nothing_differs, export_step}
 use Rattle.wac_types_fit.proofs.targets.check_exports.Goals as goal
 
 pub loop-at-init : goal.loop-at-init
 loop-at-init c = record {
-  checked = nothing_differs (ExportDiffers c.args.types.now (value_at c.args.component.now.exports)) ExternKind.Export c.args.exports.now (mismatches c.args.found.now.items);
+  checked = nothing_differs (ExportDiffers c.args.types.now (value_at c.args.component.now.exports)) (ExportLeads c.args.types.now (value_at c.args.component.now.exports)) ExternKind.Export c.args.exports.now (mismatches c.args.found.now.items);
   cache = c.requires.cache;
 }
 

@@ -1,6 +1,6 @@
 use Rattle.std.proofs.Common.{sym, subst}
 use Rattle.wac_types_base.specs.Collection.{Stands}
-use Rattle.wac_types_fit.specs.Targets.{KindStands}
+use Rattle.wac_types_fit.specs.TargetSteps.{KindStands}
 use Rattle.wac_types_fit.proofs.Reports.{promoted_stands}
 use Rattle.wac_types_fit.proofs.targets.check_import.Goals as goal
 

@@ -1,13 +1,14 @@
 use Rattle.wac_types_base.specs.declared.item.ExternKind.{ExternKind}
 use Rattle.wac_types_base.specs.Implicit.{shown}
 use Rattle.wac_types_base.proofs.Walking.{Among-slice_get}
-use Rattle.wac_types_fit.specs.Targets.{target_import, ImportDiffers, mismatches}
+use Rattle.wac_types_fit.specs.Targets.{target_import, ImportDiffers, ImportLeads}
+use Rattle.wac_types_fit.specs.TargetSteps.{mismatches}
 use Rattle.wac_types_fit.proofs.Reports.{nothing_differs, import_step}
 use Rattle.wac_types_fit.proofs.targets.check_imports.Goals as goal
 
 pub loop-at-init : goal.loop-at-init
 loop-at-init c = record {
-  checked = nothing_differs (ImportDiffers c.args.types.now (target_import (shown c.args.implicit.now.entries) c.args.target.now.imports)) ExternKind.Import c.args.imports.now (mismatches c.args.found.now.items);
+  checked = nothing_differs (ImportDiffers c.args.types.now (target_import (shown c.args.implicit.now.entries) c.args.target.now.imports)) (ImportLeads c.args.types.now (target_import (shown c.args.implicit.now.entries) c.args.target.now.imports)) ExternKind.Import c.args.imports.now (mismatches c.args.found.now.items);
   cache = c.requires.cache;
 }
 
