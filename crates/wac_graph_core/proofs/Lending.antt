@@ -1,0 +1,30 @@
+-- A package that is made of a world stands.
+use Rattle.std.proofs.Common.{◌≡◌, List, [], ◌∷◌, ◌++◌, Some, IsSome, length, refl, sym, subst}
+use Rattle.std.specs.Prelude.{Result, Ok, Err}
+use Rattle.std.specs.Result.{IfOk}
+use Rattle.wac_types_base.specs.declared.item.ItemKind.{ItemKind}
+use Rattle.wac_types_base.specs.declared.ids.WorldId.{WorldId}
+use Rattle.wac_types_base.specs.declared.defined.Interface.{Interface}
+use Rattle.wac_types_base.specs.Record.{Collection}
+use Rattle.wac_types_base.specs.Collection.{Stands, Grows, item_node, interface_entry}
+use Rattle.wac_types_base.proofs.Slots.{entry_at-is}
+use Rattle.wac_types_names.specs.Packaged.{Packaged}
+use Rattle.wac_types_names.specs.Packages.{AddsInterfaceOf}
+use Rattle.wac_graph_core.specs.Graph.{PackageStands}
+use Rattle.wac_graph_core.proofs.PlaceSteps.{get_at_end}
+
+-- an interface that is added stands
+added_stands : (old : Collection) (i : Interface) → Stands (record old { interfaces = old.interfaces ++ i ∷ [] }) (ItemKind.Instance (record { collection = old.number; index = length old.interfaces }))
+unfolding item_node
+added_stands old i =
+    subst IsSome (sym (entry_at-is interface_entry old.number (old.interfaces ++ i ∷ []) old.number (length old.interfaces) i (get_at_end old.interfaces i) refl)) refl
+
+pub package_made_stands : {E : Type 0} (r : Result Packaged E) (old new : Collection) (world : WorldId) → Grows old new → Stands old (ItemKind.Component world) → IfOk r (λ p. p.ty ≡ world) → IfOk r (λ p. AddsInterfaceOf old new world p.instance_type)
+    → IfOk r (λ p. PackageStands new p)
+package_made_stands (Ok p) old new world grows stands ty added =
+    record {
+      world = subst (λ w. Stands new (ItemKind.Component w)) (sym ty) (grows.stand (ItemKind.Component world) stands);
+      instance = subst (λ c. Stands c (ItemKind.Instance p.instance_type)) (sym added.collection)
+          (subst (λ j. Stands (record old { interfaces = old.interfaces ++ added.interface ∷ [] }) (ItemKind.Instance j)) (sym added.number) (added_stands old added.interface));
+    }
+package_made_stands (Err e) old new world grows stands ty added = tt

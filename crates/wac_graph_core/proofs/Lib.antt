@@ -1,0 +1,16 @@
+pub mod NodeMap
+pub mod Walks
+pub mod Found
+pub mod NodeSteps
+pub mod EdgeSteps
+pub mod GraphSteps
+pub mod Removal
+pub mod ExportSteps
+pub mod PlaceSteps
+pub mod Twice
+pub mod Items
+pub mod Calls
+pub mod Gathering
+pub mod Registering
+pub mod Lending
+pub mod WiringLaws

@@ -1,0 +1,31 @@
+use Rattle.std.proofs.Common.{◌≡◌, Some, None, ap, sym, ◌∙◌, subst, ◌++◌, ◌∷◌, []}
+use Rattle.std.specs.FinMap as map
+use Rattle.wac_types_base.specs.Entries.{value_at}
+use Rattle.wac_graph_core.specs.Nodes.{NodeData}
+use Rattle.wac_graph_core.specs.Graph.{Graph, ContainsNode, IsGraph}
+use Rattle.wac_graph_core.specs.Exporting.{Exports}
+use Rattle.wac_graph_core.specs.View.{graph}
+use Rattle.wac_graph_core.proofs.Calls.{node_of, export_step, exported_by}
+use Rattle.wac_graph_core.proofs.graph.CompositionGraph.export.Goals as goal
+
+pub set_export-requires : goal.set_export-requires
+set_export-requires c = subst (λ g. ContainsNode g c.args.node) (sym c.self.view_is) c.requires
+
+pub invariant_of-self-2 : goal.invariant_of-self-2
+invariant_of-self-2 c =
+    let n = node_of (graph c.self.inside) c.args.node (subst (λ g. ContainsNode g c.args.node) (sym c.self.view_is) c.requires) in
+    exported_by (graph c.self.inside) c.set_export.new.self c.push_reserved.new.self.items c.args.node n.0 c.args.name.now n.1
+    (ap (λ (g : Graph). value_at g.exports c.args.name.now) c.self.view_is ∙ sym c.in_default.ensures)
+    (c.set_export.ensures n.0 n.1 ∙ ap (λ m. map.insert c.self.inside.nodes c.args.node (record n.0 { export = Some m })) (c.new-last.ensures ∙ c.in_ok-from_str.ensures.ok))
+    (c.push_reserved.ensures.items ∙ ap (λ xs. xs ++ (c.new-text.result, c.args.node) ∷ []) c.in_ok-reserve.ensures.items ∙ ap (λ m. c.self.inside.exports.items ++ (m, c.args.node) ∷ []) (c.new-text.ensures ∙ c.in_ok-own.ensures.ok))
+    c.self.invariant
+
+pub returns-clause-exported : goal.returns-clause-exported
+returns-clause-exported c =
+    let n = node_of (graph c.self.inside) c.args.node (subst (λ g. ContainsNode g c.args.node) (sym c.self.view_is) c.requires) in
+    subst (λ g. Exports g (record (graph c.self.inside) { nodes = c.set_export.new.self; exports = c.push_reserved.new.self.items }) c.args.node c.args.name.now) c.self.view_is
+    (export_step (graph c.self.inside) c.set_export.new.self c.push_reserved.new.self.items c.args.node n.0 c.args.name.now n.1
+    (ap (λ (g : Graph). value_at g.exports c.args.name.now) c.self.view_is ∙ sym c.in_default.ensures)
+    (c.in_ok-valid.ensures.0 c.if-not-valid.false)
+    (c.set_export.ensures n.0 n.1 ∙ ap (λ m. map.insert c.self.inside.nodes c.args.node (record n.0 { export = Some m })) (c.new-last.ensures ∙ c.in_ok-from_str.ensures.ok))
+    (c.push_reserved.ensures.items ∙ ap (λ xs. xs ++ (c.new-text.result, c.args.node) ∷ []) c.in_ok-reserve.ensures.items ∙ ap (λ m. c.self.inside.exports.items ++ (m, c.args.node) ∷ []) (c.new-text.ensures ∙ c.in_ok-own.ensures.ok)))

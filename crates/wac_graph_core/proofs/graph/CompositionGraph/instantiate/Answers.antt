@@ -1,0 +1,22 @@
+use Rattle.std.proofs.Common.{◌≡◌, Some, None, ap, sym, ◌∙◌, refl, subst}
+use Rattle.wac_types_base.specs.declared.item.ItemKind.{ItemKind}
+use Rattle.wac_graph_core.specs.Nodes.{Role, plain_node}
+use Rattle.wac_graph_core.specs.Graph.{Graph, package_of}
+use Rattle.wac_graph_core.specs.Steps.{Instantiates}
+use Rattle.wac_graph_core.specs.View.{graph}
+use Rattle.wac_graph_core.proofs.GraphSteps.{instance_by}
+use Rattle.wac_graph_core.proofs.Calls.{instance_step}
+use Rattle.wac_graph_core.proofs.graph.CompositionGraph.instantiate.Goals as goal
+
+pub invariant_of-self-2 : goal.invariant_of-self-2
+invariant_of-self-2 c =
+    instance_by (graph c.self.inside) c.insert.new.self c.in_ok-id.id c.args.«package» c.«package».result.now c.new-node.result c.in_ok-id.ensures.added
+    (c.new-node.ensures ∙ ap (λ i. plain_node Role.Instance (Some c.args.«package») (ItemKind.Instance i)) c.instance_type-instance.ensures)
+    c.in_ok-id.ensures.free (ap (λ g. package_of g c.args.«package») c.self.view_is ∙ c.«package».ensures) c.self.invariant
+
+pub returns-clause-instantiated : goal.returns-clause-instantiated
+returns-clause-instantiated c =
+    subst (λ g. Instantiates g (record (graph c.self.inside) { nodes = c.insert.new.self }) c.args.«package» c.in_ok-id.id) c.self.view_is
+    (instance_step (graph c.self.inside) c.insert.new.self c.in_ok-id.id c.args.«package» c.«package».result.now c.new-node.result c.in_ok-id.ensures.added
+    (c.new-node.ensures ∙ ap (λ i. plain_node Role.Instance (Some c.args.«package») (ItemKind.Instance i)) c.instance_type-instance.ensures)
+    (ap (λ g. package_of g c.args.«package») c.self.view_is ∙ c.«package».ensures) c.in_ok-id.ensures.free)

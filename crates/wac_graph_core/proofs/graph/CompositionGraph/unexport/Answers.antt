@@ -1,0 +1,27 @@
+use Rattle.std.proofs.Common.{◌≡◌, ◌<◌, Some, None, length, ap, sym, ◌∙◌, refl, subst, arith, slice_get}
+use Rattle.std.specs.List.{swap_remove}
+use Rattle.std.specs.FinMap as map
+use Rattle.wac_graph_core.specs.Nodes.{NodeData, Role}
+use Rattle.wac_graph_core.specs.Graph.{Graph, ContainsNode, IsGraph}
+use Rattle.wac_graph_core.specs.Exporting.{Unexports, IsTold}
+use Rattle.wac_graph_core.specs.View.{graph}
+use Rattle.wac_graph_core.proofs.Calls.{unexport_step, unexported_by}
+use Rattle.wac_graph_core.proofs.ExportSteps.{got, within_list}
+use Rattle.wac_graph_core.proofs.graph.CompositionGraph.unexport.Goals as goal
+
+pub swap_remove-requires : goal.swap_remove-requires
+swap_remove-requires c =
+    let told : IsTold (graph c.self.inside) c.args.node (Some c.in-Some.at) = subst (λ g. IsTold g c.args.node (Some c.in-Some.at)) (sym c.self.view_is) c.in-Some.ensures in
+    let place = told.some c.in-Some.at refl in
+    let h : c.in-Some.at < length c.self.inside.exports.items = within_list c.self.inside.exports.items c.in-Some.at (place.0, c.args.node) place.2 in
+    omega (arith, h, c.self.inside.exports.ok)
+
+pub set_export-requires : goal.set_export-requires
+set_export-requires c = subst (λ g. ContainsNode g c.args.node) (sym c.self.view_is) c.requires
+
+pub invariant_of-self : goal.invariant_of-self
+invariant_of-self c =
+    let told : IsTold (graph c.self.inside) c.args.node (Some c.in-Some.at) = subst (λ g. IsTold g c.args.node (Some c.in-Some.at)) (sym c.self.view_is) c.in-Some.ensures in
+    let place = told.some c.in-Some.at refl in
+    unexported_by (graph c.self.inside) c.set_export.new.self c.swap_remove.new.self.items c.args.node c.in-Some.at told.node place.0 told.there place.2 (c.set_export.ensures told.node told.there)
+    (c.swap_remove.ensures.items ∙ ap (swap_remove c.self.inside.exports.items c.in-Some.at) (got c.self.inside.exports.items c.in-Some.at (place.0, c.args.node) c.swap_remove.result place.2 c.swap_remove.ensures.value)) c.self.invariant

@@ -1,0 +1,14 @@
+pub mod Nodes
+pub mod NodeView
+pub mod NodeMaps
+pub mod Edges
+pub mod Walking
+pub mod Graph
+pub mod View
+pub mod Steps
+pub mod Refusals
+pub mod Types
+pub mod Exporting
+pub mod Removing
+pub mod Packages
+pub mod GraphWiring

@@ -1,0 +1,44 @@
+-- Nodes under their indexes.
+use Rattle.std.specs.Prelude.{◌≡◌, ◌↔◌, ◌⊎◌, ℕ, List, [], ◌∷◌, ◌++◌, true, Option, Some, None, IsSome}
+use Rattle.std.specs.Ordering.{nat_cmp}
+use Rattle.std.specs.FinMap as map
+use Rattle.wac_types_base.specs.declared.item.ItemKind.{ItemKind}
+use Rattle.wac_types_base.specs.Entries.{Name}
+use Rattle.wac_graph_core.specs.declared.ids.PackageId.{PackageId}
+use Rattle.wac_graph_core.specs.Nodes.{NodeData, Role}
+use Rattle.wac_graph_core.specs.Edges.{has}
+
+abbrev pub NodeMap : Type 0
+NodeMap = map.FinMap nat_cmp NodeData
+
+-- the node is an import of this name
+pub record IsImport (nodes : NodeMap) (k : ℕ) (n : Name) : Type 0 where
+  pub node : NodeData
+  pub there : map.get nodes k ≡ Some node
+  pub role : node.role ≡ Role.Imported n
+
+abbrev pub NoImport : NodeMap → Name → Type 0
+NoImport nodes n = (k : ℕ) → IsImport nodes k n → ⊥
+
+-- the node is a definition of this type
+pub record IsDefinition (nodes : NodeMap) (k : ℕ) (item : ItemKind) : Type 0 where
+  pub node : NodeData
+  pub there : map.get nodes k ≡ Some node
+  pub role : node.role ≡ Role.Defined
+  pub type : node.item_kind ≡ item
+
+abbrev pub NoDefinition : NodeMap → ItemKind → Type 0
+NoDefinition nodes item = (k : ℕ) → IsDefinition nodes k item → ⊥
+
+-- a name is that of one import, and a type has one definition
+pub record AreOnce (nodes : NodeMap) : Type 0 where
+  pub imports : (j k : ℕ) (n : Name) → IsImport nodes j n → IsImport nodes k n → j ≡ k
+  pub definitions : (j k : ℕ) (item : ItemKind) → IsDefinition nodes j item → IsDefinition nodes k item → j ≡ k
+
+-- the list has exactly the instances of the package
+abbrev pub AreInstances : NodeMap → PackageId → List ℕ → Type 0
+AreInstances nodes id ks = (k : ℕ) → (has ks k ≡ true) ↔ ((x : NodeData) × (map.get nodes k ≡ Some x) × (x.of ≡ Some id))
+
+-- one more, where that is so
+abbrev pub AddsIf : Type 0 → List ℕ → List ℕ → ℕ → Type 0
+AddsIf P old new k = (P × (new ≡ old ++ k ∷ [])) ⊎ ((P → ⊥) × (new ≡ old))

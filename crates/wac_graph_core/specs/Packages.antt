@@ -1,0 +1,83 @@
+-- Packages of a graph, and their places over time.
+use Rattle.std.specs.Prelude.{◌≡◌, ℕ, ◌+◌, ◌<◌, ◌≤◌, List, [], ◌∷◌, ◌++◌, length, Option, Some, None, slice_get, slice_set}
+use Rattle.std.specs.Option.{option_map}
+use Rattle.wac_types_names.specs.Packaged.{Packaged}
+use Rattle.wac_types_names.specs.Keys.{Key, package_key, owned_key}
+use Rattle.wac_graph_core.specs.declared.ids.PackageId.{PackageId}
+use Rattle.wac_graph_core.specs.declared.package.Place.{Place}
+use Rattle.wac_graph_core.specs.declared.errors.RegisterPackageError.{RegisterPackageError}
+use Rattle.wac_graph_core.specs.NodeMaps.{AreInstances}
+use Rattle.wac_graph_core.specs.Graph.{Graph, package_of, ContainsPackage, node_at}
+use Rattle.wac_graph_core.specs.Removing.{RemovesNodes}
+
+-- the place holds a package of this key
+pub record HoldsKey (p : Place) (key : Key) : Type 0 where
+  pub held : Packaged
+  pub is : p.held ≡ Some held
+  pub keyed : package_key held ≡ key
+
+-- a package may be put there: none is there, and the generation can be raised
+pub record IsFree (p : Place) : Type 0 where
+  pub empty : p.held ≡ None
+  pub low : p.generation < 18446744073709551615
+
+-- no package of the graph has this key
+abbrev pub NoKey : Graph → Key → Type 0
+NoKey g key = (id : PackageId) (p : Packaged) → package_of g id ≡ Some p → package_key p ≡ key → ⊥
+
+-- a new place
+pub record IsNewPlace (old : List Place) (id : PackageId) : Type 0 where
+  pub place : id.place ≡ length old
+  pub first : id.generation ≡ 0
+
+-- a place that is free
+pub record IsFreePlace (old : List Place) (id : PackageId) : Type 0 where
+  pub place : Place
+  pub there : slice_get old id.place ≡ Some place
+  pub free : IsFree place
+  pub now : id.generation ≡ place.generation
+
+abbrev pub held_place : ℕ → Packaged → Place
+held_place n p = record { generation = n; held = Some p }
+
+-- the places with the package in this one
+pub data PutsPlace (old : List Place) (id : PackageId) (p : Packaged) : List Place → Type 0 where
+  put_last : IsNewPlace old id → PutsPlace old id p (old ++ held_place 0 p ∷ [])
+  put_free : IsFreePlace old id → PutsPlace old id p (slice_set old id.place (held_place id.generation p))
+
+-- the package is registered in a place that was free
+pub record Registers (old new : Graph) (p : Packaged) (id : PackageId) : Type 0 where
+  pub none : NoKey old (package_key p)
+  pub put : PutsPlace old.places id p new.places
+  pub made : new ≡ record old { places = new.places }
+
+abbrev pub RegisterRefused : Graph → Packaged → RegisterPackageError → Type 0
+RegisterRefused g p (RegisterPackageError.PackageAlreadyRegistered key) =
+    (owned_key key ≡ package_key p) × (id : PackageId) × (q : Packaged) × (package_of g id ≡ Some q) × (package_key q ≡ package_key p)
+RegisterRefused g p RegisterPackageError.Memory = Unit {0}
+
+-- the place is empty, with a generation one higher
+abbrev pub left_place : ℕ → Place
+left_place n = record { generation = n + 1; held = None }
+
+-- the package's instances are removed, and then it is away
+pub record Unregisters (old new : Graph) (id : PackageId) : Type 0 where
+  pub instances : List ℕ
+  pub are : AreInstances old.nodes id instances
+  pub removed : RemovesNodes old (record new { places = old.places }) instances
+  pub places : new.places ≡ slice_set old.places id.place (left_place id.generation)
+
+-- what a place holds, under its id
+abbrev pub shown_at : ℕ → Option Place → Option (PackageId × Packaged)
+shown_at i None = None
+shown_at i (Some p) = option_map (λ q. (record { place = i; generation = p.generation }, q)) p.held
+
+-- each place is still there, and its generation is no lower
+abbrev pub PlacesGrow : List Place → List Place → Type 0
+PlacesGrow old new = (i : ℕ) (p : Place) → slice_get old i ≡ Some p → (q : Place) × (slice_get new i ≡ Some q) × (p.generation ≤ q.generation)
+
+-- the id was given up: its place is of a later generation
+pub record IsStale (g : Graph) (id : PackageId) : Type 0 where
+  pub place : Place
+  pub there : slice_get g.places id.place ≡ Some place
+  pub later : id.generation < place.generation

@@ -1,0 +1,9 @@
+-- What contracts see of `CompositionGraph`.
+use Rattle.wac_graph_core.specs.declared.graph.CompositionGraph.TheInside.{Inside}
+use Rattle.wac_graph_core.specs.Graph.{Graph, IsGraph}
+
+abbrev pub graph : Inside → Graph
+graph t = record { types = t.types; nodes = t.nodes; edges = t.edges.items; exports = t.exports.items; places = t.places.items }
+
+abbrev pub IsSound : Inside → Type 0
+IsSound t = IsGraph (graph t)

@@ -1,0 +1,167 @@
+//! Arguments of instantiations.
+
+ghost use Rattle.std.specs.Prelude.{◌≡◌, ℕ, Some, IfOk, IfErr, OnOk, OnErr, MatchOption};
+ghost use Rattle.std.specs.Option.{option_copied};
+ghost use Rattle.wac_types_base.specs.Collection.{Stands};
+ghost use Rattle.wac_types_fit.specs.Trees.{Fit};
+ghost use Rattle.wac_graph_core.specs.Graph.{ContainsNode, IsArgument, instantiated};
+ghost use Rattle.wac_graph_core.specs.Steps.{SetsArgument, UnsetsArgument};
+ghost use Rattle.wac_graph_core.specs.Refusals.{ArgumentRefused, Mismatches};
+
+use crate::edge::{
+    Edge, Follow, Label, add_edge, alone, find_argument, is_among, reached, remove_argument,
+};
+use crate::errors::InstantiationArgumentError;
+use crate::graph::CompositionGraph;
+use crate::ids::NodeId;
+use std::alloc::{AllocError, Global};
+use wac_types_base::{ItemKind, Text, Types};
+use wac_types_fit::{SubtypeChecker, SubtypeError, new_cache};
+use wac_types_names::Package;
+
+/// Why one kind may not be given where another is asked, if it may not.
+pub(crate) fn mismatch(
+    alloc: Global,
+    types: &Types,
+    given: ItemKind,
+    asked: ItemKind,
+) -> Result<Option<SubtypeError>, AllocError>
+    requires given { Stands types.now given }
+    requires asked { Stands types.now asked }
+    ensures { IfOk result (λ o. MatchOption o (Fit types.now given types.now asked) (λ fault. Mismatches types.now given asked fault)) }
+{
+    let mut cache = new_cache(alloc);
+    let mut checker = SubtypeChecker::new(alloc, &mut cache);
+    match checker.is_subtype(given, types, asked, types) {
+        Ok(()) => Ok(None),
+        Err(SubtypeError::Memory) => Err(AllocError),
+        Err(
+            SubtypeError::Mismatch {
+                frames,
+                expected,
+                found,
+            },
+        ) => Ok(Some(SubtypeError::Mismatch {
+            frames,
+            expected,
+            found,
+        })),
+    }
+}
+
+impl CompositionGraph {
+    /// The package that a node is an instance of.
+    pub(crate) fn instantiated(&self, node: NodeId) -> Option<&Package>
+        requires { ContainsNode self.now node }
+        ensures { option_copied result ≡ instantiated self.now node }
+    {
+        match self.node(node).package() {
+            Some(package) => self.get_package(package),
+            None => None,
+        }
+    }
+
+    /// What an import of an instantiation asks for.
+    pub(crate) fn argument_item(
+        &self,
+        instantiation: NodeId,
+        name: &str,
+    ) -> Result<ItemKind, InstantiationArgumentError>
+        requires { ContainsNode self.now instantiation }
+        ensures found { IfOk result (λ item. IsArgument self.now instantiation name.now item) }
+        ensures stands { IfOk result (λ item. Stands self.now.types item) }
+        ensures refused { (a : ℕ) → IfErr result (λ e. ArgumentRefused self.now instantiation name.now a e) }
+    {
+        self.see_sound();
+        let package = match self.instantiated(instantiation) {
+            Some(package) => package,
+            None => {
+                return Err(InstantiationArgumentError::NodeIsNotAnInstantiation {
+                    node: instantiation,
+                });
+            }
+        };
+        match self.types.world(package.ty()).imports.get(name) {
+            Some(item) => Ok(*item),
+            None => Err(InstantiationArgumentError::InvalidArgumentName {
+                node: instantiation,
+                name: String::from_str(self.alloc, name)?,
+                package: String::from_str(self.alloc, package.name())?,
+            }),
+        }
+    }
+
+    /// Passes a node to an instantiation.
+    pub fn set_instantiation_argument(
+        &mut self,
+        instantiation: NodeId,
+        name: &str,
+        argument: NodeId,
+    ) -> Result<(), InstantiationArgumentError>
+        requires instantiation { ContainsNode self.old instantiation }
+        requires argument { ContainsNode self.old argument }
+        ensures set { OnOk result (SetsArgument self.old self.new instantiation name.now argument) }
+        ensures refused { IfErr result (λ e. ArgumentRefused self.old instantiation name.now argument e) }
+        ensures kept { OnErr result (self.new ≡ self.old) }
+    {
+        let item = match self.argument_item(instantiation, name) {
+            Ok(item) => item,
+            Err(fault) => return Err(fault),
+        };
+        let own = String::from_str(self.alloc, name)?;
+        if let Some(passed) = find_argument(self.edges.as_slice(), instantiation, name) {
+            if passed.index() == argument.index() {
+                return Ok(());
+            }
+            return Err(InstantiationArgumentError::ArgumentAlreadyPassed {
+                node: instantiation,
+                name: own,
+            });
+        }
+        self.see_sound();
+        let given = self.node(argument).item_kind();
+        let fault = mismatch(self.alloc, &self.types, given, item)?;
+        match fault {
+            None => {}
+            Some(source) => {
+                return Err(InstantiationArgumentError::ArgumentTypeMismatch { name: own, source });
+            }
+        }
+        let start = alone(self.alloc, instantiation)?;
+        let seen = reached(self.edges.as_slice(), Follow::Flow, start)?;
+        if is_among(seen.as_slice(), argument) {
+            return Err(InstantiationArgumentError::WouldFormCycle {
+                node: instantiation,
+            });
+        }
+        self.edges.reserve(1)?;
+        let text = Text::new(own);
+        let edge = Edge {
+            from: argument,
+            to: instantiation,
+            label: Label::Argument(text),
+        };
+        add_edge(&mut self.edges, edge);
+        Ok(())
+    }
+
+    /// Takes an argument back; one that isn't passed is no fault.
+    pub fn unset_instantiation_argument(
+        &mut self,
+        instantiation: NodeId,
+        name: &str,
+        argument: NodeId,
+    ) -> Result<(), InstantiationArgumentError>
+        requires { ContainsNode self.old instantiation }
+        ensures unset { OnOk result (UnsetsArgument self.old self.new instantiation name.now argument) }
+        ensures refused { IfErr result (λ e. ArgumentRefused self.old instantiation name.now argument e) }
+        ensures kept { OnErr result (self.new ≡ self.old) }
+    {
+        let _item = match self.argument_item(instantiation, name) {
+            Ok(item) => item,
+            Err(fault) => return Err(fault),
+        };
+        remove_argument(&mut self.edges, argument, instantiation, name);
+        Ok(())
+    }
+}

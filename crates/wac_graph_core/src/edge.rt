@@ -1,0 +1,225 @@
+//! The edges between nodes, and what is reached over them.
+
+ghost use Rattle.std.specs.Prelude.{◌≡◌, ◌∷◌, [], not, option_map, ◌==◌, ◌<◌, ◌≤◌, ◌≢◌, ◌+◌, ◌⊎◌, length, take, drop, filter, ℕ, IfOk, IfSome, IfNone, nat_eq, vec_len, vec_capacity};
+ghost use Rattle.wac_types_base.specs.Entries.{Name};
+ghost use Rattle.wac_types_base.specs.Graph.{Among};
+ghost use Rattle.wac_graph_core.specs.Edges.{follows, has, IsReached, AreEdges, HasAlias, HasArgument, argument_edge, Stays};
+ghost use Rattle.wac_graph_core.specs.Walking.{first_alias, first_argument, first_source, first_new, is_passed, is_apart};
+
+use crate::ids::NodeId;
+use std::alloc::{AllocError, Global};
+use wac_types_base::Text;
+
+/// What an edge says.
+#[derive(Drop)]
+pub enum Label {
+    /// The second node is this export of the first.
+    Alias(Text),
+    /// The first node is passed to the second as this argument.
+    Argument(Text),
+    /// The second node's type uses the type that the first node defines.
+    Dependency,
+}
+
+/// An edge between two nodes.
+#[derive(Drop)]
+pub struct Edge {
+    pub from: NodeId,
+    pub to: NodeId,
+    pub label: Label,
+}
+
+/// Which edges are followed.
+#[derive(Clone, Copy)]
+pub enum Follow {
+    /// Aliases and arguments.
+    Flow,
+    /// Aliases and dependencies.
+    Owned,
+}
+
+fn is_followed(follow: Follow, label: &Label) -> bool
+    ensures { result ≡ follows follow label.now }
+{
+    match follow {
+        Follow::Flow => match label {
+            Label::Alias(_) => true,
+            Label::Argument(_) => true,
+            Label::Dependency => false,
+        },
+        Follow::Owned => match label {
+            Label::Alias(_) => true,
+            Label::Argument(_) => false,
+            Label::Dependency => true,
+        },
+    }
+}
+
+/// Whether a node is in the list.
+pub(crate) fn is_among(ids: &[NodeId], id: NodeId) -> bool
+    ensures { result ≡ has ids.now id }
+{
+    for other in ids {
+        if other.index() == id.index() {
+            return true;
+        }
+    }
+    false
+}
+
+/// The end of the first edge that leads out of the list.
+fn next_reached(edges: &[Edge], follow: Follow, seen: &[NodeId]) -> Option<NodeId>
+    ensures { result ≡ first_new follow seen.now edges.now }
+{
+    for edge in edges {
+        if is_followed(follow, &edge.label)
+            && is_among(seen, edge.from)
+            && !is_among(seen, edge.to)
+        {
+            return Some(edge.to);
+        }
+    }
+    None
+}
+
+/// The nodes that are reached from some, those first.
+pub(crate) fn reached(
+    edges: &[Edge],
+    follow: Follow,
+    starts: Vec<NodeId>,
+) -> Result<Vec<NodeId>, AllocError>
+    ensures { IfOk result (λ seen. IsReached follow edges.now starts.items seen.items) }
+{
+    let mut seen = starts;
+    while let Some(next) = next_reached(edges, follow, seen.as_slice()) {
+        seen.push(next)?;
+    }
+    Ok(seen)
+}
+
+/// A list of one node.
+pub(crate) fn alone(alloc: Global, node: NodeId) -> Result<Vec<NodeId>, AllocError>
+    ensures { IfOk result (λ v. v.items ≡ node ∷ []) }
+{
+    let mut list = Vec::new(alloc);
+    list.push(node)?;
+    Ok(list)
+}
+
+/// The first alias of an export.
+fn alias_found(edges: &[Edge], instance: NodeId, export: &str) -> Option<NodeId>
+    ensures { result ≡ first_alias edges.now instance export.now }
+{
+    for edge in edges {
+        if let Label::Alias(name) = &edge.label {
+            if edge.from.index() == instance.index() && name.is(export) {
+                return Some(edge.to);
+            }
+        }
+    }
+    None
+}
+
+/// The alias of an export, if there is one.
+pub(crate) fn find_alias(edges: &[Edge], instance: NodeId, export: &str) -> Option<NodeId>
+    ensures found { IfSome result (λ k. HasAlias edges.now instance export.now k) }
+    ensures none { IfNone result ((k : ℕ) → HasAlias edges.now instance export.now k → ⊥) }
+{
+    alias_found(edges, instance, export)
+}
+
+/// What is passed first as an argument.
+fn argument_found(edges: &[Edge], instantiation: NodeId, argument: &str) -> Option<NodeId>
+    ensures { result ≡ first_argument edges.now instantiation argument.now }
+{
+    for edge in edges {
+        if let Label::Argument(name) = &edge.label {
+            if edge.to.index() == instantiation.index() && name.is(argument) {
+                return Some(edge.from);
+            }
+        }
+    }
+    None
+}
+
+/// What is passed as an argument, if anything is.
+pub(crate) fn find_argument(edges: &[Edge], instantiation: NodeId, argument: &str) -> Option<NodeId>
+    ensures found { IfSome result (λ a. HasArgument edges.now instantiation argument.now a) }
+    ensures none { IfNone result ((a : ℕ) → HasArgument edges.now instantiation argument.now a → ⊥) }
+{
+    argument_found(edges, instantiation, argument)
+}
+
+/// The first edge that makes a node an alias.
+fn source_found(edges: &[Edge], alias: NodeId) -> Option<(NodeId, &str)>
+    ensures { option_map (λ x. (x.0, x.1.now)) result ≡ first_source edges.now alias }
+{
+    for edge in edges {
+        if let Label::Alias(name) = &edge.label {
+            if edge.to.index() == alias.index() {
+                return Some((edge.from, name.as_str()));
+            }
+        }
+    }
+    None
+}
+
+/// The instance and the export that a node is an alias of.
+pub(crate) fn find_source(edges: &[Edge], alias: NodeId) -> Option<(NodeId, &str)>
+    ensures found { IfSome result (λ x. HasAlias edges.now x.0 x.1.now alias) }
+    ensures none { IfNone result ((i : ℕ) (n : Name) → HasAlias edges.now i n alias → ⊥) }
+{
+    source_found(edges, alias)
+}
+
+/// Adds an edge, for which there is room.
+pub(crate) fn add_edge(edges: &mut Vec<Edge>, edge: Edge)
+    requires { vec_len edges.old + 1 ≤ vec_capacity edges.old }
+    ensures { AreEdges edges.new.items (λ d. Among d edges.old.items ⊎ (d ≡ edge)) }
+{
+    edges.push_reserved(edge);
+}
+
+fn is_this(edge: &Edge, argument: NodeId, instantiation: NodeId, name: &str) -> bool
+    ensures { result ≡ is_passed argument instantiation name.now edge.now }
+{
+    match &edge.label {
+        Label::Argument(own) => {
+            edge.from.index() == argument.index()
+                && edge.to.index() == instantiation.index()
+                && own.is(name)
+        }
+        _ => false,
+    }
+}
+
+fn retain_others(edges: &mut Vec<Edge>, argument: NodeId, instantiation: NodeId, name: &str)
+    ensures { edges.new.items ≡ filter (λ d. not (is_passed argument instantiation name.now d)) edges.old.items }
+{
+    edges.retain(|edge| !is_this(edge, argument, instantiation, name));
+}
+
+/// Takes the edge of an argument away, if it is there.
+pub(crate) fn remove_argument(
+    edges: &mut Vec<Edge>,
+    argument: NodeId,
+    instantiation: NodeId,
+    name: &str,
+)
+    ensures { AreEdges edges.new.items (λ d. Among d edges.old.items × (d ≢ argument_edge argument instantiation name.now)) }
+{
+    retain_others(edges, argument, instantiation, name);
+}
+
+fn retain_apart(edges: &mut Vec<Edge>, gone: &[NodeId])
+    ensures { edges.new.items ≡ filter (is_apart gone.now) edges.old.items }
+{
+    edges.retain(|edge| !is_among(gone, edge.from) && !is_among(gone, edge.to));
+}
+
+/// Takes each edge with an end in the list away.
+pub(crate) fn remove_edges(edges: &mut Vec<Edge>, gone: &[NodeId])
+    ensures { AreEdges edges.new.items (λ d. Among d edges.old.items × (Stays gone.now d.from × Stays gone.now d.to)) }
+{
+    retain_apart(edges, gone);
+}

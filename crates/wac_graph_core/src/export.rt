@@ -1,0 +1,126 @@
+//! Exports and the names of nodes.
+
+ghost use Rattle.std.specs.Prelude.{◌≡◌, ◌==◌, ◌<◌, None, Some, IfOk, IfErr, OnOk, OnErr, IfSome, IfNone, length, slice_get};
+ghost use Rattle.std.specs.Option.{option_copied};
+ghost use Rattle.wac_types_base.specs.Entries.{value_at};
+ghost use Rattle.wac_graph_core.specs.Graph.{ContainsNode, node_at};
+ghost use Rattle.wac_graph_core.specs.Exporting.{Exports, IsTold, Unexports, Names, ExportRefused, UnexportRefused, place_of, import_name_of};
+
+use crate::errors::{ExportError, NameError, UnexportError};
+use crate::graph::{CompositionGraph, is_extern_name};
+use crate::ids::NodeId;
+use std::alloc::AllocError;
+use wac_types_base::Text;
+
+/// The node that is exported under a name.
+fn find_export(exports: &[(Text, NodeId)], name: &str) -> Option<NodeId>
+    ensures { result ≡ value_at exports.now name.now }
+{
+    for (own, node) in exports {
+        if name == own.as_str() {
+            return Some(*node);
+        }
+    }
+    None
+}
+
+/// Where the export of a name stands.
+fn place_of(exports: &[(Text, NodeId)], name: &str) -> Option<usize>
+    ensures { result ≡ place_of exports.now name.now }
+{
+    for (at, export) in exports.iter().enumerate() {
+        if name == export.0.as_str() {
+            return Some(at);
+        }
+    }
+    None
+}
+
+impl CompositionGraph {
+    /// The node that is exported under a name.
+    pub fn get_export(&self, name: &str) -> Option<NodeId>
+        ensures { result ≡ value_at self.now.exports name.now }
+    {
+        find_export(self.exports.as_slice(), name)
+    }
+
+    /// Exports a node under a name. Under a second name it is a second export.
+    pub fn export(&mut self, node: NodeId, name: &str) -> Result<(), ExportError>
+        requires { ContainsNode self.old node }
+        ensures exported { OnOk result (Exports self.old self.new node name.now) }
+        ensures refused { IfErr result (λ e. ExportRefused self.old name.now e) }
+        ensures kept { OnErr result (self.new ≡ self.old) }
+    {
+        let own = String::from_str(self.alloc, name)?;
+        if let Some(other) = self.get_export(name) {
+            return Err(ExportError::ExportAlreadyExists {
+                name: own,
+                node: other,
+            });
+        }
+        let valid = is_extern_name(self.alloc, name)?;
+        if !valid {
+            return Err(ExportError::InvalidExportName {
+                name: own,
+                source: NameError::NoKind,
+            });
+        }
+        let last = Text::new(String::from_str(self.alloc, name)?);
+        let text = Text::new(own);
+        self.exports.reserve(1)?;
+        self.exports.push_reserved((text, node));
+        self.nodes.set_export(node, Some(last));
+        Ok(())
+    }
+
+    /// Where the export stands whose name a node tells.
+    fn export_place(&self, node: NodeId) -> Option<usize>
+        requires { ContainsNode self.now node }
+        ensures { IsTold self.now node result }
+    {
+        self.see_sound();
+        match self.node(node).export_name() {
+            Some(name) => place_of(self.exports.as_slice(), name),
+            None => None,
+        }
+    }
+
+    /// Takes away the export whose name a node tells, if it tells one. The last export takes its place.
+    pub fn unexport(&mut self, node: NodeId) -> Result<(), UnexportError>
+        requires { ContainsNode self.old node }
+        ensures unexported { OnOk result (Unexports self.old self.new node) }
+        ensures refused { IfErr result (λ e. UnexportRefused self.old node e) }
+        ensures kept { OnErr result (self.new ≡ self.old) }
+    {
+        if self.node(node).is_definition() {
+            return Err(UnexportError::MustExportDefinition);
+        }
+        match self.export_place(node) {
+            None => Ok(()),
+            Some(at) => {
+                let _ = self.exports.swap_remove(at);
+                self.nodes.set_export(node, None);
+                Ok(())
+            }
+        }
+    }
+
+    /// Gives a node a name.
+    pub fn set_node_name(&mut self, node: NodeId, name: &str) -> Result<(), AllocError>
+        requires { ContainsNode self.old node }
+        ensures named { OnOk result (Names self.old self.new node name.now) }
+        ensures kept { OnErr result (self.new ≡ self.old) }
+    {
+        let own = Text::new(String::from_str(self.alloc, name)?);
+        self.nodes.set_name(node, own);
+        Ok(())
+    }
+
+    /// The name of a node that is an import.
+    pub fn get_import_name(&self, node: NodeId) -> Option<&str>
+        requires { ContainsNode self.now node }
+        ensures { option_copied result ≡ import_name_of (node_at self.now node) }
+    {
+        self.node(node).import_name()
+    }
+}

@@ -1,0 +1,29 @@
+//! The composition graph: nodes with their types, the edges between them, exports and packages.
+#![tactic(auto)]
+
+mod alias;
+mod argument;
+mod edge;
+pub mod errors;
+mod export;
+pub mod graph;
+pub mod ids;
+mod index;
+pub mod laws;
+pub mod node;
+mod nodes;
+mod package;
+mod registry;
+mod remove;
+pub mod types_mut;
+mod wiring;
+
+pub use errors::{
+    AliasError, DefineTypeError, ExportError, ImportError, InstantiationArgumentError, NameError,
+    RegisterPackageError, UnexportError,
+};
+pub use graph::CompositionGraph;
+pub use ids::{NodeId, PackageId};
+pub use node::{Node, NodeKind};
+pub use types_mut::TypesMut;
+pub use wiring::one_wiring_of_a_graph;

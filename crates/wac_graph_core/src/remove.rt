@@ -1,0 +1,43 @@
+//! Removal of nodes.
+
+ghost use Rattle.std.specs.Prelude.{◌≡◌, ◌∷◌, [], OnOk, OnErr, filter, not};
+ghost use Rattle.wac_graph_core.specs.Graph.{ContainsNode};
+ghost use Rattle.wac_graph_core.specs.Edges.{has};
+ghost use Rattle.wac_graph_core.specs.Removing.{IsClosed, TakesNodes, RemovesNodes};
+
+use crate::edge::{Follow, alone, is_among, reached, remove_edges};
+use crate::graph::CompositionGraph;
+use crate::ids::NodeId;
+use std::alloc::AllocError;
+use wac_types_base::Text;
+
+/// Takes the exports of these nodes away.
+fn remove_exports(exports: &mut Vec<(Text, NodeId)>, gone: &[NodeId])
+    ensures { exports.new.items ≡ filter (λ e. not (has gone.now e.1)) exports.old.items }
+{
+    exports.retain(|export| !is_among(gone, export.1));
+}
+
+impl CompositionGraph {
+    /// Takes nodes away, with their names and edges.
+    pub(crate) fn remove_nodes(&mut self, gone: &[NodeId])
+        requires { IsClosed Follow.Owned self.old.edges gone.now }
+        ensures { TakesNodes self.old self.new gone.now }
+    {
+        remove_edges(&mut self.edges, gone);
+        remove_exports(&mut self.exports, gone);
+        self.nodes.remove_all(gone);
+    }
+
+    /// Takes a node away, and each node that is reached from it over aliases and dependencies, with their names.
+    pub fn remove_node(&mut self, node: NodeId) -> Result<(), AllocError>
+        requires { ContainsNode self.old node }
+        ensures removed { OnOk result (RemovesNodes self.old self.new (node ∷ [])) }
+        ensures kept { OnErr result (self.new ≡ self.old) }
+    {
+        let start = alone(self.alloc, node)?;
+        let gone = reached(self.edges.as_slice(), Follow::Owned, start)?;
+        self.remove_nodes(gone.as_slice());
+        Ok(())
+    }
+}

@@ -1,0 +1,119 @@
+-- What the tests of the families rest on.
+use Rattle.std.proofs.Common.{◌≡◌, ℕ, zero, suc, ◌+◌, ◌<◌, ◌≤◌, List, [], ◌∷◌, length, get_or, map, Option, Some, None, IsSome, Bool, true, false, not, IsTrue, ◌↔◌, refl, sym, ap, subst, ◌∙◌, ◌⊎◌, inl, inr, arith, below_more}
+use Rattle.std.specs.Prelude.{slice_get, is_some}
+use Rattle.wac_types_base.specs.declared.item.ItemKind.{ItemKind}
+use Rattle.wac_types_base.specs.declared.item.ValueType.{ValueType}
+use Rattle.wac_types_base.specs.declared.item.«Type».{«Type» as TypeKind}
+use Rattle.wac_types_base.specs.declared.ids.ResourceId.{ResourceId}
+use Rattle.wac_types_base.specs.declared.ids.InterfaceId.{InterfaceId}
+use Rattle.wac_types_base.specs.declared.defined.UsedType.{UsedType}
+use Rattle.wac_types_base.specs.declared.defined.Interface.{Interface}
+use Rattle.wac_types_base.specs.Record.{Collection}
+use Rattle.wac_types_base.specs.Graph.{Among}
+use Rattle.wac_types_base.specs.Entries.{values_of}
+use Rattle.wac_types_base.specs.Collection.{Slot, Stands, IsAcyclic, used, items, interface_entry}
+use Rattle.wac_types_base.specs.Implicit.{used_interfaces, uses_in, identifier_in}
+use Rattle.wac_types_base.proofs.Adding.{Among-left}
+use Rattle.wac_types_base.proofs.Slots.{slots_interface, stands_borrow, stands_own}
+use Rattle.wac_types_base.proofs.Walking.{Among-slice_get, slice_get-Among, child_smaller}
+use Rattle.wac_types_fit.specs.Trees.{IsInside}
+use Rattle.wac_types_merge.specs.Families.{IsUnnamedIn, IsUsedBy, used_directly, used_further}
+
+pub some_test : {T : Type 0} (o p : Option T) (t : Bool) → t ≡ is_some o → o ≡ p → IsTrue t ↔ IsSome p
+some_test None p t e f = (λ h. absurd (cc (e, h)), λ h. absurd (cc (f, h)))
+some_test (Some x) p t e f = (λ h. subst IsSome f refl, λ h. e)
+
+-- ---- loops over a list
+
+-- each of the first n is so
+abbrev pub AllBefore : {X : Type 0} → List X → (X → Type 0) → ℕ → Type 0
+AllBefore {X} xs Q n = (i : ℕ) (x : X) → i < n → slice_get xs i ≡ Some x → Q x
+
+module _ {X : Type 0} (xs : List X) (Q : X → Type 0) where
+  pub none_before : AllBefore xs Q 0
+  none_before i x lt at = absurd (omega arith)
+
+  pub one_before : (n : ℕ) (x : X) → slice_get xs n ≡ Some x → AllBefore xs Q n → Q x → AllBefore xs Q (n + 1)
+  one_before n x at before this i y lt e =
+      below_more (λ i. (y : X) → slice_get xs i ≡ Some y → Q y) n (λ i lt y. before i y lt) (λ y e. let same : x ≡ y = cc (at, e) in subst Q same this) i lt y e
+
+  pub all_before : (n : ℕ) → length xs ≤ n → AllBefore xs Q n → (x : X) → Among x xs → Q x
+  all_before n le h x m = let p = slice_get-Among xs x m in h p.0 x (omega (arith, le, p.1)) p.2
+
+pub at_index : {X : Type 0} (xs : List X) (i : ℕ) (d : X) → i < length xs → slice_get xs i ≡ Some (get_or xs i d)
+at_index [] i d lt = absurd (omega arith)
+at_index (y ∷ xs) zero d lt = refl
+at_index (y ∷ xs) (suc i) d lt = at_index xs i d (omega arith)
+
+pub among_index : {X : Type 0} (xs : List X) (i : ℕ) (d : X) → i < length xs → Among (get_or xs i d) xs
+among_index xs i d lt = Among-slice_get xs i (get_or xs i d) (at_index xs i d lt)
+
+-- ---- uses
+
+map_among : {X Y : Type 0} (f : X → Y) (xs : List X) (x : X) → Among x xs → Among (f x) (map f xs)
+map_among f [] x m = absurd m
+map_among f (y ∷ xs) x (inl e) = inl (ap f e)
+map_among f (y ∷ xs) x (inr m) = inr (map_among f xs x m)
+
+use_of : (us : List UsedType) (j : InterfaceId) → Among j (used_interfaces us) → (u : UsedType) × Among u us × (u.interface ≡ j)
+use_of [] j m = absurd m
+use_of (x ∷ us) j (inl e) = (x, inl refl, sym e)
+use_of (x ∷ us) j (inr m) = let r = use_of us j m in (r.0, inr r.1, r.2)
+
+-- a used interface stands, and is smaller
+pub use_inside : (c : Collection) → IsAcyclic c → (i : InterfaceId) (x : Interface) → Stands c (ItemKind.Instance i) → slice_get c.interfaces i.index ≡ Some x → i.collection ≡ c.number → (u : UsedType) → Among u (values_of x.uses) → IsInside c (ItemKind.Instance u.interface) (ItemKind.Instance i)
+use_inside c a i x s at own u m =
+    let slot = Some (ItemKind.Instance u.interface) in
+    let here = Among-left slot (used x.uses) (items x.exports) (map_among (λ (v : UsedType). Some (ItemKind.Instance v.interface)) (values_of x.uses) u m) in
+    let p = slice_get-Among (interface_entry x).1 slot here in
+    child_smaller c a (ItemKind.Instance i) s p.0 (ItemKind.Instance u.interface) (subst (λ l. slice_get l p.0 ≡ Some slot) (sym (slots_interface c i x at own)) p.2)
+
+-- the interface of a use has no identifier
+abbrev pub IsUnnamed : Collection → UsedType → Type 0
+IsUnnamed c u = identifier_in (slice_get c.interfaces u.interface.index) ≡ None
+
+pub unnamed_there : (c : Collection) (us : List UsedType) (u : UsedType) → Among u us → IsUnnamed c u → IsUnnamedIn c us
+unnamed_there c us u m e = (u.interface, map_among (λ (v : UsedType). v.interface) us u m, e)
+
+pub all_named : (c : Collection) (us : List UsedType) → ((u : UsedType) → Among u us → IsUnnamed c u → ⊥) → IsUnnamedIn c us → ⊥
+all_named c us h n =
+    let u = use_of us n.0 n.1 in
+    h u.0 u.1 (subst (λ (j : InterfaceId). identifier_in (slice_get c.interfaces j.index) ≡ None) (sym u.2) n.2)
+
+-- the interface of a use is the target, or uses it
+abbrev pub Leads : Collection → InterfaceId → UsedType → Type 0
+Leads c target u = (u.interface ≡ target) ⊎ IsUsedBy c u.interface target
+
+module _ (c : Collection) (target i : InterfaceId) (x : Interface) (at : slice_get c.interfaces i.index ≡ Some x) where
+  use_in : (u : UsedType) → Among u (values_of x.uses) → Among u.interface (uses_in (slice_get c.interfaces i.index))
+  use_in u m = subst (λ o. Among u.interface (uses_in o)) (sym at) (map_among (λ (v : UsedType). v.interface) (values_of x.uses) u m)
+
+  pub leads_there : (u : UsedType) → Among u (values_of x.uses) → Leads c target u → IsUsedBy c i target
+  leads_there u m (inl e) = used_directly (subst (λ j. Among j (uses_in (slice_get c.interfaces i.index))) e (use_in u m))
+  leads_there u m (inr r) = used_further (use_in u m) r
+
+none_leads : (c : Collection) (target i : InterfaceId) (x : Interface) → slice_get c.interfaces i.index ≡ Some x → ((u : UsedType) → Among u (values_of x.uses) → Leads c target u → ⊥) → (j : InterfaceId) → Among j (uses_in (slice_get c.interfaces i.index)) → (j ≡ target) ⊎ IsUsedBy c j target → ⊥
+none_leads c target i x at h j m r =
+    let u = use_of (values_of x.uses) j (subst (λ o. Among j (uses_in o)) at m) in
+    h u.0 u.1 (subst (λ k. (k ≡ target) ⊎ IsUsedBy c k target) (sym u.2) r)
+
+pub not_used : (c : Collection) (target i : InterfaceId) (x : Interface) → slice_get c.interfaces i.index ≡ Some x → ((u : UsedType) → Among u (values_of x.uses) → Leads c target u → ⊥) → IsUsedBy c i target → ⊥
+not_used c target i x at h (used_directly m) = none_leads c target i x at h target m (inl refl)
+not_used c target i x at h (used_further {k = k} m r) = none_leads c target i x at h k m (inr r)
+
+-- ---- tests
+
+-- the resource of a handle stands
+pub borrowed_stands : (c : Collection) (v : ValueType) (r : ResourceId) → v ≡ ValueType.Borrow r → Stands c (ItemKind.Value v) → Stands c (ItemKind.Ty (TypeKind.Resource r))
+borrowed_stands c v r is s = stands_borrow c r (subst (λ x. Stands c (ItemKind.Value x)) is s)
+
+pub owned_stands : (c : Collection) (v : ValueType) (r : ResourceId) → v ≡ ValueType.Own r → Stands c (ItemKind.Value v) → Stands c (ItemKind.Ty (TypeKind.Resource r))
+owned_stands c v r is s = stands_own c r (subst (λ x. Stands c (ItemKind.Value x)) is s)
+
+pub same_instance : (i j : InterfaceId) → ItemKind.Instance i ≡ ItemKind.Instance j → i ≡ j
+same_instance i j e = cc e
+
+pub entry_of : {K V : Type 0} (es : List (K × V)) (v : V) → Among v (values_of es) → (n : K) × Among (n, v) es
+entry_of [] v m = absurd m
+entry_of (x ∷ es) v (inl e) = (x.0, inl (λ i. (x.0, e i)))
+entry_of (x ∷ es) v (inr m) = let r = entry_of es v m in (r.0, inr r.1)

@@ -1,0 +1,10 @@
+pub mod Grown
+pub mod Joining
+pub mod Clashing
+pub mod Placed
+pub mod Plain
+pub mod Families
+pub mod Keeping
+pub mod Tracks
+pub mod Listing
+pub mod Asking

@@ -1,0 +1,165 @@
+-- Interfaces that are added.
+use Rattle.std.proofs.Common.{◌≡◌, ℕ, zero, suc, List, [], ◌∷◌, ◌++◌, length, map, Option, Some, None, IsSome, refl, sym, ap, subst, ◌∙◌, inl, inr, ◌⊎◌}
+use Rattle.std.specs.Prelude.{Result, Ok, Err, OnOk, IfOk, slice_get, is_some, Bool, true, false, if◌then◌else◌}
+use Rattle.wac_types_base.specs.declared.item.«Type».{«Type» as TypeKind}
+use Rattle.wac_types_base.specs.declared.item.ItemKind.{ItemKind}
+use Rattle.wac_types_base.specs.declared.ids.InterfaceId.{InterfaceId}
+use Rattle.wac_types_base.specs.declared.defined.Interface.{Interface}
+use Rattle.wac_types_base.specs.declared.defined.UsedType.{UsedType}
+use Rattle.wac_types_base.specs.Record.{Collection}
+use Rattle.wac_types_base.specs.Graph.{Among}
+use Rattle.wac_types_base.specs.Entries.{Name, value_at}
+use Rattle.wac_types_base.specs.Collection.{Entry, Slot, SlotStands, Stands, IsAcyclic, HasChildren, Grows, Shape, item_node, labelled, type_of, used, items, interface_entry}
+use Rattle.wac_types_base.specs.Stated.{identifier_of}
+use Rattle.wac_types_base.specs.Tree.{instance, type_item, put}
+use Rattle.wac_types_base.proofs.Adding.{Among-left, Among-right}
+use Rattle.wac_types_base.proofs.Copying.{Among-All}
+use Rattle.wac_types_base.proofs.GraphLemmas.{is_there}
+use Rattle.wac_types_base.proofs.Telling.{stated_step, child_stands}
+use Rattle.wac_types_fit.specs.Meets.{IsMeet}
+use Rattle.wac_types_fit.specs.Trees.{tree_in}
+use Rattle.wac_types_fit.proofs.Checks.{interface_type_is}
+use Rattle.wac_types_fit.proofs.Meeting.{types_meet}
+use Rattle.wac_types_fit.proofs.Unfolded.{fields_in, instance_tree, interface_node}
+use Rattle.wac_types_merge.specs.Interfaces.{new_in, joined, merged_interface, IsAt, IsRenamed, AllStand, UsesStand, MeetIn, AreJoined}
+use Rattle.wac_types_merge.proofs.Grown.{tree_kept}
+use Rattle.wac_types_merge.proofs.Joining.{merged_meet}
+
+-- the last of a list with one more
+last_there : {X : Type 0} (xs : List X) (x : X) → slice_get (xs ++ x ∷ []) (length xs) ≡ Some x
+last_there [] x = refl
+last_there (y ∷ xs) x = last_there xs x
+
+pub added_at : (c d : Collection) (x : Interface) (i : InterfaceId) → d ≡ record c { interfaces = c.interfaces ++ x ∷ [] } → i ≡ record { collection = c.number; index = length c.interfaces } → IsAt d i x
+added_at c d x i e is =
+    subst (λ z. IsAt z i x) (sym e) (subst (λ k. IsAt (record c { interfaces = c.interfaces ++ x ∷ [] }) k x) (sym is) (record { at = last_there c.interfaces x; own = refl }))
+
+pub at_stands : (c : Collection) (i : InterfaceId) (x : Interface) → IsAt c i x → Stands c (ItemKind.Instance i)
+at_stands c i x h = is_there (item_node c (ItemKind.Instance i)) (interface_entry x) (interface_node c i x h.at h.own)
+
+-- ---- ids inside
+
+used_slots : (c : Collection) (us : List (Name × UsedType)) → UsesStand c us → (s : Slot) → Among s (used us) → SlotStands c s
+used_slots c [] h s m = absurd m
+used_slots c (u ∷ us) h s (inl e) = subst (SlotStands c) (sym e) (h u.0 u.1 (inl refl))
+used_slots c (u ∷ us) h s (inr m) = used_slots c us (λ n v k. h n v (inr k)) s m
+
+item_slots : (c : Collection) (es : List (Name × ItemKind)) → AllStand c es → (s : Slot) → Among s (items es) → SlotStands c s
+item_slots c [] h s m = absurd m
+item_slots c (e ∷ es) h s (inl is) = subst (SlotStands c) (sym is) (h e.0 e.1 (inl refl))
+item_slots c (e ∷ es) h s (inr m) = item_slots c es (λ n k a. h n k (inr a)) s m
+
+Among-either : {X : Type 0} (x : X) (xs ys : List X) → Among x (xs ++ ys) → Among x xs ⊎ Among x ys
+Among-either x [] ys m = inr m
+Among-either x (z ∷ xs) ys (inl e) = inl (inl e)
+Among-either x (z ∷ xs) ys (inr m) = elim (Among-either x xs ys m) [ inl n ↦ inl (inr n) | inr n ↦ inr n ]
+
+pub all_children : (c : Collection) (x : Interface) → UsesStand c x.uses → AllStand c x.exports → HasChildren c (interface_entry x)
+all_children c x u e =
+    Among-All (SlotStands c) (interface_entry x).1 (λ s m. elim (Among-either s (used x.uses) (items x.exports) m) [ inl n ↦ used_slots c x.uses u s n | inr n ↦ item_slots c x.exports e s n ])
+
+new_among : {T : Type 0} (b : Bool) (f : Name × T) (rs fs : List (Name × T)) (x : Name × T) → (Among x rs → Among x fs) → Among x (if b then rs else f ∷ rs) → Among x (f ∷ fs)
+new_among true f rs fs x h m = inr (h m)
+new_among false f rs fs x h (inl e) = inl e
+new_among false f rs fs x h (inr m) = inr (h m)
+
+pub new-among : {T : Type 0} (es fs : List (Name × T)) (x : Name × T) → Among x (new_in es fs) → Among x fs
+new-among es [] x m = absurd m
+new-among es (f ∷ fs) x m = new_among (is_some (value_at es f.0)) f (new_in es fs) fs x (new-among es fs x) m
+
+pub merged_children : (c : Collection) (x y : Interface) (both : List (Name × ItemKind)) → UsesStand c x.uses → UsesStand c y.uses → AllStand c both → AllStand c y.exports → HasChildren c (interface_entry (merged_interface x y both))
+merged_children c x y both u v b e =
+    all_children c (merged_interface x y both)
+    (λ n t m. elim (Among-either (n, t) x.uses (new_in x.uses y.uses) m) [ inl k ↦ u n t k | inr k ↦ v n t (new-among x.uses y.uses (n, t) k) ])
+    (λ n t m. elim (Among-either (n, t) both (new_in x.exports y.exports) m) [ inl k ↦ b n t k | inr k ↦ e n t (new-among x.exports y.exports (n, t) k) ])
+
+used_among : (us : List (Name × UsedType)) (n : Name) (u : UsedType) → Among (n, u) us → Among (Some (ItemKind.Instance u.interface)) (used us)
+used_among [] n u m = absurd m
+used_among (x ∷ us) n u (inl e) = inl (ap (λ v. Some (ItemKind.Instance v.1.interface)) e)
+used_among (x ∷ us) n u (inr m) = inr (used_among us n u m)
+
+pub item_among : (es : List (Name × ItemKind)) (n : Name) (k : ItemKind) → Among (n, k) es → Among (Some k) (items es)
+item_among [] n k m = absurd m
+item_among (x ∷ es) n k (inl e) = inl (ap (λ v. Some v.1) e)
+item_among (x ∷ es) n k (inr m) = inr (item_among es n k m)
+
+-- what an interface that is there holds stands
+module _ (c : Collection) (a : IsAcyclic c) (i : InterfaceId) (x : Interface) (h : IsAt c i x) where
+  pub uses_stand : UsesStand c x.uses
+  uses_stand n u m = child_stands c a (ItemKind.Instance i) (interface_entry x) (interface_node c i x h.at h.own) (ItemKind.Instance u.interface) (Among-left (Some (ItemKind.Instance u.interface)) (used x.uses) (items x.exports) (used_among x.uses n u m))
+
+  pub exports_stand : AllStand c x.exports
+  exports_stand n k m = child_stands c a (ItemKind.Instance i) (interface_entry x) (interface_node c i x h.at h.own) k (Among-right (Some k) (used x.uses) (items x.exports) (item_among x.exports n k m))
+
+pub uses_kept : (c d : Collection) → Grows c d → (us : List (Name × UsedType)) → UsesStand c us → UsesStand d us
+uses_kept c d g us h n u m = g.stand (ItemKind.Instance u.interface) (h n u m)
+
+pub exports_kept : (c d : Collection) → Grows c d → (es : List (Name × ItemKind)) → AllStand c es → AllStand d es
+exports_kept c d g es h n k m = g.stand k (h n k m)
+
+-- ---- the meet of two instances
+
+pub instances_meet : (c d e : Collection) → IsAcyclic c → IsAcyclic e → Grows c d → Grows d e → Grows c e → (i j k : InterfaceId) (x y : Interface) (both : List (Name × ItemKind)) → IsAt c i x → IsAt c j y → IsAt e k (merged_interface x y both) → AreJoined c y.exports d x.exports both → MeetIn c (ItemKind.Instance i) (ItemKind.Instance j) e (ItemKind.Instance k)
+instances_meet c d e a b g h f i j k x y both p q r m = record {
+  stands = at_stands e k (merged_interface x y both) r;
+  meet = subst (λ t. IsMeet t (tree_in c (ItemKind.Instance i) ∷ tree_in c (ItemKind.Instance j) ∷ [])) (sym (instance_tree e b k (merged_interface x y both) r.at r.own))
+      (subst (λ t. IsMeet (instance (fields_in e (both ++ new_in x.exports y.exports))) (t ∷ tree_in c (ItemKind.Instance j) ∷ [])) (sym (instance_tree c a i x p.at p.own))
+      (subst (λ u. IsMeet (instance (fields_in e (both ++ new_in x.exports y.exports))) (instance (fields_in c x.exports) ∷ u ∷ [])) (sym (instance_tree c a j y q.at q.own))
+      (merged_meet c d e g h f x.exports y.exports both m (exports_stand c a j y q))));
+}
+
+-- ---- types of interfaces
+
+over : (l : Shape → Shape) (o : Option Entry) → IsSome o → IsSome (labelled l o)
+over l None h = absurd (cc h)
+over l (Some e) h = refl
+
+pub typed_stands : (c : Collection) (i : InterfaceId) → Stands c (ItemKind.Instance i) → Stands c (ItemKind.Ty (TypeKind.Interface i))
+unfolding item_node
+typed_stands c i s = over type_of (item_node c (ItemKind.Instance i)) s
+
+pub typed_meet : (c d : Collection) → IsAcyclic c → IsAcyclic d → (t u : TypeKind) (i j k : InterfaceId) → t ≡ TypeKind.Interface i → u ≡ TypeKind.Interface j → Stands c (ItemKind.Ty t) → Stands c (ItemKind.Ty u) → MeetIn c (ItemKind.Instance i) (ItemKind.Instance j) d (ItemKind.Instance k) → MeetIn c (ItemKind.Ty t) (ItemKind.Ty u) d (ItemKind.Ty (TypeKind.Interface k))
+typed_meet c d a b t u i j k is js s r h = record {
+  stands = typed_stands d k h.stands;
+  meet = subst (λ v. IsMeet v (tree_in c (ItemKind.Ty t) ∷ tree_in c (ItemKind.Ty u) ∷ [])) (sym (interface_type_is d b (TypeKind.Interface k) k refl (typed_stands d k h.stands)))
+      (subst (λ v. IsMeet (type_item (tree_in d (ItemKind.Instance k))) (v ∷ tree_in c (ItemKind.Ty u) ∷ [])) (sym (interface_type_is c a t i is s))
+      (subst (λ v. IsMeet (type_item (tree_in d (ItemKind.Instance k))) (type_item (tree_in c (ItemKind.Instance i)) ∷ v ∷ [])) (sym (interface_type_is c a u j js r))
+      (types_meet (tree_in c (ItemKind.Instance i)) (tree_in c (ItemKind.Instance j)) (tree_in d (ItemKind.Instance k)) h.meet)));
+}
+
+-- ---- an interface again, under another identifier
+
+all_fields_kept : (c d : Collection) → Grows c d → (es : List (Name × ItemKind)) → AllStand c es → fields_in d es ≡ fields_in c es
+all_fields_kept c d g [] s = refl
+all_fields_kept c d g (e ∷ es) s = ap (λ t. put e.0 t (fields_in d es)) (tree_kept c d g e.1 (s e.0 e.1 (inl refl))) ∙ ap (put e.0 (tree_in c e.1)) (all_fields_kept c d g es (λ n k m. s n k (inr m)))
+
+fields_kept : (c d : Collection) → Grows c d → (es : List (Name × ItemKind)) → AllStand c es → instance (fields_in d es) ≡ instance (fields_in c es)
+fields_kept c d g es s = ap instance (all_fields_kept c d g es s)
+
+pub renamed_is : (c d : Collection) → IsAcyclic c → IsAcyclic d → Grows c d → (i j : InterfaceId) (x y : Interface) (n : Name) → IsAt c i x → IsAt d j y → y.exports ≡ x.exports → y.id ≡ Some n → IsRenamed c i d j n
+renamed_is c d a b g i j x y n p q e is = record {
+  stands = at_stands d j y q;
+  tree = instance_tree d b j y q.at q.own ∙ ap (λ l. instance (fields_in d l)) e ∙ fields_kept c d g x.exports (exports_stand c a i x p) ∙ sym (instance_tree c a i x p.at p.own);
+  identifier = ap identifier_of (stated_step d b (ItemKind.Instance j) (interface_entry y) (interface_node d j y q.at q.own)) ∙ is;
+}
+
+-- ---- what adding answers
+
+pub all_added : {E : Type 0} (r : Result InterfaceId E) (c d : Collection) (x y : Interface) → x ≡ y → OnOk r (d ≡ record c { interfaces = c.interfaces ++ x ∷ [] }) → IfOk r (λ i. i ≡ record { collection = c.number; index = length c.interfaces }) → IfOk r (λ i. IsAt d i y)
+all_added (Ok i) c d x y e a n = subst (IsAt d i) e (added_at c d x i a n)
+all_added (Err f) c d x y e a n = tt
+
+pub all_standing : {E : Type 0} (r : Result InterfaceId E) (c d : Collection) (x : Interface) → OnOk r (d ≡ record c { interfaces = c.interfaces ++ x ∷ [] }) → IfOk r (λ i. i ≡ record { collection = c.number; index = length c.interfaces }) → IfOk r (λ i. Stands d (ItemKind.Instance i))
+all_standing (Ok i) c d x a n = at_stands d i x (added_at c d x i a n)
+all_standing (Err f) c d x a n = tt
+
+pub renamed_children : (c : Collection) → IsAcyclic c → (i : InterfaceId) (x y : Interface) → slice_get c.interfaces i.index ≡ Some x → i.collection ≡ c.number → y.uses ≡ x.uses → y.exports ≡ x.exports → HasChildren c (interface_entry y)
+renamed_children c a i x y at own u e =
+    let here : IsAt c i x = record { at = at; own = own } in
+    all_children c y (subst (UsesStand c) (sym u) (uses_stand c a i x here)) (subst (AllStand c) (sym e) (exports_stand c a i x here))
+
+pub all_renamed : {E : Type 0} (r : Result InterfaceId E) (c d : Collection) → IsAcyclic c → Grows c d → (i : InterfaceId) (x y : Interface) (n : Name) → slice_get c.interfaces i.index ≡ Some x → i.collection ≡ c.number → y.exports ≡ x.exports → y.id ≡ Some n
+    → OnOk r (d ≡ record c { interfaces = c.interfaces ++ y ∷ [] }) → IfOk r (λ j. j ≡ record { collection = c.number; index = length c.interfaces }) → IfOk r (λ j. IsRenamed c i d j n)
+all_renamed (Ok j) c d a g i x y n at own e is added id =
+    renamed_is c d a g.acyclic g i j x y n (record { at = at; own = own }) (added_at c d y j added id) e is
+all_renamed (Err f) c d a g i x y n at own e is added id = tt

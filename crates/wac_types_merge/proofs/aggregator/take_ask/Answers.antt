@@ -1,0 +1,73 @@
+use Rattle.std.proofs.Common.{Some, refl, sym, ap, subst, ◌∙◌}
+use Rattle.wac_types_base.specs.Collection.{Stands}
+use Rattle.wac_types_base.proofs.Walking.{Among-slice_get}
+use Rattle.wac_types_names.specs.Tracks.{AreCompatible}
+use Rattle.wac_types_merge.specs.declared.family.Import.{Import}
+use Rattle.wac_types_merge.specs.Imports.{imports_in, import_of}
+use Rattle.wac_types_merge.specs.Merging.{ask_for, HaveNoCommon, AreOutside}
+use Rattle.wac_types_merge.specs.Families.{UsesUnnamed, joint}
+use Rattle.wac_types_merge.specs.Steps.{HasClash, LieOutside}
+use Rattle.wac_types_merge.proofs.Keeping.{refused_as}
+use Rattle.wac_types_merge.proofs.Asking.{none_on_track, found_on_track, place_within, same_import, first_asked, first_sound, asked_again, again_sound, no_common, outside}
+use Rattle.wac_types_merge.proofs.aggregator.take_ask.Goals as goal
+
+pub merged_import-requires-clause-kept : goal.merged_import-requires-clause-kept
+merged_import-requires-clause-kept c =
+    let ms = c.args.imports.now.items in
+    let p = found_on_track c.as_slice.result.now ms c.args.name.now c.in_ok-place_on.field-0 c.in-Some.at c.as_slice.ensures.value c.in-Some.is c.in_ok-place_on.ensures in
+    let is = same_import ms c.in-Some.at p.0 c.index.result.now p.1 c.index.ensures in
+    subst (λ (m : Import). Stands c.copy_item.new.to m.kind) is (c.copy_item.ensures.grows.stand p.0.kind (c.requires.sound.stand p.0 (Among-slice_get ms c.in-Some.at p.0 p.1)))
+
+pub replace_import-requires : goal.replace_import-requires
+replace_import-requires c =
+    let ms = c.args.imports.now.items in
+    let p = found_on_track c.as_slice.result.now ms c.args.name.now c.in_ok-place_on.field-0 c.in-Some.at c.as_slice.ensures.value c.in-Some.is c.in_ok-place_on.ensures in
+    place_within ms c.in-Some.at p.0 p.1
+
+pub returns-in_ok-add_first-in-None-clause-asked : goal.returns-in_ok-add_first-in-None-clause-asked
+returns-in_ok-add_first-in-None-clause-asked c =
+    let ms = c.args.imports.now.items in
+    first_asked (imports_in c.args.own.now ms) (imports_in c.copy_item.new.to c.add_first.new.imports.items) (ask_for c.args.name.now c.args.types.now c.args.kind) c.see_acyclic.ensures c.requires.stands c.requires.sound
+    (import_of c.args.name.now c.in_ok-asked.asked c.family_of-family.result) c.copy_item.ensures.grows
+    (none_on_track c.as_slice.result.now ms c.args.name.now c.in_ok-place_on.field-0 c.as_slice.ensures.value c.in-None.is c.in_ok-place_on.ensures)
+    c.in_ok-add_first-in-None.ensures refl c.in_ok-asked.ensures.copied c.family_of-family.ensures (λ u. absurd (cc (c.if-uses_unnamed.ensures.1 u)))
+
+pub returns-in_ok-add_first-in-None-clause-sound : goal.returns-in_ok-add_first-in-None-clause-sound
+returns-in_ok-add_first-in-None-clause-sound c =
+    let ms = c.args.imports.now.items in
+    first_sound (imports_in c.args.own.now ms) (imports_in c.copy_item.new.to c.add_first.new.imports.items) (ask_for c.args.name.now c.args.types.now c.args.kind) c.see_acyclic.ensures c.requires.stands c.requires.sound
+    (import_of c.args.name.now c.in_ok-asked.asked c.family_of-family.result) c.copy_item.ensures.grows
+    (none_on_track c.as_slice.result.now ms c.args.name.now c.in_ok-place_on.field-0 c.as_slice.ensures.value c.in-None.is c.in_ok-place_on.ensures)
+    c.in_ok-add_first-in-None.ensures refl c.in_ok-asked.ensures.copied c.family_of-family.ensures
+
+pub returns-in-Ok-clause-asked : goal.returns-in-Ok-clause-asked
+returns-in-Ok-clause-asked c =
+    let ms = c.args.imports.now.items in
+    let p = found_on_track c.as_slice.result.now ms c.args.name.now c.in_ok-place_on.field-0 c.in-Some.at c.as_slice.ensures.value c.in-Some.is c.in_ok-place_on.ensures in
+    let is = same_import ms c.in-Some.at p.0 c.index.result.now p.1 c.index.ensures in
+    asked_again (imports_in c.args.own.now ms) (imports_in c.merged_import.new.own c.replace_import.new.imports.items) (ask_for c.args.name.now c.args.types.now c.args.kind) c.see_acyclic.ensures c.requires.stands c.requires.sound
+    c.copy_item.new.to c.in_ok-asked.asked c.in_ok-asked.ensures.copied c.copy_item.ensures.grows c.in-Some.at c.index.result.now (p.1 ∙ ap Some is) (subst (λ (m : Import). AreCompatible m.name c.args.name.now) is p.2)
+    c.family_of-family.result c.family_of-family.ensures c.in-Ok.after c.in-Ok.ensures.grows c.in-Ok.ensures.merged c.replace_import.ensures (λ u. absurd (cc (c.if-uses_unnamed.ensures.1 u)))
+
+pub returns-in-Ok-clause-sound : goal.returns-in-Ok-clause-sound
+returns-in-Ok-clause-sound c =
+    let ms = c.args.imports.now.items in
+    let p = found_on_track c.as_slice.result.now ms c.args.name.now c.in_ok-place_on.field-0 c.in-Some.at c.as_slice.ensures.value c.in-Some.is c.in_ok-place_on.ensures in
+    let is = same_import ms c.in-Some.at p.0 c.index.result.now p.1 c.index.ensures in
+    again_sound (imports_in c.args.own.now ms) (imports_in c.merged_import.new.own c.replace_import.new.imports.items) (ask_for c.args.name.now c.args.types.now c.args.kind) c.see_acyclic.ensures c.requires.stands c.requires.sound
+    c.copy_item.new.to c.in_ok-asked.asked c.in_ok-asked.ensures.copied c.copy_item.ensures.grows c.in-Some.at c.index.result.now (p.1 ∙ ap Some is) (subst (λ (m : Import). AreCompatible m.name c.args.name.now) is p.2)
+    c.family_of-family.result c.family_of-family.ensures c.in-Ok.after c.in-Ok.ensures.grows c.in-Ok.ensures.merged c.replace_import.ensures
+
+pub returns-in-Err-clause-refused : goal.returns-in-Err-clause-refused
+returns-in-Err-clause-refused c =
+    let ms = c.args.imports.now.items in
+    let old = imports_in c.args.own.now ms in
+    let new = imports_in c.merged_import.new.own ms in
+    let a = ask_for c.args.name.now c.args.types.now c.args.kind in
+    let p = found_on_track c.as_slice.result.now ms c.args.name.now c.in_ok-place_on.field-0 c.in-Some.at c.as_slice.ensures.value c.in-Some.is c.in_ok-place_on.ensures in
+    let is = same_import ms c.in-Some.at p.0 c.index.result.now p.1 c.index.ensures in
+    let f = joint c.index.result.now.family c.family_of-family.result in
+    refused_as c.in-Err.fault (HasClash c.copy_item.new.to f c.index.result.now.kind c.in_ok-asked.asked) (HaveNoCommon old a) (LieOutside c.copy_item.new.to f c.index.result.now.kind c.in_ok-asked.asked) (AreOutside old a) ⊥ (UsesUnnamed c.args.types.now c.args.kind)
+    (no_common old new a c.see_acyclic.ensures c.requires.stands c.requires.sound c.copy_item.new.to c.in_ok-asked.asked c.in_ok-asked.ensures.copied c.copy_item.ensures.grows c.in-Some.at c.index.result.now (p.1 ∙ ap Some is) (subst (λ (m : Import). AreCompatible m.name c.args.name.now) is p.2) c.family_of-family.result c.family_of-family.ensures)
+    (outside old new a c.see_acyclic.ensures c.requires.stands c.requires.sound c.copy_item.new.to c.in_ok-asked.asked c.in_ok-asked.ensures.copied c.copy_item.ensures.grows c.in-Some.at c.index.result.now (p.1 ∙ ap Some is) (subst (λ (m : Import). AreCompatible m.name c.args.name.now) is p.2) c.family_of-family.result c.family_of-family.ensures)
+    (λ x. absurd x) c.in-Err.ensures.refused

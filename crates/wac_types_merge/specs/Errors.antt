@@ -1,0 +1,18 @@
+-- When each refusal comes.
+use Rattle.std.specs.Prelude.{◌≡◌, List, Some, Result, Ok, Err}
+use Rattle.wac_types_fit.specs.declared.errors.SubtypeError.{SubtypeError}
+use Rattle.wac_types_fit.specs.Frames.{Step}
+use Rattle.wac_types_fit.specs.Errors.{steps_of}
+use Rattle.wac_types_merge.specs.declared.errors.AggregateError.{AggregateError}
+
+-- what holds where the answer is a mismatch
+abbrev pub IfClash : {T : Type 0} → Result T SubtypeError → Type 0 → Type 0
+IfClash (Ok x) P = Unit {0}
+IfClash (Err e) P = (ss : List Step) → steps_of e ≡ Some ss → P
+
+-- what holds at each refusal: no common tree, outside the families, a used interface without identifier
+abbrev pub Refuses : AggregateError → Type 0 → Type 0 → Type 0 → Type 0
+Refuses (AggregateError.Incompatible f) P Q R = P
+Refuses AggregateError.OutsideFamilies P Q R = Q
+Refuses AggregateError.UsedWithoutIdentifier P Q R = R
+Refuses AggregateError.Memory P Q R = Unit {0}

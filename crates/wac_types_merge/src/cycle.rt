@@ -1,0 +1,216 @@
+//! The greatest item that fits two of one collection.
+
+ghost use Rattle.std.specs.Prelude.{◌≡◌, ◌++◌, [], ◌∷◌, IfOk, OnOk};
+ghost use Rattle.wac_types_base.specs.declared.item.ItemKind.{ItemKind};
+ghost use Rattle.wac_types_base.specs.Entries.{IsNew};
+ghost use Rattle.wac_types_base.specs.Collection.{Stands, Grows};
+ghost use Rattle.wac_types_fit.specs.Trees.{IsInside};
+ghost use Rattle.wac_types_fit.specs.Checking.{AreInside};
+ghost use Rattle.wac_types_merge.specs.Errors.{IfClash};
+ghost use Rattle.wac_types_merge.specs.Interfaces.{IsAt, MeetIn, ClashIn, ClashUnlessFit, JoinedIn, OtherClash, SlotInside, AreJoined, ItemsClash};
+
+use crate::exports::{add_joined, copy_interface};
+use crate::narrower::fits_in;
+use std::alloc::Global;
+use wac_types_base::{ExternKind, Interface, InterfaceId, ItemKind, NamedMap, Type, Types};
+use wac_types_fit::SubtypeError;
+use wac_types_fit::errors::within;
+
+/// The first of two items that are no instances, where it fits the second.
+fn unmerged(alloc: Global, own: &Types, a: ItemKind, b: ItemKind) -> Result<ItemKind, SubtypeError>
+    requires kept { Stands own.now a }
+    requires asked { Stands own.now b }
+    requires apart { ClashUnlessFit own.now a b }
+    ensures met { IfOk result (MeetIn own.now a b own.now) }
+    ensures clash { IfClash result (ClashIn own.now a b) }
+{
+    match fits_in(alloc, own, a, b) {
+        Ok(()) => Ok(a),
+        Err(fault) => Err(fault),
+    }
+}
+
+/// The greatest item that fits both. It is added to the collection.
+#[cycle(merging)]
+pub(crate) fn merge(
+    alloc: Global,
+    own: &mut Types,
+    a: ItemKind,
+    b: ItemKind,
+) -> Result<ItemKind, SubtypeError>
+    requires kept { Stands own.old a }
+    requires asked { Stands own.old b }
+    ensures met { IfOk result (MeetIn own.old a b own.new) }
+    ensures clash { IfClash result (ClashIn own.old a b) }
+    ensures grows { Grows own.old own.new }
+{
+    own.see_acyclic();
+    match a {
+        ItemKind::Instance(i) => match b {
+            ItemKind::Instance(j) => match merge_instances(alloc, own, i, j) {
+                Ok(id) => Ok(ItemKind::Instance(id)),
+                Err(fault) => Err(fault),
+            },
+            _ => unmerged(alloc, own, a, b),
+        },
+        ItemKind::Ty(x) => match b {
+            ItemKind::Ty(y) => merge_types(alloc, own, x, y),
+            _ => unmerged(alloc, own, a, b),
+        },
+        _ => unmerged(alloc, own, a, b),
+    }
+}
+
+/// The same of two types.
+#[cycle(merging)]
+fn merge_types(alloc: Global, own: &mut Types, a: Type, b: Type) -> Result<ItemKind, SubtypeError>
+    requires kept { Stands own.old (ItemKind.Ty a) }
+    requires asked { Stands own.old (ItemKind.Ty b) }
+    ensures met { IfOk result (MeetIn own.old (ItemKind.Ty a) (ItemKind.Ty b) own.new) }
+    ensures clash { IfClash result (ClashIn own.old (ItemKind.Ty a) (ItemKind.Ty b)) }
+    ensures grows { Grows own.old own.new }
+{
+    own.see_acyclic();
+    match a {
+        Type::Interface(i) => match b {
+            Type::Interface(j) => match merge_instances(alloc, own, i, j) {
+                Ok(id) => Ok(ItemKind::Ty(Type::Interface(id))),
+                Err(fault) => Err(fault),
+            },
+            _ => unmerged(alloc, own, ItemKind::Ty(a), ItemKind::Ty(b)),
+        },
+        _ => unmerged(alloc, own, ItemKind::Ty(a), ItemKind::Ty(b)),
+    }
+}
+
+/// The same of two instances, as a new interface.
+#[cycle(merging)]
+fn merge_instances(
+    alloc: Global,
+    own: &mut Types,
+    a: InterfaceId,
+    b: InterfaceId,
+) -> Result<InterfaceId, SubtypeError>
+    requires kept { Stands own.old (ItemKind.Instance a) }
+    requires asked { Stands own.old (ItemKind.Instance b) }
+    ensures met { IfOk result (λ i. MeetIn own.old (ItemKind.Instance a) (ItemKind.Instance b) own.new (ItemKind.Instance i)) }
+    ensures clash { IfClash result (ClashIn own.old (ItemKind.Instance a) (ItemKind.Instance b)) }
+    ensures grows { Grows own.old own.new }
+{
+    own.see_acyclic();
+    match copy_interface(alloc, own.interface(a)) {
+        Err(_) => Err(SubtypeError::Memory),
+        Ok(first) => match copy_interface(alloc, own.interface(b)) {
+            Err(_) => Err(SubtypeError::Memory),
+            Ok(second) => merge_copies(alloc, own, a, &first, b, &second),
+        },
+    }
+}
+
+/// The same by copies of the two interfaces.
+#[cycle(merging)]
+fn merge_copies(
+    alloc: Global,
+    own: &mut Types,
+    a: InterfaceId,
+    first: &Interface,
+    b: InterfaceId,
+    second: &Interface,
+) -> Result<InterfaceId, SubtypeError>
+    requires kept { IsAt own.old a first.now }
+    requires asked { IsAt own.old b second.now }
+    ensures met { IfOk result (λ i. MeetIn own.old (ItemKind.Instance a) (ItemKind.Instance b) own.new (ItemKind.Instance i)) }
+    ensures clash { IfClash result (ClashIn own.old (ItemKind.Instance a) (ItemKind.Instance b)) }
+    ensures grows { Grows own.old own.new }
+{
+    own.see_acyclic();
+    let (kept, asked) = (ItemKind::Instance(a), ItemKind::Instance(b));
+    match merge_items(alloc, own, kept, &first.exports, asked, &second.exports) {
+        Err(fault) => Err(fault),
+        Ok(both) => match add_joined(alloc, own, first, second, both) {
+            Ok(id) => Ok(id),
+            Err(_) => Err(SubtypeError::Memory),
+        },
+    }
+}
+
+/// Adds an item at the end. Its name is new.
+fn push_item(
+    alloc: Global,
+    items: &mut NamedMap<ItemKind>,
+    name: &str,
+    kind: ItemKind,
+) -> Result<(), SubtypeError>
+    requires { IsNew name.now items.old }
+    ensures ok { OnOk result (items.new ≡ items.old ++ (name.now, kind) ∷ []) }
+    ensures clash { IfClash result ⊥ }
+{
+    match String::from_str(alloc, name) {
+        Err(_) => Err(SubtypeError::Memory),
+        Ok(name) => match items.push(name, kind) {
+            Ok(()) => Ok(()),
+            Err(_) => Err(SubtypeError::Memory),
+        },
+    }
+}
+
+/// Each of the items kept, merged with the one asked under its name.
+#[cycle(merging)]
+fn merge_items(
+    alloc: Global,
+    own: &mut Types,
+    a: ItemKind,
+    kept: &NamedMap<ItemKind>,
+    b: ItemKind,
+    asked: &NamedMap<ItemKind>,
+) -> Result<NamedMap<ItemKind>, SubtypeError>
+    requires first { Stands own.old a }
+    requires second { Stands own.old b }
+    requires kept { AreInside own.old a kept.now }
+    requires asked { AreInside own.old b asked.now }
+    ensures joined { IfOk result (AreJoined own.old asked.now own.new kept.now) }
+    ensures clash { IfClash result (ItemsClash own.old kept.now asked.now) }
+    ensures grows { Grows own.old own.new }
+{
+    own.see_acyclic();
+    let mut both = NamedMap::new(alloc);
+    for index in 0..kept.len() {
+        let (name, kind) = kept.entry(index);
+        let other = asked.get(name).copied();
+        match merge_item(alloc, own, a, *kind, b, name, other) {
+            Err(fault) => return Err(fault),
+            Ok(item) => match push_item(alloc, &mut both, name, item) {
+                Ok(()) => {}
+                Err(fault) => return Err(fault),
+            },
+        }
+    }
+    Ok(both)
+}
+
+/// An item kept, merged with the one asked, if there is one.
+#[cycle(merging)]
+fn merge_item(
+    alloc: Global,
+    own: &mut Types,
+    a: ItemKind,
+    kind: ItemKind,
+    b: ItemKind,
+    name: &str,
+    other: Option<ItemKind>,
+) -> Result<ItemKind, SubtypeError>
+    requires kept { IsInside own.old kind a }
+    requires asked { SlotInside own.old other b }
+    ensures joined { IfOk result (JoinedIn own.old kind other own.new) }
+    ensures clash { IfClash result (OtherClash own.old kind other) }
+    ensures grows { Grows own.old own.new }
+{
+    own.see_acyclic();
+    match other {
+        None => Ok(kind),
+        Some(other) => match merge(alloc, own, kind, other) {
+            Ok(item) => Ok(item),
+            Err(fault) => Err(within(alloc, ExternKind::Export, name, fault)),
+        },
+    }
+}

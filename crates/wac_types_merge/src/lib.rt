@@ -1,0 +1,17 @@
+//! Merging: one import for each track of names, of all that is asked.
+#![tactic(auto)]
+
+pub mod aggregator;
+mod cycle;
+pub mod errors;
+mod exports;
+pub mod family;
+mod imports;
+mod narrower;
+
+pub use aggregator::{TypeAggregator, aggregate_all};
+pub use errors::AggregateError;
+pub use family::{Family, Import};
+
+#[cfg(test)]
+mod tests;

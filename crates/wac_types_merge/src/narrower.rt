@@ -1,0 +1,89 @@
+//! The narrower of two items.
+
+ghost use Rattle.std.specs.Prelude.{IfOk, IfErr, OnOk, IsTrue, IsSome, ◌↔◌};
+ghost use Rattle.wac_types_fit.specs.Errors.{steps_of};
+ghost use Rattle.wac_types_base.specs.Collection.{Stands};
+ghost use Rattle.wac_types_fit.specs.Trees.{Fit};
+ghost use Rattle.wac_types_merge.specs.Errors.{IfClash, Refuses};
+ghost use Rattle.wac_types_merge.specs.Imports.{IsNarrower, NeitherFits};
+
+use crate::errors::AggregateError;
+use std::alloc::Global;
+use wac_types_base::{ItemKind, Types};
+use wac_types_fit::{SubtypeChecker, SubtypeError, new_cache};
+
+/// Whether an item fits another of its collection. No pair is remembered.
+pub(crate) fn fits_in(
+    alloc: Global,
+    own: &Types,
+    a: ItemKind,
+    b: ItemKind,
+) -> Result<(), SubtypeError>
+    requires given { Stands own.now a }
+    requires asked { Stands own.now b }
+    ensures yes { OnOk result (Fit own.now a own.now b) }
+    ensures no { IfClash result (Fit own.now a own.now b → ⊥) }
+{
+    let mut cache = new_cache(alloc);
+    let mut checker = SubtypeChecker::new(alloc, &mut cache);
+    checker.is_subtype(a, own, b, own)
+}
+
+/// Whether it is a mismatch, and no want of memory.
+fn is_mismatch(fault: &SubtypeError) -> bool
+    ensures { IsTrue result ↔ IsSome (steps_of fault.now) }
+{
+    match fault {
+        SubtypeError::Mismatch { .. } => true,
+        SubtypeError::Memory => false,
+    }
+}
+
+/// The item asked, where it fits the one kept, which does not fit it.
+fn asked_if_narrower(
+    alloc: Global,
+    own: &Types,
+    kept: ItemKind,
+    asked: ItemKind,
+) -> Result<ItemKind, AggregateError>
+    requires kept { Stands own.now kept }
+    requires asked { Stands own.now asked }
+    requires wider { Fit own.now kept own.now asked → ⊥ }
+    ensures narrower { IfOk result (IsNarrower own.now kept asked) }
+    ensures refused { IfErr result (λ e. Refuses e ⊥ (NeitherFits own.now kept asked) ⊥) }
+{
+    match fits_in(alloc, own, asked, kept) {
+        Ok(()) => Ok(asked),
+        Err(fault) => {
+            if is_mismatch(&fault) {
+                Err(AggregateError::OutsideFamilies)
+            } else {
+                Err(AggregateError::Memory)
+            }
+        }
+    }
+}
+
+/// The narrower of two items: the first, where it fits the second.
+pub(crate) fn narrower(
+    alloc: Global,
+    own: &Types,
+    kept: ItemKind,
+    asked: ItemKind,
+) -> Result<ItemKind, AggregateError>
+    requires kept { Stands own.now kept }
+    requires asked { Stands own.now asked }
+    ensures narrower { IfOk result (IsNarrower own.now kept asked) }
+    ensures refused { IfErr result (λ e. Refuses e ⊥ (NeitherFits own.now kept asked) ⊥) }
+{
+    match fits_in(alloc, own, kept, asked) {
+        Ok(()) => Ok(kept),
+        Err(fault) => {
+            if is_mismatch(&fault) {
+                asked_if_narrower(alloc, own, kept, asked)
+            } else {
+                Err(AggregateError::Memory)
+            }
+        }
+    }
+}
