@@ -65,12 +65,7 @@ pub(crate) fn behind(kind: ExternKind, name: String, fault: SubtypeError) -> Sub
 }
 
 /// The fault, behind an item of this name.
-pub fn within(
-    alloc: Global,
-    kind: ExternKind,
-    name: &str,
-    fault: SubtypeError,
-) -> SubtypeError
+pub fn within(alloc: Global, kind: ExternKind, name: &str, fault: SubtypeError) -> SubtypeError
     ensures { (ss : List Step) → steps_of result ≡ Some ss → (rest : List Step) × (steps_of fault ≡ Some rest) × (ss ≡ (kind, name.now) ∷ rest) }
 {
     match String::from_str(alloc, name) {
