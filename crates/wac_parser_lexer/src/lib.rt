@@ -23,6 +23,3 @@ pub use token::Token;
 
 /// What a lexer answers.
 pub type LexerResult<T> = Result<T, Error>;
-
-#[cfg(test)]
-mod tests;

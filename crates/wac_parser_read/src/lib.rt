@@ -23,6 +23,3 @@ pub use lookahead::Lookahead;
 pub use parse::{Parse, Peek, parse_delimited, parse_optional};
 pub use value_type::{MAX_LEVELS, parse_optional_payload};
 pub use wac_parser_grammar::{DeclaredType, Error, MemberKind, ParseResult};
-
-#[cfg(test)]
-mod tests;

@@ -35,6 +35,3 @@ pub use world::{
     ExternType, NamedWorldItem, WorldDecl, WorldExport, WorldImport, WorldInclude,
     WorldIncludeItem, WorldItem, WorldItemPath, WorldRef,
 };
-
-#[cfg(test)]
-mod tests;

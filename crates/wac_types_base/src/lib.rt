@@ -34,6 +34,3 @@ pub use replace::CycleError;
 pub use types::Types;
 pub use types_mut::TypesMut;
 pub use walk::Places;
-
-#[cfg(test)]
-mod tests;

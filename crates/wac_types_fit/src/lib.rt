@@ -15,6 +15,3 @@ pub use checker::{SubtypeCheck, SubtypeChecker};
 pub use errors::SubtypeError;
 pub use laws::{meets_of_plain_trees, order_on_trees, refusals_are_true};
 pub use targets::{TargetValidationReport, TargetValidationResult, validate_target};
-
-#[cfg(test)]
-mod tests;

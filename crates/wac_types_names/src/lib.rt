@@ -15,6 +15,3 @@ pub use names::{
     are_semver_compatible,
 };
 pub use package::{BorrowedKey, BorrowedPackageKey, Package, PackageKey, same_key};
-
-#[cfg(test)]
-mod tests;

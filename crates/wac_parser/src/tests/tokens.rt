@@ -1,4 +1,4 @@
-use crate::{Error, Lexer, LexerResult, SourceSpan, Token, span_in};
+use crate::lexer::{Error, Lexer, LexerResult, SourceSpan, Token, span_in};
 use std::fmt::Display;
 use std::process::Abort;
 use std::test::Fail;

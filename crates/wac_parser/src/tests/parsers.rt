@@ -1,11 +1,10 @@
+use crate::lexer::{Lexer, SourceSpan, Token};
 use crate::{
-    Error, Lookahead, Parse, ParseDocument, ParseResult, Peek, parse_delimited, parse_optional,
-    parse_optional_payload, parse_token,
+    Document, Error, Flag, Ident, Lookahead, Parse, ParseDocument, ParseResult, Peek, Type,
+    parse_delimited, parse_optional, parse_optional_payload, parse_token,
 };
 use std::process::Abort;
 use std::test::Fail;
-use wac_parser_lexer::{Lexer, SourceSpan, Token};
-use wac_parser_tree::{Document, Flag, Ident, Type};
 
 fn span_of(error: &Error) -> SourceSpan {
     match error {

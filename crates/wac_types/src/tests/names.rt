@@ -1,11 +1,10 @@
 //! Worked examples.
 
-use super::*;
+use crate::*;
 use semver::Version;
 use std::alloc::{AllocError, Global};
 use std::process::Abort;
 use std::test::Fail;
-use wac_types_base::{FuncType, ItemKind, NamedMap, Type, Types, World, WorldId};
 
 /// The key of a name.
 fn is_key(rt: &impl Abort, alloc: Global, name: &str, key: Option<&str>) -> Result<(), Fail> {

@@ -1,12 +1,8 @@
 //! What fits what, in small collections.
 
-use super::*;
+use crate::*;
 use std::alloc::{AllocError, Global};
 use std::test::Fail;
-use wac_types_base::{
-    CoreExtern, CoreImports, DefinedType, ExternKind, FuncType, Interface, ItemKind, ModuleType,
-    NamedMap, PrimitiveType, Record, Resource, ResourceAlias, Text, Type, Types, ValueType, World,
-};
 
 const U32: ValueType = ValueType::Primitive(PrimitiveType::U32);
 

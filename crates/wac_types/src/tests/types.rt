@@ -1,6 +1,6 @@
 //! Small collections, built by the calls that users make.
 
-use super::*;
+use crate::*;
 use std::alloc::{AllocError, Global};
 use std::test::Fail;
 
@@ -317,7 +317,7 @@ fn copied_item_has_the_same_kind(rt: HostRuntime) -> Result<(), Fail> {
     let list = ItemKind::Value(ValueType::Defined(types.add_defined_type(DefinedType::List(U32))?));
     assert!(rt; types.has(list));
     let mut other = Types::new(alloc, 2);
-    let copied = copy::copy_item(alloc, &types, list, &mut other)?;
+    let copied = wac_types_base::copy::copy_item(alloc, &types, list, &mut other)?;
     let wanted = DefinedTypeId {
         collection: 2,
         index: 0,

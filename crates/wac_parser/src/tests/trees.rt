@@ -1,3 +1,4 @@
+use crate::lexer::SourceSpan;
 use crate::{
     AccessExpr, Constructor, DocComment, Document, EnumCase, EnumDecl, ExportOptions,
     ExportStatement, Expr, ExternName, ExternType, Field, Flag, FlagsDecl, FuncType, FuncTypeRef,
@@ -15,7 +16,6 @@ use std::alloc::{AllocError, Global};
 use std::fmt::Debug;
 use std::process::Abort;
 use std::test::Fail;
-use wac_parser_lexer::SourceSpan;
 
 fn span(offset: usize, length: usize) -> SourceSpan {
     SourceSpan::new(offset, length)

@@ -1,0 +1,23 @@
+//! The language: tokens, trees, parsers: the public crate over its parts.
+#![tactic(auto)]
+
+pub use wac_parser_lexer as lexer;
+pub use wac_parser_read::{
+    DeclaredType, Error, Lookahead, MAX_LEVELS, MemberKind, Parse, ParseDocument, ParseResult,
+    Peek, parse_delimited, parse_optional, parse_optional_payload, parse_token,
+};
+pub use wac_parser_tree::{
+    AccessExpr, Constructor, DocComment, Document, EnumCase, EnumDecl, ExportOptions,
+    ExportStatement, Expr, ExternName, ExternType, Field, Flag, FlagsDecl, FuncType, FuncTypeRef,
+    Ident, ImportStatement, ImportType, InlineInterface, InstantiationArgument,
+    InstantiationArgumentName, InterfaceDecl, InterfaceExport, InterfaceItem, ItemTypeDecl,
+    LetStatement, Method, NamedAccessExpr, NamedInstantiationArgument, NamedType, NamedWorldItem,
+    NestedExpr, NewExpr, PackageDirective, PackageName, PackagePath, PostfixExpr, PrimaryExpr,
+    RecordDecl, ResourceDecl, ResourceMethod, ResultList, SegmentSpans, Statement, String, Type,
+    TypeAlias, TypeAliasKind, TypeDecl, TypeStatement, Use, UseItem, UsePath, VariantCase,
+    VariantDecl, WorldDecl, WorldExport, WorldImport, WorldInclude, WorldIncludeItem, WorldItem,
+    WorldItemPath, WorldRef,
+};
+
+#[cfg(test)]
+mod tests;

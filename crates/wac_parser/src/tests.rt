@@ -1,0 +1,3 @@
+mod parsers;
+mod tokens;
+mod trees;

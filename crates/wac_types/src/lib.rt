@@ -1,0 +1,23 @@
+//! The types of components, names on version tracks, packages, and what fits what: the public crate over its parts.
+#![tactic(auto)]
+
+pub use wac_types_base::{
+    CoreExtern, CoreFuncType, CoreImports, CoreRefType, CoreType, CycleError, DefinedType,
+    DefinedTypeId, Enum, ExternKind, Flags, FuncKind, FuncType, FuncTypeId, HeapType, Interface,
+    InterfaceId, ItemKind, Items, ModuleType, ModuleTypeId, NamedMap, Names, Places, PrimitiveType,
+    Record, Resource, ResourceAlias, ResourceId, TargetError, Text, Type, Types, TypesMut,
+    UsedType, ValueType, Variant, World, WorldId, copy_world,
+};
+pub use wac_types_fit::{
+    Cache, SubtypeCheck, SubtypeChecker, SubtypeError, TargetValidationReport,
+    TargetValidationResult, meets_of_plain_trees, new_cache, order_on_trees, refusals_are_true,
+    validate_target,
+};
+pub use wac_types_names::{
+    BorrowedKey, BorrowedPackageKey, NameMap, NameMapError, NameMapIntern, NameMapNoIntern,
+    Package, PackageKey, alternate_lookup_key, are_semver_compatible, compatible_names,
+    one_name_a_version, order_of_insertion, same_key,
+};
+
+#[cfg(test)]
+mod tests;

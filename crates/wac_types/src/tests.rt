@@ -1,0 +1,3 @@
+mod fit;
+mod names;
+mod types;
