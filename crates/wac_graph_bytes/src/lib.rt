@@ -44,6 +44,3 @@ pub use types::{
     push_params, push_sort, push_value_type, push_value_types,
 };
 pub use value::{Description, PrimitiveType, Sort, ValueType};
-
-#[cfg(test)]
-mod tests;

@@ -1,4 +1,4 @@
-//! The types of components, names on version tracks, packages, and what fits what: the public crate over its parts.
+//! The types of components, names on version tracks, packages, what fits what, and merging: the public crate over its parts.
 #![tactic(auto)]
 
 pub use wac_types_base::{
@@ -13,6 +13,7 @@ pub use wac_types_fit::{
     TargetValidationResult, meets_of_plain_trees, new_cache, order_on_trees, refusals_are_true,
     validate_target,
 };
+pub use wac_types_merge::{AggregateError, Family, Import, TypeAggregator, aggregate_all};
 pub use wac_types_names::{
     BorrowedKey, BorrowedPackageKey, NameMap, NameMapError, NameMapIntern, NameMapNoIntern,
     Package, PackageKey, alternate_lookup_key, are_semver_compatible, compatible_names,

@@ -1,3 +1,4 @@
 mod fit;
+mod merging;
 mod names;
 mod types;

@@ -12,6 +12,3 @@ mod narrower;
 pub use aggregator::{TypeAggregator, aggregate_all};
 pub use errors::AggregateError;
 pub use family::{Family, Import};
-
-#[cfg(test)]
-mod tests;

@@ -1,13 +1,8 @@
 //! What is kept of several asks.
 
-use super::*;
+use crate::*;
 use std::alloc::{AllocError, Global};
 use std::test::Fail;
-use wac_types_base::{
-    FuncType, Interface, InterfaceId, ItemKind, NamedMap, PrimitiveType, Text, Types, UsedType,
-    ValueType,
-};
-use wac_types_fit::{SubtypeChecker, new_cache};
 
 const U32: ValueType = ValueType::Primitive(PrimitiveType::U32);
 

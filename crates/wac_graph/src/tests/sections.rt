@@ -1,4 +1,4 @@
-use crate::{
+use crate::bytes::{
     DefinedType, Description, Entry, Export, IndexName, Param, Processor, Sort, SortNames,
     push_component,
 };

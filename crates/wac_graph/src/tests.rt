@@ -1,3 +1,4 @@
+mod graph;
 mod names;
 mod sections;
 mod tables;

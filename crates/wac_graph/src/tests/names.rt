@@ -1,4 +1,4 @@
-use crate::{NameKind, component_name};
+use crate::bytes::{NameKind, component_name};
 use std::alloc::Global;
 use std::process::Abort;
 use std::test::Fail;

@@ -1,4 +1,4 @@
-use crate::{
+use crate::bytes::{
     Alias, Case, CoreDeclaration, CoreDescription, CoreReference, CoreValue, Declaration,
     DefinedType, Description, Entry, Export, Limits, NamedIndex, Param, PrimitiveType, SizeError,
     Sort, ValueType, push_alias, push_bound, push_core_description, push_core_value,

@@ -1,6 +1,6 @@
 //! Worked examples: `p:p` imports `f` and exports `g`, `q:q` imports `g` and exports `h`.
 
-use super::*;
+use crate::*;
 use std::alloc::{AllocError, Global};
 use std::process::Abort;
 use std::test::Fail;
@@ -185,6 +185,14 @@ fn imports_once(rt: HostRuntime) -> Result<(), Fail> {
         Err(ImportError::InvalidImportName { name, .. }) => assert!(rt; name.as_str() == "F!"),
         _ => return Err(Fail::from("no name")),
     }
+    Ok(())
+}
+
+#[test]
+fn imports_are_no_instances(rt: HostRuntime) -> Result<(), Fail> {
+    let alloc = rt.alloc();
+    let mut g = CompositionGraph::new(alloc, 1);
+    let f = import(&rt, &mut g, "f", NamedMap::new(alloc))?;
     assert!(rt; g.contains_node(f));
     match g.alias_instance_export(f, "g") {
         Err(AliasError::NodeIsNotAnInstance { node }) => assert_eq!(rt; node, f),
@@ -204,7 +212,7 @@ fn imports_once(rt: HostRuntime) -> Result<(), Fail> {
 }
 
 #[test]
-fn aliases_and_exports(rt: HostRuntime) -> Result<(), Fail> {
+fn aliases_are_one(rt: HostRuntime) -> Result<(), Fail> {
     let alloc = rt.alloc();
     let mut g = CompositionGraph::new(alloc, 1);
     let p = register(&rt, alloc, &mut g, "p:p", "f", "g")?;
@@ -221,22 +229,47 @@ fn aliases_and_exports(rt: HostRuntime) -> Result<(), Fail> {
     assert_eq!(rt; alias(&rt, &mut g, x, "g")?, a);
     assert_eq!(rt; g.get_alias_source(a), Some((x, "g")));
     assert_eq!(rt; g.get_alias_source(x), None);
-    assert!(rt; g.contains_node(a));
-    g.export(a, "g")?;
-    assert!(rt; g.contains_node(a));
-    match g.export(a, "g") {
+    Ok(())
+}
+
+/// Exports a node, as a call that may be refused.
+fn export(
+    rt: &impl Abort,
+    g: &mut CompositionGraph,
+    node: NodeId,
+    name: &str,
+) -> Result<(), ExportError> {
+    assert!(rt; g.contains_node(node));
+    g.export(node, name)
+}
+
+#[test]
+fn exports_once(rt: HostRuntime) -> Result<(), Fail> {
+    let alloc = rt.alloc();
+    let mut g = CompositionGraph::new(alloc, 1);
+    let a = import(&rt, &mut g, "f", NamedMap::new(alloc))?;
+    export(&rt, &mut g, a, "g")?;
+    match export(&rt, &mut g, a, "g") {
         Err(ExportError::ExportAlreadyExists { name, node }) => {
             assert!(rt; name.as_str() == "g");
             assert_eq!(rt; node, a);
         }
         _ => return Err(Fail::from("exported twice")),
     }
-    assert!(rt; g.contains_node(a));
-    g.export(a, "h")?;
+    assert_eq!(rt; g.get_export("g"), Some(a));
+    assert_eq!(rt; g.get_export("h"), None);
+    Ok(())
+}
+
+#[test]
+fn exports_under_two_names(rt: HostRuntime) -> Result<(), Fail> {
+    let alloc = rt.alloc();
+    let mut g = CompositionGraph::new(alloc, 1);
+    let a = import(&rt, &mut g, "f", NamedMap::new(alloc))?;
+    export(&rt, &mut g, a, "g")?;
+    export(&rt, &mut g, a, "h")?;
     assert!(rt; g.contains_node(a));
     assert!(rt; g[a].export_name() == Some("h"));
-    assert_eq!(rt; g.get_export("g"), Some(a));
-    assert_eq!(rt; g.get_export("h"), Some(a));
     g.unexport(a)?;
     assert_eq!(rt; g.get_export("g"), Some(a));
     assert_eq!(rt; g.get_export("h"), None);
@@ -249,15 +282,12 @@ fn aliases_and_exports(rt: HostRuntime) -> Result<(), Fail> {
 }
 
 #[test]
-fn arguments(rt: HostRuntime) -> Result<(), Fail> {
+fn arguments_have_names(rt: HostRuntime) -> Result<(), Fail> {
     let alloc = rt.alloc();
     let mut g = CompositionGraph::new(alloc, 1);
     let p = register(&rt, alloc, &mut g, "p:p", "f", "g")?;
-    let q = register(&rt, alloc, &mut g, "q:q", "g", "h")?;
     let x = instance(&rt, &mut g, p)?;
-    let y = instance(&rt, &mut g, q)?;
     let f = import(&rt, &mut g, "f", NamedMap::new(alloc))?;
-    let k = import(&rt, &mut g, "k", NamedMap::new(alloc))?;
     match set(&rt, &mut g, x, "no", f) {
         Err(
             InstantiationArgumentError::InvalidArgumentName {
@@ -272,6 +302,25 @@ fn arguments(rt: HostRuntime) -> Result<(), Fail> {
         }
         _ => return Err(Fail::from("no such argument")),
     }
+    assert!(rt; g.contains_node(x));
+    assert!(rt; g.contains_node(f));
+    assert!(rt;
+        matches!(
+            g.unset_instantiation_argument(x, "no", f),
+            Err(InstantiationArgumentError::InvalidArgumentName { .. })
+        )
+    );
+    Ok(())
+}
+
+#[test]
+fn arguments_are_passed_once(rt: HostRuntime) -> Result<(), Fail> {
+    let alloc = rt.alloc();
+    let mut g = CompositionGraph::new(alloc, 1);
+    let p = register(&rt, alloc, &mut g, "p:p", "f", "g")?;
+    let x = instance(&rt, &mut g, p)?;
+    let f = import(&rt, &mut g, "f", NamedMap::new(alloc))?;
+    let k = import(&rt, &mut g, "k", NamedMap::new(alloc))?;
     set(&rt, &mut g, x, "f", f)?;
     set(&rt, &mut g, x, "f", f)?;
     assert!(rt;
@@ -281,7 +330,20 @@ fn arguments(rt: HostRuntime) -> Result<(), Fail> {
         )
     );
     assert!(rt; g.contains_node(x));
+    assert!(rt; g.contains_node(f));
     g.unset_instantiation_argument(x, "f", f)?;
+    set(&rt, &mut g, x, "f", k)?;
+    Ok(())
+}
+
+#[test]
+fn arguments_make_no_cycle(rt: HostRuntime) -> Result<(), Fail> {
+    let alloc = rt.alloc();
+    let mut g = CompositionGraph::new(alloc, 1);
+    let p = register(&rt, alloc, &mut g, "p:p", "f", "g")?;
+    let q = register(&rt, alloc, &mut g, "q:q", "g", "h")?;
+    let x = instance(&rt, &mut g, p)?;
+    let y = instance(&rt, &mut g, q)?;
     let a = alias(&rt, &mut g, x, "g")?;
     set(&rt, &mut g, y, "g", a)?;
     let b = alias(&rt, &mut g, y, "h")?;
@@ -291,20 +353,20 @@ fn arguments(rt: HostRuntime) -> Result<(), Fail> {
             Err(InstantiationArgumentError::WouldFormCycle { .. })
         )
     );
+    Ok(())
+}
+
+#[test]
+fn arguments_fit(rt: HostRuntime) -> Result<(), Fail> {
+    let alloc = rt.alloc();
+    let mut g = CompositionGraph::new(alloc, 1);
+    let p = register(&rt, alloc, &mut g, "p:p", "f", "g")?;
+    let x = instance(&rt, &mut g, p)?;
     let other = import(&rt, &mut g, "other", one(alloc, "x", U32)?)?;
     assert!(rt;
         matches!(
             set(&rt, &mut g, x, "f", other),
             Err(InstantiationArgumentError::ArgumentTypeMismatch { .. })
-        )
-    );
-    assert!(rt; g.contains_node(x));
-    g.unset_instantiation_argument(x, "f", f)?;
-    assert!(rt; g.contains_node(x));
-    assert!(rt;
-        matches!(
-            g.unset_instantiation_argument(x, "no", f),
-            Err(InstantiationArgumentError::InvalidArgumentName { .. })
         )
     );
     Ok(())
