@@ -196,6 +196,7 @@ pub fn aggregate_all(
 ) -> Result<TypeAggregator, AggregateError>
     requires { AsksStand (asks_of asks.now) }
     ensures merged { IfOk result (Merges (asks_of asks.now)) }
+    ensures number { IfOk result (λ g. g.types.number ≡ number) }
     ensures refused { IfErr result (IsListRefused (asks_of asks.now)) }
 {
     let mut all = TypeAggregator::new(alloc, number);
