@@ -27,7 +27,8 @@ loop-index-preserved c =
     let xs = c.args.asks.now in
     let i = c.loop-index.index in
     let within : i < length xs = omega arith in
-    let r = c.index-asks-index.result in
-    (next_merged xs i (get_or xs i r) c.loop-index.all c.in-Ok.more (at_index xs i r within) c.with_ask.ensures.sound c.in-Ok.ensures.sound_after c.loop-index.invariant.0
-    (subst (λ (a : Ask). IsAsked c.loop-index.all a c.in-Ok.more) (same_ask xs i r c.index-asks-index-in-loop-index.result c.index-asks-index-in-loop-index-2.result within) c.in-Ok.ensures.asked)
-    , c.in-Ok.ensures.asked.grows.number ∙ c.loop-index.invariant.1)
+    let r = c.index-asks-index.result in (
+      next_merged xs i (get_or xs i r) c.loop-index.all c.in-Ok.more (at_index xs i r within) c.with_ask.ensures.sound c.in-Ok.ensures.sound_after c.loop-index.invariant.0
+          (subst (λ (a : Ask). IsAsked c.loop-index.all a c.in-Ok.more) (same_ask xs i r c.index-asks-index-in-loop-index.result c.index-asks-index-in-loop-index-2.result within) c.in-Ok.ensures.asked),
+      c.in-Ok.ensures.asked.grows.number ∙ c.loop-index.invariant.1,
+    )
