@@ -34,7 +34,7 @@ pub use Rattle.wac_types_fit.specs.Targets
 pub use Rattle.wac_types_fit.specs.Meets
 pub use Rattle.wac_types_merge.specs.Families
 pub use Rattle.wac_types_merge.specs.Interfaces
-pub use Rattle.wac_types_merge.specs.Errors
+pub use Rattle.wac_types_merge.specs.Errors as MergeErrors
 pub use Rattle.wac_types_merge.specs.Imports
 pub use Rattle.wac_types_merge.specs.Merging
 pub use Rattle.wac_types_merge.specs.Lists
