@@ -1,0 +1,6 @@
+pub mod CallLaws
+pub mod Adding
+pub mod FormLaws
+pub mod TypeViews
+pub mod ValueLaws
+pub mod Exemplified

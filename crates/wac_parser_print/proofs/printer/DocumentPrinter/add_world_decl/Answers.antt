@@ -1,0 +1,7 @@
+use Rattle.wac_parser_print.proofs.Adding.{and_then}
+use Rattle.wac_parser_print.specs.Printing.{world_decl}
+use Rattle.wac_parser_print.proofs.printer.DocumentPrinter.add_world_decl.Goals as goal
+
+pub returns : goal.returns
+unfolding world_decl
+returns g c = and_then c.begin.ensures (and_then c.word.ensures (and_then c.slice.ensures c.add_world_body.ensures))

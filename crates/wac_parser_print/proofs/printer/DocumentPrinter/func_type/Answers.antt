@@ -1,0 +1,5 @@
+use Rattle.wac_parser_print.proofs.Adding.{prints}
+use Rattle.wac_parser_print.proofs.printer.DocumentPrinter.func_type.Goals as goal
+
+pub returns : goal.returns
+returns g c = prints c.outcome.result c.has_failed-had_failed.result c.has_failed-had_failed.ensures c.add_func_type.ensures c.outcome.ensures

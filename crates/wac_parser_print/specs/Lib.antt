@@ -1,0 +1,8 @@
+pub mod Texts
+pub mod Results
+pub mod Printing
+pub mod Calls
+pub mod Printers
+pub mod Objects
+pub mod Values
+pub mod Examples

@@ -1,0 +1,35 @@
+-- JSON values of plain data.
+use Rattle.std.specs.Prelude.{ℕ, List, [], ◌∷◌, map, Option, Some, None, codes}
+use Rattle.serde_json.specs.Data.{Data, null, number, unsigned, string, array, object, Members, no_members, put}
+use Rattle.serde_json.specs.View.{items_of}
+use Rattle.semver.specs.Identifiers.{parts_text}
+use Rattle.wac_parser_lexer.specs.declared.span.SourceSpan.{SourceSpan}
+use Rattle.wac_parser_tree.specs.Trees as t
+
+abbrev pub with_members : Members → List (List ℕ × Data) → Members
+with_members members [] = members
+with_members members (m ∷ ms) = with_members (put m.0 m.1 members) ms
+
+-- an object with these members
+abbrev pub object_of : List (List ℕ × Data) → Data
+object_of ms = object (with_members no_members ms)
+
+-- an object with one member: the name of a variant, and what it holds
+abbrev pub variant : List ℕ → Data → Data
+variant name contents = object_of ((name, contents) ∷ [])
+
+-- the values of a list
+abbrev pub array_of : {A : Type 0} → (A → Data) → List A → Data
+array_of value xs = array (items_of (map value xs))
+
+-- the value of what is there, or null
+abbrev pub or_null : {A : Type 0} → (A → Data) → Option A → Data
+or_null value None = null
+or_null value (Some x) = value x
+
+unfoldable pub span : SourceSpan → Data
+span x = object_of ((codes "offset", number (unsigned x.offset)) ∷ (codes "length", number (unsigned x.length)) ∷ [])
+
+unfoldable pub version : Option t.Version → Data
+version None = null
+version (Some v) = string (parts_text v)

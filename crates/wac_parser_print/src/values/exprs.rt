@@ -1,0 +1,168 @@
+//! Values of expressions.
+
+ghost use Rattle.std.specs.Prelude.{◌≡◌, IfOk, map};
+ghost use Rattle.serde_json.specs.View.{view};
+ghost use Rattle.wac_parser_tree.specs.Trees.{arguments as arguments_of};
+ghost use Rattle.serde_json.specs.Data.{array};
+ghost use Rattle.wac_parser_tree.specs.Views.{view_access_expr, view_expr, view_instantiation_argument, view_instantiation_argument_name, view_named_access_expr, view_named_instantiation_argument, view_nested_expr, view_new_expr, view_postfix_expr, view_primary_expr};
+ghost use Rattle.wac_parser_print.specs.Objects.{array_of};
+ghost use Rattle.wac_parser_print.specs.Values as values;
+
+use super::objects::{ident, package_name, span, string_literal, variant};
+use serde_json::{Value, json};
+use std::alloc::{AllocError, Global};
+use wac_parser_tree::{
+    AccessExpr, Expr, InstantiationArgument, InstantiationArgumentName, NamedAccessExpr,
+    NamedInstantiationArgument, NestedExpr, NewExpr, PostfixExpr, PrimaryExpr,
+};
+
+#[tactic(auto, unfolding(crate::specs::Values::access_expr))]
+pub(crate) fn access_expr(alloc: Global, access: &AccessExpr<'_>) -> Result<Value, AllocError>
+    ensures { IfOk result (λ v. view v ≡ values.access_expr (view_access_expr access.now)) }
+{
+    json!(in alloc; {
+        "span": span(alloc, access.span)?,
+        "id": ident(alloc, &access.id)?
+    })
+}
+
+#[tactic(auto, unfolding(crate::specs::Values::named_access_expr))]
+pub(crate) fn named_access_expr(
+    alloc: Global,
+    access: &NamedAccessExpr<'_>,
+) -> Result<Value, AllocError>
+    ensures { IfOk result (λ v. view v ≡ values.named_access_expr (view_named_access_expr access.now)) }
+{
+    json!(in alloc; {
+        "span": span(alloc, access.span)?,
+        "string": string_literal(alloc, &access.string)?
+    })
+}
+
+#[tactic(auto, unfolding(crate::specs::Values::postfix_expr))]
+pub(crate) fn postfix_expr(alloc: Global, access: &PostfixExpr<'_>) -> Result<Value, AllocError>
+    ensures { IfOk result (λ v. view v ≡ values.postfix_expr (view_postfix_expr access.now)) }
+{
+    match access {
+        PostfixExpr::Access(x) => variant(alloc, "access", access_expr(alloc, x)?),
+        PostfixExpr::NamedAccess(x) => variant(alloc, "namedAccess", named_access_expr(alloc, x)?),
+    }
+}
+
+pub(crate) fn postfix_exprs(
+    alloc: Global,
+    postfix_exprs: &Vec<PostfixExpr<'_>>,
+) -> Result<Value, AllocError>
+    ensures { IfOk result (λ v. view v ≡ array_of values.postfix_expr (map view_postfix_expr postfix_exprs.now.items)) }
+{
+    let mut values = Vec::new(alloc);
+    for access in postfix_exprs {
+        values.push(postfix_expr(alloc, access)?)?;
+    }
+    Ok(Value::from(values))
+}
+
+#[tactic(auto, unfolding(crate::specs::Values::argument_name))]
+pub(crate) fn argument_name(
+    alloc: Global,
+    name: &InstantiationArgumentName<'_>,
+) -> Result<Value, AllocError>
+    ensures { IfOk result (λ v. view v ≡ values.argument_name (view_instantiation_argument_name name.now)) }
+{
+    match name {
+        InstantiationArgumentName::Ident(x) => variant(alloc, "ident", ident(alloc, x)?),
+        InstantiationArgumentName::String(x) => variant(alloc, "string", string_literal(alloc, x)?),
+    }
+}
+
+#[cycle(expr)]
+#[tactic(auto, unfolding(crate::specs::Values::expr))]
+pub(crate) fn expr(alloc: Global, expr: &Expr<'_>) -> Result<Value, AllocError>
+    ensures { IfOk result (λ v. view v ≡ values.expr (view_expr expr.now)) }
+{
+    json!(in alloc; {
+        "span": span(alloc, expr.span)?,
+        "primary": primary_expr(alloc, &expr.primary)?,
+        "postfix": postfix_exprs(alloc, &expr.postfix)?
+    })
+}
+
+#[cycle(expr)]
+#[tactic(auto, unfolding(crate::specs::Values::primary_expr))]
+pub(crate) fn primary_expr(alloc: Global, expr: &PrimaryExpr<'_>) -> Result<Value, AllocError>
+    ensures { IfOk result (λ v. view v ≡ values.primary_expr (view_primary_expr expr.now)) }
+{
+    match expr {
+        PrimaryExpr::New(x) => variant(alloc, "new", new_expr(alloc, x)?),
+        PrimaryExpr::Nested(x) => variant(alloc, "nested", nested_expr(alloc, x)?),
+        PrimaryExpr::Ident(x) => variant(alloc, "ident", ident(alloc, x)?),
+    }
+}
+
+#[cycle(expr)]
+#[tactic(auto, unfolding(crate::specs::Values::nested_expr))]
+pub(crate) fn nested_expr(alloc: Global, nested: &NestedExpr<'_>) -> Result<Value, AllocError>
+    ensures { IfOk result (λ v. view v ≡ values.nested_expr (view_nested_expr nested.now)) }
+{
+    json!(in alloc; {
+        "span": span(alloc, nested.span)?,
+        "inner": expr(alloc, &nested.inner)?
+    })
+}
+
+#[cycle(expr)]
+#[tactic(auto, unfolding(crate::specs::Values::new_expr))]
+pub(crate) fn new_expr(alloc: Global, made: &NewExpr<'_>) -> Result<Value, AllocError>
+    ensures { IfOk result (λ v. view v ≡ values.new_expr (view_new_expr made.now)) }
+{
+    json!(in alloc; {
+        "span": span(alloc, made.span)?,
+        "package": package_name(alloc, &made.package)?,
+        "arguments": arguments(alloc, &made.arguments)?
+    })
+}
+
+#[cycle(expr)]
+#[tactic(auto, using(crate::proofs::ValueLaws::arguments_items))]
+pub(crate) fn arguments(
+    alloc: Global,
+    arguments: &Vec<InstantiationArgument<'_>>,
+) -> Result<Value, AllocError>
+    ensures { IfOk result (λ v. view v ≡ array (values.arguments (arguments_of (map view_instantiation_argument arguments.now.items)))) }
+{
+    let mut values = Vec::new(alloc);
+    for item in arguments {
+        values.push(argument(alloc, item)?)?;
+    }
+    Ok(Value::from(values))
+}
+
+#[cycle(expr)]
+#[tactic(auto, unfolding(crate::specs::Values::argument))]
+pub(crate) fn argument(
+    alloc: Global,
+    argument: &InstantiationArgument<'_>,
+) -> Result<Value, AllocError>
+    ensures { IfOk result (λ v. view v ≡ values.argument (view_instantiation_argument argument.now)) }
+{
+    match argument {
+        InstantiationArgument::Inferred(x) => variant(alloc, "inferred", ident(alloc, x)?),
+        InstantiationArgument::Spread(x) => variant(alloc, "spread", ident(alloc, x)?),
+        InstantiationArgument::Named(x) => variant(alloc, "named", named_argument(alloc, x)?),
+        InstantiationArgument::Fill(x) => variant(alloc, "fill", span(alloc, *x)?),
+    }
+}
+
+#[cycle(expr)]
+#[tactic(auto, unfolding(crate::specs::Values::named_argument))]
+pub(crate) fn named_argument(
+    alloc: Global,
+    argument: &NamedInstantiationArgument<'_>,
+) -> Result<Value, AllocError>
+    ensures { IfOk result (λ v. view v ≡ values.named_argument (view_named_instantiation_argument argument.now)) }
+{
+    json!(in alloc; {
+        "name": argument_name(alloc, &argument.name)?,
+        "expr": expr(alloc, &argument.expr)?
+    })
+}

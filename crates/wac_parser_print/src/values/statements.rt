@@ -1,0 +1,165 @@
+//! Values of statements and documents.
+
+ghost use Rattle.std.specs.Prelude.{◌≡◌, IfOk, map};
+ghost use Rattle.std.specs.Option.{option_map};
+ghost use Rattle.serde_json.specs.View.{view};
+ghost use Rattle.wac_parser_tree.specs.Views.{view_document, view_export_options, view_export_statement, view_extern_name, view_import_statement, view_import_type, view_let_statement, view_package_directive, view_statement, view_type_statement};
+ghost use Rattle.wac_parser_print.specs.Objects.{array_of, or_null};
+ghost use Rattle.wac_parser_print.specs.Values as values;
+
+use super::declarations::type_decl;
+use super::exprs::expr;
+use super::interfaces::{inline_interface, interface_decl};
+use super::objects::{docs, extern_name, ident, package_name, package_path, span, variant};
+use super::types::func_type;
+use super::worlds::world_decl;
+use serde_json::{Value, json};
+use std::alloc::{AllocError, Global};
+use wac_parser_tree::{
+    Document, ExportOptions, ExportStatement, ExternName, ImportStatement, ImportType,
+    LetStatement, PackageDirective, Statement, TypeStatement,
+};
+
+#[tactic(auto, unfolding(crate::specs::Values::import_type))]
+pub(crate) fn import_type(alloc: Global, ty: &ImportType<'_>) -> Result<Value, AllocError>
+    ensures { IfOk result (λ v. view v ≡ values.import_type (view_import_type ty.now)) }
+{
+    match ty {
+        ImportType::Package(x) => variant(alloc, "package", package_path(alloc, x)?),
+        ImportType::Func(x) => variant(alloc, "func", func_type(alloc, x)?),
+        ImportType::Interface(x) => variant(alloc, "interface", inline_interface(alloc, x)?),
+        ImportType::Ident(x) => variant(alloc, "ident", ident(alloc, x)?),
+    }
+}
+
+pub(crate) fn import_name(alloc: Global, name: &Option<ExternName<'_>>) -> Result<Value, AllocError>
+    ensures { IfOk result (λ v. view v ≡ or_null values.extern_name (option_map view_extern_name name.now)) }
+{
+    match name {
+        Some(name) => extern_name(alloc, name),
+        None => Ok(Value::Null),
+    }
+}
+
+#[tactic(auto, unfolding(crate::specs::Values::import_statement))]
+pub(crate) fn import_statement(
+    alloc: Global,
+    statement: &ImportStatement<'_>,
+) -> Result<Value, AllocError>
+    ensures { IfOk result (λ v. view v ≡ values.import_statement (view_import_statement statement.now)) }
+{
+    json!(in alloc; {
+        "docs": docs(alloc, &statement.docs)?,
+        "id": ident(alloc, &statement.id)?,
+        "name": import_name(alloc, &statement.name)?,
+        "ty": import_type(alloc, &statement.ty)?
+    })
+}
+
+#[tactic(auto, unfolding(crate::specs::Values::let_statement))]
+pub(crate) fn let_statement(
+    alloc: Global,
+    statement: &LetStatement<'_>,
+) -> Result<Value, AllocError>
+    ensures { IfOk result (λ v. view v ≡ values.let_statement (view_let_statement statement.now)) }
+{
+    json!(in alloc; {
+        "docs": docs(alloc, &statement.docs)?,
+        "id": ident(alloc, &statement.id)?,
+        "expr": expr(alloc, &statement.expr)?
+    })
+}
+
+#[tactic(auto, unfolding(crate::specs::Values::export_options))]
+pub(crate) fn export_options(
+    alloc: Global,
+    options: &ExportOptions<'_>,
+) -> Result<Value, AllocError>
+    ensures { IfOk result (λ v. view v ≡ values.export_options (view_export_options options.now)) }
+{
+    match options {
+        ExportOptions::None => Value::try_from_str(alloc, "none"),
+        ExportOptions::Spread(x) => variant(alloc, "spread", span(alloc, *x)?),
+        ExportOptions::Rename(x) => variant(alloc, "rename", extern_name(alloc, x)?),
+    }
+}
+
+#[tactic(auto, unfolding(crate::specs::Values::export_statement))]
+pub(crate) fn export_statement(
+    alloc: Global,
+    statement: &ExportStatement<'_>,
+) -> Result<Value, AllocError>
+    ensures { IfOk result (λ v. view v ≡ values.export_statement (view_export_statement statement.now)) }
+{
+    json!(in alloc; {
+        "docs": docs(alloc, &statement.docs)?,
+        "expr": expr(alloc, &statement.expr)?,
+        "options": export_options(alloc, &statement.options)?
+    })
+}
+
+#[tactic(auto, unfolding(crate::specs::Values::type_statement))]
+pub(crate) fn type_statement(
+    alloc: Global,
+    statement: &TypeStatement<'_>,
+) -> Result<Value, AllocError>
+    ensures { IfOk result (λ v. view v ≡ values.type_statement (view_type_statement statement.now)) }
+{
+    match statement {
+        TypeStatement::Interface(x) => variant(alloc, "interface", interface_decl(alloc, x)?),
+        TypeStatement::World(x) => variant(alloc, "world", world_decl(alloc, x)?),
+        TypeStatement::Ty(x) => variant(alloc, "type", type_decl(alloc, x)?),
+    }
+}
+
+#[tactic(auto, unfolding(crate::specs::Values::statement))]
+pub(crate) fn statement(alloc: Global, statement: &Statement<'_>) -> Result<Value, AllocError>
+    ensures { IfOk result (λ v. view v ≡ values.statement (view_statement statement.now)) }
+{
+    match statement {
+        Statement::Import(x) => variant(alloc, "Import", import_statement(alloc, x)?),
+        Statement::Ty(x) => variant(alloc, "Type", type_statement(alloc, x)?),
+        Statement::Let(x) => variant(alloc, "Let", let_statement(alloc, x)?),
+        Statement::Export(x) => variant(alloc, "Export", export_statement(alloc, x)?),
+    }
+}
+
+pub(crate) fn statements(
+    alloc: Global,
+    statements: &Vec<Statement<'_>>,
+) -> Result<Value, AllocError>
+    ensures { IfOk result (λ v. view v ≡ array_of values.statement (map view_statement statements.now.items)) }
+{
+    let mut values = Vec::new(alloc);
+    for item in statements {
+        values.push(statement(alloc, item)?)?;
+    }
+    Ok(Value::from(values))
+}
+
+#[tactic(auto, unfolding(crate::specs::Values::package_directive))]
+pub(crate) fn package_directive(
+    alloc: Global,
+    directive: &PackageDirective<'_>,
+) -> Result<Value, AllocError>
+    ensures { IfOk result (λ v. view v ≡ values.package_directive (view_package_directive directive.now)) }
+{
+    match &directive.targets {
+        Some(path) => json!(in alloc; {
+            "package": package_name(alloc, &directive.package)?,
+            "targets": package_path(alloc, path)?
+        }),
+        None => json!(in alloc; {"package": package_name(alloc, &directive.package)?}),
+    }
+}
+
+#[tactic(auto, unfolding(crate::specs::Values::document))]
+pub(crate) fn document(alloc: Global, document: &Document<'_>) -> Result<Value, AllocError>
+    ensures { IfOk result (λ v. view v ≡ values.document (view_document document.now)) }
+{
+    json!(in alloc; {
+        "docs": docs(alloc, &document.docs)?,
+        "directive": package_directive(alloc, &document.directive)?,
+        "statements": statements(alloc, &document.statements)?
+    })
+}
