@@ -1,7 +1,8 @@
-//! The language: tokens, trees, parsers: the public crate over its parts.
+//! The language: tokens, trees, parsers, printing: the public crate over its parts.
 #![tactic(auto)]
 
 pub use wac_parser_lexer as lexer;
+pub use wac_parser_print::{ByteSink, DocumentPrinter, DocumentValue, PrintError};
 pub use wac_parser_read::{
     DeclaredType, Error, Lookahead, MAX_LEVELS, MemberKind, Parse, ParseDocument, ParseResult,
     Peek, parse_delimited, parse_optional, parse_optional_payload, parse_token,

@@ -22,6 +22,3 @@ pub use laws::examples;
 pub use printer::DocumentPrinter;
 pub use sink::ByteSink;
 pub use values::DocumentValue;
-
-#[cfg(test)]
-mod tests;
