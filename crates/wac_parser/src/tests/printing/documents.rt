@@ -2,7 +2,7 @@
 
 use super::round_trip;
 use super::shown::Shown;
-use crate::DocumentPrinter;
+use crate::{DocumentPrinter, ParseDocument};
 use std::alloc::{AllocError, Global};
 use std::process::Abort;
 use std::test::Fail;
@@ -56,6 +56,35 @@ fn with_unit<T: Shown>(rt: &(impl Abort + AllocGlobal), tree: T, text: &str) {
 fn document_round_trip(rt: HostRuntime) -> Result<(), Fail> {
     let tree = round_trip::document(rt.alloc())?;
     expect_twice(&rt, round_trip::SOURCE, tree, round_trip::TEXT)?;
+    Ok(())
+}
+
+fn expect_once<T: Shown>(
+    rt: &(impl Abort + AllocGlobal),
+    source: &'static str,
+    tree: T,
+    text: &str,
+) {
+    expect(rt, source, None, &tree, text);
+}
+
+// A source that is read prints as its text.
+#[test]
+fn parsed_document(rt: HostRuntime) -> Result<(), Fail> {
+    match Document::parse(rt.alloc(), round_trip::SOURCE) {
+        Ok(tree) => expect_once(&rt, round_trip::SOURCE, tree, round_trip::TEXT),
+        Err(_) => return Err(Fail::from("not read")),
+    }
+    Ok(())
+}
+
+// A printed text is read, and prints as itself.
+#[test]
+fn printed_document(rt: HostRuntime) -> Result<(), Fail> {
+    match Document::parse(rt.alloc(), round_trip::TEXT) {
+        Ok(tree) => expect_once(&rt, round_trip::TEXT, tree, round_trip::TEXT),
+        Err(_) => return Err(Fail::from("not read")),
+    }
     Ok(())
 }
 
