@@ -1,0 +1,10 @@
+pub mod ScopeLaws
+pub mod FormLaws
+pub mod ValueLaws
+pub mod TestLaws
+pub mod NameLaws
+pub mod FitLaws
+pub mod EntryLaws
+pub mod HandleLaws
+pub mod RootLaws
+pub mod ExportLaws

@@ -1,0 +1,95 @@
+-- What encoding a graph gives, and when it is refused.
+use Rattle.std.specs.Prelude.{◌≡◌, ◌⊎◌, ℕ, Bool, true, false, List, Option, Some, None, option_map}
+use Rattle.wac_types_base.specs.declared.item.ItemKind.{ItemKind}
+use Rattle.wac_types_base.specs.declared.ids.WorldId.{WorldId}
+use Rattle.wac_types_base.specs.Record.{Collection}
+use Rattle.wac_types_base.specs.Entries.{Name, value_at}
+use Rattle.wac_types_base.specs.Collection.{Stands}
+use Rattle.wac_types_base.specs.Stated.{stated_of}
+use Rattle.wac_types_base.specs.Tree.{Tree, tree, tree_of}
+use Rattle.wac_types_names.specs.Packaged.{Packaged}
+use Rattle.wac_types_names.specs.Keys.{package_key}
+use Rattle.wac_graph_bytes.specs.Wirings.{Tag, OfBytes, OfDependency, Instantiation, Wiring, Same}
+use Rattle.wac_graph_bytes.specs.Typing.{Worlds}
+use Rattle.wac_graph_bytes.specs.Meaning.{Means}
+use Rattle.wac_graph_core.specs.Graph.{Graph, instantiated}
+use Rattle.wac_graph_core.specs.GraphWiring.{IsWiring}
+use Rattle.wac_graph_encode.specs.Asks.{asks_of}
+use Rattle.wac_graph_encode.specs.Classes.{spelling}
+use Rattle.wac_graph_encode.specs.OuterImports.{outer_imports}
+use Rattle.wac_graph_encode.specs.Written.{written_definition}
+use Rattle.wac_graph_encode.specs.Conflicts.{Cause, first_cause, name_cause, dependency_name}
+use Rattle.wac_graph_encode.specs.Worlds.{composed_world}
+use Rattle.wac_graph_encode.specs.Outlines.{IsSketched}
+use Rattle.wac_graph_encode.specs.Graphs.{composition_of}
+
+-- ---- the wiring of a graph, as its bytes have it
+
+-- what an outer import asks
+abbrev pub asked_trees : Graph → Name → Option Tree
+asked_trees g n = option_map tree (value_at (outer_imports (asks_of (composition_of g))) n)
+
+abbrev pub written_tree : Graph → ItemKind → Tree
+written_tree g k = tree (written_definition (stated_of g.types k))
+
+-- the wiring in which packages are nested
+abbrev pub IsGraphWiring : Graph → Wiring ℕ → Type 0
+IsGraphWiring g W = IsWiring (spelling (asks_of (composition_of g))) (written_tree g) g (asked_trees g) W
+
+-- the name under which a package is imported in place of being nested
+abbrev pub dependency_tag : Option Packaged → Tag → Tag
+dependency_tag None t = t
+dependency_tag (Some p) t = OfDependency (dependency_name (package_key p))
+
+abbrev pub tagged : Tag → Instantiation ℕ → Instantiation ℕ
+tagged t x = record { tag = t; args = x.args }
+
+-- the wiring in which packages are imported
+abbrev pub with_dependencies : Graph → Wiring ℕ → Wiring ℕ
+with_dependencies g W = record {
+  outers = W.outers;
+  at = λ k. option_map (λ x. tagged (dependency_tag (instantiated g k) x.tag) x) (W.at k);
+  exports = W.exports;
+}
+
+abbrev pub as_written : (define : Bool) → Graph → Wiring ℕ → Wiring ℕ
+as_written true g W = W
+as_written false g W = with_dependencies g W
+
+-- ---- worlds
+
+-- how a package's instances are tagged
+abbrev pub tag_of : (define : Bool) → Packaged → Tag
+tag_of true p = OfBytes p.bytes
+tag_of false p = OfDependency (dependency_name (package_key p))
+
+-- the worlds say of each package that is instantiated what its stated world says
+pub record AreTrueOf (define : Bool) (g : Graph) (worlds : Worlds) : Type 0 where
+  pub each : (k : ℕ) (p : Packaged) → instantiated g k ≡ Some p → worlds (tag_of define p) ≡ tree_of g.types (ItemKind.Instance p.instance_type)
+
+-- ---- the theorem
+
+pub record IsEncoded (define : Bool) (g : Graph) (bytes : List ℕ) : Type 0 where
+  -- nothing stood against it
+  pub free : first_cause define (composition_of g) ≡ None
+  -- the graph's wiring
+  pub wiring : Wiring ℕ
+  pub is : IsGraphWiring g wiring
+  -- the bytes mean it, but for the numbers of instances, in all worlds that are true of the packages
+  pub meant : Wiring ℕ
+  pub means : (worlds : Worlds) → AreTrueOf define g worlds → Means worlds bytes meant
+  pub same : Same (as_written define g wiring) meant
+
+-- the world that is handed out is true of the bytes
+pub record HasTrueWorld (g : Graph) (types : Collection) (world : WorldId) : Type 0 where
+  pub stands : Stands types (ItemKind.Component world)
+  -- its tree, and so its imports and exports as maps to trees
+  pub tree : tree_of types (ItemKind.Component world) ≡ Some (tree (composed_world (composition_of g)))
+  -- order, identifiers and uses
+  pub sketched : IsSketched (stated_of types (ItemKind.Component world)) (composed_world (composition_of g))
+
+-- why it is refused but for sizes and memory: the first cause, and once all is written the first names that are alike
+abbrev pub IsCause : (define validate : Bool) → Graph → Cause ℕ → Type 0
+IsCause define validate g c =
+    (first_cause define (composition_of g) ≡ Some c)
+    ⊎ ((first_cause define (composition_of g) ≡ None) × (name_cause define validate (composition_of g) ≡ Some c))

@@ -1,0 +1,10 @@
+//! The bytes and the world of a composition graph.
+#![tactic(auto)]
+
+mod entry;
+pub mod fault;
+mod laws;
+pub mod scope;
+mod value;
+
+pub use laws::{examples, names_are_compatible, tests_decide, tests_of_fitting, types_at_the_root};

@@ -1,0 +1,147 @@
+//! A scope of written types.
+
+ghost use Rattle.std.specs.Prelude.{◌≡◌, ◌∷◌, ◌<◌, ◌+◌, ℕ, List, [], Some, None, IfOk, IfErr, IfSome, IsSome, Err, slice_get, length, string_bytes};
+ghost use Rattle.wac_types_base.specs.declared.item.ItemKind.{ItemKind};
+ghost use Rattle.wac_types_base.specs.declared.item.ValueType.{ValueType};
+ghost use Rattle.wac_types_base.specs.Record.{Collection};
+ghost use Rattle.wac_types_base.specs.Graph.{Among};
+ghost use Rattle.wac_types_base.specs.Collection.{resource};
+ghost use Rattle.wac_types_base.specs.Tree.{Tree, rigid, end};
+ghost use Rattle.wac_types_fit.specs.Trees.{tree_in};
+ghost use Rattle.wac_graph_bytes.specs.declared.fault.SizeError.TheVariants.{TooLarge};
+ghost use Rattle.wac_graph_bytes.specs.declared.value.ValueType.TheVariants.{Index};
+ghost use Rattle.wac_graph_bytes.specs.Typing.{Worlds, Scope, Inside, nothing_inside, defined, type_at, value_of, as_func};
+ghost use Rattle.wac_graph_bytes.specs.Views.{defined_view};
+ghost use Rattle.wac_graph_encode.specs.Lookups.{first_known, first_resource};
+ghost use Rattle.wac_graph_encode.specs.Scopes.{IsScope, AnswersType, Exports, ExportsType};
+
+use std::alloc::{AllocError, Global};
+use wac_graph_bytes::{Declaration, DefinedType, Description, SizeError};
+use wac_types_base::{DefinedTypeId, Text};
+
+/// A type of a collection that is written, and its index.
+#[derive(Drop)]
+pub struct KnownType {
+    pub id: DefinedTypeId,
+    pub index: u32,
+}
+
+/// A resource that stands in the scope, by its root name.
+#[derive(Drop)]
+pub struct KnownResource {
+    pub name: Text,
+    pub index: u32,
+}
+
+/// Declarations, how many types they add, and what is remembered of them.
+#[derive(Drop)]
+pub struct TypeScope {
+    pub declarations: Vec<Declaration>,
+    pub types: u32,
+    pub known: Vec<KnownType>,
+    pub resources: Vec<KnownResource>,
+}
+
+fn next_of(count: u32) -> Result<u32, SizeError>
+    ensures ok { IfOk result (λ i. i ≡ count + 1) }
+    ensures full { IfErr result (λ e. (e ≡ TooLarge) × (count ≡ 4294967295)) }
+{
+    count.checked_add(1).ok_or(SizeError::TooLarge)
+}
+
+/// The index of the first type of this id.
+fn find_known(known: &[KnownType], id: DefinedTypeId) -> Option<u32>
+    ensures { result ≡ first_known known.now id }
+{
+    for k in known {
+        if k.id.collection == id.collection && k.id.index == id.index {
+            return Some(k.index);
+        }
+    }
+    None
+}
+
+/// The index of the first resource of this name.
+fn find_resource(resources: &[KnownResource], name: &str) -> Option<u32>
+    ensures { result ≡ first_resource resources.now name.now }
+{
+    for r in resources {
+        if r.name.is(name) {
+            return Some(r.index);
+        }
+    }
+    None
+}
+
+impl TypeScope {
+    /// Nothing is written yet.
+    pub fn new(alloc: Global) -> Self
+        ensures { (w : Worlds) (c : Collection) (outer : List Scope) → IsScope w c outer nothing_inside result }
+    {
+        let declarations = Vec::new(alloc);
+        let known = Vec::new(alloc);
+        let resources = Vec::new(alloc);
+        TypeScope {
+            declarations,
+            types: 0,
+            known,
+            resources,
+        }
+    }
+
+    /// Writes a type without declarations.
+    pub fn define(&mut self, ty: DefinedType) -> Result<u32, SizeError>
+        ensures stands { (w : Worlds) (c : Collection) (outer : List Scope) (i : Inside) (t : Tree) → IsScope w c outer i self.old → defined w (i.here ∷ outer) (defined_view ty) ≡ Some t → IfOk result (λ k. AnswersType w c outer i t self.new k) }
+        ensures full { result ≡ Err TooLarge → self.old.types ≡ 4294967295 }
+    {
+        let index = self.types;
+        let next = next_of(index)?;
+        self.declarations.push(Declaration::Defined(ty))?;
+        self.types = next;
+        Ok(index)
+    }
+
+    /// Exports a function of the type at an index.
+    pub fn export_func(&mut self, name: String, ty: u32) -> Result<(), AllocError>
+        ensures { (w : Worlds) (c : Collection) (outer : List Scope) (i : Inside) (t : Tree) → IsScope w c outer i self.old → type_at w (i.here ∷ outer) ty ≡ Some t → as_func t ≡ Some t → IfOk result (λ _. Exports w c outer i (string_bytes name) t self.new) }
+    {
+        self.declarations
+            .push(Declaration::Export(name, Description::Func(ty)))?;
+        Ok(())
+    }
+
+    /// Exports a type that is the one at an index; the export has an index of its own.
+    pub fn export_type(&mut self, name: String, ty: u32) -> Result<u32, SizeError>
+        ensures stands { (w : Worlds) (c : Collection) (outer : List Scope) (i : Inside) (t : Tree) → IsScope w c outer i self.old → type_at w (i.here ∷ outer) ty ≡ Some t → IfOk result (λ k. ExportsType w c outer i (string_bytes name) t self.new k) }
+        ensures full { result ≡ Err TooLarge → self.old.types ≡ 4294967295 }
+    {
+        let own = self.types;
+        let next = next_of(own)?;
+        self.declarations
+            .push(Declaration::Export(name, Description::Equal(ty)))?;
+        self.types = next;
+        Ok(own)
+    }
+
+    /// Remembers the index of a type.
+    pub fn remember(&mut self, id: DefinedTypeId, index: u32) -> Result<(), AllocError>
+        ensures { (w : Worlds) (c : Collection) (outer : List Scope) (i : Inside) → IsScope w c outer i self.old → value_of w (i.here ∷ outer) (Index index) ≡ Some (tree_in c (ItemKind.Value (ValueType.Defined id))) → IfOk result (λ _. IsScope w c outer i self.new) }
+    {
+        self.known.push(KnownType { id, index })?;
+        Ok(())
+    }
+
+    /// The index of a type that is written already.
+    pub fn known(&self, id: DefinedTypeId) -> Option<u32>
+        ensures { (w : Worlds) (c : Collection) (outer : List Scope) (i : Inside) → IsScope w c outer i self.now → IfSome result (λ k. value_of w (i.here ∷ outer) (Index k) ≡ Some (tree_in c (ItemKind.Value (ValueType.Defined id)))) }
+    {
+        find_known(self.known.as_slice(), id)
+    }
+
+    /// The index of a resource that stands here.
+    pub fn resource(&self, name: &str) -> Option<u32>
+        ensures { (w : Worlds) (c : Collection) (outer : List Scope) (i : Inside) → IsScope w c outer i self.now → IfSome result (λ k. type_at w (i.here ∷ outer) k ≡ Some (rigid (resource name.now) end)) }
+    {
+        find_resource(self.resources.as_slice(), name)
+    }
+}

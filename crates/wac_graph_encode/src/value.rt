@@ -1,0 +1,186 @@
+//! Types of values and functions in a scope of written types.
+
+ghost use Rattle.std.specs.Prelude.{◌≡◌, ◌∷◌, List, Some, IfOk};
+ghost use Rattle.wac_types_base.specs.declared.item.ItemKind.{ItemKind};
+ghost use Rattle.wac_types_base.specs.declared.item.ValueType.{ValueType};
+ghost use Rattle.wac_types_base.specs.declared.item.«Type».{«Type» as TypeKind};
+ghost use Rattle.wac_types_base.specs.Entries.{Name};
+ghost use Rattle.wac_types_base.specs.Collection.{Stands, resource};
+ghost use Rattle.wac_types_base.specs.Resolving.{IsNoAlias};
+ghost use Rattle.wac_types_base.specs.Tree.{rigid, end};
+ghost use Rattle.wac_types_fit.specs.Trees.{tree_in};
+ghost use Rattle.wac_types_fit.specs.Checking.{value_in, HoldsValues, ValueStands, value_tree, place_trees};
+ghost use Rattle.wac_graph_bytes.specs.Typing.{Worlds, Scope, Inside, type_at};
+ghost use Rattle.wac_graph_encode.specs.Scopes.{IsScope, AnswersType, AnswersValue, AnswersPlace, AnswersPlaces};
+
+use crate::entry::{entry_of, func_entry_of};
+use crate::fault::WriteError;
+use crate::scope::TypeScope;
+use std::alloc::Global;
+use wac_graph_bytes::{DefinedType as TypeEntry, ValueType as Written};
+use wac_types_base::{DefinedTypeId, FuncTypeId, ItemKind, ResourceId, Types, ValueType};
+
+/// The index of a resource in the scope.
+fn resource_of(scope: &TypeScope, types: &Types, id: ResourceId) -> Result<u32, WriteError>
+    requires { Stands types.now (ItemKind.Ty (TypeKind.Resource id)) }
+    ensures reads { (w : Worlds) (outer : List Scope) (i : Inside) → IsScope w types.now outer i scope.now → IfOk result (λ k. type_at w (i.here ∷ outer) k ≡ Some (tree_in types.now (ItemKind.Ty (TypeKind.Resource id)))) }
+    ensures root { (n : Name) × (tree_in types.now (ItemKind.Ty (TypeKind.Resource id)) ≡ rigid (resource n) end) }
+{
+    let root = types.resource(types.resolve_resource(id));
+    match scope.resource(root.name.as_str()) {
+        Some(index) => Ok(index),
+        None => Err(WriteError::Unwritable),
+    }
+}
+
+fn push_own(scope: &mut TypeScope, types: &Types, id: ResourceId) -> Result<Written, WriteError>
+    requires { Stands types.now (ItemKind.Value (ValueType.Own id)) }
+    ensures { (w : Worlds) (outer : List Scope) (i : Inside) → IsScope w types.now outer i scope.old → IfOk result (λ b. AnswersValue w types.now outer i (tree_in types.now (ItemKind.Value (ValueType.Own id))) scope.new b) }
+{
+    types.see_acyclic();
+    let resource = resource_of(scope, types, id)?;
+    let index = scope.define(TypeEntry::Own(resource))?;
+    Ok(Written::Index(index))
+}
+
+fn push_borrow(scope: &mut TypeScope, types: &Types, id: ResourceId) -> Result<Written, WriteError>
+    requires { Stands types.now (ItemKind.Value (ValueType.Borrow id)) }
+    ensures { (w : Worlds) (outer : List Scope) (i : Inside) → IsScope w types.now outer i scope.old → IfOk result (λ b. AnswersValue w types.now outer i (tree_in types.now (ItemKind.Value (ValueType.Borrow id))) scope.new b) }
+{
+    types.see_acyclic();
+    let resource = resource_of(scope, types, id)?;
+    let index = scope.define(TypeEntry::Borrow(resource))?;
+    Ok(Written::Index(index))
+}
+
+/// The value type in a place.
+fn value_of(place: Option<ItemKind>) -> Option<ValueType>
+    ensures { result ≡ value_in place }
+{
+    match place {
+        Some(ItemKind::Value(ty)) => Some(ty),
+        _ => None,
+    }
+}
+
+/// The written form of a value type.
+#[cycle(values)]
+pub(crate) fn push_value(
+    alloc: Global,
+    scope: &mut TypeScope,
+    types: &Types,
+    ty: ValueType,
+) -> Result<Written, WriteError>
+    requires { Stands types.now (ItemKind.Value ty) }
+    ensures { (w : Worlds) (outer : List Scope) (i : Inside) → IsScope w types.now outer i scope.old → IfOk result (λ b. AnswersValue w types.now outer i (tree_in types.now (ItemKind.Value ty)) scope.new b) }
+{
+    types.see_acyclic();
+    let end = types.resolve_value_type(ty);
+    push_resolved(alloc, scope, types, end)
+}
+
+/// The same of one that is no alias.
+#[cycle(values)]
+fn push_resolved(
+    alloc: Global,
+    scope: &mut TypeScope,
+    types: &Types,
+    ty: ValueType,
+) -> Result<Written, WriteError>
+    requires stands { Stands types.now (ItemKind.Value ty) }
+    requires no_alias { IsNoAlias types.now ty }
+    ensures { (w : Worlds) (outer : List Scope) (i : Inside) → IsScope w types.now outer i scope.old → IfOk result (λ b. AnswersValue w types.now outer i (tree_in types.now (ItemKind.Value ty)) scope.new b) }
+{
+    types.see_acyclic();
+    match ty {
+        ValueType::Primitive(p) => Ok(Written::Primitive(p)),
+        ValueType::Own(id) => push_own(scope, types, id),
+        ValueType::Borrow(id) => push_borrow(scope, types, id),
+        ValueType::Defined(id) => push_defined(alloc, scope, types, id),
+    }
+}
+
+/// The same of a defined type: written once.
+#[cycle(values)]
+fn push_defined(
+    alloc: Global,
+    scope: &mut TypeScope,
+    types: &Types,
+    id: DefinedTypeId,
+) -> Result<Written, WriteError>
+    requires stands { Stands types.now (ItemKind.Value (ValueType.Defined id)) }
+    requires no_alias { IsNoAlias types.now (ValueType.Defined id) }
+    ensures { (w : Worlds) (outer : List Scope) (i : Inside) → IsScope w types.now outer i scope.old → IfOk result (λ b. AnswersValue w types.now outer i (tree_in types.now (ItemKind.Value (ValueType.Defined id))) scope.new b) }
+{
+    types.see_acyclic();
+    if let Some(index) = scope.known(id) {
+        return Ok(Written::Index(index));
+    }
+    let ty = types.defined_type(id);
+    let places = push_places(alloc, scope, types, ItemKind::Value(ValueType::Defined(id)))?;
+    let entry = entry_of(alloc, ty, places.as_slice())?;
+    let index = scope.define(entry)?;
+    scope.remember(id, index)?;
+    Ok(Written::Index(index))
+}
+
+/// The written forms of the value types in the places of a kind.
+#[cycle(values)]
+fn push_places(
+    alloc: Global,
+    scope: &mut TypeScope,
+    types: &Types,
+    kind: ItemKind,
+) -> Result<Vec<Option<Written>>, WriteError>
+    requires stands { Stands types.now kind }
+    requires values { HoldsValues types.now kind }
+    ensures { (w : Worlds) (outer : List Scope) (i : Inside) → IsScope w types.now outer i scope.old → IfOk result (λ v. AnswersPlaces w types.now outer i (place_trees types.now kind) scope.new v.items) }
+{
+    types.see_acyclic();
+    let mut written = Vec::new(alloc);
+    let mut at: u128 = 0;
+    while let Some(place) = types.place(kind, at) {
+        let value = push_place(alloc, scope, types, value_of(place))?;
+        written.push(value)?;
+        at += 1;
+    }
+    Ok(written)
+}
+
+/// The written form of the value type in a place.
+#[cycle(values)]
+fn push_place(
+    alloc: Global,
+    scope: &mut TypeScope,
+    types: &Types,
+    place: Option<ValueType>,
+) -> Result<Option<Written>, WriteError>
+    requires { ValueStands types.now place }
+    ensures { (w : Worlds) (outer : List Scope) (i : Inside) → IsScope w types.now outer i scope.old → IfOk result (λ b. AnswersPlace w types.now outer i (value_tree types.now place) scope.new b) }
+{
+    match place {
+        None => Ok(None),
+        Some(ty) => {
+            let value = push_value(alloc, scope, types, ty)?;
+            Ok(Some(value))
+        }
+    }
+}
+
+/// The index of a function type.
+pub(crate) fn push_func(
+    alloc: Global,
+    scope: &mut TypeScope,
+    types: &Types,
+    id: FuncTypeId,
+) -> Result<u32, WriteError>
+    requires { Stands types.now (ItemKind.Func id) }
+    ensures { (w : Worlds) (outer : List Scope) (i : Inside) → IsScope w types.now outer i scope.old → IfOk result (λ k. AnswersType w types.now outer i (tree_in types.now (ItemKind.Func id)) scope.new k) }
+{
+    types.see_acyclic();
+    let ty = types.func_type(id);
+    let places = push_places(alloc, scope, types, ItemKind::Func(id))?;
+    let entry = func_entry_of(alloc, ty, places.as_slice())?;
+    let index = scope.define(entry)?;
+    Ok(index)
+}
