@@ -1,4 +1,3 @@
 mod parsers;
-mod printing;
 mod tokens;
 mod trees;
