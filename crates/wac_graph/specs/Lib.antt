@@ -26,3 +26,10 @@ pub use Rattle.wac_graph_core.specs.Exporting
 pub use Rattle.wac_graph_core.specs.Removing
 pub use Rattle.wac_graph_core.specs.Packages
 pub use Rattle.wac_graph_core.specs.GraphWiring
+pub use Rattle.wac_graph_core.specs.Listing
+pub use Rattle.wac_graph_core.specs.Defining
+pub use Rattle.wac_graph_plug.specs.Plugging
+pub use Rattle.wac_graph_plug.specs.Wired
+pub use Rattle.wac_graph_plug.specs.Lookups
+pub use Rattle.wac_graph_plug.specs.Steps as PlugSteps
+pub use Rattle.wac_graph_plug.specs.Stops

@@ -3,10 +3,11 @@
 
 pub use wac_graph_bytes as bytes;
 pub use wac_graph_core::{
-    AliasError, CompositionGraph, DefineTypeError, ExportError, ImportError,
-    InstantiationArgumentError, NameError, Node, NodeId, NodeKind, PackageId, RegisterPackageError,
-    TypesMut, UnexportError, one_wiring_of_a_graph,
+    AliasError, ArgumentIter, CompositionGraph, DefineTypeError, ExportError, ImportError,
+    InstantiationArgumentError, NameError, Node, NodeId, NodeIdIter, NodeIter, NodeKind, PackageId,
+    PackageIter, RegisterPackageError, TypesMut, UnexportError, one_wiring_of_a_graph,
 };
+pub use wac_graph_plug::{PlugError, PlugFault, plug};
 
 #[cfg(test)]
 mod tests;

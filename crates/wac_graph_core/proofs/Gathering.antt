@@ -1,5 +1,5 @@
 -- Lists of nodes that grow.
-use Rattle.std.proofs.Common.{◌≡◌, ◌⊎◌, ℕ, Bool, true, false, List, [], ◌∷◌, ◌++◌, Option, Some, refl, sym, ap, subst, ◌∙◌, inl, inr}
+use Rattle.std.proofs.Common.{◌≡◌, ◌⊎◌, ℕ, Bool, true, false, List, [], ◌∷◌, ◌++◌, Option, Some, refl, sym, ap, subst, ◌∙◌, inl, inr, Contains, arith}
 use Rattle.std.specs.FinMap as map
 use Rattle.wac_graph_core.specs.declared.ids.PackageId.{PackageId}
 use Rattle.wac_graph_core.specs.Nodes.{NodeData}
@@ -22,3 +22,8 @@ gathered_only P old new k j (inr a) h = inl (ap (λ l. has l j) (sym a.1) ∙ h)
 
 pub none_in : (l : List ℕ) (k : ℕ) → l ≡ [] → has l k ≡ true → ⊥
 none_in l k none h = absurd (cc (ap (λ l. has l k) none, h))
+
+-- nothing is in an empty list
+pub nothing_left : {X : Type 0} (l : List X) (x : X) → l ≡ [] → Contains l x → ⊥
+nothing_left [] x e h = absurd (omega (arith, h.1))
+nothing_left (y ∷ l) x e h = absurd (cc (e))

@@ -5,6 +5,7 @@ use Rattle.std.specs.FinMap as map
 use Rattle.wac_types_base.specs.declared.item.ItemKind.{ItemKind}
 use Rattle.wac_types_base.specs.Record.{Collection}
 use Rattle.wac_types_base.specs.Collection.{Stands, Grows}
+use Rattle.wac_types_base.specs.Stated.{stated_in, stated_of, instance_type}
 use Rattle.wac_types_base.specs.Entries.{Name}
 use Rattle.wac_types_base.specs.Graph.{Among}
 use Rattle.wac_types_names.specs.Packaged.{Packaged}
@@ -16,7 +17,7 @@ use Rattle.wac_graph_core.specs.declared.package.Place.{Place}
 use Rattle.wac_graph_core.specs.Nodes.{NodeData, Role, plain_node}
 use Rattle.wac_graph_core.specs.NodeMaps.{NodeMap, NoImport, NoDefinition, AreOnce}
 use Rattle.wac_graph_core.specs.Edges.{alias_edge, argument_edge, HasAlias, HasArgument, AreEdges, follows, has, IsReached, IsAcyclic, IsRank, AreKeyed}
-use Rattle.wac_graph_core.specs.Graph.{Graph, with_types, node_at, ContainsNode, package_in, package_of, package_if, package_made, instantiated, NodeStands, EdgeStands, AreWired, AreExports, ArePlaces, IsGraph, IsArgument}
+use Rattle.wac_graph_core.specs.Graph.{Graph, with_types, node_at, ContainsNode, package_in, package_of, package_if, package_made, instantiated, PackageStands, NodeStands, EdgeStands, AreWired, AreExports, ArePlaces, IsGraph, IsArgument}
 use Rattle.wac_graph_core.specs.Steps.{with_node, with_edges, AddsEdge}
 use Rattle.wac_graph_core.proofs.NodeMap.{get-insert_same, get-insert_other}
 use Rattle.wac_graph_core.proofs.NodeSteps.{kept_at, new_at, each_node, AreOnce-insert, SameBut, IsAbove, IsAbove-fresh, IsAbove-same, some_there}
@@ -239,6 +240,19 @@ IsGraph-unset g es a i n left is =
 pub IsGraph-nodes : (g : Graph) (ns m : NodeMap) → ns ≡ m → IsGraph (record g { nodes = m }) → IsGraph (record g { nodes = ns })
 IsGraph-nodes g ns m same is = subst (λ ns. IsGraph (record g { nodes = ns })) (sym same) is
 
+-- what stands has its stated type in a larger collection
+pub stated_kept : (c d : Collection) (k : ItemKind) → Grows c d → Stands c k → stated_of d k ≡ stated_of c k
+stated_kept c d k grows stands = ap stated_in (grows.keep k stands)
+
+pub PackageStands-grown : (c d : Collection) (p : Packaged) → Grows c d → PackageStands c p → PackageStands d p
+PackageStands-grown c d p grows is =
+    record {
+      world = grows.stand (ItemKind.Component p.ty) is.world;
+      instance = grows.stand (ItemKind.Instance p.instance_type) is.instance;
+      exports = stated_kept c d (ItemKind.Instance p.instance_type) grows is.instance ∙ is.exports
+          ∙ ap instance_type (sym (stated_kept c d (ItemKind.Component p.ty) grows is.world));
+    }
+
 -- the collection grows
 pub IsGraph-grown : (g : Graph) (c : Collection) → Grows g.types c → IsGraph g → IsGraph (record g { types = c })
 IsGraph-grown g c grows is =
@@ -253,7 +267,7 @@ IsGraph-grown g c grows is =
           is.wired;
       exported = is.exported;
       packages = record {
-        stand = λ id p at. let s = is.packages.stand id p at in record { world = grows.stand (ItemKind.Component p.ty) s.world; instance = grows.stand (ItemKind.Instance p.instance_type) s.instance };
+        stand = λ id p at. PackageStands-grown g.types c p grows (is.packages.stand id p at);
         low = is.packages.low;
         once = is.packages.once;
       };

@@ -12,5 +12,9 @@ pub mod Items
 pub mod Calls
 pub mod Gathering
 pub mod Registering
+pub mod Stating
 pub mod Lending
+pub mod Visits
+pub mod Depending
+pub mod DefineSteps
 pub mod WiringLaws

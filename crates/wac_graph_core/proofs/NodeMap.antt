@@ -1,11 +1,13 @@
 -- A slab, seen as a finite map from keys.
-use Rattle.std.proofs.Common.{◌≡◌, ◌≢◌, ℕ, zero, suc, ◌+◌, ◌<◌, Bool, true, false, List, [], ◌∷◌, Option, Some, None, get_or, cond, ◌==◌, eqb, refl, sym, ap, ◌∙◌, inl, inr, arith, add-zero, IsSome, subst}
+use Rattle.std.proofs.Common.{◌≡◌, ◌≢◌, ℕ, zero, suc, ◌+◌, ◌<◌, Bool, true, false, List, [], ◌∷◌, Option, Some, None, length, get_or, cond, ◌==◌, eqb, refl, sym, ap, ◌∙◌, inl, inr, arith, add-zero, IsSome, subst}
 use Rattle.std.proofs.lemmas.Bool.{cases_eq}
 use Rattle.std.proofs.lemmas.Bool.Decides.{nat_tests}
 use Rattle.std.specs.Ordering.{nat_cmp, eq_by_cmp}
-use Rattle.std.specs.Cmp.{unsigned_tied, nat_cmp_total}
+use Rattle.std.specs.Cmp.{unsigned_tied, nat_cmp_total, nat_cmp_is}
+use Rattle.std.specs.declared.cmp.Ordering.{Ordering}
 use Rattle.std.specs.FinMap as map
-use Rattle.std.specs.FinMap.{find, FinMap, nat_cmp-IsAntisymmetric}
+use Rattle.std.specs.FinMap.{find, put, FinMap, nat_cmp-IsAntisymmetric}
+use Rattle.std.specs.FinMap.Entries.{by_order}
 use Rattle.slab.specs.Slab.{Slab, get, entries_from, entries, Updates, with_value}
 use Rattle.slab.proofs.SlabLemmas.{Updates-with_value}
 
@@ -88,3 +90,35 @@ module _ {T : Type 0} where
 pub nothing_there : {A : Type 0} (o : Option A) → None ≡ o → IsSome o → ⊥
 nothing_there None e h = absurd (cc h)
 nothing_there (Some x) e h = absurd (cc e)
+
+-- ---- entries
+
+less : (k first : ℕ) → k < first → Ordering.Less ≡ nat_cmp k first
+less k first below = nat_cmp_is k first Ordering.Less below
+
+module _ {T : Type 0} where
+  no_length : (es : List (ℕ × T)) → length es ≡ 0 → es ≡ []
+  no_length [] e = refl
+  no_length (x ∷ es) e = absurd (omega arith)
+
+  no_entries : map.entries (map.empty {X = T} {R = nat_cmp}) ≡ []
+  no_entries = no_length _ (sym (map.len-entries (map.empty {X = T} {R = nat_cmp})) ∙ map.len-empty nat_cmp T)
+
+  -- an entry before all others is put first
+  put_first : (k first : ℕ) (v : T) (slots : List (Option T)) → k < first → put nat_cmp k v (entries_from first slots) ≡ (k, v) ∷ entries_from first slots
+  put_first k first v [] below = refl
+  put_first k first v (None ∷ slots) below = put_first k (first + 1) v slots (omega arith)
+  put_first k first v (Some w ∷ slots) below =
+      ap (λ o. by_order o ((k, v) ∷ (first, w) ∷ entries_from (first + 1) slots) ((first, v) ∷ entries_from (first + 1) slots) ((first, w) ∷ put nat_cmp k v (entries_from (first + 1) slots)))
+      (sym (less k first below))
+
+  entries_of_slots : (first : ℕ) (slots : List (Option T)) → map.entries (map.from_entries {R = nat_cmp} (entries_from first slots)) ≡ entries_from first slots
+  entries_of_slots first [] = no_entries
+  entries_of_slots first (None ∷ slots) = entries_of_slots (first + 1) slots
+  entries_of_slots first (Some v ∷ slots) =
+      map.entries-insert nat_cmp_total (map.from_entries (entries_from (first + 1) slots)) first v
+      ∙ ap (put nat_cmp first v) (entries_of_slots (first + 1) slots) ∙ put_first first (first + 1) v slots (omega arith)
+
+  -- the entries of the map that a slab shows are the slab's
+  pub entries-shown : (s : Slab T) → map.entries (shown s) ≡ entries s
+  entries-shown s = entries_of_slots 0 s.slots

@@ -76,7 +76,7 @@ module _ (spell : Name → Name) (written : ItemKind → Tree) (g : Graph) (soun
       let of : s ≡ r.2 = once r.2 (subst (λ j. Denotes j r.2) (sym same.0) r.4) in
       ap (λ u. project u n) of ∙ ap (project r.2) same.1 ∙ sym r.5
 
-  once : (k : ℕ) (s t : Source ℕ) → Denotes k s → Denotes k t → s ≡ t
+  pub once : (k : ℕ) (s t : Source ℕ) → Denotes k s → Denotes k t → s ≡ t
   once k s t (w.imported x n at is) d = sym (by_known k t x (Role.Imported n) at is d)
   once k s t (w.instance x at is) d = sym (by_known k t x Role.Instance at is d)
   once k s t (w.defined x at is) d = sym (by_known k t x Role.Defined at is d)
@@ -84,7 +84,7 @@ module _ (spell : Name → Name) (written : ItemKind → Tree) (g : Graph) (soun
       let x = aliased_node i k n h in
       projects k u t i n h (λ v e. once i u v c e) (by_known k t x.0 Role.Aliased x.1 x.2 d)
 
-  binds_once : (k : ℕ) (n : Name) (s t : Source ℕ) → Binds k n s → Binds k n t → s ≡ t
+  pub binds_once : (k : ℕ) (n : Name) (s t : Source ℕ) → Binds k n s → Binds k n t → s ≡ t
   binds_once k n s t (w.argument a h d) (w.argument b j e) =
       let same : b ≡ a = sound.keyed.one_argument k b a n j h in
       once a s t d (subst (λ c. Denotes c t) same e)

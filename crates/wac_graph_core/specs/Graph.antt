@@ -8,6 +8,7 @@ use Rattle.wac_types_base.specs.declared.defined.Interface.{Interface}
 use Rattle.wac_types_base.specs.declared.defined.World.{World}
 use Rattle.wac_types_base.specs.Record.{Collection}
 use Rattle.wac_types_base.specs.Collection.{Stands}
+use Rattle.wac_types_base.specs.Stated.{stated_of, instance_type}
 use Rattle.wac_types_base.specs.Entries.{Name, value_at, names_of, AreDistinct}
 use Rattle.wac_types_base.specs.Graph.{Among}
 use Rattle.wac_types_names.specs.Packaged.{Packaged}
@@ -57,10 +58,11 @@ package_of g id = package_in g.places id
 abbrev pub ContainsPackage : Graph → PackageId → Type 0
 ContainsPackage g id = IsSome (package_of g id)
 
--- its world and the interface of its instances stand
+-- its world and the interface of its instances stand, and that has the world's uses and exports
 pub record PackageStands (c : Collection) (p : Packaged) : Type 0 where
   pub world : Stands c (ItemKind.Component p.ty)
   pub instance : Stands c (ItemKind.Instance p.instance_type)
+  pub exports : stated_of c (ItemKind.Instance p.instance_type) ≡ instance_type (stated_of c (ItemKind.Component p.ty))
 
 -- ---- items
 

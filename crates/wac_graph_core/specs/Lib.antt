@@ -11,4 +11,6 @@ pub mod Types
 pub mod Exporting
 pub mod Removing
 pub mod Packages
+pub mod Listing
+pub mod Defining
 pub mod GraphWiring

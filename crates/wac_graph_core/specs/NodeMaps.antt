@@ -35,9 +35,13 @@ pub record AreOnce (nodes : NodeMap) : Type 0 where
   pub imports : (j k : ℕ) (n : Name) → IsImport nodes j n → IsImport nodes k n → j ≡ k
   pub definitions : (j k : ℕ) (item : ItemKind) → IsDefinition nodes j item → IsDefinition nodes k item → j ≡ k
 
+-- the list has exactly the nodes that are so
+abbrev pub AreThose : NodeMap → (NodeData → Type 0) → List ℕ → Type 0
+AreThose nodes IsSo ks = (k : ℕ) → (has ks k ≡ true) ↔ ((x : NodeData) × (map.get nodes k ≡ Some x) × IsSo x)
+
 -- the list has exactly the instances of the package
 abbrev pub AreInstances : NodeMap → PackageId → List ℕ → Type 0
-AreInstances nodes id ks = (k : ℕ) → (has ks k ≡ true) ↔ ((x : NodeData) × (map.get nodes k ≡ Some x) × (x.of ≡ Some id))
+AreInstances nodes id ks = AreThose nodes (λ x. x.of ≡ Some id) ks
 
 -- one more, where that is so
 abbrev pub AddsIf : Type 0 → List ℕ → List ℕ → ℕ → Type 0

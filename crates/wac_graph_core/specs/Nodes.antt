@@ -1,6 +1,7 @@
 -- What contracts see of a node.
 use Rattle.std.specs.Prelude.{Option, Some, None, String, string_bytes}
 use Rattle.wac_types_base.specs.declared.item.ItemKind.{ItemKind}
+use Rattle.wac_types_base.specs.declared.item.«Type».{«Type» as TypeKind}
 use Rattle.wac_types_base.specs.Entries.{Name}
 use Rattle.wac_graph_core.specs.declared.ids.PackageId.{PackageId}
 use Rattle.wac_graph_core.specs.declared.node.NodeKind.{NodeKind}
@@ -35,3 +36,7 @@ imported_as r = None
 -- a node without names
 abbrev pub plain_node : Role → Option PackageId → ItemKind → NodeData
 plain_node r p k = record { role = r; of = p; item_kind = k; name = None; export = None }
+
+-- a definition that is exported under a name
+abbrev pub defined_node : TypeKind → Name → NodeData
+defined_node t n = record { role = Defined; of = None; item_kind = ItemKind.Ty t; name = None; export = Some n }

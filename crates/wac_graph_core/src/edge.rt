@@ -129,7 +129,11 @@ pub(crate) fn find_alias(edges: &[Edge], instance: NodeId, export: &str) -> Opti
 }
 
 /// What is passed first as an argument.
-fn argument_found(edges: &[Edge], instantiation: NodeId, argument: &str) -> Option<NodeId>
+pub(crate) fn argument_found(
+    edges: &[Edge],
+    instantiation: NodeId,
+    argument: &str,
+) -> Option<NodeId>
     ensures { result ≡ first_argument edges.now instantiation argument.now }
 {
     for edge in edges {

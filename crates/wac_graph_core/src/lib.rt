@@ -3,12 +3,14 @@
 
 mod alias;
 mod argument;
+mod definition;
 mod edge;
 pub mod errors;
 mod export;
 pub mod graph;
 pub mod ids;
 mod index;
+pub mod iter;
 pub mod laws;
 pub mod node;
 mod nodes;
@@ -24,6 +26,7 @@ pub use errors::{
 };
 pub use graph::CompositionGraph;
 pub use ids::{NodeId, PackageId};
+pub use iter::{ArgumentIter, NodeIdIter, NodeIter, PackageIter};
 pub use node::{Node, NodeKind};
 pub use types_mut::TypesMut;
 pub use wiring::one_wiring_of_a_graph;

@@ -2,11 +2,11 @@
 
 ghost use Rattle.std.specs.Prelude.{◌≡◌, ◌↔◌, IsTrue, Some, None};
 ghost use Rattle.std.specs.Option.{option_copied};
-ghost use Rattle.wac_graph_core.specs.Nodes.{Role, role_of, imported_as, plain_node};
+ghost use Rattle.wac_graph_core.specs.Nodes.{Role, role_of, imported_as, plain_node, defined_node};
 
 use crate::ids::PackageId;
 use std::marker::Model;
-use wac_types_base::{ItemKind, Text};
+use wac_types_base::{ItemKind, Text, Type};
 
 /// What a node is.
 #[derive(Debug, Drop)]
@@ -52,6 +52,19 @@ impl Node {
             item_kind,
             name: None,
             export: None,
+        }
+    }
+
+    /// A definition that is exported under a name.
+    pub(crate) fn defined(ty: Type, export: Text) -> Self
+        ensures { result ≡ defined_node ty export }
+    {
+        Node {
+            kind: NodeKind::Definition,
+            of: None,
+            item_kind: ItemKind::Ty(ty),
+            name: None,
+            export: Some(export),
         }
     }
 

@@ -5,17 +5,22 @@ ghost use Rattle.std.specs.Option.{option_copied};
 ghost use Rattle.std.specs.Ordering.{nat_cmp};
 ghost use Rattle.std.specs.FinMap as map;
 ghost use Rattle.slab.specs.Slab.{entries};
+ghost use Rattle.std.specs.Bool.{Decides};
+ghost use Rattle.wac_types_base.specs.declared.item.«Type».{«Type» as TypeKind};
+ghost use Rattle.wac_types_base.specs.Collection.{Stands};
 ghost use Rattle.wac_graph_core.specs.Edges.{has};
 ghost use Rattle.wac_graph_core.specs.Nodes.{NodeData, Role};
-ghost use Rattle.wac_graph_core.specs.NodeMaps.{IsImport, NoImport, IsDefinition, NoDefinition, AreInstances, AddsIf};
+ghost use Rattle.wac_graph_core.specs.NodeMaps.{IsImport, NoImport, IsDefinition, NoDefinition, AreThose, AreInstances, AddsIf};
+ghost use Rattle.wac_graph_core.specs.Defining.{IsUsedBy, IsUserOf, ItemsStand};
 
+use crate::definition::uses;
 use crate::ids::{NodeId, PackageId};
 use crate::node::Node;
-use slab::Slab;
+use slab::{Iter, Slab};
 use std::alloc::{AllocError, Global};
 use std::marker::Model;
 use wac_types_base::replace::is_same;
-use wac_types_base::{ItemKind, Text};
+use wac_types_base::{ItemKind, Text, Type, Types};
 
 /// Nodes under indexes that it picks.
 #[derive(Drop)]
@@ -129,6 +134,47 @@ impl Nodes {
         Ok(found)
     }
 
+    /// The definitions of what a type uses.
+    pub(crate) fn used_by(
+        &self,
+        alloc: Global,
+        types: &Types,
+        ty: Type,
+    ) -> Result<Vec<NodeId>, AllocError>
+        requires { Stands types.now (ItemKind.Ty ty) }
+        ensures { IfOk result (λ v. AreThose self.now (λ x. IsUsedBy types.now ty x) v.items) }
+    {
+        let mut found = Vec::new(alloc);
+        for (key, node) in self.slab.iter() {
+            gather_used(&mut found, node, NodeId::new(key), types, ty)?;
+        }
+        Ok(found)
+    }
+
+    /// The definitions of types that use a type.
+    pub(crate) fn users_of(
+        &self,
+        alloc: Global,
+        types: &Types,
+        ty: Type,
+    ) -> Result<Vec<NodeId>, AllocError>
+        requires { ItemsStand types.now self.now }
+        ensures { IfOk result (λ v. AreThose self.now (λ x. IsUserOf types.now ty x) v.items) }
+    {
+        let mut found = Vec::new(alloc);
+        for (key, node) in self.slab.iter() {
+            gather_user(&mut found, node, NodeId::new(key), types, ty)?;
+        }
+        Ok(found)
+    }
+
+    /// The indexes with their nodes, by rising index.
+    pub(crate) fn entries(&self) -> Iter<'_, Node>
+        ensures { result ≡ map.entries self.now }
+    {
+        self.slab.iter()
+    }
+
     /// The definition of a type, if there is one.
     pub(crate) fn find_definition(&self, item: ItemKind) -> Option<NodeId>
         ensures found { IfSome result (λ k. IsDefinition self.now k item) }
@@ -178,4 +224,69 @@ fn is_definition(node: &Node, item: ItemKind) -> bool
     ensures { IsTrue result ↔ ((node.now.role ≡ Role.Defined) × (node.now.item_kind ≡ item)) }
 {
     node.is_definition() && is_same(node.item_kind(), item)
+}
+
+/// The type that a node defines.
+fn defined_type(node: &Node) -> Option<Type>
+    ensures some { IfSome result (λ t. (node.now.role ≡ Role.Defined) × (node.now.item_kind ≡ ItemKind.Ty t)) }
+    ensures none { IfNone result ((t : TypeKind) → node.now.role ≡ Role.Defined → node.now.item_kind ≡ ItemKind.Ty t → ⊥) }
+{
+    match node.item_kind() {
+        ItemKind::Ty(ty) => { if node.is_definition() { Some(ty) } else { None } }
+        _ => None,
+    }
+}
+
+fn is_used_by(node: &Node, types: &Types, ty: Type) -> bool
+    requires { Stands types.now (ItemKind.Ty ty) }
+    ensures { Decides result (IsUsedBy types.now ty node.now) }
+{
+    match defined_type(node) {
+        Some(own) => uses(types, ty, own),
+        None => false,
+    }
+}
+
+fn is_user_of(node: &Node, types: &Types, ty: Type) -> bool
+    requires { Stands types.now node.now.item_kind }
+    ensures { Decides result (IsUserOf types.now ty node.now) }
+{
+    match defined_type(node) {
+        Some(own) => uses(types, own, ty),
+        None => false,
+    }
+}
+
+/// Adds the node to the list, where it is a definition of what the type uses.
+fn gather_used(
+    found: &mut Vec<NodeId>,
+    node: &Node,
+    id: NodeId,
+    types: &Types,
+    ty: Type,
+) -> Result<(), AllocError>
+    requires { Stands types.now (ItemKind.Ty ty) }
+    ensures { OnOk result (AddsIf (IsUsedBy types.now ty node.now) found.old.items found.new.items id) }
+{
+    if is_used_by(node, types, ty) {
+        found.push(id)?;
+    }
+    Ok(())
+}
+
+/// Adds the node to the list, where it is a definition of a type that uses the type.
+fn gather_user(
+    found: &mut Vec<NodeId>,
+    node: &Node,
+    id: NodeId,
+    types: &Types,
+    ty: Type,
+) -> Result<(), AllocError>
+    requires { Stands types.now node.now.item_kind }
+    ensures { OnOk result (AddsIf (IsUserOf types.now ty node.now) found.old.items found.new.items id) }
+{
+    if is_user_of(node, types, ty) {
+        found.push(id)?;
+    }
+    Ok(())
 }

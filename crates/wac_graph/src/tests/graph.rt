@@ -1,5 +1,8 @@
 //! Worked examples: `p:p` imports `f` and exports `g`, `q:q` imports `g` and exports `h`.
 
+ghost use Rattle.std.specs.Prelude.{IfOk};
+ghost use Rattle.wac_graph_core.specs.Graph.{PackageStands};
+
 use crate::*;
 use std::alloc::{AllocError, Global};
 use std::process::Abort;
@@ -62,7 +65,9 @@ fn make_package(
     name: &str,
     import: &str,
     export: &str,
-) -> Result<Package, Fail> {
+) -> Result<Package, Fail>
+    ensures { IfOk result (λ p. PackageStands g.new.types p) }
+{
     let world = add_world(rt, alloc, g, import, export)?;
     assert!(rt; g.types().has(ItemKind::Component(world)));
     let bytes = Vec::new(alloc);
@@ -79,8 +84,6 @@ fn register(
     export: &str,
 ) -> Result<PackageId, Fail> {
     let package = make_package(rt, alloc, g, name, import, export)?;
-    assert!(rt; g.types().has(ItemKind::Component(package.ty())));
-    assert!(rt; g.types().has(ItemKind::Instance(package.instance_type())));
     Ok(g.register_package(package)?)
 }
 
@@ -162,8 +165,6 @@ fn packages_once(rt: HostRuntime) -> Result<(), Fail> {
     let mut g = CompositionGraph::new(alloc, 1);
     let p = register(&rt, alloc, &mut g, "p:p", "f", "g")?;
     let again = make_package(&rt, alloc, &mut g, "p:p", "f", "g")?;
-    assert!(rt; g.types().has(ItemKind::Component(again.ty())));
-    assert!(rt; g.types().has(ItemKind::Instance(again.instance_type())));
     match g.register_package(again) {
         Err(RegisterPackageError::PackageAlreadyRegistered { key }) => {
             assert!(rt; key.name() == "p:p")

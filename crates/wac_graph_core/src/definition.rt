@@ -1,0 +1,153 @@
+//! Definitions of types.
+
+ghost use Rattle.std.specs.Prelude.{◌≡◌, ◌≢◌, ◌≤◌, ◌+◌, ◌⊎◌, ℕ, true, IfOk, IfErr, OnOk, OnErr, length, vec_len, vec_capacity, string_bytes};
+ghost use Rattle.std.specs.Bool.{Decides};
+ghost use Rattle.wac_types_base.specs.Graph.{Among};
+ghost use Rattle.wac_types_base.specs.Collection.{Stands};
+ghost use Rattle.wac_types_base.specs.Visiting.{defined_in};
+ghost use Rattle.wac_graph_core.specs.Edges.{AreEdges, dependency_edge, has};
+ghost use Rattle.wac_graph_core.specs.Defining.{IsResource, CallsOn, UsesType, MayDefine, DefinesType, DefineRefused};
+
+use crate::edge::{Edge, Label};
+use crate::errors::{DefineTypeError, NameError};
+use crate::graph::{CompositionGraph, is_extern_name};
+use crate::ids::NodeId;
+use crate::node::Node;
+use std::alloc::AllocError;
+use wac_types_base::{DefinedTypeId, ItemKind, Text, Type, Types, ValueType};
+
+/// The defined type that a type is.
+fn defined_of(ty: Type) -> Option<DefinedTypeId>
+    ensures { result ≡ defined_in (ItemKind.Ty ty) }
+{
+    match ty {
+        Type::Value(ValueType::Defined(id)) => Some(id),
+        _ => None,
+    }
+}
+
+fn is_resource(ty: Type) -> bool
+    ensures { Decides result (IsResource ty) }
+{
+    matches!(ty, Type::Resource(_))
+}
+
+/// Whether a visit of a type calls on a defined type.
+fn calls_on(types: &Types, ty: Type, wanted: DefinedTypeId) -> bool
+    requires { Stands types.now (ItemKind.Ty ty) }
+    ensures { Decides result (CallsOn types.now ty wanted) }
+{
+    let visited = ty.visit_defined_types(
+        types,
+        &mut move |_: &Types, id: DefinedTypeId| -> Result<(), ()>
+            ensures passes { OnOk result (wanted ≢ id) }
+            ensures stops { OnErr result (wanted ≡ id) }
+        { if id == wanted { Err(()) } else { Ok(()) } },
+    );
+    visited.is_err()
+}
+
+/// Whether the first type uses the second, which is a defined type.
+pub(crate) fn uses(types: &Types, user: Type, used: Type) -> bool
+    requires { Stands types.now (ItemKind.Ty user) }
+    ensures { Decides result (UsesType types.now user used) }
+{
+    match defined_of(used) {
+        Some(id) => calls_on(types, user, id),
+        None => false,
+    }
+}
+
+/// Adds the dependencies of a node, for which there is room.
+fn depend_on(edges: &mut Vec<Edge>, sources: &[NodeId], node: NodeId)
+    requires { vec_len edges.old + length sources.now ≤ vec_capacity edges.old }
+    ensures added { AreEdges edges.new.items (λ d. Among d edges.old.items ⊎ ((a : ℕ) × (has sources.now a ≡ true) × (d ≡ dependency_edge a node))) }
+    ensures len { vec_len edges.new ≡ vec_len edges.old + length sources.now }
+    ensures capacity { vec_capacity edges.new ≡ vec_capacity edges.old }
+{
+    for source in sources {
+        edges.push_reserved(Edge {
+            from: *source,
+            to: node,
+            label: Label::Dependency,
+        });
+    }
+}
+
+/// Adds the dependencies on a node, for which there is room.
+fn depended_by(edges: &mut Vec<Edge>, node: NodeId, targets: &[NodeId])
+    requires { vec_len edges.old + length targets.now ≤ vec_capacity edges.old }
+    ensures { AreEdges edges.new.items (λ d. Among d edges.old.items ⊎ ((b : ℕ) × (has targets.now b ≡ true) × (d ≡ dependency_edge node b))) }
+{
+    for target in targets {
+        edges.push_reserved(Edge {
+            from: node,
+            to: *target,
+            label: Label::Dependency,
+        });
+    }
+}
+
+/// Makes room for so many edges, and for so many more.
+fn reserve_both(edges: &mut Vec<Edge>, first: usize, second: usize) -> Result<(), AllocError>
+    ensures room { OnOk result (vec_len edges.new + (first + second) ≤ vec_capacity edges.new) }
+    ensures same { edges.new.items ≡ edges.old.items }
+{
+    match first.checked_add(second) {
+        Some(count) => edges.reserve(count),
+        None => Err(AllocError),
+    }
+}
+
+impl CompositionGraph {
+    /// The name as a text, where a type may be defined under it.
+    fn definable(&self, name: &str, ty: Type) -> Result<String, DefineTypeError>
+        ensures found { IfOk result (λ own. MayDefine self.now name.now ty (string_bytes own)) }
+        ensures refused { IfErr result (λ e. DefineRefused self.now name.now ty e) }
+    {
+        if let Some(_) = self.nodes.find_definition(ItemKind::Ty(ty)) {
+            return Err(DefineTypeError::TypeAlreadyDefined);
+        }
+        if is_resource(ty) {
+            return Err(DefineTypeError::CannotDefineResource);
+        }
+        let own = String::from_str(self.alloc, name)?;
+        let valid = is_extern_name(self.alloc, name)?;
+        if !valid {
+            return Err(DefineTypeError::InvalidExternName {
+                name: own,
+                source: NameError::NoKind,
+            });
+        }
+        match self.get_export(name) {
+            Some(_) => Err(DefineTypeError::ExportConflict { name: own }),
+            None => Ok(own),
+        }
+    }
+
+    /// Defines a type and exports it under its name. Resources are never defined.
+    pub fn define_type(&mut self, name: &str, ty: Type) -> Result<NodeId, DefineTypeError>
+        requires { Stands self.old.types (ItemKind.Ty ty) }
+        ensures defined { IfOk result (λ k. DefinesType self.old self.new name.now ty k) }
+        ensures refused { IfErr result (λ e. DefineRefused self.old name.now ty e) }
+        ensures kept { OnErr result (self.new ≡ self.old) }
+    {
+        let own = match self.definable(name, ty) {
+            Ok(own) => own,
+            Err(fault) => return Err(fault),
+        };
+        self.see_sound();
+        let told = Text::new(String::from_str(self.alloc, name)?);
+        let sources = self.nodes.used_by(self.alloc, &self.types, ty)?;
+        let targets = self.nodes.users_of(self.alloc, &self.types, ty)?;
+        reserve_both(&mut self.edges, sources.len(), targets.len())?;
+        self.exports.reserve(1)?;
+        let node = Node::defined(ty, told);
+        let text = Text::new(own);
+        let id = self.nodes.insert(node)?;
+        depend_on(&mut self.edges, sources.as_slice(), id);
+        depended_by(&mut self.edges, id, targets.as_slice());
+        self.exports.push_reserved((text, id));
+        Ok(id)
+    }
+}

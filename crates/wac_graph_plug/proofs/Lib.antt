@@ -1,0 +1,13 @@
+pub mod Near
+pub mod Gathered
+pub mod Growing
+pub mod State
+pub mod Passing
+pub mod Fitting
+pub mod Refusing
+pub mod Causes
+pub mod Made
+pub mod Final
+pub mod Exporting
+pub mod Calls
+pub mod Whole

@@ -1,0 +1,40 @@
+use Rattle.std.proofs.Common.{◌≤◌, length, take, subst}
+use Rattle.wac_types_base.specs.Entries.{texts_of}
+use Rattle.wac_graph_plug.specs.Steps.{ExportsAll, exported_none}
+use Rattle.wac_graph_plug.proofs.Growing.{Grown-refl, Grown-trans, HasExport-grown}
+use Rattle.wac_graph_plug.proofs.Calls.{text_index, among_index, exports_next, texts_all}
+use Rattle.wac_graph_plug.proofs.plugging.export_all.Goals as goal
+
+pub loop-name-init : goal.loop-name-init
+loop-name-init c = (exported_none, Grown-refl c.args.graph.now)
+
+pub export_one-requires : goal.export_one-requires
+export_one-requires c =
+    let at = text_index c.args.names.now c.loop-name.name-index c.name-item.result c.as_str.result.now c.loop-name-test.true c.name-item.is c.as_str.ensures.value in
+    HasExport-grown c.args.graph.now c.loop-name.graph c.loop-name.invariant.1 c.args.socket c.as_str.result.now
+    (c.requires c.as_str.result.now (among_index (texts_of c.args.names.now) c.loop-name.name-index c.as_str.result.now at))
+
+pub loop-name-preserved : goal.loop-name-preserved
+loop-name-preserved c =
+    let at = text_index c.args.names.now c.loop-name.name-index c.name-item.result c.as_str.result.now c.loop-name-test.true c.name-item.is c.as_str.ensures.value in (
+      exports_next c.args.socket (texts_of c.args.names.now) c.loop-name.name-index c.as_str.result.now c.args.graph.now c.loop-name.graph c.export_one.new.graph at c.loop-name.invariant.0 c.in-Ok.ensures.exported,
+      Grown-trans c.args.graph.now c.loop-name.graph c.export_one.new.graph c.loop-name.invariant.1 c.export_one.ensures.grown,
+    )
+
+pub returns-in-Err-clause-stopped : goal.returns-in-Err-clause-stopped
+returns-in-Err-clause-stopped c =
+    record {
+      place = c.loop-name.name-index;
+      at = c.as_str.result.now;
+      there = text_index c.args.names.now c.loop-name.name-index c.name-item.result c.as_str.result.now c.loop-name-test.true c.name-item.is c.as_str.ensures.value;
+      middle = c.loop-name.graph;
+      before = c.loop-name.invariant.0;
+      stops = c.in-Err.ensures.stopped;
+    }
+
+pub returns-in-Err-clause-grown : goal.returns-in-Err-clause-grown
+returns-in-Err-clause-grown c = Grown-trans c.args.graph.now c.loop-name.graph c.export_one.new.graph c.loop-name.invariant.1 c.export_one.ensures.grown
+
+pub returns-clause-exported : goal.returns-clause-exported
+returns-clause-exported c =
+    subst (λ l. ExportsAll c.args.socket l c.args.graph.now c.loop-name.graph) (texts_all c.args.names.now c.loop-name.name-index c.loop-name-test.false) c.loop-name.invariant.0

@@ -1,0 +1,42 @@
+use Rattle.std.proofs.Common.{◌≤◌, length, take, subst}
+use Rattle.std.proofs.lemmas.List.{take_all}
+use Rattle.wac_graph_plug.specs.Steps.{PassesAll, passed_none}
+use Rattle.wac_graph_plug.proofs.Growing.{Grown-refl, Grown-trans, ContainsNode-grown, HasExport-grown}
+use Rattle.wac_graph_plug.proofs.Calls.{at_index, among_index, passes_next}
+use Rattle.wac_graph_plug.proofs.plugging.pass_all.Goals as goal
+
+pub loop-one-init : goal.loop-one-init
+loop-one-init c = (passed_none, Grown-refl c.args.graph.now)
+
+pub pass-requires-clause-socket : goal.pass-requires-clause-socket
+pass-requires-clause-socket c = ContainsNode-grown c.args.graph.now c.loop-one.graph c.loop-one.invariant.1 c.args.socket c.requires.socket
+
+pub pass-requires-clause-plug : goal.pass-requires-clause-plug
+pass-requires-clause-plug c =
+    let at = at_index c.args.matches.now c.loop-one.one-index c.one-item.result c.loop-one-test.true c.one-item.is in
+    HasExport-grown c.args.graph.now c.loop-one.graph c.loop-one.invariant.1 c.args.plug c.one-item.result.export
+    (c.requires.plug c.one-item.result (among_index c.args.matches.now c.loop-one.one-index c.one-item.result at))
+
+pub loop-one-preserved : goal.loop-one-preserved
+loop-one-preserved c = (
+  passes_next c.args.socket c.args.plug c.args.matches.now c.loop-one.one-index c.one-item.result c.args.graph.now c.loop-one.graph c.pass.new.graph c.loop-one-test.true c.one-item.is c.loop-one.invariant.0 c.in-Ok.ensures.passed,
+  Grown-trans c.args.graph.now c.loop-one.graph c.pass.new.graph c.loop-one.invariant.1 c.pass.ensures.grown,
+)
+
+pub returns-in-Err-clause-stopped : goal.returns-in-Err-clause-stopped
+returns-in-Err-clause-stopped c =
+    record {
+      place = c.loop-one.one-index;
+      at = c.one-item.result;
+      there = at_index c.args.matches.now c.loop-one.one-index c.one-item.result c.loop-one-test.true c.one-item.is;
+      middle = c.loop-one.graph;
+      before = c.loop-one.invariant.0;
+      stops = c.in-Err.ensures.stopped;
+    }
+
+pub returns-in-Err-clause-grown : goal.returns-in-Err-clause-grown
+returns-in-Err-clause-grown c = Grown-trans c.args.graph.now c.loop-one.graph c.pass.new.graph c.loop-one.invariant.1 c.pass.ensures.grown
+
+pub returns-clause-passed : goal.returns-clause-passed
+returns-clause-passed c =
+    subst (λ l. PassesAll c.args.socket c.args.plug l c.args.graph.now c.loop-one.graph) (take_all c.loop-one.one-index c.args.matches.now c.loop-one-test.false) c.loop-one.invariant.0

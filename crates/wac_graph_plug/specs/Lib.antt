@@ -1,0 +1,5 @@
+pub mod Plugging
+pub mod Wired
+pub mod Lookups
+pub mod Steps
+pub mod Stops
