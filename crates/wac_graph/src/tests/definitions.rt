@@ -99,10 +99,10 @@ fn lists(rt: HostRuntime) -> Result<(), Fail> {
     let mut g = CompositionGraph::new(alloc, 1);
     let t = add_alias(&rt, &mut g, of(PrimitiveType::S32))?;
     let node = define(&rt, &mut g, "t", t)?;
-    assert_eq!(rt; g.nodes().count(), 1);
+    assert!(rt; g.nodes().next().is_some());
     assert_eq!(rt; g.node_ids().next(), Some(node));
-    assert_eq!(rt; g.packages().count(), 0);
+    assert!(rt; g.packages().next().is_none());
     assert!(rt; g.contains_node(node));
-    assert_eq!(rt; g.get_instantiation_arguments(node).count(), 0);
+    assert!(rt; g.get_instantiation_arguments(node).next().is_none());
     Ok(())
 }

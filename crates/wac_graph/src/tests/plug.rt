@@ -99,6 +99,15 @@ fn is_second_plug(fault: &PlugError, import: &str) -> bool {
     }
 }
 
+/// How many nodes a graph has.
+fn node_count(g: &CompositionGraph) -> usize {
+    let mut count = 0usize;
+    for _ in g.nodes() {
+        count = count.wrapping_add(1);
+    }
+    count
+}
+
 #[test]
 fn one_plug(rt: HostRuntime) -> Result<(), Fail> {
     let alloc = rt.alloc();
@@ -106,7 +115,7 @@ fn one_plug(rt: HostRuntime) -> Result<(), Fail> {
     let p = register(&rt, alloc, &mut g, "p:p", "f", "g")?;
     let q = register(&rt, alloc, &mut g, "q:q", "g", "h")?;
     assert!(rt; plug_once(&rt, alloc, &mut g, p, q)?.is_ok());
-    assert_eq!(rt; g.nodes().count(), 4);
+    assert_eq!(rt; node_count(&g), 4);
     assert!(rt; g.get_export("h").is_some());
     assert!(rt; g.get_export("g").is_none());
     Ok(())
@@ -119,7 +128,7 @@ fn a_plug_of_another_version(rt: HostRuntime) -> Result<(), Fail> {
     let p = register(&rt, alloc, &mut g, "p:p", "f", "a:b/c@0.2.1")?;
     let q = register(&rt, alloc, &mut g, "q:q", "a:b/c@0.2.0", "h")?;
     assert!(rt; plug_once(&rt, alloc, &mut g, p, q)?.is_ok());
-    assert_eq!(rt; g.nodes().count(), 4);
+    assert_eq!(rt; node_count(&g), 4);
     Ok(())
 }
 
@@ -135,7 +144,7 @@ fn no_plugs(rt: HostRuntime) -> Result<(), Fail> {
             Err(PlugError::NoPlugHappened)
         )
     );
-    assert_eq!(rt; g.nodes().count(), 1);
+    assert_eq!(rt; node_count(&g), 1);
     Ok(())
 }
 
@@ -150,7 +159,7 @@ fn no_match(rt: HostRuntime) -> Result<(), Fail> {
             Err(PlugError::NoPlugHappened)
         )
     );
-    assert_eq!(rt; g.nodes().count(), 1);
+    assert_eq!(rt; node_count(&g), 1);
     Ok(())
 }
 
@@ -164,7 +173,7 @@ fn two_plugs_for_one_import(rt: HostRuntime) -> Result<(), Fail> {
         Err(fault) => assert!(rt; is_second_plug(&fault, "g")),
         Ok(()) => return Err(Fail::from("plugged twice")),
     }
-    assert_eq!(rt; g.nodes().count(), 5);
+    assert_eq!(rt; node_count(&g), 5);
     assert!(rt; g.get_export("h").is_none());
     Ok(())
 }
