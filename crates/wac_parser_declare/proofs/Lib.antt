@@ -1,0 +1,9 @@
+pub mod Added
+pub mod Outcomes
+pub mod Kept
+pub mod Values
+pub mod TypeViews
+pub mod Loops
+pub mod Members
+pub mod RowWords
+pub mod RefusedRows

@@ -1,0 +1,100 @@
+//! What the body of an interface or of a world holds so far.
+
+ghost use Rattle.std.specs.Prelude.{◌≡◌, OnOk};
+ghost use Rattle.wac_types_base.specs.declared.item.ItemKind.{ItemKind};
+ghost use Rattle.wac_types_base.specs.Record.{Collection};
+ghost use Rattle.wac_types_base.specs.Collection.{Stands};
+ghost use Rattle.wac_parser_declare.specs.Held.{BodyStands};
+
+use crate::error::ResolutionResult;
+use crate::functions::add_new;
+use crate::refusals::{duplicate_export, duplicate_world_item};
+use crate::scope::{Binding, bind};
+use crate::error::Error;
+use std::alloc::Global;
+use wac_parser_tree::Ident;
+use wac_types_base::{ExternKind, ItemKind, NamedMap, Type, UsedType};
+
+/// What a body has stated: its names, its uses, the exports of an interface or the imports of a world, the exports of a
+/// world.
+#[derive(Drop)]
+pub(crate) struct Body {
+    pub(crate) names: NamedMap<Binding>,
+    pub(crate) uses: NamedMap<UsedType>,
+    pub(crate) items: NamedMap<ItemKind>,
+    pub(crate) exports: NamedMap<ItemKind>,
+}
+
+/// Whose body it is, as faults name it.
+#[derive(Clone, Copy, Debug)]
+pub(crate) enum Holder<'a> {
+    /// An interface, under its name if it has one.
+    Interface(Option<&'a str>),
+    /// A world, under its name.
+    World(&'a str),
+}
+
+impl<'a> Holder<'a> {
+    /// What the items of the body are.
+    pub(crate) fn kind(self) -> ExternKind {
+        match self {
+            Holder::Interface(_) => ExternKind::Export,
+            Holder::World(_) => ExternKind::Import,
+        }
+    }
+
+    /// The refusal of an item whose name is taken.
+    pub(crate) fn duplicate(self, alloc: Global, id: &Ident<'_>) -> Error {
+        match self {
+            Holder::Interface(name) => duplicate_export(alloc, id, name),
+            Holder::World(world) => {
+                duplicate_world_item(alloc, ExternKind::Import, id.string, world, id.span)
+            }
+        }
+    }
+}
+
+impl Body {
+    /// Nothing yet.
+    pub(crate) fn new(alloc: Global) -> Self
+        ensures { (c : Collection) → BodyStands c result }
+    {
+        Body {
+            names: NamedMap::new(alloc),
+            uses: NamedMap::new(alloc),
+            items: NamedMap::new(alloc),
+            exports: NamedMap::new(alloc),
+        }
+    }
+}
+
+/// One more item, where its name is new.
+pub(crate) fn add_item(
+    alloc: Global,
+    holder: Holder<'_>,
+    body: &mut Body,
+    id: &Ident<'_>,
+    kind: ItemKind,
+) -> ResolutionResult<()>
+    ensures { OnOk result ((c : Collection) → BodyStands c body.old → Stands c kind → BodyStands c body.new) }
+{
+    if add_new(alloc, &mut body.items, id.string, kind)? {
+        Ok(())
+    } else {
+        Err(holder.duplicate(alloc, id))
+    }
+}
+
+/// A new type item: its name, then the item.
+pub(crate) fn add_type(
+    alloc: Global,
+    holder: Holder<'_>,
+    body: &mut Body,
+    id: &Ident<'_>,
+    ty: Type,
+) -> ResolutionResult<()>
+    ensures { OnOk result ((c : Collection) → BodyStands c body.old → Stands c (ItemKind.Ty ty) → BodyStands c body.new) }
+{
+    bind(alloc, &mut body.names, id, ItemKind::Ty(ty))?;
+    add_item(alloc, holder, body, id, ItemKind::Ty(ty))
+}

@@ -1,0 +1,98 @@
+//! Collections that grow.
+#![tactic(auto, using(crate::proofs::Added::added))]
+
+ghost use Rattle.std.specs.Prelude.{◌≡◌, IfOk, Some};
+ghost use Rattle.wac_types_base.specs.declared.item.ItemKind.{ItemKind};
+ghost use Rattle.wac_types_base.specs.declared.item.ValueType.{ValueType};
+ghost use Rattle.wac_types_base.specs.declared.item.«Type».{«Type» as TypeKind};
+ghost use Rattle.wac_types_base.specs.Record.{Collection};
+ghost use Rattle.wac_types_base.specs.Collection.{HasChildren, Grows, SlotStands, item_node, func_entry, interface_entry, world_entry, defined_entry, resource_entry};
+
+use crate::error::ResolutionResult;
+use std::alloc::{AllocError, Global};
+use wac_parser_tree::PackagePath;
+use wac_types_base::{
+    DefinedType, DefinedTypeId, FuncType, FuncTypeId, Interface, InterfaceId, ItemKind, Resource,
+    ResourceId, Types, World, WorldId,
+};
+
+/// A collection of types to which entries can be added, and nothing else done.
+pub trait GrowingTypes {
+    ghost collection: { Self → Collection };
+
+    /// The collection.
+    fn types(&self) -> &Types
+        ensures { result.now ≡ collection self.now };
+
+    /// Adds a defined type, all of whose ids stand here.
+    fn add_defined_type(&mut self, ty: DefinedType) -> Result<DefinedTypeId, AllocError>
+        requires { HasChildren (collection self.old) (defined_entry ty) }
+        ensures node { IfOk result (λ i. item_node (collection self.new) (ItemKind.Value (ValueType.Defined i)) ≡ Some (defined_entry ty)) }
+        ensures grows { Grows (collection self.old) (collection self.new) };
+
+    /// Adds a resource, all of whose ids stand here.
+    fn add_resource(&mut self, resource: Resource) -> Result<ResourceId, AllocError>
+        requires { HasChildren (collection self.old) (resource_entry resource) }
+        ensures node { IfOk result (λ i. item_node (collection self.new) (ItemKind.Ty (TypeKind.Resource i)) ≡ Some (resource_entry resource)) }
+        ensures grows { Grows (collection self.old) (collection self.new) };
+
+    /// Adds a function type, all of whose ids stand here.
+    fn add_func_type(&mut self, func: FuncType) -> Result<FuncTypeId, AllocError>
+        requires { HasChildren (collection self.old) (func_entry func) }
+        ensures node { IfOk result (λ i. item_node (collection self.new) (ItemKind.Func i) ≡ Some (func_entry func)) }
+        ensures grows { Grows (collection self.old) (collection self.new) };
+
+    /// Adds an interface, all of whose ids stand here.
+    fn add_interface(&mut self, interface: Interface) -> Result<InterfaceId, AllocError>
+        requires { HasChildren (collection self.old) (interface_entry interface) }
+        ensures node { IfOk result (λ i. item_node (collection self.new) (ItemKind.Instance i) ≡ Some (interface_entry interface)) }
+        ensures grows { Grows (collection self.old) (collection self.new) };
+
+    /// Adds a world, all of whose ids stand here.
+    fn add_world(&mut self, world: World) -> Result<WorldId, AllocError>
+        requires { HasChildren (collection self.old) (world_entry world) }
+        ensures node { IfOk result (λ i. item_node (collection self.new) (ItemKind.Component i) ≡ Some (world_entry world)) }
+        ensures grows { Grows (collection self.old) (collection self.new) };
+}
+
+/// A collection that grows, with the packages that a document may name.
+pub trait PackagedTypes: GrowingTypes {
+    /// The item that a package defines under a name, if it does. The package comes in at its first use, and is refused
+    /// where nobody knows it.
+    fn definition(
+        &mut self,
+        alloc: Global,
+        path: &PackagePath<'_>,
+        name: &str,
+    ) -> ResolutionResult<Option<ItemKind>>
+        ensures stands { IfOk result (λ o. SlotStands (Self.collection self.new) o) }
+        ensures grows { Grows (Self.collection self.old) (Self.collection self.new) };
+}
+
+impl GrowingTypes for Types {
+    ghost collection = { λ c. c };
+
+    fn types(&self) -> &Types {
+        self
+    }
+
+    fn add_defined_type(&mut self, ty: DefinedType) -> Result<DefinedTypeId, AllocError> {
+        Types::add_defined_type(self, ty)
+    }
+
+    fn add_resource(&mut self, resource: Resource) -> Result<ResourceId, AllocError> {
+        Types::add_resource(self, resource)
+    }
+
+    fn add_func_type(&mut self, func: FuncType) -> Result<FuncTypeId, AllocError> {
+        Types::add_func_type(self, func)
+    }
+
+    fn add_interface(&mut self, interface: Interface) -> Result<InterfaceId, AllocError> {
+        Types::add_interface(self, interface)
+    }
+
+    fn add_world(&mut self, world: World) -> Result<WorldId, AllocError> {
+        Types::add_world(self, world)
+    }
+}

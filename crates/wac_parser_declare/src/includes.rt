@@ -1,0 +1,224 @@
+//! The items of a world that another world includes.
+
+ghost use Rattle.std.specs.Prelude.{◌≡◌, OnOk, IfOk};
+ghost use Rattle.wac_types_base.specs.declared.item.ItemKind.{ItemKind};
+ghost use Rattle.wac_types_base.specs.Collection.{Stands, Grows};
+ghost use Rattle.wac_parser_declare.specs.Held.{BodyStands};
+ghost use Rattle.wac_parser_declare.specs.Holding.{ItemsStand, NamesStand};
+
+use crate::bodies::Body;
+use crate::error::{Error, ResolutionResult, WITH_HELP};
+use crate::functions::add_new;
+use crate::growing::PackagedTypes;
+use crate::paths::world_at;
+use crate::refusals::{duplicate_with_name, missing_with_name};
+use crate::scope::Context;
+use std::alloc::{AllocError, Global};
+use wac_parser_tree::{Ident, WorldInclude, WorldIncludeItem};
+use wac_types_base::{ExternKind, ItemKind, NamedMap, Names, Types, World, WorldId};
+
+/// Whether a name is one of an interface or a package, which is never renamed.
+fn has_colon(name: &str) -> bool {
+    name.as_bytes().contains(&b':')
+}
+
+/// One more name of a `with` clause, which is new.
+fn add_with_name(
+    alloc: Global,
+    found: &mut Names,
+    item: &WorldIncludeItem<'_>,
+) -> ResolutionResult<()> {
+    let name = String::from_str(alloc, item.from.string)?;
+    if found.insert(name)? {
+        Ok(())
+    } else {
+        Err(duplicate_with_name(alloc, &item.from))
+    }
+}
+
+/// Refuses a name that stands twice in a `with` clause.
+fn check_with_names(alloc: Global, with: &Vec<WorldIncludeItem<'_>>) -> ResolutionResult<()> {
+    let mut found = Names::new(alloc);
+    for item in with {
+        add_with_name(alloc, &mut found, item)?;
+    }
+    Ok(())
+}
+
+/// The new name of a name, if it gets one.
+fn renaming<'a>(with: &Vec<WorldIncludeItem<'a>>, name: &str) -> Option<Ident<'a>> {
+    for item in with {
+        if item.from.string == name {
+            return Some(item.to);
+        }
+    }
+    None
+}
+
+/// An include: the world that it is in, what is included, and on which side.
+#[derive(Clone, Copy)]
+struct Inclusion<'a> {
+    to: &'a str,
+    kind: ExternKind,
+    include: &'a WorldInclude<'a>,
+}
+
+/// What may help where an item is there already.
+fn help_for(include: &WorldInclude<'_>) -> Option<&'static str> {
+    if include.with.is_empty() {
+        Some(WITH_HELP)
+    } else {
+        None
+    }
+}
+
+/// An item that is there already.
+fn conflict(
+    alloc: Global,
+    inclusion: Inclusion<'_>,
+    id: &Ident<'_>,
+) -> Result<Error, AllocError> {
+    Ok(Error::WorldIncludeConflict {
+        kind: inclusion.kind,
+        name: String::from_str(alloc, id.string)?,
+        from: String::from_str(alloc, inclusion.include.world.name())?,
+        to: String::from_str(alloc, inclusion.to)?,
+        span: id.span,
+        help: help_for(inclusion.include),
+    })
+}
+
+/// One more item under its name, or under another.
+fn include_item(
+    alloc: Global,
+    inclusion: Inclusion<'_>,
+    stand: &mut NamedMap<ItemKind>,
+    name: &str,
+    item: ItemKind,
+    renamed: Option<Ident<'_>>,
+) -> ResolutionResult<()> {
+    if has_colon(name) {
+        let _ = add_new(alloc, stand, name, item)?;
+        return Ok(());
+    }
+    let id = match renamed {
+        Some(id) => id,
+        None => Ident {
+            string: name,
+            span: inclusion.include.world.span(),
+        },
+    };
+    if add_new(alloc, stand, id.string, item)? {
+        Ok(())
+    } else {
+        Err(conflict(alloc, inclusion, &id)?)
+    }
+}
+
+/// The imports of a world, under their new names.
+fn include_imports(
+    alloc: Global,
+    inclusion: Inclusion<'_>,
+    stand: &mut NamedMap<ItemKind>,
+    imports: &NamedMap<ItemKind>,
+) -> ResolutionResult<()> {
+    for at in 0..imports.len() {
+        let (name, item) = imports.entry(at);
+        let renamed = renaming(&inclusion.include.with, name);
+        include_item(alloc, inclusion, stand, name, *item, renamed)?;
+    }
+    Ok(())
+}
+
+/// The new name of an export, if it gets one that no import took.
+fn export_renaming<'a>(
+    with: &Vec<WorldIncludeItem<'a>>,
+    imports: &NamedMap<ItemKind>,
+    name: &str,
+) -> Option<Ident<'a>> {
+    if imports.contains(name) {
+        None
+    } else {
+        renaming(with, name)
+    }
+}
+
+/// The exports of a world, under their new names.
+fn include_exports(
+    alloc: Global,
+    inclusion: Inclusion<'_>,
+    stand: &mut NamedMap<ItemKind>,
+    world: &World,
+) -> ResolutionResult<()> {
+    for at in 0..world.exports.len() {
+        let (name, item) = world.exports.entry(at);
+        let renamed = export_renaming(&inclusion.include.with, &world.imports, name);
+        include_item(alloc, inclusion, stand, name, *item, renamed)?;
+    }
+    Ok(())
+}
+
+/// Whether a world has an item that can be renamed so.
+fn is_met(world: &World, id: &Ident<'_>) -> bool {
+    !has_colon(id.string)
+        && (world.imports.contains(id.string) || world.exports.contains(id.string))
+}
+
+/// Refuses a name of a `with` clause that the world lacks.
+fn check_met(alloc: Global, world: &World, include: &WorldInclude<'_>) -> ResolutionResult<()> {
+    for item in &include.with {
+        if !is_met(world, &item.from) {
+            return Err(missing_with_name(alloc, include.world.name(), &item.from));
+        }
+    }
+    Ok(())
+}
+
+/// The items of a world.
+fn include_items(
+    alloc: Global,
+    types: &Types,
+    to: &str,
+    body: &mut Body,
+    include: &WorldInclude<'_>,
+    world: WorldId,
+) -> ResolutionResult<()>
+    requires world { Stands types.now (ItemKind.Component world) }
+    requires body { BodyStands types.now body.old }
+    ensures body { OnOk result (BodyStands types.now body.new) }
+{
+    let world = types.world(world);
+    let imports = Inclusion {
+        to,
+        kind: ExternKind::Import,
+        include,
+    };
+    let exports = Inclusion {
+        to,
+        kind: ExternKind::Export,
+        include,
+    };
+    include_imports(alloc, imports, &mut body.items, &world.imports)?;
+    include_exports(alloc, exports, &mut body.exports, world)?;
+    check_met(alloc, world, include)
+}
+
+/// An include of a world: its imports and exports, and not its uses.
+pub(crate) fn include_world<T: PackagedTypes>(
+    alloc: Global,
+    context: Context<'_>,
+    types: &mut T,
+    to: &str,
+    body: &mut Body,
+    include: &WorldInclude<'_>,
+) -> ResolutionResult<()>
+    requires root { NamesStand (T.collection types.old) context.root.now }
+    requires body { BodyStands (T.collection types.old) body.old }
+    ensures body { OnOk result (BodyStands (T.collection types.new) body.new) }
+    ensures grows { Grows (T.collection types.old) (T.collection types.new) }
+{
+    types.types().see_acyclic();
+    check_with_names(alloc, &include.with)?;
+    let world = world_at(alloc, context, types, &include.world)?;
+    include_items(alloc, types.types(), to, body, include, world)
+}

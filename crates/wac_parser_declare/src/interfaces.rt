@@ -1,0 +1,151 @@
+//! The interface that a body states.
+
+ghost use Rattle.std.specs.Prelude.{◌≡◌, OnOk, IfOk};
+ghost use Rattle.wac_types_base.specs.declared.item.ItemKind.{ItemKind};
+ghost use Rattle.wac_types_base.specs.Collection.{Stands, Grows};
+ghost use Rattle.wac_parser_declare.specs.Held.{BodyStands};
+ghost use Rattle.wac_parser_declare.specs.Holding.{NamesStand};
+
+use crate::bodies::{Body, Holder, add_item};
+use crate::error::ResolutionResult;
+use crate::functions::func_type_ref;
+use crate::growing::PackagedTypes;
+use crate::resources::item_type;
+use crate::scope::Context;
+use crate::uses::use_types;
+use std::alloc::{AllocError, Global};
+use std::fmt::Write;
+use wac_parser_tree as ast;
+use wac_parser_tree::PackageName;
+use wac_types_base::{Interface, InterfaceId, ItemKind, Text};
+
+/// `PACKAGE/NAME`, and the version of the package behind an `@` if it has one.
+pub(crate) fn identifier(
+    alloc: Global,
+    own: &PackageName<'_>,
+    name: &str,
+) -> Result<Text, AllocError> {
+    let mut text = String::from_str(alloc, own.name)?;
+    text.push_str("/")?;
+    text.push_str(name)?;
+    if let Some(version) = &own.version {
+        if let Err(_) = write!(text, "@{version}") {
+            return Err(AllocError);
+        }
+    }
+    Ok(Text::new(text))
+}
+
+/// A function of an interface: its type, then its name.
+fn export_item<T: PackagedTypes>(
+    alloc: Global,
+    types: &mut T,
+    holder: Holder<'_>,
+    body: &mut Body,
+    export: &ast::InterfaceExport<'_>,
+) -> ResolutionResult<()>
+    requires body { BodyStands (T.collection types.old) body.old }
+    ensures body { OnOk result (BodyStands (T.collection types.new) body.new) }
+    ensures grows { Grows (T.collection types.old) (T.collection types.new) }
+{
+    let func = func_type_ref(alloc, &body.names, types, &export.ty)?;
+    add_item(alloc, holder, body, &export.id, ItemKind::Func(func))
+}
+
+/// One more item of an interface.
+fn interface_item<T: PackagedTypes>(
+    alloc: Global,
+    context: Context<'_>,
+    types: &mut T,
+    holder: Holder<'_>,
+    body: &mut Body,
+    item: &ast::InterfaceItem<'_>,
+) -> ResolutionResult<()>
+    requires root { NamesStand (T.collection types.old) context.root.now }
+    requires body { BodyStands (T.collection types.old) body.old }
+    ensures body { OnOk result (BodyStands (T.collection types.new) body.new) }
+    ensures grows { Grows (T.collection types.old) (T.collection types.new) }
+{
+    match item {
+        ast::InterfaceItem::Use(item) => use_types(alloc, context, types, holder, body, item),
+        ast::InterfaceItem::Ty(decl) => item_type(alloc, types, holder, body, decl),
+        ast::InterfaceItem::Export(export) => export_item(alloc, types, holder, body, export),
+    }
+}
+
+/// What the items of an interface state, in order.
+fn interface_items<T: PackagedTypes>(
+    alloc: Global,
+    context: Context<'_>,
+    types: &mut T,
+    name: Option<&str>,
+    items: &Vec<ast::InterfaceItem<'_>>,
+) -> ResolutionResult<Body>
+    requires root { NamesStand (T.collection types.old) context.root.now }
+    ensures body { IfOk result (BodyStands (T.collection types.new)) }
+    ensures grows { Grows (T.collection types.old) (T.collection types.new) }
+{
+    types.types().see_acyclic();
+    let holder = Holder::Interface(name);
+    let mut body = Body::new(alloc);
+    for item in items {
+        interface_item(alloc, context, types, holder, &mut body, item)?;
+    }
+    Ok(body)
+}
+
+/// Adds the interface that a body states.
+fn add_interface<T: PackagedTypes>(
+    types: &mut T,
+    id: Option<Text>,
+    body: Body,
+) -> Result<InterfaceId, AllocError>
+    requires { BodyStands (T.collection types.old) body }
+    ensures stands { IfOk result (λ i. Stands (T.collection types.new) (ItemKind.Instance i)) }
+    ensures grows { Grows (T.collection types.old) (T.collection types.new) }
+{
+    let Body {
+        names: _,
+        uses,
+        items,
+        exports: _,
+    } = body;
+    types.add_interface(Interface {
+        id,
+        uses,
+        exports: items,
+    })
+}
+
+/// The interface without identifier that is written.
+pub fn inline_interface<T: PackagedTypes>(
+    alloc: Global,
+    context: Context<'_>,
+    types: &mut T,
+    interface: &ast::InlineInterface<'_>,
+) -> ResolutionResult<InterfaceId>
+    requires { NamesStand (T.collection types.old) context.root.now }
+    ensures stands { IfOk result (λ i. Stands (T.collection types.new) (ItemKind.Instance i)) }
+    ensures grows { Grows (T.collection types.old) (T.collection types.new) }
+{
+    let body = interface_items(alloc, context, types, None, &interface.items)?;
+    let id = add_interface(types, None, body)?;
+    Ok(id)
+}
+
+/// The interface that a declaration states.
+pub(crate) fn interface_decl<T: PackagedTypes>(
+    alloc: Global,
+    context: Context<'_>,
+    types: &mut T,
+    decl: &ast::InterfaceDecl<'_>,
+) -> ResolutionResult<InterfaceId>
+    requires { NamesStand (T.collection types.old) context.root.now }
+    ensures stands { IfOk result (λ i. Stands (T.collection types.new) (ItemKind.Instance i)) }
+    ensures grows { Grows (T.collection types.old) (T.collection types.new) }
+{
+    let body = interface_items(alloc, context, types, Some(decl.id.string), &decl.items)?;
+    let text = identifier(alloc, context.own, decl.id.string)?;
+    let id = add_interface(types, Some(text), body)?;
+    Ok(id)
+}

@@ -1,0 +1,333 @@
+//! What paths name.
+
+ghost use Rattle.std.specs.Prelude.{◌≡◌, IfOk, IfSome};
+ghost use Rattle.wac_types_base.specs.declared.item.ItemKind.{ItemKind};
+ghost use Rattle.wac_types_base.specs.declared.item.«Type».{«Type» as TypeKind};
+ghost use Rattle.wac_types_base.specs.Collection.{Stands, Grows};
+ghost use Rattle.wac_parser_declare.specs.Holding.{NamesStand, ItemsStand};
+
+use crate::error::{Error, ResolutionResult};
+use crate::growing::PackagedTypes;
+use crate::refusals::{not_interface, not_world, undefined_name};
+use crate::scope::{Context, meaning};
+use std::alloc::{AllocError, Global};
+use wac_parser_lexer::SourceSpan;
+use wac_parser_tree::{Ident, PackagePath, UsePath, WorldRef};
+use wac_types_base::{InterfaceId, ItemKind, NamedMap, Type, Types, WorldId};
+
+/// The exports of an item, where it can have some.
+fn exports_of(types: &Types, kind: ItemKind) -> Option<&NamedMap<ItemKind>>
+    requires { Stands types.now kind }
+    ensures { IfSome result (λ es. ItemsStand types.now es.now) }
+{
+    match kind {
+        ItemKind::Ty(Type::Interface(id)) => Some(&types.interface(id).exports),
+        ItemKind::Instance(id) => Some(&types.interface(id).exports),
+        ItemKind::Ty(Type::World(id)) => Some(&types.world(id).exports),
+        ItemKind::Component(id) => Some(&types.world(id).exports),
+        _other => None,
+    }
+}
+
+/// An export of an item.
+pub(crate) fn export_of(types: &Types, kind: ItemKind, name: &str) -> Option<ItemKind>
+    requires { Stands types.now kind }
+    ensures { IfSome result (Stands types.now) }
+{
+    let exports = exports_of(types, kind)?;
+    exports.get(name).copied()
+}
+
+/// An export that an item of the document's own package lacks.
+fn own_missing(
+    alloc: Global,
+    parent: &str,
+    kind: &'static str,
+    export: &str,
+    span: SourceSpan,
+) -> Result<Error, AllocError> {
+    Ok(Error::PackagePathMissingExport {
+        name: String::from_str(alloc, parent)?,
+        kind,
+        export: String::from_str(alloc, export)?,
+        span,
+    })
+}
+
+/// The export that a further segment names.
+fn own_step(
+    alloc: Global,
+    types: &Types,
+    parent: &str,
+    kind: ItemKind,
+    segment: &str,
+    span: SourceSpan,
+) -> ResolutionResult<ItemKind>
+    requires { Stands types.now kind }
+    ensures { IfOk result (Stands types.now) }
+{
+    match export_of(types, kind, segment) {
+        Some(next) => Ok(next),
+        None => Err(own_missing(alloc, parent, kind.desc(types), segment, span)?),
+    }
+}
+
+/// The item that a path of the document's own package names.
+fn own_path(
+    alloc: Global,
+    context: Context<'_>,
+    types: &Types,
+    path: &PackagePath<'_>,
+) -> ResolutionResult<ItemKind>
+    requires { NamesStand types.now context.root.now }
+    ensures { IfOk result (Stands types.now) }
+{
+    let mut segments = path.segment_spans();
+    let Some((first, span)) = segments.next() else {
+        return Err(undefined_name(alloc, &whole_path(path)));
+    };
+    let mut kind = meaning(alloc, context.root, &Ident {
+        string: first,
+        span,
+    })?
+    .kind;
+    let mut parent = first;
+    for (segment, span) in segments {
+        kind = own_step(alloc, types, parent, kind, segment, span)?;
+        parent = segment;
+    }
+    Ok(kind)
+}
+
+/// A path as a name.
+fn whole_path<'a>(path: &PackagePath<'a>) -> Ident<'a> {
+    Ident {
+        string: path.string,
+        span: path.span,
+    }
+}
+
+/// An export that a package lacks, or an item in it.
+fn foreign_missing(
+    alloc: Global,
+    path: &PackagePath<'_>,
+    kind: Option<&'static str>,
+    passed: &str,
+    export: &str,
+    span: SourceSpan,
+) -> Result<Error, AllocError> {
+    Ok(Error::PackageMissingExport {
+        package: String::from_str(alloc, path.name)?,
+        export: String::from_str(alloc, export)?,
+        kind,
+        path: String::from_str(alloc, passed)?,
+        span,
+    })
+}
+
+/// The export that a further segment names.
+fn foreign_step(
+    alloc: Global,
+    types: &Types,
+    path: &PackagePath<'_>,
+    kind: ItemKind,
+    passed: &str,
+    segment: &str,
+    span: SourceSpan,
+) -> ResolutionResult<ItemKind>
+    requires { Stands types.now kind }
+    ensures { IfOk result (Stands types.now) }
+{
+    match export_of(types, kind, segment) {
+        Some(next) => Ok(next),
+        None => Err(foreign_missing(
+            alloc,
+            path,
+            Some(kind.desc(types)),
+            passed,
+            segment,
+            span,
+        )?),
+    }
+}
+
+/// The item that the further segments of a path name.
+fn foreign_rest(
+    alloc: Global,
+    types: &Types,
+    path: &PackagePath<'_>,
+    first: &str,
+    kind: ItemKind,
+) -> ResolutionResult<ItemKind>
+    requires { Stands types.now kind }
+    ensures { IfOk result (Stands types.now) }
+{
+    let mut kind = kind;
+    let mut passed = String::from_str(alloc, first)?;
+    let mut segments = path.segment_spans();
+    let _ = segments.next();
+    for (segment, span) in segments {
+        kind = foreign_step(alloc, types, path, kind, passed.as_str(), segment, span)?;
+        passed.push_str("/")?;
+        passed.push_str(segment)?;
+    }
+    Ok(kind)
+}
+
+/// The item that a path of another package names.
+fn foreign_path<T: PackagedTypes>(
+    alloc: Global,
+    types: &mut T,
+    path: &PackagePath<'_>,
+) -> ResolutionResult<ItemKind>
+    ensures stands { IfOk result (Stands (T.collection types.new)) }
+    ensures grows { Grows (T.collection types.old) (T.collection types.new) }
+{
+    types.types().see_acyclic();
+    let mut segments = path.segment_spans();
+    let Some((first, span)) = segments.next() else {
+        return Err(undefined_name(alloc, &whole_path(path)));
+    };
+    match types.definition(alloc, path, first)? {
+        Some(kind) => foreign_rest(alloc, types.types(), path, first, kind),
+        None => Err(foreign_missing(alloc, path, None, "", first, span)?),
+    }
+}
+
+/// The item that a path of a package names: in the document's own package a name of the root and its exports, else a
+/// definition of the package and its exports.
+pub fn package_path<T: PackagedTypes>(
+    alloc: Global,
+    context: Context<'_>,
+    types: &mut T,
+    path: &PackagePath<'_>,
+) -> ResolutionResult<ItemKind>
+    requires { NamesStand (T.collection types.old) context.root.now }
+    ensures stands { IfOk result (Stands (T.collection types.new)) }
+    ensures grows { Grows (T.collection types.old) (T.collection types.new) }
+{
+    types.types().see_acyclic();
+    if path.name == context.own.name {
+        own_path(alloc, context, types.types(), path)
+    } else {
+        foreign_path(alloc, types, path)
+    }
+}
+
+/// The item that a name of the root means.
+fn root_item<T: PackagedTypes>(
+    alloc: Global,
+    context: Context<'_>,
+    types: &mut T,
+    id: &Ident<'_>,
+) -> ResolutionResult<ItemKind>
+    requires { NamesStand (T.collection types.old) context.root.now }
+    ensures stands { IfOk result (Stands (T.collection types.new)) }
+    ensures grows { Grows (T.collection types.old) (T.collection types.new) }
+{
+    types.types().see_acyclic();
+    let binding = meaning(alloc, context.root, id)?;
+    Ok(binding.kind)
+}
+
+/// An item that is to be an interface.
+fn as_interface(
+    alloc: Global,
+    types: &Types,
+    kind: ItemKind,
+    path: &Ident<'_>,
+) -> ResolutionResult<InterfaceId>
+    requires { Stands types.now kind }
+    ensures { IfOk result (λ i. Stands types.now (ItemKind.Instance i)) }
+{
+    match kind {
+        ItemKind::Ty(Type::Interface(id)) => Ok(id),
+        other => Err(not_interface(alloc, path.string, other.desc(types), path.span)),
+    }
+}
+
+/// The interface that a path of a package names.
+pub(crate) fn package_interface<T: PackagedTypes>(
+    alloc: Global,
+    context: Context<'_>,
+    types: &mut T,
+    path: &PackagePath<'_>,
+) -> ResolutionResult<InterfaceId>
+    requires { NamesStand (T.collection types.old) context.root.now }
+    ensures stands { IfOk result (λ i. Stands (T.collection types.new) (ItemKind.Instance i)) }
+    ensures grows { Grows (T.collection types.old) (T.collection types.new) }
+{
+    let kind = package_path(alloc, context, types, path)?;
+    as_interface(alloc, types.types(), kind, &whole_path(path))
+}
+
+/// The interface that a name of the root means.
+pub(crate) fn root_interface<T: PackagedTypes>(
+    alloc: Global,
+    context: Context<'_>,
+    types: &mut T,
+    id: &Ident<'_>,
+) -> ResolutionResult<InterfaceId>
+    requires { NamesStand (T.collection types.old) context.root.now }
+    ensures stands { IfOk result (λ i. Stands (T.collection types.new) (ItemKind.Instance i)) }
+    ensures grows { Grows (T.collection types.old) (T.collection types.new) }
+{
+    let kind = root_item(alloc, context, types, id)?;
+    as_interface(alloc, types.types(), kind, id)
+}
+
+/// The interface that a `use` names.
+pub fn interface_at<T: PackagedTypes>(
+    alloc: Global,
+    context: Context<'_>,
+    types: &mut T,
+    path: &UsePath<'_>,
+) -> ResolutionResult<InterfaceId>
+    requires { NamesStand (T.collection types.old) context.root.now }
+    ensures stands { IfOk result (λ i. Stands (T.collection types.new) (ItemKind.Instance i)) }
+    ensures grows { Grows (T.collection types.old) (T.collection types.new) }
+{
+    match path {
+        UsePath::Package(path) => package_interface(alloc, context, types, path),
+        UsePath::Ident(id) => root_interface(alloc, context, types, id),
+    }
+}
+
+/// An item that is to be a world.
+fn as_world(
+    alloc: Global,
+    types: &Types,
+    kind: ItemKind,
+    path: &Ident<'_>,
+) -> ResolutionResult<WorldId>
+    requires { Stands types.now kind }
+    ensures { IfOk result (λ i. Stands types.now (ItemKind.Component i)) }
+{
+    match kind {
+        ItemKind::Ty(Type::World(id)) => Ok(id),
+        ItemKind::Component(id) => Ok(id),
+        other => Err(not_world(alloc, path.string, other.desc(types), path.span)),
+    }
+}
+
+/// The world that an `include` names.
+pub fn world_at<T: PackagedTypes>(
+    alloc: Global,
+    context: Context<'_>,
+    types: &mut T,
+    world: &WorldRef<'_>,
+) -> ResolutionResult<WorldId>
+    requires { NamesStand (T.collection types.old) context.root.now }
+    ensures stands { IfOk result (λ i. Stands (T.collection types.new) (ItemKind.Component i)) }
+    ensures grows { Grows (T.collection types.old) (T.collection types.new) }
+{
+    let kind = match world {
+        WorldRef::Package(path) => package_path(alloc, context, types, path)?,
+        WorldRef::Ident(id) => root_item(alloc, context, types, id)?,
+    };
+    let path = Ident {
+        string: world.name(),
+        span: world.span(),
+    };
+    as_world(alloc, types.types(), kind, &path)
+}

@@ -1,0 +1,157 @@
+//! Types of another interface that a body uses.
+
+ghost use Rattle.std.specs.Prelude.{◌≡◌, OnOk, IfOk, IfSome};
+ghost use Rattle.wac_types_base.specs.declared.item.ItemKind.{ItemKind};
+ghost use Rattle.wac_types_base.specs.Record.{Collection};
+ghost use Rattle.wac_types_base.specs.Collection.{Stands, Grows};
+ghost use Rattle.wac_parser_declare.specs.Held.{BodyStands};
+ghost use Rattle.wac_parser_declare.specs.Holding.{NamesStand};
+
+use crate::bodies::{Body, Holder};
+use crate::error::{AS_HELP, ResolutionResult};
+use crate::functions::add_new;
+use crate::growing::PackagedTypes;
+use crate::paths::{export_of, interface_at};
+use crate::refusals::{not_used_type, undefined_type, use_conflict};
+use crate::scope::{Context, bind};
+use std::alloc::{AllocError, Global};
+use wac_parser_tree as ast;
+use wac_parser_tree::{Ident, UseItem, UsePath};
+use wac_types_base::{InterfaceId, ItemKind, Text, Type, Types, UsedType};
+
+/// The interface that a `use` names, and the text by which it does.
+#[derive(Clone, Copy)]
+struct Used<'a> {
+    interface: InterfaceId,
+    path: &'a str,
+}
+
+/// The text of a path.
+fn path_text<'a>(path: &UsePath<'a>) -> &'a str {
+    match path {
+        UsePath::Package(path) => path.string,
+        UsePath::Ident(id) => id.string,
+    }
+}
+
+/// The name of a used type here.
+fn local_name<'a>(item: &UseItem<'a>) -> Ident<'a> {
+    match item.as_id {
+        Some(id) => id,
+        None => item.id,
+    }
+}
+
+/// The name there, where it is another.
+fn name_there(alloc: Global, item: &UseItem<'_>) -> Result<Option<Text>, AllocError> {
+    match item.as_id {
+        Some(_) => Ok(Some(Text::new(String::from_str(alloc, item.id.string)?))),
+        None => Ok(None),
+    }
+}
+
+/// What may help where the name is there already.
+fn help_for(item: &UseItem<'_>) -> Option<&'static str> {
+    match item.as_id {
+        Some(_) => None,
+        None => Some(AS_HELP),
+    }
+}
+
+/// The type that an item is, if it can be used.
+fn usable(kind: ItemKind) -> Option<Type>
+    ensures { IfSome result (λ t. kind ≡ ItemKind.Ty t) }
+{
+    match kind {
+        ItemKind::Ty(Type::Resource(id)) => Some(Type::Resource(id)),
+        ItemKind::Ty(Type::Value(ty)) => Some(Type::Value(ty)),
+        _other => None,
+    }
+}
+
+/// The type that is used.
+fn used_type(
+    alloc: Global,
+    types: &Types,
+    from: Used<'_>,
+    item: &UseItem<'_>,
+) -> ResolutionResult<Type>
+    requires { Stands types.now (ItemKind.Instance from.interface) }
+    ensures { IfOk result (λ t. Stands types.now (ItemKind.Ty t)) }
+{
+    let interface = ItemKind::Instance(from.interface);
+    let Some(kind) = export_of(types, interface, item.id.string) else {
+        return Err(undefined_type(alloc, &item.id, from.path));
+    };
+    match usable(kind) {
+        Some(ty) => Ok(ty),
+        None => Err(not_used_type(alloc, &item.id, kind.desc(types), from.path)),
+    }
+}
+
+/// One more use of a type that is known.
+fn add_use(
+    alloc: Global,
+    holder: Holder<'_>,
+    body: &mut Body,
+    interface: InterfaceId,
+    item: &UseItem<'_>,
+    ty: Type,
+) -> ResolutionResult<()>
+    ensures { OnOk result ((c : Collection) → BodyStands c body.old → Stands c (ItemKind.Instance interface) → Stands c (ItemKind.Ty ty) → BodyStands c body.new) }
+{
+    let id = local_name(item);
+    if body.items.contains(id.string) || body.uses.contains(id.string) {
+        return Err(use_conflict(alloc, &id, holder.kind(), help_for(item)));
+    }
+    bind(alloc, &mut body.names, &id, ItemKind::Ty(ty))?;
+    let used = UsedType {
+        interface,
+        name: name_there(alloc, item)?,
+    };
+    let _ = add_new(alloc, &mut body.uses, id.string, used)?;
+    let _ = add_new(alloc, &mut body.items, id.string, ItemKind::Ty(ty))?;
+    Ok(())
+}
+
+/// The types that a `use` names, in order.
+fn use_items(
+    alloc: Global,
+    types: &Types,
+    holder: Holder<'_>,
+    body: &mut Body,
+    from: Used<'_>,
+    items: &Vec<UseItem<'_>>,
+) -> ResolutionResult<()>
+    requires interface { Stands types.now (ItemKind.Instance from.interface) }
+    requires body { BodyStands types.now body.old }
+    ensures { OnOk result (BodyStands types.now body.new) }
+{
+    for item in items {
+        let ty = used_type(alloc, types, from, item)?;
+        add_use(alloc, holder, body, from.interface, item, ty)?;
+    }
+    Ok(())
+}
+
+/// A `use` in a body.
+pub(crate) fn use_types<T: PackagedTypes>(
+    alloc: Global,
+    context: Context<'_>,
+    types: &mut T,
+    holder: Holder<'_>,
+    body: &mut Body,
+    item: &ast::Use<'_>,
+) -> ResolutionResult<()>
+    requires root { NamesStand (T.collection types.old) context.root.now }
+    requires body { BodyStands (T.collection types.old) body.old }
+    ensures body { OnOk result (BodyStands (T.collection types.new) body.new) }
+    ensures grows { Grows (T.collection types.old) (T.collection types.new) }
+{
+    let interface = interface_at(alloc, context, types, &item.path)?;
+    let from = Used {
+        interface,
+        path: path_text(&item.path),
+    };
+    use_items(alloc, types.types(), holder, body, from, &item.items)
+}

@@ -1,0 +1,353 @@
+//! Value types.
+
+ghost use Rattle.std.specs.Prelude.{◌≡◌, [], map, IfOk, IfErr, Some, option_map};
+ghost use Rattle.wac_types_base.specs.declared.item.ItemKind.{ItemKind};
+ghost use Rattle.wac_types_base.specs.declared.item.ValueType.{ValueType};
+ghost use Rattle.wac_types_base.specs.Collection as s;
+ghost use Rattle.wac_types_base.specs.Collection.{Stands, Grows, HasChildren, item_node, defined_entry};
+ghost use Rattle.wac_types_base.specs.Stated.{stated_of, kind_of};
+ghost use Rattle.wac_parser_tree.specs.Trees as t;
+ghost use Rattle.wac_parser_tree.specs.Views.{view_ident, view_ty, view_boxed_ty};
+ghost use Rattle.wac_parser_declare.specs.ValueTypes as stated;
+ghost use Rattle.wac_parser_declare.specs.Holding.{IsOutcome, IsValue, IsValueIf, AreValues, NamesStand, scope_of};
+ghost use Rattle.wac_parser_declare.specs.Payloads.{boxed_payload};
+
+use crate::error::{Error, ResolutionResult};
+use crate::growing::GrowingTypes;
+use crate::refusals::{not_resource_type, not_value_type};
+use crate::scope::{Binding, meaning};
+use std::alloc::{AllocError, Global};
+use wac_parser_tree as ast;
+use wac_parser_tree::Ident;
+use wac_types_base::{DefinedType, ItemKind, Items, NamedMap, PrimitiveType, Type, Types, ValueType};
+
+/// The value type that a type is: a resource is owned.
+fn value_of_type(
+    alloc: Global,
+    types: &Types,
+    ty: Type,
+    id: &Ident<'_>,
+) -> ResolutionResult<ValueType>
+    requires { Stands types.now (ItemKind.Ty ty) }
+    ensures { IsOutcome (IsValue types.now) (stated.value_by (kind_of (stated_of types.now (ItemKind.Ty ty))) (view_ident id.now) (stated_of types.now (ItemKind.Ty ty))) result }
+{
+    types.see_acyclic();
+    match ty {
+        Type::Resource(resource) => Ok(ValueType::Own(resource)),
+        Type::Value(value) => Ok(value),
+        other => Err(not_value_type(alloc, id, other.desc(types))),
+    }
+}
+
+/// The value type that an item is as a type.
+fn value_of(
+    alloc: Global,
+    types: &Types,
+    kind: ItemKind,
+    id: &Ident<'_>,
+) -> ResolutionResult<ValueType>
+    requires { Stands types.now kind }
+    ensures { IsOutcome (IsValue types.now) (stated.value_by (kind_of (stated_of types.now kind)) (view_ident id.now) (stated_of types.now kind)) result }
+{
+    types.see_acyclic();
+    match kind {
+        ItemKind::Ty(ty) => value_of_type(alloc, types, ty, id),
+        other => Err(not_value_type(alloc, id, other.desc(types))),
+    }
+}
+
+/// The borrow of a type that is a resource.
+fn borrow_of_type(
+    alloc: Global,
+    types: &Types,
+    ty: Type,
+    id: &Ident<'_>,
+) -> ResolutionResult<ValueType>
+    requires { Stands types.now (ItemKind.Ty ty) }
+    ensures { IsOutcome (IsValue types.now) (stated.borrow_by (kind_of (stated_of types.now (ItemKind.Ty ty))) (view_ident id.now) (stated_of types.now (ItemKind.Ty ty))) result }
+{
+    types.see_acyclic();
+    match ty {
+        Type::Resource(resource) => Ok(ValueType::Borrow(resource)),
+        other => Err(not_resource_type(alloc, id, other.desc(types))),
+    }
+}
+
+/// The borrow of an item that is a resource.
+fn borrow_of(
+    alloc: Global,
+    types: &Types,
+    kind: ItemKind,
+    id: &Ident<'_>,
+) -> ResolutionResult<ValueType>
+    requires { Stands types.now kind }
+    ensures { IsOutcome (IsValue types.now) (stated.borrow_by (kind_of (stated_of types.now kind)) (view_ident id.now) (stated_of types.now kind)) result }
+{
+    types.see_acyclic();
+    match kind {
+        ItemKind::Ty(ty) => borrow_of_type(alloc, types, ty, id),
+        other => Err(not_resource_type(alloc, id, other.desc(types))),
+    }
+}
+
+/// The value type of a name.
+fn value_named(
+    alloc: Global,
+    names: &NamedMap<Binding>,
+    types: &Types,
+    id: &Ident<'_>,
+) -> ResolutionResult<ValueType>
+    requires { NamesStand types.now names.now }
+    ensures { IsOutcome (IsValue types.now) (stated.value_named (scope_of types.now names.now) (view_ident id.now)) result }
+{
+    let binding = meaning(alloc, names, id)?;
+    value_of(alloc, types, binding.kind, id)
+}
+
+/// The borrow of a name.
+fn borrow_named(
+    alloc: Global,
+    names: &NamedMap<Binding>,
+    types: &Types,
+    id: &Ident<'_>,
+) -> ResolutionResult<ValueType>
+    requires { NamesStand types.now names.now }
+    ensures { IsOutcome (IsValue types.now) (stated.borrow_named (scope_of types.now names.now) (view_ident id.now)) result }
+{
+    let binding = meaning(alloc, names, id)?;
+    borrow_of(alloc, types, binding.kind, id)
+}
+
+/// Adds a defined type.
+pub(crate) fn define<T: GrowingTypes>(
+    types: &mut T,
+    ty: DefinedType,
+) -> Result<ValueType, AllocError>
+    requires { HasChildren (T.collection types.old) (defined_entry ty) }
+    ensures node { IfOk result (λ v. item_node (T.collection types.new) (ItemKind.Value v) ≡ Some (defined_entry ty)) }
+    ensures grows { Grows (T.collection types.old) (T.collection types.new) }
+{
+    let id = types.add_defined_type(ty)?;
+    Ok(ValueType::Defined(id))
+}
+
+/// A primitive type.
+fn primitive<T: GrowingTypes>(types: &mut T, ty: PrimitiveType) -> ResolutionResult<ValueType>
+    ensures outcome { IsOutcome (IsValue (T.collection types.new)) (stated.primitive ty) result }
+    ensures grows { Grows (T.collection types.old) (T.collection types.new) }
+{
+    types.types().see_acyclic();
+    Ok(ValueType::Primitive(ty))
+}
+
+/// The value type that a type states.
+#[cycle(value)]
+pub fn value_type<T: GrowingTypes>(
+    alloc: Global,
+    names: &NamedMap<Binding>,
+    types: &mut T,
+    ty: &ast::Type<'_>,
+) -> ResolutionResult<ValueType>
+    requires { NamesStand (T.collection types.old) names.now }
+    ensures outcome { IsOutcome (IsValue (T.collection types.new)) (stated.value (scope_of (T.collection types.old) names.now) (view_ty ty.now)) result }
+    ensures grows { Grows (T.collection types.old) (T.collection types.new) }
+{
+    match ty {
+        ast::Type::U8(_) => primitive(types, PrimitiveType::U8),
+        ast::Type::S8(_) => primitive(types, PrimitiveType::S8),
+        ast::Type::U16(_) => primitive(types, PrimitiveType::U16),
+        ast::Type::S16(_) => primitive(types, PrimitiveType::S16),
+        ast::Type::U32(_) => primitive(types, PrimitiveType::U32),
+        ast::Type::S32(_) => primitive(types, PrimitiveType::S32),
+        ast::Type::U64(_) => primitive(types, PrimitiveType::U64),
+        ast::Type::S64(_) => primitive(types, PrimitiveType::S64),
+        ast::Type::F32(_) => primitive(types, PrimitiveType::F32),
+        ast::Type::F64(_) => primitive(types, PrimitiveType::F64),
+        ast::Type::Char(_) => primitive(types, PrimitiveType::Char),
+        ast::Type::Bool(_) => primitive(types, PrimitiveType::Bool),
+        ast::Type::String(_) => primitive(types, PrimitiveType::String),
+        ast::Type::ErrorContext(_) => primitive(types, PrimitiveType::ErrorContext),
+        ast::Type::Tuple(members, _) => tuple_type(alloc, names, types, members),
+        ast::Type::List(element, _) => list_type(alloc, names, types, element),
+        ast::Type::Option(payload, _) => option_type(alloc, names, types, payload),
+        ast::Type::Result { ok, err, .. } => result_type(alloc, names, types, ok, err),
+        ast::Type::Stream(payload, _) => stream_type(alloc, names, types, payload),
+        ast::Type::Future(payload, _) => future_type(alloc, names, types, payload),
+        ast::Type::Borrow(id, _) => borrow_at(alloc, names, types, id),
+        ast::Type::Ident(id) => value_at(alloc, names, types, id),
+    }
+}
+
+/// The value type of a name, where nothing is added.
+fn value_at<T: GrowingTypes>(
+    alloc: Global,
+    names: &NamedMap<Binding>,
+    types: &mut T,
+    id: &Ident<'_>,
+) -> ResolutionResult<ValueType>
+    requires { NamesStand (T.collection types.old) names.now }
+    ensures outcome { IsOutcome (IsValue (T.collection types.new)) (stated.value_named (scope_of (T.collection types.old) names.now) (view_ident id.now)) result }
+    ensures grows { Grows (T.collection types.old) (T.collection types.new) }
+{
+    let collection = types.types();
+    collection.see_acyclic();
+    value_named(alloc, names, collection, id)
+}
+
+/// The borrow of a name, where nothing is added.
+fn borrow_at<T: GrowingTypes>(
+    alloc: Global,
+    names: &NamedMap<Binding>,
+    types: &mut T,
+    id: &Ident<'_>,
+) -> ResolutionResult<ValueType>
+    requires { NamesStand (T.collection types.old) names.now }
+    ensures outcome { IsOutcome (IsValue (T.collection types.new)) (stated.borrow_named (scope_of (T.collection types.old) names.now) (view_ident id.now)) result }
+    ensures grows { Grows (T.collection types.old) (T.collection types.new) }
+{
+    let collection = types.types();
+    collection.see_acyclic();
+    borrow_named(alloc, names, collection, id)
+}
+
+#[cycle(value)]
+fn list_type<T: GrowingTypes>(
+    alloc: Global,
+    names: &NamedMap<Binding>,
+    types: &mut T,
+    element: &ast::Type<'_>,
+) -> ResolutionResult<ValueType>
+    requires { NamesStand (T.collection types.old) names.now }
+    ensures outcome { IsOutcome (IsValue (T.collection types.new)) (stated.of_one s.list (stated.value (scope_of (T.collection types.old) names.now) (view_ty element.now))) result }
+    ensures grows { Grows (T.collection types.old) (T.collection types.new) }
+{
+    let element = value_type(alloc, names, types, element)?;
+    let list = define(types, DefinedType::List(element))?;
+    Ok(list)
+}
+
+#[cycle(value)]
+fn option_type<T: GrowingTypes>(
+    alloc: Global,
+    names: &NamedMap<Binding>,
+    types: &mut T,
+    payload: &ast::Type<'_>,
+) -> ResolutionResult<ValueType>
+    requires { NamesStand (T.collection types.old) names.now }
+    ensures outcome { IsOutcome (IsValue (T.collection types.new)) (stated.of_one s.option (stated.value (scope_of (T.collection types.old) names.now) (view_ty payload.now))) result }
+    ensures grows { Grows (T.collection types.old) (T.collection types.new) }
+{
+    let payload = value_type(alloc, names, types, payload)?;
+    let option = define(types, DefinedType::Option(payload))?;
+    Ok(option)
+}
+
+#[cycle(value)]
+fn maybe_type<T: GrowingTypes>(
+    alloc: Global,
+    names: &NamedMap<Binding>,
+    types: &mut T,
+    ty: &Option<Box<ast::Type<'_>>>,
+) -> ResolutionResult<Option<ValueType>>
+    requires { NamesStand (T.collection types.old) names.now }
+    ensures outcome { IsOutcome (IsValueIf (T.collection types.new)) (stated.maybe_value (scope_of (T.collection types.old) names.now) (boxed_payload ty.now)) result }
+    ensures grows { Grows (T.collection types.old) (T.collection types.new) }
+{
+    types.types().see_acyclic();
+    match ty {
+        Some(ty) => {
+            let found = value_type(alloc, names, types, ty)?;
+            Ok(Some(found))
+        }
+        None => Ok(None),
+    }
+}
+
+#[cycle(value)]
+fn stream_type<T: GrowingTypes>(
+    alloc: Global,
+    names: &NamedMap<Binding>,
+    types: &mut T,
+    payload: &Option<Box<ast::Type<'_>>>,
+) -> ResolutionResult<ValueType>
+    requires { NamesStand (T.collection types.old) names.now }
+    ensures outcome { IsOutcome (IsValue (T.collection types.new)) (stated.of_maybe s.stream (stated.maybe_value (scope_of (T.collection types.old) names.now) (boxed_payload payload.now))) result }
+    ensures grows { Grows (T.collection types.old) (T.collection types.new) }
+{
+    let payload = maybe_type(alloc, names, types, payload)?;
+    let stream = define(types, DefinedType::Stream(payload))?;
+    Ok(stream)
+}
+
+#[cycle(value)]
+fn future_type<T: GrowingTypes>(
+    alloc: Global,
+    names: &NamedMap<Binding>,
+    types: &mut T,
+    payload: &Option<Box<ast::Type<'_>>>,
+) -> ResolutionResult<ValueType>
+    requires { NamesStand (T.collection types.old) names.now }
+    ensures outcome { IsOutcome (IsValue (T.collection types.new)) (stated.of_maybe s.future (stated.maybe_value (scope_of (T.collection types.old) names.now) (boxed_payload payload.now))) result }
+    ensures grows { Grows (T.collection types.old) (T.collection types.new) }
+{
+    let payload = maybe_type(alloc, names, types, payload)?;
+    let future = define(types, DefinedType::Future(payload))?;
+    Ok(future)
+}
+
+#[cycle(value)]
+#[tactic(auto, using(crate::proofs::Kept::names_stay))]
+fn result_type<T: GrowingTypes>(
+    alloc: Global,
+    names: &NamedMap<Binding>,
+    types: &mut T,
+    ok: &Option<Box<ast::Type<'_>>>,
+    err: &Option<Box<ast::Type<'_>>>,
+) -> ResolutionResult<ValueType>
+    requires { NamesStand (T.collection types.old) names.now }
+    ensures outcome { IsOutcome (IsValue (T.collection types.new)) (stated.of_two s.result (stated.maybe_value (scope_of (T.collection types.old) names.now) (boxed_payload ok.now)) (stated.maybe_value (scope_of (T.collection types.old) names.now) (boxed_payload err.now))) result }
+    ensures grows { Grows (T.collection types.old) (T.collection types.new) }
+{
+    let ok = maybe_type(alloc, names, types, ok)?;
+    let err = maybe_type(alloc, names, types, err)?;
+    let result = define(types, DefinedType::Result { ok, err })?;
+    Ok(result)
+}
+
+/// The value types of a tuple, in order.
+#[cycle(value)]
+#[tactic(auto, using(crate::proofs::Kept::names_stay))]
+fn member_types<T: GrowingTypes>(
+    alloc: Global,
+    names: &NamedMap<Binding>,
+    types: &mut T,
+    members: &Vec<ast::Type<'_>>,
+) -> ResolutionResult<Items<ValueType>>
+    requires { NamesStand (T.collection types.old) names.now }
+    ensures outcome { IsOutcome (AreValues (T.collection types.new)) (stated.values (scope_of (T.collection types.old) names.now) [] (t.tys (map view_ty members.now.items))) result }
+    ensures grows { Grows (T.collection types.old) (T.collection types.new) }
+{
+    types.types().see_acyclic();
+    let mut found = Items::new(alloc);
+    for member in members {
+        let ty = value_type(alloc, names, types, member)?;
+        found.push(ty)?;
+    }
+    Ok(found)
+}
+
+#[cycle(value)]
+fn tuple_type<T: GrowingTypes>(
+    alloc: Global,
+    names: &NamedMap<Binding>,
+    types: &mut T,
+    members: &Vec<ast::Type<'_>>,
+) -> ResolutionResult<ValueType>
+    requires { NamesStand (T.collection types.old) names.now }
+    ensures outcome { IsOutcome (IsValue (T.collection types.new)) (stated.of_all s.tuple (stated.values (scope_of (T.collection types.old) names.now) [] (t.tys (map view_ty members.now.items)))) result }
+    ensures grows { Grows (T.collection types.old) (T.collection types.new) }
+{
+    let found = member_types(alloc, names, types, members)?;
+    let tuple = define(types, DefinedType::Tuple(found))?;
+    Ok(tuple)
+}
