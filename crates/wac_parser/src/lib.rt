@@ -1,6 +1,7 @@
 //! The language: tokens, trees, parsers, printing: the public crate over its parts.
 #![tactic(auto)]
 
+pub use wac_parser_declare as declare;
 pub use wac_parser_lexer as lexer;
 pub use wac_parser_print::{ByteSink, DocumentPrinter, DocumentValue, PrintError};
 pub use wac_parser_read::{

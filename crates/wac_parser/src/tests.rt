@@ -1,3 +1,4 @@
+mod declared;
 mod parsers;
 mod tokens;
 mod trees;
