@@ -7,3 +7,5 @@ pub mod Loops
 pub mod Members
 pub mod RowWords
 pub mod RefusedRows
+pub mod Standing
+pub mod Keeping

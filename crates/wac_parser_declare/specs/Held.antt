@@ -1,11 +1,7 @@
 -- What stands in a body.
-use Rattle.std.specs.Prelude.{List, ◌×◌}
-use Rattle.wac_types_base.specs.declared.item.ItemKind.{ItemKind}
 use Rattle.wac_types_base.specs.Record.{Collection}
-use Rattle.wac_types_base.specs.Collection.{Stands}
-use Rattle.wac_types_base.specs.Entries.{Name}
 use Rattle.wac_parser_declare.specs.declared.bodies.Body.{Body}
-use Rattle.wac_parser_declare.specs.Holding.{EachStands, ItemsStand, NamesStand, UsesStand}
+use Rattle.wac_parser_declare.specs.Holding.{ItemsStand, NamesStand, UsesStand}
 
 -- each id in the body stands
 pub record BodyStands (c : Collection) (b : Body) : Type 0 where

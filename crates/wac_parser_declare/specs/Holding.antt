@@ -127,10 +127,10 @@ meant_by c b = record { item = stated_of c b.kind; span = b.span }
 abbrev pub scope_of : Collection → List (Name × Binding) → Scope
 scope_of c bs = with_values (meant_by c) bs
 
--- an entry is added where its name is new
+-- an entry is added where its name is new; else nothing changes
 abbrev pub AddsNew : {V : Type 0} → List (Name × V) → Name → V → List (Name × V) → Bool → Type 0
 AddsNew es n v fs true = (is_some (value_at es n) ≡ false) × (fs ≡ es ++ (n, v) ∷ [])
-AddsNew es n v fs false = is_some (value_at es n) ≡ true
+AddsNew es n v fs false = (is_some (value_at es n) ≡ true) × (fs ≡ es)
 
 -- ---- functions
 

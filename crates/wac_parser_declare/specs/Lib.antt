@@ -9,3 +9,4 @@ pub mod Views
 pub mod Holding
 pub mod Payloads
 pub mod Held
+pub mod Keeping

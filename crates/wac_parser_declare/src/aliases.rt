@@ -1,13 +1,11 @@
 //! Other names of types.
+#![tactic(auto, using(crate::proofs::Standing::declarations))]
 
 ghost use Rattle.std.specs.Prelude.{◌≡◌, IfOk, Some, option_map};
 ghost use Rattle.wac_types_base.specs.declared.item.ItemKind.{ItemKind};
 ghost use Rattle.wac_types_base.specs.declared.item.«Type».{«Type» as TypeKind};
 ghost use Rattle.wac_types_base.specs.Collection.{Stands, Grows, SlotStands, item_node, func_entry};
-ghost use Rattle.wac_types_base.specs.Stated.{stated_of, as_type};
-ghost use Rattle.wac_parser_declare.specs.Causes.{pure};
-ghost use Rattle.wac_parser_declare.specs.Declarations as stated;
-ghost use Rattle.wac_parser_declare.specs.Holding.{IsOutcome, IsType, NamesStand, stated_value};
+ghost use Rattle.wac_parser_declare.specs.Holding.{NamesStand};
 
 use crate::error::ResolutionResult;
 use crate::functions::func_type;
@@ -26,8 +24,7 @@ use wac_types_base::{
 /// The interface that an alias of a resource belongs to.
 fn owner_of(types: &Types, source: ResourceId) -> Option<InterfaceId>
     requires { Stands types.now (ItemKind.Ty (TypeKind.Resource source)) }
-    ensures owner { option_map (stated_of types.now) (option_map ItemKind.Instance result) ≡ stated.owner_of (stated_of types.now (ItemKind.Ty (TypeKind.Resource source))) }
-    ensures stands { SlotStands types.now (option_map ItemKind.Instance result) }
+    ensures { SlotStands types.now (option_map ItemKind.Instance result) }
 {
     match types.resource(source).alias {
         Some(alias) => alias.owner,
@@ -43,7 +40,7 @@ fn resource_alias<T: GrowingTypes>(
     source: ResourceId,
 ) -> ResolutionResult<Type>
     requires { Stands (T.collection types.old) (ItemKind.Ty (TypeKind.Resource source)) }
-    ensures outcome { IsOutcome (IsType (T.collection types.new)) (pure (stated.resource_alias_of name.now (stated_of (T.collection types.old) (ItemKind.Ty (TypeKind.Resource source))))) result }
+    ensures stands { IfOk result (λ t. Stands (T.collection types.new) (ItemKind.Ty t)) }
     ensures grows { Grows (T.collection types.old) (T.collection types.new) }
 {
     types.types().see_acyclic();
@@ -61,7 +58,7 @@ fn resource_alias<T: GrowingTypes>(
 /// Another name of a value type.
 fn value_alias<T: GrowingTypes>(types: &mut T, ty: ValueType) -> ResolutionResult<Type>
     requires { Stands (T.collection types.old) (ItemKind.Value ty) }
-    ensures outcome { IsOutcome (IsType (T.collection types.new)) (pure (stated.alias_of (stated_value (T.collection types.old) ty))) result }
+    ensures stands { IfOk result (λ t. Stands (T.collection types.new) (ItemKind.Ty t)) }
     ensures grows { Grows (T.collection types.old) (T.collection types.new) }
 {
     types.types().see_acyclic();
@@ -104,7 +101,7 @@ fn func_alias<T: GrowingTypes>(
     func: FuncTypeId,
 ) -> ResolutionResult<Type>
     requires { Stands (T.collection types.old) (ItemKind.Func func) }
-    ensures outcome { IsOutcome (IsType (T.collection types.new)) (pure (as_type (stated_of (T.collection types.old) (ItemKind.Func func)))) result }
+    ensures stands { IfOk result (λ t. Stands (T.collection types.new) (ItemKind.Ty t)) }
     ensures grows { Grows (T.collection types.old) (T.collection types.new) }
 {
     types.types().see_acyclic();

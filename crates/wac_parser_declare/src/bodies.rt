@@ -1,4 +1,5 @@
 //! What the body of an interface or of a world holds so far.
+#![tactic(auto, using(crate::proofs::Standing::bodies))]
 
 ghost use Rattle.std.specs.Prelude.{◌≡◌, OnOk};
 ghost use Rattle.wac_types_base.specs.declared.item.ItemKind.{ItemKind};

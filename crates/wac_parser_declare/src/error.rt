@@ -10,6 +10,7 @@ use wac_graph_core::NameError;
 use wac_parser_lexer::SourceSpan;
 use wac_types_base::{ExternKind, FuncKind};
 use wac_types_fit::SubtypeError;
+use wac_types_merge::AggregateError;
 use wac_types_names::PackageKey;
 
 /// What may help where a name is there already.
@@ -148,6 +149,8 @@ pub enum Error {
         span: SourceSpan,
         /// Where the instantiation stands.
         instantiation: SourceSpan,
+        /// Why they do not merge.
+        source: AggregateError,
     },
     /// An operation asks for an instance.
     NotAnInstance {

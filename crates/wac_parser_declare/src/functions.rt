@@ -1,14 +1,11 @@
 //! Function types.
+#![tactic(auto, using(crate::proofs::Standing::functions))]
 
-ghost use Rattle.std.specs.Prelude.{◌≡◌, [], map, IfOk};
+ghost use Rattle.std.specs.Prelude.{◌≡◌, IfOk, OnOk, OnErr};
 ghost use Rattle.wac_types_base.specs.declared.item.ItemKind.{ItemKind};
+ghost use Rattle.wac_types_base.specs.declared.item.«Type».{«Type» as TypeKind};
 ghost use Rattle.wac_types_base.specs.Collection.{Stands, Grows};
-ghost use Rattle.wac_types_base.specs.Entries.{with_values};
-ghost use Rattle.wac_types_base.specs.Stated.{stated_of, kind_of};
-ghost use Rattle.wac_parser_tree.specs.Views.{view_func_type, view_func_type_ref, view_ident, view_named_type, view_result_list, view_ty};
-ghost use Rattle.wac_parser_declare.specs.Causes.{each};
-ghost use Rattle.wac_parser_declare.specs.Declarations as stated;
-ghost use Rattle.wac_parser_declare.specs.Holding.{AddsNew, AreNamedValues, EachStands, IsFunc, IsOutcome, IsValueIf, NamesStand, StandsIf, ValueStands, scope_of, self_params, stated_if, stated_value};
+ghost use Rattle.wac_parser_declare.specs.Holding.{AddsNew, EachStands, NamesStand, StandsIf, ValueStands, self_params};
 
 use crate::error::{Error, ResolutionResult};
 use crate::growing::GrowingTypes;
@@ -27,7 +24,8 @@ pub(crate) fn add_new<V: Drop>(
     name: &str,
     value: V,
 ) -> Result<bool, AllocError>
-    ensures { IfOk result (AddsNew entries.old name.now value entries.new) }
+    ensures added { IfOk result (AddsNew entries.old name.now value entries.new) }
+    ensures kept { OnErr result (entries.new ≡ entries.old) }
 {
     if entries.contains(name) {
         return Ok(false);
@@ -76,7 +74,7 @@ fn add_param<T: GrowingTypes>(
 ) -> ResolutionResult<()>
     requires names { NamesStand (T.collection types.old) names.now }
     requires found { EachStands (ValueStands (T.collection types.old)) found.old }
-    ensures outcome { IsOutcome (λ xs _. AreNamedValues (T.collection types.new) xs found.new) (stated.param kind (scope_of (T.collection types.old) names.now) (with_values (stated_value (T.collection types.old)) found.old) (view_named_type param.now)) result }
+    ensures found { OnOk result (EachStands (ValueStands (T.collection types.new)) found.new) }
     ensures grows { Grows (T.collection types.old) (T.collection types.new) }
 {
     let ty = value_type(alloc, names, types, &param.ty)?;
@@ -98,7 +96,7 @@ fn add_params<T: GrowingTypes>(
 ) -> ResolutionResult<()>
     requires names { NamesStand (T.collection types.old) names.now }
     requires found { EachStands (ValueStands (T.collection types.old)) found.old }
-    ensures outcome { IsOutcome (λ xs _. AreNamedValues (T.collection types.new) xs found.new) (each (stated.param kind (scope_of (T.collection types.old) names.now)) (with_values (stated_value (T.collection types.old)) found.old) (map view_named_type params.now.items)) result }
+    ensures found { OnOk result (EachStands (ValueStands (T.collection types.new)) found.new) }
     ensures grows { Grows (T.collection types.old) (T.collection types.new) }
 {
     types.types().see_acyclic();
@@ -116,7 +114,7 @@ fn scalar_result<T: GrowingTypes>(
     ty: &ast::Type<'_>,
 ) -> ResolutionResult<Option<ValueType>>
     requires { NamesStand (T.collection types.old) names.now }
-    ensures outcome { IsOutcome (IsValueIf (T.collection types.new)) (stated.scalar_result (scope_of (T.collection types.old) names.now) (view_ty ty.now)) result }
+    ensures stands { IfOk result (StandsIf (T.collection types.new)) }
     ensures grows { Grows (T.collection types.old) (T.collection types.new) }
 {
     let found = value_type(alloc, names, types, ty)?;
@@ -136,7 +134,7 @@ fn result_type<T: GrowingTypes>(
 ) -> ResolutionResult<Option<ValueType>>
     requires names { NamesStand (T.collection types.old) names.now }
     requires given { StandsIf (T.collection types.old) given }
-    ensures outcome { IsOutcome (IsValueIf (T.collection types.new)) (stated.result_of (scope_of (T.collection types.old) names.now) (stated_if (T.collection types.old) given) (view_result_list results.now)) result }
+    ensures stands { IfOk result (StandsIf (T.collection types.new)) }
     ensures grows { Grows (T.collection types.old) (T.collection types.new) }
 {
     types.types().see_acyclic();
@@ -158,7 +156,7 @@ pub(crate) fn function<T: GrowingTypes>(
     requires names { NamesStand (T.collection types.old) names.now }
     requires receiver { StandsIf (T.collection types.old) signature.receiver }
     requires given { StandsIf (T.collection types.old) signature.given }
-    ensures outcome { IsOutcome (IsFunc (T.collection types.new)) (stated.function signature.kind (scope_of (T.collection types.old) names.now) (self_params (stated_if (T.collection types.old) signature.receiver)) (stated_if (T.collection types.old) signature.given) (map view_named_type params.now.items) (view_result_list results.now) signature.is_async) result }
+    ensures stands { IfOk result (λ f. Stands (T.collection types.new) (ItemKind.Func f)) }
     ensures grows { Grows (T.collection types.old) (T.collection types.new) }
 {
     types.types().see_acyclic();
@@ -182,7 +180,7 @@ pub fn func_type<T: GrowingTypes>(
     ty: &ast::FuncType<'_>,
 ) -> ResolutionResult<FuncTypeId>
     requires { NamesStand (T.collection types.old) names.now }
-    ensures outcome { IsOutcome (IsFunc (T.collection types.new)) (stated.free (scope_of (T.collection types.old) names.now) (view_func_type ty.now)) result }
+    ensures stands { IfOk result (λ f. Stands (T.collection types.new) (ItemKind.Func f)) }
     ensures grows { Grows (T.collection types.old) (T.collection types.new) }
 {
     let signature = Signature {
@@ -202,7 +200,7 @@ fn func_of_type(
     id: &Ident<'_>,
 ) -> ResolutionResult<FuncTypeId>
     requires { Stands types.now (ItemKind.Ty ty) }
-    ensures { IsOutcome (IsFunc types.now) (stated.func_by (kind_of (stated_of types.now (ItemKind.Ty ty))) (view_ident id.now) (stated_of types.now (ItemKind.Ty ty))) result }
+    ensures { IfOk result (λ f. Stands types.now (ItemKind.Func f)) }
 {
     types.see_acyclic();
     match ty {
@@ -219,7 +217,7 @@ fn func_of(
     id: &Ident<'_>,
 ) -> ResolutionResult<FuncTypeId>
     requires { Stands types.now kind }
-    ensures { IsOutcome (IsFunc types.now) (stated.func_by (kind_of (stated_of types.now kind)) (view_ident id.now) (stated_of types.now kind)) result }
+    ensures { IfOk result (λ f. Stands types.now (ItemKind.Func f)) }
 {
     types.see_acyclic();
     match kind {
@@ -237,7 +235,7 @@ fn func_named(
     id: &Ident<'_>,
 ) -> ResolutionResult<FuncTypeId>
     requires { NamesStand types.now names.now }
-    ensures { IsOutcome (IsFunc types.now) (stated.func_named (scope_of types.now names.now) (view_ident id.now)) result }
+    ensures { IfOk result (λ f. Stands types.now (ItemKind.Func f)) }
 {
     let binding = meaning(alloc, names, id)?;
     func_of(alloc, types, binding.kind, id)
@@ -251,7 +249,7 @@ pub fn func_type_ref<T: GrowingTypes>(
     ty: &ast::FuncTypeRef<'_>,
 ) -> ResolutionResult<FuncTypeId>
     requires { NamesStand (T.collection types.old) names.now }
-    ensures outcome { IsOutcome (IsFunc (T.collection types.new)) (stated.func_ref (scope_of (T.collection types.old) names.now) (view_func_type_ref ty.now)) result }
+    ensures stands { IfOk result (λ f. Stands (T.collection types.new) (ItemKind.Func f)) }
     ensures grows { Grows (T.collection types.old) (T.collection types.new) }
 {
     types.types().see_acyclic();

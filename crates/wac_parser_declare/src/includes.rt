@@ -1,7 +1,9 @@
 //! The items of a world that another world includes.
+#![tactic(auto, using(crate::proofs::Standing::bodies))]
 
 ghost use Rattle.std.specs.Prelude.{◌≡◌, OnOk, IfOk};
 ghost use Rattle.wac_types_base.specs.declared.item.ItemKind.{ItemKind};
+ghost use Rattle.wac_types_base.specs.Record.{Collection};
 ghost use Rattle.wac_types_base.specs.Collection.{Stands, Grows};
 ghost use Rattle.wac_parser_declare.specs.Held.{BodyStands};
 ghost use Rattle.wac_parser_declare.specs.Holding.{ItemsStand, NamesStand};
@@ -96,7 +98,9 @@ fn include_item(
     name: &str,
     item: ItemKind,
     renamed: Option<Ident<'_>>,
-) -> ResolutionResult<()> {
+) -> ResolutionResult<()>
+    ensures { OnOk result ((c : Collection) → ItemsStand c stand.old → Stands c item → ItemsStand c stand.new) }
+{
     if has_colon(name) {
         let _ = add_new(alloc, stand, name, item)?;
         return Ok(());
@@ -121,7 +125,9 @@ fn include_imports(
     inclusion: Inclusion<'_>,
     stand: &mut NamedMap<ItemKind>,
     imports: &NamedMap<ItemKind>,
-) -> ResolutionResult<()> {
+) -> ResolutionResult<()>
+    ensures { OnOk result ((c : Collection) → ItemsStand c stand.old → ItemsStand c imports.now → ItemsStand c stand.new) }
+{
     for at in 0..imports.len() {
         let (name, item) = imports.entry(at);
         let renamed = renaming(&inclusion.include.with, name);
@@ -149,7 +155,9 @@ fn include_exports(
     inclusion: Inclusion<'_>,
     stand: &mut NamedMap<ItemKind>,
     world: &World,
-) -> ResolutionResult<()> {
+) -> ResolutionResult<()>
+    ensures { OnOk result ((c : Collection) → ItemsStand c stand.old → ItemsStand c world.now.exports → ItemsStand c stand.new) }
+{
     for at in 0..world.exports.len() {
         let (name, item) = world.exports.entry(at);
         let renamed = export_renaming(&inclusion.include.with, &world.imports, name);

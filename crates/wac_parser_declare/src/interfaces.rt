@@ -1,4 +1,5 @@
 //! The interface that a body states.
+#![tactic(auto, using(crate::proofs::Standing::bodies))]
 
 ghost use Rattle.std.specs.Prelude.{◌≡◌, OnOk, IfOk};
 ghost use Rattle.wac_types_base.specs.declared.item.ItemKind.{ItemKind};

@@ -1,8 +1,11 @@
 //! A graph with the packages that its document may name.
+#![tactic(auto, using(crate::proofs::Keeping::keeping))]
 
-ghost use Rattle.std.specs.Prelude.{◌≡◌, IfOk};
-ghost use Rattle.wac_types_base.specs.Collection.{Grows};
-ghost use Rattle.wac_graph_core.specs.Graph.{ContainsPackage};
+ghost use Rattle.std.specs.Prelude.{◌≡◌, IfOk, IfSome};
+ghost use Rattle.wac_types_base.specs.declared.item.ItemKind.{ItemKind};
+ghost use Rattle.wac_types_base.specs.Collection.{Stands};
+ghost use Rattle.wac_graph_core.specs.Graph.{ContainsPackage, PackageStands};
+ghost use Rattle.wac_parser_declare.specs.Keeping.{Keeps};
 
 use crate::error::{Error, ResolutionResult};
 use crate::growing::{GrowingTypes, PackagedTypes};
@@ -68,6 +71,47 @@ impl GrowingTypes for GraphTypes<'_> {
     }
 }
 
+/// Copies the world of a package into a graph's collection.
+fn copy_world(
+    graph: &mut CompositionGraph,
+    types: &Types,
+    world: WorldId,
+) -> Result<WorldId, AllocError>
+    requires { Stands types.now (ItemKind.Component world) }
+    ensures stands { IfOk result (λ i. Stands graph.new.types (ItemKind.Component i)) }
+    ensures keeps { Keeps graph.old graph.new }
+{
+    graph.types_mut().copy_world(types, world)
+}
+
+/// A package of a world of a graph's collection.
+fn make_package(
+    graph: &mut CompositionGraph,
+    name: &str,
+    version: Option<&Version>,
+    bytes: Vec<u8>,
+    world: WorldId,
+) -> Result<Package, AllocError>
+    requires { Stands graph.old.types (ItemKind.Component world) }
+    ensures stands { IfOk result (PackageStands graph.new.types) }
+    ensures keeps { Keeps graph.old graph.new }
+{
+    graph.types_mut().add_package(name, version, bytes, world)
+}
+
+/// Registers a package.
+fn add_package(graph: &mut CompositionGraph, package: Package) -> ResolutionResult<PackageId>
+    requires { PackageStands graph.old.types «package» }
+    ensures stands { IfOk result (ContainsPackage graph.new) }
+    ensures keeps { Keeps graph.old graph.new }
+{
+    graph.see_sound();
+    match graph.register_package(package) {
+        Ok(id) => Ok(id),
+        Err(_) => Err(Error::Memory),
+    }
+}
+
 /// Registers a copy of a package whose world stands in its collection.
 fn register(
     alloc: Global,
@@ -75,21 +119,22 @@ fn register(
     name: &str,
     version: Option<&Version>,
     handed: PackageRef<'_>,
-) -> ResolutionResult<PackageId> {
-    let world = graph
-        .types_mut()
-        .copy_world(handed.types, handed.package.ty())?;
+) -> ResolutionResult<PackageId>
+    requires { Stands handed.types.now (ItemKind.Component handed.«package».now.ty) }
+    ensures stands { IfOk result (ContainsPackage graph.new) }
+    ensures keeps { Keeps graph.old graph.new }
+{
+    let world = copy_world(graph, handed.types, handed.package.ty())?;
     let bytes = Vec::from_slice(alloc, handed.package.bytes())?;
-    let package = graph.types_mut().add_package(name, version, bytes, world)?;
-    match graph.register_package(package) {
-        Ok(id) => Ok(id),
-        Err(_) => Err(Error::Memory),
-    }
+    let package = make_package(graph, name, version, bytes, world)?;
+    add_package(graph, package)
 }
 
 impl<'a> GraphTypes<'a> {
     /// The package that is handed in under a key, where its world stands.
-    fn handed(&self, name: &str, version: Option<&Version>) -> Option<PackageRef<'a>> {
+    fn handed(&self, name: &str, version: Option<&Version>) -> Option<PackageRef<'a>>
+        ensures { IfSome result (λ p. Stands p.types.now (ItemKind.Component p.«package».now.ty)) }
+    {
         let key = BorrowedPackageKey::from_name_and_version(name, version);
         let found = *self.packages.get(&key)?;
         if found.types.contains(Type::World(found.package.ty())) {
@@ -109,8 +154,9 @@ impl<'a> GraphTypes<'a> {
         span: SourceSpan,
     ) -> ResolutionResult<PackageId>
         ensures stands { IfOk result (ContainsPackage self.new.graph) }
-        ensures grows { Grows self.old.graph.types self.new.graph.types }
+        ensures keeps { Keeps self.old.graph self.new.graph }
     {
+        self.graph.see_sound();
         if let Some((id, _)) = self.graph.get_package_by_name(name, version) {
             return Ok(id);
         }

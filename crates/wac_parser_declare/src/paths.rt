@@ -1,4 +1,5 @@
 //! What paths name.
+#![tactic(auto, using(crate::proofs::Standing::standing))]
 
 ghost use Rattle.std.specs.Prelude.{◌≡◌, IfOk, IfSome};
 ghost use Rattle.wac_types_base.specs.declared.item.ItemKind.{ItemKind};

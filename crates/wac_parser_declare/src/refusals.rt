@@ -257,7 +257,7 @@ pub(crate) fn use_conflict(
     kind: ExternKind,
     help: Option<&'static str>,
 ) -> Error
-    ensures { Refuses result (fault.UseConflict id.now.string.now kind (is_some help)) id.now.span }
+    ensures { Refuses result (fault.UseConflict id.now.string.now kind (is_some help.entry)) id.now.span }
 {
     let Ok(name) = String::from_str(alloc, id.string) else {
         return Error::Memory;
@@ -271,7 +271,7 @@ pub(crate) fn use_conflict(
 }
 
 fn optional_name(alloc: Global, name: Option<&str>) -> Result<Option<String>, AllocError>
-    ensures { IfOk result (λ r. option_map string_bytes r ≡ option_map (λ n. n.now) name) }
+    ensures { IfOk result (λ r. option_map string_bytes r ≡ option_map (λ n. n.now) name.entry) }
 {
     match name {
         Some(name) => Ok(Some(String::from_str(alloc, name)?)),
@@ -280,7 +280,7 @@ fn optional_name(alloc: Global, name: Option<&str>) -> Result<Option<String>, Al
 }
 
 pub(crate) fn duplicate_export(alloc: Global, id: &Ident<'_>, interface: Option<&str>) -> Error
-    ensures { Refuses result (fault.DuplicateInterfaceExport id.now.string.now (option_map (λ n. n.now) interface)) id.now.span }
+    ensures { Refuses result (fault.DuplicateInterfaceExport id.now.string.now (option_map (λ n. n.now) interface.entry)) id.now.span }
 {
     let Ok(name) = String::from_str(alloc, id.string) else {
         return Error::Memory;

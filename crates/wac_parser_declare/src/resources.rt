@@ -1,10 +1,13 @@
 //! Declarations in a body, resources with their methods among them.
+#![tactic(auto, using(crate::proofs::Standing::bodies))]
 
-ghost use Rattle.std.specs.Prelude.{◌≡◌, OnOk};
+ghost use Rattle.std.specs.Prelude.{◌≡◌, ◌⊎◌, IfOk, IfSome, None, OnOk, Some};
 ghost use Rattle.wac_types_base.specs.declared.item.ItemKind.{ItemKind};
+ghost use Rattle.wac_types_base.specs.declared.item.ValueType.{ValueType};
 ghost use Rattle.wac_types_base.specs.declared.item.«Type».{«Type» as TypeKind};
 ghost use Rattle.wac_types_base.specs.Collection.{Stands, Grows};
 ghost use Rattle.wac_parser_declare.specs.Held.{BodyStands};
+ghost use Rattle.wac_parser_declare.specs.Holding.{StandsIf};
 
 use crate::aliases::{Place, type_alias};
 use crate::bodies::{Body, Holder, add_type};

@@ -1,4 +1,5 @@
 //! What names mean.
+#![tactic(auto, using(crate::proofs::Standing::adding))]
 
 ghost use Rattle.std.specs.Prelude.{◌≡◌, ◌∷◌, ◌++◌, [], OnOk, OnErr, string_bytes};
 ghost use Rattle.wac_types_base.specs.Entries.{value_at};

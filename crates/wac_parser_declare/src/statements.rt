@@ -1,4 +1,5 @@
 //! Statements that declare a type.
+#![tactic(auto, using(crate::proofs::Standing::standing))]
 
 ghost use Rattle.std.specs.Prelude.{◌≡◌, IfOk};
 ghost use Rattle.wac_types_base.specs.declared.item.ItemKind.{ItemKind};

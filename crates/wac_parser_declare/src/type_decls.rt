@@ -1,16 +1,10 @@
 //! Declarations of types.
+#![tactic(auto, using(crate::proofs::Standing::declarations))]
 
-ghost use Rattle.std.specs.Prelude.{◌≡◌, [], map, IfOk, IfErr, Some, true, option_map};
+ghost use Rattle.std.specs.Prelude.{◌≡◌, IfOk, OnOk};
 ghost use Rattle.wac_types_base.specs.declared.item.ItemKind.{ItemKind};
-ghost use Rattle.wac_types_base.specs.declared.item.«Type».{«Type» as TypeKind};
-ghost use Rattle.wac_types_base.specs.Collection.{Stands, Grows, HasChildren, SlotStands, item_node, func_entry};
-ghost use Rattle.wac_types_base.specs.Entries.{with_values};
-ghost use Rattle.wac_types_base.specs.Stated.{stated_of, kind_of, as_type};
-ghost use Rattle.wac_parser_tree.specs.Views.{view_enum_case, view_enum_decl, view_field, view_flag, view_flags_decl, view_ident, view_record_decl, view_ty, view_type_alias, view_type_alias_kind, view_type_decl, view_variant_case, view_variant_decl};
-ghost use Rattle.wac_parser_declare.specs.Causes.{each, pure};
-ghost use Rattle.wac_parser_declare.specs.Declarations as stated;
-ghost use Rattle.wac_parser_declare.specs.ValueTypes.{value, value_if};
-ghost use Rattle.wac_parser_declare.specs.Holding.{AreCases, AreNamedValues, EachStands, IsOutcome, IsType, IsValueIf, NamesStand, StandsIf, ValueStands, scope_of, stated_if, stated_value};
+ghost use Rattle.wac_types_base.specs.Collection.{Stands, Grows};
+ghost use Rattle.wac_parser_declare.specs.Holding.{EachStands, NamesStand, StandsIf, ValueStands};
 
 use crate::aliases::{Place, type_alias};
 use crate::error::ResolutionResult;
@@ -33,7 +27,7 @@ fn case_type<T: GrowingTypes>(
     ty: &Option<ast::Type<'_>>,
 ) -> ResolutionResult<Option<ValueType>>
     requires { NamesStand (T.collection types.old) names.now }
-    ensures outcome { IsOutcome (IsValueIf (T.collection types.new)) (value_if (scope_of (T.collection types.old) names.now) (option_map view_ty ty.now)) result }
+    ensures stands { IfOk result (StandsIf (T.collection types.new)) }
     ensures grows { Grows (T.collection types.old) (T.collection types.new) }
 {
     types.types().see_acyclic();
@@ -57,7 +51,7 @@ fn add_case<T: GrowingTypes>(
 ) -> ResolutionResult<()>
     requires names { NamesStand (T.collection types.old) names.now }
     requires found { EachStands (StandsIf (T.collection types.old)) found.old }
-    ensures outcome { IsOutcome (λ xs _. AreCases (T.collection types.new) xs found.new) (stated.case_of variant.now (scope_of (T.collection types.old) names.now) (with_values (stated_if (T.collection types.old)) found.old) (view_variant_case case.now)) result }
+    ensures found { OnOk result (EachStands (StandsIf (T.collection types.new)) found.new) }
     ensures grows { Grows (T.collection types.old) (T.collection types.new) }
 {
     let ty = case_type(alloc, names, types, &case.ty)?;
@@ -76,7 +70,7 @@ fn cases<T: GrowingTypes>(
     decl: &ast::VariantDecl<'_>,
 ) -> ResolutionResult<NamedMap<Option<ValueType>>>
     requires { NamesStand (T.collection types.old) names.now }
-    ensures outcome { IsOutcome (AreCases (T.collection types.new)) (each (stated.case_of decl.now.id.string.now (scope_of (T.collection types.old) names.now)) [] (map view_variant_case decl.now.cases.items)) result }
+    ensures stand { IfOk result (EachStands (StandsIf (T.collection types.new))) }
     ensures grows { Grows (T.collection types.old) (T.collection types.new) }
 {
     types.types().see_acyclic();
@@ -95,7 +89,7 @@ pub(crate) fn variant_decl<T: GrowingTypes>(
     decl: &ast::VariantDecl<'_>,
 ) -> ResolutionResult<Type>
     requires { NamesStand (T.collection types.old) names.now }
-    ensures outcome { IsOutcome (IsType (T.collection types.new)) (stated.variant_decl (scope_of (T.collection types.old) names.now) (view_variant_decl decl.now)) result }
+    ensures stands { IfOk result (λ t. Stands (T.collection types.new) (ItemKind.Ty t)) }
     ensures grows { Grows (T.collection types.old) (T.collection types.new) }
 {
     let cases = cases(alloc, names, types, decl)?;
@@ -114,7 +108,7 @@ fn add_field<T: GrowingTypes>(
 ) -> ResolutionResult<()>
     requires names { NamesStand (T.collection types.old) names.now }
     requires found { EachStands (ValueStands (T.collection types.old)) found.old }
-    ensures outcome { IsOutcome (λ xs _. AreNamedValues (T.collection types.new) xs found.new) (stated.field_of «record».now (scope_of (T.collection types.old) names.now) (with_values (stated_value (T.collection types.old)) found.old) (view_field field.now)) result }
+    ensures found { OnOk result (EachStands (ValueStands (T.collection types.new)) found.new) }
     ensures grows { Grows (T.collection types.old) (T.collection types.new) }
 {
     let ty = value_type(alloc, names, types, &field.ty)?;
@@ -133,7 +127,7 @@ fn fields<T: GrowingTypes>(
     decl: &ast::RecordDecl<'_>,
 ) -> ResolutionResult<NamedMap<ValueType>>
     requires { NamesStand (T.collection types.old) names.now }
-    ensures outcome { IsOutcome (AreNamedValues (T.collection types.new)) (each (stated.field_of decl.now.id.string.now (scope_of (T.collection types.old) names.now)) [] (map view_field decl.now.fields.items)) result }
+    ensures stand { IfOk result (EachStands (ValueStands (T.collection types.new))) }
     ensures grows { Grows (T.collection types.old) (T.collection types.new) }
 {
     types.types().see_acyclic();
@@ -152,7 +146,7 @@ pub(crate) fn record_decl<T: GrowingTypes>(
     decl: &ast::RecordDecl<'_>,
 ) -> ResolutionResult<Type>
     requires { NamesStand (T.collection types.old) names.now }
-    ensures outcome { IsOutcome (IsType (T.collection types.new)) (stated.record_decl (scope_of (T.collection types.old) names.now) (view_record_decl decl.now)) result }
+    ensures stands { IfOk result (λ t. Stands (T.collection types.new) (ItemKind.Ty t)) }
     ensures grows { Grows (T.collection types.old) (T.collection types.new) }
 {
     let fields = fields(alloc, names, types, decl)?;
@@ -167,7 +161,6 @@ fn add_flag(
     found: &mut Names,
     flag: &ast::Flag<'_>,
 ) -> ResolutionResult<()>
-    ensures { IsOutcome (λ xs _. found.new ≡ xs) (stated.flag_of flags.now found.old (view_flag flag.now)) result }
 {
     let name = String::from_str(alloc, flag.id.string)?;
     if found.insert(name)? {
@@ -179,7 +172,6 @@ fn add_flag(
 
 /// The flags of a declaration.
 fn flags(alloc: Global, decl: &ast::FlagsDecl<'_>) -> ResolutionResult<Names>
-    ensures { IsOutcome (λ xs ys. ys ≡ xs) (each (stated.flag_of decl.now.id.string.now) [] (map view_flag decl.now.flags.items)) result }
 {
     let mut found = Names::new(alloc);
     for flag in &decl.flags {
@@ -194,7 +186,7 @@ pub(crate) fn flags_decl<T: GrowingTypes>(
     types: &mut T,
     decl: &ast::FlagsDecl<'_>,
 ) -> ResolutionResult<Type>
-    ensures outcome { IsOutcome (IsType (T.collection types.new)) (stated.flags_decl (view_flags_decl decl.now)) result }
+    ensures stands { IfOk result (λ t. Stands (T.collection types.new) (ItemKind.Ty t)) }
     ensures grows { Grows (T.collection types.old) (T.collection types.new) }
 {
     types.types().see_acyclic();
@@ -210,7 +202,6 @@ fn add_enum_case(
     found: &mut Names,
     case: &ast::EnumCase<'_>,
 ) -> ResolutionResult<()>
-    ensures { IsOutcome (λ xs _. found.new ≡ xs) (stated.enum_case_of ty.now found.old (view_enum_case case.now)) result }
 {
     let name = String::from_str(alloc, case.id.string)?;
     if found.insert(name)? {
@@ -222,7 +213,6 @@ fn add_enum_case(
 
 /// The cases of an enum.
 fn enum_cases(alloc: Global, decl: &ast::EnumDecl<'_>) -> ResolutionResult<Names>
-    ensures { IsOutcome (λ xs ys. ys ≡ xs) (each (stated.enum_case_of decl.now.id.string.now) [] (map view_enum_case decl.now.cases.items)) result }
 {
     let mut found = Names::new(alloc);
     for case in &decl.cases {
@@ -237,7 +227,7 @@ pub(crate) fn enum_decl<T: GrowingTypes>(
     types: &mut T,
     decl: &ast::EnumDecl<'_>,
 ) -> ResolutionResult<Type>
-    ensures outcome { IsOutcome (IsType (T.collection types.new)) (stated.enum_decl (view_enum_decl decl.now)) result }
+    ensures stands { IfOk result (λ t. Stands (T.collection types.new) (ItemKind.Ty t)) }
     ensures grows { Grows (T.collection types.old) (T.collection types.new) }
 {
     types.types().see_acyclic();

@@ -1,4 +1,5 @@
 //! Types of another interface that a body uses.
+#![tactic(auto, using(crate::proofs::Standing::bodies))]
 
 ghost use Rattle.std.specs.Prelude.{◌≡◌, OnOk, IfOk, IfSome};
 ghost use Rattle.wac_types_base.specs.declared.item.ItemKind.{ItemKind};

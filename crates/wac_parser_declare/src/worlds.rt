@@ -1,4 +1,5 @@
 //! The world that a declaration states.
+#![tactic(auto, using(crate::proofs::Standing::bodies))]
 
 ghost use Rattle.std.specs.Prelude.{◌≡◌, OnOk, IfOk};
 ghost use Rattle.wac_types_base.specs.declared.item.ItemKind.{ItemKind};
@@ -50,7 +51,7 @@ fn body_or_root(
     names: &NamedMap<Binding>,
     id: &Ident<'_>,
 ) -> ResolutionResult<Binding>
-    ensures { (c : Collection) → NamesStand c context.root.now → NamesStand c names.now → IfOk result (λ b. Stands c b.kind) }
+    ensures { (c : Collection) → NamesStand c context.entry.root.now → NamesStand c names.now → IfOk result (λ b. Stands c b.kind) }
 {
     match names.get(id.string) {
         Some(binding) => Ok(*binding),

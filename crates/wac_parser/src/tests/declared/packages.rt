@@ -171,6 +171,13 @@ fn paths_into_a_package(rt: HostRuntime) -> Result<(), Fail> {
     expect_refused(
         &rt,
         &packages,
+        "package t:t; import r: a:b/i/r@1.0.0; type s = r;",
+        "`r` (resource) cannot be used in a type alias",
+        Some((47, 1)),
+    )?;
+    expect_refused(
+        &rt,
+        &packages,
         "package t:t; world v { include a:b/i@1.0.0; }",
         "`a:b/i@1.0.0` (interface) is not a world",
         Some((31, 11)),

@@ -1,0 +1,9 @@
+use Rattle.wac_types_base.specs.Collection.{Grows}
+use Rattle.wac_parser_declare.specs.Holding.{EachStands, ValueStands}
+use Rattle.wac_parser_declare.proofs.type_decls.fields.Given as goal
+
+abbrev pub invariant-loop-field : goal.invariant-loop-field
+invariant-loop-field g l = record {
+  grows : Grows (g.T.GrowingTypes.collection l.initial.types) (g.T.GrowingTypes.collection l.types);
+  stand : EachStands (ValueStands (g.T.GrowingTypes.collection l.types)) l.found;
+}
