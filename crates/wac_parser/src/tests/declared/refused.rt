@@ -79,9 +79,9 @@ fn names_that_are_there_twice(rt: HostRuntime) -> Result<(), Fail> {
     expect_refused(
         &rt,
         &packages,
-        "package t:t; type a = u32; type a = u32;",
+        "package t:t; type a = u32; import a: func();",
         "`a` is already defined",
-        Some((32, 1)),
+        Some((34, 1)),
     )?;
     expect_refused(
         &rt,

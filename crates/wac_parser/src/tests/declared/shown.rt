@@ -13,12 +13,28 @@ fn add_all(out: &mut String, words: &[&str]) -> Result<(), AllocError> {
     Ok(())
 }
 
+fn resource_name(types: &Types, id: ResourceId) -> &str {
+    if types.has(ItemKind::Ty(Type::Resource(id))) {
+        types[id].name.as_str()
+    } else {
+        "?"
+    }
+}
+
+fn value_word(types: &Types, ty: ValueType) -> &'static str {
+    if types.has(ItemKind::Value(ty)) {
+        ty.desc(types)
+    } else {
+        "?"
+    }
+}
+
 // A value type: a defined one by its word, a handle with its resource.
 fn add_value(out: &mut String, types: &Types, ty: ValueType) -> Result<(), AllocError> {
     match ty {
-        ValueType::Borrow(id) => add_all(out, &["borrow<", types[id].name.as_str(), ">"]),
-        ValueType::Own(id) => add_all(out, &["own<", types[id].name.as_str(), ">"]),
-        other => out.push_str(other.desc(types)),
+        ValueType::Borrow(id) => add_all(out, &["borrow<", resource_name(types, id), ">"]),
+        ValueType::Own(id) => add_all(out, &["own<", resource_name(types, id), ">"]),
+        other => out.push_str(value_word(types, other)),
     }
 }
 
@@ -71,6 +87,9 @@ fn add_names(out: &mut String, names: &[String]) -> Result<(), AllocError> {
 }
 
 fn add_func(out: &mut String, types: &Types, id: FuncTypeId) -> Result<(), AllocError> {
+    if !types.has(ItemKind::Func(id)) {
+        return out.push_str("?");
+    }
     let func = &types[id];
     if func.is_async {
         out.push_str("async ")?;
@@ -86,6 +105,9 @@ fn add_func(out: &mut String, types: &Types, id: FuncTypeId) -> Result<(), Alloc
 }
 
 fn add_defined(out: &mut String, types: &Types, id: DefinedTypeId) -> Result<(), AllocError> {
+    if !types.has(ItemKind::Value(ValueType::Defined(id))) {
+        return out.push_str("?");
+    }
     match &types[id] {
         DefinedType::Tuple(items) => {
             out.push_str("tuple")?;
@@ -149,10 +171,13 @@ fn add_defined(out: &mut String, types: &Types, id: DefinedTypeId) -> Result<(),
 }
 
 fn add_resource(out: &mut String, types: &Types, id: ResourceId) -> Result<(), AllocError> {
+    if !types.has(ItemKind::Ty(Type::Resource(id))) {
+        return out.push_str("?");
+    }
     let resource = &types[id];
     add_all(out, &["resource ", resource.name.as_str()])?;
     if let Some(alias) = resource.alias {
-        add_all(out, &[" = ", types[alias.source].name.as_str()])?;
+        add_all(out, &[" = ", resource_name(types, alias.source)])?;
         if let Some(owner) = alias.owner {
             out.push_str(" of ")?;
             add_identifier(out, types, owner)?;
@@ -162,6 +187,9 @@ fn add_resource(out: &mut String, types: &Types, id: ResourceId) -> Result<(), A
 }
 
 fn add_identifier(out: &mut String, types: &Types, id: InterfaceId) -> Result<(), AllocError> {
+    if !types.has(ItemKind::Instance(id)) {
+        return out.push_str("?");
+    }
     match &types[id].id {
         Some(id) => out.push_str(id.as_str()),
         None => out.push_str("?"),
@@ -197,7 +225,7 @@ fn add_item(out: &mut String, types: &Types, kind: ItemKind) -> Result<(), Alloc
             out.push_str("instance ")?;
             add_identifier(out, types, id)
         }
-        other => out.push_str(other.desc(types)),
+        other => out.push_str(if types.has(other) { other.desc(types) } else { "?" }),
     }
 }
 
@@ -217,6 +245,9 @@ fn add_items(
 }
 
 fn add_interface(out: &mut String, types: &Types, id: InterfaceId) -> Result<(), AllocError> {
+    if !types.has(ItemKind::Instance(id)) {
+        return out.push_str("?");
+    }
     let interface = &types[id];
     out.push_str("interface ")?;
     add_identifier(out, types, id)?;
@@ -227,6 +258,9 @@ fn add_interface(out: &mut String, types: &Types, id: InterfaceId) -> Result<(),
 }
 
 fn add_world(out: &mut String, types: &Types, id: WorldId) -> Result<(), AllocError> {
+    if !types.has(ItemKind::Component(id)) {
+        return out.push_str("?");
+    }
     let world = &types[id];
     out.push_str("world ")?;
     match &world.id {
