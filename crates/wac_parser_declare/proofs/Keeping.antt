@@ -1,5 +1,5 @@
 -- What stays while packages come into a graph.
-use Rattle.std.proofs.Common.{◌≡◌, ◌≢◌, ℕ, List, [], ◌∷◌, ◌++◌, length, Option, Some, None, IsSome, Result, Ok, Err, OnOk, IfOk, refl, sym, ap, subst, ◌∙◌, slice_get, slice_set}
+use Rattle.std.proofs.Common.{◌≡◌, ◌≢◌, ℕ, List, [], ◌∷◌, ◌++◌, length, Option, Some, None, IsSome, Result, Ok, Err, OnOk, IfOk, OnErr, refl, sym, ap, subst, ◌∙◌, slice_get, slice_set}
 use Rattle.wac_types_base.specs.Record.{Collection}
 use Rattle.wac_types_base.specs.Collection.{Grows, IsAcyclic, Stands, item_node, defined_entry, resource_entry, func_entry, interface_entry, world_entry}
 use Rattle.wac_types_base.proofs.Adding.{Grows-refl, Grows-trans}
@@ -95,6 +95,11 @@ Keeps-types g h k = k.types
 
 pub found_package : (g : Graph) (i : PackageId) (p : Packaged) → package_of g i ≡ Some p → ContainsPackage g i
 found_package g i p e = is_there (package_of g i) p e
+
+-- by what was answered
+pub Keeps-by : {E : Type 0} (g h : Graph) (p : Packaged) (r : Result PackageId E) → IsAcyclic g.types → IfOk r (λ i. Registers g h p i) → OnErr r (h ≡ g) → Keeps g h
+Keeps-by g h p (Ok i) a f k = Keeps-registered g h p i a f
+Keeps-by g h p (Err e) a f k = subst (Keeps g) (sym k) (Keeps-refl g a)
 
 -- ---- what is added through a graph
 

@@ -1,29 +1,35 @@
 -- What stands: in bodies and in what is added, and while a collection grows.
-use Rattle.std.proofs.Common.{◌≡◌, List, [], ◌∷◌, ◌++◌, map, All, Option, Some, None, IsSome, option_map, Bool, true, false, is_some, slice_get, refl, sym, ap, subst, ◌∙◌, inl, inr}
+use Rattle.std.proofs.Common.{◌≡◌, ℕ, zero, suc, Result, Ok, Err, OnOk, IfOk, List, [], ◌∷◌, ◌++◌, map, All, Option, Some, None, IsSome, option_map, Bool, true, false, is_some, slice_get, refl, sym, ap, subst, ◌∙◌, inl, inr}
 use Rattle.wac_types_base.specs.declared.item.ValueType.{ValueType}
 use Rattle.wac_types_base.specs.declared.item.ItemKind.{ItemKind}
 use Rattle.wac_types_base.specs.declared.item.«Type».{«Type» as TypeKind}
 use Rattle.wac_types_base.specs.declared.defined.Interface.{Interface}
 use Rattle.wac_types_base.specs.declared.defined.World.{World}
 use Rattle.wac_types_base.specs.declared.defined.UsedType.{UsedType}
+use Rattle.wac_types_base.specs.declared.defined.Resource.{Resource}
+use Rattle.wac_types_base.specs.declared.defined.FuncType.{FuncType}
+use Rattle.wac_types_base.specs.declared.defined.ResourceAlias.{ResourceAlias}
 use Rattle.wac_types_base.specs.declared.ids.InterfaceId.{InterfaceId}
 use Rattle.wac_types_base.specs.declared.ids.WorldId.{WorldId}
 use Rattle.wac_types_base.specs.declared.ids.FuncTypeId.{FuncTypeId}
 use Rattle.wac_types_base.specs.declared.ids.ResourceId.{ResourceId}
 use Rattle.wac_types_base.specs.Record.{Collection}
 use Rattle.wac_types_base.specs.Graph.{Among}
-use Rattle.wac_types_base.specs.Collection.{Slot, SlotStands, HasChildren, Stands, IsAcyclic, Grows, Entry, Shape, item_node, value_node, entry_at, labelled, type_of, own_of, borrow_of, option_slot, value_slot, func_entry, resource_entry, interface_entry, world_entry, items, used}
+use Rattle.wac_types_base.specs.Collection.{Slot, SlotStands, HasChildren, Stands, IsAcyclic, Grows, Entry, Shape, item_node, value_node, entry_at, labelled, type_of, own_of, borrow_of, option_slot, value_slot, func_entry, resource_entry, resource_entry_at, interface_entry, world_entry, items, used}
 use Rattle.wac_types_base.specs.Entries.{Name, value_at, values_of}
 use Rattle.wac_types_base.proofs.Adding.{Among-left, Among-right, Grows-trans, Grows-refl}
 use Rattle.wac_types_base.proofs.Slots.{entry_at-is, stands_typed_func, stands_typed_value, stands_typed_interface, stands_typed_world}
 use Rattle.wac_types_base.proofs.Copying.{Among-All}
-use Rattle.wac_types_base.proofs.Telling.{child_stands}
-use Rattle.wac_parser_declare.specs.Holding.{StandsIf, ValueStands, EachStands, ItemsStand, UsesStand, NamesStand, AddsNew}
+use Rattle.wac_types_base.proofs.Telling.{child_stands, resource_node}
+use Rattle.wac_parser_declare.specs.Holding.{IsOutcome, StandsIf, ValueStands, BindingStands, EachStands, ItemsStand, UsesStand, NamesStand, AddsNew}
+use Rattle.wac_parser_tree.specs.Trees as t
+use Rattle.wac_parser_declare.specs.declared.error.Error.{Error}
+use Rattle.wac_parser_declare.specs.declared.scope.Binding.{Binding}
 use Rattle.wac_parser_declare.specs.declared.bodies.Body.{Body}
 use Rattle.wac_parser_declare.specs.Held.{BodyStands}
 use Rattle.wac_parser_declare.proofs.Kept.{SlotsStand, children, cases_stand, named_values_stand, both_stand, found_stands, names_stay, StandsIf-kept, EachStands-kept, EachStands-more, NamesStand-kept}
 use Rattle.wac_types_base.proofs.GraphLemmas.{is_there}
-use Rattle.wac_parser_declare.proofs.Values.{value_stands, maybe_stands}
+use Rattle.wac_parser_declare.proofs.Values.{sought, binding_stands, value_stands, maybe_stands}
 use Rattle.wac_parser_declare.proofs.Members.{func_children, new_name}
 
 -- ---- entries
@@ -125,7 +131,7 @@ acyclic_after c d g = g.acyclic
 
 labelled_there : (l : Shape → Shape) (o : Option Entry) → IsSome o → IsSome (labelled l o)
 labelled_there l None s = s
-labelled_there l (Some e) s = tt
+labelled_there l (Some e) s = refl
 
 module _ (c : Collection) where
   pub typed_func : (f : FuncTypeId) → Stands c (ItemKind.Func f) → Stands c (ItemKind.Ty (TypeKind.Func f))
@@ -152,6 +158,41 @@ module _ (c : Collection) where
   unfolding item_node
   lent r s = labelled_there borrow_of (entry_at resource_entry c.number c.resources r.collection r.index) s
 
+-- the entry at a place
+module _ {V : Type 0} (P : V → Type 0) where
+  pub place_stands : (es : List (Name × V)) → EachStands P es → (i : ℕ) (n : Name) (v : V) → slice_get es i ≡ Some (n, v) → P v
+  place_stands [] s i n v is = absurd (cc is)
+  place_stands (e ∷ es) s zero n v is = let same : e ≡ (n, v) = cc in subst P (ap (λ x. x.1) same) s.0
+  place_stands (e ∷ es) s (suc i) n v is = place_stands es s.1 i n v is
+
+pub bound_stand : (c : Collection) (ns ms : List (Name × Binding)) (n : Name) (b : Binding) → NamesStand c ns → Stands c b.kind → ms ≡ ns ++ (n, b) ∷ [] → NamesStand c ms
+bound_stand c ns ms n b s h is = subst (NamesStand c) (sym is) (EachStands-more (BindingStands c) ns n b s h)
+
+pub if_ok : {A E P Q : Type 0} (r : Result A E) → (P → Q) → OnOk r P → OnOk r Q
+if_ok (Ok a) f p = f p
+if_ok (Err e) f p = tt
+
+-- a function type with a copy of its parameters
+pub copied_func : (c : Collection) (id : FuncTypeId) (f : FuncType) (m : List (Name × ValueType)) → slice_get c.func_types id.index ≡ Some f → id.collection ≡ c.number → m ≡ f.params
+    → item_node c (ItemKind.Func id) ≡ Some (func_entry (record { params = m; result = f.result; is_async = f.is_async }))
+unfolding item_node
+copied_func c id f m at own e = rw e (entry_at-is func_entry c.number c.func_types id.collection id.index f at own)
+
+pub ok_of : {A E Q : Type 0} (r : Result A E) → Q → OnOk r Q
+ok_of (Ok a) q = q
+ok_of (Err e) q = tt
+
+-- the interface that an alias of a resource belongs to
+pub owner_stands : (c : Collection) → IsAcyclic c → (r : ResourceId) (x : Resource) (b : ResourceAlias) → slice_get c.resources r.index ≡ Some x → r.collection ≡ c.number → x.alias ≡ Some b → SlotStands c (option_map ItemKind.Instance b.owner)
+owner_stands c a r x b at own is =
+    slot_stands c a (ItemKind.Ty (TypeKind.Resource r)) (resource_entry_at x.name (Some b)) (resource_node c r x at own ∙ ap (λ o. Some (resource_entry_at x.name o)) is)
+    (option_map ItemKind.Instance b.owner) (inr (inl refl))
+
+-- what a name means stands
+pub meant_stands : (c : Collection) (bs : List (Name × Binding)) (i : t.Ident) (r : Result Binding Error) → NamesStand c bs → IsOutcome (λ x y. y ≡ x) (sought bs i) r → IfOk r (λ b. Stands c b.kind)
+meant_stands c bs i (Ok b) s h = binding_stands c bs i b s h
+meant_stands c bs i (Err e) s h = tt
+
 pub ruleset stay = (stands_stay, names_stay, items_stay, uses_stay, body_stays, Grows-trans, Grows-refl, StandsIf-kept)
 
 pub ruleset typed = (typed_func, typed_interface, typed_world, typed_value, owned, lent, stands_typed_func, stands_typed_value, stands_typed_interface, stands_typed_world)
@@ -159,6 +200,8 @@ pub ruleset typed = (typed_func, typed_interface, typed_world, typed_value, owne
 pub ruleset held = (is_there, value_stands, maybe_stands)
 
 pub ruleset standing = (stay, typed, held)
+
+pub ruleset paths = (standing, interface_exports, world_exports, found_stands, meant_stands)
 
 pub ruleset adding = (added_new, added_stands, new_name)
 

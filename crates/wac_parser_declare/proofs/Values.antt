@@ -224,3 +224,13 @@ second_refused l c (Err d) q' o e h r = absurd h
 pub second_refused_in : (l : Shape) (c : Collection) (ns ms : Scope) (p p' : t.MaybeTy) (o : Option ValueType) (e : Error) → ms ≡ ns → IsHeld (IsValueIf c) (maybe_value ns p) o → IsRefusal (maybe_value ms p') e
     → IsRefusal (of_two l (maybe_value ns p) (maybe_value ns p')) e
 second_refused_in l c ns ms p p' o e same h r = second_refused l c (maybe_value ns p) (maybe_value ns p') o e h (subst (λ (n : Scope). IsRefusal (maybe_value n p') e) same r)
+
+-- a first part that is known
+joined_by : (d c : Collection) (q q' : Answer (Option Stated)) (o : Option ValueType) (r : Result ValueType Error) → IsHeld (IsValueIf c) q o → IsOutcome (IsValue d) (of_two s.result (Ok (stated_if c o)) q') r → IsOutcome (IsValue d) (of_two s.result q q') r
+joined_by d c (Ok t) q' o r h x = subst (λ (u : Option Stated). IsOutcome (IsValue d) (of_two s.result (Ok u) q') r) h.same x
+joined_by d c (Err e) q' o r h x = absurd h
+
+pub joined : (c d : Collection) (ns ms : Scope) (p p' : t.MaybeTy) (o : Option ValueType) (r : Result ValueType Error) → ms ≡ ns → IsHeld (IsValueIf c) (maybe_value ns p) o
+    → IsOutcome (IsValue d) (of_two s.result (Ok (stated_if c o)) (maybe_value ms p')) r → IsOutcome (IsValue d) (of_two s.result (maybe_value ns p) (maybe_value ns p')) r
+joined c d ns ms p p' o r same h x =
+    joined_by d c (maybe_value ns p) (maybe_value ns p') o r h (subst (λ (n : Scope). IsOutcome (IsValue d) (of_two s.result (Ok (stated_if c o)) (maybe_value n p')) r) same x)

@@ -31,5 +31,3 @@ pub use scope::{Binding, Context, bind, meaning};
 pub use statements::type_statement;
 pub use value_types::value_type;
 
-#[cfg(test)]
-mod trial;

@@ -105,7 +105,7 @@ fn add_package(graph: &mut CompositionGraph, package: Package) -> ResolutionResu
     ensures stands { IfOk result (ContainsPackage graph.new) }
     ensures keeps { Keeps graph.old graph.new }
 {
-    graph.see_sound();
+    graph.types().see_acyclic();
     match graph.register_package(package) {
         Ok(id) => Ok(id),
         Err(_) => Err(Error::Memory),
@@ -156,7 +156,7 @@ impl<'a> GraphTypes<'a> {
         ensures stands { IfOk result (ContainsPackage self.new.graph) }
         ensures keeps { Keeps self.old.graph self.new.graph }
     {
-        self.graph.see_sound();
+        self.graph.types().see_acyclic();
         if let Some((id, _)) = self.graph.get_package_by_name(name, version) {
             return Ok(id);
         }

@@ -1,5 +1,5 @@
 //! What paths name.
-#![tactic(auto, using(crate::proofs::Standing::standing))]
+#![tactic(auto, using(crate::proofs::Standing::paths))]
 
 ghost use Rattle.std.specs.Prelude.{◌≡◌, IfOk, IfSome};
 ghost use Rattle.wac_types_base.specs.declared.item.ItemKind.{ItemKind};
@@ -10,7 +10,7 @@ ghost use Rattle.wac_parser_declare.specs.Holding.{NamesStand, ItemsStand};
 use crate::error::{Error, ResolutionResult};
 use crate::growing::PackagedTypes;
 use crate::refusals::{not_interface, not_world, undefined_name};
-use crate::scope::{Context, meaning};
+use crate::scope::{Binding, Context, meaning};
 use std::alloc::{AllocError, Global};
 use wac_parser_lexer::SourceSpan;
 use wac_parser_tree::{Ident, PackagePath, UsePath, WorldRef};
@@ -36,7 +36,10 @@ pub(crate) fn export_of(types: &Types, kind: ItemKind, name: &str) -> Option<Ite
     ensures { IfSome result (Stands types.now) }
 {
     let exports = exports_of(types, kind)?;
-    exports.get(name).copied()
+    match exports.get(name) {
+        Some(item) => Some(*item),
+        None => None,
+    }
 }
 
 /// An export that an item of the document's own package lacks.
@@ -73,6 +76,21 @@ fn own_step(
     }
 }
 
+/// The item that a name means.
+fn item_named(
+    alloc: Global,
+    types: &Types,
+    names: &NamedMap<Binding>,
+    id: &Ident<'_>,
+) -> ResolutionResult<ItemKind>
+    requires { NamesStand types.now names.now }
+    ensures { IfOk result (Stands types.now) }
+{
+    types.see_acyclic();
+    let binding = meaning(alloc, names, id)?;
+    Ok(binding.kind)
+}
+
 /// The item that a path of the document's own package names.
 fn own_path(
     alloc: Global,
@@ -87,15 +105,15 @@ fn own_path(
     let Some((first, span)) = segments.next() else {
         return Err(undefined_name(alloc, &whole_path(path)));
     };
-    let mut kind = meaning(alloc, context.root, &Ident {
+    let id = Ident {
         string: first,
         span,
-    })?
-    .kind;
-    let mut parent = first;
+    };
+    let mut kind = item_named(alloc, types, context.root, &id)?;
+    let mut parent = String::from_str(alloc, first)?;
     for (segment, span) in segments {
-        kind = own_step(alloc, types, parent, kind, segment, span)?;
-        parent = segment;
+        kind = own_step(alloc, types, parent.as_str(), kind, segment, span)?;
+        parent = String::from_str(alloc, segment)?;
     }
     Ok(kind)
 }
@@ -226,9 +244,9 @@ fn root_item<T: PackagedTypes>(
     ensures stands { IfOk result (Stands (T.collection types.new)) }
     ensures grows { Grows (T.collection types.old) (T.collection types.new) }
 {
-    types.types().see_acyclic();
-    let binding = meaning(alloc, context.root, id)?;
-    Ok(binding.kind)
+    let collection = types.types();
+    collection.see_acyclic();
+    item_named(alloc, collection, context.root, id)
 }
 
 /// An item that is to be an interface.

@@ -9,7 +9,8 @@ ghost use Rattle.wac_types_base.specs.Stated.{stated_of, kind_of};
 ghost use Rattle.wac_parser_tree.specs.Trees as t;
 ghost use Rattle.wac_parser_tree.specs.Views.{view_ident, view_ty, view_boxed_ty};
 ghost use Rattle.wac_parser_declare.specs.ValueTypes as stated;
-ghost use Rattle.wac_parser_declare.specs.Holding.{IsOutcome, IsValue, IsValueIf, AreValues, NamesStand, scope_of};
+ghost use Rattle.wac_parser_declare.specs.Holding.{IsOutcome, IsValue, IsValueIf, AreValues, NamesStand, StandsIf, scope_of, stated_if};
+ghost use Rattle.wac_parser_declare.specs.Causes.{pure};
 ghost use Rattle.wac_parser_declare.specs.Payloads.{boxed_payload};
 
 use crate::error::{Error, ResolutionResult};
@@ -170,7 +171,10 @@ pub fn value_type<T: GrowingTypes>(
         ast::Type::Tuple(members, _) => tuple_type(alloc, names, types, members),
         ast::Type::List(element, _) => list_type(alloc, names, types, element),
         ast::Type::Option(payload, _) => option_type(alloc, names, types, payload),
-        ast::Type::Result { ok, err, .. } => result_type(alloc, names, types, ok, err),
+        ast::Type::Result { ok, err, .. } => {
+            let ok = maybe_type(alloc, names, types, ok)?;
+            result_type(alloc, names, types, ok, err)
+        }
         ast::Type::Stream(payload, _) => stream_type(alloc, names, types, payload),
         ast::Type::Future(payload, _) => future_type(alloc, names, types, payload),
         ast::Type::Borrow(id, _) => borrow_at(alloc, names, types, id),
@@ -252,6 +256,8 @@ fn maybe_type<T: GrowingTypes>(
     requires { NamesStand (T.collection types.old) names.now }
     ensures outcome { IsOutcome (IsValueIf (T.collection types.new)) (stated.maybe_value (scope_of (T.collection types.old) names.now) (boxed_payload ty.now)) result }
     ensures grows { Grows (T.collection types.old) (T.collection types.new) }
+    ensures stands { IfOk result (StandsIf (T.collection types.new)) }
+    ensures names { NamesStand (T.collection types.new) names.now }
 {
     types.types().see_acyclic();
     match ty {
@@ -295,20 +301,20 @@ fn future_type<T: GrowingTypes>(
     Ok(future)
 }
 
+/// The result type of a payload that is known and one that is written.
 #[cycle(value)]
-#[tactic(auto, using(crate::proofs::Kept::names_stay))]
 fn result_type<T: GrowingTypes>(
     alloc: Global,
     names: &NamedMap<Binding>,
     types: &mut T,
-    ok: &Option<Box<ast::Type<'_>>>,
+    ok: Option<ValueType>,
     err: &Option<Box<ast::Type<'_>>>,
 ) -> ResolutionResult<ValueType>
-    requires { NamesStand (T.collection types.old) names.now }
-    ensures outcome { IsOutcome (IsValue (T.collection types.new)) (stated.of_two s.result (stated.maybe_value (scope_of (T.collection types.old) names.now) (boxed_payload ok.now)) (stated.maybe_value (scope_of (T.collection types.old) names.now) (boxed_payload err.now))) result }
+    requires names { NamesStand (T.collection types.old) names.now }
+    requires ok { StandsIf (T.collection types.old) ok }
+    ensures outcome { IsOutcome (IsValue (T.collection types.new)) (stated.of_two s.result (pure (stated_if (T.collection types.old) ok)) (stated.maybe_value (scope_of (T.collection types.old) names.now) (boxed_payload err.now))) result }
     ensures grows { Grows (T.collection types.old) (T.collection types.new) }
 {
-    let ok = maybe_type(alloc, names, types, ok)?;
     let err = maybe_type(alloc, names, types, err)?;
     let result = define(types, DefinedType::Result { ok, err })?;
     Ok(result)
@@ -316,7 +322,6 @@ fn result_type<T: GrowingTypes>(
 
 /// The value types of a tuple, in order.
 #[cycle(value)]
-#[tactic(auto, using(crate::proofs::Kept::names_stay))]
 fn member_types<T: GrowingTypes>(
     alloc: Global,
     names: &NamedMap<Binding>,

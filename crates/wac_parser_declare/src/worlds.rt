@@ -248,25 +248,6 @@ fn world_part<T: PackagedTypes>(
     }
 }
 
-/// What the items of a world state, its includes left out.
-fn world_parts<T: PackagedTypes>(
-    alloc: Global,
-    context: Context<'_>,
-    types: &mut T,
-    decl: &ast::WorldDecl<'_>,
-) -> ResolutionResult<Body>
-    requires root { NamesStand (T.collection types.old) context.root.now }
-    ensures body { IfOk result (BodyStands (T.collection types.new)) }
-    ensures grows { Grows (T.collection types.old) (T.collection types.new) }
-{
-    types.types().see_acyclic();
-    let mut body = Body::new(alloc);
-    for item in &decl.items {
-        world_part(alloc, context, types, decl.id.string, &mut body, item)?;
-    }
-    Ok(body)
-}
-
 /// An include, where the item is one.
 fn world_include<T: PackagedTypes>(
     alloc: Global,
@@ -290,13 +271,69 @@ fn world_include<T: PackagedTypes>(
     }
 }
 
-/// The includes of a world, after its other items.
-fn world_includes<T: PackagedTypes>(
+/// What a world is stated by, part by part.
+trait WorldPart: Drop {
+    /// Adds what the part states, unless it is an include.
+    fn add_item<T: PackagedTypes>(
+        &self,
+        alloc: Global,
+        context: Context<'_>,
+        types: &mut T,
+        world: &str,
+        body: &mut Body,
+    ) -> ResolutionResult<()>
+        requires root { NamesStand (T.collection types.old) context.root.now }
+        requires body { BodyStands (T.collection types.old) body.old }
+        ensures body { OnOk result (BodyStands (T.collection types.new) body.new) }
+        ensures grows { Grows (T.collection types.old) (T.collection types.new) };
+
+    /// Adds what the part includes, if it is an include.
+    fn add_include<T: PackagedTypes>(
+        &self,
+        alloc: Global,
+        context: Context<'_>,
+        types: &mut T,
+        world: &str,
+        body: &mut Body,
+    ) -> ResolutionResult<()>
+        requires root { NamesStand (T.collection types.old) context.root.now }
+        requires body { BodyStands (T.collection types.old) body.old }
+        ensures body { OnOk result (BodyStands (T.collection types.new) body.new) }
+        ensures grows { Grows (T.collection types.old) (T.collection types.new) };
+}
+
+impl<'a> WorldPart for ast::WorldItem<'a> {
+    fn add_item<T: PackagedTypes>(
+        &self,
+        alloc: Global,
+        context: Context<'_>,
+        types: &mut T,
+        world: &str,
+        body: &mut Body,
+    ) -> ResolutionResult<()> {
+        world_part(alloc, context, types, world, body, self)
+    }
+
+    fn add_include<T: PackagedTypes>(
+        &self,
+        alloc: Global,
+        context: Context<'_>,
+        types: &mut T,
+        world: &str,
+        body: &mut Body,
+    ) -> ResolutionResult<()> {
+        world_include(alloc, context, types, world, body, self)
+    }
+}
+
+/// What the parts of a world state, its includes left out.
+fn add_items<P: WorldPart, T: PackagedTypes>(
     alloc: Global,
     context: Context<'_>,
     types: &mut T,
+    world: &str,
     body: &mut Body,
-    decl: &ast::WorldDecl<'_>,
+    parts: &Vec<P>,
 ) -> ResolutionResult<()>
     requires root { NamesStand (T.collection types.old) context.root.now }
     requires body { BodyStands (T.collection types.old) body.old }
@@ -304,8 +341,29 @@ fn world_includes<T: PackagedTypes>(
     ensures grows { Grows (T.collection types.old) (T.collection types.new) }
 {
     types.types().see_acyclic();
-    for item in &decl.items {
-        world_include(alloc, context, types, decl.id.string, body, item)?;
+    for part in parts {
+        part.add_item(alloc, context, types, world, body)?;
+    }
+    Ok(())
+}
+
+/// The includes of a world, after its other items.
+fn add_includes<P: WorldPart, T: PackagedTypes>(
+    alloc: Global,
+    context: Context<'_>,
+    types: &mut T,
+    world: &str,
+    body: &mut Body,
+    parts: &Vec<P>,
+) -> ResolutionResult<()>
+    requires root { NamesStand (T.collection types.old) context.root.now }
+    requires body { BodyStands (T.collection types.old) body.old }
+    ensures body { OnOk result (BodyStands (T.collection types.new) body.new) }
+    ensures grows { Grows (T.collection types.old) (T.collection types.new) }
+{
+    types.types().see_acyclic();
+    for part in parts {
+        part.add_include(alloc, context, types, world, body)?;
     }
     Ok(())
 }
@@ -330,6 +388,27 @@ fn add_world<T: PackagedTypes>(types: &mut T, id: Text, body: Body) -> Result<Wo
     })
 }
 
+/// The world that parts state, under the identifier of a name.
+fn world_of<P: WorldPart, T: PackagedTypes>(
+    alloc: Global,
+    context: Context<'_>,
+    types: &mut T,
+    name: &str,
+    parts: &Vec<P>,
+) -> ResolutionResult<WorldId>
+    requires { NamesStand (T.collection types.old) context.root.now }
+    ensures stands { IfOk result (λ i. Stands (T.collection types.new) (ItemKind.Component i)) }
+    ensures grows { Grows (T.collection types.old) (T.collection types.new) }
+{
+    types.types().see_acyclic();
+    let mut body = Body::new(alloc);
+    add_items(alloc, context, types, name, &mut body, parts)?;
+    add_includes(alloc, context, types, name, &mut body, parts)?;
+    let text = identifier(alloc, context.own, name)?;
+    let id = add_world(types, text, body)?;
+    Ok(id)
+}
+
 /// The world that a declaration states.
 pub(crate) fn world_decl<T: PackagedTypes>(
     alloc: Global,
@@ -341,9 +420,5 @@ pub(crate) fn world_decl<T: PackagedTypes>(
     ensures stands { IfOk result (λ i. Stands (T.collection types.new) (ItemKind.Component i)) }
     ensures grows { Grows (T.collection types.old) (T.collection types.new) }
 {
-    let mut body = world_parts(alloc, context, types, decl)?;
-    world_includes(alloc, context, types, &mut body, decl)?;
-    let text = identifier(alloc, context.own, decl.id.string)?;
-    let id = add_world(types, text, body)?;
-    Ok(id)
+    world_of(alloc, context, types, decl.id.string, &decl.items)
 }

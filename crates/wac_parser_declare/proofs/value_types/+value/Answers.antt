@@ -13,11 +13,12 @@ use Rattle.wac_parser_declare.specs.Causes.{Answer}
 use Rattle.wac_parser_declare.specs.Scope.{Scope}
 use Rattle.wac_parser_declare.specs.Payloads.{boxed_payload}
 use Rattle.wac_parser_declare.specs.ValueTypes.{value, values, maybe_value, of_one, of_maybe, of_two, of_all}
-use Rattle.wac_parser_declare.specs.Holding.{IsHeld, IsRefusal, IsOutcome, NamesStand, IsValue, IsValueIf, AreValues, scope_of}
+use Rattle.wac_parser_declare.specs.Holding.{IsHeld, IsRefusal, IsOutcome, NamesStand, IsValue, IsValueIf, AreValues, scope_of, stated_if}
 use Rattle.wac_parser_declare.proofs.Outcomes.{refused_outcome, memory_outcome}
 use Rattle.wac_parser_declare.proofs.Kept.{children, option_stands, scope-kept, NamesStand-kept, StandsIf-kept, AreValues-kept, AreValues-more}
 use Rattle.wac_parser_declare.proofs.Loops.{members_next, members_refused_whole, members_end}
-use Rattle.wac_parser_declare.proofs.Values.{value_stands, maybe_stands, all_stand, one_held, maybe_held, two_held, all_held, some_held, one_refused, maybe_refused, all_refused, some_refused, first_refused, second_refused_in}
+use Rattle.wac_parser_declare.proofs.Values.{value_stands, maybe_stands, all_stand, one_held, maybe_held, two_held, all_held, some_held, one_refused, maybe_refused, all_refused, some_refused, first_refused, second_refused, joined}
+use Rattle.wac_parser_declare.proofs.Members.{given_held}
 use Rattle.wac_parser_declare.proofs.TypeViews.{payload_refused, at_u8, at_s8, at_u16, at_s16, at_u32, at_s32, at_u64, at_s64, at_f32, at_f64, at_char, at_bool, at_string, at_error_context, at_list, at_option, at_borrow, at_ident, at_stream, at_future, at_result, at_tuple}
 use Rattle.wac_parser_declare.proofs.value_types.+value.Goals as goal
 
@@ -128,41 +129,39 @@ maybe_type-returns-in-None-clause-outcome g t c =
 pub maybe_type-returns-in-None-clause-grows : goal.maybe_type-returns-in-None-clause-grows
 maybe_type-returns-in-None-clause-grows g t c = Grows-refl (g.T.GrowingTypes.collection c.args.types.now) (subst IsAcyclic c.types.ensures c.see_acyclic.ensures)
 
-pub result_type-returns-in_err-ok-clause-outcome : goal.result_type-returns-in_err-ok-clause-outcome
-result_type-returns-in_err-ok-clause-outcome g t c = refused_outcome (IsValue (g.T.GrowingTypes.collection c.maybe_type.new.types)) (of_two s.result (maybe_value (scope_of (g.T.GrowingTypes.collection c.args.types.now) c.args.names.now) (boxed_payload c.args.ok.now)) (maybe_value (scope_of (g.T.GrowingTypes.collection c.args.types.now) c.args.names.now) (boxed_payload c.args.err.now))) _ _ c.from_residual.ensures.1 (first_refused s.result (maybe_value (scope_of (g.T.GrowingTypes.collection c.args.types.now) c.args.names.now) (boxed_payload c.args.ok.now)) (maybe_value (scope_of (g.T.GrowingTypes.collection c.args.types.now) c.args.names.now) (boxed_payload c.args.err.now)) _ c.in_err-ok.ensures.outcome)
-
 pub result_type-returns-in_err-err-clause-outcome : goal.result_type-returns-in_err-err-clause-outcome
-result_type-returns-in_err-err-clause-outcome g t c = 
-    refused_outcome (IsValue (g.T.GrowingTypes.collection c.maybe_type-2.new.types)) (of_two s.result (maybe_value (scope_of (g.T.GrowingTypes.collection c.args.types.now) c.args.names.now) (boxed_payload c.args.ok.now)) (maybe_value (scope_of (g.T.GrowingTypes.collection c.args.types.now) c.args.names.now) (boxed_payload c.args.err.now))) _ _ c.from_residual-in_err-err.ensures.1
-    (second_refused_in s.result (g.T.GrowingTypes.collection c.maybe_type.new.types) (scope_of (g.T.GrowingTypes.collection c.args.types.now) c.args.names.now) (scope_of (g.T.GrowingTypes.collection c.maybe_type.new.types) c.args.names.now) (boxed_payload c.args.ok.now) (boxed_payload c.args.err.now) c.in_ok-ok.ok _ (scope-kept (g.T.GrowingTypes.collection c.args.types.now) (g.T.GrowingTypes.collection c.maybe_type.new.types) c.in_ok-ok.ensures.grows c.args.names.now c.requires) c.in_ok-ok.ensures.outcome c.in_err-err.ensures.outcome)
-
-
-pub result_type-returns-in_err-err-clause-grows : goal.result_type-returns-in_err-err-clause-grows
-result_type-returns-in_err-err-clause-grows g t c = Grows-trans _ _ _ c.in_ok-ok.ensures.grows c.in_err-err.ensures.grows
+result_type-returns-in_err-err-clause-outcome g t c =
+    refused_outcome (IsValue (g.T.GrowingTypes.collection c.maybe_type.new.types)) (of_two s.result (Ok (stated_if (g.T.GrowingTypes.collection c.args.types.now) c.args.ok)) (maybe_value (scope_of (g.T.GrowingTypes.collection c.args.types.now) c.args.names.now) (boxed_payload c.args.err.now))) _ _ c.from_residual.ensures.1
+    (second_refused s.result (g.T.GrowingTypes.collection c.args.types.now) (Ok (stated_if (g.T.GrowingTypes.collection c.args.types.now) c.args.ok)) (maybe_value (scope_of (g.T.GrowingTypes.collection c.args.types.now) c.args.names.now) (boxed_payload c.args.err.now)) c.args.ok _ (given_held (g.T.GrowingTypes.collection c.args.types.now) c.args.ok c.requires.ok) c.in_err-err.ensures.outcome)
 
 pub result_type-define-requires : goal.result_type-define-requires
-result_type-define-requires g t c = 
-    children (g.T.GrowingTypes.collection c.maybe_type-2.new.types) (option_slot c.in_ok-ok.ok ∷ option_slot c.in_ok-err.err ∷ [])
-    (option_stands (g.T.GrowingTypes.collection c.maybe_type-2.new.types) c.in_ok-ok.ok (StandsIf-kept (g.T.GrowingTypes.collection c.maybe_type.new.types) (g.T.GrowingTypes.collection c.maybe_type-2.new.types) c.in_ok-err.ensures.grows c.in_ok-ok.ok (maybe_stands (g.T.GrowingTypes.collection c.maybe_type.new.types) (maybe_value (scope_of (g.T.GrowingTypes.collection c.args.types.now) c.args.names.now) (boxed_payload c.args.ok.now)) c.in_ok-ok.ok c.in_ok-ok.ensures.outcome)),
-    (option_stands (g.T.GrowingTypes.collection c.maybe_type-2.new.types) c.in_ok-err.err (maybe_stands (g.T.GrowingTypes.collection c.maybe_type-2.new.types) (maybe_value (scope_of (g.T.GrowingTypes.collection c.maybe_type.new.types) c.args.names.now) (boxed_payload c.args.err.now)) c.in_ok-err.err c.in_ok-err.ensures.outcome), tt))
+result_type-define-requires g t c =
+    children (g.T.GrowingTypes.collection c.maybe_type.new.types) (option_slot c.args.ok ∷ option_slot c.in_ok-err.err ∷ [])
+    (option_stands (g.T.GrowingTypes.collection c.maybe_type.new.types) c.args.ok (StandsIf-kept (g.T.GrowingTypes.collection c.args.types.now) (g.T.GrowingTypes.collection c.maybe_type.new.types) c.in_ok-err.ensures.grows c.args.ok c.requires.ok),
+    (option_stands (g.T.GrowingTypes.collection c.maybe_type.new.types) c.in_ok-err.err c.in_ok-err.ensures.stands, tt))
 
 pub result_type-returns-in_err-result-clause-outcome : goal.result_type-returns-in_err-result-clause-outcome
-result_type-returns-in_err-result-clause-outcome g t c = memory_outcome (IsValue (g.T.GrowingTypes.collection c.define.new.types)) (of_two s.result (maybe_value (scope_of (g.T.GrowingTypes.collection c.args.types.now) c.args.names.now) (boxed_payload c.args.ok.now)) (maybe_value (scope_of (g.T.GrowingTypes.collection c.args.types.now) c.args.names.now) (boxed_payload c.args.err.now))) _ c.from_residual-in_err-result.ensures.1
+result_type-returns-in_err-result-clause-outcome g t c = memory_outcome (IsValue (g.T.GrowingTypes.collection c.define.new.types)) (of_two s.result (Ok (stated_if (g.T.GrowingTypes.collection c.args.types.now) c.args.ok)) (maybe_value (scope_of (g.T.GrowingTypes.collection c.args.types.now) c.args.names.now) (boxed_payload c.args.err.now))) _ c.from_residual-in_err-result.ensures.1
 
 pub result_type-returns-in_err-result-clause-grows : goal.result_type-returns-in_err-result-clause-grows
-result_type-returns-in_err-result-clause-grows g t c = Grows-trans _ _ _ c.in_ok-ok.ensures.grows (Grows-trans _ _ _ c.in_ok-err.ensures.grows c.in_err-result.ensures.grows)
+result_type-returns-in_err-result-clause-grows g t c = Grows-trans _ _ _ c.in_ok-err.ensures.grows c.in_err-result.ensures.grows
 
 pub result_type-returns-clause-outcome : goal.result_type-returns-clause-outcome
-result_type-returns-clause-outcome g t c = 
-    two_held (g.T.GrowingTypes.collection c.maybe_type.new.types) (g.T.GrowingTypes.collection c.maybe_type-2.new.types) (g.T.GrowingTypes.collection c.define.new.types) c.in_ok-err.ensures.grows c.in_ok-result.ensures.grows s.result c.in_ok-result.result (maybe_value (scope_of (g.T.GrowingTypes.collection c.args.types.now) c.args.names.now) (boxed_payload c.args.ok.now)) (maybe_value (scope_of (g.T.GrowingTypes.collection c.args.types.now) c.args.names.now) (boxed_payload c.args.err.now)) c.in_ok-ok.ok c.in_ok-err.err c.in_ok-ok.ensures.outcome
-    (subst (λ (ns : Scope). IsHeld (IsValueIf (g.T.GrowingTypes.collection c.maybe_type-2.new.types)) (maybe_value ns (boxed_payload c.args.err.now)) c.in_ok-err.err) (scope-kept (g.T.GrowingTypes.collection c.args.types.now) (g.T.GrowingTypes.collection c.maybe_type.new.types) c.in_ok-ok.ensures.grows c.args.names.now c.requires) c.in_ok-err.ensures.outcome) c.in_ok-result.ensures.node
+result_type-returns-clause-outcome g t c =
+    two_held (g.T.GrowingTypes.collection c.args.types.now) (g.T.GrowingTypes.collection c.maybe_type.new.types) (g.T.GrowingTypes.collection c.define.new.types) c.in_ok-err.ensures.grows c.in_ok-result.ensures.grows s.result c.in_ok-result.result (Ok (stated_if (g.T.GrowingTypes.collection c.args.types.now) c.args.ok)) (maybe_value (scope_of (g.T.GrowingTypes.collection c.args.types.now) c.args.names.now) (boxed_payload c.args.err.now)) c.args.ok c.in_ok-err.err
+    (given_held (g.T.GrowingTypes.collection c.args.types.now) c.args.ok c.requires.ok) c.in_ok-err.ensures.outcome c.in_ok-result.ensures.node
 
 pub result_type-returns-clause-grows : goal.result_type-returns-clause-grows
-result_type-returns-clause-grows g t c = Grows-trans _ _ _ c.in_ok-ok.ensures.grows (Grows-trans _ _ _ c.in_ok-err.ensures.grows c.in_ok-result.ensures.grows)
+result_type-returns-clause-grows g t c = Grows-trans _ _ _ c.in_ok-err.ensures.grows c.in_ok-result.ensures.grows
+
+pub maybe_type-returns-in_ok-found-in-Some-clause-stands : goal.maybe_type-returns-in_ok-found-in-Some-clause-stands
+maybe_type-returns-in_ok-found-in-Some-clause-stands g t c =
+    value_stands (g.T.GrowingTypes.collection c.value_type.new.types) (value (scope_of (g.T.GrowingTypes.collection c.args.types.now) c.args.names.now) (view_ty c.deref.result.now)) c.in_ok-found-in-Some.found c.in_ok-found-in-Some.ensures.outcome
 
 pub member_types-loop-member-init : goal.member_types-loop-member-init
 member_types-loop-member-init g t c = record {
   grows = Grows-refl (g.T.GrowingTypes.collection c.args.types.now) (subst IsAcyclic c.types.ensures c.see_acyclic.ensures);
+  names = c.requires;
   os = [];
   held = subst (λ (vs : List ValueType). AreValues (g.T.GrowingTypes.collection c.args.types.now) [] vs) (sym c.new-found.ensures) (record { stand = tt; same = refl });
   rest = ap (λ (ys : List «Type»). values (scope_of (g.T.GrowingTypes.collection c.args.types.now) c.args.names.now) [] (tree.tys (map view_ty ys))) (sym c.deref-member-items.ensures.value);
@@ -228,8 +227,19 @@ value_type-returns-in-List-clause-outcome g t c = at_list (scope_of (g.T.Growing
 pub value_type-returns-in-Option-clause-outcome : goal.value_type-returns-in-Option-clause-outcome
 value_type-returns-in-Option-clause-outcome g t c = at_option (scope_of (g.T.GrowingTypes.collection c.args.types.now) c.args.names.now) (λ (q : Answer Stated). IsOutcome (IsValue (g.T.GrowingTypes.collection c.option_type.new.types)) q c.option_type.result) c.args.ty.now _ _ c.in-Option.is (subst (λ (y : «Type»). IsOutcome (IsValue (g.T.GrowingTypes.collection c.option_type.new.types)) (of_one s.option (value (scope_of (g.T.GrowingTypes.collection c.args.types.now) c.args.names.now) (view_ty y))) c.option_type.result) c.deref-in-Option.ensures c.option_type.ensures.outcome)
 
-pub value_type-returns-in-Result-clause-outcome : goal.value_type-returns-in-Result-clause-outcome
-value_type-returns-in-Result-clause-outcome g t c = at_result (scope_of (g.T.GrowingTypes.collection c.args.types.now) c.args.names.now) (λ (q : Answer Stated). IsOutcome (IsValue (g.T.GrowingTypes.collection c.result_type.new.types)) q c.result_type.result) c.args.ty.now _ _ _ c.in-Result.is c.result_type.ensures.outcome
+pub value_type-returns-in_err-ok-in-Result-clause-outcome : goal.value_type-returns-in_err-ok-in-Result-clause-outcome
+value_type-returns-in_err-ok-in-Result-clause-outcome g t c =
+    at_result (scope_of (g.T.GrowingTypes.collection c.args.types.now) c.args.names.now) (λ (q : Answer Stated). IsOutcome (IsValue (g.T.GrowingTypes.collection c.maybe_type.new.types)) q c.from_residual.result) c.args.ty.now _ _ _ c.in-Result.is
+    (refused_outcome (IsValue (g.T.GrowingTypes.collection c.maybe_type.new.types)) (of_two s.result (maybe_value (scope_of (g.T.GrowingTypes.collection c.args.types.now) c.args.names.now) (boxed_payload c.in-Result.ok)) (maybe_value (scope_of (g.T.GrowingTypes.collection c.args.types.now) c.args.names.now) (boxed_payload c.in-Result.err))) _ _ c.from_residual.ensures.1 (first_refused s.result (maybe_value (scope_of (g.T.GrowingTypes.collection c.args.types.now) c.args.names.now) (boxed_payload c.in-Result.ok)) (maybe_value (scope_of (g.T.GrowingTypes.collection c.args.types.now) c.args.names.now) (boxed_payload c.in-Result.err)) _ c.in_err-ok-in-Result.ensures.outcome))
+
+pub value_type-returns-in_ok-ok-in-Result-clause-outcome : goal.value_type-returns-in_ok-ok-in-Result-clause-outcome
+value_type-returns-in_ok-ok-in-Result-clause-outcome g t c =
+    at_result (scope_of (g.T.GrowingTypes.collection c.args.types.now) c.args.names.now) (λ (q : Answer Stated). IsOutcome (IsValue (g.T.GrowingTypes.collection c.result_type.new.types)) q c.result_type.result) c.args.ty.now _ _ _ c.in-Result.is
+    (joined (g.T.GrowingTypes.collection c.maybe_type.new.types) (g.T.GrowingTypes.collection c.result_type.new.types) (scope_of (g.T.GrowingTypes.collection c.args.types.now) c.args.names.now) (scope_of (g.T.GrowingTypes.collection c.maybe_type.new.types) c.args.names.now) (boxed_payload c.in-Result.ok) (boxed_payload c.in-Result.err) c.in_ok-ok-in-Result.ok c.result_type.result
+    (scope-kept (g.T.GrowingTypes.collection c.args.types.now) (g.T.GrowingTypes.collection c.maybe_type.new.types) c.in_ok-ok-in-Result.ensures.grows c.args.names.now c.requires) c.in_ok-ok-in-Result.ensures.outcome c.result_type.ensures.outcome)
+
+pub value_type-returns-in_ok-ok-in-Result-clause-grows : goal.value_type-returns-in_ok-ok-in-Result-clause-grows
+value_type-returns-in_ok-ok-in-Result-clause-grows g t c = Grows-trans _ _ _ c.in_ok-ok-in-Result.ensures.grows c.result_type.ensures.grows
 
 pub value_type-returns-in-Stream-clause-outcome : goal.value_type-returns-in-Stream-clause-outcome
 value_type-returns-in-Stream-clause-outcome g t c = at_stream (scope_of (g.T.GrowingTypes.collection c.args.types.now) c.args.names.now) (λ (q : Answer Stated). IsOutcome (IsValue (g.T.GrowingTypes.collection c.stream_type.new.types)) q c.stream_type.result) c.args.ty.now _ _ c.in-Stream.is c.stream_type.ensures.outcome
@@ -257,6 +267,7 @@ member_types-loop-member-preserved g t c =
     let n = members_next (scope_of (g.T.GrowingTypes.collection c.args.types.now) c.args.names.now) view_ty c.deref-member-items.result.now c.loop-member.member-index (g.T.GrowingTypes.collection c.value_type.new.types) c.loop-member.invariant.os c.member-item.result c.in_ok-ty.ty c.loop-member-test.true held in
     record {
       grows = Grows-trans _ _ _ c.loop-member.invariant.grows c.in_ok-ty.ensures.grows;
+      names = NamesStand-kept (g.T.GrowingTypes.collection c.loop-member.types) (g.T.GrowingTypes.collection c.value_type.new.types) c.in_ok-ty.ensures.grows c.args.names.now c.loop-member.invariant.names;
       os = c.loop-member.invariant.os ++ Some n.0 ∷ [];
       held = subst (λ (vs : List ValueType). AreValues (g.T.GrowingTypes.collection c.value_type.new.types) (c.loop-member.invariant.os ++ Some n.0 ∷ []) vs) (sym c.in_ok-push.ensures.ok)
         (AreValues-more (g.T.GrowingTypes.collection c.value_type.new.types) c.loop-member.invariant.os c.loop-member.found n.0 c.in_ok-ty.ty (AreValues-kept (g.T.GrowingTypes.collection c.loop-member.types) (g.T.GrowingTypes.collection c.value_type.new.types) c.in_ok-ty.ensures.grows c.loop-member.invariant.os c.loop-member.found c.loop-member.invariant.held) n.1);
@@ -267,3 +278,12 @@ pub member_types-returns-clause-outcome : goal.member_types-returns-clause-outco
 member_types-returns-clause-outcome g t c = 
     let all : (values (scope_of (g.T.GrowingTypes.collection c.args.types.now) c.args.names.now) [] (tree.tys (map view_ty c.args.members.now.items))) ≡ Ok c.loop-member.invariant.os = c.loop-member.invariant.rest ∙ members_end (scope_of (g.T.GrowingTypes.collection c.args.types.now) c.args.names.now) view_ty c.deref-member-items.result.now c.loop-member.member-index c.loop-member.invariant.os (omega (arith, c.loop-member-test.false)) in
     subst (λ (q : Answer (List (Option Stated))). IsHeld (AreValues (g.T.GrowingTypes.collection c.loop-member.types)) q c.loop-member.found) (sym all) c.loop-member.invariant.held
+
+pub maybe_type-returns-in_err-found-in-Some-clause-names : goal.maybe_type-returns-in_err-found-in-Some-clause-names
+maybe_type-returns-in_err-found-in-Some-clause-names g t c = NamesStand-kept (g.T.GrowingTypes.collection c.args.types.now) (g.T.GrowingTypes.collection c.value_type.new.types) c.in_err-found-in-Some.ensures.grows c.args.names.now c.requires
+
+pub maybe_type-returns-in_ok-found-in-Some-clause-names : goal.maybe_type-returns-in_ok-found-in-Some-clause-names
+maybe_type-returns-in_ok-found-in-Some-clause-names g t c = NamesStand-kept (g.T.GrowingTypes.collection c.args.types.now) (g.T.GrowingTypes.collection c.value_type.new.types) c.in_ok-found-in-Some.ensures.grows c.args.names.now c.requires
+
+pub maybe_type-returns-in-None-clause-names : goal.maybe_type-returns-in-None-clause-names
+maybe_type-returns-in-None-clause-names g t c = c.requires
