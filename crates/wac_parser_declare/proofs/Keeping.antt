@@ -1,5 +1,5 @@
 -- What stays while packages come into a graph.
-use Rattle.std.proofs.Common.{◌≡◌, ◌≢◌, ℕ, List, [], ◌∷◌, ◌++◌, length, Option, Some, None, IsSome, Result, Ok, Err, OnOk, IfOk, OnErr, refl, sym, ap, subst, ◌∙◌, slice_get, slice_set}
+use Rattle.std.proofs.Common.{◌≡◌, ◌≢◌, List, [], ◌∷◌, ◌++◌, length, Some, Result, Ok, Err, OnOk, IfOk, OnErr, refl, sym, ap, subst, ◌∙◌, slice_get, slice_set}
 use Rattle.wac_types_base.specs.Record.{Collection}
 use Rattle.wac_types_base.specs.Collection.{Grows, IsAcyclic, Stands, item_node, defined_entry, resource_entry, func_entry, interface_entry, world_entry}
 use Rattle.wac_types_base.proofs.Adding.{Grows-refl, Grows-trans}
@@ -8,7 +8,7 @@ use Rattle.wac_types_names.specs.Packaged.{Packaged}
 use Rattle.wac_graph_core.specs.declared.ids.PackageId.{PackageId}
 use Rattle.wac_graph_core.specs.declared.package.Place.{Place}
 use Rattle.wac_graph_core.specs.Graph.{Graph, ContainsPackage, package_of, package_in}
-use Rattle.wac_graph_core.specs.Packages.{IsNewPlace, IsFreePlace, PutsPlace, put_last, put_free, Registers, held_place}
+use Rattle.wac_graph_core.specs.Packages.{IsFreePlace, PutsPlace, put_last, put_free, Registers, held_place}
 use Rattle.wac_graph_core.specs.Types.{Enlarges, with_collection}
 use Rattle.wac_graph_core.proofs.PlaceSteps.{Held, held_in, in_held, get_before, get_at_end, get_set_same, get_set_other}
 use Rattle.std.specs.declared.alloc.AllocError.{AllocError}

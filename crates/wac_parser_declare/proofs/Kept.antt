@@ -1,12 +1,12 @@
 -- What is kept while a collection grows, and what stands.
-use Rattle.std.proofs.Common.{◌≡◌, ℕ, List, [], ◌∷◌, ◌++◌, map, All, Option, Some, None, option_map, Bool, true, false, is_some, refl, sym, ap, subst, ◌∙◌, inl, inr, if◌then◌else◌, ◌==◌}
+use Rattle.std.proofs.Common.{◌≡◌, List, [], ◌∷◌, ◌++◌, map, All, Option, Some, None, option_map, Bool, true, false, refl, sym, ap, subst, ◌∙◌, inl, inr, if◌then◌else◌, ◌==◌}
 use Rattle.std.specs.Cmp.Lexicographic.{pointwise}
 use Rattle.wac_types_base.specs.declared.item.ValueType.{ValueType}
 use Rattle.wac_types_base.specs.declared.item.ItemKind.{ItemKind}
 use Rattle.wac_types_base.specs.Record.{Collection}
-use Rattle.wac_types_base.specs.Graph.{Among, node}
-use Rattle.wac_types_base.specs.Collection.{Shape, Slot, SlotStands, HasChildren, Stands, IsAcyclic, Grows, item_node, labelled, value_slot, option_slot}
-use Rattle.wac_types_base.specs.Entries.{Name, with_values, value_at, names_of, values_of, IsNew}
+use Rattle.wac_types_base.specs.Graph.{Among}
+use Rattle.wac_types_base.specs.Collection.{Shape, Slot, SlotStands, Stands, IsAcyclic, Grows, item_node, labelled, value_slot, option_slot}
+use Rattle.wac_types_base.specs.Entries.{Name, with_values, value_at, values_of}
 use Rattle.wac_types_base.specs.Stated.{Stated, stated_of, stated_in, over, relabelled}
 use Rattle.wac_types_base.proofs.GraphLemmas.{value_of, is_there}
 use Rattle.wac_types_base.proofs.Copying.{Among-All}

@@ -1,20 +1,17 @@
 -- One more member of a map, and what functions state.
-use Rattle.std.proofs.Common.{◌≡◌, ℕ, List, [], ◌∷◌, ◌++◌, map, All, Option, Some, None, is_some, option_map, Bool, true, false, Result, Ok, Err, refl, sym, ap, subst, ◌∙◌, if◌then◌else◌, ◌==◌, inl, inr}
+use Rattle.std.proofs.Common.{◌≡◌, List, [], ◌∷◌, ◌++◌, map, All, Option, Some, None, is_some, option_map, Bool, true, false, Ok, Err, refl, sym, ap, subst, ◌∙◌, if◌then◌else◌, ◌==◌, inl, inr}
 use Rattle.std.specs.Cmp.Lexicographic.{pointwise}
 use Rattle.std.proofs.lemmas.Slice.Eq.{bytes_eq-Decides}
 use Rattle.wac_types_base.specs.declared.item.ValueType.{ValueType}
 use Rattle.wac_types_base.specs.declared.item.ItemKind.{ItemKind}
 use Rattle.wac_types_base.specs.declared.item.«Type».{«Type» as TypeKind}
-use Rattle.wac_types_base.specs.declared.item.FuncKind.{FuncKind}
-use Rattle.wac_types_base.specs.declared.defined.FuncType.{FuncType}
 use Rattle.wac_types_base.specs.declared.ids.FuncTypeId.{FuncTypeId}
 use Rattle.wac_types_base.specs.Record.{Collection}
-use Rattle.wac_types_base.specs.Graph.{Among}
 use Rattle.wac_types_base.specs.Collection as s
 use Rattle.wac_types_base.specs.Collection.{Shape, Slot, SlotStands, Stands, IsAcyclic, Grows, item_node, func_entry, value_slot, option_slot}
 use Rattle.wac_types_base.specs.Entries.{Name, with_values, value_at, names_of, values_of, IsNew}
-use Rattle.wac_types_base.specs.Stated.{Stated, stated_of, kind_of, desc, untyped, func_of, names, filled, over, contains_borrow}
-use Rattle.wac_types_base.proofs.Loops.{names-with_values, map-append}
+use Rattle.wac_types_base.specs.Stated.{Stated, stated_of, kind_of, desc, func_of, names, filled, contains_borrow}
+use Rattle.wac_types_base.proofs.Loops.{names-with_values}
 use Rattle.wac_types_base.proofs.Telling.{item_kind, kind_stated, untyped_stated}
 use Rattle.wac_types_base.proofs.Slots.{stands_typed_func}
 use Rattle.wac_parser_tree.specs.Trees as t
@@ -24,9 +21,9 @@ use Rattle.wac_parser_declare.specs.declared.error.Error.{Error}
 use Rattle.wac_parser_declare.specs.Causes.{Answer, Fault, ◌>>=◌, ◌>>◌, unless_clear, BorrowInResult, NotFuncType}
 use Rattle.wac_parser_declare.specs.Scope.{has}
 use Rattle.wac_parser_declare.specs.Declarations.{add_member, member, no_borrow, func_by}
-use Rattle.wac_parser_declare.specs.Holding.{Holds, IsHeld, IsRefusal, IsOutcome, Refuses, IsValue, IsValueIf, IsFunc, StandsIf, AreEntries, EachStands, ValueStands, AreNamedValues, AddsNew, stated_value, stated_if, self_params}
-use Rattle.wac_parser_declare.proofs.Outcomes.{then_refused, after_refused, memory_refusal}
-use Rattle.wac_parser_declare.proofs.Kept.{entry_holds, children, both_stand, named_values_stand, option_stands, option_places, Holds-kept, IsValueIf-kept, stated-kept, AreEntries-kept, EachStands-more, with_values-more, value_at-with_values}
+use Rattle.wac_parser_declare.specs.Holding.{IsHeld, IsRefusal, Refuses, IsValue, IsValueIf, IsFunc, StandsIf, AreEntries, EachStands, ValueStands, AreNamedValues, stated_value, stated_if}
+use Rattle.wac_parser_declare.proofs.Outcomes.{then_refused, after_refused}
+use Rattle.wac_parser_declare.proofs.Kept.{entry_holds, children, both_stand, named_values_stand, option_stands, option_places, IsValueIf-kept, stated-kept, AreEntries-kept, EachStands-more, with_values-more, value_at-with_values}
 
 -- ---- names
 

@@ -1,5 +1,5 @@
 -- Outcomes, step by step.
-use Rattle.std.proofs.Common.{◌≡◌, Option, Some, None, Result, Ok, Err, refl, sym, subst, IsErrAnd}
+use Rattle.std.proofs.Common.{◌≡◌, Option, Some, None, Result, Ok, Err, sym, subst, IsErrAnd}
 use Rattle.wac_parser_declare.specs.declared.error.Error.{Error}
 use Rattle.wac_parser_declare.specs.Causes.{Answer, Cause, ◌>>=◌}
 use Rattle.wac_parser_declare.specs.Views.{cause_of}

@@ -1,11 +1,11 @@
 -- Documents that are refused, and the cause of each, by computing.
-use Rattle.std.specs.Prelude.{◌≡◌, true, false, List, [], ◌∷◌, Option, Some, None, codes}
+use Rattle.std.specs.Prelude.{◌≡◌, true, false, List, [], ◌∷◌, Some, None, codes}
 use Rattle.std.proofs.Common.{refl}
 use Rattle.wac_types_base.specs.declared.item.PrimitiveType.{PrimitiveType}
 use Rattle.wac_types_base.specs.declared.item.ExternKind.{ExternKind}
 use Rattle.wac_types_base.specs.declared.item.FuncKind.{FuncKind}
-use Rattle.wac_types_base.specs.Collection.{primitive, tuple, list, option, result, variant, record_of, flags, enum, alias, stream, future, resource, resource_alias}
-use Rattle.wac_types_base.specs.Stated.{Stated, func_of, interface_of, world_of, leaf, over, own, borrow, as_type, desc, value_desc, contains_borrow}
+use Rattle.wac_types_base.specs.Collection.{primitive, record_of, resource}
+use Rattle.wac_types_base.specs.Stated.{Stated, func_of, interface_of, world_of, leaf, over, own, as_type, desc, value_desc, contains_borrow}
 use Rattle.wac_types_names.specs.Keys.{Key}
 use Rattle.wac_parser_tree.specs.Trees as m
 use Rattle.wac_parser_declare.specs.Causes as f

@@ -1,10 +1,10 @@
 -- Short words for documents in worked rows.
-use Rattle.std.specs.Prelude.{◌≡◌, ℕ, Bool, List, [], ◌∷◌, ◌++◌, map, Option, Some, None, Result, Ok, Err}
+use Rattle.std.specs.Prelude.{ℕ, Bool, List, [], ◌∷◌, map, Option, Some, None, Err}
 use Rattle.wac_types_base.specs.Entries.{Name}
 use Rattle.wac_types_base.specs.Stated.{Stated}
 use Rattle.wac_types_names.specs.Keys.{Key}
 use Rattle.wac_parser_tree.specs.Trees as m
-use Rattle.wac_parser_declare.specs.Causes.{Answer, Fault, Cause, ◌>>=◌, pure}
+use Rattle.wac_parser_declare.specs.Causes.{Answer, Fault, ◌>>=◌, pure}
 use Rattle.wac_parser_declare.specs.Scope.{Scope, Context, Path, in_package, at_root, bind}
 use Rattle.wac_parser_declare.specs.Worlds.{type_statement}
 

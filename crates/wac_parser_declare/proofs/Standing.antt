@@ -1,5 +1,5 @@
 -- What stands: in bodies and in what is added, and while a collection grows.
-use Rattle.std.proofs.Common.{◌≡◌, ℕ, zero, suc, Result, Ok, Err, OnOk, IfOk, List, [], ◌∷◌, ◌++◌, map, All, Option, Some, None, IsSome, option_map, Bool, true, false, is_some, slice_get, refl, sym, ap, subst, ◌∙◌, inl, inr}
+use Rattle.std.proofs.Common.{◌≡◌, ℕ, zero, suc, Result, Ok, Err, OnOk, IfOk, List, [], ◌∷◌, ◌++◌, map, All, Option, Some, None, IsSome, option_map, Bool, true, false, slice_get, refl, sym, ap, subst, ◌∙◌, inl, inr}
 use Rattle.wac_types_base.specs.declared.item.ValueType.{ValueType}
 use Rattle.wac_types_base.specs.declared.item.ItemKind.{ItemKind}
 use Rattle.wac_types_base.specs.declared.item.«Type».{«Type» as TypeKind}
@@ -98,12 +98,12 @@ module _ (c : Collection) (a : IsAcyclic c) where
   pub world_exports : (id : WorldId) (x : World) → slice_get c.worlds id.index ≡ Some x → id.collection ≡ c.number → ItemsStand c x.exports
   world_exports id x e own =
       each_item c x.exports (λ k m. child_stands c a (ItemKind.Component id) (world_entry x) (world_node id x e own) k
-        (Among-right (Some k) (used x.uses) (items x.imports ++ items x.exports) (Among-right (Some k) (items x.imports) (items x.exports) m)))
+      (Among-right (Some k) (used x.uses) (items x.imports ++ items x.exports) (Among-right (Some k) (items x.imports) (items x.exports) m)))
 
   pub world_imports : (id : WorldId) (x : World) → slice_get c.worlds id.index ≡ Some x → id.collection ≡ c.number → ItemsStand c x.imports
   world_imports id x e own =
       each_item c x.imports (λ k m. child_stands c a (ItemKind.Component id) (world_entry x) (world_node id x e own) k
-        (Among-right (Some k) (used x.uses) (items x.imports ++ items x.exports) (Among-left (Some k) (items x.imports) (items x.exports) m)))
+      (Among-right (Some k) (used x.uses) (items x.imports ++ items x.exports) (Among-left (Some k) (items x.imports) (items x.exports) m)))
 
 -- ---- while a collection grows
 

@@ -1,18 +1,15 @@
 -- What value types state.
-use Rattle.std.proofs.Common.{◌≡◌, ℕ, zero, suc, ◌<◌, ◌≤◌, List, [], ◌∷◌, ◌++◌, map, length, drop, get_or, All, Option, Some, None, option_map, Result, Ok, Err, refl, sym, ap, subst, ◌∙◌, arith}
-use Rattle.std.specs.declared.alloc.Global.{Global}
-use Rattle.std.specs.declared.boxed.Box.{Box}
+use Rattle.std.proofs.Common.{◌≡◌, List, [], ◌∷◌, map, All, Option, Some, None, option_map, Result, Ok, Err, refl, sym, ap, subst, ◌∙◌}
 use Rattle.wac_types_base.specs.declared.item.PrimitiveType.{PrimitiveType}
 use Rattle.wac_types_base.specs.declared.item.ValueType.{ValueType}
 use Rattle.wac_types_base.specs.declared.item.ItemKind.{ItemKind}
 use Rattle.wac_types_base.specs.declared.item.«Type».{«Type» as TypeKind}
-use Rattle.wac_types_base.specs.declared.defined.DefinedType.{DefinedType}
 use Rattle.wac_types_base.specs.declared.ids.ResourceId.{ResourceId}
 use Rattle.wac_types_base.specs.Record.{Collection}
 use Rattle.wac_types_base.specs.Collection as s
 use Rattle.wac_types_base.specs.Collection.{Shape, Slot, SlotStands, HasChildren, Stands, IsAcyclic, Grows, item_node, defined_entry, value_slot, option_slot}
 use Rattle.wac_types_base.specs.Entries.{Name, value_at}
-use Rattle.wac_types_base.specs.Stated.{Stated, stated_of, kind_of, desc, untyped, own, borrow}
+use Rattle.wac_types_base.specs.Stated.{Stated, stated_of, kind_of, desc}
 use Rattle.wac_types_base.proofs.Telling.{item_kind, kind_stated, untyped_stated, primitive_node}
 use Rattle.wac_types_base.proofs.Slots.{stands_typed_value}
 use Rattle.wac_parser_tree.specs.Trees as t
@@ -20,10 +17,10 @@ use Rattle.wac_parser_tree.specs.Trees.{Span}
 use Rattle.wac_parser_declare.specs.declared.error.Error.{Error}
 use Rattle.wac_parser_declare.specs.declared.scope.Binding.{Binding}
 use Rattle.wac_parser_declare.specs.Causes.{Answer, Fault, ◌>>=◌, present, UndefinedName, NotValueType, NotResourceType}
-use Rattle.wac_parser_declare.specs.Scope.{Meant, Scope, named, meant}
-use Rattle.wac_parser_declare.specs.ValueTypes.{value, values, maybe_value, value_by, borrow_by, value_named, borrow_named, of_one, of_maybe, of_two, of_all, some_of, primitive}
-use Rattle.wac_parser_declare.specs.Holding.{Holds, IsHeld, IsRefusal, IsOutcome, Refuses, IsValue, IsValueIf, AreValues, StandsIf, NamesStand, BindingStands, stated_value, stated_if, stated_row, meant_by, scope_of}
-use Rattle.wac_parser_declare.proofs.Kept.{entry_holds, labelled_holds, children, option_stands, values_stand, option_places, value_places, Holds-kept, IsValueIf-kept, AreValues-kept, AreValues-more, found_stands, value_at-with_values}
+use Rattle.wac_parser_declare.specs.Scope.{Meant, Scope, named}
+use Rattle.wac_parser_declare.specs.ValueTypes.{maybe_value, value_by, borrow_by, of_one, of_maybe, of_two, of_all, some_of, primitive}
+use Rattle.wac_parser_declare.specs.Holding.{IsHeld, IsRefusal, IsOutcome, Refuses, IsValue, IsValueIf, AreValues, StandsIf, NamesStand, BindingStands, stated_if, meant_by, scope_of}
+use Rattle.wac_parser_declare.proofs.Kept.{entry_holds, labelled_holds, children, values_stand, option_places, value_places, Holds-kept, IsValueIf-kept, AreValues-kept, found_stands, value_at-with_values}
 use Rattle.wac_parser_declare.proofs.Outcomes.{memory_refusal}
 
 -- ---- names

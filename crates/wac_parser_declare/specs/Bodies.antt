@@ -1,5 +1,5 @@
 -- What a body holds so far; the types that are used in it, and the resources that are declared.
-use Rattle.std.specs.Prelude.{unwrap_or, Bool, true, false, not, ◌||◌, map, List, [], ◌∷◌, ◌++◌, Option, Some, None, is_none, option_map, codes, ⊤}
+use Rattle.std.specs.Prelude.{unwrap_or, Bool, true, false, not, ◌||◌, map, List, [], ◌∷◌, ◌++◌, Option, Some, None, is_none, option_map, codes}
 use Rattle.wac_types_base.specs.declared.item.FuncKind.{FuncKind}
 use Rattle.wac_types_base.specs.declared.item.ExternKind.{ExternKind}
 use Rattle.wac_types_base.specs.Entries.{Name, value_at, has_name}
@@ -8,7 +8,7 @@ use Rattle.wac_types_base.specs.Stated.{Stated, Kind, IsResource, IsValueType, I
 use Rattle.wac_parser_tree.specs.Trees as t
 use Rattle.wac_parser_declare.specs.Scope.{Scope, Context, Path, has, bind, at_path, path_text, path_span, use_path}
 use Rattle.wac_parser_declare.specs.Declarations.{function, variant_decl, record_decl, flags_decl, enum_decl, type_alias}
-use Rattle.wac_parser_declare.specs.Causes.{Answer, Fault, ◌>>=◌, ◌>>◌, pure, refuse, unless_clear, present, each, NotInterface, UndefinedInterfaceType, NotInterfaceValueType, UseConflict, DuplicateResourceConstructor, DuplicateResourceMethod}
+use Rattle.wac_parser_declare.specs.Causes.{Answer, Fault, ◌>>=◌, ◌>>◌, pure, unless_clear, present, each, NotInterface, UndefinedInterfaceType, NotInterfaceValueType, UseConflict, DuplicateResourceConstructor, DuplicateResourceMethod}
 
 abbrev pub Items : Type 0
 Items = List (Name × Stated)
@@ -131,7 +131,7 @@ resource_method r x b (t.ResourceMethod.method d) = add_method r x b d
 abbrev pub resource_decl : Holder → Body → t.ResourceDecl → Answer Body
 resource_decl h b d =
     add_type h b d.id (leaf (s.resource d.id.string))
-        >>= λ c. each (resource_method d.id.string (leaf (s.resource d.id.string))) c d.methods
+    >>= λ c. each (resource_method d.id.string (leaf (s.resource d.id.string))) c d.methods
 
 abbrev pub added : Holder → Body → t.Ident → Answer Stated → Answer Body
 added h b i x = x >>= λ y. add_type h b i y

@@ -1,5 +1,5 @@
 -- The type that a function or a declaration of a type states, or its cause.
-use Rattle.std.specs.Prelude.{Bool, true, false, List, [], ◌∷◌, ◌++◌, map, Option, Some, None, ⊤}
+use Rattle.std.specs.Prelude.{Bool, true, false, List, [], ◌∷◌, ◌++◌, map, Option, Some, None}
 use Rattle.wac_types_base.specs.declared.item.FuncKind.{FuncKind}
 use Rattle.wac_types_base.specs.Entries.{Name, has_name}
 use Rattle.wac_types_base.specs.Collection as s

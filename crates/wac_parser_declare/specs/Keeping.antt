@@ -1,5 +1,5 @@
 -- What stays while packages come into a graph.
-use Rattle.std.specs.Prelude.{◌≡◌, List, ℕ, Some}
+use Rattle.std.specs.Prelude.{◌≡◌, Some}
 use Rattle.wac_types_base.specs.Collection.{Grows}
 use Rattle.wac_types_names.specs.Packaged.{Packaged}
 use Rattle.wac_graph_core.specs.declared.ids.PackageId.{PackageId}

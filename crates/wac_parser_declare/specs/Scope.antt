@@ -10,7 +10,7 @@ use Rattle.wac_graph_bytes.specs.NameTests.{pair_test, path_test}
 use Rattle.wac_parser_tree.specs.Trees as t
 use Rattle.wac_parser_tree.specs.Trees.{Span}
 use Rattle.wac_parser_tree.specs.Segments.{Segment, segment_spans, package_name_span}
-use Rattle.wac_parser_declare.specs.Causes.{Answer, Fault, ◌>>=◌, ◌>>◌, pure, refuse, present, UndefinedName, DuplicateName, UnknownPackage, PackageMissingExport, PackagePathMissingExport}
+use Rattle.wac_parser_declare.specs.Causes.{Answer, ◌>>=◌, ◌>>◌, pure, refuse, present, UndefinedName, DuplicateName, UnknownPackage, PackageMissingExport, PackagePathMissingExport}
 
 -- an item, and where it got its name
 pub record Meant : Type 0 where
@@ -132,7 +132,7 @@ abbrev pub package_path : Name → List Segment → Stated → List Segment → 
 package_path p passed x [] = pure x
 package_path p passed x (i ∷ is) =
     present (value_at (exports_of x) i.0) (PackageMissingExport p i.0 (Some (desc x)) (joined passed)) i.1
-        >>= λ y. package_path p (passed ++ i ∷ []) y is
+    >>= λ y. package_path p (passed ++ i ∷ []) y is
 
 -- a segment as a name
 abbrev pub segment_ident : Segment → t.Ident

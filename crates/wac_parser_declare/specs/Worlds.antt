@@ -112,7 +112,7 @@ left_for_exports x ws = filter (λ w. has_colon w.from.string || not (has (impor
 abbrev pub unmet : Path → Stated → ⊤ → t.WorldIncludeItem → Answer ⊤
 unmet p x u w =
     unless_clear (has_colon w.from.string || not (has (imports_of x) w.from.string || has (exports_of x) w.from.string))
-        (MissingWorldInclude (path_text p) w.from.string) w.from.span
+    (MissingWorldInclude (path_text p) w.from.string) w.from.span
 
 abbrev pub include_world : Context → Name → Body → Path → List t.WorldIncludeItem → Answer Body
 include_world c world b p ws = do

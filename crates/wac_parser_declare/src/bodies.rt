@@ -7,11 +7,10 @@ ghost use Rattle.wac_types_base.specs.Record.{Collection};
 ghost use Rattle.wac_types_base.specs.Collection.{Stands};
 ghost use Rattle.wac_parser_declare.specs.Held.{BodyStands};
 
-use crate::error::ResolutionResult;
+use crate::error::{Error, ResolutionResult};
 use crate::functions::add_new;
 use crate::refusals::{duplicate_export, duplicate_world_item};
 use crate::scope::{Binding, bind};
-use crate::error::Error;
 use std::alloc::Global;
 use wac_parser_tree::Ident;
 use wac_types_base::{ExternKind, ItemKind, NamedMap, Type, UsedType};

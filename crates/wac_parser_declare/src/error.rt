@@ -580,9 +580,7 @@ impl Error {
             Error::ImportNotInTarget { span, .. }
             | Error::TargetMismatch { span, .. }
             | Error::TypeCannotBeWritten { span, .. } => *span,
-            Error::ValidationFailure { .. }
-            | Error::TooLarge
-            | Error::Memory => None,
+            Error::ValidationFailure { .. } | Error::TooLarge | Error::Memory => None,
         }
     }
 }

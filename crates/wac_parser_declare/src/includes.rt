@@ -75,11 +75,7 @@ fn help_for(include: &WorldInclude<'_>) -> Option<&'static str> {
 }
 
 /// An item that is there already.
-fn conflict(
-    alloc: Global,
-    inclusion: Inclusion<'_>,
-    id: &Ident<'_>,
-) -> Result<Error, AllocError> {
+fn conflict(alloc: Global, inclusion: Inclusion<'_>, id: &Ident<'_>) -> Result<Error, AllocError> {
     Ok(Error::WorldIncludeConflict {
         kind: inclusion.kind,
         name: String::from_str(alloc, id.string)?,

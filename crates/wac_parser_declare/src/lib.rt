@@ -30,4 +30,3 @@ pub use refusals::{duplicate_name, not_world, undefined_name, unknown_package, u
 pub use scope::{Binding, Context, bind, meaning};
 pub use statements::type_statement;
 pub use value_types::value_type;
-

@@ -159,14 +159,7 @@ fn foreign_step(
 {
     match export_of(types, kind, segment) {
         Some(next) => Ok(next),
-        None => Err(foreign_missing(
-            alloc,
-            path,
-            Some(kind.desc(types)),
-            passed,
-            segment,
-            span,
-        )?),
+        None => Err(foreign_missing(alloc, path, Some(kind.desc(types)), passed, segment, span)?),
     }
 }
 

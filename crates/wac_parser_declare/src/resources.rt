@@ -95,7 +95,15 @@ fn add_constructor<T: GrowingTypes>(
         is_async: false,
     };
     let results = ast::ResultList::Empty;
-    add_function(alloc, types, body, name.as_str(), signature, &decl.params, &results)
+    add_function(
+        alloc,
+        types,
+        body,
+        name.as_str(),
+        signature,
+        &decl.params,
+        &results,
+    )
 }
 
 /// What is given of a method, static or not.

@@ -15,9 +15,7 @@ use crate::scope::Binding;
 use crate::value_types::{define, value_type};
 use std::alloc::Global;
 use wac_parser_tree as ast;
-use wac_types_base::{
-    DefinedType, Enum, Flags, NamedMap, Names, Record, Type, ValueType, Variant,
-};
+use wac_types_base::{DefinedType, Enum, Flags, NamedMap, Names, Record, Type, ValueType, Variant};
 
 /// The type of a case, if it has one.
 fn case_type<T: GrowingTypes>(
@@ -160,8 +158,7 @@ fn add_flag(
     flags: &str,
     found: &mut Names,
     flag: &ast::Flag<'_>,
-) -> ResolutionResult<()>
-{
+) -> ResolutionResult<()> {
     let name = String::from_str(alloc, flag.id.string)?;
     if found.insert(name)? {
         Ok(())
@@ -171,8 +168,7 @@ fn add_flag(
 }
 
 /// The flags of a declaration.
-fn flags(alloc: Global, decl: &ast::FlagsDecl<'_>) -> ResolutionResult<Names>
-{
+fn flags(alloc: Global, decl: &ast::FlagsDecl<'_>) -> ResolutionResult<Names> {
     let mut found = Names::new(alloc);
     for flag in &decl.flags {
         add_flag(alloc, decl.id.string, &mut found, flag)?;
@@ -201,8 +197,7 @@ fn add_enum_case(
     ty: &str,
     found: &mut Names,
     case: &ast::EnumCase<'_>,
-) -> ResolutionResult<()>
-{
+) -> ResolutionResult<()> {
     let name = String::from_str(alloc, case.id.string)?;
     if found.insert(name)? {
         Ok(())
@@ -212,8 +207,7 @@ fn add_enum_case(
 }
 
 /// The cases of an enum.
-fn enum_cases(alloc: Global, decl: &ast::EnumDecl<'_>) -> ResolutionResult<Names>
-{
+fn enum_cases(alloc: Global, decl: &ast::EnumDecl<'_>) -> ResolutionResult<Names> {
     let mut found = Names::new(alloc);
     for case in &decl.cases {
         add_enum_case(alloc, decl.id.string, &mut found, case)?;

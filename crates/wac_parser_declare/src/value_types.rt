@@ -20,7 +20,9 @@ use crate::scope::{Binding, meaning};
 use std::alloc::{AllocError, Global};
 use wac_parser_tree as ast;
 use wac_parser_tree::Ident;
-use wac_types_base::{DefinedType, ItemKind, Items, NamedMap, PrimitiveType, Type, Types, ValueType};
+use wac_types_base::{
+    DefinedType, ItemKind, Items, NamedMap, PrimitiveType, Type, Types, ValueType,
+};
 
 /// The value type that a type is: a resource is owned.
 fn value_of_type(

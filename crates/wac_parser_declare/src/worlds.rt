@@ -242,8 +242,12 @@ fn world_part<T: PackagedTypes>(
     match item {
         ast::WorldItem::Use(item) => use_types(alloc, context, types, holder, body, item),
         ast::WorldItem::Ty(decl) => item_type(alloc, types, holder, body, decl),
-        ast::WorldItem::Import(item) => world_item(alloc, context, types, imports, body, &item.path),
-        ast::WorldItem::Export(item) => world_item(alloc, context, types, exports, body, &item.path),
+        ast::WorldItem::Import(item) => world_item(
+            alloc, context, types, imports, body, &item.path,
+        ),
+        ast::WorldItem::Export(item) => world_item(
+            alloc, context, types, exports, body, &item.path,
+        ),
         ast::WorldItem::Include(_) => Ok(()),
     }
 }

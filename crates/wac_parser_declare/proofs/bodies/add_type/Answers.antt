@@ -1,5 +1,3 @@
-use Rattle.std.proofs.Common.{sym, subst}
-use Rattle.wac_parser_declare.specs.Holding.{NamesStand}
 use Rattle.wac_parser_declare.proofs.Standing.{if_ok, bound_stand}
 use Rattle.wac_parser_declare.proofs.bodies.add_type.Goals as goal
 

@@ -1,4 +1,4 @@
-use Rattle.std.proofs.Common.{◌≡◌, List, [], ◌∷◌, ◌++◌, map, get_or, ap, rules, Option, Some, None, Ok, subst, sym, refl, ◌∙◌, arith}
+use Rattle.std.proofs.Common.{◌≡◌, List, [], ◌∷◌, ◌++◌, map, get_or, ap, Option, Some, None, Ok, subst, sym, refl, ◌∙◌, arith}
 use Rattle.std.specs.declared.alloc.Global.{Global}
 use Rattle.std.specs.declared.boxed.Box.{Box}
 use Rattle.wac_types_base.specs.declared.item.ValueType.{ValueType}
@@ -13,11 +13,11 @@ use Rattle.wac_parser_declare.specs.Causes.{Answer}
 use Rattle.wac_parser_declare.specs.Scope.{Scope}
 use Rattle.wac_parser_declare.specs.Payloads.{boxed_payload}
 use Rattle.wac_parser_declare.specs.ValueTypes.{value, values, maybe_value, of_one, of_maybe, of_two, of_all}
-use Rattle.wac_parser_declare.specs.Holding.{IsHeld, IsRefusal, IsOutcome, NamesStand, IsValue, IsValueIf, AreValues, scope_of, stated_if}
+use Rattle.wac_parser_declare.specs.Holding.{IsHeld, IsOutcome, IsValue, IsValueIf, AreValues, scope_of, stated_if}
 use Rattle.wac_parser_declare.proofs.Outcomes.{refused_outcome, memory_outcome}
 use Rattle.wac_parser_declare.proofs.Kept.{children, option_stands, scope-kept, NamesStand-kept, StandsIf-kept, AreValues-kept, AreValues-more}
 use Rattle.wac_parser_declare.proofs.Loops.{members_next, members_refused_whole, members_end}
-use Rattle.wac_parser_declare.proofs.Values.{value_stands, maybe_stands, all_stand, one_held, maybe_held, two_held, all_held, some_held, one_refused, maybe_refused, all_refused, some_refused, first_refused, second_refused, joined}
+use Rattle.wac_parser_declare.proofs.Values.{value_stands, maybe_stands, all_stand, one_held, maybe_held, two_held, all_held, some_held, one_refused, maybe_refused, all_refused, first_refused, second_refused, joined}
 use Rattle.wac_parser_declare.proofs.Members.{given_held}
 use Rattle.wac_parser_declare.proofs.TypeViews.{payload_refused, at_u8, at_s8, at_u16, at_s16, at_u32, at_s32, at_u64, at_s64, at_f32, at_f64, at_char, at_bool, at_string, at_error_context, at_list, at_option, at_borrow, at_ident, at_stream, at_future, at_result, at_tuple}
 use Rattle.wac_parser_declare.proofs.value_types.+value.Goals as goal
@@ -115,15 +115,14 @@ tuple_type-returns-clause-grows g t c = Grows-trans _ _ _ c.in_ok-found.ensures.
 pub maybe_type-returns-in_err-found-in-Some-clause-outcome : goal.maybe_type-returns-in_err-found-in-Some-clause-outcome
 maybe_type-returns-in_err-found-in-Some-clause-outcome g t c = refused_outcome (IsValueIf (g.T.GrowingTypes.collection c.value_type.new.types)) (maybe_value (scope_of (g.T.GrowingTypes.collection c.args.types.now) c.args.names.now) (boxed_payload c.args.ty.now)) _ _ c.from_residual.ensures.1 (payload_refused (scope_of (g.T.GrowingTypes.collection c.args.types.now) c.args.names.now) c.args.ty.now c.in-Some.ty _ _ c.in-Some.is c.deref.ensures c.in_err-found-in-Some.ensures.outcome)
 
-
 pub maybe_type-returns-in_ok-found-in-Some-clause-outcome : goal.maybe_type-returns-in_ok-found-in-Some-clause-outcome
-maybe_type-returns-in_ok-found-in-Some-clause-outcome g t c = 
+maybe_type-returns-in_ok-found-in-Some-clause-outcome g t c =
     subst (λ (o : Option (Box «Type» Global)). IsHeld (IsValueIf (g.T.GrowingTypes.collection c.value_type.new.types)) (maybe_value (scope_of (g.T.GrowingTypes.collection c.args.types.now) c.args.names.now) (boxed_payload o)) (Some c.in_ok-found-in-Some.found)) (sym c.in-Some.is)
     (some_held (g.T.GrowingTypes.collection c.value_type.new.types) (value (scope_of (g.T.GrowingTypes.collection c.args.types.now) c.args.names.now) (view_ty c.in-Some.ty.value)) c.in_ok-found-in-Some.found
     (subst (λ (y : «Type»). IsHeld (IsValue (g.T.GrowingTypes.collection c.value_type.new.types)) (value (scope_of (g.T.GrowingTypes.collection c.args.types.now) c.args.names.now) (view_ty y)) c.in_ok-found-in-Some.found) c.deref.ensures c.in_ok-found-in-Some.ensures.outcome))
 
 pub maybe_type-returns-in-None-clause-outcome : goal.maybe_type-returns-in-None-clause-outcome
-maybe_type-returns-in-None-clause-outcome g t c = 
+maybe_type-returns-in-None-clause-outcome g t c =
     subst (λ (o : Option (Box «Type» Global)). IsHeld (IsValueIf (g.T.GrowingTypes.collection c.args.types.now)) (maybe_value (scope_of (g.T.GrowingTypes.collection c.args.types.now) c.args.names.now) (boxed_payload o)) None) (sym c.in-None.is) (record { stands = tt; same = refl })
 
 pub maybe_type-returns-in-None-clause-grows : goal.maybe_type-returns-in-None-clause-grows
@@ -136,9 +135,10 @@ result_type-returns-in_err-err-clause-outcome g t c =
 
 pub result_type-define-requires : goal.result_type-define-requires
 result_type-define-requires g t c =
-    children (g.T.GrowingTypes.collection c.maybe_type.new.types) (option_slot c.args.ok ∷ option_slot c.in_ok-err.err ∷ [])
-    (option_stands (g.T.GrowingTypes.collection c.maybe_type.new.types) c.args.ok (StandsIf-kept (g.T.GrowingTypes.collection c.args.types.now) (g.T.GrowingTypes.collection c.maybe_type.new.types) c.in_ok-err.ensures.grows c.args.ok c.requires.ok),
-    (option_stands (g.T.GrowingTypes.collection c.maybe_type.new.types) c.in_ok-err.err c.in_ok-err.ensures.stands, tt))
+    children (g.T.GrowingTypes.collection c.maybe_type.new.types) (option_slot c.args.ok ∷ option_slot c.in_ok-err.err ∷ []) (
+      option_stands (g.T.GrowingTypes.collection c.maybe_type.new.types) c.args.ok (StandsIf-kept (g.T.GrowingTypes.collection c.args.types.now) (g.T.GrowingTypes.collection c.maybe_type.new.types) c.in_ok-err.ensures.grows c.args.ok c.requires.ok),
+      (option_stands (g.T.GrowingTypes.collection c.maybe_type.new.types) c.in_ok-err.err c.in_ok-err.ensures.stands, tt),
+    )
 
 pub result_type-returns-in_err-result-clause-outcome : goal.result_type-returns-in_err-result-clause-outcome
 result_type-returns-in_err-result-clause-outcome g t c = memory_outcome (IsValue (g.T.GrowingTypes.collection c.define.new.types)) (of_two s.result (Ok (stated_if (g.T.GrowingTypes.collection c.args.types.now) c.args.ok)) (maybe_value (scope_of (g.T.GrowingTypes.collection c.args.types.now) c.args.names.now) (boxed_payload c.args.err.now))) _ c.from_residual-in_err-result.ensures.1
@@ -254,28 +254,27 @@ pub value_type-returns-in-Ident-clause-outcome : goal.value_type-returns-in-Iden
 value_type-returns-in-Ident-clause-outcome g t c = at_ident (scope_of (g.T.GrowingTypes.collection c.args.types.now) c.args.names.now) (λ (q : Answer Stated). IsOutcome (IsValue (g.T.GrowingTypes.collection c.value_at.new.types)) q c.value_at.result) c.args.ty.now _ c.in-Ident.is c.value_at.ensures.outcome
 
 pub member_types-returns-in_err-ty-clause-outcome : goal.member_types-returns-in_err-ty-clause-outcome
-member_types-returns-in_err-ty-clause-outcome g t c = 
+member_types-returns-in_err-ty-clause-outcome g t c =
     refused_outcome (AreValues (g.T.GrowingTypes.collection c.value_type.new.types)) (values (scope_of (g.T.GrowingTypes.collection c.args.types.now) c.args.names.now) [] (tree.tys (map view_ty c.args.members.now.items))) _ _ c.from_residual.ensures.1
     (members_refused_whole (scope_of (g.T.GrowingTypes.collection c.args.types.now) c.args.names.now) view_ty c.deref-member-items.result.now c.loop-member.member-index (values (scope_of (g.T.GrowingTypes.collection c.args.types.now) c.args.names.now) [] (tree.tys (map view_ty c.args.members.now.items))) c.loop-member.invariant.os (scope_of (g.T.GrowingTypes.collection c.loop-member.types) c.args.names.now) c.member-item.result _ c.loop-member.invariant.rest c.loop-member-test.true (scope-kept (g.T.GrowingTypes.collection c.args.types.now) (g.T.GrowingTypes.collection c.loop-member.types) c.loop-member.invariant.grows c.args.names.now c.requires) c.member-item.is c.in_err-ty.ensures.outcome)
 
-
 pub member_types-loop-member-preserved : goal.member_types-loop-member-preserved
-member_types-loop-member-preserved g t c = 
+member_types-loop-member-preserved g t c =
     let held : IsHeld (IsValue (g.T.GrowingTypes.collection c.value_type.new.types)) (value (scope_of (g.T.GrowingTypes.collection c.args.types.now) c.args.names.now) (view_ty (get_or c.deref-member-items.result.now c.loop-member.member-index c.member-item.result))) c.in_ok-ty.ty =
-          subst (λ (y : «Type»). IsHeld (IsValue (g.T.GrowingTypes.collection c.value_type.new.types)) (value (scope_of (g.T.GrowingTypes.collection c.args.types.now) c.args.names.now) (view_ty y)) c.in_ok-ty.ty) c.member-item.is
-          (subst (λ (ns : Scope). IsHeld (IsValue (g.T.GrowingTypes.collection c.value_type.new.types)) (value ns (view_ty c.member-item.result)) c.in_ok-ty.ty) (scope-kept (g.T.GrowingTypes.collection c.args.types.now) (g.T.GrowingTypes.collection c.loop-member.types) c.loop-member.invariant.grows c.args.names.now c.requires) c.in_ok-ty.ensures.outcome) in
+    subst (λ (y : «Type»). IsHeld (IsValue (g.T.GrowingTypes.collection c.value_type.new.types)) (value (scope_of (g.T.GrowingTypes.collection c.args.types.now) c.args.names.now) (view_ty y)) c.in_ok-ty.ty) c.member-item.is
+    (subst (λ (ns : Scope). IsHeld (IsValue (g.T.GrowingTypes.collection c.value_type.new.types)) (value ns (view_ty c.member-item.result)) c.in_ok-ty.ty) (scope-kept (g.T.GrowingTypes.collection c.args.types.now) (g.T.GrowingTypes.collection c.loop-member.types) c.loop-member.invariant.grows c.args.names.now c.requires) c.in_ok-ty.ensures.outcome) in
     let n = members_next (scope_of (g.T.GrowingTypes.collection c.args.types.now) c.args.names.now) view_ty c.deref-member-items.result.now c.loop-member.member-index (g.T.GrowingTypes.collection c.value_type.new.types) c.loop-member.invariant.os c.member-item.result c.in_ok-ty.ty c.loop-member-test.true held in
     record {
       grows = Grows-trans _ _ _ c.loop-member.invariant.grows c.in_ok-ty.ensures.grows;
       names = NamesStand-kept (g.T.GrowingTypes.collection c.loop-member.types) (g.T.GrowingTypes.collection c.value_type.new.types) c.in_ok-ty.ensures.grows c.args.names.now c.loop-member.invariant.names;
       os = c.loop-member.invariant.os ++ Some n.0 ∷ [];
       held = subst (λ (vs : List ValueType). AreValues (g.T.GrowingTypes.collection c.value_type.new.types) (c.loop-member.invariant.os ++ Some n.0 ∷ []) vs) (sym c.in_ok-push.ensures.ok)
-        (AreValues-more (g.T.GrowingTypes.collection c.value_type.new.types) c.loop-member.invariant.os c.loop-member.found n.0 c.in_ok-ty.ty (AreValues-kept (g.T.GrowingTypes.collection c.loop-member.types) (g.T.GrowingTypes.collection c.value_type.new.types) c.in_ok-ty.ensures.grows c.loop-member.invariant.os c.loop-member.found c.loop-member.invariant.held) n.1);
+          (AreValues-more (g.T.GrowingTypes.collection c.value_type.new.types) c.loop-member.invariant.os c.loop-member.found n.0 c.in_ok-ty.ty (AreValues-kept (g.T.GrowingTypes.collection c.loop-member.types) (g.T.GrowingTypes.collection c.value_type.new.types) c.in_ok-ty.ensures.grows c.loop-member.invariant.os c.loop-member.found c.loop-member.invariant.held) n.1);
       rest = c.loop-member.invariant.rest ∙ n.2;
     }
 
 pub member_types-returns-clause-outcome : goal.member_types-returns-clause-outcome
-member_types-returns-clause-outcome g t c = 
+member_types-returns-clause-outcome g t c =
     let all : (values (scope_of (g.T.GrowingTypes.collection c.args.types.now) c.args.names.now) [] (tree.tys (map view_ty c.args.members.now.items))) ≡ Ok c.loop-member.invariant.os = c.loop-member.invariant.rest ∙ members_end (scope_of (g.T.GrowingTypes.collection c.args.types.now) c.args.names.now) view_ty c.deref-member-items.result.now c.loop-member.member-index c.loop-member.invariant.os (omega (arith, c.loop-member-test.false)) in
     subst (λ (q : Answer (List (Option Stated))). IsHeld (AreValues (g.T.GrowingTypes.collection c.loop-member.types)) q c.loop-member.found) (sym all) c.loop-member.invariant.held
 

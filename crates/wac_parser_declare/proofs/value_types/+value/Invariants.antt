@@ -14,5 +14,5 @@ invariant-member_types-loop-member g l = record {
   os : List (Option Stated);
   held : AreValues (g.T.GrowingTypes.collection l.types) os l.found;
   rest : values (scope_of (g.T.GrowingTypes.collection l.initial.types) l.names) [] (t.tys (map view_ty l.members.items))
-    ≡ values (scope_of (g.T.GrowingTypes.collection l.initial.types) l.names) os (t.tys (map view_ty (drop l.member-index l.member-items)));
+      ≡ values (scope_of (g.T.GrowingTypes.collection l.initial.types) l.names) os (t.tys (map view_ty (drop l.member-index l.member-items)));
 }
