@@ -8,3 +8,4 @@ pub mod EntryLaws
 pub mod HandleLaws
 pub mod RootLaws
 pub mod ExportLaws
+pub mod KeptFits
