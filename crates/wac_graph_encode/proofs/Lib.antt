@@ -9,3 +9,5 @@ pub mod HandleLaws
 pub mod RootLaws
 pub mod ExportLaws
 pub mod KeptFits
+pub mod Closures
+pub mod OuterClasses
