@@ -156,7 +156,7 @@ module _ {X : Type 0} (J : X → X → Bool) (all : List X) where
       ]
     ]
 
-    closed : (a : X) → Among a all → step (reached a) ≡ reached a
+    pub closed : (a : X) → Among a all → step (reached a) ≡ reached a
     unfolding reached
     closed a there = go (length all) refl
       where

@@ -19,7 +19,7 @@ use Rattle.wac_graph_encode.specs.Tests.{fits}
 use Rattle.wac_graph_encode.specs.Merging.{is_interface, Merge, both, merged_with, merged_exports, has_use, merged_interface, rebuilt, if_kind, same_tree_as, merge_at, merge, Asked, narrower, in_family, kept_from, kept, identified_by, identified}
 use Rattle.wac_graph_encode.specs.Asks.{Ask}
 use Rattle.wac_graph_encode.specs.OuterImports.{asked_in, outer_of}
-use Rattle.wac_graph_encode.specs.OuterLaws.{Kept_fits, Outer_fits}
+use Rattle.wac_graph_encode.specs.OuterLaws.{Kept_fits}
 use Rattle.wac_graph_encode.proofs.FitLaws.{fits_is}
 
 some_is : {A : Type 0} {x y : A} → Some x ≡ Some y → x ≡ y
@@ -543,12 +543,12 @@ identified_tree n (a ∷ b ∷ as_) x = go (is_instance (kind_of x)) refl (has_t
 
 -- ---- the outer import of a class
 
-asked_among : (as_ : List (Ask ℕ)) (a : Ask ℕ) → Among a as_ → Among (a.name, a.item) (asked_in as_)
+asked_among : {A : Type 0} (as_ : List (Ask A)) (a : Ask A) → Among a as_ → Among (a.name, a.item) (asked_in as_)
 asked_among [] a m = m
-asked_among (b ∷ as_) a (inl e) = inl (ap (λ (c : Ask ℕ). (c.name, c.item)) e)
+asked_among (b ∷ as_) a (inl e) = inl (ap (λ (c : Ask _). (c.name, c.item)) e)
 asked_among (b ∷ as_) a (inr m) = inr (asked_among as_ a m)
 
-pub outer_fits : Outer_fits
+pub outer_fits : {A : Type 0} (asks : List (Ask A)) (n : Name) (x : Stated) → outer_of asks ≡ Some (n, x) → (a : Ask A) → Among a asks → Fits (tree x) (tree a.item)
 outer_fits asks n x e a m =
     let k = mapped_is {B = Name × Stated} (λ (y : Stated). (spelled asks, identified (spelled asks) (asked_in asks) y)) (kept (asked_in asks)) (n, x) e in
     let is : tree x ≡ tree k.0 = ap (λ (q : Name × Stated). tree q.1) (sym k.2) ∙ identified_tree (spelled asks) (asked_in asks) k.0 in

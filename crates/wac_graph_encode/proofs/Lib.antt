@@ -11,3 +11,4 @@ pub mod ExportLaws
 pub mod KeptFits
 pub mod Closures
 pub mod OuterClasses
+pub mod Merged

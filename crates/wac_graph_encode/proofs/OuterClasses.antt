@@ -16,7 +16,7 @@ use Rattle.wac_graph_encode.specs.Asks.{Ask}
 use Rattle.wac_graph_encode.specs.Classes.{same_text, identifier_asked, joined, near, within_steps, class, spelled, spelling}
 use Rattle.wac_graph_encode.specs.Merging.{kept, identified}
 use Rattle.wac_graph_encode.specs.OuterImports.{asked_in, with_new, outer_of, outers_from, outer_imports}
-use Rattle.wac_graph_encode.specs.OuterLaws.{Asks_are_met, Outers_are_apart}
+use Rattle.wac_graph_encode.specs.OuterLaws.{Outers_are_apart}
 use Rattle.wac_graph_encode.proofs.KeptFits.{outer_fits}
 use Rattle.wac_graph_encode.proofs.Closures.{steps, reached, reached_within, reached_itself, reached_next, reached_same}
 
@@ -86,14 +86,14 @@ text_turned None u e = absurd (cc e)
 text_turned (Some m) None e = absurd (cc e)
 
 -- asks of one name are joined
-joined_by_name : (a b : Ask ℕ) → a.name ≡ b.name → joined a b ≡ true
+pub joined_by_name : {A : Type 0} (a b : Ask A) → a.name ≡ b.name → joined a b ≡ true
 joined_by_name a b e =
     or_left (compatible a.name b.name) (same_text (identifier_asked a) (identifier_asked b)) (or_left (bytes_eq a.name b.name) (same_track a.name b.name) ((bytes_eq-Decides a.name b.name).1 e))
 
-itself : (a : Ask ℕ) → joined a a ≡ true
+pub itself : {A : Type 0} (a : Ask A) → joined a a ≡ true
 itself a = joined_by_name a a refl
 
-turned : (a b : Ask ℕ) → joined a b ≡ true → joined b a ≡ true
+pub turned : {A : Type 0} (a b : Ask A) → joined a b ≡ true → joined b a ≡ true
 turned a b e = elim (either_true (compatible a.name b.name) (same_text (identifier_asked a) (identifier_asked b)) e) [
   | inl h ↦ or_left (compatible b.name a.name) (same_text (identifier_asked b) (identifier_asked a)) (compatible_turned a.name b.name h)
   | inr h ↦ or_right (compatible b.name a.name) (same_text (identifier_asked b) (identifier_asked a)) (text_turned (identifier_asked a) (identifier_asked b) h)
@@ -101,45 +101,45 @@ turned a b e = elim (either_true (compatible a.name b.name) (same_text (identifi
 
 -- ---- classes
 
-module _ (asks : List (Ask ℕ)) where
-  steps_are : (k : ℕ) (ms : List (Ask ℕ)) → within_steps k asks ms ≡ steps joined asks k ms
+module _ {A : Type 0} (asks : List (Ask A)) where
+  steps_are : (k : ℕ) (ms : List (Ask A)) → within_steps k asks ms ≡ steps joined asks k ms
   steps_are zero ms = refl
   steps_are (suc k) ms = steps_are k (near asks ms)
 
-  class_is : (a : Ask ℕ) → class asks a ≡ reached joined asks itself turned a
+  pub class_is : (a : Ask A) → class asks a ≡ reached joined asks itself turned a
   unfolding reached
   class_is a = steps_are (length asks) (a ∷ [])
 
   -- asks of one class have one class
-  class_same : (a b : Ask ℕ) → Among a asks → Among b (class asks a) → class asks a ≡ class asks b
+  pub class_same : (a b : Ask A) → Among a asks → Among b (class asks a) → class asks a ≡ class asks b
   class_same a b there m = class_is a ∙ reached_same joined asks itself turned a b there (subst (Among b) (class_is a) m) ∙ sym (class_is b)
 
-  within : (a b : Ask ℕ) → Among a asks → Among b (class asks a) → Among b asks
+  pub within : (a b : Ask A) → Among a asks → Among b (class asks a) → Among b asks
   within a b there m = reached_within joined asks itself turned a b there (subst (Among b) (class_is a) m)
 
-  class_itself : (a : Ask ℕ) → Among a asks → Among a (class asks a)
+  pub class_itself : (a : Ask A) → Among a asks → Among a (class asks a)
   class_itself a there = subst (Among a) (sym (class_is a)) (reached_itself joined asks itself turned a there)
 
   -- asks of one name have one class
-  class_by_name : (a b : Ask ℕ) → Among a asks → Among b asks → a.name ≡ b.name → class asks a ≡ class asks b
+  pub class_by_name : (a b : Ask A) → Among a asks → Among b asks → a.name ≡ b.name → class asks a ≡ class asks b
   class_by_name a b there m e =
       class_same a b there (subst (Among b) (sym (class_is a)) (reached_next joined asks itself turned a b a there m (reached_itself joined asks itself turned a there) (joined_by_name b a (sym e))))
 
   -- ---- spellings
 
-  greatest_among : (m : Name) (as_ : List (Ask ℕ)) → (greatest m (map (λ b. b.name) as_) ≡ m) ⊎ ((b : Ask ℕ) × Among b as_ × (b.name ≡ greatest m (map (λ b. b.name) as_)))
+  greatest_among : (m : Name) (as_ : List (Ask A)) → (greatest m (map (λ b. b.name) as_) ≡ m) ⊎ ((b : Ask A) × Among b as_ × (b.name ≡ greatest m (map (λ b. b.name) as_)))
   greatest_among m [] = inl refl
   greatest_among m (a ∷ as_) = go (is_later a.name m) (greatest_among a.name as_) (greatest_among m as_)
     where
-      go : (t : Bool) → (greatest a.name (map (λ b. b.name) as_) ≡ a.name) ⊎ ((b : Ask ℕ) × Among b as_ × (b.name ≡ greatest a.name (map (λ b. b.name) as_))) → (greatest m (map (λ b. b.name) as_) ≡ m) ⊎ ((b : Ask ℕ) × Among b as_ × (b.name ≡ greatest m (map (λ b. b.name) as_)))
-          → (greatest (if t then a.name else m) (map (λ b. b.name) as_) ≡ m) ⊎ ((b : Ask ℕ) × Among b (a ∷ as_) × (b.name ≡ greatest (if t then a.name else m) (map (λ b. b.name) as_)))
+      go : (t : Bool) → (greatest a.name (map (λ b. b.name) as_) ≡ a.name) ⊎ ((b : Ask A) × Among b as_ × (b.name ≡ greatest a.name (map (λ b. b.name) as_))) → (greatest m (map (λ b. b.name) as_) ≡ m) ⊎ ((b : Ask A) × Among b as_ × (b.name ≡ greatest m (map (λ b. b.name) as_)))
+          → (greatest (if t then a.name else m) (map (λ b. b.name) as_) ≡ m) ⊎ ((b : Ask A) × Among b (a ∷ as_) × (b.name ≡ greatest (if t then a.name else m) (map (λ b. b.name) as_)))
       go true (inl e) r = inr (a, inl refl, sym e)
       go true (inr h) r = inr (h.0, inr h.1, h.2)
       go false l (inl e) = inl e
       go false l (inr h) = inr (h.0, inr h.1, h.2)
 
   -- the spelling is a name that is asked in the class
-  spelled_among : (as_ : List (Ask ℕ)) (a : Ask ℕ) → Among a as_ → (b : Ask ℕ) × Among b as_ × (b.name ≡ spelled as_)
+  spelled_among : (as_ : List (Ask A)) (a : Ask A) → Among a as_ → (b : Ask A) × Among b as_ × (b.name ≡ spelled as_)
   spelled_among [] a m = absurd m
   spelled_among (b ∷ as_) a m = elim (greatest_among b.name as_) [
     | inl e ↦ (b, inl refl, sym e)
@@ -147,7 +147,7 @@ module _ (asks : List (Ask ℕ)) where
   ]
 
   -- classes of one spelling are one
-  class_by_spelling : (a b : Ask ℕ) → Among a asks → Among b asks → spelled (class asks a) ≡ spelled (class asks b) → class asks a ≡ class asks b
+  class_by_spelling : (a b : Ask A) → Among a asks → Among b asks → spelled (class asks a) ≡ spelled (class asks b) → class asks a ≡ class asks b
   class_by_spelling a b m n e =
       let c = spelled_among (class asks a) a (class_itself a m) in
       let d = spelled_among (class asks b) b (class_itself b n) in
@@ -157,7 +157,7 @@ module _ (asks : List (Ask ℕ)) where
 
   -- each is that of an ask
   abbrev AreOfAsks : List (Name × Stated) → Type 0
-  AreOfAsks found = (n : Name) (x : Stated) → value_at found n ≡ Some x → (b : Ask ℕ) × Among b asks × (outer_of (class asks b) ≡ Some (n, x)) × (n ≡ spelled (class asks b))
+  AreOfAsks found = (n : Name) (x : Stated) → value_at found n ≡ Some x → (b : Ask A) × Among b asks × (outer_of (class asks b) ≡ Some (n, x)) × (n ≡ spelled (class asks b))
 
   value_kept : (xs ys : List (Name × Stated)) (n : Name) (x : Stated) → value_at xs n ≡ Some x → value_at (xs ++ ys) n ≡ Some x
   value_kept [] ys n x e = absurd (none_is e)
@@ -188,12 +188,12 @@ module _ (asks : List (Ask ℕ)) where
       go rest false q = rest q
 
   -- under an outer import's name, no other one
-  one_outer : (a b : Ask ℕ) (n : Name) (x y : Stated) → Among a asks → Among b asks → outer_of (class asks a) ≡ Some (n, x) → outer_of (class asks b) ≡ Some (n, y) → n ≡ spelled (class asks a) → n ≡ spelled (class asks b) → x ≡ y
+  one_outer : (a b : Ask A) (n : Name) (x y : Stated) → Among a asks → Among b asks → outer_of (class asks a) ≡ Some (n, x) → outer_of (class asks b) ≡ Some (n, y) → n ≡ spelled (class asks a) → n ≡ spelled (class asks b) → x ≡ y
   one_outer a b n x y m k e f p q =
       let same = class_by_spelling a b m k (sym p ∙ q) in
       ap (λ (z : Name × Stated). z.1) (some_is (sym e ∙ ap outer_of same ∙ f))
 
-  spelled_outer : (as_ : List (Ask ℕ)) (n : Name) (x : Stated) → outer_of as_ ≡ Some (n, x) → n ≡ spelled as_
+  spelled_outer : (as_ : List (Ask A)) (n : Name) (x : Stated) → outer_of as_ ≡ Some (n, x) → n ≡ spelled as_
   spelled_outer as_ n x e = go (kept (asked_in as_)) e
     where
       go : (o : Option Stated) → option_map {U = Name × Stated} (λ (z : Stated). (spelled as_, identified (spelled as_) (asked_in as_) z)) o ≡ Some (n, x) → n ≡ spelled as_
@@ -201,12 +201,12 @@ module _ (asks : List (Ask ℕ)) where
       go (Some z) q = sym (ap (λ (w : Name × Stated). w.0) (some_is q))
 
   -- what one more ask adds
-  record Added (found more : List (Name × Stated)) (a : Ask ℕ) : Type 0 where
+  record Added (found more : List (Name × Stated)) (a : Ask A) : Type 0 where
     of_asks : AreOfAsks more
     kept : (n : Name) (x : Stated) → value_at found n ≡ Some x → value_at more n ≡ Some x
     there : (n : Name) (x : Stated) → outer_of (class asks a) ≡ Some (n, x) → value_at more n ≡ Some x
 
-  added : (found : List (Name × Stated)) → AreOfAsks found → (a : Ask ℕ) → Among a asks → Added found (with_new found (outer_of (class asks a))) a
+  added : (found : List (Name × Stated)) → AreOfAsks found → (a : Ask A) → Among a asks → Added found (with_new found (outer_of (class asks a))) a
   added found h a m = go (outer_of (class asks a)) refl
     where
       new : (n : Name) (x : Stated) → outer_of (class asks a) ≡ Some (n, x) → (o : Option Stated) → value_at found n ≡ o → Added found (if is_some o then found else found ++ (n, x) ∷ []) a
@@ -234,20 +234,20 @@ module _ (asks : List (Ask ℕ)) where
       go None e = record { of_asks = h; kept = λ n x r. r; there = λ n x r. absurd (none_is (sym e ∙ r)) }
       go (Some o) e = new o.0 o.1 e (value_at found o.0) refl
 
-  all_there : (found : List (Name × Stated)) (as_ : List (Ask ℕ)) → AreOfAsks found → ((b : Ask ℕ) → Among b as_ → Among b asks)
-      → ((n : Name) (x : Stated) → value_at found n ≡ Some x → value_at (outers_from found asks as_) n ≡ Some x) × ((a : Ask ℕ) (n : Name) (x : Stated) → Among a as_ → outer_of (class asks a) ≡ Some (n, x) → value_at (outers_from found asks as_) n ≡ Some x)
+  all_there : (found : List (Name × Stated)) (as_ : List (Ask A)) → AreOfAsks found → ((b : Ask A) → Among b as_ → Among b asks)
+      → ((n : Name) (x : Stated) → value_at found n ≡ Some x → value_at (outers_from found asks as_) n ≡ Some x) × ((a : Ask A) (n : Name) (x : Stated) → Among a as_ → outer_of (class asks a) ≡ Some (n, x) → value_at (outers_from found asks as_) n ≡ Some x)
   all_there found [] h sub = (λ n x e. e, λ a n x m e. absurd m)
   all_there found (b ∷ as_) h sub =
       let one = added found h b (sub b (inl refl)) in
       let rest = all_there (with_new found (outer_of (class asks b))) as_ one.of_asks (λ c m. sub c (inr m)) in (
         λ n x e. rest.0 n x (one.kept n x e),
         λ a n x m e. elim m [
-          | inl d ↦ rest.0 n x (one.there n x (ap (λ (c : Ask ℕ). outer_of (class asks c)) (sym d) ∙ e))
+          | inl d ↦ rest.0 n x (one.there n x (ap (λ (c : Ask A). outer_of (class asks c)) (sym d) ∙ e))
           | inr k ↦ rest.1 a n x k e
         ],
       )
 
-  all_of : (found : List (Name × Stated)) (as_ : List (Ask ℕ)) → AreOfAsks found → ((b : Ask ℕ) → Among b as_ → Among b asks) → AreOfAsks (outers_from found asks as_)
+  all_of : (found : List (Name × Stated)) (as_ : List (Ask A)) → AreOfAsks found → ((b : Ask A) → Among b as_ → Among b asks) → AreOfAsks (outers_from found asks as_)
   all_of found [] h sub = h
   all_of found (b ∷ as_) h sub = all_of (with_new found (outer_of (class asks b))) as_ (added found h b (sub b (inl refl))).of_asks (λ c m. sub c (inr m))
 
@@ -266,20 +266,20 @@ module _ (asks : List (Ask ℕ)) where
       a.3 ∙ ap spelled (class_same a.0 c.0 a.1 c.1 ∙ sym same ∙ sym (class_same b.0 d.0 b.1 d.1)) ∙ sym b.3
 
   -- the spelling of an asked name is that of its class
-  spelling_in : (a : Ask ℕ) → Among a asks → (bs : List (Ask ℕ)) → ((b : Ask ℕ) → Among b bs → Among b asks) → Among a bs → unwrap_or (option_map (λ b. spelled (class asks b)) (find (λ b. bytes_eq b.name a.name) bs)) a.name ≡ spelled (class asks a)
+  spelling_in : (a : Ask A) → Among a asks → (bs : List (Ask A)) → ((b : Ask A) → Among b bs → Among b asks) → Among a bs → unwrap_or (option_map (λ b. spelled (class asks b)) (find (λ b. bytes_eq b.name a.name) bs)) a.name ≡ spelled (class asks a)
   spelling_in a m [] sub k = absurd k
   spelling_in a m (b ∷ bs) sub k = go (λ n. spelling_in a m bs (λ c h. sub c (inr h)) n) (bytes_eq b.name a.name) refl k
     where
       go : (Among a bs → unwrap_or (option_map (λ c. spelled (class asks c)) (find (λ c. bytes_eq c.name a.name) bs)) a.name ≡ spelled (class asks a)) → (t : Bool) → bytes_eq b.name a.name ≡ t → Among a (b ∷ bs)
           → unwrap_or (option_map (λ c. spelled (class asks c)) (cond t (Some b) (find (λ c. bytes_eq c.name a.name) bs))) a.name ≡ spelled (class asks a)
       go rest true e k = ap spelled (class_by_name b a (sub b (inl refl)) m ((bytes_eq-Decides b.name a.name).0 e))
-      go rest false e (inl d) = absurd (true≢false (sym ((bytes_eq-Decides b.name a.name).1 (ap (λ (c : Ask ℕ). c.name) (sym d))) ∙ e))
+      go rest false e (inl d) = absurd (true≢false (sym ((bytes_eq-Decides b.name a.name).1 (ap (λ (c : Ask A). c.name) (sym d))) ∙ e))
       go rest false e (inr n) = rest n
 
-  spelling_is : (a : Ask ℕ) → Among a asks → spelling asks a.name ≡ spelled (class asks a)
+  spelling_is : (a : Ask A) → Among a asks → spelling asks a.name ≡ spelled (class asks a)
   spelling_is a m = spelling_in a m asks (λ b k. k) m
 
-pub asks_are_met : Asks_are_met
+pub asks_are_met : {A : Type 0} (asks : List (Ask A)) (a : Ask A) (n : Name) (x : Stated) → Among a asks → outer_of (class asks a) ≡ Some (n, x) → (spelling asks a.name ≡ n) × (value_at (outer_imports asks) n ≡ Some x) × Fits (tree x) (tree a.item)
 asks_are_met asks a n x m e =
     let found = (all_there asks [] asks (λ k z r. absurd (none_is r)) (λ b k. k)).1 a n x m e in
     (spelling_is asks a m ∙ sym (spelled_outer asks (class asks a) n x e), found, outer_fits (class asks a) n x e a (class_itself asks a m))
