@@ -42,7 +42,7 @@ pub struct TypeScope {
     pub resources: Vec<KnownResource>,
 }
 
-fn next_of(count: u32) -> Result<u32, SizeError>
+pub(crate) fn next_of(count: u32) -> Result<u32, SizeError>
     ensures ok { IfOk result (λ i. i ≡ count + 1) }
     ensures full { IfErr result (λ e. (e ≡ TooLarge) × (count ≡ 4294967295)) }
 {
@@ -128,6 +128,12 @@ impl TypeScope {
         ensures { (w : Worlds) (c : Collection) (outer : List Scope) (i : Inside) → IsScope w c outer i self.old → value_of w (i.here ∷ outer) (Index index) ≡ Some (tree_in c (ItemKind.Value (ValueType.Defined id))) → IfOk result (λ _. IsScope w c outer i self.new) }
     {
         self.known.push(KnownType { id, index })?;
+        Ok(())
+    }
+
+    /// Remembers the index of a resource.
+    pub fn add_resource(&mut self, name: Text, index: u32) -> Result<(), AllocError> {
+        self.resources.push(KnownResource { name, index })?;
         Ok(())
     }
 

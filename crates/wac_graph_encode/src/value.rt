@@ -19,6 +19,7 @@ use crate::scope::TypeScope;
 use std::alloc::Global;
 use wac_graph_bytes::{DefinedType as TypeEntry, ValueType as Written};
 use wac_types_base::{DefinedTypeId, FuncTypeId, ItemKind, ResourceId, Types, ValueType};
+use wac_types_fit::{SubtypeChecker, SubtypeError, new_cache};
 
 /// The index of a resource in the scope.
 fn resource_of(scope: &TypeScope, types: &Types, id: ResourceId) -> Result<u32, WriteError>
@@ -100,6 +101,74 @@ fn push_resolved(
     }
 }
 
+/// Whether two type items are the same.
+pub(crate) fn same_type(
+    alloc: Global,
+    types: &Types,
+    a: ItemKind,
+    b: ItemKind,
+) -> Result<bool, WriteError> {
+    let mut cache = new_cache(alloc);
+    let mut checker = SubtypeChecker::new(alloc, &mut cache);
+    match checker.is_subtype(a, types, b, types) {
+        Ok(()) => Ok(true),
+        Err(SubtypeError::Memory) => Err(WriteError::Memory),
+        Err(_) => Ok(false),
+    }
+}
+
+/// The index of a type that is written already, or of one that is equal.
+fn known_index(
+    alloc: Global,
+    scope: &TypeScope,
+    types: &Types,
+    id: DefinedTypeId,
+) -> Result<Option<u32>, WriteError> {
+    if let Some(index) = scope.known(id) {
+        return Ok(Some(index));
+    }
+    let kind = ItemKind::Value(ValueType::Defined(id));
+    for other in &scope.known {
+        let own = ItemKind::Value(ValueType::Defined(other.id));
+        if same_type(alloc, types, own, kind)? {
+            return Ok(Some(other.index));
+        }
+    }
+    Ok(None)
+}
+
+/// The index of a type entry that is a value type. A defined type that is not written yet is not remembered.
+pub(crate) fn define_value(
+    alloc: Global,
+    scope: &mut TypeScope,
+    types: &Types,
+    ty: ValueType,
+) -> Result<u32, WriteError> {
+    match types.resolve_value_type(ty) {
+        ValueType::Defined(id) => define_once(alloc, scope, types, id),
+        end => match push_value(alloc, scope, types, end)? {
+            Written::Index(index) => Ok(index),
+            Written::Primitive(p) => Ok(scope.define(TypeEntry::Primitive(p))?),
+        },
+    }
+}
+
+/// The same of a defined type that is no alias.
+fn define_once(
+    alloc: Global,
+    scope: &mut TypeScope,
+    types: &Types,
+    id: DefinedTypeId,
+) -> Result<u32, WriteError> {
+    if let Some(index) = known_index(alloc, scope, types, id)? {
+        return Ok(index);
+    }
+    let ty = types.defined_type(id);
+    let places = push_places(alloc, scope, types, ItemKind::Value(ValueType::Defined(id)))?;
+    let entry = entry_of(alloc, ty, places.as_slice())?;
+    Ok(scope.define(entry)?)
+}
+
 /// The same of a defined type: written once.
 #[cycle(values)]
 fn push_defined(
@@ -113,7 +182,7 @@ fn push_defined(
     ensures { (w : Worlds) (outer : List Scope) (i : Inside) → IsScope w types.now outer i scope.old → IfOk result (λ b. AnswersValue w types.now outer i (tree_in types.now (ItemKind.Value (ValueType.Defined id))) scope.new b) }
 {
     types.see_acyclic();
-    if let Some(index) = scope.known(id) {
+    if let Some(index) = known_index(alloc, scope, types, id)? {
         return Ok(Written::Index(index));
     }
     let ty = types.defined_type(id);
