@@ -1,9 +1,14 @@
 //! What a graph asks from outside, in order.
 
+use crate::nodes::{argument_at, import_name, kind_of, node_at, package_of, world_at};
 use std::alloc::{AllocError, Global};
-use wac_graph_core::{CompositionGraph, NodeId, PackageId};
+use wac_graph_core::{CompositionGraph, NodeId, NodeKind, PackageId};
+use wac_graph_encode::parts::{
+    export_at, export_count, identifier, import_at, import_count, interface_of, use_at, use_count,
+    world_identifier, world_use_at, world_use_count,
+};
 use wac_types_base::copy::copy_item;
-use wac_types_base::{InterfaceId, ItemKind, Text, Type, Types, UsedType, WorldId};
+use wac_types_base::{InterfaceId, ItemKind, Text, Type, Types, WorldId};
 
 /// Why something is asked.
 #[derive(Clone, Copy, Debug, PartialEq, Eq)]
@@ -65,16 +70,6 @@ pub(crate) fn world_of(packages: &[PackageWorld], id: PackageId) -> Option<World
     None
 }
 
-/// Whether an argument of that name is passed.
-fn is_given(graph: &CompositionGraph, node: NodeId, name: &str) -> bool {
-    for (own, _) in graph.get_instantiation_arguments(node) {
-        if own == name {
-            return true;
-        }
-    }
-    false
-}
-
 impl Asked {
     fn new(alloc: Global, number: u64) -> Self {
         Asked {
@@ -92,11 +87,13 @@ impl Asked {
         graph: &CompositionGraph,
         node: NodeId,
     ) -> Result<(), AllocError> {
-        let Some(name) = graph[node].import_name() else {
+        let Some(name) = import_name(graph, node) else {
+            return Ok(());
+        };
+        let Some(kind) = kind_of(graph, node) else {
             return Ok(());
         };
         let name = owned(alloc, name)?;
-        let kind = graph[node].item_kind();
         let item = copy_item(alloc, graph.types(), kind, &mut self.types)?;
         self.asks.push(Ask {
             asking: Asking::ByName,
@@ -107,24 +104,26 @@ impl Asked {
         Ok(())
     }
 
-    /// The world of a package in this collection.
+    /// The world of a package in this collection, if it stands.
     fn copied_world(
         &mut self,
         alloc: Global,
         graph: &CompositionGraph,
         id: PackageId,
-    ) -> Result<WorldId, AllocError> {
+    ) -> Result<Option<WorldId>, AllocError> {
         if let Some(world) = world_of(&self.packages, id) {
-            return Ok(world);
+            return Ok(Some(world));
         }
-        let kind = ItemKind::Component(graph[id].ty());
-        let copy = copy_item(alloc, graph.types(), kind, &mut self.types)?;
-        match copy {
+        let Some(world) = world_at(graph, id) else {
+            return Ok(None);
+        };
+        let kind = ItemKind::Component(world);
+        match copy_item(alloc, graph.types(), kind, &mut self.types)? {
             ItemKind::Component(world) => {
                 self.packages.push(PackageWorld { id, world })?;
-                Ok(world)
+                Ok(Some(world))
             }
-            _ => Err(AllocError),
+            _ => Ok(None),
         }
     }
 
@@ -135,20 +134,22 @@ impl Asked {
         graph: &CompositionGraph,
         node: NodeId,
     ) -> Result<(), AllocError> {
-        let Some(package) = graph[node].package() else {
+        let Some(package) = package_of(graph, node) else {
             return Ok(());
         };
-        let world = self.copied_world(alloc, graph, package)?;
-        let world = self.types.world(world);
-        for at in 0..world.imports.len() {
-            let (name, item) = world.imports.entry(at);
-            if !is_given(graph, node, name) {
-                self.asks.push(Ask {
-                    asking: Asking::ToFill,
-                    by: node,
-                    name: owned(alloc, name)?,
-                    item: *item,
-                })?;
+        let Some(world) = self.copied_world(alloc, graph, package)? else {
+            return Ok(());
+        };
+        for at in 0..import_count(&self.types, world) {
+            if let Some(import) = import_at(&self.types, world, at) {
+                if argument_at(graph, node, import.name).is_none() {
+                    self.asks.push(Ask {
+                        asking: Asking::ToFill,
+                        by: node,
+                        name: owned(alloc, import.name)?,
+                        item: import.kind,
+                    })?;
+                }
             }
         }
         Ok(())
@@ -161,98 +162,149 @@ impl Asked {
         graph: &CompositionGraph,
         node: NodeId,
     ) -> Result<(), AllocError> {
-        let is_definition = matches!(graph[node].kind(), wac_graph_core::NodeKind::Definition);
-        if !is_definition {
+        let Some(name) = defined_name(graph, node) else {
             return Ok(());
-        }
-        let name = owned(alloc, graph[node].export_name().unwrap_or(""))?;
-        let kind = graph[node].item_kind();
+        };
+        let Some(kind) = kind_of(graph, node) else {
+            return Ok(());
+        };
+        let name = owned(alloc, name)?;
         let item = copy_item(alloc, graph.types(), kind, &mut self.types)?;
         self.definitions.push(Definition { node, name, item })?;
         Ok(())
     }
 }
 
+/// The name that a definition is exported under.
+fn defined_name(graph: &CompositionGraph, id: NodeId) -> Option<&str> {
+    match node_at(graph, id) {
+        Some(node) => match node.kind() {
+            NodeKind::Definition => match node.export_name() {
+                Some(name) => Some(name),
+                None => Some(""),
+            },
+            _ => None,
+        },
+        None => None,
+    }
+}
+
 /// The used interfaces, each once.
 #[derive(Drop)]
 struct Users<'a> {
+    alloc: Global,
     types: &'a Types,
     asks: Vec<Ask>,
     seen: Vec<InterfaceId>,
 }
 
+/// The interfaces that a definition uses which is written as it is: those of its item, or else those of its world.
+fn used_definition(types: &Types, kind: ItemKind) -> (Option<ItemKind>, Option<WorldId>) {
+    match kind {
+        ItemKind::Ty(ty) => match ty {
+            Type::Interface(id) => match identifier(types, id) {
+                None => (Some(kind), None),
+                Some(_) => (None, None),
+            },
+            Type::World(id) => match world_identifier(types, id) {
+                None => (None, Some(id)),
+                Some(_) => (None, None),
+            },
+            _ => (None, None),
+        },
+        _ => (None, None),
+    }
+}
+
 impl<'a> Users<'a> {
-    /// Adds a used interface, before those that it uses itself.
-    fn ask_use(&mut self, alloc: Global, by: NodeId, used: &UsedType) -> Result<(), AllocError> {
-        let id = used.interface;
+    /// Adds a used interface, if it is not there. Whether it was added.
+    fn add(&mut self, by: NodeId, id: InterfaceId) -> Result<bool, AllocError> {
         if self.seen.contains(&id) {
-            return Ok(());
+            return Ok(false);
         }
         self.seen.push(id)?;
-        if let Some(name) = &self.types.interface(id).id {
+        if let Some(name) = identifier(self.types, id) {
             self.asks.push(Ask {
                 asking: Asking::ToUse,
                 by,
-                name: name.copy()?,
+                name: owned(self.alloc, name)?,
                 item: ItemKind::Instance(id),
             })?;
         }
-        self.ask_uses(alloc, by, ItemKind::Instance(id))
+        Ok(true)
+    }
+
+    /// Adds a used interface, before those that it uses itself.
+    #[cycle(uses)]
+    fn ask_use(&mut self, by: NodeId, id: InterfaceId) -> Result<(), AllocError> {
+        if self.add(by, id)? {
+            self.ask_uses(by, ItemKind::Instance(id))?;
+        }
+        Ok(())
+    }
+
+    /// Adds the interfaces that an interface uses itself.
+    #[cycle(uses)]
+    fn ask_direct(&mut self, by: NodeId, id: InterfaceId) -> Result<(), AllocError> {
+        for at in 0..use_count(self.types, id) {
+            if let Some(used) = use_at(self.types, id, at) {
+                self.ask_use(by, used.interface)?;
+            }
+        }
+        Ok(())
     }
 
     /// Adds the interfaces that an item uses.
-    fn ask_uses(&mut self, alloc: Global, by: NodeId, kind: ItemKind) -> Result<(), AllocError> {
-        let id = match kind {
-            ItemKind::Instance(id) => id,
-            ItemKind::Ty(Type::Interface(id)) => id,
-            _ => return Ok(()),
+    #[cycle(uses)]
+    fn ask_uses(&mut self, by: NodeId, kind: ItemKind) -> Result<(), AllocError> {
+        let Some(id) = interface_of(self.types, kind) else {
+            return Ok(());
         };
-        let interface = self.types.interface(id);
-        for used in interface.uses.values() {
-            self.ask_use(alloc, by, used)?;
+        self.ask_direct(by, id)?;
+        for at in 0..export_count(self.types, id) {
+            if let Some(item) = export_at(self.types, id, at) {
+                self.ask_uses(by, item.kind)?;
+            }
         }
-        for kind in interface.exports.values() {
-            self.ask_uses(alloc, by, *kind)?;
+        Ok(())
+    }
+
+    /// Adds the interfaces that a world uses itself, each before those that it uses.
+    fn ask_world(&mut self, by: NodeId, id: WorldId) -> Result<(), AllocError> {
+        for at in 0..world_use_count(self.types, id) {
+            if let Some(used) = world_use_at(self.types, id, at) {
+                self.ask_use(by, used.interface)?;
+            }
         }
         Ok(())
     }
 
     /// Adds the interfaces that a definition uses which is written as it is.
-    fn ask_definition(&mut self, alloc: Global, definition: &Definition) -> Result<(), AllocError> {
-        let by = definition.node;
-        match definition.item {
-            ItemKind::Ty(Type::Interface(id)) => {
-                if self.types.interface(id).id.is_none() {
-                    self.ask_uses(alloc, by, definition.item)?;
-                }
-                Ok(())
-            }
-            ItemKind::Ty(Type::World(id)) => {
-                let world = self.types.world(id);
-                if world.id.is_none() {
-                    for used in world.uses.values() {
-                        self.ask_use(alloc, by, used)?;
-                    }
-                }
-                Ok(())
-            }
-            _ => Ok(()),
+    fn ask_definition(&mut self, definition: &Definition) -> Result<(), AllocError> {
+        let (item, world) = used_definition(self.types, definition.item);
+        if let Some(item) = item {
+            self.ask_uses(definition.node, item)?;
         }
+        if let Some(world) = world {
+            self.ask_world(definition.node, world)?;
+        }
+        Ok(())
     }
 }
 
 /// The asks of used interfaces, by those that use them.
 fn uses_asked(alloc: Global, asked: &Asked) -> Result<Vec<Ask>, AllocError> {
     let mut users = Users {
+        alloc,
         types: &asked.types,
         asks: Vec::new(alloc),
         seen: Vec::new(alloc),
     };
     for ask in &asked.asks {
-        users.ask_uses(alloc, ask.by, ask.item)?;
+        users.ask_uses(ask.by, ask.item)?;
     }
     for definition in &asked.definitions {
-        users.ask_definition(alloc, definition)?;
+        users.ask_definition(definition)?;
     }
     Ok(users.asks)
 }

@@ -5,6 +5,7 @@ use semver::Version;
 use std::alloc::{AllocError, Global};
 use std::cmp::Ordering;
 use wac_graph_bytes::{NameKind, component_name};
+use wac_graph_encode::parts::identifier;
 use wac_types_base::{ItemKind, Types};
 use wac_types_names::alternate_lookup_key;
 
@@ -26,10 +27,7 @@ fn identifier_asked<'a>(
         return Ok(None);
     };
     match component_name(alloc, ask.name.as_str())? {
-        Some(NameKind::Interface) => match &types.interface(id).id {
-            Some(identifier) => Ok(Some(identifier.as_str())),
-            None => Ok(None),
-        },
+        Some(NameKind::Interface) => Ok(identifier(types, id)),
         _ => Ok(None),
     }
 }

@@ -2,15 +2,16 @@
 
 use crate::asks::{Ask, Asked, Asking};
 use crate::errors::{EncodeError, ValidationFault};
+use crate::nodes::{kind_of, package_at, package_of};
 use crate::options::EncodeOptions;
 use crate::outers::Outers;
 use crate::writable::{is_unwritable_definition, is_unwritable_package, unwritable_outer};
 use semver::Version;
 use std::alloc::{AllocError, Global};
-use std::fmt::Write;
 use wac_graph_core::{CompositionGraph, NodeId, PackageId};
+use wac_graph_encode::parts::{Item, import_at, import_count};
 use wac_types_base::{ItemKind, Text};
-use wac_types_names::PackageKey;
+use wac_types_names::{Package, PackageKey};
 
 // ---- an import that is asked by its name and by an instance
 
@@ -24,20 +25,29 @@ fn find_import(asks: &[Ask], name: &str) -> Option<NodeId> {
     None
 }
 
+/// The package of an instance.
+fn instantiated(graph: &CompositionGraph, id: NodeId) -> Option<&Package> {
+    match package_of(graph, id) {
+        Some(package) => package_at(graph, package),
+        None => None,
+    }
+}
+
 fn implicit_conflict(
     alloc: Global,
     graph: &CompositionGraph,
     import: NodeId,
     ask: &Ask,
 ) -> Result<EncodeError, AllocError> {
-    match graph[ask.by].package() {
-        None => Ok(EncodeError::GraphContainsCycle { node: ask.by }),
+    let name = String::from_str(alloc, ask.name.as_str())?;
+    match instantiated(graph, ask.by) {
         Some(package) => Ok(EncodeError::ImplicitImportConflict {
             import,
             instantiation: ask.by,
-            package: PackageKey::new(alloc, &graph[package])?,
-            name: String::from_str(alloc, ask.name.as_str())?,
+            package: PackageKey::new(alloc, package)?,
+            name,
         }),
+        None => Ok(EncodeError::GraphContainsCycle { node: ask.by }),
     }
 }
 
@@ -66,11 +76,19 @@ fn unwritable(alloc: Global, name: &str) -> EncodeError {
     }
 }
 
+/// Whether a node's item is a value.
+fn is_value(graph: &CompositionGraph, node: NodeId) -> bool {
+    match kind_of(graph, node) {
+        Some(kind) => matches!(kind, ItemKind::Value(_)),
+        None => false,
+    }
+}
+
 /// No alias is of a value item.
 fn check_aliases(alloc: Global, graph: &CompositionGraph) -> Result<(), EncodeError> {
     for node in graph.node_ids() {
         if let Some((_, name)) = graph.get_alias_source(node) {
-            if matches!(graph[node].item_kind(), ItemKind::Value(_)) {
+            if is_value(graph, node) {
                 return Err(unwritable(alloc, name));
             }
         }
@@ -80,23 +98,22 @@ fn check_aliases(alloc: Global, graph: &CompositionGraph) -> Result<(), EncodeEr
 
 fn check_outers(alloc: Global, asked: &Asked, outers: &Outers) -> Result<(), EncodeError> {
     match unwritable_outer(alloc, &asked.types, outers.world)? {
-        Some(at) => {
-            let names = asked.types.world(outers.world).imports.names();
-            match names.get(at) {
-                Some(name) => Err(unwritable(alloc, name.as_str())),
-                None => Ok(()),
-            }
-        }
+        Some(at) => match import_at(&asked.types, outers.world, at) {
+            Some(import) => Err(unwritable(alloc, import.name)),
+            None => Ok(()),
+        },
         None => Ok(()),
     }
 }
 
 fn check_definitions(alloc: Global, asked: &Asked, outers: &Outers) -> Result<(), EncodeError> {
     for definition in &asked.definitions {
-        let name = definition.name.as_str();
-        let world = outers.world;
-        if is_unwritable_definition(alloc, &asked.types, world, name, definition.item)? {
-            return Err(unwritable(alloc, name));
+        let item = Item {
+            name: definition.name.as_str(),
+            kind: definition.item,
+        };
+        if is_unwritable_definition(alloc, &asked.types, outers.world, item)? {
+            return Err(unwritable(alloc, item.name));
         }
     }
     Ok(())
@@ -153,10 +170,11 @@ pub(crate) fn dependency_name(
     graph: &CompositionGraph,
     id: PackageId,
 ) -> Result<String, AllocError> {
-    let package = &graph[id];
     let mut name = String::from_str(alloc, "unlocked-dep=<")?;
-    name.push_str(package.name())?;
-    push_version(alloc, &mut name, package.version())?;
+    if let Some(package) = package_at(graph, id) {
+        name.push_str(package.name())?;
+        push_version(alloc, &mut name, package.version())?;
+    }
     name.push_str(">")?;
     Ok(name)
 }
@@ -209,8 +227,10 @@ fn import_names(
     options: &EncodeOptions,
 ) -> Result<Vec<Text>, AllocError> {
     let mut names = Vec::new(alloc);
-    for name in asked.types.world(outers.world).imports.names() {
-        names.push(Text::new(String::from_str(alloc, name.as_str())?))?;
+    for at in 0..import_count(&asked.types, outers.world) {
+        if let Some(import) = import_at(&asked.types, outers.world, at) {
+            names.push(Text::new(String::from_str(alloc, import.name)?))?;
+        }
     }
     if !options.define_components {
         for package in &asked.packages {

@@ -1,7 +1,9 @@
 //! Copies of the parts of interfaces and worlds.
 
 use std::alloc::{AllocError, Global};
-use wac_types_base::{Interface, ItemKind, NamedMap, Text, UsedType, World};
+use wac_types_base::{
+    Interface, InterfaceId, ItemKind, NamedMap, Text, Types, UsedType, World, WorldId,
+};
 
 /// The same text again, if there is one.
 fn copy_text(text: &Option<Text>) -> Result<Option<Text>, AllocError> {
@@ -28,7 +30,7 @@ pub(crate) fn copy_items(
 }
 
 /// The same uses again.
-pub(crate) fn copy_uses(
+fn copy_uses(
     alloc: Global,
     uses: &NamedMap<UsedType>,
 ) -> Result<NamedMap<UsedType>, AllocError> {
@@ -45,7 +47,7 @@ pub(crate) fn copy_uses(
 }
 
 /// The same interface again.
-pub(crate) fn copy_interface(
+fn copy_interface(
     alloc: Global,
     interface: &Interface,
 ) -> Result<Interface, AllocError> {
@@ -57,11 +59,58 @@ pub(crate) fn copy_interface(
 }
 
 /// The same world again.
-pub(crate) fn copy_world(alloc: Global, world: &World) -> Result<World, AllocError> {
+fn copy_world(alloc: Global, world: &World) -> Result<World, AllocError> {
     Ok(World {
         id: copy_text(&world.id)?,
         uses: copy_uses(alloc, &world.uses)?,
         imports: copy_items(alloc, &world.imports)?,
         exports: copy_items(alloc, &world.exports)?,
     })
+}
+
+/// The interface of an id again, if it stands.
+pub(crate) fn interface_at(
+    alloc: Global,
+    types: &Types,
+    id: InterfaceId,
+) -> Result<Option<Interface>, AllocError> {
+    if types.has(ItemKind::Instance(id)) {
+        Ok(Some(copy_interface(alloc, types.interface(id))?))
+    } else {
+        Ok(None)
+    }
+}
+
+/// The world of an id again, if it stands.
+pub(crate) fn world_at(
+    alloc: Global,
+    types: &Types,
+    id: WorldId,
+) -> Result<Option<World>, AllocError> {
+    if types.has(ItemKind::Component(id)) {
+        Ok(Some(copy_world(alloc, types.world(id))?))
+    } else {
+        Ok(None)
+    }
+}
+
+/// Adds an interface, if all that it names stands.
+pub(crate) fn add_interface(
+    types: &mut Types,
+    interface: Interface,
+) -> Result<Option<InterfaceId>, AllocError> {
+    if types.has_ids_of(&interface) {
+        Ok(Some(types.add_interface(interface)?))
+    } else {
+        Ok(None)
+    }
+}
+
+/// Adds a world, if all that it names stands.
+pub(crate) fn add_world(types: &mut Types, world: World) -> Result<Option<WorldId>, AllocError> {
+    if types.has_ids_of(&world) {
+        Ok(Some(types.add_world(world)?))
+    } else {
+        Ok(None)
+    }
 }

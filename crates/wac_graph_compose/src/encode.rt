@@ -39,7 +39,7 @@ fn bytes_of(
 ) -> Result<Vec<u8>, EncodeError> {
     let all = Importing {
         types: &asked.types,
-        world: asked.types.world(outers.world),
+        world: outers.world,
         called: outers.called.as_slice(),
     };
     let root = write_root(alloc, graph, asked, all, definitions, options)?;
@@ -65,12 +65,14 @@ fn encoded(
     let bytes = bytes_of(alloc, graph, &asked, &outers, &definitions, options)?;
     check_names(alloc, graph, &asked, &outers, options)?;
     let mut types = Types::new(alloc, numbers.1);
-    let world = composed_world(alloc, graph, &mut asked, &outers, &definitions, &mut types)?;
-    Ok(Encoded {
-        bytes,
-        types,
-        world,
-    })
+    match composed_world(alloc, graph, &mut asked, &outers, &definitions, &mut types)? {
+        Some(world) => Ok(Encoded {
+            bytes,
+            types,
+            world,
+        }),
+        None => Err(EncodeError::TooLarge),
+    }
 }
 
 /// Two numbers that are not this one.

@@ -1,26 +1,18 @@
 //! What stands directly in an interface, in a component type or at the root.
 
 use std::alloc::{AllocError, Global};
-use wac_types_base::{ItemKind, NamedMap, ResourceId, Type, Types, UsedType};
+use wac_graph_encode::parts::{
+    Item, export_at, export_count, export_named, import_at, import_count, is_fresh, root_name,
+    use_at, use_count, world_export_at, world_export_count, world_use_at, world_use_count, Use,
+};
+use wac_types_base::{InterfaceId, ItemKind, Type, Types, WorldId};
 use wac_types_fit::{SubtypeChecker, SubtypeError, new_cache};
 
-/// An item that a use takes, under the name that it has here.
-#[derive(Clone, Copy)]
-struct UsedItem<'a> {
-    name: &'a str,
-    item: ItemKind,
-}
-
-/// Used items, and the root names of resources.
+/// Used items under the names that they have here, and the root names of resources.
 #[derive(Drop)]
 pub(crate) struct Holder<'a> {
-    used: Vec<UsedItem<'a>>,
+    used: Vec<Item<'a>>,
     roots: Vec<&'a str>,
-}
-
-/// The name of the resource at the end of the aliases.
-pub(crate) fn root_name(types: &Types, id: ResourceId) -> &str {
-    types.resource(types.resolve_resource(id)).name.as_str()
 }
 
 /// Whether one value type item is another.
@@ -30,12 +22,22 @@ fn is_same_value(
     a: ItemKind,
     b: ItemKind,
 ) -> Result<bool, AllocError> {
+    if !types.has(a) || !types.has(b) {
+        return Ok(false);
+    }
     let mut cache = new_cache(alloc);
     let mut checker = SubtypeChecker::new(alloc, &mut cache);
     match checker.is_subtype(a, types, b, types) {
         Ok(()) => Ok(true),
         Err(SubtypeError::Memory) => Err(AllocError),
         Err(_) => Ok(false),
+    }
+}
+
+fn is_value_type(kind: ItemKind) -> bool {
+    match kind {
+        ItemKind::Ty(ty) => matches!(ty, Type::Value(_)),
+        _ => false,
     }
 }
 
@@ -48,41 +50,60 @@ impl<'a> Holder<'a> {
         }
     }
 
-    /// Adds the items that are used, and the roots of resources among them.
-    pub(crate) fn add_uses(
-        &mut self,
-        types: &'a Types,
-        uses: &'a NamedMap<UsedType>,
-    ) -> Result<(), AllocError> {
-        for at in 0..uses.len() {
-            let (name, used) = uses.entry(at);
-            let there = match &used.name {
-                Some(there) => there.as_str(),
-                None => name,
-            };
-            if let Some(item) = types.interface(used.interface).exports.get(there) {
-                self.used.push(UsedItem { name, item: *item })?;
-                if let ItemKind::Ty(Type::Resource(id)) = *item {
-                    self.roots.push(root_name(types, id))?;
-                }
+    /// Adds the item that is used, and the root of a resource.
+    fn add_use(&mut self, types: &'a Types, used: Use<'a>) -> Result<(), AllocError> {
+        if let Some(kind) = export_named(types, used.interface, used.there) {
+            let name = used.name;
+            self.used.push(Item { name, kind })?;
+            if let ItemKind::Ty(Type::Resource(id)) = kind {
+                self.roots.push(root_name(types, id))?;
             }
         }
         Ok(())
     }
 
-    /// Adds the roots of resources under their own names.
-    pub(crate) fn add_fresh(
+    /// Adds the root of a resource under its own name.
+    fn add_fresh(&mut self, types: &'a Types, item: Item<'a>) -> Result<(), AllocError> {
+        if is_fresh(types, item) {
+            self.roots.push(item.name)?;
+        }
+        Ok(())
+    }
+
+    /// Adds what stands in an interface.
+    pub(crate) fn add_interface(
         &mut self,
         types: &'a Types,
-        items: &'a NamedMap<ItemKind>,
+        id: InterfaceId,
     ) -> Result<(), AllocError> {
-        for at in 0..items.len() {
-            let (name, kind) = items.entry(at);
-            if let ItemKind::Ty(Type::Resource(id)) = *kind {
-                let root = root_name(types, id);
-                if root == name {
-                    self.roots.push(root)?;
-                }
+        for at in 0..use_count(types, id) {
+            if let Some(used) = use_at(types, id, at) {
+                self.add_use(types, used)?;
+            }
+        }
+        for at in 0..export_count(types, id) {
+            if let Some(item) = export_at(types, id, at) {
+                self.add_fresh(types, item)?;
+            }
+        }
+        Ok(())
+    }
+
+    /// Adds what stands in a component type.
+    pub(crate) fn add_world(&mut self, types: &'a Types, id: WorldId) -> Result<(), AllocError> {
+        for at in 0..world_use_count(types, id) {
+            if let Some(used) = world_use_at(types, id, at) {
+                self.add_use(types, used)?;
+            }
+        }
+        for at in 0..import_count(types, id) {
+            if let Some(item) = import_at(types, id, at) {
+                self.add_fresh(types, item)?;
+            }
+        }
+        for at in 0..world_export_count(types, id) {
+            if let Some(item) = world_export_at(types, id, at) {
+                self.add_fresh(types, item)?;
             }
         }
         Ok(())
@@ -116,9 +137,7 @@ impl<'a> Holder<'a> {
         kind: ItemKind,
     ) -> Result<bool, AllocError> {
         for used in &self.used {
-            if matches!(used.item, ItemKind::Ty(Type::Value(_)))
-                && is_same_value(alloc, types, used.item, kind)?
-            {
+            if is_value_type(used.kind) && is_same_value(alloc, types, used.kind, kind)? {
                 return Ok(true);
             }
         }

@@ -1,11 +1,13 @@
 //! The instances, aliases and exports of a composition, as entries.
 
 use crate::errors::EncodeError;
+use crate::nodes::{argument_at, import_name, kind_of, node_at, package_of, world_at};
 use crate::root::{Counts, NodeIndex, Root, next_index};
 use std::alloc::{AllocError, Global};
 use wac_graph_bytes::{Alias, Entry, Export, IndexName, NamedIndex, Sort, SortNames};
 use wac_graph_core::{CompositionGraph, NodeId, PackageId};
 use wac_graph_encode::imports::{Called, SortIndex};
+use wac_graph_encode::parts::{import_at, import_count};
 use wac_types_base::ItemKind;
 
 /// The entries so far, and the nodes that stand at their indexes.
@@ -26,6 +28,14 @@ fn sort_of(kind: ItemKind) -> Option<Sort> {
         ItemKind::Component(_) => Some(Sort::Component),
         ItemKind::Module(_) => Some(Sort::Module),
         ItemKind::Value(_) => None,
+    }
+}
+
+/// What sort a node is of.
+fn sort_at(graph: &CompositionGraph, node: NodeId) -> Option<Sort> {
+    match kind_of(graph, node) {
+        Some(kind) => sort_of(kind),
+        None => None,
     }
 }
 
@@ -118,7 +128,7 @@ impl<'a> Wired<'a> {
         let Some(place) = find_node(&self.nodes, source) else {
             return Ok(None);
         };
-        let Some(sort) = sort_of(self.graph[node].item_kind()) else {
+        let Some(sort) = sort_at(self.graph, node) else {
             return Ok(None);
         };
         let name = String::from_str(self.alloc, name)?;
@@ -128,12 +138,10 @@ impl<'a> Wired<'a> {
 
     /// What is passed to an instance under a name.
     fn argument(&self, node: NodeId, name: &str) -> Option<SortIndex> {
-        for (own, argument) in self.graph.get_instantiation_arguments(node) {
-            if own == name {
-                return find_node(&self.nodes, argument);
-            }
+        match argument_at(self.graph, node, name) {
+            Some(argument) => find_node(&self.nodes, argument),
+            None => self.outer(name),
         }
-        self.outer(name)
     }
 
     /// The arguments of an instance, where all stand.
@@ -143,15 +151,20 @@ impl<'a> Wired<'a> {
         id: PackageId,
     ) -> Result<Option<Vec<NamedIndex>>, EncodeError> {
         let mut arguments = Vec::new(self.alloc);
-        let world = self.graph.types().world(self.graph[id].ty());
-        for name in world.imports.names() {
-            match self.argument(node, name.as_str()) {
-                Some(place) => arguments.push(NamedIndex {
-                    name: String::from_str(self.alloc, name.as_str())?,
+        let Some(world) = world_at(self.graph, id) else {
+            return Ok(None);
+        };
+        let types = self.graph.types();
+        for at in 0..import_count(types, world) {
+            if let Some(import) = import_at(types, world, at) {
+                let Some(place) = self.argument(node, import.name) else {
+                    return Ok(None);
+                };
+                arguments.push(NamedIndex {
+                    name: String::from_str(self.alloc, import.name)?,
                     sort: place.sort,
                     index: place.index,
-                })?,
-                None => return Ok(None),
+                })?;
             }
         }
         Ok(Some(arguments))
@@ -175,10 +188,10 @@ impl<'a> Wired<'a> {
 
     /// What stands for a node, where all stands that it needs.
     fn written(&mut self, node: NodeId) -> Result<Option<SortIndex>, EncodeError> {
-        if let Some(name) = self.graph[node].import_name() {
+        if let Some(name) = import_name(self.graph, node) {
             return Ok(self.outer(name));
         }
-        match self.graph[node].package() {
+        match package_of(self.graph, node) {
             Some(id) => self.instance(node, id),
             None => self.alias(node),
         }
@@ -234,7 +247,7 @@ impl<'a> Wired<'a> {
         let mut names: Vec<IndexName> = Vec::new(self.alloc);
         for written in &self.nodes {
             if written.place.sort == sort && !is_named(&names, written.place.index) {
-                if let Some(name) = self.graph[written.node].name() {
+                if let Some(name) = name_of(self.graph, written.node) {
                     names.push(IndexName {
                         index: written.place.index,
                         name: String::from_str(self.alloc, name)?,
@@ -269,6 +282,14 @@ impl<'a> Wired<'a> {
         self.write_exports()?;
         let names = self.debug_names()?;
         Ok((self.root.entries, names))
+    }
+}
+
+/// The name of a node.
+fn name_of(graph: &CompositionGraph, node: NodeId) -> Option<&str> {
+    match node_at(graph, node) {
+        Some(node) => node.name(),
+        None => None,
     }
 }
 

@@ -10,6 +10,7 @@ pub mod errors;
 mod holder;
 mod instances;
 mod modules;
+mod nodes;
 pub mod options;
 mod outers;
 mod root;

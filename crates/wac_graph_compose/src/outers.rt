@@ -2,11 +2,13 @@
 
 use crate::asks::{Ask, Asked, Asking};
 use crate::classes::{Classes, classes_of, has_track};
+use crate::copies::add_world;
 use crate::errors::EncodeError;
 use std::alloc::{AllocError, Global};
 use wac_graph_core::NodeId;
 use wac_graph_encode::imports::Called;
-use wac_types_base::{ItemKind, NamedMap, Text, Types, UsedType, World, WorldId};
+use wac_graph_encode::parts::{identifier, use_at, use_count};
+use wac_types_base::{InterfaceId, ItemKind, NamedMap, Types, World, WorldId};
 use wac_types_merge::{AggregateError, Family, family_of, joint_family, kept_of, spelled};
 
 /// What is kept of a class.
@@ -28,12 +30,13 @@ pub(crate) struct Outers {
     pub called: Vec<Called>,
 }
 
-/// Whether one of these interfaces, or one that they use, has no identifier.
-pub(crate) fn some_unnamed(types: &Types, uses: &NamedMap<UsedType>) -> bool {
-    for used in uses.values() {
-        let interface = types.interface(used.interface);
-        if interface.id.is_none() || some_unnamed(types, &interface.uses) {
-            return true;
+/// Whether an interface that this one uses, or one that such a one uses, has no identifier.
+pub(crate) fn uses_unnamed(types: &Types, id: InterfaceId) -> bool {
+    for at in 0..use_count(types, id) {
+        if let Some(used) = use_at(types, id, at) {
+            if identifier(types, used.interface).is_none() || uses_unnamed(types, used.interface) {
+                return true;
+            }
         }
     }
     false
@@ -41,12 +44,29 @@ pub(crate) fn some_unnamed(types: &Types, uses: &NamedMap<UsedType>) -> bool {
 
 /// The family of an ask.
 fn family_asked(types: &Types, ask: &Ask) -> Family {
+    if !types.has(ask.item) {
+        return Family::Neither;
+    }
     if let ItemKind::Instance(id) = ask.item {
-        if some_unnamed(types, &types.interface(id).uses) {
+        if uses_unnamed(types, id) {
             return Family::Neither;
         }
     }
     family_of(types, ask.name.as_str(), ask.item)
+}
+
+/// What is kept of two asked items.
+fn merged(
+    alloc: Global,
+    types: &mut Types,
+    family: Family,
+    kept: ItemKind,
+    asked: ItemKind,
+) -> Result<ItemKind, AggregateError> {
+    if !types.has(kept) || !types.has(asked) {
+        return Err(AggregateError::OutsideFamilies);
+    }
+    kept_of(alloc, types, family, kept, asked)
 }
 
 /// Where what is kept of a class stands.
@@ -91,7 +111,7 @@ fn kept_after(
     ask: &Ask,
 ) -> Result<Kept, EncodeError> {
     let family = joint_family(before.family, family_asked(types, ask));
-    match kept_of(alloc, types, family, before.item, ask.item) {
+    match merged(alloc, types, family, before.item, ask.item) {
         Ok(item) => Ok(Kept {
             first: before.first,
             count: before.count.saturating_add(1),
@@ -160,7 +180,7 @@ fn identified(
     kept: Kept,
     spelling: &str,
 ) -> Result<ItemKind, AllocError> {
-    if kept.count > 1 && has_track(alloc, spelling)? {
+    if kept.count > 1 && types.has(kept.item) && has_track(alloc, spelling)? {
         spelled(alloc, types, kept.item, spelling)
     } else {
         Ok(kept.item)
@@ -195,23 +215,37 @@ fn names_called(
     Ok(called)
 }
 
-/// The outer imports of what is asked.
-pub(crate) fn outers_of(alloc: Global, asked: &mut Asked) -> Result<Outers, EncodeError> {
-    let classes = classes_of(alloc, &asked.types, &asked.asks)?;
-    let kept = kept_of_all(alloc, &mut asked.types, &asked.asks, &classes)?;
+/// The outer imports, as the imports of a world.
+fn imports_kept(
+    alloc: Global,
+    asked: &mut Asked,
+    classes: &Classes,
+    kept: &[Kept],
+) -> Result<NamedMap<ItemKind>, AllocError> {
     let mut imports = NamedMap::new(alloc);
-    for one in &kept {
-        let spelling = spelling_of(&asked.asks, &classes, one.first);
+    for one in kept {
+        let spelling = spelling_of(&asked.asks, classes, one.first);
         let item = identified(alloc, &mut asked.types, *one, spelling)?;
         let name = String::from_str(alloc, spelling)?;
         let _ = imports.insert(name, item)?;
     }
-    let world = asked.types.add_world(World {
+    Ok(imports)
+}
+
+/// The outer imports of what is asked.
+pub(crate) fn outers_of(alloc: Global, asked: &mut Asked) -> Result<Outers, EncodeError> {
+    let classes = classes_of(alloc, &asked.types, &asked.asks)?;
+    let kept = kept_of_all(alloc, &mut asked.types, &asked.asks, &classes)?;
+    let imports = imports_kept(alloc, asked, &classes, &kept)?;
+    let world = World {
         id: None,
         uses: NamedMap::new(alloc),
         imports,
         exports: NamedMap::new(alloc),
-    })?;
+    };
+    let Some(world) = add_world(&mut asked.types, world)? else {
+        return Err(EncodeError::TooLarge);
+    };
     let called = names_called(alloc, &asked.asks, &classes, &kept)?;
     Ok(Outers { world, called })
 }

@@ -3,11 +3,13 @@
 use crate::asks::{Asked, Definition};
 use crate::conflicts::dependency_name;
 use crate::errors::{EncodeError, not_written};
+use crate::nodes::package_at;
 use crate::options::EncodeOptions;
 use std::alloc::{AllocError, Global};
 use wac_graph_bytes::{Declaration, Description, Entry, Sort};
 use wac_graph_core::{CompositionGraph, NodeId, PackageId};
-use wac_graph_encode::imports::{ImportScope, Importing, SortIndex};
+use wac_graph_encode::imports::{ImportScope, Importing, SortIndex, next_import};
+use wac_graph_encode::parts::{Item, import_at, import_count};
 use wac_types_base::ItemKind;
 
 /// What stands for a node.
@@ -53,20 +55,28 @@ pub(crate) fn next_index(index: u32) -> Result<u32, EncodeError> {
     }
 }
 
+/// The name of the outer import at a place.
+fn name_at<'a>(all: Importing<'a, '_>, at: usize) -> &'a str {
+    match import_at(all.types, all.world, at) {
+        Some(import) => import.name,
+        None => "",
+    }
+}
+
 /// Writes the outer imports.
 fn write_outers<'a>(
     alloc: Global,
     all: Importing<'a, '_>,
 ) -> Result<ImportScope<'a>, EncodeError> {
-    let count = all.world.imports.len();
+    let count = import_count(all.types, all.world);
     let mut scope = match ImportScope::new(alloc, count) {
         Ok(scope) => scope,
         Err(fault) => return Err(not_written(alloc, "", fault)),
     };
     for _ in 0..count {
-        if let Some(at) = all.next(&scope.places) {
-            if let Err(fault) = scope.import_at(alloc, all, at) {
-                return Err(not_written(alloc, all.name_at(at), fault));
+        if let Some(at) = next_import(all, &scope.places) {
+            if let Err(fault) = scope.write_import(alloc, all, at) {
+                return Err(not_written(alloc, name_at(all, at), fault));
             }
         }
     }
@@ -113,6 +123,20 @@ fn write_definitions<'a>(
     Ok(written)
 }
 
+/// Imports a package.
+fn import_package<'a>(
+    alloc: Global,
+    scope: &mut ImportScope<'a>,
+    all: Importing<'a, '_>,
+    item: Item<'_>,
+) -> Result<u32, EncodeError> {
+    let description = write_type(alloc, scope, all, item.name, item.kind)?;
+    match scope.import(alloc, all.types, item, description) {
+        Ok(place) => Ok(place.index),
+        Err(fault) => Err(not_written(alloc, item.name, fault)),
+    }
+}
+
 /// Imports the packages.
 fn import_packages<'a>(
     alloc: Global,
@@ -124,15 +148,15 @@ fn import_packages<'a>(
     let mut imported = Vec::new(alloc);
     for package in &asked.packages {
         let name = dependency_name(alloc, graph, package.id)?;
-        let item = ItemKind::Component(package.world);
-        let description = write_type(alloc, scope, all, name.as_str(), item)?;
-        match scope.import(alloc, all.types, name.as_str(), item, description) {
-            Ok(place) => imported.push(PackageIndex {
-                id: package.id,
-                index: place.index,
-            })?,
-            Err(fault) => return Err(not_written(alloc, name.as_str(), fault)),
-        }
+        let item = Item {
+            name: name.as_str(),
+            kind: ItemKind::Component(package.world),
+        };
+        let index = import_package(alloc, scope, all, item)?;
+        imported.push(PackageIndex {
+            id: package.id,
+            index,
+        })?;
     }
     Ok(imported)
 }
@@ -163,6 +187,19 @@ fn entries_of(
     Ok(entries)
 }
 
+/// The bytes of a package.
+fn bytes_of(
+    alloc: Global,
+    graph: &CompositionGraph,
+    id: PackageId,
+) -> Result<Vec<u8>, AllocError> {
+    let mut bytes = Vec::new(alloc);
+    if let Some(package) = package_at(graph, id) {
+        bytes.extend_from_slice(package.bytes())?;
+    }
+    Ok(bytes)
+}
+
 /// Nests the packages behind what is written.
 fn nest_packages(
     alloc: Global,
@@ -171,8 +208,7 @@ fn nest_packages(
     root: &mut Root,
 ) -> Result<(), EncodeError> {
     for package in &asked.packages {
-        let mut bytes = Vec::new(alloc);
-        bytes.extend_from_slice(graph[package.id].bytes())?;
+        let bytes = bytes_of(alloc, graph, package.id)?;
         let index = root.counts.components;
         let next = next_index(index)?;
         root.entries.push(Entry::Nested(bytes))?;

@@ -1,10 +1,13 @@
 //! The world that is true of a composition's bytes.
 
 use crate::asks::{Asked, Definition};
+use crate::copies::add_world;
+use crate::nodes::{import_name, kind_of};
 use crate::outers::Outers;
 use crate::written::{Form, formed};
 use std::alloc::{AllocError, Global};
 use wac_graph_core::{CompositionGraph, NodeId};
+use wac_graph_encode::parts::{export_named, import_at, import_count};
 use wac_types_base::copy::{copy_item, copy_world};
 use wac_types_base::{ItemKind, NamedMap, Types, World, WorldId};
 
@@ -12,8 +15,10 @@ use wac_types_base::{ItemKind, NamedMap, Types, World, WorldId};
 fn outer_type(types: &Types, outers: &Outers, name: &str) -> Option<ItemKind> {
     for called in &outers.called {
         if called.name.is(name) {
-            let imports = types.world(outers.world).imports.values();
-            return imports.get(called.at).copied();
+            return match import_at(types, outers.world, called.at) {
+                Some(import) => Some(import.kind),
+                None => None,
+            };
         }
     }
     None
@@ -32,7 +37,7 @@ fn defined_type(definitions: &[Definition], node: NodeId) -> Option<ItemKind> {
 /// An export of an instance.
 fn export_of(types: &Types, kind: ItemKind, name: &str) -> Option<ItemKind> {
     match kind {
-        ItemKind::Instance(id) => types.interface(id).exports.get(name).copied(),
+        ItemKind::Instance(id) => export_named(types, id, name),
         _ => None,
     }
 }
@@ -75,7 +80,7 @@ fn final_type(
     node: NodeId,
 ) -> Result<Option<ItemKind>, AllocError> {
     let path = path_of(alloc, graph, node)?;
-    let mut item = match graph[path.node].import_name() {
+    let mut item = match import_name(graph, path.node) {
         Some(name) => outer_type(types, outers, name),
         None => defined_type(definitions, path.node),
     };
@@ -96,13 +101,16 @@ fn exported_type(
     outers: &Outers,
     definitions: &[Definition],
     node: NodeId,
-) -> Result<ItemKind, AllocError> {
+) -> Result<Option<ItemKind>, AllocError> {
     match final_type(alloc, graph, &asked.types, outers, definitions, node)? {
-        Some(kind) => Ok(kind),
-        None => {
-            let kind = graph[node].item_kind();
-            copy_item(alloc, graph.types(), kind, &mut asked.types)
-        }
+        Some(kind) => Ok(Some(kind)),
+        None => match kind_of(graph, node) {
+            Some(kind) => {
+                let copy = copy_item(alloc, graph.types(), kind, &mut asked.types)?;
+                Ok(Some(copy))
+            }
+            None => Ok(None),
+        },
     }
 }
 
@@ -116,19 +124,62 @@ fn exports_of(
 ) -> Result<NamedMap<ItemKind>, AllocError> {
     let mut exports = NamedMap::new(alloc);
     for (name, node) in graph.exports() {
-        let item = exported_type(alloc, graph, asked, outers, definitions, *node)?;
-        let _ = exports.insert(String::from_str(alloc, name.as_str())?, item)?;
+        if let Some(item) = exported_type(alloc, graph, asked, outers, definitions, *node)? {
+            let _ = exports.insert(String::from_str(alloc, name.as_str())?, item)?;
+        }
     }
     Ok(exports)
 }
 
-/// The same items again.
+/// The outer imports again.
 fn imports_of(
     alloc: Global,
     types: &Types,
     outers: &Outers,
 ) -> Result<NamedMap<ItemKind>, AllocError> {
-    crate::copies::copy_items(alloc, &types.world(outers.world).imports)
+    let mut imports = NamedMap::new(alloc);
+    for at in 0..import_count(types, outers.world) {
+        if let Some(import) = import_at(types, outers.world, at) {
+            let _ = imports.insert(String::from_str(alloc, import.name)?, import.kind)?;
+        }
+    }
+    Ok(imports)
+}
+
+/// The world of a composition, beside what is asked.
+fn own_world(
+    alloc: Global,
+    graph: &CompositionGraph,
+    asked: &mut Asked,
+    outers: &Outers,
+    definitions: &[Definition],
+) -> Result<WorldId, AllocError> {
+    let exports = exports_of(alloc, graph, asked, outers, definitions)?;
+    let imports = imports_of(alloc, &asked.types, outers)?;
+    let world = World {
+        id: None,
+        uses: NamedMap::new(alloc),
+        imports,
+        exports,
+    };
+    match add_world(&mut asked.types, world)? {
+        Some(world) => Ok(world),
+        None => Ok(outers.world),
+    }
+}
+
+/// A world in another collection.
+fn copied(
+    alloc: Global,
+    types: &Types,
+    world: WorldId,
+    to: &mut Types,
+) -> Result<Option<WorldId>, AllocError> {
+    if types.has(ItemKind::Component(world)) {
+        Ok(Some(copy_world(alloc, types, world, &mut to.adding())?))
+    } else {
+        Ok(None)
+    }
 }
 
 /// The world of a composition, in a collection of its own.
@@ -139,18 +190,11 @@ pub(crate) fn composed_world(
     outers: &Outers,
     definitions: &[Definition],
     to: &mut Types,
-) -> Result<WorldId, AllocError> {
-    let exports = exports_of(alloc, graph, asked, outers, definitions)?;
-    let imports = imports_of(alloc, &asked.types, outers)?;
-    let world = asked.types.add_world(World {
-        id: None,
-        uses: NamedMap::new(alloc),
-        imports,
-        exports,
-    })?;
+) -> Result<Option<WorldId>, AllocError> {
+    let world = own_world(alloc, graph, asked, outers, definitions)?;
     let kind = ItemKind::Component(world);
     match formed(alloc, &mut asked.types, Form::WithoutUses, kind)? {
-        ItemKind::Component(world) => copy_world(alloc, &asked.types, world, &mut to.adding()),
-        _ => Err(AllocError),
+        ItemKind::Component(world) => copied(alloc, &asked.types, world, to),
+        _ => Ok(None),
     }
 }

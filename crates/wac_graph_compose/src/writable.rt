@@ -1,15 +1,19 @@
 //! Which types cannot be written.
 
-use crate::holder::{Holder, root_name};
+use crate::holder::Holder;
 use crate::modules::is_writable_module;
-use crate::outers::some_unnamed;
-use crate::written::used_by_world;
+use crate::outers::uses_unnamed;
 use std::alloc::{AllocError, Global};
+use wac_graph_encode::parts::{
+    Item, export_at, export_count, identifier, import_at, import_count, import_named, interface_of,
+    root_name, use_at, use_count, world_export_at, world_export_count, world_of, world_use_at,
+    world_use_count,
+};
 use wac_types_base::{
-    InterfaceId, ItemKind, NamedMap, ResourceId, Text, Type, Types, ValueType, World, WorldId,
+    InterfaceId, ItemKind, ModuleTypeId, ResourceId, Type, Types, ValueType, WorldId,
 };
 
-/// What is tested: whether it stands in an outer import.
+/// A test of types: whether they stand in an outer import.
 #[derive(Clone, Copy)]
 struct Test<'a> {
     alloc: Global,
@@ -31,149 +35,314 @@ fn is_tested(which: Which, kind: ItemKind) -> bool {
     }
 }
 
-impl<'a> Test<'a> {
-    /// Whether a value type fails: a resource, not inside a used type, whose root does not stand there.
-    fn value_fails(&self, holder: &Holder<'_>, ty: ValueType) -> Result<bool, AllocError> {
-        let item = ItemKind::Ty(Type::Value(ty));
-        match ty {
-            ValueType::Primitive(_) => Ok(false),
-            ValueType::Own(id) => {
-                Ok(!holder.has_root(root_name(self.types, id))
-                    && !holder.has_value(self.alloc, self.types, item)?)
-            }
-            ValueType::Borrow(id) => {
-                Ok(!holder.has_root(root_name(self.types, id))
-                    && !holder.has_value(self.alloc, self.types, item)?)
-            }
-            ValueType::Defined(_) => {
-                Ok(self.some_value_fails(holder, ItemKind::Value(ty))?
-                    && !holder.has_value(self.alloc, self.types, item)?)
-            }
-        }
-    }
+// ---- values
 
-    /// Whether a value type in a place fails.
-    fn some_value_fails(&self, holder: &Holder<'_>, kind: ItemKind) -> Result<bool, AllocError> {
-        let mut at: u128 = 0;
-        while let Some(place) = self.types.place(kind, at) {
-            if let Some(ItemKind::Value(ty)) = place {
-                if self.value_fails(holder, ty)? {
-                    return Ok(true);
-                }
-            }
-            at += 1;
-        }
-        Ok(false)
-    }
+/// Whether a handle's resource does not stand there.
+fn handle_fails(test: Test<'_>, holder: &Holder<'_>, id: ResourceId) -> bool {
+    !holder.has_root(root_name(test.types, id))
+}
 
-    /// Whether a resource item fails that is no use: it has another name than its own and no alias, or its root does
-    /// not stand there.
-    fn resource_fails(&self, holder: &Holder<'_>, name: &str, id: ResourceId) -> bool {
-        match self.types.resource(id).alias {
-            Some(_) => !holder.has_root(root_name(self.types, id)),
-            None => !self.types.resource(id).name.is(name) && !holder.has_used(name),
-        }
+/// Whether a value type fails: a resource, not inside a used type, whose root does not stand there.
+#[cycle(values)]
+fn value_fails(test: Test<'_>, holder: &Holder<'_>, ty: ValueType) -> Result<bool, AllocError> {
+    let fails = match ty {
+        ValueType::Primitive(_) => false,
+        ValueType::Own(id) => handle_fails(test, holder, id),
+        ValueType::Borrow(id) => handle_fails(test, holder, id),
+        ValueType::Defined(_) => places_fail(test, holder, ItemKind::Value(ty))?,
+    };
+    if !fails {
+        return Ok(false);
     }
+    let item = ItemKind::Ty(Type::Value(ty));
+    let is_used = holder.has_value(test.alloc, test.types, item)?;
+    Ok(!is_used)
+}
 
-    fn interface_fails(&self, id: InterfaceId, which: Which) -> Result<bool, AllocError> {
-        let interface = self.types.interface(id);
-        if some_unnamed(self.types, &interface.uses) {
+/// Whether what stands in a place is a value type that fails.
+#[cycle(values)]
+fn place_fails(
+    test: Test<'_>,
+    holder: &Holder<'_>,
+    place: Option<ItemKind>,
+) -> Result<bool, AllocError> {
+    match place {
+        Some(kind) => match kind {
+            ItemKind::Value(ty) => value_fails(test, holder, ty),
+            _ => Ok(false),
+        },
+        None => Ok(false),
+    }
+}
+
+/// Whether a value type in a place fails.
+#[cycle(values)]
+fn places_fail(test: Test<'_>, holder: &Holder<'_>, kind: ItemKind) -> Result<bool, AllocError> {
+    if !test.types.has(kind) {
+        return Ok(true);
+    }
+    let mut at: u128 = 0;
+    while let Some(place) = test.types.place(kind, at) {
+        if place_fails(test, holder, place)? {
             return Ok(true);
         }
-        let mut holder = Holder::new(self.alloc);
-        holder.add_uses(self.types, &interface.uses)?;
-        holder.add_fresh(self.types, &interface.exports)?;
-        for at in 0..interface.exports.len() {
-            let (name, kind) = interface.exports.entry(at);
-            if is_tested(which, *kind)
-                && !holder.has_used(name)
-                && self.item_fails(&holder, name, *kind)?
+        at += 1;
+    }
+    Ok(false)
+}
+
+// ---- items
+
+/// Whether a resource item fails that no use gives: it has another name than its own and no alias, or its root does
+/// not stand there.
+fn resource_fails(test: Test<'_>, holder: &Holder<'_>, name: &str, id: ResourceId) -> bool {
+    if !test.types.has(ItemKind::Ty(Type::Resource(id))) {
+        return true;
+    }
+    let resource = test.types.resource(id);
+    match resource.alias {
+        Some(_) => handle_fails(test, holder, id),
+        None => !resource.name.is(name) && !holder.has_used(name),
+    }
+}
+
+fn module_fails(test: Test<'_>, id: ModuleTypeId) -> bool {
+    !test.types.has(ItemKind::Module(id)) || !is_writable_module(test.types.module_type(id))
+}
+
+/// Whether a type item fails that is no interface and no world.
+fn type_fails(
+    test: Test<'_>,
+    holder: &Holder<'_>,
+    name: &str,
+    ty: Type,
+) -> Result<bool, AllocError> {
+    match ty {
+        Type::Resource(id) => Ok(resource_fails(test, holder, name, id)),
+        Type::Func(id) => places_fail(test, holder, ItemKind::Func(id)),
+        Type::Value(ty) => value_fails(test, holder, ty),
+        _ => Ok(true),
+    }
+}
+
+/// The same of an item.
+fn simple_fails(test: Test<'_>, holder: &Holder<'_>, item: Item<'_>) -> Result<bool, AllocError> {
+    match item.kind {
+        ItemKind::Ty(ty) => type_fails(test, holder, item.name, ty),
+        ItemKind::Func(id) => places_fail(test, holder, ItemKind::Func(id)),
+        ItemKind::Module(id) => Ok(module_fails(test, id)),
+        _ => Ok(true),
+    }
+}
+
+/// Whether an item fails, in what holds it.
+#[cycle(items)]
+fn item_fails(test: Test<'_>, holder: &Holder<'_>, item: Item<'_>) -> Result<bool, AllocError> {
+    if let Some(id) = interface_of(test.types, item.kind) {
+        return interface_fails(test, id, Which::All);
+    }
+    if let Some(id) = world_of(test.types, item.kind) {
+        return world_fails(test, id);
+    }
+    simple_fails(test, holder, item)
+}
+
+/// Whether an export of an interface fails that no use gives.
+#[cycle(items)]
+fn exports_fail(
+    test: Test<'_>,
+    holder: &Holder<'_>,
+    id: InterfaceId,
+    which: Which,
+) -> Result<bool, AllocError> {
+    for at in 0..export_count(test.types, id) {
+        if let Some(item) = export_at(test.types, id, at) {
+            if is_tested(which, item.kind)
+                && !holder.has_used(item.name)
+                && item_fails(test, holder, item)?
             {
                 return Ok(true);
             }
         }
-        Ok(false)
     }
+    Ok(false)
+}
 
-    /// Whether an interface is used and not imported that an outer import cannot have so, or whose types fail.
-    fn uses_fail(&self, world: &World) -> Result<bool, AllocError> {
-        let used = used_by_world(self.alloc, self.types, world)?;
-        for id in &used {
-            if let Some(name) = &self.types.interface(*id).id {
-                if !world.imports.contains(name.as_str())
-                    && (self.is_outer || self.interface_fails(*id, Which::TypesOnly)?)
-                {
-                    return Ok(true);
-                }
+#[cycle(items)]
+fn interface_fails(test: Test<'_>, id: InterfaceId, which: Which) -> Result<bool, AllocError> {
+    if uses_unnamed(test.types, id) {
+        return Ok(true);
+    }
+    let mut holder = Holder::new(test.alloc);
+    holder.add_interface(test.types, id)?;
+    exports_fail(test, &holder, id, which)
+}
+
+// ---- component types
+
+/// Whether an interface that a world uses, or that such a one uses, has no identifier.
+fn world_uses_unnamed(types: &Types, id: WorldId) -> bool {
+    for at in 0..world_use_count(types, id) {
+        if let Some(used) = world_use_at(types, id, at) {
+            if identifier(types, used.interface).is_none() || uses_unnamed(types, used.interface) {
+                return true;
             }
         }
-        Ok(false)
     }
+    false
+}
 
-    /// What stands directly in a component type.
-    fn world_holder<'b>(&self, world: &'b World) -> Result<Holder<'b>, AllocError>
-    where
-        'a: 'b,
-    {
-        let mut holder = Holder::new(self.alloc);
-        holder.add_uses(self.types, &world.uses)?;
-        holder.add_fresh(self.types, &world.imports)?;
-        holder.add_fresh(self.types, &world.exports)?;
-        Ok(holder)
-    }
-
-    fn component_fails(&self, world: &World) -> Result<bool, AllocError> {
-        if some_unnamed(self.types, &world.uses) || self.uses_fail(world)? {
-            return Ok(true);
-        }
-        let holder = self.world_holder(world)?;
-        for at in 0..world.imports.len() {
-            let (name, kind) = world.imports.entry(at);
-            if !holder.has_used(name) && self.item_fails(&holder, name, *kind)? {
-                return Ok(true);
-            }
-        }
-        for at in 0..world.exports.len() {
-            let (name, kind) = world.exports.entry(at);
-            if self.item_fails(&holder, name, *kind)? {
-                return Ok(true);
-            }
-        }
-        Ok(false)
-    }
-
-    fn world_fails(&self, id: WorldId) -> Result<bool, AllocError> {
-        self.component_fails(self.types.world(id))
-    }
-
-    fn type_fails(&self, holder: &Holder<'_>, name: &str, ty: Type) -> Result<bool, AllocError> {
-        match ty {
-            Type::Resource(id) => Ok(self.resource_fails(holder, name, id)),
-            Type::Func(id) => self.some_value_fails(holder, ItemKind::Func(id)),
-            Type::Value(ty) => self.value_fails(holder, ty),
-            Type::Interface(id) => self.interface_fails(id, Which::All),
-            Type::World(id) => self.world_fails(id),
-            Type::Module(_) => Ok(true),
-        }
-    }
-
-    /// Whether an item under a name fails, in what holds it.
-    fn item_fails(
-        &self,
-        holder: &Holder<'_>,
-        name: &str,
-        kind: ItemKind,
-    ) -> Result<bool, AllocError> {
-        match kind {
-            ItemKind::Ty(ty) => self.type_fails(holder, name, ty),
-            ItemKind::Func(id) => self.some_value_fails(holder, ItemKind::Func(id)),
-            ItemKind::Instance(id) => self.interface_fails(id, Which::All),
-            ItemKind::Component(id) => self.world_fails(id),
-            ItemKind::Module(id) => Ok(!is_writable_module(self.types.module_type(id))),
-            ItemKind::Value(_) => Ok(true),
-        }
+/// Whether an interface has an identifier and is no import of the world.
+fn is_missing(types: &Types, world: Option<WorldId>, id: InterfaceId) -> bool {
+    match identifier(types, id) {
+        Some(name) => match world {
+            Some(world) => import_named(types, world, name).is_none(),
+            None => true,
+        },
+        None => false,
     }
 }
+
+/// Whether a used interface, or one that it uses, is not imported by a world that has to import it, or has types that
+/// fail.
+#[cycle(items)]
+fn used_fails(
+    test: Test<'_>,
+    world: Option<WorldId>,
+    id: InterfaceId,
+) -> Result<bool, AllocError> {
+    if is_missing(test.types, world, id)
+        && (test.is_outer || interface_fails(test, id, Which::TypesOnly)?)
+    {
+        return Ok(true);
+    }
+    missing_fails(test, world, ItemKind::Instance(id))
+}
+
+/// The same of the interfaces that an interface uses itself.
+#[cycle(items)]
+fn direct_fails(
+    test: Test<'_>,
+    world: Option<WorldId>,
+    id: InterfaceId,
+) -> Result<bool, AllocError> {
+    for at in 0..use_count(test.types, id) {
+        if let Some(used) = use_at(test.types, id, at) {
+            if used_fails(test, world, used.interface)? {
+                return Ok(true);
+            }
+        }
+    }
+    Ok(false)
+}
+
+/// The same of those that an item uses.
+#[cycle(items)]
+fn missing_fails(
+    test: Test<'_>,
+    world: Option<WorldId>,
+    kind: ItemKind,
+) -> Result<bool, AllocError> {
+    let Some(id) = interface_of(test.types, kind) else {
+        return Ok(false);
+    };
+    if direct_fails(test, world, id)? {
+        return Ok(true);
+    }
+    for at in 0..export_count(test.types, id) {
+        if let Some(item) = export_at(test.types, id, at) {
+            if missing_fails(test, world, item.kind)? {
+                return Ok(true);
+            }
+        }
+    }
+    Ok(false)
+}
+
+/// The same of those that a world uses itself.
+#[cycle(items)]
+fn world_uses_fail(test: Test<'_>, id: WorldId) -> Result<bool, AllocError> {
+    for at in 0..world_use_count(test.types, id) {
+        if let Some(used) = world_use_at(test.types, id, at) {
+            if used_fails(test, Some(id), used.interface)? {
+                return Ok(true);
+            }
+        }
+    }
+    Ok(false)
+}
+
+/// The same of those that a world's imports use.
+#[cycle(items)]
+fn uses_of_imports_fail(test: Test<'_>, id: WorldId) -> Result<bool, AllocError> {
+    for at in 0..import_count(test.types, id) {
+        if let Some(item) = import_at(test.types, id, at) {
+            if missing_fails(test, Some(id), item.kind)? {
+                return Ok(true);
+            }
+        }
+    }
+    Ok(false)
+}
+
+/// The same of those that a world's exports use.
+#[cycle(items)]
+fn uses_of_exports_fail(test: Test<'_>, id: WorldId) -> Result<bool, AllocError> {
+    for at in 0..world_export_count(test.types, id) {
+        if let Some(item) = world_export_at(test.types, id, at) {
+            if missing_fails(test, Some(id), item.kind)? {
+                return Ok(true);
+            }
+        }
+    }
+    Ok(false)
+}
+
+/// Whether an import of a world fails that no use gives.
+#[cycle(items)]
+fn imports_fail(test: Test<'_>, holder: &Holder<'_>, id: WorldId) -> Result<bool, AllocError> {
+    for at in 0..import_count(test.types, id) {
+        if let Some(item) = import_at(test.types, id, at) {
+            if !holder.has_used(item.name) && item_fails(test, holder, item)? {
+                return Ok(true);
+            }
+        }
+    }
+    Ok(false)
+}
+
+/// Whether an export of a world fails.
+#[cycle(items)]
+fn world_exports_fail(
+    test: Test<'_>,
+    holder: &Holder<'_>,
+    id: WorldId,
+) -> Result<bool, AllocError> {
+    for at in 0..world_export_count(test.types, id) {
+        if let Some(item) = world_export_at(test.types, id, at) {
+            if item_fails(test, holder, item)? {
+                return Ok(true);
+            }
+        }
+    }
+    Ok(false)
+}
+
+#[cycle(items)]
+fn world_fails(test: Test<'_>, id: WorldId) -> Result<bool, AllocError> {
+    if world_uses_unnamed(test.types, id)
+        || world_uses_fail(test, id)?
+        || uses_of_imports_fail(test, id)?
+        || uses_of_exports_fail(test, id)?
+    {
+        return Ok(true);
+    }
+    let mut holder = Holder::new(test.alloc);
+    holder.add_world(test.types, id)?;
+    Ok(imports_fail(test, &holder, id)? || world_exports_fail(test, &holder, id)?)
+}
+
+// ---- at the root
 
 /// The first outer import whose type cannot be written: its place.
 pub(crate) fn unwritable_outer(
@@ -186,28 +355,36 @@ pub(crate) fn unwritable_outer(
         types,
         is_outer: true,
     };
-    let imports = &types.world(world).imports;
     let mut holder = Holder::new(alloc);
-    holder.add_fresh(types, imports)?;
-    for at in 0..imports.len() {
-        let (name, kind) = imports.entry(at);
-        if test.item_fails(&holder, name, *kind)? {
-            return Ok(Some(at));
+    holder.add_world(types, world)?;
+    for at in 0..import_count(types, world) {
+        if let Some(item) = import_at(types, world, at) {
+            if item_fails(test, &holder, item)? {
+                return Ok(Some(at));
+            }
         }
     }
     Ok(None)
 }
 
-/// A component type with one export.
-fn one_export(alloc: Global, name: &Text, item: ItemKind) -> Result<World, AllocError> {
-    let mut exports = NamedMap::new(alloc);
-    let _ = exports.insert(String::from_str(alloc, name.as_str())?, item)?;
-    Ok(World {
-        id: None,
-        uses: NamedMap::new(alloc),
-        imports: NamedMap::new(alloc),
-        exports,
-    })
+/// Whether an interface cannot be written inside a component type of its own.
+fn wrapped_fails(test: Test<'_>, id: InterfaceId) -> Result<bool, AllocError> {
+    Ok(missing_fails(test, None, ItemKind::Instance(id))?
+        || interface_fails(test, id, Which::All)?)
+}
+
+/// The interface with identifier that a definition is.
+fn wrapped_interface(types: &Types, kind: ItemKind) -> Option<InterfaceId> {
+    match kind {
+        ItemKind::Ty(ty) => match ty {
+            Type::Interface(id) => match identifier(types, id) {
+                Some(_) => Some(id),
+                None => None,
+            },
+            _ => None,
+        },
+        _ => None,
+    }
 }
 
 /// Whether a definition cannot be written, beside the outer imports of a world.
@@ -215,23 +392,19 @@ pub(crate) fn is_unwritable_definition(
     alloc: Global,
     types: &Types,
     outers: WorldId,
-    name: &str,
-    kind: ItemKind,
+    item: Item<'_>,
 ) -> Result<bool, AllocError> {
     let test = Test {
         alloc,
         types,
         is_outer: false,
     };
-    if let ItemKind::Ty(Type::Interface(id)) = kind {
-        if let Some(identifier) = &types.interface(id).id {
-            let world = one_export(alloc, identifier, ItemKind::Instance(id))?;
-            return test.component_fails(&world);
-        }
+    if let Some(id) = wrapped_interface(types, item.kind) {
+        return wrapped_fails(test, id);
     }
     let mut holder = Holder::new(alloc);
-    holder.add_fresh(types, &types.world(outers).imports)?;
-    test.item_fails(&holder, name, kind)
+    holder.add_world(types, outers)?;
+    item_fails(test, &holder, item)
 }
 
 /// Whether a package's world cannot be written as the type of an import.
@@ -245,5 +418,5 @@ pub(crate) fn is_unwritable_package(
         types,
         is_outer: true,
     };
-    test.world_fails(world)
+    world_fails(test, world)
 }

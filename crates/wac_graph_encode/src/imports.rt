@@ -2,15 +2,17 @@
 
 use crate::fault::WriteError;
 use crate::items::{
-    Around, ItemScope, UsedIndex, describe, export_item, export_resource, find_used, is_fresh,
-    name_there, taken, used_identifier,
+    Around, ItemScope, UsedIndex, describe, export_item, export_resource, find_used,
+};
+use crate::parts::{
+    Item, Use, export_at, export_count, export_named, identifier, import_at, import_count,
+    import_named, interface_of, is_fresh, taken, use_at, use_count, world_export_at,
+    world_export_count, world_use_named,
 };
 use crate::value::same_type;
 use std::alloc::Global;
 use wac_graph_bytes::{Declaration, Description, Sort};
-use wac_types_base::{
-    InterfaceId, ItemKind, NamedMap, Text, Type, Types, UsedType, World, WorldId,
-};
+use wac_types_base::{InterfaceId, ItemKind, Text, Types, WorldId};
 
 /// An index of a sort.
 #[derive(Clone, Copy, Debug)]
@@ -19,7 +21,7 @@ pub struct SortIndex {
     pub index: u32,
 }
 
-/// Under which other name the import at a place is asked for.
+/// Under which name the import at a place is asked for.
 #[derive(Drop)]
 pub struct Called {
     pub name: Text,
@@ -39,7 +41,7 @@ pub struct ImportScope<'a> {
 #[derive(Clone, Copy)]
 pub struct Importing<'a, 'b> {
     pub types: &'a Types,
-    pub world: &'a World,
+    pub world: WorldId,
     pub called: &'b [Called],
 }
 
@@ -55,16 +57,6 @@ pub fn sort_of(description: Description) -> Sort {
     }
 }
 
-/// Where a name stands among the names.
-fn place_of(names: &[String], name: &str) -> Option<usize> {
-    for (at, own) in names.iter().enumerate() {
-        if own.as_str() == name {
-            return Some(at);
-        }
-    }
-    None
-}
-
 /// Where the import stands that is called so.
 fn called_at(called: &[Called], name: &str) -> Option<usize> {
     for other in called {
@@ -75,115 +67,179 @@ fn called_at(called: &[Called], name: &str) -> Option<usize> {
     None
 }
 
-impl<'a, 'b> Importing<'a, 'b> {
-    /// Where the import of a used interface stands.
-    fn find(&self, identifier: &str) -> Option<usize> {
-        match called_at(self.called, identifier) {
-            Some(at) => Some(at),
-            None => place_of(self.world.imports.names(), identifier),
-        }
+/// Where the import of a used interface stands.
+fn find_import(all: Importing<'_, '_>, identifier: &str) -> Option<usize> {
+    match called_at(all.called, identifier) {
+        Some(at) => Some(at),
+        None => import_named(all.types, all.world, identifier),
     }
+}
 
-    /// What is imported at a place, where that is an instance.
-    fn instance_at(&self, at: usize) -> Option<InterfaceId> {
-        match self.world.imports.values().get(at) {
-            Some(ItemKind::Instance(id)) => Some(*id),
+/// The interface of the instance that is imported at a place.
+fn instance_at(all: Importing<'_, '_>, at: usize) -> Option<InterfaceId> {
+    match import_at(all.types, all.world, at) {
+        Some(import) => match import.kind {
+            ItemKind::Instance(id) => Some(id),
             _ => None,
-        }
+        },
+        None => None,
     }
+}
 
-    /// Whether the interface that is used is written, or is no import.
-    fn is_written(&self, places: &[Option<SortIndex>], used: &UsedType) -> bool {
-        match &self.types.interface(used.interface).id {
-            Some(id) => match self.find(id.as_str()) {
-                Some(at) => match places.get(at) {
-                    Some(place) => place.is_some(),
-                    None => true,
-                },
-                None => true,
-            },
+/// Whether an import is left to write.
+fn is_left(places: &[Option<SortIndex>], at: usize) -> bool {
+    match places.get(at) {
+        Some(place) => place.is_none(),
+        None => false,
+    }
+}
+
+/// Whether the interface that is used is written, or is no import.
+fn is_written(all: Importing<'_, '_>, places: &[Option<SortIndex>], used: Use<'_>) -> bool {
+    match identifier(all.types, used.interface) {
+        Some(name) => match find_import(all, name) {
+            Some(at) => !is_left(places, at),
             None => true,
-        }
+        },
+        None => true,
     }
+}
 
-    fn are_written(&self, places: &[Option<SortIndex>], uses: &NamedMap<UsedType>) -> bool {
-        for used in uses.values() {
-            if !self.is_written(places, used) {
+/// Whether the interfaces that an interface uses are written.
+fn are_written(all: Importing<'_, '_>, places: &[Option<SortIndex>], id: InterfaceId) -> bool {
+    for at in 0..use_count(all.types, id) {
+        if let Some(used) = use_at(all.types, id, at) {
+            if !is_written(all, places, used) {
                 return false;
             }
         }
-        true
     }
+    true
+}
 
-    /// Whether all that an item uses is written.
-    fn is_ready(&self, places: &[Option<SortIndex>], kind: ItemKind) -> bool {
-        let id = match kind {
-            ItemKind::Instance(id) => id,
-            ItemKind::Ty(Type::Interface(id)) => id,
-            _ => return true,
-        };
-        let interface = self.types.interface(id);
-        if !self.are_written(places, &interface.uses) {
-            return false;
-        }
-        for kind in interface.exports.values() {
-            if !self.is_ready(places, *kind) {
+/// Whether all that an item uses is written.
+fn is_ready(all: Importing<'_, '_>, places: &[Option<SortIndex>], kind: ItemKind) -> bool {
+    let Some(id) = interface_of(all.types, kind) else {
+        return true;
+    };
+    if !are_written(all, places, id) {
+        return false;
+    }
+    for at in 0..export_count(all.types, id) {
+        if let Some(item) = export_at(all.types, id, at) {
+            if !is_ready(all, places, item.kind) {
                 return false;
             }
         }
-        true
     }
+    true
+}
 
-    /// The same of an import, which may be a type that the world uses.
-    fn is_import_ready(&self, places: &[Option<SortIndex>], name: &str, kind: ItemKind) -> bool {
-        match self.world.uses.get(name) {
-            Some(used) => self.is_written(places, used),
-            None => self.is_ready(places, kind),
+/// The same of an import, which may be a type that the world uses.
+fn is_import_ready(
+    all: Importing<'_, '_>,
+    places: &[Option<SortIndex>],
+    import: Item<'_>,
+) -> bool {
+    match world_use_named(all.types, all.world, import.name) {
+        Some(used) => is_written(all, places, used),
+        None => is_ready(all, places, import.kind),
+    }
+}
+
+/// When an import is written: resources first, then types, then the others, and last what is not ready.
+fn rank(all: Importing<'_, '_>, places: &[Option<SortIndex>], import: Item<'_>) -> u8 {
+    let is_used = world_use_named(all.types, all.world, import.name).is_some();
+    if is_fresh(all.types, import) && !is_used {
+        0
+    } else if !is_import_ready(all, places, import) {
+        3
+    } else if matches!(import.kind, ItemKind::Ty(_)) {
+        1
+    } else {
+        2
+    }
+}
+
+/// The rank of what is left at a place.
+fn rank_at(all: Importing<'_, '_>, places: &[Option<SortIndex>], at: usize) -> Option<u8> {
+    if !is_left(places, at) {
+        return None;
+    }
+    match import_at(all.types, all.world, at) {
+        Some(import) => Some(rank(all, places, import)),
+        None => None,
+    }
+}
+
+/// Where the import stands that is written next.
+pub fn next_import(all: Importing<'_, '_>, places: &[Option<SortIndex>]) -> Option<usize> {
+    let mut best = None;
+    let mut lowest = 4;
+    for at in 0..places.len() {
+        if let Some(rank) = rank_at(all, places, at) {
+            if rank < lowest {
+                best = Some(at);
+                lowest = rank;
+            }
         }
     }
+    best
+}
 
-    /// When an import is written: resources first, then types, then the others, and last what uses itself.
-    fn rank(&self, places: &[Option<SortIndex>], name: &str, kind: ItemKind) -> u8 {
-        if is_fresh(self.types, name, kind) && !self.world.uses.contains(name) {
-            0
-        } else if !self.is_import_ready(places, name, kind) {
-            3
-        } else if matches!(kind, ItemKind::Ty(_)) {
-            1
-        } else {
-            2
-        }
+/// Whether the import at a place is an instance that exports that type.
+fn gives(
+    alloc: Global,
+    all: Importing<'_, '_>,
+    at: usize,
+    name: &str,
+    item: ItemKind,
+) -> Result<bool, WriteError> {
+    let Some(id) = instance_at(all, at) else {
+        return Ok(false);
+    };
+    match export_named(all.types, id, name) {
+        Some(own) => same_type(alloc, all.types, own, item),
+        None => Ok(false),
     }
+}
 
-    /// The name of the import at a place.
-    pub fn name_at(&self, at: usize) -> &'a str {
-        match self.world.imports.names().get(at) {
-            Some(name) => name.as_str(),
-            None => "",
-        }
-    }
-
-    /// Where the import stands that is written next.
-    pub fn next(&self, places: &[Option<SortIndex>]) -> Option<usize> {
-        let mut best: Option<(u8, usize)> = None;
-        for at in 0..self.world.imports.len() {
-            let (name, kind) = self.world.imports.entry(at);
-            let is_left = match places.get(at) {
-                Some(place) => place.is_none(),
-                None => false,
-            };
-            if is_left {
-                let rank = self.rank(places, name, *kind);
-                let is_first = match best {
-                    Some((other, _)) => rank < other,
-                    None => true,
-                };
-                if is_first {
-                    best = Some((rank, at));
+/// The index of the instance at a place.
+fn instance_index(places: &[Option<SortIndex>], at: usize) -> Option<u32> {
+    match places.get(at) {
+        Some(place) => match place {
+            Some(place) => {
+                if place.sort == Sort::Instance {
+                    Some(place.index)
+                } else {
+                    None
                 }
             }
-        }
-        best.map(|b| b.1)
+            None => None,
+        },
+        None => None,
+    }
+}
+
+/// Where the import stands that is written and gives a used type: its index.
+fn source_of(
+    alloc: Global,
+    all: Importing<'_, '_>,
+    places: &[Option<SortIndex>],
+    identifier: &str,
+    name: &str,
+    item: ItemKind,
+) -> Result<Option<u32>, WriteError> {
+    let Some(at) = find_import(all, identifier) else {
+        return Ok(None);
+    };
+    let Some(instance) = instance_index(places, at) else {
+        return Ok(None);
+    };
+    if gives(alloc, all, at, name, item)? {
+        Ok(Some(instance))
+    } else {
+        Ok(None)
     }
 }
 
@@ -201,54 +257,52 @@ impl<'a> ImportScope<'a> {
         })
     }
 
-    /// The index of the instance at a place.
-    fn instance_index(&self, at: usize) -> Option<u32> {
-        match self.places.get(at) {
-            Some(Some(place)) => {
-                if place.sort == Sort::Instance {
-                    Some(place.index)
-                } else {
-                    None
-                }
-            }
-            _ => None,
-        }
-    }
-
     /// The index of a used type: an alias of the import's export, which is of that type.
     fn alias_of(
         &mut self,
         alloc: Global,
         all: Importing<'a, '_>,
-        name: &'a str,
-        used: &'a UsedType,
+        used: Use<'a>,
     ) -> Result<Option<u32>, WriteError> {
-        let identifier = used_identifier(all.types, used)?;
-        let Some(item) = taken(all.types, name, used) else {
+        let Some(identifier) = identifier(all.types, used.interface) else {
+            return Err(WriteError::Unwritable);
+        };
+        let Some(item) = taken(all.types, used) else {
             return Ok(None);
         };
-        let there = name_there(name, used);
-        let found = find_used(alloc, all.types, &self.used, identifier, there, item)?;
+        let name = used.there;
+        let found = find_used(alloc, all.types, &self.used, identifier, name, item)?;
         if found.is_some() {
             return Ok(found);
         }
-        let Some(at) = all.find(identifier) else {
-            return Ok(None);
-        };
-        let Some(instance) = self.instance_index(at) else {
-            return Ok(None);
-        };
-        if !gives(alloc, all, at, there, item)? {
-            return Ok(None);
+        match source_of(alloc, all, &self.places, identifier, name, item)? {
+            Some(instance) => {
+                let index = self.scope.add_alias(alloc, instance, name)?;
+                self.used.push(UsedIndex {
+                    identifier,
+                    name,
+                    item,
+                    index,
+                })?;
+                Ok(Some(index))
+            }
+            None => Ok(None),
         }
-        let index = self.scope.add_alias(alloc, instance, there)?;
-        self.used.push(UsedIndex {
-            identifier,
-            name: there,
-            item,
-            index,
-        })?;
-        Ok(Some(index))
+    }
+
+    /// Makes aliases of the types that an interface uses.
+    fn alias_uses(
+        &mut self,
+        alloc: Global,
+        all: Importing<'a, '_>,
+        id: InterfaceId,
+    ) -> Result<(), WriteError> {
+        for at in 0..use_count(all.types, id) {
+            if let Some(used) = use_at(all.types, id, at) {
+                let _ = self.alias_of(alloc, all, used)?;
+            }
+        }
+        Ok(())
     }
 
     /// Makes aliases of all types that an item uses.
@@ -258,18 +312,14 @@ impl<'a> ImportScope<'a> {
         all: Importing<'a, '_>,
         kind: ItemKind,
     ) -> Result<(), WriteError> {
-        let id = match kind {
-            ItemKind::Instance(id) => id,
-            ItemKind::Ty(Type::Interface(id)) => id,
-            _ => return Ok(()),
+        let Some(id) = interface_of(all.types, kind) else {
+            return Ok(());
         };
-        let interface = all.types.interface(id);
-        for at in 0..interface.uses.len() {
-            let (name, used) = interface.uses.entry(at);
-            let _ = self.alias_of(alloc, all, name, used)?;
-        }
-        for kind in interface.exports.values() {
-            self.prepare(alloc, all, *kind)?;
+        self.alias_uses(alloc, all, id)?;
+        for at in 0..export_count(all.types, id) {
+            if let Some(item) = export_at(all.types, id, at) {
+                self.prepare(alloc, all, item.kind)?;
+            }
         }
         Ok(())
     }
@@ -279,44 +329,25 @@ impl<'a> ImportScope<'a> {
         &mut self,
         alloc: Global,
         all: Importing<'a, '_>,
-        name: &'a str,
-        kind: ItemKind,
+        import: Item<'a>,
     ) -> Result<Option<Description>, WriteError> {
-        let Some(used) = all.world.uses.get(name) else {
+        let Some(used) = world_use_named(all.types, all.world, import.name) else {
             return Ok(None);
         };
-        let Some(index) = self.alias_of(alloc, all, name, used)? else {
+        let Some(item) = taken(all.types, used) else {
             return Ok(None);
         };
-        let Some(item) = taken(all.types, name, used) else {
+        if !same_type(alloc, all.types, item, import.kind)? {
             return Ok(None);
-        };
-        if same_type(alloc, all.types, item, kind)? {
-            Ok(Some(Description::Equal(index)))
-        } else {
-            Ok(None)
         }
-    }
-
-    /// What an import is; its type is written.
-    fn describe_import(
-        &mut self,
-        alloc: Global,
-        all: Importing<'a, '_>,
-        name: &'a str,
-        kind: ItemKind,
-    ) -> Result<Description, WriteError> {
-        if let Some(description) = self.describe_used(alloc, all, name, kind)? {
-            return Ok(description);
+        match self.alias_of(alloc, all, used)? {
+            Some(index) => Ok(Some(Description::Equal(index))),
+            None => Ok(None),
         }
-        if is_fresh(all.types, name, kind) {
-            return Ok(Description::Resource);
-        }
-        self.prepare(alloc, all, kind)?;
-        self.describe(alloc, all.types, kind)
     }
 
     /// What an item is that is no resource under its own name; its type is written.
+    #[cycle(types)]
     pub fn describe(
         &mut self,
         alloc: Global,
@@ -330,114 +361,145 @@ impl<'a> ImportScope<'a> {
         describe(alloc, &mut self.scope, types, around, kind)
     }
 
-    /// Writes an import under a name.
+    /// What an import is; its type is written.
+    #[cycle(types)]
+    fn describe_import(
+        &mut self,
+        alloc: Global,
+        all: Importing<'a, '_>,
+        import: Item<'a>,
+    ) -> Result<Description, WriteError> {
+        if let Some(description) = self.describe_used(alloc, all, import)? {
+            return Ok(description);
+        }
+        if is_fresh(all.types, import) {
+            return Ok(Description::Resource);
+        }
+        self.prepare(alloc, all, import.kind)?;
+        self.describe(alloc, all.types, import.kind)
+    }
+
+    /// Writes an import that is so described.
     pub fn import(
         &mut self,
         alloc: Global,
         types: &Types,
-        name: &str,
-        kind: ItemKind,
+        import: Item<'_>,
         description: Description,
     ) -> Result<SortIndex, WriteError> {
-        let text = String::from_str(alloc, name)?;
+        let text = String::from_str(alloc, import.name)?;
         let declaration = Declaration::Import(text, description);
         let index = self.scope.add_item(declaration, description)?;
-        self.scope.note(alloc, types, kind, index)?;
+        self.scope.note(alloc, types, import.kind, index)?;
         Ok(SortIndex {
             sort: sort_of(description),
             index,
         })
     }
 
+    /// Says what is written of the import at a place.
+    fn set_place(&mut self, at: usize, place: SortIndex) {
+        if let Some(own) = self.places.get_mut(at) {
+            *own = Some(place);
+        }
+    }
+
     /// Writes the import at a place.
-    pub fn import_at(
+    #[cycle(types)]
+    pub fn write_import(
         &mut self,
         alloc: Global,
         all: Importing<'a, '_>,
         at: usize,
     ) -> Result<(), WriteError> {
-        let (name, kind) = all.world.imports.entry(at);
-        let description = self.describe_import(alloc, all, name, *kind)?;
-        let place = self.import(alloc, all.types, name, *kind, description)?;
-        if let Some(own) = self.places.get_mut(at) {
-            *own = Some(place);
+        if let Some(import) = import_at(all.types, all.world, at) {
+            let description = self.describe_import(alloc, all, import)?;
+            let place = self.import(alloc, all.types, import, description)?;
+            self.set_place(at, place);
         }
         Ok(())
     }
 
     /// Writes an export of a component type.
+    #[cycle(types)]
     fn export(
         &mut self,
         alloc: Global,
         all: Importing<'a, '_>,
-        name: &str,
-        kind: ItemKind,
+        item: Item<'_>,
     ) -> Result<(), WriteError> {
-        self.prepare(alloc, all, kind)?;
+        self.prepare(alloc, all, item.kind)?;
         let around = Around {
             used: self.used.as_slice(),
             depth: 0,
         };
-        export_item(alloc, &mut self.scope, all.types, around, name, kind)
+        export_item(alloc, &mut self.scope, all.types, around, item)
     }
 }
 
-/// Whether the import at a place is an instance that exports that type.
-fn gives(
-    alloc: Global,
-    all: Importing<'_, '_>,
-    at: usize,
-    name: &str,
-    item: ItemKind,
-) -> Result<bool, WriteError> {
-    let Some(id) = all.instance_at(at) else {
-        return Ok(false);
-    };
-    match all.types.interface(id).exports.get(name) {
-        Some(own) => same_type(alloc, all.types, *own, item),
-        None => Ok(false),
-    }
-}
-
-/// The imports of a world.
-pub fn write_imports<'a>(
+/// Writes the imports of a world.
+#[cycle(types)]
+fn write_imports<'a>(
     alloc: Global,
     all: Importing<'a, '_>,
-) -> Result<ImportScope<'a>, WriteError> {
-    let count = all.world.imports.len();
-    let mut scope = ImportScope::new(alloc, count)?;
-    for _ in 0..count {
-        if let Some(at) = all.next(&scope.places) {
-            scope.import_at(alloc, all, at)?;
+    scope: &mut ImportScope<'a>,
+) -> Result<(), WriteError> {
+    for _ in 0..import_count(all.types, all.world) {
+        if let Some(at) = next_import(all, &scope.places) {
+            scope.write_import(alloc, all, at)?;
         }
     }
-    Ok(scope)
+    Ok(())
+}
+
+/// Exports the resources of a world under their own names.
+fn export_resources(
+    alloc: Global,
+    all: Importing<'_, '_>,
+    scope: &mut ItemScope,
+) -> Result<(), WriteError> {
+    for at in 0..world_export_count(all.types, all.world) {
+        if let Some(item) = world_export_at(all.types, all.world, at) {
+            if is_fresh(all.types, item) {
+                export_resource(alloc, scope, all.types, item)?;
+            }
+        }
+    }
+    Ok(())
+}
+
+/// Exports the other items of a world.
+#[cycle(types)]
+fn export_others<'a>(
+    alloc: Global,
+    all: Importing<'a, '_>,
+    scope: &mut ImportScope<'a>,
+) -> Result<(), WriteError> {
+    for at in 0..world_export_count(all.types, all.world) {
+        if let Some(item) = world_export_at(all.types, all.world, at) {
+            if !is_fresh(all.types, item) {
+                scope.export(alloc, all, item)?;
+            }
+        }
+    }
+    Ok(())
 }
 
 /// The declarations of a component type.
-pub fn component_type(
+#[cycle(types)]
+pub(crate) fn component_type(
     alloc: Global,
     types: &Types,
     id: WorldId,
 ) -> Result<Vec<Declaration>, WriteError> {
-    let world = types.world(id);
     let all = Importing {
         types,
-        world,
+        world: id,
         called: &[],
     };
-    let mut scope = write_imports(alloc, all)?;
-    for at in 0..world.exports.len() {
-        let (name, kind) = world.exports.entry(at);
-        if is_fresh(types, name, *kind) {
-            export_resource(alloc, &mut scope.scope, types, name, *kind)?;
-        }
-    }
-    for at in 0..world.exports.len() {
-        let (name, kind) = world.exports.entry(at);
-        if !is_fresh(types, name, *kind) {
-            scope.export(alloc, all, name, *kind)?;
-        }
-    }
+    let mut scope = ImportScope::new(alloc, import_count(types, id))?;
+    write_imports(alloc, all, &mut scope)?;
+    export_resources(alloc, all, &mut scope.scope)?;
+    export_others(alloc, all, &mut scope)?;
     Ok(scope.scope.types.declarations)
 }

@@ -3,13 +3,17 @@
 use crate::core_items::module_declarations;
 use crate::fault::WriteError;
 use crate::imports::component_type;
+use crate::parts::{
+    Item, Use, export_at, export_count, export_named, identifier, interface_of, is_fresh,
+    root_name, taken, use_at, use_count, world_of,
+};
 use crate::scope::{TypeScope, next_of};
 use crate::value::{define_value, push_func, same_type};
 use std::alloc::Global;
-use wac_graph_bytes::{Alias, Declaration, DefinedType as TypeEntry, Description, Sort};
+use wac_graph_bytes::{Alias, Declaration, Description, Sort};
 use wac_types_base::{
-    Interface, InterfaceId, ItemKind, ModuleTypeId, NamedMap, ResourceId, Text, Type, Types,
-    UsedType, ValueType,
+    FuncTypeId, InterfaceId, ItemKind, ModuleTypeId, ResourceId, Text, Type, Types, ValueType,
+    WorldId,
 };
 
 /// A scope of written types, and how many items of the other sorts stand there.
@@ -134,76 +138,31 @@ impl ItemScope {
     ) -> Result<(), WriteError> {
         match kind {
             ItemKind::Ty(Type::Resource(id)) => {
-                let name = root_name(types, id);
-                if self.types.resource(name).is_none() {
-                    let name = Text::new(String::from_str(alloc, name)?);
-                    self.types.add_resource(name, index)?;
-                }
-                Ok(())
+                self.note_resource(alloc, root_name(types, id), index)
             }
-            ItemKind::Ty(Type::Value(ty)) => match types.resolve_value_type(ty) {
-                ValueType::Defined(id) => {
-                    if self.types.known(id).is_none() {
-                        self.types.remember(id, index)?;
-                    }
-                    Ok(())
-                }
-                _ => Ok(()),
-            },
+            ItemKind::Ty(Type::Value(ty)) => self.note_value(types, ty, index),
             _ => Ok(()),
         }
     }
-}
 
-/// The name of the resource at the end of the aliases.
-pub(crate) fn root_name(types: &Types, id: ResourceId) -> &str {
-    types.resource(types.resolve_resource(id)).name.as_str()
-}
-
-/// Whether the item is a resource under its own name.
-pub(crate) fn is_fresh(types: &Types, name: &str, kind: ItemKind) -> bool {
-    match kind {
-        ItemKind::Ty(Type::Resource(id)) => root_name(types, id) == name,
-        _ => false,
+    fn note_resource(&mut self, alloc: Global, name: &str, index: u32) -> Result<(), WriteError> {
+        if self.types.resource(name).is_none() {
+            let name = Text::new(String::from_str(alloc, name)?);
+            self.types.add_resource(name, index)?;
+        }
+        Ok(())
     }
-}
 
-/// The name of a used type in its interface.
-pub(crate) fn name_there<'a>(name: &'a str, used: &'a UsedType) -> &'a str {
-    match &used.name {
-        Some(there) => there.as_str(),
-        None => name,
-    }
-}
-
-/// Whether the item is a resource or a value type.
-fn is_used_kind(kind: ItemKind) -> bool {
-    match kind {
-        ItemKind::Ty(Type::Resource(_)) => true,
-        ItemKind::Ty(Type::Value(_)) => true,
-        _ => false,
-    }
-}
-
-/// The resource or the value type that a use takes.
-pub(crate) fn taken(types: &Types, name: &str, used: &UsedType) -> Option<ItemKind> {
-    match types.interface(used.interface).exports.get(name_there(name, used)) {
-        Some(item) => {
-            if is_used_kind(*item) {
-                Some(*item)
-            } else {
-                None
+    fn note_value(&mut self, types: &Types, ty: ValueType, index: u32) -> Result<(), WriteError> {
+        if !types.has(ItemKind::Value(ty)) {
+            return Ok(());
+        }
+        if let ValueType::Defined(id) = types.resolve_value_type(ty) {
+            if self.types.known(id).is_none() {
+                self.types.remember(id, index)?;
             }
         }
-        None => None,
-    }
-}
-
-/// The identifier of an interface that is used.
-pub(crate) fn used_identifier<'a>(types: &'a Types, used: &UsedType) -> Result<&'a str, WriteError> {
-    match &types.interface(used.interface).id {
-        Some(id) => Ok(id.as_str()),
-        None => Err(WriteError::Unwritable),
+        Ok(())
     }
 }
 
@@ -231,13 +190,34 @@ pub(crate) fn find_used(
 fn exports_taken(
     alloc: Global,
     types: &Types,
-    interface: &Interface,
+    id: InterfaceId,
     name: &str,
     item: ItemKind,
 ) -> Result<bool, WriteError> {
-    match interface.exports.get(name) {
-        Some(own) => same_type(alloc, types, *own, item),
+    match export_named(types, id, name) {
+        Some(own) => same_type(alloc, types, own, item),
         None => Ok(false),
+    }
+}
+
+/// The index of an alias of a used type, which stands around.
+fn alias_around(
+    alloc: Global,
+    scope: &mut ItemScope,
+    types: &Types,
+    around: Around<'_, '_>,
+    used: Use<'_>,
+    item: ItemKind,
+) -> Result<Option<u32>, WriteError> {
+    let Some(identifier) = identifier(types, used.interface) else {
+        return Err(WriteError::Unwritable);
+    };
+    match find_used(alloc, types, around.used, identifier, used.there, item)? {
+        Some(index) => {
+            let alias = scope.add_outer(around.depth, index)?;
+            Ok(Some(alias))
+        }
+        None => Ok(None),
     }
 }
 
@@ -247,50 +227,48 @@ fn take_use(
     scope: &mut ItemScope,
     types: &Types,
     around: Around<'_, '_>,
-    interface: &Interface,
-    name: &str,
-    used: &UsedType,
+    id: InterfaceId,
+    used: Use<'_>,
 ) -> Result<bool, WriteError> {
-    let identifier = used_identifier(types, used)?;
-    let Some(item) = taken(types, name, used) else {
+    let Some(item) = taken(types, used) else {
         return Ok(false);
     };
-    let there = name_there(name, used);
-    let Some(index) = find_used(alloc, types, around.used, identifier, there, item)? else {
+    let Some(alias) = alias_around(alloc, scope, types, around, used, item)? else {
         return Ok(false);
     };
-    let alias = scope.add_outer(around.depth, index)?;
-    if !exports_taken(alloc, types, interface, name, item)? {
+    if !exports_taken(alloc, types, id, used.name, item)? {
         scope.note(alloc, types, item, alias)?;
         return Ok(false);
     }
-    let text = String::from_str(alloc, name)?;
+    let text = String::from_str(alloc, used.name)?;
     let own = scope.types.export_type(text, alias)?;
     scope.note(alloc, types, item, own)?;
     Ok(true)
 }
 
-/// Writes the used types of an interface; for each use whether it is exported.
-fn take_uses(
+/// Writes the used types of an interface; the names of those that it exports.
+fn take_uses<'a>(
     alloc: Global,
     scope: &mut ItemScope,
-    types: &Types,
+    types: &'a Types,
     around: Around<'_, '_>,
-    interface: &Interface,
-) -> Result<Vec<bool>, WriteError> {
-    let mut exported = Vec::new(alloc);
-    for at in 0..interface.uses.len() {
-        let (name, used) = interface.uses.entry(at);
-        let done = take_use(alloc, scope, types, around, interface, name, used)?;
-        exported.push(done)?;
+    id: InterfaceId,
+) -> Result<Vec<&'a str>, WriteError> {
+    let mut given = Vec::new(alloc);
+    for at in 0..use_count(types, id) {
+        if let Some(used) = use_at(types, id, at) {
+            if take_use(alloc, scope, types, around, id, used)? {
+                given.push(used.name)?;
+            }
+        }
     }
-    Ok(exported)
+    Ok(given)
 }
 
 /// Whether a use gives the export of this name.
-fn is_given(uses: &NamedMap<UsedType>, exported: &[bool], name: &str) -> bool {
-    for (own, done) in uses.names().iter().zip(exported) {
-        if *done && own.as_str() == name {
+fn is_given(given: &[&str], name: &str) -> bool {
+    for own in given {
+        if *own == name {
             return true;
         }
     }
@@ -302,57 +280,85 @@ pub(crate) fn export_resource(
     alloc: Global,
     scope: &mut ItemScope,
     types: &Types,
-    name: &str,
-    kind: ItemKind,
+    item: Item<'_>,
 ) -> Result<(), WriteError> {
-    let text = String::from_str(alloc, name)?;
+    let text = String::from_str(alloc, item.name)?;
     let declaration = Declaration::Export(text, Description::Resource);
     let index = scope.add_item(declaration, Description::Resource)?;
-    scope.note(alloc, types, kind, index)
+    scope.note(alloc, types, item.kind, index)
 }
 
 /// Exports an item that is no resource under its own name.
+#[cycle(types)]
 pub(crate) fn export_item(
     alloc: Global,
     scope: &mut ItemScope,
     types: &Types,
     around: Around<'_, '_>,
-    name: &str,
-    kind: ItemKind,
+    item: Item<'_>,
 ) -> Result<(), WriteError> {
-    let description = describe(alloc, scope, types, around, kind)?;
-    let text = String::from_str(alloc, name)?;
+    let description = describe(alloc, scope, types, around, item.kind)?;
+    let text = String::from_str(alloc, item.name)?;
     let declaration = Declaration::Export(text, description);
     let index = scope.add_item(declaration, description)?;
-    scope.note(alloc, types, kind, index)
+    scope.note(alloc, types, item.kind, index)
+}
+
+/// Exports the resources of an interface that no use gives.
+fn export_resources(
+    alloc: Global,
+    scope: &mut ItemScope,
+    types: &Types,
+    id: InterfaceId,
+    given: &[&str],
+) -> Result<(), WriteError> {
+    for at in 0..export_count(types, id) {
+        if let Some(item) = export_at(types, id, at) {
+            if is_fresh(types, item) && !is_given(given, item.name) {
+                export_resource(alloc, scope, types, item)?;
+            }
+        }
+    }
+    Ok(())
+}
+
+/// Exports the other items of an interface that no use gives.
+#[cycle(types)]
+fn export_others(
+    alloc: Global,
+    scope: &mut ItemScope,
+    types: &Types,
+    around: Around<'_, '_>,
+    id: InterfaceId,
+    given: &[&str],
+) -> Result<(), WriteError> {
+    for at in 0..export_count(types, id) {
+        if let Some(item) = export_at(types, id, at) {
+            if !is_fresh(types, item) && !is_given(given, item.name) {
+                export_item(alloc, scope, types, around, item)?;
+            }
+        }
+    }
+    Ok(())
 }
 
 /// The declarations of an instance type.
+#[cycle(types)]
 fn instance_type(
     alloc: Global,
     types: &Types,
     around: Around<'_, '_>,
     id: InterfaceId,
 ) -> Result<Vec<Declaration>, WriteError> {
-    let interface = types.interface(id);
     let mut scope = ItemScope::new(alloc);
-    let exported = take_uses(alloc, &mut scope, types, around, interface)?;
-    for at in 0..interface.exports.len() {
-        let (name, kind) = interface.exports.entry(at);
-        if is_fresh(types, name, *kind) && !is_given(&interface.uses, &exported, name) {
-            export_resource(alloc, &mut scope, types, name, *kind)?;
-        }
-    }
-    for at in 0..interface.exports.len() {
-        let (name, kind) = interface.exports.entry(at);
-        if !is_fresh(types, name, *kind) && !is_given(&interface.uses, &exported, name) {
-            export_item(alloc, &mut scope, types, around, name, *kind)?;
-        }
-    }
+    let given = take_uses(alloc, &mut scope, types, around, id)?;
+    export_resources(alloc, &mut scope, types, id, &given)?;
+    export_others(alloc, &mut scope, types, around, id, &given)?;
     Ok(scope.types.declarations)
 }
 
 /// The index of the type of an instance, which is written.
+#[cycle(types)]
 fn push_instance_type(
     alloc: Global,
     scope: &mut ItemScope,
@@ -368,6 +374,18 @@ fn push_instance_type(
     scope.add_type(Declaration::InstanceType(declarations))
 }
 
+/// The index of a component's type, which is written.
+#[cycle(types)]
+fn push_component_type(
+    alloc: Global,
+    scope: &mut ItemScope,
+    types: &Types,
+    id: WorldId,
+) -> Result<u32, WriteError> {
+    let declarations = component_type(alloc, types, id)?;
+    scope.add_type(Declaration::ComponentType(declarations))
+}
+
 /// The index of a module's type, which is written.
 fn push_module_type(
     alloc: Global,
@@ -375,6 +393,9 @@ fn push_module_type(
     types: &Types,
     id: ModuleTypeId,
 ) -> Result<u32, WriteError> {
+    if !types.has(ItemKind::Module(id)) {
+        return Err(WriteError::Unwritable);
+    }
     let declarations = module_declarations(alloc, types.module_type(id))?;
     scope.add_core(Declaration::Module(declarations))
 }
@@ -387,28 +408,69 @@ fn resource_index(scope: &ItemScope, types: &Types, id: ResourceId) -> Result<u3
     }
 }
 
-/// The index of a type item that is no resource under its own name.
+/// The index of a function's type, which is written.
+fn push_func_type(
+    alloc: Global,
+    scope: &mut ItemScope,
+    types: &Types,
+    id: FuncTypeId,
+) -> Result<u32, WriteError> {
+    if !types.has(ItemKind::Func(id)) {
+        return Err(WriteError::Unwritable);
+    }
+    push_func(alloc, &mut scope.types, types, id)
+}
+
+/// The index of a type item that is no interface, no world and no resource under its own name.
 fn push_type(
     alloc: Global,
     scope: &mut ItemScope,
     types: &Types,
-    around: Around<'_, '_>,
     ty: Type,
 ) -> Result<u32, WriteError> {
     match ty {
         Type::Resource(id) => resource_index(scope, types, id),
-        Type::Func(id) => push_func(alloc, &mut scope.types, types, id),
+        Type::Func(id) => push_func_type(alloc, scope, types, id),
         Type::Value(ty) => define_value(alloc, &mut scope.types, types, ty),
-        Type::Interface(id) => push_instance_type(alloc, scope, types, around, id),
-        Type::World(id) => {
-            let declarations = component_type(alloc, types, id)?;
-            scope.add_type(Declaration::ComponentType(declarations))
+        _ => Err(WriteError::Unwritable),
+    }
+}
+
+/// What such an item is, or a function or a module; its type is written.
+fn describe_simple(
+    alloc: Global,
+    scope: &mut ItemScope,
+    types: &Types,
+    kind: ItemKind,
+) -> Result<Description, WriteError> {
+    match kind {
+        ItemKind::Ty(ty) => {
+            let index = push_type(alloc, scope, types, ty)?;
+            Ok(Description::Equal(index))
         }
-        Type::Module(_) => Err(WriteError::Unwritable),
+        ItemKind::Func(id) => {
+            let index = push_func_type(alloc, scope, types, id)?;
+            Ok(Description::Func(index))
+        }
+        ItemKind::Module(id) => {
+            let index = push_module_type(alloc, scope, types, id)?;
+            Ok(Description::Module(index))
+        }
+        _ => Err(WriteError::Unwritable),
+    }
+}
+
+/// What a thing of the type at an index is, or that type itself.
+fn described(kind: ItemKind, index: u32) -> Description {
+    match kind {
+        ItemKind::Instance(_) => Description::Instance(index),
+        ItemKind::Component(_) => Description::Component(index),
+        _ => Description::Equal(index),
     }
 }
 
 /// What an item is that is no resource under its own name; its type is written.
+#[cycle(types)]
 pub(crate) fn describe(
     alloc: Global,
     scope: &mut ItemScope,
@@ -416,28 +478,13 @@ pub(crate) fn describe(
     around: Around<'_, '_>,
     kind: ItemKind,
 ) -> Result<Description, WriteError> {
-    match kind {
-        ItemKind::Ty(ty) => {
-            let index = push_type(alloc, scope, types, around, ty)?;
-            Ok(Description::Equal(index))
-        }
-        ItemKind::Func(id) => {
-            let index = push_func(alloc, &mut scope.types, types, id)?;
-            Ok(Description::Func(index))
-        }
-        ItemKind::Instance(id) => {
-            let index = push_instance_type(alloc, scope, types, around, id)?;
-            Ok(Description::Instance(index))
-        }
-        ItemKind::Component(id) => {
-            let declarations = component_type(alloc, types, id)?;
-            let index = scope.add_type(Declaration::ComponentType(declarations))?;
-            Ok(Description::Component(index))
-        }
-        ItemKind::Module(id) => {
-            let index = push_module_type(alloc, scope, types, id)?;
-            Ok(Description::Module(index))
-        }
-        ItemKind::Value(_) => Err(WriteError::Unwritable),
+    if let Some(id) = interface_of(types, kind) {
+        let index = push_instance_type(alloc, scope, types, around, id)?;
+        return Ok(described(kind, index));
     }
+    if let Some(id) = world_of(types, kind) {
+        let index = push_component_type(alloc, scope, types, id)?;
+        return Ok(described(kind, index));
+    }
+    describe_simple(alloc, scope, types, kind)
 }

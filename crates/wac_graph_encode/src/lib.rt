@@ -7,6 +7,7 @@ pub mod fault;
 pub mod imports;
 pub mod items;
 mod laws;
+pub mod parts;
 pub mod scope;
 mod value;
 

@@ -108,6 +108,9 @@ pub(crate) fn same_type(
     a: ItemKind,
     b: ItemKind,
 ) -> Result<bool, WriteError> {
+    if !types.has(a) || !types.has(b) {
+        return Ok(false);
+    }
     let mut cache = new_cache(alloc);
     let mut checker = SubtypeChecker::new(alloc, &mut cache);
     match checker.is_subtype(a, types, b, types) {
@@ -144,6 +147,9 @@ pub(crate) fn define_value(
     types: &Types,
     ty: ValueType,
 ) -> Result<u32, WriteError> {
+    if !types.has(ItemKind::Value(ty)) {
+        return Err(WriteError::Unwritable);
+    }
     match types.resolve_value_type(ty) {
         ValueType::Defined(id) => define_once(alloc, scope, types, id),
         end => match push_value(alloc, scope, types, end)? {
