@@ -189,11 +189,9 @@ fn defined_name(graph: &CompositionGraph, id: NodeId) -> Option<&str> {
     }
 }
 
-/// The used interfaces, each once.
+/// The asks of used interfaces, each interface once.
 #[derive(Drop)]
-struct Users<'a> {
-    alloc: Global,
-    types: &'a Types,
+struct UseAsks {
     asks: Vec<Ask>,
     seen: Vec<InterfaceId>,
 }
@@ -216,97 +214,129 @@ fn used_definition(types: &Types, kind: ItemKind) -> (Option<ItemKind>, Option<W
     }
 }
 
-impl<'a> Users<'a> {
-    /// Adds a used interface, if it is not there. Whether it was added.
-    fn add(&mut self, by: NodeId, id: InterfaceId) -> Result<bool, AllocError> {
-        if self.seen.contains(&id) {
-            return Ok(false);
-        }
-        self.seen.push(id)?;
-        if let Some(name) = identifier(self.types, id) {
-            self.asks.push(Ask {
-                asking: Asking::ToUse,
-                by,
-                name: owned(self.alloc, name)?,
-                item: ItemKind::Instance(id),
-            })?;
-        }
-        Ok(true)
+/// Adds a used interface, if it is not there. Whether it was added.
+fn add_use(
+    alloc: Global,
+    types: &Types,
+    all: &mut UseAsks,
+    by: NodeId,
+    id: InterfaceId,
+) -> Result<bool, AllocError> {
+    if all.seen.contains(&id) {
+        return Ok(false);
     }
+    all.seen.push(id)?;
+    if let Some(name) = identifier(types, id) {
+        all.asks.push(Ask {
+            asking: Asking::ToUse,
+            by,
+            name: owned(alloc, name)?,
+            item: ItemKind::Instance(id),
+        })?;
+    }
+    Ok(true)
+}
 
-    /// Adds a used interface, before those that it uses itself.
-    #[cycle(uses)]
-    fn ask_use(&mut self, by: NodeId, id: InterfaceId) -> Result<(), AllocError> {
-        if self.add(by, id)? {
-            self.ask_uses(by, ItemKind::Instance(id))?;
-        }
-        Ok(())
+/// Adds a used interface, before those that it uses itself.
+#[cycle(uses)]
+fn ask_use(
+    alloc: Global,
+    types: &Types,
+    all: &mut UseAsks,
+    by: NodeId,
+    id: InterfaceId,
+) -> Result<(), AllocError> {
+    let is_new = add_use(alloc, types, all, by, id)?;
+    if is_new {
+        ask_uses(alloc, types, all, by, ItemKind::Instance(id))?;
     }
+    Ok(())
+}
 
-    /// Adds the interfaces that an interface uses itself.
-    #[cycle(uses)]
-    fn ask_direct(&mut self, by: NodeId, id: InterfaceId) -> Result<(), AllocError> {
-        for at in 0..use_count(self.types, id) {
-            if let Some(used) = use_at(self.types, id, at) {
-                self.ask_use(by, used.interface)?;
-            }
+/// Adds the interfaces that an interface uses itself.
+#[cycle(uses)]
+fn ask_direct(
+    alloc: Global,
+    types: &Types,
+    all: &mut UseAsks,
+    by: NodeId,
+    id: InterfaceId,
+) -> Result<(), AllocError> {
+    for at in 0..use_count(types, id) {
+        if let Some(used) = use_at(types, id, at) {
+            ask_use(alloc, types, all, by, used.interface)?;
         }
-        Ok(())
     }
+    Ok(())
+}
 
-    /// Adds the interfaces that an item uses.
-    #[cycle(uses)]
-    fn ask_uses(&mut self, by: NodeId, kind: ItemKind) -> Result<(), AllocError> {
-        let Some(id) = interface_of(self.types, kind) else {
-            return Ok(());
-        };
-        self.ask_direct(by, id)?;
-        for at in 0..export_count(self.types, id) {
-            if let Some(item) = export_at(self.types, id, at) {
-                self.ask_uses(by, item.kind)?;
-            }
+/// Adds the interfaces that an item uses.
+#[cycle(uses)]
+fn ask_uses(
+    alloc: Global,
+    types: &Types,
+    all: &mut UseAsks,
+    by: NodeId,
+    kind: ItemKind,
+) -> Result<(), AllocError> {
+    let Some(id) = interface_of(types, kind) else {
+        return Ok(());
+    };
+    ask_direct(alloc, types, all, by, id)?;
+    for at in 0..export_count(types, id) {
+        if let Some(item) = export_at(types, id, at) {
+            ask_uses(alloc, types, all, by, item.kind)?;
         }
-        Ok(())
     }
+    Ok(())
+}
 
-    /// Adds the interfaces that a world uses itself, each before those that it uses.
-    fn ask_world(&mut self, by: NodeId, id: WorldId) -> Result<(), AllocError> {
-        for at in 0..world_use_count(self.types, id) {
-            if let Some(used) = world_use_at(self.types, id, at) {
-                self.ask_use(by, used.interface)?;
-            }
+/// Adds the interfaces that a world uses itself, each before those that it uses.
+fn ask_world(
+    alloc: Global,
+    types: &Types,
+    all: &mut UseAsks,
+    by: NodeId,
+    id: WorldId,
+) -> Result<(), AllocError> {
+    for at in 0..world_use_count(types, id) {
+        if let Some(used) = world_use_at(types, id, at) {
+            ask_use(alloc, types, all, by, used.interface)?;
         }
-        Ok(())
     }
+    Ok(())
+}
 
-    /// Adds the interfaces that a definition uses which is written as it is.
-    fn ask_definition(&mut self, definition: &Definition) -> Result<(), AllocError> {
-        let (item, world) = used_definition(self.types, definition.item);
-        if let Some(item) = item {
-            self.ask_uses(definition.node, item)?;
-        }
-        if let Some(world) = world {
-            self.ask_world(definition.node, world)?;
-        }
-        Ok(())
+/// Adds the interfaces that a definition uses which is written as it is.
+fn ask_definition(
+    alloc: Global,
+    types: &Types,
+    all: &mut UseAsks,
+    definition: &Definition,
+) -> Result<(), AllocError> {
+    let (item, world) = used_definition(types, definition.item);
+    if let Some(item) = item {
+        ask_uses(alloc, types, all, definition.node, item)?;
     }
+    if let Some(world) = world {
+        ask_world(alloc, types, all, definition.node, world)?;
+    }
+    Ok(())
 }
 
 /// The asks of used interfaces, by those that use them.
 fn uses_asked(alloc: Global, asked: &Asked) -> Result<Vec<Ask>, AllocError> {
-    let mut users = Users {
-        alloc,
-        types: &asked.types,
+    let mut all = UseAsks {
         asks: Vec::new(alloc),
         seen: Vec::new(alloc),
     };
     for ask in &asked.asks {
-        users.ask_uses(ask.by, ask.item)?;
+        ask_uses(alloc, &asked.types, &mut all, ask.by, ask.item)?;
     }
     for definition in &asked.definitions {
-        users.ask_definition(definition)?;
+        ask_definition(alloc, &asked.types, &mut all, definition)?;
     }
-    Ok(users.asks)
+    Ok(all.asks)
 }
 
 /// What a graph asks: by its imports, by its instances, and for what these and its definitions use.

@@ -32,7 +32,7 @@ fn identifier_asked<'a>(
     }
 }
 
-fn named<'a>(alloc: Global, types: &'a Types, ask: &'a Ask) -> Result<Named<'a>, AllocError> {
+fn name_asked<'a>(alloc: Global, types: &'a Types, ask: &'a Ask) -> Result<Named<'a>, AllocError> {
     let name = ask.name.as_str();
     Ok(Named {
         name,
@@ -137,7 +137,7 @@ pub(crate) fn classes_of(
     let mut names = Vec::new(alloc);
     let mut labels = Vec::new(alloc);
     for (at, ask) in asks.iter().enumerate() {
-        names.push(named(alloc, types, ask)?)?;
+        names.push(name_asked(alloc, types, ask)?)?;
         labels.push(at)?;
     }
     for at in 0..names.len() {

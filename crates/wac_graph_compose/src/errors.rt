@@ -1,6 +1,6 @@
 //! Why a graph is not encoded.
 
-use std::alloc::{AllocError, AllocFailed};
+use std::alloc::{AllocError, AllocFailed, Global};
 use thiserror::Error;
 use wac_graph_bytes::SizeError;
 use wac_graph_core::NodeId;
@@ -74,7 +74,7 @@ impl From<SizeError> for EncodeError {
 }
 
 /// The refusal where the type under a name was not written.
-pub(crate) fn not_written(alloc: std::alloc::Global, name: &str, fault: WriteError) -> EncodeError {
+pub(crate) fn not_written(alloc: Global, name: &str, fault: WriteError) -> EncodeError {
     match fault {
         WriteError::TooLarge => EncodeError::TooLarge,
         WriteError::Memory => EncodeError::Memory,

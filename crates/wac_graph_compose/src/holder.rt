@@ -22,7 +22,10 @@ fn is_same_value(
     a: ItemKind,
     b: ItemKind,
 ) -> Result<bool, AllocError> {
-    if !types.has(a) || !types.has(b) {
+    if !types.has(a) {
+        return Ok(false);
+    }
+    if !types.has(b) {
         return Ok(false);
     }
     let mut cache = new_cache(alloc);

@@ -63,7 +63,10 @@ fn merged(
     kept: ItemKind,
     asked: ItemKind,
 ) -> Result<ItemKind, AggregateError> {
-    if !types.has(kept) || !types.has(asked) {
+    if !types.has(kept) {
+        return Err(AggregateError::OutsideFamilies);
+    }
+    if !types.has(asked) {
         return Err(AggregateError::OutsideFamilies);
     }
     kept_of(alloc, types, family, kept, asked)
@@ -180,7 +183,11 @@ fn identified(
     kept: Kept,
     spelling: &str,
 ) -> Result<ItemKind, AllocError> {
-    if kept.count > 1 && types.has(kept.item) && has_track(alloc, spelling)? {
+    if kept.count < 2 || !types.has(kept.item) {
+        return Ok(kept.item);
+    }
+    let on_track = has_track(alloc, spelling)?;
+    if on_track {
         spelled(alloc, types, kept.item, spelling)
     } else {
         Ok(kept.item)

@@ -59,22 +59,6 @@ fn value_fails(test: Test<'_>, holder: &Holder<'_>, ty: ValueType) -> Result<boo
     Ok(!is_used)
 }
 
-/// Whether what stands in a place is a value type that fails.
-#[cycle(values)]
-fn place_fails(
-    test: Test<'_>,
-    holder: &Holder<'_>,
-    place: Option<ItemKind>,
-) -> Result<bool, AllocError> {
-    match place {
-        Some(kind) => match kind {
-            ItemKind::Value(ty) => value_fails(test, holder, ty),
-            _ => Ok(false),
-        },
-        None => Ok(false),
-    }
-}
-
 /// Whether a value type in a place fails.
 #[cycle(values)]
 fn places_fail(test: Test<'_>, holder: &Holder<'_>, kind: ItemKind) -> Result<bool, AllocError> {
@@ -83,8 +67,12 @@ fn places_fail(test: Test<'_>, holder: &Holder<'_>, kind: ItemKind) -> Result<bo
     }
     let mut at: u128 = 0;
     while let Some(place) = test.types.place(kind, at) {
-        if place_fails(test, holder, place)? {
-            return Ok(true);
+        if let Some(child) = place {
+            if let ItemKind::Value(ty) = child {
+                if value_fails(test, holder, ty)? {
+                    return Ok(true);
+                }
+            }
         }
         at += 1;
     }

@@ -184,7 +184,7 @@ fn importing(alloc: Global, types: &mut Types, id: WorldId) -> Result<WorldId, A
 
 /// An interface or a world, before and after.
 #[derive(Clone, Copy)]
-struct Formed {
+struct Change {
     before: ItemKind,
     after: ItemKind,
 }
@@ -253,7 +253,7 @@ fn add_world_parts(
 }
 
 /// What became of an interface or a world.
-fn found(done: &[Formed], kind: ItemKind) -> ItemKind {
+fn found(done: &[Change], kind: ItemKind) -> ItemKind {
     for one in done {
         if one.before == kind {
             return one.after;
@@ -262,14 +262,14 @@ fn found(done: &[Formed], kind: ItemKind) -> ItemKind {
     kind
 }
 
-fn found_interface(done: &[Formed], id: InterfaceId) -> InterfaceId {
+fn found_interface(done: &[Change], id: InterfaceId) -> InterfaceId {
     match found(done, ItemKind::Instance(id)) {
         ItemKind::Instance(after) => after,
         _ => id,
     }
 }
 
-fn found_world(done: &[Formed], id: WorldId) -> WorldId {
+fn found_world(done: &[Change], id: WorldId) -> WorldId {
     match found(done, ItemKind::Component(id)) {
         ItemKind::Component(after) => after,
         _ => id,
@@ -277,7 +277,7 @@ fn found_world(done: &[Formed], id: WorldId) -> WorldId {
 }
 
 /// What became of an item.
-fn found_item(done: &[Formed], kind: ItemKind) -> ItemKind {
+fn found_item(done: &[Change], kind: ItemKind) -> ItemKind {
     match kind {
         ItemKind::Instance(id) => ItemKind::Instance(found_interface(done, id)),
         ItemKind::Component(id) => ItemKind::Component(found_world(done, id)),
@@ -292,7 +292,7 @@ fn found_item(done: &[Formed], kind: ItemKind) -> ItemKind {
 
 fn found_items(
     alloc: Global,
-    done: &[Formed],
+    done: &[Change],
     items: &NamedMap<ItemKind>,
 ) -> Result<NamedMap<ItemKind>, AllocError> {
     let mut all = NamedMap::new(alloc);
@@ -305,7 +305,7 @@ fn found_items(
 
 fn found_uses(
     alloc: Global,
-    done: &[Formed],
+    done: &[Change],
     uses: NamedMap<UsedType>,
 ) -> Result<NamedMap<UsedType>, AllocError> {
     let mut all = NamedMap::new(alloc);
@@ -321,7 +321,7 @@ fn found_uses(
 }
 
 /// Whether nothing became of these items.
-fn are_kept(done: &[Formed], items: &NamedMap<ItemKind>) -> bool {
+fn are_kept(done: &[Change], items: &NamedMap<ItemKind>) -> bool {
     for kind in items.values() {
         if found_item(done, *kind) != *kind {
             return false;
@@ -330,7 +330,7 @@ fn are_kept(done: &[Formed], items: &NamedMap<ItemKind>) -> bool {
     true
 }
 
-fn uses_kept(done: &[Formed], uses: &NamedMap<UsedType>) -> bool {
+fn uses_kept(done: &[Change], uses: &NamedMap<UsedType>) -> bool {
     for used in uses.values() {
         if found_interface(done, used.interface) != used.interface {
             return false;
@@ -343,7 +343,7 @@ fn uses_kept(done: &[Formed], uses: &NamedMap<UsedType>) -> bool {
 fn form_interface(
     alloc: Global,
     types: &mut Types,
-    done: &[Formed],
+    done: &[Change],
     id: InterfaceId,
 ) -> Result<InterfaceId, AllocError> {
     let Some(copy) = interface_at(alloc, types, id)? else {
@@ -367,7 +367,7 @@ fn form_interface(
 fn uses_in(
     alloc: Global,
     form: Form,
-    done: &[Formed],
+    done: &[Change],
     uses: NamedMap<UsedType>,
 ) -> Result<NamedMap<UsedType>, AllocError> {
     match form {
@@ -381,7 +381,7 @@ fn form_world(
     alloc: Global,
     types: &mut Types,
     form: Form,
-    done: &[Formed],
+    done: &[Change],
     id: WorldId,
 ) -> Result<WorldId, AllocError> {
     let Some(copy) = world_at(alloc, types, id)? else {
@@ -407,7 +407,7 @@ fn form_part(
     alloc: Global,
     types: &mut Types,
     form: Form,
-    done: &[Formed],
+    done: &[Change],
     part: ItemKind,
 ) -> Result<ItemKind, AllocError> {
     match part {
@@ -432,10 +432,10 @@ pub(crate) fn formed(
 ) -> Result<ItemKind, AllocError> {
     let mut parts = Vec::new(alloc);
     add_parts(types, kind, &mut parts)?;
-    let mut done: Vec<Formed> = Vec::new(alloc);
+    let mut done: Vec<Change> = Vec::new(alloc);
     for part in &parts {
         let after = form_part(alloc, types, form, &done, *part)?;
-        done.push(Formed {
+        done.push(Change {
             before: *part,
             after,
         })?;

@@ -8,3 +8,5 @@ pub mod EntryLaws
 pub mod HandleLaws
 pub mod RootLaws
 pub mod ExportLaws
+pub mod InsideLaws
+pub mod KnownLaws

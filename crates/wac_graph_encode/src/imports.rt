@@ -9,7 +9,7 @@ use crate::parts::{
     import_named, interface_of, is_fresh, taken, use_at, use_count, world_export_at,
     world_export_count, world_use_named,
 };
-use crate::value::same_type;
+use crate::value::fits_in;
 use std::alloc::Global;
 use wac_graph_bytes::{Declaration, Description, Sort};
 use wac_types_base::{InterfaceId, ItemKind, Text, Types, WorldId};
@@ -135,30 +135,19 @@ fn is_ready(all: Importing<'_, '_>, places: &[Option<SortIndex>], kind: ItemKind
     true
 }
 
-/// The same of an import, which may be a type that the world uses.
-fn is_import_ready(
-    all: Importing<'_, '_>,
-    places: &[Option<SortIndex>],
-    import: Item<'_>,
-) -> bool {
-    match world_use_named(all.types, all.world, import.name) {
-        Some(used) => is_written(all, places, used),
-        None => is_ready(all, places, import.kind),
-    }
-}
-
-/// When an import is written: resources first, then types, then the others, and last what is not ready.
+/// When an import is written: resources under their own names first, then types that the world uses, instances, other
+/// types, what else there is, and last what uses an import that is not written.
 fn rank(all: Importing<'_, '_>, places: &[Option<SortIndex>], import: Item<'_>) -> u8 {
-    let is_used = world_use_named(all.types, all.world, import.name).is_some();
-    if is_fresh(all.types, import) && !is_used {
-        0
-    } else if !is_import_ready(all, places, import) {
-        3
-    } else if matches!(import.kind, ItemKind::Ty(_)) {
-        1
-    } else {
-        2
+    if let Some(used) = world_use_named(all.types, all.world, import.name) {
+        return if is_written(all, places, used) { 1 } else { 5 };
     }
+    if is_fresh(all.types, import) {
+        return 0;
+    }
+    if interface_of(all.types, import.kind).is_some() {
+        return if is_ready(all, places, import.kind) { 2 } else { 5 };
+    }
+    if matches!(import.kind, ItemKind::Ty(_)) { 3 } else { 4 }
 }
 
 /// The rank of what is left at a place.
@@ -175,7 +164,7 @@ fn rank_at(all: Importing<'_, '_>, places: &[Option<SortIndex>], at: usize) -> O
 /// Where the import stands that is written next.
 pub fn next_import(all: Importing<'_, '_>, places: &[Option<SortIndex>]) -> Option<usize> {
     let mut best = None;
-    let mut lowest = 4;
+    let mut lowest = 6;
     for at in 0..places.len() {
         if let Some(rank) = rank_at(all, places, at) {
             if rank < lowest {
@@ -199,7 +188,7 @@ fn gives(
         return Ok(false);
     };
     match export_named(all.types, id, name) {
-        Some(own) => same_type(alloc, all.types, own, item),
+        Some(own) => fits_in(alloc, all.types, own, item),
         None => Ok(false),
     }
 }
@@ -337,7 +326,7 @@ impl<'a> ImportScope<'a> {
         let Some(item) = taken(all.types, used) else {
             return Ok(None);
         };
-        if !same_type(alloc, all.types, item, import.kind)? {
+        if !fits_in(alloc, all.types, item, import.kind)? {
             return Ok(None);
         }
         match self.alias_of(alloc, all, used)? {

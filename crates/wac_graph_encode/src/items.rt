@@ -8,7 +8,7 @@ use crate::parts::{
     root_name, taken, use_at, use_count, world_of,
 };
 use crate::scope::{TypeScope, next_of};
-use crate::value::{define_value, push_func, same_type};
+use crate::value::{define_value, push_func, fits_in};
 use std::alloc::Global;
 use wac_graph_bytes::{Alias, Declaration, Description, Sort};
 use wac_types_base::{
@@ -178,7 +178,7 @@ pub(crate) fn find_used(
     for used in all {
         if used.identifier == identifier
             && used.name == name
-            && same_type(alloc, types, used.item, item)?
+            && fits_in(alloc, types, used.item, item)?
         {
             return Ok(Some(used.index));
         }
@@ -195,7 +195,7 @@ fn exports_taken(
     item: ItemKind,
 ) -> Result<bool, WriteError> {
     match export_named(types, id, name) {
-        Some(own) => same_type(alloc, types, own, item),
+        Some(own) => fits_in(alloc, types, own, item),
         None => Ok(false),
     }
 }

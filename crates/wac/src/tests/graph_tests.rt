@@ -13,7 +13,7 @@ use wac_graph_core::{CompositionGraph, NodeId, PackageId};
 use wac_types_base::{ItemKind, ResourceAlias, Type, ValueType};
 
 /// The graph's bytes and world: the bytes are those of `encode`, and read as this text.
-fn reads_as(
+pub fn reads_as(
     rt: &impl Abort,
     g: &CompositionGraph,
     define_components: bool,
@@ -37,7 +37,7 @@ fn reads_as(
 }
 
 /// And the world has those names.
-fn world_is(
+pub fn world_is(
     rt: &impl Abort,
     g: &CompositionGraph,
     text: &str,
@@ -56,7 +56,7 @@ fn wac_parser(alloc: Global) -> Result<Processor, Fail> {
 }
 
 /// `p:p` imports `f: func()` and exports `g: func()`.
-fn register_p(rt: &impl Abort, g: &mut CompositionGraph) -> Result<PackageId, Fail> {
+pub fn register_p(rt: &impl Abort, g: &mut CompositionGraph) -> Result<PackageId, Fail> {
     let f = add_func(rt, g, &[])?;
     let world = add_world(rt, g, &[], &[("f", f)], &[("g", f)])?;
     let mut bytes = Vec::new(g.alloc());
@@ -71,7 +71,7 @@ fn register_q(rt: &impl Abort, g: &mut CompositionGraph) -> Result<PackageId, Fa
 }
 
 /// One instance of `p:p`, filled, whose `g` is exported.
-fn one_instance(rt: &impl Abort, alloc: Global) -> Result<CompositionGraph, Fail> {
+pub fn one_instance(rt: &impl Abort, alloc: Global) -> Result<CompositionGraph, Fail> {
     let mut g = new_graph(alloc);
     let p = register_p(rt, &mut g)?;
     let x = instance(rt, &mut g, p)?;
@@ -348,7 +348,7 @@ fn packages_are_imported(rt: HostRuntime) -> Result<(), Fail> {
 }
 
 /// The refusal says that the type under this name cannot be written.
-fn is_unwritable(rt: &impl Abort, g: &CompositionGraph, wanted: &str) -> Result<(), Fail> {
+pub fn is_unwritable(rt: &impl Abort, g: &CompositionGraph, wanted: &str) -> Result<(), Fail> {
     match refusal(g)? {
         EncodeError::TypeCannotBeWritten { name } => assert_eq!(rt; name.as_str(), wanted),
         fault => return Err(Fail::from(fault)),
