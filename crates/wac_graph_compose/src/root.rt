@@ -9,6 +9,7 @@ use std::alloc::{AllocError, Global};
 use wac_graph_bytes::{Declaration, Description, Entry, Sort};
 use wac_graph_core::{CompositionGraph, NodeId, PackageId};
 use wac_graph_encode::imports::{ImportScope, Importing, SortIndex, next_import};
+use wac_graph_encode::items::ItemScope;
 use wac_graph_encode::parts::{Item, import_at, import_count};
 use wac_types_base::ItemKind;
 
@@ -221,23 +222,38 @@ fn nest_packages(
     Ok(())
 }
 
+/// How many things of each sort stand in a scope.
+fn counts_of(scope: &ItemScope) -> Counts {
+    Counts {
+        funcs: scope.funcs,
+        types: scope.types.types,
+        components: scope.components,
+        instances: scope.instances,
+        modules: scope.modules,
+    }
+}
+
+fn declarations_of(scope: ItemScope) -> Vec<Declaration> {
+    scope.types.declarations
+}
+
 fn root_of(
     alloc: Global,
     scope: ImportScope<'_>,
     definitions: Vec<NodeIndex>,
     packages: Vec<PackageIndex>,
 ) -> Result<Root, EncodeError> {
-    let counts = Counts {
-        funcs: scope.scope.funcs,
-        types: scope.scope.types.types,
-        components: scope.scope.components,
-        instances: scope.scope.instances,
-        modules: scope.scope.modules,
-    };
+    let ImportScope {
+        scope: items,
+        used: _,
+        places: imports,
+    } = scope;
+    let counts = counts_of(&items);
+    let entries = entries_of(alloc, declarations_of(items))?;
     Ok(Root {
-        entries: entries_of(alloc, scope.scope.types.declarations)?,
+        entries,
         counts,
-        imports: scope.places,
+        imports,
         definitions,
         packages,
     })
