@@ -51,6 +51,13 @@ fn is_export_name(alloc: Global, name: &str) -> Result<bool, AllocError>
 }
 
 impl CompositionGraph {
+    /// The exports, in order.
+    pub fn exports(&self) -> &[(Text, NodeId)]
+        ensures { result.now ≡ self.now.exports }
+    {
+        self.exports.as_slice()
+    }
+
     /// The node that is exported under a name.
     pub fn get_export(&self, name: &str) -> Option<NodeId>
         ensures { result ≡ value_at self.now.exports name.now }

@@ -12,3 +12,5 @@ pub mod KeptFits
 pub mod Closures
 pub mod OuterClasses
 pub mod Merged
+pub mod InsideLaws
+pub mod KnownLaws
