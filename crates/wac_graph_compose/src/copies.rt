@@ -30,10 +30,7 @@ pub(crate) fn copy_items(
 }
 
 /// The same uses again.
-fn copy_uses(
-    alloc: Global,
-    uses: &NamedMap<UsedType>,
-) -> Result<NamedMap<UsedType>, AllocError> {
+fn copy_uses(alloc: Global, uses: &NamedMap<UsedType>) -> Result<NamedMap<UsedType>, AllocError> {
     let mut copy = NamedMap::new(alloc);
     for at in 0..uses.len() {
         let (name, used) = uses.entry(at);
@@ -47,10 +44,7 @@ fn copy_uses(
 }
 
 /// The same interface again.
-fn copy_interface(
-    alloc: Global,
-    interface: &Interface,
-) -> Result<Interface, AllocError> {
+fn copy_interface(alloc: Global, interface: &Interface) -> Result<Interface, AllocError> {
     Ok(Interface {
         id: copy_text(&interface.id)?,
         uses: copy_uses(alloc, &interface.uses)?,

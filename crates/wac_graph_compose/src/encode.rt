@@ -1,5 +1,9 @@
 //! The bytes and the world of a composition graph.
 
+ghost use Rattle.std.specs.Prelude.{◌≡◌, IfOk};
+ghost use Rattle.wac_types_base.specs.declared.item.ItemKind.{ItemKind};
+ghost use Rattle.wac_types_base.specs.Collection.{Stands};
+
 use crate::asks::{Asked, Definition, asked_by};
 use crate::conflicts::{check_implicit, check_names, check_writable};
 use crate::errors::EncodeError;
@@ -13,7 +17,7 @@ use std::alloc::{AllocError, Global};
 use wac_graph_bytes::push_component;
 use wac_graph_core::CompositionGraph;
 use wac_graph_encode::imports::Importing;
-use wac_types_base::Types;
+use wac_types_base::{Types, WorldId};
 
 /// The definitions in the form in which they are written.
 fn written_definitions(alloc: Global, asked: &mut Asked) -> Result<Vec<Definition>, AllocError> {
@@ -46,8 +50,34 @@ fn bytes_of(
     let wired = Wired::new(alloc, graph, outers.called.as_slice(), root)?;
     let (entries, names) = wired.finish()?;
     let mut bytes = Vec::new(alloc);
-    push_component(alloc, &mut bytes, &entries, options.processor.as_ref(), &names)?;
+    push_component(
+        alloc,
+        &mut bytes,
+        &entries,
+        options.processor.as_ref(),
+        &names,
+    )?;
     Ok(bytes)
+}
+
+/// The world of a composition, in a collection of this number.
+fn world_of(
+    alloc: Global,
+    graph: &CompositionGraph,
+    asked: &mut Asked,
+    outers: &Outers,
+    definitions: &[Definition],
+    number: u64,
+) -> Result<(Types, WorldId), EncodeError>
+    ensures number { IfOk result (λ p. p.0.number ≡ number) }
+    ensures stands { IfOk result (λ p. Stands p.0 (ItemKind.Component p.1)) }
+{
+    let mut types = Types::new(alloc, number);
+    let world = composed_world(alloc, graph, asked, outers, definitions, &mut types)?;
+    match world {
+        Some(id) => Ok((types, id)),
+        None => Err(EncodeError::TooLarge),
+    }
 }
 
 /// The bytes and the world of a graph.
@@ -55,7 +85,10 @@ fn encoded(
     graph: &CompositionGraph,
     options: &EncodeOptions,
     numbers: (u64, u64),
-) -> Result<Encoded, EncodeError> {
+) -> Result<Encoded, EncodeError>
+    ensures number { IfOk result (λ e. e.types.number ≡ numbers.1) }
+    ensures stands { IfOk result (λ e. Stands e.types (ItemKind.Component e.world)) }
+{
     let alloc = graph.alloc();
     let mut asked = asked_by(alloc, graph, numbers.0)?;
     check_implicit(alloc, graph, &asked.asks)?;
@@ -64,15 +97,12 @@ fn encoded(
     let definitions = written_definitions(alloc, &mut asked)?;
     let bytes = bytes_of(alloc, graph, &asked, &outers, &definitions, options)?;
     check_names(alloc, graph, &asked, &outers, options)?;
-    let mut types = Types::new(alloc, numbers.1);
-    match composed_world(alloc, graph, &mut asked, &outers, &definitions, &mut types)? {
-        Some(world) => Ok(Encoded {
-            bytes,
-            types,
-            world,
-        }),
-        None => Err(EncodeError::TooLarge),
-    }
+    let (types, world) = world_of(alloc, graph, &mut asked, &outers, &definitions, numbers.1)?;
+    Ok(Encoded {
+        bytes,
+        types,
+        world,
+    })
 }
 
 /// Two numbers that are not this one.
@@ -95,7 +125,9 @@ pub trait EncodeGraph {
         &self,
         options: EncodeOptions,
         numbers: (u64, u64),
-    ) -> Result<Encoded, EncodeError>;
+    ) -> Result<Encoded, EncodeError>
+        ensures number { IfOk result (λ e. e.types.number ≡ numbers.1) }
+        ensures stands { IfOk result (λ e. Stands e.types (ItemKind.Component e.world)) };
 }
 
 impl EncodeGraph for CompositionGraph {

@@ -21,7 +21,9 @@ pub enum ValidationFault {
 #[derive(Debug, Drop, Error)]
 pub enum EncodeError {
     #[error("the graph contains a cycle at node {node}")]
-    GraphContainsCycle { node: NodeId },
+    GraphContainsCycle {
+        node: NodeId,
+    },
     #[error("import `{name}` of package `{package}` has the name of an import of the graph")]
     ImplicitImportConflict {
         import: NodeId,
@@ -43,11 +45,15 @@ pub enum EncodeError {
         source: AggregateError,
     },
     #[error("a type of `{name}` cannot be written")]
-    TypeCannotBeWritten { name: String },
+    TypeCannotBeWritten {
+        name: String,
+    },
     #[error("the component is too large")]
     TooLarge,
     #[error("the encoding of the graph failed validation: {source}")]
-    ValidationFailure { source: ValidationFault },
+    ValidationFailure {
+        source: ValidationFault,
+    },
     #[error("out of memory")]
     Memory,
 }

@@ -2,8 +2,8 @@
 
 use std::alloc::{AllocError, Global};
 use wac_graph_encode::parts::{
-    Item, export_at, export_count, export_named, import_at, import_count, is_fresh, root_name,
-    use_at, use_count, world_export_at, world_export_count, world_use_at, world_use_count, Use,
+    Item, Use, export_at, export_count, export_named, import_at, import_count, is_fresh, root_name,
+    use_at, use_count, world_export_at, world_export_count, world_use_at, world_use_count,
 };
 use wac_types_base::{InterfaceId, ItemKind, Type, Types, WorldId};
 use wac_types_fit::{SubtypeChecker, SubtypeError, new_cache};

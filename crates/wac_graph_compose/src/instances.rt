@@ -171,11 +171,7 @@ impl<'a> Wired<'a> {
     }
 
     /// An instance, where its arguments stand.
-    fn instance(
-        &mut self,
-        node: NodeId,
-        id: PackageId,
-    ) -> Result<Option<SortIndex>, EncodeError> {
+    fn instance(&mut self, node: NodeId, id: PackageId) -> Result<Option<SortIndex>, EncodeError> {
         let Some(arguments) = self.arguments(node, id)? else {
             return Ok(None);
         };

@@ -28,7 +28,9 @@ fn is_writable_item(item: &CoreExtern) -> bool {
         } => core_reference(*element_type).is_some() && !*shared,
         CoreExtern::Memory { page_size_log2, .. } => page_size_log2.is_none(),
         CoreExtern::Global {
-            val_type, shared, ..
+            val_type,
+            shared,
+            ..
         } => core_value(*val_type).is_some() && !*shared,
     }
 }

@@ -65,10 +65,7 @@ fn name_at<'a>(all: Importing<'a, '_>, at: usize) -> &'a str {
 }
 
 /// Writes the outer imports.
-fn write_outers<'a>(
-    alloc: Global,
-    all: Importing<'a, '_>,
-) -> Result<ImportScope<'a>, EncodeError> {
+fn write_outers<'a>(alloc: Global, all: Importing<'a, '_>) -> Result<ImportScope<'a>, EncodeError> {
     let count = import_count(all.types, all.world);
     let mut scope = match ImportScope::new(alloc, count) {
         Ok(scope) => scope,
@@ -175,10 +172,7 @@ fn entry_of(declaration: Declaration) -> Option<Entry> {
     }
 }
 
-fn entries_of(
-    alloc: Global,
-    declarations: Vec<Declaration>,
-) -> Result<Vec<Entry>, AllocError> {
+fn entries_of(alloc: Global, declarations: Vec<Declaration>) -> Result<Vec<Entry>, AllocError> {
     let mut entries = Vec::new(alloc);
     for declaration in declarations {
         if let Some(entry) = entry_of(declaration) {
@@ -189,11 +183,7 @@ fn entries_of(
 }
 
 /// The bytes of a package.
-fn bytes_of(
-    alloc: Global,
-    graph: &CompositionGraph,
-    id: PackageId,
-) -> Result<Vec<u8>, AllocError> {
+fn bytes_of(alloc: Global, graph: &CompositionGraph, id: PackageId) -> Result<Vec<u8>, AllocError> {
     let mut bytes = Vec::new(alloc);
     if let Some(package) = package_at(graph, id) {
         bytes.extend_from_slice(package.bytes())?;

@@ -1,5 +1,9 @@
 //! The world that is true of a composition's bytes.
 
+ghost use Rattle.std.specs.Prelude.{IfOk, IfSome};
+ghost use Rattle.wac_types_base.specs.declared.item.ItemKind.{ItemKind};
+ghost use Rattle.wac_types_base.specs.Collection.{Stands, Grows};
+
 use crate::asks::{Asked, Definition};
 use crate::copies::add_world;
 use crate::nodes::{import_name, kind_of};
@@ -8,7 +12,7 @@ use crate::written::{Form, formed};
 use std::alloc::{AllocError, Global};
 use wac_graph_core::{CompositionGraph, NodeId};
 use wac_graph_encode::parts::{export_named, import_at, import_count};
-use wac_types_base::copy::{copy_item, copy_world};
+use wac_types_base::copy::copy_item;
 use wac_types_base::{ItemKind, NamedMap, Types, World, WorldId};
 
 /// The type of the outer import that is asked under a name.
@@ -174,11 +178,18 @@ fn copied(
     types: &Types,
     world: WorldId,
     to: &mut Types,
-) -> Result<Option<WorldId>, AllocError> {
-    if types.has(ItemKind::Component(world)) {
-        Ok(Some(copy_world(alloc, types, world, &mut to.adding())?))
-    } else {
-        Ok(None)
+) -> Result<Option<WorldId>, AllocError>
+    ensures stands { IfOk result (λ o. IfSome o (λ w. Stands to.new (ItemKind.Component w))) }
+    ensures grows { Grows to.old to.new }
+{
+    to.see_acyclic();
+    let kind = ItemKind::Component(world);
+    if !types.has(kind) {
+        return Ok(None);
+    }
+    match copy_item(alloc, types, kind, to)? {
+        ItemKind::Component(copy) => Ok(Some(copy)),
+        _ => Ok(None),
     }
 }
 
@@ -190,7 +201,11 @@ pub(crate) fn composed_world(
     outers: &Outers,
     definitions: &[Definition],
     to: &mut Types,
-) -> Result<Option<WorldId>, AllocError> {
+) -> Result<Option<WorldId>, AllocError>
+    ensures stands { IfOk result (λ o. IfSome o (λ w. Stands to.new (ItemKind.Component w))) }
+    ensures grows { Grows to.old to.new }
+{
+    to.see_acyclic();
     let world = own_world(alloc, graph, asked, outers, definitions)?;
     let kind = ItemKind::Component(world);
     match formed(alloc, &mut asked.types, Form::WithoutUses, kind)? {

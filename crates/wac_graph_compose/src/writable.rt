@@ -194,11 +194,7 @@ fn is_missing(types: &Types, world: Option<WorldId>, id: InterfaceId) -> bool {
 /// Whether a used interface, or one that it uses, is not imported by a world that has to import it, or has types that
 /// fail.
 #[cycle(items)]
-fn used_fails(
-    test: Test<'_>,
-    world: Option<WorldId>,
-    id: InterfaceId,
-) -> Result<bool, AllocError> {
+fn used_fails(test: Test<'_>, world: Option<WorldId>, id: InterfaceId) -> Result<bool, AllocError> {
     if is_missing(test.types, world, id)
         && (test.is_outer || interface_fails(test, id, Which::TypesOnly)?)
     {
@@ -357,8 +353,7 @@ pub(crate) fn unwritable_outer(
 
 /// Whether an interface cannot be written inside a component type of its own.
 fn wrapped_fails(test: Test<'_>, id: InterfaceId) -> Result<bool, AllocError> {
-    Ok(missing_fails(test, None, ItemKind::Instance(id))?
-        || interface_fails(test, id, Which::All)?)
+    Ok(missing_fails(test, None, ItemKind::Instance(id))? || interface_fails(test, id, Which::All)?)
 }
 
 /// The interface with identifier that a definition is.

@@ -23,7 +23,11 @@ pub(crate) enum Form {
 
 /// Adds an interface behind those that it uses, unless it is there.
 #[cycle(used)]
-fn add_used(types: &Types, id: InterfaceId, found: &mut Vec<InterfaceId>) -> Result<(), AllocError> {
+fn add_used(
+    types: &Types,
+    id: InterfaceId,
+    found: &mut Vec<InterfaceId>,
+) -> Result<(), AllocError> {
     if found.contains(&id) {
         return Ok(());
     }
@@ -34,7 +38,11 @@ fn add_used(types: &Types, id: InterfaceId, found: &mut Vec<InterfaceId>) -> Res
 
 /// Adds the interfaces that an interface uses itself.
 #[cycle(used)]
-fn add_uses(types: &Types, id: InterfaceId, found: &mut Vec<InterfaceId>) -> Result<(), AllocError> {
+fn add_uses(
+    types: &Types,
+    id: InterfaceId,
+    found: &mut Vec<InterfaceId>,
+) -> Result<(), AllocError> {
     for at in 0..use_count(types, id) {
         if let Some(used) = use_at(types, id, at) {
             add_used(types, used.interface, found)?;

@@ -85,7 +85,11 @@ impl ModuleScope {
     }
 
     /// What an item of a module is.
-    fn describe(&mut self, alloc: Global, item: &CoreExtern) -> Result<CoreDescription, WriteError> {
+    fn describe(
+        &mut self,
+        alloc: Global,
+        item: &CoreExtern,
+    ) -> Result<CoreDescription, WriteError> {
         match item {
             CoreExtern::Func(func) => {
                 let index = self.signature(alloc, func)?;

@@ -145,9 +145,17 @@ fn rank(all: Importing<'_, '_>, places: &[Option<SortIndex>], import: Item<'_>) 
         return 0;
     }
     if interface_of(all.types, import.kind).is_some() {
-        return if is_ready(all, places, import.kind) { 2 } else { 5 };
+        return if is_ready(all, places, import.kind) {
+            2
+        } else {
+            5
+        };
     }
-    if matches!(import.kind, ItemKind::Ty(_)) { 3 } else { 4 }
+    if matches!(import.kind, ItemKind::Ty(_)) {
+        3
+    } else {
+        4
+    }
 }
 
 /// The rank of what is left at a place.

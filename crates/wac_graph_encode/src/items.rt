@@ -8,7 +8,7 @@ use crate::parts::{
     root_name, taken, use_at, use_count, world_of,
 };
 use crate::scope::{TypeScope, next_of};
-use crate::value::{define_value, push_func, fits_in};
+use crate::value::{define_value, fits_in, push_func};
 use std::alloc::Global;
 use wac_graph_bytes::{Alias, Declaration, Description, Sort};
 use wac_types_base::{

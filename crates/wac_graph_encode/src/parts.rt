@@ -272,13 +272,7 @@ fn is_used_kind(kind: ItemKind) -> bool {
 /// The resource or the value type that a use takes.
 pub fn taken(types: &Types, used: Use<'_>) -> Option<ItemKind> {
     match export_named(types, used.interface, used.there) {
-        Some(kind) => {
-            if is_used_kind(kind) {
-                Some(kind)
-            } else {
-                None
-            }
-        }
+        Some(kind) => { if is_used_kind(kind) { Some(kind) } else { None } }
         None => None,
     }
 }

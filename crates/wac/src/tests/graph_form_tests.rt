@@ -1,16 +1,16 @@
 //! Forms of types in encoded graphs: component types, modules, uses, and compositions in compositions.
 
+use super::PACKAGE;
 use super::graph_tests::{is_unwritable, one_instance, reads_as, register_p, world_is};
 use super::graphs::*;
 use super::reader::read_down;
-use super::PACKAGE;
 use std::process::Abort;
 use std::test::Fail;
 use wac_graph_compose::{EncodeError, EncodeGraph, EncodeOptions, ValidationFault};
 use wac_graph_core::CompositionGraph;
 use wac_types_base::{
-    CoreExtern, CoreFuncType, CoreImports, CoreType, HeapType, CoreRefType, InterfaceId, ItemKind, Items,
-    ModuleType, NamedMap, ResourceAlias, Text, Type, ValueType, World, WorldId,
+    CoreExtern, CoreFuncType, CoreImports, CoreRefType, CoreType, HeapType, InterfaceId, ItemKind,
+    Items, ModuleType, NamedMap, ResourceAlias, Text, Type, ValueType, World, WorldId,
 };
 
 /// `a:b/t` exports the record `r`; `a:b/i` uses it, and a function of it.
@@ -28,6 +28,7 @@ fn user_of_a_record(
 }
 
 const USED: &str = "a:b/t: instance { export r: type record { x: u32 }; }";
+
 const USER: &str =
     "a:b/i: instance { export r: type record { x: u32 }; export f: func(v: record { x: u32 }); }";
 
@@ -38,8 +39,20 @@ fn one_identifier(rt: HostRuntime) -> Result<(), Fail> {
     let f = add_func(&rt, &mut g, &[])?;
     let narrow = add_interface(&rt, &mut g, Some("a:b/i"), &[], &[("f", f)])?;
     let wide = add_interface(&rt, &mut g, Some("a:b/i"), &[], &[("f", f), ("g", f)])?;
-    let x = add_package(&rt, &mut g, "d:x", &[("a:b/c", ItemKind::Instance(narrow))], &[])?;
-    let y = add_package(&rt, &mut g, "d:y", &[("a:b/e", ItemKind::Instance(wide))], &[])?;
+    let x = add_package(
+        &rt,
+        &mut g,
+        "d:x",
+        &[("a:b/c", ItemKind::Instance(narrow))],
+        &[],
+    )?;
+    let y = add_package(
+        &rt,
+        &mut g,
+        "d:y",
+        &[("a:b/e", ItemKind::Instance(wide))],
+        &[],
+    )?;
     instance(&rt, &mut g, x)?;
     instance(&rt, &mut g, y)?;
     world_is(
@@ -57,7 +70,10 @@ fn component_that_imports_what_it_uses(rt: HostRuntime) -> Result<(), Fail> {
     let alloc = rt.alloc();
     let mut g = new_graph(alloc);
     let (t, i) = user_of_a_record(&rt, &mut g)?;
-    let imports = [("a:b/i", ItemKind::Instance(i)), ("a:b/t", ItemKind::Instance(t))];
+    let imports = [
+        ("a:b/i", ItemKind::Instance(i)),
+        ("a:b/t", ItemKind::Instance(t)),
+    ];
     let w = add_world(&rt, &mut g, &[], &imports, &[])?;
     import(&rt, &mut g, "k", ItemKind::Component(w))?;
     let text = format!(in alloc; "import k: component {{ import {USED}; import {USER}; }}\n")?;
@@ -186,7 +202,9 @@ fn add_module(
     let mut exports = NamedMap::new(alloc);
     let _ = exports.insert(String::from_str(alloc, "g")?, memory)?;
     let _ = exports.insert(String::from_str(alloc, "t")?, table)?;
-    let id = g.types_mut().add_module_type(ModuleType { imports, exports })?;
+    let id = g
+        .types_mut()
+        .add_module_type(ModuleType { imports, exports })?;
     let _ = rt;
     Ok(ItemKind::Module(id))
 }
@@ -251,9 +269,11 @@ fn import_called_as_a_dependency(rt: HostRuntime) -> Result<(), Fail> {
         ..EncodeOptions::default()
     };
     match g.encode(options) {
-        Err(EncodeError::ValidationFailure {
-            source: ValidationFault::ImportNames(a, b),
-        }) => {
+        Err(
+            EncodeError::ValidationFailure {
+                source: ValidationFault::ImportNames(a, b),
+            },
+        ) => {
             assert_eq!(rt; a.as_str(), "unlocked-dep=<p:p>");
             assert_eq!(rt; b.as_str(), "unlocked-dep=<p:p>");
         }

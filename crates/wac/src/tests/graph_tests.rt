@@ -110,6 +110,7 @@ fn one_instance_filled(rt: HostRuntime) -> Result<(), Fail> {
     };
     let bytes = g.encode(options)?;
     let reading = read(alloc, &bytes)?;
+    assert_eq!(rt; reading.components.len(), 1);
     assert!(rt; reading.components[0].as_slice() == PACKAGE.as_slice());
     assert!(rt; bytes.as_slice() == ONE.as_slice());
     Ok(())
@@ -183,8 +184,20 @@ fn two_versions(
     let other = add_func(rt, g, params)?;
     let old = add_interface(rt, g, Some("a:b/c@0.2.0"), &[], &[("f", f)])?;
     let new = add_interface(rt, g, Some("a:b/c@0.2.1"), &[], &[("f", other), ("g", f)])?;
-    let x = add_package(rt, g, "c:x", &[("a:b/c@0.2.0", ItemKind::Instance(old))], &[])?;
-    let y = add_package(rt, g, "c:y", &[("a:b/c@0.2.1", ItemKind::Instance(new))], &[])?;
+    let x = add_package(
+        rt,
+        g,
+        "c:x",
+        &[("a:b/c@0.2.0", ItemKind::Instance(old))],
+        &[],
+    )?;
+    let y = add_package(
+        rt,
+        g,
+        "c:y",
+        &[("a:b/c@0.2.1", ItemKind::Instance(new))],
+        &[],
+    )?;
     let x = instance(rt, g, x)?;
     let y = instance(rt, g, y)?;
     Ok((x, y))
@@ -309,7 +322,10 @@ fn resource_used_twice(rt: HostRuntime) -> Result<(), Fail> {
     let exports = [("r", resource_item(s)), ("f", f)];
     let i = add_interface(&rt, &mut g, Some("a:b/i"), &[("r", t)], &exports)?;
     let j = add_interface(&rt, &mut g, Some("a:b/j"), &[("r", t)], &exports)?;
-    let imports = [("a:b/i", ItemKind::Instance(i)), ("a:b/j", ItemKind::Instance(j))];
+    let imports = [
+        ("a:b/i", ItemKind::Instance(i)),
+        ("a:b/j", ItemKind::Instance(j)),
+    ];
     let p = add_package(&rt, &mut g, "c:x", &imports, &[])?;
     instance(&rt, &mut g, p)?;
     world_is(

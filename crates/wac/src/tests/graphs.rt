@@ -102,10 +102,7 @@ pub fn resource_item(id: ResourceId) -> ItemKind {
 }
 
 /// Uses of types under their own names.
-fn uses_of(
-    alloc: Global,
-    uses: &[(&str, InterfaceId)],
-) -> Result<NamedMap<UsedType>, Fail> {
+fn uses_of(alloc: Global, uses: &[(&str, InterfaceId)]) -> Result<NamedMap<UsedType>, Fail> {
     let mut map = NamedMap::new(alloc);
     for (name, interface) in uses {
         let used = UsedType {
