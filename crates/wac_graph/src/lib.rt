@@ -2,6 +2,9 @@
 #![tactic(auto)]
 
 pub use wac_graph_bytes as bytes;
+pub use wac_graph_compose::{
+    EncodeError, EncodeGraph, EncodeOptions, Encoded, Processor, ValidationFault,
+};
 pub use wac_graph_core::{
     AliasError, ArgumentIter, CompositionGraph, DefineTypeError, ExportError, ImportError,
     InstantiationArgumentError, NameError, Node, NodeId, NodeIdIter, NodeIter, NodeKind, PackageId,

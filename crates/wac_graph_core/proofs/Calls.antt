@@ -15,7 +15,7 @@ use Rattle.wac_graph_core.specs.NodeMaps.{NodeMap, NoImport}
 use Rattle.wac_graph_core.specs.Edges.{alias_edge, argument_edge, HasAlias, HasArgument, AreEdges, Reaches, IsReached, has, Stays}
 use Rattle.wac_graph_core.specs.Graph.{Graph, node_at, ContainsNode, package_of, package_if, package_made, instantiated, PackageStands, IsExport, IsArgument, IsGraph}
 use Rattle.wac_graph_core.specs.Steps.{IsExternName, with_node, with_edges, AddsEdge, Imports, Instantiates, Aliases, AliasesAgain, AliasesAnew, NodeFits, KeepsArgument, AddsArgument, SetsArgument, UnsetsArgument}
-use Rattle.wac_graph_core.specs.Exporting.{Exports, IsTold, TellsNone, TakesExport, Unexports, Names, place_of}
+use Rattle.wac_graph_core.specs.Exporting.{IsExportName, Exports, IsTold, TellsNone, TakesExport, Unexports, Names, place_of}
 use Rattle.wac_graph_core.specs.Removing.{IsClosed, TakesNodes, RemovesNodes}
 use Rattle.wac_types_base.proofs.Walking.{Among-slice_get}
 use Rattle.wac_graph_core.proofs.ExportSteps.{IsGraph-named, IsGraph-exported, IsGraph-unexported, place_found, place_none, one_named}
@@ -97,7 +97,7 @@ module _ (g : Graph) where
 
   -- ---- exports and names
 
-  pub export_step : (ns : NodeMap) (xs : List (Name × ℕ)) (k : ℕ) (o : NodeData) (name : Name) → node_at g k ≡ Some o → value_at g.exports name ≡ None → IsExternName name → ns ≡ map.insert g.nodes k (record o { export = Some name })
+  pub export_step : (ns : NodeMap) (xs : List (Name × ℕ)) (k : ℕ) (o : NodeData) (name : Name) → node_at g k ≡ Some o → value_at g.exports name ≡ None → IsExportName name → ns ≡ map.insert g.nodes k (record o { export = Some name })
       → xs ≡ g.exports ++ (name, k) ∷ [] → Exports g (record g { nodes = ns; exports = xs }) k name
   export_step ns xs k o name at none valid nodes exports =
       record {

@@ -9,7 +9,10 @@ use Rattle.wac_graph_core.specs.declared.errors.ExportError.{ExportError}
 use Rattle.wac_graph_core.specs.declared.errors.UnexportError.{UnexportError}
 use Rattle.wac_graph_core.specs.Nodes.{NodeData, Role, imported_as}
 use Rattle.wac_graph_core.specs.Graph.{Graph, node_at}
-use Rattle.wac_graph_core.specs.Steps.{IsExternName, with_node}
+use Rattle.wac_graph_bytes.specs.declared.names.NameKind.{NameKind}
+use Rattle.wac_graph_bytes.specs.declared.names.NameKind.TheVariants as kind
+use Rattle.wac_graph_bytes.specs.ComponentNames.{IsName}
+use Rattle.wac_graph_core.specs.Steps.{with_node}
 
 -- the name of an import
 abbrev pub import_name_of : Option NodeData → Option Name
@@ -21,17 +24,26 @@ abbrev pub place_of : List (Name × ℕ) → Name → Option ℕ
 place_of [] n = None
 place_of (e ∷ es) n = if pointwise ◌==◌ n e.0 then Some 0 else option_map suc (place_of es n)
 
+-- exports have plain names, and names of interfaces
+abbrev pub IsExportKind : NameKind → Type 0
+IsExportKind kind.Plain = Unit {0}
+IsExportKind kind.Interface = Unit {0}
+IsExportKind k = ⊥
+
+abbrev pub IsExportName : Name → Type 0
+IsExportName n = (k : NameKind) × IsExportKind k × IsName k n
+
 -- a node is exported under a name that was free, and tells that name
 pub record Exports (old new : Graph) (k : ℕ) (n : Name) : Type 0 where
   pub none : value_at old.exports n ≡ None
-  pub valid : IsExternName n
+  pub valid : IsExportName n
   pub node : NodeData
   pub there : node_at old k ≡ Some node
   pub made : new ≡ record old { nodes = map.insert old.nodes k (record node { export = Some n }); exports = old.exports ++ (n, k) ∷ [] }
 
 abbrev pub ExportRefused : Graph → Name → ExportError → Type 0
 ExportRefused g n (ExportError.ExportAlreadyExists m k) = (string_bytes m ≡ n) × (value_at g.exports n ≡ Some k)
-ExportRefused g n (ExportError.InvalidExportName m source) = (string_bytes m ≡ n) × (value_at g.exports n ≡ None) × (IsExternName n → ⊥)
+ExportRefused g n (ExportError.InvalidExportName m source) = (string_bytes m ≡ n) × (value_at g.exports n ≡ None) × (IsExportName n → ⊥)
 ExportRefused g n ExportError.Memory = Unit {0}
 
 -- where the export stands that the node tells, if it tells one

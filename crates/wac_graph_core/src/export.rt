@@ -1,15 +1,17 @@
 //! Exports and the names of nodes.
 
 ghost use Rattle.std.specs.Prelude.{◌≡◌, ◌==◌, ◌<◌, None, Some, IfOk, IfErr, OnOk, OnErr, IfSome, IfNone, length, slice_get};
+ghost use Rattle.std.specs.Bool.{Decides};
 ghost use Rattle.std.specs.Option.{option_copied};
 ghost use Rattle.wac_types_base.specs.Entries.{value_at};
 ghost use Rattle.wac_graph_core.specs.Graph.{ContainsNode, node_at};
-ghost use Rattle.wac_graph_core.specs.Exporting.{Exports, IsTold, Unexports, Names, ExportRefused, UnexportRefused, place_of, import_name_of};
+ghost use Rattle.wac_graph_core.specs.Exporting.{IsExportName, Exports, IsTold, Unexports, Names, ExportRefused, UnexportRefused, place_of, import_name_of};
 
 use crate::errors::{ExportError, NameError, UnexportError};
-use crate::graph::{CompositionGraph, is_extern_name};
+use crate::graph::CompositionGraph;
 use crate::ids::NodeId;
-use std::alloc::AllocError;
+use std::alloc::{AllocError, Global};
+use wac_graph_bytes::{NameKind, component_name};
 use wac_types_base::Text;
 
 /// The node that is exported under a name.
@@ -36,7 +38,26 @@ fn place_of(exports: &[(Text, NodeId)], name: &str) -> Option<usize>
     None
 }
 
+/// Whether a text is the name of an export: a plain one, or that of an interface.
+fn is_export_name(alloc: Global, name: &str) -> Result<bool, AllocError>
+    ensures { IfOk result (λ yes. Decides yes (IsExportName name.now)) }
+{
+    match component_name(alloc, name)? {
+        Some(NameKind::Plain) => Ok(true),
+        Some(NameKind::Interface) => Ok(true),
+        Some(_) => Ok(false),
+        None => Ok(false),
+    }
+}
+
 impl CompositionGraph {
+    /// The exports, in order.
+    pub fn exports(&self) -> &[(Text, NodeId)]
+        ensures { result.now ≡ self.now.exports }
+    {
+        self.exports.as_slice()
+    }
+
     /// The node that is exported under a name.
     pub fn get_export(&self, name: &str) -> Option<NodeId>
         ensures { result ≡ value_at self.now.exports name.now }
@@ -58,7 +79,7 @@ impl CompositionGraph {
                 node: other,
             });
         }
-        let valid = is_extern_name(self.alloc, name)?;
+        let valid = is_export_name(self.alloc, name)?;
         if !valid {
             return Err(ExportError::InvalidExportName {
                 name: own,

@@ -79,6 +79,11 @@ impl CompositionGraph {
         let _ = &self.alloc;
     }
 
+    /// Where it takes memory from.
+    pub fn alloc(&self) -> Global {
+        self.alloc
+    }
+
     /// The collection of types.
     pub fn types(&self) -> &Types
         ensures { result.now ≡ self.now.types }

@@ -8,3 +8,9 @@ pub mod EntryLaws
 pub mod HandleLaws
 pub mod RootLaws
 pub mod ExportLaws
+pub mod KeptFits
+pub mod Closures
+pub mod OuterClasses
+pub mod Merged
+pub mod InsideLaws
+pub mod KnownLaws

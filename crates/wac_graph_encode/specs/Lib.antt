@@ -18,3 +18,4 @@ pub mod Lookups
 pub mod Scopes
 pub mod Faults
 pub mod Roots
+pub mod OuterLaws

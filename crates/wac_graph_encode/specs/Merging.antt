@@ -3,7 +3,7 @@ use Rattle.std.specs.Prelude.{Bool, true, false, not, ◌&&◌, ◌||◌, List, 
 use Rattle.std.specs.List.{flat_map, list_all, list_any}
 use Rattle.wac_types_base.specs.Entries.{Name, value_at}
 use Rattle.wac_types_base.specs.Collection.{Shape, interface, world, module_type, type_of, resource_alias, own_of, borrow_of}
-use Rattle.wac_types_base.specs.Stated.{Stated, Kind, IsFunction, IsResource, IsValueType, Parts, parts_at, Used, folded, any_place, kind_of, over, interface_of, as_type, exports_of, uses_of, identifier_of}
+use Rattle.wac_types_base.specs.Stated.{Stated, Kind, IsFunction, IsResource, IsValueType, IsInterface, Parts, parts_at, Used, folded, any_place, kind_of, over, interface_of, as_type, exports_of, uses_of, identifier_of}
 use Rattle.wac_graph_encode.specs.Names.{has_track}
 use Rattle.wac_graph_encode.specs.Tests.{same, fits}
 use Rattle.wac_graph_encode.specs.Classes.{is_instance}
@@ -101,12 +101,16 @@ abbrev pub if_kind : Bool → Option Stated → Option Stated
 if_kind true o = o
 if_kind false o = None
 
+abbrev pub is_interface : Kind → Bool
+is_interface IsInterface = true
+is_interface k = false
+
 abbrev pub same_tree_as : Stated → Merge
 same_tree_as x y = if_kind (fits x y && fits y x) (Some x)
 
 abbrev pub merge_at : Shape → List (Option (Stated × Merge)) → Merge
 merge_at (interface i us es) os y = if_kind (is_instance (kind_of y)) (merged_interface (parts_at (interface i us es) os) y)
-merge_at (type_of (interface i us es)) os y = option_map as_type (merged_interface (parts_at (interface i us es) os) y)
+merge_at (type_of (interface i us es)) os y = if_kind (is_interface (kind_of y)) (option_map as_type (merged_interface (parts_at (interface i us es) os) y))
 merge_at s os y = same_tree_as (rebuilt s os) y
 
 abbrev pub merge : Stated → Merge

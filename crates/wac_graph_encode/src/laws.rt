@@ -12,6 +12,7 @@ ghost use Rattle.wac_graph_encode.specs.Tests.{same_label, same_tree, fit};
 ghost use Rattle.wac_graph_encode.specs.Roots.{RootsRead};
 ghost use Rattle.wac_graph_encode.specs.Asks.{asks_of};
 ghost use Rattle.wac_graph_encode.specs.OuterImports.{outer_imports};
+ghost use Rattle.wac_graph_encode.specs.OuterLaws.{Kept_fits, Outer_fits, Asks_are_met, Accepted_are_met, Outers_are_apart};
 ghost use Rattle.wac_graph_encode.specs.Conflicts.{ImplicitImport, ExplicitImport, ImportTypes, Unwritable, ImportNames, first_cause, name_cause, dependencies_of};
 ghost use Rattle.wac_graph_encode.specs.Worlds.{composed_world};
 ghost use Rattle.wac_graph_encode.specs.Examples.{plain_func, named_instance, passing, older, newer, wider, using_types, types, one_instance, two_versions, clashing_versions, clashing_imports, one_identifier, used_interface, asked_twice, alike_names, nameless_resource, asked_value, twice_made};
@@ -36,6 +37,17 @@ pub fn types_at_the_root()
 pub fn names_are_compatible()
     ensures compatible { (m n : Name) → compatible m n ≡ true → AreCompatible m n }
     ensures later { (m n : Name) → is_later m n ≡ true → IsLater m n }
+{}
+
+/// What several asks of one outer import keep fits each of them, and so does the outer import of a
+/// class. Each ask whose class merges finds it under the spelling of its name; where nothing stands
+/// against a composition, that is each of its asks. No two outer imports have names on one track.
+pub fn outer_imports_fit()
+    ensures kept { Kept_fits }
+    ensures outer { Outer_fits }
+    ensures met { Asks_are_met }
+    ensures accepted { Accepted_are_met }
+    ensures apart { Outers_are_apart }
 {}
 
 /// Compositions from outside: what they import, and why some cannot be written.

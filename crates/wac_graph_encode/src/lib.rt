@@ -1,9 +1,13 @@
 //! The bytes and the world of a composition graph.
 #![tactic(auto)]
 
+mod core_items;
 mod entry;
 pub mod fault;
+pub mod imports;
+pub mod items;
 mod laws;
+pub mod parts;
 pub mod scope;
 mod value;
 

@@ -13,14 +13,14 @@ ghost use Rattle.wac_graph_bytes.specs.declared.value.ValueType.TheVariants.{Ind
 ghost use Rattle.wac_graph_bytes.specs.Typing.{Worlds, Scope, Inside, nothing_inside, defined, type_at, value_of, as_func};
 ghost use Rattle.wac_graph_bytes.specs.Views.{defined_view};
 ghost use Rattle.wac_graph_encode.specs.Lookups.{first_known, first_resource};
-ghost use Rattle.wac_graph_encode.specs.Scopes.{IsScope, AnswersType, Exports, ExportsType};
+ghost use Rattle.wac_graph_encode.specs.Scopes.{IsScope, IsKnown, AnswersType, Exports, ExportsType};
 
 use std::alloc::{AllocError, Global};
 use wac_graph_bytes::{Declaration, DefinedType, Description, SizeError};
 use wac_types_base::{DefinedTypeId, Text};
 
 /// A type of a collection that is written, and its index.
-#[derive(Drop)]
+#[derive(Clone, Copy)]
 pub struct KnownType {
     pub id: DefinedTypeId,
     pub index: u32,
@@ -42,7 +42,7 @@ pub struct TypeScope {
     pub resources: Vec<KnownResource>,
 }
 
-fn next_of(count: u32) -> Result<u32, SizeError>
+pub(crate) fn next_of(count: u32) -> Result<u32, SizeError>
     ensures ok { IfOk result (λ i. i ≡ count + 1) }
     ensures full { IfErr result (λ e. (e ≡ TooLarge) × (count ≡ 4294967295)) }
 {
@@ -131,11 +131,27 @@ impl TypeScope {
         Ok(())
     }
 
+    /// Remembers the index of a resource.
+    pub fn add_resource(&mut self, name: Text, index: u32) -> Result<(), AllocError> {
+        self.resources.push(KnownResource { name, index })?;
+        Ok(())
+    }
+
     /// The index of a type that is written already.
     pub fn known(&self, id: DefinedTypeId) -> Option<u32>
         ensures { (w : Worlds) (c : Collection) (outer : List Scope) (i : Inside) → IsScope w c outer i self.now → IfSome result (λ k. value_of w (i.here ∷ outer) (Index k) ≡ Some (tree_in c (ItemKind.Value (ValueType.Defined id)))) }
     {
         find_known(self.known.as_slice(), id)
+    }
+
+    /// What is remembered at a place.
+    pub(crate) fn known_at(&self, at: usize) -> Option<KnownType>
+        ensures { (w : Worlds) (c : Collection) (outer : List Scope) (i : Inside) → IsScope w c outer i self.now → IfSome result (IsKnown w (i.here ∷ outer) c) }
+    {
+        match self.known.get(at) {
+            Some(known) => Some(*known),
+            None => None,
+        }
     }
 
     /// The index of a resource that stands here.

@@ -1,6 +1,6 @@
 //! Types of values and functions in a scope of written types.
 
-ghost use Rattle.std.specs.Prelude.{◌≡◌, ◌∷◌, List, Some, IfOk};
+ghost use Rattle.std.specs.Prelude.{◌≡◌, ◌∷◌, List, Some, IfOk, IfSome, true};
 ghost use Rattle.wac_types_base.specs.declared.item.ItemKind.{ItemKind};
 ghost use Rattle.wac_types_base.specs.declared.item.ValueType.{ValueType};
 ghost use Rattle.wac_types_base.specs.declared.item.«Type».{«Type» as TypeKind};
@@ -8,9 +8,10 @@ ghost use Rattle.wac_types_base.specs.Entries.{Name};
 ghost use Rattle.wac_types_base.specs.Collection.{Stands, resource};
 ghost use Rattle.wac_types_base.specs.Resolving.{IsNoAlias};
 ghost use Rattle.wac_types_base.specs.Tree.{rigid, end};
-ghost use Rattle.wac_types_fit.specs.Trees.{tree_in};
+ghost use Rattle.wac_types_fit.specs.Trees.{tree_in, Fit};
 ghost use Rattle.wac_types_fit.specs.Checking.{value_in, HoldsValues, ValueStands, value_tree, place_trees};
-ghost use Rattle.wac_graph_bytes.specs.Typing.{Worlds, Scope, Inside, type_at};
+ghost use Rattle.wac_graph_bytes.specs.declared.value.ValueType.TheVariants.{Index};
+ghost use Rattle.wac_graph_bytes.specs.Typing.{Worlds, Scope, Inside, type_at, value_of};
 ghost use Rattle.wac_graph_encode.specs.Scopes.{IsScope, AnswersType, AnswersValue, AnswersPlace, AnswersPlaces};
 
 use crate::entry::{entry_of, func_entry_of};
@@ -19,6 +20,7 @@ use crate::scope::TypeScope;
 use std::alloc::Global;
 use wac_graph_bytes::{DefinedType as TypeEntry, ValueType as Written};
 use wac_types_base::{DefinedTypeId, FuncTypeId, ItemKind, ResourceId, Types, ValueType};
+use wac_types_fit::{SubtypeChecker, SubtypeError, new_cache};
 
 /// The index of a resource in the scope.
 fn resource_of(scope: &TypeScope, types: &Types, id: ResourceId) -> Result<u32, WriteError>
@@ -100,6 +102,105 @@ fn push_resolved(
     }
 }
 
+/// Whether an item fits another. What does not stand fits nothing.
+pub(crate) fn fits_in(
+    alloc: Global,
+    types: &Types,
+    a: ItemKind,
+    b: ItemKind,
+) -> Result<bool, WriteError>
+    ensures fits { IfOk result (λ yes. yes ≡ true → Fit types.now a types.now b) }
+    ensures stands { IfOk result (λ yes. yes ≡ true → Stands types.now a) }
+{
+    if !types.has(a) || !types.has(b) {
+        return Ok(false);
+    }
+    let mut cache = new_cache(alloc);
+    let mut checker = SubtypeChecker::new(alloc, &mut cache);
+    match checker.is_subtype(a, types, b, types) {
+        Ok(()) => Ok(true),
+        Err(SubtypeError::Memory) => Err(WriteError::Memory),
+        Err(_) => Ok(false),
+    }
+}
+
+/// The index of a type that is written and equal.
+fn equal_index(
+    alloc: Global,
+    scope: &TypeScope,
+    types: &Types,
+    id: DefinedTypeId,
+) -> Result<Option<u32>, WriteError>
+    ensures { (w : Worlds) (outer : List Scope) (i : Inside) → IsScope w types.now outer i scope.now → IfOk result (λ o. IfSome o (λ k. value_of w (i.here ∷ outer) (Index k) ≡ Some (tree_in types.now (ItemKind.Value (ValueType.Defined id))))) }
+{
+    types.see_acyclic();
+    for at in 0..scope.known.len() {
+        if let Some(other) = scope.known_at(at) {
+            let own = ItemKind::Value(ValueType::Defined(other.id));
+            let kind = ItemKind::Value(ValueType::Defined(id));
+            if fits_in(alloc, types, own, kind)? {
+                return Ok(Some(other.index));
+            }
+        }
+    }
+    Ok(None)
+}
+
+/// The index of a type that is written already, or of one that is equal.
+fn known_index(
+    alloc: Global,
+    scope: &TypeScope,
+    types: &Types,
+    id: DefinedTypeId,
+) -> Result<Option<u32>, WriteError>
+    ensures { (w : Worlds) (outer : List Scope) (i : Inside) → IsScope w types.now outer i scope.now → IfOk result (λ o. IfSome o (λ k. value_of w (i.here ∷ outer) (Index k) ≡ Some (tree_in types.now (ItemKind.Value (ValueType.Defined id))))) }
+{
+    match scope.known(id) {
+        Some(index) => Ok(Some(index)),
+        None => equal_index(alloc, scope, types, id),
+    }
+}
+
+/// The index of a type entry that is a value type. A defined type that is not written yet is not remembered.
+pub(crate) fn define_value(
+    alloc: Global,
+    scope: &mut TypeScope,
+    types: &Types,
+    ty: ValueType,
+) -> Result<u32, WriteError> {
+    if !types.has(ItemKind::Value(ty)) {
+        return Err(WriteError::Unwritable);
+    }
+    match types.resolve_value_type(ty) {
+        ValueType::Defined(id) => define_once(alloc, scope, types, id),
+        end => match push_value(alloc, scope, types, end)? {
+            Written::Index(index) => Ok(index),
+            Written::Primitive(p) => Ok(scope.define(TypeEntry::Primitive(p))?),
+        },
+    }
+}
+
+/// The same of a defined type that is no alias.
+fn define_once(
+    alloc: Global,
+    scope: &mut TypeScope,
+    types: &Types,
+    id: DefinedTypeId,
+) -> Result<u32, WriteError> {
+    let kind = ItemKind::Value(ValueType::Defined(id));
+    if !types.has(kind) {
+        return Err(WriteError::Unwritable);
+    }
+    let known = known_index(alloc, scope, types, id)?;
+    if let Some(index) = known {
+        return Ok(index);
+    }
+    let ty = types.defined_type(id);
+    let places = push_places(alloc, scope, types, kind)?;
+    let entry = entry_of(alloc, ty, places.as_slice())?;
+    Ok(scope.define(entry)?)
+}
+
 /// The same of a defined type: written once.
 #[cycle(values)]
 fn push_defined(
@@ -113,7 +214,8 @@ fn push_defined(
     ensures { (w : Worlds) (outer : List Scope) (i : Inside) → IsScope w types.now outer i scope.old → IfOk result (λ b. AnswersValue w types.now outer i (tree_in types.now (ItemKind.Value (ValueType.Defined id))) scope.new b) }
 {
     types.see_acyclic();
-    if let Some(index) = scope.known(id) {
+    let known = known_index(alloc, scope, types, id)?;
+    if let Some(index) = known {
         return Ok(Written::Index(index));
     }
     let ty = types.defined_type(id);

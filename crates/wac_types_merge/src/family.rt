@@ -33,7 +33,7 @@ pub struct Import {
 }
 
 /// The family of what is asked twice.
-pub(crate) fn joint_family(a: Family, b: Family) -> Family
+pub fn joint_family(a: Family, b: Family) -> Family
     ensures { result ≡ joint a b }
 {
     match a {
@@ -281,7 +281,7 @@ fn is_wit(types: &Types, name: &str, kind: ItemKind) -> bool
 }
 
 /// The family of an ask.
-pub(crate) fn family_of(types: &Types, name: &str, kind: ItemKind) -> Family
+pub fn family_of(types: &Types, name: &str, kind: ItemKind) -> Family
     requires { Stands types.now kind }
     ensures { IsFamily types.now name.now kind result }
 {

@@ -82,7 +82,7 @@ fn is_on_track(alloc: Global, name: &str) -> Result<bool, AllocError>
 }
 
 /// The item, where it is an instance under this identifier.
-fn spelled(
+pub fn spelled(
     alloc: Global,
     own: &mut Types,
     kind: ItemKind,
@@ -103,7 +103,7 @@ fn spelled(
 }
 
 /// What is kept of two items: of one family their greatest common item, else the narrower.
-fn kept_of(
+pub fn kept_of(
     alloc: Global,
     own: &mut Types,
     family: Family,

@@ -11,4 +11,5 @@ mod narrower;
 
 pub use aggregator::{TypeAggregator, aggregate_all};
 pub use errors::AggregateError;
-pub use family::{Family, Import};
+pub use family::{Family, Import, family_of, joint_family};
+pub use imports::{kept_of, spelled};

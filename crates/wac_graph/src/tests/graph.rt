@@ -289,6 +289,30 @@ fn exports_once(rt: HostRuntime) -> Result<(), Fail> {
     Ok(())
 }
 
+/// Whether an export is refused for its name.
+fn is_refused_name(answer: Result<(), ExportError>, name: &str) -> bool {
+    match answer {
+        Err(ExportError::InvalidExportName { name: own, .. }) => own.as_str() == name,
+        _ => false,
+    }
+}
+
+#[test]
+fn exports_under_plain_and_interface_names(rt: HostRuntime) -> Result<(), Fail> {
+    let alloc = rt.alloc();
+    let mut g = CompositionGraph::new(alloc, 1);
+    let a = import(&rt, &mut g, "unlocked-dep=<a:b>", NamedMap::new(alloc))?;
+    for name in ["unlocked-dep=<a:b>", "url=<a>", "integrity=<a>", "F!", ""] {
+        let answer = export(&rt, &mut g, a, name);
+        assert!(rt; is_refused_name(answer, name));
+    }
+    export(&rt, &mut g, a, "a:b/c@0.2.0")?;
+    export(&rt, &mut g, a, "[method]a.b")?;
+    assert_eq!(rt; g.get_export("a:b/c@0.2.0"), Some(a));
+    assert_eq!(rt; g.get_export("url=<a>"), None);
+    Ok(())
+}
+
 #[test]
 fn exports_under_two_names(rt: HostRuntime) -> Result<(), Fail> {
     let alloc = rt.alloc();

@@ -1,4 +1,5 @@
-use Rattle.std.proofs.Common.{◌+◌, ◌<◌, Some, take, refl, sym, ap, subst, ◌∙◌, arith}
+use Rattle.std.proofs.Common.{◌≡◌, ◌∷◌, ◌+◌, ◌<◌, Some, take, refl, sym, ap, subst, ◌∙◌, arith}
+use Rattle.std.specs.Prelude.{IfSome}
 use Rattle.wac_types_base.specs.declared.item.ItemKind.{ItemKind}
 use Rattle.wac_types_base.specs.declared.item.ValueType.{ValueType}
 use Rattle.wac_types_base.specs.Collection.{Stands, size_of, slots_of}
@@ -9,6 +10,7 @@ use Rattle.wac_types_fit.specs.Checking.{ValueStands, value_tree, place_trees}
 use Rattle.wac_types_fit.proofs.Unfolded.{same_tree, end_no_alias, end_smaller, primitive_tree}
 use Rattle.wac_types_fit.proofs.ValueTrees.{place_size, place_inside, defined_holds}
 use Rattle.wac_graph_bytes.specs.declared.value.ValueType.TheVariants.{Primitive, Index}
+use Rattle.wac_graph_bytes.specs.Typing.{value_of}
 use Rattle.wac_graph_encode.specs.Forms.{entry_of}
 use Rattle.wac_graph_encode.specs.Scopes.{AnswersPlaces}
 use Rattle.wac_graph_encode.proofs.ValueLaws.{value_of_tree, value_there, value_written, places_none, places_next, trees_next, trees_all}
@@ -68,7 +70,8 @@ push_defined-push_places-requires t c =
 pub push_defined-returns-in-Some : goal.push_defined-returns-in-Some
 push_defined-returns-in-Some t c w outer i h =
     let types = c.args.types.now in
-    value_there w types outer i (tree_in types (ItemKind.Value (ValueType.Defined c.args.id))) c.args.scope.now (Index c.in-Some.index) h (c.in-Some.ensures w types outer i h)
+    value_there w types outer i (tree_in types (ItemKind.Value (ValueType.Defined c.args.id))) c.args.scope.now (Index c.in-Some.index) h
+    (subst (λ o. IfSome o (λ k. value_of w (i.here ∷ outer) (Index k) ≡ Some (tree_in types (ItemKind.Value (ValueType.Defined c.args.id))))) c.in-Some.is (c.in_ok-known.ensures w outer i h))
 
 pub push_defined-returns : goal.push_defined-returns
 push_defined-returns t c w outer i h =

@@ -1,0 +1,27 @@
+//! The bytes and the world of a composition graph.
+#![tactic(auto)]
+
+mod asks;
+mod classes;
+mod conflicts;
+mod copies;
+pub mod encode;
+pub mod errors;
+mod holder;
+mod instances;
+mod modules;
+mod nodes;
+pub mod options;
+mod outers;
+mod root;
+mod world;
+mod writable;
+mod written;
+
+pub use encode::EncodeGraph;
+pub use errors::{EncodeError, ValidationFault};
+pub use options::{EncodeOptions, Encoded};
+pub use wac_graph_bytes::Processor;
+
+#[cfg(test)]
+mod tests;

@@ -1,0 +1,78 @@
+//! Nodes and packages of a graph, where they stand.
+
+ghost use Rattle.std.specs.Prelude.{◌≡◌, Some, IfSome};
+ghost use Rattle.wac_types_base.specs.declared.item.ItemKind.{ItemKind};
+ghost use Rattle.wac_types_base.specs.Collection.{Stands};
+
+use wac_graph_core::{CompositionGraph, Node, NodeId, PackageId};
+use wac_types_base::{ItemKind, WorldId};
+use wac_types_names::Package;
+
+pub(crate) fn node_at(graph: &CompositionGraph, id: NodeId) -> Option<&Node> {
+    if graph.contains_node(id) {
+        Some(&graph[id])
+    } else {
+        None
+    }
+}
+
+/// What a node is.
+pub(crate) fn kind_of(graph: &CompositionGraph, id: NodeId) -> Option<ItemKind>
+    ensures { IfSome result (Stands graph.now.types) }
+{
+    if graph.contains_node(id) {
+        graph.see_sound();
+        Some(graph[id].item_kind())
+    } else {
+        None
+    }
+}
+
+/// The name of a node that is an import.
+pub(crate) fn import_name(graph: &CompositionGraph, id: NodeId) -> Option<&str> {
+    match node_at(graph, id) {
+        Some(node) => node.import_name(),
+        None => None,
+    }
+}
+
+/// The package of a node that is an instance.
+pub(crate) fn package_of(graph: &CompositionGraph, id: NodeId) -> Option<PackageId> {
+    match node_at(graph, id) {
+        Some(node) => node.package(),
+        None => None,
+    }
+}
+
+pub(crate) fn package_at(graph: &CompositionGraph, id: PackageId) -> Option<&Package> {
+    if graph.contains_package(id) {
+        Some(&graph[id])
+    } else {
+        None
+    }
+}
+
+/// The world of a package.
+pub(crate) fn world_at(graph: &CompositionGraph, id: PackageId) -> Option<WorldId>
+    ensures { IfSome result (λ w. Stands graph.now.types (ItemKind.Component w)) }
+{
+    if graph.contains_package(id) {
+        graph.see_sound();
+        Some(graph[id].ty())
+    } else {
+        None
+    }
+}
+
+/// What is passed to an instance under a name.
+pub(crate) fn argument_at(graph: &CompositionGraph, id: NodeId, name: &str) -> Option<NodeId> {
+    if !graph.contains_node(id) {
+        return None;
+    }
+    for (own, argument) in graph.get_instantiation_arguments(id) {
+        if own == name {
+            return Some(argument);
+        }
+    }
+    None
+}

@@ -1,0 +1,10 @@
+pub mod Standing
+pub mod Carried
+pub mod Given
+pub mod Parts
+pub mod OneReading
+pub mod Found
+pub mod Good
+pub mod Listed
+pub mod Carry
+pub mod OneWorld

@@ -1,0 +1,5 @@
+pub mod Substitution
+pub mod Reading
+pub mod Given
+pub mod Steps
+pub mod Laws
