@@ -22,6 +22,3 @@ pub use encode::EncodeGraph;
 pub use errors::{EncodeError, ValidationFault};
 pub use options::{EncodeOptions, Encoded};
 pub use wac_graph_bytes::Processor;
-
-#[cfg(test)]
-mod tests;
