@@ -1,8 +1,5 @@
 //! The first language, over a workspace that holds `p:p` or nothing.
 
-mod graph_form_tests;
-mod graph_tests;
-mod graphs;
 mod memory;
 mod reader;
 mod reader_tests;

@@ -1,0 +1,165 @@
+-- The ascribed wiring is of packages handed in, and in order.
+use Rattle.std.specs.Prelude.{◌==◌, slice_get, option_map, is_some, if◌then◌else◌, IsSome}
+use Rattle.std.specs.Cmp.Lexicographic.{pointwise}
+use Rattle.std.proofs.Common.{◌≡◌, ℕ, zero, suc, ◌+◌, ◌<◌, List, [], ◌∷◌, map, Bool, true, false, Option, Some, None, Ok, length, refl, sym, ap, subst, ◌∙◌, arith}
+use Rattle.wac_types_base.specs.Entries.{Name, value_at}
+use Rattle.wac_types_base.specs.Stated.{Stated, imports_of}
+use Rattle.wac_types_names.specs.Keys.{Key}
+use Rattle.wac_graph_bytes.specs.Wirings.{Source, Absent, Outer, Inst, Projection, Bundle, Definition, project, Uses, Instantiation, Wiring, IsOrdered}
+use Rattle.wac_graph_encode.specs.Asks.{Ask, asks_of}
+use Rattle.wac_graph_encode.specs.Worlds.{source_of}
+use Rattle.wac_graph_encode.specs.Composition as c
+use Rattle.wac_graph_encode.specs.Composition.{Composition}
+use Rattle.wac_graph_encode.specs.Conflicts.{first_cause, name_cause}
+use Rattle.wac_parser_tree.specs.Trees as t
+use Rattle.wac_parser_declare.specs.Causes.{Answer, ◌>>=◌, ◌>>◌, pure}
+use Rattle.wac_parser_declare.specs.Scope.{world_under}
+use Rattle.wac_parser_resolve.specs.Ascribing.{Origin, imported, instance, projected, defined, Denoted, Made, Bound, State}
+use Rattle.wac_parser_resolve.specs.Saying.{statements}
+use Rattle.wac_parser_resolve.specs.Meeting.{target, resolved}
+use Rattle.wac_parser_resolve.specs.Ascribed.{Asker, origin_in, argument_in, made_in, numbered, exported_in, composition, unless_cause, ascribed, source_for, argument_source, instantiated_in, export_source, ascribed_wiring}
+use Rattle.wac_parser_resolve.specs.Laws.{Packages_are_known, Wirings_are_ordered}
+use Rattle.wac_parser_resolve.proofs.Answers.{ok_of, then_ok, ok_is}
+use Rattle.wac_parser_resolve.proofs.Numbers.{some_is, none_is, Below, slice_below, slice_there}
+use Rattle.wac_parser_resolve.proofs.Sound.{Sound, statements_sound}
+
+-- ---- the instances with their numbers
+
+pub record IsNumbered (ds : List (Name × Stated)) (ms : List Made) (k : ℕ) (x : c.Made Asker ℕ) : Type 0 where
+  pub made : Made
+  pub there : slice_get ms k ≡ Some made
+  pub number : ℕ
+  pub is : x ≡ made_in ds number made
+
+numbered_is : (ds : List (Name × Stated)) (j : ℕ) (ms : List Made) (k : ℕ) (x : c.Made Asker ℕ) → slice_get (numbered ds j ms) k ≡ Some x → IsNumbered ds ms k x
+numbered_is ds j [] k x e = absurd (none_is e)
+numbered_is ds j (m ∷ ms) zero x e = record { made = m; there = refl; number = j; is = sym (some_is e) }
+numbered_is ds j (m ∷ ms) (suc k) x e =
+    let r = numbered_is ds (suc j) ms k x e in record { made = r.made; there = r.there; number = r.number; is = r.is }
+
+numbered_there : (ds : List (Name × Stated)) (j : ℕ) (ms : List Made) (k : ℕ) (m : Made) → slice_get ms k ≡ Some m → (x : c.Made Asker ℕ) × (slice_get (numbered ds j ms) k ≡ Some x)
+numbered_there ds j [] k m e = absurd (none_is e)
+numbered_there ds j (x ∷ ms) zero m e = (made_in ds j x, refl)
+numbered_there ds j (x ∷ ms) (suc k) m e = numbered_there ds (suc j) ms k m e
+
+-- ---- sources
+
+uses_project : {I : Type 0} (P : I → Type 0) (s : Source I) (n : Name) → Uses P s → Uses P (project s n)
+uses_project P Absent n u = tt
+uses_project P (Outer m) n u = tt
+uses_project P (Inst k) n u = u
+uses_project P (Projection s m) n u = u
+uses_project P (Bundle f) n u = u n
+uses_project P (Definition t) n u = tt
+
+module _ (P : ℕ → Type 0) (asks : List (Ask Asker)) (ds : List (Name × Stated)) where
+  origin_uses : (k : ℕ) → ((j : ℕ) → j < k → P j) → (o : Origin) → Below k o → Uses P (source_of asks (origin_in ds o))
+  origin_uses k h (imported n) b = tt
+  origin_uses k h (instance j) b = h j b
+  origin_uses k h (projected o n) b = uses_project P (source_of asks (origin_in ds o)) n (origin_uses k h o b)
+  origin_uses k h (defined n) b = go (value_at ds n)
+    where
+      go : (v : Option Stated) → Uses P (source_of asks (elim v [ None ↦ c.imported n | Some x ↦ c.defined x ]))
+      go None = tt
+      go (Some x) = tt
+
+-- what is passed under a name
+argument_is : (ds : List (Name × Stated)) (as_ : List (Name × Denoted)) (n : Name) → value_at (map (argument_in ds) as_) n ≡ option_map (λ (d : Denoted). origin_in ds d.origin) (value_at as_ n)
+argument_is ds [] n = refl
+argument_is ds (a ∷ as_) n = go (argument_is ds as_ n) (pointwise ◌==◌ n a.0)
+  where
+    go : value_at (map (argument_in ds) as_) n ≡ option_map (λ (d : Denoted). origin_in ds d.origin) (value_at as_ n) → (b : Bool)
+        → (if b then Some (origin_in ds a.1.origin) else value_at (map (argument_in ds) as_) n) ≡ option_map (λ (d : Denoted). origin_in ds d.origin) (if b then Some a.1 else value_at as_ n)
+    go rest true = refl
+    go rest false = rest
+
+-- what is exported under a name
+export_is : (ds : List (Name × Stated)) (es : List (Name × Bound)) (n : Name) → value_at (map (λ (e : Name × c.Origin ℕ × Stated). (e.0, e.1)) (map (exported_in ds) es)) n ≡ option_map (λ (b : Bound). origin_in ds b.denoted.origin) (value_at es n)
+export_is ds [] n = refl
+export_is ds (e ∷ es) n = go (export_is ds es n) (pointwise ◌==◌ n e.0)
+  where
+    go : value_at (map (λ (e : Name × c.Origin ℕ × Stated). (e.0, e.1)) (map (exported_in ds) es)) n ≡ option_map (λ (b : Bound). origin_in ds b.denoted.origin) (value_at es n) → (b : Bool)
+        → (if b then Some (origin_in ds e.1.denoted.origin) else value_at (map (λ (e : Name × c.Origin ℕ × Stated). (e.0, e.1)) (map (exported_in ds) es)) n) ≡ option_map (λ (b : Bound). origin_in ds b.denoted.origin) (if b then Some e.1 else value_at es n)
+    go rest true = refl
+    go rest false = rest
+
+-- ---- the wiring of what the statements say
+
+module _ (ps : List (Key × Stated)) (g : State) (sound : Sound ps g) (bytes_of : Key → List ℕ) where
+  abbrev x : Composition Asker ℕ
+  x = composition g
+
+  abbrev W : Wiring ℕ
+  W = ascribed_wiring bytes_of x
+
+  there : (j : ℕ) → j < length g.made → IsSome (W.at j)
+  there j h =
+      let m = slice_there g.made j h in
+      let r = numbered_there g.definitions zero g.made j m.0 m.1 in
+      subst (λ o. IsSome (option_map (instantiated_in bytes_of x) o)) (sym r.1) refl
+
+  abbrev Earlier : ℕ → ℕ → Type 0
+  Earlier k j = (j < k) × IsSome (W.at j)
+
+  args_earlier : (k : ℕ) → k < length g.made → (m : c.Made Asker ℕ) → IsNumbered g.definitions g.made k m → (n : Name) → Uses (Earlier k) (argument_source bytes_of x m n)
+  args_earlier k below m r n =
+      subst (λ (y : c.Made Asker ℕ). Uses (Earlier k) (argument_source bytes_of x y n)) (sym r.is) (imported_or (is_some (value_at (imports_of r.made.world) n)))
+    where
+      each : (j : ℕ) → j < k → Earlier k j
+      each j h = (h, there j (omega (arith, h, below)))
+
+      passed : (o : Option Denoted) → value_at r.made.arguments n ≡ o → Uses (Earlier k) (source_for bytes_of x (option_map (λ (d : Denoted). origin_in g.definitions d.origin) o) n)
+      passed None e = tt
+      passed (Some d) e = origin_uses (Earlier k) (asks_of x) g.definitions k each d.origin ((sound.made k r.made r.there).before n d e)
+
+      imported_or : (b : Bool) → Uses (Earlier k) (if b then source_for bytes_of x (value_at (map (argument_in g.definitions) r.made.arguments) n) n else Absent)
+      imported_or false = tt
+      imported_or true =
+          subst (λ o. Uses (Earlier k) (source_for bytes_of x o n)) (sym (argument_is g.definitions r.made.arguments n)) (passed (value_at r.made.arguments n) refl)
+
+  pub ordered_wiring : IsOrdered W
+  ordered_wiring = record {
+    args = λ k y e n. go k (slice_get (numbered g.definitions zero g.made) k) refl y e n;
+    exports = λ n. subst (λ o. Uses (λ j. IsSome (W.at j)) (export_source bytes_of x o)) (sym (export_is g.definitions g.exports n)) (exported n (value_at g.exports n) refl);
+  }
+    where
+      go : (k : ℕ) (o : Option (c.Made Asker ℕ)) → slice_get (numbered g.definitions zero g.made) k ≡ o → (y : Instantiation ℕ) → option_map (instantiated_in bytes_of x) o ≡ Some y → (n : Name) → Uses (Earlier k) (y.args n)
+      go k None q y e n = absurd (none_is e)
+      go k (Some m) q y e n =
+          let r = numbered_is g.definitions zero g.made k m q in
+          subst (λ (z : Instantiation ℕ). Uses (Earlier k) (z.args n)) (some_is e) (args_earlier k (slice_below g.made k r.made r.there) m r n)
+
+      exported : (n : Name) (o : Option Bound) → value_at g.exports n ≡ o → Uses (λ j. IsSome (W.at j)) (export_source bytes_of x (option_map (λ (b : Bound). origin_in g.definitions b.denoted.origin) o))
+      exported n None e = tt
+      exported n (Some b) e = origin_uses (λ j. IsSome (W.at j)) (asks_of x) g.definitions (length g.made) there b.denoted.origin (sound.exports n b e)
+
+-- ---- a document
+
+record Said (d : t.Document) (ps : List (Key × Stated)) (x : Composition Asker ℕ) : Type 0 where
+  state : State
+  sound : Sound ps state
+  is : x ≡ composition state
+
+said : (d : t.Document) (ps : List (Key × Stated)) (x : Composition Asker ℕ) → Ok x ≡ ascribed d ps → Said d ps x
+said d ps x e =
+    let r = ok_of (resolved d ps) _ x e in
+    let a = then_ok (unless_cause (first_cause true (composition r.0.0))) _ x r.2 in
+    let b = then_ok (unless_cause (name_cause true true (composition r.0.0))) _ x a in
+    let g = ok_of (statements d ps) _ r.0 (sym r.1) in
+    let w = ok_of (target g.0 d.directive.targets) _ r.0 g.2 in
+    let same : r.0 ≡ (g.0, w.0) = ok_is r.0 (g.0, w.0) w.2 in
+    record {
+      state = g.0;
+      sound = statements_sound ps d g.0 (sym g.1);
+      is = ok_is x (composition r.0.0) b ∙ ap (λ (q : State × Option Stated). composition q.0) same;
+    }
+
+pub ordered : Wirings_are_ordered
+ordered d ps x e bytes_of =
+    let s = said d ps x e in subst (λ (y : Composition Asker ℕ). IsOrdered (ascribed_wiring bytes_of y)) (sym s.is) (ordered_wiring ps s.state s.sound bytes_of)
+
+pub known : Packages_are_known
+known d ps x e k m q =
+    let s = said d ps x e in
+    let r = numbered_is s.state.definitions zero s.state.made k m (ap (λ (y : Composition Asker ℕ). slice_get y.made k) (sym s.is) ∙ q) in
+    subst (λ (y : c.Made Asker ℕ). world_under ps y.key ≡ Some y.world) (sym r.is) (s.sound.made k r.made r.there).known

@@ -1,0 +1,143 @@
+-- What a document ascribes over the packages handed in: its composition, or the first cause.
+use Rattle.std.specs.Prelude.{ℕ, suc, Bool, true, List, [], ◌∷◌, map, length, Option, Some, None, is_some, option_map, unwrap_or, slice_get, Ok, Err, ⊤, if◌then◌else◌}
+use Rattle.wac_types_base.specs.declared.item.ExternKind.{ExternKind}
+use Rattle.wac_types_base.specs.Entries.{Name, value_at}
+use Rattle.wac_types_base.specs.Stated.{Stated, imports_of}
+use Rattle.wac_types_base.specs.Tree.{tree}
+use Rattle.wac_types_names.specs.Keys.{Key}
+use Rattle.wac_graph_bytes.specs.Wirings.{Source, Absent, Outer, OfBytes, Instantiation, Wiring}
+use Rattle.wac_graph_encode.specs.Asks.{asks_of}
+use Rattle.wac_graph_encode.specs.Classes.{spelling}
+use Rattle.wac_graph_encode.specs.OuterImports.{outer_imports}
+use Rattle.wac_graph_encode.specs.Worlds.{source_of}
+use Rattle.wac_graph_encode.specs.Composition as c
+use Rattle.wac_graph_encode.specs.Composition.{Composition, Placed}
+use Rattle.wac_graph_encode.specs.Conflicts as cause
+use Rattle.wac_graph_encode.specs.Conflicts.{first_cause, name_cause}
+use Rattle.wac_parser_tree.specs.Trees as t
+use Rattle.wac_parser_tree.specs.Trees.{Span}
+use Rattle.wac_parser_declare.specs.Causes.{Answer, Cause, Fault, ◌>>=◌, ◌>>◌, pure, ImportConflict, ExplicitImportConflict, InstantiationArgMergeFailure, TypeCannotBeWritten, ValidationFailure}
+use Rattle.wac_parser_resolve.specs.Ascribing.{Origin, imported, instance, projected, defined, Denoted, Made, Import, Bound, State, own_name}
+use Rattle.wac_parser_resolve.specs.Meeting.{resolved}
+
+-- ---- the composition that the statements say
+
+-- who asks: an import statement, or a `new`, with the package that it names
+pub data Asker : Type 0 where
+  by_import : Import → Asker
+  by_instance : Key → Span → Asker
+  by_definition : Asker
+
+-- a definition is the item of that name
+abbrev pub origin_in : List (Name × Stated) → Origin → c.Origin ℕ
+origin_in ds (imported n) = c.imported n
+origin_in ds (instance k) = c.instance k
+origin_in ds (projected o n) = c.projected (origin_in ds o) n
+origin_in ds (defined n) = elim (value_at ds n) [ None ↦ c.imported n | Some x ↦ c.defined x ]
+
+abbrev pub argument_in : List (Name × Stated) → Name × Denoted → Name × c.Origin ℕ
+argument_in ds a = (a.0, origin_in ds a.1.origin)
+
+abbrev pub made_in : List (Name × Stated) → ℕ → Made → c.Made Asker ℕ
+made_in ds k m = record {
+  by = by_instance m.key m.span;
+  number = k;
+  key = m.key;
+  world = m.world;
+  arguments = map (argument_in ds) m.arguments;
+}
+
+-- with numbers from k on
+abbrev pub numbered : List (Name × Stated) → ℕ → List Made → List (c.Made Asker ℕ)
+numbered ds k [] = []
+numbered ds k (m ∷ ms) = made_in ds k m ∷ numbered ds (suc k) ms
+
+abbrev pub placed_import : Import → Placed Asker
+placed_import i = record { by = by_import i; name = i.name; item = i.item }
+
+abbrev pub placed_definition : Name × Stated → Placed Asker
+placed_definition d = record { by = by_definition; name = d.0; item = d.1 }
+
+abbrev pub alias_in : Denoted → Name × Stated
+alias_in d = (unwrap_or (own_name d.origin) [], d.item)
+
+abbrev pub exported_in : List (Name × Stated) → Name × Bound → Name × c.Origin ℕ × Stated
+exported_in ds e = (e.0, origin_in ds e.1.denoted.origin, e.1.denoted.item)
+
+abbrev pub composition : State → Composition Asker ℕ
+composition g = record {
+  imports = map placed_import g.imports;
+  made = numbered g.definitions 0 g.made;
+  definitions = map placed_definition g.definitions;
+  aliases = map alias_in g.aliases;
+  exports = map (exported_in g.definitions) g.exports;
+}
+
+-- ---- why it cannot be written, as the document's fault
+
+abbrev pub asker_span : Asker → Option Span
+asker_span (by_import i) = Some i.span
+asker_span (by_instance k s) = Some s
+asker_span by_definition = None
+
+abbrev pub span_or_none : Option Span → Span
+span_or_none None = record { offset = 0; length = 0 }
+span_or_none (Some s) = s
+
+-- the identifier of an import statement, else the package that a `new` names
+abbrev pub merge_span : Asker → Option Span
+merge_span (by_import i) = Some i.id_span
+merge_span (by_instance k s) = Some s
+merge_span by_definition = None
+
+abbrev pub asker_key : Asker → Key
+asker_key (by_instance k s) = k
+asker_key a = ([], None)
+
+abbrev pub cause_said : cause.Cause Asker → Cause
+cause_said (cause.ImplicitImport n i f) = record { fault = ImportConflict n (asker_key f) (span_or_none (asker_span f)); span = asker_span i }
+cause_said (cause.ExplicitImport n a b) = record { fault = ExplicitImportConflict n (span_or_none (asker_span a)); span = asker_span b }
+cause_said (cause.ImportTypes n a b) = record { fault = InstantiationArgMergeFailure n (span_or_none (merge_span a)); span = merge_span b }
+cause_said (cause.Unwritable n) = record { fault = TypeCannotBeWritten n; span = None }
+cause_said (cause.ImportNames m n) = record { fault = ValidationFailure ExternKind.Import m n; span = None }
+cause_said (cause.ExportNames m n) = record { fault = ValidationFailure ExternKind.Export m n; span = None }
+
+abbrev pub unless_cause : Option (cause.Cause Asker) → Answer ⊤
+unless_cause None = pure tt
+unless_cause (Some x) = Err (cause_said x)
+
+-- ---- a document
+
+-- what a document composes with components defined, or the first cause
+abbrev pub ascribed : t.Document → List (Key × Stated) → Answer (Composition Asker ℕ)
+ascribed d ps = do
+  r ← resolved d ps
+  unless_cause (first_cause true (composition r.0))
+  unless_cause (name_cause true true (composition r.0))
+  pure (composition r.0)
+
+-- ---- the wiring
+
+module _ {A : Type 0} (bytes_of : Key → List ℕ) (x : Composition A ℕ) where
+  -- each import of its world: the argument's source, or the outer import of its class
+  abbrev pub source_for : Option (c.Origin ℕ) → Name → Source ℕ
+  source_for None n = Outer (spelling (asks_of x) n)
+  source_for (Some o) n = source_of (asks_of x) o
+
+  abbrev pub argument_source : c.Made A ℕ → Name → Source ℕ
+  argument_source m n = if is_some (value_at (imports_of m.world) n) then source_for (value_at m.arguments n) n else Absent
+
+  abbrev pub instantiated_in : c.Made A ℕ → Instantiation ℕ
+  instantiated_in m = record { tag = OfBytes (bytes_of m.key); args = argument_source m }
+
+  abbrev pub export_source : Option (c.Origin ℕ) → Source ℕ
+  export_source None = Absent
+  export_source (Some o) = source_of (asks_of x) o
+
+  -- the wiring that is composed, where these are the bytes of the packages
+  abbrev pub ascribed_wiring : Wiring ℕ
+  ascribed_wiring = record {
+    outers = λ n. option_map tree (value_at (outer_imports (asks_of x)) n);
+    at = λ k. option_map instantiated_in (slice_get x.made k);
+    exports = λ n. export_source (value_at (map (λ e. (e.0, e.1)) x.exports) n);
+  }

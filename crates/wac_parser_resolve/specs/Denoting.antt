@@ -1,0 +1,203 @@
+-- What expressions denote. Each makes its instances, in the order in which they are complete.
+use Rattle.std.specs.Prelude.{ℕ, Bool, true, false, not, ◌&&◌, List, [], ◌∷◌, ◌++◌, map, length, Option, Some, None, is_some, filter, find, ⊤, bytes_eq, unwrap_or, if◌then◌else◌}
+use Rattle.wac_types_base.specs.Entries.{Name, value_at, names_of, has_name}
+use Rattle.wac_types_base.specs.Stated.{Stated, Kind, IsInstance, kind_of, desc, exports_of, imports_of, identifier_of, instance_type}
+use Rattle.wac_types_names.specs.Keys.{Key}
+use Rattle.wac_graph_encode.specs.Tests.{fits}
+use Rattle.wac_graph_encode.specs.Written.{written_definition}
+use Rattle.wac_parser_tree.specs.Trees as t
+use Rattle.wac_parser_tree.specs.Trees.{Span}
+use Rattle.wac_parser_declare.specs.declared.error.InstanceOperation.{InstanceOperation}
+use Rattle.wac_parser_declare.specs.Causes.{Answer, ◌>>=◌, ◌>>◌, pure, refuse, unless_clear, present, each, UnknownPackage, NotAnInstance, MissingInstanceExport, MissingComponentImport, MismatchedInstantiationArg, DuplicateInstantiationArg, MissingInstantiationArg, FillArgumentNotLast, SpreadInstantiationNoMatch}
+use Rattle.wac_parser_declare.specs.Scope.{world_of_package}
+use Rattle.wac_parser_resolve.specs.Matching.{matched}
+use Rattle.wac_parser_resolve.specs.Ascribing.{Origin, imported, instance, projected, defined, Denoted, Made, State, denoted_by, projection, own_name, speak_of, speak_of_all}
+
+abbrev pub is_instance : Kind → Bool
+is_instance IsInstance = true
+is_instance k = false
+
+-- an operation asks for an instance
+abbrev pub needs_instance : Denoted → InstanceOperation → Span → Answer ⊤
+needs_instance d o s = unless_clear (not (is_instance (kind_of d.item))) (NotAnInstance (desc d.item) o) s
+
+-- ---- accesses
+
+abbrev pub export_by : Denoted → Name → Option Stated → Span → Answer Denoted
+export_by d n None s = refuse (MissingInstanceExport n) s
+export_by d n (Some x) s = pure (projection d n x)
+
+abbrev pub export_named : Denoted → Name → Span → Answer Denoted
+export_named d n s = export_by d n (value_at (exports_of d.item) n) s
+
+-- by the only matching name, or by a text exactly
+abbrev pub access_by : Denoted → t.PostfixExpr → Answer Denoted
+access_by d (t.PostfixExpr.access a) = export_named d (matched a.id.string (names_of (exports_of d.item))) a.span
+access_by d (t.PostfixExpr.named_access a) = export_named d a.string.value a.span
+
+abbrev pub postfix_span : t.PostfixExpr → Span
+postfix_span (t.PostfixExpr.access a) = a.span
+postfix_span (t.PostfixExpr.named_access a) = a.span
+
+-- one behind the other; a refusal stands at what is no instance
+abbrev pub accesses : Span → Denoted → List t.PostfixExpr → Answer Denoted
+accesses before d [] = pure d
+accesses before d (p ∷ ps) = needs_instance d InstanceOperation.Access before >> (access_by d p >>= λ e. accesses (postfix_span p) e ps)
+
+-- ---- arguments
+
+-- what is given for an import, and where that is written
+pub record Given : Type 0 where
+  pub name : Name
+  pub denoted : Denoted
+  pub span : Span
+
+abbrev pub given_names : List Given → List Name
+given_names gs = map (λ (g : Given). g.name) gs
+
+abbrev pub denoted_in : List Given → List Denoted
+denoted_in gs = map (λ (g : Given). g.denoted) gs
+
+abbrev pub add_given : List Given → Given → Answer (List Given)
+add_given gs g = unless_clear (has_name (given_names gs) g.name) (DuplicateInstantiationArg g.name) g.span >> pure (gs ++ g ∷ [])
+
+abbrev pub instance_identifier : Kind → Stated → Option Name
+instance_identifier IsInstance x = identifier_of x
+instance_identifier k x = None
+
+abbrev pub if_among : List Name → Option Name → Option Name
+if_among ns None = None
+if_among ns (Some n) = if has_name ns n then Some n else None
+
+abbrev pub or_else : {A : Type 0} → Option A → Option A → Option A
+or_else (Some x) o = Some x
+or_else None o = o
+
+-- the import that an argument without a name is for
+abbrev pub inferred_name : List Name → t.Ident → Denoted → Name
+inferred_name ns i d = unwrap_or
+    (or_else (if_among ns (instance_identifier (kind_of d.item) d.item)) (if_among ns (own_name d.origin)))
+    (matched i.string ns)
+
+abbrev pub argument_name : List Name → t.InstantiationArgumentName → Name
+argument_name ns (t.InstantiationArgumentName.ident i) = matched i.string ns
+argument_name ns (t.InstantiationArgumentName.string x) = x.value
+
+abbrev pub argument_span : t.InstantiationArgumentName → Span
+argument_span (t.InstantiationArgumentName.ident i) = i.span
+argument_span (t.InstantiationArgumentName.string x) = x.span
+
+-- ---- spreads
+
+-- the imports not yet named that the instance exports exactly
+abbrev pub left_names : List Given → List Name → Stated → List Name
+left_names gs ns x = filter (λ n. not (has_name (given_names gs) n) && is_some (value_at (exports_of x) n)) ns
+
+abbrev pub spread_given : Span → Denoted → List Given → Name → Answer (List Given)
+spread_given s d gs n = export_named d n s >>= λ e. pure (gs ++ record { name = n; denoted = e; span = s } ∷ [])
+
+abbrev pub spread_all : Span → Denoted → List Given → List Name → Answer (List Given)
+spread_all s d gs [] = refuse SpreadInstantiationNoMatch s
+spread_all s d gs (n ∷ ns) = each (spread_given s d) gs (n ∷ ns)
+
+abbrev pub spread_one : State → List Name → List Given → t.Ident → Answer (List Given)
+spread_one g ns gs i = do
+  d ← denoted_by g i
+  needs_instance d InstanceOperation.Spread i.span
+  spread_all i.span d gs (left_names gs ns d.item)
+
+abbrev pub spreads_of : t.Arguments → List t.Ident
+spreads_of t.no_arguments = []
+spreads_of (t.argument (t.InstantiationArgument.spread i) as_) = i ∷ spreads_of as_
+spreads_of (t.argument a as_) = spreads_of as_
+
+-- ---- the instance
+
+-- a definition is compared as it is written
+abbrev pub compared_by : Origin → Stated → Stated
+compared_by (defined n) x = written_definition x
+compared_by o x = x
+
+-- an argument is of an import that the world has, and fits it
+abbrev pub argument_fits : Key → Stated → ⊤ → Given → Answer ⊤
+argument_fits k w u a = do
+  x ← present (value_at (imports_of w) a.name) (MissingComponentImport k.0 a.name) a.span
+  unless_clear (not (fits (compared_by a.denoted.origin a.denoted.item) x)) (MismatchedInstantiationArg a.name) a.span
+
+abbrev pub none_missing : t.PackageName → Option Name → Answer ⊤
+none_missing p None = pure tt
+none_missing p (Some n) = refuse (MissingInstantiationArg n p.string) p.span
+
+-- without `...` each import needs an argument
+abbrev pub complete : Bool → t.PackageName → List Given → List Name → Answer ⊤
+complete true p gs ns = pure tt
+complete false p gs ns = none_missing p (find (λ n. not (has_name (given_names gs) n)) ns)
+
+abbrev pub is_filled : t.Arguments → Bool
+is_filled t.no_arguments = false
+is_filled (t.argument (t.InstantiationArgument.fill s) as_) = true
+is_filled (t.argument a as_) = is_filled as_
+
+abbrev pub is_last : t.Arguments → Bool
+is_last t.no_arguments = true
+is_last (t.argument a as_) = false
+
+abbrev pub with_made : State → Made → State × Denoted
+with_made g m = (record g { made = g.made ++ m ∷ [] }, record { origin = instance (length g.made); item = instance_type m.world })
+
+-- the arguments of a `new` and its spreads are known: the instance
+abbrev pub finished : State → t.PackageName → Stated → List Given → Bool → Answer (State × Denoted)
+finished g p w gs filled = do
+  each (argument_fits (p.name, p.version) w) tt gs
+  complete filled p gs (names_of (imports_of w))
+  pure (with_made g (record { key = (p.name, p.version); world = w; arguments = map (λ (a : Given). (a.name, a.denoted)) gs; span = p.span }))
+
+-- the world of the package that a `new` names: never the document's own
+abbrev pub new_package : State → t.PackageName → Answer Stated
+new_package g p = unless_clear (bytes_eq p.name g.own.name) (UnknownPackage p.name) p.span >> world_of_package g.packages (p.name, p.version) p.span
+
+-- ---- expressions
+
+abbrev pub primary_span : t.PrimaryExpr → Span
+primary_span (t.PrimaryExpr.new (t.new_expr s p as_)) = s
+primary_span (t.PrimaryExpr.nested (t.nested_expr s e)) = s
+primary_span (t.PrimaryExpr.ident i) = i.span
+
+abbrev mutual
+  pub denote : State → t.Expr → Answer (State × Denoted)
+  denote g (t.expr s p ps) = primary g p >>= λ r. accesses (primary_span p) r.1 ps >>= λ d. pure (speak_of r.0 d, d)
+
+  pub primary : State → t.PrimaryExpr → Answer (State × Denoted)
+  primary g (t.PrimaryExpr.ident i) = denoted_by g i >>= λ d. pure (g, d)
+  primary g (t.PrimaryExpr.nested n) = nested g n
+  primary g (t.PrimaryExpr.new n) = new_instance g n
+
+  pub nested : State → t.NestedExpr → Answer (State × Denoted)
+  nested g (t.nested_expr s e) = denote g e
+
+  pub new_instance : State → t.NewExpr → Answer (State × Denoted)
+  new_instance g (t.new_expr s p as_) = do
+    w ← new_package g p
+    r ← arguments g (names_of (imports_of w)) [] as_
+    gs ← each (spread_one r.0 (names_of (imports_of w))) r.1 (spreads_of as_)
+    finished (speak_of_all r.0 (denoted_in gs)) p w gs (is_filled as_)
+
+  -- the arguments that are no spreads
+  pub arguments : State → List Name → List Given → t.Arguments → Answer (State × List Given)
+  arguments g ns gs t.no_arguments = pure (g, gs)
+  arguments g ns gs (t.argument a as_) = one_argument g ns gs a (is_last as_) >>= λ r. arguments r.0 ns r.1 as_
+
+  pub one_argument : State → List Name → List Given → t.InstantiationArgument → Bool → Answer (State × List Given)
+  one_argument g ns gs (t.InstantiationArgument.inferred i) last = do
+    d ← denoted_by g i
+    hs ← add_given gs (record { name = inferred_name ns i d; denoted = d; span = i.span })
+    pure (g, hs)
+  one_argument g ns gs (t.InstantiationArgument.spread i) last = pure (g, gs)
+  one_argument g ns gs (t.InstantiationArgument.fill s) last = unless_clear (not last) FillArgumentNotLast s >> pure (g, gs)
+  one_argument g ns gs (t.InstantiationArgument.named a) last = named_argument g ns gs a
+
+  pub named_argument : State → List Name → List Given → t.NamedInstantiationArgument → Answer (State × List Given)
+  named_argument g ns gs (t.named_argument n e) = do
+    r ← denote g e
+    hs ← add_given gs (record { name = argument_name ns n; denoted = r.1; span = argument_span n })
+    pure (r.0, hs)

@@ -1,0 +1,9 @@
+pub mod Matching
+pub mod Ascribing
+pub mod Denoting
+pub mod Saying
+pub mod Meeting
+pub mod Ascribed
+pub mod Rows
+pub mod RowLaws
+pub mod Laws

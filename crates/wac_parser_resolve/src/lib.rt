@@ -1,0 +1,30 @@
+//! The wiring that a document ascribes.
+#![tactic(auto)]
+
+ghost use Rattle.wac_parser_resolve.specs.Laws.{Packages_are_known, Wirings_are_ordered};
+ghost use Rattle.wac_parser_resolve.specs.RowLaws.{Says_one, Says_missing, Says_passed, Says_mismatched, Says_merged, Says_unmerged, Says_unknown, Says_own, Says_conflict, Says_no_name, Says_identified};
+
+/// What some documents from outside ascribe.
+pub fn examples()
+    ensures one { Says_one }
+    ensures missing { Says_missing }
+    ensures passed { Says_passed }
+    ensures mismatched { Says_mismatched }
+    ensures merged { Says_merged }
+    ensures unmerged { Says_unmerged }
+    ensures unknown { Says_unknown }
+    ensures own { Says_own }
+    ensures conflict { Says_conflict }
+    ensures no_name { Says_no_name }
+    ensures identified { Says_identified }
+{}
+
+/// Each instance that a document makes is of a package handed in.
+pub fn packages_are_known()
+    ensures { Packages_are_known }
+{}
+
+/// In an ascribed wiring an instance's sources name earlier instances alone.
+pub fn wirings_are_ordered()
+    ensures { Wirings_are_ordered }
+{}
