@@ -1,4 +1,3 @@
-mod declared;
 mod parsers;
 mod tokens;
 mod trees;
