@@ -6,11 +6,17 @@ pub mod TextLaws
 pub mod AsciiLaws
 pub mod BlockLaws
 pub mod FrontLaws
+pub mod SpellingLaws
+pub mod FirstLaws
+pub mod SymbolLaws
 pub mod PieceLaws
 pub mod ItemLaws
 pub mod DocLaws
 pub mod StandLaws
+pub mod StopLaws
 pub mod RefusedLaws
+pub mod PlainLaws
+pub mod LaneLaws
 pub mod KindLaws
 pub mod CutLaws
 pub mod CharLaws

@@ -1,5 +1,5 @@
 -- The pieces of a text, from one to the next.
-use Rattle.std.proofs.Common.{◌≡◌, ℕ, zero, suc, ◌+◌, ◌-◌, ◌<◌, ◌≤◌, Bool, true, false, cond, eqb, List, [], ◌∷◌, length, drop, get_or, Option, Some, None, Result, Err, refl, ap, sym, subst, ◌∙◌, arith, length-drop}
+use Rattle.std.proofs.Common.{◌≡◌, ℕ, zero, suc, ◌+◌, ◌-◌, ◌<◌, ◌≤◌, Bool, true, false, cond, eqb, List, [], ◌∷◌, length, drop, get_or, Option, Some, None, Result, Ok, Err, refl, ap, sym, subst, ◌∙◌, arith, length-drop, get_or-drop, drop-cons}
 use Rattle.std.proofs.lemmas.List.{drop-drop}
 use Rattle.std.proofs.Math.ListN.{drop_of_length-le}
 use Rattle.std.proofs.lemmas.Bool.{eqb-true}
@@ -105,6 +105,36 @@ place_step source at p u b few e =
     let inner = piece_place (drop at source) rest (omega (arith, length-drop at source)) in
     let P : ℕ → Type 0 = λ (n : ℕ). IsCharBoundary (drop at source) n in
     IsCharBoundary-from_rest source at p.1 (omega arith) (subst P (sym (ap (λ (q : Option (Result Token Error) × ℕ). q.1) e)) inner)
+
+-- ---- blanks
+
+blank_front : (z : List ℕ) → is_blank (get_or z 0 0) ≡ true → (None, 1) ≡ front_piece z
+unfolding front_piece
+blank_front z e = rw e refl
+
+module _ (source : List ℕ) (at : ℕ) (few : at < length source) (blank : is_blank (get_or source at 0) ≡ true) where
+  blank_there : (None, 1) ≡ front_piece (drop at source)
+  blank_there =
+      let here : get_or (drop at source) 0 0 ≡ get_or source at 0 = rw get_or-drop (ap (λ i. get_or source i 0) (omega arith)) in
+      blank_front (drop at source) (ap is_blank here ∙ blank)
+
+  pub blank_cut : pieces_at source at ≡ piece_by at (drop at source) (None, 1) ∷ pieces_at source (at + 1)
+  blank_cut = piece_step source at (None, 1) blank_there (omega arith) (omega (arith, length-drop at source))
+
+  pub blank_place : IsUtf8 source → IsCharBoundary source at → IsCharBoundary source (at + 1)
+  blank_place u b = place_step source at (None, 1) u b few blank_there
+
+-- ---- symbols that stand alone
+
+module _ (source : List ℕ) (at : ℕ) (few : at < length source) (kind : Token) (alone : (z : List ℕ) → front_piece (get_or source at 0 ∷ z) ≡ (Some (Ok kind), 1)) where
+  symbol_there : (Some (Ok kind), 1) ≡ front_piece (drop at source)
+  symbol_there = sym (ap front_piece (drop-cons source at 0 few) ∙ alone (drop (suc at) source))
+
+  pub symbol_cut : pieces_at source at ≡ piece_by at (drop at source) (Some (Ok kind), 1) ∷ pieces_at source (at + 1)
+  symbol_cut = piece_step source at (Some (Ok kind), 1) symbol_there (omega arith) (omega (arith, length-drop at source))
+
+  pub symbol_place : IsUtf8 source → IsCharBoundary source at → IsCharBoundary source (at + 1)
+  symbol_place u b = place_step source at (Some (Ok kind), 1) u b few symbol_there
 
 -- ---- the first item
 

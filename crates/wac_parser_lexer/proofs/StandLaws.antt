@@ -24,7 +24,7 @@ both_true false b h = cc
 -- ---- what stands at the front of a text
 
 -- what a piece is, and that it fits
-abbrev IsPiece : List ℕ → Option (Result Token Error) × ℕ → Type 0
+abbrev pub IsPiece : List ℕ → Option (Result Token Error) × ℕ → Type 0
 IsPiece z (None, n) = (1 ≤ n) × (n ≤ length z) × IsSkipped z n
 IsPiece z (Some token, n) = (1 ≤ n) × (n ≤ length z) × IsItem z token n
 
@@ -95,11 +95,11 @@ blank_by : (z : List ℕ) → 0 < length z → (t : Bool) → is_blank (get_or z
 blank_by z some true e = (omega arith, omega arith, inl (e, refl))
 blank_by z some false e = unclosed_by z some e (is_unclosed z) refl
 
-front_is : (z : List ℕ) → 0 < length z → IsPiece z (front_piece z)
+pub front_is : (z : List ℕ) → 0 < length z → IsPiece z (front_piece z)
 unfolding front_piece
 front_is z some = blank_by z some (is_blank (get_or z 0 0)) refl
 
-piece_fits : (z : List ℕ) (o : Option (Result Token Error)) (n : ℕ) → IsPiece z (o, n) → (1 ≤ n) × (n ≤ length z)
+pub piece_fits : (z : List ℕ) (o : Option (Result Token Error)) (n : ℕ) → IsPiece z (o, n) → (1 ≤ n) × (n ≤ length z)
 piece_fits z None n h = (h.0, h.1)
 piece_fits z (Some token) n h = (h.0, h.1)
 

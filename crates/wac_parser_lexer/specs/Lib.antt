@@ -1,6 +1,7 @@
 pub mod Words
 pub mod Longest
 pub mod Spellings
+pub mod Begun
 pub mod Tokens
 pub mod Scan
 pub mod Front
@@ -9,3 +10,4 @@ pub mod Items
 pub mod Docs
 pub mod Stands
 pub mod Refused
+pub mod Plain

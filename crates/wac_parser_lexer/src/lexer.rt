@@ -11,9 +11,10 @@ ghost use Rattle.wac_parser_lexer.specs.Refused.{first_refused as refused_in};
 use crate::LexerResult;
 use crate::docs::doc_text;
 use crate::error::Error;
-use crate::pieces::front_piece;
+use crate::pieces::{front_piece, is_blank};
 use crate::refused::first_refused;
 use crate::span::{SourceSpan, span_in};
+use crate::spellings::lone_symbol;
 use crate::token::Token;
 use std::alloc::{AllocError, Global};
 use std::marker::Model;
@@ -21,6 +22,7 @@ use std::marker::Model;
 type Found = (LexerResult<Token>, SourceSpan);
 
 /// The piece at a place: the item that it is, and how long it is.
+#[inline(never)]
 fn piece_at(source: &str, at: usize) -> (Option<LexerResult<Token>>, usize)
     requires begins { IsCharBoundary source.now at }
     requires more { at < length source.now }
@@ -32,6 +34,7 @@ fn piece_at(source: &str, at: usize) -> (Option<LexerResult<Token>>, usize)
 }
 
 /// The first item from a place on, and the place behind it.
+#[inline(always)]
 fn first(source: &str, start: usize) -> (Option<Found>, usize)
     requires { IsCharBoundary source.now start }
     ensures found { result.0 ≡ ahead (pieces_at source.now start) }
@@ -39,8 +42,20 @@ fn first(source: &str, start: usize) -> (Option<Found>, usize)
     ensures place { IsCharBoundary source.now result.1 }
     ensures within { IfSome result.0 (λ r. IsSpanIn source.now r.1) }
 {
+    let bytes = source.as_bytes();
     let mut at = start;
     'pieces: while at < source.len() {
+        if is_blank(bytes[at]) {
+            at += 1;
+            continue 'pieces;
+        }
+        if let Some(symbol) = lone_symbol(bytes[at]) {
+            let span = SourceSpan {
+                offset: at,
+                length: 1,
+            };
+            return (Some((Ok(symbol), span)), at + 1);
+        }
         let (token, length) = piece_at(source, at);
         if let Some(token) = token {
             let span = SourceSpan { offset: at, length };
@@ -75,8 +90,16 @@ fn docs_from<'a>(
     ensures { IfOk result (λ v. map doc_of v.items ≡ docs_before [] (pieces_at source.now start)) }
 {
     let mut docs = Vec::new(alloc);
+    let bytes = source.as_bytes();
     let mut at = start;
     'pieces: while at < source.len() {
+        if is_blank(bytes[at]) {
+            at += 1;
+            continue 'pieces;
+        }
+        if bytes[at] != b'/' {
+            return Ok(docs);
+        }
         let (token, length) = piece_at(source, at);
         if token.is_some() {
             return Ok(docs);

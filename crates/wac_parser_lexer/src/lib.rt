@@ -10,6 +10,7 @@ mod pieces;
 mod refused;
 mod scan;
 mod span;
+mod spellings;
 mod token;
 
 pub use error::Error;

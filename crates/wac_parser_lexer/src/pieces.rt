@@ -10,7 +10,8 @@ use crate::front::token_at;
 use crate::scan::block_comment_len;
 use crate::token::Token;
 
-fn is_blank(b: u8) -> bool
+/// Whether a byte is a blank: a space, a tab, a carriage return or a line feed.
+pub(crate) fn is_blank(b: u8) -> bool
     ensures { result ≡ spec.is_blank b }
 {
     b == b' ' || b == b'\t' || b == b'\r' || b == b'\n'

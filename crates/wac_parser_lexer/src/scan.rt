@@ -166,26 +166,30 @@ fn next_idents_len(z: &[u8], joint: u8) -> usize
     }
 }
 
+/// The length of names joined by `:`, where the first of them has been measured.
 #[tactic(auto, unfolding(crate::specs::Scan::names_len))]
-fn names_len(z: &[u8]) -> usize
+pub(crate) fn names_len(z: &[u8], ident: usize) -> usize
+    requires measured { ident ≡ spec.ident_len z.now }
+    requires within { ident ≤ length z.now }
     ensures value { result ≡ spec.names_len z.now }
     ensures fits { result ≤ length z.now }
 {
-    let first = ident_len(z);
-    let others = next_idents_len(&z[first..], b':');
-    if first == 0 || others == 0 {
+    let others = next_idents_len(&z[ident..], b':');
+    if ident == 0 || others == 0 {
         0
     } else {
-        first + others
+        ident + others
     }
 }
 
+/// The length of a path without its version, where its names have been measured.
 #[tactic(auto, unfolding(crate::specs::Scan::path_len))]
-fn path_len(z: &[u8]) -> usize
+pub(crate) fn path_len(z: &[u8], names: usize) -> usize
+    requires measured { names ≡ spec.names_len z.now }
+    requires within { names ≤ length z.now }
     ensures value { result ≡ spec.path_len z.now }
     ensures fits { result ≤ length z.now }
 {
-    let names = names_len(z);
     let segments = next_idents_len(&z[names..], b'/');
     if names == 0 || segments == 0 {
         0
@@ -264,26 +268,28 @@ fn next_version_len(z: &[u8]) -> usize
     }
 }
 
-/// The length of a package name, with its version.
+/// The length of a package name, with its version, where its names have been measured.
 #[tactic(auto, unfolding(crate::specs::Scan::package_name_len))]
-pub(crate) fn package_name_len(z: &[u8]) -> usize
+pub(crate) fn package_name_len(z: &[u8], names: usize) -> usize
+    requires measured { names ≡ spec.names_len z.now }
+    requires within { names ≤ length z.now }
     ensures value { result ≡ spec.package_name_len z.now }
     ensures fits { result ≤ length z.now }
 {
-    let names = names_len(z);
     if names == 0 {
         return 0;
     }
     names + next_version_len(&z[names..])
 }
 
-/// The length of a package path, with its version.
+/// The length of a package path, with its version, where its path has been measured.
 #[tactic(auto, unfolding(crate::specs::Scan::package_path_len))]
-pub(crate) fn package_path_len(z: &[u8]) -> usize
+pub(crate) fn package_path_len(z: &[u8], path: usize) -> usize
+    requires measured { path ≡ spec.path_len z.now }
+    requires within { path ≤ length z.now }
     ensures value { result ≡ spec.package_path_len z.now }
     ensures fits { result ≤ length z.now }
 {
-    let path = path_len(z);
     if path == 0 {
         return 0;
     }

@@ -1,5 +1,8 @@
 //! The kinds of tokens.
 
+ghost use Rattle.std.specs.Prelude.{IfSome};
+ghost use Rattle.wac_parser_lexer.specs.Spellings.{Spells, spellings};
+
 use std::fmt;
 
 /// A token of the language.
@@ -142,7 +145,7 @@ pub enum Token {
 }
 
 /// Every keyword and symbol, with its text.
-pub(crate) static SPELLINGS: [(&str, Token); 61] = [
+static SPELLINGS: [(&str, Token); 61] = [
     ("import", Token::ImportKeyword),
     ("with", Token::WithKeyword),
     ("type", Token::TypeKeyword),
@@ -207,11 +210,15 @@ pub(crate) static SPELLINGS: [(&str, Token); 61] = [
 ];
 
 /// The text of a keyword or a symbol.
-fn spelling(token: Token) -> Option<&'static str> {
-    for (text, spelled) in &SPELLINGS {
+fn spelling(token: Token) -> Option<&'static str>
+    ensures { IfSome result (λ text. Spells spellings token text.now) }
+{
+    let mut table: &[(&'static str, Token)] = &SPELLINGS;
+    'table: while let [(text, spelled), rest @ ..] = table {
         if *spelled == token {
             return Some(*text);
         }
+        table = rest;
     }
     None
 }

@@ -1,37 +1,40 @@
-use Rattle.std.proofs.Common.{◌+◌, [], ◌∷◌, ◌++◌, length, drop, sym, ap, ◌∙◌, arith, Some, refl}
-use Rattle.std.proofs.lemmas.Iterator.{YieldsList-from_chars}
-use Rattle.std.proofs.lemmas.List.{at_drop_all, length_push}
-use Rattle.std.proofs.lemmas.Iterator.Consumers.{YieldsList-turn, YieldsList-end}
-use Rattle.std.proofs.lemmas.Str.{encodes-chars}
-use Rattle.std.specs.Char.{len_utf8}
-use Rattle.std.specs.Str.{chars, encode_utf8_all}
+use Rattle.std.proofs.Common.{◌≡◌, ℕ, ◌+◌, length, drop, sym, ap, subst, ◌∙◌, arith, Some, refl, length-drop}
+use Rattle.std.specs.Str.{chars, IsCharBoundary}
+use Rattle.std.proofs.lemmas.Str.{IsUtf8-drop, IsCharBoundary-start, IsCharBoundary-past_char}
 use Rattle.wac_parser_lexer.specs.Refused.{refused_from}
-use Rattle.wac_parser_lexer.proofs.RefusedLaws.{refused_here, refused_later, size_step}
+use Rattle.wac_parser_lexer.proofs.RefusedLaws.{refused_end, refused_here, refused_later}
 use Rattle.wac_parser_lexer.proofs.refused.first_refused.Goals as goal
 
-pub loop-c-init : goal.loop-c-init
-loop-c-init c = record { first = refl; place = omega (arith, ap length (encodes-chars c.args.source.now c.utf8.source)) }
+pub text-init : goal.text-init
+text-init c = record { same = refl; place = IsCharBoundary-start c.args.source.now c.utf8.source }
+
+pub returns-in_default : goal.returns-in_default
+returns-in_default c =
+    let none : length (drop c.skip_plain-odd.result c.args.source.now) ≡ 0 = ap length (sym (c.chars.ensures.rest ∙ c.range_from.ensures.value)) ∙ c.in_default.ensures.steps.0.0 in
+    sym (refused_end c.skip_plain-odd.result (drop c.skip_plain-odd.result c.args.source.now) none) ∙ c.skip_plain-odd.ensures.same ∙ c.text.invariant.same
 
 pub returns-in-Some-refusal : goal.returns-in-Some-refusal
 returns-in-Some-refusal c =
-    let t = YieldsList-turn (YieldsList-from_chars c.args.source.now c.utf8.source cc) c.loop-c.yielded _ c.loop-c.yielded_by _ _ c.in-Some.c c.in-Some.is c.next.ensures.steps in
-    ap (λ n. Some (c.in-Some-refusal.error, record { offset = c.loop-c.at; length = n })) c.len_utf8-length.ensures.value
-    ∙ sym (refused_here (chars c.args.source.now) c.loop-c.at (length c.loop-c.yielded) c.in-Some.c c.in-Some-refusal.error t (sym c.refusal.ensures ∙ c.in-Some-refusal.is))
-    ∙ c.loop-c.invariant.first
+    let odd = c.skip_plain-odd.result in
+    let rest = IsUtf8-drop c.args.source.now odd c.utf8.source c.skip_plain-odd.ensures.place in
+    let split = sym (c.chars.ensures.rest ∙ c.range_from.ensures.value) ∙ c.in-Some.ensures.steps.0 in
+    ap (λ n. Some (c.in-Some-refusal.error, record { offset = odd; length = n })) c.len_utf8-length.ensures.value
+    ∙ sym (refused_here c.args.source.now odd c.in-Some.c c.next.new.self.rest.now rest split c.in-Some-refusal.error (sym c.refusal.ensures ∙ c.in-Some-refusal.is))
+    ∙ c.skip_plain-odd.ensures.same ∙ c.text.invariant.same
 
-pub loop-c-preserved : goal.loop-c-preserved
-loop-c-preserved c =
-    let t = YieldsList-turn (YieldsList-from_chars c.args.source.now c.utf8.source cc) c.loop-c.yielded _ c.loop-c.yielded_by _ _ c.in-Some.c c.in-Some.is c.next.ensures.steps in
-    let n = length_push c.loop-c.yielded c.in-Some.c in
-    let later = refused_later (chars c.args.source.now) c.loop-c.at (length c.loop-c.yielded) c.in-Some.c t (sym c.refusal.ensures ∙ c.in_default.is) in
-    let size = size_step (chars c.args.source.now) (length c.loop-c.yielded) c.in-Some.c t in
+pub text-preserved : goal.text-preserved
+text-preserved c =
+    let source = c.args.source.now in
+    let odd = c.skip_plain-odd.result in
+    let rest = IsUtf8-drop source odd c.utf8.source c.skip_plain-odd.ensures.place in
+    let split = sym (c.chars.ensures.rest ∙ c.range_from.ensures.value) ∙ c.in-Some.ensures.steps.0 in
+    let P : ℕ → Type 0 = λ (n : ℕ). IsCharBoundary source (odd + n) in
     record {
-      first = ap (λ k. refused_from (c.loop-c.at + k) (drop (length (c.loop-c.yielded ++ c.in-Some.c ∷ [])) (chars c.args.source.now))) c.len_utf8-length.ensures.value
-          ∙ ap (λ k. refused_from (c.loop-c.at + len_utf8 c.in-Some.c) (drop k (chars c.args.source.now))) n ∙ sym later ∙ c.loop-c.invariant.first;
-      place = omega (arith, size, c.loop-c.invariant.place, c.len_utf8-length.ensures.value, ap (λ k. length (encode_utf8_all (drop k (chars c.args.source.now)))) n);
+      same = ap (λ n. refused_from (odd + n) (chars (drop (odd + n) source))) c.len_utf8-length.ensures.value
+          ∙ sym (refused_later source odd c.in-Some.c c.next.new.self.rest.now rest split (sym c.refusal.ensures ∙ c.in_default-refusal.is))
+          ∙ c.skip_plain-odd.ensures.same ∙ c.text.invariant.same;
+      place = subst P (sym c.len_utf8-length.ensures.value) (IsCharBoundary-past_char source c.next.new.self.rest.now odd c.in-Some.c c.skip_plain-odd.ensures.place.0 rest split);
     }
 
 pub returns : goal.returns
-returns c =
-    let t = YieldsList-end (YieldsList-from_chars c.args.source.now c.utf8.source cc) c.loop-c.yielded _ c.loop-c.yielded_by _ _ c.in-None.is c.next.ensures.steps in
-    sym (at_drop_all (refused_from c.loop-c.at) (chars c.args.source.now) (length c.loop-c.yielded) (omega (arith, t.1))) ∙ c.loop-c.invariant.first
+returns c = sym (refused_end c.text.at (drop c.text.at c.args.source.now) (omega (arith, length-drop c.text.at c.args.source.now))) ∙ c.text.invariant.same
