@@ -1,3 +1,4 @@
 mod parsers;
+mod printing;
 mod tokens;
 mod trees;
