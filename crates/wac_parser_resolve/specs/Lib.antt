@@ -7,3 +7,5 @@ pub mod Ascribed
 pub mod Rows
 pub mod RowLaws
 pub mod Laws
+pub mod Later
+pub mod Standing
