@@ -44,7 +44,7 @@ apart_from g k xs free there = record { nodes = λ one m e. absent g k one.node 
 pub fresh_instance : (g h : Graph) (id : PackageId) (k : ℕ) → IsGraph g → Instantiates g h id k → IsFresh h k
 fresh_instance g h id k is s =
     let node : node_at h k ≡ Some (plain_node Role.Instance (Some id) (ItemKind.Instance s.of.instance_type)) =
-        ap (λ (x : Graph). node_at x k) s.made ∙ get-insert_same g.nodes k (plain_node Role.Instance (Some id) (ItemKind.Instance s.of.instance_type)) in
+    ap (λ (x : Graph). node_at x k) s.made ∙ get-insert_same g.nodes k (plain_node Role.Instance (Some id) (ItemKind.Instance s.of.instance_type)) in
     let held : package_of h id ≡ Some s.of = ap (λ (x : Graph). package_of x id) s.made ∙ s.is in
     record {
       made = subst IsSome (sym (ap (package_made h) node ∙ held)) refl;

@@ -6,3 +6,4 @@ pub mod Lists
 pub mod Growing
 pub mod Fresh
 pub mod SoundGraph
+pub mod TargetMet

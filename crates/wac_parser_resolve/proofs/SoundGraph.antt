@@ -9,14 +9,15 @@ use Rattle.wac_types_base.specs.Graph.{Among}
 use Rattle.wac_types_base.specs.Collection.{Stands, Grows}
 use Rattle.wac_types_names.specs.Packaged.{Packaged}
 use Rattle.wac_graph_core.specs.declared.ids.PackageId.{PackageId}
+use Rattle.wac_graph_core.specs.NodeMaps.{IsImport}
 use Rattle.wac_graph_core.specs.Graph.{Graph, node_at, ContainsNode, package_of, ContainsPackage}
 use Rattle.wac_parser_declare.specs.declared.scope.Binding.{Binding}
 use Rattle.wac_parser_declare.specs.Holding.{EachStands, BindingStands, NamesStand}
 use Rattle.wac_parser_declare.specs.Keeping.{Keeps}
 use Rattle.wac_parser_resolve.specs.declared.arguments.Given.{Given}
-use Rattle.wac_parser_resolve.specs.Later.{Later}
+use Rattle.wac_parser_resolve.specs.Later.{Later, Inner, SameNumber}
 use Rattle.wac_parser_resolve.specs.Standing.{AreThere, IsSound}
-use Rattle.wac_parser_resolve.proofs.Growing.{Later-refl, Later-same, Later-trans}
+use Rattle.wac_parser_resolve.proofs.Growing.{Later-refl, Later-same, Later-trans, Inner-refl, Inner-same, Inner-trans}
 
 -- ---- names of the root
 
@@ -48,6 +49,9 @@ sound_more g bs n b sound h = record { stand = names_more g.types bs n b sound.s
 pub sound_none : (g : Graph) → IsSound g []
 sound_none g = record { stand = tt }
 
+pub sound_inner : (g h : Graph) (bs : List (Name × Binding)) → Inner g h → IsSound g bs → IsSound h bs
+sound_inner g h bs inner sound = sound_later g h bs inner.later sound
+
 -- ---- while a graph grows
 
 pub node_later : (g h : Graph) (k : ℕ) → Later g h → ContainsNode g k → ContainsNode h k
@@ -59,15 +63,41 @@ kind_later g h k later s = later.kinds k s
 pub package_later : (g h : Graph) (id : PackageId) → Later g h → ContainsPackage g id → ContainsPackage h id
 package_later g h id later s = later.packages id s
 
+pub number_later : (g h : Graph) → Later g h → SameNumber g h
+number_later g h later = later.number
+
+pub number_inner : (g h : Graph) → Inner g h → SameNumber g h
+number_inner g h inner = inner.later.number
+
+pub number_grows : (g h : Graph) → Grows g.types h.types → SameNumber g h
+number_grows g h grows = grows.number
+
+pub inner_later : (g h : Graph) → Inner g h → Later g h
+inner_later g h inner = inner.later
+
+pub node_inner : (g h : Graph) (k : ℕ) → Inner g h → ContainsNode g k → ContainsNode h k
+node_inner g h k inner s = inner.later.nodes k s
+
+pub kind_inner : (g h : Graph) (k : ItemKind) → Inner g h → Stands g.types k → Stands h.types k
+kind_inner g h k inner s = inner.later.kinds k s
+
+pub package_inner : (g h : Graph) (id : PackageId) → Inner g h → ContainsPackage g id → ContainsPackage h id
+package_inner g h id inner s = inner.later.packages id s
+
 package_by : (g h : Graph) (id : PackageId) → ((p : Packaged) → package_of g id ≡ Some p → package_of h id ≡ Some p) → (o : Option Packaged) → package_of g id ≡ o → IsSome o → ContainsPackage h id
 package_by g h id keep None e is = absurd (cc is)
 package_by g h id keep (Some p) e is = subst IsSome (sym (keep p e)) refl
 
-pub keeps_later : (g h : Graph) → Keeps g h → Later g h
-keeps_later g h keeps = record {
-  kinds = λ k s. keeps.types.stand k s;
-  nodes = λ k s. subst (λ m. IsSome (map.get m k)) (sym keeps.nodes) s;
-  packages = λ id s. package_by g h id (keeps.packages id) (package_of g id) refl s;
+pub keeps_inner : (g h : Graph) → Keeps g h → Inner g h
+keeps_inner g h keeps = record {
+  later = record {
+    number = keeps.types.number;
+    kinds = λ k s. keeps.types.stand k s;
+    nodes = λ k s. subst (λ m. IsSome (map.get m k)) (sym keeps.nodes) s;
+    packages = λ id s. package_by g h id (keeps.packages id) (package_of g id) refl s;
+  };
+  imports = λ k n i. subst (λ m. IsImport m k n) keeps.nodes i;
+  exports = keeps.exports;
 }
 
 -- ---- arguments
@@ -77,6 +107,9 @@ there_none g = record { nodes = λ one m. absurd m }
 
 pub there_later : (g h : Graph) (xs : List Given) → Later g h → AreThere g xs → AreThere h xs
 there_later g h xs later there = record { nodes = λ one m. later.nodes one.node (there.nodes one m) }
+
+pub there_inner : (g h : Graph) (xs : List Given) → Inner g h → AreThere g xs → AreThere h xs
+there_inner g h xs inner there = there_later g h xs inner.later there
 
 last_of : {X : Type 0} (xs : List X) (x y : X) → Among y (xs ++ x ∷ []) → Among y xs ⊎ (y ≡ x)
 last_of [] x y (inl e) = inr e
@@ -95,7 +128,9 @@ there_more g xs x there here = record {
 pub there_with : (g : Graph) (xs ys : List Given) (x : Given) → ys ≡ xs ++ x ∷ [] → AreThere g xs → ContainsNode g x.node → AreThere g ys
 there_with g xs ys x is there here = subst (AreThere g) (sym is) (there_more g xs x there here)
 
-pub ruleset growing = (Later-refl, Later-trans, Later-same, node_later, kind_later, package_later, sound_later, sound_grows, keeps_later, there_later, there_none, there_with, sound_none)
+pub ruleset inside = (Inner-refl, Inner-trans, node_inner, kind_inner, package_inner, keeps_inner, there_inner, there_none, there_with)
+
+pub ruleset growing = (Later-refl, Later-trans, inner_later, node_later, node_inner, kind_later, kind_inner, sound_later, sound_inner, sound_grows, sound_none, number_later, number_inner, number_grows)
 
 pub sound_with : (g : Graph) (bs cs : List (Name × Binding)) (n : Name) (b : Binding) → cs ≡ bs ++ (n, b) ∷ [] → IsSound g bs → Stands g.types b.kind → IsSound g cs
 sound_with g bs cs n b is sound h = subst (IsSound g) (sym is) (sound_more g bs n b sound h)

@@ -9,3 +9,8 @@ pub mod RowLaws
 pub mod Laws
 pub mod Later
 pub mod Standing
+pub mod Told
+pub mod Targeting
+pub mod Resolved
+pub mod Processing
+pub mod Passing

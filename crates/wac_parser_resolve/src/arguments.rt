@@ -1,11 +1,11 @@
 //! The arguments of an instantiation.
-#![tactic(auto, using(crate::proofs::SoundGraph::growing))]
+#![tactic(auto, using(crate::proofs::SoundGraph::inside))]
 
 ghost use Rattle.std.specs.Prelude.{◌≡◌, ◌∷◌, ◌++◌, [], IfOk, OnOk};
 ghost use Rattle.wac_types_base.specs.declared.item.ItemKind.{ItemKind};
 ghost use Rattle.wac_types_base.specs.Collection.{Stands};
 ghost use Rattle.wac_graph_core.specs.Graph.{ContainsNode};
-ghost use Rattle.wac_parser_resolve.specs.Later.{Later};
+ghost use Rattle.wac_parser_resolve.specs.Later.{Inner};
 ghost use Rattle.wac_parser_resolve.specs.Standing.{AreApart, AreThere, IsFresh};
 
 use crate::board::{identifier_of, instance_of, own_name};
@@ -58,7 +58,10 @@ pub(crate) fn argument_name(
     name: &InstantiationArgumentName<'_>,
 ) -> Result<String, AllocError> {
     match name {
-        InstantiationArgumentName::Ident(id) => String::from_str(alloc, matched(imports, id.string)),
+        InstantiationArgumentName::Ident(id) => String::from_str(
+            alloc,
+            matched(imports, id.string),
+        ),
         InstantiationArgumentName::String(string) => String::from_str(alloc, string.value),
     }
 }
@@ -149,7 +152,7 @@ fn give_exports(
     requires node { ContainsNode graph.old node }
     requires given { AreThere graph.old given.old.items }
     ensures given { OnOk result (AreThere graph.new given.new.items) }
-    ensures later { Later graph.old graph.new }
+    ensures inner { Inner graph.old graph.new }
 {
     for name in names {
         let one = given_export(alloc, graph, node, span, name.as_str())?;
@@ -168,7 +171,7 @@ fn given_export(
 ) -> ResolutionResult<Given>
     requires { ContainsNode graph.old node }
     ensures node { IfOk result (λ one. ContainsNode graph.new one.node) }
-    ensures later { Later graph.old graph.new }
+    ensures inner { Inner graph.old graph.new }
 {
     let access = Access {
         operation: InstanceOperation::Spread,
@@ -209,7 +212,7 @@ fn spread(
     requires world { Stands graph.old.types (ItemKind.Component world) }
     requires given { AreThere graph.old given.old.items }
     ensures given { OnOk result (AreThere graph.new given.new.items) }
-    ensures later { Later graph.old graph.new }
+    ensures inner { Inner graph.old graph.new }
 {
     let node = root.node(graph, id)?;
     let interface = instance_of(graph, node, InstanceOperation::Spread, id.span)?;
@@ -239,7 +242,7 @@ pub(crate) fn spreads(
     requires world { Stands graph.old.types (ItemKind.Component world) }
     requires given { AreThere graph.old given.old.items }
     ensures given { OnOk result (AreThere graph.new given.new.items) }
-    ensures later { Later graph.old graph.new }
+    ensures inner { Inner graph.old graph.new }
 {
     for argument in arguments {
         if let Some(id) = spread_id(argument) {
@@ -259,7 +262,7 @@ pub(crate) fn pass_all(
     requires fresh { IsFresh graph.old instance }
     requires given { AreThere graph.old given.now.items }
     requires apart { AreApart given.now.items instance }
-    ensures later { Later graph.old graph.new }
+    ensures inner { Inner graph.old graph.new }
 {
     for one in given {
         pass(graph, instance, one.name.as_str(), one.node, one.span)?;

@@ -1,10 +1,13 @@
 //! The graph that a document builds, and what is asked of its nodes.
 #![tactic(auto, using(crate::proofs::Growing::standing))]
 
-ghost use Rattle.std.specs.Prelude.{◌≡◌, IfOk, IfSome, OnErr};
+ghost use Rattle.std.specs.Prelude.{◌≡◌, IfOk, Some};
+ghost use Rattle.std.specs.Option.{option_copied};
 ghost use Rattle.wac_types_base.specs.declared.item.ItemKind.{ItemKind};
 ghost use Rattle.wac_types_base.specs.Collection.{Stands};
-ghost use Rattle.wac_graph_core.specs.Graph.{ContainsNode, ContainsPackage, node_at};
+ghost use Rattle.wac_types_names.specs.Packaged.{Packaged};
+ghost use Rattle.wac_graph_core.specs.Graph.{ContainsNode, ContainsPackage, IsOfKind, package_of};
+ghost use Rattle.wac_parser_resolve.specs.Told.{TellsOwnName, identifier};
 
 use crate::spans::Spans;
 use std::alloc::Global;
@@ -23,7 +26,8 @@ pub(crate) struct Board<'p> {
 /// The item of a node.
 pub(crate) fn item_of(graph: &CompositionGraph, node: NodeId) -> ItemKind
     requires { ContainsNode graph.now node }
-    ensures { Stands graph.now.types result }
+    ensures stands { Stands graph.now.types result }
+    ensures own { IsOfKind graph.now node (λ kind. kind ≡ result) }
 {
     graph.see_sound();
     graph[node].item_kind()
@@ -71,8 +75,10 @@ pub(crate) fn instance_of(
 /// The identifier of a node that is an instance.
 pub(crate) fn identifier_of(graph: &CompositionGraph, node: NodeId) -> Option<&str>
     requires { ContainsNode graph.now node }
+    ensures { option_copied result ≡ identifier graph.now node }
 {
-    match item_of(graph, node) {
+    graph.see_sound();
+    match graph[node].item_kind() {
         ItemKind::Instance(id) => match &graph.types().interface(id).id {
             Some(id) => Some(id.as_str()),
             None => None,
@@ -84,6 +90,7 @@ pub(crate) fn identifier_of(graph: &CompositionGraph, node: NodeId) -> Option<&s
 /// The name of an import or an alias.
 pub(crate) fn own_name(graph: &CompositionGraph, node: NodeId) -> Option<&str>
     requires { ContainsNode graph.now node }
+    ensures { TellsOwnName graph.now node (option_copied result) }
 {
     match graph.get_import_name(node) {
         Some(name) => Some(name),
@@ -97,7 +104,8 @@ pub(crate) fn own_name(graph: &CompositionGraph, node: NodeId) -> Option<&str>
 /// The world of a package.
 pub(crate) fn world_of(graph: &CompositionGraph, id: PackageId) -> WorldId
     requires { ContainsPackage graph.now id }
-    ensures { Stands graph.now.types (ItemKind.Component result) }
+    ensures stands { Stands graph.now.types (ItemKind.Component result) }
+    ensures own { (p : Packaged) → package_of graph.now id ≡ Some p → result ≡ p.ty }
 {
     graph.see_sound();
     graph[id].ty()

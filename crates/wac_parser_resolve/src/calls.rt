@@ -5,7 +5,7 @@ ghost use Rattle.std.specs.Prelude.{◌≡◌, ◌≢◌, None, IfOk, OnOk};
 ghost use Rattle.wac_types_base.specs.declared.item.ItemKind.{ItemKind};
 ghost use Rattle.wac_types_base.specs.Collection.{Stands};
 ghost use Rattle.wac_graph_core.specs.Graph.{ContainsNode, ContainsPackage, node_at};
-ghost use Rattle.wac_parser_resolve.specs.Later.{Later};
+ghost use Rattle.wac_parser_resolve.specs.Later.{Inner, Later};
 ghost use Rattle.wac_parser_resolve.specs.Standing.{IsFresh};
 
 use crate::board::not_an_instance;
@@ -26,12 +26,7 @@ pub(crate) struct Access {
     pub(crate) access: SourceSpan,
 }
 
-fn alias_fault(
-    graph: &CompositionGraph,
-    node: NodeId,
-    access: Access,
-    fault: AliasError,
-) -> Error
+fn alias_fault(graph: &CompositionGraph, node: NodeId, access: Access, fault: AliasError) -> Error
     requires { ContainsNode graph.now node }
 {
     match fault {
@@ -55,7 +50,7 @@ pub(crate) fn alias(
 ) -> ResolutionResult<NodeId>
     requires { ContainsNode graph.old node }
     ensures alias { IfOk result (λ k. ContainsNode graph.new k) }
-    ensures later { Later graph.old graph.new }
+    ensures inner { Inner graph.old graph.new }
 {
     match graph.alias_instance_export(node, name) {
         Ok(alias) => {
@@ -67,15 +62,12 @@ pub(crate) fn alias(
 }
 
 /// A new instance of a package.
-pub(crate) fn instantiate(
-    graph: &mut CompositionGraph,
-    id: PackageId,
-) -> Result<NodeId, AllocError>
+pub(crate) fn instantiate(graph: &mut CompositionGraph, id: PackageId) -> Result<NodeId, AllocError>
     requires { ContainsPackage graph.old id }
     ensures free { IfOk result (λ k. node_at graph.old k ≡ None) }
     ensures fresh { IfOk result (λ k. IsFresh graph.new k) }
     ensures instance { IfOk result (λ k. ContainsNode graph.new k) }
-    ensures later { Later graph.old graph.new }
+    ensures inner { Inner graph.old graph.new }
 {
     graph.see_sound();
     match graph.instantiate(id) {
@@ -97,7 +89,7 @@ pub(crate) fn pass(
     requires fresh { IsFresh graph.old instance }
     requires apart { node ≢ instance }
     ensures fresh { OnOk result (IsFresh graph.new instance) }
-    ensures later { Later graph.old graph.new }
+    ensures inner { Inner graph.old graph.new }
 {
     match graph.set_instantiation_argument(instance, name, node) {
         Ok(()) => Ok(()),
@@ -174,7 +166,7 @@ pub(crate) fn name_once(
     name: &str,
 ) -> Result<(), AllocError>
     requires { ContainsNode graph.old node }
-    ensures later { Later graph.old graph.new }
+    ensures inner { Inner graph.old graph.new }
 {
     if graph[node].name().is_some() {
         return Ok(());

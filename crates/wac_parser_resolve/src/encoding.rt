@@ -1,5 +1,11 @@
 //! Resolved documents as components.
 
+ghost use Rattle.std.specs.Prelude.{◌≡◌, IfOk, Some};
+ghost use Rattle.wac_types_base.specs.declared.item.ItemKind.{ItemKind};
+ghost use Rattle.wac_types_base.specs.Collection.{Stands};
+ghost use Rattle.wac_graph_compose.specs.Acyclic.{IsNoCycle};
+ghost use Rattle.wac_parser_resolve.specs.Processing.{IsProcessed};
+
 use crate::resolver::Resolved;
 use wac_graph_bytes::Processor;
 use wac_graph_compose::{EncodeError, EncodeGraph, EncodeOptions, Encoded, ValidationFault};
@@ -43,7 +49,10 @@ impl<'d, D> Resolved<'d, D> {
         }
     }
 
-    fn fault(&self, fault: EncodeError) -> Error {
+    /// The document's fault that a refusal of its graph is. No graph has a cycle.
+    fn fault(&self, fault: EncodeError) -> Error
+        requires { IsNoCycle fault }
+    {
         match fault {
             EncodeError::ImplicitImportConflict {
                 import,
@@ -81,14 +90,15 @@ impl<'d, D> Resolved<'d, D> {
             }
             EncodeError::TooLarge => Error::TooLarge,
             EncodeError::ValidationFailure { source } => alike(source),
-            // no call of the graph makes a cycle
-            EncodeError::GraphContainsCycle { .. } => Error::Memory,
+            EncodeError::GraphContainsCycle { .. } => unreachable!(),
             EncodeError::Memory => Error::Memory,
         }
     }
 
     /// The options, with a processor.
-    fn options(&self, options: EncodeOptions) -> ResolutionResult<EncodeOptions> {
+    fn options(&self, options: EncodeOptions) -> ResolutionResult<EncodeOptions>
+        ensures { IfOk result (λ all. IsProcessed options all) }
+    {
         let EncodeOptions {
             define_components,
             validate,
@@ -123,7 +133,10 @@ impl<'d, D> Resolved<'d, D> {
         &self,
         options: EncodeOptions,
         numbers: (u64, u64),
-    ) -> ResolutionResult<Encoded> {
+    ) -> ResolutionResult<Encoded>
+        ensures number { IfOk result (λ e. e.types.number ≡ numbers.1) }
+        ensures stands { IfOk result (λ e. Stands e.types (ItemKind.Component e.world)) }
+    {
         let options = self.options(options)?;
         match self.said.graph.encode_world(options, numbers) {
             Ok(encoded) => Ok(encoded),

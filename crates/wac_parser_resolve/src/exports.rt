@@ -1,12 +1,14 @@
 //! Exports of a document.
 #![tactic(auto, using(crate::proofs::SoundGraph::growing))]
 
-ghost use Rattle.std.specs.Prelude.{IfOk, OnOk, IfSome};
+ghost use Rattle.std.specs.Prelude.{◌≡◌, IfOk, OnOk, IfSome};
+ghost use Rattle.std.specs.Option.{option_copied};
 ghost use Rattle.wac_types_base.specs.declared.item.ItemKind.{ItemKind};
 ghost use Rattle.wac_types_base.specs.Collection.{Stands};
 ghost use Rattle.wac_graph_core.specs.Graph.{ContainsNode};
-ghost use Rattle.wac_parser_resolve.specs.Later.{Later};
+ghost use Rattle.wac_parser_resolve.specs.Later.{Later, SameNumber};
 ghost use Rattle.wac_parser_resolve.specs.Standing.{IsSound};
+ghost use Rattle.wac_parser_resolve.specs.Told.{IsInferred};
 
 use crate::board::{identifier_of, instance_of, own_name, word_of};
 use crate::calls::{Access, alias, export};
@@ -39,30 +41,31 @@ fn is_definition(graph: &CompositionGraph, node: NodeId) -> bool
     matches!(graph[node].kind(), NodeKind::Definition)
 }
 
+/// A definition: its node, and where its name was given.
+#[derive(Clone, Copy)]
+struct Definition {
+    node: NodeId,
+    span: SourceSpan,
+}
+
 /// The definition that a name of the root denotes.
 fn definition_of(
     graph: &CompositionGraph,
+    names: &NamedMap<Binding>,
     nodes: &NamedMap<NodeId>,
     name: &str,
-) -> Option<NodeId>
-    ensures { IfSome result (λ node. ContainsNode graph.now node) }
+) -> Option<Definition>
+    ensures { IfSome result (λ d. ContainsNode graph.now d.node) }
 {
     let node = *nodes.get(name)?;
+    let span = names.get(name)?.span;
     if !graph.contains_node(node) {
         return None;
     }
     if is_definition(graph, node) {
-        Some(node)
+        Some(Definition { node, span })
     } else {
         None
-    }
-}
-
-/// Where a name of the root was given; else this place.
-fn given_at(names: &NamedMap<Binding>, name: &str, other: SourceSpan) -> SourceSpan {
-    match names.get(name) {
-        Some(binding) => binding.span,
-        None => other,
     }
 }
 
@@ -108,6 +111,7 @@ fn export_fault(spans: &Spans, name: ExportName<'_>, fault: ExportError) -> Erro
 /// alias.
 fn inferred_name(graph: &CompositionGraph, node: NodeId) -> Option<&str>
     requires { ContainsNode graph.now node }
+    ensures { IsInferred graph.now node (option_copied result) }
 {
     match identifier_of(graph, node) {
         Some(name) => Some(name),
@@ -141,14 +145,9 @@ impl<'p> State<'p> {
         ensures later { Later self.old.board.types.graph self.new.board.types.graph }
     {
         let graph = &mut self.board.types.graph;
-        if let Some(other) = definition_of(graph, &self.nodes, name.text) {
-            let definition = given_at(&self.names, name.text, name.span);
-            return Err(export_conflict(
-                alloc,
-                word_of(graph, other),
-                definition,
-                name,
-            ));
+        if let Some(other) = definition_of(graph, &self.names, &self.nodes, name.text) {
+            let word = word_of(graph, other.node);
+            return Err(export_conflict(alloc, word, other.span, name));
         }
         match export(graph, node, name.text) {
             Ok(()) => {
@@ -169,6 +168,7 @@ impl<'p> State<'p> {
         requires node { ContainsNode self.old.board.types.graph node }
         requires sound { IsSound self.old.board.types.graph self.old.names }
         ensures sound { OnOk result (IsSound self.new.board.types.graph self.new.names) }
+        ensures number { SameNumber self.old.board.types.graph self.new.board.types.graph }
     {
         let name = match inferred_name(&self.board.types.graph, node) {
             Some(name) => String::from_str(alloc, name)?,
@@ -215,6 +215,7 @@ impl<'p> State<'p> {
         requires node { ContainsNode self.old.board.types.graph node }
         requires sound { IsSound self.old.board.types.graph self.old.names }
         ensures sound { OnOk result (IsSound self.new.board.types.graph self.new.names) }
+        ensures number { SameNumber self.old.board.types.graph self.new.board.types.graph }
     {
         for name in names {
             self.export_one(alloc, node, access, name.as_str())?;
@@ -233,6 +234,7 @@ impl<'p> State<'p> {
         requires node { ContainsNode self.old.board.types.graph node }
         requires sound { IsSound self.old.board.types.graph self.old.names }
         ensures sound { OnOk result (IsSound self.new.board.types.graph self.new.names) }
+        ensures number { SameNumber self.old.board.types.graph self.new.board.types.graph }
     {
         let graph = &self.board.types.graph;
         let interface = instance_of(graph, node, InstanceOperation::Spread, span)?;
@@ -259,6 +261,7 @@ impl<'p> State<'p> {
         requires node { ContainsNode self.old.board.types.graph node }
         requires sound { IsSound self.old.board.types.graph self.old.names }
         ensures sound { OnOk result (IsSound self.new.board.types.graph self.new.names) }
+        ensures number { SameNumber self.old.board.types.graph self.new.board.types.graph }
     {
         match options {
             ExportOptions::None => self.export_inferred(alloc, node, span),

@@ -1,11 +1,12 @@
 //! What expressions denote.
-#![tactic(auto, using(crate::proofs::SoundGraph::growing))]
+#![tactic(auto, using(crate::proofs::SoundGraph::inside))]
 
-ghost use Rattle.std.specs.Prelude.{IfOk, OnOk};
+ghost use Rattle.std.specs.Prelude.{◌≡◌, ◌≢◌, IfOk, OnOk};
 ghost use Rattle.wac_types_base.specs.declared.item.ItemKind.{ItemKind};
 ghost use Rattle.wac_types_base.specs.Collection.{Stands};
 ghost use Rattle.wac_graph_core.specs.Graph.{ContainsNode, ContainsPackage};
-ghost use Rattle.wac_parser_resolve.specs.Later.{Later};
+ghost use Rattle.wac_parser_resolve.specs.Later.{Inner};
+ghost use Rattle.wac_parser_resolve.specs.Passing.{IsLater};
 ghost use Rattle.wac_parser_resolve.specs.Standing.{AreThere};
 
 use crate::arguments::{
@@ -50,7 +51,7 @@ fn access(
 ) -> ResolutionResult<NodeId>
     requires { ContainsNode graph.old node }
     ensures node { IfOk result (λ k. ContainsNode graph.new k) }
-    ensures later { Later graph.old graph.new }
+    ensures inner { Inner graph.old graph.new }
 {
     let access = Access {
         operation: InstanceOperation::Access,
@@ -76,7 +77,7 @@ fn accesses(
 ) -> ResolutionResult<NodeId>
     requires { ContainsNode graph.old first }
     ensures node { IfOk result (λ k. ContainsNode graph.new k) }
-    ensures later { Later graph.old graph.new }
+    ensures inner { Inner graph.old graph.new }
 {
     let mut node = first;
     let mut span = before;
@@ -94,7 +95,8 @@ fn new_package(
     name: &PackageName<'_>,
 ) -> ResolutionResult<PackageId>
     ensures id { IfOk result (λ id. ContainsPackage board.new.types.graph id) }
-    ensures later { Later board.old.types.graph board.new.types.graph }
+    ensures own { OnOk result (name.now.name.now ≢ root.entry.own.now) }
+    ensures inner { Inner board.old.types.graph board.new.types.graph }
 {
     if name.name == root.own {
         return Err(unknown_package(root.alloc, name.name, name.span));
@@ -115,7 +117,7 @@ fn finish(
     requires id { ContainsPackage board.old.types.graph id }
     requires given { AreThere board.old.types.graph given.items }
     ensures node { IfOk result (λ k. ContainsNode board.new.types.graph k) }
-    ensures later { Later board.old.types.graph board.new.types.graph }
+    ensures inner { Inner board.old.types.graph board.new.types.graph }
 {
     let world = world_of(&board.types.graph, id);
     let instance = instantiate(&mut board.types.graph, id)?;
@@ -141,7 +143,7 @@ pub(crate) fn expression(
     expr: &Expr<'_>,
 ) -> ResolutionResult<NodeId>
     ensures node { IfOk result (λ k. ContainsNode board.new.types.graph k) }
-    ensures later { Later board.old.types.graph board.new.types.graph }
+    ensures inner { Inner board.old.types.graph board.new.types.graph }
 {
     let first = primary(root, board, &expr.primary)?;
     accesses(
@@ -161,7 +163,7 @@ fn primary(
     expr: &PrimaryExpr<'_>,
 ) -> ResolutionResult<NodeId>
     ensures node { IfOk result (λ k. ContainsNode board.new.types.graph k) }
-    ensures later { Later board.old.types.graph board.new.types.graph }
+    ensures inner { Inner board.old.types.graph board.new.types.graph }
 {
     match expr {
         PrimaryExpr::New(new) => instance(root, board, new),
@@ -178,7 +180,7 @@ fn instance(
     new: &NewExpr<'_>,
 ) -> ResolutionResult<NodeId>
     ensures node { IfOk result (λ k. ContainsNode board.new.types.graph k) }
-    ensures later { Later board.old.types.graph board.new.types.graph }
+    ensures inner { Inner board.old.types.graph board.new.types.graph }
 {
     let id = new_package(root, board, &new.package)?;
     let world = world_of(&board.types.graph, id);
@@ -206,7 +208,7 @@ fn arguments(
     requires world { Stands board.old.types.graph.types (ItemKind.Component world) }
     requires given { AreThere board.old.types.graph given.old.items }
     ensures given { OnOk result (AreThere board.new.types.graph given.new.items) }
-    ensures later { Later board.old.types.graph board.new.types.graph }
+    ensures inner { Inner board.old.types.graph board.new.types.graph }
 {
     let mut seen: usize = 0;
     for one in list {
@@ -229,7 +231,8 @@ fn argument(
     requires world { Stands board.old.types.graph.types (ItemKind.Component world) }
     requires given { AreThere board.old.types.graph given.old.items }
     ensures given { OnOk result (AreThere board.new.types.graph given.new.items) }
-    ensures later { Later board.old.types.graph board.new.types.graph }
+    ensures later { OnOk result (IsLater one.now → given.new.items ≡ given.old.items) }
+    ensures inner { Inner board.old.types.graph board.new.types.graph }
 {
     match one {
         InstantiationArgument::Inferred(id) => {
@@ -261,7 +264,7 @@ fn named(
 ) -> ResolutionResult<Given>
     requires { Stands board.old.types.graph.types (ItemKind.Component world) }
     ensures node { IfOk result (λ one. ContainsNode board.new.types.graph one.node) }
-    ensures later { Later board.old.types.graph board.new.types.graph }
+    ensures inner { Inner board.old.types.graph board.new.types.graph }
 {
     let node = expression(root, board, &one.expr)?;
     let imports = &board.types.graph.types().world(world).imports;

@@ -1,10 +1,13 @@
 //! Documents and what they are resolved to.
 #![tactic(auto, using(crate::proofs::SoundGraph::growing))]
 
-ghost use Rattle.std.specs.Prelude.{◌≡◌, IfOk, IfSome, OnOk};
+ghost use Rattle.std.specs.Prelude.{◌≡◌, IfOk, IfSome, Some};
 ghost use Rattle.wac_types_base.specs.declared.item.ItemKind.{ItemKind};
 ghost use Rattle.wac_types_base.specs.Collection.{Stands};
+ghost use Rattle.wac_parser_resolve.specs.Later.{Later, SameNumber};
+ghost use Rattle.wac_parser_resolve.specs.Resolved.{asked_of, document_of, graph_of, target_of};
 ghost use Rattle.wac_parser_resolve.specs.Standing.{IsSound};
+ghost use Rattle.wac_parser_resolve.specs.Targeting.{IsTarget};
 
 use crate::board::Board;
 use crate::spans::Spans;
@@ -40,22 +43,30 @@ pub type Resolution<'d, 's> = Resolved<'d, Document<'s>>;
 
 impl<'d, D> Resolved<'d, D> {
     /// The document.
-    pub fn document(&self) -> &'d D {
+    pub fn document(&self) -> &'d D
+        ensures { result.now ≡ document_of self.now }
+    {
         self.document
     }
 
     /// The graph.
-    pub fn graph(&self) -> &CompositionGraph {
+    pub fn graph(&self) -> &CompositionGraph
+        ensures { result.now ≡ graph_of self.now }
+    {
         &self.said.graph
     }
 
     /// The world that the directive targets, in the graph's collection.
-    pub fn target(&self) -> Option<WorldId> {
+    pub fn target(&self) -> Option<WorldId>
+        ensures { result ≡ target_of self.now }
+    {
         self.said.target
     }
 
     /// The graph, taken out.
-    pub fn into_graph(self) -> CompositionGraph {
+    pub fn into_graph(self) -> CompositionGraph
+        ensures { result ≡ graph_of self.entry }
+    {
         self.said.graph
     }
 }
@@ -93,6 +104,7 @@ impl<'p> State<'p> {
     ) -> ResolutionResult<WorldId>
         requires { IsSound self.old.board.types.graph self.old.names }
         ensures world { IfOk result (λ id. Stands self.new.board.types.graph.types (ItemKind.Component id)) }
+        ensures number { SameNumber self.old.board.types.graph self.new.board.types.graph }
     {
         let kind = self.item_at(alloc, &directive.package, path)?;
         let types = self.board.types.graph.types();
@@ -110,6 +122,8 @@ impl<'p> State<'p> {
         path: &PackagePath<'_>,
     ) -> ResolutionResult<WorldId>
         requires { IsSound self.old.board.types.graph self.old.names }
+        ensures world { IfOk result (λ id. IsTarget self.new.board.types.graph (Some id)) }
+        ensures number { SameNumber self.old.board.types.graph self.new.board.types.graph }
     {
         let world = self.target_world(alloc, directive, path)?;
         target_met(
@@ -130,6 +144,8 @@ impl<'p> State<'p> {
         directive: &PackageDirective<'_>,
     ) -> ResolutionResult<Option<WorldId>>
         requires { IsSound self.old.board.types.graph self.old.names }
+        ensures world { IfOk result (λ world. IsTarget self.new.board.types.graph world) }
+        ensures number { SameNumber self.old.board.types.graph self.new.board.types.graph }
     {
         match &directive.targets {
             Some(path) => Ok(Some(self.target(alloc, directive, path)?)),
@@ -139,7 +155,10 @@ impl<'p> State<'p> {
 }
 
 /// What a state has come to.
-fn come_to(state: State<'_>, target: Option<WorldId>) -> Said {
+fn come_to(state: State<'_>, target: Option<WorldId>) -> Said
+    ensures graph { result.graph ≡ state.entry.board.types.graph }
+    ensures target { result.target ≡ target }
+{
     let State {
         board,
         names: _,
@@ -171,6 +190,8 @@ fn say_document(
     alloc: Global,
 ) -> ResolutionResult<Option<WorldId>>
     requires { IsSound state.old.board.types.graph state.old.names }
+    ensures world { IfOk result (λ world. IsTarget state.new.board.types.graph world) }
+    ensures number { SameNumber state.old.board.types.graph state.new.board.types.graph }
 {
     let directive = &document.directive;
     say_statements(&document.statements, &directive.package, &mut *state, alloc)?;
@@ -183,14 +204,21 @@ fn said_of(
     alloc: Global,
     packages: &Packages<'_>,
     number: u64,
-) -> ResolutionResult<Said> {
+) -> ResolutionResult<Said>
+    ensures number { IfOk result (λ said. said.graph.types.number ≡ number) }
+    ensures target { IfOk result (λ said. IsTarget said.graph said.target) }
+{
     let mut state = State::new(alloc, &*packages, number);
     let target = say_document(document, &mut state, alloc)?;
     Ok(come_to(state, target))
 }
 
 /// A document with what it says.
-fn with_document<'d, D>(document: &'d D, said: Said) -> Resolved<'d, D> {
+fn with_document<'d, D>(document: &'d D, said: Said) -> Resolved<'d, D>
+    ensures document { document_of result ≡ document.now }
+    ensures graph { graph_of result ≡ said.graph }
+    ensures target { target_of result ≡ said.target }
+{
     Resolved { document, said }
 }
 
@@ -202,7 +230,9 @@ pub struct AstResolver<'d, 's> {
 
 impl<'d, 's> AstResolver<'d, 's> {
     /// A resolver of this document.
-    pub fn new(document: &'d Document<'s>) -> Self {
+    pub fn new(document: &'d Document<'s>) -> Self
+        ensures { asked_of result ≡ document.now }
+    {
         AstResolver { document }
     }
 
@@ -212,7 +242,11 @@ impl<'d, 's> AstResolver<'d, 's> {
         alloc: Global,
         packages: &Packages<'_>,
         number: u64,
-    ) -> ResolutionResult<Resolution<'d, 's>> {
+    ) -> ResolutionResult<Resolution<'d, 's>>
+        ensures document { IfOk result (λ r. document_of r ≡ asked_of self.entry) }
+        ensures number { IfOk result (λ r. (graph_of r).types.number ≡ number) }
+        ensures target { IfOk result (λ r. IsTarget (graph_of r) (target_of r)) }
+    {
         let AstResolver { document } = self;
         let said = said_of(document, alloc, &*packages, number)?;
         Ok(with_document(document, said))
@@ -229,7 +263,9 @@ pub trait ResolveDocument<'s> {
         number: u64,
     ) -> ResolutionResult<Resolution<'d, 's>>
     where
-        's: 'd;
+        's: 'd,
+        ensures number { IfOk result (λ r. (graph_of r).types.number ≡ number) }
+        ensures target { IfOk result (λ r. IsTarget (graph_of r) (target_of r)) };
 }
 
 impl<'s> ResolveDocument<'s> for Document<'s> {
@@ -241,6 +277,9 @@ impl<'s> ResolveDocument<'s> for Document<'s> {
     ) -> ResolutionResult<Resolution<'d, 's>>
     where
         's: 'd,
+        ensures document { IfOk result (λ r. document_of r ≡ self.now) }
+        ensures number { IfOk result (λ r. (graph_of r).types.number ≡ number) }
+        ensures target { IfOk result (λ r. IsTarget (graph_of r) (target_of r)) }
     {
         AstResolver::new(self).resolve(alloc, &*packages, number)
     }

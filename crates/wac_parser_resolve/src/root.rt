@@ -21,11 +21,7 @@ pub(crate) struct Root<'o, 'n> {
 
 impl<'o, 'n> Root<'o, 'n> {
     /// The node that a name stands for.
-    pub(crate) fn node(
-        self,
-        graph: &CompositionGraph,
-        id: &Ident<'_>,
-    ) -> ResolutionResult<NodeId>
+    pub(crate) fn node(self, graph: &CompositionGraph, id: &Ident<'_>) -> ResolutionResult<NodeId>
         ensures { IfOk result (λ node. ContainsNode graph.now node) }
     {
         match self.nodes.get(id.string) {

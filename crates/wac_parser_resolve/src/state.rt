@@ -6,6 +6,7 @@ ghost use Rattle.wac_types_base.specs.declared.item.ItemKind.{ItemKind};
 ghost use Rattle.wac_types_base.specs.Collection.{Stands};
 ghost use Rattle.wac_graph_core.specs.Graph.{ContainsNode};
 ghost use Rattle.wac_parser_declare.specs.Holding.{NamesStand};
+ghost use Rattle.wac_parser_resolve.specs.Later.{SameNumber};
 ghost use Rattle.wac_parser_resolve.specs.Standing.{IsSound};
 
 use crate::board::{Board, item_of};
@@ -32,7 +33,8 @@ pub(crate) struct State<'p> {
 impl<'p> State<'p> {
     /// Nothing said yet, over these packages.
     pub(crate) fn new(alloc: Global, packages: &'p Packages<'p>, number: u64) -> Self
-        ensures { IsSound result.board.types.graph result.names }
+        ensures sound { IsSound result.board.types.graph result.names }
+        ensures number { result.board.types.graph.types.number ≡ number }
     {
         State {
             board: Board {
@@ -51,14 +53,22 @@ impl<'p> State<'p> {
     }
 
     /// `id` now stands for this node, whose first name it may be.
-    pub(crate) fn bind(&mut self, alloc: Global, id: &Ident<'_>, node: NodeId) -> ResolutionResult<()>
+    pub(crate) fn bind(
+        &mut self,
+        alloc: Global,
+        id: &Ident<'_>,
+        node: NodeId,
+    ) -> ResolutionResult<()>
         requires node { ContainsNode self.old.board.types.graph node }
         requires sound { IsSound self.old.board.types.graph self.old.names }
-        ensures { OnOk result (IsSound self.new.board.types.graph self.new.names) }
+        ensures sound { OnOk result (IsSound self.new.board.types.graph self.new.names) }
+        ensures number { SameNumber self.old.board.types.graph self.new.board.types.graph }
     {
         let kind = item_of(&self.board.types.graph, node);
         bind(alloc, &mut self.names, id, kind)?;
-        let _ = self.nodes.insert(String::from_str(alloc, id.string)?, node)?;
+        let _ = self
+            .nodes
+            .insert(String::from_str(alloc, id.string)?, node)?;
         name_once(&mut self.board.types.graph, node, id.string)?;
         Ok(())
     }

@@ -1,11 +1,11 @@
 //! Statements of a document.
 #![tactic(auto, using(crate::proofs::SoundGraph::growing))]
 
-ghost use Rattle.std.specs.Prelude.{IfOk, OnOk};
+ghost use Rattle.std.specs.Prelude.{◌≡◌, IfOk, OnOk};
 ghost use Rattle.wac_types_base.specs.declared.item.ItemKind.{ItemKind};
 ghost use Rattle.wac_types_base.specs.Collection.{Stands};
 ghost use Rattle.wac_graph_core.specs.Graph.{ContainsNode};
-ghost use Rattle.wac_parser_resolve.specs.Later.{Later};
+ghost use Rattle.wac_parser_resolve.specs.Later.{Later, SameNumber};
 ghost use Rattle.wac_parser_resolve.specs.Standing.{IsSound};
 
 use crate::calls::{define, import};
@@ -55,12 +55,7 @@ fn told_name<'a>(types: &'a Types, kind: ItemKind, other: &'a str) -> &'a str
     }
 }
 
-fn import_fault(
-    spans: &Spans,
-    span: SourceSpan,
-    is_helped: bool,
-    fault: ImportError,
-) -> Error {
+fn import_fault(spans: &Spans, span: SourceSpan, is_helped: bool, fault: ImportError) -> Error {
     match fault {
         ImportError::ImportAlreadyExists { name, node } => Error::DuplicateExternName {
             name,
@@ -136,6 +131,7 @@ impl<'p> State<'p> {
         requires { IsSound self.old.board.types.graph self.old.names }
         ensures kind { IfOk result (λ kind. Stands self.new.board.types.graph.types kind) }
         ensures sound { IsSound self.new.board.types.graph self.new.names }
+        ensures number { SameNumber self.old.board.types.graph self.new.board.types.graph }
     {
         let context = Context {
             own,
@@ -154,6 +150,7 @@ impl<'p> State<'p> {
         requires { IsSound self.old.board.types.graph self.old.names }
         ensures kind { IfOk result (λ kind. Stands self.new.board.types.graph.types kind) }
         ensures sound { IsSound self.new.board.types.graph self.new.names }
+        ensures number { SameNumber self.old.board.types.graph self.new.board.types.graph }
     {
         let context = Context {
             own,
@@ -168,6 +165,7 @@ impl<'p> State<'p> {
         requires { IsSound self.old.board.types.graph self.old.names }
         ensures kind { IfOk result (λ kind. Stands self.new.board.types.graph.types kind) }
         ensures sound { IsSound self.new.board.types.graph self.new.names }
+        ensures number { SameNumber self.old.board.types.graph self.new.board.types.graph }
     {
         let id = func_type(alloc, &self.names, &mut self.board.types, ty)?;
         Ok(ItemKind::Func(id))
@@ -183,6 +181,7 @@ impl<'p> State<'p> {
         requires { IsSound self.old.board.types.graph self.old.names }
         ensures kind { IfOk result (λ kind. Stands self.new.board.types.graph.types kind) }
         ensures sound { IsSound self.new.board.types.graph self.new.names }
+        ensures number { SameNumber self.old.board.types.graph self.new.board.types.graph }
     {
         match ty {
             ImportType::Package(path) => self.item_at(alloc, own, path),
@@ -200,7 +199,8 @@ impl<'p> State<'p> {
         statement: &ImportStatement<'_>,
     ) -> ResolutionResult<()>
         requires { IsSound self.old.board.types.graph self.old.names }
-        ensures { OnOk result (IsSound self.new.board.types.graph self.new.names) }
+        ensures sound { OnOk result (IsSound self.new.board.types.graph self.new.names) }
+        ensures number { SameNumber self.old.board.types.graph self.new.board.types.graph }
     {
         let name = self.import_name(alloc, statement)?;
         let kind = self.asked(alloc, own, &statement.ty)?.promote();
@@ -255,6 +255,7 @@ impl<'p> State<'p> {
         requires { IsSound self.old.board.types.graph self.old.names }
         ensures ty { IfOk result (λ ty. Stands self.new.board.types.graph.types (ItemKind.Ty ty)) }
         ensures sound { IsSound self.new.board.types.graph self.new.names }
+        ensures number { SameNumber self.old.board.types.graph self.new.board.types.graph }
     {
         let context = Context {
             own,
@@ -271,7 +272,8 @@ impl<'p> State<'p> {
         statement: &TypeStatement<'_>,
     ) -> ResolutionResult<()>
         requires { IsSound self.old.board.types.graph self.old.names }
-        ensures { OnOk result (IsSound self.new.board.types.graph self.new.names) }
+        ensures sound { OnOk result (IsSound self.new.board.types.graph self.new.names) }
+        ensures number { SameNumber self.old.board.types.graph self.new.board.types.graph }
     {
         let ty = self.declared(alloc, own, statement)?;
         let id = declared_id(statement);
@@ -293,7 +295,8 @@ impl<'p> State<'p> {
         statement: &LetStatement<'_>,
     ) -> ResolutionResult<()>
         requires { IsSound self.old.board.types.graph self.old.names }
-        ensures { OnOk result (IsSound self.new.board.types.graph self.new.names) }
+        ensures sound { OnOk result (IsSound self.new.board.types.graph self.new.names) }
+        ensures number { SameNumber self.old.board.types.graph self.new.board.types.graph }
     {
         let root = Root {
             alloc,
@@ -312,7 +315,8 @@ impl<'p> State<'p> {
         statement: &ExportStatement<'_>,
     ) -> ResolutionResult<()>
         requires { IsSound self.old.board.types.graph self.old.names }
-        ensures { OnOk result (IsSound self.new.board.types.graph self.new.names) }
+        ensures sound { OnOk result (IsSound self.new.board.types.graph self.new.names) }
+        ensures number { SameNumber self.old.board.types.graph self.new.board.types.graph }
     {
         let root = Root {
             alloc,
@@ -332,7 +336,8 @@ fn say_statement(
     alloc: Global,
 ) -> ResolutionResult<()>
     requires { IsSound state.old.board.types.graph state.old.names }
-    ensures { OnOk result (IsSound state.new.board.types.graph state.new.names) }
+    ensures sound { OnOk result (IsSound state.new.board.types.graph state.new.names) }
+    ensures number { SameNumber state.old.board.types.graph state.new.board.types.graph }
 {
     match statement {
         Statement::Import(statement) => state.import_statement(alloc, own, statement),
@@ -350,7 +355,8 @@ pub(crate) fn say_statements(
     alloc: Global,
 ) -> ResolutionResult<()>
     requires { IsSound state.old.board.types.graph state.old.names }
-    ensures { OnOk result (IsSound state.new.board.types.graph state.new.names) }
+    ensures sound { OnOk result (IsSound state.new.board.types.graph state.new.names) }
+    ensures number { SameNumber state.old.board.types.graph state.new.board.types.graph }
 {
     for statement in statements {
         say_statement(statement, own, &mut *state, alloc)?;

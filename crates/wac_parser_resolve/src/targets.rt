@@ -1,12 +1,18 @@
 //! The target world of a document, by the types that its statements ask.
 
-ghost use Rattle.std.specs.Prelude.{◌≡◌, IfOk, IfSome, OnOk, Some, []};
+ghost use Rattle.std.specs.Prelude.{◌≡◌, ◌⊎◌, ℕ, true, IfOk, IfNone, IfSome, IsOk, OnOk};
 ghost use Rattle.wac_types_base.specs.declared.item.ItemKind.{ItemKind};
 ghost use Rattle.wac_types_base.specs.Collection.{Stands};
+ghost use Rattle.wac_types_base.specs.Entries.{Name, value_at};
+ghost use Rattle.wac_types_base.specs.Graph.{Among};
 ghost use Rattle.wac_types_base.specs.Implicit.{shown};
+ghost use Rattle.wac_types_base.specs.Resolving.{promoted};
+ghost use Rattle.wac_types_fit.specs.Trees.{Fit};
 ghost use Rattle.wac_types_fit.specs.Targets.{target_import};
-ghost use Rattle.wac_types_fit.specs.TargetSteps.{AllStand, GivesStanding, KindStands};
+ghost use Rattle.wac_types_fit.specs.TargetSteps.{AllStand, GivesStanding};
+ghost use Rattle.wac_graph_core.specs.Edges.{HasArgument};
 ghost use Rattle.wac_graph_core.specs.Graph.{ContainsNode};
+ghost use Rattle.wac_parser_resolve.specs.Targeting.{AreExportsMet, AreFilledMet, IsExportMet, IsFilledMet, IsImportMet, IsInstanceMet, IsMet, IsPassed, IsStatementMet};
 
 use crate::board::{item_of, world_of};
 use crate::spans::Spans;
@@ -46,7 +52,9 @@ struct Place<'n> {
 }
 
 /// The mismatch that a check answers; none where it says yes.
-fn mismatch_of(checked: Result<(), SubtypeError>) -> Result<Option<SubtypeError>, AllocError> {
+fn mismatch_of(checked: Result<(), SubtypeError>) -> Result<Option<SubtypeError>, AllocError>
+    ensures { IfOk result (λ o. IfNone o (IsOk checked)) }
+{
     match checked {
         Ok(()) => Ok(None),
         Err(SubtypeError::Memory) => Err(AllocError),
@@ -64,6 +72,7 @@ fn mismatch(
 ) -> Result<Option<SubtypeError>, AllocError>
     requires given { Stands types.now given }
     requires asked { Stands types.now asked }
+    ensures { IfOk result (λ o. IfNone o (Fit types.now given types.now asked)) }
 {
     let mut cache = new_cache(alloc);
     let mut checker = SubtypeChecker::new(alloc, &mut cache);
@@ -77,6 +86,7 @@ fn mismatch(
 /// Whether something is passed to an instance under a name.
 fn is_passed(graph: &CompositionGraph, instance: NodeId, name: &str) -> bool
     requires { ContainsNode graph.now instance }
+    ensures { result ≡ true → IsPassed graph.now instance name.now }
 {
     for (own, _) in graph.get_instantiation_arguments(instance) {
         if own == name {
@@ -134,6 +144,7 @@ impl<'p, 'i, 't> Target<'p, 'i, 't> {
     ) -> ResolutionResult<()>
         requires given { Stands types.now given }
         requires asked { Stands types.now asked }
+        ensures { OnOk result (Fit types.now given types.now asked) }
     {
         let is_turned = matches!(place.kind, ExternKind::Import);
         match mismatch(self.alloc, types, given, asked, is_turned)? {
@@ -146,6 +157,7 @@ impl<'p, 'i, 't> Target<'p, 'i, 't> {
     fn import_met(&self, types: &Types, asked: Asked<'_>) -> ResolutionResult<()>
         requires given { GivesStanding types.now (target_import (shown self.now.implicit.now.entries) self.now.imports.now) }
         requires asked { Stands types.now asked.kind }
+        ensures { OnOk result (IsImportMet types.now (target_import (shown self.now.implicit.now.entries) self.now.imports.now) asked.entry.name.now asked.entry.kind) }
     {
         let place = Place {
             kind: ExternKind::Import,
@@ -167,6 +179,7 @@ impl<'p, 'i, 't> Target<'p, 'i, 't> {
     ) -> ResolutionResult<()>
         requires given { GivesStanding graph.now.types (target_import (shown self.now.implicit.now.entries) self.now.imports.now) }
         requires node { ContainsNode graph.now node }
+        ensures { OnOk result (IsStatementMet graph.now (target_import (shown self.now.implicit.now.entries) self.now.imports.now) node) }
     {
         match graph.get_import_name(node) {
             Some(name) => {
@@ -181,6 +194,30 @@ impl<'p, 'i, 't> Target<'p, 'i, 't> {
         }
     }
 
+    /// An import of an instance: something is passed to it, or the target gives it.
+    fn filled_one(
+        &self,
+        graph: &CompositionGraph,
+        instance: NodeId,
+        name: &str,
+        kind: ItemKind,
+    ) -> ResolutionResult<()>
+        requires given { GivesStanding graph.now.types (target_import (shown self.now.implicit.now.entries) self.now.imports.now) }
+        requires instance { ContainsNode graph.now instance }
+        requires kind { Stands graph.now.types kind }
+        ensures { OnOk result (IsFilledMet graph.now (target_import (shown self.now.implicit.now.entries) self.now.imports.now) instance name.now kind) }
+    {
+        if is_passed(graph, instance, name) {
+            return Ok(());
+        }
+        let asked = Asked {
+            name,
+            kind,
+            span: None,
+        };
+        self.import_met(graph.types(), asked)
+    }
+
     /// The imports of an instance to which nothing is passed.
     fn filled_met(
         &self,
@@ -191,60 +228,51 @@ impl<'p, 'i, 't> Target<'p, 'i, 't> {
         requires given { GivesStanding graph.now.types (target_import (shown self.now.implicit.now.entries) self.now.imports.now) }
         requires instance { ContainsNode graph.now instance }
         requires imports { AllStand graph.now.types imports.now }
+        ensures { OnOk result (AreFilledMet graph.now (target_import (shown self.now.implicit.now.entries) self.now.imports.now) instance imports.now) }
     {
         for at in 0..imports.len() {
             let (name, kind) = imports.entry(at);
-            if !is_passed(graph, instance, name) {
-                let asked = Asked {
-                    name,
-                    kind: *kind,
-                    span: None,
-                };
-                self.import_met(graph.types(), asked)?;
-            }
+            self.filled_one(graph, instance, name, *kind)?;
         }
         Ok(())
     }
 
     /// The imports that a node asks, where it is an instance.
+    #[tactic(auto, using(crate::proofs::TargetMet::instance))]
     fn instance_met(&self, graph: &CompositionGraph, node: NodeId) -> ResolutionResult<()>
         requires given { GivesStanding graph.now.types (target_import (shown self.now.implicit.now.entries) self.now.imports.now) }
         requires node { ContainsNode graph.now node }
+        ensures { OnOk result (IsInstanceMet graph.now (target_import (shown self.now.implicit.now.entries) self.now.imports.now) node) }
     {
+        graph.see_sound();
         match graph[node].package() {
             Some(id) => {
-                if graph.contains_package(id) {
-                    let world = world_of(graph, id);
-                    let imports = &graph.types().world(world).imports;
-                    self.filled_met(graph, node, imports)
-                } else {
-                    Ok(())
-                }
+                let world = world_of(graph, id);
+                let imports = &graph.types().world(world).imports;
+                self.filled_met(graph, node, imports)
             }
             None => Ok(()),
         }
     }
 
-    /// All imports: those of statements, then those of instances.
-    fn imports_met(&self, graph: &CompositionGraph, spans: &Spans) -> ResolutionResult<()>
+    /// The imports of all statements.
+    fn statements_met(&self, graph: &CompositionGraph, spans: &Spans) -> ResolutionResult<()>
         requires { GivesStanding graph.now.types (target_import (shown self.now.implicit.now.entries) self.now.imports.now) }
+        ensures { OnOk result ((k : ℕ) → IsStatementMet graph.now (target_import (shown self.now.implicit.now.entries) self.now.imports.now) k) }
     {
         for node in graph.node_ids() {
-            if graph.contains_node(node) {
-                self.explicit_met(graph, spans, node)?;
-            }
+            self.explicit_met(graph, spans, node)?;
         }
-        self.instances_met(graph)
+        Ok(())
     }
 
     /// The imports of all instances.
     fn instances_met(&self, graph: &CompositionGraph) -> ResolutionResult<()>
         requires { GivesStanding graph.now.types (target_import (shown self.now.implicit.now.entries) self.now.imports.now) }
+        ensures { OnOk result ((k : ℕ) → IsInstanceMet graph.now (target_import (shown self.now.implicit.now.entries) self.now.imports.now) k) }
     {
         for node in graph.node_ids() {
-            if graph.contains_node(node) {
-                self.instance_met(graph, node)?;
-            }
+            self.instance_met(graph, node)?;
         }
         Ok(())
     }
@@ -258,6 +286,7 @@ impl<'p, 'i, 't> Target<'p, 'i, 't> {
         kind: ItemKind,
     ) -> ResolutionResult<()>
         requires { Stands graph.now.types kind }
+        ensures { OnOk result (IsExportMet graph.now name.now kind) }
     {
         let types = graph.types();
         match exported(graph, name) {
@@ -281,6 +310,7 @@ impl<'p, 'i, 't> Target<'p, 'i, 't> {
         exports: &NamedMap<ItemKind>,
     ) -> ResolutionResult<()>
         requires { AllStand graph.now.types exports.now }
+        ensures { OnOk result (AreExportsMet graph.now exports.now) }
     {
         for at in 0..exports.len() {
             let (name, kind) = exports.entry(at);
@@ -292,14 +322,11 @@ impl<'p, 'i, 't> Target<'p, 'i, 't> {
 
 /// The node that is exported under a name.
 fn exported(graph: &CompositionGraph, name: &str) -> Option<NodeId>
-    ensures { IfSome result (λ node. ContainsNode graph.now node) }
+    ensures value { result ≡ value_at graph.now.exports name.now }
+    ensures stands { IfSome result (λ node. ContainsNode graph.now node) }
 {
-    let node = graph.get_export(name)?;
-    if graph.contains_node(node) {
-        Some(node)
-    } else {
-        None
-    }
+    graph.see_sound();
+    graph.get_export(name)
 }
 
 /// Why the implicit interfaces of a target are not to be had.
@@ -321,6 +348,7 @@ pub(crate) fn target_met(
     world: WorldId,
 ) -> ResolutionResult<()>
     requires { Stands graph.now.types (ItemKind.Component world) }
+    ensures { OnOk result (IsMet graph.now world) }
 {
     let types = graph.types();
     let wanted = types.world(world);
@@ -334,7 +362,8 @@ pub(crate) fn target_met(
                 implicit: &implicit,
                 imports: &wanted.imports,
             };
-            target.imports_met(graph, imports)?;
+            target.statements_met(graph, imports)?;
+            target.instances_met(graph)?;
             target.exports_met(graph, exports, &wanted.exports)
         }
     }

@@ -1,4 +1,4 @@
-use Rattle.wac_parser_resolve.proofs.Growing.{Later-instance, instance_there}
+use Rattle.wac_parser_resolve.proofs.Growing.{Inner-instance, instance_there}
 use Rattle.wac_parser_resolve.proofs.Fresh.{fresh_instance}
 use Rattle.wac_parser_resolve.proofs.calls.instantiate.Goals as goal
 
@@ -13,6 +13,6 @@ pub returns-in-Ok-clause-instance : goal.returns-in-Ok-clause-instance
 returns-in-Ok-clause-instance c =
     instance_there c.args.graph.now c.instantiate.new.self c.args.id c.in-Ok.node c.in-Ok.ensures.instantiated
 
-pub returns-in-Ok-clause-later : goal.returns-in-Ok-clause-later
-returns-in-Ok-clause-later c =
-    Later-instance c.args.graph.now c.instantiate.new.self c.args.id c.in-Ok.node c.in-Ok.ensures.instantiated
+pub returns-in-Ok-clause-inner : goal.returns-in-Ok-clause-inner
+returns-in-Ok-clause-inner c =
+    Inner-instance c.args.graph.now c.instantiate.new.self c.args.id c.in-Ok.node c.in-Ok.ensures.instantiated
