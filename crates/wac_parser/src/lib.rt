@@ -21,5 +21,13 @@ pub use wac_parser_tree::{
     WorldItemPath, WorldRef,
 };
 
+/// Documents and the graphs that they build.
+pub mod resolution {
+    pub use wac_parser_resolve::{
+        AstResolver, Error, InstanceOperation, PackageRef, Packages, Resolution, ResolutionResult,
+        ResolveDocument,
+    };
+}
+
 #[cfg(test)]
 mod tests;

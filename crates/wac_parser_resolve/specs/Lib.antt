@@ -7,3 +7,10 @@ pub mod Ascribed
 pub mod Rows
 pub mod RowLaws
 pub mod Laws
+pub mod Later
+pub mod Standing
+pub mod Told
+pub mod Targeting
+pub mod Resolved
+pub mod Processing
+pub mod Passing

@@ -1,0 +1,192 @@
+-- What stays when a graph grows.
+use Rattle.std.proofs.Common.{◌≡◌, ◌≢◌, ◌⊎◌, ℕ, List, [], ◌∷◌, ◌++◌, Option, Some, None, IsSome, refl, sym, ap, subst, ◌∙◌, inl, inr}
+use Rattle.std.specs.FinMap as map
+use Rattle.wac_types_base.specs.declared.item.ItemKind.{ItemKind}
+use Rattle.wac_types_base.specs.declared.item.«Type».{«Type» as TypeKind}
+use Rattle.wac_types_base.specs.declared.ids.WorldId.{WorldId}
+use Rattle.wac_types_base.proofs.Slots.{stands_typed_world}
+use Rattle.wac_types_base.specs.Record.{Collection}
+use Rattle.wac_types_base.specs.Entries.{Name}
+use Rattle.wac_types_base.specs.Graph.{Among}
+use Rattle.wac_types_base.specs.Collection.{Stands}
+use Rattle.wac_types_names.specs.Packaged.{Packaged}
+use Rattle.wac_graph_core.specs.declared.ids.PackageId.{PackageId}
+use Rattle.wac_graph_core.specs.declared.edge.Edge.{Edge}
+use Rattle.wac_graph_core.specs.Nodes.{NodeData, Role, plain_node, defined_node}
+use Rattle.wac_graph_core.specs.NodeMaps.{NodeMap, IsImport}
+use Rattle.wac_graph_core.specs.Edges.{alias_edge, HasAlias}
+use Rattle.wac_graph_core.specs.Graph.{Graph, node_at, ContainsNode, package_in, package_of, ContainsPackage, IsGraph}
+use Rattle.wac_graph_core.specs.Steps.{Imports, Instantiates, Aliases, SetsArgument, with_node, with_edges}
+use Rattle.wac_graph_core.specs.Defining.{DefinesType}
+use Rattle.wac_graph_core.specs.Exporting.{Exports, Names}
+use Rattle.wac_graph_core.proofs.NodeMap.{get-insert_same, get-insert_other}
+use Rattle.std.proofs.lemmas.Bool.{cases_eq}
+use Rattle.wac_graph_core.proofs.NodeSteps.{IsAbove, IsAbove-fresh, IsAbove-written, IsAbove-same, some_there}
+use Rattle.wac_parser_resolve.specs.Later.{Later, Inner}
+
+pub Later-nodes : (g h : Graph) → h.types ≡ g.types → h.places ≡ g.places → IsAbove g.nodes h.nodes → Later g h
+Later-nodes g h types places above = record {
+  number = ap (λ (c : Collection). c.number) types;
+  kinds = λ k s. subst (λ c. Stands c k) (sym types) s;
+  nodes = λ k s. some_there g.nodes h.nodes k above s;
+  packages = λ id s. subst (λ ps. IsSome (package_in ps id)) (sym places) s;
+}
+
+pub Later-refl : (g : Graph) → Later g g
+Later-refl g = record { number = refl; kinds = λ k s. s; nodes = λ k s. s; packages = λ id s. s }
+
+pub Later-same : (g h : Graph) → h ≡ g → Later g h
+Later-same g h same = subst (Later g) (sym same) (Later-refl g)
+
+pub Later-trans : (f g h : Graph) → Later f g → Later g h → Later f h
+Later-trans f g h a b = record {
+  number = b.number ∙ a.number;
+  kinds = λ k s. b.kinds k (a.kinds k s);
+  nodes = λ k s. b.nodes k (a.nodes k s);
+  packages = λ id s. b.packages id (a.packages id s);
+}
+
+-- ---- what expressions do
+
+pub Inner-refl : (g : Graph) → Inner g g
+Inner-refl g = record { later = Later-refl g; imports = λ k n i. i; exports = refl }
+
+pub Inner-same : (g h : Graph) → h ≡ g → Inner g h
+Inner-same g h same = subst (Inner g) (sym same) (Inner-refl g)
+
+pub Inner-trans : (f g h : Graph) → Inner f g → Inner g h → Inner f h
+Inner-trans f g h a b = record {
+  later = Later-trans f g h a.later b.later;
+  imports = λ k n i. a.imports k n (b.imports k n i);
+  exports = b.exports ∙ a.exports;
+}
+
+-- what is an import where a node was written was one before
+import_back : (m l : NodeMap) (k : ℕ) (x : NodeData) → l ≡ map.insert m k x → ((n : Name) → x.role ≡ Role.Imported n → IsImport m k n) → (j : ℕ) (n : Name) → IsImport l j n → IsImport m j n
+import_back m l k x is here j n i = elim (cases_eq j k) [
+  | inl same ↦
+      let at : map.get l j ≡ Some x = ap (map.get l) same ∙ ap (λ y. map.get y k) is ∙ get-insert_same m k x in
+      let e : Some i.node ≡ Some x = sym i.there ∙ at in
+      let node : i.node ≡ x = cc in
+      subst (λ y. IsImport m y n) (sym same) (here n (sym (ap (λ (y : NodeData). y.role) node) ∙ i.role))
+  | inr ne ↦ record { node = i.node; there = sym (get-insert_other m k x j ne) ∙ sym (ap (λ y. map.get y j) is) ∙ i.there; role = i.role }
+]
+
+-- ---- single calls
+
+fresh : (g h : Graph) (k : ℕ) (n : NodeData) → node_at g k ≡ None → h.types ≡ g.types → h.places ≡ g.places → h.nodes ≡ map.insert g.nodes k n → Later g h
+fresh g h k n free types places nodes = Later-nodes g h types places (subst (IsAbove g.nodes) (sym nodes) (IsAbove-fresh g.nodes k n free))
+
+pub Later-import : (g h : Graph) (n : Name) (kind : ItemKind) (k : ℕ) → Imports g h n kind k → Later g h
+Later-import g h n kind k s =
+    fresh g h k (plain_node (Role.Imported n) None kind) s.free (ap (λ (x : Graph). x.types) s.made) (ap (λ (x : Graph). x.places) s.made) (ap (λ (x : Graph). x.nodes) s.made)
+
+pub Later-instance : (g h : Graph) (id : PackageId) (k : ℕ) → Instantiates g h id k → Later g h
+Later-instance g h id k s =
+    fresh g h k (plain_node Role.Instance (Some id) (ItemKind.Instance s.of.instance_type)) s.free (ap (λ (x : Graph). x.types) s.made) (ap (λ (x : Graph). x.places) s.made) (ap (λ (x : Graph). x.nodes) s.made)
+
+pub Later-alias : (g h : Graph) (i : ℕ) (n : Name) (k : ℕ) → Aliases g h i n k → Later g h
+Later-alias g h i n k (inl again) = Later-same g h again.same
+Later-alias g h i n k (inr s) =
+    fresh g h k (plain_node Role.Aliased None s.item) s.free (ap (λ (x : Graph). x.types) s.made) (ap (λ (x : Graph). x.places) s.made) (ap (λ (x : Graph). x.nodes) s.made)
+
+pub Later-set : (g h : Graph) (i : ℕ) (n : Name) (a : ℕ) → SetsArgument g h i n a → Later g h
+Later-set g h i n a s = elim s.step [
+  | inl keep ↦ Later-same g h keep.same
+  | inr add ↦ Later-nodes g h (ap (λ (x : Graph). x.types) add.made) (ap (λ (x : Graph). x.places) add.made)
+      (subst (IsAbove g.nodes) (sym (ap (λ (x : Graph). x.nodes) add.made)) (IsAbove-same g.nodes))
+]
+
+pub Later-define : (g h : Graph) (n : Name) (t : TypeKind) (k : ℕ) → DefinesType g h n t k → Later g h
+Later-define g h n t k s =
+    fresh g h k (defined_node t n) s.free (ap (λ (x : Graph). x.types) s.made) (ap (λ (x : Graph). x.places) s.made) (ap (λ (x : Graph). x.nodes) s.made)
+
+inner_fresh : (g h : Graph) (k : ℕ) (x : NodeData) → Later g h → h.nodes ≡ map.insert g.nodes k x → ((n : Name) → x.role ≡ Role.Imported n → ⊥) → h.exports ≡ g.exports → Inner g h
+inner_fresh g h k x later nodes other exports =
+    record { later = later; imports = import_back g.nodes h.nodes k x nodes (λ n e. absurd (other n e)); exports = exports }
+
+no_import : (r : Role) (n : Name) → r ≡ Role.Instance ⊎ (r ≡ Role.Aliased) → r ≡ Role.Imported n → ⊥
+no_import r n (inl a) b = absurd (cc (a, b))
+no_import r n (inr a) b = absurd (cc (a, b))
+
+pub Inner-instance : (g h : Graph) (id : PackageId) (k : ℕ) → Instantiates g h id k → Inner g h
+Inner-instance g h id k s =
+    let x : NodeData = plain_node Role.Instance (Some id) (ItemKind.Instance s.of.instance_type) in
+    inner_fresh g h k x (Later-instance g h id k s) (ap (λ (y : Graph). y.nodes) s.made) (λ n e. no_import Role.Instance n (inl refl) e) (ap (λ (y : Graph). y.exports) s.made)
+
+pub Inner-alias : (g h : Graph) (i : ℕ) (n : Name) (k : ℕ) → Aliases g h i n k → Inner g h
+Inner-alias g h i n k (inl again) = Inner-same g h again.same
+Inner-alias g h i n k (inr s) =
+    let x : NodeData = plain_node Role.Aliased None s.item in
+    inner_fresh g h k x (Later-alias g h i n k (inr s)) (ap (λ (y : Graph). y.nodes) s.made) (λ m e. no_import Role.Aliased m (inr refl) e) (ap (λ (y : Graph). y.exports) s.made)
+
+pub Inner-set : (g h : Graph) (i : ℕ) (n : Name) (a : ℕ) → SetsArgument g h i n a → Inner g h
+Inner-set g h i n a s = elim s.step [
+  | inl keep ↦ Inner-same g h keep.same
+  | inr add ↦ record {
+    later = Later-set g h i n a s;
+    imports = λ k m is. subst (λ y. IsImport y k m) (ap (λ (x : Graph). x.nodes) add.made) is;
+    exports = ap (λ (x : Graph). x.exports) add.made;
+  }
+]
+
+written : (g h : Graph) (k : ℕ) (n o : NodeData) → node_at g k ≡ Some o → o.role ≡ n.role → o.of ≡ n.of → o.item_kind ≡ n.item_kind → h.types ≡ g.types → h.places ≡ g.places → h.nodes ≡ map.insert g.nodes k n → Later g h
+written g h k n o at role of item types places nodes = Later-nodes g h types places (subst (IsAbove g.nodes) (sym nodes) (IsAbove-written g.nodes k n o at role of item))
+
+pub Later-export : (g h : Graph) (k : ℕ) (n : Name) → Exports g h k n → Later g h
+Later-export g h k n s =
+    written g h k (record s.node { export = Some n }) s.node s.there refl refl refl (ap (λ (x : Graph). x.types) s.made) (ap (λ (x : Graph). x.places) s.made) (ap (λ (x : Graph). x.nodes) s.made)
+
+pub Later-names : (g h : Graph) (k : ℕ) (n : Name) → Names g h k n → Later g h
+Later-names g h k n s =
+    written g h k (record s.node { name = Some n }) s.node s.there refl refl refl (ap (λ (x : Graph). x.types) s.made) (ap (λ (x : Graph). x.places) s.made) (ap (λ (x : Graph). x.nodes) s.made)
+
+pub Inner-names : (g h : Graph) (k : ℕ) (n : Name) → Names g h k n → Inner g h
+Inner-names g h k n s =
+    let x : NodeData = record s.node { name = Some n } in
+    record {
+      later = Later-names g h k n s;
+      imports = import_back g.nodes h.nodes k x (ap (λ (y : Graph). y.nodes) s.made) (λ m e. record { node = s.node; there = s.there; role = e });
+      exports = ap (λ (y : Graph). y.exports) s.made;
+    }
+
+-- ---- what is made stands
+
+there : (h : Graph) (m : NodeMap) (k : ℕ) (n : NodeData) → h.nodes ≡ map.insert m k n → ContainsNode h k
+there h m k n nodes = subst IsSome (sym (ap (λ l. map.get l k) nodes ∙ get-insert_same m k n)) refl
+
+pub import_there : (g h : Graph) (n : Name) (kind : ItemKind) (k : ℕ) → Imports g h n kind k → ContainsNode h k
+import_there g h n kind k s = there h g.nodes k (plain_node (Role.Imported n) None kind) (ap (λ (x : Graph). x.nodes) s.made)
+
+pub instance_there : (g h : Graph) (id : PackageId) (k : ℕ) → Instantiates g h id k → ContainsNode h k
+instance_there g h id k s = there h g.nodes k (plain_node Role.Instance (Some id) (ItemKind.Instance s.of.instance_type)) (ap (λ (x : Graph). x.nodes) s.made)
+
+pub definition_there : (g h : Graph) (n : Name) (t : TypeKind) (k : ℕ) → DefinesType g h n t k → ContainsNode h k
+definition_there g h n t k s = there h g.nodes k (defined_node t n) (ap (λ (x : Graph). x.nodes) s.made)
+
+alias_here : (g h : Graph) (i : ℕ) (n : Name) (k : ℕ) → Aliases g h i n k → HasAlias h.edges i n k
+alias_here g h i n k (inl again) = subst (Among (alias_edge i k n)) (sym (ap (λ (x : Graph). x.edges) again.same)) again.there
+alias_here g h i n k (inr made) = (made.edges (alias_edge i k n)).1 (inr refl)
+
+pub alias_there : (g h : Graph) (i : ℕ) (n : Name) (k : ℕ) → IsGraph h → Aliases g h i n k → ContainsNode h k
+alias_there g h i n k is a = (is.wired.edges (alias_edge i k n) (alias_here g h i n k a)).to
+
+-- ---- what stands in a graph
+
+some_is : {A : Type 0} {x y : A} → Some x ≡ Some y → x ≡ y
+some_is e = cc
+
+pub item_stands : (g : Graph) (k : ℕ) (n : NodeData) → IsGraph g → node_at g k ≡ Some n → Stands g.types n.item_kind
+item_stands g k n is at = (is.nodes k n at).item
+
+pub package_stands : (g : Graph) (id : PackageId) (p : Packaged) → IsGraph g → package_of g id ≡ Some p → Stands g.types (ItemKind.Component p.ty)
+package_stands g id p is at = (is.packages.stand id p at).world
+
+pub ruleset calling = (Later-same, Later-import, Later-define, Later-export, Inner-same, Inner-instance, Inner-set, Inner-names, import_there, instance_there, definition_there)
+
+pub ruleset standing = (item_stands, package_stands)
+
+-- ---- types of things
+
+pub world_stands : (c : Collection) (k : ItemKind) (id : WorldId) → k ≡ ItemKind.Ty (TypeKind.World id) → Stands c k → Stands c (ItemKind.Component id)
+world_stands c k id e s = stands_typed_world c id (subst (Stands c) e s)

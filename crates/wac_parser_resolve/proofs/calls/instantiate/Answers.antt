@@ -1,0 +1,18 @@
+use Rattle.wac_parser_resolve.proofs.Growing.{Inner-instance, instance_there}
+use Rattle.wac_parser_resolve.proofs.Fresh.{fresh_instance}
+use Rattle.wac_parser_resolve.proofs.calls.instantiate.Goals as goal
+
+pub returns-in-Ok-clause-free : goal.returns-in-Ok-clause-free
+returns-in-Ok-clause-free c = c.in-Ok.ensures.instantiated.free
+
+pub returns-in-Ok-clause-fresh : goal.returns-in-Ok-clause-fresh
+returns-in-Ok-clause-fresh c =
+    fresh_instance c.args.graph.now c.instantiate.new.self c.args.id c.in-Ok.node c.see_sound.ensures c.in-Ok.ensures.instantiated
+
+pub returns-in-Ok-clause-instance : goal.returns-in-Ok-clause-instance
+returns-in-Ok-clause-instance c =
+    instance_there c.args.graph.now c.instantiate.new.self c.args.id c.in-Ok.node c.in-Ok.ensures.instantiated
+
+pub returns-in-Ok-clause-inner : goal.returns-in-Ok-clause-inner
+returns-in-Ok-clause-inner c =
+    Inner-instance c.args.graph.now c.instantiate.new.self c.args.id c.in-Ok.node c.in-Ok.ensures.instantiated

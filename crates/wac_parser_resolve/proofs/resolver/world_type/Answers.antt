@@ -1,0 +1,7 @@
+use Rattle.std.proofs.Common.{ap}
+use Rattle.wac_types_base.specs.declared.item.ItemKind.{ItemKind}
+use Rattle.wac_parser_resolve.proofs.Growing.{world_stands}
+use Rattle.wac_parser_resolve.proofs.resolver.world_type.Goals as goal
+
+pub returns-in-World : goal.returns-in-World
+returns-in-World c = world_stands c.args.types.now (ItemKind.Ty c.args.ty) c.in-World.id (ap ItemKind.Ty c.in-World.is) c.requires

@@ -1,0 +1,178 @@
+//! Calls of the graph, and the faults of a document that their refusals are.
+#![tactic(auto, using(crate::proofs::Growing::calling))]
+
+ghost use Rattle.std.specs.Prelude.{◌≡◌, ◌≢◌, None, IfOk, OnOk};
+ghost use Rattle.wac_types_base.specs.declared.item.ItemKind.{ItemKind};
+ghost use Rattle.wac_types_base.specs.Collection.{Stands};
+ghost use Rattle.wac_graph_core.specs.Graph.{ContainsNode, ContainsPackage, node_at};
+ghost use Rattle.wac_parser_resolve.specs.Later.{Inner, Later};
+ghost use Rattle.wac_parser_resolve.specs.Standing.{IsFresh};
+
+use crate::board::not_an_instance;
+use std::alloc::AllocError;
+use wac_graph_core::{
+    AliasError, CompositionGraph, DefineTypeError, ExportError, ImportError,
+    InstantiationArgumentError, NodeId, PackageId,
+};
+use wac_parser_declare::{Error, InstanceOperation, ResolutionResult};
+use wac_parser_lexer::SourceSpan;
+use wac_types_base::{ItemKind, Type};
+
+/// What is done with an instance: where the instance stands, and where the access does.
+#[derive(Clone, Copy)]
+pub(crate) struct Access {
+    pub(crate) operation: InstanceOperation,
+    pub(crate) instance: SourceSpan,
+    pub(crate) access: SourceSpan,
+}
+
+fn alias_fault(graph: &CompositionGraph, node: NodeId, access: Access, fault: AliasError) -> Error
+    requires { ContainsNode graph.now node }
+{
+    match fault {
+        AliasError::NodeIsNotAnInstance { .. } => {
+            not_an_instance(graph, node, access.operation, access.instance)
+        }
+        AliasError::InstanceMissingExport { export, .. } => Error::MissingInstanceExport {
+            name: export,
+            span: access.access,
+        },
+        AliasError::Memory => Error::Memory,
+    }
+}
+
+/// The node of an export of an instance.
+pub(crate) fn alias(
+    graph: &mut CompositionGraph,
+    node: NodeId,
+    name: &str,
+    access: Access,
+) -> ResolutionResult<NodeId>
+    requires { ContainsNode graph.old node }
+    ensures alias { IfOk result (λ k. ContainsNode graph.new k) }
+    ensures inner { Inner graph.old graph.new }
+{
+    match graph.alias_instance_export(node, name) {
+        Ok(alias) => {
+            graph.see_sound();
+            Ok(alias)
+        }
+        Err(fault) => Err(alias_fault(graph, node, access, fault)),
+    }
+}
+
+/// A new instance of a package.
+pub(crate) fn instantiate(graph: &mut CompositionGraph, id: PackageId) -> Result<NodeId, AllocError>
+    requires { ContainsPackage graph.old id }
+    ensures free { IfOk result (λ k. node_at graph.old k ≡ None) }
+    ensures fresh { IfOk result (λ k. IsFresh graph.new k) }
+    ensures instance { IfOk result (λ k. ContainsNode graph.new k) }
+    ensures inner { Inner graph.old graph.new }
+{
+    graph.see_sound();
+    match graph.instantiate(id) {
+        Ok(node) => Ok(node),
+        Err(fault) => Err(fault),
+    }
+}
+
+/// Passes a node to an instance that is new, where nothing else is passed under the name.
+pub(crate) fn pass(
+    graph: &mut CompositionGraph,
+    instance: NodeId,
+    name: &str,
+    node: NodeId,
+    span: SourceSpan,
+) -> ResolutionResult<()>
+    requires instance { ContainsNode graph.old instance }
+    requires node { ContainsNode graph.old node }
+    requires fresh { IsFresh graph.old instance }
+    requires apart { node ≢ instance }
+    ensures fresh { OnOk result (IsFresh graph.new instance) }
+    ensures inner { Inner graph.old graph.new }
+{
+    match graph.set_instantiation_argument(instance, name, node) {
+        Ok(()) => Ok(()),
+        Err(InstantiationArgumentError::NodeIsNotAnInstantiation { .. }) => unreachable!(),
+        Err(InstantiationArgumentError::WouldFormCycle { .. }) => unreachable!(),
+        Err(InstantiationArgumentError::InvalidArgumentName { name, package, .. }) => {
+            Err(Error::MissingComponentImport {
+                package,
+                import: name,
+                span,
+            })
+        }
+        Err(InstantiationArgumentError::ArgumentTypeMismatch { name, source }) => {
+            Err(Error::MismatchedInstantiationArg { name, span, source })
+        }
+        Err(InstantiationArgumentError::ArgumentAlreadyPassed { name, .. }) => {
+            Err(Error::DuplicateInstantiationArg { name, span })
+        }
+        Err(InstantiationArgumentError::Memory) => Err(Error::Memory),
+    }
+}
+
+/// Adds an import.
+pub(crate) fn import(
+    graph: &mut CompositionGraph,
+    name: &str,
+    kind: ItemKind,
+) -> Result<NodeId, ImportError>
+    requires { Stands graph.old.types kind }
+    ensures import { IfOk result (λ k. ContainsNode graph.new k) }
+    ensures later { Later graph.old graph.new }
+{
+    match graph.import(name, kind) {
+        Ok(node) => Ok(node),
+        Err(fault) => Err(fault),
+    }
+}
+
+/// Exports a node.
+pub(crate) fn export(
+    graph: &mut CompositionGraph,
+    node: NodeId,
+    name: &str,
+) -> Result<(), ExportError>
+    requires { ContainsNode graph.old node }
+    ensures later { Later graph.old graph.new }
+{
+    match graph.export(node, name) {
+        Ok(()) => Ok(()),
+        Err(fault) => Err(fault),
+    }
+}
+
+/// Defines a type.
+pub(crate) fn define(
+    graph: &mut CompositionGraph,
+    name: &str,
+    ty: Type,
+) -> Result<NodeId, DefineTypeError>
+    requires { Stands graph.old.types (ItemKind.Ty ty) }
+    ensures definition { IfOk result (λ k. ContainsNode graph.new k) }
+    ensures later { Later graph.old graph.new }
+{
+    match graph.define_type(name, ty) {
+        Ok(node) => Ok(node),
+        Err(fault) => Err(fault),
+    }
+}
+
+/// Gives a node a name, where it has none.
+pub(crate) fn name_once(
+    graph: &mut CompositionGraph,
+    node: NodeId,
+    name: &str,
+) -> Result<(), AllocError>
+    requires { ContainsNode graph.old node }
+    ensures inner { Inner graph.old graph.new }
+{
+    if graph[node].name().is_some() {
+        return Ok(());
+    }
+    match graph.set_node_name(node, name) {
+        Ok(()) => Ok(()),
+        Err(fault) => Err(fault),
+    }
+}

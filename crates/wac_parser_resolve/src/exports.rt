@@ -1,0 +1,279 @@
+//! Exports of a document.
+#![tactic(auto, using(crate::proofs::SoundGraph::growing))]
+
+ghost use Rattle.std.specs.Prelude.{◌≡◌, IfOk, OnOk, IfSome};
+ghost use Rattle.std.specs.Option.{option_copied};
+ghost use Rattle.wac_types_base.specs.declared.item.ItemKind.{ItemKind};
+ghost use Rattle.wac_types_base.specs.Collection.{Stands};
+ghost use Rattle.wac_graph_core.specs.Graph.{ContainsNode};
+ghost use Rattle.wac_parser_resolve.specs.Later.{Later, SameNumber};
+ghost use Rattle.wac_parser_resolve.specs.Standing.{IsSound};
+ghost use Rattle.wac_parser_resolve.specs.Told.{IsInferred};
+
+use crate::board::{identifier_of, instance_of, own_name, word_of};
+use crate::calls::{Access, alias, export};
+use crate::spans::Spans;
+use crate::state::State;
+use std::alloc::{AllocError, Global};
+use wac_graph_core::{CompositionGraph, ExportError, NodeId, NodeKind};
+use wac_parser_declare::{AS_HELP, Binding, Error, InstanceOperation, ResolutionResult};
+use wac_parser_lexer::SourceSpan;
+use wac_parser_tree::ExportOptions;
+use wac_types_base::{ExternKind, InterfaceId, NamedMap};
+
+/// The name of an export: its text, where it stands, and whether another name may help.
+#[derive(Clone, Copy)]
+struct ExportName<'n> {
+    text: &'n str,
+    span: SourceSpan,
+    is_helped: bool,
+}
+
+/// The help, where another name may do.
+pub(crate) fn help(is_helped: bool) -> Option<&'static str> {
+    if is_helped { Some(AS_HELP) } else { None }
+}
+
+/// Whether a node is a definition.
+fn is_definition(graph: &CompositionGraph, node: NodeId) -> bool
+    requires { ContainsNode graph.now node }
+{
+    matches!(graph[node].kind(), NodeKind::Definition)
+}
+
+/// A definition: its node, and where its name was given.
+#[derive(Clone, Copy)]
+struct Definition {
+    node: NodeId,
+    span: SourceSpan,
+}
+
+/// The definition that a name of the root denotes.
+fn definition_of(
+    graph: &CompositionGraph,
+    names: &NamedMap<Binding>,
+    nodes: &NamedMap<NodeId>,
+    name: &str,
+) -> Option<Definition>
+    ensures { IfSome result (λ d. ContainsNode graph.now d.node) }
+{
+    let node = *nodes.get(name)?;
+    let span = names.get(name)?.span;
+    if !graph.contains_node(node) {
+        return None;
+    }
+    if is_definition(graph, node) {
+        Some(Definition { node, span })
+    } else {
+        None
+    }
+}
+
+/// The export of a name that denotes a definition.
+fn export_conflict(
+    alloc: Global,
+    word: &'static str,
+    definition: SourceSpan,
+    name: ExportName<'_>,
+) -> Error {
+    let Ok(text) = String::from_str(alloc, name.text) else {
+        return Error::Memory;
+    };
+    Error::ExportConflict {
+        name: text,
+        kind: word,
+        span: name.span,
+        definition,
+        help: help(name.is_helped),
+    }
+}
+
+fn export_fault(spans: &Spans, name: ExportName<'_>, fault: ExportError) -> Error {
+    match fault {
+        ExportError::ExportAlreadyExists { name: text, node } => Error::DuplicateExternName {
+            name: text,
+            kind: ExternKind::Export,
+            span: name.span,
+            previous: spans.of_or(node, name.span),
+            help: help(name.is_helped),
+        },
+        ExportError::InvalidExportName { name: text, source } => Error::InvalidExternName {
+            name: text,
+            kind: ExternKind::Export,
+            span: name.span,
+            source,
+        },
+        ExportError::Memory => Error::Memory,
+    }
+}
+
+/// The name of an export that is written without one: the identifier of an instance, else the name of the import or the
+/// alias.
+fn inferred_name(graph: &CompositionGraph, node: NodeId) -> Option<&str>
+    requires { ContainsNode graph.now node }
+    ensures { IsInferred graph.now node (option_copied result) }
+{
+    match identifier_of(graph, node) {
+        Some(name) => Some(name),
+        None => own_name(graph, node),
+    }
+}
+
+/// The exports of an interface that are not exported yet.
+fn unexported(
+    alloc: Global,
+    graph: &CompositionGraph,
+    interface: InterfaceId,
+) -> Result<Vec<String>, AllocError>
+    requires { Stands graph.now.types (ItemKind.Instance interface) }
+{
+    let mut names = Vec::new(alloc);
+    for name in graph.types().interface(interface).exports.names() {
+        if graph.get_export(name.as_str()).is_none() {
+            names.push(String::from_str(alloc, name.as_str())?)?;
+        }
+    }
+    Ok(names)
+}
+
+impl<'p> State<'p> {
+    /// Exports a node under a name that denotes no definition.
+    fn export(&mut self, alloc: Global, node: NodeId, name: ExportName<'_>) -> ResolutionResult<()>
+        requires node { ContainsNode self.old.board.types.graph node }
+        requires sound { IsSound self.old.board.types.graph self.old.names }
+        ensures sound { OnOk result (IsSound self.new.board.types.graph self.new.names) }
+        ensures later { Later self.old.board.types.graph self.new.board.types.graph }
+    {
+        let graph = &mut self.board.types.graph;
+        if let Some(other) = definition_of(graph, &self.names, &self.nodes, name.text) {
+            let word = word_of(graph, other.node);
+            return Err(export_conflict(alloc, word, other.span, name));
+        }
+        match export(graph, node, name.text) {
+            Ok(()) => {
+                self.exports.note(node, name.span)?;
+                Ok(())
+            }
+            Err(fault) => Err(export_fault(&self.exports, name, fault)),
+        }
+    }
+
+    /// Exports a node under the name that it tells.
+    fn export_inferred(
+        &mut self,
+        alloc: Global,
+        node: NodeId,
+        span: SourceSpan,
+    ) -> ResolutionResult<()>
+        requires node { ContainsNode self.old.board.types.graph node }
+        requires sound { IsSound self.old.board.types.graph self.old.names }
+        ensures sound { OnOk result (IsSound self.new.board.types.graph self.new.names) }
+        ensures number { SameNumber self.old.board.types.graph self.new.board.types.graph }
+    {
+        let name = match inferred_name(&self.board.types.graph, node) {
+            Some(name) => String::from_str(alloc, name)?,
+            None => return Err(Error::ExportRequiresAs { span }),
+        };
+        let name = ExportName {
+            text: name.as_str(),
+            span,
+            is_helped: true,
+        };
+        self.export(alloc, node, name)
+    }
+
+    /// Exports an export of an instance under its name.
+    fn export_one(
+        &mut self,
+        alloc: Global,
+        node: NodeId,
+        access: Access,
+        text: &str,
+    ) -> ResolutionResult<()>
+        requires node { ContainsNode self.old.board.types.graph node }
+        requires sound { IsSound self.old.board.types.graph self.old.names }
+        ensures sound { OnOk result (IsSound self.new.board.types.graph self.new.names) }
+        ensures later { Later self.old.board.types.graph self.new.board.types.graph }
+    {
+        let one = alias(&mut self.board.types.graph, node, text, access)?;
+        let name = ExportName {
+            text,
+            span: access.access,
+            is_helped: false,
+        };
+        self.export(alloc, one, name)
+    }
+
+    /// Exports the exports of these names.
+    fn export_all(
+        &mut self,
+        alloc: Global,
+        node: NodeId,
+        access: Access,
+        names: &Vec<String>,
+    ) -> ResolutionResult<()>
+        requires node { ContainsNode self.old.board.types.graph node }
+        requires sound { IsSound self.old.board.types.graph self.old.names }
+        ensures sound { OnOk result (IsSound self.new.board.types.graph self.new.names) }
+        ensures number { SameNumber self.old.board.types.graph self.new.board.types.graph }
+    {
+        for name in names {
+            self.export_one(alloc, node, access, name.as_str())?;
+        }
+        Ok(())
+    }
+
+    /// Exports each export of an instance that is not exported yet. `span` is the expression's, `dots` that of `...`.
+    fn export_spread(
+        &mut self,
+        alloc: Global,
+        node: NodeId,
+        span: SourceSpan,
+        dots: SourceSpan,
+    ) -> ResolutionResult<()>
+        requires node { ContainsNode self.old.board.types.graph node }
+        requires sound { IsSound self.old.board.types.graph self.old.names }
+        ensures sound { OnOk result (IsSound self.new.board.types.graph self.new.names) }
+        ensures number { SameNumber self.old.board.types.graph self.new.board.types.graph }
+    {
+        let graph = &self.board.types.graph;
+        let interface = instance_of(graph, node, InstanceOperation::Spread, span)?;
+        let names = unexported(alloc, graph, interface)?;
+        if names.is_empty() {
+            return Err(Error::SpreadExportNoEffect { span });
+        }
+        let access = Access {
+            operation: InstanceOperation::Spread,
+            instance: span,
+            access: dots,
+        };
+        self.export_all(alloc, node, access, &names)
+    }
+
+    /// Exports what an expression denotes.
+    pub(crate) fn export_as(
+        &mut self,
+        alloc: Global,
+        node: NodeId,
+        span: SourceSpan,
+        options: &ExportOptions<'_>,
+    ) -> ResolutionResult<()>
+        requires node { ContainsNode self.old.board.types.graph node }
+        requires sound { IsSound self.old.board.types.graph self.old.names }
+        ensures sound { OnOk result (IsSound self.new.board.types.graph self.new.names) }
+        ensures number { SameNumber self.old.board.types.graph self.new.board.types.graph }
+    {
+        match options {
+            ExportOptions::None => self.export_inferred(alloc, node, span),
+            ExportOptions::Spread(dots) => self.export_spread(alloc, node, span, *dots),
+            ExportOptions::Rename(name) => {
+                let name = ExportName {
+                    text: name.as_str(),
+                    span: name.span(),
+                    is_helped: false,
+                };
+                self.export(alloc, node, name)
+            }
+        }
+    }
+}

@@ -1,0 +1,276 @@
+//! What expressions denote.
+#![tactic(auto, using(crate::proofs::SoundGraph::inside))]
+
+ghost use Rattle.std.specs.Prelude.{◌≡◌, ◌≢◌, IfOk, OnOk};
+ghost use Rattle.wac_types_base.specs.declared.item.ItemKind.{ItemKind};
+ghost use Rattle.wac_types_base.specs.Collection.{Stands};
+ghost use Rattle.wac_graph_core.specs.Graph.{ContainsNode, ContainsPackage};
+ghost use Rattle.wac_parser_resolve.specs.Later.{Inner};
+ghost use Rattle.wac_parser_resolve.specs.Passing.{IsLater};
+ghost use Rattle.wac_parser_resolve.specs.Standing.{AreThere};
+
+use crate::arguments::{
+    Given, argument_name, complete, give, inferred, is_filled, pass_all, spreads,
+};
+use crate::board::{Board, instance_of, world_of};
+use crate::calls::{Access, alias, instantiate};
+use crate::names::matched;
+use crate::root::Root;
+use std::alloc::{AllocError, Global};
+use wac_graph_core::{CompositionGraph, NodeId, PackageId};
+use wac_parser_declare::{Error, InstanceOperation, ResolutionResult, unknown_package};
+use wac_parser_lexer::SourceSpan;
+use wac_parser_tree::{
+    Expr, Ident, InstantiationArgument, NamedInstantiationArgument, NewExpr, PackageName,
+    PostfixExpr, PrimaryExpr,
+};
+use wac_types_base::WorldId;
+
+/// The export that a name means.
+fn export_meant(
+    alloc: Global,
+    graph: &CompositionGraph,
+    node: NodeId,
+    before: SourceSpan,
+    name: &str,
+) -> ResolutionResult<String>
+    requires { ContainsNode graph.now node }
+{
+    let id = instance_of(graph, node, InstanceOperation::Access, before)?;
+    let exports = &graph.types().interface(id).exports;
+    Ok(String::from_str(alloc, matched(exports, name))?)
+}
+
+/// The node of one access.
+fn access(
+    alloc: Global,
+    graph: &mut CompositionGraph,
+    node: NodeId,
+    before: SourceSpan,
+    one: &PostfixExpr<'_>,
+) -> ResolutionResult<NodeId>
+    requires { ContainsNode graph.old node }
+    ensures node { IfOk result (λ k. ContainsNode graph.new k) }
+    ensures inner { Inner graph.old graph.new }
+{
+    let access = Access {
+        operation: InstanceOperation::Access,
+        instance: before,
+        access: one.span(),
+    };
+    match one {
+        PostfixExpr::Access(one) => {
+            let name = export_meant(alloc, graph, node, before, one.id.string)?;
+            alias(graph, node, name.as_str(), access)
+        }
+        PostfixExpr::NamedAccess(one) => alias(graph, node, one.string.value, access),
+    }
+}
+
+/// The node of accesses, one behind the other.
+fn accesses(
+    alloc: Global,
+    graph: &mut CompositionGraph,
+    first: NodeId,
+    before: SourceSpan,
+    list: &Vec<PostfixExpr<'_>>,
+) -> ResolutionResult<NodeId>
+    requires { ContainsNode graph.old first }
+    ensures node { IfOk result (λ k. ContainsNode graph.new k) }
+    ensures inner { Inner graph.old graph.new }
+{
+    let mut node = first;
+    let mut span = before;
+    for one in list {
+        node = access(alloc, graph, node, span, one)?;
+        span = one.span();
+    }
+    Ok(node)
+}
+
+/// The package that an instantiation names: never the document's own.
+fn new_package(
+    root: Root<'_, '_>,
+    board: &mut Board<'_>,
+    name: &PackageName<'_>,
+) -> ResolutionResult<PackageId>
+    ensures id { IfOk result (λ id. ContainsPackage board.new.types.graph id) }
+    ensures own { OnOk result (name.now.name.now ≢ root.entry.own.now) }
+    ensures inner { Inner board.old.types.graph board.new.types.graph }
+{
+    if name.name == root.own {
+        return Err(unknown_package(root.alloc, name.name, name.span));
+    }
+    board
+        .types
+        .package(root.alloc, name.name, name.version.as_ref(), name.span)
+}
+
+/// The instance that the arguments make.
+fn finish(
+    alloc: Global,
+    board: &mut Board<'_>,
+    id: PackageId,
+    new: &NewExpr<'_>,
+    given: Vec<Given>,
+) -> ResolutionResult<NodeId>
+    requires id { ContainsPackage board.old.types.graph id }
+    requires given { AreThere board.old.types.graph given.items }
+    ensures node { IfOk result (λ k. ContainsNode board.new.types.graph k) }
+    ensures inner { Inner board.old.types.graph board.new.types.graph }
+{
+    let world = world_of(&board.types.graph, id);
+    let instance = instantiate(&mut board.types.graph, id)?;
+    board.instances.note(instance, new.package.span)?;
+    pass_all(&mut board.types.graph, instance, &given)?;
+    if !is_filled(&new.arguments) {
+        complete(
+            alloc,
+            board.types.graph.types(),
+            world,
+            &new.package,
+            &given,
+        )?;
+    }
+    Ok(instance)
+}
+
+/// The node that an expression denotes.
+#[cycle(expr)]
+pub(crate) fn expression(
+    root: Root<'_, '_>,
+    board: &mut Board<'_>,
+    expr: &Expr<'_>,
+) -> ResolutionResult<NodeId>
+    ensures node { IfOk result (λ k. ContainsNode board.new.types.graph k) }
+    ensures inner { Inner board.old.types.graph board.new.types.graph }
+{
+    let first = primary(root, board, &expr.primary)?;
+    accesses(
+        root.alloc,
+        &mut board.types.graph,
+        first,
+        expr.primary.span(),
+        &expr.postfix,
+    )
+}
+
+/// The node that a primary expression denotes.
+#[cycle(expr)]
+fn primary(
+    root: Root<'_, '_>,
+    board: &mut Board<'_>,
+    expr: &PrimaryExpr<'_>,
+) -> ResolutionResult<NodeId>
+    ensures node { IfOk result (λ k. ContainsNode board.new.types.graph k) }
+    ensures inner { Inner board.old.types.graph board.new.types.graph }
+{
+    match expr {
+        PrimaryExpr::New(new) => instance(root, board, new),
+        PrimaryExpr::Nested(nested) => expression(root, board, &nested.inner),
+        PrimaryExpr::Ident(id) => root.node(&board.types.graph, id),
+    }
+}
+
+/// A new instance of a package.
+#[cycle(expr)]
+fn instance(
+    root: Root<'_, '_>,
+    board: &mut Board<'_>,
+    new: &NewExpr<'_>,
+) -> ResolutionResult<NodeId>
+    ensures node { IfOk result (λ k. ContainsNode board.new.types.graph k) }
+    ensures inner { Inner board.old.types.graph board.new.types.graph }
+{
+    let id = new_package(root, board, &new.package)?;
+    let world = world_of(&board.types.graph, id);
+    let mut given = Vec::new(root.alloc);
+    arguments(root, board, world, &new.arguments, &mut given)?;
+    spreads(
+        root,
+        &mut board.types.graph,
+        world,
+        &new.arguments,
+        &mut given,
+    )?;
+    finish(root.alloc, board, id, new, given)
+}
+
+/// The arguments that are no spreads, in order.
+#[cycle(expr)]
+fn arguments(
+    root: Root<'_, '_>,
+    board: &mut Board<'_>,
+    world: WorldId,
+    list: &Vec<InstantiationArgument<'_>>,
+    given: &mut Vec<Given>,
+) -> ResolutionResult<()>
+    requires world { Stands board.old.types.graph.types (ItemKind.Component world) }
+    requires given { AreThere board.old.types.graph given.old.items }
+    ensures given { OnOk result (AreThere board.new.types.graph given.new.items) }
+    ensures inner { Inner board.old.types.graph board.new.types.graph }
+{
+    let mut seen: usize = 0;
+    for one in list {
+        seen = seen.saturating_add(1);
+        argument(root, board, world, one, seen == list.len(), given)?;
+    }
+    Ok(())
+}
+
+/// An argument, where it is no spread.
+#[cycle(expr)]
+fn argument(
+    root: Root<'_, '_>,
+    board: &mut Board<'_>,
+    world: WorldId,
+    one: &InstantiationArgument<'_>,
+    is_last: bool,
+    given: &mut Vec<Given>,
+) -> ResolutionResult<()>
+    requires world { Stands board.old.types.graph.types (ItemKind.Component world) }
+    requires given { AreThere board.old.types.graph given.old.items }
+    ensures given { OnOk result (AreThere board.new.types.graph given.new.items) }
+    ensures later { OnOk result (IsLater one.now → given.new.items ≡ given.old.items) }
+    ensures inner { Inner board.old.types.graph board.new.types.graph }
+{
+    match one {
+        InstantiationArgument::Inferred(id) => {
+            give(given, inferred(root, &board.types.graph, world, id)?)
+        }
+        InstantiationArgument::Spread(_) => Ok(()),
+        InstantiationArgument::Named(one) => {
+            let argument = named(root, board, world, one)?;
+            give(given, argument)?;
+            Ok(())
+        }
+        InstantiationArgument::Fill(span) => {
+            if is_last {
+                Ok(())
+            } else {
+                Err(Error::FillArgumentNotLast { span: *span })
+            }
+        }
+    }
+}
+
+/// An argument with its name.
+#[cycle(expr)]
+fn named(
+    root: Root<'_, '_>,
+    board: &mut Board<'_>,
+    world: WorldId,
+    one: &NamedInstantiationArgument<'_>,
+) -> ResolutionResult<Given>
+    requires { Stands board.old.types.graph.types (ItemKind.Component world) }
+    ensures node { IfOk result (λ one. ContainsNode board.new.types.graph one.node) }
+    ensures inner { Inner board.old.types.graph board.new.types.graph }
+{
+    let node = expression(root, board, &one.expr)?;
+    let imports = &board.types.graph.types().world(world).imports;
+    Ok(Given {
+        name: argument_name(root.alloc, imports, &one.name)?,
+        node,
+        span: one.name.span(),
+    })
+}

@@ -1,0 +1,286 @@
+//! Documents and what they are resolved to.
+#![tactic(auto, using(crate::proofs::SoundGraph::growing))]
+
+ghost use Rattle.std.specs.Prelude.{◌≡◌, IfOk, IfSome, Some};
+ghost use Rattle.wac_types_base.specs.declared.item.ItemKind.{ItemKind};
+ghost use Rattle.wac_types_base.specs.Collection.{Stands};
+ghost use Rattle.wac_parser_resolve.specs.Later.{Later, SameNumber};
+ghost use Rattle.wac_parser_resolve.specs.Resolved.{asked_of, document_of, graph_of, target_of};
+ghost use Rattle.wac_parser_resolve.specs.Standing.{IsSound};
+ghost use Rattle.wac_parser_resolve.specs.Targeting.{IsTarget};
+
+use crate::board::Board;
+use crate::spans::Spans;
+use crate::state::State;
+use crate::statements::say_statements;
+use crate::targets::target_met;
+use std::alloc::Global;
+use wac_graph_core::CompositionGraph;
+use wac_parser_declare::{GraphTypes, Packages, ResolutionResult, not_world};
+use wac_parser_tree::{Document, PackageDirective, PackagePath};
+use wac_types_base::{ItemKind, Type, Types, WorldId};
+
+/// What a document says: the graph, the directive's world in it, and where imports, identifiers and instances stand.
+#[derive(Drop)]
+pub(crate) struct Said {
+    pub(crate) alloc: Global,
+    pub(crate) graph: CompositionGraph,
+    target: Option<WorldId>,
+    pub(crate) imports: Spans,
+    pub(crate) ids: Spans,
+    pub(crate) instances: Spans,
+}
+
+/// Something with the graph that its statements build.
+#[derive(Drop)]
+pub struct Resolved<'d, D> {
+    document: &'d D,
+    pub(crate) said: Said,
+}
+
+/// A document with the graph that its statements build.
+pub type Resolution<'d, 's> = Resolved<'d, Document<'s>>;
+
+impl<'d, D> Resolved<'d, D> {
+    /// The document.
+    pub fn document(&self) -> &'d D
+        ensures { result.now ≡ document_of self.now }
+    {
+        self.document
+    }
+
+    /// The graph.
+    pub fn graph(&self) -> &CompositionGraph
+        ensures { result.now ≡ graph_of self.now }
+    {
+        &self.said.graph
+    }
+
+    /// The world that the directive targets, in the graph's collection.
+    pub fn target(&self) -> Option<WorldId>
+        ensures { result ≡ target_of self.now }
+    {
+        self.said.target
+    }
+
+    /// The graph, taken out.
+    pub fn into_graph(self) -> CompositionGraph
+        ensures { result ≡ graph_of self.entry }
+    {
+        self.said.graph
+    }
+}
+
+/// The world that a type is.
+fn world_type(ty: Type, types: &Types) -> Option<WorldId>
+    requires { Stands types.now (ItemKind.Ty ty) }
+    ensures { IfSome result (λ id. Stands types.now (ItemKind.Component id)) }
+{
+    let _ = types;
+    match ty {
+        Type::World(id) => Some(id),
+        _other => None,
+    }
+}
+
+/// The world that an item is the type of.
+fn world_item(kind: ItemKind, types: &Types) -> Option<WorldId>
+    requires { Stands types.now kind }
+    ensures { IfSome result (λ id. Stands types.now (ItemKind.Component id)) }
+{
+    match kind {
+        ItemKind::Ty(ty) => world_type(ty, types),
+        _other => None,
+    }
+}
+
+impl<'p> State<'p> {
+    /// The world that a path names.
+    fn target_world(
+        &mut self,
+        alloc: Global,
+        directive: &PackageDirective<'_>,
+        path: &PackagePath<'_>,
+    ) -> ResolutionResult<WorldId>
+        requires { IsSound self.old.board.types.graph self.old.names }
+        ensures world { IfOk result (λ id. Stands self.new.board.types.graph.types (ItemKind.Component id)) }
+        ensures number { SameNumber self.old.board.types.graph self.new.board.types.graph }
+    {
+        let kind = self.item_at(alloc, &directive.package, path)?;
+        let types = self.board.types.graph.types();
+        match world_item(kind, types) {
+            Some(id) => Ok(id),
+            None => Err(not_world(alloc, path.string, kind.desc(types), path.span)),
+        }
+    }
+
+    /// The directive's world, which what was said so far has to meet.
+    fn target(
+        &mut self,
+        alloc: Global,
+        directive: &PackageDirective<'_>,
+        path: &PackagePath<'_>,
+    ) -> ResolutionResult<WorldId>
+        requires { IsSound self.old.board.types.graph self.old.names }
+        ensures world { IfOk result (λ id. IsTarget self.new.board.types.graph (Some id)) }
+        ensures number { SameNumber self.old.board.types.graph self.new.board.types.graph }
+    {
+        let world = self.target_world(alloc, directive, path)?;
+        target_met(
+            alloc,
+            &self.board.types.graph,
+            &self.imports,
+            &self.exports,
+            path,
+            world,
+        )?;
+        Ok(world)
+    }
+
+    /// The directive's world, if it names one.
+    fn maybe_target(
+        &mut self,
+        alloc: Global,
+        directive: &PackageDirective<'_>,
+    ) -> ResolutionResult<Option<WorldId>>
+        requires { IsSound self.old.board.types.graph self.old.names }
+        ensures world { IfOk result (λ world. IsTarget self.new.board.types.graph world) }
+        ensures number { SameNumber self.old.board.types.graph self.new.board.types.graph }
+    {
+        match &directive.targets {
+            Some(path) => Ok(Some(self.target(alloc, directive, path)?)),
+            None => Ok(None),
+        }
+    }
+}
+
+/// What a state has come to.
+fn come_to(state: State<'_>, target: Option<WorldId>) -> Said
+    ensures graph { result.graph ≡ state.entry.board.types.graph }
+    ensures target { result.target ≡ target }
+{
+    let State {
+        board,
+        names: _,
+        nodes: _,
+        imports,
+        exports: _,
+        ids,
+    } = state;
+    let Board { types, instances } = board;
+    let GraphTypes { graph, packages: _ } = types;
+    let alloc = graph.alloc();
+    Said {
+        alloc,
+        graph,
+        target,
+        imports,
+        ids,
+        instances,
+    }
+}
+
+// A reference to a document, or to its statements, comes first wherever one is passed on: its lifetime then has the same
+// place in the caller's signature and in the callee's. Else a proof takes the whole tree of types apart to compare the two.
+
+/// Says a document, and answers its directive's world.
+fn say_document(
+    document: &Document<'_>,
+    state: &mut State<'_>,
+    alloc: Global,
+) -> ResolutionResult<Option<WorldId>>
+    requires { IsSound state.old.board.types.graph state.old.names }
+    ensures world { IfOk result (λ world. IsTarget state.new.board.types.graph world) }
+    ensures number { SameNumber state.old.board.types.graph state.new.board.types.graph }
+{
+    let directive = &document.directive;
+    say_statements(&document.statements, &directive.package, &mut *state, alloc)?;
+    state.maybe_target(alloc, directive)
+}
+
+/// What a document says, over these packages.
+fn said_of(
+    document: &Document<'_>,
+    alloc: Global,
+    packages: &Packages<'_>,
+    number: u64,
+) -> ResolutionResult<Said>
+    ensures number { IfOk result (λ said. said.graph.types.number ≡ number) }
+    ensures target { IfOk result (λ said. IsTarget said.graph said.target) }
+{
+    let mut state = State::new(alloc, &*packages, number);
+    let target = say_document(document, &mut state, alloc)?;
+    Ok(come_to(state, target))
+}
+
+/// A document with what it says.
+fn with_document<'d, D>(document: &'d D, said: Said) -> Resolved<'d, D>
+    ensures document { document_of result ≡ document.now }
+    ensures graph { graph_of result ≡ said.graph }
+    ensures target { target_of result ≡ said.target }
+{
+    Resolved { document, said }
+}
+
+/// Resolves one document.
+#[derive(Clone, Copy)]
+pub struct AstResolver<'d, 's> {
+    document: &'d Document<'s>,
+}
+
+impl<'d, 's> AstResolver<'d, 's> {
+    /// A resolver of this document.
+    pub fn new(document: &'d Document<'s>) -> Self
+        ensures { asked_of result ≡ document.now }
+    {
+        AstResolver { document }
+    }
+
+    /// What the document is resolved to, over these packages, in a graph whose collection has this number.
+    pub fn resolve(
+        self,
+        alloc: Global,
+        packages: &Packages<'_>,
+        number: u64,
+    ) -> ResolutionResult<Resolution<'d, 's>>
+        ensures document { IfOk result (λ r. document_of r ≡ asked_of self.entry) }
+        ensures number { IfOk result (λ r. (graph_of r).types.number ≡ number) }
+        ensures target { IfOk result (λ r. IsTarget (graph_of r) (target_of r)) }
+    {
+        let AstResolver { document } = self;
+        let said = said_of(document, alloc, &*packages, number)?;
+        Ok(with_document(document, said))
+    }
+}
+
+/// Documents that can be resolved.
+pub trait ResolveDocument<'s> {
+    /// What the document is resolved to, over these packages, in a graph whose collection has this number.
+    fn resolve<'d>(
+        &'d self,
+        alloc: Global,
+        packages: &Packages<'_>,
+        number: u64,
+    ) -> ResolutionResult<Resolution<'d, 's>>
+    where
+        's: 'd,
+        ensures number { IfOk result (λ r. (graph_of r).types.number ≡ number) }
+        ensures target { IfOk result (λ r. IsTarget (graph_of r) (target_of r)) };
+}
+
+impl<'s> ResolveDocument<'s> for Document<'s> {
+    fn resolve<'d>(
+        &'d self,
+        alloc: Global,
+        packages: &Packages<'_>,
+        number: u64,
+    ) -> ResolutionResult<Resolution<'d, 's>>
+    where
+        's: 'd,
+        ensures document { IfOk result (λ r. document_of r ≡ self.now) }
+        ensures number { IfOk result (λ r. (graph_of r).types.number ≡ number) }
+        ensures target { IfOk result (λ r. IsTarget (graph_of r) (target_of r)) }
+    {
+        AstResolver::new(self).resolve(alloc, &*packages, number)
+    }
+}

@@ -1,0 +1,38 @@
+//! What expressions stand on.
+
+ghost use Rattle.std.specs.Prelude.{IfOk};
+ghost use Rattle.wac_graph_core.specs.Graph.{ContainsNode};
+
+use std::alloc::Global;
+use wac_graph_core::{CompositionGraph, NodeId};
+use wac_parser_declare::{ResolutionResult, undefined_name};
+use wac_parser_tree::Ident;
+use wac_types_base::NamedMap;
+
+/// The names of a document's root, as expressions see them.
+#[derive(Clone, Copy)]
+pub(crate) struct Root<'o, 'n> {
+    pub(crate) alloc: Global,
+    /// The name of the document's own package.
+    pub(crate) own: &'o str,
+    /// The nodes that names stand for.
+    pub(crate) nodes: &'n NamedMap<NodeId>,
+}
+
+impl<'o, 'n> Root<'o, 'n> {
+    /// The node that a name stands for.
+    pub(crate) fn node(self, graph: &CompositionGraph, id: &Ident<'_>) -> ResolutionResult<NodeId>
+        ensures { IfOk result (λ node. ContainsNode graph.now node) }
+    {
+        match self.nodes.get(id.string) {
+            Some(node) => {
+                if graph.contains_node(*node) {
+                    Ok(*node)
+                } else {
+                    Err(undefined_name(self.alloc, id))
+                }
+            }
+            None => Err(undefined_name(self.alloc, id)),
+        }
+    }
+}
