@@ -8,7 +8,6 @@ pub use wac_parser_read::{
     DeclaredType, Error, Lookahead, MAX_LEVELS, MemberKind, Parse, ParseDocument, ParseResult,
     Peek, parse_delimited, parse_optional, parse_optional_payload, parse_token,
 };
-pub use wac_parser_resolve as resolution;
 pub use wac_parser_tree::{
     AccessExpr, Constructor, DocComment, Document, EnumCase, EnumDecl, ExportOptions,
     ExportStatement, Expr, ExternName, ExternType, Field, Flag, FlagsDecl, FuncType, FuncTypeRef,

@@ -13,7 +13,7 @@ use crate::sink::ByteSink;
 use wac_parser_tree::{Document, PackageDirective, PackagePath, Statement};
 
 /// What is printed in a paragraph of its own.
-trait Paragraph: Drop {
+trait Paragraph {
     ghost Plain: { Type 0 };
 
     ghost view: { Self → Plain };
