@@ -1,4 +1,16 @@
-//! A workspace of WebAssembly components, and the documents that compose them.
+//! Composing WebAssembly components: a workspace of components and documents, and what the program does with them. The
+//! public crate over its parts.
 #![tactic(auto)]
 
-pub use wac_workspace::Workspace;
+pub use wac_manifest as manifest;
+pub use wac_run::{
+    DeclaredWorldError, Files, FilesError, MemoryFiles, Place, PlugTextError, declared_world,
+    place_of, plug_text, run, show_place,
+};
+pub use wac_workspace::{
+    AddPackageError, ByteSink, ByteSource, ComposeError, EncodeOptions, MAX_SOURCE_LENGTH, Output,
+    PackageRef, PackageRefs, Processor, StreamError, Workspace, compose_stream,
+};
+
+#[cfg(test)]
+mod tests;

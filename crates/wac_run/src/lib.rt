@@ -20,5 +20,3 @@ pub use place::{Place, place_of, show_place};
 pub use plug_text::{PlugTextError, plug_text};
 pub use run::run;
 
-#[cfg(test)]
-mod smoke;

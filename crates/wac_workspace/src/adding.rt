@@ -8,6 +8,15 @@ use semver::Version;
 use wac_types_base::{Types, WorldId};
 
 impl Workspace {
+    ghost use Rattle.std.specs.Prelude.{◌≡◌, ◌+◌, ◌≤◌, OnOk, OnErr, IfErr, IsErrOf, ◌↔◌, true, false};
+    ghost use Rattle.std.specs.Option.{option_copied, option_map};
+    ghost use Rattle.semver.specs.Identifiers.{parts_of};
+    ghost use Rattle.wac_types_base.specs.declared.item.ItemKind.{ItemKind};
+    ghost use Rattle.wac_types_base.specs.Collection.{Stands};
+    ghost use Rattle.wac_workspace.specs.Packages.{HasKey, HasBytes, Adds};
+    ghost use Rattle.wac_workspace.specs.Composing.{greatest, Registers};
+    ghost use Rattle.wac_workspace.specs.Steps.{IsUnregistered};
+
     /// Adds a handed component with the world that it is stated to have: the world is copied under the next number, which
     /// is not that of `types`. A refusal drops `bytes`.
     pub fn add_package(
@@ -17,7 +26,22 @@ impl Workspace {
         bytes: Vec<u8>,
         types: &Types,
         world: WorldId,
-    ) -> Result<(), AddPackageError> {
+    ) -> Result<(), AddPackageError>
+        requires { Stands types.now (ItemKind.Component world) }
+        ensures added { OnOk result (Adds self.old.packages self.new.packages true (record {
+            key = (name.now, option_map parts_of (option_copied version.entry)); bytes = bytes.items; types = types.now;
+            world = world; number = self.old.next
+        })) }
+        ensures numbered { OnOk result (self.new.next ≡ self.old.next + 1) }
+        ensures refused { OnErr result (self.new ≡ self.old) }
+        ensures key_taken { IsErrOf result AddPackageError.KeyTaken
+            ↔ HasKey self.old.packages (name.now, option_map parts_of (option_copied version.entry)) }
+        ensures bytes_taken { IsErrOf result AddPackageError.BytesTaken → HasBytes self.old.packages bytes.items }
+        ensures bytes_new { OnOk result (HasBytes self.old.packages bytes.items → ⊥) }
+        ensures exhausted { IsErrOf result AddPackageError.NumbersExhausted
+            → (self.old.next ≡ greatest) × (HasBytes self.old.packages bytes.items → ⊥) }
+        ensures room { OnOk result (self.old.next + 1 ≤ greatest) }
+    {
         if find(&self.entries, name, version).is_some() {
             return Err(AddPackageError::KeyTaken);
         }
@@ -36,7 +60,12 @@ impl Workspace {
     }
 
     /// Registers an output under its key.
-    pub(crate) fn register(&mut self, output: &Output) -> Result<(), ComposeError> {
+    pub(crate) fn register(&mut self, output: &Output) -> Result<(), ComposeError>
+        requires { Stands output.now.types (ItemKind.Component output.now.world) }
+        ensures registered { OnOk result (Registers self.old self.new output.now) }
+        ensures fault { IfErr result (IsUnregistered self.old output.now) }
+        ensures refused { OnErr result (self.new ≡ self.old) }
+    {
         let name = output.name.as_str();
         let version = output.version.as_ref();
         if find(&self.entries, name, version).is_some() {

@@ -1,6 +1,17 @@
 //! Composing documents.
 
-use crate::entries::packages_of;
+ghost use Rattle.std.specs.Prelude.{◌≡◌, ◌+◌, ◌<◌, IfOk, IfErr, OnErr, IsErrOf};
+ghost use Rattle.std.specs.Option.{option_copied, option_map};
+ghost use Rattle.semver.specs.Identifiers.{parts_of};
+ghost use Rattle.wac_types_base.specs.declared.item.ItemKind.{ItemKind};
+ghost use Rattle.wac_types_base.specs.Collection.{Stands};
+ghost use Rattle.wac_parser_tree.specs.Views.{view_document, view_package_directive};
+ghost use Rattle.wac_parser_resolve.specs.Resolved.{document_of, graph_of, target_of};
+ghost use Rattle.wac_parser_resolve.specs.Targeting.{IsTarget};
+ghost use Rattle.wac_workspace.specs.Composing.{greatest, IsUnmade, IsOutput};
+ghost use Rattle.wac_workspace.specs.Steps.{AreNext, IsPair, IsEncoded, IsLate, IsNamed, IsOf};
+
+use crate::entries::{Entry, packages_of};
 use crate::errors::ComposeError;
 use crate::output::Output;
 use crate::workspace::Workspace;
@@ -8,7 +19,7 @@ use semver::Version;
 use std::alloc::{AllocError, Global};
 use wac_graph_compose::{EncodeOptions, Encoded};
 use wac_parser_read::ParseDocument;
-use wac_parser_resolve::{Error as ResolutionError, Packages, Resolution, ResolveDocument};
+use wac_parser_resolve::{AstResolver, Error as ResolutionError, Packages, Resolution};
 use wac_parser_tree::{Document, PackageDirective};
 use wac_types_base::{TargetError, Types, WorldId, copy_world};
 use wac_types_fit::validate_target;
@@ -26,7 +37,10 @@ struct Numbers {
 }
 
 /// The next three numbers.
-fn numbers_from(next: u64) -> Result<Numbers, ComposeError> {
+fn numbers_from(next: u64) -> Result<Numbers, ComposeError>
+    ensures next { IfOk result (AreNext next) }
+    ensures exhausted { OnErr result (IsErrOf result ComposeError.NumbersExhausted × (greatest < next + 3)) }
+{
     match next.checked_add(3) {
         None => Err(ComposeError::NumbersExhausted),
         Some(after) => Ok(Numbers {
@@ -39,7 +53,9 @@ fn numbers_from(next: u64) -> Result<Numbers, ComposeError> {
 }
 
 /// The same version again, if there is one.
-fn version_again(version: Option<&Version>) -> Result<Option<Version>, AllocError> {
+fn version_again(version: Option<&Version>) -> Result<Option<Version>, AllocError>
+    ensures { IfOk result (λ v. option_map parts_of v ≡ option_map parts_of (option_copied version.entry)) }
+{
     match version {
         None => Ok(None),
         Some(version) => Ok(Some(version.clone()?)),
@@ -68,7 +84,11 @@ fn bring_together(
     types: &Types,
     target: WorldId,
     encoded: &Encoded,
-) -> Result<Pair, AllocError> {
+) -> Result<Pair, AllocError>
+    requires target { Stands types.now (ItemKind.Component target) }
+    requires component { Stands encoded.now.types (ItemKind.Component encoded.now.world) }
+    ensures { IfOk result IsPair }
+{
     let mut both = Types::new(alloc, UNSEEN);
     let mut adding = both.adding();
     let target = copy_world(alloc, types, target, &mut adding)?;
@@ -87,7 +107,11 @@ fn test_target(
     types: &Types,
     target: WorldId,
     encoded: &Encoded,
-) -> Result<(), ComposeError> {
+) -> Result<(), ComposeError>
+    requires target { Stands types.now (ItemKind.Component target) }
+    requires component { Stands encoded.now.types (ItemKind.Component encoded.now.world) }
+    ensures { IfErr result IsLate }
+{
     let pair = bring_together(alloc, types, target, encoded)?;
     match validate_target(alloc, &pair.types, pair.target, pair.world) {
         Ok(Ok(())) => Ok(()),
@@ -109,7 +133,11 @@ fn encode_resolved(
     alloc: Global,
     numbers: Numbers,
     options: EncodeOptions,
-) -> Result<Encoded, ComposeError> {
+) -> Result<Encoded, ComposeError>
+    requires { IsTarget (graph_of resolution.now) (target_of resolution.now) }
+    ensures encoded { IfOk result (IsEncoded numbers.output) }
+    ensures late { IfErr result IsLate }
+{
     let encoded = resolution.encode_world(options, (numbers.merging, numbers.output))?;
     if let Some(target) = resolution.target() {
         let name = target_name(&resolution.document().directive);
@@ -125,19 +153,25 @@ fn encode_document(
     packages: &Packages<'_>,
     numbers: Numbers,
     options: EncodeOptions,
-) -> Result<Encoded, ComposeError> {
-    let resolution = document.resolve(alloc, packages, numbers.graph)?;
+) -> Result<Encoded, ComposeError>
+    ensures encoded { IfOk result (IsEncoded numbers.output) }
+    ensures late { IfErr result IsLate }
+{
+    let resolution = AstResolver::new(document).resolve(alloc, packages, numbers.graph)?;
     encode_resolved(&resolution, alloc, numbers, options)
 }
 
-/// A component under the name and the version of a directive.
+/// A component under the key of a document.
 fn output_of(
-    directive: &PackageDirective<'_>,
+    document: &Document<'_>,
     alloc: Global,
     encoded: Encoded,
-) -> Result<Output, AllocError> {
-    let name = String::from_str(alloc, directive.package.name)?;
-    let version = version_again(directive.package.version.as_ref())?;
+) -> Result<Output, AllocError>
+    ensures { IfOk result (IsNamed (view_document document.now) encoded) }
+{
+    let package = &document.directive.package;
+    let name = String::from_str(alloc, package.name)?;
+    let version = version_again(package.version.as_ref())?;
     Ok(Output {
         bytes: encoded.bytes,
         types: encoded.types,
@@ -156,36 +190,43 @@ fn validated(options: EncodeOptions) -> EncodeOptions {
     }
 }
 
-impl Workspace {
-    /// What a document is composed to, by these numbers; nothing is registered.
-    fn compose_document(
-        &self,
-        document: &Document<'_>,
-        numbers: Numbers,
-        options: EncodeOptions,
-    ) -> Result<Output, ComposeError> {
-        let packages = packages_of(self.alloc, &self.entries)?;
-        let encoded = encode_document(
-            document,
-            self.alloc,
-            &packages,
-            numbers,
-            validated(options),
-        )?;
-        Ok(output_of(&document.directive, self.alloc, encoded)?)
-    }
+/// What a document is composed to, by these numbers, over these packages.
+fn compose_document(
+    document: &Document<'_>,
+    alloc: Global,
+    entries: &[Entry],
+    numbers: Numbers,
+    options: EncodeOptions,
+) -> Result<Output, ComposeError>
+    ensures output { IfOk result (IsOf (view_document document.now) numbers) }
+    ensures late { IfErr result IsLate }
+{
+    let packages = packages_of(alloc, entries)?;
+    let encoded = encode_document(document, alloc, &packages, numbers, validated(options))?;
+    Ok(output_of(document, alloc, encoded)?)
+}
 
-    /// What a source is composed to, and the number behind its three; nothing is registered.
-    fn compose_source(
-        &self,
-        source: &str,
-        options: EncodeOptions,
-    ) -> Result<(Output, u64), ComposeError> {
-        let document: Document<'_> = ParseDocument::parse(self.alloc, source)?;
-        let numbers = numbers_from(self.next)?;
-        let output = self.compose_document(&document, numbers, options)?;
-        Ok((output, numbers.after))
-    }
+/// What a source is composed to, by the next three numbers, over these packages, and the number behind.
+fn compose_source(
+    alloc: Global,
+    entries: &[Entry],
+    next: u64,
+    source: &str,
+    options: EncodeOptions,
+) -> Result<(Output, u64), ComposeError>
+    ensures output { IfOk result (λ r. IsOutput next source.now r.0) }
+    ensures after { IfOk result (λ r. r.1 ≡ next + 3) }
+    ensures refused { IfErr result (IsUnmade next source.now) }
+{
+    let document: Document<'_> = ParseDocument::parse(alloc, source)?;
+    let numbers = numbers_from(next)?;
+    let output = compose_document(&document, alloc, entries, numbers, options)?;
+    Ok((output, numbers.after))
+}
+
+impl Workspace {
+    ghost use Rattle.std.specs.Prelude.{◌≡◌, IfOk, IfErr, OnErr};
+    ghost use Rattle.wac_workspace.specs.Composing.{IsComposed, IsRefused};
 
     /// Composes the component of the document that the source is. With components defined it is registered under the
     /// directive's key, and later sources may instantiate it. Names are tested whatever the options say. Spans of faults
@@ -194,9 +235,14 @@ impl Workspace {
         &mut self,
         source: &str,
         options: EncodeOptions,
-    ) -> Result<Output, ComposeError> {
+    ) -> Result<Output, ComposeError>
+        ensures composed { IfOk result (IsComposed self.old self.new source.now options.define_components) }
+        ensures refused { IfErr result (IsRefused self.old source.now options.define_components) }
+        ensures kept { OnErr result (self.new ≡ self.old) }
+    {
         let define = options.define_components;
-        let (output, after) = self.compose_source(source, options)?;
+        let (output, after) =
+            compose_source(self.alloc, &self.entries, self.next, source, options)?;
         if define {
             self.register(&output)?;
         }

@@ -1,24 +1,39 @@
 //! The packages of a workspace.
 
+ghost use Rattle.std.specs.Prelude.{◌≡◌, ◌↔◌, IsTrue, IfOk, IfSome, IfNone, true};
+ghost use Rattle.std.specs.Option.{option_copied, option_map};
+ghost use Rattle.std.specs.Iterator.{item_count};
+ghost use Rattle.semver.specs.Identifiers.{parts_of};
+ghost use Rattle.wac_types_base.specs.declared.item.ItemKind.{ItemKind};
+ghost use Rattle.wac_types_base.specs.Collection.{Stands};
+ghost use Rattle.wac_types_base.specs.Graph.{Among};
+ghost use Rattle.wac_workspace.specs.Packages.{key_of, HasKey, HasBytes, HasHanded, IsMade};
+ghost use Rattle.wac_workspace.specs.View.{HasWorld};
+ghost use Rattle.wac_workspace.specs.Getting.{GivesRef};
+
 use indexmap::IndexMap;
 use semver::Version;
 use std::alloc::{AllocError, Global};
+use std::marker::Model;
 use wac_parser_resolve::{PackageRef, Packages};
 use wac_types_base::{Types, WorldId, copy_world};
 use wac_types_names::{BorrowedPackageKey, Package, same_key};
 
 /// A package with the collection of its world.
 #[derive(Drop)]
-pub(crate) struct Entry {
-    pub(crate) package: Package,
-    pub(crate) types: Types,
+pub struct Entry {
+    pub package: Package,
+    pub types: Types,
     /// Whether it was handed in; else it is an output.
-    pub(crate) is_handed: bool,
+    pub is_handed: bool,
 }
 
 impl Entry {
     /// The package with its collection.
-    pub(crate) fn refer(&self) -> PackageRef<'_> {
+    pub(crate) fn refer(&self) -> PackageRef<'_>
+        ensures package { result.package.now ≡ self.now.package }
+        ensures types { result.types.now ≡ self.now.types }
+    {
         PackageRef {
             package: &self.package,
             types: &self.types,
@@ -26,18 +41,24 @@ impl Entry {
     }
 
     /// Whether the package has this key.
-    fn has_key(&self, name: &str, version: Option<&Version>) -> bool {
+    fn has_key(&self, name: &str, version: Option<&Version>) -> bool
+        ensures { IsTrue result ↔ (key_of self.now ≡ (name.now, option_map parts_of (option_copied version.entry))) }
+    {
         let key = BorrowedPackageKey::from_name_and_version(name, version);
         same_key(&self.package.key(), &key)
     }
 
     /// Whether the package has these bytes.
-    fn has_bytes(&self, bytes: &[u8]) -> bool {
+    fn has_bytes(&self, bytes: &[u8]) -> bool
+        ensures { IsTrue result ↔ (self.now.package.bytes ≡ bytes.now) }
+    {
         self.package.bytes() == bytes
     }
 
     /// Whether the package was handed in with these bytes.
-    fn was_handed(&self, bytes: &[u8]) -> bool {
+    fn was_handed(&self, bytes: &[u8]) -> bool
+        ensures { IsTrue result ↔ ((self.now.is_handed ≡ true) × (self.now.package.bytes ≡ bytes.now)) }
+    {
         self.is_handed && self.has_bytes(bytes)
     }
 }
@@ -52,7 +73,12 @@ pub(crate) fn make_entry(
     types: &Types,
     world: WorldId,
     is_handed: bool,
-) -> Result<Entry, AllocError> {
+) -> Result<Entry, AllocError>
+    requires { Stands types.now (ItemKind.Component world) }
+    ensures made { IfOk result (λ e. IsMade (record { key = (name.now, option_map parts_of (option_copied version.entry)); bytes = bytes.items; types = types.now; world = world; number = number }) e) }
+    ensures origin { IfOk result (λ e. e.is_handed ≡ is_handed) }
+    ensures world { IfOk result HasWorld }
+{
     let mut copy = Types::new(alloc, number);
     let mut adding = copy.adding();
     let world = copy_world(alloc, types, world, &mut adding)?;
@@ -69,7 +95,10 @@ pub(crate) fn find<'a>(
     entries: &'a [Entry],
     name: &str,
     version: Option<&Version>,
-) -> Option<&'a Entry> {
+) -> Option<&'a Entry>
+    ensures found { IfSome result (λ e. Among e.now entries.now × (key_of e.now ≡ (name.now, option_map parts_of (option_copied version.entry)))) }
+    ensures none { IfNone result (HasKey entries.now (name.now, option_map parts_of (option_copied version.entry)) → ⊥) }
+{
     for entry in entries {
         if entry.has_key(name, version) {
             return Some(entry);
@@ -79,7 +108,9 @@ pub(crate) fn find<'a>(
 }
 
 /// Whether some package has these bytes.
-pub(crate) fn holds_bytes(entries: &[Entry], bytes: &[u8]) -> bool {
+pub(crate) fn holds_bytes(entries: &[Entry], bytes: &[u8]) -> bool
+    ensures { IsTrue result ↔ HasBytes entries.now bytes.now }
+{
     for entry in entries {
         if entry.has_bytes(bytes) {
             return true;
@@ -89,7 +120,9 @@ pub(crate) fn holds_bytes(entries: &[Entry], bytes: &[u8]) -> bool {
 }
 
 /// Whether some package was handed in with these bytes.
-pub(crate) fn holds_handed(entries: &[Entry], bytes: &[u8]) -> bool {
+pub(crate) fn holds_handed(entries: &[Entry], bytes: &[u8]) -> bool
+    ensures { IsTrue result ↔ HasHanded entries.now bytes.now }
+{
     for entry in entries {
         if entry.was_handed(bytes) {
             return true;
@@ -107,14 +140,36 @@ pub(crate) fn packages_of(alloc: Global, entries: &[Entry]) -> Result<Packages<'
     Ok(packages)
 }
 
-/// The packages of a workspace, in the order in which they came.
+/// The packages of a workspace, in the order in which they came, seen as the list of those that are left.
 #[derive(Drop)]
 pub struct PackageRefs<'a> {
-    pub(crate) entries: &'a [Entry],
+    entries: &'a [Entry],
+}
+
+impl<'a> Model for PackageRefs<'a> {
+    ghost use Rattle.std.specs.Prelude.{List};
+    ghost use Rattle.wac_workspace.specs.declared.entries.Entry.{Entry};
+
+    ghost Value = { List Entry };
+
+    ghost view = { λ it. it.entries.now };
+}
+
+impl<'a> PackageRefs<'a> {
+    /// Those of these entries.
+    pub(crate) fn of(entries: &'a [Entry]) -> Self
+        ensures { result ≡ entries.now }
+    {
+        PackageRefs { entries }
+    }
 }
 
 impl<'a> Iterator for PackageRefs<'a> {
     type Item = PackageRef<'a>;
+
+    ghost next_gives = { GivesRef };
+
+    ghost remaining = { item_count (λ rest. rest) };
 
     fn next(&mut self) -> Option<PackageRef<'a>> {
         let (first, rest) = self.entries.split_first()?;

@@ -19,5 +19,3 @@ pub use wac_graph_compose::{EncodeOptions, Processor};
 pub use wac_parser_resolve::PackageRef;
 pub use workspace::Workspace;
 
-#[cfg(test)]
-mod smoke;

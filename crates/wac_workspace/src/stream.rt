@@ -1,6 +1,7 @@
 //! Composing from a reader to a writer.
 ghost use Rattle.std.specs.Prelude.{◌≡◌, ◌≢◌, ◌+◌, ℕ, List, Ok, Err, IfErr, OnOk, OnErr, IsErrOf, ◌⊎◌, []};
 ghost use Rattle.wac_workspace.specs.Ends.{CallsAtMost, FailedOnce, NoneFailed};
+ghost use Rattle.wac_workspace.specs.Streaming.{IsStreamed, IsStopped};
 
 use crate::ends::{ByteSink, ByteSource, MAX_SOURCE_LENGTH, read_source, write_bytes};
 use crate::errors::StreamError;
@@ -15,6 +16,12 @@ pub fn compose_stream<R: ByteSource, W: ByteSink>(
     writer: &mut W,
     options: EncodeOptions,
 ) -> Result<(), StreamError>
+    ensures composed { OnOk result (IsStreamed workspace.old workspace.new options.define_components (record {
+        read = R.remaining reader.old; unread = R.remaining reader.new; written = W.contents writer.old; known = W.contents writer.new
+    })) }
+    ensures stopped { IfErr result (IsStopped workspace.old workspace.new options.define_components (record {
+        read = R.remaining reader.old; unread = R.remaining reader.new; written = W.contents writer.old; known = W.contents writer.new
+    })) }
     ensures few_calls { CallsAtMost (R.calls reader.old) (R.calls reader.new) (MAX_SOURCE_LENGTH + 1) }
     ensures none_failed { result ≢ Err StreamError.Read → NoneFailed (R.calls reader.old) (R.calls reader.new) }
     ensures read_failed { IsErrOf result StreamError.Read → FailedOnce (R.calls reader.old) (R.calls reader.new) }
