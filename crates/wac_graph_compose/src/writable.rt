@@ -72,21 +72,21 @@ fn value_fails(test: Test<'_>, holder: &mut Holder, ty: ValueType) -> Result<boo
             let fails = handle_fails(test, holder, id);
             unused_fails(test, holder, ty, fails)
         }
-        ValueType::Defined(id) => defined_fails(test, holder, id),
+        ValueType::Defined(id) => defined_fails(test, holder, ty, id),
     }
 }
 
-/// The same of a defined type, which is tested once.
+/// The same of a defined type of that id, which is tested once.
 #[cycle(values)]
 fn defined_fails(
     test: Test<'_>,
     holder: &mut Holder,
+    ty: ValueType,
     id: DefinedTypeId,
 ) -> Result<bool, AllocError> {
     if let Some(fails) = holder.tested(id) {
         return Ok(fails);
     }
-    let ty = ValueType::Defined(id);
     let below = places_fail(test, holder, ItemKind::Value(ty))?;
     let fails = unused_fails(test, holder, ty, below)?;
     holder.remember(id, fails)?;

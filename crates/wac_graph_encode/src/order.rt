@@ -4,8 +4,8 @@ ghost use Rattle.wac_types_base.specs.declared.item.ItemKind.{ItemKind};
 
 use crate::imports::Importing;
 use crate::parts::{
-    Item, Use, export_at, export_count, identifier, import_at, import_count, interface_of, is_fresh,
-    use_at, use_count, world_use_named,
+    Item, Use, export_at, export_count, identifier, import_at, import_count, interface_of,
+    is_fresh, use_at, use_count, world_use_named,
 };
 use std::alloc::{AllocError, Global};
 use wac_types_base::{InterfaceId, ItemKind, NamedMap, Types};

@@ -105,12 +105,7 @@ impl Prints {
 
     /// The number of a list, and of what stands in the places of a kind behind it.
     #[cycle(prints)]
-    fn of_places(
-        &mut self,
-        types: &Types,
-        kind: ItemKind,
-        before: u64,
-    ) -> Result<u64, AllocError>
+    fn of_places(&mut self, types: &Types, kind: ItemKind, before: u64) -> Result<u64, AllocError>
         requires { Stands types.now kind }
     {
         types.see_acyclic();

@@ -164,7 +164,11 @@ fn equal_index(
     let own = ItemKind::Value(ValueType::Defined(other.id));
     let kind = ItemKind::Value(ValueType::Defined(id));
     let equal = fits_in(alloc, types, own, kind)?;
-    if equal { Ok(Some(other.index)) } else { Ok(None) }
+    if equal {
+        Ok(Some(other.index))
+    } else {
+        Ok(None)
+    }
 }
 
 /// The index of a type that is written already, or of one with a name that is equal.
