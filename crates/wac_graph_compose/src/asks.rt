@@ -1,6 +1,7 @@
 //! What a graph asks from outside, in order.
 
-use crate::nodes::{argument_at, import_name, kind_of, node_at, package_of, world_at};
+use crate::nodes::{arguments_of, import_name, kind_of, node_at, package_of, world_at};
+use indexmap::{IndexMap, IndexSet};
 use std::alloc::{AllocError, Global};
 use wac_graph_core::{CompositionGraph, NodeId, NodeKind, PackageId};
 use wac_graph_encode::parts::{
@@ -31,19 +32,15 @@ pub(crate) struct Ask {
     pub item: ItemKind,
 }
 
-/// The world of a package that is instantiated.
-#[derive(Clone, Copy)]
-pub(crate) struct PackageWorld {
-    pub id: PackageId,
-    pub world: WorldId,
-}
-
-/// A definition, by the name that it is exported under.
+/// A definition, by the name that it was defined under.
 #[derive(Drop)]
 pub(crate) struct Definition {
     pub node: NodeId,
     pub name: Text,
-    pub item: ItemKind,
+    /// In the graph's collection.
+    pub ty: Type,
+    /// Of an interface or a world, its copy among what is asked.
+    pub copy: Option<ItemKind>,
 }
 
 /// What a graph asks and defines, in a collection of its own.
@@ -51,8 +48,8 @@ pub(crate) struct Definition {
 pub(crate) struct Asked {
     pub types: Types,
     pub asks: Vec<Ask>,
-    /// Each once, in the order of their instances.
-    pub packages: Vec<PackageWorld>,
+    /// The worlds of packages, each once, in the order of their instances.
+    pub packages: IndexMap<PackageId, WorldId>,
     pub definitions: Vec<Definition>,
 }
 
@@ -60,22 +57,12 @@ fn owned(alloc: Global, text: &str) -> Result<Text, AllocError> {
     Ok(Text::new(String::from_str(alloc, text)?))
 }
 
-/// The world of a package, if it is there.
-pub(crate) fn world_of(packages: &[PackageWorld], id: PackageId) -> Option<WorldId> {
-    for other in packages {
-        if other.id == id {
-            return Some(other.world);
-        }
-    }
-    None
-}
-
 impl Asked {
     fn new(alloc: Global, number: u64) -> Self {
         Asked {
             types: Types::new(alloc, number),
             asks: Vec::new(alloc),
-            packages: Vec::new(alloc),
+            packages: IndexMap::new(alloc),
             definitions: Vec::new(alloc),
         }
     }
@@ -111,8 +98,8 @@ impl Asked {
         graph: &CompositionGraph,
         id: PackageId,
     ) -> Result<Option<WorldId>, AllocError> {
-        if let Some(world) = world_of(&self.packages, id) {
-            return Ok(Some(world));
+        if let Some(world) = self.packages.get(&id) {
+            return Ok(Some(*world));
         }
         let Some(world) = world_at(graph, id) else {
             return Ok(None);
@@ -120,11 +107,34 @@ impl Asked {
         let kind = ItemKind::Component(world);
         match copy_item(alloc, graph.types(), kind, &mut self.types)? {
             ItemKind::Component(world) => {
-                self.packages.push(PackageWorld { id, world })?;
+                let _ = self.packages.insert(id, world)?;
                 Ok(Some(world))
             }
             _ => Ok(None),
         }
+    }
+
+    /// Adds what an instance asks of the imports of a world: those that are not bound.
+    fn ask_unbound(
+        &mut self,
+        alloc: Global,
+        node: NodeId,
+        world: WorldId,
+        bound: &IndexMap<String, NodeId>,
+    ) -> Result<(), AllocError> {
+        for at in 0..import_count(&self.types, world) {
+            if let Some(import) = import_at(&self.types, world, at) {
+                if !bound.contains_key(import.name) {
+                    self.asks.push(Ask {
+                        asking: Asking::ToFill,
+                        by: node,
+                        name: owned(alloc, import.name)?,
+                        item: import.kind,
+                    })?;
+                }
+            }
+        }
+        Ok(())
     }
 
     /// Adds what an instance asks: its package's imports for which it has no argument.
@@ -140,60 +150,78 @@ impl Asked {
         let Some(world) = self.copied_world(alloc, graph, package)? else {
             return Ok(());
         };
-        for at in 0..import_count(&self.types, world) {
-            if let Some(import) = import_at(&self.types, world, at) {
-                if argument_at(graph, node, import.name).is_none() {
-                    self.asks.push(Ask {
-                        asking: Asking::ToFill,
-                        by: node,
-                        name: owned(alloc, import.name)?,
-                        item: import.kind,
-                    })?;
-                }
-            }
-        }
-        Ok(())
+        let bound = arguments_of(alloc, graph, node)?;
+        self.ask_unbound(alloc, node, world, &bound)
     }
 
-    /// Adds a definition.
+    /// The copy of a type that is an interface or a world.
+    fn copied_type(
+        &mut self,
+        alloc: Global,
+        graph: &CompositionGraph,
+        ty: Type,
+    ) -> Result<Option<ItemKind>, AllocError> {
+        let kind = ItemKind::Ty(ty);
+        if !graph.types().has(kind) {
+            return Ok(None);
+        }
+        match ty {
+            Type::Interface(_) | Type::World(_) => {
+                let copy = copy_item(alloc, graph.types(), kind, &mut self.types)?;
+                Ok(Some(copy))
+            }
+            _ => Ok(None),
+        }
+    }
+
+    /// Adds a definition under a name.
     fn define(
         &mut self,
         alloc: Global,
         graph: &CompositionGraph,
         node: NodeId,
+        name: &str,
     ) -> Result<(), AllocError> {
-        let Some(name) = defined_name(graph, node) else {
-            return Ok(());
-        };
-        let Some(kind) = kind_of(graph, node) else {
-            return Ok(());
-        };
-        let name = owned(alloc, name)?;
-        let item = copy_item(alloc, graph.types(), kind, &mut self.types)?;
-        self.definitions.push(Definition { node, name, item })?;
+        if let Some(ItemKind::Ty(ty)) = kind_of(graph, node) {
+            let name = owned(alloc, name)?;
+            let copy = self.copied_type(alloc, graph, ty)?;
+            self.definitions.push(Definition {
+                node,
+                name,
+                ty,
+                copy,
+            })?;
+        }
         Ok(())
     }
 }
 
-/// The name that a definition is exported under.
-fn defined_name(graph: &CompositionGraph, id: NodeId) -> Option<&str> {
+fn is_definition(graph: &CompositionGraph, id: NodeId) -> bool {
     match node_at(graph, id) {
-        Some(node) => match node.kind() {
-            NodeKind::Definition => match node.export_name() {
-                Some(name) => Some(name),
-                None => Some(""),
-            },
-            _ => None,
-        },
-        None => None,
+        Some(node) => matches!(node.kind(), NodeKind::Definition),
+        None => false,
     }
+}
+
+/// The first name that each node is exported under.
+fn first_exports(
+    alloc: Global,
+    graph: &CompositionGraph,
+) -> Result<IndexMap<NodeId, Text>, AllocError> {
+    let mut names = IndexMap::new(alloc);
+    for (name, node) in graph.exports() {
+        if !names.contains_key(node) {
+            let _ = names.insert(*node, name.copy()?)?;
+        }
+    }
+    Ok(names)
 }
 
 /// The asks of used interfaces, each interface once.
 #[derive(Drop)]
 struct UseAsks {
     asks: Vec<Ask>,
-    seen: Vec<InterfaceId>,
+    seen: IndexSet<InterfaceId>,
 }
 
 /// The interfaces that a definition uses which is written as it is: those of its item, or else those of its world.
@@ -222,10 +250,10 @@ fn add_use(
     by: NodeId,
     id: InterfaceId,
 ) -> Result<bool, AllocError> {
-    if all.seen.contains(&id) {
+    let is_new = all.seen.insert(id)?;
+    if !is_new {
         return Ok(false);
     }
-    all.seen.push(id)?;
     if let Some(name) = identifier(types, id) {
         all.asks.push(Ask {
             asking: Asking::ToUse,
@@ -314,7 +342,10 @@ fn ask_definition(
     all: &mut UseAsks,
     definition: &Definition,
 ) -> Result<(), AllocError> {
-    let (item, world) = used_definition(types, definition.item);
+    let Some(copy) = definition.copy else {
+        return Ok(());
+    };
+    let (item, world) = used_definition(types, copy);
     if let Some(item) = item {
         ask_uses(alloc, types, all, definition.node, item)?;
     }
@@ -328,7 +359,7 @@ fn ask_definition(
 fn uses_asked(alloc: Global, asked: &Asked) -> Result<Vec<Ask>, AllocError> {
     let mut all = UseAsks {
         asks: Vec::new(alloc),
-        seen: Vec::new(alloc),
+        seen: IndexSet::new(alloc),
     };
     for ask in &asked.asks {
         ask_uses(alloc, &asked.types, &mut all, ask.by, ask.item)?;
@@ -337,6 +368,25 @@ fn uses_asked(alloc: Global, asked: &Asked) -> Result<Vec<Ask>, AllocError> {
         ask_definition(alloc, &asked.types, &mut all, definition)?;
     }
     Ok(all.asks)
+}
+
+/// Adds the definitions, each under the first name that leads to it.
+fn ask_definitions(
+    alloc: Global,
+    graph: &CompositionGraph,
+    asked: &mut Asked,
+) -> Result<(), AllocError> {
+    let names = first_exports(alloc, graph)?;
+    for node in graph.node_ids() {
+        if is_definition(graph, node) {
+            let name = match names.get(&node) {
+                Some(name) => name.as_str(),
+                None => "",
+            };
+            asked.define(alloc, graph, node, name)?;
+        }
+    }
+    Ok(())
 }
 
 /// What a graph asks: by its imports, by its instances, and for what these and its definitions use.
@@ -352,9 +402,7 @@ pub(crate) fn asked_by(
     for node in graph.node_ids() {
         asked.ask_instance(alloc, graph, node)?;
     }
-    for node in graph.node_ids() {
-        asked.define(alloc, graph, node)?;
-    }
+    ask_definitions(alloc, graph, &mut asked)?;
     let uses = uses_asked(alloc, &asked)?;
     for ask in uses {
         asked.asks.push(ask)?;

@@ -6,7 +6,7 @@ use std::alloc::{AllocError, Global};
 use std::cmp::Ordering;
 use wac_graph_bytes::{NameKind, component_name};
 use wac_graph_encode::parts::identifier;
-use wac_types_base::{ItemKind, Types};
+use wac_types_base::{ItemKind, NamedMap, Types};
 use wac_types_names::alternate_lookup_key;
 
 /// An asked name: its track with its version, and the identifier of the instance that is asked under it.
@@ -41,26 +41,7 @@ fn name_asked<'a>(alloc: Global, types: &'a Types, ask: &'a Ask) -> Result<Named
     })
 }
 
-impl<'a> Named<'a> {
-    fn is_on_track_of(&self, other: &Named<'_>) -> bool {
-        match (&self.track, &other.track) {
-            (Some((track, _)), Some((other, _))) => track == other,
-            _ => false,
-        }
-    }
-
-    fn has_identifier_of(&self, other: &Named<'_>) -> bool {
-        match (self.identifier, other.identifier) {
-            (Some(identifier), Some(other)) => identifier == other,
-            _ => false,
-        }
-    }
-
-    /// Whether both are one outer import: one name, one track, or one identifier.
-    fn is_joined(&self, other: &Named<'_>) -> bool {
-        self.name == other.name || self.is_on_track_of(other) || self.has_identifier_of(other)
-    }
-
+impl Named<'_> {
     /// Whether it is on the other's track, with a greater version.
     fn is_later(&self, other: &Named<'_>) -> bool {
         match (&self.track, &other.track) {
@@ -77,55 +58,103 @@ impl<'a> Named<'a> {
 pub(crate) struct Classes {
     /// Of each ask.
     pub labels: Vec<usize>,
-    /// The spelling of each ask's class.
+    /// By the class, the ask that spells it.
     pub spellings: Vec<usize>,
 }
 
-fn label_at(labels: &[usize], at: usize) -> usize {
-    match labels.get(at) {
-        Some(label) => *label,
+/// The place that is kept there, or that place itself.
+fn place_at(places: &[usize], at: usize) -> usize {
+    match places.get(at) {
+        Some(place) => *place,
         None => at,
     }
 }
 
+/// The first of the asks that are joined with this one so far.
+fn first_of(labels: &[usize], at: usize) -> usize {
+    let mut first = at;
+    let mut before = place_at(labels, at);
+    while before < first {
+        first = before;
+        before = place_at(labels, first);
+    }
+    first
+}
+
 /// Makes two classes one.
 fn join(labels: &mut Vec<usize>, a: usize, b: usize) {
-    let first = if a < b { a } else { b };
-    for label in labels.iter_mut() {
-        if *label == a || *label == b {
+    let first = first_of(labels, a);
+    let second = first_of(labels, b);
+    let (first, second) = if first < second {
+        (first, second)
+    } else {
+        (second, first)
+    };
+    if let Some(label) = labels.get_mut(second) {
+        *label = first;
+    }
+}
+
+/// Joins an ask with the first that has a word, if there is one.
+fn join_by(
+    alloc: Global,
+    firsts: &mut NamedMap<usize>,
+    labels: &mut Vec<usize>,
+    word: &str,
+    at: usize,
+) -> Result<(), AllocError> {
+    if let Some(first) = firsts.get(word) {
+        join(labels, *first, at);
+        return Ok(());
+    }
+    let _ = firsts.insert(String::from_str(alloc, word)?, at)?;
+    Ok(())
+}
+
+/// The classes: asks of one name, one track or one identifier are joined.
+fn labels_of(alloc: Global, names: &[Named<'_>]) -> Result<Vec<usize>, AllocError> {
+    let mut labels = Vec::new(alloc);
+    let mut by_name = NamedMap::new(alloc);
+    let mut by_track = NamedMap::new(alloc);
+    let mut by_identifier = NamedMap::new(alloc);
+    for (at, name) in names.iter().enumerate() {
+        labels.push(at)?;
+        join_by(alloc, &mut by_name, &mut labels, name.name, at)?;
+        if let Some((track, _)) = &name.track {
+            join_by(alloc, &mut by_track, &mut labels, track, at)?;
+        }
+        if let Some(identifier) = name.identifier {
+            join_by(alloc, &mut by_identifier, &mut labels, identifier, at)?;
+        }
+    }
+    for at in 0..names.len() {
+        let first = first_of(&labels, at);
+        if let Some(label) = labels.get_mut(at) {
             *label = first;
         }
     }
+    Ok(labels)
 }
 
-/// The classes in which an ask is joined to an earlier one are made one.
-fn join_earlier(names: &[Named<'_>], labels: &mut Vec<usize>, at: usize) {
-    let Some(name) = names.get(at) else {
-        return;
-    };
-    for (before, other) in names.iter().enumerate() {
-        if before < at {
-            let (a, b) = (label_at(labels, before), label_at(labels, at));
-            if a != b && name.is_joined(other) {
-                join(labels, a, b);
-            }
-        }
-    }
-}
-
-/// The ask of greatest version in the class on the track of its first ask.
-fn spelled(names: &[Named<'_>], labels: &[usize], first: usize) -> usize {
-    let mut best = first;
+/// Of each class the ask of greatest version on the track of its first ask.
+fn spellings_of(
+    alloc: Global,
+    names: &[Named<'_>],
+    labels: &[usize],
+) -> Result<Vec<usize>, AllocError> {
+    let mut best = Vec::new(alloc);
     for (at, name) in names.iter().enumerate() {
-        if label_at(labels, at) == first {
-            if let Some(other) = names.get(best) {
-                if name.is_later(other) {
-                    best = at;
+        best.push(at)?;
+        let class = place_at(labels, at);
+        if let Some(other) = names.get(place_at(&best, class)) {
+            if name.is_later(other) {
+                if let Some(place) = best.get_mut(class) {
+                    *place = at;
                 }
             }
         }
     }
-    best
+    Ok(best)
 }
 
 /// The classes of asks.
@@ -135,20 +164,11 @@ pub(crate) fn classes_of(
     asks: &[Ask],
 ) -> Result<Classes, AllocError> {
     let mut names = Vec::new(alloc);
-    let mut labels = Vec::new(alloc);
-    for (at, ask) in asks.iter().enumerate() {
+    for ask in asks {
         names.push(name_asked(alloc, types, ask)?)?;
-        labels.push(at)?;
     }
-    for at in 0..names.len() {
-        join_earlier(&names, &mut labels, at);
-    }
-    let mut spellings = Vec::new(alloc);
-    for at in 0..names.len() {
-        let first = label_at(&labels, at);
-        let place = spelled(&names, &labels, first);
-        spellings.push(place)?;
-    }
+    let labels = labels_of(alloc, &names)?;
+    let spellings = spellings_of(alloc, &names, &labels)?;
     Ok(Classes { labels, spellings })
 }
 

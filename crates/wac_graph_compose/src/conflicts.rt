@@ -1,28 +1,32 @@
 //! Why a composition cannot be written: the first cause in order.
 
-use crate::asks::{Ask, Asked, Asking};
-use crate::errors::{EncodeError, ValidationFault};
+use crate::asks::{Ask, Asked, Asking, Definition};
+use crate::errors::{Refusal, ValidationFault};
+use crate::holder::Holder;
 use crate::nodes::{kind_of, package_at, package_of};
 use crate::options::EncodeOptions;
 use crate::outers::Outers;
-use crate::writable::{is_unwritable_definition, is_unwritable_package, unwritable_outer};
+use crate::unnamed::Unnamed;
+use crate::writable::{Test, is_unwritable_definition, is_unwritable_package, unwritable_outer};
 use semver::Version;
 use std::alloc::{AllocError, Global};
 use wac_graph_core::{CompositionGraph, NodeId, PackageId};
 use wac_graph_encode::parts::{Item, import_at, import_count};
-use wac_types_base::{ItemKind, Text};
+use wac_types_base::{ItemKind, NamedMap, Text, Types};
 use wac_types_names::{Package, PackageKey};
 
 // ---- an import that is asked by its name and by an instance
 
-/// The import of exactly that name.
-fn find_import(asks: &[Ask], name: &str) -> Option<NodeId> {
+/// The imports, by their names.
+fn imports_named(alloc: Global, asks: &[Ask]) -> Result<NamedMap<NodeId>, AllocError> {
+    let mut imports = NamedMap::new(alloc);
     for ask in asks {
-        if ask.asking == Asking::ByName && ask.name.is(name) {
-            return Some(ask.by);
+        if ask.asking == Asking::ByName {
+            let name = String::from_str(alloc, ask.name.as_str())?;
+            let _ = imports.insert(name, ask.by)?;
         }
     }
-    None
+    Ok(imports)
 }
 
 /// The package of an instance.
@@ -35,20 +39,16 @@ fn instantiated(graph: &CompositionGraph, id: NodeId) -> Option<&Package> {
 
 fn implicit_conflict(
     alloc: Global,
-    graph: &CompositionGraph,
+    package: &Package,
     import: NodeId,
     ask: &Ask,
-) -> Result<EncodeError, AllocError> {
-    let name = String::from_str(alloc, ask.name.as_str())?;
-    match instantiated(graph, ask.by) {
-        Some(package) => Ok(EncodeError::ImplicitImportConflict {
-            import,
-            instantiation: ask.by,
-            package: PackageKey::new(alloc, package)?,
-            name,
-        }),
-        None => Ok(EncodeError::GraphContainsCycle { node: ask.by }),
-    }
+) -> Result<Refusal, AllocError> {
+    Ok(Refusal::ImplicitImportConflict {
+        import,
+        instantiation: ask.by,
+        package: PackageKey::new(alloc, package)?,
+        name: String::from_str(alloc, ask.name.as_str())?,
+    })
 }
 
 /// No instance fills an import that has exactly the name of an import of the graph.
@@ -56,11 +56,14 @@ pub(crate) fn check_implicit(
     alloc: Global,
     graph: &CompositionGraph,
     asks: &[Ask],
-) -> Result<(), EncodeError> {
+) -> Result<(), Refusal> {
+    let imports = imports_named(alloc, asks)?;
     for ask in asks {
         if ask.asking == Asking::ToFill {
-            if let Some(import) = find_import(asks, ask.name.as_str()) {
-                return Err(implicit_conflict(alloc, graph, import, ask)?);
+            if let Some(import) = imports.get(ask.name.as_str()) {
+                if let Some(package) = instantiated(graph, ask.by) {
+                    return Err(implicit_conflict(alloc, package, *import, ask)?);
+                }
             }
         }
     }
@@ -69,10 +72,10 @@ pub(crate) fn check_implicit(
 
 // ---- types that cannot be written
 
-fn unwritable(alloc: Global, name: &str) -> EncodeError {
+fn unwritable(alloc: Global, name: &str) -> Refusal {
     match String::from_str(alloc, name) {
-        Ok(name) => EncodeError::TypeCannotBeWritten { name },
-        Err(_) => EncodeError::Memory,
+        Ok(name) => Refusal::TypeCannotBeWritten { name },
+        Err(_) => Refusal::Memory,
     }
 }
 
@@ -85,7 +88,7 @@ fn is_value(graph: &CompositionGraph, node: NodeId) -> bool {
 }
 
 /// No alias is of a value item.
-fn check_aliases(alloc: Global, graph: &CompositionGraph) -> Result<(), EncodeError> {
+fn check_aliases(alloc: Global, graph: &CompositionGraph) -> Result<(), Refusal> {
     for node in graph.node_ids() {
         if let Some((_, name)) = graph.get_alias_source(node) {
             if is_value(graph, node) {
@@ -96,8 +99,23 @@ fn check_aliases(alloc: Global, graph: &CompositionGraph) -> Result<(), EncodeEr
     Ok(())
 }
 
-fn check_outers(alloc: Global, asked: &Asked, outers: &Outers) -> Result<(), EncodeError> {
-    match unwritable_outer(alloc, &asked.types, outers.world)? {
+fn test_of<'a>(alloc: Global, types: &'a Types, unnamed: &'a Unnamed, is_outer: bool) -> Test<'a> {
+    Test {
+        alloc,
+        types,
+        unnamed,
+        is_outer,
+    }
+}
+
+fn check_outers(
+    alloc: Global,
+    asked: &Asked,
+    unnamed: &Unnamed,
+    outers: &Outers,
+) -> Result<(), Refusal> {
+    let test = test_of(alloc, &asked.types, unnamed, true);
+    match unwritable_outer(test, outers.world)? {
         Some(at) => match import_at(&asked.types, outers.world, at) {
             Some(import) => Err(unwritable(alloc, import.name)),
             None => Ok(()),
@@ -106,14 +124,37 @@ fn check_outers(alloc: Global, asked: &Asked, outers: &Outers) -> Result<(), Enc
     }
 }
 
-fn check_definitions(alloc: Global, asked: &Asked, outers: &Outers) -> Result<(), EncodeError> {
+/// Whether a definition cannot be written, beside the outer imports.
+fn is_unwritable(
+    test: Test<'_>,
+    types: &Types,
+    outers: &mut Holder,
+    definition: &Definition,
+) -> Result<bool, AllocError> {
+    let name = definition.name.as_str();
+    match definition.copy {
+        Some(kind) => is_unwritable_definition(test, outers, Item { name, kind }),
+        None => {
+            let test = test_of(test.alloc, types, test.unnamed, test.is_outer);
+            let kind = ItemKind::Ty(definition.ty);
+            is_unwritable_definition(test, outers, Item { name, kind })
+        }
+    }
+}
+
+fn check_definitions(
+    alloc: Global,
+    graph: &CompositionGraph,
+    asked: &Asked,
+    unnamed: &Unnamed,
+    outers: &Outers,
+) -> Result<(), Refusal> {
+    let test = test_of(alloc, &asked.types, unnamed, false);
+    let mut holder = Holder::new(alloc);
+    holder.add_world(&asked.types, outers.world)?;
     for definition in &asked.definitions {
-        let item = Item {
-            name: definition.name.as_str(),
-            kind: definition.item,
-        };
-        if is_unwritable_definition(alloc, &asked.types, outers.world, item)? {
-            return Err(unwritable(alloc, item.name));
+        if is_unwritable(test, graph.types(), &mut holder, definition)? {
+            return Err(unwritable(alloc, definition.name.as_str()));
         }
     }
     Ok(())
@@ -123,11 +164,13 @@ fn check_packages(
     alloc: Global,
     graph: &CompositionGraph,
     asked: &Asked,
-) -> Result<(), EncodeError> {
-    for package in &asked.packages {
-        if is_unwritable_package(alloc, &asked.types, package.world)? {
-            let name = dependency_name(alloc, graph, package.id)?;
-            return Err(EncodeError::TypeCannotBeWritten { name });
+    unnamed: &Unnamed,
+) -> Result<(), Refusal> {
+    let test = test_of(alloc, &asked.types, unnamed, true);
+    for (id, world) in asked.packages.iter() {
+        if is_unwritable_package(test, *world)? {
+            let name = dependency_name(alloc, graph, *id)?;
+            return Err(Refusal::TypeCannotBeWritten { name });
         }
     }
     Ok(())
@@ -140,12 +183,13 @@ pub(crate) fn check_writable(
     asked: &Asked,
     outers: &Outers,
     options: &EncodeOptions,
-) -> Result<(), EncodeError> {
+) -> Result<(), Refusal> {
     check_aliases(alloc, graph)?;
-    check_outers(alloc, asked, outers)?;
-    check_definitions(alloc, asked, outers)?;
+    let unnamed = Unnamed::all(alloc, &asked.types)?;
+    check_outers(alloc, asked, &unnamed, outers)?;
+    check_definitions(alloc, graph, asked, &unnamed, outers)?;
     if !options.define_components {
-        check_packages(alloc, graph, asked)?;
+        check_packages(alloc, graph, asked, &unnamed)?;
     }
     Ok(())
 }
@@ -179,25 +223,30 @@ pub(crate) fn dependency_name(
     Ok(name)
 }
 
-/// Whether two names are too alike.
-fn are_alike(validate: bool, a: &str, b: &str) -> bool {
+/// What two names that are too alike share.
+fn likeness(alloc: Global, validate: bool, name: &str) -> Result<String, AllocError> {
+    let mut text = String::from_str(alloc, name)?;
     if validate {
-        a.eq_ignore_ascii_case(b)
-    } else {
-        a == b
+        text.make_ascii_lowercase();
     }
+    Ok(text)
 }
 
 /// The first name that is too like an earlier one, behind that one.
-fn find_twins(validate: bool, names: &[Text]) -> Option<(usize, usize)> {
+fn find_twins(
+    alloc: Global,
+    validate: bool,
+    names: &[Text],
+) -> Result<Option<(usize, usize)>, AllocError> {
+    let mut firsts = NamedMap::new(alloc);
     for (at, name) in names.iter().enumerate() {
-        for (before, other) in names.iter().enumerate() {
-            if before < at && are_alike(validate, name.as_str(), other.as_str()) {
-                return Some((before, at));
-            }
+        let likeness = likeness(alloc, validate, name.as_str())?;
+        if let Some(first) = firsts.get(likeness.as_str()) {
+            return Ok(Some((*first, at)));
         }
+        let _ = firsts.insert(likeness, at)?;
     }
-    None
+    Ok(None)
 }
 
 /// Copies of two of the names.
@@ -206,7 +255,7 @@ fn twins_of(
     validate: bool,
     names: &[Text],
 ) -> Result<Option<(String, String)>, AllocError> {
-    match find_twins(validate, names) {
+    match find_twins(alloc, validate, names)? {
         None => Ok(None),
         Some((first, second)) => match (names.get(first), names.get(second)) {
             (Some(first), Some(second)) => Ok(Some((
@@ -233,8 +282,8 @@ fn import_names(
         }
     }
     if !options.define_components {
-        for package in &asked.packages {
-            names.push(Text::new(dependency_name(alloc, graph, package.id)?))?;
+        for id in asked.packages.keys() {
+            names.push(Text::new(dependency_name(alloc, graph, *id)?))?;
         }
     }
     Ok(names)
@@ -255,16 +304,16 @@ pub(crate) fn check_names(
     asked: &Asked,
     outers: &Outers,
     options: &EncodeOptions,
-) -> Result<(), EncodeError> {
+) -> Result<(), Refusal> {
     let imports = import_names(alloc, graph, asked, outers, options)?;
     if let Some((a, b)) = twins_of(alloc, options.validate, &imports)? {
         let source = ValidationFault::ImportNames(a, b);
-        return Err(EncodeError::ValidationFailure { source });
+        return Err(Refusal::ValidationFailure { source });
     }
     let exports = export_names(alloc, graph)?;
     if let Some((a, b)) = twins_of(alloc, options.validate, &exports)? {
         let source = ValidationFault::ExportNames(a, b);
-        return Err(EncodeError::ValidationFailure { source });
+        return Err(Refusal::ValidationFailure { source });
     }
     Ok(())
 }

@@ -1,12 +1,13 @@
 //! The bytes and the world of a composition graph.
 
-ghost use Rattle.std.specs.Prelude.{◌≡◌, IfOk};
+ghost use Rattle.std.specs.Prelude.{◌≡◌, IfOk, IfErr};
 ghost use Rattle.wac_types_base.specs.declared.item.ItemKind.{ItemKind};
 ghost use Rattle.wac_types_base.specs.Collection.{Stands};
+ghost use Rattle.wac_graph_compose.specs.Acyclic.{IsNoCycle};
 
 use crate::asks::{Asked, Definition, asked_by};
 use crate::conflicts::{check_implicit, check_names, check_writable};
-use crate::errors::EncodeError;
+use crate::errors::{EncodeError, Refusal, error_of};
 use crate::instances::Wired;
 use crate::options::{EncodeOptions, Encoded};
 use crate::outers::{Outers, outers_of};
@@ -23,10 +24,15 @@ use wac_types_base::{Types, WorldId};
 fn written_definitions(alloc: Global, asked: &mut Asked) -> Result<Vec<Definition>, AllocError> {
     let mut written = Vec::new(alloc);
     for definition in &asked.definitions {
+        let copy = match definition.copy {
+            Some(kind) => Some(written_definition(alloc, &mut asked.types, kind)?),
+            None => None,
+        };
         written.push(Definition {
             node: definition.node,
             name: definition.name.copy()?,
-            item: written_definition(alloc, &mut asked.types, definition.item)?,
+            ty: definition.ty,
+            copy,
         })?;
     }
     Ok(written)
@@ -40,7 +46,7 @@ fn bytes_of(
     outers: &Outers,
     definitions: &[Definition],
     options: &EncodeOptions,
-) -> Result<Vec<u8>, EncodeError> {
+) -> Result<Vec<u8>, Refusal> {
     let all = Importing {
         types: &asked.types,
         world: outers.world,
@@ -68,7 +74,7 @@ fn world_of(
     outers: &Outers,
     definitions: &[Definition],
     number: u64,
-) -> Result<(Types, WorldId), EncodeError>
+) -> Result<(Types, WorldId), Refusal>
     ensures number { IfOk result (λ p. p.0.number ≡ number) }
     ensures stands { IfOk result (λ p. Stands p.0 (ItemKind.Component p.1)) }
 {
@@ -76,7 +82,7 @@ fn world_of(
     let world = composed_world(alloc, graph, asked, outers, definitions, &mut types)?;
     match world {
         Some(id) => Ok((types, id)),
-        None => Err(EncodeError::TooLarge),
+        None => Err(Refusal::TooLarge),
     }
 }
 
@@ -85,7 +91,7 @@ fn encoded(
     graph: &CompositionGraph,
     options: &EncodeOptions,
     numbers: (u64, u64),
-) -> Result<Encoded, EncodeError>
+) -> Result<Encoded, Refusal>
     ensures number { IfOk result (λ e. e.types.number ≡ numbers.1) }
     ensures stands { IfOk result (λ e. Stands e.types (ItemKind.Component e.world)) }
 {
@@ -117,7 +123,8 @@ fn other_numbers(number: u64) -> (u64, u64) {
 /// Encoding of composition graphs.
 pub trait EncodeGraph {
     /// The bytes of the composition.
-    fn encode(&self, options: EncodeOptions) -> Result<Vec<u8>, EncodeError>;
+    fn encode(&self, options: EncodeOptions) -> Result<Vec<u8>, EncodeError>
+        ensures acyclic { IfErr result IsNoCycle };
 
     /// The bytes of the composition, and the world that is true of them, in a collection of the second number. The
     /// first is that of the collection in which imports are merged.
@@ -127,14 +134,17 @@ pub trait EncodeGraph {
         numbers: (u64, u64),
     ) -> Result<Encoded, EncodeError>
         ensures number { IfOk result (λ e. e.types.number ≡ numbers.1) }
-        ensures stands { IfOk result (λ e. Stands e.types (ItemKind.Component e.world)) };
+        ensures stands { IfOk result (λ e. Stands e.types (ItemKind.Component e.world)) }
+        ensures acyclic { IfErr result IsNoCycle };
 }
 
 impl EncodeGraph for CompositionGraph {
     fn encode(&self, options: EncodeOptions) -> Result<Vec<u8>, EncodeError> {
         let numbers = other_numbers(self.types().number());
-        let encoded = encoded(self, &options, numbers)?;
-        Ok(encoded.bytes)
+        match encoded(self, &options, numbers) {
+            Ok(encoded) => Ok(encoded.bytes),
+            Err(refusal) => Err(error_of(refusal)),
+        }
     }
 
     fn encode_world(
@@ -142,6 +152,9 @@ impl EncodeGraph for CompositionGraph {
         options: EncodeOptions,
         numbers: (u64, u64),
     ) -> Result<Encoded, EncodeError> {
-        encoded(self, &options, numbers)
+        match encoded(self, &options, numbers) {
+            Ok(encoded) => Ok(encoded),
+            Err(refusal) => Err(error_of(refusal)),
+        }
     }
 }

@@ -1,5 +1,7 @@
 //! Why a graph is not encoded.
 
+ghost use Rattle.wac_graph_compose.specs.Acyclic.{IsNoCycle};
+
 use std::alloc::{AllocError, AllocFailed, Global};
 use thiserror::Error;
 use wac_graph_bytes::SizeError;
@@ -20,6 +22,7 @@ pub enum ValidationFault {
 /// Why a graph is not encoded.
 #[derive(Debug, Drop, Error)]
 pub enum EncodeError {
+    /// Never answered, since no graph has a cycle.
     #[error("the graph contains a cycle at node {node}")]
     GraphContainsCycle {
         node: NodeId,
@@ -58,35 +61,108 @@ pub enum EncodeError {
     Memory,
 }
 
-impl From<AllocError> for EncodeError {
+/// Why a graph is not encoded, but for cycles: no graph has one.
+#[derive(Drop)]
+pub(crate) enum Refusal {
+    ImplicitImportConflict {
+        import: NodeId,
+        instantiation: NodeId,
+        package: PackageKey,
+        name: String,
+    },
+    ExplicitImportConflict {
+        name: String,
+        first: NodeId,
+        second: NodeId,
+    },
+    ImportTypeMergeConflict {
+        import: String,
+        first: NodeId,
+        second: NodeId,
+        source: AggregateError,
+    },
+    TypeCannotBeWritten {
+        name: String,
+    },
+    TooLarge,
+    ValidationFailure {
+        source: ValidationFault,
+    },
+    Memory,
+}
+
+/// The public error of a refusal.
+pub(crate) fn error_of(refusal: Refusal) -> EncodeError
+    ensures { IsNoCycle result }
+{
+    match refusal {
+        Refusal::ImplicitImportConflict {
+            import,
+            instantiation,
+            package,
+            name,
+        } => EncodeError::ImplicitImportConflict {
+            import,
+            instantiation,
+            package,
+            name,
+        },
+        Refusal::ExplicitImportConflict {
+            name,
+            first,
+            second,
+        } => EncodeError::ExplicitImportConflict {
+            name,
+            first,
+            second,
+        },
+        Refusal::ImportTypeMergeConflict {
+            import,
+            first,
+            second,
+            source,
+        } => EncodeError::ImportTypeMergeConflict {
+            import,
+            first,
+            second,
+            source,
+        },
+        Refusal::TypeCannotBeWritten { name } => EncodeError::TypeCannotBeWritten { name },
+        Refusal::TooLarge => EncodeError::TooLarge,
+        Refusal::ValidationFailure { source } => EncodeError::ValidationFailure { source },
+        Refusal::Memory => EncodeError::Memory,
+    }
+}
+
+impl From<AllocError> for Refusal {
     fn from(_e: AllocError) -> Self {
-        EncodeError::Memory
+        Refusal::Memory
     }
 }
 
-impl<T: Drop> From<AllocFailed<T>> for EncodeError {
+impl<T: Drop> From<AllocFailed<T>> for Refusal {
     fn from(_e: AllocFailed<T>) -> Self {
-        EncodeError::Memory
+        Refusal::Memory
     }
 }
 
-impl From<SizeError> for EncodeError {
+impl From<SizeError> for Refusal {
     fn from(e: SizeError) -> Self {
         match e {
-            SizeError::TooLarge => EncodeError::TooLarge,
-            SizeError::Memory => EncodeError::Memory,
+            SizeError::TooLarge => Refusal::TooLarge,
+            SizeError::Memory => Refusal::Memory,
         }
     }
 }
 
 /// The refusal where the type under a name was not written.
-pub(crate) fn not_written(alloc: Global, name: &str, fault: WriteError) -> EncodeError {
+pub(crate) fn not_written(alloc: Global, name: &str, fault: WriteError) -> Refusal {
     match fault {
-        WriteError::TooLarge => EncodeError::TooLarge,
-        WriteError::Memory => EncodeError::Memory,
+        WriteError::TooLarge => Refusal::TooLarge,
+        WriteError::Memory => Refusal::Memory,
         WriteError::Unwritable => match String::from_str(alloc, name) {
-            Ok(name) => EncodeError::TypeCannotBeWritten { name },
-            Err(_) => EncodeError::Memory,
+            Ok(name) => Refusal::TypeCannotBeWritten { name },
+            Err(_) => Refusal::Memory,
         },
     }
 }

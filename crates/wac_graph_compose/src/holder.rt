@@ -1,27 +1,39 @@
 //! What stands directly in an interface, in a component type or at the root.
 
+use indexmap::IndexMap;
 use std::alloc::{AllocError, Global};
 use wac_graph_encode::parts::{
     Item, Use, export_at, export_count, export_named, import_at, import_count, is_fresh, root_name,
     use_at, use_count, world_export_at, world_export_count, world_use_at, world_use_count,
 };
-use wac_types_base::{InterfaceId, ItemKind, Type, Types, WorldId};
+use wac_types_base::{DefinedTypeId, InterfaceId, ItemKind, NamedMap, Names, Type, Types, WorldId};
 use wac_types_fit::{SubtypeChecker, SubtypeError, new_cache};
 
-/// Used items under the names that they have here, and the root names of resources.
+/// Used items under the names that they have here, the root names of resources, and which value types were tested
+/// here: whether they fail.
 #[derive(Drop)]
-pub(crate) struct Holder<'a> {
-    used: Vec<Item<'a>>,
-    roots: Vec<&'a str>,
+pub(crate) struct Holder {
+    alloc: Global,
+    used: NamedMap<ItemKind>,
+    roots: Names,
+    tested: IndexMap<DefinedTypeId, bool>,
 }
 
-/// Whether one value type item is another.
-fn is_same_value(
+/// Whether one item has the tree of another.
+pub(crate) fn is_same_item(
     alloc: Global,
     types: &Types,
     a: ItemKind,
     b: ItemKind,
 ) -> Result<bool, AllocError> {
+    if a == b {
+        return Ok(true);
+    }
+    Ok(fits(alloc, types, a, b)? && fits(alloc, types, b, a)?)
+}
+
+/// Whether one item fits another. What does not stand fits nothing.
+fn fits(alloc: Global, types: &Types, a: ItemKind, b: ItemKind) -> Result<bool, AllocError> {
     if !types.has(a) {
         return Ok(false);
     }
@@ -44,31 +56,38 @@ fn is_value_type(kind: ItemKind) -> bool {
     }
 }
 
-impl<'a> Holder<'a> {
+impl Holder {
     /// Nothing stands there.
     pub(crate) fn new(alloc: Global) -> Self {
         Holder {
-            used: Vec::new(alloc),
-            roots: Vec::new(alloc),
+            alloc,
+            used: NamedMap::new(alloc),
+            roots: Names::new(alloc),
+            tested: IndexMap::new(alloc),
         }
     }
 
+    fn add_root(&mut self, name: &str) -> Result<(), AllocError> {
+        let _ = self.roots.insert(String::from_str(self.alloc, name)?)?;
+        Ok(())
+    }
+
     /// Adds the item that is used, and the root of a resource.
-    fn add_use(&mut self, types: &'a Types, used: Use<'a>) -> Result<(), AllocError> {
+    fn add_use(&mut self, types: &Types, used: Use<'_>) -> Result<(), AllocError> {
         if let Some(kind) = export_named(types, used.interface, used.there) {
-            let name = used.name;
-            self.used.push(Item { name, kind })?;
+            let name = String::from_str(self.alloc, used.name)?;
+            let _ = self.used.insert(name, kind)?;
             if let ItemKind::Ty(Type::Resource(id)) = kind {
-                self.roots.push(root_name(types, id))?;
+                self.add_root(root_name(types, id))?;
             }
         }
         Ok(())
     }
 
     /// Adds the root of a resource under its own name.
-    fn add_fresh(&mut self, types: &'a Types, item: Item<'a>) -> Result<(), AllocError> {
+    fn add_fresh(&mut self, types: &Types, item: Item<'_>) -> Result<(), AllocError> {
         if is_fresh(types, item) {
-            self.roots.push(item.name)?;
+            self.add_root(item.name)?;
         }
         Ok(())
     }
@@ -76,7 +95,7 @@ impl<'a> Holder<'a> {
     /// Adds what stands in an interface.
     pub(crate) fn add_interface(
         &mut self,
-        types: &'a Types,
+        types: &Types,
         id: InterfaceId,
     ) -> Result<(), AllocError> {
         for at in 0..use_count(types, id) {
@@ -93,7 +112,7 @@ impl<'a> Holder<'a> {
     }
 
     /// Adds what stands in a component type.
-    pub(crate) fn add_world(&mut self, types: &'a Types, id: WorldId) -> Result<(), AllocError> {
+    pub(crate) fn add_world(&mut self, types: &Types, id: WorldId) -> Result<(), AllocError> {
         for at in 0..world_use_count(types, id) {
             if let Some(used) = world_use_at(types, id, at) {
                 self.add_use(types, used)?;
@@ -112,24 +131,22 @@ impl<'a> Holder<'a> {
         Ok(())
     }
 
-    /// Whether a use gives the item of this name.
-    pub(crate) fn has_used(&self, name: &str) -> bool {
-        for used in &self.used {
-            if used.name == name {
-                return true;
-            }
+    /// Whether a use gives the item: under its name, with its tree.
+    pub(crate) fn gives(
+        &self,
+        alloc: Global,
+        types: &Types,
+        item: Item<'_>,
+    ) -> Result<bool, AllocError> {
+        match self.used.get(item.name) {
+            Some(used) => is_same_item(alloc, types, *used, item.kind),
+            None => Ok(false),
         }
-        false
     }
 
     /// Whether a resource of that root name stands there.
     pub(crate) fn has_root(&self, name: &str) -> bool {
-        for root in &self.roots {
-            if *root == name {
-                return true;
-            }
-        }
-        false
+        self.roots.contains(name)
     }
 
     /// Whether a value type, as a type item, is one that is used.
@@ -139,11 +156,22 @@ impl<'a> Holder<'a> {
         types: &Types,
         kind: ItemKind,
     ) -> Result<bool, AllocError> {
-        for used in &self.used {
-            if is_value_type(used.kind) && is_same_value(alloc, types, used.kind, kind)? {
+        for used in self.used.values() {
+            if is_value_type(*used) && is_same_item(alloc, types, *used, kind)? {
                 return Ok(true);
             }
         }
         Ok(false)
+    }
+
+    /// Whether a value type fails, if it was tested here.
+    pub(crate) fn tested(&self, id: DefinedTypeId) -> Option<bool> {
+        self.tested.get(&id).copied()
+    }
+
+    /// Remembers whether a value type fails.
+    pub(crate) fn remember(&mut self, id: DefinedTypeId, fails: bool) -> Result<(), AllocError> {
+        let _ = self.tested.insert(id, fails)?;
+        Ok(())
     }
 }

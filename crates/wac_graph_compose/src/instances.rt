@@ -1,23 +1,24 @@
 //! The instances, aliases and exports of a composition, as entries.
 
-use crate::errors::EncodeError;
-use crate::nodes::{argument_at, import_name, kind_of, node_at, package_of, world_at};
-use crate::root::{Counts, NodeIndex, Root, next_index};
+use crate::errors::Refusal;
+use crate::nodes::{arguments_of, import_name, kind_of, node_at, package_of, world_at};
+use crate::root::{Counts, Root, next_index};
+use indexmap::{IndexMap, IndexSet};
 use std::alloc::{AllocError, Global};
 use wac_graph_bytes::{Alias, Entry, Export, IndexName, NamedIndex, Sort, SortNames};
 use wac_graph_core::{CompositionGraph, NodeId, PackageId};
 use wac_graph_encode::imports::{Called, SortIndex};
 use wac_graph_encode::parts::{import_at, import_count};
-use wac_types_base::ItemKind;
+use wac_types_base::{ItemKind, NamedMap};
 
-/// The entries so far, and the nodes that stand at their indexes.
+/// The entries so far, and what stands for nodes.
 #[derive(Drop)]
 pub(crate) struct Wired<'a> {
     alloc: Global,
     graph: &'a CompositionGraph,
-    called: &'a [Called],
+    /// What stands for outer imports, by the names under which they are asked for.
+    outers: NamedMap<SortIndex>,
     root: Root,
-    nodes: Vec<NodeIndex>,
 }
 
 fn sort_of(kind: ItemKind) -> Option<Sort> {
@@ -59,51 +60,45 @@ fn set_count(counts: &mut Counts, sort: Sort, next: u32) {
     }
 }
 
-/// What stands for a node, if anything does yet.
-fn find_node(nodes: &[NodeIndex], node: NodeId) -> Option<SortIndex> {
-    for other in nodes {
-        if other.node == node {
-            return Some(other.place);
+/// What stands for the outer imports, by the names under which they are asked for.
+fn outers_called(
+    alloc: Global,
+    called: &[Called],
+    imports: &[Option<SortIndex>],
+) -> Result<NamedMap<SortIndex>, AllocError> {
+    let mut outers = NamedMap::new(alloc);
+    for one in called {
+        if let Some(Some(place)) = imports.get(one.at) {
+            let name = String::from_str(alloc, one.name.as_str())?;
+            let _ = outers.insert(name, *place)?;
         }
     }
-    None
+    Ok(outers)
 }
 
 impl<'a> Wired<'a> {
     pub(crate) fn new(
         alloc: Global,
         graph: &'a CompositionGraph,
-        called: &'a [Called],
+        called: &[Called],
         root: Root,
     ) -> Result<Self, AllocError> {
-        let mut nodes = Vec::new(alloc);
-        for definition in &root.definitions {
-            nodes.push(*definition)?;
-        }
+        let outers = outers_called(alloc, called, &root.imports)?;
         Ok(Wired {
             alloc,
             graph,
-            called,
+            outers,
             root,
-            nodes,
         })
     }
 
-    /// The outer import that is asked under a name.
-    fn outer(&self, name: &str) -> Option<SortIndex> {
-        for called in self.called {
-            if called.name.is(name) {
-                return match self.root.imports.get(called.at) {
-                    Some(place) => *place,
-                    None => None,
-                };
-            }
-        }
-        None
+    /// What stands for a node, if anything does yet.
+    fn node(&self, node: NodeId) -> Option<SortIndex> {
+        self.root.nodes.get(&node).copied()
     }
 
     /// Adds an entry that adds one thing of a sort.
-    fn add(&mut self, entry: Entry, sort: Sort) -> Result<SortIndex, EncodeError> {
+    fn add(&mut self, entry: Entry, sort: Sort) -> Result<SortIndex, Refusal> {
         let index = count_of(&self.root.counts, sort);
         let next = next_index(index)?;
         self.root.entries.push(entry)?;
@@ -111,21 +106,12 @@ impl<'a> Wired<'a> {
         Ok(SortIndex { sort, index })
     }
 
-    fn component(&self, id: PackageId) -> Option<u32> {
-        for package in &self.root.packages {
-            if package.id == id {
-                return Some(package.index);
-            }
-        }
-        None
-    }
-
-    /// What an alias stands for, where its source stands.
-    fn alias(&mut self, node: NodeId) -> Result<Option<SortIndex>, EncodeError> {
+    /// Writes an alias, where its source stands.
+    fn alias(&mut self, node: NodeId) -> Result<Option<SortIndex>, Refusal> {
         let Some((source, name)) = self.graph.get_alias_source(node) else {
             return Ok(None);
         };
-        let Some(place) = find_node(&self.nodes, source) else {
+        let Some(place) = self.node(source) else {
             return Ok(None);
         };
         let Some(sort) = sort_at(self.graph, node) else {
@@ -137,27 +123,24 @@ impl<'a> Wired<'a> {
     }
 
     /// What is passed to an instance under a name.
-    fn argument(&self, node: NodeId, name: &str) -> Option<SortIndex> {
-        match argument_at(self.graph, node, name) {
-            Some(argument) => find_node(&self.nodes, argument),
-            None => self.outer(name),
+    fn argument(&self, bound: &IndexMap<String, NodeId>, name: &str) -> Option<SortIndex> {
+        match bound.get(name) {
+            Some(argument) => self.node(*argument),
+            None => self.outers.get(name).copied(),
         }
     }
 
     /// The arguments of an instance, where all stand.
-    fn arguments(
-        &self,
-        node: NodeId,
-        id: PackageId,
-    ) -> Result<Option<Vec<NamedIndex>>, EncodeError> {
+    fn arguments(&self, node: NodeId, id: PackageId) -> Result<Option<Vec<NamedIndex>>, Refusal> {
         let mut arguments = Vec::new(self.alloc);
         let Some(world) = world_at(self.graph, id) else {
             return Ok(None);
         };
+        let bound = arguments_of(self.alloc, self.graph, node)?;
         let types = self.graph.types();
         for at in 0..import_count(types, world) {
             if let Some(import) = import_at(types, world, at) {
-                let Some(place) = self.argument(node, import.name) else {
+                let Some(place) = self.argument(&bound, import.name) else {
                     return Ok(None);
                 };
                 arguments.push(NamedIndex {
@@ -170,22 +153,22 @@ impl<'a> Wired<'a> {
         Ok(Some(arguments))
     }
 
-    /// An instance, where its arguments stand.
-    fn instance(&mut self, node: NodeId, id: PackageId) -> Result<Option<SortIndex>, EncodeError> {
+    /// Writes an instance, where its arguments stand.
+    fn instance(&mut self, node: NodeId, id: PackageId) -> Result<Option<SortIndex>, Refusal> {
         let Some(arguments) = self.arguments(node, id)? else {
             return Ok(None);
         };
-        let Some(component) = self.component(id) else {
+        let Some(component) = self.root.packages.get(&id).copied() else {
             return Ok(None);
         };
         let entry = Entry::Instantiate(component, arguments);
         Ok(Some(self.add(entry, Sort::Instance)?))
     }
 
-    /// What stands for a node, where all stands that it needs.
-    fn written(&mut self, node: NodeId) -> Result<Option<SortIndex>, EncodeError> {
+    /// Writes a node, where all stands that it needs.
+    fn written(&mut self, node: NodeId) -> Result<Option<SortIndex>, Refusal> {
         if let Some(name) = import_name(self.graph, node) {
-            return Ok(self.outer(name));
+            return Ok(self.outers.get(name).copied());
         }
         match package_of(self.graph, node) {
             Some(id) => self.instance(node, id),
@@ -193,39 +176,53 @@ impl<'a> Wired<'a> {
         }
     }
 
-    /// Writes each node for which all stands that it needs. A node that is left.
-    fn write_ready(&mut self) -> Result<Option<NodeId>, EncodeError> {
-        let mut left = None;
-        for node in self.graph.node_ids() {
-            if find_node(&self.nodes, node).is_none() {
-                match self.written(node)? {
-                    Some(place) => self.nodes.push(NodeIndex { node, place })?,
-                    None => left = Some(node),
-                }
+    /// The nodes that one needs.
+    fn sources_of(&self, node: NodeId) -> Result<Vec<NodeId>, AllocError> {
+        let mut sources = Vec::new(self.alloc);
+        if let Some((source, _)) = self.graph.get_alias_source(node) {
+            sources.push(source)?;
+        }
+        if self.graph.contains_node(node) {
+            for (_, argument) in self.graph.get_instantiation_arguments(node) {
+                sources.push(argument)?;
             }
         }
-        Ok(left)
+        Ok(sources)
+    }
+
+    /// Writes a node behind those that it needs, unless it stands. No path of nodes is longer than there are nodes,
+    /// since none needs itself, so the depth that is left lasts.
+    fn write_node(&mut self, node: NodeId, depth: usize) -> Result<(), Refusal> {
+        if depth == 0 || self.node(node).is_some() {
+            return Ok(());
+        }
+        let sources = self.sources_of(node)?;
+        for source in &sources {
+            self.write_node(*source, depth - 1)?;
+        }
+        match self.written(node)? {
+            Some(place) => {
+                let _ = self.root.nodes.insert(node, place)?;
+                Ok(())
+            }
+            // Each node that others need stands by now: imports are outer imports, definitions are written.
+            None => Err(Refusal::TooLarge),
+        }
     }
 
     /// Writes all nodes, each behind those that it needs.
-    fn write_nodes(&mut self) -> Result<(), EncodeError> {
-        let mut left = None;
-        for _ in self.graph.node_ids() {
-            left = self.write_ready()?;
-            if left.is_none() {
-                return Ok(());
-            }
+    fn write_nodes(&mut self) -> Result<(), Refusal> {
+        let count = self.graph.node_ids().count();
+        for node in self.graph.node_ids() {
+            self.write_node(node, count)?;
         }
-        match left {
-            Some(node) => Err(EncodeError::GraphContainsCycle { node }),
-            None => Ok(()),
-        }
+        Ok(())
     }
 
     /// Writes the exports.
-    fn write_exports(&mut self) -> Result<(), EncodeError> {
+    fn write_exports(&mut self) -> Result<(), Refusal> {
         for (name, node) in self.graph.exports() {
-            if let Some(place) = find_node(&self.nodes, *node) {
+            if let Some(place) = self.node(*node) {
                 let name = String::from_str(self.alloc, name.as_str())?;
                 self.root.entries.push(Entry::Export(Export {
                     name,
@@ -240,12 +237,14 @@ impl<'a> Wired<'a> {
 
     /// The names of the nodes of a sort, one for each index.
     fn names_of(&self, sort: Sort) -> Result<Vec<IndexName>, AllocError> {
-        let mut names: Vec<IndexName> = Vec::new(self.alloc);
-        for written in &self.nodes {
-            if written.place.sort == sort && !is_named(&names, written.place.index) {
-                if let Some(name) = name_of(self.graph, written.node) {
+        let mut names = Vec::new(self.alloc);
+        let mut named = IndexSet::new(self.alloc);
+        for (node, place) in self.root.nodes.iter() {
+            if place.sort == sort && !named.contains(&place.index) {
+                if let Some(name) = name_of(self.graph, *node) {
+                    let _ = named.insert(place.index)?;
                     names.push(IndexName {
-                        index: written.place.index,
+                        index: place.index,
                         name: String::from_str(self.alloc, name)?,
                     })?;
                 }
@@ -273,7 +272,7 @@ impl<'a> Wired<'a> {
     }
 
     /// All entries of the component, and the names of nodes.
-    pub(crate) fn finish(mut self) -> Result<(Vec<Entry>, Vec<SortNames>), EncodeError> {
+    pub(crate) fn finish(mut self) -> Result<(Vec<Entry>, Vec<SortNames>), Refusal> {
         self.write_nodes()?;
         self.write_exports()?;
         let names = self.debug_names()?;
@@ -287,13 +286,4 @@ fn name_of(graph: &CompositionGraph, node: NodeId) -> Option<&str> {
         Some(node) => node.name(),
         None => None,
     }
-}
-
-fn is_named(names: &[IndexName], index: u32) -> bool {
-    for name in names {
-        if name.index == index {
-            return true;
-        }
-    }
-    false
 }

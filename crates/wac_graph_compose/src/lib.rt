@@ -14,6 +14,7 @@ mod nodes;
 pub mod options;
 mod outers;
 mod root;
+mod unnamed;
 mod world;
 mod writable;
 mod written;

@@ -4,6 +4,8 @@ ghost use Rattle.std.specs.Prelude.{◌≡◌, Some, IfSome};
 ghost use Rattle.wac_types_base.specs.declared.item.ItemKind.{ItemKind};
 ghost use Rattle.wac_types_base.specs.Collection.{Stands};
 
+use indexmap::IndexMap;
+use std::alloc::{AllocError, Global};
 use wac_graph_core::{CompositionGraph, Node, NodeId, PackageId};
 use wac_types_base::{ItemKind, WorldId};
 use wac_types_names::Package;
@@ -64,15 +66,17 @@ pub(crate) fn world_at(graph: &CompositionGraph, id: PackageId) -> Option<WorldI
     }
 }
 
-/// What is passed to an instance under a name.
-pub(crate) fn argument_at(graph: &CompositionGraph, id: NodeId, name: &str) -> Option<NodeId> {
-    if !graph.contains_node(id) {
-        return None;
-    }
-    for (own, argument) in graph.get_instantiation_arguments(id) {
-        if own == name {
-            return Some(argument);
+/// What is passed to an instance, by the names of the arguments.
+pub(crate) fn arguments_of(
+    alloc: Global,
+    graph: &CompositionGraph,
+    id: NodeId,
+) -> Result<IndexMap<String, NodeId>, AllocError> {
+    let mut arguments = IndexMap::new(alloc);
+    if graph.contains_node(id) {
+        for (name, argument) in graph.get_instantiation_arguments(id) {
+            let _ = arguments.insert(String::from_str(alloc, name)?, argument)?;
         }
     }
-    None
+    Ok(arguments)
 }

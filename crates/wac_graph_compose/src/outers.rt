@@ -3,22 +3,22 @@
 use crate::asks::{Ask, Asked, Asking};
 use crate::classes::{Classes, classes_of, has_track};
 use crate::copies::add_world;
-use crate::errors::EncodeError;
+use crate::errors::Refusal;
+use crate::unnamed::Unnamed;
+use indexmap::IndexMap;
 use std::alloc::{AllocError, Global};
 use wac_graph_core::NodeId;
 use wac_graph_encode::imports::Called;
-use wac_graph_encode::parts::{identifier, use_at, use_count};
-use wac_types_base::{InterfaceId, ItemKind, NamedMap, Types, World, WorldId};
+use wac_types_base::{ItemKind, NamedMap, Types, World, WorldId};
 use wac_types_merge::{AggregateError, Family, family_of, joint_family, kept_of, spelled};
 
 /// What is kept of a class.
 #[derive(Clone, Copy)]
 struct Kept {
-    /// The place of its first ask.
-    first: usize,
     count: usize,
     item: ItemKind,
-    family: Family,
+    /// That of the asks, once they are not all one.
+    family: Option<Family>,
 }
 
 /// The outer imports of a composition.
@@ -30,29 +30,13 @@ pub(crate) struct Outers {
     pub called: Vec<Called>,
 }
 
-/// Whether an interface that this one uses, or one that such a one uses, has no identifier.
-pub(crate) fn uses_unnamed(types: &Types, id: InterfaceId) -> bool {
-    for at in 0..use_count(types, id) {
-        if let Some(used) = use_at(types, id, at) {
-            if identifier(types, used.interface).is_none() || uses_unnamed(types, used.interface) {
-                return true;
-            }
-        }
-    }
-    false
-}
-
-/// The family of an ask.
-fn family_asked(types: &Types, ask: &Ask) -> Family {
-    if !types.has(ask.item) {
-        return Family::Neither;
-    }
-    if let ItemKind::Instance(id) = ask.item {
-        if uses_unnamed(types, id) {
-            return Family::Neither;
-        }
-    }
-    family_of(types, ask.name.as_str(), ask.item)
+/// What is kept of the classes, by the places of their first asks, and which interfaces use one without identifier.
+#[derive(Drop)]
+struct Merging<'a> {
+    alloc: Global,
+    asks: &'a [Ask],
+    kept: IndexMap<usize, Kept>,
+    unnamed: Unnamed,
 }
 
 /// What is kept of two asked items.
@@ -72,31 +56,21 @@ fn merged(
     kept_of(alloc, types, family, kept, asked)
 }
 
-/// Where what is kept of a class stands.
-fn place_of(kept: &[Kept], first: usize) -> Option<usize> {
-    for (at, other) in kept.iter().enumerate() {
-        if other.first == first {
-            return Some(at);
-        }
-    }
-    None
-}
-
 /// The refusal of an ask that does not merge with what is kept of its class.
-fn merge_fault(alloc: Global, ask: &Ask, first: NodeId, source: AggregateError) -> EncodeError {
+fn merge_fault(alloc: Global, ask: &Ask, first: NodeId, source: AggregateError) -> Refusal {
     let Ok(name) = String::from_str(alloc, ask.name.as_str()) else {
-        return EncodeError::Memory;
+        return Refusal::Memory;
     };
     if matches!(&source, AggregateError::Memory) {
-        return EncodeError::Memory;
+        return Refusal::Memory;
     }
     match ask.asking {
-        Asking::ByName => EncodeError::ExplicitImportConflict {
+        Asking::ByName => Refusal::ExplicitImportConflict {
             name,
             first,
             second: ask.by,
         },
-        _ => EncodeError::ImportTypeMergeConflict {
+        _ => Refusal::ImportTypeMergeConflict {
             import: name,
             first,
             second: ask.by,
@@ -105,61 +79,93 @@ fn merge_fault(alloc: Global, ask: &Ask, first: NodeId, source: AggregateError) 
     }
 }
 
-/// What is kept after one more ask.
-fn kept_after(
-    alloc: Global,
-    types: &mut Types,
-    asks: &[Ask],
-    before: Kept,
-    ask: &Ask,
-) -> Result<Kept, EncodeError> {
-    let family = joint_family(before.family, family_asked(types, ask));
-    match merged(alloc, types, family, before.item, ask.item) {
-        Ok(item) => Ok(Kept {
-            first: before.first,
-            count: before.count.saturating_add(1),
-            item,
-            family,
-        }),
-        Err(source) => {
-            let first = match asks.get(before.first) {
-                Some(first) => first.by,
-                None => ask.by,
-            };
-            Err(merge_fault(alloc, ask, first, source))
-        }
-    }
+/// Whether the second asks the same under the same name.
+fn is_again(first: &Ask, ask: &Ask) -> bool {
+    first.item == ask.item && first.name.is(ask.name.as_str())
 }
 
-/// Takes an ask into what is kept of its class.
-fn take_ask(
-    alloc: Global,
-    types: &mut Types,
-    kept: &mut Vec<Kept>,
-    asks: &[Ask],
-    ask: &Ask,
-    first: usize,
-) -> Result<(), EncodeError> {
-    match place_of(kept, first) {
-        None => {
-            let family = family_asked(types, ask);
-            kept.push(Kept {
-                first,
-                count: 1,
-                item: ask.item,
-                family,
-            })?;
+impl<'a> Merging<'a> {
+    /// The family of an ask.
+    fn family_asked(&mut self, types: &Types, ask: &Ask) -> Result<Family, AllocError> {
+        if !types.has(ask.item) {
+            return Ok(Family::Neither);
         }
-        Some(at) => {
-            if let Some(before) = kept.get(at).copied() {
-                let after = kept_after(alloc, types, asks, before, ask)?;
-                if let Some(own) = kept.get_mut(at) {
-                    *own = after;
-                }
+        if let ItemKind::Instance(id) = ask.item {
+            if self.unnamed.is_used_by(types, id)? {
+                return Ok(Family::Neither);
             }
         }
+        Ok(family_of(types, ask.name.as_str(), ask.item))
     }
-    Ok(())
+
+    /// The family of what a class asked before.
+    fn family_before(
+        &mut self,
+        types: &Types,
+        before: Kept,
+        first: &Ask,
+    ) -> Result<Family, AllocError> {
+        match before.family {
+            Some(family) => Ok(family),
+            None => self.family_asked(types, first),
+        }
+    }
+
+    /// What is kept after one more ask, which is not the first one again.
+    fn merge(
+        &mut self,
+        types: &mut Types,
+        before: Kept,
+        first: &Ask,
+        ask: &Ask,
+    ) -> Result<Kept, Refusal> {
+        let family = self.family_before(types, before, first)?;
+        let family = joint_family(family, self.family_asked(types, ask)?);
+        match merged(self.alloc, types, family, before.item, ask.item) {
+            Ok(item) => Ok(Kept {
+                count: before.count.saturating_add(1),
+                item,
+                family: Some(family),
+            }),
+            Err(source) => Err(merge_fault(self.alloc, ask, first.by, source)),
+        }
+    }
+
+    /// What is kept after one more ask.
+    fn kept_after(
+        &mut self,
+        types: &mut Types,
+        before: Kept,
+        first: &Ask,
+        ask: &Ask,
+    ) -> Result<Kept, Refusal> {
+        if before.family.is_none() && is_again(first, ask) {
+            return Ok(Kept {
+                count: before.count.saturating_add(1),
+                item: before.item,
+                family: None,
+            });
+        }
+        self.merge(types, before, first, ask)
+    }
+
+    /// Takes an ask into what is kept of its class.
+    fn take(&mut self, types: &mut Types, ask: &Ask, class: usize) -> Result<(), Refusal> {
+        let first = match self.asks.get(class) {
+            Some(first) => first,
+            None => ask,
+        };
+        let after = match self.kept.get(&class).copied() {
+            Some(before) => self.kept_after(types, before, first, ask)?,
+            None => Kept {
+                count: 1,
+                item: ask.item,
+                family: None,
+            },
+        };
+        let _ = self.kept.insert(class, after)?;
+        Ok(())
+    }
 }
 
 /// What is kept of each class, in asking order.
@@ -168,12 +174,17 @@ fn kept_of_all(
     types: &mut Types,
     asks: &[Ask],
     classes: &Classes,
-) -> Result<Vec<Kept>, EncodeError> {
-    let mut kept = Vec::new(alloc);
-    for (ask, first) in asks.iter().zip(&classes.labels) {
-        take_ask(alloc, types, &mut kept, asks, ask, *first)?;
+) -> Result<IndexMap<usize, Kept>, Refusal> {
+    let mut merging = Merging {
+        alloc,
+        asks,
+        kept: IndexMap::new(alloc),
+        unnamed: Unnamed::new(alloc),
+    };
+    for (ask, class) in asks.iter().zip(&classes.labels) {
+        merging.take(types, ask, *class)?;
     }
-    Ok(kept)
+    Ok(merging.kept)
 }
 
 /// The item under the spelling: an instance that several ask for on a track is identified by it.
@@ -195,8 +206,8 @@ fn identified(
 }
 
 /// The name of the ask that spells a class.
-fn spelling_of<'a>(asks: &'a [Ask], classes: &Classes, first: usize) -> &'a str {
-    match classes.spellings.get(first) {
+fn spelling_of<'a>(asks: &'a [Ask], classes: &Classes, class: usize) -> &'a str {
+    match classes.spellings.get(class) {
         Some(at) => match asks.get(*at) {
             Some(ask) => ask.name.as_str(),
             None => "",
@@ -210,11 +221,11 @@ fn names_called(
     alloc: Global,
     asks: &[Ask],
     classes: &Classes,
-    kept: &[Kept],
+    kept: &IndexMap<usize, Kept>,
 ) -> Result<Vec<Called>, AllocError> {
     let mut called = Vec::new(alloc);
-    for (ask, first) in asks.iter().zip(&classes.labels) {
-        if let Some(at) = place_of(kept, *first) {
+    for (ask, class) in asks.iter().zip(&classes.labels) {
+        if let Some(at) = kept.get_index_of(class) {
             let name = ask.name.copy()?;
             called.push(Called { name, at })?;
         }
@@ -227,11 +238,11 @@ fn imports_kept(
     alloc: Global,
     asked: &mut Asked,
     classes: &Classes,
-    kept: &[Kept],
+    kept: &IndexMap<usize, Kept>,
 ) -> Result<NamedMap<ItemKind>, AllocError> {
     let mut imports = NamedMap::new(alloc);
-    for one in kept {
-        let spelling = spelling_of(&asked.asks, classes, one.first);
+    for (class, one) in kept.iter() {
+        let spelling = spelling_of(&asked.asks, classes, *class);
         let item = identified(alloc, &mut asked.types, *one, spelling)?;
         let name = String::from_str(alloc, spelling)?;
         let _ = imports.insert(name, item)?;
@@ -240,7 +251,7 @@ fn imports_kept(
 }
 
 /// The outer imports of what is asked.
-pub(crate) fn outers_of(alloc: Global, asked: &mut Asked) -> Result<Outers, EncodeError> {
+pub(crate) fn outers_of(alloc: Global, asked: &mut Asked) -> Result<Outers, Refusal> {
     let classes = classes_of(alloc, &asked.types, &asked.asks)?;
     let kept = kept_of_all(alloc, &mut asked.types, &asked.asks, &classes)?;
     let imports = imports_kept(alloc, asked, &classes, &kept)?;
@@ -251,7 +262,7 @@ pub(crate) fn outers_of(alloc: Global, asked: &mut Asked) -> Result<Outers, Enco
         exports: NamedMap::new(alloc),
     };
     let Some(world) = add_world(&mut asked.types, world)? else {
-        return Err(EncodeError::TooLarge);
+        return Err(Refusal::TooLarge);
     };
     let called = names_called(alloc, &asked.asks, &classes, &kept)?;
     Ok(Outers { world, called })

@@ -2,30 +2,17 @@
 
 use crate::asks::{Asked, Definition};
 use crate::conflicts::dependency_name;
-use crate::errors::{EncodeError, not_written};
+use crate::errors::{Refusal, not_written};
 use crate::nodes::package_at;
 use crate::options::EncodeOptions;
+use indexmap::IndexMap;
 use std::alloc::{AllocError, Global};
 use wac_graph_bytes::{Declaration, Description, Entry, Sort};
 use wac_graph_core::{CompositionGraph, NodeId, PackageId};
-use wac_graph_encode::imports::{ImportScope, Importing, SortIndex, next_import};
+use wac_graph_encode::imports::{ImportScope, Importing, SortIndex};
 use wac_graph_encode::items::ItemScope;
-use wac_graph_encode::parts::{Item, import_at, import_count};
-use wac_types_base::ItemKind;
-
-/// What stands for a node.
-#[derive(Clone, Copy)]
-pub(crate) struct NodeIndex {
-    pub node: NodeId,
-    pub place: SortIndex,
-}
-
-/// The component that is a package.
-#[derive(Clone, Copy)]
-pub(crate) struct PackageIndex {
-    pub id: PackageId,
-    pub index: u32,
-}
+use wac_graph_encode::parts::{Item, import_at};
+use wac_types_base::{ItemKind, Types};
 
 /// How many things of each sort stand there.
 #[derive(Clone, Copy)]
@@ -44,20 +31,22 @@ pub(crate) struct Root {
     pub counts: Counts,
     /// What is written of the outer imports, in their order.
     pub imports: Vec<Option<SortIndex>>,
-    pub definitions: Vec<NodeIndex>,
-    pub packages: Vec<PackageIndex>,
+    /// What stands for the definitions.
+    pub nodes: IndexMap<NodeId, SortIndex>,
+    /// The components that are packages.
+    pub packages: IndexMap<PackageId, u32>,
 }
 
 /// The number after this one.
-pub(crate) fn next_index(index: u32) -> Result<u32, EncodeError> {
+pub(crate) fn next_index(index: u32) -> Result<u32, Refusal> {
     match index.checked_add(1) {
         Some(next) => Ok(next),
-        None => Err(EncodeError::TooLarge),
+        None => Err(Refusal::TooLarge),
     }
 }
 
 /// The name of the outer import at a place.
-fn name_at<'a>(all: Importing<'a, '_>, at: usize) -> &'a str {
+fn name_at<'a>(all: Importing<'a>, at: usize) -> &'a str {
     match import_at(all.types, all.world, at) {
         Some(import) => import.name,
         None => "",
@@ -65,30 +54,25 @@ fn name_at<'a>(all: Importing<'a, '_>, at: usize) -> &'a str {
 }
 
 /// Writes the outer imports.
-fn write_outers<'a>(alloc: Global, all: Importing<'a, '_>) -> Result<ImportScope<'a>, EncodeError> {
-    let count = import_count(all.types, all.world);
-    let mut scope = match ImportScope::new(alloc, count) {
-        Ok(scope) => scope,
-        Err(fault) => return Err(not_written(alloc, "", fault)),
-    };
-    for _ in 0..count {
-        if let Some(at) = next_import(all, &scope.places) {
-            if let Err(fault) = scope.write_import(alloc, all, at) {
-                return Err(not_written(alloc, name_at(all, at), fault));
-            }
+fn write_outers(alloc: Global, all: Importing<'_>) -> Result<ImportScope, Refusal> {
+    let mut scope = ImportScope::new(alloc, all)?;
+    let order = scope.order(alloc, all)?;
+    for at in order.sources.iter().chain(order.others.iter()) {
+        if let Err(fault) = scope.write_import(alloc, all, *at) {
+            return Err(not_written(alloc, name_at(all, *at), fault));
         }
     }
     Ok(scope)
 }
 
 /// Writes the type of an item that stands at the root.
-fn write_type<'a>(
+fn write_type(
     alloc: Global,
-    scope: &mut ImportScope<'a>,
-    all: Importing<'a, '_>,
+    scope: &mut ImportScope,
+    all: Importing<'_>,
     name: &str,
     item: ItemKind,
-) -> Result<Description, EncodeError> {
+) -> Result<Description, Refusal> {
     if let Err(fault) = scope.prepare(alloc, all, item) {
         return Err(not_written(alloc, name, fault));
     }
@@ -98,36 +82,51 @@ fn write_type<'a>(
     }
 }
 
-/// Writes the definitions.
-fn write_definitions<'a>(
+/// Writes a definition; its type is an entry of its own, whatever else is written.
+fn write_definition(
     alloc: Global,
-    scope: &mut ImportScope<'a>,
-    all: Importing<'a, '_>,
+    scope: &mut ImportScope,
+    all: Importing<'_>,
+    types: &Types,
+    definition: &Definition,
+) -> Result<Description, Refusal> {
+    let name = definition.name.as_str();
+    match definition.copy {
+        Some(item) => write_type(alloc, scope, all, name, item),
+        None => match scope.describe_apart(alloc, types, definition.ty) {
+            Ok(description) => Ok(description),
+            Err(fault) => Err(not_written(alloc, name, fault)),
+        },
+    }
+}
+
+/// Writes the definitions. Types of the graph's collection are written, and no longer of the asked one.
+fn write_definitions(
+    alloc: Global,
+    graph: &CompositionGraph,
+    scope: &mut ImportScope,
+    all: Importing<'_>,
     definitions: &[Definition],
-) -> Result<Vec<NodeIndex>, EncodeError> {
-    let mut written = Vec::new(alloc);
+) -> Result<IndexMap<NodeId, SortIndex>, Refusal> {
+    let mut written = IndexMap::new(alloc);
+    scope.scope.types.forget(alloc);
     for definition in definitions {
-        let name = definition.name.as_str();
-        if let Description::Equal(index) = write_type(alloc, scope, all, name, definition.item)? {
-            written.push(NodeIndex {
-                node: definition.node,
-                place: SortIndex {
-                    sort: Sort::Ty,
-                    index,
-                },
-            })?;
+        let description = write_definition(alloc, scope, all, graph.types(), definition)?;
+        if let Description::Equal(index) = description {
+            let sort = Sort::Ty;
+            let _ = written.insert(definition.node, SortIndex { sort, index })?;
         }
     }
     Ok(written)
 }
 
 /// Imports a package.
-fn import_package<'a>(
+fn import_package(
     alloc: Global,
-    scope: &mut ImportScope<'a>,
-    all: Importing<'a, '_>,
+    scope: &mut ImportScope,
+    all: Importing<'_>,
     item: Item<'_>,
-) -> Result<u32, EncodeError> {
+) -> Result<u32, Refusal> {
     let description = write_type(alloc, scope, all, item.name, item.kind)?;
     match scope.import(alloc, all.types, item, description) {
         Ok(place) => Ok(place.index),
@@ -136,25 +135,22 @@ fn import_package<'a>(
 }
 
 /// Imports the packages.
-fn import_packages<'a>(
+fn import_packages(
     alloc: Global,
     graph: &CompositionGraph,
-    scope: &mut ImportScope<'a>,
-    all: Importing<'a, '_>,
+    scope: &mut ImportScope,
+    all: Importing<'_>,
     asked: &Asked,
-) -> Result<Vec<PackageIndex>, EncodeError> {
-    let mut imported = Vec::new(alloc);
-    for package in &asked.packages {
-        let name = dependency_name(alloc, graph, package.id)?;
+) -> Result<IndexMap<PackageId, u32>, Refusal> {
+    let mut imported = IndexMap::new(alloc);
+    for (id, world) in asked.packages.iter() {
+        let name = dependency_name(alloc, graph, *id)?;
         let item = Item {
             name: name.as_str(),
-            kind: ItemKind::Component(package.world),
+            kind: ItemKind::Component(*world),
         };
         let index = import_package(alloc, scope, all, item)?;
-        imported.push(PackageIndex {
-            id: package.id,
-            index,
-        })?;
+        let _ = imported.insert(*id, index)?;
     }
     Ok(imported)
 }
@@ -197,17 +193,14 @@ fn nest_packages(
     graph: &CompositionGraph,
     asked: &Asked,
     root: &mut Root,
-) -> Result<(), EncodeError> {
-    for package in &asked.packages {
-        let bytes = bytes_of(alloc, graph, package.id)?;
+) -> Result<(), Refusal> {
+    for id in asked.packages.keys() {
+        let bytes = bytes_of(alloc, graph, *id)?;
         let index = root.counts.components;
         let next = next_index(index)?;
         root.entries.push(Entry::Nested(bytes))?;
         root.counts.components = next;
-        root.packages.push(PackageIndex {
-            id: package.id,
-            index,
-        })?;
+        let _ = root.packages.insert(*id, index)?;
     }
     Ok(())
 }
@@ -229,22 +222,18 @@ fn declarations_of(scope: ItemScope) -> Vec<Declaration> {
 
 fn root_of(
     alloc: Global,
-    scope: ImportScope<'_>,
-    definitions: Vec<NodeIndex>,
-    packages: Vec<PackageIndex>,
-) -> Result<Root, EncodeError> {
-    let ImportScope {
-        scope: items,
-        used: _,
-        places: imports,
-    } = scope;
+    scope: ImportScope,
+    nodes: IndexMap<NodeId, SortIndex>,
+    packages: IndexMap<PackageId, u32>,
+) -> Result<Root, Refusal> {
+    let (items, imports) = scope.into_parts();
     let counts = counts_of(&items);
     let entries = entries_of(alloc, declarations_of(items))?;
     Ok(Root {
         entries,
         counts,
         imports,
-        definitions,
+        nodes,
         packages,
     })
 }
@@ -254,14 +243,14 @@ pub(crate) fn write_root(
     alloc: Global,
     graph: &CompositionGraph,
     asked: &Asked,
-    all: Importing<'_, '_>,
+    all: Importing<'_>,
     definitions: &[Definition],
     options: &EncodeOptions,
-) -> Result<Root, EncodeError> {
+) -> Result<Root, Refusal> {
     let mut scope = write_outers(alloc, all)?;
-    let written = write_definitions(alloc, &mut scope, all, definitions)?;
+    let written = write_definitions(alloc, graph, &mut scope, all, definitions)?;
     if options.define_components {
-        let mut root = root_of(alloc, scope, written, Vec::new(alloc))?;
+        let mut root = root_of(alloc, scope, written, IndexMap::new(alloc))?;
         nest_packages(alloc, graph, asked, &mut root)?;
         Ok(root)
     } else {

@@ -9,33 +9,42 @@ use crate::copies::add_world;
 use crate::nodes::{import_name, kind_of};
 use crate::outers::Outers;
 use crate::written::{Form, formed};
+use indexmap::IndexMap;
 use std::alloc::{AllocError, Global};
 use wac_graph_core::{CompositionGraph, NodeId};
 use wac_graph_encode::parts::{export_named, import_at, import_count};
 use wac_types_base::copy::copy_item;
 use wac_types_base::{ItemKind, NamedMap, Types, World, WorldId};
 
-/// The type of the outer import that is asked under a name.
-fn outer_type(types: &Types, outers: &Outers, name: &str) -> Option<ItemKind> {
-    for called in &outers.called {
-        if called.name.is(name) {
-            return match import_at(types, outers.world, called.at) {
-                Some(import) => Some(import.kind),
-                None => None,
-            };
-        }
-    }
-    None
+/// The types of outer imports, by the names under which they are asked for, and the written types of definitions.
+#[derive(Drop)]
+struct Typed {
+    outers: NamedMap<ItemKind>,
+    definitions: IndexMap<NodeId, ItemKind>,
 }
 
-/// The written type of a definition.
-fn defined_type(definitions: &[Definition], node: NodeId) -> Option<ItemKind> {
-    for definition in definitions {
-        if definition.node == node {
-            return Some(definition.item);
+fn typed(
+    alloc: Global,
+    types: &Types,
+    outers: &Outers,
+    definitions: &[Definition],
+) -> Result<Typed, AllocError> {
+    let mut typed = Typed {
+        outers: NamedMap::new(alloc),
+        definitions: IndexMap::new(alloc),
+    };
+    for called in &outers.called {
+        if let Some(import) = import_at(types, outers.world, called.at) {
+            let name = String::from_str(alloc, called.name.as_str())?;
+            let _ = typed.outers.insert(name, import.kind)?;
         }
     }
-    None
+    for definition in definitions {
+        if let Some(copy) = definition.copy {
+            let _ = typed.definitions.insert(definition.node, copy)?;
+        }
+    }
+    Ok(typed)
 }
 
 /// An export of an instance.
@@ -74,19 +83,19 @@ fn path_of<'a>(
     Ok(path)
 }
 
-/// The type of what comes from an outer import or is a definition; none of what comes from an instance.
+/// The type of what comes from an outer import or is a definition that is an interface or a world; none of what comes
+/// from an instance or has its type in the graph alone.
 fn final_type(
     alloc: Global,
     graph: &CompositionGraph,
     types: &Types,
-    outers: &Outers,
-    definitions: &[Definition],
+    typed: &Typed,
     node: NodeId,
 ) -> Result<Option<ItemKind>, AllocError> {
     let path = path_of(alloc, graph, node)?;
     let mut item = match import_name(graph, path.node) {
-        Some(name) => outer_type(types, outers, name),
-        None => defined_type(definitions, path.node),
+        Some(name) => typed.outers.get(name).copied(),
+        None => typed.definitions.get(&path.node).copied(),
     };
     for name in path.names.iter().rev() {
         item = match item {
@@ -101,16 +110,15 @@ fn final_type(
 fn exported_type(
     alloc: Global,
     graph: &CompositionGraph,
-    asked: &mut Asked,
-    outers: &Outers,
-    definitions: &[Definition],
+    types: &mut Types,
+    typed: &Typed,
     node: NodeId,
 ) -> Result<Option<ItemKind>, AllocError> {
-    match final_type(alloc, graph, &asked.types, outers, definitions, node)? {
+    match final_type(alloc, graph, types, typed, node)? {
         Some(kind) => Ok(Some(kind)),
         None => match kind_of(graph, node) {
             Some(kind) => {
-                let copy = copy_item(alloc, graph.types(), kind, &mut asked.types)?;
+                let copy = copy_item(alloc, graph.types(), kind, types)?;
                 Ok(Some(copy))
             }
             None => Ok(None),
@@ -122,13 +130,14 @@ fn exported_type(
 fn exports_of(
     alloc: Global,
     graph: &CompositionGraph,
-    asked: &mut Asked,
+    types: &mut Types,
     outers: &Outers,
     definitions: &[Definition],
 ) -> Result<NamedMap<ItemKind>, AllocError> {
+    let typed = typed(alloc, types, outers, definitions)?;
     let mut exports = NamedMap::new(alloc);
     for (name, node) in graph.exports() {
-        if let Some(item) = exported_type(alloc, graph, asked, outers, definitions, *node)? {
+        if let Some(item) = exported_type(alloc, graph, types, &typed, *node)? {
             let _ = exports.insert(String::from_str(alloc, name.as_str())?, item)?;
         }
     }
@@ -158,7 +167,7 @@ fn own_world(
     outers: &Outers,
     definitions: &[Definition],
 ) -> Result<WorldId, AllocError> {
-    let exports = exports_of(alloc, graph, asked, outers, definitions)?;
+    let exports = exports_of(alloc, graph, &mut asked.types, outers, definitions)?;
     let imports = imports_of(alloc, &asked.types, outers)?;
     let world = World {
         id: None,

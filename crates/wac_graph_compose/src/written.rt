@@ -1,6 +1,7 @@
 //! The forms in which worlds are written, and in which they are handed out.
 
 use crate::copies::{add_interface, add_world, interface_at, world_at};
+use indexmap::{IndexMap, IndexSet};
 use std::alloc::{AllocError, Global};
 use wac_graph_encode::parts::{
     export_at, export_count, identifier, import_at, import_count, interface_of, use_at, use_count,
@@ -26,13 +27,13 @@ pub(crate) enum Form {
 fn add_used(
     types: &Types,
     id: InterfaceId,
-    found: &mut Vec<InterfaceId>,
+    found: &mut IndexSet<InterfaceId>,
 ) -> Result<(), AllocError> {
     if found.contains(&id) {
         return Ok(());
     }
     add_below(types, ItemKind::Instance(id), found)?;
-    found.push(id)?;
+    let _ = found.insert(id)?;
     Ok(())
 }
 
@@ -41,7 +42,7 @@ fn add_used(
 fn add_uses(
     types: &Types,
     id: InterfaceId,
-    found: &mut Vec<InterfaceId>,
+    found: &mut IndexSet<InterfaceId>,
 ) -> Result<(), AllocError> {
     for at in 0..use_count(types, id) {
         if let Some(used) = use_at(types, id, at) {
@@ -56,7 +57,7 @@ fn add_uses(
 fn add_below(
     types: &Types,
     kind: ItemKind,
-    found: &mut Vec<InterfaceId>,
+    found: &mut IndexSet<InterfaceId>,
 ) -> Result<(), AllocError> {
     let Some(id) = interface_of(types, kind) else {
         return Ok(());
@@ -75,8 +76,8 @@ fn used_by_world(
     alloc: Global,
     types: &Types,
     id: WorldId,
-) -> Result<Vec<InterfaceId>, AllocError> {
-    let mut found = Vec::new(alloc);
+) -> Result<IndexSet<InterfaceId>, AllocError> {
+    let mut found = IndexSet::new(alloc);
     for at in 0..world_use_count(types, id) {
         if let Some(used) = world_use_at(types, id, at) {
             add_used(types, used.interface, &mut found)?;
@@ -161,7 +162,7 @@ fn with_missing(
 ) -> Result<NamedMap<ItemKind>, AllocError> {
     let used = used_by_world(alloc, types, id)?;
     let mut imports = NamedMap::new(alloc);
-    for interface in &used {
+    for interface in used.iter() {
         add_missing(alloc, types, *interface, own, &mut imports)?;
     }
     for at in 0..own.len() {
@@ -190,16 +191,16 @@ fn importing(alloc: Global, types: &mut Types, id: WorldId) -> Result<WorldId, A
 
 // ---- worlds inside items
 
-/// An interface or a world, before and after.
-#[derive(Clone, Copy)]
-struct Change {
-    before: ItemKind,
-    after: ItemKind,
-}
+/// What became of interfaces and worlds.
+type Changes = IndexMap<ItemKind, ItemKind>;
 
 /// Adds an item behind those interfaces and worlds that it is made of.
 #[cycle(parts)]
-fn add_parts(types: &Types, kind: ItemKind, parts: &mut Vec<ItemKind>) -> Result<(), AllocError> {
+fn add_parts(
+    types: &Types,
+    kind: ItemKind,
+    parts: &mut IndexSet<ItemKind>,
+) -> Result<(), AllocError> {
     if let Some(id) = interface_of(types, kind) {
         return add_interface_parts(types, id, parts);
     }
@@ -213,7 +214,7 @@ fn add_parts(types: &Types, kind: ItemKind, parts: &mut Vec<ItemKind>) -> Result
 fn add_interface_parts(
     types: &Types,
     id: InterfaceId,
-    parts: &mut Vec<ItemKind>,
+    parts: &mut IndexSet<ItemKind>,
 ) -> Result<(), AllocError> {
     if parts.contains(&ItemKind::Instance(id)) {
         return Ok(());
@@ -228,7 +229,7 @@ fn add_interface_parts(
             add_parts(types, item.kind, parts)?;
         }
     }
-    parts.push(ItemKind::Instance(id))?;
+    let _ = parts.insert(ItemKind::Instance(id))?;
     Ok(())
 }
 
@@ -236,7 +237,7 @@ fn add_interface_parts(
 fn add_world_parts(
     types: &Types,
     id: WorldId,
-    parts: &mut Vec<ItemKind>,
+    parts: &mut IndexSet<ItemKind>,
 ) -> Result<(), AllocError> {
     if parts.contains(&ItemKind::Component(id)) {
         return Ok(());
@@ -256,28 +257,26 @@ fn add_world_parts(
             add_parts(types, item.kind, parts)?;
         }
     }
-    parts.push(ItemKind::Component(id))?;
+    let _ = parts.insert(ItemKind::Component(id))?;
     Ok(())
 }
 
 /// What became of an interface or a world.
-fn found(done: &[Change], kind: ItemKind) -> ItemKind {
-    for one in done {
-        if one.before == kind {
-            return one.after;
-        }
+fn found(done: &Changes, kind: ItemKind) -> ItemKind {
+    match done.get(&kind) {
+        Some(after) => *after,
+        None => kind,
     }
-    kind
 }
 
-fn found_interface(done: &[Change], id: InterfaceId) -> InterfaceId {
+fn found_interface(done: &Changes, id: InterfaceId) -> InterfaceId {
     match found(done, ItemKind::Instance(id)) {
         ItemKind::Instance(after) => after,
         _ => id,
     }
 }
 
-fn found_world(done: &[Change], id: WorldId) -> WorldId {
+fn found_world(done: &Changes, id: WorldId) -> WorldId {
     match found(done, ItemKind::Component(id)) {
         ItemKind::Component(after) => after,
         _ => id,
@@ -285,7 +284,7 @@ fn found_world(done: &[Change], id: WorldId) -> WorldId {
 }
 
 /// What became of an item.
-fn found_item(done: &[Change], kind: ItemKind) -> ItemKind {
+fn found_item(done: &Changes, kind: ItemKind) -> ItemKind {
     match kind {
         ItemKind::Instance(id) => ItemKind::Instance(found_interface(done, id)),
         ItemKind::Component(id) => ItemKind::Component(found_world(done, id)),
@@ -300,7 +299,7 @@ fn found_item(done: &[Change], kind: ItemKind) -> ItemKind {
 
 fn found_items(
     alloc: Global,
-    done: &[Change],
+    done: &Changes,
     items: &NamedMap<ItemKind>,
 ) -> Result<NamedMap<ItemKind>, AllocError> {
     let mut all = NamedMap::new(alloc);
@@ -313,7 +312,7 @@ fn found_items(
 
 fn found_uses(
     alloc: Global,
-    done: &[Change],
+    done: &Changes,
     uses: NamedMap<UsedType>,
 ) -> Result<NamedMap<UsedType>, AllocError> {
     let mut all = NamedMap::new(alloc);
@@ -329,7 +328,7 @@ fn found_uses(
 }
 
 /// Whether nothing became of these items.
-fn are_kept(done: &[Change], items: &NamedMap<ItemKind>) -> bool {
+fn are_kept(done: &Changes, items: &NamedMap<ItemKind>) -> bool {
     for kind in items.values() {
         if found_item(done, *kind) != *kind {
             return false;
@@ -338,7 +337,7 @@ fn are_kept(done: &[Change], items: &NamedMap<ItemKind>) -> bool {
     true
 }
 
-fn uses_kept(done: &[Change], uses: &NamedMap<UsedType>) -> bool {
+fn uses_kept(done: &Changes, uses: &NamedMap<UsedType>) -> bool {
     for used in uses.values() {
         if found_interface(done, used.interface) != used.interface {
             return false;
@@ -351,7 +350,7 @@ fn uses_kept(done: &[Change], uses: &NamedMap<UsedType>) -> bool {
 fn form_interface(
     alloc: Global,
     types: &mut Types,
-    done: &[Change],
+    done: &Changes,
     id: InterfaceId,
 ) -> Result<InterfaceId, AllocError> {
     let Some(copy) = interface_at(alloc, types, id)? else {
@@ -375,7 +374,7 @@ fn form_interface(
 fn uses_in(
     alloc: Global,
     form: Form,
-    done: &[Change],
+    done: &Changes,
     uses: NamedMap<UsedType>,
 ) -> Result<NamedMap<UsedType>, AllocError> {
     match form {
@@ -389,7 +388,7 @@ fn form_world(
     alloc: Global,
     types: &mut Types,
     form: Form,
-    done: &[Change],
+    done: &Changes,
     id: WorldId,
 ) -> Result<WorldId, AllocError> {
     let Some(copy) = world_at(alloc, types, id)? else {
@@ -415,7 +414,7 @@ fn form_part(
     alloc: Global,
     types: &mut Types,
     form: Form,
-    done: &[Change],
+    done: &Changes,
     part: ItemKind,
 ) -> Result<ItemKind, AllocError> {
     match part {
@@ -438,15 +437,12 @@ pub(crate) fn formed(
     form: Form,
     kind: ItemKind,
 ) -> Result<ItemKind, AllocError> {
-    let mut parts = Vec::new(alloc);
+    let mut parts = IndexSet::new(alloc);
     add_parts(types, kind, &mut parts)?;
-    let mut done: Vec<Change> = Vec::new(alloc);
-    for part in &parts {
+    let mut done = IndexMap::new(alloc);
+    for part in parts.iter() {
         let after = form_part(alloc, types, form, &done, *part)?;
-        done.push(Change {
-            before: *part,
-            after,
-        })?;
+        let _ = done.insert(*part, after)?;
     }
     Ok(found_item(&done, kind))
 }

@@ -1,10 +1,8 @@
 -- One more declaration of a scope of written types, and what stands on.
 use Rattle.std.proofs.Common.{◌≡◌, ℕ, ◌+◌, Bool, true, false, List, [], ◌∷◌, ◌++◌, length, Option, Some, None, refl, sym, ap, ◌∙◌, subst, arith, inl, inr, if◌then◌else◌}
 use Rattle.std.specs.Prelude.{slice_get, IfSome, ◌==◌, ◌&&◌, ◌⊎◌}
-use Rattle.std.specs.Cmp.Lexicographic.{pointwise}
-use Rattle.std.proofs.lemmas.Slice.Eq.{bytes_eq-Decides}
 use Rattle.std.proofs.lemmas.Bool.Decides.{Decides-eqb}
-use Rattle.wac_types_base.specs.Entries.{Name}
+use Rattle.wac_types_base.specs.Entries.{Name, value_at}
 use Rattle.std.proofs.lemmas.List.{length_push}
 use Rattle.wac_types_base.specs.declared.ids.DefinedTypeId.{DefinedTypeId}
 use Rattle.wac_types_base.specs.declared.item.ValueType.{ValueType}
@@ -26,9 +24,7 @@ use Rattle.wac_graph_bytes.specs.Views.{defined_view, before, declarations_of}
 use Rattle.wac_graph_bytes.proofs.Steps.{bind_some, kept_one, cores_kept, get_last}
 use Rattle.wac_graph_bytes.proofs.Extending.{one_more}
 use Rattle.wac_graph_encode.specs.declared.scope.KnownType.{KnownType}
-use Rattle.wac_graph_encode.specs.declared.scope.KnownResource.{KnownResource}
 use Rattle.wac_graph_encode.specs.declared.scope.TypeScope.{TypeScope}
-use Rattle.wac_graph_encode.specs.Lookups.{first_known, first_resource}
 use Rattle.wac_graph_encode.specs.Scopes.{Extends, IsKnown, IsResource, IsScope, Goes, AnswersType, PlaceReads, PlacesRead}
 
 -- ---- what stands on
@@ -81,8 +77,8 @@ places_more w ss (x ∷ bs) [] b t h e = absurd h
 pub known_kept : (w : Worlds) (c : Collection) (h j : Scope) (outer : List Scope) (k : KnownType) → Extends h j → IsKnown w (h ∷ outer) c k → IsKnown w (j ∷ outer) c k
 known_kept w c h j outer k x e = record { reads = value_kept w h j outer (Index k.index) _ x e.reads }
 
-pub resource_kept : (w : Worlds) (h j : Scope) (outer : List Scope) (r : KnownResource) → Extends h j → IsResource w (h ∷ outer) r → IsResource w (j ∷ outer) r
-resource_kept w h j outer r x e = record { reads = type_kept w h j outer r.index _ x e.reads }
+pub resource_kept : (w : Worlds) (h j : Scope) (outer : List Scope) (n : Name) (k : ℕ) → Extends h j → IsResource w (h ∷ outer) n k → IsResource w (j ∷ outer) n k
+resource_kept w h j outer n k x e = record { reads = type_kept w h j outer k _ x e.reads }
 
 -- ---- going on
 
@@ -100,7 +96,7 @@ module _ (w : Worlds) (c : Collection) (outer : List Scope) where
 
   -- one more type
   pub type_added : (i : Inside) (m : Meaning) (s u : TypeScope) (d : Declaration) → IsScope w c outer i s → declared w outer i (before d End) ≡ Some (adds_inside sort.Ty m i)
-      → u.declarations.items ≡ s.declarations.items ++ d ∷ [] → u.types ≡ s.types + 1 → u.known.items ≡ s.known.items → u.resources.items ≡ s.resources.items
+      → u.declarations.items ≡ s.declarations.items ++ d ∷ [] → u.types ≡ s.types + 1 → u.known.items ≡ s.known.items → u.resources ≡ s.resources
       → Goes w c outer i (adds_inside sort.Ty m i) u
   type_added i m s u d h one ds ts ks rs =
       let x = Extends-one sort.Ty m i.here in
@@ -109,7 +105,7 @@ module _ (w : Worlds) (c : Collection) (outer : List Scope) where
           reads = ap (λ (l : List Declaration). declared w outer nothing_inside (declarations_of l)) ds ∙ one_more w outer nothing_inside i (adds_inside sort.Ty m i) s.declarations.items d h.reads one;
           types = omega (arith, ts, h.types, length_push i.here.types m);
           known = λ k a. known_kept w c i.here (with_one sort.Ty m i.here) outer k x (h.known k (subst (λ (l : List KnownType). Among k l) ks a));
-          resources = λ r a. resource_kept w i.here (with_one sort.Ty m i.here) outer r x (h.resources r (subst (λ (l : List KnownResource). Among r l) rs a));
+          resources = λ n k a. resource_kept w i.here (with_one sort.Ty m i.here) outer n k x (h.resources n k (subst (λ (l : List (Name × ℕ)). value_at l n ≡ Some k) rs a));
         };
         extends = x;
         imports = refl;
@@ -125,7 +121,7 @@ module _ (w : Worlds) (c : Collection) (outer : List Scope) where
 
   -- a type without declarations
   pub type_defined : (i : Inside) (t : Tree) (s u : TypeScope) (ty : CodeType) → IsScope w c outer i s → defined w (i.here ∷ outer) (defined_view ty) ≡ Some t
-      → u.declarations.items ≡ s.declarations.items ++ Defined ty ∷ [] → u.types ≡ s.types + 1 → u.known.items ≡ s.known.items → u.resources.items ≡ s.resources.items
+      → u.declarations.items ≡ s.declarations.items ++ Defined ty ∷ [] → u.types ≡ s.types + 1 → u.known.items ≡ s.known.items → u.resources ≡ s.resources
       → AnswersType w c outer i t u s.types
   type_defined i t s u ty h e ds ts ks rs = record {
     after = adds_inside sort.Ty (Known t) i;
@@ -135,13 +131,13 @@ module _ (w : Worlds) (c : Collection) (outer : List Scope) where
 
 -- ---- a new scope, and what it remembers
 
-pub scope_empty : (w : Worlds) (c : Collection) (outer : List Scope) (s : TypeScope) → s.declarations.items ≡ [] → s.types ≡ 0 → s.known.items ≡ [] → s.resources.items ≡ [] → IsScope w c outer nothing_inside s
+pub scope_empty : (w : Worlds) (c : Collection) (outer : List Scope) (s : TypeScope) → s.declarations.items ≡ [] → s.types ≡ 0 → s.known.items ≡ [] → s.resources ≡ [] → IsScope w c outer nothing_inside s
 unfolding declared
 scope_empty w c outer s d t k r = record {
   reads = ap (λ (l : List Declaration). declared w outer nothing_inside (declarations_of l)) d;
   types = t;
   known = λ x a. absurd (subst (λ (l : List KnownType). Among x l) k a);
-  resources = λ x a. absurd (subst (λ (l : List KnownResource). Among x l) r a);
+  resources = λ n k a. let none : value_at [] n ≡ Some k = subst (λ (l : List (Name × ℕ)). value_at l n ≡ Some k) r a in absurd (cc none);
 }
 
 further : {X : Type 0} (xs : List X) (x y z : X) → Among y xs ⊎ (y ≡ x) → Among y (z ∷ xs) ⊎ (y ≡ x)
@@ -155,67 +151,38 @@ among_more (z ∷ xs) x y (inl e) = inl (inl e)
 among_more (z ∷ xs) x y (inr a) = further xs x y z (among_more xs x y a)
 
 pub scope_remembers : (w : Worlds) (c : Collection) (outer : List Scope) (i : Inside) (s u : TypeScope) (k : KnownType) → IsScope w c outer i s → IsKnown w (i.here ∷ outer) c k
-    → u.declarations.items ≡ s.declarations.items → u.types ≡ s.types → u.known.items ≡ s.known.items ++ k ∷ [] → u.resources.items ≡ s.resources.items → IsScope w c outer i u
+    → u.declarations.items ≡ s.declarations.items → u.types ≡ s.types → u.known.items ≡ s.known.items ++ k ∷ [] → u.resources ≡ s.resources → IsScope w c outer i u
 scope_remembers w c outer i s u k h true_of d t ks rs = record {
   reads = ap (λ (l : List Declaration). declared w outer nothing_inside (declarations_of l)) d ∙ h.reads;
   types = t ∙ h.types;
   known = λ x a. by x (among_more s.known.items k x (subst (λ (l : List KnownType). Among x l) ks a));
-  resources = λ x a. h.resources x (subst (λ (l : List KnownResource). Among x l) rs a);
+  resources = λ n k a. h.resources n k (subst (λ (l : List (Name × ℕ)). value_at l n ≡ Some k) rs a);
 }
   where
     by : (x : KnownType) → Among x s.known.items ⊎ (x ≡ k) → IsKnown w (i.here ∷ outer) c x
     by x (inl a) = h.known x a
     by x (inr e) = subst (λ (y : KnownType). IsKnown w (i.here ∷ outer) c y) (sym e) true_of
 
-both_yes : (a b : Bool) → (a && b) ≡ true → (a ≡ true) × (b ≡ true)
-both_yes true b e = (refl, e)
-both_yes false b e = absurd (cc e)
+-- what is known of one id is known of an equal one
+pub known_same : (w : Worlds) (c : Collection) (ss : List Scope) (k : KnownType) (id : DefinedTypeId) → IsKnown w ss c k → k.id ≡ id → value_of w ss (Index k.index) ≡ Some (tree_in c (ItemKind.Value (ValueType.Defined id)))
+known_same w c ss k id h same = h.reads ∙ ap (λ (x : DefinedTypeId). Some (tree_in c (ItemKind.Value (ValueType.Defined x)))) same
 
-same_id : (a b : DefinedTypeId) → ((a.collection == b.collection) && (a.index == b.index)) ≡ true → a ≡ b
-same_id a b e =
-    let h = both_yes (a.collection == b.collection) (a.index == b.index) e in
-    let x = (Decides-eqb a.collection b.collection).0 h.0 in
-    let y = (Decides-eqb a.index b.index).0 h.1 in
-    λ o. record { collection = x o; index = y o }
+-- with nothing known it is a scope of any collection
+pub scope_forgets : (w : Worlds) (c d : Collection) (outer : List Scope) (i : Inside) (s u : TypeScope) → IsScope w c outer i s
+    → u.declarations.items ≡ s.declarations.items → u.types ≡ s.types → u.known.items ≡ [] → u.resources ≡ s.resources → IsScope w d outer i u
+scope_forgets w c d outer i s u h ds t ks rs = record {
+  reads = ap (λ (l : List Declaration). declared w outer nothing_inside (declarations_of l)) ds ∙ h.reads;
+  types = t ∙ h.types;
+  known = λ x a. absurd (subst (λ (l : List KnownType). Among x l) ks a);
+  resources = λ n k a. h.resources n k (subst (λ (l : List (Name × ℕ)). value_at l n ≡ Some k) rs a);
+}
 
-module _ (w : Worlds) (c : Collection) (ss : List Scope) where
-  Reads : DefinedTypeId → ℕ → Type 0
-  Reads id n = value_of w ss (Index n) ≡ Some (tree_in c (ItemKind.Value (ValueType.Defined id)))
-
-  known_by : (k : KnownType) (ks : List KnownType) (id : DefinedTypeId) (n : ℕ) (b : Bool) → IsKnown w ss c k → (first_known ks id ≡ Some n → Reads id n) → ((k.id.collection == id.collection) && (k.id.index == id.index)) ≡ b → (if b then Some k.index else first_known ks id) ≡ Some n → Reads id n
-  unfolding Reads
-  known_by k ks id n true h rest t f =
-      let same : k.id ≡ id = same_id k.id id t in
-      let at : k.index ≡ n = cc f in
-      subst (λ (m : ℕ). value_of w ss (Index m) ≡ Some (tree_in c (ItemKind.Value (ValueType.Defined id)))) at
-      (h.reads ∙ ap (λ (x : DefinedTypeId). Some (tree_in c (ItemKind.Value (ValueType.Defined x)))) same)
-  known_by k ks id n false h rest t f = rest f
-
-  known_in : (ks : List KnownType) (id : DefinedTypeId) (n : ℕ) → ((k : KnownType) → Among k ks → IsKnown w ss c k) → first_known ks id ≡ Some n → Reads id n
-  known_in [] id n h e = absurd (cc e)
-  known_in (k ∷ ks) id n h e = known_by k ks id n ((k.id.collection == id.collection) && (k.id.index == id.index)) (h k (inl refl)) (known_in ks id n (λ x a. h x (inr a))) refl e
-
-  pub known_if : (ks : List KnownType) (id : DefinedTypeId) (o : Option ℕ) → ((k : KnownType) → Among k ks → IsKnown w ss c k) → o ≡ first_known ks id → IfSome o (λ n. value_of w ss (Index n) ≡ Some (tree_in c (ItemKind.Value (ValueType.Defined id))))
-  unfolding Reads
-  known_if ks id None h e = tt
-  known_if ks id (Some n) h e = known_in ks id n h (sym e)
-
-  Stands : Name → ℕ → Type 0
-  Stands name n = type_at w ss n ≡ Some (rigid (resource name) end)
-
-  resource_by : (r : KnownResource) (rs : List KnownResource) (name : Name) (n : ℕ) (b : Bool) → IsResource w ss r → (first_resource rs name ≡ Some n → Stands name n) → pointwise ◌==◌ r.name name ≡ b → (if b then Some r.index else first_resource rs name) ≡ Some n → Stands name n
-  unfolding Stands
-  resource_by r rs name n true h rest t f =
-      let same : r.name ≡ name = (bytes_eq-Decides r.name name).0 t in
-      let at : r.index ≡ n = cc f in
-      subst (λ (m : ℕ). type_at w ss m ≡ Some (rigid (resource name) end)) at (h.reads ∙ ap (λ (x : Name). Some (rigid (resource x) end)) same)
-  resource_by r rs name n false h rest t f = rest f
-
-  resource_in : (rs : List KnownResource) (name : Name) (n : ℕ) → ((r : KnownResource) → Among r rs → IsResource w ss r) → first_resource rs name ≡ Some n → Stands name n
-  resource_in [] name n h e = absurd (cc e)
-  resource_in (r ∷ rs) name n h e = resource_by r rs name n (pointwise ◌==◌ r.name name) (h r (inl refl)) (resource_in rs name n (λ x a. h x (inr a))) refl e
-
-  pub resource_if : (rs : List KnownResource) (name : Name) (o : Option ℕ) → ((r : KnownResource) → Among r rs → IsResource w ss r) → o ≡ first_resource rs name → IfSome o (λ n. type_at w ss n ≡ Some (rigid (resource name) end))
-  unfolding Stands
-  resource_if rs name None h e = tt
-  resource_if rs name (Some n) h e = resource_in rs name n h (sym e)
+-- beside declarations, counters, known types and resources nothing matters
+pub scope_same : (w : Worlds) (c : Collection) (outer : List Scope) (i : Inside) (s u : TypeScope) → IsScope w c outer i s
+    → u.declarations.items ≡ s.declarations.items → u.types ≡ s.types → u.known.items ≡ s.known.items → u.resources ≡ s.resources → IsScope w c outer i u
+scope_same w c outer i s u h ds t ks rs = record {
+  reads = ap (λ (l : List Declaration). declared w outer nothing_inside (declarations_of l)) ds ∙ h.reads;
+  types = t ∙ h.types;
+  known = λ x a. h.known x (subst (λ (l : List KnownType). Among x l) ks a);
+  resources = λ n k a. h.resources n k (subst (λ (l : List (Name × ℕ)). value_at l n ≡ Some k) rs a);
+}

@@ -2,10 +2,10 @@
 use Rattle.std.specs.Prelude.{ℕ, false, List, [], ◌∷◌, Some, None, codes}
 use Rattle.wac_types_base.specs.declared.item.PrimitiveType.{PrimitiveType}
 use Rattle.wac_types_base.specs.Entries.{Name}
-use Rattle.wac_types_base.specs.Collection.{primitive, record_of, resource}
+use Rattle.wac_types_base.specs.Collection.{primitive, list, record_of, resource}
 use Rattle.wac_types_base.specs.Stated.{Stated, leaf, over, own, as_type, func_of, interface_of, world_of}
 use Rattle.wac_types_names.specs.Keys.{Key}
-use Rattle.wac_graph_encode.specs.Composition.{instance, projected, Placed, Made, Composition}
+use Rattle.wac_graph_encode.specs.Composition.{instance, projected, defined, Placed, Made, Composition}
 
 -- ---- words
 
@@ -121,3 +121,49 @@ asked_value = instances (made_of 0 (codes "d:v") (importing ((codes "v", leaf (p
 
 abbrev pub twice_made : Composition ℕ ℕ
 twice_made = instances (made_of 0 (codes "p:p") passing ∷ made_of 1 (codes "p:p") passing ∷ [])
+
+-- ---- a definition beside an import of an equal type
+
+abbrev pub byte_list : Stated
+byte_list = as_type (over list (Some (leaf (primitive PrimitiveType.U8)) ∷ []))
+
+abbrev pub defined_twice : Composition ℕ ℕ
+defined_twice = record {
+  imports = import_of 1 (codes "i") byte_list ∷ [];
+  made = [];
+  definitions = import_of 0 (codes "t") byte_list ∷ [];
+  aliases = [];
+  exports = (codes "t", defined byte_list, byte_list) ∷ [];
+}
+
+-- ---- a component that imports an interface of the used one's name, without what is used
+
+abbrev pub only_functions : Stated
+only_functions = named_instance (codes "a:b/t") ((codes "f", plain_func) ∷ [])
+
+abbrev pub lacks_used : Composition ℕ ℕ
+lacks_used = instances (made_of 0 (codes "p:p") (importing
+    ((codes "c", importing ((codes "a:b/t", only_functions) ∷ (codes "a:b/i", using_types) ∷ [])) ∷ [])) ∷ [])
+
+-- ---- an export of the used item's name that is another one
+
+abbrev pub other_resource : Stated
+other_resource = own (leaf (resource (codes "zz")))
+
+abbrev pub numbers : Stated
+numbers = named_instance (codes "a:b/t") ((codes "v", as_type (leaf (primitive PrimitiveType.U32))) ∷ [])
+
+abbrev pub using_other : Stated
+using_other = interface_of (Some (codes "a:b/i")) (record { name = codes "v"; there = None; interface = numbers } ∷ []) ((codes "v", as_type other_resource) ∷ [])
+
+abbrev pub given_another : Composition ℕ ℕ
+given_another = instances (made_of 0 (codes "p:p") (importing ((codes "a:b/i", using_other) ∷ [])) ∷ [])
+
+abbrev pub resources : Stated
+resources = named_instance (codes "a:b/t") ((codes "r", leaf (resource (codes "r"))) ∷ [])
+
+abbrev pub renaming : Stated
+renaming = interface_of (Some (codes "a:b/i")) (record { name = codes "r"; there = None; interface = resources } ∷ []) ((codes "r", leaf (resource (codes "zz"))) ∷ [])
+
+abbrev pub given_renamed : Composition ℕ ℕ
+given_renamed = instances (made_of 0 (codes "p:p") (importing ((codes "a:b/i", renaming) ∷ [])) ∷ [])

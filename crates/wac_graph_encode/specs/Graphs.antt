@@ -1,5 +1,5 @@
 -- The composition that a graph is: nodes by their ids.
-use Rattle.std.specs.Prelude.{◌==◌, ℕ, zero, suc, Bool, true, false, List, [], ◌∷◌, map, length, Option, Some, None, option_map, filter_map, unwrap_or}
+use Rattle.std.specs.Prelude.{◌==◌, ℕ, zero, suc, Bool, true, false, List, [], ◌∷◌, map, length, Option, Some, None, option_map, filter_map, if◌then◌else◌}
 use Rattle.std.specs.FinMap as finite
 use Rattle.wac_types_base.specs.declared.item.ItemKind.{ItemKind}
 use Rattle.wac_types_base.specs.Entries.{Name}
@@ -47,6 +47,11 @@ if_argument false o = None
 abbrev pub arguments_to : List Edge → ℕ → List (Name × ℕ)
 arguments_to es k = filter_map (λ e. if_argument (e.to == k) (argument_by e.label e)) es
 
+-- the first name that a node is exported under
+abbrev pub first_export : List (Name × ℕ) → ℕ → Name
+first_export [] k = []
+first_export (e ∷ es) k = if e.1 == k then e.0 else first_export es k
+
 -- ---- where a node comes from
 
 module _ (g : Graph) where
@@ -91,9 +96,9 @@ module _ (g : Graph) where
     arguments = map (λ a. (a.0, origin_of a.1)) (arguments_to g.edges k);
   })
 
-  -- a definition is called by the name that it is exported under
+  -- a definition is called by the first name that it is exported under
   abbrev pub definition_by : ℕ → NodeData → Role → Option (Placed ℕ)
-  definition_by k x Role.Defined = Some (record { by = k; name = unwrap_or x.export []; item = item_of x })
+  definition_by k x Role.Defined = Some (record { by = k; name = first_export g.exports k; item = item_of x })
   definition_by k x r = None
 
   abbrev pub alias_with : NodeData → Option (ℕ × Name) → Option (Name × Stated)

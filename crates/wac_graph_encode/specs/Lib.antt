@@ -14,7 +14,6 @@ pub mod Outlines
 pub mod Graphs
 pub mod Encoding
 pub mod Forms
-pub mod Lookups
 pub mod Scopes
 pub mod Faults
 pub mod Roots

@@ -1,11 +1,12 @@
 -- What holds of a scope of written types while it is being written: an instance type, a component type, or the root of a
 -- component before anything is instantiated.
-use Rattle.std.specs.Prelude.{◌≡◌, ℕ, List, [], ◌∷◌, ◌++◌, length, Option, Some, None, slice_get}
+use Rattle.std.specs.Prelude.{◌≡◌, ℕ, List, [], ◌∷◌, ◌++◌, length, Option, Some, None, slice_get, IfSome}
+use Rattle.wac_types_base.specs.declared.ids.DefinedTypeId.{DefinedTypeId}
 use Rattle.wac_types_base.specs.declared.item.ValueType.{ValueType}
 use Rattle.wac_types_base.specs.declared.item.ItemKind.{ItemKind}
 use Rattle.wac_types_base.specs.Record.{Collection}
 use Rattle.wac_types_base.specs.Graph.{Among}
-use Rattle.wac_types_base.specs.Entries.{Name}
+use Rattle.wac_types_base.specs.Entries.{Name, value_at}
 use Rattle.wac_types_base.specs.Collection.{resource}
 use Rattle.wac_types_base.specs.Tree.{Tree, rigid, end}
 use Rattle.wac_types_fit.specs.Trees.{tree_in}
@@ -15,7 +16,6 @@ use Rattle.wac_graph_bytes.specs.declared.value.ValueType.TheVariants.{Index}
 use Rattle.wac_graph_bytes.specs.Typing.{Worlds, Meaning, Scope, space, Inside, nothing_inside, declared, item_of, type_at, value_of}
 use Rattle.wac_graph_bytes.specs.Views.{declarations_of}
 use Rattle.wac_graph_encode.specs.declared.scope.KnownType.{KnownType}
-use Rattle.wac_graph_encode.specs.declared.scope.KnownResource.{KnownResource}
 use Rattle.wac_graph_encode.specs.declared.scope.TypeScope.{TypeScope}
 
 -- more may stand, and what stood stands
@@ -28,15 +28,31 @@ pub record IsKnown (w : Worlds) (ss : List Scope) (c : Collection) (k : KnownTyp
   pub reads : value_of w ss (Index k.index) ≡ Some (tree_in c (ItemKind.Value (ValueType.Defined k.id)))
 
 -- the index of a resource that stands there stands for the resource of that name
-pub record IsResource (w : Worlds) (ss : List Scope) (r : KnownResource) : Type 0 where
-  pub reads : type_at w ss r.index ≡ Some (rigid (resource r.name) end)
+pub record IsResource (w : Worlds) (ss : List Scope) (n : Name) (k : ℕ) : Type 0 where
+  pub reads : type_at w ss k ≡ Some (rigid (resource n) end)
 
 -- The declarations can be read inside those scopes, the counters are true, and so is what is remembered of the collection.
 pub record IsScope (w : Worlds) (c : Collection) (outer : List Scope) (i : Inside) (s : TypeScope) : Type 0 where
   pub reads : declared w outer nothing_inside (declarations_of s.declarations.items) ≡ Some i
   pub types : s.types ≡ length i.here.types
   pub known : (k : KnownType) → Among k s.known.items → IsKnown w (i.here ∷ outer) c k
-  pub resources : (r : KnownResource) → Among r s.resources.items → IsResource w (i.here ∷ outer) r
+  pub resources : (n : Name) (k : ℕ) → value_at s.resources n ≡ Some k → IsResource w (i.here ∷ outer) n k
+
+-- whatever scope of the collection it was, it is again
+abbrev pub KeepsScope : Collection → TypeScope → TypeScope → Type 0
+KeepsScope c s u = (w : Worlds) (outer : List Scope) (i : Inside) → IsScope w c outer i s → IsScope w c outer i u
+
+-- a scope of one collection is one of any other
+abbrev pub Forgets : TypeScope → TypeScope → Type 0
+Forgets s u = (w : Worlds) (c d : Collection) (outer : List Scope) (i : Inside) → IsScope w c outer i s → IsScope w d outer i u
+
+-- the index of a defined type
+abbrev pub StandsFor : Worlds → List Scope → Collection → DefinedTypeId → ℕ → Type 0
+StandsFor w ss c id k = value_of w ss (Index k) ≡ Some (tree_in c (ItemKind.Value (ValueType.Defined id)))
+
+-- the index of a defined type, if there is one
+abbrev pub FindsType : Collection → TypeScope → DefinedTypeId → Option ℕ → Type 0
+FindsType c s id o = (w : Worlds) (outer : List Scope) (i : Inside) → IsScope w c outer i s → IfSome o (StandsFor w (i.here ∷ outer) c id)
 
 -- The scope stands again, extended; nothing is imported and nothing exported.
 pub record Goes (w : Worlds) (c : Collection) (outer : List Scope) (i after : Inside) (s : TypeScope) : Type 0 where

@@ -70,6 +70,14 @@ holder us items = record {
   roots = map root_of (filter is_fresh items) ++ map root_of (filter (λ e. is_resource (kind_of e.1)) (filter_map taken us));
 }
 
+-- a use gives the item under its name: what it takes has the item's tree
+abbrev pub is_taken_as : Option Stated → Stated → Bool
+is_taken_as None x = false
+is_taken_as (Some y) x = same_tree (tree y) (tree x)
+
+abbrev pub is_given : Holder → Name → Stated → Bool
+is_given h n x = is_taken_as (value_at h.used n) x
+
 abbrev pub is_value_type : Kind → Bool
 is_value_type IsValueType = true
 is_value_type k = false
@@ -110,11 +118,18 @@ module _ (h : Holder) where
 abbrev pub Test : Type 0
 Test = Name → Holder → Bool → Bool
 
--- what is found of each place: its test; the test of its type exports alone; the interfaces that it uses, with theirs
+-- a use: the identifier of its interface, the name there, what stands there, the test of the interface's types alone
+pub record Needed : Type 0 where
+  pub name : Name
+  pub there : Name
+  pub item : Option Stated
+  pub types : Bool → Bool
+
+-- what is found of each place: its test; the test of its type exports alone; the uses below it
 pub record Found : Type 0 where
   pub test : Test
   pub types : Bool → Bool
-  pub uses : List (Name × (Bool → Bool))
+  pub uses : List Needed
 
 -- some interface reached by uses has no identifier
 abbrev pub some_unnamed : List Used → Bool
@@ -128,7 +143,7 @@ plain es = map (λ e. (e.0, e.1.0)) es
 
 -- an item that no use gives fails
 abbrev pub some_fails : Holder → Bool → List Item → Bool
-some_fails h outer es = list_any (λ e. not (is_some (value_at h.used e.0)) && e.1.1.test e.0 h outer) es
+some_fails h outer es = list_any (λ e. not (is_given h e.0 e.1.0) && e.1.1.test e.0 h outer) es
 
 abbrev pub used_of : Parts Found → List Used
 used_of p = map (λ u. u.0) p.uses
@@ -139,19 +154,34 @@ interface_fails us es outer = some_unnamed us || some_fails (holder us (plain es
 abbrev pub type_items : List Item → List Item
 type_items es = filter (λ e. is_type (kind_of e.1.0)) es
 
-abbrev pub identified_types : Used × Found → Option Name → List (Name × (Bool → Bool))
-identified_types u None = []
-identified_types u (Some n) = (n, u.1.types) ∷ []
+abbrev pub needed_from : Used × Found → Option Name → List Needed
+needed_from u None = []
+needed_from u (Some n) =
+    record { name = n; there = unwrap_or u.0.there u.0.name; item = value_at (exports_of u.0.interface) (unwrap_or u.0.there u.0.name); types = u.1.types } ∷ []
 
-abbrev pub below_use : Used × Found → List (Name × (Bool → Bool))
-below_use u = u.1.uses ++ identified_types u (identifier_of u.0.interface)
+abbrev pub below_use : Used × Found → List Needed
+below_use u = u.1.uses ++ needed_from u (identifier_of u.0.interface)
 
-abbrev pub below_items : List Item → List (Name × (Bool → Bool))
+abbrev pub below_items : List Item → List Needed
 below_items es = flat_map (λ e. e.1.1.uses) es
 
--- the interfaces that a component type uses and does not import
-abbrev pub not_imported : Parts Found → List (Name × (Bool → Bool))
-not_imported p = filter (λ u. not (is_some (value_at p.imports u.0))) (flat_map below_use p.uses ++ (below_items p.imports ++ below_items p.exports))
+-- what a component type and its items use
+abbrev pub all_needed : Parts Found → List Needed
+all_needed p = flat_map below_use p.uses ++ (below_items p.imports ++ below_items p.exports)
+
+-- what is used stands there, a resource as itself
+abbrev pub stands_as : Option Stated → Option Stated → Bool
+stands_as None o = true
+stands_as (Some x) None = false
+stands_as (Some x) (Some y) = not (is_resource (kind_of x)) || same_tree (tree x) (tree y)
+
+abbrev pub is_given_by : Option (Stated × Found) → Needed → Bool
+is_given_by None u = false
+is_given_by (Some x) u = stands_as u.item (value_at (exports_of x.0) u.there)
+
+-- a use that the imports do not give: in an outer import it fails; in a definition the interface is added, unless the name is there
+abbrev pub use_fails : Parts Found → Bool → Needed → Bool
+use_fails p outer u = not (is_given_by (value_at p.imports u.name) u) && (outer || u.types outer)
 
 abbrev pub with_roots : Holder → List Name → Holder
 with_roots h ns = record { used = h.used; roots = h.roots ++ ns }
@@ -162,7 +192,7 @@ world_holder p = with_roots (holder (used_of p) (plain p.imports)) (map root_of 
 -- in an outer import a component type imports what it uses
 abbrev pub world_fails : Parts Found → Bool → Bool
 world_fails p outer =
-    some_unnamed (used_of p) || list_any (λ u. outer || u.1 outer) (not_imported p)
+    some_unnamed (used_of p) || list_any (use_fails p outer) (all_needed p)
     || (some_fails (world_holder p) outer p.imports || list_any (λ e. e.1.1.test e.0 (world_holder p) outer) p.exports)
 
 abbrev pub any_value : Holder → List (Option (Stated × Found)) → Bool
@@ -198,7 +228,7 @@ found_at (module_type m) os = simple (λ n h outer. not (writable_module m))
 -- a module type as a type item
 found_at (type_of (module_type m)) os = simple (λ n h outer. true)
 -- a resource under another name, that no use gives
-found_at (resource r) os = simple (λ n h outer. not (bytes_eq n r) && not (is_some (value_at h.used n)))
+found_at (resource r) os = simple (λ n h outer. not (bytes_eq n r) && not (is_given h n (over (resource r) [])))
 found_at (resource_alias r) os = simple (λ n h outer. alias_fails os h)
 found_at (type_of s) os = simple (λ n h outer. value_fails h (stated_at s os))
 -- a value item

@@ -1,18 +1,18 @@
 //! Imports of a component type, or of the root, with the interfaces that they use.
 
 use crate::fault::WriteError;
-use crate::items::{
-    Around, ItemScope, UsedIndex, describe, export_item, export_resource, find_used,
-};
+use crate::items::{Around, ItemScope, describe, export_item, export_resource, find_used};
+use crate::order::{ImportOrder, order_of};
 use crate::parts::{
     Item, Use, export_at, export_count, export_named, identifier, import_at, import_count,
-    import_named, interface_of, is_fresh, taken, use_at, use_count, world_export_at,
-    world_export_count, world_use_named,
+    interface_of, is_fresh, taken, use_at, use_count, world_export_at, world_export_count,
+    world_use_at, world_use_count, world_use_named,
 };
-use crate::value::fits_in;
-use std::alloc::Global;
+use crate::used::{UsedIndex, UsedTypes};
+use crate::value::{define_apart, fits_in};
+use std::alloc::{AllocError, Global};
 use wac_graph_bytes::{Declaration, Description, Sort};
-use wac_types_base::{InterfaceId, ItemKind, Text, Types, WorldId};
+use wac_types_base::{InterfaceId, ItemKind, NamedMap, Names, Text, Type, Types, WorldId};
 
 /// An index of a sort.
 #[derive(Clone, Copy, Debug)]
@@ -30,19 +30,21 @@ pub struct Called {
 
 /// The imports of a world while they are written, with the types of imported instances that are used.
 #[derive(Drop)]
-pub struct ImportScope<'a> {
+pub struct ImportScope {
     pub scope: ItemScope,
-    pub used: Vec<UsedIndex<'a>>,
+    used: UsedTypes,
     /// What is written of the imports, in their order.
-    pub places: Vec<Option<SortIndex>>,
+    places: Vec<Option<SortIndex>>,
+    /// Where the imports stand, by the names under which they are asked for.
+    found: NamedMap<usize>,
 }
 
 /// A world whose imports are written, and by which other names they are asked for.
 #[derive(Clone, Copy)]
-pub struct Importing<'a, 'b> {
+pub struct Importing<'a> {
     pub types: &'a Types,
     pub world: WorldId,
-    pub called: &'b [Called],
+    pub called: &'a [Called],
 }
 
 /// What sort an item so described is of.
@@ -57,26 +59,27 @@ pub fn sort_of(description: Description) -> Sort {
     }
 }
 
-/// Where the import stands that is called so.
-fn called_at(called: &[Called], name: &str) -> Option<usize> {
-    for other in called {
-        if other.name.is(name) {
-            return Some(other.at);
+/// Where the imports stand, by the names under which they are asked for, and by their own.
+fn places_called(alloc: Global, all: Importing<'_>) -> Result<NamedMap<usize>, AllocError> {
+    let mut found = NamedMap::new(alloc);
+    for called in all.called {
+        let name = called.name.as_str();
+        if !found.contains(name) {
+            let _ = found.insert(String::from_str(alloc, name)?, called.at)?;
         }
     }
-    None
-}
-
-/// Where the import of a used interface stands.
-fn find_import(all: Importing<'_, '_>, identifier: &str) -> Option<usize> {
-    match called_at(all.called, identifier) {
-        Some(at) => Some(at),
-        None => import_named(all.types, all.world, identifier),
+    for at in 0..import_count(all.types, all.world) {
+        if let Some(import) = import_at(all.types, all.world, at) {
+            if !found.contains(import.name) {
+                let _ = found.insert(String::from_str(alloc, import.name)?, at)?;
+            }
+        }
     }
+    Ok(found)
 }
 
 /// The interface of the instance that is imported at a place.
-fn instance_at(all: Importing<'_, '_>, at: usize) -> Option<InterfaceId> {
+fn instance_at(all: Importing<'_>, at: usize) -> Option<InterfaceId> {
     match import_at(all.types, all.world, at) {
         Some(import) => match import.kind {
             ItemKind::Instance(id) => Some(id),
@@ -86,108 +89,10 @@ fn instance_at(all: Importing<'_, '_>, at: usize) -> Option<InterfaceId> {
     }
 }
 
-/// Whether an import is left to write.
-fn is_left(places: &[Option<SortIndex>], at: usize) -> bool {
-    match places.get(at) {
-        Some(place) => place.is_none(),
-        None => false,
-    }
-}
-
-/// Whether the interface that is used is written, or is no import.
-fn is_written(all: Importing<'_, '_>, places: &[Option<SortIndex>], used: Use<'_>) -> bool {
-    match identifier(all.types, used.interface) {
-        Some(name) => match find_import(all, name) {
-            Some(at) => !is_left(places, at),
-            None => true,
-        },
-        None => true,
-    }
-}
-
-/// Whether the interfaces that an interface uses are written.
-fn are_written(all: Importing<'_, '_>, places: &[Option<SortIndex>], id: InterfaceId) -> bool {
-    for at in 0..use_count(all.types, id) {
-        if let Some(used) = use_at(all.types, id, at) {
-            if !is_written(all, places, used) {
-                return false;
-            }
-        }
-    }
-    true
-}
-
-/// Whether all that an item uses is written.
-fn is_ready(all: Importing<'_, '_>, places: &[Option<SortIndex>], kind: ItemKind) -> bool {
-    let Some(id) = interface_of(all.types, kind) else {
-        return true;
-    };
-    if !are_written(all, places, id) {
-        return false;
-    }
-    for at in 0..export_count(all.types, id) {
-        if let Some(item) = export_at(all.types, id, at) {
-            if !is_ready(all, places, item.kind) {
-                return false;
-            }
-        }
-    }
-    true
-}
-
-/// When an import is written: resources under their own names first, then types that the world uses, instances, other
-/// types, what else there is, and last what uses an import that is not written.
-fn rank(all: Importing<'_, '_>, places: &[Option<SortIndex>], import: Item<'_>) -> u8 {
-    if let Some(used) = world_use_named(all.types, all.world, import.name) {
-        return if is_written(all, places, used) { 1 } else { 5 };
-    }
-    if is_fresh(all.types, import) {
-        return 0;
-    }
-    if interface_of(all.types, import.kind).is_some() {
-        return if is_ready(all, places, import.kind) {
-            2
-        } else {
-            5
-        };
-    }
-    if matches!(import.kind, ItemKind::Ty(_)) {
-        3
-    } else {
-        4
-    }
-}
-
-/// The rank of what is left at a place.
-fn rank_at(all: Importing<'_, '_>, places: &[Option<SortIndex>], at: usize) -> Option<u8> {
-    if !is_left(places, at) {
-        return None;
-    }
-    match import_at(all.types, all.world, at) {
-        Some(import) => Some(rank(all, places, import)),
-        None => None,
-    }
-}
-
-/// Where the import stands that is written next.
-pub fn next_import(all: Importing<'_, '_>, places: &[Option<SortIndex>]) -> Option<usize> {
-    let mut best = None;
-    let mut lowest = 6;
-    for at in 0..places.len() {
-        if let Some(rank) = rank_at(all, places, at) {
-            if rank < lowest {
-                best = Some(at);
-                lowest = rank;
-            }
-        }
-    }
-    best
-}
-
 /// Whether the import at a place is an instance that exports that type.
 fn gives(
     alloc: Global,
-    all: Importing<'_, '_>,
+    all: Importing<'_>,
     at: usize,
     name: &str,
     item: ItemKind,
@@ -218,48 +123,56 @@ fn instance_index(places: &[Option<SortIndex>], at: usize) -> Option<u32> {
     }
 }
 
-/// Where the import stands that is written and gives a used type: its index.
-fn source_of(
-    alloc: Global,
-    all: Importing<'_, '_>,
-    places: &[Option<SortIndex>],
-    identifier: &str,
-    name: &str,
-    item: ItemKind,
-) -> Result<Option<u32>, WriteError> {
-    let Some(at) = find_import(all, identifier) else {
-        return Ok(None);
-    };
-    let Some(instance) = instance_index(places, at) else {
-        return Ok(None);
-    };
-    if gives(alloc, all, at, name, item)? {
-        Ok(Some(instance))
-    } else {
-        Ok(None)
-    }
-}
-
-impl<'a> ImportScope<'a> {
-    /// Nothing is written of so many imports.
-    pub fn new(alloc: Global, count: usize) -> Result<Self, WriteError> {
+impl ImportScope {
+    /// Nothing is written of the imports of a world.
+    pub fn new(alloc: Global, all: Importing<'_>) -> Result<Self, AllocError> {
         let mut places = Vec::new(alloc);
-        for _ in 0..count {
+        for _ in 0..import_count(all.types, all.world) {
             places.push(None)?;
         }
         Ok(ImportScope {
             scope: ItemScope::new(alloc),
-            used: Vec::new(alloc),
+            used: UsedTypes::new(alloc),
             places,
+            found: places_called(alloc, all)?,
         })
+    }
+
+    /// What is written, and where the imports stand in it.
+    pub fn into_parts(self) -> (ItemScope, Vec<Option<SortIndex>>) {
+        (self.scope, self.places)
+    }
+
+    /// Where the imports of the world stand, in the order in which they are written.
+    pub fn order(&self, alloc: Global, all: Importing<'_>) -> Result<ImportOrder, AllocError> {
+        order_of(alloc, all, &self.found)
+    }
+
+    /// Where the import stands that is written and gives a used type: its index.
+    fn source_of(
+        &self,
+        alloc: Global,
+        all: Importing<'_>,
+        identifier: &str,
+        name: &str,
+        item: ItemKind,
+    ) -> Result<Option<u32>, WriteError> {
+        let Some(at) = self.found.get(identifier) else {
+            return Ok(None);
+        };
+        let Some(instance) = instance_index(&self.places, *at) else {
+            return Ok(None);
+        };
+        let given = gives(alloc, all, *at, name, item)?;
+        if given { Ok(Some(instance)) } else { Ok(None) }
     }
 
     /// The index of a used type: an alias of the import's export, which is of that type.
     fn alias_of(
         &mut self,
         alloc: Global,
-        all: Importing<'a, '_>,
-        used: Use<'a>,
+        all: Importing<'_>,
+        used: Use<'_>,
     ) -> Result<Option<u32>, WriteError> {
         let Some(identifier) = identifier(all.types, used.interface) else {
             return Err(WriteError::Unwritable);
@@ -272,18 +185,30 @@ impl<'a> ImportScope<'a> {
         if found.is_some() {
             return Ok(found);
         }
-        match source_of(alloc, all, &self.places, identifier, name, item)? {
+        match self.source_of(alloc, all, identifier, name, item)? {
             Some(instance) => {
                 let index = self.scope.add_alias(alloc, instance, name)?;
-                self.used.push(UsedIndex {
-                    identifier,
-                    name,
-                    item,
-                    index,
-                })?;
+                self.used
+                    .insert(identifier, name, UsedIndex { item, index })?;
                 Ok(Some(index))
             }
             None => Ok(None),
+        }
+    }
+
+    /// Makes an alias of a used type, which then stands for it unless something does.
+    fn alias_noted(
+        &mut self,
+        alloc: Global,
+        all: Importing<'_>,
+        used: Use<'_>,
+    ) -> Result<(), WriteError> {
+        let Some(item) = taken(all.types, used) else {
+            return Ok(());
+        };
+        match self.alias_of(alloc, all, used)? {
+            Some(index) => self.scope.note(alloc, all.types, item, index),
+            None => Ok(()),
         }
     }
 
@@ -291,7 +216,7 @@ impl<'a> ImportScope<'a> {
     fn alias_uses(
         &mut self,
         alloc: Global,
-        all: Importing<'a, '_>,
+        all: Importing<'_>,
         id: InterfaceId,
     ) -> Result<(), WriteError> {
         for at in 0..use_count(all.types, id) {
@@ -306,7 +231,7 @@ impl<'a> ImportScope<'a> {
     pub fn prepare(
         &mut self,
         alloc: Global,
-        all: Importing<'a, '_>,
+        all: Importing<'_>,
         kind: ItemKind,
     ) -> Result<(), WriteError> {
         let Some(id) = interface_of(all.types, kind) else {
@@ -325,8 +250,8 @@ impl<'a> ImportScope<'a> {
     fn describe_used(
         &mut self,
         alloc: Global,
-        all: Importing<'a, '_>,
-        import: Item<'a>,
+        all: Importing<'_>,
+        import: Item<'_>,
     ) -> Result<Option<Description>, WriteError> {
         let Some(used) = world_use_named(all.types, all.world, import.name) else {
             return Ok(None);
@@ -352,10 +277,26 @@ impl<'a> ImportScope<'a> {
         kind: ItemKind,
     ) -> Result<Description, WriteError> {
         let around = Around {
-            used: self.used.as_slice(),
+            used: &self.used,
             depth: 0,
         };
         describe(alloc, &mut self.scope, types, around, kind)
+    }
+
+    /// What a definition is that is a value type or a function type; its type is an entry of its own.
+    pub fn describe_apart(
+        &mut self,
+        alloc: Global,
+        types: &Types,
+        ty: Type,
+    ) -> Result<Description, WriteError> {
+        match ty {
+            Type::Value(ty) => {
+                let index = define_apart(alloc, &mut self.scope.types, types, ty)?;
+                Ok(Description::Equal(index))
+            }
+            _ => self.describe(alloc, types, ItemKind::Ty(ty)),
+        }
     }
 
     /// What an import is; its type is written.
@@ -363,8 +304,8 @@ impl<'a> ImportScope<'a> {
     fn describe_import(
         &mut self,
         alloc: Global,
-        all: Importing<'a, '_>,
-        import: Item<'a>,
+        all: Importing<'_>,
+        import: Item<'_>,
     ) -> Result<Description, WriteError> {
         if let Some(description) = self.describe_used(alloc, all, import)? {
             return Ok(description);
@@ -406,7 +347,7 @@ impl<'a> ImportScope<'a> {
     pub fn write_import(
         &mut self,
         alloc: Global,
-        all: Importing<'a, '_>,
+        all: Importing<'_>,
         at: usize,
     ) -> Result<(), WriteError> {
         if let Some(import) = import_at(all.types, all.world, at) {
@@ -422,42 +363,74 @@ impl<'a> ImportScope<'a> {
     fn export(
         &mut self,
         alloc: Global,
-        all: Importing<'a, '_>,
+        all: Importing<'_>,
         item: Item<'_>,
     ) -> Result<(), WriteError> {
         self.prepare(alloc, all, item.kind)?;
         let around = Around {
-            used: self.used.as_slice(),
+            used: &self.used,
             depth: 0,
         };
         export_item(alloc, &mut self.scope, all.types, around, item)
     }
 }
 
-/// Writes the imports of a world.
+/// Writes the imports at places of a world.
 #[cycle(types)]
-fn write_imports<'a>(
+fn write_imports(
     alloc: Global,
-    all: Importing<'a, '_>,
-    scope: &mut ImportScope<'a>,
+    all: Importing<'_>,
+    scope: &mut ImportScope,
+    order: &[usize],
 ) -> Result<(), WriteError> {
-    for _ in 0..import_count(all.types, all.world) {
-        if let Some(at) = next_import(all, &scope.places) {
-            scope.write_import(alloc, all, at)?;
+    for at in order {
+        scope.write_import(alloc, all, *at)?;
+    }
+    Ok(())
+}
+
+/// Makes the types stand that a world uses and has no items of.
+fn alias_world_uses(
+    alloc: Global,
+    all: Importing<'_>,
+    scope: &mut ImportScope,
+) -> Result<(), WriteError> {
+    for at in 0..world_use_count(all.types, all.world) {
+        if let Some(used) = world_use_at(all.types, all.world, at) {
+            scope.alias_noted(alloc, all, used)?;
         }
     }
     Ok(())
 }
 
-/// Exports the resources of a world under their own names.
+/// Exports the resources of a world under their own names that do not stand yet; their names.
+fn export_new_resources(
+    alloc: Global,
+    all: Importing<'_>,
+    scope: &mut ItemScope,
+) -> Result<Names, WriteError> {
+    let mut exported = Names::new(alloc);
+    for at in 0..world_export_count(all.types, all.world) {
+        if let Some(item) = world_export_at(all.types, all.world, at) {
+            if is_fresh(all.types, item) && scope.types.resource(item.name).is_none() {
+                export_resource(alloc, scope, all.types, item)?;
+                let _ = exported.insert(String::from_str(alloc, item.name)?)?;
+            }
+        }
+    }
+    Ok(exported)
+}
+
+/// Exports the other resources of a world under their own names.
 fn export_resources(
     alloc: Global,
-    all: Importing<'_, '_>,
+    all: Importing<'_>,
     scope: &mut ItemScope,
+    exported: &Names,
 ) -> Result<(), WriteError> {
     for at in 0..world_export_count(all.types, all.world) {
         if let Some(item) = world_export_at(all.types, all.world, at) {
-            if is_fresh(all.types, item) {
+            if is_fresh(all.types, item) && !exported.contains(item.name) {
                 export_resource(alloc, scope, all.types, item)?;
             }
         }
@@ -467,10 +440,10 @@ fn export_resources(
 
 /// Exports the other items of a world.
 #[cycle(types)]
-fn export_others<'a>(
+fn export_others(
     alloc: Global,
-    all: Importing<'a, '_>,
-    scope: &mut ImportScope<'a>,
+    all: Importing<'_>,
+    scope: &mut ImportScope,
 ) -> Result<(), WriteError> {
     for at in 0..world_export_count(all.types, all.world) {
         if let Some(item) = world_export_at(all.types, all.world, at) {
@@ -482,7 +455,7 @@ fn export_others<'a>(
     Ok(())
 }
 
-/// The declarations of a component type.
+/// The declarations of a component type. A resource that is only exported stands before what is imported and needs it.
 #[cycle(types)]
 pub(crate) fn component_type(
     alloc: Global,
@@ -494,9 +467,13 @@ pub(crate) fn component_type(
         world: id,
         called: &[],
     };
-    let mut scope = ImportScope::new(alloc, import_count(types, id))?;
-    write_imports(alloc, all, &mut scope)?;
-    export_resources(alloc, all, &mut scope.scope)?;
+    let mut scope = ImportScope::new(alloc, all)?;
+    let order = scope.order(alloc, all)?;
+    write_imports(alloc, all, &mut scope, &order.sources)?;
+    alias_world_uses(alloc, all, &mut scope)?;
+    let exported = export_new_resources(alloc, all, &mut scope.scope)?;
+    write_imports(alloc, all, &mut scope, &order.others)?;
+    export_resources(alloc, all, &mut scope.scope, &exported)?;
     export_others(alloc, all, &mut scope)?;
     Ok(scope.scope.types.declarations)
 }

@@ -8,11 +8,12 @@ use crate::parts::{
     root_name, taken, use_at, use_count, world_of,
 };
 use crate::scope::{TypeScope, next_of};
-use crate::value::{define_value, fits_in, push_func};
+use crate::used::UsedTypes;
+use crate::value::{define_value, fits_in, note_named, push_func};
 use std::alloc::Global;
 use wac_graph_bytes::{Alias, Declaration, Description, Sort};
 use wac_types_base::{
-    FuncTypeId, InterfaceId, ItemKind, ModuleTypeId, ResourceId, Text, Type, Types, ValueType,
+    FuncTypeId, InterfaceId, ItemKind, ModuleTypeId, Names, ResourceId, Type, Types, ValueType,
     WorldId,
 };
 
@@ -27,21 +28,10 @@ pub struct ItemScope {
     pub modules: u32,
 }
 
-/// A type of an interface that stands in a scope.
-#[derive(Clone, Copy)]
-pub struct UsedIndex<'a> {
-    /// The interface's identifier.
-    pub identifier: &'a str,
-    /// The type's name in the interface.
-    pub name: &'a str,
-    pub item: ItemKind,
-    pub index: u32,
-}
-
 /// The scopes around the one that is written: what stands in one of them, so many scopes further out.
 #[derive(Clone, Copy)]
-pub struct Around<'a, 'b> {
-    pub used: &'b [UsedIndex<'a>],
+pub struct Around<'a> {
+    pub used: &'a UsedTypes,
     pub depth: u32,
 }
 
@@ -147,7 +137,7 @@ impl ItemScope {
 
     fn note_resource(&mut self, alloc: Global, name: &str, index: u32) -> Result<(), WriteError> {
         if self.types.resource(name).is_none() {
-            let name = Text::new(String::from_str(alloc, name)?);
+            let name = String::from_str(alloc, name)?;
             self.types.add_resource(name, index)?;
         }
         Ok(())
@@ -159,7 +149,7 @@ impl ItemScope {
         }
         if let ValueType::Defined(id) = types.resolve_value_type(ty) {
             if self.types.known(id).is_none() {
-                self.types.remember(id, index)?;
+                note_named(&mut self.types, types, id, index)?;
             }
         }
         Ok(())
@@ -170,20 +160,18 @@ impl ItemScope {
 pub(crate) fn find_used(
     alloc: Global,
     types: &Types,
-    all: &[UsedIndex<'_>],
+    all: &UsedTypes,
     identifier: &str,
     name: &str,
     item: ItemKind,
 ) -> Result<Option<u32>, WriteError> {
-    for used in all {
-        if used.identifier == identifier
-            && used.name == name
-            && fits_in(alloc, types, used.item, item)?
-        {
-            return Ok(Some(used.index));
+    match all.get(identifier, name) {
+        Some(used) => {
+            let fits = fits_in(alloc, types, used.item, item)?;
+            if fits { Ok(Some(used.index)) } else { Ok(None) }
         }
+        None => Ok(None),
     }
-    Ok(None)
 }
 
 /// Whether an export is the type that is taken.
@@ -205,7 +193,7 @@ fn alias_around(
     alloc: Global,
     scope: &mut ItemScope,
     types: &Types,
-    around: Around<'_, '_>,
+    around: Around<'_>,
     used: Use<'_>,
     item: ItemKind,
 ) -> Result<Option<u32>, WriteError> {
@@ -226,7 +214,7 @@ fn take_use(
     alloc: Global,
     scope: &mut ItemScope,
     types: &Types,
-    around: Around<'_, '_>,
+    around: Around<'_>,
     id: InterfaceId,
     used: Use<'_>,
 ) -> Result<bool, WriteError> {
@@ -247,32 +235,22 @@ fn take_use(
 }
 
 /// Writes the used types of an interface; the names of those that it exports.
-fn take_uses<'a>(
+fn take_uses(
     alloc: Global,
     scope: &mut ItemScope,
-    types: &'a Types,
-    around: Around<'_, '_>,
+    types: &Types,
+    around: Around<'_>,
     id: InterfaceId,
-) -> Result<Vec<&'a str>, WriteError> {
-    let mut given = Vec::new(alloc);
+) -> Result<Names, WriteError> {
+    let mut given = Names::new(alloc);
     for at in 0..use_count(types, id) {
         if let Some(used) = use_at(types, id, at) {
             if take_use(alloc, scope, types, around, id, used)? {
-                given.push(used.name)?;
+                let _ = given.insert(String::from_str(alloc, used.name)?)?;
             }
         }
     }
     Ok(given)
-}
-
-/// Whether a use gives the export of this name.
-fn is_given(given: &[&str], name: &str) -> bool {
-    for own in given {
-        if *own == name {
-            return true;
-        }
-    }
-    false
 }
 
 /// Exports a resource under its own name.
@@ -294,7 +272,7 @@ pub(crate) fn export_item(
     alloc: Global,
     scope: &mut ItemScope,
     types: &Types,
-    around: Around<'_, '_>,
+    around: Around<'_>,
     item: Item<'_>,
 ) -> Result<(), WriteError> {
     let description = describe(alloc, scope, types, around, item.kind)?;
@@ -310,11 +288,11 @@ fn export_resources(
     scope: &mut ItemScope,
     types: &Types,
     id: InterfaceId,
-    given: &[&str],
+    given: &Names,
 ) -> Result<(), WriteError> {
     for at in 0..export_count(types, id) {
         if let Some(item) = export_at(types, id, at) {
-            if is_fresh(types, item) && !is_given(given, item.name) {
+            if is_fresh(types, item) && !given.contains(item.name) {
                 export_resource(alloc, scope, types, item)?;
             }
         }
@@ -328,13 +306,13 @@ fn export_others(
     alloc: Global,
     scope: &mut ItemScope,
     types: &Types,
-    around: Around<'_, '_>,
+    around: Around<'_>,
     id: InterfaceId,
-    given: &[&str],
+    given: &Names,
 ) -> Result<(), WriteError> {
     for at in 0..export_count(types, id) {
         if let Some(item) = export_at(types, id, at) {
-            if !is_fresh(types, item) && !is_given(given, item.name) {
+            if !is_fresh(types, item) && !given.contains(item.name) {
                 export_item(alloc, scope, types, around, item)?;
             }
         }
@@ -347,7 +325,7 @@ fn export_others(
 fn instance_type(
     alloc: Global,
     types: &Types,
-    around: Around<'_, '_>,
+    around: Around<'_>,
     id: InterfaceId,
 ) -> Result<Vec<Declaration>, WriteError> {
     let mut scope = ItemScope::new(alloc);
@@ -363,7 +341,7 @@ fn push_instance_type(
     alloc: Global,
     scope: &mut ItemScope,
     types: &Types,
-    around: Around<'_, '_>,
+    around: Around<'_>,
     id: InterfaceId,
 ) -> Result<u32, WriteError> {
     let inner = Around {
@@ -475,7 +453,7 @@ pub(crate) fn describe(
     alloc: Global,
     scope: &mut ItemScope,
     types: &Types,
-    around: Around<'_, '_>,
+    around: Around<'_>,
     kind: ItemKind,
 ) -> Result<Description, WriteError> {
     if let Some(id) = interface_of(types, kind) {

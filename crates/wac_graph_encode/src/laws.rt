@@ -1,12 +1,12 @@
 //! Laws over the definitions alone: each is the contract of a function without a body.
 
-ghost use Rattle.std.specs.Prelude.{◌≡◌, ◌∷◌, [], Some, None, codes, true, false};
+ghost use Rattle.std.specs.Prelude.{◌≡◌, ◌∷◌, [], map, Some, None, codes, true, false};
 ghost use Rattle.std.specs.Bool.{Decides};
 ghost use Rattle.wac_types_base.specs.Entries.{Name, names_of};
 ghost use Rattle.wac_types_names.specs.Tracks.{AreCompatible, IsLater};
 ghost use Rattle.wac_graph_encode.specs.Names.{compatible, is_later};
 ghost use Rattle.wac_types_base.specs.Collection.{Shape};
-ghost use Rattle.wac_types_base.specs.Tree.{Tree};
+ghost use Rattle.wac_types_base.specs.Tree.{Tree, tree};
 ghost use Rattle.wac_types_base.specs.Fits.{Fits};
 ghost use Rattle.wac_graph_encode.specs.Tests.{same_label, same_tree, fit};
 ghost use Rattle.wac_graph_encode.specs.Roots.{RootsRead};
@@ -14,8 +14,10 @@ ghost use Rattle.wac_graph_encode.specs.Asks.{asks_of};
 ghost use Rattle.wac_graph_encode.specs.OuterImports.{outer_imports};
 ghost use Rattle.wac_graph_encode.specs.OuterLaws.{Kept_fits, Outer_fits, Asks_are_met, Accepted_are_met, Outers_are_apart};
 ghost use Rattle.wac_graph_encode.specs.Conflicts.{ImplicitImport, ExplicitImport, ImportTypes, Unwritable, ImportNames, first_cause, name_cause, dependencies_of};
-ghost use Rattle.wac_graph_encode.specs.Worlds.{composed_world};
-ghost use Rattle.wac_graph_encode.specs.Examples.{plain_func, named_instance, passing, older, newer, wider, using_types, types, one_instance, two_versions, clashing_versions, clashing_imports, one_identifier, used_interface, asked_twice, alike_names, nameless_resource, asked_value, twice_made};
+ghost use Rattle.wac_graph_encode.specs.Worlds.{composed_world, source_of};
+ghost use Rattle.wac_graph_encode.specs.Examples.{plain_func, named_instance, passing, older, newer, wider, using_types, types, one_instance, two_versions, clashing_versions, clashing_imports, one_identifier, used_interface, asked_twice, alike_names, nameless_resource, asked_value, twice_made, byte_list, defined_twice, lacks_used, given_another, given_renamed};
+ghost use Rattle.wac_graph_bytes.specs.Wirings.{Definition};
+ghost use Rattle.wac_graph_encode.specs.Graphs.{first_export};
 
 /// The tests of labels and trees say yes exactly of equal ones.
 pub fn tests_decide()
@@ -66,5 +68,10 @@ pub fn examples()
     ensures not_validated { name_cause true false alike_names ≡ None }
     ensures nameless_resource { first_cause true nameless_resource ≡ Some (Unwritable (codes "f")) }
     ensures asked_value { first_cause true asked_value ≡ Some (Unwritable (codes "v")) }
+    ensures defined_apart { map (λ e. source_of (asks_of defined_twice) e.1) defined_twice.exports ≡ Definition (tree byte_list) ∷ [] }
+    ensures lacks_used { first_cause true lacks_used ≡ Some (Unwritable (codes "c")) }
+    ensures given_another { first_cause true given_another ≡ Some (Unwritable (codes "a:b/i")) }
+    ensures given_renamed { first_cause true given_renamed ≡ Some (Unwritable (codes "a:b/i")) }
+    ensures first_name { first_export ((codes "w", 0) ∷ (codes "z", 0) ∷ []) 0 ≡ codes "w" }
     ensures imported_once { names_of (dependencies_of false twice_made) ≡ codes "unlocked-dep=<p:p>" ∷ [] }
 {}

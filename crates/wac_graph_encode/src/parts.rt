@@ -223,16 +223,13 @@ pub fn import_at(types: &Types, id: WorldId, at: usize) -> Option<Item<'_>>
     }
 }
 
-/// Where the import of a name stands.
-pub fn import_named(types: &Types, id: WorldId, name: &str) -> Option<usize> {
-    for at in 0..import_count(types, id) {
-        if let Some(import) = import_at(types, id, at) {
-            if import.name == name {
-                return Some(at);
-            }
-        }
+/// The import of a name.
+pub fn import_named(types: &Types, id: WorldId, name: &str) -> Option<ItemKind> {
+    if types.has(ItemKind::Component(id)) {
+        types.world(id).imports.get(name).copied()
+    } else {
+        None
     }
-    None
 }
 
 pub fn world_export_count(types: &Types, id: WorldId) -> usize {

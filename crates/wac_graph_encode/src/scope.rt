@@ -1,6 +1,6 @@
 //! A scope of written types.
 
-ghost use Rattle.std.specs.Prelude.{◌≡◌, ◌∷◌, ◌<◌, ◌+◌, ℕ, List, [], Some, None, IfOk, IfErr, IfSome, IsSome, Err, slice_get, length, string_bytes};
+ghost use Rattle.std.specs.Prelude.{◌≡◌, ◌∷◌, ◌<◌, ◌+◌, ◌↔◌, ℕ, List, [], Some, None, IfOk, IfErr, IfSome, IsSome, IsTrue, Err, slice_get, length, string_bytes};
 ghost use Rattle.wac_types_base.specs.declared.item.ItemKind.{ItemKind};
 ghost use Rattle.wac_types_base.specs.declared.item.ValueType.{ValueType};
 ghost use Rattle.wac_types_base.specs.Record.{Collection};
@@ -12,12 +12,13 @@ ghost use Rattle.wac_graph_bytes.specs.declared.fault.SizeError.TheVariants.{Too
 ghost use Rattle.wac_graph_bytes.specs.declared.value.ValueType.TheVariants.{Index};
 ghost use Rattle.wac_graph_bytes.specs.Typing.{Worlds, Scope, Inside, nothing_inside, defined, type_at, value_of, as_func};
 ghost use Rattle.wac_graph_bytes.specs.Views.{defined_view};
-ghost use Rattle.wac_graph_encode.specs.Lookups.{first_known, first_resource};
-ghost use Rattle.wac_graph_encode.specs.Scopes.{IsScope, IsKnown, AnswersType, Exports, ExportsType};
+ghost use Rattle.wac_graph_encode.specs.Scopes.{IsScope, IsKnown, Forgets, FindsType, AnswersType, Exports, ExportsType};
 
+use crate::prints::Prints;
+use indexmap::IndexMap;
 use std::alloc::{AllocError, Global};
 use wac_graph_bytes::{Declaration, DefinedType, Description, SizeError};
-use wac_types_base::{DefinedTypeId, Text};
+use wac_types_base::{DefinedTypeId, NamedMap};
 
 /// A type of a collection that is written, and its index.
 #[derive(Clone, Copy)]
@@ -26,11 +27,14 @@ pub struct KnownType {
     pub index: u32,
 }
 
-/// A resource that stands in the scope, by its root name.
+/// Where types stand in the list of those that are known.
 #[derive(Drop)]
-pub struct KnownResource {
-    pub name: Text,
-    pub index: u32,
+pub struct Places {
+    /// Of a type's id.
+    pub by_id: IndexMap<DefinedTypeId, usize>,
+    /// Of the number of a type that has a name here.
+    pub by_print: IndexMap<u64, usize>,
+    pub prints: Prints,
 }
 
 /// Declarations, how many types they add, and what is remembered of them.
@@ -39,7 +43,9 @@ pub struct TypeScope {
     pub declarations: Vec<Declaration>,
     pub types: u32,
     pub known: Vec<KnownType>,
-    pub resources: Vec<KnownResource>,
+    /// The indexes of resources, by their root names.
+    pub resources: NamedMap<u32>,
+    pub places: Places,
 }
 
 pub(crate) fn next_of(count: u32) -> Result<u32, SizeError>
@@ -49,28 +55,22 @@ pub(crate) fn next_of(count: u32) -> Result<u32, SizeError>
     count.checked_add(1).ok_or(SizeError::TooLarge)
 }
 
-/// The index of the first type of this id.
-fn find_known(known: &[KnownType], id: DefinedTypeId) -> Option<u32>
-    ensures { result ≡ first_known known.now id }
+/// Whether two ids are one.
+fn is_same_id(a: DefinedTypeId, b: DefinedTypeId) -> bool
+    ensures { IsTrue result ↔ (a ≡ b) }
 {
-    for k in known {
-        if k.id.collection == id.collection && k.id.index == id.index {
-            return Some(k.index);
-        }
-    }
-    None
+    a == b
 }
 
-/// The index of the first resource of this name.
-fn find_resource(resources: &[KnownResource], name: &str) -> Option<u32>
-    ensures { result ≡ first_resource resources.now name.now }
-{
-    for r in resources {
-        if r.name.is(name) {
-            return Some(r.index);
+impl Places {
+    /// Nothing is known.
+    pub(crate) fn new(alloc: Global) -> Self {
+        Places {
+            by_id: IndexMap::new(alloc),
+            by_print: IndexMap::new(alloc),
+            prints: Prints::new(alloc),
         }
     }
-    None
 }
 
 impl TypeScope {
@@ -80,12 +80,13 @@ impl TypeScope {
     {
         let declarations = Vec::new(alloc);
         let known = Vec::new(alloc);
-        let resources = Vec::new(alloc);
+        let resources = NamedMap::new(alloc);
         TypeScope {
             declarations,
             types: 0,
             known,
             resources,
+            places: Places::new(alloc),
         }
     }
 
@@ -123,25 +124,54 @@ impl TypeScope {
         Ok(own)
     }
 
-    /// Remembers the index of a type.
+    /// Remembers the index of a type; in place of an earlier one of that id.
     pub fn remember(&mut self, id: DefinedTypeId, index: u32) -> Result<(), AllocError>
         ensures { (w : Worlds) (c : Collection) (outer : List Scope) (i : Inside) → IsScope w c outer i self.old → value_of w (i.here ∷ outer) (Index index) ≡ Some (tree_in c (ItemKind.Value (ValueType.Defined id))) → IfOk result (λ _. IsScope w c outer i self.new) }
     {
+        let at = self.known.len();
+        self.places.by_id.insert(id, at)?;
         self.known.push(KnownType { id, index })?;
         Ok(())
     }
 
+    /// Forgets the types that are known, so that those of another collection can be written here.
+    pub fn forget(&mut self, alloc: Global)
+        ensures { Forgets self.old self.new }
+    {
+        self.known = Vec::new(alloc);
+        self.places = Places::new(alloc);
+    }
+
     /// Remembers the index of a resource.
-    pub fn add_resource(&mut self, name: Text, index: u32) -> Result<(), AllocError> {
-        self.resources.push(KnownResource { name, index })?;
+    pub fn add_resource(&mut self, name: String, index: u32) -> Result<(), AllocError> {
+        let _ = self.resources.insert(name, index)?;
         Ok(())
     }
 
     /// The index of a type that is written already.
     pub fn known(&self, id: DefinedTypeId) -> Option<u32>
-        ensures { (w : Worlds) (c : Collection) (outer : List Scope) (i : Inside) → IsScope w c outer i self.now → IfSome result (λ k. value_of w (i.here ∷ outer) (Index k) ≡ Some (tree_in c (ItemKind.Value (ValueType.Defined id)))) }
+        ensures { (c : Collection) → FindsType c self.now id result }
     {
-        find_known(self.known.as_slice(), id)
+        match self.places.by_id.get(&id) {
+            Some(at) => self.known_as(*at, id),
+            None => None,
+        }
+    }
+
+    /// The index of what is remembered at a place, if it is the type.
+    fn known_as(&self, at: usize, id: DefinedTypeId) -> Option<u32>
+        ensures { (c : Collection) → FindsType c self.now id result }
+    {
+        match self.known_at(at) {
+            Some(known) => {
+                if is_same_id(known.id, id) {
+                    Some(known.index)
+                } else {
+                    None
+                }
+            }
+            None => None,
+        }
     }
 
     /// What is remembered at a place.
@@ -158,6 +188,9 @@ impl TypeScope {
     pub fn resource(&self, name: &str) -> Option<u32>
         ensures { (w : Worlds) (c : Collection) (outer : List Scope) (i : Inside) → IsScope w c outer i self.now → IfSome result (λ k. type_at w (i.here ∷ outer) k ≡ Some (rigid (resource name.now) end)) }
     {
-        find_resource(self.resources.as_slice(), name)
+        match self.resources.get(name) {
+            Some(index) => Some(*index),
+            None => None,
+        }
     }
 }

@@ -1,6 +1,6 @@
 //! Types of values and functions in a scope of written types.
 
-ghost use Rattle.std.specs.Prelude.{◌≡◌, ◌∷◌, List, Some, IfOk, IfSome, true};
+ghost use Rattle.std.specs.Prelude.{◌≡◌, ◌∷◌, List, Some, IfOk, true};
 ghost use Rattle.wac_types_base.specs.declared.item.ItemKind.{ItemKind};
 ghost use Rattle.wac_types_base.specs.declared.item.ValueType.{ValueType};
 ghost use Rattle.wac_types_base.specs.declared.item.«Type».{«Type» as TypeKind};
@@ -10,15 +10,15 @@ ghost use Rattle.wac_types_base.specs.Resolving.{IsNoAlias};
 ghost use Rattle.wac_types_base.specs.Tree.{rigid, end};
 ghost use Rattle.wac_types_fit.specs.Trees.{tree_in, Fit};
 ghost use Rattle.wac_types_fit.specs.Checking.{value_in, HoldsValues, ValueStands, value_tree, place_trees};
-ghost use Rattle.wac_graph_bytes.specs.declared.value.ValueType.TheVariants.{Index};
-ghost use Rattle.wac_graph_bytes.specs.Typing.{Worlds, Scope, Inside, type_at, value_of};
-ghost use Rattle.wac_graph_encode.specs.Scopes.{IsScope, AnswersType, AnswersValue, AnswersPlace, AnswersPlaces};
+ghost use Rattle.wac_graph_bytes.specs.Typing.{Worlds, Scope, Inside, type_at};
+ghost use Rattle.wac_graph_encode.specs.Scopes.{IsScope, KeepsScope, FindsType, AnswersType, AnswersValue, AnswersPlace, AnswersPlaces};
 
 use crate::entry::{entry_of, func_entry_of};
 use crate::fault::WriteError;
 use crate::scope::TypeScope;
 use std::alloc::Global;
 use wac_graph_bytes::{DefinedType as TypeEntry, ValueType as Written};
+use wac_types_base::replace::is_same;
 use wac_types_base::{DefinedTypeId, FuncTypeId, ItemKind, ResourceId, Types, ValueType};
 use wac_types_fit::{SubtypeChecker, SubtypeError, new_cache};
 
@@ -115,6 +115,9 @@ pub(crate) fn fits_in(
     if !types.has(a) || !types.has(b) {
         return Ok(false);
     }
+    if is_same(a, b) {
+        return Ok(true);
+    }
     let mut cache = new_cache(alloc);
     let mut checker = SubtypeChecker::new(alloc, &mut cache);
     match checker.is_subtype(a, types, b, types) {
@@ -124,41 +127,83 @@ pub(crate) fn fits_in(
     }
 }
 
-/// The index of a type that is written and equal.
-fn equal_index(
-    alloc: Global,
-    scope: &TypeScope,
+/// The place in the list of those that are known where a type of this number with a name stands.
+fn place_of(
+    scope: &mut TypeScope,
     types: &Types,
     id: DefinedTypeId,
-) -> Result<Option<u32>, WriteError>
-    ensures { (w : Worlds) (outer : List Scope) (i : Inside) → IsScope w types.now outer i scope.now → IfOk result (λ o. IfSome o (λ k. value_of w (i.here ∷ outer) (Index k) ≡ Some (tree_in types.now (ItemKind.Value (ValueType.Defined id))))) }
+) -> Result<Option<usize>, WriteError>
+    requires { Stands types.now (ItemKind.Value (ValueType.Defined id)) }
+    ensures { KeepsScope types.now scope.old scope.new }
 {
-    types.see_acyclic();
-    for at in 0..scope.known.len() {
-        if let Some(other) = scope.known_at(at) {
-            let own = ItemKind::Value(ValueType::Defined(other.id));
-            let kind = ItemKind::Value(ValueType::Defined(id));
-            if fits_in(alloc, types, own, kind)? {
-                return Ok(Some(other.index));
-            }
-        }
+    if scope.places.by_print.is_empty() {
+        return Ok(None);
     }
-    Ok(None)
+    let print = scope.places.prints.of(types, ValueType::Defined(id))?;
+    Ok(scope.places.by_print.get(&print).copied())
 }
 
-/// The index of a type that is written already, or of one that is equal.
-fn known_index(
+/// The index of a type with a name that is written and equal.
+fn equal_index(
     alloc: Global,
-    scope: &TypeScope,
+    scope: &mut TypeScope,
     types: &Types,
     id: DefinedTypeId,
 ) -> Result<Option<u32>, WriteError>
-    ensures { (w : Worlds) (outer : List Scope) (i : Inside) → IsScope w types.now outer i scope.now → IfOk result (λ o. IfSome o (λ k. value_of w (i.here ∷ outer) (Index k) ≡ Some (tree_in types.now (ItemKind.Value (ValueType.Defined id))))) }
+    requires { Stands types.now (ItemKind.Value (ValueType.Defined id)) }
+    ensures keeps { KeepsScope types.now scope.old scope.new }
+    ensures reads { IfOk result (λ o. FindsType types.now scope.old id o) }
+{
+    types.see_acyclic();
+    let Some(at) = place_of(scope, types, id)? else {
+        return Ok(None);
+    };
+    let Some(other) = scope.known_at(at) else {
+        return Ok(None);
+    };
+    let own = ItemKind::Value(ValueType::Defined(other.id));
+    let kind = ItemKind::Value(ValueType::Defined(id));
+    let equal = fits_in(alloc, types, own, kind)?;
+    if equal {
+        Ok(Some(other.index))
+    } else {
+        Ok(None)
+    }
+}
+
+/// The index of a type that is written already, or of one with a name that is equal.
+fn known_index(
+    alloc: Global,
+    scope: &mut TypeScope,
+    types: &Types,
+    id: DefinedTypeId,
+) -> Result<Option<u32>, WriteError>
+    requires { Stands types.now (ItemKind.Value (ValueType.Defined id)) }
+    ensures keeps { KeepsScope types.now scope.old scope.new }
+    ensures reads { IfOk result (λ o. FindsType types.now scope.old id o) }
 {
     match scope.known(id) {
         Some(index) => Ok(Some(index)),
         None => equal_index(alloc, scope, types, id),
     }
+}
+
+/// Remembers the index of a type that has a name here.
+pub(crate) fn note_named(
+    scope: &mut TypeScope,
+    types: &Types,
+    id: DefinedTypeId,
+    index: u32,
+) -> Result<(), WriteError>
+    requires { Stands types.now (ItemKind.Value (ValueType.Defined id)) }
+{
+    let print = scope.places.prints.of(types, ValueType::Defined(id))?;
+    if !scope.places.by_print.contains_key(&print) {
+        let at = scope.known.len();
+        let _ = scope.places.by_print.insert(print, at)?;
+    }
+    scope.remember(id, index)?;
+    Ok(())
 }
 
 /// The index of a type entry that is a value type. A defined type that is not written yet is not remembered.
@@ -199,6 +244,41 @@ fn define_once(
     let places = push_places(alloc, scope, types, kind)?;
     let entry = entry_of(alloc, ty, places.as_slice())?;
     Ok(scope.define(entry)?)
+}
+
+/// The index of a type entry of its own that is a value type, whatever else is written.
+pub(crate) fn define_apart(
+    alloc: Global,
+    scope: &mut TypeScope,
+    types: &Types,
+    ty: ValueType,
+) -> Result<u32, WriteError> {
+    if !types.has(ItemKind::Value(ty)) {
+        return Err(WriteError::Unwritable);
+    }
+    match types.resolve_value_type(ty) {
+        ValueType::Defined(id) => define_anew(alloc, scope, types, id),
+        end => define_value(alloc, scope, types, end),
+    }
+}
+
+/// The same of a defined type that is no alias. It is known afterwards.
+fn define_anew(
+    alloc: Global,
+    scope: &mut TypeScope,
+    types: &Types,
+    id: DefinedTypeId,
+) -> Result<u32, WriteError> {
+    let kind = ItemKind::Value(ValueType::Defined(id));
+    if !types.has(kind) {
+        return Err(WriteError::Unwritable);
+    }
+    let ty = types.defined_type(id);
+    let places = push_places(alloc, scope, types, kind)?;
+    let entry = entry_of(alloc, ty, places.as_slice())?;
+    let index = scope.define(entry)?;
+    scope.remember(id, index)?;
+    Ok(index)
 }
 
 /// The same of a defined type: written once.

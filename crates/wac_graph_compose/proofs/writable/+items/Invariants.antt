@@ -30,11 +30,14 @@ decreases-imports_fail l = 16 * size_of l.test.types.now (ItemKind.Component l.i
 abbrev pub decreases-world_exports_fail : goal.decreases-world_exports_fail
 decreases-world_exports_fail l = 16 * size_of l.test.types.now (ItemKind.Component l.id) + 6
 
-abbrev pub decreases-used_fails : goal.decreases-used_fails
-decreases-used_fails l = 16 * size_of l.test.types.now (ItemKind.Instance l.id) + 9
+abbrev pub decreases-use_fails : goal.decreases-use_fails
+decreases-use_fails l = 16 * size_of l.test.types.now (ItemKind.Instance l.used.interface) + 9
+
+abbrev pub decreases-types_fail : goal.decreases-types_fail
+decreases-types_fail l = 16 * size_of l.test.types.now (ItemKind.Instance l.id) + 8
 
 abbrev pub decreases-direct_fails : goal.decreases-direct_fails
 decreases-direct_fails l = 16 * size_of l.test.types.now (ItemKind.Instance l.id) + 7
 
-abbrev pub decreases-missing_fails : goal.decreases-missing_fails
-decreases-missing_fails l = 16 * size_of l.test.types.now l.kind + 8
+abbrev pub decreases-uses_fail : goal.decreases-uses_fail
+decreases-uses_fail l = 16 * size_of l.test.types.now l.kind + 8

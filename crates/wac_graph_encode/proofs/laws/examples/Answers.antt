@@ -63,3 +63,23 @@ returns-clause-asked_value c = refl
 pub returns-clause-imported_once : goal.returns-clause-imported_once
 unfolding read_version version_of version_cmp semver_on_literals
 returns-clause-imported_once c = refl
+
+pub returns-clause-defined_apart : goal.returns-clause-defined_apart
+unfolding read_version version_of version_cmp semver_on_literals
+returns-clause-defined_apart c = refl
+
+pub returns-clause-lacks_used : goal.returns-clause-lacks_used
+unfolding read_version version_of version_cmp semver_on_literals
+returns-clause-lacks_used c = refl
+
+pub returns-clause-given_another : goal.returns-clause-given_another
+unfolding read_version version_of version_cmp semver_on_literals
+returns-clause-given_another c = refl
+
+pub returns-clause-given_renamed : goal.returns-clause-given_renamed
+unfolding read_version version_of version_cmp semver_on_literals
+returns-clause-given_renamed c = refl
+
+pub returns-clause-first_name : goal.returns-clause-first_name
+unfolding read_version version_of version_cmp semver_on_literals
+returns-clause-first_name c = refl

@@ -70,14 +70,14 @@ push_defined-push_places-requires t c =
 pub push_defined-returns-in-Some : goal.push_defined-returns-in-Some
 push_defined-returns-in-Some t c w outer i h =
     let types = c.args.types.now in
-    value_there w types outer i (tree_in types (ItemKind.Value (ValueType.Defined c.args.id))) c.args.scope.now (Index c.in-Some.index) h
-    (subst (λ o. IfSome o (λ k. value_of w (i.here ∷ outer) (Index k) ≡ Some (tree_in types (ItemKind.Value (ValueType.Defined c.args.id))))) c.in-Some.is (c.in_ok-known.ensures w outer i h))
+    value_there w types outer i (tree_in types (ItemKind.Value (ValueType.Defined c.args.id))) c.known_index.new.scope (Index c.in-Some.index) (c.known_index.ensures.keeps w outer i h)
+    (subst (λ o. IfSome o (λ k. value_of w (i.here ∷ outer) (Index k) ≡ Some (tree_in types (ItemKind.Value (ValueType.Defined c.args.id))))) c.in-Some.is (c.in_ok-known.ensures.reads w outer i h))
 
 pub push_defined-returns : goal.push_defined-returns
 push_defined-returns t c w outer i h =
     let types = c.args.types.now in
     value_written w types outer i c.see_acyclic.ensures c.args.id c.defined_type-ty.result.now c.push_places.new.scope c.define.new.self c.remember.new.self c.in_ok-places.places.items c.in_ok-entry.entry c.in_ok-index.index
-    c.requires.no_alias c.defined_type-ty.ensures.entry c.defined_type-ty.ensures.own (c.in_ok-places.ensures w outer i h)
+    c.requires.no_alias c.defined_type-ty.ensures.entry c.defined_type-ty.ensures.own (c.in_ok-places.ensures w outer i (c.known_index.ensures.keeps w outer i h))
     (c.in_ok-entry.ensures ∙ ap (entry_of c.defined_type-ty.result.now) c.as_slice.ensures.value)
     (λ j x hs e. c.in_ok-index.ensures.stands w types outer j x hs e) (λ j hs e. c.in_ok-remember.ensures w types outer j hs e)
 
