@@ -14,3 +14,4 @@ pub mod Targeting
 pub mod Resolved
 pub mod Processing
 pub mod Passing
+pub mod Giving

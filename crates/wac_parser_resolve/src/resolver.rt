@@ -4,7 +4,7 @@
 ghost use Rattle.std.specs.Prelude.{◌≡◌, IfOk, IfSome, Some};
 ghost use Rattle.wac_types_base.specs.declared.item.ItemKind.{ItemKind};
 ghost use Rattle.wac_types_base.specs.Collection.{Stands};
-ghost use Rattle.wac_parser_resolve.specs.Later.{Later, SameNumber};
+ghost use Rattle.wac_parser_resolve.specs.Later.{SameNumber};
 ghost use Rattle.wac_parser_resolve.specs.Resolved.{asked_of, document_of, graph_of, target_of};
 ghost use Rattle.wac_parser_resolve.specs.Standing.{IsSound};
 ghost use Rattle.wac_parser_resolve.specs.Targeting.{IsTarget};

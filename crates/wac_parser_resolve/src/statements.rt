@@ -1,11 +1,10 @@
 //! Statements of a document.
 #![tactic(auto, using(crate::proofs::SoundGraph::growing))]
 
-ghost use Rattle.std.specs.Prelude.{◌≡◌, IfOk, OnOk};
+ghost use Rattle.std.specs.Prelude.{IfOk, OnOk};
 ghost use Rattle.wac_types_base.specs.declared.item.ItemKind.{ItemKind};
 ghost use Rattle.wac_types_base.specs.Collection.{Stands};
-ghost use Rattle.wac_graph_core.specs.Graph.{ContainsNode};
-ghost use Rattle.wac_parser_resolve.specs.Later.{Later, SameNumber};
+ghost use Rattle.wac_parser_resolve.specs.Later.{SameNumber};
 ghost use Rattle.wac_parser_resolve.specs.Standing.{IsSound};
 
 use crate::calls::{define, import};

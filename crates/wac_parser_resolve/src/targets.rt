@@ -1,17 +1,13 @@
 //! The target world of a document, by the types that its statements ask.
 
-ghost use Rattle.std.specs.Prelude.{◌≡◌, ◌⊎◌, ℕ, true, IfOk, IfNone, IfSome, IsOk, OnOk};
+ghost use Rattle.std.specs.Prelude.{◌≡◌, ℕ, true, IfOk, IfNone, IfSome, IsOk, OnOk};
 ghost use Rattle.wac_types_base.specs.declared.item.ItemKind.{ItemKind};
 ghost use Rattle.wac_types_base.specs.Collection.{Stands};
-ghost use Rattle.wac_types_base.specs.Entries.{Name, value_at};
-ghost use Rattle.wac_types_base.specs.Graph.{Among};
-ghost use Rattle.wac_types_base.specs.Implicit.{shown};
-ghost use Rattle.wac_types_base.specs.Resolving.{promoted};
+ghost use Rattle.wac_types_base.specs.Entries.{value_at};
 ghost use Rattle.wac_types_fit.specs.Trees.{Fit};
-ghost use Rattle.wac_types_fit.specs.Targets.{target_import};
 ghost use Rattle.wac_types_fit.specs.TargetSteps.{AllStand, GivesStanding};
-ghost use Rattle.wac_graph_core.specs.Edges.{HasArgument};
 ghost use Rattle.wac_graph_core.specs.Graph.{ContainsNode};
+ghost use Rattle.wac_parser_resolve.specs.Giving.{given_by};
 ghost use Rattle.wac_parser_resolve.specs.Targeting.{AreExportsMet, AreFilledMet, IsExportMet, IsFilledMet, IsImportMet, IsInstanceMet, IsMet, IsPassed, IsStatementMet};
 
 use crate::board::{item_of, world_of};
@@ -126,7 +122,7 @@ impl<'p, 'i, 't> Target<'p, 'i, 't> {
 
     /// What the target gives under the name of an import: an implicit interface, else an import.
     fn given(&self, name: &str) -> Option<ItemKind>
-        ensures { result ≡ target_import (shown self.now.implicit.now.entries) self.now.imports.now name.now }
+        ensures { result ≡ given_by self.now name.now }
     {
         match self.implicit.get(name).copied() {
             Some(kind) => Some(kind),
@@ -155,9 +151,9 @@ impl<'p, 'i, 't> Target<'p, 'i, 't> {
 
     /// An import is one of the target's, and the target's fits it.
     fn import_met(&self, types: &Types, asked: Asked<'_>) -> ResolutionResult<()>
-        requires given { GivesStanding types.now (target_import (shown self.now.implicit.now.entries) self.now.imports.now) }
+        requires given { GivesStanding types.now (given_by self.now) }
         requires asked { Stands types.now asked.kind }
-        ensures { OnOk result (IsImportMet types.now (target_import (shown self.now.implicit.now.entries) self.now.imports.now) asked.entry.name.now asked.entry.kind) }
+        ensures { OnOk result (IsImportMet types.now (given_by self.now) asked.entry.name.now asked.entry.kind) }
     {
         let place = Place {
             kind: ExternKind::Import,
@@ -177,9 +173,9 @@ impl<'p, 'i, 't> Target<'p, 'i, 't> {
         spans: &Spans,
         node: NodeId,
     ) -> ResolutionResult<()>
-        requires given { GivesStanding graph.now.types (target_import (shown self.now.implicit.now.entries) self.now.imports.now) }
+        requires given { GivesStanding graph.now.types (given_by self.now) }
         requires node { ContainsNode graph.now node }
-        ensures { OnOk result (IsStatementMet graph.now (target_import (shown self.now.implicit.now.entries) self.now.imports.now) node) }
+        ensures { OnOk result (IsStatementMet graph.now (given_by self.now) node) }
     {
         match graph.get_import_name(node) {
             Some(name) => {
@@ -202,10 +198,10 @@ impl<'p, 'i, 't> Target<'p, 'i, 't> {
         name: &str,
         kind: ItemKind,
     ) -> ResolutionResult<()>
-        requires given { GivesStanding graph.now.types (target_import (shown self.now.implicit.now.entries) self.now.imports.now) }
+        requires given { GivesStanding graph.now.types (given_by self.now) }
         requires instance { ContainsNode graph.now instance }
         requires kind { Stands graph.now.types kind }
-        ensures { OnOk result (IsFilledMet graph.now (target_import (shown self.now.implicit.now.entries) self.now.imports.now) instance name.now kind) }
+        ensures { OnOk result (IsFilledMet graph.now (given_by self.now) instance name.now kind) }
     {
         if is_passed(graph, instance, name) {
             return Ok(());
@@ -225,10 +221,10 @@ impl<'p, 'i, 't> Target<'p, 'i, 't> {
         instance: NodeId,
         imports: &NamedMap<ItemKind>,
     ) -> ResolutionResult<()>
-        requires given { GivesStanding graph.now.types (target_import (shown self.now.implicit.now.entries) self.now.imports.now) }
+        requires given { GivesStanding graph.now.types (given_by self.now) }
         requires instance { ContainsNode graph.now instance }
         requires imports { AllStand graph.now.types imports.now }
-        ensures { OnOk result (AreFilledMet graph.now (target_import (shown self.now.implicit.now.entries) self.now.imports.now) instance imports.now) }
+        ensures { OnOk result (AreFilledMet graph.now (given_by self.now) instance imports.now) }
     {
         for at in 0..imports.len() {
             let (name, kind) = imports.entry(at);
@@ -240,9 +236,9 @@ impl<'p, 'i, 't> Target<'p, 'i, 't> {
     /// The imports that a node asks, where it is an instance.
     #[tactic(auto, using(crate::proofs::TargetMet::instance))]
     fn instance_met(&self, graph: &CompositionGraph, node: NodeId) -> ResolutionResult<()>
-        requires given { GivesStanding graph.now.types (target_import (shown self.now.implicit.now.entries) self.now.imports.now) }
+        requires given { GivesStanding graph.now.types (given_by self.now) }
         requires node { ContainsNode graph.now node }
-        ensures { OnOk result (IsInstanceMet graph.now (target_import (shown self.now.implicit.now.entries) self.now.imports.now) node) }
+        ensures { OnOk result (IsInstanceMet graph.now (given_by self.now) node) }
     {
         graph.see_sound();
         match graph[node].package() {
@@ -257,8 +253,8 @@ impl<'p, 'i, 't> Target<'p, 'i, 't> {
 
     /// The imports of all statements.
     fn statements_met(&self, graph: &CompositionGraph, spans: &Spans) -> ResolutionResult<()>
-        requires { GivesStanding graph.now.types (target_import (shown self.now.implicit.now.entries) self.now.imports.now) }
-        ensures { OnOk result ((k : ℕ) → IsStatementMet graph.now (target_import (shown self.now.implicit.now.entries) self.now.imports.now) k) }
+        requires { GivesStanding graph.now.types (given_by self.now) }
+        ensures { OnOk result ((k : ℕ) → IsStatementMet graph.now (given_by self.now) k) }
     {
         for node in graph.node_ids() {
             self.explicit_met(graph, spans, node)?;
@@ -268,8 +264,8 @@ impl<'p, 'i, 't> Target<'p, 'i, 't> {
 
     /// The imports of all instances.
     fn instances_met(&self, graph: &CompositionGraph) -> ResolutionResult<()>
-        requires { GivesStanding graph.now.types (target_import (shown self.now.implicit.now.entries) self.now.imports.now) }
-        ensures { OnOk result ((k : ℕ) → IsInstanceMet graph.now (target_import (shown self.now.implicit.now.entries) self.now.imports.now) k) }
+        requires { GivesStanding graph.now.types (given_by self.now) }
+        ensures { OnOk result ((k : ℕ) → IsInstanceMet graph.now (given_by self.now) k) }
     {
         for node in graph.node_ids() {
             self.instance_met(graph, node)?;

@@ -1,7 +1,6 @@
 use Rattle.std.proofs.Common.{arith}
-use Rattle.wac_types_base.specs.Implicit.{shown}
 use Rattle.wac_types_base.proofs.Walking.{Among-slice_get}
-use Rattle.wac_types_fit.specs.Targets.{target_import}
+use Rattle.wac_parser_resolve.specs.Giving.{given_by}
 use Rattle.wac_parser_resolve.specs.Targeting.{IsFilledMet}
 use Rattle.wac_parser_resolve.proofs.TargetMet.{below_next, below_all}
 use Rattle.wac_parser_resolve.proofs.targets.Target.filled_met.Goals as goal
@@ -12,10 +11,10 @@ filled_one-requires-clause-kind c =
 
 pub loop-at-preserved : goal.loop-at-preserved
 loop-at-preserved c =
-    below_next (IsFilledMet c.args.graph.now (target_import (shown c.args.self.now.implicit.now.entries) c.args.self.now.imports.now) c.args.instance)
+    below_next (IsFilledMet c.args.graph.now (given_by c.args.self.now) c.args.instance)
     c.args.imports.now c.loop-at.at c.entry.result.0.now c.entry.result.1.now c.entry.ensures c.loop-at.invariant c.in_ok-filled_one.ensures
 
 pub returns : goal.returns
 returns c =
-    below_all (IsFilledMet c.args.graph.now (target_import (shown c.args.self.now.implicit.now.entries) c.args.self.now.imports.now) c.args.instance)
+    below_all (IsFilledMet c.args.graph.now (given_by c.args.self.now) c.args.instance)
     c.args.imports.now c.loop-at.at (omega (arith, c.len-at-end.ensures.len, c.loop-at-test.false)) c.loop-at.invariant
