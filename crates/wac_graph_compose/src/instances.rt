@@ -276,7 +276,8 @@ impl<'a> Wired<'a> {
         self.write_nodes()?;
         self.write_exports()?;
         let names = self.debug_names()?;
-        Ok((self.root.entries, names))
+        let root = self.root;
+        Ok((root.entries, names))
     }
 }
 

@@ -23,7 +23,7 @@ struct Typed {
     definitions: IndexMap<NodeId, ItemKind>,
 }
 
-fn typed(
+fn types_told(
     alloc: Global,
     types: &Types,
     outers: &Outers,
@@ -134,7 +134,7 @@ fn exports_of(
     outers: &Outers,
     definitions: &[Definition],
 ) -> Result<NamedMap<ItemKind>, AllocError> {
-    let typed = typed(alloc, types, outers, definitions)?;
+    let typed = types_told(alloc, types, outers, definitions)?;
     let mut exports = NamedMap::new(alloc);
     for (name, node) in graph.exports() {
         if let Some(item) = exported_type(alloc, graph, types, &typed, *node)? {
