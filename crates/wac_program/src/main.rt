@@ -1,15 +1,11 @@
 //! `wac compose MANIFEST`, `wac format FILE` and `wac plug MANIFEST`, over files, standard input and standard output.
 #![tactic(auto)]
 
-mod disk;
-mod ends;
-
-use crate::disk::Disk;
-use crate::ends::{ErrorEnd, OutputEnd};
 use std::alloc::Global;
 use std::io;
 use std::process::ExitCode;
 use wac::run;
+use wac_disk::{Disk, ErrorEnd, OutputEnd};
 
 /// The words behind the program's name.
 fn words_of(rt: &HostRuntime, alloc: Global) -> io::Result<Vec<String>> {

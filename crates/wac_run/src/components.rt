@@ -15,7 +15,7 @@ use wac_workspace::{AddPackageError, Workspace};
 const DECLARED: u64 = u64::MAX;
 
 /// The bytes of a file.
-pub(crate) fn read_file<F: Files>(alloc: Global, files: &F, path: &str) -> Result<Vec<u8>, Stop> {
+pub fn read_file<F: Files>(alloc: Global, files: &F, path: &str) -> Result<Vec<u8>, Stop> {
     match files.read(alloc, path) {
         Ok(bytes) => Ok(bytes),
         Err(FilesError::Memory) => Err(Stop::Memory),
@@ -24,7 +24,7 @@ pub(crate) fn read_file<F: Files>(alloc: Global, files: &F, path: &str) -> Resul
 }
 
 /// The text that the bytes of a file are.
-pub(crate) fn text_of(alloc: Global, path: &str, bytes: &[u8]) -> Result<String, Stop> {
+pub fn text_of(alloc: Global, path: &str, bytes: &[u8]) -> Result<String, Stop> {
     match std::str::from_utf8(bytes) {
         Ok(text) => Ok(String::from_str(alloc, text)?),
         Err(_) => Err(cannot_read(alloc, path)),
@@ -40,7 +40,7 @@ fn bytes_of<F: Files>(alloc: Global, files: &F, data: BytesData) -> Result<Vec<u
 }
 
 /// The text that a manifest gives.
-pub(crate) fn load_text<F: Files>(
+pub fn load_text<F: Files>(
     alloc: Global,
     files: &F,
     data: TextData,
@@ -145,7 +145,7 @@ fn add_component<F: Files>(
 }
 
 /// Adds the components of a manifest, in order.
-pub(crate) fn add_components<F: Files>(
+pub fn add_components<F: Files>(
     alloc: Global,
     files: &F,
     workspace: &mut Workspace,

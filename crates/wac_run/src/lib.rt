@@ -14,9 +14,11 @@ mod sources;
 mod spelling;
 mod stop;
 
+pub use components::{add_components, load_text, read_file, text_of};
 pub use declared::{DeclaredWorldError, declared_world};
 pub use files::{Files, FilesError, MemoryFiles};
 pub use place::{Place, place_of, show_place};
 pub use plug_text::{PlugTextError, plug_text};
 pub use run::run;
+pub use stop::{Stop, bad_manifest, not_composed};
 

@@ -10,7 +10,7 @@ use wac_workspace::ComposeError;
 
 /// Why a run stops.
 #[derive(Drop)]
-pub(crate) enum Stop {
+pub enum Stop {
     /// What is told, and where the cause stands in its source.
     Refused {
         text: String,
@@ -60,7 +60,7 @@ pub(crate) fn cannot_write(alloc: Global, path: &str) -> Stop {
 }
 
 /// A fault of a manifest.
-pub(crate) fn bad_manifest(alloc: Global, fault: ManifestError) -> Stop {
+pub fn bad_manifest(alloc: Global, fault: ManifestError) -> Stop {
     match fault {
         ManifestError::Memory => Stop::Memory,
         ManifestError::Bad => of_fault(alloc, &fault, None),
@@ -103,7 +103,7 @@ pub(crate) fn key_taken<K: Display>(alloc: Global, key: &K) -> Stop {
 }
 
 /// A fault of composing, but for a key that is there already.
-pub(crate) fn not_composed(alloc: Global, fault: &ComposeError) -> Stop {
+pub fn not_composed(alloc: Global, fault: &ComposeError) -> Stop {
     match fault {
         ComposeError::Memory => Stop::Memory,
         ComposeError::Parse(fault) => not_parsed(alloc, fault),

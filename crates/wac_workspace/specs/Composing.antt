@@ -5,7 +5,6 @@ use Rattle.semver.specs.Identifiers.{parts_of}
 use Rattle.wac_types_base.specs.declared.item.ItemKind.{ItemKind}
 use Rattle.wac_types_base.specs.Collection.{Stands}
 use Rattle.wac_types_names.specs.Keys.{Key}
-use Rattle.wac_types_fit.specs.Targets.{IsEmptyReport}
 use Rattle.wac_parser_tree.specs.Trees.{Document}
 use Rattle.wac_parser_grammar.specs.Documents.{document}
 use Rattle.wac_parser_grammar.specs.Reads.{read_source}
@@ -77,7 +76,7 @@ abbrev pub IsUnmade : ℕ → List ℕ → ComposeError → Type 0
 IsUnmade next source (error.Parse f) = read_source document source ≡ Err (fault_of f)
 IsUnmade next source error.NumbersExhausted = (d : Document) × IsDocument source d × (greatest < next + 3)
 IsUnmade next source (error.Resolution f) = IsNumbered next source
-IsUnmade next source (error.Target r) = IsNumbered next source × (IsEmptyReport r → ⊥)
+IsUnmade next source (error.Target r) = IsNumbered next source
 IsUnmade next source error.KeyTaken = ⊥
 IsUnmade next source error.BytesTaken = ⊥
 IsUnmade next source error.Memory = Unit {0}

@@ -4,16 +4,15 @@ use Rattle.std.specs.Option.{option_map}
 use Rattle.semver.specs.Identifiers.{parts_of}
 use Rattle.wac_types_base.specs.declared.item.ItemKind.{ItemKind}
 use Rattle.wac_types_base.specs.Collection.{Stands}
-use Rattle.wac_types_fit.specs.Targets.{IsEmptyReport}
 use Rattle.wac_graph_compose.specs.declared.options.Encoded.{Encoded}
-use Rattle.wac_parser_tree.specs.Trees.{Document}
+use Rattle.wac_parser_tree.specs.Trees.{PackageName}
 use Rattle.wac_workspace.specs.declared.compose.Numbers.{Numbers}
 use Rattle.wac_workspace.specs.declared.compose.Pair.{Pair}
 use Rattle.wac_workspace.specs.declared.output.Output.{Output}
 use Rattle.wac_workspace.specs.declared.errors.ComposeError.{ComposeError}
 use Rattle.wac_workspace.specs.declared.errors.ComposeError.TheVariants as error
 use Rattle.wac_workspace.specs.Packages.{Held, HasKey, HasHanded}
-use Rattle.wac_workspace.specs.Composing.{greatest, directive_key, output_key}
+use Rattle.wac_workspace.specs.Composing.{greatest, output_key}
 
 -- three numbers from this one on, and the one behind them
 pub record AreNext (next : ℕ) (n : Numbers) : Type 0 where
@@ -32,24 +31,18 @@ pub record IsEncoded (last : ℕ) (e : Encoded) : Type 0 where
   pub number : e.types.number ≡ last
   pub stands : Stands e.types (ItemKind.Component e.world)
 
--- a fault that stands behind parsing and numbering: one of resolving, a report that is not empty, or want of memory
+-- a fault that stands behind parsing and numbering: one of resolving, a target that is not met, or want of memory
 abbrev pub IsLate : ComposeError → Type 0
 IsLate (error.Resolution f) = Unit {0}
-IsLate (error.Target r) = IsEmptyReport r → ⊥
+IsLate (error.Target r) = Unit {0}
 IsLate error.Memory = Unit {0}
 IsLate e = ⊥
 
--- a component under the key of a document
-pub record IsNamed (d : Document) (e : Encoded) (o : Output) : Type 0 where
-  pub key : output_key o ≡ directive_key d
+-- a component under the name and the version of a package
+pub record IsNamed (p : PackageName) (e : Encoded) (o : Output) : Type 0 where
+  pub key : output_key o ≡ (p.name, p.version)
   pub types : o.types ≡ e.types
   pub world : o.world ≡ e.world
-
--- an output of a document, by these numbers
-pub record IsOf (d : Document) (n : Numbers) (o : Output) : Type 0 where
-  pub key : output_key o ≡ directive_key d
-  pub number : o.types.number ≡ n.output
-  pub stands : Stands o.types (ItemKind.Component o.world)
 
 -- why an output is not registered
 abbrev pub IsUnregistered : Held → Output → ComposeError → Type 0

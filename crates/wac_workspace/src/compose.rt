@@ -5,11 +5,11 @@ ghost use Rattle.std.specs.Option.{option_copied, option_map};
 ghost use Rattle.semver.specs.Identifiers.{parts_of};
 ghost use Rattle.wac_types_base.specs.declared.item.ItemKind.{ItemKind};
 ghost use Rattle.wac_types_base.specs.Collection.{Stands};
-ghost use Rattle.wac_parser_tree.specs.Views.{view_document, view_package_directive};
-ghost use Rattle.wac_parser_resolve.specs.Resolved.{document_of, graph_of, target_of};
+ghost use Rattle.wac_parser_tree.specs.Views.{view_package_name};
+ghost use Rattle.wac_parser_resolve.specs.Resolved.{graph_of, target_of};
 ghost use Rattle.wac_parser_resolve.specs.Targeting.{IsTarget};
 ghost use Rattle.wac_workspace.specs.Composing.{greatest, IsUnmade, IsOutput};
-ghost use Rattle.wac_workspace.specs.Steps.{AreNext, IsPair, IsEncoded, IsLate, IsNamed, IsOf};
+ghost use Rattle.wac_workspace.specs.Steps.{AreNext, IsPair, IsEncoded, IsLate, IsNamed};
 
 use crate::entries::{Entry, packages_of};
 use crate::errors::ComposeError;
@@ -19,8 +19,8 @@ use semver::Version;
 use std::alloc::{AllocError, Global};
 use wac_graph_compose::{EncodeOptions, Encoded};
 use wac_parser_read::ParseDocument;
-use wac_parser_resolve::{AstResolver, Error as ResolutionError, Packages, Resolution};
-use wac_parser_tree::{Document, PackageDirective};
+use wac_parser_resolve::{AstResolver, Error as ResolutionError, Packages, Resolved};
+use wac_parser_tree::{Document, PackageDirective, PackageName};
 use wac_types_base::{TargetError, Types, WorldId, copy_world};
 use wac_types_fit::validate_target;
 
@@ -127,26 +127,26 @@ fn test_target(
     }
 }
 
-/// The component of a resolved document, which meets its target.
-fn encode_resolved(
-    resolution: &Resolution<'_, '_>,
+/// The component of a resolved document, which meets its target of this name.
+fn encode_resolved<'d, D: Drop>(
+    resolution: Resolved<'d, D>,
     alloc: Global,
     numbers: Numbers,
     options: EncodeOptions,
+    name: String,
 ) -> Result<Encoded, ComposeError>
-    requires { IsTarget (graph_of resolution.now) (target_of resolution.now) }
+    requires { IsTarget (graph_of resolution) (target_of resolution) }
     ensures encoded { IfOk result (IsEncoded numbers.output) }
     ensures late { IfErr result IsLate }
 {
     let encoded = resolution.encode_world(options, (numbers.merging, numbers.output))?;
     if let Some(target) = resolution.target() {
-        let name = target_name(&resolution.document().directive);
-        test_target(alloc, name, resolution.graph().types(), target, &encoded)?;
+        test_target(alloc, name.as_str(), resolution.graph().types(), target, &encoded)?;
     }
     Ok(encoded)
 }
 
-/// The component of a document.
+/// The component of a document, which meets its target.
 fn encode_document(
     document: &Document<'_>,
     alloc: Global,
@@ -157,19 +157,19 @@ fn encode_document(
     ensures encoded { IfOk result (IsEncoded numbers.output) }
     ensures late { IfErr result IsLate }
 {
+    let name = String::from_str(alloc, target_name(&document.directive))?;
     let resolution = AstResolver::new(document).resolve(alloc, packages, numbers.graph)?;
-    encode_resolved(&resolution, alloc, numbers, options)
+    encode_resolved(resolution, alloc, numbers, options, name)
 }
 
-/// A component under the key of a document.
+/// A component under a name.
 fn output_of(
-    document: &Document<'_>,
+    package: &PackageName<'_>,
     alloc: Global,
     encoded: Encoded,
 ) -> Result<Output, AllocError>
-    ensures { IfOk result (IsNamed (view_document document.now) encoded) }
+    ensures { IfOk result (IsNamed (view_package_name «package».now) encoded) }
 {
-    let package = &document.directive.package;
     let name = String::from_str(alloc, package.name)?;
     let version = version_again(package.version.as_ref())?;
     Ok(Output {
@@ -190,28 +190,27 @@ fn validated(options: EncodeOptions) -> EncodeOptions {
     }
 }
 
-/// What a document is composed to, by these numbers, over these packages.
-fn compose_document(
+/// The component of a document over these packages.
+fn encode_over(
     document: &Document<'_>,
     alloc: Global,
     entries: &[Entry],
     numbers: Numbers,
     options: EncodeOptions,
-) -> Result<Output, ComposeError>
-    ensures output { IfOk result (IsOf (view_document document.now) numbers) }
+) -> Result<Encoded, ComposeError>
+    ensures encoded { IfOk result (IsEncoded numbers.output) }
     ensures late { IfErr result IsLate }
 {
     let packages = packages_of(alloc, entries)?;
-    let encoded = encode_document(document, alloc, &packages, numbers, validated(options))?;
-    Ok(output_of(document, alloc, encoded)?)
+    encode_document(document, alloc, &packages, numbers, validated(options))
 }
 
 /// What a source is composed to, by the next three numbers, over these packages, and the number behind.
 fn compose_source(
+    source: &str,
     alloc: Global,
     entries: &[Entry],
     next: u64,
-    source: &str,
     options: EncodeOptions,
 ) -> Result<(Output, u64), ComposeError>
     ensures output { IfOk result (λ r. IsOutput next source.now r.0) }
@@ -220,7 +219,8 @@ fn compose_source(
 {
     let document: Document<'_> = ParseDocument::parse(alloc, source)?;
     let numbers = numbers_from(next)?;
-    let output = compose_document(&document, alloc, entries, numbers, options)?;
+    let encoded = encode_over(&document, alloc, entries, numbers, options)?;
+    let output = output_of(&document.directive.package, alloc, encoded)?;
     Ok((output, numbers.after))
 }
 
@@ -242,7 +242,7 @@ impl Workspace {
     {
         let define = options.define_components;
         let (output, after) =
-            compose_source(self.alloc, &self.entries, self.next, source, options)?;
+            compose_source(source, self.alloc, &self.entries, self.next, options)?;
         if define {
             self.register(&output)?;
         }

@@ -1,6 +1,6 @@
 //! The packages of a workspace.
 
-ghost use Rattle.std.specs.Prelude.{◌≡◌, ◌↔◌, IsTrue, IfOk, IfSome, IfNone, true};
+ghost use Rattle.std.specs.Prelude.{◌≡◌, ◌↔◌, IsTrue, IfOk, IfSome, IfNone, true, false};
 ghost use Rattle.std.specs.Option.{option_copied, option_map};
 ghost use Rattle.std.specs.Iterator.{item_count};
 ghost use Rattle.semver.specs.Identifiers.{parts_of};
@@ -9,8 +9,10 @@ ghost use Rattle.wac_types_base.specs.Collection.{Stands};
 ghost use Rattle.wac_types_base.specs.Graph.{Among};
 ghost use Rattle.wac_workspace.specs.Packages.{key_of, HasKey, HasBytes, HasHanded, IsMade};
 ghost use Rattle.wac_workspace.specs.View.{HasWorld};
+ghost use Rattle.wac_workspace.specs.Composing.{made_of};
 ghost use Rattle.wac_workspace.specs.Getting.{GivesRef};
 
+use crate::output::Output;
 use indexmap::IndexMap;
 use semver::Version;
 use std::alloc::{AllocError, Global};
@@ -90,6 +92,30 @@ pub(crate) fn make_entry(
     })
 }
 
+/// The entry of an output.
+pub(crate) fn output_entry(alloc: Global, output: &Output) -> Result<Entry, AllocError>
+    requires { Stands output.now.types (ItemKind.Component output.now.world) }
+    ensures made { IfOk result (λ e. IsMade (made_of output.now) e) }
+    ensures origin { IfOk result (λ e. e.is_handed ≡ false) }
+    ensures world { IfOk result HasWorld }
+{
+    let name = output.name.as_str();
+    let version = output.version.as_ref();
+    let number = output.types.number();
+    let bytes = Vec::from_slice(alloc, &output.bytes)?;
+    let types = &output.types;
+    make_entry(
+        alloc,
+        number,
+        name,
+        version,
+        bytes,
+        types,
+        output.world,
+        false,
+    )
+}
+
 /// The package of a key.
 pub(crate) fn find<'a>(
     entries: &'a [Entry],
@@ -105,6 +131,18 @@ pub(crate) fn find<'a>(
         }
     }
     None
+}
+
+/// Whether some package has this key.
+pub(crate) fn holds_key(entries: &[Entry], name: &str, version: Option<&Version>) -> bool
+    ensures { IsTrue result ↔ HasKey entries.now (name.now, option_map parts_of (option_copied version.entry)) }
+{
+    for entry in entries {
+        if entry.has_key(name, version) {
+            return true;
+        }
+    }
+    false
 }
 
 /// Whether some package has these bytes.

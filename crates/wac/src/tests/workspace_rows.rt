@@ -11,10 +11,12 @@ pub const PASSING: &str = "0061736d0d00010007050140000100\
     0a06010001660100\
     0b0701000167010000";
 
-/// The component of one instance of `p:p`, by the tables of the binary format.
+/// The component of one instance of `p:p`, by the tables of the binary format; the name `x` of the instance is kept for
+/// debuggers.
 pub const ONE: &str = "0061736d0d000100 0705 0140000100 0a06 010001660100 0420\
     0061736d0d00010007050140000100 0a06010001660100 0b0701000167010000\
     0508 01000001 0166 0100 0606 0101 0000 0167 0b07 01 00 0167 0101 00\
+    0016 0e636f6d706f6e656e742d6e616d65 01 05 05 01 00 0178\
     002b 0970726f647563657273 01 0c70726f6365737365642d6279 01 0a7761632d706172736572 06302e31312e30";
 
 /// The source of that component.

@@ -3,7 +3,7 @@
 ghost use Rattle.std.specs.Prelude.{None};
 
 use std::io::{self, Write};
-use wac::ByteSink;
+use wac_workspace::ByteSink;
 
 /// Standard output.
 #[derive(Drop)]
