@@ -90,8 +90,8 @@ fn is_value(graph: &CompositionGraph, node: NodeId) -> bool {
 /// No alias is of a value item.
 fn check_aliases(alloc: Global, graph: &CompositionGraph) -> Result<(), Refusal> {
     for node in graph.node_ids() {
-        if let Some((_, name)) = graph.get_alias_source(node) {
-            if is_value(graph, node) {
+        if is_value(graph, node) {
+            if let Some((_, name)) = graph.get_alias_source(node) {
                 return Err(unwritable(alloc, name));
             }
         }

@@ -131,16 +131,19 @@ impl<'a> Wired<'a> {
     }
 
     /// The arguments of an instance, where all stand.
-    fn arguments(&self, node: NodeId, id: PackageId) -> Result<Option<Vec<NamedIndex>>, Refusal> {
+    fn arguments(
+        &self,
+        id: PackageId,
+        bound: &IndexMap<String, NodeId>,
+    ) -> Result<Option<Vec<NamedIndex>>, Refusal> {
         let mut arguments = Vec::new(self.alloc);
         let Some(world) = world_at(self.graph, id) else {
             return Ok(None);
         };
-        let bound = arguments_of(self.alloc, self.graph, node)?;
         let types = self.graph.types();
         for at in 0..import_count(types, world) {
             if let Some(import) = import_at(types, world, at) {
-                let Some(place) = self.argument(&bound, import.name) else {
+                let Some(place) = self.argument(bound, import.name) else {
                     return Ok(None);
                 };
                 arguments.push(NamedIndex {
@@ -154,8 +157,12 @@ impl<'a> Wired<'a> {
     }
 
     /// Writes an instance, where its arguments stand.
-    fn instance(&mut self, node: NodeId, id: PackageId) -> Result<Option<SortIndex>, Refusal> {
-        let Some(arguments) = self.arguments(node, id)? else {
+    fn instance(
+        &mut self,
+        id: PackageId,
+        bound: &IndexMap<String, NodeId>,
+    ) -> Result<Option<SortIndex>, Refusal> {
+        let Some(arguments) = self.arguments(id, bound)? else {
             return Ok(None);
         };
         let Some(component) = self.root.packages.get(&id).copied() else {
@@ -166,25 +173,33 @@ impl<'a> Wired<'a> {
     }
 
     /// Writes a node, where all stands that it needs.
-    fn written(&mut self, node: NodeId) -> Result<Option<SortIndex>, Refusal> {
+    fn written(
+        &mut self,
+        node: NodeId,
+        bound: &IndexMap<String, NodeId>,
+    ) -> Result<Option<SortIndex>, Refusal> {
         if let Some(name) = import_name(self.graph, node) {
             return Ok(self.outers.get(name).copied());
         }
         match package_of(self.graph, node) {
-            Some(id) => self.instance(node, id),
+            Some(id) => self.instance(id, bound),
             None => self.alias(node),
         }
     }
 
-    /// The nodes that one needs.
-    fn sources_of(&self, node: NodeId) -> Result<Vec<NodeId>, AllocError> {
+    /// The nodes that one needs: its arguments, or what it is an alias of.
+    fn sources_of(
+        &self,
+        node: NodeId,
+        bound: &IndexMap<String, NodeId>,
+    ) -> Result<Vec<NodeId>, AllocError> {
         let mut sources = Vec::new(self.alloc);
-        if let Some((source, _)) = self.graph.get_alias_source(node) {
-            sources.push(source)?;
+        for argument in bound.values() {
+            sources.push(*argument)?;
         }
-        if self.graph.contains_node(node) {
-            for (_, argument) in self.graph.get_instantiation_arguments(node) {
-                sources.push(argument)?;
+        if package_of(self.graph, node).is_none() {
+            if let Some((source, _)) = self.graph.get_alias_source(node) {
+                sources.push(source)?;
             }
         }
         Ok(sources)
@@ -196,11 +211,12 @@ impl<'a> Wired<'a> {
         if depth == 0 || self.node(node).is_some() {
             return Ok(());
         }
-        let sources = self.sources_of(node)?;
+        let bound = arguments_of(self.alloc, self.graph, node)?;
+        let sources = self.sources_of(node, &bound)?;
         for source in &sources {
             self.write_node(*source, depth - 1)?;
         }
-        match self.written(node)? {
+        match self.written(node, &bound)? {
             Some(place) => {
                 let _ = self.root.nodes.insert(node, place)?;
                 Ok(())
