@@ -5,7 +5,7 @@ ghost use Rattle.std.specs.Prelude.{◌≡◌, IfOk, IfSome, Some};
 ghost use Rattle.wac_types_base.specs.declared.item.ItemKind.{ItemKind};
 ghost use Rattle.wac_types_base.specs.Collection.{Stands};
 ghost use Rattle.wac_parser_resolve.specs.Later.{SameNumber};
-ghost use Rattle.wac_parser_resolve.specs.Resolved.{asked_of, document_of, graph_of, target_of};
+ghost use Rattle.wac_parser_resolve.specs.Resolved.{asked_of, document_of, graph_of, graph_said, target_of, target_said};
 ghost use Rattle.wac_parser_resolve.specs.Standing.{IsSound};
 ghost use Rattle.wac_parser_resolve.specs.Targeting.{IsTarget};
 
@@ -20,9 +20,10 @@ use wac_parser_declare::{GraphTypes, Packages, ResolutionResult, not_world};
 use wac_parser_tree::{Document, PackageDirective, PackagePath};
 use wac_types_base::{ItemKind, Type, Types, WorldId};
 
-/// What a document says: the graph, the directive's world in it, and where imports, identifiers and instances stand.
+/// What a document says, without the document: the graph, the directive's world in it, and where imports, identifiers and
+/// instances stand.
 #[derive(Drop)]
-pub(crate) struct Said {
+pub struct Said {
     pub(crate) alloc: Global,
     pub(crate) graph: CompositionGraph,
     target: Option<WorldId>,
@@ -254,33 +255,30 @@ impl<'d, 's> AstResolver<'d, 's> {
 }
 
 /// Documents that can be resolved.
-pub trait ResolveDocument<'s> {
-    /// What the document is resolved to, over these packages, in a graph whose collection has this number.
-    fn resolve<'d>(
-        &'d self,
-        alloc: Global,
-        packages: &Packages<'_>,
-        number: u64,
-    ) -> ResolutionResult<Resolution<'d, 's>>
-    where
-        's: 'd,
-        ensures number { IfOk result (λ r. (graph_of r).types.number ≡ number) }
-        ensures target { IfOk result (λ r. IsTarget (graph_of r) (target_of r)) };
-}
+pub trait ResolveDocument: Sized {
+    /// What the document says over these packages, in a graph whose collection has this number.
+    fn say(&self, alloc: Global, packages: &Packages<'_>, number: u64) -> ResolutionResult<Said>
+        ensures number { IfOk result (λ said. (graph_said said).types.number ≡ number) }
+        ensures target { IfOk result (λ said. IsTarget (graph_said said) (target_said said)) };
 
-impl<'s> ResolveDocument<'s> for Document<'s> {
-    fn resolve<'d>(
+    /// What the document is resolved to, over these packages, in a graph whose collection has this number.
+    final fn resolve<'d>(
         &'d self,
         alloc: Global,
         packages: &Packages<'_>,
         number: u64,
-    ) -> ResolutionResult<Resolution<'d, 's>>
-    where
-        's: 'd,
+    ) -> ResolutionResult<Resolved<'d, Self>>
         ensures document { IfOk result (λ r. document_of r ≡ self.now) }
         ensures number { IfOk result (λ r. (graph_of r).types.number ≡ number) }
         ensures target { IfOk result (λ r. IsTarget (graph_of r) (target_of r)) }
     {
-        AstResolver::new(self).resolve(alloc, &*packages, number)
+        let said = self.say(alloc, &*packages, number)?;
+        Ok(with_document(self, said))
+    }
+}
+
+impl<'s> ResolveDocument for Document<'s> {
+    fn say(&self, alloc: Global, packages: &Packages<'_>, number: u64) -> ResolutionResult<Said> {
+        said_of(self, alloc, &*packages, number)
     }
 }

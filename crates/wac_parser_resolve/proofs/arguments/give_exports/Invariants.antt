@@ -1,4 +1,3 @@
-use Rattle.wac_graph_core.specs.Graph.{ContainsNode}
 use Rattle.wac_parser_resolve.specs.Later.{Inner}
 use Rattle.wac_parser_resolve.specs.Standing.{AreThere}
 use Rattle.wac_parser_resolve.proofs.arguments.give_exports.Given as goal

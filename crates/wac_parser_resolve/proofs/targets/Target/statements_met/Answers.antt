@@ -1,4 +1,4 @@
-use Rattle.std.proofs.Common.{◌≡◌, ◌∙◌}
+use Rattle.std.proofs.Common.{◌≡◌}
 use Rattle.std.specs.FinMap as map
 use Rattle.wac_parser_resolve.specs.Giving.{given_by}
 use Rattle.wac_parser_resolve.specs.Targeting.{IsStatementMet}
