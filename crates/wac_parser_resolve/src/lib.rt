@@ -18,7 +18,7 @@ mod targets;
 ghost use Rattle.wac_parser_resolve.specs.Laws.{Packages_are_known, Wirings_are_ordered};
 ghost use Rattle.wac_parser_resolve.specs.RowLaws.{Says_one, Says_missing, Says_passed, Says_mismatched, Says_merged, Says_unmerged, Says_unknown, Says_own, Says_conflict, Says_no_name, Says_identified};
 
-pub use resolver::{AstResolver, Resolution, ResolveDocument, Resolved};
+pub use resolver::{AstResolver, Resolution, ResolveDocument, Resolved, Said};
 pub use wac_parser_declare::{Error, InstanceOperation, PackageRef, Packages, ResolutionResult};
 
 /// What some documents from outside ascribe.

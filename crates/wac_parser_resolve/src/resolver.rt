@@ -20,7 +20,8 @@ use wac_parser_declare::{GraphTypes, Packages, ResolutionResult, not_world};
 use wac_parser_tree::{Document, PackageDirective, PackagePath};
 use wac_types_base::{ItemKind, Type, Types, WorldId};
 
-/// What a document says: the graph, the directive's world in it, and where imports, identifiers and instances stand.
+/// What a document says, without the document: the graph, the directive's world in it, and where imports, identifiers and
+/// instances stand.
 #[derive(Drop)]
 pub struct Said {
     pub(crate) alloc: Global,
@@ -255,8 +256,13 @@ impl<'d, 's> AstResolver<'d, 's> {
 
 /// Documents that can be resolved.
 pub trait ResolveDocument: Sized {
+    /// What the document says over these packages, in a graph whose collection has this number.
+    fn say(&self, alloc: Global, packages: &Packages<'_>, number: u64) -> ResolutionResult<Said>
+        ensures number { IfOk result (λ said. (graph_said said).types.number ≡ number) }
+        ensures target { IfOk result (λ said. IsTarget (graph_said said) (target_said said)) };
+
     /// What the document is resolved to, over these packages, in a graph whose collection has this number.
-    fn resolve<'d>(
+    final fn resolve<'d>(
         &'d self,
         alloc: Global,
         packages: &Packages<'_>,
@@ -264,16 +270,15 @@ pub trait ResolveDocument: Sized {
     ) -> ResolutionResult<Resolved<'d, Self>>
         ensures document { IfOk result (λ r. document_of r ≡ self.now) }
         ensures number { IfOk result (λ r. (graph_of r).types.number ≡ number) }
-        ensures target { IfOk result (λ r. IsTarget (graph_of r) (target_of r)) };
+        ensures target { IfOk result (λ r. IsTarget (graph_of r) (target_of r)) }
+    {
+        let said = self.say(alloc, &*packages, number)?;
+        Ok(with_document(self, said))
+    }
 }
 
 impl<'s> ResolveDocument for Document<'s> {
-    fn resolve<'d>(
-        &'d self,
-        alloc: Global,
-        packages: &Packages<'_>,
-        number: u64,
-    ) -> ResolutionResult<Resolved<'d, Document<'s>>> {
-        AstResolver::new(self).resolve(alloc, &*packages, number)
+    fn say(&self, alloc: Global, packages: &Packages<'_>, number: u64) -> ResolutionResult<Said> {
+        said_of(self, alloc, &*packages, number)
     }
 }

@@ -5,7 +5,7 @@ use crate::shown::{show_error, show_graph};
 use std::process::Abort;
 use std::test::Fail;
 use wac_parser_read::ParseDocument;
-use wac_parser_resolve::{Packages, ResolveDocument};
+use wac_parser_resolve::{AstResolver, Packages};
 use wac_parser_tree::Document;
 
 /// Imports `f` and exports `g`; imports `g` and exports `h`.
@@ -20,7 +20,7 @@ fn resolved(
     rt: &(impl Abort + AllocGlobal),
     packages: &Packages<'_>,
 ) -> Result<String, Fail> {
-    match document.resolve(rt.alloc(), packages, 100) {
+    match AstResolver::new(document).resolve(rt.alloc(), packages, 100) {
         Ok(resolution) => show_graph(rt, resolution.graph()),
         Err(error) => show_error(rt, &error),
     }

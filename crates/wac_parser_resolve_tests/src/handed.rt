@@ -4,7 +4,7 @@ use std::process::Abort;
 use std::test::Fail;
 use wac_graph_core::{CompositionGraph, NodeId};
 use wac_parser_read::ParseDocument;
-use wac_parser_resolve::{PackageRef, Packages, ResolveDocument};
+use wac_parser_resolve::{AstResolver, PackageRef, Packages};
 use wac_parser_tree::Document;
 use wac_types_base::{ItemKind, NamedMap, Type, World, WorldId};
 use wac_types_names::Package;
@@ -79,19 +79,23 @@ fn package_world(
 
 /// The graph of a document that names no packages.
 fn graph_of(
-    rt: &(impl Abort + AllocGlobal),
     parsed: &Document<'_>,
+    rt: &(impl Abort + AllocGlobal),
     number: u64,
 ) -> Result<CompositionGraph, Fail> {
     let none: Packages<'_> = Packages::new(rt.alloc());
-    Ok(parsed.resolve(rt.alloc(), &none, number)?.into_graph())
+    Ok(
+        AstResolver::new(parsed)
+            .resolve(rt.alloc(), &none, number)?
+            .into_graph(),
+    )
 }
 
 /// The package that a document is.
 fn hand(rt: &(impl Abort + AllocGlobal), number: u64, source: &str) -> Result<Handed, Fail> {
     let alloc = rt.alloc();
     let parsed: Document<'_> = ParseDocument::parse(alloc, source)?;
-    let mut graph = graph_of(rt, &parsed, number)?;
+    let mut graph = graph_of(&parsed, rt, number)?;
     let name = parsed.directive.package.name;
     let world = package_world(rt, &mut graph, name)?;
     assert!(rt; graph.types().has(ItemKind::Component(world)));
