@@ -6,7 +6,7 @@ use crate::stop::{Stop, cannot_read, key_taken, not_parsed, not_resolved, plain,
 use std::alloc::Global;
 use wac_manifest::{BytesData, Component, TextData};
 use wac_parser_read::ParseDocument;
-use wac_parser_resolve::{Packages, ResolveDocument};
+use wac_parser_resolve::{AstResolver, Packages};
 use wac_parser_tree::Document;
 use wac_types_names::BorrowedPackageKey;
 use wac_workspace::{AddPackageError, Workspace};
@@ -91,7 +91,7 @@ fn add_declared(
     added: Added,
 ) -> Result<(), Stop> {
     let none: Packages<'_> = Packages::new(alloc);
-    let resolution = match document.resolve(alloc, &none, DECLARED) {
+    let resolution = match AstResolver::new(document).resolve(alloc, &none, DECLARED) {
         Ok(resolution) => resolution,
         Err(fault) => return Err(not_resolved(alloc, &fault)),
     };

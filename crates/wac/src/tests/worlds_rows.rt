@@ -136,7 +136,7 @@ fn declared_in(
     name: &str,
 ) -> Result<Option<DeclaredWorldError>, Fail> {
     let none: Packages<'_> = Packages::new(alloc);
-    let resolution = document.resolve(alloc, &none, 1)?;
+    let resolution = AstResolver::new(document).resolve(alloc, &none, 1)?;
     match declared_world(&resolution, alloc, name, 2) {
         Ok((types, _world)) => {
             if types.number() == 2 {

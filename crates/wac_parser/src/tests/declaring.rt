@@ -7,7 +7,7 @@ mod shown;
 mod worlds;
 
 use self::shown::shown_item;
-use crate::resolution::{Error, Packages, ResolveDocument};
+use crate::resolution::{AstResolver, Error, Packages};
 use crate::{Document, ParseDocument};
 use std::alloc::Global;
 use std::process::Abort;
@@ -36,7 +36,7 @@ fn item_named(graph: &CompositionGraph, name: &str) -> Option<ItemKind> {
 /// What a document over no packages is: the text of the item of a name, or of the refusal with its place.
 fn told(document: &Document<'_>, alloc: Global, name: &str) -> Result<String, Fail> {
     let packages: Packages<'_> = Packages::new(alloc);
-    match document.resolve(alloc, &packages, NUMBER) {
+    match AstResolver::new(document).resolve(alloc, &packages, NUMBER) {
         Ok(resolution) => item_text(resolution.graph(), alloc, name),
         Err(error) => refusal_text(&error, alloc),
     }
