@@ -7,7 +7,7 @@ use crate::*;
 use std::alloc::Global;
 use std::test::Fail;
 use wac_parser_read::ParseDocument;
-use wac_parser_resolve::{Packages, ResolveDocument};
+use wac_parser_resolve::{AstResolver, Packages};
 use wac_parser_tree::Document;
 use wac_types_base::{ItemKind, PrimitiveType, Types, ValueType, WorldId};
 
