@@ -2,6 +2,7 @@
 
 mod bytes_rows;
 mod documents_rows;
+mod examples_rows;
 mod memory;
 mod plug_rows;
 mod reader;
