@@ -51,7 +51,9 @@ fn show_kind(
         }
         NodeKind::Instantiation => show_instance(rt, graph, node, shown)?,
         NodeKind::Alias => {
-            let (source, name) = graph.get_alias_source(node).ok_or("an alias of nothing")?;
+            let Some((source, name)) = graph.get_alias_source(node) else {
+                return Err(Fail::from("an alias of nothing"));
+            };
             let text = format!(in rt.alloc(); "{source}.{name}")?;
             shown.push_str(text.as_str())?;
         }
