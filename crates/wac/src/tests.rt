@@ -3,7 +3,9 @@
 mod bytes_rows;
 mod documents_rows;
 mod examples_rows;
+mod manifest_rows;
 mod memory;
+mod place_rows;
 mod plug_rows;
 mod reader;
 mod reader_tests;

@@ -50,3 +50,18 @@ IsUnregistered w o error.KeyTaken = HasKey w.packages (output_key o)
 IsUnregistered w o error.BytesTaken = (HasKey w.packages (output_key o) → ⊥) × HasHanded w.packages o.bytes.items
 IsUnregistered w o error.Memory = Unit {0}
 IsUnregistered w o e = ⊥
+
+-- an output of a package, by the next three numbers
+pub record IsOf (next : ℕ) (p : PackageName) (o : Output) : Type 0 where
+  pub room : next + 3 ≤ greatest
+  pub key : output_key o ≡ (p.name, p.version)
+  pub number : o.types.number ≡ next + 2
+  pub stands : Stands o.types (ItemKind.Component o.world)
+
+-- why a document has no output: the numbers, or behind them a late fault
+abbrev pub IsUnencoded : ℕ → ComposeError → Type 0
+IsUnencoded next error.NumbersExhausted = greatest < next + 3
+IsUnencoded next (error.Resolution f) = next + 3 ≤ greatest
+IsUnencoded next (error.Target r) = next + 3 ≤ greatest
+IsUnencoded next error.Memory = Unit {0}
+IsUnencoded next e = ⊥

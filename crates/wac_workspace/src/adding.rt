@@ -57,8 +57,11 @@ impl Workspace {
     ) -> Result<(), AddPackageError>
         requires { Stands types.now (ItemKind.Component world) }
         ensures added { OnOk result (Adds self.old.packages self.new.packages true (record {
-            key = (name.now, option_map parts_of (option_copied version.entry)); bytes = bytes.items; types = types.now;
-            world = world; number = self.old.next
+          key = (name.now, option_map parts_of (option_copied version.entry));
+          bytes = bytes.items;
+          types = types.now;
+          world = world;
+          number = self.old.next;
         })) }
         ensures numbered { OnOk result (self.new.next ≡ self.old.next + 1) }
         ensures refused { OnErr result (self.new ≡ self.old) }

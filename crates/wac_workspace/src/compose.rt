@@ -5,11 +5,12 @@ ghost use Rattle.std.specs.Option.{option_copied, option_map};
 ghost use Rattle.semver.specs.Identifiers.{parts_of};
 ghost use Rattle.wac_types_base.specs.declared.item.ItemKind.{ItemKind};
 ghost use Rattle.wac_types_base.specs.Collection.{Stands};
+ghost use Rattle.wac_parser_tree.specs.Trees.{PackageName as PackageTree};
 ghost use Rattle.wac_parser_tree.specs.Views.{view_package_name};
 ghost use Rattle.wac_parser_resolve.specs.Resolved.{graph_of, target_of};
 ghost use Rattle.wac_parser_resolve.specs.Targeting.{IsTarget};
 ghost use Rattle.wac_workspace.specs.Composing.{greatest, IsUnmade, IsOutput};
-ghost use Rattle.wac_workspace.specs.Steps.{AreNext, IsPair, IsEncoded, IsLate, IsNamed};
+ghost use Rattle.wac_workspace.specs.Steps.{AreNext, IsPair, IsEncoded, IsLate, IsNamed, IsOf, IsUnencoded};
 
 use crate::entries::{Entry, packages_of};
 use crate::errors::ComposeError;
@@ -141,25 +142,94 @@ fn encode_resolved<'d, D: Drop>(
 {
     let encoded = resolution.encode_world(options, (numbers.merging, numbers.output))?;
     if let Some(target) = resolution.target() {
-        test_target(alloc, name.as_str(), resolution.graph().types(), target, &encoded)?;
+        test_target(
+            alloc,
+            name.as_str(),
+            resolution.graph().types(),
+            target,
+            &encoded,
+        )?;
     }
     Ok(encoded)
 }
 
-/// The component of a document, which meets its target.
-fn encode_document(
-    document: &Document<'_>,
-    alloc: Global,
-    packages: &Packages<'_>,
-    numbers: Numbers,
-    options: EncodeOptions,
-) -> Result<Encoded, ComposeError>
-    ensures encoded { IfOk result (IsEncoded numbers.output) }
-    ensures late { IfErr result IsLate }
-{
-    let name = String::from_str(alloc, target_name(&document.directive))?;
-    let resolution = AstResolver::new(document).resolve(alloc, packages, numbers.graph)?;
-    encode_resolved(resolution, alloc, numbers, options, name)
+// A document is owned by one function, and looked at by methods alone: their own lifetimes are those of its type, so a proof
+// need not take the whole tree of types apart.
+
+/// Documents that are encoded over packages.
+trait EncodeDocument<'s> {
+    // the package that the directive names
+    ghost package_of: { Self → PackageTree };
+
+    /// The component of the document, which meets its target.
+    fn encode<'d>(
+        &'d self,
+        alloc: Global,
+        packages: &Packages<'_>,
+        numbers: Numbers,
+        options: EncodeOptions,
+    ) -> Result<Encoded, ComposeError>
+    where
+        's: 'd,
+        ensures encoded { IfOk result (IsEncoded numbers.output) }
+        ensures late { IfErr result IsLate };
+
+    /// A component under the name and the version of the directive's package.
+    fn name_output(&self, alloc: Global, encoded: Encoded) -> Result<Output, AllocError>
+        ensures { IfOk result (IsNamed (package_of self.now) encoded) };
+
+    /// What the document is composed to, by the next three numbers, and the number behind them.
+    fn compose<'d>(
+        &'d self,
+        alloc: Global,
+        packages: &Packages<'_>,
+        next: u64,
+        options: EncodeOptions,
+    ) -> Result<(Output, u64), ComposeError>
+    where
+        's: 'd,
+        ensures output { IfOk result (λ r. IsOf next (package_of self.now) r.0) }
+        ensures after { IfOk result (λ r. r.1 ≡ next + 3) }
+        ensures refused { IfErr result (IsUnencoded next) };
+}
+
+impl<'s> EncodeDocument<'s> for Document<'s> {
+    ghost package_of = { λ d. view_package_name d.directive.«package» };
+
+    fn encode<'d>(
+        &'d self,
+        alloc: Global,
+        packages: &Packages<'_>,
+        numbers: Numbers,
+        options: EncodeOptions,
+    ) -> Result<Encoded, ComposeError>
+    where
+        's: 'd,
+    {
+        let name = String::from_str(alloc, target_name(&self.directive))?;
+        let resolution = AstResolver::new(self).resolve(alloc, packages, numbers.graph)?;
+        encode_resolved(resolution, alloc, numbers, options, name)
+    }
+
+    fn name_output(&self, alloc: Global, encoded: Encoded) -> Result<Output, AllocError> {
+        output_of(&self.directive.package, alloc, encoded)
+    }
+
+    fn compose<'d>(
+        &'d self,
+        alloc: Global,
+        packages: &Packages<'_>,
+        next: u64,
+        options: EncodeOptions,
+    ) -> Result<(Output, u64), ComposeError>
+    where
+        's: 'd,
+    {
+        let numbers = numbers_from(next)?;
+        let encoded = self.encode(alloc, packages, numbers, validated(options))?;
+        let output = self.name_output(alloc, encoded)?;
+        Ok((output, numbers.after))
+    }
 }
 
 /// A component under a name.
@@ -190,23 +260,24 @@ fn validated(options: EncodeOptions) -> EncodeOptions {
     }
 }
 
-/// The component of a document over these packages.
-fn encode_over(
-    document: &Document<'_>,
-    alloc: Global,
-    entries: &[Entry],
-    numbers: Numbers,
-    options: EncodeOptions,
-) -> Result<Encoded, ComposeError>
-    ensures encoded { IfOk result (IsEncoded numbers.output) }
-    ensures late { IfErr result IsLate }
-{
-    let packages = packages_of(alloc, entries)?;
-    encode_document(document, alloc, &packages, numbers, validated(options))
-}
-
 /// What a source is composed to, by the next three numbers, over these packages, and the number behind.
 fn compose_source(
+    source: &str,
+    alloc: Global,
+    packages: &Packages<'_>,
+    next: u64,
+    options: EncodeOptions,
+) -> Result<(Output, u64), ComposeError>
+    ensures output { IfOk result (λ r. IsOutput next source.now r.0) }
+    ensures after { IfOk result (λ r. r.1 ≡ next + 3) }
+    ensures refused { IfErr result (IsUnmade next source.now) }
+{
+    let document: Document<'_> = ParseDocument::parse(alloc, source)?;
+    document.compose(alloc, packages, next, options)
+}
+
+/// The same over the packages of these entries.
+fn compose_over(
     source: &str,
     alloc: Global,
     entries: &[Entry],
@@ -217,11 +288,8 @@ fn compose_source(
     ensures after { IfOk result (λ r. r.1 ≡ next + 3) }
     ensures refused { IfErr result (IsUnmade next source.now) }
 {
-    let document: Document<'_> = ParseDocument::parse(alloc, source)?;
-    let numbers = numbers_from(next)?;
-    let encoded = encode_over(&document, alloc, entries, numbers, options)?;
-    let output = output_of(&document.directive.package, alloc, encoded)?;
-    Ok((output, numbers.after))
+    let packages = packages_of(alloc, entries)?;
+    compose_source(source, alloc, &packages, next, options)
 }
 
 impl Workspace {
@@ -231,18 +299,13 @@ impl Workspace {
     /// Composes the component of the document that the source is. With components defined it is registered under the
     /// directive's key, and later sources may instantiate it. Names are tested whatever the options say. Spans of faults
     /// are offsets in the source, in bytes.
-    pub fn compose(
-        &mut self,
-        source: &str,
-        options: EncodeOptions,
-    ) -> Result<Output, ComposeError>
+    pub fn compose(&mut self, source: &str, options: EncodeOptions) -> Result<Output, ComposeError>
         ensures composed { IfOk result (IsComposed self.old self.new source.now options.define_components) }
         ensures refused { IfErr result (IsRefused self.old source.now options.define_components) }
         ensures kept { OnErr result (self.new ≡ self.old) }
     {
         let define = options.define_components;
-        let (output, after) =
-            compose_source(source, self.alloc, &self.entries, self.next, options)?;
+        let (output, after) = compose_over(source, self.alloc, &self.entries, self.next, options)?;
         if define {
             self.register(&output)?;
         }

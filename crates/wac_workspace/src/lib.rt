@@ -18,4 +18,3 @@ pub use stream::compose_stream;
 pub use wac_graph_compose::{EncodeOptions, Processor};
 pub use wac_parser_resolve::PackageRef;
 pub use workspace::Workspace;
-

@@ -17,10 +17,16 @@ pub fn compose_stream<R: ByteSource, W: ByteSink>(
     options: EncodeOptions,
 ) -> Result<(), StreamError>
     ensures composed { OnOk result (IsStreamed workspace.old workspace.new options.define_components (record {
-        read = R.remaining reader.old; unread = R.remaining reader.new; written = W.contents writer.old; known = W.contents writer.new
+      read = R.remaining reader.old;
+      unread = R.remaining reader.new;
+      written = W.contents writer.old;
+      known = W.contents writer.new;
     })) }
     ensures stopped { IfErr result (IsStopped workspace.old workspace.new options.define_components (record {
-        read = R.remaining reader.old; unread = R.remaining reader.new; written = W.contents writer.old; known = W.contents writer.new
+      read = R.remaining reader.old;
+      unread = R.remaining reader.new;
+      written = W.contents writer.old;
+      known = W.contents writer.new;
     })) }
     ensures few_calls { CallsAtMost (R.calls reader.old) (R.calls reader.new) (MAX_SOURCE_LENGTH + 1) }
     ensures none_failed { result ≢ Err StreamError.Read → NoneFailed (R.calls reader.old) (R.calls reader.new) }
