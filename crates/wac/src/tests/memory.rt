@@ -1,28 +1,37 @@
 //! Growths that are refused. `./test-memory` runs these with each growth refused in turn; without a refusal both pass.
 
-use super::workspace_rows::{ONE, PASSING, SOURCE, add, bytes_of, maybe_bytes};
+use super::{ONE, PACKAGE, world_of};
 use crate::*;
 use std::alloc::Global;
 use std::test::Fail;
+use wac_types_base::{ItemKind, Types};
+
+const SOURCE: &str = "package m:m; let x = new p:p { ... }; export x.g as \"g\";";
 
 /// Adds `p:p`. Whether it was added; and none where another answer than want of memory came.
 fn is_added(alloc: Global, workspace: &mut Workspace) -> Option<bool> {
-    let Some(bytes) = maybe_bytes(alloc, PASSING) else {
+    let mut types = Types::new(alloc, 0);
+    let Some(world) = world_of(alloc, &mut types) else {
         return Some(false);
     };
-    match add(alloc, workspace, "p:p", bytes) {
-        None => Some(false),
-        Some(Ok(())) => Some(true),
-        Some(Err(AddPackageError::Memory)) => Some(false),
-        Some(Err(_)) => None,
+    let Ok(bytes) = Vec::from_slice(alloc, &PACKAGE) else {
+        return Some(false);
+    };
+    if !types.has(ItemKind::Component(world)) {
+        return None;
+    }
+    match workspace.add_package("p:p", None, bytes, &types, world) {
+        Ok(()) => Some(true),
+        Err(AddPackageError::Memory) => Some(false),
+        _ => None,
     }
 }
 
 /// Composes the source. Whether the right bytes came; and none where neither they nor want of memory did.
-fn is_composed(workspace: &mut Workspace, wanted: &[u8]) -> Option<bool> {
-    match workspace.compose(SOURCE, EncodeOptions::default()) {
+fn is_composed(workspace: &Workspace) -> Option<bool> {
+    match workspace.compose(SOURCE) {
         Ok(output) => {
-            if output.bytes.as_slice() == wanted {
+            if output.bytes.as_slice() == ONE.as_slice() {
                 return Some(true);
             }
             None
@@ -35,10 +44,6 @@ fn is_composed(workspace: &mut Workspace, wanted: &[u8]) -> Option<bool> {
 // One growth at most is refused, so each second attempt has the answer.
 #[test]
 fn any_growth_refused(rt: HostRuntime) -> Result<(), Fail> {
-    let wanted = match maybe_bytes(rt.alloc(), ONE) {
-        Some(bytes) => bytes,
-        None => bytes_of(rt.alloc(), ONE)?,
-    };
     let mut workspace = Workspace::new(rt.alloc());
     match is_added(rt.alloc(), &mut workspace) {
         Some(true) => {}
@@ -48,21 +53,19 @@ fn any_growth_refused(rt: HostRuntime) -> Result<(), Fail> {
         }
         None => assert!(rt; false),
     }
-    let first = is_composed(&mut workspace, &wanted);
+    let first = is_composed(&workspace);
     assert!(rt; first.is_some());
     if first == Some(false) {
-        assert_eq!(rt; workspace.next_number(), 1);
-        assert_eq!(rt; is_composed(&mut workspace, &wanted), Some(true));
+        assert_eq!(rt; is_composed(&workspace), Some(true));
     }
-    assert_eq!(rt; workspace.next_number(), 4);
+    assert_eq!(rt; workspace.next_number(), 1);
     Ok(())
 }
 
 #[test]
 fn no_growth_refused(rt: HostRuntime) -> Result<(), Fail> {
-    let wanted = bytes_of(rt.alloc(), ONE)?;
     let mut workspace = Workspace::new(rt.alloc());
     assert_eq!(rt; is_added(rt.alloc(), &mut workspace), Some(true));
-    assert_eq!(rt; is_composed(&mut workspace, &wanted), Some(true));
+    assert_eq!(rt; is_composed(&workspace), Some(true));
     Ok(())
 }

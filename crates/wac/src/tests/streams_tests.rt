@@ -1,10 +1,8 @@
 use super::streams::{Endless, FailsAtOnce, SliceSource, TakesNothing, VecSink};
-use super::workspace_rows::{ONE, PASSING, SOURCE, add, bytes_of};
+use super::{ONE, add};
+use crate::ends::{read_source, write_bytes};
 use crate::*;
-use std::alloc::Global;
-use std::process::Abort;
 use std::test::Fail;
-use wac_workspace::{read_source, write_bytes};
 
 #[test]
 fn sources_read_to_their_end(rt: HostRuntime) -> Result<(), Fail> {
@@ -79,69 +77,40 @@ fn sinks(rt: HostRuntime) -> Result<(), Fail> {
 fn composed_from_end_to_end(rt: HostRuntime) -> Result<(), Fail> {
     let alloc = rt.alloc();
     let mut workspace = Workspace::new(alloc);
-    let bytes = bytes_of(alloc, PASSING)?;
-    assert!(rt; matches!(add(alloc, &mut workspace, "p:p", bytes), Some(Ok(()))));
-    let mut source = SliceSource::new(SOURCE.as_bytes());
+    assert!(rt; matches!(add(alloc, &mut workspace, "p:p"), Some(Ok(()))));
+    let mut source = SliceSource::new(
+        b"package m:m; let x = new p:p { ... }; export x.g as \"g\";",
+    );
     source.most = 7;
     let mut sink = VecSink::byte_by_byte(alloc);
-    let options = EncodeOptions::default();
-    assert!(rt; compose_stream(&mut workspace, &mut source, &mut sink, options).is_ok());
-    assert!(rt; sink.taken.as_slice() == bytes_of(alloc, ONE)?.as_slice());
+    assert!(rt; compose_stream(&workspace, &mut source, &mut sink).is_ok());
+    assert_eq!(rt; sink.taken.as_slice(), ONE.as_slice());
     Ok(())
 }
 
-/// A stream over an empty workspace that is refused: nothing is written, and no number is taken.
-fn refused<R: ByteSource>(
-    rt: &impl Abort,
-    alloc: Global,
-    reader: &mut R,
-) -> Result<StreamError, Fail> {
-    let mut workspace = Workspace::new(alloc);
+#[test]
+fn composing_refused(rt: HostRuntime) -> Result<(), Fail> {
+    let alloc = rt.alloc();
+    let workspace = Workspace::new(alloc);
     let mut sink = VecSink::new(alloc);
-    let outcome = compose_stream(&mut workspace, reader, &mut sink, EncodeOptions::default());
-    assert_eq!(rt; sink.calls, 0);
-    assert_eq!(rt; workspace.next_number(), 0);
-    match outcome {
-        Ok(()) => Err("composed")?,
-        Err(fault) => Ok(fault),
-    }
-}
-
-#[test]
-fn streams_refused(rt: HostRuntime) -> Result<(), Fail> {
-    let fault = refused(&rt, rt.alloc(), &mut FailsAtOnce { calls: 0 })?;
-    assert!(rt; matches!(fault, StreamError::Read));
-    let fault = refused(&rt, rt.alloc(), &mut SliceSource::new(b"\xff"))?;
-    assert!(rt; matches!(fault, StreamError::NotUtf8));
-    let fault = refused(&rt, rt.alloc(), &mut SliceSource::new(b"package a:b"))?;
-    assert!(rt; matches!(fault, StreamError::Compose(ComposeError::Parse(_))));
-    Ok(())
-}
-
-#[test]
-fn streams_too_long(rt: HostRuntime) -> Result<(), Fail> {
-    let long = vec![in rt.alloc(); b' '; MAX_SOURCE_LENGTH + 1]?;
-    let fault = refused(&rt, rt.alloc(), &mut SliceSource::new(&long))?;
-    assert!(rt; matches!(fault, StreamError::SourceTooLong));
-    let mut endless = Endless {
-        byte: b' ',
-        calls: 0,
-    };
-    let fault = refused(&rt, rt.alloc(), &mut endless)?;
-    assert!(rt; matches!(fault, StreamError::SourceTooLong));
-    Ok(())
-}
-
-#[test]
-fn a_writer_that_takes_nothing(rt: HostRuntime) -> Result<(), Fail> {
-    let mut workspace = Workspace::new(rt.alloc());
+    let mut fails = FailsAtOnce { calls: 0 };
+    let outcome = compose_stream(&workspace, &mut fails, &mut sink);
+    assert!(rt; matches!(outcome, Err(StreamError::Read)));
     let outcome = compose_stream(
-        &mut workspace,
+        &workspace,
+        &mut SliceSource::new(b"package a:b;\xff"),
+        &mut sink,
+    );
+    assert!(rt; matches!(outcome, Err(StreamError::NotUtf8)));
+    let outcome = compose_stream(&workspace, &mut SliceSource::new(b"package a:b"), &mut sink);
+    assert!(rt; matches!(outcome, Err(StreamError::Compose(_))));
+    assert_eq!(rt; sink.calls, 0);
+    let mut none = TakesNothing { calls: 0 };
+    let outcome = compose_stream(
+        &workspace,
         &mut SliceSource::new(b"package a:b;"),
-        &mut TakesNothing { calls: 0 },
-        EncodeOptions::default(),
+        &mut none,
     );
     assert!(rt; matches!(outcome, Err(StreamError::Write)));
-    assert!(rt; workspace.get("a:b", None).is_some());
     Ok(())
 }
