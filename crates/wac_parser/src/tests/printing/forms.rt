@@ -233,7 +233,10 @@ const DOCS: &[(&str, &str)] = &[
         "/** one\n\n * two */ type t = u8;",
         "/// one\n/// \n/// * two\ntype t = u8;",
     ),
-    ("/// \u{2003}wide\u{2003}\n type t = u8;", "/// wide\ntype t = u8;"),
+    (
+        "/// \u{2003}wide\u{2003}\n type t = u8;",
+        "/// wide\ntype t = u8;",
+    ),
     (
         "type t = u8; /* none */ /***/ type s = u8;",
         "type t = u8;\n\ntype s = u8;",

@@ -110,7 +110,8 @@ fn value_of_a_document(rt: HostRuntime) -> Result<(), Fail> {
     expect_values(&rt, SOURCE, IN_THE_ROUND_TRIP)
 }
 
-const TYPES: &str = "package p:p targets q:q/i@1.0.0; type t = func(a: tuple<u8, result<_, list<b>>>) -> stream<u32>; type o = option<borrow<r>>; variant v { /// other\n c, d(char) } flags f { one } enum e { two } type r = result<u8, string>; type s = future;";
+const TYPES: &str =
+    "package p:p targets q:q/i@1.0.0; type t = func(a: tuple<u8, result<_, list<b>>>) -> stream<u32>; type o = option<borrow<r>>; variant v { /// other\n c, d(char) } flags f { one } enum e { two } type r = result<u8, string>; type s = future;";
 
 const OF_TYPES: &[(&str, &str)] = &[
     (
@@ -141,10 +142,7 @@ const OF_TYPES: &[(&str, &str)] = &[
         "/statements/3/Type/type/flags/flags/0/id/string",
         r#""one""#,
     ),
-    (
-        "/statements/4/Type/type/enum/cases/0/id/string",
-        r#""two""#,
-    ),
+    ("/statements/4/Type/type/enum/cases/0/id/string", r#""two""#),
     (
         "/statements/5/Type/type/alias/kind/type/result/err",
         r#"{"string":{"offset":212,"length":6}}"#,
@@ -160,7 +158,8 @@ fn values_of_types(rt: HostRuntime) -> Result<(), Fail> {
     expect_values(&rt, TYPES, OF_TYPES)
 }
 
-const BODIES: &str = "package a:b; import i as \"x y\": interface { use q:q/i.{ a as b }; resource r { constructor(); m: static func(); } f: b; }; world w { use i.{ a }; include v with { a as b }; import x: interface {}; export y: z; }";
+const BODIES: &str =
+    "package a:b; import i as \"x y\": interface { use q:q/i.{ a as b }; resource r { constructor(); m: static func(); } f: b; }; world w { use i.{ a }; include v with { a as b }; import x: interface {}; export y: z; }";
 
 const OF_BODIES: &[(&str, &str)] = &[
     (
