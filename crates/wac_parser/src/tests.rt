@@ -1,5 +1,3 @@
-mod declaring;
 mod parsers;
-mod printing;
 mod tokens;
 mod trees;
