@@ -14,7 +14,8 @@ pub mod Gathering
 pub mod Registering
 pub mod Stating
 pub mod Lending
-pub mod Visits
+pub mod Reached
+pub mod Passing
 pub mod Depending
 pub mod DefineSteps
 pub mod WiringLaws

@@ -1,5 +1,5 @@
 -- Definitions of types, and which depends on which.
-use Rattle.std.specs.Prelude.{◌≡◌, ◌≢◌, ◌⊎◌, ℕ, List, [], ◌∷◌, ◌++◌, Option, Some, None, string_bytes}
+use Rattle.std.specs.Prelude.{◌≡◌, ◌≢◌, ◌⊎◌, ℕ, Bool, List, [], ◌∷◌, ◌++◌, Option, Some, None, string_bytes}
 use Rattle.std.specs.FinMap as map
 use Rattle.wac_types_base.specs.declared.ids.DefinedTypeId.{DefinedTypeId}
 use Rattle.wac_types_base.specs.declared.ids.ResourceId.{ResourceId}
@@ -9,7 +9,7 @@ use Rattle.wac_types_base.specs.Record.{Collection}
 use Rattle.wac_types_base.specs.Collection.{Stands}
 use Rattle.wac_types_base.specs.Entries.{Name, value_at}
 use Rattle.wac_types_base.specs.Graph.{Among}
-use Rattle.wac_types_base.specs.Visiting.{Visits, defined_in}
+use Rattle.wac_types_base.specs.Visiting.{defined_in}
 use Rattle.wac_graph_core.specs.declared.edge.Edge.{Edge}
 use Rattle.wac_graph_core.specs.declared.errors.DefineTypeError.{DefineTypeError}
 use Rattle.wac_graph_core.specs.Nodes.{NodeData, Role, defined_node}
@@ -17,21 +17,16 @@ use Rattle.wac_graph_core.specs.NodeMaps.{NodeMap, IsDefinition, NoDefinition}
 use Rattle.wac_graph_core.specs.Edges.{AreEdges, dependency_edge}
 use Rattle.wac_graph_core.specs.Graph.{Graph, node_at}
 use Rattle.wac_graph_core.specs.Steps.{IsExternName}
+use Rattle.wac_graph_core.specs.Reaching.{Reaches, Marked}
 
 abbrev pub IsResource : TypeKind → Type 0
 IsResource t = (r : ResourceId) × (t ≡ TypeKind.Resource r)
 
--- a visit of the type calls on this defined type
-pub record CallsOn (c : Collection) (t : TypeKind) (id : DefinedTypeId) : Type 0 where
-  pub ids : List DefinedTypeId
-  pub visited : Visits c (ItemKind.Ty t) ids
-  pub among : Among id ids
-
--- the second is a defined type, and a visit of the first calls on it
+-- the second is a defined type, and the first reaches it
 pub record UsesType (c : Collection) (s t : TypeKind) : Type 0 where
   pub id : DefinedTypeId
   pub is : defined_in (ItemKind.Ty t) ≡ Some id
-  pub called : CallsOn c s id
+  pub reached : Reaches c (ItemKind.Ty s) id
 
 -- b is another definition than a, and its type uses the type that a defines
 pub record Depends (g : Graph) (a b : ℕ) : Type 0 where
@@ -92,6 +87,22 @@ pub record IsUserOf (c : Collection) (t : TypeKind) (x : NodeData) : Type 0 wher
   pub role : x.role ≡ Role.Defined
   pub type : x.item_kind ≡ ItemKind.Ty target
   pub uses : UsesType c target t
+
+-- a definition of a marked type
+pub record DefinesMarked (marks : List Bool) (x : NodeData) : Type 0 where
+  pub source : TypeKind
+  pub id : DefinedTypeId
+  pub role : x.role ≡ Role.Defined
+  pub type : x.item_kind ≡ ItemKind.Ty source
+  pub is : defined_in (ItemKind.Ty source) ≡ Some id
+  pub marked : Marked marks id
+
+-- a definition of a type that reaches this one
+pub record DefinesReaching (c : Collection) (wanted : DefinedTypeId) (x : NodeData) : Type 0 where
+  pub target : TypeKind
+  pub role : x.role ≡ Role.Defined
+  pub type : x.item_kind ≡ ItemKind.Ty target
+  pub reached : Reaches c (ItemKind.Ty target) wanted
 
 abbrev pub ItemsStand : Collection → NodeMap → Type 0
 ItemsStand c m = (k : ℕ) (x : NodeData) → map.get m k ≡ Some x → Stands c x.item_kind

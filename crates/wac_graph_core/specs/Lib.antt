@@ -12,5 +12,6 @@ pub mod Exporting
 pub mod Removing
 pub mod Packages
 pub mod Listing
+pub mod Reaching
 pub mod Defining
 pub mod GraphWiring

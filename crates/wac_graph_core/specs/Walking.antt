@@ -1,5 +1,5 @@
 -- Single steps of walks over lists of edges.
-use Rattle.std.specs.Prelude.{ℕ, ◌+◌, List, [], ◌∷◌, Bool, true, false, ◌&&◌, not, ◌==◌, Option, Some, None, if◌then◌else◌}
+use Rattle.std.specs.Prelude.{◌≡◌, ℕ, ◌+◌, List, [], ◌∷◌, Bool, true, false, ◌&&◌, not, ◌==◌, Option, Some, None, if◌then◌else◌}
 use Rattle.std.specs.Cmp.Lexicographic.{pointwise}
 use Rattle.wac_types_base.specs.Entries.{Name}
 use Rattle.wac_graph_core.specs.declared.edge.Edge.{Edge}
@@ -22,6 +22,10 @@ first_alias (e ∷ es) i n = if (e.from == i) && is_alias e.label n then Some e.
 abbrev pub first_argument : List Edge → ℕ → Name → Option ℕ
 first_argument [] i n = None
 first_argument (e ∷ es) i n = if (e.to == i) && is_argument e.label n then Some e.from else first_argument es i n
+
+-- the same is passed to the node by these edges as by those
+abbrev pub PassesAs : List Edge → ℕ → List Edge → Type 0
+PassesAs es i fs = (n : Name) → first_argument fs i n ≡ first_argument es i n
 
 -- what an edge into the node says, and else the rest
 abbrev pub source_by : Bool → Label → ℕ → Option (ℕ × Name) → Option (ℕ × Name)

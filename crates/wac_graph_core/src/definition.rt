@@ -4,9 +4,8 @@ ghost use Rattle.std.specs.Prelude.{◌≡◌, ◌≢◌, ◌≤◌, ◌+◌, �
 ghost use Rattle.std.specs.Bool.{Decides};
 ghost use Rattle.wac_types_base.specs.Graph.{Among};
 ghost use Rattle.wac_types_base.specs.Collection.{Stands};
-ghost use Rattle.wac_types_base.specs.Visiting.{defined_in};
 ghost use Rattle.wac_graph_core.specs.Edges.{AreEdges, dependency_edge, has};
-ghost use Rattle.wac_graph_core.specs.Defining.{IsResource, CallsOn, UsesType, MayDefine, DefinesType, DefineRefused};
+ghost use Rattle.wac_graph_core.specs.Defining.{IsResource, MayDefine, DefinesType, DefineRefused};
 
 use crate::edge::{Edge, Label};
 use crate::errors::{DefineTypeError, NameError};
@@ -14,48 +13,12 @@ use crate::graph::{CompositionGraph, is_extern_name};
 use crate::ids::NodeId;
 use crate::node::Node;
 use std::alloc::AllocError;
-use wac_types_base::{DefinedTypeId, ItemKind, Text, Type, Types, ValueType};
-
-/// The defined type that a type is.
-fn defined_of(ty: Type) -> Option<DefinedTypeId>
-    ensures { result ≡ defined_in (ItemKind.Ty ty) }
-{
-    match ty {
-        Type::Value(ValueType::Defined(id)) => Some(id),
-        _ => None,
-    }
-}
+use wac_types_base::{ItemKind, Text, Type};
 
 fn is_resource(ty: Type) -> bool
     ensures { Decides result (IsResource ty) }
 {
     matches!(ty, Type::Resource(_))
-}
-
-/// Whether a visit of a type calls on a defined type.
-fn calls_on(types: &Types, ty: Type, wanted: DefinedTypeId) -> bool
-    requires { Stands types.now (ItemKind.Ty ty) }
-    ensures { Decides result (CallsOn types.now ty wanted) }
-{
-    let visited = ty.visit_defined_types(
-        types,
-        &mut move |_: &Types, id: DefinedTypeId| -> Result<(), ()>
-            ensures passes { OnOk result (wanted ≢ id) }
-            ensures stops { OnErr result (wanted ≡ id) }
-        { if id == wanted { Err(()) } else { Ok(()) } },
-    );
-    visited.is_err()
-}
-
-/// Whether the first type uses the second, which is a defined type.
-pub(crate) fn uses(types: &Types, user: Type, used: Type) -> bool
-    requires { Stands types.now (ItemKind.Ty user) }
-    ensures { Decides result (UsesType types.now user used) }
-{
-    match defined_of(used) {
-        Some(id) => calls_on(types, user, id),
-        None => false,
-    }
 }
 
 /// Adds the dependencies of a node, for which there is room.

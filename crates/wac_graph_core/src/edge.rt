@@ -4,7 +4,7 @@ ghost use Rattle.std.specs.Prelude.{◌≡◌, ◌∷◌, [], not, option_map, �
 ghost use Rattle.wac_types_base.specs.Entries.{Name};
 ghost use Rattle.wac_types_base.specs.Graph.{Among};
 ghost use Rattle.wac_graph_core.specs.Edges.{follows, has, IsReached, AreEdges, HasAlias, HasArgument, argument_edge, Stays};
-ghost use Rattle.wac_graph_core.specs.Walking.{first_alias, first_argument, first_source, first_new, is_passed, is_apart};
+ghost use Rattle.wac_graph_core.specs.Walking.{PassesAs, first_alias, first_argument, first_source, first_new, is_passed, is_apart};
 
 use crate::ids::NodeId;
 use std::alloc::{AllocError, Global};
@@ -126,6 +126,41 @@ pub(crate) fn find_alias(edges: &[Edge], instance: NodeId, export: &str) -> Opti
     ensures none { IfNone result ((k : ℕ) → HasAlias edges.now instance export.now k → ⊥) }
 {
     alias_found(edges, instance, export)
+}
+
+/// The edges behind those at the front that do not lead to a node.
+fn from_first(edges: &[Edge], node: NodeId) -> &[Edge]
+    ensures { PassesAs edges.now node result.now }
+{
+    let mut left = edges;
+    while let Some((first, rest)) = left.split_first() {
+        if first.to.index() == node.index() {
+            break;
+        }
+        left = rest;
+    }
+    left
+}
+
+/// The edges before those at the end that do not lead to a node.
+fn until_last(edges: &[Edge], node: NodeId) -> &[Edge]
+    ensures { PassesAs edges.now node result.now }
+{
+    let mut left = edges;
+    while let Some((last, rest)) = left.split_last() {
+        if last.to.index() == node.index() {
+            break;
+        }
+        left = rest;
+    }
+    left
+}
+
+/// The edges from the first to the last that lead to a node.
+pub(crate) fn edges_to(edges: &[Edge], node: NodeId) -> &[Edge]
+    ensures { PassesAs edges.now node result.now }
+{
+    until_last(from_first(edges, node), node)
 }
 
 /// What is passed first as an argument.

@@ -6,7 +6,7 @@ ghost use Rattle.std.specs.FinMap as map;
 ghost use Rattle.wac_graph_core.specs.Graph.{ContainsNode};
 ghost use Rattle.wac_graph_core.specs.Listing.{held_list, passed_to};
 
-use crate::edge::{Edge, argument_found};
+use crate::edge::{Edge, argument_found, edges_to};
 use crate::graph::CompositionGraph;
 use crate::ids::NodeId;
 use crate::node::Node;
@@ -184,7 +184,7 @@ impl CompositionGraph {
             None => &[],
         };
         ArgumentIter {
-            edges: self.edges.as_slice(),
+            edges: edges_to(&self.edges, instantiation),
             instantiation,
             names,
         }

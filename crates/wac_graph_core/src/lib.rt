@@ -15,6 +15,7 @@ pub mod laws;
 pub mod node;
 mod nodes;
 mod package;
+mod reach;
 mod registry;
 mod remove;
 pub mod types_mut;

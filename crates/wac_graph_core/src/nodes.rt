@@ -1,6 +1,6 @@
 //! The nodes under their indexes, seen as a finite map.
 
-ghost use Rattle.std.specs.Prelude.{◌≡◌, ◌≢◌, None, Some, IfOk, OnOk, OnErr, IfSome, IfNone, IsTrue, ◌↔◌, IsSome, not};
+ghost use Rattle.std.specs.Prelude.{◌≡◌, ◌≢◌, None, Some, IfOk, OnOk, OnErr, IfSome, IfNone, IsTrue, ◌↔◌, IsSome, not, length};
 ghost use Rattle.std.specs.Option.{option_copied};
 ghost use Rattle.std.specs.Ordering.{nat_cmp};
 ghost use Rattle.std.specs.FinMap as map;
@@ -11,16 +11,17 @@ ghost use Rattle.wac_types_base.specs.Collection.{Stands};
 ghost use Rattle.wac_graph_core.specs.Edges.{has};
 ghost use Rattle.wac_graph_core.specs.Nodes.{NodeData, Role};
 ghost use Rattle.wac_graph_core.specs.NodeMaps.{IsImport, NoImport, IsDefinition, NoDefinition, AreThose, AreInstances, AddsIf};
-ghost use Rattle.wac_graph_core.specs.Defining.{IsUsedBy, IsUserOf, ItemsStand};
+ghost use Rattle.wac_graph_core.specs.Defining.{IsUsedBy, IsUserOf, ItemsStand, DefinesMarked, DefinesReaching};
+ghost use Rattle.wac_graph_core.specs.Reaching.{IsWithout};
 
-use crate::definition::uses;
 use crate::ids::{NodeId, PackageId};
 use crate::node::Node;
+use crate::reach::{defined_of, is_marked, mark_reached, no_marks, reaches};
 use slab::{Iter, Slab};
 use std::alloc::{AllocError, Global};
 use std::marker::Model;
 use wac_types_base::replace::is_same;
-use wac_types_base::{ItemKind, Text, Type, Types};
+use wac_types_base::{DefinedTypeId, ItemKind, Text, Type, Types};
 
 /// Nodes under indexes that it picks.
 #[derive(Drop)]
@@ -134,6 +135,17 @@ impl Nodes {
         Ok(found)
     }
 
+    /// The definitions of marked types.
+    fn marked(&self, alloc: Global, marks: &[bool]) -> Result<Vec<NodeId>, AllocError>
+        ensures { IfOk result (λ v. AreThose self.now (DefinesMarked marks.now) v.items) }
+    {
+        let mut found = Vec::new(alloc);
+        for (key, node) in self.slab.iter() {
+            gather_marked(&mut found, node, NodeId::new(key), marks)?;
+        }
+        Ok(found)
+    }
+
     /// The definitions of what a type uses.
     pub(crate) fn used_by(
         &self,
@@ -141,12 +153,29 @@ impl Nodes {
         types: &Types,
         ty: Type,
     ) -> Result<Vec<NodeId>, AllocError>
-        requires { Stands types.now (ItemKind.Ty ty) }
-        ensures { IfOk result (λ v. AreThose self.now (λ x. IsUsedBy types.now ty x) v.items) }
+        requires ty { Stands types.now (ItemKind.Ty ty) }
+        requires items { ItemsStand types.now self.now }
+        ensures { IfOk result (λ v. AreThose self.now (IsUsedBy types.now ty) v.items) }
     {
+        let mut marks = no_marks(alloc, types)?;
+        mark_reached(types, ItemKind::Ty(ty), &mut marks);
+        self.marked(alloc, &marks)
+    }
+
+    /// The definitions of types that reach a defined type.
+    fn reaching(
+        &self,
+        alloc: Global,
+        types: &Types,
+        wanted: DefinedTypeId,
+    ) -> Result<Vec<NodeId>, AllocError>
+        requires { ItemsStand types.now self.now }
+        ensures { IfOk result (λ v. AreThose self.now (DefinesReaching types.now wanted) v.items) }
+    {
+        let mut without = no_marks(alloc, types)?;
         let mut found = Vec::new(alloc);
         for (key, node) in self.slab.iter() {
-            gather_used(&mut found, node, NodeId::new(key), types, ty)?;
+            gather_reaching(&mut found, node, NodeId::new(key), types, wanted, &mut without)?;
         }
         Ok(found)
     }
@@ -159,13 +188,12 @@ impl Nodes {
         ty: Type,
     ) -> Result<Vec<NodeId>, AllocError>
         requires { ItemsStand types.now self.now }
-        ensures { IfOk result (λ v. AreThose self.now (λ x. IsUserOf types.now ty x) v.items) }
+        ensures { IfOk result (λ v. AreThose self.now (IsUserOf types.now ty) v.items) }
     {
-        let mut found = Vec::new(alloc);
-        for (key, node) in self.slab.iter() {
-            gather_user(&mut found, node, NodeId::new(key), types, ty)?;
+        match defined_of(ItemKind::Ty(ty)) {
+            Some(wanted) => self.reaching(alloc, types, wanted),
+            None => Ok(Vec::new(alloc)),
         }
-        Ok(found)
     }
 
     /// The indexes with their nodes, by rising index.
@@ -237,55 +265,68 @@ fn defined_type(node: &Node) -> Option<Type>
     }
 }
 
-fn is_used_by(node: &Node, types: &Types, ty: Type) -> bool
-    requires { Stands types.now (ItemKind.Ty ty) }
-    ensures { Decides result (IsUsedBy types.now ty node.now) }
+/// Whether a node is the definition of a marked type.
+fn defines_marked(node: &Node, marks: &[bool]) -> bool
+    ensures { Decides result (DefinesMarked marks.now node.now) }
 {
     match defined_type(node) {
-        Some(own) => uses(types, ty, own),
+        Some(own) => is_marked(marks, defined_of(ItemKind::Ty(own))),
         None => false,
     }
 }
 
-fn is_user_of(node: &Node, types: &Types, ty: Type) -> bool
-    requires { Stands types.now node.now.item_kind }
-    ensures { Decides result (IsUserOf types.now ty node.now) }
+/// Whether a node is the definition of a type that reaches a defined type.
+fn defines_reaching(
+    node: &Node,
+    types: &Types,
+    wanted: DefinedTypeId,
+    without: &mut Vec<bool>,
+) -> bool
+    requires stands { Stands types.now node.now.item_kind }
+    requires length { length without.old.items ≡ length types.now.defined_types }
+    requires without { IsWithout types.now wanted without.old.items }
+    ensures length { length without.new.items ≡ length types.now.defined_types }
+    ensures without { IsWithout types.now wanted without.new.items }
+    ensures answer { Decides result (DefinesReaching types.now wanted node.now) }
 {
     match defined_type(node) {
-        Some(own) => uses(types, own, ty),
+        Some(own) => reaches(types, ItemKind::Ty(own), wanted, without),
         None => false,
     }
 }
 
-/// Adds the node to the list, where it is a definition of what the type uses.
-fn gather_used(
+/// Adds the node to the list, where it is the definition of a marked type.
+fn gather_marked(
     found: &mut Vec<NodeId>,
     node: &Node,
     id: NodeId,
-    types: &Types,
-    ty: Type,
+    marks: &[bool],
 ) -> Result<(), AllocError>
-    requires { Stands types.now (ItemKind.Ty ty) }
-    ensures { OnOk result (AddsIf (IsUsedBy types.now ty node.now) found.old.items found.new.items id) }
+    ensures { OnOk result (AddsIf (DefinesMarked marks.now node.now) found.old.items found.new.items id) }
 {
-    if is_used_by(node, types, ty) {
+    if defines_marked(node, marks) {
         found.push(id)?;
     }
     Ok(())
 }
 
-/// Adds the node to the list, where it is a definition of a type that uses the type.
-fn gather_user(
+/// Adds the node to the list, where it is the definition of a type that reaches a defined type.
+fn gather_reaching(
     found: &mut Vec<NodeId>,
     node: &Node,
     id: NodeId,
     types: &Types,
-    ty: Type,
+    wanted: DefinedTypeId,
+    without: &mut Vec<bool>,
 ) -> Result<(), AllocError>
-    requires { Stands types.now node.now.item_kind }
-    ensures { OnOk result (AddsIf (IsUserOf types.now ty node.now) found.old.items found.new.items id) }
+    requires stands { Stands types.now node.now.item_kind }
+    requires length { length without.old.items ≡ length types.now.defined_types }
+    requires without { IsWithout types.now wanted without.old.items }
+    ensures length { length without.new.items ≡ length types.now.defined_types }
+    ensures without { IsWithout types.now wanted without.new.items }
+    ensures adds { OnOk result (AddsIf (DefinesReaching types.now wanted node.now) found.old.items found.new.items id) }
 {
-    if is_user_of(node, types, ty) {
+    if defines_reaching(node, types, wanted, without) {
         found.push(id)?;
     }
     Ok(())

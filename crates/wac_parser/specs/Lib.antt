@@ -33,7 +33,7 @@ pub use Rattle.wac_parser_grammar.specs.FormDepths
 pub use Rattle.wac_parser_print.specs.Texts
 pub use Rattle.wac_parser_print.specs.Results
 pub use Rattle.wac_parser_print.specs.Printing
-pub use Rattle.wac_parser_print.specs.Calls
+pub use Rattle.wac_streams.specs.Calls
 pub use Rattle.wac_parser_print.specs.Printers
 pub use Rattle.wac_parser_print.specs.Objects
 pub use Rattle.wac_parser_print.specs.Values

@@ -4,11 +4,11 @@ use Rattle.std.specs.Result.{OnOk, OnErr}
 use Rattle.std.proofs.lemmas.List.{append-nil, map-append, take_more, take_all, length-take-le, length-map, get_or_default}
 use Rattle.std.specs.Io.KnownBytes.{Appends}
 use Rattle.wac_parser_print.specs.Texts.{Layout, Text, nothing, word, slice, ◌>>◌, line_end, unit, indent, each, joined}
-use Rattle.wac_parser_print.specs.Calls.{Calls, NoneFailed, FailedOnce, AppendsPrefix}
+use Rattle.wac_streams.specs.Calls.{Calls, NoneFailed, FailedOnce, AppendsPrefix}
 use Rattle.wac_parser_print.specs.declared.error.PrintError.{PrintError}
 use Rattle.wac_parser_print.specs.declared.error.PrintError.TheVariants as error
 use Rattle.wac_parser_print.specs.Printers.{Printer, IsPrinted, IsStopped, IsRefused, Adds, printed, stopped, refused, Tells, Prints}
-use Rattle.wac_parser_print.proofs.CallLaws.{Appends-none, Appends-more, NoneFailed-none, NoneFailed-more, FailedOnce-after, front_early, front_late}
+use Rattle.wac_streams.proofs.CallLaws.{Appends-none, Appends-more, NoneFailed-none, NoneFailed-more, FailedOnce-after, front_early, front_late}
 
 never : (b : Bool) → b ≡ true → b ≡ false → ⊥
 never b holds fails = cc

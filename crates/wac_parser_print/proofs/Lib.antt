@@ -1,4 +1,3 @@
-pub mod CallLaws
 pub mod Adding
 pub mod FormLaws
 pub mod TypeViews

@@ -1,7 +1,6 @@
 pub mod Texts
 pub mod Results
 pub mod Printing
-pub mod Calls
 pub mod Printers
 pub mod Objects
 pub mod Values

@@ -2,7 +2,7 @@
 use Rattle.std.specs.Prelude.{◌≡◌, Bool, true, false, ℕ, List, Option, Result, Ok, Err}
 use Rattle.std.specs.Io.KnownBytes.{Appends}
 use Rattle.wac_parser_print.specs.Texts.{Layout, Text}
-use Rattle.wac_parser_print.specs.Calls.{Calls, NoneFailed, FailedOnce, AppendsPrefix}
+use Rattle.wac_streams.specs.Calls.{Calls, NoneFailed, FailedOnce, AppendsPrefix}
 use Rattle.wac_parser_print.specs.declared.error.PrintError.{PrintError}
 use Rattle.wac_parser_print.specs.declared.error.PrintError.TheVariants as error
 

@@ -9,7 +9,7 @@ ghost use Rattle.wac_parser_print.specs.Printing as text;
 ghost use Rattle.wac_parser_print.specs.Printers.{Adds};
 
 use crate::printer::DocumentPrinter;
-use crate::sink::ByteSink;
+use wac_streams::ByteSink;
 use wac_parser_tree::{Document, PackageDirective, PackagePath, Statement};
 
 /// What is printed in a paragraph of its own.

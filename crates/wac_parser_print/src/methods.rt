@@ -7,7 +7,7 @@ ghost use Rattle.wac_parser_print.specs.Printers.{Prints};
 
 use crate::error::PrintError;
 use crate::printer::DocumentPrinter;
-use crate::sink::ByteSink;
+use wac_streams::ByteSink;
 use wac_parser_tree::{
     AccessExpr, Constructor, DocComment, Document, EnumDecl, ExportStatement, Expr, ExternType,
     FlagsDecl, FuncType, FuncTypeRef, ImportStatement, ImportType, InlineInterface, InterfaceDecl,

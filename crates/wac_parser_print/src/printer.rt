@@ -6,7 +6,7 @@ ghost use Rattle.wac_parser_print.specs.Texts.{word as word_text, slice as slice
 ghost use Rattle.wac_parser_print.specs.Printers.{Adds, Tells};
 
 use crate::error::PrintError;
-use crate::sink::{ByteSink, write_bytes};
+use wac_streams::{ByteSink, write_bytes};
 use std::marker::Model;
 use wac_parser_lexer::SourceSpan;
 

@@ -7,7 +7,7 @@ ghost use Rattle.wac_parser_print.specs.Printing as text;
 ghost use Rattle.wac_parser_print.specs.Printers.{Adds};
 
 use crate::printer::DocumentPrinter;
-use crate::sink::ByteSink;
+use wac_streams::ByteSink;
 use wac_parser_tree::{DocComment, ExternName};
 
 impl<W: ByteSink + Drop> DocumentPrinter<'_, W> {

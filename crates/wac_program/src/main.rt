@@ -1,41 +1,56 @@
-//! Composes the document on standard input over a workspace that holds the package `p:p`, and prints the component's
-//! bytes in hexadecimal. A refusal prints `error` to standard error, and ends with status 1.
+//! `wac compose MANIFEST`, `wac format FILE` and `wac plug MANIFEST`, over files, standard input and standard output.
 #![tactic(auto)]
 
-mod held;
-
-use crate::held::workspace_of;
+use std::alloc::Global;
 use std::io;
 use std::process::ExitCode;
-use wac::compose_stream;
+use wac_run::run;
+use wac_disk::{Disk, ErrorEnd, OutputEnd};
 
-/// The bytes of the component that standard input composes.
-fn composed(rt: &HostRuntime) -> Option<Vec<u8>> {
-    let workspace = workspace_of(rt.alloc())?;
-    let mut reader = rt.stdin();
-    let mut bytes = Vec::new(rt.alloc());
-    match compose_stream(&workspace, &mut reader, &mut bytes) {
-        Ok(()) => Some(bytes),
-        Err(_) => None,
+/// The words behind the program's name.
+fn words_of(rt: &HostRuntime, alloc: Global) -> io::Result<Vec<String>> {
+    let mut words = Vec::new(alloc);
+    for word in std::env::args(rt)?.skip(1) {
+        words.push(word)?;
     }
+    Ok(words)
 }
 
-/// Prints the bytes, two digits each, and a line feed.
-fn print_hexadecimal(rt: &HostRuntime, bytes: &[u8]) -> io::Result<()> {
-    for b in bytes {
-        print!(rt; "{b:02x}")?;
+/// The words as texts.
+fn texts_of(alloc: Global, words: &[String]) -> io::Result<Vec<&str>> {
+    let mut texts = Vec::new(alloc);
+    for word in words {
+        texts.push(word.as_str())?;
     }
-    println!(rt; "")
+    Ok(texts)
+}
+
+/// The status of a run on these words.
+fn status_of(rt: &HostRuntime, words: &[&str]) -> u8 {
+    let mut disk = Disk { rt };
+    run(
+        rt.alloc(),
+        words,
+        &mut rt.stdin(),
+        &mut disk,
+        &mut OutputEnd { rt },
+        &mut ErrorEnd { rt },
+    )
+}
+
+/// The status of a run on the words that the system gives.
+fn ran(rt: &HostRuntime) -> io::Result<u8> {
+    let words = words_of(rt, rt.alloc())?;
+    let texts = texts_of(rt.alloc(), &words)?;
+    Ok(status_of(rt, &texts))
 }
 
 fn main(rt: HostRuntime) -> ExitCode {
-    let printed = match composed(&rt) {
-        Some(bytes) => print_hexadecimal(&rt, &bytes).is_ok(),
-        None => false,
-    };
-    if printed {
-        return ExitCode::SUCCESS;
+    match ran(&rt) {
+        Ok(status) => ExitCode::from(status),
+        Err(_) => {
+            let _ = eprintln!(rt; "error: out of memory");
+            ExitCode::FAILURE
+        }
     }
-    let _ = eprintln!(rt; "error");
-    ExitCode::FAILURE
 }

@@ -42,17 +42,19 @@ fn skipped_in_type(types: &Types, ty: Type) -> u128
     }
 }
 
-/// How many places of a kind are not visited: the uses, and what a resource is made of.
-fn skipped_in(types: &Types, kind: ItemKind) -> u128
-    requires { Stands types.now kind }
-    ensures { result ≡ skipped types.now kind }
-{
-    match kind {
-        ItemKind::Ty(ty) => skipped_in_type(types, ty),
-        ItemKind::Instance(id) => types.interface(id).uses.len() as u128,
-        ItemKind::Component(id) => types.world(id).uses.len() as u128,
-        ItemKind::Value(ty) => skipped_in_value(ty),
-        ItemKind::Func(_) | ItemKind::Module(_) => 0,
+impl Types {
+    /// How many places of a kind come before those below it: the uses, and what a resource is made of.
+    pub fn skipped(&self, kind: ItemKind) -> u128
+        requires { Stands self.now kind }
+        ensures { result ≡ skipped self.now kind }
+    {
+        match kind {
+            ItemKind::Ty(ty) => skipped_in_type(self, ty),
+            ItemKind::Instance(id) => self.interface(id).uses.len() as u128,
+            ItemKind::Component(id) => self.world(id).uses.len() as u128,
+            ItemKind::Value(ty) => skipped_in_value(ty),
+            ItemKind::Func(_) | ItemKind::Module(_) => 0,
+        }
     }
 }
 
@@ -88,7 +90,7 @@ fn visit_kind<E, F: FnMut(&Types, DefinedTypeId) -> Result<(), E>>(
         Ok(()) => {}
         Err(fault) => return Err(fault),
     }
-    let mut at = skipped_in(types, kind);
+    let mut at = types.skipped(kind);
     while let Some(place) = types.place(kind, at) {
         if let Some(child) = place {
             match visit_kind(types, child, visitor) {

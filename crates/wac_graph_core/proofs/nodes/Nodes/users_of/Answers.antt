@@ -1,58 +1,11 @@
-use Rattle.std.proofs.Common.{arith, ◌≡◌, Some, true, ap, subst, inl, inr, sym, ◌∙◌, refl}
-use Rattle.std.specs.FinMap as map
-use Rattle.slab.proofs.SlabLemmas.{Contains-cons, Contains-cons_cases, Contains-entries}
-use Rattle.wac_graph_core.specs.Nodes.{NodeData}
-use Rattle.wac_graph_core.specs.Defining.{IsUserOf}
-use Rattle.wac_graph_core.specs.NodeMaps.{AddsIf}
-use Rattle.wac_graph_core.specs.Edges.{has}
-use Rattle.wac_graph_core.proofs.NodeMap.{get-shown}
-use Rattle.wac_graph_core.proofs.Gathering.{nothing_left, none_in, gathered_kept, gathered_there, gathered_only}
+use Rattle.std.proofs.Common.{sym, ◌∙◌}
+use Rattle.wac_graph_bytes.proofs.NameKinds.{ok_map}
+use Rattle.wac_graph_core.proofs.Reached.{users_those, no_users}
 use Rattle.wac_graph_core.proofs.nodes.Nodes.users_of.Goals as goal
 
-pub loop-key-init : goal.loop-key-init
-loop-key-init c =
-    let left = c.into_iter-key-iterator.ensures.into_iter_gives ∙ c.iter-key-items.ensures.rest in (
-      tt,
-      tt,
-      λ key x found of. inr (rw left ((Contains-entries c.self.inside.slab key x).1 (sym (get-shown c.self.inside.slab key) ∙ ap (λ m. map.get m key) c.self.view_is ∙ found))),
-      λ key x there. ap (λ m. map.get m key) (sym c.self.view_is) ∙ get-shown c.self.inside.slab key ∙ (Contains-entries c.self.inside.slab key x).0 (rw left at there),
-      λ key h. absurd (none_in c.new-found.result.items key c.new-found.ensures.items h),
-    )
+pub returns-in-Some : goal.returns-in-Some
+returns-in-Some c =
+    ok_map c.reaching.result (λ v those. users_those c.args.types.now c.args.self.now c.args.ty c.in-Some.wanted v.items (sym c.in-Some.is ∙ c.defined_of.ensures) those) c.reaching.ensures
 
-pub loop-key-preserved : goal.loop-key-preserved
-loop-key-preserved c =
-    let at = c.in-Some.ensures.steps in
-    let first = c.loop-key.invariant.3 c.in-Some.key c.in-Some.node.now (rw at (0, omega arith, refl)) in
-    let adds : AddsIf (IsUserOf c.args.types.now c.args.ty c.in-Some.node.now) c.loop-key.found.items c.gather_user.new.found.items c.in-Some.key =
-    subst (λ k. AddsIf (IsUserOf c.args.types.now c.args.ty c.in-Some.node.now) c.loop-key.found.items c.gather_user.new.found.items k) c.new.ensures c.in_ok-gather_user.ensures in (
-      tt,
-      tt,
-      λ key x found of. elim (c.loop-key.invariant.2 key x found of) [
-        | inl old ↦ inl (gathered_kept (IsUserOf c.args.types.now c.args.ty c.in-Some.node.now) c.loop-key.found.items c.gather_user.new.found.items c.in-Some.key key adds old)
-        | inr left ↦ elim (Contains-cons_cases _ _ _ (rw at at left)) [
-          | inl same ↦
-              inl (subst (λ k. has c.gather_user.new.found.items k ≡ true) (ap (λ e. e.0) same)
-              (gathered_there (IsUserOf c.args.types.now c.args.ty c.in-Some.node.now) c.loop-key.found.items c.gather_user.new.found.items c.in-Some.key adds (subst (IsUserOf c.args.types.now c.args.ty) (sym (ap (λ e. e.1) same)) of)))
-          | inr rest ↦ inr rest
-        ]
-      ],
-      λ key x there. c.loop-key.invariant.3 key x (rw at (Contains-cons _ _ _ there)),
-      λ key h. elim (gathered_only (IsUserOf c.args.types.now c.args.ty c.in-Some.node.now) c.loop-key.found.items c.gather_user.new.found.items c.in-Some.key key adds h) [
-        | inl old ↦ c.loop-key.invariant.4 key old
-        | inr r ↦ (c.in-Some.node.now, ap (map.get c.args.self.now) (sym r.1) ∙ first, r.0)
-      ],
-    )
-
-pub gather_user-requires : goal.gather_user-requires
-gather_user-requires c =
-    let at = c.in-Some.ensures.steps in
-    c.requires c.in-Some.key c.in-Some.node.now (c.loop-key.invariant.3 c.in-Some.key c.in-Some.node.now (rw at (0, omega arith, refl)))
-
-pub returns : goal.returns
-returns c = λ k. (
-  c.loop-key.invariant.4 k,
-  λ r. elim (c.loop-key.invariant.2 k r.0 r.1 r.2) [
-    | inl there ↦ there
-    | inr left ↦ absurd (nothing_left c.loop-key.key-iterator (k, r.0) c.in-None.ensures.steps.0 left)
-  ],
-)
+pub returns-in-None : goal.returns-in-None
+returns-in-None c = no_users c.args.types.now c.args.self.now c.args.ty _ (sym c.in-None.is ∙ c.defined_of.ensures) c.new.ensures.items

@@ -1,0 +1,8 @@
+use Rattle.json.specs.Print.{escape_byte}
+use Rattle.wac_parser_print.specs.Values.{world_export}
+use Rattle.wac_parser_json.proofs.Writing.{then}
+use Rattle.wac_parser_json.proofs.worlds.world_export.Goals as goal
+
+pub returns : goal.returns
+unfolding world_export escape_byte
+returns g c = then c.word.ensures (then c.array.ensures (then c.word-2.ensures (then c.world_item_path.ensures c.word-3.ensures)))

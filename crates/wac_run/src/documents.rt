@@ -1,0 +1,45 @@
+//! What a run asks of documents.
+
+use crate::stop::{Stop, key_taken};
+use std::alloc::Global;
+use wac_parser_print::DocumentPrinter;
+use wac_parser_tree::Document;
+use wac_types_names::BorrowedPackageKey;
+
+// What makes a document is generic in its type, and so are those to whom it is lent: a proof then need not take the whole
+// tree of types apart. The type is named where no document is there yet, as in `printed::<Document<'_>>(source, alloc)`.
+
+/// Documents whose directive names a package.
+pub(crate) trait NameDocument: Sized {
+    /// What is told where a package with the directive's key is there already.
+    fn key_taken(&self, alloc: Global) -> Stop;
+}
+
+impl<'s> NameDocument for Document<'s> {
+    fn key_taken(&self, alloc: Global) -> Stop {
+        let package = &self.directive.package;
+        let key = BorrowedPackageKey::from_name_and_version(package.name, package.version.as_ref());
+        key_taken(alloc, &key)
+    }
+}
+
+/// Documents that are printed.
+pub(crate) trait PrintDocument: Sized {
+    /// The printed text of the document over its source.
+    fn print(&self, alloc: Global, source: &str) -> Result<Vec<u8>, Stop>;
+}
+
+/// The printed text of a document over its source.
+fn print_document(document: &Document<'_>, alloc: Global, source: &str) -> Result<Vec<u8>, Stop> {
+    let mut printer = DocumentPrinter::new(Vec::new(alloc), source, None);
+    match printer.document(document) {
+        Ok(()) => Ok(printer.into_writer()),
+        Err(_) => Err(Stop::Memory),
+    }
+}
+
+impl<'s> PrintDocument for Document<'s> {
+    fn print(&self, alloc: Global, source: &str) -> Result<Vec<u8>, Stop> {
+        print_document(self, alloc, source)
+    }
+}

@@ -1,0 +1,50 @@
+-- Packages that are apart, and one more of them.
+use Rattle.std.proofs.Common.{◌≡◌, ◌≢◌, ℕ, suc, All, arith, List, [], ◌∷◌, ◌++◌, true, false, Bool, refl, sym, ap, ◌∙◌, subst, inl, inr, ◌⊎◌}
+use Rattle.wac_types_base.specs.Graph.{Among}
+use Rattle.wac_workspace.specs.declared.entries.Entry.{Entry}
+use Rattle.wac_types_names.specs.Keys.{Key}
+use Rattle.wac_workspace.specs.Packages.{key_of, HasKey, HasBytes, HasHanded, IsApart, AreApart, Made, IsMade}
+
+among_last : {X : Type 0} (x y : X) (xs : List X) → Among x (xs ++ y ∷ []) → Among x xs ⊎ (x ≡ y)
+among_last x y [] (inl e) = inr e
+among_last x y [] (inr a) = absurd a
+among_last x y (z ∷ zs) (inl e) = inl (inl e)
+among_last x y (z ∷ zs) (inr a) = elim (among_last x y zs a) [ inl h ↦ inl (inr h) | inr e ↦ inr e ]
+
+-- one more package, which is apart from each
+pub apart_push : (ps : List Entry) (p : Entry) → AreApart ps → ((q : Entry) → Among q ps → IsApart p q) → AreApart (ps ++ p ∷ [])
+apart_push [] p h new = ((λ q a. absurd a), tt)
+apart_push (r ∷ rs) p h new = (
+  λ q a. elim (among_last q p rs a) [ inl there ↦ h.0 q there | inr e ↦ subst (λ (x : Entry). IsApart x r) (sym e) (new r (inl refl)) ],
+  apart_push rs p h.1 (λ q a. new q (inr a)),
+)
+
+not_both : (e : Entry) → e.is_handed ≡ true → e.is_handed ≡ false → ⊥
+not_both e h k = cc
+
+-- a handed component whose key and bytes are no package's
+pub apart_handed : (ps : List Entry) (p : Entry) (m : Made) → IsMade m p → AreApart ps → (HasKey ps m.key → ⊥) → (HasBytes ps m.bytes → ⊥) → AreApart (ps ++ p ∷ [])
+apart_handed ps p m made h key bytes = apart_push ps p h (λ q a. record {
+  keys = λ e. key (q, a, sym e ∙ made.key);
+  outputs = λ e. absurd (bytes (q, a, sym e ∙ made.bytes));
+})
+
+by_origin : (ps : List Entry) (q : Entry) (bytes : List ℕ) → Among q ps → (HasHanded ps bytes → ⊥) → q.package.bytes ≡ bytes → q.is_handed ≡ false
+by_origin ps q bytes a none e = by_test q.is_handed refl
+  where
+    by_test : (b : Bool) → q.is_handed ≡ b → q.is_handed ≡ false
+    by_test true h = absurd (none (q, a, (h, e)))
+    by_test false h = h
+
+-- an output whose key is no package's, and whose bytes are no handed component's
+pub apart_output : (ps : List Entry) (p : Entry) (m : Made) → IsMade m p → p.is_handed ≡ false → AreApart ps → (HasKey ps m.key → ⊥) → (HasHanded ps m.bytes → ⊥) → AreApart (ps ++ p ∷ [])
+apart_output ps p m made origin h key bytes = apart_push ps p h (λ q a. record {
+  keys = λ e. key (q, a, sym e ∙ made.key);
+  outputs = λ e. (origin, by_origin ps q m.bytes a bytes (sym e ∙ made.bytes));
+})
+
+-- what holds of each element holds of one of them
+pub each_of : {X : Type 0} (P : X → Type 0) (xs : List X) (x : X) → All P xs → Among x xs → P x
+each_of P [] x h a = absurd a
+each_of P (y ∷ ys) x h (inl e) = subst P (sym e) (h 0 y (omega arith))
+each_of P (y ∷ ys) x h (inr a) = each_of P ys x (λ k d l. h (suc k) d (omega (arith, l))) a

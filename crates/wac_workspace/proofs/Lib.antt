@@ -1,0 +1,4 @@
+pub mod Apart
+pub mod Refusing
+pub mod Searching
+pub mod StreamLaws

@@ -1,0 +1,89 @@
+-- A composed source, and a refused one.
+use Rattle.std.specs.Prelude.{◌≡◌, ℕ, ◌+◌, ◌<◌, ◌≤◌, List, ◌∷◌, [], Option, Some, None, Bool, true, false, Ok, Err, string_bytes}
+use Rattle.std.specs.Option.{option_map}
+use Rattle.semver.specs.Identifiers.{parts_of}
+use Rattle.wac_types_base.specs.declared.item.ItemKind.{ItemKind}
+use Rattle.wac_types_base.specs.Collection.{Stands}
+use Rattle.wac_types_names.specs.Keys.{Key}
+use Rattle.wac_parser_tree.specs.Trees.{Document}
+use Rattle.wac_parser_grammar.specs.Documents.{document}
+use Rattle.wac_parser_grammar.specs.Reads.{read_source}
+use Rattle.wac_parser_grammar.specs.Faults.{fault_of}
+use Rattle.wac_workspace.specs.declared.output.Output.{Output}
+use Rattle.wac_workspace.specs.declared.errors.ComposeError.{ComposeError}
+use Rattle.wac_workspace.specs.declared.errors.ComposeError.TheVariants as error
+use Rattle.wac_workspace.specs.Packages.{Held, Made, HasKey, HasHanded, Adds}
+
+-- the greatest number of a collection, which is never given out
+abbrev pub greatest : ℕ
+greatest = 18446744073709551615
+
+-- the document that a source is
+abbrev pub IsDocument : List ℕ → Document → Type 0
+IsDocument source d = read_source document source ≡ Ok d
+
+-- the key of the directive's package
+abbrev pub directive_key : Document → Key
+directive_key d = (d.directive.«package».name, d.directive.«package».version)
+
+-- the key of an output
+abbrev pub output_key : Output → Key
+output_key o = (string_bytes o.name, option_map parts_of o.version)
+
+-- what is registered of an output: its key, its bytes, and its world under its number
+abbrev pub made_of : Output → Made
+made_of o = record { key = output_key o; bytes = o.bytes.items; types = o.types; world = o.world; number = o.types.number }
+
+-- the output is registered: its key is no package's, and its bytes are no handed component's
+pub record Registers (old new : Held) (o : Output) : Type 0 where
+  pub key : HasKey old.packages (output_key o) → ⊥
+  pub bytes : HasHanded old.packages o.bytes.items → ⊥
+  pub added : Adds old.packages new.packages false (made_of o)
+  pub next : new.next ≡ old.next
+
+-- with components defined the output is registered; else the packages stay
+abbrev pub Keeps : (define : Bool) → Held → Held → Output → Type 0
+Keeps true old new o = Registers old (record new { next = old.next }) o
+Keeps false old new o = new.packages ≡ old.packages
+
+-- The source is a document, and the output has its directive's key and a world under the last of the next three numbers.
+pub record IsOutput (next : ℕ) (source : List ℕ) (o : Output) : Type 0 where
+  pub tree : Document
+  pub read : IsDocument source tree
+  pub room : next + 3 ≤ greatest
+  pub key : output_key o ≡ directive_key tree
+  pub number : o.types.number ≡ next + 2
+  pub stands : Stands o.types (ItemKind.Component o.world)
+
+-- The source is composed: three numbers are taken, and the output is kept.
+pub record IsComposed (old new : Held) (source : List ℕ) (define : Bool) (o : Output) : Type 0 where
+  pub output : IsOutput old.next source o
+  pub next : new.next ≡ old.next + 3
+  pub kept : Keeps define old new o
+
+-- the source is a document, and there are three more numbers
+pub record IsNumbered (next : ℕ) (source : List ℕ) : Type 0 where
+  pub tree : Document
+  pub read : IsDocument source tree
+  pub room : next + 3 ≤ greatest
+
+-- the document that the source is has a key of this kind
+abbrev pub WithKey : List ℕ → (Key → Type 0) → Type 0
+WithKey source P = (d : Document) × IsDocument source d × P (directive_key d)
+
+-- why a source has no output, whatever packages there are
+abbrev pub IsUnmade : ℕ → List ℕ → ComposeError → Type 0
+IsUnmade next source (error.Parse f) = read_source document source ≡ Err (fault_of f)
+IsUnmade next source error.NumbersExhausted = (d : Document) × IsDocument source d × (greatest < next + 3)
+IsUnmade next source (error.Resolution f) = IsNumbered next source
+IsUnmade next source (error.Target r) = IsNumbered next source
+IsUnmade next source error.KeyTaken = ⊥
+IsUnmade next source error.BytesTaken = ⊥
+IsUnmade next source error.Memory = Unit {0}
+
+-- The causes of a refusal, in their order: that of the source, its key, its bytes.
+abbrev pub IsRefused : Held → List ℕ → (define : Bool) → ComposeError → Type 0
+IsRefused w source define error.KeyTaken = (define ≡ true) × IsNumbered w.next source × WithKey source (HasKey w.packages)
+IsRefused w source define error.BytesTaken =
+    (define ≡ true) × IsNumbered w.next source × WithKey source (λ k. HasKey w.packages k → ⊥) × ((bytes : List ℕ) × HasHanded w.packages bytes)
+IsRefused w source define e = IsUnmade w.next source e

@@ -1,0 +1,305 @@
+//! Composing documents.
+
+ghost use Rattle.std.specs.Prelude.{◌≡◌, ◌+◌, ◌<◌, IfOk, IfErr, OnErr, IsErrOf};
+ghost use Rattle.std.specs.Option.{option_copied, option_map};
+ghost use Rattle.semver.specs.Identifiers.{parts_of};
+ghost use Rattle.wac_types_base.specs.declared.item.ItemKind.{ItemKind};
+ghost use Rattle.wac_types_base.specs.Collection.{Stands};
+ghost use Rattle.wac_parser_tree.specs.Trees.{PackageName as PackageTree};
+ghost use Rattle.wac_parser_tree.specs.Views.{view_package_name};
+ghost use Rattle.wac_parser_resolve.specs.Resolved.{graph_of, target_of};
+ghost use Rattle.wac_parser_resolve.specs.Targeting.{IsTarget};
+ghost use Rattle.wac_workspace.specs.Composing.{greatest, IsUnmade, IsOutput};
+ghost use Rattle.wac_workspace.specs.Steps.{AreNext, IsPair, IsEncoded, IsLate, IsNamed, IsOf, IsUnencoded};
+
+use crate::entries::{Entry, packages_of};
+use crate::errors::ComposeError;
+use crate::output::Output;
+use crate::workspace::Workspace;
+use semver::Version;
+use std::alloc::{AllocError, Global};
+use wac_graph_compose::{EncodeOptions, Encoded};
+use wac_parser_read::ParseDocument;
+use wac_parser_resolve::{AstResolver, Error as ResolutionError, Packages, Resolved};
+use wac_parser_tree::{Document, PackageDirective, PackageName};
+use wac_types_base::{TargetError, Types, WorldId, copy_world};
+use wac_types_fit::validate_target;
+
+/// The number of a collection that no one sees.
+const UNSEEN: u64 = u64::MAX;
+
+/// The numbers of one composition, and the one behind them.
+#[derive(Clone, Copy)]
+struct Numbers {
+    graph: u64,
+    merging: u64,
+    output: u64,
+    after: u64,
+}
+
+/// The next three numbers.
+fn numbers_from(next: u64) -> Result<Numbers, ComposeError>
+    ensures next { IfOk result (AreNext next) }
+    ensures exhausted { OnErr result (IsErrOf result ComposeError.NumbersExhausted × (greatest < next + 3)) }
+{
+    match next.checked_add(3) {
+        None => Err(ComposeError::NumbersExhausted),
+        Some(after) => Ok(Numbers {
+            graph: next,
+            merging: next + 1,
+            output: next + 2,
+            after,
+        }),
+    }
+}
+
+/// The same version again, if there is one.
+fn version_again(version: Option<&Version>) -> Result<Option<Version>, AllocError>
+    ensures { IfOk result (λ v. option_map parts_of v ≡ option_map parts_of (option_copied version.entry)) }
+{
+    match version {
+        None => Ok(None),
+        Some(version) => Ok(Some(version.clone()?)),
+    }
+}
+
+/// The name of a directive's target; empty where it names none.
+fn target_name<'a>(directive: &'a PackageDirective<'_>) -> &'a str {
+    match &directive.targets {
+        None => "",
+        Some(path) => path.string,
+    }
+}
+
+/// Two worlds in one collection.
+#[derive(Drop)]
+struct Pair {
+    types: Types,
+    target: WorldId,
+    world: WorldId,
+}
+
+/// A target and the world of a component, of collections of their own, in one.
+fn bring_together(
+    alloc: Global,
+    types: &Types,
+    target: WorldId,
+    encoded: &Encoded,
+) -> Result<Pair, AllocError>
+    requires target { Stands types.now (ItemKind.Component target) }
+    requires component { Stands encoded.now.types (ItemKind.Component encoded.now.world) }
+    ensures { IfOk result IsPair }
+{
+    let mut both = Types::new(alloc, UNSEEN);
+    let mut adding = both.adding();
+    let target = copy_world(alloc, types, target, &mut adding)?;
+    let world = copy_world(alloc, &encoded.types, encoded.world, &mut adding)?;
+    Ok(Pair {
+        types: both,
+        target,
+        world,
+    })
+}
+
+/// Tests a component against a target, named as the directive names it.
+fn test_target(
+    alloc: Global,
+    name: &str,
+    types: &Types,
+    target: WorldId,
+    encoded: &Encoded,
+) -> Result<(), ComposeError>
+    requires target { Stands types.now (ItemKind.Component target) }
+    requires component { Stands encoded.now.types (ItemKind.Component encoded.now.world) }
+    ensures { IfErr result IsLate }
+{
+    let pair = bring_together(alloc, types, target, encoded)?;
+    match validate_target(alloc, &pair.types, pair.target, pair.world) {
+        Ok(Ok(())) => Ok(()),
+        Ok(Err(report)) => Err(ComposeError::Target(report)),
+        Err(TargetError::Memory) => Err(ComposeError::Memory),
+        // resolving a directive refuses such a target already, by this very cause
+        Err(TargetError::UsedWithoutIdentifier) => Err(ComposeError::Resolution(
+            ResolutionError::TypeCannotBeWritten {
+                name: String::from_str(alloc, name)?,
+                span: None,
+            },
+        )),
+    }
+}
+
+/// The component of a resolved document, which meets its target of this name.
+fn encode_resolved<'d, D: Drop>(
+    resolution: Resolved<'d, D>,
+    alloc: Global,
+    numbers: Numbers,
+    options: EncodeOptions,
+    name: String,
+) -> Result<Encoded, ComposeError>
+    requires { IsTarget (graph_of resolution) (target_of resolution) }
+    ensures encoded { IfOk result (IsEncoded numbers.output) }
+    ensures late { IfErr result IsLate }
+{
+    let encoded = resolution.encode_world(options, (numbers.merging, numbers.output))?;
+    if let Some(target) = resolution.target() {
+        test_target(
+            alloc,
+            name.as_str(),
+            resolution.graph().types(),
+            target,
+            &encoded,
+        )?;
+    }
+    Ok(encoded)
+}
+
+/// The component of a document, which meets its target.
+fn encode_document(
+    document: &Document<'_>,
+    alloc: Global,
+    packages: &Packages<'_>,
+    numbers: Numbers,
+    options: EncodeOptions,
+) -> Result<Encoded, ComposeError>
+    ensures encoded { IfOk result (IsEncoded numbers.output) }
+    ensures late { IfErr result IsLate }
+{
+    let name = String::from_str(alloc, target_name(&document.directive))?;
+    let resolution = AstResolver::new(document).resolve(alloc, packages, numbers.graph)?;
+    encode_resolved(resolution, alloc, numbers, options, name)
+}
+
+/// A component under a name.
+fn output_of(
+    package: &PackageName<'_>,
+    alloc: Global,
+    encoded: Encoded,
+) -> Result<Output, AllocError>
+    ensures { IfOk result (IsNamed (view_package_name «package».now) encoded) }
+{
+    let name = String::from_str(alloc, package.name)?;
+    let version = version_again(package.version.as_ref())?;
+    Ok(Output {
+        bytes: encoded.bytes,
+        types: encoded.types,
+        world: encoded.world,
+        name,
+        version,
+    })
+}
+
+/// The options, with names tested.
+fn validated(options: EncodeOptions) -> EncodeOptions {
+    EncodeOptions {
+        define_components: options.define_components,
+        validate: true,
+        processor: options.processor,
+    }
+}
+
+/// What a document is composed to, by the next three numbers, and the number behind them.
+fn compose_document(
+    document: &Document<'_>,
+    alloc: Global,
+    packages: &Packages<'_>,
+    next: u64,
+    options: EncodeOptions,
+) -> Result<(Output, u64), ComposeError>
+    ensures output { IfOk result (λ r. IsOf next (view_package_name document.now.directive.«package») r.0) }
+    ensures after { IfOk result (λ r. r.1 ≡ next + 3) }
+    ensures refused { IfErr result (IsUnencoded next) }
+{
+    let numbers = numbers_from(next)?;
+    let encoded = encode_document(document, alloc, packages, numbers, validated(options))?;
+    let output = output_of(&document.directive.package, alloc, encoded)?;
+    Ok((output, numbers.after))
+}
+
+// A document is owned by one function, which looks at it by one method of a trait without its lifetime: a proof then need
+// not take the whole tree of types apart.
+
+/// Documents that are composed.
+trait ComposeDocument: Sized {
+    // the package that the directive names
+    ghost package_of: { Self → PackageTree };
+
+    /// What the document is composed to, by the next three numbers, and the number behind them.
+    fn compose(
+        &self,
+        alloc: Global,
+        packages: &Packages<'_>,
+        next: u64,
+        options: EncodeOptions,
+    ) -> Result<(Output, u64), ComposeError>
+        ensures output { IfOk result (λ r. IsOf next (package_of self.now) r.0) }
+        ensures after { IfOk result (λ r. r.1 ≡ next + 3) }
+        ensures refused { IfErr result (IsUnencoded next) };
+}
+
+impl<'s> ComposeDocument for Document<'s> {
+    ghost package_of = { λ d. view_package_name d.directive.«package» };
+
+    fn compose(
+        &self,
+        alloc: Global,
+        packages: &Packages<'_>,
+        next: u64,
+        options: EncodeOptions,
+    ) -> Result<(Output, u64), ComposeError> {
+        compose_document(self, alloc, packages, next, options)
+    }
+}
+
+/// What a source is composed to, by the next three numbers, over these packages, and the number behind.
+fn compose_source(
+    source: &str,
+    alloc: Global,
+    packages: &Packages<'_>,
+    next: u64,
+    options: EncodeOptions,
+) -> Result<(Output, u64), ComposeError>
+    ensures output { IfOk result (λ r. IsOutput next source.now r.0) }
+    ensures after { IfOk result (λ r. r.1 ≡ next + 3) }
+    ensures refused { IfErr result (IsUnmade next source.now) }
+{
+    let document: Document<'_> = ParseDocument::parse(alloc, source)?;
+    document.compose(alloc, packages, next, options)
+}
+
+/// The same over the packages of these entries.
+fn compose_over(
+    source: &str,
+    alloc: Global,
+    entries: &[Entry],
+    next: u64,
+    options: EncodeOptions,
+) -> Result<(Output, u64), ComposeError>
+    ensures output { IfOk result (λ r. IsOutput next source.now r.0) }
+    ensures after { IfOk result (λ r. r.1 ≡ next + 3) }
+    ensures refused { IfErr result (IsUnmade next source.now) }
+{
+    let packages = packages_of(alloc, entries)?;
+    compose_source(source, alloc, &packages, next, options)
+}
+
+impl Workspace {
+    ghost use Rattle.std.specs.Prelude.{◌≡◌, IfOk, IfErr, OnErr};
+    ghost use Rattle.wac_workspace.specs.Composing.{IsComposed, IsRefused};
+
+    /// Composes the component of the document that the source is. With components defined it is registered under the
+    /// directive's key, and later sources may instantiate it. Names are tested whatever the options say. Spans of faults
+    /// are offsets in the source, in bytes.
+    pub fn compose(&mut self, source: &str, options: EncodeOptions) -> Result<Output, ComposeError>
+        ensures composed { IfOk result (IsComposed self.old self.new source.now options.define_components) }
+        ensures refused { IfErr result (IsRefused self.old source.now options.define_components) }
+        ensures kept { OnErr result (self.new ≡ self.old) }
+    {
+        let define = options.define_components;
+        let (output, after) = compose_over(source, self.alloc, &self.entries, self.next, options)?;
+        if define {
+            self.register(&output)?;
+        }
+        self.next = after;
+        Ok(output)
+    }
+}
