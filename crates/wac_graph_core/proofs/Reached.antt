@@ -270,21 +270,21 @@ module _ (c : Collection) (m : NodeMap) (ty : TypeKind) where
     λ r. (those k).1 (r.0, r.1, record { source = r.2.source; id = r.2.uses.id; role = r.2.role; type = r.2.type; is = r.2.uses.is; marked = g.reached r.2.uses.id r.2.uses.reached }),
   )
     where
-    used : (k : ℕ) (x : NodeData) → map.get m k ≡ Some x → DefinesMarked marks x → IsUsedBy c ty x
-    used k x at d =
-        let stands = subst (Stands c) d.type (items k x at) in
-        let reached : Reaches c (ItemKind.Ty ty) d.id = elim (g.only (ItemKind.Ty d.source) d.id d.is (record { id = d.id; is = d.is; stands = stands; marked = d.marked })) [
-          | inl before ↦ absurd (unmarked n old d.id is before)
-          | inr r ↦ r
-        ] in
-        record { source = d.source; role = d.role; type = d.type; uses = record { id = d.id; is = d.is; reached = reached } }
+      used : (k : ℕ) (x : NodeData) → map.get m k ≡ Some x → DefinesMarked marks x → IsUsedBy c ty x
+      used k x at d =
+          let stands = subst (Stands c) d.type (items k x at) in
+          let reached : Reaches c (ItemKind.Ty ty) d.id = elim (g.only (ItemKind.Ty d.source) d.id d.is (record { id = d.id; is = d.is; stands = stands; marked = d.marked })) [
+            | inl before ↦ absurd (unmarked n old d.id is before)
+            | inr r ↦ r
+          ] in
+          record { source = d.source; role = d.role; type = d.type; uses = record { id = d.id; is = d.is; reached = reached } }
 
   pub users_those : (wanted : DefinedTypeId) (found : List ℕ) → Some wanted ≡ defined_in (ItemKind.Ty ty) → AreThose m (DefinesReaching c wanted) found → AreThose m (IsUserOf c ty) found
   users_those wanted found is those k = (
     λ h. let r = (those k).0 h in (r.0, r.1, record { target = r.2.target; role = r.2.role; type = r.2.type; uses = record { id = wanted; is = sym is; reached = r.2.reached } }),
     λ r.
-    let same = same_own (ItemKind.Ty ty) wanted r.2.uses.id (sym is) r.2.uses.is in
-    (those k).1 (r.0, r.1, record { target = r.2.target; role = r.2.role; type = r.2.type; reached = subst (Reaches c (ItemKind.Ty r.2.target)) same r.2.uses.reached }),
+        let same = same_own (ItemKind.Ty ty) wanted r.2.uses.id (sym is) r.2.uses.is in
+        (those k).1 (r.0, r.1, record { target = r.2.target; role = r.2.role; type = r.2.type; reached = subst (Reaches c (ItemKind.Ty r.2.target)) same r.2.uses.reached }),
   )
 
   pub no_users : (found : List ℕ) → None ≡ defined_in (ItemKind.Ty ty) → found ≡ [] → AreThose m (IsUserOf c ty) found

@@ -175,7 +175,14 @@ impl Nodes {
         let mut without = no_marks(alloc, types)?;
         let mut found = Vec::new(alloc);
         for (key, node) in self.slab.iter() {
-            gather_reaching(&mut found, node, NodeId::new(key), types, wanted, &mut without)?;
+            gather_reaching(
+                &mut found,
+                node,
+                NodeId::new(key),
+                types,
+                wanted,
+                &mut without,
+            )?;
         }
         Ok(found)
     }

@@ -8,11 +8,11 @@ ghost use Rattle.wac_parser_print.specs.Printing as text;
 ghost use Rattle.wac_parser_print.specs.Printers.{Adds};
 
 use crate::printer::DocumentPrinter;
-use wac_streams::ByteSink;
 use wac_parser_tree::{
     EnumCase, EnumDecl, Field, Flag, FlagsDecl, ItemTypeDecl, RecordDecl, Type, TypeAlias,
     TypeAliasKind, TypeDecl, VariantCase, VariantDecl,
 };
+use wac_streams::ByteSink;
 
 impl<W: ByteSink + Drop> DocumentPrinter<'_, W> {
     /// Adds the type of a case, if it has one.

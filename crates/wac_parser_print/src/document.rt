@@ -9,8 +9,8 @@ ghost use Rattle.wac_parser_print.specs.Printing as text;
 ghost use Rattle.wac_parser_print.specs.Printers.{Adds};
 
 use crate::printer::DocumentPrinter;
-use wac_streams::ByteSink;
 use wac_parser_tree::{Document, PackageDirective, PackagePath, Statement};
+use wac_streams::ByteSink;
 
 /// What is printed in a paragraph of its own.
 trait Paragraph {

@@ -8,11 +8,11 @@ ghost use Rattle.wac_parser_print.specs.Printing as text;
 ghost use Rattle.wac_parser_print.specs.Printers.{Adds};
 
 use crate::printer::DocumentPrinter;
-use wac_streams::ByteSink;
 use wac_parser_tree::{
     AccessExpr, Expr, InstantiationArgument, InstantiationArgumentName, NamedAccessExpr, NewExpr,
     PostfixExpr, PrimaryExpr,
 };
+use wac_streams::ByteSink;
 
 fn is_fill(argument: &InstantiationArgument<'_>) -> bool
     ensures { result ≡ text.is_fill (view_instantiation_argument argument.now) }

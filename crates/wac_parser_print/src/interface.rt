@@ -8,10 +8,10 @@ ghost use Rattle.wac_parser_print.specs.Printing as text;
 ghost use Rattle.wac_parser_print.specs.Printers.{Adds};
 
 use crate::printer::DocumentPrinter;
-use wac_streams::ByteSink;
 use wac_parser_tree::{
     Ident, InlineInterface, InterfaceDecl, InterfaceExport, InterfaceItem, Use, UseItem, UsePath,
 };
+use wac_streams::ByteSink;
 
 impl<W: ByteSink + Drop> DocumentPrinter<'_, W> {
     pub(crate) fn add_use_path(&mut self, path: &UsePath<'_>)

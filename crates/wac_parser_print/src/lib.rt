@@ -19,5 +19,5 @@ mod world;
 pub use error::PrintError;
 pub use laws::examples;
 pub use printer::DocumentPrinter;
-pub use wac_streams::ByteSink;
 pub use values::DocumentValue;
+pub use wac_streams::ByteSink;

@@ -7,7 +7,6 @@ ghost use Rattle.wac_parser_print.specs.Printers.{Prints};
 
 use crate::error::PrintError;
 use crate::printer::DocumentPrinter;
-use wac_streams::ByteSink;
 use wac_parser_tree::{
     AccessExpr, Constructor, DocComment, Document, EnumDecl, ExportStatement, Expr, ExternType,
     FlagsDecl, FuncType, FuncTypeRef, ImportStatement, ImportType, InlineInterface, InterfaceDecl,
@@ -17,6 +16,7 @@ use wac_parser_tree::{
     UsePath, VariantCase, VariantDecl, WorldDecl, WorldExport, WorldImport, WorldInclude,
     WorldItem, WorldItemPath, WorldRef,
 };
+use wac_streams::ByteSink;
 
 impl<W: ByteSink + Drop> DocumentPrinter<'_, W> {
     /// Prints a document: its doc comments, its directive, an empty line, and its statements with an empty

@@ -6,9 +6,9 @@ ghost use Rattle.wac_parser_print.specs.Texts.{word as word_text, slice as slice
 ghost use Rattle.wac_parser_print.specs.Printers.{Adds, Tells};
 
 use crate::error::PrintError;
-use wac_streams::{ByteSink, write_bytes};
 use std::marker::Model;
 use wac_parser_lexer::SourceSpan;
+use wac_streams::{ByteSink, write_bytes};
 
 /// Prints documents and their parts to a writer of bytes, as UTF-8 text.
 ///

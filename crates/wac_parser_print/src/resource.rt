@@ -7,8 +7,8 @@ ghost use Rattle.wac_parser_print.specs.Printing as text;
 ghost use Rattle.wac_parser_print.specs.Printers.{Adds};
 
 use crate::printer::DocumentPrinter;
-use wac_streams::ByteSink;
 use wac_parser_tree::{Constructor, Method, ResourceDecl, ResourceMethod};
+use wac_streams::ByteSink;
 
 impl<W: ByteSink + Drop> DocumentPrinter<'_, W> {
     pub(crate) fn add_constructor(&mut self, level: usize, constructor: &Constructor<'_>)

@@ -6,11 +6,11 @@ ghost use Rattle.wac_parser_print.specs.Printing as text;
 ghost use Rattle.wac_parser_print.specs.Printers.{Adds};
 
 use crate::printer::DocumentPrinter;
-use wac_streams::ByteSink;
 use wac_parser_tree::{
     ExportOptions, ExportStatement, ExternName, ImportStatement, ImportType, LetStatement,
     Statement, TypeStatement,
 };
+use wac_streams::ByteSink;
 
 impl<W: ByteSink + Drop> DocumentPrinter<'_, W> {
     pub(crate) fn add_import_type(&mut self, level: usize, ty: &ImportType<'_>)

@@ -7,11 +7,11 @@ ghost use Rattle.wac_parser_print.specs.Printing as text;
 ghost use Rattle.wac_parser_print.specs.Printers.{Adds};
 
 use crate::printer::DocumentPrinter;
-use wac_streams::ByteSink;
 use wac_parser_tree::{
     ExternType, NamedWorldItem, WorldDecl, WorldExport, WorldImport, WorldInclude,
     WorldIncludeItem, WorldItem, WorldItemPath, WorldRef,
 };
+use wac_streams::ByteSink;
 
 impl<W: ByteSink + Drop> DocumentPrinter<'_, W> {
     pub(crate) fn add_extern_type(&mut self, level: usize, ty: &ExternType<'_>)

@@ -7,9 +7,9 @@ use Rattle.wac_graph_core.proofs.Found.{same_name}
 differs : (m n : Name) → m ≢ n → pointwise ◌==◌ m n ≡ false
 differs m n h = by_test (pointwise ◌==◌ m n) refl
   where
-  by_test : (b : Bool) → pointwise ◌==◌ m n ≡ b → pointwise ◌==◌ m n ≡ false
-  by_test true is = absurd (h (same_text m n (sym is)))
-  by_test false is = is
+    by_test : (b : Bool) → pointwise ◌==◌ m n ≡ b → pointwise ◌==◌ m n ≡ false
+    by_test true is = absurd (h (same_text m n (sym is)))
+    by_test false is = is
 
 put_at : {T : Type 0} (b : Bool) (e : Name × T) (es : List (Name × T)) (n : Name) (v : T) → pointwise ◌==◌ n e.0 ≡ b → value_at (put_entry es n v) n ≡ Some v → value_at (cond b ((e.0, v) ∷ es) (e ∷ put_entry es n v)) n ≡ Some v
 put_at true e es n v is ih = ap (λ t. cond t (Some v) (value_at es n)) is

@@ -50,5 +50,5 @@ pub returns-clause-answer : goal.returns-clause-answer
 returns-clause-answer t c = (
   λ e. absurd (cc e),
   λ r. absurd (not_reached c.args.types.now c.args.kind c.args.wanted c.loop-place.at c.loop-place.without.items c.mark.new.marks.items c.requires.stands (λ is. absurd (cc (c.if-is_wanted.false, c.is_wanted.ensures.1 (c.defined_of-own.ensures ∙ is))))
-  (sym c.place.ensures.place ∙ c.in_default.is) c.loop-place.invariant (subst (λ o. Marks o c.loop-place.without.items c.mark.new.marks.items) c.defined_of-own.ensures c.mark.ensures) r),
+      (sym c.place.ensures.place ∙ c.in_default.is) c.loop-place.invariant (subst (λ o. Marks o c.loop-place.without.items c.mark.new.marks.items) c.defined_of-own.ensures c.mark.ensures) r),
 )
