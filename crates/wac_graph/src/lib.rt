@@ -2,7 +2,7 @@
 #![tactic(auto)]
 
 pub use wac_graph_bytes as bytes;
-pub use wac_graph_compose::{
+pub use wac_graph_encode::{
     EncodeError, EncodeGraph, EncodeOptions, Encoded, Processor, ValidationFault,
 };
 pub use wac_graph_core::{

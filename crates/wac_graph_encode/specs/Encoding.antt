@@ -14,13 +14,13 @@ use Rattle.wac_graph_bytes.specs.Typing.{Worlds}
 use Rattle.wac_graph_bytes.specs.Meaning.{Means}
 use Rattle.wac_graph_core.specs.Graph.{Graph, instantiated}
 use Rattle.wac_graph_core.specs.GraphWiring.{IsWiring}
-use Rattle.wac_graph_encode.specs.Asks.{asks_of}
-use Rattle.wac_graph_encode.specs.Classes.{spelling}
-use Rattle.wac_graph_encode.specs.OuterImports.{outer_imports}
-use Rattle.wac_graph_encode.specs.Written.{written_definition}
-use Rattle.wac_graph_encode.specs.Conflicts.{Cause, first_cause, name_cause, dependency_name}
-use Rattle.wac_graph_encode.specs.Worlds.{composed_world}
-use Rattle.wac_graph_encode.specs.Outlines.{IsSketched}
+use Rattle.wac_composition.specs.Asks.{asks_of}
+use Rattle.wac_composition.specs.Classes.{spelling}
+use Rattle.wac_composition.specs.OuterImports.{outer_imports}
+use Rattle.wac_composition.specs.Written.{written_definition}
+use Rattle.wac_composition.specs.Conflicts.{Cause, first_cause, name_cause, dependency_name}
+use Rattle.wac_composition.specs.Worlds.{composed_world}
+use Rattle.wac_composition.specs.Outlines.{IsSketched}
 use Rattle.wac_graph_encode.specs.Graphs.{composition_of}
 
 -- ---- the wiring of a graph, as its bytes have it

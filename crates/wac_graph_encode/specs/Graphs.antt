@@ -10,7 +10,7 @@ use Rattle.wac_graph_core.specs.declared.edge.Edge.{Edge}
 use Rattle.wac_graph_core.specs.declared.edge.Label.{Label}
 use Rattle.wac_graph_core.specs.Nodes.{NodeData, Role}
 use Rattle.wac_graph_core.specs.Graph.{Graph, node_at, package_if}
-use Rattle.wac_graph_encode.specs.Composition.{Origin, imported, instance, projected, defined, Placed, Made, Composition}
+use Rattle.wac_composition.specs.Composition.{Origin, imported, instance, projected, defined, Placed, Made, Composition}
 
 -- the nodes in order of their ids
 abbrev pub nodes_of : Graph → List (ℕ × NodeData)

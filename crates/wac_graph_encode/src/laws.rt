@@ -1,77 +1,9 @@
 //! Laws over the definitions alone: each is the contract of a function without a body.
 
-ghost use Rattle.std.specs.Prelude.{◌≡◌, ◌∷◌, [], map, Some, None, codes, true, false};
-ghost use Rattle.std.specs.Bool.{Decides};
-ghost use Rattle.wac_types_base.specs.Entries.{Name, names_of};
-ghost use Rattle.wac_types_names.specs.Tracks.{AreCompatible, IsLater};
-ghost use Rattle.wac_graph_encode.specs.Names.{compatible, is_later};
-ghost use Rattle.wac_types_base.specs.Collection.{Shape};
-ghost use Rattle.wac_types_base.specs.Tree.{Tree, tree};
-ghost use Rattle.wac_types_base.specs.Fits.{Fits};
-ghost use Rattle.wac_graph_encode.specs.Tests.{same_label, same_tree, fit};
-ghost use Rattle.wac_graph_encode.specs.Roots.{RootsRead};
-ghost use Rattle.wac_graph_encode.specs.Asks.{asks_of};
-ghost use Rattle.wac_graph_encode.specs.OuterImports.{outer_imports};
-ghost use Rattle.wac_graph_encode.specs.OuterLaws.{Kept_fits, Outer_fits, Asks_are_met, Accepted_are_met, Outers_are_apart};
-ghost use Rattle.wac_graph_encode.specs.Conflicts.{ImplicitImport, ExplicitImport, ImportTypes, Unwritable, ImportNames, first_cause, name_cause, dependencies_of};
-ghost use Rattle.wac_graph_encode.specs.Worlds.{composed_world, source_of};
-ghost use Rattle.wac_graph_encode.specs.Examples.{plain_func, named_instance, passing, older, newer, wider, using_types, types, one_instance, two_versions, clashing_versions, clashing_imports, one_identifier, used_interface, asked_twice, alike_names, nameless_resource, asked_value, twice_made, byte_list, defined_twice, lacks_used, given_another, given_renamed};
-ghost use Rattle.wac_graph_bytes.specs.Wirings.{Definition};
+ghost use Rattle.std.specs.Prelude.{◌≡◌, ◌∷◌, [], codes};
 ghost use Rattle.wac_graph_encode.specs.Graphs.{first_export};
 
-/// The tests of labels and trees say yes exactly of equal ones.
-pub fn tests_decide()
-    ensures labels { (s t : Shape) → Decides (same_label s t) (s ≡ t) }
-    ensures trees { (t u : Tree) → Decides (same_tree t u) (t ≡ u) }
-{}
-
-/// Where the test says that a tree fits another, it does.
-pub fn tests_of_fitting()
-    ensures { (t u : Tree) → fit t true u ≡ true → Fits t u }
-{}
-
-/// Types and imports that are written like the declarations of a type say the same as entries at the root.
-pub fn types_at_the_root()
-    ensures { RootsRead }
-{}
-
-/// Names that the tests call compatible or later are so, as the maps of names have it.
-pub fn names_are_compatible()
-    ensures compatible { (m n : Name) → compatible m n ≡ true → AreCompatible m n }
-    ensures later { (m n : Name) → is_later m n ≡ true → IsLater m n }
-{}
-
-/// What several asks of one outer import keep fits each of them, and so does the outer import of a
-/// class. Each ask whose class merges finds it under the spelling of its name; where nothing stands
-/// against a composition, that is each of its asks. No two outer imports have names on one track.
-pub fn outer_imports_fit()
-    ensures kept { Kept_fits }
-    ensures outer { Outer_fits }
-    ensures met { Asks_are_met }
-    ensures accepted { Accepted_are_met }
-    ensures apart { Outers_are_apart }
-{}
-
-/// Compositions from outside: what they import, and why some cannot be written.
-pub fn examples()
-    ensures one_instance { outer_imports (asks_of one_instance) ≡ (codes "f", plain_func) ∷ [] }
-    ensures its_world { composed_world one_instance ≡ passing }
-    ensures no_cause { first_cause true one_instance ≡ None }
-    ensures greatest_version { outer_imports (asks_of two_versions) ≡ (newer, named_instance newer wider) ∷ [] }
-    ensures types_clash { first_cause true clashing_versions ≡ Some (ImportTypes newer 0 1) }
-    ensures imports_clash { first_cause true clashing_imports ≡ Some (ExplicitImport newer 0 1) }
-    ensures one_identifier { outer_imports (asks_of one_identifier) ≡ (codes "a:b/c", named_instance (codes "a:b/i") wider) ∷ [] }
-    ensures used_interface { outer_imports (asks_of used_interface) ≡ (codes "a:b/i", using_types) ∷ (codes "a:b/t", types) ∷ [] }
-    ensures used_is_writable { first_cause true used_interface ≡ None }
-    ensures asked_twice { first_cause true asked_twice ≡ Some (ImplicitImport (codes "f") 0 1) }
-    ensures alike { name_cause true true alike_names ≡ Some (ImportNames (codes "foo") (codes "FOO")) }
-    ensures not_validated { name_cause true false alike_names ≡ None }
-    ensures nameless_resource { first_cause true nameless_resource ≡ Some (Unwritable (codes "f")) }
-    ensures asked_value { first_cause true asked_value ≡ Some (Unwritable (codes "v")) }
-    ensures defined_apart { map (λ e. source_of (asks_of defined_twice) e.1) defined_twice.exports ≡ Definition (tree byte_list) ∷ [] }
-    ensures lacks_used { first_cause true lacks_used ≡ Some (Unwritable (codes "c")) }
-    ensures given_another { first_cause true given_another ≡ Some (Unwritable (codes "a:b/i")) }
-    ensures given_renamed { first_cause true given_renamed ≡ Some (Unwritable (codes "a:b/i")) }
-    ensures first_name { first_export ((codes "w", 0) ∷ (codes "z", 0) ∷ []) 0 ≡ codes "w" }
-    ensures imported_once { names_of (dependencies_of false twice_made) ≡ codes "unlocked-dep=<p:p>" ∷ [] }
+/// A definition that leads to several exports has the name of the first.
+pub fn first_name_of_a_definition()
+    ensures { first_export ((codes "w", 0) ∷ (codes "z", 0) ∷ []) 0 ≡ codes "w" }
 {}

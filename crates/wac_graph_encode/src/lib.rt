@@ -1,17 +1,27 @@
 //! The bytes and the world of a composition graph.
 #![tactic(auto)]
 
-mod core_items;
-mod entry;
-pub mod fault;
-pub mod imports;
-pub mod items;
+mod asks;
+mod classes;
+mod conflicts;
+mod copies;
+pub mod encode;
+pub mod errors;
+mod holder;
+mod instances;
 mod laws;
-pub mod order;
-pub mod parts;
-pub mod prints;
-pub mod scope;
-pub mod used;
-mod value;
+mod modules;
+mod nodes;
+pub mod options;
+mod outers;
+mod root;
+mod unnamed;
+mod world;
+mod writable;
+mod written;
 
-pub use laws::{examples, names_are_compatible, tests_decide, tests_of_fitting, types_at_the_root};
+pub use encode::EncodeGraph;
+pub use errors::{EncodeError, ValidationFault};
+pub use laws::first_name_of_a_definition;
+pub use options::{EncodeOptions, Encoded};
+pub use wac_graph_bytes::Processor;

@@ -6,11 +6,11 @@ use Rattle.wac_types_base.specs.Entries.{Name, value_at}
 use Rattle.wac_types_base.specs.Stated.{Stated, imports_of}
 use Rattle.wac_types_names.specs.Keys.{Key}
 use Rattle.wac_graph_bytes.specs.Wirings.{Source, Absent, Outer, Inst, Projection, Bundle, Definition, project, Uses, Instantiation, Wiring, IsOrdered}
-use Rattle.wac_graph_encode.specs.Asks.{Ask, asks_of}
-use Rattle.wac_graph_encode.specs.Worlds.{source_of}
-use Rattle.wac_graph_encode.specs.Composition as c
-use Rattle.wac_graph_encode.specs.Composition.{Composition}
-use Rattle.wac_graph_encode.specs.Conflicts.{first_cause, name_cause}
+use Rattle.wac_composition.specs.Asks.{Ask, asks_of}
+use Rattle.wac_composition.specs.Worlds.{source_of}
+use Rattle.wac_composition.specs.Composition as c
+use Rattle.wac_composition.specs.Composition.{Composition}
+use Rattle.wac_composition.specs.Conflicts.{first_cause, name_cause}
 use Rattle.wac_parser_tree.specs.Trees as t
 use Rattle.wac_parser_declare.specs.Causes.{Answer, ◌>>=◌, ◌>>◌, pure}
 use Rattle.wac_parser_declare.specs.Scope.{world_under}

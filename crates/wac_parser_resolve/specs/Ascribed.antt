@@ -6,14 +6,14 @@ use Rattle.wac_types_base.specs.Stated.{Stated, imports_of}
 use Rattle.wac_types_base.specs.Tree.{tree}
 use Rattle.wac_types_names.specs.Keys.{Key}
 use Rattle.wac_graph_bytes.specs.Wirings.{Source, Absent, Outer, OfBytes, Instantiation, Wiring}
-use Rattle.wac_graph_encode.specs.Asks.{asks_of}
-use Rattle.wac_graph_encode.specs.Classes.{spelling}
-use Rattle.wac_graph_encode.specs.OuterImports.{outer_imports}
-use Rattle.wac_graph_encode.specs.Worlds.{source_of}
-use Rattle.wac_graph_encode.specs.Composition as c
-use Rattle.wac_graph_encode.specs.Composition.{Composition, Placed}
-use Rattle.wac_graph_encode.specs.Conflicts as cause
-use Rattle.wac_graph_encode.specs.Conflicts.{first_cause, name_cause}
+use Rattle.wac_composition.specs.Asks.{asks_of}
+use Rattle.wac_composition.specs.Classes.{spelling}
+use Rattle.wac_composition.specs.OuterImports.{outer_imports}
+use Rattle.wac_composition.specs.Worlds.{source_of}
+use Rattle.wac_composition.specs.Composition as c
+use Rattle.wac_composition.specs.Composition.{Composition, Placed}
+use Rattle.wac_composition.specs.Conflicts as cause
+use Rattle.wac_composition.specs.Conflicts.{first_cause, name_cause}
 use Rattle.wac_parser_tree.specs.Trees as t
 use Rattle.wac_parser_tree.specs.Trees.{Span}
 use Rattle.wac_parser_declare.specs.Causes.{Answer, Cause, Fault, ◌>>=◌, ◌>>◌, pure, ImportConflict, ExplicitImportConflict, InstantiationArgMergeFailure, TypeCannotBeWritten, ValidationFailure}

@@ -3,8 +3,8 @@ use Rattle.std.specs.Prelude.{ℕ, Bool, true, false, not, ◌&&◌, List, [], �
 use Rattle.wac_types_base.specs.Entries.{Name, value_at, names_of, has_name}
 use Rattle.wac_types_base.specs.Stated.{Stated, Kind, IsInstance, kind_of, desc, exports_of, imports_of, identifier_of, instance_type}
 use Rattle.wac_types_names.specs.Keys.{Key}
-use Rattle.wac_graph_encode.specs.Tests.{fits}
-use Rattle.wac_graph_encode.specs.Written.{written_definition}
+use Rattle.wac_composition.specs.Tests.{fits}
+use Rattle.wac_composition.specs.Written.{written_definition}
 use Rattle.wac_parser_tree.specs.Trees as t
 use Rattle.wac_parser_tree.specs.Trees.{Span}
 use Rattle.wac_parser_declare.specs.declared.error.InstanceOperation.{InstanceOperation}

@@ -3,8 +3,8 @@ use Rattle.std.specs.Prelude.{◌≡◌, ℕ, List, Some, Ok, slice_get}
 use Rattle.wac_types_base.specs.Stated.{Stated}
 use Rattle.wac_types_names.specs.Keys.{Key}
 use Rattle.wac_graph_bytes.specs.Wirings.{IsOrdered}
-use Rattle.wac_graph_encode.specs.Composition as c
-use Rattle.wac_graph_encode.specs.Composition.{Composition}
+use Rattle.wac_composition.specs.Composition as c
+use Rattle.wac_composition.specs.Composition.{Composition}
 use Rattle.wac_parser_tree.specs.Trees as t
 use Rattle.wac_parser_declare.specs.Scope.{world_under}
 use Rattle.wac_parser_resolve.specs.Ascribed.{Asker, ascribed, ascribed_wiring}

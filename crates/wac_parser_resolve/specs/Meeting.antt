@@ -5,7 +5,7 @@ use Rattle.wac_types_base.specs.declared.item.ExternKind.{ExternKind}
 use Rattle.wac_types_base.specs.Entries.{Name, value_at}
 use Rattle.wac_types_base.specs.Stated.{Stated, Kind, IsWorld, Used, kind_of, desc, promote, untyped, exports_of, imports_of, uses_of, identifier_of}
 use Rattle.wac_types_names.specs.Keys.{Key}
-use Rattle.wac_graph_encode.specs.Tests.{fits}
+use Rattle.wac_composition.specs.Tests.{fits}
 use Rattle.wac_parser_tree.specs.Trees as t
 use Rattle.wac_parser_tree.specs.Trees.{Span}
 use Rattle.wac_parser_declare.specs.Causes.{Answer, Fault, ◌>>=◌, ◌>>◌, pure, refuse, unless_clear, each, NotWorld, TypeCannotBeWritten, ImportNotInTarget, TargetMismatch, MissingTargetExport}

@@ -2,7 +2,7 @@
 use Rattle.std.specs.Prelude.{◌≡◌, Option, Some, None, codes, string_bytes}
 use Rattle.wac_types_base.specs.Entries.{Name}
 use Rattle.wac_graph_bytes.specs.declared.entry.Processor.{Processor}
-use Rattle.wac_graph_compose.specs.declared.options.EncodeOptions.{EncodeOptions}
+use Rattle.wac_graph_encode.specs.declared.options.EncodeOptions.{EncodeOptions}
 
 -- the processor given, else this project's
 abbrev pub HasProcessor : Option Processor → Option Processor → Type 0

@@ -3,12 +3,12 @@
 ghost use Rattle.std.specs.Prelude.{◌≡◌, IfOk, Some};
 ghost use Rattle.wac_types_base.specs.declared.item.ItemKind.{ItemKind};
 ghost use Rattle.wac_types_base.specs.Collection.{Stands};
-ghost use Rattle.wac_graph_compose.specs.Acyclic.{IsNoCycle};
+ghost use Rattle.wac_graph_encode.specs.Acyclic.{IsNoCycle};
 ghost use Rattle.wac_parser_resolve.specs.Processing.{IsProcessed};
 
 use crate::resolver::Resolved;
 use wac_graph_bytes::Processor;
-use wac_graph_compose::{EncodeError, EncodeGraph, EncodeOptions, Encoded, ValidationFault};
+use wac_graph_encode::{EncodeError, EncodeGraph, EncodeOptions, Encoded, ValidationFault};
 use wac_graph_core::NodeId;
 use wac_parser_declare::{Error, ResolutionResult};
 use wac_parser_lexer::SourceSpan;

@@ -15,7 +15,7 @@ pub use errors::{AddPackageError, ComposeError, StreamError};
 pub use output::Output;
 pub use read::{MAX_SOURCE_LENGTH, read_source};
 pub use stream::compose_stream;
-pub use wac_graph_compose::{EncodeOptions, Processor};
+pub use wac_graph_encode::{EncodeOptions, Processor};
 pub use wac_parser_resolve::PackageRef;
 pub use wac_streams::{ByteSink, ByteSource, WriteError, write_bytes};
 pub use workspace::Workspace;

@@ -7,7 +7,7 @@ ghost use Rattle.wac_workspace.specs.Streaming.{IsStreamed, IsStopped};
 use crate::errors::StreamError;
 use crate::read::{MAX_SOURCE_LENGTH, read_source};
 use crate::workspace::Workspace;
-use wac_graph_compose::EncodeOptions;
+use wac_graph_encode::EncodeOptions;
 use wac_streams::{ByteSink, ByteSource, write_bytes};
 
 /// Writes the bytes of a component.

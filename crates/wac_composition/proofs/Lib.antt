@@ -1,0 +1,7 @@
+pub mod TestLaws
+pub mod NameLaws
+pub mod FitLaws
+pub mod KeptFits
+pub mod Closures
+pub mod OuterClasses
+pub mod Merged

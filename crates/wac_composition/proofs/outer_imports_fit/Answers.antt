@@ -1,0 +1,19 @@
+use Rattle.wac_composition.proofs.KeptFits.{kept_fits, outer_fits}
+use Rattle.wac_composition.proofs.OuterClasses.{asks_are_met, outers_are_apart}
+use Rattle.wac_composition.proofs.Merged.{all_met}
+use Rattle.wac_composition.proofs.outer_imports_fit.Goals as goal
+
+pub returns-clause-kept : goal.returns-clause-kept
+returns-clause-kept c = kept_fits
+
+pub returns-clause-outer : goal.returns-clause-outer
+returns-clause-outer c = λ asks n x e a m. outer_fits asks n x e a m
+
+pub returns-clause-met : goal.returns-clause-met
+returns-clause-met c = λ asks a n x m e. asks_are_met asks a n x m e
+
+pub returns-clause-apart : goal.returns-clause-apart
+returns-clause-apart c = outers_are_apart
+
+pub returns-clause-accepted : goal.returns-clause-accepted
+returns-clause-accepted c = λ define x e a m. let h = all_met define x e a m in record { item = h.0; there = h.1; fits = h.2 }

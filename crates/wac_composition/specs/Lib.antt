@@ -1,0 +1,14 @@
+pub mod Names
+pub mod Composition
+pub mod Asks
+pub mod Tests
+pub mod Classes
+pub mod Merging
+pub mod OuterImports
+pub mod Written
+pub mod Writable
+pub mod Conflicts
+pub mod Worlds
+pub mod Outlines
+pub mod OuterLaws
+pub mod Examples

@@ -1,0 +1,40 @@
+-- What holds of outer imports.
+use Rattle.std.specs.Prelude.{◌≡◌, ℕ, Bool, List, Some, None, true}
+use Rattle.wac_types_base.specs.Entries.{Name, value_at}
+use Rattle.wac_types_base.specs.Graph.{Among}
+use Rattle.wac_types_base.specs.Stated.{Stated}
+use Rattle.wac_types_base.specs.Tree.{tree}
+use Rattle.wac_types_base.specs.Fits.{Fits}
+use Rattle.wac_composition.specs.Names.{compatible}
+use Rattle.wac_composition.specs.Composition.{Composition}
+use Rattle.wac_composition.specs.Asks.{Ask, asks_of}
+use Rattle.wac_composition.specs.Merging.{Asked, kept}
+use Rattle.wac_composition.specs.Classes.{class, spelling}
+use Rattle.wac_composition.specs.OuterImports.{outer_of, outer_imports}
+use Rattle.wac_composition.specs.Conflicts.{first_cause}
+
+-- what several asks keep fits each of them
+abbrev pub Kept_fits : Type 0
+Kept_fits = (asks : List Asked) (x : Stated) → kept asks ≡ Some x → (a : Asked) → Among a asks → Fits (tree x) (tree a.1)
+
+-- and so does the outer import of a class
+abbrev pub Outer_fits : Type 0
+Outer_fits = (asks : List (Ask ℕ)) (n : Name) (x : Stated) → outer_of asks ≡ Some (n, x) → (a : Ask ℕ) → Among a asks → Fits (tree x) (tree a.item)
+
+-- each ask whose class merges finds an outer import under the spelling of its name, that fits it
+abbrev pub Asks_are_met : Type 0
+Asks_are_met = (asks : List (Ask ℕ)) (a : Ask ℕ) (n : Name) (x : Stated) → Among a asks → outer_of (class asks a) ≡ Some (n, x) → (spelling asks a.name ≡ n) × (value_at (outer_imports asks) n ≡ Some x) × Fits (tree x) (tree a.item)
+
+-- no two outer imports have equal names, or names on one track
+abbrev pub Outers_are_apart : Type 0
+Outers_are_apart = (asks : List (Ask ℕ)) (n m : Name) (x y : Stated) → value_at (outer_imports asks) n ≡ Some x → value_at (outer_imports asks) m ≡ Some y → compatible n m ≡ true → n ≡ m
+
+-- under the spelling of its name there is an outer import that fits the ask
+pub record IsMet (asks : List (Ask ℕ)) (a : Ask ℕ) : Type 0 where
+  pub item : Stated
+  pub there : value_at (outer_imports asks) (spelling asks a.name) ≡ Some item
+  pub fits : Fits (tree item) (tree a.item)
+
+-- where nothing stands against a composition, each of its asks is met
+abbrev pub Accepted_are_met : Type 0
+Accepted_are_met = (define : Bool) (c : Composition ℕ ℕ) → first_cause define c ≡ None → (a : Ask ℕ) → Among a (asks_of c) → IsMet (asks_of c) a

@@ -1,4 +1,0 @@
-use Rattle.wac_graph_compose.proofs.classes.first_of.Given as goal
-
-abbrev pub decreases-loop-before : goal.decreases-loop-before
-decreases-loop-before l = l.first

@@ -1,5 +1,0 @@
-use Rattle.wac_graph_encode.proofs.NameLaws.{compatible_is, later_is}
-use Rattle.wac_graph_encode.proofs.laws.names_are_compatible.Goals as goal
-
-pub returns : goal.returns
-returns c = record { compatible = compatible_is; later = later_is }

@@ -1,6 +1,0 @@
-use Rattle.std.proofs.Common.{refl}
-use Rattle.wac_graph_encode.proofs.ScopeLaws.{scope_empty}
-use Rattle.wac_graph_encode.proofs.scope.TypeScope.new.Goals as goal
-
-pub returns : goal.returns
-returns c w cc outer = scope_empty w cc outer _ c.new-declarations.ensures.items refl c.new-known.ensures.items c.new-resources.ensures

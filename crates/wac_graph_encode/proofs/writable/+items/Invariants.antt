@@ -1,0 +1,43 @@
+use Rattle.std.proofs.Common.{◌+◌, ◌*◌}
+use Rattle.wac_types_base.specs.declared.item.ItemKind.{ItemKind}
+use Rattle.wac_types_base.specs.Collection.{size_of}
+use Rattle.wac_graph_encode.proofs.writable.+items.Given as goal
+
+abbrev pub decreases-item_fails : goal.decreases-item_fails
+decreases-item_fails l = 16 * size_of l.test.types.now l.item.kind + 8
+
+abbrev pub decreases-interface_fails : goal.decreases-interface_fails
+decreases-interface_fails l = 16 * size_of l.test.types.now (ItemKind.Instance l.id) + 7
+
+abbrev pub decreases-exports_fail : goal.decreases-exports_fail
+decreases-exports_fail l = 16 * size_of l.test.types.now (ItemKind.Instance l.id) + 6
+
+abbrev pub decreases-world_fails : goal.decreases-world_fails
+decreases-world_fails l = 16 * size_of l.test.types.now (ItemKind.Component l.id) + 7
+
+abbrev pub decreases-world_uses_fail : goal.decreases-world_uses_fail
+decreases-world_uses_fail l = 16 * size_of l.test.types.now (ItemKind.Component l.id) + 6
+
+abbrev pub decreases-uses_of_imports_fail : goal.decreases-uses_of_imports_fail
+decreases-uses_of_imports_fail l = 16 * size_of l.test.types.now (ItemKind.Component l.id) + 6
+
+abbrev pub decreases-uses_of_exports_fail : goal.decreases-uses_of_exports_fail
+decreases-uses_of_exports_fail l = 16 * size_of l.test.types.now (ItemKind.Component l.id) + 6
+
+abbrev pub decreases-imports_fail : goal.decreases-imports_fail
+decreases-imports_fail l = 16 * size_of l.test.types.now (ItemKind.Component l.id) + 6
+
+abbrev pub decreases-world_exports_fail : goal.decreases-world_exports_fail
+decreases-world_exports_fail l = 16 * size_of l.test.types.now (ItemKind.Component l.id) + 6
+
+abbrev pub decreases-use_fails : goal.decreases-use_fails
+decreases-use_fails l = 16 * size_of l.test.types.now (ItemKind.Instance l.used.interface) + 9
+
+abbrev pub decreases-types_fail : goal.decreases-types_fail
+decreases-types_fail l = 16 * size_of l.test.types.now (ItemKind.Instance l.id) + 8
+
+abbrev pub decreases-direct_fails : goal.decreases-direct_fails
+decreases-direct_fails l = 16 * size_of l.test.types.now (ItemKind.Instance l.id) + 7
+
+abbrev pub decreases-uses_fail : goal.decreases-uses_fail
+decreases-uses_fail l = 16 * size_of l.test.types.now l.kind + 8

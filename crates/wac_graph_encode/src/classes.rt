@@ -1,0 +1,179 @@
+//! Which asks are one outer import, and how it is spelled.
+
+use crate::asks::Ask;
+use semver::Version;
+use std::alloc::{AllocError, Global};
+use std::cmp::Ordering;
+use wac_graph_bytes::{NameKind, component_name};
+use wac_graph_scopes::parts::identifier;
+use wac_types_base::{ItemKind, NamedMap, Types};
+use wac_types_names::alternate_lookup_key;
+
+/// An asked name: its track with its version, and the identifier of the instance that is asked under it.
+#[derive(Drop)]
+struct Named<'a> {
+    name: &'a str,
+    track: Option<(&'a str, Version)>,
+    identifier: Option<&'a str>,
+}
+
+/// The identifier of an instance that is asked under the name of an interface.
+fn identifier_asked<'a>(
+    alloc: Global,
+    types: &'a Types,
+    ask: &Ask,
+) -> Result<Option<&'a str>, AllocError> {
+    let ItemKind::Instance(id) = ask.item else {
+        return Ok(None);
+    };
+    match component_name(alloc, ask.name.as_str())? {
+        Some(NameKind::Interface) => Ok(identifier(types, id)),
+        _ => Ok(None),
+    }
+}
+
+fn name_asked<'a>(alloc: Global, types: &'a Types, ask: &'a Ask) -> Result<Named<'a>, AllocError> {
+    let name = ask.name.as_str();
+    Ok(Named {
+        name,
+        track: alternate_lookup_key(alloc, name)?,
+        identifier: identifier_asked(alloc, types, ask)?,
+    })
+}
+
+impl Named<'_> {
+    /// Whether it is on the other's track, with a greater version.
+    fn is_later(&self, other: &Named<'_>) -> bool {
+        match (&self.track, &other.track) {
+            (Some((track, version)), Some((other, before))) => {
+                track == other && version.cmp(before) == Ordering::Greater
+            }
+            _ => false,
+        }
+    }
+}
+
+/// The classes of asks, each called by the place of its first ask.
+#[derive(Drop)]
+pub(crate) struct Classes {
+    /// Of each ask.
+    pub labels: Vec<usize>,
+    /// By the class, the ask that spells it.
+    pub spellings: Vec<usize>,
+}
+
+/// The place that is kept there, or that place itself.
+fn place_at(places: &[usize], at: usize) -> usize {
+    match places.get(at) {
+        Some(place) => *place,
+        None => at,
+    }
+}
+
+/// The first of the asks that are joined with this one so far.
+fn first_of(labels: &[usize], at: usize) -> usize {
+    let mut first = at;
+    let mut before = place_at(labels, at);
+    while before < first {
+        first = before;
+        before = place_at(labels, first);
+    }
+    first
+}
+
+/// Makes two classes one.
+fn join(labels: &mut Vec<usize>, a: usize, b: usize) {
+    let first = first_of(labels, a);
+    let second = first_of(labels, b);
+    let (first, second) = if first < second {
+        (first, second)
+    } else {
+        (second, first)
+    };
+    if let Some(label) = labels.get_mut(second) {
+        *label = first;
+    }
+}
+
+/// Joins an ask with the first that has a word, if there is one.
+fn join_by(
+    alloc: Global,
+    firsts: &mut NamedMap<usize>,
+    labels: &mut Vec<usize>,
+    word: &str,
+    at: usize,
+) -> Result<(), AllocError> {
+    if let Some(first) = firsts.get(word) {
+        join(labels, *first, at);
+        return Ok(());
+    }
+    let _ = firsts.insert(String::from_str(alloc, word)?, at)?;
+    Ok(())
+}
+
+/// The classes: asks of one name, one track or one identifier are joined.
+fn labels_of(alloc: Global, names: &[Named<'_>]) -> Result<Vec<usize>, AllocError> {
+    let mut labels = Vec::new(alloc);
+    let mut by_name = NamedMap::new(alloc);
+    let mut by_track = NamedMap::new(alloc);
+    let mut by_identifier = NamedMap::new(alloc);
+    for (at, name) in names.iter().enumerate() {
+        labels.push(at)?;
+        join_by(alloc, &mut by_name, &mut labels, name.name, at)?;
+        if let Some((track, _)) = &name.track {
+            join_by(alloc, &mut by_track, &mut labels, track, at)?;
+        }
+        if let Some(identifier) = name.identifier {
+            join_by(alloc, &mut by_identifier, &mut labels, identifier, at)?;
+        }
+    }
+    for at in 0..names.len() {
+        let first = first_of(&labels, at);
+        if let Some(label) = labels.get_mut(at) {
+            *label = first;
+        }
+    }
+    Ok(labels)
+}
+
+/// Of each class the ask of greatest version on the track of its first ask.
+fn spellings_of(
+    alloc: Global,
+    names: &[Named<'_>],
+    labels: &[usize],
+) -> Result<Vec<usize>, AllocError> {
+    let mut best = Vec::new(alloc);
+    for (at, name) in names.iter().enumerate() {
+        best.push(at)?;
+        let class = place_at(labels, at);
+        if let Some(other) = names.get(place_at(&best, class)) {
+            if name.is_later(other) {
+                if let Some(place) = best.get_mut(class) {
+                    *place = at;
+                }
+            }
+        }
+    }
+    Ok(best)
+}
+
+/// The classes of asks.
+pub(crate) fn classes_of(
+    alloc: Global,
+    types: &Types,
+    asks: &[Ask],
+) -> Result<Classes, AllocError> {
+    let mut names = Vec::new(alloc);
+    for ask in asks {
+        names.push(name_asked(alloc, types, ask)?)?;
+    }
+    let labels = labels_of(alloc, &names)?;
+    let spellings = spellings_of(alloc, &names, &labels)?;
+    Ok(Classes { labels, spellings })
+}
+
+/// Whether a name is on a track.
+pub(crate) fn has_track(alloc: Global, name: &str) -> Result<bool, AllocError> {
+    let key = alternate_lookup_key(alloc, name)?;
+    Ok(key.is_some())
+}

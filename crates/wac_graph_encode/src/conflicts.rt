@@ -1,0 +1,319 @@
+//! Why a composition cannot be written: the first cause in order.
+
+use crate::asks::{Ask, Asked, Asking, Definition};
+use crate::errors::{Refusal, ValidationFault};
+use crate::holder::Holder;
+use crate::nodes::{kind_of, package_at, package_of};
+use crate::options::EncodeOptions;
+use crate::outers::Outers;
+use crate::unnamed::Unnamed;
+use crate::writable::{Test, is_unwritable_definition, is_unwritable_package, unwritable_outer};
+use semver::Version;
+use std::alloc::{AllocError, Global};
+use wac_graph_core::{CompositionGraph, NodeId, PackageId};
+use wac_graph_scopes::parts::{Item, import_at, import_count};
+use wac_types_base::{ItemKind, NamedMap, Text, Types};
+use wac_types_names::{Package, PackageKey};
+
+// ---- an import that is asked by its name and by an instance
+
+/// The imports, by their names.
+fn imports_named(alloc: Global, asks: &[Ask]) -> Result<NamedMap<NodeId>, AllocError> {
+    let mut imports = NamedMap::new(alloc);
+    for ask in asks {
+        if ask.asking == Asking::ByName {
+            let name = String::from_str(alloc, ask.name.as_str())?;
+            let _ = imports.insert(name, ask.by)?;
+        }
+    }
+    Ok(imports)
+}
+
+/// The package of an instance.
+fn instantiated(graph: &CompositionGraph, id: NodeId) -> Option<&Package> {
+    match package_of(graph, id) {
+        Some(package) => package_at(graph, package),
+        None => None,
+    }
+}
+
+fn implicit_conflict(
+    alloc: Global,
+    package: &Package,
+    import: NodeId,
+    ask: &Ask,
+) -> Result<Refusal, AllocError> {
+    Ok(Refusal::ImplicitImportConflict {
+        import,
+        instantiation: ask.by,
+        package: PackageKey::new(alloc, package)?,
+        name: String::from_str(alloc, ask.name.as_str())?,
+    })
+}
+
+/// No instance fills an import that has exactly the name of an import of the graph.
+pub(crate) fn check_implicit(
+    alloc: Global,
+    graph: &CompositionGraph,
+    asks: &[Ask],
+) -> Result<(), Refusal> {
+    let imports = imports_named(alloc, asks)?;
+    for ask in asks {
+        if ask.asking == Asking::ToFill {
+            if let Some(import) = imports.get(ask.name.as_str()) {
+                if let Some(package) = instantiated(graph, ask.by) {
+                    return Err(implicit_conflict(alloc, package, *import, ask)?);
+                }
+            }
+        }
+    }
+    Ok(())
+}
+
+// ---- types that cannot be written
+
+fn unwritable(alloc: Global, name: &str) -> Refusal {
+    match String::from_str(alloc, name) {
+        Ok(name) => Refusal::TypeCannotBeWritten { name },
+        Err(_) => Refusal::Memory,
+    }
+}
+
+/// Whether a node's item is a value.
+fn is_value(graph: &CompositionGraph, node: NodeId) -> bool {
+    match kind_of(graph, node) {
+        Some(kind) => matches!(kind, ItemKind::Value(_)),
+        None => false,
+    }
+}
+
+/// No alias is of a value item.
+fn check_aliases(alloc: Global, graph: &CompositionGraph) -> Result<(), Refusal> {
+    for node in graph.node_ids() {
+        if is_value(graph, node) {
+            if let Some((_, name)) = graph.get_alias_source(node) {
+                return Err(unwritable(alloc, name));
+            }
+        }
+    }
+    Ok(())
+}
+
+fn test_of<'a>(alloc: Global, types: &'a Types, unnamed: &'a Unnamed, is_outer: bool) -> Test<'a> {
+    Test {
+        alloc,
+        types,
+        unnamed,
+        is_outer,
+    }
+}
+
+fn check_outers(
+    alloc: Global,
+    asked: &Asked,
+    unnamed: &Unnamed,
+    outers: &Outers,
+) -> Result<(), Refusal> {
+    let test = test_of(alloc, &asked.types, unnamed, true);
+    match unwritable_outer(test, outers.world)? {
+        Some(at) => match import_at(&asked.types, outers.world, at) {
+            Some(import) => Err(unwritable(alloc, import.name)),
+            None => Ok(()),
+        },
+        None => Ok(()),
+    }
+}
+
+/// Whether a definition cannot be written, beside the outer imports.
+fn is_unwritable(
+    test: Test<'_>,
+    types: &Types,
+    outers: &mut Holder,
+    definition: &Definition,
+) -> Result<bool, AllocError> {
+    let name = definition.name.as_str();
+    match definition.copy {
+        Some(kind) => is_unwritable_definition(test, outers, Item { name, kind }),
+        None => {
+            let test = test_of(test.alloc, types, test.unnamed, test.is_outer);
+            let kind = ItemKind::Ty(definition.ty);
+            is_unwritable_definition(test, outers, Item { name, kind })
+        }
+    }
+}
+
+fn check_definitions(
+    alloc: Global,
+    graph: &CompositionGraph,
+    asked: &Asked,
+    unnamed: &Unnamed,
+    outers: &Outers,
+) -> Result<(), Refusal> {
+    let test = test_of(alloc, &asked.types, unnamed, false);
+    let mut holder = Holder::new(alloc);
+    holder.add_world(&asked.types, outers.world)?;
+    for definition in &asked.definitions {
+        if is_unwritable(test, graph.types(), &mut holder, definition)? {
+            return Err(unwritable(alloc, definition.name.as_str()));
+        }
+    }
+    Ok(())
+}
+
+fn check_packages(
+    alloc: Global,
+    graph: &CompositionGraph,
+    asked: &Asked,
+    unnamed: &Unnamed,
+) -> Result<(), Refusal> {
+    let test = test_of(alloc, &asked.types, unnamed, true);
+    for (id, world) in asked.packages.iter() {
+        if is_unwritable_package(test, *world)? {
+            let name = dependency_name(alloc, graph, *id)?;
+            return Err(Refusal::TypeCannotBeWritten { name });
+        }
+    }
+    Ok(())
+}
+
+/// Each type that is written can be written.
+pub(crate) fn check_writable(
+    alloc: Global,
+    graph: &CompositionGraph,
+    asked: &Asked,
+    outers: &Outers,
+    options: &EncodeOptions,
+) -> Result<(), Refusal> {
+    check_aliases(alloc, graph)?;
+    let unnamed = Unnamed::all(alloc, &asked.types)?;
+    check_outers(alloc, asked, &unnamed, outers)?;
+    check_definitions(alloc, graph, asked, &unnamed, outers)?;
+    if !options.define_components {
+        check_packages(alloc, graph, asked, &unnamed)?;
+    }
+    Ok(())
+}
+
+// ---- names
+
+fn push_version(
+    alloc: Global,
+    name: &mut String,
+    version: Option<&Version>,
+) -> Result<(), AllocError> {
+    if let Some(version) = version {
+        let text = format!(in alloc; "@{{>={version}}}")?;
+        name.push_str(text.as_str())?;
+    }
+    Ok(())
+}
+
+/// The name under which a package is imported in place of being nested.
+pub(crate) fn dependency_name(
+    alloc: Global,
+    graph: &CompositionGraph,
+    id: PackageId,
+) -> Result<String, AllocError> {
+    let mut name = String::from_str(alloc, "unlocked-dep=<")?;
+    if let Some(package) = package_at(graph, id) {
+        name.push_str(package.name())?;
+        push_version(alloc, &mut name, package.version())?;
+    }
+    name.push_str(">")?;
+    Ok(name)
+}
+
+/// What two names that are too alike share.
+fn likeness(alloc: Global, validate: bool, name: &str) -> Result<String, AllocError> {
+    let mut text = String::from_str(alloc, name)?;
+    if validate {
+        text.make_ascii_lowercase();
+    }
+    Ok(text)
+}
+
+/// The first name that is too like an earlier one, behind that one.
+fn find_twins(
+    alloc: Global,
+    validate: bool,
+    names: &[Text],
+) -> Result<Option<(usize, usize)>, AllocError> {
+    let mut firsts = NamedMap::new(alloc);
+    for (at, name) in names.iter().enumerate() {
+        let likeness = likeness(alloc, validate, name.as_str())?;
+        if let Some(first) = firsts.get(likeness.as_str()) {
+            return Ok(Some((*first, at)));
+        }
+        let _ = firsts.insert(likeness, at)?;
+    }
+    Ok(None)
+}
+
+/// Copies of two of the names.
+fn twins_of(
+    alloc: Global,
+    validate: bool,
+    names: &[Text],
+) -> Result<Option<(String, String)>, AllocError> {
+    match find_twins(alloc, validate, names)? {
+        None => Ok(None),
+        Some((first, second)) => match (names.get(first), names.get(second)) {
+            (Some(first), Some(second)) => Ok(Some((
+                String::from_str(alloc, first.as_str())?,
+                String::from_str(alloc, second.as_str())?,
+            ))),
+            _ => Ok(None),
+        },
+    }
+}
+
+/// The names of all that is imported.
+fn import_names(
+    alloc: Global,
+    graph: &CompositionGraph,
+    asked: &Asked,
+    outers: &Outers,
+    options: &EncodeOptions,
+) -> Result<Vec<Text>, AllocError> {
+    let mut names = Vec::new(alloc);
+    for at in 0..import_count(&asked.types, outers.world) {
+        if let Some(import) = import_at(&asked.types, outers.world, at) {
+            names.push(Text::new(String::from_str(alloc, import.name)?))?;
+        }
+    }
+    if !options.define_components {
+        for id in asked.packages.keys() {
+            names.push(Text::new(dependency_name(alloc, graph, *id)?))?;
+        }
+    }
+    Ok(names)
+}
+
+fn export_names(alloc: Global, graph: &CompositionGraph) -> Result<Vec<Text>, AllocError> {
+    let mut names = Vec::new(alloc);
+    for (name, _) in graph.exports() {
+        names.push(name.copy()?)?;
+    }
+    Ok(names)
+}
+
+/// No two imports, and no two exports, have names that are too alike.
+pub(crate) fn check_names(
+    alloc: Global,
+    graph: &CompositionGraph,
+    asked: &Asked,
+    outers: &Outers,
+    options: &EncodeOptions,
+) -> Result<(), Refusal> {
+    let imports = import_names(alloc, graph, asked, outers, options)?;
+    if let Some((a, b)) = twins_of(alloc, options.validate, &imports)? {
+        let source = ValidationFault::ImportNames(a, b);
+        return Err(Refusal::ValidationFailure { source });
+    }
+    let exports = export_names(alloc, graph)?;
+    if let Some((a, b)) = twins_of(alloc, options.validate, &exports)? {
+        let source = ValidationFault::ExportNames(a, b);
+        return Err(Refusal::ValidationFailure { source });
+    }
+    Ok(())
+}

@@ -1,0 +1,269 @@
+//! The outer imports: one for each class of asks.
+
+use crate::asks::{Ask, Asked, Asking};
+use crate::classes::{Classes, classes_of, has_track};
+use crate::copies::add_world;
+use crate::errors::Refusal;
+use crate::unnamed::Unnamed;
+use indexmap::IndexMap;
+use std::alloc::{AllocError, Global};
+use wac_graph_core::NodeId;
+use wac_graph_scopes::imports::Called;
+use wac_types_base::{ItemKind, NamedMap, Types, World, WorldId};
+use wac_types_merge::{AggregateError, Family, family_of, joint_family, kept_of, spelled};
+
+/// What is kept of a class.
+#[derive(Clone, Copy)]
+struct Kept {
+    count: usize,
+    item: ItemKind,
+    /// That of the asks, once they are not all one.
+    family: Option<Family>,
+}
+
+/// The outer imports of a composition.
+#[derive(Drop)]
+pub(crate) struct Outers {
+    /// They are this world's imports, in asking order.
+    pub world: WorldId,
+    /// Each asked name, with the place of its import.
+    pub called: Vec<Called>,
+}
+
+/// What is kept of the classes, by the places of their first asks, and which interfaces use one without identifier.
+#[derive(Drop)]
+struct Merging<'a> {
+    alloc: Global,
+    asks: &'a [Ask],
+    kept: IndexMap<usize, Kept>,
+    unnamed: Unnamed,
+}
+
+/// What is kept of two asked items.
+fn merged(
+    alloc: Global,
+    types: &mut Types,
+    family: Family,
+    kept: ItemKind,
+    asked: ItemKind,
+) -> Result<ItemKind, AggregateError> {
+    if !types.has(kept) {
+        return Err(AggregateError::OutsideFamilies);
+    }
+    if !types.has(asked) {
+        return Err(AggregateError::OutsideFamilies);
+    }
+    kept_of(alloc, types, family, kept, asked)
+}
+
+/// The refusal of an ask that does not merge with what is kept of its class.
+fn merge_fault(alloc: Global, ask: &Ask, first: NodeId, source: AggregateError) -> Refusal {
+    let Ok(name) = String::from_str(alloc, ask.name.as_str()) else {
+        return Refusal::Memory;
+    };
+    if matches!(&source, AggregateError::Memory) {
+        return Refusal::Memory;
+    }
+    match ask.asking {
+        Asking::ByName => Refusal::ExplicitImportConflict {
+            name,
+            first,
+            second: ask.by,
+        },
+        _ => Refusal::ImportTypeMergeConflict {
+            import: name,
+            first,
+            second: ask.by,
+            source,
+        },
+    }
+}
+
+/// Whether the second asks the same under the same name.
+fn is_again(first: &Ask, ask: &Ask) -> bool {
+    first.item == ask.item && first.name.is(ask.name.as_str())
+}
+
+impl<'a> Merging<'a> {
+    /// The family of an ask.
+    fn family_asked(&mut self, types: &Types, ask: &Ask) -> Result<Family, AllocError> {
+        if !types.has(ask.item) {
+            return Ok(Family::Neither);
+        }
+        if let ItemKind::Instance(id) = ask.item {
+            if self.unnamed.is_used_by(types, id)? {
+                return Ok(Family::Neither);
+            }
+        }
+        Ok(family_of(types, ask.name.as_str(), ask.item))
+    }
+
+    /// The family of what a class asked before.
+    fn family_before(
+        &mut self,
+        types: &Types,
+        before: Kept,
+        first: &Ask,
+    ) -> Result<Family, AllocError> {
+        match before.family {
+            Some(family) => Ok(family),
+            None => self.family_asked(types, first),
+        }
+    }
+
+    /// What is kept after one more ask, which is not the first one again.
+    fn merge(
+        &mut self,
+        types: &mut Types,
+        before: Kept,
+        first: &Ask,
+        ask: &Ask,
+    ) -> Result<Kept, Refusal> {
+        let family = self.family_before(types, before, first)?;
+        let family = joint_family(family, self.family_asked(types, ask)?);
+        match merged(self.alloc, types, family, before.item, ask.item) {
+            Ok(item) => Ok(Kept {
+                count: before.count.saturating_add(1),
+                item,
+                family: Some(family),
+            }),
+            Err(source) => Err(merge_fault(self.alloc, ask, first.by, source)),
+        }
+    }
+
+    /// What is kept after one more ask.
+    fn kept_after(
+        &mut self,
+        types: &mut Types,
+        before: Kept,
+        first: &Ask,
+        ask: &Ask,
+    ) -> Result<Kept, Refusal> {
+        if before.family.is_none() && is_again(first, ask) {
+            return Ok(Kept {
+                count: before.count.saturating_add(1),
+                item: before.item,
+                family: None,
+            });
+        }
+        self.merge(types, before, first, ask)
+    }
+
+    /// Takes an ask into what is kept of its class.
+    fn take(&mut self, types: &mut Types, ask: &Ask, class: usize) -> Result<(), Refusal> {
+        let first = match self.asks.get(class) {
+            Some(first) => first,
+            None => ask,
+        };
+        let after = match self.kept.get(&class).copied() {
+            Some(before) => self.kept_after(types, before, first, ask)?,
+            None => Kept {
+                count: 1,
+                item: ask.item,
+                family: None,
+            },
+        };
+        let _ = self.kept.insert(class, after)?;
+        Ok(())
+    }
+}
+
+/// What is kept of each class, in asking order.
+fn kept_of_all(
+    alloc: Global,
+    types: &mut Types,
+    asks: &[Ask],
+    classes: &Classes,
+) -> Result<IndexMap<usize, Kept>, Refusal> {
+    let mut merging = Merging {
+        alloc,
+        asks,
+        kept: IndexMap::new(alloc),
+        unnamed: Unnamed::new(alloc),
+    };
+    for (ask, class) in asks.iter().zip(&classes.labels) {
+        merging.take(types, ask, *class)?;
+    }
+    Ok(merging.kept)
+}
+
+/// The item under the spelling: an instance that several ask for on a track is identified by it.
+fn identified(
+    alloc: Global,
+    types: &mut Types,
+    kept: Kept,
+    spelling: &str,
+) -> Result<ItemKind, AllocError> {
+    if kept.count < 2 || !types.has(kept.item) {
+        return Ok(kept.item);
+    }
+    let on_track = has_track(alloc, spelling)?;
+    if on_track {
+        spelled(alloc, types, kept.item, spelling)
+    } else {
+        Ok(kept.item)
+    }
+}
+
+/// The name of the ask that spells a class.
+fn spelling_of<'a>(asks: &'a [Ask], classes: &Classes, class: usize) -> &'a str {
+    match classes.spellings.get(class) {
+        Some(at) => match asks.get(*at) {
+            Some(ask) => ask.name.as_str(),
+            None => "",
+        },
+        None => "",
+    }
+}
+
+/// The names that are asked, each with the place of its import.
+fn names_called(
+    alloc: Global,
+    asks: &[Ask],
+    classes: &Classes,
+    kept: &IndexMap<usize, Kept>,
+) -> Result<Vec<Called>, AllocError> {
+    let mut called = Vec::new(alloc);
+    for (ask, class) in asks.iter().zip(&classes.labels) {
+        if let Some(at) = kept.get_index_of(class) {
+            let name = ask.name.copy()?;
+            called.push(Called { name, at })?;
+        }
+    }
+    Ok(called)
+}
+
+/// The outer imports, as the imports of a world.
+fn imports_kept(
+    alloc: Global,
+    asked: &mut Asked,
+    classes: &Classes,
+    kept: &IndexMap<usize, Kept>,
+) -> Result<NamedMap<ItemKind>, AllocError> {
+    let mut imports = NamedMap::new(alloc);
+    for (class, one) in kept.iter() {
+        let spelling = spelling_of(&asked.asks, classes, *class);
+        let item = identified(alloc, &mut asked.types, *one, spelling)?;
+        let name = String::from_str(alloc, spelling)?;
+        let _ = imports.insert(name, item)?;
+    }
+    Ok(imports)
+}
+
+/// The outer imports of what is asked.
+pub(crate) fn outers_of(alloc: Global, asked: &mut Asked) -> Result<Outers, Refusal> {
+    let classes = classes_of(alloc, &asked.types, &asked.asks)?;
+    let kept = kept_of_all(alloc, &mut asked.types, &asked.asks, &classes)?;
+    let imports = imports_kept(alloc, asked, &classes, &kept)?;
+    let world = World {
+        id: None,
+        uses: NamedMap::new(alloc),
+        imports,
+        exports: NamedMap::new(alloc),
+    };
+    let Some(world) = add_world(&mut asked.types, world)? else {
+        return Err(Refusal::TooLarge);
+    };
+    let called = names_called(alloc, &asked.asks, &classes, &kept)?;
+    Ok(Outers { world, called })
+}

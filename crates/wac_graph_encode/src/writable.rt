@@ -1,0 +1,473 @@
+//! Which types cannot be written.
+
+use crate::holder::{Holder, is_same_item};
+use crate::modules::is_writable_module;
+use crate::unnamed::Unnamed;
+use indexmap::IndexSet;
+use std::alloc::{AllocError, Global};
+use wac_graph_scopes::parts::{
+    Item, Use, export_at, export_count, export_named, identifier, import_at, import_count,
+    import_named, interface_of, root_name, use_at, use_count, world_export_at, world_export_count,
+    world_of, world_use_at, world_use_count,
+};
+use wac_types_base::{
+    DefinedTypeId, InterfaceId, ItemKind, ModuleTypeId, ResourceId, Type, Types, ValueType, WorldId,
+};
+
+/// A test of types: which interfaces use one without identifier, and whether the types stand in an outer import.
+#[derive(Clone, Copy)]
+pub(crate) struct Test<'a> {
+    pub alloc: Global,
+    pub types: &'a Types,
+    pub unnamed: &'a Unnamed,
+    pub is_outer: bool,
+}
+
+/// Which items of an interface are tested.
+#[derive(Clone, Copy, Debug, PartialEq, Eq)]
+enum Which {
+    All,
+    TypesOnly,
+}
+
+fn is_tested(which: Which, kind: ItemKind) -> bool {
+    match which {
+        Which::All => true,
+        Which::TypesOnly => matches!(kind, ItemKind::Ty(_)),
+    }
+}
+
+// ---- values
+
+/// Whether a handle's resource does not stand there.
+fn handle_fails(test: Test<'_>, holder: &Holder, id: ResourceId) -> bool {
+    !holder.has_root(root_name(test.types, id))
+}
+
+/// Whether a value type that fails as such fails, since it is none that is used.
+fn unused_fails(
+    test: Test<'_>,
+    holder: &Holder,
+    ty: ValueType,
+    fails: bool,
+) -> Result<bool, AllocError> {
+    if !fails {
+        return Ok(false);
+    }
+    let item = ItemKind::Ty(Type::Value(ty));
+    let is_used = holder.has_value(test.alloc, test.types, item)?;
+    Ok(!is_used)
+}
+
+/// Whether a value type fails: a resource, not inside a used type, whose root does not stand there.
+#[cycle(values)]
+fn value_fails(test: Test<'_>, holder: &mut Holder, ty: ValueType) -> Result<bool, AllocError> {
+    match ty {
+        ValueType::Primitive(_) => Ok(false),
+        ValueType::Own(id) => {
+            let fails = handle_fails(test, holder, id);
+            unused_fails(test, holder, ty, fails)
+        }
+        ValueType::Borrow(id) => {
+            let fails = handle_fails(test, holder, id);
+            unused_fails(test, holder, ty, fails)
+        }
+        ValueType::Defined(id) => defined_fails(test, holder, ty, id),
+    }
+}
+
+/// The same of a defined type of that id, which is tested once.
+#[cycle(values)]
+fn defined_fails(
+    test: Test<'_>,
+    holder: &mut Holder,
+    ty: ValueType,
+    id: DefinedTypeId,
+) -> Result<bool, AllocError> {
+    if let Some(fails) = holder.tested(id) {
+        return Ok(fails);
+    }
+    let below = places_fail(test, holder, ItemKind::Value(ty))?;
+    let fails = unused_fails(test, holder, ty, below)?;
+    holder.remember(id, fails)?;
+    Ok(fails)
+}
+
+/// Whether a value type in a place fails.
+#[cycle(values)]
+fn places_fail(test: Test<'_>, holder: &mut Holder, kind: ItemKind) -> Result<bool, AllocError> {
+    if !test.types.has(kind) {
+        return Ok(true);
+    }
+    let mut at: u128 = 0;
+    while let Some(place) = test.types.place(kind, at) {
+        if let Some(child) = place {
+            if let ItemKind::Value(ty) = child {
+                if value_fails(test, holder, ty)? {
+                    return Ok(true);
+                }
+            }
+        }
+        at += 1;
+    }
+    Ok(false)
+}
+
+// ---- items
+
+/// Whether a resource item fails that no use gives: it has another name than its own and no alias, or its root does
+/// not stand there.
+fn resource_fails(test: Test<'_>, holder: &Holder, item: Item<'_>, id: ResourceId) -> bool {
+    if !test.types.has(ItemKind::Ty(Type::Resource(id))) {
+        return true;
+    }
+    let resource = test.types.resource(id);
+    match resource.alias {
+        Some(_) => handle_fails(test, holder, id),
+        None => !resource.name.is(item.name),
+    }
+}
+
+fn module_fails(test: Test<'_>, id: ModuleTypeId) -> bool {
+    !test.types.has(ItemKind::Module(id)) || !is_writable_module(test.types.module_type(id))
+}
+
+/// Whether a type item fails that is no interface and no world.
+fn type_fails(
+    test: Test<'_>,
+    holder: &mut Holder,
+    item: Item<'_>,
+    ty: Type,
+) -> Result<bool, AllocError> {
+    match ty {
+        Type::Resource(id) => {
+            let given = holder.gives(test.alloc, test.types, item)?;
+            Ok(!given && resource_fails(test, holder, item, id))
+        }
+        Type::Func(id) => places_fail(test, holder, ItemKind::Func(id)),
+        Type::Value(ty) => value_fails(test, holder, ty),
+        _ => Ok(true),
+    }
+}
+
+/// The same of an item.
+fn simple_fails(test: Test<'_>, holder: &mut Holder, item: Item<'_>) -> Result<bool, AllocError> {
+    match item.kind {
+        ItemKind::Ty(ty) => type_fails(test, holder, item, ty),
+        ItemKind::Func(id) => places_fail(test, holder, ItemKind::Func(id)),
+        ItemKind::Module(id) => Ok(module_fails(test, id)),
+        _ => Ok(true),
+    }
+}
+
+/// Whether an item fails, in what holds it.
+#[cycle(items)]
+fn item_fails(test: Test<'_>, holder: &mut Holder, item: Item<'_>) -> Result<bool, AllocError> {
+    if let Some(id) = interface_of(test.types, item.kind) {
+        return interface_fails(test, id, Which::All);
+    }
+    if let Some(id) = world_of(test.types, item.kind) {
+        return world_fails(test, id);
+    }
+    simple_fails(test, holder, item)
+}
+
+/// Whether an export of an interface fails that no use gives.
+#[cycle(items)]
+fn exports_fail(
+    test: Test<'_>,
+    holder: &mut Holder,
+    id: InterfaceId,
+    which: Which,
+) -> Result<bool, AllocError> {
+    for at in 0..export_count(test.types, id) {
+        if let Some(item) = export_at(test.types, id, at) {
+            if is_tested(which, item.kind)
+                && !holder.gives(test.alloc, test.types, item)?
+                && item_fails(test, holder, item)?
+            {
+                return Ok(true);
+            }
+        }
+    }
+    Ok(false)
+}
+
+#[cycle(items)]
+fn interface_fails(test: Test<'_>, id: InterfaceId, which: Which) -> Result<bool, AllocError> {
+    if test.unnamed.is_found(id) {
+        return Ok(true);
+    }
+    let mut holder = Holder::new(test.alloc);
+    holder.add_interface(test.types, id)?;
+    exports_fail(test, &mut holder, id, which)
+}
+
+// ---- component types
+
+/// Whether the import of a used interface gives what is used; a resource as itself.
+fn gives_used(test: Test<'_>, import: ItemKind, used: Use<'_>) -> Result<bool, AllocError> {
+    let Some(item) = export_named(test.types, used.interface, used.there) else {
+        return Ok(true);
+    };
+    let Some(id) = interface_of(test.types, import) else {
+        return Ok(false);
+    };
+    match export_named(test.types, id, used.there) {
+        None => Ok(false),
+        Some(there) => match item {
+            ItemKind::Ty(Type::Resource(_)) => is_same_item(test.alloc, test.types, item, there),
+            _ => Ok(true),
+        },
+    }
+}
+
+/// A component type whose items use interfaces.
+#[derive(Drop)]
+struct Giver {
+    /// If there is one.
+    world: Option<WorldId>,
+    /// The interfaces whose uses were looked at.
+    seen: IndexSet<InterfaceId>,
+    /// Those whose types do not fail.
+    fine: IndexSet<InterfaceId>,
+}
+
+impl Giver {
+    fn new(alloc: Global, world: Option<WorldId>) -> Self {
+        Giver {
+            world,
+            seen: IndexSet::new(alloc),
+            fine: IndexSet::new(alloc),
+        }
+    }
+
+    /// Whether its imports give what is used.
+    fn gives(&self, test: Test<'_>, used: Use<'_>, name: &str) -> Result<bool, AllocError> {
+        match self.world {
+            Some(world) => match import_named(test.types, world, name) {
+                Some(import) => gives_used(test, import, used),
+                None => Ok(false),
+            },
+            None => Ok(false),
+        }
+    }
+}
+
+/// Whether a used interface fails that a component type would import: its types are tested once.
+#[cycle(items)]
+fn types_fail(test: Test<'_>, giver: &mut Giver, id: InterfaceId) -> Result<bool, AllocError> {
+    if test.is_outer {
+        return Ok(true);
+    }
+    if giver.fine.contains(&id) {
+        return Ok(false);
+    }
+    let fails = interface_fails(test, id, Which::TypesOnly)?;
+    if !fails {
+        let _ = giver.fine.insert(id)?;
+    }
+    Ok(fails)
+}
+
+/// Whether a use fails that a component type's imports do not give: in an outer import each; else where the used
+/// interface has types that fail. So that a name with another item adds nothing.
+#[cycle(items)]
+fn use_fails(test: Test<'_>, giver: &mut Giver, used: Use<'_>) -> Result<bool, AllocError> {
+    if let Some(name) = identifier(test.types, used.interface) {
+        if !giver.gives(test, used, name)? && types_fail(test, giver, used.interface)? {
+            return Ok(true);
+        }
+    }
+    let is_new = giver.seen.insert(used.interface)?;
+    if is_new {
+        uses_fail(test, giver, ItemKind::Instance(used.interface))
+    } else {
+        Ok(false)
+    }
+}
+
+/// The same of the uses of an interface itself.
+#[cycle(items)]
+fn direct_fails(test: Test<'_>, giver: &mut Giver, id: InterfaceId) -> Result<bool, AllocError> {
+    for at in 0..use_count(test.types, id) {
+        if let Some(used) = use_at(test.types, id, at) {
+            if use_fails(test, giver, used)? {
+                return Ok(true);
+            }
+        }
+    }
+    Ok(false)
+}
+
+/// The same of those of an item.
+#[cycle(items)]
+fn uses_fail(test: Test<'_>, giver: &mut Giver, kind: ItemKind) -> Result<bool, AllocError> {
+    let Some(id) = interface_of(test.types, kind) else {
+        return Ok(false);
+    };
+    if direct_fails(test, giver, id)? {
+        return Ok(true);
+    }
+    for at in 0..export_count(test.types, id) {
+        if let Some(item) = export_at(test.types, id, at) {
+            if uses_fail(test, giver, item.kind)? {
+                return Ok(true);
+            }
+        }
+    }
+    Ok(false)
+}
+
+/// The same of those of a world itself.
+#[cycle(items)]
+fn world_uses_fail(test: Test<'_>, giver: &mut Giver, id: WorldId) -> Result<bool, AllocError> {
+    for at in 0..world_use_count(test.types, id) {
+        if let Some(used) = world_use_at(test.types, id, at) {
+            if use_fails(test, giver, used)? {
+                return Ok(true);
+            }
+        }
+    }
+    Ok(false)
+}
+
+/// The same of those of a world's imports.
+#[cycle(items)]
+fn uses_of_imports_fail(
+    test: Test<'_>,
+    giver: &mut Giver,
+    id: WorldId,
+) -> Result<bool, AllocError> {
+    for at in 0..import_count(test.types, id) {
+        if let Some(item) = import_at(test.types, id, at) {
+            if uses_fail(test, giver, item.kind)? {
+                return Ok(true);
+            }
+        }
+    }
+    Ok(false)
+}
+
+/// The same of those of a world's exports.
+#[cycle(items)]
+fn uses_of_exports_fail(
+    test: Test<'_>,
+    giver: &mut Giver,
+    id: WorldId,
+) -> Result<bool, AllocError> {
+    for at in 0..world_export_count(test.types, id) {
+        if let Some(item) = world_export_at(test.types, id, at) {
+            if uses_fail(test, giver, item.kind)? {
+                return Ok(true);
+            }
+        }
+    }
+    Ok(false)
+}
+
+/// Whether an import of a world fails that no use gives.
+#[cycle(items)]
+fn imports_fail(test: Test<'_>, holder: &mut Holder, id: WorldId) -> Result<bool, AllocError> {
+    for at in 0..import_count(test.types, id) {
+        if let Some(item) = import_at(test.types, id, at) {
+            if !holder.gives(test.alloc, test.types, item)? && item_fails(test, holder, item)? {
+                return Ok(true);
+            }
+        }
+    }
+    Ok(false)
+}
+
+/// Whether an export of a world fails.
+#[cycle(items)]
+fn world_exports_fail(
+    test: Test<'_>,
+    holder: &mut Holder,
+    id: WorldId,
+) -> Result<bool, AllocError> {
+    for at in 0..world_export_count(test.types, id) {
+        if let Some(item) = world_export_at(test.types, id, at) {
+            if item_fails(test, holder, item)? {
+                return Ok(true);
+            }
+        }
+    }
+    Ok(false)
+}
+
+#[cycle(items)]
+fn world_fails(test: Test<'_>, id: WorldId) -> Result<bool, AllocError> {
+    if test.unnamed.is_found_of_world(test.types, id) {
+        return Ok(true);
+    }
+    let mut giver = Giver::new(test.alloc, Some(id));
+    if world_uses_fail(test, &mut giver, id)?
+        || uses_of_imports_fail(test, &mut giver, id)?
+        || uses_of_exports_fail(test, &mut giver, id)?
+    {
+        return Ok(true);
+    }
+    let mut holder = Holder::new(test.alloc);
+    holder.add_world(test.types, id)?;
+    Ok(imports_fail(test, &mut holder, id)? || world_exports_fail(test, &mut holder, id)?)
+}
+
+// ---- at the root
+
+/// The first outer import whose type cannot be written: its place.
+pub(crate) fn unwritable_outer(
+    test: Test<'_>,
+    world: WorldId,
+) -> Result<Option<usize>, AllocError> {
+    let mut holder = Holder::new(test.alloc);
+    holder.add_world(test.types, world)?;
+    for at in 0..import_count(test.types, world) {
+        if let Some(item) = import_at(test.types, world, at) {
+            if item_fails(test, &mut holder, item)? {
+                return Ok(Some(at));
+            }
+        }
+    }
+    Ok(None)
+}
+
+/// Whether an interface cannot be written inside a component type of its own.
+fn wrapped_fails(test: Test<'_>, id: InterfaceId) -> Result<bool, AllocError> {
+    let mut giver = Giver::new(test.alloc, None);
+    Ok(
+        uses_fail(test, &mut giver, ItemKind::Instance(id))?
+            || interface_fails(test, id, Which::All)?,
+    )
+}
+
+/// The interface with identifier that a definition is.
+fn wrapped_interface(types: &Types, kind: ItemKind) -> Option<InterfaceId> {
+    match kind {
+        ItemKind::Ty(ty) => match ty {
+            Type::Interface(id) => match identifier(types, id) {
+                Some(_) => Some(id),
+                None => None,
+            },
+            _ => None,
+        },
+        _ => None,
+    }
+}
+
+/// Whether a definition cannot be written, beside the outer imports that stand in a holder.
+pub(crate) fn is_unwritable_definition(
+    test: Test<'_>,
+    outers: &mut Holder,
+    item: Item<'_>,
+) -> Result<bool, AllocError> {
+    match wrapped_interface(test.types, item.kind) {
+        Some(id) => wrapped_fails(test, id),
+        None => item_fails(test, outers, item),
+    }
+}
+
+/// Whether a package's world cannot be written as the type of an import.
+pub(crate) fn is_unwritable_package(test: Test<'_>, world: WorldId) -> Result<bool, AllocError> {
+    world_fails(test, world)
+}

@@ -1,0 +1,78 @@
+-- Exports of a scope of written types.
+use Rattle.std.proofs.Common.{◌≡◌, ℕ, ◌+◌, List, [], ◌∷◌, ◌++◌, length, Option, Some, refl, ap, ◌∙◌, subst, arith, string_bytes}
+use Rattle.std.specs.Prelude.{String}
+use Rattle.std.specs.Global.{Global}
+use Rattle.std.proofs.lemmas.List.{length_push}
+use Rattle.wac_types_base.specs.Record.{Collection}
+use Rattle.wac_types_base.specs.Graph.{Among}
+use Rattle.wac_types_base.specs.Entries.{Name, value_at}
+use Rattle.wac_types_base.specs.Collection.{resource}
+use Rattle.wac_types_base.specs.Tree.{Tree, rigid, instance, component, core_module, handle_own, handle_borrow, type_item}
+use Rattle.wac_graph_bytes.specs.declared.value.Sort.{Sort}
+use Rattle.wac_graph_bytes.specs.declared.value.Sort.TheVariants as sort
+use Rattle.wac_graph_bytes.specs.declared.value.Description.{Description}
+use Rattle.wac_graph_bytes.specs.declared.value.Description.TheVariants as desc
+use Rattle.wac_graph_bytes.specs.declared.entry.Declaration.{Declaration, Export}
+use Rattle.wac_graph_bytes.specs.Entries.{End}
+use Rattle.wac_graph_bytes.specs.Typing.{◌>>=◌, Worlds, Meaning, Item, Scope, with_one, Inside, nothing_inside, exports_inside, declared, described, item_of, type_in, as_func, as_sort, type_tree, type_at}
+use Rattle.wac_graph_bytes.specs.Views.{before, declarations_of}
+use Rattle.wac_graph_bytes.proofs.Steps.{get_last}
+use Rattle.wac_graph_bytes.proofs.Extending.{one_more}
+use Rattle.wac_graph_scopes.specs.declared.scope.KnownType.{KnownType}
+use Rattle.wac_graph_scopes.specs.declared.scope.TypeScope.{TypeScope}
+use Rattle.wac_graph_scopes.specs.Scopes.{IsScope, Exports, ExportsType}
+use Rattle.wac_graph_scopes.proofs.ScopeLaws.{Extends-one, known_kept, resource_kept}
+
+-- a type as an item is that type again
+type_back : (t : Tree) → type_in (item_of t) ≡ Some t
+type_back (rigid (resource n) r) = refl
+type_back (rigid s r) = refl
+type_back (instance xs) = refl
+type_back (component is es) = refl
+type_back (core_module is es) = refl
+type_back (handle_own t) = refl
+type_back (handle_borrow t) = refl
+type_back (type_item t) = refl
+
+module _ (w : Worlds) (c : Collection) (outer : List Scope) (i : Inside) where
+  export_reads : (n : String Global) (d : Description) (x : Sort × Tree) → described w (i.here ∷ outer) (string_bytes n) d ≡ Some x → declared w outer i (before (Export n d) End) ≡ Some (exports_inside (string_bytes n) x i)
+  unfolding declared
+  export_reads n d x e = ap (λ (o : Option (Sort × Tree)). o >>= λ y. Some (exports_inside (string_bytes n) y i)) e
+
+  pub export_added : (n : String Global) (d : Description) (x : Sort × Tree) (s u : TypeScope) → IsScope w c outer i s → described w (i.here ∷ outer) (string_bytes n) d ≡ Some x
+      → u.declarations.items ≡ s.declarations.items ++ Export n d ∷ [] → u.types ≡ length (exports_inside (string_bytes n) x i).here.types → u.known.items ≡ s.known.items → u.resources ≡ s.resources
+      → Exports w c outer i (string_bytes n) x.1 u
+  export_added n d x s u h e ds ts ks rs =
+      let m = Item (string_bytes n) x.0 x.1 in
+      let more = Extends-one x.0 m i.here in
+      record {
+        after = exports_inside (string_bytes n) x i;
+        stands = record {
+          reads = ap (λ (l : List Declaration). declared w outer nothing_inside (declarations_of l)) ds ∙ one_more w outer nothing_inside i (exports_inside (string_bytes n) x i) s.declarations.items (Export n d) h.reads (export_reads n d x e);
+          types = ts;
+          known = λ k a. known_kept w c i.here (with_one x.0 m i.here) outer k more (h.known k (subst (λ (l : List KnownType). Among k l) ks a));
+          resources = λ n k a. resource_kept w i.here (with_one x.0 m i.here) outer n k more (h.resources n k (subst (λ (l : List (Name × ℕ)). value_at l n ≡ Some k) rs a));
+        };
+        extends = more;
+        imports = refl;
+        exports = refl;
+      }
+
+  pub func_exported : (n : String Global) (k : ℕ) (t : Tree) (s u : TypeScope) → IsScope w c outer i s → type_at w (i.here ∷ outer) k ≡ Some t → as_func t ≡ Some t
+      → u.declarations.items ≡ s.declarations.items ++ Export n (desc.Func k) ∷ [] → u.types ≡ s.types → u.known.items ≡ s.known.items → u.resources ≡ s.resources
+      → Exports w c outer i (string_bytes n) t u
+  func_exported n k t s u h at is ds ts ks rs =
+      export_added n (desc.Func k) (sort.Func, t) s u h
+      (ap (λ (o : Option Tree). o >>= as_sort sort.Func >>= λ y. Some (sort.Func, y)) at ∙ ap (λ (o : Option Tree). o >>= λ y. Some (sort.Func, y)) is)
+      ds (ts ∙ h.types) ks rs
+
+  pub type_exported : (n : String Global) (k : ℕ) (t : Tree) (s u : TypeScope) → IsScope w c outer i s → type_at w (i.here ∷ outer) k ≡ Some t
+      → u.declarations.items ≡ s.declarations.items ++ Export n (desc.Equal k) ∷ [] → u.types ≡ s.types + 1 → u.known.items ≡ s.known.items → u.resources ≡ s.resources
+      → ExportsType w c outer i (string_bytes n) t u s.types
+  unfolding export_added
+  type_exported n k t s u h at ds ts ks rs =
+      let m = Item (string_bytes n) sort.Ty (item_of t) in
+      record {
+        exported = export_added n (desc.Equal k) (sort.Ty, item_of t) s u h (ap (λ (o : Option Tree). o >>= λ y. Some (sort.Ty, item_of y)) at) ds (omega (arith, ts, h.types, length_push i.here.types m)) ks rs;
+        index = ap (λ (o : Option Meaning). o >>= type_tree w) (get_last i.here.types m s.types h.types) ∙ type_back t;
+      }

@@ -1,0 +1,9 @@
+pub mod ScopeLaws
+pub mod FormLaws
+pub mod ValueLaws
+pub mod EntryLaws
+pub mod HandleLaws
+pub mod RootLaws
+pub mod ExportLaws
+pub mod InsideLaws
+pub mod KnownLaws

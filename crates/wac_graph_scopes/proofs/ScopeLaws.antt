@@ -1,0 +1,188 @@
+-- One more declaration of a scope of written types, and what stands on.
+use Rattle.std.proofs.Common.{◌≡◌, ℕ, ◌+◌, Bool, true, false, List, [], ◌∷◌, ◌++◌, length, Option, Some, None, refl, sym, ap, ◌∙◌, subst, arith, inl, inr, if◌then◌else◌}
+use Rattle.std.specs.Prelude.{slice_get, IfSome, ◌==◌, ◌&&◌, ◌⊎◌}
+use Rattle.std.proofs.lemmas.Bool.Decides.{Decides-eqb}
+use Rattle.wac_types_base.specs.Entries.{Name, value_at}
+use Rattle.std.proofs.lemmas.List.{length_push}
+use Rattle.wac_types_base.specs.declared.ids.DefinedTypeId.{DefinedTypeId}
+use Rattle.wac_types_base.specs.declared.item.ValueType.{ValueType}
+use Rattle.wac_types_base.specs.declared.item.ItemKind.{ItemKind}
+use Rattle.wac_types_base.specs.Record.{Collection}
+use Rattle.wac_types_base.specs.Graph.{Among}
+use Rattle.wac_types_base.specs.Collection.{resource}
+use Rattle.wac_types_base.specs.Tree.{Tree, rigid, end}
+use Rattle.wac_types_fit.specs.Trees.{tree_in}
+use Rattle.wac_graph_bytes.specs.declared.value.Sort.{Sort}
+use Rattle.wac_graph_bytes.specs.declared.value.Sort.TheVariants as sort
+use Rattle.wac_graph_bytes.specs.declared.value.ValueType.{ValueType as Written}
+use Rattle.wac_graph_bytes.specs.declared.value.ValueType.TheVariants.{Primitive, Index}
+use Rattle.wac_graph_bytes.specs.declared.entry.DefinedType.{DefinedType as CodeType}
+use Rattle.wac_graph_bytes.specs.declared.entry.Declaration.{Declaration, Defined}
+use Rattle.wac_graph_bytes.specs.Entries.{End}
+use Rattle.wac_graph_bytes.specs.Typing.{◌>>=◌, Worlds, Meaning, Known, Scope, with_one, Inside, nothing_inside, adds_inside, declared, defined, found, type_tree, type_at, value_of, as_value}
+use Rattle.wac_graph_bytes.specs.Views.{defined_view, before, declarations_of}
+use Rattle.wac_graph_bytes.proofs.Steps.{bind_some, kept_one, cores_kept, get_last}
+use Rattle.wac_graph_bytes.proofs.Extending.{one_more}
+use Rattle.wac_graph_scopes.specs.declared.scope.KnownType.{KnownType}
+use Rattle.wac_graph_scopes.specs.declared.scope.TypeScope.{TypeScope}
+use Rattle.wac_graph_scopes.specs.Scopes.{Extends, IsKnown, IsResource, IsScope, Goes, AnswersType, PlaceReads, PlacesRead}
+
+-- ---- what stands on
+
+pub Extends-refl : (h : Scope) → Extends h h
+Extends-refl h = record { indexes = λ s k m e. e; cores = λ k t e. e }
+
+pub Extends-trans : (g h k : Scope) → Extends g h → Extends h k → Extends g k
+Extends-trans g h k a b = record { indexes = λ s n m e. b.indexes s n m (a.indexes s n m e); cores = λ n t e. b.cores n t (a.cores n t e) }
+
+pub Extends-one : (s : Sort) (m : Meaning) (h : Scope) → Extends h (with_one s m h)
+Extends-one s m h = record {
+  indexes = λ t k n e. kept_one t s m n h k e;
+  cores = λ k t e. ap (λ (xs : List Tree). slice_get xs k) (cores_kept s m h) ∙ e;
+}
+
+found_kept : (h j : Scope) (outer : List Scope) (k : ℕ) (m : Meaning) → Extends h j → found (h ∷ outer) sort.Ty k ≡ Some m → found (j ∷ outer) sort.Ty k ≡ Some m
+found_kept h j outer k m x e = x.indexes sort.Ty k m e
+
+pub type_kept : (w : Worlds) (h j : Scope) (outer : List Scope) (k : ℕ) (t : Tree) → Extends h j → type_at w (h ∷ outer) k ≡ Some t → type_at w (j ∷ outer) k ≡ Some t
+type_kept w h j outer k t x e =
+    let b = bind_some (found (h ∷ outer) sort.Ty k) (type_tree w) t e in
+    ap (λ (o : Option Meaning). o >>= type_tree w) (found_kept h j outer k b.0 x b.1) ∙ b.2
+
+pub value_kept : (w : Worlds) (h j : Scope) (outer : List Scope) (b : Written) (t : Tree) → Extends h j → value_of w (h ∷ outer) b ≡ Some t → value_of w (j ∷ outer) b ≡ Some t
+value_kept w h j outer (Primitive p) t x e = e
+value_kept w h j outer (Index k) t x e =
+    let b = bind_some (type_at w (h ∷ outer) k) as_value t e in
+    ap (λ (o : Option Tree). o >>= as_value) (type_kept w h j outer k b.0 x b.1) ∙ b.2
+
+pub place_kept : (w : Worlds) (h j : Scope) (outer : List Scope) (b : Option Written) (t : Option Tree) → Extends h j → PlaceReads w (h ∷ outer) b t → PlaceReads w (j ∷ outer) b t
+place_kept w h j outer None None x e = tt
+place_kept w h j outer (Some b) (Some t) x e = value_kept w h j outer b t x e
+place_kept w h j outer None (Some t) x e = absurd e
+place_kept w h j outer (Some b) None x e = absurd e
+
+pub places_kept : (w : Worlds) (h j : Scope) (outer : List Scope) (bs : List (Option Written)) (ts : List (Option Tree)) → Extends h j → PlacesRead w (h ∷ outer) bs ts → PlacesRead w (j ∷ outer) bs ts
+places_kept w h j outer [] [] x e = tt
+places_kept w h j outer (b ∷ bs) (t ∷ ts) x e = (place_kept w h j outer b t x e.0, places_kept w h j outer bs ts x e.1)
+places_kept w h j outer [] (t ∷ ts) x e = absurd e
+places_kept w h j outer (b ∷ bs) [] x e = absurd e
+
+pub places_more : (w : Worlds) (ss : List Scope) (bs : List (Option Written)) (ts : List (Option Tree)) (b : Option Written) (t : Option Tree) → PlacesRead w ss bs ts → PlaceReads w ss b t → PlacesRead w ss (bs ++ b ∷ []) (ts ++ t ∷ [])
+places_more w ss [] [] b t h e = (e, tt)
+places_more w ss (x ∷ bs) (y ∷ ts) b t h e = (h.0, places_more w ss bs ts b t h.1 e)
+places_more w ss [] (y ∷ ts) b t h e = absurd h
+places_more w ss (x ∷ bs) [] b t h e = absurd h
+
+-- what is remembered stays true
+pub known_kept : (w : Worlds) (c : Collection) (h j : Scope) (outer : List Scope) (k : KnownType) → Extends h j → IsKnown w (h ∷ outer) c k → IsKnown w (j ∷ outer) c k
+known_kept w c h j outer k x e = record { reads = value_kept w h j outer (Index k.index) _ x e.reads }
+
+pub resource_kept : (w : Worlds) (h j : Scope) (outer : List Scope) (n : Name) (k : ℕ) → Extends h j → IsResource w (h ∷ outer) n k → IsResource w (j ∷ outer) n k
+resource_kept w h j outer n k x e = record { reads = type_kept w h j outer k _ x e.reads }
+
+-- ---- going on
+
+module _ (w : Worlds) (c : Collection) (outer : List Scope) where
+  pub Goes-refl : (i : Inside) (s : TypeScope) → IsScope w c outer i s → Goes w c outer i i s
+  Goes-refl i s h = record { stands = h; extends = Extends-refl i.here; imports = refl; exports = refl }
+
+  pub Goes-trans : (i j k : Inside) (s u : TypeScope) → Goes w c outer i j s → Goes w c outer j k u → Goes w c outer i k u
+  Goes-trans i j k s u a b = record {
+    stands = b.stands;
+    extends = Extends-trans i.here j.here k.here a.extends b.extends;
+    imports = b.imports ∙ a.imports;
+    exports = b.exports ∙ a.exports;
+  }
+
+  -- one more type
+  pub type_added : (i : Inside) (m : Meaning) (s u : TypeScope) (d : Declaration) → IsScope w c outer i s → declared w outer i (before d End) ≡ Some (adds_inside sort.Ty m i)
+      → u.declarations.items ≡ s.declarations.items ++ d ∷ [] → u.types ≡ s.types + 1 → u.known.items ≡ s.known.items → u.resources ≡ s.resources
+      → Goes w c outer i (adds_inside sort.Ty m i) u
+  type_added i m s u d h one ds ts ks rs =
+      let x = Extends-one sort.Ty m i.here in
+      record {
+        stands = record {
+          reads = ap (λ (l : List Declaration). declared w outer nothing_inside (declarations_of l)) ds ∙ one_more w outer nothing_inside i (adds_inside sort.Ty m i) s.declarations.items d h.reads one;
+          types = omega (arith, ts, h.types, length_push i.here.types m);
+          known = λ k a. known_kept w c i.here (with_one sort.Ty m i.here) outer k x (h.known k (subst (λ (l : List KnownType). Among k l) ks a));
+          resources = λ n k a. resource_kept w i.here (with_one sort.Ty m i.here) outer n k x (h.resources n k (subst (λ (l : List (Name × ℕ)). value_at l n ≡ Some k) rs a));
+        };
+        extends = x;
+        imports = refl;
+        exports = refl;
+      }
+
+  type_reads : (i : Inside) (ty : CodeType) (t : Tree) → defined w (i.here ∷ outer) (defined_view ty) ≡ Some t → declared w outer i (before (Defined ty) End) ≡ Some (adds_inside sort.Ty (Known t) i)
+  unfolding declared
+  type_reads i ty t e = ap (λ (o : Option Tree). o >>= λ t. Some (adds_inside sort.Ty (Known t) i)) e
+
+  last_type : (i : Inside) (t : Tree) (k : ℕ) → k ≡ length i.here.types → type_at w (with_one sort.Ty (Known t) i.here ∷ outer) k ≡ Some t
+  last_type i t k e = ap (λ (o : Option Meaning). o >>= type_tree w) (get_last i.here.types (Known t) k e)
+
+  -- a type without declarations
+  pub type_defined : (i : Inside) (t : Tree) (s u : TypeScope) (ty : CodeType) → IsScope w c outer i s → defined w (i.here ∷ outer) (defined_view ty) ≡ Some t
+      → u.declarations.items ≡ s.declarations.items ++ Defined ty ∷ [] → u.types ≡ s.types + 1 → u.known.items ≡ s.known.items → u.resources ≡ s.resources
+      → AnswersType w c outer i t u s.types
+  type_defined i t s u ty h e ds ts ks rs = record {
+    after = adds_inside sort.Ty (Known t) i;
+    goes = type_added i (Known t) s u (Defined ty) h (type_reads i ty t e) ds ts ks rs;
+    index = last_type i t s.types h.types;
+  }
+
+-- ---- a new scope, and what it remembers
+
+pub scope_empty : (w : Worlds) (c : Collection) (outer : List Scope) (s : TypeScope) → s.declarations.items ≡ [] → s.types ≡ 0 → s.known.items ≡ [] → s.resources ≡ [] → IsScope w c outer nothing_inside s
+unfolding declared
+scope_empty w c outer s d t k r = record {
+  reads = ap (λ (l : List Declaration). declared w outer nothing_inside (declarations_of l)) d;
+  types = t;
+  known = λ x a. absurd (subst (λ (l : List KnownType). Among x l) k a);
+  resources = λ n k a. let none : value_at [] n ≡ Some k = subst (λ (l : List (Name × ℕ)). value_at l n ≡ Some k) r a in absurd (cc none);
+}
+
+further : {X : Type 0} (xs : List X) (x y z : X) → Among y xs ⊎ (y ≡ x) → Among y (z ∷ xs) ⊎ (y ≡ x)
+further xs x y z (inl b) = inl (inr b)
+further xs x y z (inr e) = inr e
+
+among_more : {X : Type 0} (xs : List X) (x y : X) → Among y (xs ++ x ∷ []) → Among y xs ⊎ (y ≡ x)
+among_more [] x y (inl e) = inr e
+among_more [] x y (inr a) = absurd a
+among_more (z ∷ xs) x y (inl e) = inl (inl e)
+among_more (z ∷ xs) x y (inr a) = further xs x y z (among_more xs x y a)
+
+pub scope_remembers : (w : Worlds) (c : Collection) (outer : List Scope) (i : Inside) (s u : TypeScope) (k : KnownType) → IsScope w c outer i s → IsKnown w (i.here ∷ outer) c k
+    → u.declarations.items ≡ s.declarations.items → u.types ≡ s.types → u.known.items ≡ s.known.items ++ k ∷ [] → u.resources ≡ s.resources → IsScope w c outer i u
+scope_remembers w c outer i s u k h true_of d t ks rs = record {
+  reads = ap (λ (l : List Declaration). declared w outer nothing_inside (declarations_of l)) d ∙ h.reads;
+  types = t ∙ h.types;
+  known = λ x a. by x (among_more s.known.items k x (subst (λ (l : List KnownType). Among x l) ks a));
+  resources = λ n k a. h.resources n k (subst (λ (l : List (Name × ℕ)). value_at l n ≡ Some k) rs a);
+}
+  where
+    by : (x : KnownType) → Among x s.known.items ⊎ (x ≡ k) → IsKnown w (i.here ∷ outer) c x
+    by x (inl a) = h.known x a
+    by x (inr e) = subst (λ (y : KnownType). IsKnown w (i.here ∷ outer) c y) (sym e) true_of
+
+-- what is known of one id is known of an equal one
+pub known_same : (w : Worlds) (c : Collection) (ss : List Scope) (k : KnownType) (id : DefinedTypeId) → IsKnown w ss c k → k.id ≡ id → value_of w ss (Index k.index) ≡ Some (tree_in c (ItemKind.Value (ValueType.Defined id)))
+known_same w c ss k id h same = h.reads ∙ ap (λ (x : DefinedTypeId). Some (tree_in c (ItemKind.Value (ValueType.Defined x)))) same
+
+-- with nothing known it is a scope of any collection
+pub scope_forgets : (w : Worlds) (c d : Collection) (outer : List Scope) (i : Inside) (s u : TypeScope) → IsScope w c outer i s
+    → u.declarations.items ≡ s.declarations.items → u.types ≡ s.types → u.known.items ≡ [] → u.resources ≡ s.resources → IsScope w d outer i u
+scope_forgets w c d outer i s u h ds t ks rs = record {
+  reads = ap (λ (l : List Declaration). declared w outer nothing_inside (declarations_of l)) ds ∙ h.reads;
+  types = t ∙ h.types;
+  known = λ x a. absurd (subst (λ (l : List KnownType). Among x l) ks a);
+  resources = λ n k a. h.resources n k (subst (λ (l : List (Name × ℕ)). value_at l n ≡ Some k) rs a);
+}
+
+-- beside declarations, counters, known types and resources nothing matters
+pub scope_same : (w : Worlds) (c : Collection) (outer : List Scope) (i : Inside) (s u : TypeScope) → IsScope w c outer i s
+    → u.declarations.items ≡ s.declarations.items → u.types ≡ s.types → u.known.items ≡ s.known.items → u.resources ≡ s.resources → IsScope w c outer i u
+scope_same w c outer i s u h ds t ks rs = record {
+  reads = ap (λ (l : List Declaration). declared w outer nothing_inside (declarations_of l)) ds ∙ h.reads;
+  types = t ∙ h.types;
+  known = λ x a. h.known x (subst (λ (l : List KnownType). Among x l) ks a);
+  resources = λ n k a. h.resources n k (subst (λ (l : List (Name × ℕ)). value_at l n ≡ Some k) rs a);
+}

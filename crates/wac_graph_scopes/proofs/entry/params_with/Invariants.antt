@@ -1,0 +1,8 @@
+use Rattle.std.proofs.Common.{◌≡◌, take}
+use Rattle.wac_types_base.specs.Entries.{texts_of}
+use Rattle.wac_graph_bytes.specs.Views.{params_view}
+use Rattle.wac_graph_scopes.specs.Forms.{params_with}
+use Rattle.wac_graph_scopes.proofs.entry.params_with.Given as goal
+
+abbrev pub invariant-loop-at : goal.invariant-loop-at
+invariant-loop-at l = params_view l.all.items ≡ params_with (texts_of (take l.at l.names)) l.places

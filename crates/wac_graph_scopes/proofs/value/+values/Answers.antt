@@ -1,0 +1,122 @@
+use Rattle.std.proofs.Common.{◌≡◌, ◌∷◌, ◌+◌, ◌<◌, Some, take, refl, sym, ap, subst, ◌∙◌, arith}
+use Rattle.std.specs.Prelude.{IfSome}
+use Rattle.wac_types_base.specs.declared.item.ItemKind.{ItemKind}
+use Rattle.wac_types_base.specs.declared.item.ValueType.{ValueType}
+use Rattle.wac_types_base.specs.Collection.{Stands, size_of, slots_of}
+use Rattle.wac_types_base.specs.Resolving.{IsNoAlias}
+use Rattle.wac_types_base.proofs.Walking.{some_place}
+use Rattle.wac_types_fit.specs.Trees.{tree_in}
+use Rattle.wac_types_fit.specs.Checking.{ValueStands, value_tree, place_trees}
+use Rattle.wac_types_fit.proofs.Unfolded.{same_tree, end_no_alias, end_smaller, primitive_tree}
+use Rattle.wac_types_fit.proofs.ValueTrees.{place_size, place_inside, defined_holds}
+use Rattle.wac_graph_bytes.specs.declared.value.ValueType.TheVariants.{Primitive, Index}
+use Rattle.wac_graph_bytes.specs.Typing.{value_of}
+use Rattle.wac_graph_scopes.specs.Forms.{entry_of}
+use Rattle.wac_graph_scopes.specs.Scopes.{AnswersPlaces}
+use Rattle.wac_graph_scopes.proofs.ValueLaws.{value_of_tree, value_there, value_written, places_none, places_next, trees_next, trees_all}
+use Rattle.wac_graph_scopes.proofs.HandleLaws.{if_ok_map, take_zero, place_none, place_some}
+use Rattle.wac_graph_scopes.proofs.value.+values.Goals as goal
+
+pub push_value-push_resolved-requires : goal.push_value-push_resolved-requires
+push_value-push_resolved-requires t c =
+    let smaller = end_smaller c.args.types.now c.see_acyclic.ensures c.args.ty c.resolve_value_type-end.result c.resolve_value_type-end.ensures.resolved c.requires in
+    (omega (arith, smaller, c.decreases), (c.resolve_value_type-end.ensures.stands, end_no_alias c.args.types.now c.see_acyclic.ensures c.resolve_value_type-end.ensures.resolved))
+
+pub push_value-returns : goal.push_value-returns
+push_value-returns t c w outer i h =
+    let types = c.args.types.now in
+    let v = c.resolve_value_type-end.result in
+    let same = same_tree types c.see_acyclic.ensures (ItemKind.Value v) (ItemKind.Value c.args.ty) c.resolve_value_type-end.ensures.stands c.requires c.resolve_value_type-end.ensures.tree in
+    if_ok_map c.push_resolved.result (λ b a. value_of_tree w types outer i (tree_in types (ItemKind.Value v)) (tree_in types (ItemKind.Value c.args.ty)) c.push_resolved.new.scope b same a) (c.push_resolved.ensures w outer i h)
+
+pub push_resolved-push_own-requires : goal.push_resolved-push_own-requires
+push_resolved-push_own-requires t c = subst (λ v. Stands c.args.types.now (ItemKind.Value v)) c.in-Own.is c.requires.stands
+
+pub push_resolved-push_borrow-requires : goal.push_resolved-push_borrow-requires
+push_resolved-push_borrow-requires t c = subst (λ v. Stands c.args.types.now (ItemKind.Value v)) c.in-Borrow.is c.requires.stands
+
+pub push_resolved-push_defined-requires : goal.push_resolved-push_defined-requires
+push_resolved-push_defined-requires t c =
+    let types = c.args.types.now in
+    let s = ap (λ v. size_of types (ItemKind.Value v)) c.in-Defined.is in
+    (omega (arith, s, c.decreases), (subst (λ v. Stands types (ItemKind.Value v)) c.in-Defined.is c.requires.stands, subst (λ v. IsNoAlias types v) c.in-Defined.is c.requires.no_alias))
+
+pub push_resolved-returns-in-Primitive : goal.push_resolved-returns-in-Primitive
+push_resolved-returns-in-Primitive t c w outer i h =
+    let types = c.args.types.now in
+    let p = c.in-Primitive.p in
+    value_there w types outer i (tree_in types (ItemKind.Value c.args.ty)) c.args.scope.now (Primitive p) h
+    (ap Some (sym (ap (λ v. tree_in types (ItemKind.Value v)) c.in-Primitive.is ∙ primitive_tree types c.see_acyclic.ensures p)))
+
+pub push_resolved-returns-in-Own : goal.push_resolved-returns-in-Own
+push_resolved-returns-in-Own t c w outer i h =
+    let types = c.args.types.now in
+    if_ok_map c.push_own.result (λ b a. value_of_tree w types outer i (tree_in types (ItemKind.Value (ValueType.Own c.in-Own.id))) (tree_in types (ItemKind.Value c.args.ty)) c.push_own.new.scope b (ap (λ v. tree_in types (ItemKind.Value v)) (sym c.in-Own.is)) a) (c.push_own.ensures w outer i h)
+
+pub push_resolved-returns-in-Borrow : goal.push_resolved-returns-in-Borrow
+push_resolved-returns-in-Borrow t c w outer i h =
+    let types = c.args.types.now in
+    if_ok_map c.push_borrow.result (λ b a. value_of_tree w types outer i (tree_in types (ItemKind.Value (ValueType.Borrow c.in-Borrow.id))) (tree_in types (ItemKind.Value c.args.ty)) c.push_borrow.new.scope b (ap (λ v. tree_in types (ItemKind.Value v)) (sym c.in-Borrow.is)) a) (c.push_borrow.ensures w outer i h)
+
+pub push_resolved-returns-in-Defined : goal.push_resolved-returns-in-Defined
+push_resolved-returns-in-Defined t c w outer i h =
+    let types = c.args.types.now in
+    if_ok_map c.push_defined.result (λ b a. value_of_tree w types outer i (tree_in types (ItemKind.Value (ValueType.Defined c.in-Defined.id))) (tree_in types (ItemKind.Value c.args.ty)) c.push_defined.new.scope b (ap (λ v. tree_in types (ItemKind.Value v)) (sym c.in-Defined.is)) a) (c.push_defined.ensures w outer i h)
+
+pub push_defined-push_places-requires : goal.push_defined-push_places-requires
+push_defined-push_places-requires t c =
+    (omega (arith, c.decreases), (c.requires.stands, defined_holds c.args.types.now (ValueType.Defined c.args.id) c.args.id c.defined_type-ty.result.now refl c.defined_type-ty.ensures.entry c.defined_type-ty.ensures.own))
+
+pub push_defined-returns-in-Some : goal.push_defined-returns-in-Some
+push_defined-returns-in-Some t c w outer i h =
+    let types = c.args.types.now in
+    value_there w types outer i (tree_in types (ItemKind.Value (ValueType.Defined c.args.id))) c.known_index.new.scope (Index c.in-Some.index) (c.known_index.ensures.keeps w outer i h)
+    (subst (λ o. IfSome o (λ k. value_of w (i.here ∷ outer) (Index k) ≡ Some (tree_in types (ItemKind.Value (ValueType.Defined c.args.id))))) c.in-Some.is (c.in_ok-known.ensures.reads w outer i h))
+
+pub push_defined-returns : goal.push_defined-returns
+push_defined-returns t c w outer i h =
+    let types = c.args.types.now in
+    value_written w types outer i c.see_acyclic.ensures c.args.id c.defined_type-ty.result.now c.push_places.new.scope c.define.new.self c.remember.new.self c.in_ok-places.places.items c.in_ok-entry.entry c.in_ok-index.index
+    c.requires.no_alias c.defined_type-ty.ensures.entry c.defined_type-ty.ensures.own (c.in_ok-places.ensures w outer i (c.known_index.ensures.keeps w outer i h))
+    (c.in_ok-entry.ensures ∙ ap (entry_of c.defined_type-ty.result.now) c.as_slice.ensures.value)
+    (λ j x hs e. c.in_ok-index.ensures.stands w types outer j x hs e) (λ j hs e. c.in_ok-remember.ensures w types outer j hs e)
+
+pub push_places-push_place-requires : goal.push_places-push_place-requires
+push_places-push_place-requires t c =
+    let types = c.args.types.now in
+    let s = subst (λ v. ValueStands types v × (place_size types v < size_of types c.args.kind)) (sym c.value_of.ensures)
+    (place_inside types c.see_acyclic.ensures c.args.kind c.requires.stands c.requires.values c.loop-place.at c.in-Some.place (sym c.in-Some.ensures.place)) in
+    (omega (arith, s.1, c.decreases), s.0)
+
+pub push_places-loop-place-init : goal.push_places-loop-place-init
+push_places-loop-place-init t c w outer i h = places_none w c.args.types.now outer i (take 0 (place_trees c.args.types.now c.args.kind)) c.args.scope.now _ h (take_zero (place_trees c.args.types.now c.args.kind)) c.new-written.ensures.items
+
+pub push_places-loop-place-smaller : goal.push_places-loop-place-smaller
+push_places-loop-place-smaller t c =
+    let lt = some_place (slots_of c.args.types.now c.args.kind) c.loop-place.at c.in-Some.place (sym c.in-Some.ensures.place) in
+    omega (arith, lt)
+
+pub push_places-loop-place-preserved : goal.push_places-loop-place-preserved
+push_places-loop-place-preserved t c w outer i h =
+    let types = c.args.types.now in
+    let trees = place_trees types c.args.kind in
+    let a = c.loop-place.invariant w outer i h in
+    places_next w types outer i (take c.loop-place.at trees) (take (c.loop-place.at + 1) trees) (value_tree types c.value_of.result) c.loop-place.scope c.push_place.new.scope c.loop-place.written.items c.push.new.self.items c.in_ok-value.value
+    a (c.in_ok-value.ensures w outer a.after a.goes.stands)
+    (trees_next types c.args.kind c.loop-place.at c.in-Some.place c.value_of.result c.requires.values c.value_of.ensures (sym c.in-Some.ensures.place)) c.in_ok-push.ensures.items
+
+pub push_places-returns : goal.push_places-returns
+push_places-returns t c w outer i h =
+    let types = c.args.types.now in
+    subst (λ l. AnswersPlaces w types outer i l c.loop-place.scope c.loop-place.written.items) (trees_all types c.args.kind c.loop-place.at (sym c.place.ensures.place ∙ c.in_default.is)) (c.loop-place.invariant w outer i h)
+
+pub push_place-push_value-requires : goal.push_place-push_value-requires
+push_place-push_value-requires t c =
+    let s = ap (place_size c.args.types.now) c.in-Some.is in
+    (omega (arith, s, c.decreases), subst (λ v. ValueStands c.args.types.now v) c.in-Some.is c.requires)
+
+pub push_place-returns-in-None : goal.push_place-returns-in-None
+push_place-returns-in-None t c w outer i h = place_none w c.args.types.now outer i c.args.scope.now c.args.place h c.in-None.is
+
+pub push_place-returns-in_ok-value-in-Some : goal.push_place-returns-in_ok-value-in-Some
+push_place-returns-in_ok-value-in-Some t c w outer i h = place_some w c.args.types.now outer i c.push_value.new.scope c.args.place c.in-Some.ty c.in_ok-value-in-Some.value c.in-Some.is (c.in_ok-value-in-Some.ensures w outer i h)

@@ -1,0 +1,4 @@
+pub mod Forms
+pub mod Scopes
+pub mod Faults
+pub mod Roots

@@ -1,0 +1,112 @@
+-- What holds of a scope of written types while it is being written: an instance type, a component type, or the root of a
+-- component before anything is instantiated.
+use Rattle.std.specs.Prelude.{◌≡◌, ℕ, List, [], ◌∷◌, ◌++◌, length, Option, Some, None, slice_get, IfSome}
+use Rattle.wac_types_base.specs.declared.ids.DefinedTypeId.{DefinedTypeId}
+use Rattle.wac_types_base.specs.declared.item.ValueType.{ValueType}
+use Rattle.wac_types_base.specs.declared.item.ItemKind.{ItemKind}
+use Rattle.wac_types_base.specs.Record.{Collection}
+use Rattle.wac_types_base.specs.Graph.{Among}
+use Rattle.wac_types_base.specs.Entries.{Name, value_at}
+use Rattle.wac_types_base.specs.Collection.{resource}
+use Rattle.wac_types_base.specs.Tree.{Tree, rigid, end}
+use Rattle.wac_types_fit.specs.Trees.{tree_in}
+use Rattle.wac_graph_bytes.specs.declared.value.Sort.{Sort}
+use Rattle.wac_graph_bytes.specs.declared.value.ValueType.{ValueType as Written}
+use Rattle.wac_graph_bytes.specs.declared.value.ValueType.TheVariants.{Index}
+use Rattle.wac_graph_bytes.specs.Typing.{Worlds, Meaning, Scope, space, Inside, nothing_inside, declared, item_of, type_at, value_of}
+use Rattle.wac_graph_bytes.specs.Views.{declarations_of}
+use Rattle.wac_graph_scopes.specs.declared.scope.KnownType.{KnownType}
+use Rattle.wac_graph_scopes.specs.declared.scope.TypeScope.{TypeScope}
+
+-- more may stand, and what stood stands
+pub record Extends (old new : Scope) : Type 0 where
+  pub indexes : (s : Sort) (k : ℕ) (m : Meaning) → slice_get (space s old) k ≡ Some m → slice_get (space s new) k ≡ Some m
+  pub cores : (k : ℕ) (t : Tree) → slice_get old.cores k ≡ Some t → slice_get new.cores k ≡ Some t
+
+-- the index of a type that is remembered stands for the type of its id
+pub record IsKnown (w : Worlds) (ss : List Scope) (c : Collection) (k : KnownType) : Type 0 where
+  pub reads : value_of w ss (Index k.index) ≡ Some (tree_in c (ItemKind.Value (ValueType.Defined k.id)))
+
+-- the index of a resource that stands there stands for the resource of that name
+pub record IsResource (w : Worlds) (ss : List Scope) (n : Name) (k : ℕ) : Type 0 where
+  pub reads : type_at w ss k ≡ Some (rigid (resource n) end)
+
+-- The declarations can be read inside those scopes, the counters are true, and so is what is remembered of the collection.
+pub record IsScope (w : Worlds) (c : Collection) (outer : List Scope) (i : Inside) (s : TypeScope) : Type 0 where
+  pub reads : declared w outer nothing_inside (declarations_of s.declarations.items) ≡ Some i
+  pub types : s.types ≡ length i.here.types
+  pub known : (k : KnownType) → Among k s.known.items → IsKnown w (i.here ∷ outer) c k
+  pub resources : (n : Name) (k : ℕ) → value_at s.resources n ≡ Some k → IsResource w (i.here ∷ outer) n k
+
+-- whatever scope of the collection it was, it is again
+abbrev pub KeepsScope : Collection → TypeScope → TypeScope → Type 0
+KeepsScope c s u = (w : Worlds) (outer : List Scope) (i : Inside) → IsScope w c outer i s → IsScope w c outer i u
+
+-- a scope of one collection is one of any other
+abbrev pub Forgets : TypeScope → TypeScope → Type 0
+Forgets s u = (w : Worlds) (c d : Collection) (outer : List Scope) (i : Inside) → IsScope w c outer i s → IsScope w d outer i u
+
+-- the index of a defined type
+abbrev pub StandsFor : Worlds → List Scope → Collection → DefinedTypeId → ℕ → Type 0
+StandsFor w ss c id k = value_of w ss (Index k) ≡ Some (tree_in c (ItemKind.Value (ValueType.Defined id)))
+
+-- the index of a defined type, if there is one
+abbrev pub FindsType : Collection → TypeScope → DefinedTypeId → Option ℕ → Type 0
+FindsType c s id o = (w : Worlds) (outer : List Scope) (i : Inside) → IsScope w c outer i s → IfSome o (StandsFor w (i.here ∷ outer) c id)
+
+-- The scope stands again, extended; nothing is imported and nothing exported.
+pub record Goes (w : Worlds) (c : Collection) (outer : List Scope) (i after : Inside) (s : TypeScope) : Type 0 where
+  pub stands : IsScope w c outer after s
+  pub extends : Extends i.here after.here
+  pub imports : after.imports ≡ i.imports
+  pub exports : after.exports ≡ i.exports
+
+-- and the index stands for the type with that tree
+pub record AnswersType (w : Worlds) (c : Collection) (outer : List Scope) (i : Inside) (t : Tree) (s : TypeScope) (k : ℕ) : Type 0 where
+  pub after : Inside
+  pub goes : Goes w c outer i after s
+  pub index : type_at w (after.here ∷ outer) k ≡ Some t
+
+-- and the value type is the one with that tree
+pub record AnswersValue (w : Worlds) (c : Collection) (outer : List Scope) (i : Inside) (t : Tree) (s : TypeScope) (b : Written) : Type 0 where
+  pub after : Inside
+  pub goes : Goes w c outer i after s
+  pub value : value_of w (after.here ∷ outer) b ≡ Some t
+
+-- ---- the places of a type
+
+abbrev pub PlaceReads : Worlds → List Scope → Option Written → Option Tree → Type 0
+PlaceReads w ss None None = Unit {0}
+PlaceReads w ss (Some b) (Some t) = value_of w ss b ≡ Some t
+PlaceReads w ss _ _ = ⊥
+
+-- place by place, the value types have these trees
+abbrev pub PlacesRead : Worlds → List Scope → List (Option Written) → List (Option Tree) → Type 0
+PlacesRead w ss [] [] = Unit {0}
+PlacesRead w ss (b ∷ bs) (t ∷ ts) = PlaceReads w ss b t × PlacesRead w ss bs ts
+PlacesRead w ss _ _ = ⊥
+
+-- and the value types in the places have those trees
+pub record AnswersPlaces (w : Worlds) (c : Collection) (outer : List Scope) (i : Inside) (ts : List (Option Tree)) (s : TypeScope) (bs : List (Option Written)) : Type 0 where
+  pub after : Inside
+  pub goes : Goes w c outer i after s
+  pub values : PlacesRead w (after.here ∷ outer) bs ts
+
+-- and the value type in the place has that tree, or nothing stands there
+pub record AnswersPlace (w : Worlds) (c : Collection) (outer : List Scope) (i : Inside) (t : Option Tree) (s : TypeScope) (b : Option Written) : Type 0 where
+  pub after : Inside
+  pub goes : Goes w c outer i after s
+  pub value : PlaceReads w (after.here ∷ outer) b t
+
+-- After an export the scope stands, extended, with the item behind the other exports.
+pub record Exports (w : Worlds) (c : Collection) (outer : List Scope) (i : Inside) (n : Name) (t : Tree) (s : TypeScope) : Type 0 where
+  pub after : Inside
+  pub stands : IsScope w c outer after s
+  pub extends : Extends i.here after.here
+  pub imports : after.imports ≡ i.imports
+  pub exports : after.exports ≡ i.exports ++ (n, t) ∷ []
+
+-- And the export's own index stands for the type.
+pub record ExportsType (w : Worlds) (c : Collection) (outer : List Scope) (i : Inside) (n : Name) (t : Tree) (s : TypeScope) (k : ℕ) : Type 0 where
+  pub exported : Exports w c outer i n (item_of t) s
+  pub index : type_at w (exported.after.here ∷ outer) k ≡ Some t

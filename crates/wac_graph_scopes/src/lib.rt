@@ -1,0 +1,18 @@
+//! The types of a collection, written in scopes: values, functions, instance types, component types,
+//! core modules and imports.
+#![tactic(auto)]
+
+mod core_items;
+mod entry;
+pub mod fault;
+pub mod imports;
+pub mod items;
+mod laws;
+pub mod order;
+pub mod parts;
+pub mod prints;
+pub mod scope;
+pub mod used;
+mod value;
+
+pub use laws::types_at_the_root;

@@ -1,0 +1,196 @@
+//! A scope of written types.
+
+ghost use Rattle.std.specs.Prelude.{◌≡◌, ◌∷◌, ◌<◌, ◌+◌, ◌↔◌, ℕ, List, [], Some, None, IfOk, IfErr, IfSome, IsSome, IsTrue, Err, slice_get, length, string_bytes};
+ghost use Rattle.wac_types_base.specs.declared.item.ItemKind.{ItemKind};
+ghost use Rattle.wac_types_base.specs.declared.item.ValueType.{ValueType};
+ghost use Rattle.wac_types_base.specs.Record.{Collection};
+ghost use Rattle.wac_types_base.specs.Graph.{Among};
+ghost use Rattle.wac_types_base.specs.Collection.{resource};
+ghost use Rattle.wac_types_base.specs.Tree.{Tree, rigid, end};
+ghost use Rattle.wac_types_fit.specs.Trees.{tree_in};
+ghost use Rattle.wac_graph_bytes.specs.declared.fault.SizeError.TheVariants.{TooLarge};
+ghost use Rattle.wac_graph_bytes.specs.declared.value.ValueType.TheVariants.{Index};
+ghost use Rattle.wac_graph_bytes.specs.Typing.{Worlds, Scope, Inside, nothing_inside, defined, type_at, value_of, as_func};
+ghost use Rattle.wac_graph_bytes.specs.Views.{defined_view};
+ghost use Rattle.wac_graph_scopes.specs.Scopes.{IsScope, IsKnown, Forgets, FindsType, AnswersType, Exports, ExportsType};
+
+use crate::prints::Prints;
+use indexmap::IndexMap;
+use std::alloc::{AllocError, Global};
+use wac_graph_bytes::{Declaration, DefinedType, Description, SizeError};
+use wac_types_base::{DefinedTypeId, NamedMap};
+
+/// A type of a collection that is written, and its index.
+#[derive(Clone, Copy)]
+pub struct KnownType {
+    pub id: DefinedTypeId,
+    pub index: u32,
+}
+
+/// Where types stand in the list of those that are known.
+#[derive(Drop)]
+pub struct Places {
+    /// Of a type's id.
+    pub by_id: IndexMap<DefinedTypeId, usize>,
+    /// Of the number of a type that has a name here.
+    pub by_print: IndexMap<u64, usize>,
+    pub prints: Prints,
+}
+
+/// Declarations, how many types they add, and what is remembered of them.
+#[derive(Drop)]
+pub struct TypeScope {
+    pub declarations: Vec<Declaration>,
+    pub types: u32,
+    pub known: Vec<KnownType>,
+    /// The indexes of resources, by their root names.
+    pub resources: NamedMap<u32>,
+    pub places: Places,
+}
+
+pub(crate) fn next_of(count: u32) -> Result<u32, SizeError>
+    ensures ok { IfOk result (λ i. i ≡ count + 1) }
+    ensures full { IfErr result (λ e. (e ≡ TooLarge) × (count ≡ 4294967295)) }
+{
+    count.checked_add(1).ok_or(SizeError::TooLarge)
+}
+
+/// Whether two ids are one.
+fn is_same_id(a: DefinedTypeId, b: DefinedTypeId) -> bool
+    ensures { IsTrue result ↔ (a ≡ b) }
+{
+    a == b
+}
+
+impl Places {
+    /// Nothing is known.
+    pub(crate) fn new(alloc: Global) -> Self {
+        Places {
+            by_id: IndexMap::new(alloc),
+            by_print: IndexMap::new(alloc),
+            prints: Prints::new(alloc),
+        }
+    }
+}
+
+impl TypeScope {
+    /// Nothing is written yet.
+    pub fn new(alloc: Global) -> Self
+        ensures { (w : Worlds) (c : Collection) (outer : List Scope) → IsScope w c outer nothing_inside result }
+    {
+        let declarations = Vec::new(alloc);
+        let known = Vec::new(alloc);
+        let resources = NamedMap::new(alloc);
+        TypeScope {
+            declarations,
+            types: 0,
+            known,
+            resources,
+            places: Places::new(alloc),
+        }
+    }
+
+    /// Writes a type without declarations.
+    pub fn define(&mut self, ty: DefinedType) -> Result<u32, SizeError>
+        ensures stands { (w : Worlds) (c : Collection) (outer : List Scope) (i : Inside) (t : Tree) → IsScope w c outer i self.old → defined w (i.here ∷ outer) (defined_view ty) ≡ Some t → IfOk result (λ k. AnswersType w c outer i t self.new k) }
+        ensures full { result ≡ Err TooLarge → self.old.types ≡ 4294967295 }
+    {
+        let index = self.types;
+        let next = next_of(index)?;
+        self.declarations.push(Declaration::Defined(ty))?;
+        self.types = next;
+        Ok(index)
+    }
+
+    /// Exports a function of the type at an index.
+    pub fn export_func(&mut self, name: String, ty: u32) -> Result<(), AllocError>
+        ensures { (w : Worlds) (c : Collection) (outer : List Scope) (i : Inside) (t : Tree) → IsScope w c outer i self.old → type_at w (i.here ∷ outer) ty ≡ Some t → as_func t ≡ Some t → IfOk result (λ _. Exports w c outer i (string_bytes name) t self.new) }
+    {
+        self.declarations
+            .push(Declaration::Export(name, Description::Func(ty)))?;
+        Ok(())
+    }
+
+    /// Exports a type that is the one at an index; the export has an index of its own.
+    pub fn export_type(&mut self, name: String, ty: u32) -> Result<u32, SizeError>
+        ensures stands { (w : Worlds) (c : Collection) (outer : List Scope) (i : Inside) (t : Tree) → IsScope w c outer i self.old → type_at w (i.here ∷ outer) ty ≡ Some t → IfOk result (λ k. ExportsType w c outer i (string_bytes name) t self.new k) }
+        ensures full { result ≡ Err TooLarge → self.old.types ≡ 4294967295 }
+    {
+        let own = self.types;
+        let next = next_of(own)?;
+        self.declarations
+            .push(Declaration::Export(name, Description::Equal(ty)))?;
+        self.types = next;
+        Ok(own)
+    }
+
+    /// Remembers the index of a type; in place of an earlier one of that id.
+    pub fn remember(&mut self, id: DefinedTypeId, index: u32) -> Result<(), AllocError>
+        ensures { (w : Worlds) (c : Collection) (outer : List Scope) (i : Inside) → IsScope w c outer i self.old → value_of w (i.here ∷ outer) (Index index) ≡ Some (tree_in c (ItemKind.Value (ValueType.Defined id))) → IfOk result (λ _. IsScope w c outer i self.new) }
+    {
+        let at = self.known.len();
+        self.places.by_id.insert(id, at)?;
+        self.known.push(KnownType { id, index })?;
+        Ok(())
+    }
+
+    /// Forgets the types that are known, so that those of another collection can be written here.
+    pub fn forget(&mut self, alloc: Global)
+        ensures { Forgets self.old self.new }
+    {
+        self.known = Vec::new(alloc);
+        self.places = Places::new(alloc);
+    }
+
+    /// Remembers the index of a resource.
+    pub fn add_resource(&mut self, name: String, index: u32) -> Result<(), AllocError> {
+        let _ = self.resources.insert(name, index)?;
+        Ok(())
+    }
+
+    /// The index of a type that is written already.
+    pub fn known(&self, id: DefinedTypeId) -> Option<u32>
+        ensures { (c : Collection) → FindsType c self.now id result }
+    {
+        match self.places.by_id.get(&id) {
+            Some(at) => self.known_as(*at, id),
+            None => None,
+        }
+    }
+
+    /// The index of what is remembered at a place, if it is the type.
+    fn known_as(&self, at: usize, id: DefinedTypeId) -> Option<u32>
+        ensures { (c : Collection) → FindsType c self.now id result }
+    {
+        match self.known_at(at) {
+            Some(known) => {
+                if is_same_id(known.id, id) {
+                    Some(known.index)
+                } else {
+                    None
+                }
+            }
+            None => None,
+        }
+    }
+
+    /// What is remembered at a place.
+    pub(crate) fn known_at(&self, at: usize) -> Option<KnownType>
+        ensures { (w : Worlds) (c : Collection) (outer : List Scope) (i : Inside) → IsScope w c outer i self.now → IfSome result (IsKnown w (i.here ∷ outer) c) }
+    {
+        match self.known.get(at) {
+            Some(known) => Some(*known),
+            None => None,
+        }
+    }
+
+    /// The index of a resource that stands here.
+    pub fn resource(&self, name: &str) -> Option<u32>
+        ensures { (w : Worlds) (c : Collection) (outer : List Scope) (i : Inside) → IsScope w c outer i self.now → IfSome result (λ k. type_at w (i.here ∷ outer) k ≡ Some (rigid (resource name.now) end)) }
+    {
+        match self.resources.get(name) {
+            Some(index) => Some(*index),
+            None => None,
+        }
+    }
+}

@@ -1,0 +1,368 @@
+//! Types of values and functions in a scope of written types.
+
+ghost use Rattle.std.specs.Prelude.{◌≡◌, ◌∷◌, List, Some, IfOk, true};
+ghost use Rattle.wac_types_base.specs.declared.item.ItemKind.{ItemKind};
+ghost use Rattle.wac_types_base.specs.declared.item.ValueType.{ValueType};
+ghost use Rattle.wac_types_base.specs.declared.item.«Type».{«Type» as TypeKind};
+ghost use Rattle.wac_types_base.specs.Entries.{Name};
+ghost use Rattle.wac_types_base.specs.Collection.{Stands, resource};
+ghost use Rattle.wac_types_base.specs.Resolving.{IsNoAlias};
+ghost use Rattle.wac_types_base.specs.Tree.{rigid, end};
+ghost use Rattle.wac_types_fit.specs.Trees.{tree_in, Fit};
+ghost use Rattle.wac_types_fit.specs.Checking.{value_in, HoldsValues, ValueStands, value_tree, place_trees};
+ghost use Rattle.wac_graph_bytes.specs.Typing.{Worlds, Scope, Inside, type_at};
+ghost use Rattle.wac_graph_scopes.specs.Scopes.{IsScope, KeepsScope, FindsType, AnswersType, AnswersValue, AnswersPlace, AnswersPlaces};
+
+use crate::entry::{entry_of, func_entry_of};
+use crate::fault::WriteError;
+use crate::scope::TypeScope;
+use std::alloc::Global;
+use wac_graph_bytes::{DefinedType as TypeEntry, ValueType as Written};
+use wac_types_base::replace::is_same;
+use wac_types_base::{DefinedTypeId, FuncTypeId, ItemKind, ResourceId, Types, ValueType};
+use wac_types_fit::{SubtypeChecker, SubtypeError, new_cache};
+
+/// The index of a resource in the scope.
+fn resource_of(scope: &TypeScope, types: &Types, id: ResourceId) -> Result<u32, WriteError>
+    requires { Stands types.now (ItemKind.Ty (TypeKind.Resource id)) }
+    ensures reads { (w : Worlds) (outer : List Scope) (i : Inside) → IsScope w types.now outer i scope.now → IfOk result (λ k. type_at w (i.here ∷ outer) k ≡ Some (tree_in types.now (ItemKind.Ty (TypeKind.Resource id)))) }
+    ensures root { (n : Name) × (tree_in types.now (ItemKind.Ty (TypeKind.Resource id)) ≡ rigid (resource n) end) }
+{
+    let root = types.resource(types.resolve_resource(id));
+    match scope.resource(root.name.as_str()) {
+        Some(index) => Ok(index),
+        None => Err(WriteError::Unwritable),
+    }
+}
+
+fn push_own(scope: &mut TypeScope, types: &Types, id: ResourceId) -> Result<Written, WriteError>
+    requires { Stands types.now (ItemKind.Value (ValueType.Own id)) }
+    ensures { (w : Worlds) (outer : List Scope) (i : Inside) → IsScope w types.now outer i scope.old → IfOk result (λ b. AnswersValue w types.now outer i (tree_in types.now (ItemKind.Value (ValueType.Own id))) scope.new b) }
+{
+    types.see_acyclic();
+    let resource = resource_of(scope, types, id)?;
+    let index = scope.define(TypeEntry::Own(resource))?;
+    Ok(Written::Index(index))
+}
+
+fn push_borrow(scope: &mut TypeScope, types: &Types, id: ResourceId) -> Result<Written, WriteError>
+    requires { Stands types.now (ItemKind.Value (ValueType.Borrow id)) }
+    ensures { (w : Worlds) (outer : List Scope) (i : Inside) → IsScope w types.now outer i scope.old → IfOk result (λ b. AnswersValue w types.now outer i (tree_in types.now (ItemKind.Value (ValueType.Borrow id))) scope.new b) }
+{
+    types.see_acyclic();
+    let resource = resource_of(scope, types, id)?;
+    let index = scope.define(TypeEntry::Borrow(resource))?;
+    Ok(Written::Index(index))
+}
+
+/// The value type in a place.
+fn value_of(place: Option<ItemKind>) -> Option<ValueType>
+    ensures { result ≡ value_in place }
+{
+    match place {
+        Some(ItemKind::Value(ty)) => Some(ty),
+        _ => None,
+    }
+}
+
+/// The written form of a value type.
+#[cycle(values)]
+pub(crate) fn push_value(
+    alloc: Global,
+    scope: &mut TypeScope,
+    types: &Types,
+    ty: ValueType,
+) -> Result<Written, WriteError>
+    requires { Stands types.now (ItemKind.Value ty) }
+    ensures { (w : Worlds) (outer : List Scope) (i : Inside) → IsScope w types.now outer i scope.old → IfOk result (λ b. AnswersValue w types.now outer i (tree_in types.now (ItemKind.Value ty)) scope.new b) }
+{
+    types.see_acyclic();
+    let end = types.resolve_value_type(ty);
+    push_resolved(alloc, scope, types, end)
+}
+
+/// The same of one that is no alias.
+#[cycle(values)]
+fn push_resolved(
+    alloc: Global,
+    scope: &mut TypeScope,
+    types: &Types,
+    ty: ValueType,
+) -> Result<Written, WriteError>
+    requires stands { Stands types.now (ItemKind.Value ty) }
+    requires no_alias { IsNoAlias types.now ty }
+    ensures { (w : Worlds) (outer : List Scope) (i : Inside) → IsScope w types.now outer i scope.old → IfOk result (λ b. AnswersValue w types.now outer i (tree_in types.now (ItemKind.Value ty)) scope.new b) }
+{
+    types.see_acyclic();
+    match ty {
+        ValueType::Primitive(p) => Ok(Written::Primitive(p)),
+        ValueType::Own(id) => push_own(scope, types, id),
+        ValueType::Borrow(id) => push_borrow(scope, types, id),
+        ValueType::Defined(id) => push_defined(alloc, scope, types, id),
+    }
+}
+
+/// Whether an item fits another. What does not stand fits nothing.
+pub(crate) fn fits_in(
+    alloc: Global,
+    types: &Types,
+    a: ItemKind,
+    b: ItemKind,
+) -> Result<bool, WriteError>
+    ensures fits { IfOk result (λ yes. yes ≡ true → Fit types.now a types.now b) }
+    ensures stands { IfOk result (λ yes. yes ≡ true → Stands types.now a) }
+{
+    if !types.has(a) || !types.has(b) {
+        return Ok(false);
+    }
+    if is_same(a, b) {
+        return Ok(true);
+    }
+    let mut cache = new_cache(alloc);
+    let mut checker = SubtypeChecker::new(alloc, &mut cache);
+    match checker.is_subtype(a, types, b, types) {
+        Ok(()) => Ok(true),
+        Err(SubtypeError::Memory) => Err(WriteError::Memory),
+        Err(_) => Ok(false),
+    }
+}
+
+/// The place in the list of those that are known where a type of this number with a name stands.
+fn place_of(
+    scope: &mut TypeScope,
+    types: &Types,
+    id: DefinedTypeId,
+) -> Result<Option<usize>, WriteError>
+    requires { Stands types.now (ItemKind.Value (ValueType.Defined id)) }
+    ensures { KeepsScope types.now scope.old scope.new }
+{
+    if scope.places.by_print.is_empty() {
+        return Ok(None);
+    }
+    let print = scope.places.prints.of(types, ValueType::Defined(id))?;
+    Ok(scope.places.by_print.get(&print).copied())
+}
+
+/// The index of a type with a name that is written and equal.
+fn equal_index(
+    alloc: Global,
+    scope: &mut TypeScope,
+    types: &Types,
+    id: DefinedTypeId,
+) -> Result<Option<u32>, WriteError>
+    requires { Stands types.now (ItemKind.Value (ValueType.Defined id)) }
+    ensures keeps { KeepsScope types.now scope.old scope.new }
+    ensures reads { IfOk result (λ o. FindsType types.now scope.old id o) }
+{
+    types.see_acyclic();
+    let Some(at) = place_of(scope, types, id)? else {
+        return Ok(None);
+    };
+    let Some(other) = scope.known_at(at) else {
+        return Ok(None);
+    };
+    let own = ItemKind::Value(ValueType::Defined(other.id));
+    let kind = ItemKind::Value(ValueType::Defined(id));
+    let equal = fits_in(alloc, types, own, kind)?;
+    if equal {
+        Ok(Some(other.index))
+    } else {
+        Ok(None)
+    }
+}
+
+/// The index of a type that is written already, or of one with a name that is equal.
+fn known_index(
+    alloc: Global,
+    scope: &mut TypeScope,
+    types: &Types,
+    id: DefinedTypeId,
+) -> Result<Option<u32>, WriteError>
+    requires { Stands types.now (ItemKind.Value (ValueType.Defined id)) }
+    ensures keeps { KeepsScope types.now scope.old scope.new }
+    ensures reads { IfOk result (λ o. FindsType types.now scope.old id o) }
+{
+    match scope.known(id) {
+        Some(index) => Ok(Some(index)),
+        None => equal_index(alloc, scope, types, id),
+    }
+}
+
+/// Remembers the index of a type that has a name here.
+pub(crate) fn note_named(
+    scope: &mut TypeScope,
+    types: &Types,
+    id: DefinedTypeId,
+    index: u32,
+) -> Result<(), WriteError>
+    requires { Stands types.now (ItemKind.Value (ValueType.Defined id)) }
+{
+    let print = scope.places.prints.of(types, ValueType::Defined(id))?;
+    if !scope.places.by_print.contains_key(&print) {
+        let at = scope.known.len();
+        let _ = scope.places.by_print.insert(print, at)?;
+    }
+    scope.remember(id, index)?;
+    Ok(())
+}
+
+/// The index of a type entry that is a value type. A defined type that is not written yet is not remembered.
+pub(crate) fn define_value(
+    alloc: Global,
+    scope: &mut TypeScope,
+    types: &Types,
+    ty: ValueType,
+) -> Result<u32, WriteError> {
+    if !types.has(ItemKind::Value(ty)) {
+        return Err(WriteError::Unwritable);
+    }
+    match types.resolve_value_type(ty) {
+        ValueType::Defined(id) => define_once(alloc, scope, types, id),
+        end => match push_value(alloc, scope, types, end)? {
+            Written::Index(index) => Ok(index),
+            Written::Primitive(p) => Ok(scope.define(TypeEntry::Primitive(p))?),
+        },
+    }
+}
+
+/// The same of a defined type that is no alias.
+fn define_once(
+    alloc: Global,
+    scope: &mut TypeScope,
+    types: &Types,
+    id: DefinedTypeId,
+) -> Result<u32, WriteError> {
+    let kind = ItemKind::Value(ValueType::Defined(id));
+    if !types.has(kind) {
+        return Err(WriteError::Unwritable);
+    }
+    let known = known_index(alloc, scope, types, id)?;
+    if let Some(index) = known {
+        return Ok(index);
+    }
+    let ty = types.defined_type(id);
+    let places = push_places(alloc, scope, types, kind)?;
+    let entry = entry_of(alloc, ty, places.as_slice())?;
+    Ok(scope.define(entry)?)
+}
+
+/// The index of a type entry of its own that is a value type, whatever else is written.
+pub(crate) fn define_apart(
+    alloc: Global,
+    scope: &mut TypeScope,
+    types: &Types,
+    ty: ValueType,
+) -> Result<u32, WriteError> {
+    if !types.has(ItemKind::Value(ty)) {
+        return Err(WriteError::Unwritable);
+    }
+    match types.resolve_value_type(ty) {
+        ValueType::Defined(id) => define_anew(alloc, scope, types, id),
+        end => define_value(alloc, scope, types, end),
+    }
+}
+
+/// The same of a defined type that is no alias. It is known afterwards.
+fn define_anew(
+    alloc: Global,
+    scope: &mut TypeScope,
+    types: &Types,
+    id: DefinedTypeId,
+) -> Result<u32, WriteError> {
+    let kind = ItemKind::Value(ValueType::Defined(id));
+    if !types.has(kind) {
+        return Err(WriteError::Unwritable);
+    }
+    let ty = types.defined_type(id);
+    let places = push_places(alloc, scope, types, kind)?;
+    let entry = entry_of(alloc, ty, places.as_slice())?;
+    let index = scope.define(entry)?;
+    scope.remember(id, index)?;
+    Ok(index)
+}
+
+/// The same of a defined type: written once.
+#[cycle(values)]
+fn push_defined(
+    alloc: Global,
+    scope: &mut TypeScope,
+    types: &Types,
+    id: DefinedTypeId,
+) -> Result<Written, WriteError>
+    requires stands { Stands types.now (ItemKind.Value (ValueType.Defined id)) }
+    requires no_alias { IsNoAlias types.now (ValueType.Defined id) }
+    ensures { (w : Worlds) (outer : List Scope) (i : Inside) → IsScope w types.now outer i scope.old → IfOk result (λ b. AnswersValue w types.now outer i (tree_in types.now (ItemKind.Value (ValueType.Defined id))) scope.new b) }
+{
+    types.see_acyclic();
+    let known = known_index(alloc, scope, types, id)?;
+    if let Some(index) = known {
+        return Ok(Written::Index(index));
+    }
+    let ty = types.defined_type(id);
+    let places = push_places(alloc, scope, types, ItemKind::Value(ValueType::Defined(id)))?;
+    let entry = entry_of(alloc, ty, places.as_slice())?;
+    let index = scope.define(entry)?;
+    scope.remember(id, index)?;
+    Ok(Written::Index(index))
+}
+
+/// The written forms of the value types in the places of a kind.
+#[cycle(values)]
+fn push_places(
+    alloc: Global,
+    scope: &mut TypeScope,
+    types: &Types,
+    kind: ItemKind,
+) -> Result<Vec<Option<Written>>, WriteError>
+    requires stands { Stands types.now kind }
+    requires values { HoldsValues types.now kind }
+    ensures { (w : Worlds) (outer : List Scope) (i : Inside) → IsScope w types.now outer i scope.old → IfOk result (λ v. AnswersPlaces w types.now outer i (place_trees types.now kind) scope.new v.items) }
+{
+    types.see_acyclic();
+    let mut written = Vec::new(alloc);
+    let mut at: u128 = 0;
+    while let Some(place) = types.place(kind, at) {
+        let value = push_place(alloc, scope, types, value_of(place))?;
+        written.push(value)?;
+        at += 1;
+    }
+    Ok(written)
+}
+
+/// The written form of the value type in a place.
+#[cycle(values)]
+fn push_place(
+    alloc: Global,
+    scope: &mut TypeScope,
+    types: &Types,
+    place: Option<ValueType>,
+) -> Result<Option<Written>, WriteError>
+    requires { ValueStands types.now place }
+    ensures { (w : Worlds) (outer : List Scope) (i : Inside) → IsScope w types.now outer i scope.old → IfOk result (λ b. AnswersPlace w types.now outer i (value_tree types.now place) scope.new b) }
+{
+    match place {
+        None => Ok(None),
+        Some(ty) => {
+            let value = push_value(alloc, scope, types, ty)?;
+            Ok(Some(value))
+        }
+    }
+}
+
+/// The index of a function type.
+pub(crate) fn push_func(
+    alloc: Global,
+    scope: &mut TypeScope,
+    types: &Types,
+    id: FuncTypeId,
+) -> Result<u32, WriteError>
+    requires { Stands types.now (ItemKind.Func id) }
+    ensures { (w : Worlds) (outer : List Scope) (i : Inside) → IsScope w types.now outer i scope.old → IfOk result (λ k. AnswersType w types.now outer i (tree_in types.now (ItemKind.Func id)) scope.new k) }
+{
+    types.see_acyclic();
+    let ty = types.func_type(id);
+    let places = push_places(alloc, scope, types, ItemKind::Func(id))?;
+    let entry = func_entry_of(alloc, ty, places.as_slice())?;
+    let index = scope.define(entry)?;
+    Ok(index)
+}
