@@ -75,7 +75,6 @@ pub record Unexports (old new : Graph) (k : ℕ) : Type 0 where
 -- definitions are refused
 abbrev pub UnexportRefused : Graph → ℕ → UnexportError → Type 0
 UnexportRefused g k UnexportError.MustExportDefinition = (node : NodeData) × (node_at g k ≡ Some node) × (node.role ≡ Role.Defined)
-UnexportRefused g k UnexportError.Memory = Unit {0}
 
 -- a node gets a name
 pub record Names (old new : Graph) (k : ℕ) (n : Name) : Type 0 where

@@ -47,6 +47,15 @@ pub record IsOpen (g : Graph) (i : ℕ) (n : Name) (item : ItemKind) : Type 0 wh
   pub is : IsArgument g i n item
   pub none : (b : ℕ) → HasArgument g.edges i n b → ⊥
 
+-- no import of an instance: neither an argument that is there, another type nor a circle is a cause
+abbrev pub LacksImport : Graph → ℕ → Name → InstantiationArgumentError → Type 0
+LacksImport g i n (InstantiationArgumentError.NodeIsNotAnInstantiation k) = (k ≡ i) × (instantiated g i ≡ None)
+LacksImport g i n (InstantiationArgumentError.InvalidArgumentName k m p) = (k ≡ i) × (string_bytes m ≡ n) × LacksArgument g i n (string_bytes p)
+LacksImport g i n (InstantiationArgumentError.ArgumentAlreadyPassed k m) = ⊥
+LacksImport g i n (InstantiationArgumentError.ArgumentTypeMismatch m fault) = ⊥
+LacksImport g i n (InstantiationArgumentError.WouldFormCycle k) = ⊥
+LacksImport g i n InstantiationArgumentError.Memory = Unit {0}
+
 abbrev pub ArgumentRefused : Graph → ℕ → Name → ℕ → InstantiationArgumentError → Type 0
 ArgumentRefused g i n a (InstantiationArgumentError.NodeIsNotAnInstantiation k) = (k ≡ i) × (instantiated g i ≡ None)
 ArgumentRefused g i n a (InstantiationArgumentError.InvalidArgumentName k m p) = (k ≡ i) × (string_bytes m ≡ n) × LacksArgument g i n (string_bytes p)

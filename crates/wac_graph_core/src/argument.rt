@@ -6,7 +6,7 @@ ghost use Rattle.wac_types_base.specs.Collection.{Stands};
 ghost use Rattle.wac_types_fit.specs.Trees.{Fit};
 ghost use Rattle.wac_graph_core.specs.Graph.{ContainsNode, IsArgument, instantiated};
 ghost use Rattle.wac_graph_core.specs.Steps.{SetsArgument, UnsetsArgument};
-ghost use Rattle.wac_graph_core.specs.Refusals.{ArgumentRefused, Mismatches};
+ghost use Rattle.wac_graph_core.specs.Refusals.{ArgumentRefused, LacksImport, Mismatches};
 
 use crate::edge::{
     Edge, Follow, Label, add_edge, alone, find_argument, is_among, reached, remove_argument,
@@ -71,6 +71,7 @@ impl CompositionGraph {
         ensures found { IfOk result (λ item. IsArgument self.now instantiation name.now item) }
         ensures stands { IfOk result (λ item. Stands self.now.types item) }
         ensures refused { (a : ℕ) → IfErr result (λ e. ArgumentRefused self.now instantiation name.now a e) }
+        ensures lacks { IfErr result (λ e. LacksImport self.now instantiation name.now e) }
     {
         self.see_sound();
         let package = match self.instantiated(instantiation) {
@@ -154,7 +155,7 @@ impl CompositionGraph {
     ) -> Result<(), InstantiationArgumentError>
         requires { ContainsNode self.old instantiation }
         ensures unset { OnOk result (UnsetsArgument self.old self.new instantiation name.now argument) }
-        ensures refused { IfErr result (λ e. ArgumentRefused self.old instantiation name.now argument e) }
+        ensures refused { IfErr result (λ e. LacksImport self.old instantiation name.now e) }
         ensures kept { OnErr result (self.new ≡ self.old) }
     {
         let _item = match self.argument_item(instantiation, name) {

@@ -75,8 +75,6 @@ pub enum ExportError {
 pub enum UnexportError {
     #[error("a defined type must be exported")]
     MustExportDefinition,
-    #[error("out of memory")]
-    Memory,
 }
 
 /// Why an argument is not passed or taken back.

@@ -8,8 +8,8 @@ ghost use Rattle.wac_parser_resolve.specs.Processing.{IsProcessed};
 
 use crate::resolver::Resolved;
 use wac_graph_bytes::Processor;
-use wac_graph_encode::{EncodeError, EncodeGraph, EncodeOptions, Encoded, ValidationFault};
 use wac_graph_core::NodeId;
+use wac_graph_encode::{EncodeError, EncodeGraph, EncodeOptions, Encoded, ValidationFault};
 use wac_parser_declare::{Error, ResolutionResult};
 use wac_parser_lexer::SourceSpan;
 use wac_types_base::ExternKind;
