@@ -11,7 +11,7 @@ invariant_of-self c =
     IsGraph-unset (graph c.self.inside) c.remove_argument.new.edges.items c.args.argument c.args.instantiation c.args.name.now c.remove_argument.ensures c.self.invariant
 
 pub returns-in-Err-clause-refused : goal.returns-in-Err-clause-refused
-returns-in-Err-clause-refused c = c.in-Err.ensures.refused c.args.argument
+returns-in-Err-clause-refused c = c.in-Err.ensures.lacks
 
 pub returns-clause-unset : goal.returns-clause-unset
 returns-clause-unset c =
