@@ -5,3 +5,4 @@ pub mod KeptFits
 pub mod Closures
 pub mod OuterClasses
 pub mod Merged
+pub mod ClassLaws

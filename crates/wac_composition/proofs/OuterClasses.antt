@@ -16,7 +16,6 @@ use Rattle.wac_composition.specs.Asks.{Ask}
 use Rattle.wac_composition.specs.Classes.{same_text, identifier_asked, joined, near, within_steps, class, spelled, spelling}
 use Rattle.wac_composition.specs.Merging.{kept, identified}
 use Rattle.wac_composition.specs.OuterImports.{asked_in, with_new, outer_of, outers_from, outer_imports}
-use Rattle.wac_composition.specs.OuterLaws.{Outers_are_apart}
 use Rattle.wac_composition.proofs.KeptFits.{outer_fits}
 use Rattle.wac_composition.proofs.Closures.{steps, reached, reached_within, reached_itself, reached_next, reached_same}
 
@@ -284,5 +283,5 @@ asks_are_met asks a n x m e =
     let found = (all_there asks [] asks (λ k z r. absurd (none_is r)) (λ b k. k)).1 a n x m e in
     (spelling_is asks a m ∙ sym (spelled_outer asks (class asks a) n x e), found, outer_fits (class asks a) n x e a (class_itself asks a m))
 
-pub outers_are_apart : Outers_are_apart
+pub outers_are_apart : {A : Type 0} (asks : List (Ask A)) (n m : Name) (x y : Stated) → value_at (outer_imports asks) n ≡ Some x → value_at (outer_imports asks) m ≡ Some y → compatible n m ≡ true → n ≡ m
 outers_are_apart asks n m x y e f h = apart asks n m x y e f h

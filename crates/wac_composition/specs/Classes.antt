@@ -1,7 +1,8 @@
 -- Which asks are one outer import, and how it is spelled.
-use Rattle.std.specs.Prelude.{ℕ, zero, suc, Bool, true, false, ◌&&◌, ◌||◌, List, [], ◌∷◌, map, length, Option, Some, None, option_map, filter, find, bytes_eq, unwrap_or, if◌then◌else◌}
+use Rattle.std.specs.Prelude.{◌≡◌, ℕ, zero, suc, Bool, true, false, ◌&&◌, ◌||◌, List, [], ◌∷◌, map, length, Option, Some, None, option_map, filter, find, bytes_eq, unwrap_or, if◌then◌else◌}
 use Rattle.std.specs.List.{list_any}
 use Rattle.wac_types_base.specs.Entries.{Name}
+use Rattle.wac_types_base.specs.Graph.{Among}
 use Rattle.wac_types_base.specs.Stated.{Kind, IsInstance, kind_of, identifier_of}
 use Rattle.wac_composition.specs.Names.{compatible, greatest, is_interface_name}
 use Rattle.wac_composition.specs.Asks.{Ask}
@@ -34,6 +35,11 @@ within_steps (suc k) asks ms = within_steps k asks (near asks ms)
 -- the asks that are one outer import with this one, in asking order
 abbrev pub class : {A : Type 0} → List (Ask A) → Ask A → List (Ask A)
 class asks a = within_steps (length asks) asks (a ∷ [])
+
+-- the same as a relation: from an ask to one that is joined to it, as often as one likes
+pub data Linked {A : Type 0} (asks : List (Ask A)) (a : Ask A) : Ask A → Type 0 where
+  itself : Linked asks a a
+  joined_to : (b c : Ask A) → Linked asks a b → Among c asks → joined c b ≡ true → Linked asks a c
 
 -- the name of greatest version on the track of the name asked first, else that name
 abbrev pub spelled : {A : Type 0} → List (Ask A) → Name

@@ -1,5 +1,5 @@
 -- What holds of outer imports.
-use Rattle.std.specs.Prelude.{◌≡◌, ℕ, Bool, List, Some, None, true}
+use Rattle.std.specs.Prelude.{◌≡◌, ◌↔◌, ℕ, Bool, List, Some, None, true, filter}
 use Rattle.wac_types_base.specs.Entries.{Name, value_at}
 use Rattle.wac_types_base.specs.Graph.{Among}
 use Rattle.wac_types_base.specs.Stated.{Stated}
@@ -9,7 +9,7 @@ use Rattle.wac_composition.specs.Names.{compatible}
 use Rattle.wac_composition.specs.Composition.{Composition}
 use Rattle.wac_composition.specs.Asks.{Ask, asks_of}
 use Rattle.wac_composition.specs.Merging.{Asked, kept}
-use Rattle.wac_composition.specs.Classes.{class, spelling}
+use Rattle.wac_composition.specs.Classes.{Linked, class, spelling}
 use Rattle.wac_composition.specs.OuterImports.{outer_of, outer_imports}
 use Rattle.wac_composition.specs.Conflicts.{first_cause}
 
@@ -18,23 +18,34 @@ abbrev pub Kept_fits : Type 0
 Kept_fits = (asks : List Asked) (x : Stated) → kept asks ≡ Some x → (a : Asked) → Among a asks → Fits (tree x) (tree a.1)
 
 -- and so does the outer import of a class
-abbrev pub Outer_fits : Type 0
-Outer_fits = (asks : List (Ask ℕ)) (n : Name) (x : Stated) → outer_of asks ≡ Some (n, x) → (a : Ask ℕ) → Among a asks → Fits (tree x) (tree a.item)
+abbrev pub Outer_fits : Type 0 → Type 0
+Outer_fits A = (asks : List (Ask A)) (n : Name) (x : Stated) → outer_of asks ≡ Some (n, x) → (a : Ask A) → Among a asks → Fits (tree x) (tree a.item)
+
+-- the class of an ask is what is linked to it, in asking order
+abbrev pub Classes_are_linked : Type 0 → Type 0
+Classes_are_linked A = (asks : List (Ask A)) (a b : Ask A) → Among a asks → Among b (class asks a) ↔ Linked asks a b
+
+-- being linked is an equivalence of asks, so it is the smallest one in which joined asks are equal
+abbrev pub Links_turn : Type 0 → Type 0
+Links_turn A = (asks : List (Ask A)) (a b : Ask A) → Among a asks → Linked asks a b → Linked asks b a
+
+abbrev pub Links_go_on : Type 0 → Type 0
+Links_go_on A = (asks : List (Ask A)) (a b c : Ask A) → Linked asks a b → Linked asks b c → Linked asks a c
 
 -- each ask whose class merges finds an outer import under the spelling of its name, that fits it
-abbrev pub Asks_are_met : Type 0
-Asks_are_met = (asks : List (Ask ℕ)) (a : Ask ℕ) (n : Name) (x : Stated) → Among a asks → outer_of (class asks a) ≡ Some (n, x) → (spelling asks a.name ≡ n) × (value_at (outer_imports asks) n ≡ Some x) × Fits (tree x) (tree a.item)
+abbrev pub Asks_are_met : Type 0 → Type 0
+Asks_are_met A = (asks : List (Ask A)) (a : Ask A) (n : Name) (x : Stated) → Among a asks → outer_of (class asks a) ≡ Some (n, x) → (spelling asks a.name ≡ n) × (value_at (outer_imports asks) n ≡ Some x) × Fits (tree x) (tree a.item)
 
 -- no two outer imports have equal names, or names on one track
-abbrev pub Outers_are_apart : Type 0
-Outers_are_apart = (asks : List (Ask ℕ)) (n m : Name) (x y : Stated) → value_at (outer_imports asks) n ≡ Some x → value_at (outer_imports asks) m ≡ Some y → compatible n m ≡ true → n ≡ m
+abbrev pub Outers_are_apart : Type 0 → Type 0
+Outers_are_apart A = (asks : List (Ask A)) (n m : Name) (x y : Stated) → value_at (outer_imports asks) n ≡ Some x → value_at (outer_imports asks) m ≡ Some y → compatible n m ≡ true → n ≡ m
 
 -- under the spelling of its name there is an outer import that fits the ask
-pub record IsMet (asks : List (Ask ℕ)) (a : Ask ℕ) : Type 0 where
+pub record IsMet {A : Type 0} (asks : List (Ask A)) (a : Ask A) : Type 0 where
   pub item : Stated
   pub there : value_at (outer_imports asks) (spelling asks a.name) ≡ Some item
   pub fits : Fits (tree item) (tree a.item)
 
 -- where nothing stands against a composition, each of its asks is met
-abbrev pub Accepted_are_met : Type 0
-Accepted_are_met = (define : Bool) (c : Composition ℕ ℕ) → first_cause define c ≡ None → (a : Ask ℕ) → Among a (asks_of c) → IsMet (asks_of c) a
+abbrev pub Accepted_are_met : Type 0 → Type 0 → Type 0
+Accepted_are_met A I = (define : Bool) (c : Composition A I) → first_cause define c ≡ None → (a : Ask A) → Among a (asks_of c) → IsMet (asks_of c) a

@@ -15,7 +15,7 @@ ghost use Rattle.wac_types_base.specs.Fits.{Fits};
 ghost use Rattle.wac_composition.specs.Tests.{same_label, same_tree, fit};
 ghost use Rattle.wac_composition.specs.Asks.{asks_of};
 ghost use Rattle.wac_composition.specs.OuterImports.{outer_imports};
-ghost use Rattle.wac_composition.specs.OuterLaws.{Kept_fits, Outer_fits, Asks_are_met, Accepted_are_met, Outers_are_apart};
+ghost use Rattle.wac_composition.specs.OuterLaws.{Classes_are_linked, Links_turn, Links_go_on, Kept_fits, Outer_fits, Asks_are_met, Accepted_are_met, Outers_are_apart};
 ghost use Rattle.wac_composition.specs.Conflicts.{ImplicitImport, ExplicitImport, ImportTypes, Unwritable, ImportNames, first_cause, name_cause, dependencies_of};
 ghost use Rattle.wac_composition.specs.Worlds.{composed_world, source_of};
 ghost use Rattle.wac_composition.specs.Examples.{plain_func, named_instance, passing, older, newer, wider, using_types, types, one_instance, two_versions, clashing_versions, clashing_imports, one_identifier, used_interface, asked_twice, alike_names, nameless_resource, asked_value, twice_made, byte_list, defined_twice, lacks_used, given_another, given_renamed};
@@ -38,15 +38,23 @@ pub fn names_are_compatible()
     ensures later { (m n : Name) → is_later m n ≡ true → IsLater m n }
 {}
 
+/// The asks that are one outer import with an ask are those that are linked to it, and being linked is
+/// an equivalence: so classes are those of the smallest equivalence in which joined asks are equal.
+pub fn classes_are_linked<A>()
+    ensures linked { Classes_are_linked A }
+    ensures turned { Links_turn A }
+    ensures through { Links_go_on A }
+{}
+
 /// What several asks of one outer import keep fits each of them, and so does the outer import of a
 /// class. Each ask whose class merges finds it under the spelling of its name; where nothing stands
 /// against a composition, that is each of its asks. No two outer imports have names on one track.
-pub fn outer_imports_fit()
+pub fn outer_imports_fit<A, I>()
     ensures kept { Kept_fits }
-    ensures outer { Outer_fits }
-    ensures met { Asks_are_met }
-    ensures accepted { Accepted_are_met }
-    ensures apart { Outers_are_apart }
+    ensures outer { Outer_fits A }
+    ensures met { Asks_are_met A }
+    ensures accepted { Accepted_are_met A I }
+    ensures apart { Outers_are_apart A }
 {}
 
 /// Compositions from outside: what they import, and why some cannot be written.

@@ -4,16 +4,16 @@ use Rattle.wac_composition.proofs.Merged.{all_met}
 use Rattle.wac_composition.proofs.outer_imports_fit.Goals as goal
 
 pub returns-clause-kept : goal.returns-clause-kept
-returns-clause-kept c = kept_fits
+returns-clause-kept c s = kept_fits
 
 pub returns-clause-outer : goal.returns-clause-outer
-returns-clause-outer c = λ asks n x e a m. outer_fits asks n x e a m
+returns-clause-outer c s = λ asks n x e a m. outer_fits asks n x e a m
 
 pub returns-clause-met : goal.returns-clause-met
-returns-clause-met c = λ asks a n x m e. asks_are_met asks a n x m e
+returns-clause-met c s = λ asks a n x m e. asks_are_met asks a n x m e
 
 pub returns-clause-apart : goal.returns-clause-apart
-returns-clause-apart c = outers_are_apart
+returns-clause-apart c s = outers_are_apart
 
 pub returns-clause-accepted : goal.returns-clause-accepted
-returns-clause-accepted c = λ define x e a m. let h = all_met define x e a m in record { item = h.0; there = h.1; fits = h.2 }
+returns-clause-accepted c s = λ define x e a m. let h = all_met define x e a m in record { item = h.0; there = h.1; fits = h.2 }
