@@ -6,3 +6,4 @@ pub mod Closures
 pub mod OuterClasses
 pub mod Merged
 pub mod ClassLaws
+pub mod NamesBack

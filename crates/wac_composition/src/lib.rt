@@ -32,10 +32,11 @@ pub fn tests_of_fitting()
     ensures { (t u : Tree) → fit t true u ≡ true → Fits t u }
 {}
 
-/// Names that the tests call compatible or later are so, as the maps of names have it.
+/// The tests of names say yes exactly of compatible ones, and of a name with a later one, as the maps of
+/// names have it.
 pub fn names_are_compatible()
-    ensures compatible { (m n : Name) → compatible m n ≡ true → AreCompatible m n }
-    ensures later { (m n : Name) → is_later m n ≡ true → IsLater m n }
+    ensures compatible { (m n : Name) → Decides (compatible m n) (AreCompatible m n) }
+    ensures later { (m n : Name) → Decides (is_later m n) (IsLater m n) }
 {}
 
 /// The asks that are one outer import with an ask are those that are linked to it, and being linked is
