@@ -7,3 +7,4 @@ pub mod OuterClasses
 pub mod Merged
 pub mod ClassLaws
 pub mod NamesBack
+pub mod FitBack

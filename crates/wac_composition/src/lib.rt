@@ -12,7 +12,9 @@ ghost use Rattle.wac_composition.specs.Names.{compatible, is_later};
 ghost use Rattle.wac_types_base.specs.Collection.{Shape};
 ghost use Rattle.wac_types_base.specs.Tree.{Tree, tree};
 ghost use Rattle.wac_types_base.specs.Fits.{Fits};
-ghost use Rattle.wac_composition.specs.Tests.{same_label, same_tree, fit};
+ghost use Rattle.wac_types_base.specs.Stated.{Stated};
+ghost use Rattle.wac_types_fit.specs.Ordered.{InOrder};
+ghost use Rattle.wac_composition.specs.Tests.{same_label, same_tree, fit, fits};
 ghost use Rattle.wac_composition.specs.Asks.{asks_of};
 ghost use Rattle.wac_composition.specs.OuterImports.{outer_imports};
 ghost use Rattle.wac_composition.specs.OuterLaws.{Classes_are_linked, Links_turn, Links_go_on, Kept_fits, Outer_fits, Asks_are_met, Accepted_are_met, Outers_are_apart};
@@ -27,9 +29,12 @@ pub fn tests_decide()
     ensures trees { (t u : Tree) → Decides (same_tree t u) (t ≡ u) }
 {}
 
-/// Where the test says that a tree fits another, it does.
+/// The tree of each stated type is in order, and the test of fitting says yes exactly where the tree of
+/// one stated type fits that of another.
 pub fn tests_of_fitting()
-    ensures { (t u : Tree) → fit t true u ≡ true → Fits t u }
+    ensures ordered { (a : Stated) → InOrder (tree a) }
+    ensures fitting { (a b : Stated) → Decides (fits a b) (Fits (tree a) (tree b)) }
+    ensures trees { (t u : Tree) → fit t true u ≡ true → Fits t u }
 {}
 
 /// The tests of names say yes exactly of compatible ones, and of a name with a later one, as the maps of
