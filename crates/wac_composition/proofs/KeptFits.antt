@@ -1,14 +1,16 @@
--- What several asks of one outer import keep fits each of them.
+-- What several asks of one outer import keep is the greatest tree that fits each of them.
 use Rattle.std.specs.Prelude.{◌==◌, drop, option_map, is_none, not, cond, filter, if◌then◌else◌, ◌&&◌, ⊤}
 use Rattle.std.specs.Cmp.Lexicographic.{pointwise, bytes_decides}
-use Rattle.std.proofs.Common.{◌≡◌, ℕ, zero, suc, List, [], ◌∷◌, ◌++◌, map, length, Bool, true, false, true≢false, Option, Some, None, ◌⊎◌, inl, inr, refl, sym, ap, subst, ◌∙◌}
+use Rattle.std.proofs.Common.{◌≡◌, ℕ, zero, suc, List, [], ◌∷◌, ◌++◌, append_assoc, map, length, Bool, true, false, true≢false, Option, Some, None, ◌⊎◌, inl, inr, refl, sym, ap, subst, ◌∙◌}
 use Rattle.wac_types_base.specs.Entries.{Name, value_at}
 use Rattle.wac_types_base.specs.Graph.{Whole, Wholes, node, no_more, more, hole, Among}
 use Rattle.wac_types_base.specs.Collection.{Shape, primitive, tuple, list, fixed_size_list, option, result, variant, record_of, flags, enum, alias, stream, future, resource, resource_alias, func, interface, world, module_type, type_of, own_of, borrow_of}
 use Rattle.wac_types_base.specs.Stated.{Stated, row, folded, folded_row, places_in, with_names, names, filled, Used, names_used, used_places, over, interface_of, Kind, IsInstance, shape_kind, kind_of, Parts, parts_at, only_places, parts_of, first_parts, exports_of, uses_of, as_type}
 use Rattle.wac_types_base.specs.Tree.{Tree, instance, type_item, Row, end, place, gap, Fields, no_fields, put, fields, past, tree, trees}
 use Rattle.wac_types_base.specs.Fits.{HasField, Fits, FieldsFit, instance_fits, type_fits}
-use Rattle.wac_types_fit.specs.Ordered.{AllInOrder}
+use Rattle.wac_types_fit.specs.Ordered.{InOrder, AllInOrder}
+use Rattle.wac_types_fit.specs.Meets.{FitsAll, IsMeet}
+use Rattle.wac_types_fit.proofs.Meeting.{Joins, FieldsMeet, fields_meet, meet_one, meet_narrower, meet_more}
 use Rattle.wac_types_fit.specs.Lookups.{lookup}
 use Rattle.wac_types_fit.proofs.Looking.{looked-has, has-looked, all_given, looked-put, looked-other}
 use Rattle.wac_types_fit.proofs.Ordering.{tree_in_order, AllInOrder-put}
@@ -19,7 +21,7 @@ use Rattle.wac_composition.specs.Tests.{fits}
 use Rattle.wac_composition.specs.Merging.{is_interface, Merge, both, merged_with, merged_exports, has_use, merged_interface, rebuilt, if_kind, same_tree_as, merge_at, merge, Asked, narrower, in_family, kept_from, kept, identified_by, identified}
 use Rattle.wac_composition.specs.Asks.{Ask}
 use Rattle.wac_composition.specs.OuterImports.{asked_in, outer_of}
-use Rattle.wac_composition.specs.OuterLaws.{Kept_fits}
+use Rattle.wac_composition.specs.OuterLaws.{trees_asked, Kept_is_meet}
 use Rattle.wac_composition.proofs.FitLaws.{fits_is}
 
 some_is : {A : Type 0} {x y : A} → Some x ≡ Some y → x ≡ y
@@ -182,15 +184,37 @@ made_behind (u ∷ us) xs = made_behind us xs
 pub made_tree : (i : Option Name) (us : List Used) (xs : List (Name × Stated)) → tree (interface_of i us xs) ≡ instance (fields_of xs)
 made_tree i us xs = ap instance (made_behind us xs)
 
+-- ---- two trees
+
+abbrev Meet : Stated → Stated → Stated → Type 0
+Meet z x y = IsMeet (tree z) (tree x ∷ tree y ∷ [])
+
+-- what fits another is the meet of both
+first_meet : (x y : Stated) → Fits (tree x) (tree y) → Meet x x y
+first_meet x y f = meet_narrower (tree x) (tree y) (tree_in_order x) f
+
+second_meet : (x y : Stated) → Fits (tree y) (tree x) → Meet y x y
+second_meet x y f = record { ordered = tree_in_order y; fits = (f, (Fits-refl (tree y), tt)); greatest = λ w o g. g.1.0 }
+
+typed_great : (m t u w : Tree) → IsMeet m (t ∷ u ∷ []) → InOrder w → Fits w (type_item t) → Fits w (type_item u) → Fits w (type_item m)
+typed_great m t u w h o (type_fits {t = v} f) (type_fits g) = type_fits (h.greatest v o (f, (g, tt)))
+
+typed_meet : (m t u : Tree) → IsMeet m (t ∷ u ∷ []) → IsMeet (type_item m) (type_item t ∷ type_item u ∷ [])
+typed_meet m t u h = record {
+  ordered = h.ordered;
+  fits = (type_fits h.fits.0, (type_fits h.fits.1.0, tt));
+  greatest = λ w o f. typed_great m t u w h o f.0 f.1.0;
+}
+
 -- ---- merged exports
 
--- what a merge gives fits both
-abbrev pub FitsBoth : Stated → Merge → Type 0
-FitsBoth x m = (y z : Stated) → m y ≡ Some z → Fits (tree z) (tree x) × Fits (tree z) (tree y)
+-- what a merge gives is the meet of both
+abbrev pub MeetsBoth : Stated → Merge → Type 0
+MeetsBoth x m = (y z : Stated) → m y ≡ Some z → Meet z x y
 
 abbrev AllFit : List (Name × (Stated × Merge)) → Type 0
 AllFit [] = Unit {0}
-AllFit (e ∷ es) = FitsBoth e.1.0 e.1.1 × AllFit es
+AllFit (e ∷ es) = MeetsBoth e.1.0 e.1.1 × AllFit es
 
 both_is : {A B C : Type 0} (f : A → B → C) (a : Option A) (b : Option B) (c : C) → both f a b ≡ Some c → (x : A) × (y : B) × (a ≡ Some x) × (b ≡ Some y) × (f x y ≡ c)
 both_is f (Some x) (Some y) c e = (x, y, refl, refl, some_is e)
@@ -199,38 +223,45 @@ both_is f None b c e = absurd (none_is e)
 
 -- name by name: of each entry of the first, what is merged
 record Merged (es : List (Name × (Stated × Merge))) (fs xs : List (Name × Stated)) : Type 0 where
-  first : (n : Name) (x : Stated) → value_at (first_parts es) n ≡ Some x → (z : Stated) × (value_at xs n ≡ Some z) × Fits (tree z) (tree x)
-  second : (n : Name) (x y : Stated) → value_at (first_parts es) n ≡ Some x → value_at fs n ≡ Some y → (z : Stated) × (value_at xs n ≡ Some z) × Fits (tree z) (tree y)
+  alone : (n : Name) (x : Stated) → value_at (first_parts es) n ≡ Some x → value_at fs n ≡ None → value_at xs n ≡ Some x
+  in_both : (n : Name) (x y : Stated) → value_at (first_parts es) n ≡ Some x → value_at fs n ≡ Some y → (z : Stated) × (value_at xs n ≡ Some z) × Meet z x y
   others : (n : Name) → value_at (first_parts es) n ≡ None → value_at xs n ≡ None
-
-merged_one : (x : Stated) (m : Merge) (o : Option Stated) (z : Stated) → FitsBoth x m → merged_with m x o ≡ Some z → Fits (tree z) (tree x) × ((y : Stated) → o ≡ Some y → Fits (tree z) (tree y))
-merged_one x m None z h e = (subst (λ t. Fits (tree t) (tree x)) (some_is e) (Fits-refl (tree x)), λ y q. absurd (none_is q))
-merged_one x m (Some w) z h e = let b = h w z e in (b.0, λ y q. subst (λ t. Fits (tree z) (tree t)) (some_is q) b.1)
 
 merged_all : (es : List (Name × (Stated × Merge))) (fs xs : List (Name × Stated)) → AllFit es → merged_exports es fs ≡ Some xs → Merged es fs xs
 merged_all [] fs xs h e =
-    subst (Merged [] fs) (some_is e) (record { first = λ n x q. absurd (none_is q); second = λ n x y q r. absurd (none_is q); others = λ n q. refl })
+    subst (Merged [] fs) (some_is e) (record { alone = λ n x q. absurd (none_is q); in_both = λ n x y q r. absurd (none_is q); others = λ n q. refl })
 merged_all (e ∷ es) fs xs h q =
     let b = both_is (λ x ys. (e.0, x) ∷ ys) (merged_with e.1.1 e.1.0 (value_at fs e.0)) (merged_exports es fs) xs q in
     let z = b.0 in
     let rest = b.1 in
-    let one = merged_one e.1.0 e.1.1 (value_at fs e.0) z h.0 b.2 in
     let all = merged_all es fs rest h.1 b.3 in
     subst (Merged (e ∷ es) fs) b.4 (record {
-      first = λ n x p. go_first n x (pointwise ◌==◌ n e.0) z one.0 rest (all.first n x) p;
-      second = λ n x y p r. go_second n x y (pointwise ◌==◌ n e.0) refl z one.1 rest (all.second n x y) p r;
+      alone = λ n x p r. go_alone n x (pointwise ◌==◌ n e.0) refl z b.2 rest (all.alone n x) p r;
+      in_both = λ n x y p r. go_both n x y (pointwise ◌==◌ n e.0) refl z b.2 rest (all.in_both n x y) p r;
       others = λ n p. go_others n (pointwise ◌==◌ n e.0) z rest (all.others n) p;
     })
   where
-    go_first : (n : Name) (x : Stated) (b : Bool) (z : Stated) → Fits (tree z) (tree e.1.0) → (rest : List (Name × Stated)) → (value_at (first_parts es) n ≡ Some x → (w : Stated) × (value_at rest n ≡ Some w) × Fits (tree w) (tree x))
-        → (if b then Some e.1.0 else value_at (first_parts es) n) ≡ Some x → (w : Stated) × ((if b then Some z else value_at rest n) ≡ Some w) × Fits (tree w) (tree x)
-    go_first n x true z f rest r p = (z, refl, subst (λ t. Fits (tree z) (tree t)) (some_is p) f)
-    go_first n x false z f rest r p = r p
+    kept_alone : (o : Option Stated) (z : Stated) → o ≡ None → merged_with e.1.1 e.1.0 o ≡ Some z → e.1.0 ≡ z
+    kept_alone None z p r = some_is r
+    kept_alone (Some y) z p r = absurd (none_is (sym p))
 
-    go_second : (n : Name) (x y : Stated) (b : Bool) → pointwise ◌==◌ n e.0 ≡ b → (z : Stated) → ((w : Stated) → value_at fs e.0 ≡ Some w → Fits (tree z) (tree w)) → (rest : List (Name × Stated)) → (value_at (first_parts es) n ≡ Some x → value_at fs n ≡ Some y → (w : Stated) × (value_at rest n ≡ Some w) × Fits (tree w) (tree y))
-        → (if b then Some e.1.0 else value_at (first_parts es) n) ≡ Some x → value_at fs n ≡ Some y → (w : Stated) × ((if b then Some z else value_at rest n) ≡ Some w) × Fits (tree w) (tree y)
-    go_second n x y true t z f rest r p q = (z, refl, f y (ap (value_at fs) (sym ((bytes_decides n e.0).0 t)) ∙ q))
-    go_second n x y false t z f rest r p q = r p q
+    kept_both : (o : Option Stated) (y z : Stated) → o ≡ Some y → merged_with e.1.1 e.1.0 o ≡ Some z → Meet z e.1.0 y
+    kept_both None y z p r = absurd (none_is p)
+    kept_both (Some w) y z p r = subst (λ k. Meet z e.1.0 k) (some_is p) (h.0 w z r)
+
+    go_alone : (n : Name) (x : Stated) (b : Bool) → pointwise ◌==◌ n e.0 ≡ b → (z : Stated) → merged_with e.1.1 e.1.0 (value_at fs e.0) ≡ Some z → (rest : List (Name × Stated)) → (value_at (first_parts es) n ≡ Some x → value_at fs n ≡ None → value_at rest n ≡ Some x)
+        → (if b then Some e.1.0 else value_at (first_parts es) n) ≡ Some x → value_at fs n ≡ None → (if b then Some z else value_at rest n) ≡ Some x
+    go_alone n x true t z m rest r p q =
+        let none : value_at fs e.0 ≡ None = ap (value_at fs) (sym ((bytes_decides n e.0).0 t)) ∙ q in
+        ap Some (sym (kept_alone (value_at fs e.0) z none m) ∙ some_is p)
+    go_alone n x false t z m rest r p q = r p q
+
+    go_both : (n : Name) (x y : Stated) (b : Bool) → pointwise ◌==◌ n e.0 ≡ b → (z : Stated) → merged_with e.1.1 e.1.0 (value_at fs e.0) ≡ Some z → (rest : List (Name × Stated)) → (value_at (first_parts es) n ≡ Some x → value_at fs n ≡ Some y → (w : Stated) × (value_at rest n ≡ Some w) × Meet w x y)
+        → (if b then Some e.1.0 else value_at (first_parts es) n) ≡ Some x → value_at fs n ≡ Some y → (w : Stated) × ((if b then Some z else value_at rest n) ≡ Some w) × Meet w x y
+    go_both n x y true t z m rest r p q =
+        let there : value_at fs e.0 ≡ Some y = ap (value_at fs) (sym ((bytes_decides n e.0).0 t)) ∙ q in
+        (z, refl, subst (λ k. Meet z k y) (some_is p) (kept_both (value_at fs e.0) y z there m))
+    go_both n x y false t z m rest r p q = r p q
 
     go_others : (n : Name) (b : Bool) (z : Stated) (rest : List (Name × Stated)) → (value_at (first_parts es) n ≡ None → value_at rest n ≡ None) → (if b then Some e.1.0 else value_at (first_parts es) n) ≡ None → (if b then Some z else value_at rest n) ≡ None
     go_others n true z rest r p = absurd (none_is (sym p))
@@ -277,26 +308,40 @@ none_first : {A : Type 0} (o : Option (Stated × A)) → option_map (λ x. x.0) 
 none_first None e = refl
 none_first (Some x) e = absurd (none_is (sym e))
 
--- the map of the merged interface fits both
-record FitsMaps (es fs xs : List (Name × Stated)) : Type 0 where
-  first : FieldsFit (fields_of xs) (fields_of es)
-  second : FieldsFit (fields_of xs) (fields_of fs)
+none_passing : (t : Name → Bool) (fs : List (Name × Stated)) (n : Name) → value_at fs n ≡ None → value_at (filter (λ f. t f.0) fs) n ≡ None
+none_passing t [] n e = refl
+none_passing t (f ∷ fs) n e = go (none_passing t fs n) (pointwise ◌==◌ n f.0) refl (t f.0) e
+  where
+    go : (value_at fs n ≡ None → value_at (filter (λ f. t f.0) fs) n ≡ None) → (b : Bool) → pointwise ◌==◌ n f.0 ≡ b → (k : Bool) → (if b then Some f.1 else value_at fs n) ≡ None → value_at (cond k (f ∷ filter (λ f. t f.0) fs) (filter (λ f. t f.0) fs)) n ≡ None
+    go rest true q k e = absurd (none_is (sym e))
+    go rest false q true e = ap (λ (b : Bool). if b then Some f.1 else value_at (filter (λ f. t f.0) fs) n) q ∙ rest e
+    go rest false q false e = rest e
 
-maps_fit : (es : List (Name × (Stated × Merge))) (fs xs : List (Name × Stated)) → Merged es fs xs → FitsMaps (first_parts es) fs (xs ++ filter (λ f. is_none (value_at es f.0)) fs)
-maps_fit es fs xs m =
+joined_trees : (p q r : Option Stated) → ((x : Stated) → p ≡ Some x → q ≡ None → r ≡ Some x) → ((x y : Stated) → p ≡ Some x → q ≡ Some y → (z : Stated) × (r ≡ Some z) × Meet z x y) → (p ≡ None → r ≡ q)
+    → Joins (option_map tree p) (option_map tree q) (option_map tree r)
+joined_trees None q r f g h = ap (option_map tree) (h refl)
+joined_trees (Some x) None r f g h = ap (option_map tree) (f x refl refl)
+joined_trees (Some x) (Some y) r f g h = let m = g x y refl refl in (tree m.0, ap (option_map tree) m.1, m.2)
+
+-- the map of the merged interface is the meet of both
+maps_meet : (es : List (Name × (Stated × Merge))) (fs xs : List (Name × Stated)) → Merged es fs xs → FieldsMeet (fields_of (first_parts es)) (fields_of fs) (fields_of (xs ++ filter (λ f. is_none (value_at es f.0)) fs))
+maps_meet es fs xs m =
     let rest = filter (λ (f : Name × Stated). is_none (value_at es f.0)) fs in
     record {
-      first = fields_fit (xs ++ rest) (first_parts es) (λ n x e. let z = m.first n x e in (z.0, value_append xs rest n z.0 z.1, z.2));
-      second = fields_fit (xs ++ rest) fs (λ n y e. go n y (value_at (first_parts es) n) refl e);
+      ordered = fields_ordered (xs ++ rest);
+      joins = λ n.
+          subst (λ o. Joins o (lookup n (fields_of fs)) (lookup n (fields_of (xs ++ rest)))) (sym (fields_looked (first_parts es) n))
+          (subst (λ o. Joins (option_map tree (value_at (first_parts es) n)) o (lookup n (fields_of (xs ++ rest)))) (sym (fields_looked fs n))
+          (subst (λ o. Joins (option_map tree (value_at (first_parts es) n)) (option_map tree (value_at fs n)) o) (sym (fields_looked (xs ++ rest) n))
+          (joined_trees (value_at (first_parts es) n) (value_at fs n) (value_at (xs ++ rest) n)
+          (λ x p q. value_append xs rest n x (m.alone n x p q))
+          (λ x y p q. let z = m.in_both n x y p q in (z.0, value_append xs rest n z.0 z.1, z.2))
+          (λ p. value_behind xs rest n (m.others n p) ∙ behind n (none_first (value_at es n) (sym (value_first es n) ∙ p)) (value_at fs n) refl))));
     }
   where
-    go : (n : Name) (y : Stated) (o : Option Stated) → value_at (first_parts es) n ≡ o → value_at fs n ≡ Some y → (z : Stated) × (value_at (xs ++ filter (λ f. is_none (value_at es f.0)) fs) n ≡ Some z) × Fits (tree z) (tree y)
-    go n y (Some x) q e =
-        let z = m.second n x y q e in
-        (z.0, value_append xs (filter (λ f. is_none (value_at es f.0)) fs) n z.0 z.1, z.2)
-    go n y None q e =
-        let none = none_first (value_at es n) (sym (value_first es n) ∙ q) in
-        (y, value_behind xs (filter (λ f. is_none (value_at es f.0)) fs) n (m.others n q) ∙ value_passing (λ k. is_none (value_at es k)) fs n y none e, Fits-refl (tree y))
+    behind : (n : Name) → is_none (value_at es n) ≡ true → (o : Option Stated) → value_at fs n ≡ o → value_at (filter (λ (f : Name × Stated). is_none (value_at es f.0)) fs) n ≡ value_at fs n
+    behind n e None q = none_passing (λ k. is_none (value_at es k)) fs n q ∙ sym q
+    behind n e (Some y) q = value_passing (λ k. is_none (value_at es k)) fs n y e q ∙ sym q
 
 if_is : (b : Bool) (o : Option Stated) (z : Stated) → if_kind b o ≡ Some z → (b ≡ true) × (o ≡ Some z)
 if_is true o z e = (refl, e)
@@ -307,12 +352,12 @@ mapped_is f (Some x) z e = (x, refl, some_is e)
 mapped_is f None z e = absurd (none_is e)
 
 -- the trees of what is merged, as instances
-record FitsTrees (p : Parts Merge) (y z : Stated) : Type 0 where
+record MeetsTrees (p : Parts Merge) (y z : Stated) : Type 0 where
   made : List (Name × Stated)
   tree_is : tree z ≡ instance (fields_of made)
-  fit : FitsMaps (first_parts p.exports) (exports_of y) made
+  meet : IsMeet (instance (fields_of made)) (instance (fields_of (first_parts p.exports)) ∷ instance (fields_of (exports_of y)) ∷ [])
 
-merged_fits : (p : Parts Merge) (y z : Stated) → AllFit p.exports → merged_interface p y ≡ Some z → FitsTrees p y z
+merged_fits : (p : Parts Merge) (y z : Stated) → AllFit p.exports → merged_interface p y ≡ Some z → MeetsTrees p y z
 merged_fits p y z h e =
     let uses = map (λ u. u.0) p.uses ++ filter (λ (u : Used). not (has_use (map (λ v. v.0) p.uses) u.name)) (uses_of y) in
     let rest = filter (λ (f : Name × Stated). is_none (value_at p.exports f.0)) (exports_of y) in
@@ -320,7 +365,8 @@ merged_fits p y z h e =
     record {
       made = m.0 ++ rest;
       tree_is = ap tree (sym m.2) ∙ made_tree p.identifier uses (m.0 ++ rest);
-      fit = maps_fit p.exports (exports_of y) m.0 (merged_all p.exports (exports_of y) m.0 h m.1);
+      meet = fields_meet (fields_of (first_parts p.exports)) (fields_of (exports_of y)) (fields_of (m.0 ++ rest)) (fields_ordered (first_parts p.exports)) (fields_ordered (exports_of y))
+          (maps_meet p.exports (exports_of y) m.0 (merged_all p.exports (exports_of y) m.0 h m.1));
     }
 
 -- ---- all kinds
@@ -328,7 +374,7 @@ merged_fits p y z h e =
 abbrev RowFits : List (Option (Stated × Merge)) → Type 0
 RowFits [] = Unit {0}
 RowFits (None ∷ os) = RowFits os
-RowFits (Some x ∷ os) = FitsBoth x.0 x.1 × RowFits os
+RowFits (Some x ∷ os) = MeetsBoth x.0 x.1 × RowFits os
 
 names_fit : (ns : List Name) (os : List (Option (Stated × Merge))) → RowFits os → AllFit (with_names ns os)
 names_fit [] os h = tt
@@ -348,13 +394,12 @@ row_again (hole ts) = ap hole (row_again ts)
 row_again (more t ts) = ap (more t) (row_again ts)
 
 -- what is compared as it is
-same_fits : (s : Shape) (ts : Wholes Shape) (y z : Stated) → same_tree_as (rebuilt s (folded_row merge_at ts)) y ≡ Some z → Fits (tree z) (tree (node s ts)) × Fits (tree z) (tree y)
+same_fits : (s : Shape) (ts : Wholes Shape) (y z : Stated) → same_tree_as (rebuilt s (folded_row merge_at ts)) y ≡ Some z → Meet z (node s ts) y
 same_fits s ts y z e =
     let x = rebuilt s (folded_row merge_at ts) in
     let b = if_is (fits x y && fits y x) (Some x) z e in
     let same : x ≡ node s ts = ap (λ os. node s (row os)) (folded_firsts merge_at ts) ∙ ap (node s) (row_again ts) in
-    let is : z ≡ node s ts = sym (some_is b.1) ∙ same in
-    (subst (λ t. Fits (tree z) (tree t)) is (Fits-refl (tree z)), subst (λ t. Fits (tree t) (tree y)) (some_is b.1) (fits_is (tree x) (tree y) (left (fits x y) (fits y x) b.0)))
+    subst (λ w. Meet w (node s ts) y) (some_is b.1) (subst (λ w. Meet x w y) same (first_meet x y (fits_is (tree x) (tree y) (left (fits x y) (fits y x) b.0))))
   where
     left : (a b : Bool) → (a && b) ≡ true → a ≡ true
     left true b e = refl
@@ -409,27 +454,24 @@ item_tree (node (type_of (type_of s)) ts) e = absurd (true≢false (sym e))
 typed_tree : (z : Stated) → tree (as_type z) ≡ type_item (tree z)
 typed_tree (node s ts) = refl
 
-merge_at_fits : (s : Shape) (ts : Wholes Shape) → RowFits (folded_row merge_at ts) → (y z : Stated) → merge_at s (folded_row merge_at ts) y ≡ Some z → Fits (tree z) (tree (node s ts)) × Fits (tree z) (tree y)
+met : {m t u m' t' u' : Tree} → m' ≡ m → t' ≡ t → u' ≡ u → IsMeet m (t ∷ u ∷ []) → IsMeet m' (t' ∷ u' ∷ [])
+met {t = t} {u = u} {m' = m'} {t' = t'} a b c h =
+    subst (λ w. IsMeet m' (t' ∷ w ∷ [])) (sym c) (subst (λ w. IsMeet m' (w ∷ u ∷ [])) (sym b) (subst (λ w. IsMeet w (t ∷ u ∷ [])) (sym a) h))
+
+merge_at_fits : (s : Shape) (ts : Wholes Shape) → RowFits (folded_row merge_at ts) → (y z : Stated) → merge_at s (folded_row merge_at ts) y ≡ Some z → Meet z (node s ts) y
 merge_at_fits (interface i us es) ts h y z e =
     let os = folded_row merge_at ts in
     let b = if_is (is_instance (kind_of y)) (merged_interface (parts_at (interface i us es) os) y) z e in
     let f = merged_fits (parts_at (interface i us es) os) y z (names_fit es (drop (length us) os) (drop_fits us os h)) b.1 in
-    let own = interface_tree i us es os ts (folded_firsts merge_at ts) in
-    let other = instance_tree y b.0 in (
-      subst (λ t. Fits (tree z) t) (sym own) (subst (λ t. Fits t (instance (fields_of (exports_at (interface i us es) os)))) (sym f.tree_is) (instance_fits f.fit.first)),
-      subst (λ t. Fits (tree z) t) (sym other) (subst (λ t. Fits t (instance (fields_of (exports_of y)))) (sym f.tree_is) (instance_fits f.fit.second)),
-    )
+    met f.tree_is (interface_tree i us es os ts (folded_firsts merge_at ts)) (instance_tree y b.0) f.meet
 merge_at_fits (type_of (interface i us es)) ts h y z e =
     let os = folded_row merge_at ts in
     let b = if_is (is_interface (kind_of y)) (option_map as_type (merged_interface (parts_at (interface i us es) os) y)) z e in
     let m = mapped_is as_type (merged_interface (parts_at (interface i us es) os) y) z b.1 in
     let f = merged_fits (parts_at (interface i us es) os) y m.0 (names_fit es (drop (length us) os) (drop_fits us os h)) m.1 in
     let own : tree (node (type_of (interface i us es)) ts) ≡ type_item (instance (fields_of (exports_at (interface i us es) os))) = ap type_item (interface_tree i us es os ts (folded_firsts merge_at ts)) in
-    let other = item_tree y b.0 in
-    let made : tree z ≡ type_item (instance (fields_of f.made)) = ap tree (sym m.2) ∙ typed_tree m.0 ∙ ap type_item f.tree_is in (
-      subst (λ t. Fits (tree z) t) (sym own) (subst (λ t. Fits t (type_item (instance (fields_of (exports_at (interface i us es) os))))) (sym made) (type_fits (instance_fits f.fit.first))),
-      subst (λ t. Fits (tree z) t) (sym other) (subst (λ t. Fits t (type_item (instance (fields_of (exports_of y))))) (sym made) (type_fits (instance_fits f.fit.second))),
-    )
+    met (ap tree (sym m.2) ∙ typed_tree m.0 ∙ ap type_item f.tree_is) own (item_tree y b.0)
+    (typed_meet (instance (fields_of f.made)) (instance (fields_of (exports_at (interface i us es) os))) (instance (fields_of (exports_of y))) f.meet)
 merge_at_fits (primitive p) ts h y z e = same_fits (primitive p) ts y z e
 merge_at_fits tuple ts h y z e = same_fits tuple ts y z e
 merge_at_fits list ts h y z e = same_fits list ts y z e
@@ -473,7 +515,7 @@ merge_at_fits (type_of (borrow_of s)) ts h y z e = same_fits (type_of (borrow_of
 merge_at_fits (type_of (type_of s)) ts h y z e = same_fits (type_of (type_of s)) ts y z e
 
 mutual
-  pub merge_fits : (x : Stated) → FitsBoth x (merge x)
+  pub merge_fits : (x : Stated) → MeetsBoth x (merge x)
   merge_fits (node s ts) y z e = merge_at_fits s ts (row_fits ts) y z e
 
   row_fits : (ts : Wholes Shape) → RowFits (folded_row merge_at ts)
@@ -483,52 +525,55 @@ mutual
 
 -- ---- what a list of asks keeps
 
-narrower_fits : (x : Stated) → FitsBoth x (narrower x)
+narrower_fits : (x : Stated) → MeetsBoth x (narrower x)
 narrower_fits x y z e = go (fits x y) refl (fits y x) refl e
   where
-    go : (a : Bool) → fits x y ≡ a → (b : Bool) → fits y x ≡ b → (if a then Some x else (if b then Some y else None)) ≡ Some z → Fits (tree z) (tree x) × Fits (tree z) (tree y)
-    go true p b q e = subst (λ t. Fits (tree t) (tree x) × Fits (tree t) (tree y)) (some_is e) (Fits-refl (tree x), fits_is (tree x) (tree y) p)
-    go false p true q e = subst (λ t. Fits (tree t) (tree x) × Fits (tree t) (tree y)) (some_is e) (fits_is (tree y) (tree x) q, Fits-refl (tree y))
+    go : (a : Bool) → fits x y ≡ a → (b : Bool) → fits y x ≡ b → (if a then Some x else (if b then Some y else None)) ≡ Some z → Meet z x y
+    go true p b q e = subst (λ t. Meet t x y) (some_is e) (first_meet x y (fits_is (tree x) (tree y) p))
+    go false p true q e = subst (λ t. Meet t x y) (some_is e) (second_meet x y (fits_is (tree y) (tree x) q))
     go false p false q e = absurd (none_is e)
 
-step_fits : (b : Bool) (x : Stated) → FitsBoth x (λ y. if b then merge x y else narrower x y)
+step_fits : (b : Bool) (x : Stated) → MeetsBoth x (λ y. if b then merge x y else narrower x y)
 step_fits true x = merge_fits x
 step_fits false x = narrower_fits x
-
-record KeepsFitting (x : Stated) (as_ : List Asked) (z : Stated) : Type 0 where
-  first : Fits (tree z) (tree x)
-  each : (a : Asked) → Among a as_ → Fits (tree z) (tree a.1)
 
 no_more_kept : (before as_ : List Asked) (z : Stated) → kept_from before None as_ ≡ Some z → ⊥
 no_more_kept before [] z e = none_is e
 no_more_kept before (a ∷ as_) z e = none_is e
 
-from_fits : (before : List Asked) (x : Stated) (as_ : List Asked) (z : Stated) → kept_from before (Some x) as_ ≡ Some z → KeepsFitting x as_ z
-from_fits before x [] z e = record { first = subst (λ t. Fits (tree t) (tree x)) (some_is e) (Fits-refl (tree x)); each = λ a m. absurd m }
-from_fits before x (a ∷ as_) z e = go (λ w r. from_fits (before ++ a ∷ []) w as_ z r) (if in_family (before ++ a ∷ []) then merge x a.1 else narrower x a.1) refl e
+trees_append : (before : List Asked) (a : Asked) → trees_asked (before ++ a ∷ []) ≡ trees_asked before ++ tree a.1 ∷ []
+trees_append [] a = refl
+trees_append (b ∷ before) a = ap (λ l. tree b.1 ∷ l) (trees_append before a)
+
+append_nil : (xs : List Asked) → xs ++ [] ≡ xs
+append_nil [] = refl
+append_nil (x ∷ xs) = ap (λ l. x ∷ l) (append_nil xs)
+
+from_meets : (before : List Asked) (x : Stated) (as_ : List Asked) (z : Stated) → IsMeet (tree x) (trees_asked before) → kept_from before (Some x) as_ ≡ Some z → IsMeet (tree z) (trees_asked (before ++ as_))
+from_meets before x [] z h e = subst (λ l. IsMeet (tree z) (trees_asked l)) (sym (append_nil before)) (subst (λ t. IsMeet (tree t) (trees_asked before)) (some_is e) h)
+from_meets before x (a ∷ as_) z h e = go (λ w i r. from_meets (before ++ a ∷ []) w as_ z i r) (if in_family (before ++ a ∷ []) then merge x a.1 else narrower x a.1) refl e
   where
-    go : ((w : Stated) → kept_from (before ++ a ∷ []) (Some w) as_ ≡ Some z → KeepsFitting w as_ z) → (o : Option Stated) → (if in_family (before ++ a ∷ []) then merge x a.1 else narrower x a.1) ≡ o → kept_from (before ++ a ∷ []) o as_ ≡ Some z → KeepsFitting x (a ∷ as_) z
+    go : ((w : Stated) → IsMeet (tree w) (trees_asked (before ++ a ∷ [])) → kept_from (before ++ a ∷ []) (Some w) as_ ≡ Some z → IsMeet (tree z) (trees_asked ((before ++ a ∷ []) ++ as_))) → (o : Option Stated) → (if in_family (before ++ a ∷ []) then merge x a.1 else narrower x a.1) ≡ o
+        → kept_from (before ++ a ∷ []) o as_ ≡ Some z → IsMeet (tree z) (trees_asked (before ++ a ∷ as_))
     go further None q r = absurd (no_more_kept (before ++ a ∷ []) as_ z r)
     go further (Some w) q r =
         let two = step_fits (in_family (before ++ a ∷ [])) x a.1 w q in
-        let rest = further w r in
-        record {
-          first = Fits-trans (tree z) (tree w) (tree x) rest.first two.0;
-          each = λ c m. elim m [
-            | inl d ↦ subst (λ (y : Asked). Fits (tree z) (tree y.1)) (sym d) (Fits-trans (tree z) (tree w) (tree a.1) rest.first two.1)
-            | inr n ↦ rest.each c n
-          ];
-        }
+        let both_ = meet_more (tree x) (tree w) (tree a.1) (trees_asked before) h two in
+        subst (λ l. IsMeet (tree z) (trees_asked l)) (append_assoc before (a ∷ []) as_) (further w (subst (IsMeet (tree w)) (sym (trees_append before a)) both_) r)
 
--- what is kept fits each ask
-pub kept_fits : Kept_fits
-kept_fits [] z e a m = absurd m
-kept_fits (b ∷ bs) z e a m =
-    let f = from_fits (b ∷ []) b.1 bs z e in
-    elim m [
-      | inl d ↦ subst (λ (y : Asked). Fits (tree z) (tree y.1)) (sym d) f.first
-      | inr n ↦ f.each a n
-    ]
+-- what is kept is the meet of the asks
+pub kept_meets : Kept_is_meet
+kept_meets [] z e = absurd (none_is e)
+kept_meets (b ∷ bs) z e = from_meets (b ∷ []) b.1 bs z (meet_one (tree b.1) (tree_in_order b.1)) e
+
+fits_each : (t : Tree) (asks : List Asked) → FitsAll t (trees_asked asks) → (a : Asked) → Among a asks → Fits t (tree a.1)
+fits_each t [] h a m = absurd m
+fits_each t (b ∷ bs) h a (inl d) = subst (λ (y : Asked). Fits t (tree y.1)) (sym d) h.0
+fits_each t (b ∷ bs) h a (inr m) = fits_each t bs h.1 a m
+
+-- so it fits each ask
+pub kept_fits : (asks : List Asked) (z : Stated) → kept asks ≡ Some z → (a : Asked) → Among a asks → Fits (tree z) (tree a.1)
+kept_fits asks z e a m = fits_each (tree z) asks (kept_meets asks z e).fits a m
 
 -- under its identifier it is the same tree
 pub identified_tree : (n : Name) (as_ : List Asked) (x : Stated) → tree (identified n as_ x) ≡ tree x

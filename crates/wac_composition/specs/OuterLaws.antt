@@ -1,10 +1,11 @@
 -- What holds of outer imports.
-use Rattle.std.specs.Prelude.{◌≡◌, ◌↔◌, ℕ, Bool, List, Some, None, true, filter}
+use Rattle.std.specs.Prelude.{◌≡◌, ◌↔◌, ℕ, Bool, List, Some, None, true, map}
 use Rattle.wac_types_base.specs.Entries.{Name, value_at}
 use Rattle.wac_types_base.specs.Graph.{Among}
 use Rattle.wac_types_base.specs.Stated.{Stated}
-use Rattle.wac_types_base.specs.Tree.{tree}
+use Rattle.wac_types_base.specs.Tree.{Tree, tree}
 use Rattle.wac_types_base.specs.Fits.{Fits}
+use Rattle.wac_types_fit.specs.Meets.{IsMeet}
 use Rattle.wac_composition.specs.Names.{compatible}
 use Rattle.wac_composition.specs.Composition.{Composition}
 use Rattle.wac_composition.specs.Asks.{Ask, asks_of}
@@ -13,11 +14,14 @@ use Rattle.wac_composition.specs.Classes.{Linked, class, spelling}
 use Rattle.wac_composition.specs.OuterImports.{outer_of, outer_imports}
 use Rattle.wac_composition.specs.Conflicts.{first_cause}
 
--- what several asks keep fits each of them
-abbrev pub Kept_fits : Type 0
-Kept_fits = (asks : List Asked) (x : Stated) → kept asks ≡ Some x → (a : Asked) → Among a asks → Fits (tree x) (tree a.1)
+abbrev pub trees_asked : List Asked → List Tree
+trees_asked asks = map (λ a. tree a.1) asks
 
--- and so does the outer import of a class
+-- what several asks keep is the greatest tree that fits each of them
+abbrev pub Kept_is_meet : Type 0
+Kept_is_meet = (asks : List Asked) (x : Stated) → kept asks ≡ Some x → IsMeet (tree x) (trees_asked asks)
+
+-- the outer import of a class fits each of its asks
 abbrev pub Outer_fits : Type 0 → Type 0
 Outer_fits A = (asks : List (Ask A)) (n : Name) (x : Stated) → outer_of asks ≡ Some (n, x) → (a : Ask A) → Among a asks → Fits (tree x) (tree a.item)
 

@@ -1,7 +1,9 @@
--- What the world of an output keeps beside its tree: the order of its items, identifiers, and what is used under which name.
-use Rattle.std.specs.Prelude.{◌≡◌, Bool, true, ◌&&◌, bytes_eq}
+-- What the world of an output keeps beside its tree, at each interface and world in it: the identifier, the names in order, and
+-- what is used under which name.
+use Rattle.std.specs.Prelude.{◌≡◌, Bool, true, false, ◌&&◌, List, [], ◌∷◌, map, Option, bytes_eq}
 use Rattle.wac_types_base.specs.Entries.{Name}
-use Rattle.wac_types_base.specs.Stated.{Stated, Used, exports_of, imports_of, uses_of, identifier_of}
+use Rattle.wac_types_base.specs.Collection.{Shape}
+use Rattle.wac_types_base.specs.Stated.{Stated, folded, Used, Parts, parts_at, untyped_shape, exports_of, imports_of, uses_of, identifier_of}
 use Rattle.wac_composition.specs.Names.{compatible}
 use Rattle.wac_composition.specs.Tests.{lists_agree, options_agree}
 
@@ -11,14 +13,21 @@ uses_agree u v =
     bytes_eq u.name v.name && options_agree bytes_eq u.there v.there
     && options_agree compatible (identifier_of u.interface) (identifier_of v.interface)
 
--- one item has the identifier and the uses of the other, under one name
-abbrev pub items_agree : Name × Stated → Name × Stated → Bool
-items_agree e f =
-    bytes_eq e.0 f.0 && options_agree bytes_eq (identifier_of e.1) (identifier_of f.1) && lists_agree uses_agree (uses_of e.1) (uses_of f.1)
+-- the same names in order, with items that agree
+abbrev pub entries_agree : List (Name × (Stated × (Stated → Bool))) → List (Name × Stated) → Bool
+entries_agree [] [] = true
+entries_agree (e ∷ es) (f ∷ fs) = bytes_eq e.0 f.0 && e.1.1 f.1 && entries_agree es fs
+entries_agree es fs = false
 
--- the imports and the exports of one world agree with the other's, in order
-abbrev pub worlds_agree : Stated → Stated → Bool
-worlds_agree v w = lists_agree items_agree (imports_of v) (imports_of w) && lists_agree items_agree (exports_of v) (exports_of w)
+-- one has the identifier and the uses of the other, and its imports and exports agree with the other's in order
+abbrev pub parts_agree : Parts (Stated → Bool) → Stated → Bool
+parts_agree p y =
+    options_agree bytes_eq p.identifier (identifier_of y) && lists_agree uses_agree (map (λ u. u.0) p.uses) (uses_of y)
+    && entries_agree p.imports (imports_of y) && entries_agree p.exports (exports_of y)
+
+-- Of what is no interface and no world, nothing is asked here: its tree says all.
+abbrev pub agrees : Stated → Stated → Bool
+agrees = folded (λ s os y. parts_agree (parts_at (untyped_shape s) os) y)
 
 abbrev pub IsSketched : Stated → Stated → Type 0
-IsSketched v w = worlds_agree v w ≡ true
+IsSketched v w = agrees v w ≡ true

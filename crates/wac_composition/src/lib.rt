@@ -12,15 +12,16 @@ ghost use Rattle.wac_composition.specs.Names.{compatible, is_later};
 ghost use Rattle.wac_types_base.specs.Collection.{Shape};
 ghost use Rattle.wac_types_base.specs.Tree.{Tree, tree};
 ghost use Rattle.wac_types_base.specs.Fits.{Fits};
-ghost use Rattle.wac_types_base.specs.Stated.{Stated};
+ghost use Rattle.wac_types_base.specs.Stated.{Stated, interface_of};
 ghost use Rattle.wac_types_fit.specs.Ordered.{InOrder};
 ghost use Rattle.wac_composition.specs.Tests.{same_label, same_tree, fit, fits};
 ghost use Rattle.wac_composition.specs.Asks.{asks_of};
 ghost use Rattle.wac_composition.specs.OuterImports.{outer_imports};
-ghost use Rattle.wac_composition.specs.OuterLaws.{Classes_are_linked, Links_turn, Links_go_on, Kept_fits, Outer_fits, Asks_are_met, Accepted_are_met, Outers_are_apart};
+ghost use Rattle.wac_composition.specs.OuterLaws.{Classes_are_linked, Links_turn, Links_go_on, Kept_is_meet, Outer_fits, Asks_are_met, Accepted_are_met, Outers_are_apart};
 ghost use Rattle.wac_composition.specs.Conflicts.{ImplicitImport, ExplicitImport, ImportTypes, Unwritable, ImportNames, first_cause, name_cause, dependencies_of};
 ghost use Rattle.wac_composition.specs.Worlds.{composed_world, source_of};
-ghost use Rattle.wac_composition.specs.Examples.{plain_func, named_instance, passing, older, newer, wider, using_types, types, one_instance, two_versions, clashing_versions, clashing_imports, one_identifier, used_interface, asked_twice, alike_names, nameless_resource, asked_value, twice_made, byte_list, defined_twice, lacks_used, given_another, given_renamed};
+ghost use Rattle.wac_composition.specs.Examples.{plain_func, named_instance, passing, older, newer, wider, using_types, types, one_instance, two_versions, clashing_versions, clashing_imports, one_identifier, used_interface, asked_twice, alike_names, nameless_resource, asked_value, twice_made, byte_list, defined_twice, lacks_used, given_another, given_renamed, holding};
+ghost use Rattle.wac_composition.specs.Outlines.{agrees};
 ghost use Rattle.wac_graph_bytes.specs.Wirings.{Definition};
 
 /// The tests of labels and trees say yes exactly of equal ones.
@@ -52,11 +53,12 @@ pub fn classes_are_linked<A>()
     ensures through { Links_go_on A }
 {}
 
-/// What several asks of one outer import keep fits each of them, and so does the outer import of a
-/// class. Each ask whose class merges finds it under the spelling of its name; where nothing stands
-/// against a composition, that is each of its asks. No two outer imports have names on one track.
+/// What several asks of one outer import keep is the greatest tree that fits each of them, and the outer
+/// import of a class fits each of its asks. Each ask whose class merges finds it under the spelling of
+/// its name; where nothing stands against a composition, that is each of its asks. No two outer imports
+/// have names on one track.
 pub fn outer_imports_fit<A, I>()
-    ensures kept { Kept_fits }
+    ensures kept { Kept_is_meet }
     ensures outer { Outer_fits A }
     ensures met { Asks_are_met A }
     ensures accepted { Accepted_are_met A I }
@@ -83,5 +85,7 @@ pub fn examples()
     ensures lacks_used { first_cause true lacks_used ≡ Some (Unwritable (codes "c")) }
     ensures given_another { first_cause true given_another ≡ Some (Unwritable (codes "a:b/i")) }
     ensures given_renamed { first_cause true given_renamed ≡ Some (Unwritable (codes "a:b/i")) }
+    ensures keeps_identifiers { agrees (holding (named_instance newer wider)) (holding (named_instance newer wider)) ≡ true }
+    ensures drops_identifiers { agrees (holding (interface_of None [] wider)) (holding (named_instance newer wider)) ≡ false }
     ensures imported_once { names_of (dependencies_of false twice_made) ≡ codes "unlocked-dep=<p:p>" ∷ [] }
 {}

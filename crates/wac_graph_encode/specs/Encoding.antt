@@ -1,14 +1,17 @@
 -- What encoding a graph gives, and when it is refused.
-use Rattle.std.specs.Prelude.{◌≡◌, ◌⊎◌, ℕ, Bool, true, false, List, Option, Some, None, option_map}
+use Rattle.std.specs.Prelude.{◌≡◌, ◌↔◌, ◌⊎◌, ℕ, Bool, true, false, List, [], ◌∷◌, map, Option, Some, None, option_map}
 use Rattle.wac_types_base.specs.declared.item.ItemKind.{ItemKind}
 use Rattle.wac_types_base.specs.declared.ids.WorldId.{WorldId}
 use Rattle.wac_types_base.specs.Record.{Collection}
-use Rattle.wac_types_base.specs.Entries.{Name, value_at}
+use Rattle.wac_types_base.specs.Entries.{Name, AreDistinct, value_at}
+use Rattle.wac_types_base.specs.Graph.{Among}
 use Rattle.wac_types_base.specs.Collection.{Stands}
 use Rattle.wac_types_base.specs.Stated.{stated_of}
 use Rattle.wac_types_base.specs.Tree.{Tree, tree, tree_of}
 use Rattle.wac_types_names.specs.Packaged.{Packaged}
 use Rattle.wac_types_names.specs.Keys.{package_key}
+use Rattle.wac_graph_bytes.specs.Entries.{Entry, Nested, Section, entries_of}
+use Rattle.wac_graph_bytes.specs.Spelling.{component_bytes}
 use Rattle.wac_graph_bytes.specs.Wirings.{Tag, OfBytes, OfDependency, Instantiation, Wiring, Same}
 use Rattle.wac_graph_bytes.specs.Typing.{Worlds}
 use Rattle.wac_graph_bytes.specs.Meaning.{Means}
@@ -67,11 +70,36 @@ tag_of false p = OfDependency (dependency_name (package_key p))
 pub record AreTrueOf (define : Bool) (g : Graph) (worlds : Worlds) : Type 0 where
   pub each : (k : ℕ) (p : Packaged) → instantiated g k ≡ Some p → worlds (tag_of define p) ≡ tree_of g.types (ItemKind.Instance p.instance_type)
 
+-- ---- nested components
+
+abbrev pub nested_in : List Entry → List (List ℕ)
+nested_in [] = []
+nested_in (Nested bytes ∷ es) = bytes ∷ nested_in es
+nested_in (e ∷ es) = nested_in es
+
+abbrev pub IsInstantiated : Graph → Packaged → Type 0
+IsInstantiated g p = (k : ℕ) × (instantiated g k ≡ Some p)
+
+abbrev pub nested_strings : (define : Bool) → List Packaged → List (List ℕ)
+nested_strings true packages = map (λ p. p.bytes) packages
+nested_strings false packages = []
+
+-- The component has nested the packages that are instantiated, in some order, each once and unchanged; none where they are imported.
+pub record NestsPackages (define : Bool) (g : Graph) (bytes : List ℕ) : Type 0 where
+  pub packages : List Packaged
+  pub once : AreDistinct (map package_key packages)
+  pub those : (p : Packaged) → Among p packages ↔ IsInstantiated g p
+  pub sections : List Section
+  pub spelled : bytes ≡ component_bytes sections
+  pub nested : nested_in (entries_of sections) ≡ nested_strings define packages
+
 -- ---- the theorem
 
-pub record IsEncoded (define : Bool) (g : Graph) (bytes : List ℕ) : Type 0 where
+pub record IsEncoded (define validate : Bool) (g : Graph) (bytes : List ℕ) : Type 0 where
   -- nothing stood against it
   pub free : first_cause define (composition_of g) ≡ None
+  pub apart : name_cause define validate (composition_of g) ≡ None
+  pub nests : NestsPackages define g bytes
   -- the graph's wiring
   pub wiring : Wiring ℕ
   pub is : IsGraphWiring g wiring

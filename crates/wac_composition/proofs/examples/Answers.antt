@@ -79,3 +79,11 @@ returns-clause-given_another c = refl
 pub returns-clause-given_renamed : goal.returns-clause-given_renamed
 unfolding read_version version_of version_cmp semver_on_literals
 returns-clause-given_renamed c = refl
+
+pub returns-clause-keeps_identifiers : goal.returns-clause-keeps_identifiers
+unfolding read_version version_of version_cmp semver_on_literals
+returns-clause-keeps_identifiers c = refl
+
+pub returns-clause-drops_identifiers : goal.returns-clause-drops_identifiers
+unfolding read_version version_of version_cmp semver_on_literals
+returns-clause-drops_identifiers c = refl
