@@ -8,3 +8,4 @@ pub mod Merged
 pub mod ClassLaws
 pub mod NamesBack
 pub mod FitBack
+pub mod Renamed

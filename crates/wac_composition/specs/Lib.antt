@@ -12,3 +12,4 @@ pub mod Worlds
 pub mod Outlines
 pub mod OuterLaws
 pub mod Examples
+pub mod Renaming

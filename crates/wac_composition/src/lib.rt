@@ -19,6 +19,8 @@ ghost use Rattle.wac_composition.specs.Asks.{asks_of};
 ghost use Rattle.wac_composition.specs.OuterImports.{outer_imports};
 ghost use Rattle.wac_composition.specs.OuterLaws.{Classes_are_linked, Links_turn, Links_go_on, Kept_is_meet, Outer_fits, Asks_are_met, Accepted_are_met, Outers_are_apart};
 ghost use Rattle.wac_composition.specs.Conflicts.{ImplicitImport, ExplicitImport, ImportTypes, Unwritable, ImportNames, first_cause, name_cause, dependencies_of};
+ghost use Rattle.wac_composition.specs.Composition.{Composition};
+ghost use Rattle.wac_composition.specs.Renaming.{KeepsMeaning};
 ghost use Rattle.wac_composition.specs.Worlds.{composed_world, source_of};
 ghost use Rattle.wac_composition.specs.Examples.{plain_func, named_instance, passing, older, newer, wider, using_types, types, one_instance, two_versions, clashing_versions, clashing_imports, one_identifier, used_interface, asked_twice, alike_names, nameless_resource, asked_value, twice_made, byte_list, defined_twice, lacks_used, given_another, given_renamed, holding};
 ghost use Rattle.wac_composition.specs.Outlines.{agrees};
@@ -63,6 +65,12 @@ pub fn outer_imports_fit<A, I>()
     ensures met { Asks_are_met A }
     ensures accepted { Accepted_are_met A I }
     ensures apart { Outers_are_apart A }
+{}
+
+/// Under other names of its askers and instances a composition asks the same, has the same outer imports
+/// and the same world, and what stands against it is the same.
+pub fn names_do_not_matter<A, B, I, J>()
+    ensures { (f : A → B) (g : I → J) (c : Composition A I) → KeepsMeaning f g c }
 {}
 
 /// Compositions from outside: what they import, and why some cannot be written.
