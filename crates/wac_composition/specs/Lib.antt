@@ -9,6 +9,7 @@ pub mod Written
 pub mod Writable
 pub mod Conflicts
 pub mod Worlds
+pub mod Wired
 pub mod Outlines
 pub mod OuterLaws
 pub mod Examples

@@ -5,9 +5,10 @@ use Rattle.std.proofs.Common.{◌≡◌, ℕ, zero, suc, ◌+◌, ◌<◌, List,
 use Rattle.wac_types_base.specs.Entries.{Name, value_at}
 use Rattle.wac_types_base.specs.Stated.{Stated, imports_of}
 use Rattle.wac_types_names.specs.Keys.{Key}
-use Rattle.wac_graph_bytes.specs.Wirings.{Source, Absent, Outer, Inst, Projection, Bundle, Definition, project, Uses, Instantiation, Wiring, IsOrdered}
+use Rattle.wac_graph_bytes.specs.Wirings.{Tag, Source, Absent, Outer, Inst, Projection, Bundle, Definition, project, Uses, Instantiation, Wiring, IsOrdered}
 use Rattle.wac_composition.specs.Asks.{Ask, asks_of}
 use Rattle.wac_composition.specs.Worlds.{source_of}
+use Rattle.wac_composition.specs.Wired.{source_for, argument_source, instantiation, export_source, composed_wiring}
 use Rattle.wac_composition.specs.Composition as c
 use Rattle.wac_composition.specs.Composition.{Composition}
 use Rattle.wac_composition.specs.Conflicts.{first_cause, name_cause}
@@ -17,7 +18,7 @@ use Rattle.wac_parser_declare.specs.Scope.{world_under}
 use Rattle.wac_parser_resolve.specs.Ascribing.{Origin, imported, instance, projected, defined, Denoted, Made, Bound, State}
 use Rattle.wac_parser_resolve.specs.Saying.{statements}
 use Rattle.wac_parser_resolve.specs.Meeting.{target, resolved}
-use Rattle.wac_parser_resolve.specs.Ascribed.{Asker, origin_in, argument_in, made_in, numbered, exported_in, composition, unless_cause, ascribed, source_for, argument_source, instantiated_in, export_source, ascribed_wiring}
+use Rattle.wac_parser_resolve.specs.Ascribed.{Asker, origin_in, argument_in, made_in, numbered, exported_in, composition, unless_cause, ascribed}
 use Rattle.wac_parser_resolve.specs.Laws.{Packages_are_known, Wirings_are_ordered}
 use Rattle.wac_parser_resolve.proofs.Answers.{ok_of, then_ok, ok_is}
 use Rattle.wac_parser_resolve.proofs.Numbers.{some_is, none_is, Below, slice_below, slice_there}
@@ -85,51 +86,51 @@ export_is ds (e ∷ es) n = go (export_is ds es n) (pointwise ◌==◌ n e.0)
 
 -- ---- the wiring of what the statements say
 
-module _ (ps : List (Key × Stated)) (g : State) (sound : Sound ps g) (bytes_of : Key → List ℕ) where
+module _ (ps : List (Key × Stated)) (g : State) (sound : Sound ps g) (tag_of : Key → Tag) where
   abbrev x : Composition Asker ℕ
   x = composition g
 
   abbrev W : Wiring ℕ
-  W = ascribed_wiring bytes_of x
+  W = composed_wiring tag_of x
 
   there : (j : ℕ) → j < length g.made → IsSome (W.at j)
   there j h =
       let m = slice_there g.made j h in
       let r = numbered_there g.definitions zero g.made j m.0 m.1 in
-      subst (λ o. IsSome (option_map (instantiated_in bytes_of x) o)) (sym r.1) refl
+      subst (λ o. IsSome (option_map (instantiation tag_of x) o)) (sym r.1) refl
 
   abbrev Earlier : ℕ → ℕ → Type 0
   Earlier k j = (j < k) × IsSome (W.at j)
 
-  args_earlier : (k : ℕ) → k < length g.made → (m : c.Made Asker ℕ) → IsNumbered g.definitions g.made k m → (n : Name) → Uses (Earlier k) (argument_source bytes_of x m n)
+  args_earlier : (k : ℕ) → k < length g.made → (m : c.Made Asker ℕ) → IsNumbered g.definitions g.made k m → (n : Name) → Uses (Earlier k) (argument_source tag_of x m n)
   args_earlier k below m r n =
-      subst (λ (y : c.Made Asker ℕ). Uses (Earlier k) (argument_source bytes_of x y n)) (sym r.is) (imported_or (is_some (value_at (imports_of r.made.world) n)))
+      subst (λ (y : c.Made Asker ℕ). Uses (Earlier k) (argument_source tag_of x y n)) (sym r.is) (imported_or (is_some (value_at (imports_of r.made.world) n)))
     where
       each : (j : ℕ) → j < k → Earlier k j
       each j h = (h, there j (omega (arith, h, below)))
 
-      passed : (o : Option Denoted) → value_at r.made.arguments n ≡ o → Uses (Earlier k) (source_for bytes_of x (option_map (λ (d : Denoted). origin_in g.definitions d.origin) o) n)
+      passed : (o : Option Denoted) → value_at r.made.arguments n ≡ o → Uses (Earlier k) (source_for tag_of x (option_map (λ (d : Denoted). origin_in g.definitions d.origin) o) n)
       passed None e = tt
       passed (Some d) e = origin_uses (Earlier k) (asks_of x) g.definitions k each d.origin ((sound.made k r.made r.there).before n d e)
 
-      imported_or : (b : Bool) → Uses (Earlier k) (if b then source_for bytes_of x (value_at (map (argument_in g.definitions) r.made.arguments) n) n else Absent)
+      imported_or : (b : Bool) → Uses (Earlier k) (if b then source_for tag_of x (value_at (map (argument_in g.definitions) r.made.arguments) n) n else Absent)
       imported_or false = tt
       imported_or true =
-          subst (λ o. Uses (Earlier k) (source_for bytes_of x o n)) (sym (argument_is g.definitions r.made.arguments n)) (passed (value_at r.made.arguments n) refl)
+          subst (λ o. Uses (Earlier k) (source_for tag_of x o n)) (sym (argument_is g.definitions r.made.arguments n)) (passed (value_at r.made.arguments n) refl)
 
   pub ordered_wiring : IsOrdered W
   ordered_wiring = record {
     args = λ k y e n. go k (slice_get (numbered g.definitions zero g.made) k) refl y e n;
-    exports = λ n. subst (λ o. Uses (λ j. IsSome (W.at j)) (export_source bytes_of x o)) (sym (export_is g.definitions g.exports n)) (exported n (value_at g.exports n) refl);
+    exports = λ n. subst (λ o. Uses (λ j. IsSome (W.at j)) (export_source tag_of x o)) (sym (export_is g.definitions g.exports n)) (exported n (value_at g.exports n) refl);
   }
     where
-      go : (k : ℕ) (o : Option (c.Made Asker ℕ)) → slice_get (numbered g.definitions zero g.made) k ≡ o → (y : Instantiation ℕ) → option_map (instantiated_in bytes_of x) o ≡ Some y → (n : Name) → Uses (Earlier k) (y.args n)
+      go : (k : ℕ) (o : Option (c.Made Asker ℕ)) → slice_get (numbered g.definitions zero g.made) k ≡ o → (y : Instantiation ℕ) → option_map (instantiation tag_of x) o ≡ Some y → (n : Name) → Uses (Earlier k) (y.args n)
       go k None q y e n = absurd (none_is e)
       go k (Some m) q y e n =
           let r = numbered_is g.definitions zero g.made k m q in
           subst (λ (z : Instantiation ℕ). Uses (Earlier k) (z.args n)) (some_is e) (args_earlier k (slice_below g.made k r.made r.there) m r n)
 
-      exported : (n : Name) (o : Option Bound) → value_at g.exports n ≡ o → Uses (λ j. IsSome (W.at j)) (export_source bytes_of x (option_map (λ (b : Bound). origin_in g.definitions b.denoted.origin) o))
+      exported : (n : Name) (o : Option Bound) → value_at g.exports n ≡ o → Uses (λ j. IsSome (W.at j)) (export_source tag_of x (option_map (λ (b : Bound). origin_in g.definitions b.denoted.origin) o))
       exported n None e = tt
       exported n (Some b) e = origin_uses (λ j. IsSome (W.at j)) (asks_of x) g.definitions (length g.made) there b.denoted.origin (sound.exports n b e)
 
@@ -140,26 +141,26 @@ record Said (d : t.Document) (ps : List (Key × Stated)) (x : Composition Asker 
   sound : Sound ps state
   is : x ≡ composition state
 
-said : (d : t.Document) (ps : List (Key × Stated)) (x : Composition Asker ℕ) → Ok x ≡ ascribed d ps → Said d ps x
-said d ps x e =
+said : (d : t.Document) (ps : List (Key × Stated)) (define : Bool) (x : Composition Asker ℕ × Option Stated) → Ok x ≡ ascribed define d ps → Said d ps x.0
+said d ps define x e =
     let r = ok_of (resolved d ps) _ x e in
-    let a = then_ok (unless_cause (first_cause true (composition r.0.0))) _ x r.2 in
-    let b = then_ok (unless_cause (name_cause true true (composition r.0.0))) _ x a in
+    let a = then_ok (unless_cause (first_cause define (composition r.0.0))) _ x r.2 in
+    let b = then_ok (unless_cause (name_cause define true (composition r.0.0))) _ x a in
     let g = ok_of (statements d ps) _ r.0 (sym r.1) in
     let w = ok_of (target g.0 d.directive.targets) _ r.0 g.2 in
     let same : r.0 ≡ (g.0, w.0) = ok_is r.0 (g.0, w.0) w.2 in
     record {
       state = g.0;
       sound = statements_sound ps d g.0 (sym g.1);
-      is = ok_is x (composition r.0.0) b ∙ ap (λ (q : State × Option Stated). composition q.0) same;
+      is = ap (λ (y : Composition Asker ℕ × Option Stated). y.0) (ok_is x (composition r.0.0, r.0.1) b) ∙ ap (λ (q : State × Option Stated). composition q.0) same;
     }
 
 pub ordered : Wirings_are_ordered
-ordered d ps x e bytes_of =
-    let s = said d ps x e in subst (λ (y : Composition Asker ℕ). IsOrdered (ascribed_wiring bytes_of y)) (sym s.is) (ordered_wiring ps s.state s.sound bytes_of)
+ordered d ps define x e tag_of =
+    let s = said d ps define x e in subst (λ (y : Composition Asker ℕ). IsOrdered (composed_wiring tag_of y)) (sym s.is) (ordered_wiring ps s.state s.sound tag_of)
 
 pub known : Packages_are_known
-known d ps x e k m q =
-    let s = said d ps x e in
+known d ps define x e k m q =
+    let s = said d ps define x e in
     let r = numbered_is s.state.definitions zero s.state.made k m (ap (λ (y : Composition Asker ℕ). slice_get y.made k) (sym s.is) ∙ q) in
     subst (λ (y : c.Made Asker ℕ). world_under ps y.key ≡ Some y.world) (sym r.is) (s.sound.made k r.made r.there).known

@@ -1,15 +1,9 @@
 -- What a document ascribes over the packages handed in: its composition, or the first cause.
-use Rattle.std.specs.Prelude.{ℕ, suc, Bool, true, List, [], ◌∷◌, map, length, Option, Some, None, is_some, option_map, unwrap_or, slice_get, Ok, Err, ⊤, if◌then◌else◌}
+use Rattle.std.specs.Prelude.{ℕ, suc, Bool, true, List, [], ◌∷◌, map, Option, Some, None, unwrap_or, Ok, Err, ⊤}
 use Rattle.wac_types_base.specs.declared.item.ExternKind.{ExternKind}
 use Rattle.wac_types_base.specs.Entries.{Name, value_at}
-use Rattle.wac_types_base.specs.Stated.{Stated, imports_of}
-use Rattle.wac_types_base.specs.Tree.{tree}
+use Rattle.wac_types_base.specs.Stated.{Stated}
 use Rattle.wac_types_names.specs.Keys.{Key}
-use Rattle.wac_graph_bytes.specs.Wirings.{Source, Absent, Outer, OfBytes, Instantiation, Wiring}
-use Rattle.wac_composition.specs.Asks.{asks_of}
-use Rattle.wac_composition.specs.Classes.{spelling}
-use Rattle.wac_composition.specs.OuterImports.{outer_imports}
-use Rattle.wac_composition.specs.Worlds.{source_of}
 use Rattle.wac_composition.specs.Composition as c
 use Rattle.wac_composition.specs.Composition.{Composition, Placed}
 use Rattle.wac_composition.specs.Conflicts as cause
@@ -108,36 +102,10 @@ unless_cause (Some x) = Err (cause_said x)
 
 -- ---- a document
 
--- what a document composes with components defined, or the first cause
-abbrev pub ascribed : t.Document → List (Key × Stated) → Answer (Composition Asker ℕ)
-ascribed d ps = do
+-- what a document composes, and the world that it targets, or the first cause
+abbrev pub ascribed : (define : Bool) → t.Document → List (Key × Stated) → Answer (Composition Asker ℕ × Option Stated)
+ascribed define d ps = do
   r ← resolved d ps
-  unless_cause (first_cause true (composition r.0))
-  unless_cause (name_cause true true (composition r.0))
-  pure (composition r.0)
-
--- ---- the wiring
-
-module _ {A : Type 0} (bytes_of : Key → List ℕ) (x : Composition A ℕ) where
-  -- each import of its world: the argument's source, or the outer import of its class
-  abbrev pub source_for : Option (c.Origin ℕ) → Name → Source ℕ
-  source_for None n = Outer (spelling (asks_of x) n)
-  source_for (Some o) n = source_of (asks_of x) o
-
-  abbrev pub argument_source : c.Made A ℕ → Name → Source ℕ
-  argument_source m n = if is_some (value_at (imports_of m.world) n) then source_for (value_at m.arguments n) n else Absent
-
-  abbrev pub instantiated_in : c.Made A ℕ → Instantiation ℕ
-  instantiated_in m = record { tag = OfBytes (bytes_of m.key); args = argument_source m }
-
-  abbrev pub export_source : Option (c.Origin ℕ) → Source ℕ
-  export_source None = Absent
-  export_source (Some o) = source_of (asks_of x) o
-
-  -- the wiring that is composed, where these are the bytes of the packages
-  abbrev pub ascribed_wiring : Wiring ℕ
-  ascribed_wiring = record {
-    outers = λ n. option_map tree (value_at (outer_imports (asks_of x)) n);
-    at = λ k. option_map instantiated_in (slice_get x.made k);
-    exports = λ n. export_source (value_at (map (λ e. (e.0, e.1)) x.exports) n);
-  }
+  unless_cause (first_cause define (composition r.0))
+  unless_cause (name_cause define true (composition r.0))
+  pure (composition r.0, r.1)

@@ -1,5 +1,5 @@
 -- Documents from outside with what they ascribe, for the law `examples`.
-use Rattle.std.specs.Prelude.{ℕ, suc, false, List, [], ◌∷◌, Option, Some, None, Ok, Err, codes, map}
+use Rattle.std.specs.Prelude.{ℕ, suc, false, true, List, [], ◌∷◌, Option, Some, None, Ok, Err, codes, map}
 use Rattle.wac_types_base.specs.Entries.{Name}
 use Rattle.wac_types_base.specs.Stated.{Stated, interface_of, world_of}
 use Rattle.wac_types_names.specs.Keys.{Key}
@@ -75,12 +75,12 @@ handed = (key (codes "p:p"), passing) ∷ (key (codes "q:q"), from_g_to_h plain_
 abbrev pub Summary : Type 0
 Summary = List (Name × Stated) × List (Key × List (Name × c.Origin ℕ)) × List (Name × c.Origin ℕ)
 
-abbrev pub summary : Answer (Composition Asker ℕ) → Answer Summary
+abbrev pub summary : Answer (Composition Asker ℕ × Option Stated) → Answer Summary
 summary (Err x) = Err x
-summary (Ok x) = Ok (outer_imports (asks_of x), map (λ m. (m.key, m.arguments)) x.made, map (λ e. (e.0, e.1)) x.exports)
+summary (Ok x) = Ok (outer_imports (asks_of x.0), map (λ m. (m.key, m.arguments)) x.0.made, map (λ e. (e.0, e.1)) x.0.exports)
 
 abbrev pub said : t.Document → List (Key × Stated) → Answer Summary
-said d ps = summary (ascribed d ps)
+said d ps = summary (ascribed true d ps)
 
 -- ---- documents
 
