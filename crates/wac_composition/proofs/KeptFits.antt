@@ -32,16 +32,16 @@ none_is e = cc
 
 -- ---- the map that named items are
 
-abbrev fields_of : List (Name × Stated) → Fields
+abbrev pub fields_of : List (Name × Stated) → Fields
 fields_of [] = no_fields
 fields_of (e ∷ es) = put e.0 (tree e.1) (fields_of es)
 
-fields_ordered : (es : List (Name × Stated)) → AllInOrder (fields_of es)
+pub fields_ordered : (es : List (Name × Stated)) → AllInOrder (fields_of es)
 fields_ordered [] = tt
 fields_ordered (e ∷ es) = AllInOrder-put e.0 (tree e.1) (fields_of es) (tree_in_order e.1) (fields_ordered es)
 
 -- it has what the first entry of a name is
-fields_looked : (es : List (Name × Stated)) (n : Name) → lookup n (fields_of es) ≡ option_map tree (value_at es n)
+pub fields_looked : (es : List (Name × Stated)) (n : Name) → lookup n (fields_of es) ≡ option_map tree (value_at es n)
 fields_looked [] n = refl
 fields_looked (e ∷ es) n = go (fields_looked es n) (pointwise ◌==◌ n e.0) refl
   where
@@ -63,21 +63,21 @@ fields_fit xs ys h = all_given (fields_of xs) (fields_of ys) (λ n u f. go n u (
 
 -- ---- the tree of an interface
 
-abbrev firsts : {A : Type 0} → List (Option (Stated × A)) → List (Option Stated)
+abbrev pub firsts : {A : Type 0} → List (Option (Stated × A)) → List (Option Stated)
 firsts os = map (option_map (λ x. x.0)) os
 
-first_names : {A : Type 0} (ns : List Name) (os : List (Option (Stated × A))) → first_parts (with_names ns os) ≡ with_names ns (firsts os)
+pub first_names : {A : Type 0} (ns : List Name) (os : List (Option (Stated × A))) → first_parts (with_names ns os) ≡ with_names ns (firsts os)
 first_names [] os = refl
 first_names (n ∷ ns) [] = refl
 first_names (n ∷ ns) (None ∷ os) = first_names ns os
 first_names (n ∷ ns) (Some x ∷ os) = ap (λ l. (n, x.0) ∷ l) (first_names ns os)
 
-folded_firsts : {A : Type 0} (f : Shape → List (Option (Stated × A)) → A) (ts : Wholes Shape) → firsts (folded_row f ts) ≡ places_in ts
+pub folded_firsts : {A : Type 0} (f : Shape → List (Option (Stated × A)) → A) (ts : Wholes Shape) → firsts (folded_row f ts) ≡ places_in ts
 folded_firsts f no_more = refl
 folded_firsts f (hole ts) = ap (λ l. None ∷ l) (folded_firsts f ts)
 folded_firsts f (more t ts) = ap (λ l. Some t ∷ l) (folded_firsts f ts)
 
-only_firsts : (ts : Wholes Shape) → firsts (only_places ts) ≡ places_in ts
+pub only_firsts : (ts : Wholes Shape) → firsts (only_places ts) ≡ places_in ts
 only_firsts no_more = refl
 only_firsts (hole ts) = ap (λ l. None ∷ l) (only_firsts ts)
 only_firsts (more t ts) = ap (λ l. Some t ∷ l) (only_firsts ts)
@@ -112,10 +112,10 @@ module _ {A U : Type 0} (ns : List Name) where
   fields_behind (u ∷ us) (o ∷ os) (more t ts) e = fields_behind us os ts cc
 
 -- the exports that the label and the places of an interface give
-abbrev exports_at : {A : Type 0} → Shape → List (Option (Stated × A)) → List (Name × Stated)
+abbrev pub exports_at : {A : Type 0} → Shape → List (Option (Stated × A)) → List (Name × Stated)
 exports_at s os = first_parts (parts_at s os).exports
 
-interface_tree : {A : Type 0} (i : Option Name) (us : List (Name × Option Name)) (es : List Name) (os : List (Option (Stated × A))) (ts : Wholes Shape) → firsts os ≡ places_in ts → tree (node (interface i us es) ts) ≡ instance (fields_of (exports_at (interface i us es) os))
+pub interface_tree : {A : Type 0} (i : Option Name) (us : List (Name × Option Name)) (es : List Name) (os : List (Option (Stated × A))) (ts : Wholes Shape) → firsts os ≡ places_in ts → tree (node (interface i us es) ts) ≡ instance (fields_of (exports_at (interface i us es) os))
 interface_tree i us es os ts e = ap instance (fields_behind es us os ts e)
 
 -- an instance is of its exports
@@ -168,11 +168,11 @@ instance_tree (node (type_of s) ts) e = absurd (typed s e)
     typed (type_of s) e = true≢false (sym e)
 
 -- what an interface is made of, it has
-names_filled : (xs : List (Name × Stated)) → with_names (names xs) (filled xs) ≡ xs
+pub names_filled : (xs : List (Name × Stated)) → with_names (names xs) (filled xs) ≡ xs
 names_filled [] = refl
 names_filled (x ∷ xs) = ap (λ l. x ∷ l) (names_filled xs)
 
-row_places : (os : List (Option Stated)) → places_in (row os) ≡ os
+pub row_places : (os : List (Option Stated)) → places_in (row os) ≡ os
 row_places [] = refl
 row_places (None ∷ os) = ap (λ l. None ∷ l) (row_places os)
 row_places (Some t ∷ os) = ap (λ l. Some t ∷ l) (row_places os)
@@ -216,7 +216,7 @@ abbrev AllFit : List (Name × (Stated × Merge)) → Type 0
 AllFit [] = Unit {0}
 AllFit (e ∷ es) = MeetsBoth e.1.0 e.1.1 × AllFit es
 
-both_is : {A B C : Type 0} (f : A → B → C) (a : Option A) (b : Option B) (c : C) → both f a b ≡ Some c → (x : A) × (y : B) × (a ≡ Some x) × (b ≡ Some y) × (f x y ≡ c)
+pub both_is : {A B C : Type 0} (f : A → B → C) (a : Option A) (b : Option B) (c : C) → both f a b ≡ Some c → (x : A) × (y : B) × (a ≡ Some x) × (b ≡ Some y) × (f x y ≡ c)
 both_is f (Some x) (Some y) c e = (x, y, refl, refl, some_is e)
 both_is f (Some x) None c e = absurd (none_is e)
 both_is f None b c e = absurd (none_is e)
@@ -343,11 +343,11 @@ maps_meet es fs xs m =
     behind n e None q = none_passing (λ k. is_none (value_at es k)) fs n q ∙ sym q
     behind n e (Some y) q = value_passing (λ k. is_none (value_at es k)) fs n y e q ∙ sym q
 
-if_is : (b : Bool) (o : Option Stated) (z : Stated) → if_kind b o ≡ Some z → (b ≡ true) × (o ≡ Some z)
+pub if_is : (b : Bool) (o : Option Stated) (z : Stated) → if_kind b o ≡ Some z → (b ≡ true) × (o ≡ Some z)
 if_is true o z e = (refl, e)
 if_is false o z e = absurd (none_is e)
 
-mapped_is : {A B : Type 0} (f : A → B) (o : Option A) (z : B) → option_map f o ≡ Some z → (x : A) × (o ≡ Some x) × (f x ≡ z)
+pub mapped_is : {A B : Type 0} (f : A → B) (o : Option A) (z : B) → option_map f o ≡ Some z → (x : A) × (o ≡ Some x) × (f x ≡ z)
 mapped_is f (Some x) z e = (x, refl, some_is e)
 mapped_is f None z e = absurd (none_is e)
 
@@ -388,7 +388,7 @@ drop_fits (u ∷ us) [] h = tt
 drop_fits (u ∷ us) (None ∷ os) h = drop_fits us os h
 drop_fits (u ∷ us) (Some x ∷ os) h = drop_fits us os h.1
 
-row_again : (ts : Wholes Shape) → row (places_in ts) ≡ ts
+pub row_again : (ts : Wholes Shape) → row (places_in ts) ≡ ts
 row_again no_more = refl
 row_again (hole ts) = ap hole (row_again ts)
 row_again (more t ts) = ap (more t) (row_again ts)
@@ -406,7 +406,7 @@ same_fits s ts y z e =
     left false b e = e
 
 -- the type of an interface is of its exports
-item_tree : (y : Stated) → is_interface (kind_of y) ≡ true → tree y ≡ type_item (instance (fields_of (exports_of y)))
+pub item_tree : (y : Stated) → is_interface (kind_of y) ≡ true → tree y ≡ type_item (instance (fields_of (exports_of y)))
 item_tree (node (type_of (interface i us es)) ts) e = ap type_item (interface_tree i us es (only_places ts) ts (only_firsts ts))
 item_tree (node (interface i us es) ts) e = absurd (true≢false (sym e))
 item_tree (node (primitive p) ts) e = absurd (true≢false (sym e))
@@ -451,7 +451,7 @@ item_tree (node (type_of (own_of s)) ts) e = absurd (true≢false (sym e))
 item_tree (node (type_of (borrow_of s)) ts) e = absurd (true≢false (sym e))
 item_tree (node (type_of (type_of s)) ts) e = absurd (true≢false (sym e))
 
-typed_tree : (z : Stated) → tree (as_type z) ≡ type_item (tree z)
+pub typed_tree : (z : Stated) → tree (as_type z) ≡ type_item (tree z)
 typed_tree (node s ts) = refl
 
 met : {m t u m' t' u' : Tree} → m' ≡ m → t' ≡ t → u' ≡ u → IsMeet m (t ∷ u ∷ []) → IsMeet m' (t' ∷ u' ∷ [])
@@ -537,15 +537,15 @@ step_fits : (b : Bool) (x : Stated) → MeetsBoth x (λ y. if b then merge x y e
 step_fits true x = merge_fits x
 step_fits false x = narrower_fits x
 
-no_more_kept : (before as_ : List Asked) (z : Stated) → kept_from before None as_ ≡ Some z → ⊥
+pub no_more_kept : (before as_ : List Asked) (z : Stated) → kept_from before None as_ ≡ Some z → ⊥
 no_more_kept before [] z e = none_is e
 no_more_kept before (a ∷ as_) z e = none_is e
 
-trees_append : (before : List Asked) (a : Asked) → trees_asked (before ++ a ∷ []) ≡ trees_asked before ++ tree a.1 ∷ []
+pub trees_append : (before : List Asked) (a : Asked) → trees_asked (before ++ a ∷ []) ≡ trees_asked before ++ tree a.1 ∷ []
 trees_append [] a = refl
 trees_append (b ∷ before) a = ap (λ l. tree b.1 ∷ l) (trees_append before a)
 
-append_nil : (xs : List Asked) → xs ++ [] ≡ xs
+pub append_nil : (xs : List Asked) → xs ++ [] ≡ xs
 append_nil [] = refl
 append_nil (x ∷ xs) = ap (λ l. x ∷ l) (append_nil xs)
 

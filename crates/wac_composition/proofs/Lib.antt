@@ -9,3 +9,4 @@ pub mod ClassLaws
 pub mod NamesBack
 pub mod FitBack
 pub mod Renamed
+pub mod Clashing

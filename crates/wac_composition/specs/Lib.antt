@@ -4,6 +4,7 @@ pub mod Asks
 pub mod Tests
 pub mod Classes
 pub mod Merging
+pub mod Regular
 pub mod OuterImports
 pub mod Written
 pub mod Writable

@@ -1,15 +1,17 @@
 -- What holds of outer imports.
-use Rattle.std.specs.Prelude.{◌≡◌, ◌↔◌, ℕ, Bool, List, Some, None, true, map}
+use Rattle.std.specs.Prelude.{◌≡◌, ◌↔◌, Bool, List, [], ◌∷◌, ◌++◌, Some, None, true, false, map}
 use Rattle.wac_types_base.specs.Entries.{Name, value_at}
 use Rattle.wac_types_base.specs.Graph.{Among}
 use Rattle.wac_types_base.specs.Stated.{Stated}
 use Rattle.wac_types_base.specs.Tree.{Tree, tree}
 use Rattle.wac_types_base.specs.Fits.{Fits}
-use Rattle.wac_types_fit.specs.Meets.{IsMeet}
+use Rattle.wac_types_fit.specs.Meets.{FitsAll, IsMeet}
+use Rattle.wac_types_fit.specs.Ordered.{InOrder}
 use Rattle.wac_composition.specs.Names.{compatible}
 use Rattle.wac_composition.specs.Composition.{Composition}
 use Rattle.wac_composition.specs.Asks.{Ask, asks_of}
-use Rattle.wac_composition.specs.Merging.{Asked, kept}
+use Rattle.wac_composition.specs.Merging.{Asked, in_family, kept}
+use Rattle.wac_composition.specs.Regular.{AreRegular}
 use Rattle.wac_composition.specs.Classes.{Linked, class, spelling}
 use Rattle.wac_composition.specs.OuterImports.{outer_of, outer_imports}
 use Rattle.wac_composition.specs.Conflicts.{first_cause}
@@ -20,6 +22,21 @@ trees_asked asks = map (λ a. tree a.1) asks
 -- what several asks keep is the greatest tree that fits each of them
 abbrev pub Kept_is_meet : Type 0
 Kept_is_meet = (asks : List Asked) (x : Stated) → kept asks ≡ Some x → IsMeet (tree x) (trees_asked asks)
+
+-- Why asks keep nothing: those before this one keep the last type but one. Where all have a family no tree fits all of them, and
+-- else neither of the two fits the other.
+pub record KeepNothing (asks : List Asked) : Type 0 where
+  pub before : List Asked
+  pub ask : Asked
+  pub later : List Asked
+  pub are : asks ≡ before ++ ask ∷ later
+  pub item : Stated
+  pub so_far : kept before ≡ Some item
+  pub of_family : in_family (before ++ ask ∷ []) ≡ true → AreRegular (before ++ ask ∷ []) → (t : Tree) → InOrder t → FitsAll t (trees_asked (before ++ ask ∷ [])) → ⊥
+  pub of_none : in_family (before ++ ask ∷ []) ≡ false → (Fits (tree item) (tree ask.1) → ⊥) × (Fits (tree ask.1) (tree item) → ⊥)
+
+abbrev pub None_are_kept : Type 0
+None_are_kept = (a : Asked) (asks : List Asked) → kept (a ∷ asks) ≡ None → KeepNothing (a ∷ asks)
 
 -- the outer import of a class fits each of its asks
 abbrev pub Outer_fits : Type 0 → Type 0

@@ -17,7 +17,7 @@ ghost use Rattle.wac_types_fit.specs.Ordered.{InOrder};
 ghost use Rattle.wac_composition.specs.Tests.{same_label, same_tree, fit, fits};
 ghost use Rattle.wac_composition.specs.Asks.{asks_of};
 ghost use Rattle.wac_composition.specs.OuterImports.{outer_imports};
-ghost use Rattle.wac_composition.specs.OuterLaws.{Classes_are_linked, Links_turn, Links_go_on, Kept_is_meet, Outer_fits, Asks_are_met, Accepted_are_met, Outers_are_apart};
+ghost use Rattle.wac_composition.specs.OuterLaws.{Classes_are_linked, Links_turn, Links_go_on, Kept_is_meet, None_are_kept, Outer_fits, Asks_are_met, Accepted_are_met, Outers_are_apart};
 ghost use Rattle.wac_composition.specs.Conflicts.{ImplicitImport, ExplicitImport, ImportTypes, Unwritable, ImportNames, first_cause, name_cause, dependencies_of};
 ghost use Rattle.wac_composition.specs.Composition.{Composition};
 ghost use Rattle.wac_composition.specs.Renaming.{KeepsMeaning};
@@ -55,12 +55,14 @@ pub fn classes_are_linked<A>()
     ensures through { Links_go_on A }
 {}
 
-/// What several asks of one outer import keep is the greatest tree that fits each of them, and the outer
-/// import of a class fits each of its asks. Each ask whose class merges finds it under the spelling of
+/// What several asks of one outer import keep is the greatest tree that fits each of them; where they keep
+/// nothing, no tree fits them all up to one of them, or outside the families that one and what was kept
+/// before it do not fit one another. The outer import of a class fits each of its asks. Each ask whose class merges finds it under the spelling of
 /// its name; where nothing stands against a composition, that is each of its asks. No two outer imports
 /// have names on one track.
 pub fn outer_imports_fit<A, I>()
     ensures kept { Kept_is_meet }
+    ensures none { None_are_kept }
     ensures outer { Outer_fits A }
     ensures met { Asks_are_met A }
     ensures accepted { Accepted_are_met A I }

@@ -1,10 +1,14 @@
 use Rattle.wac_composition.proofs.KeptFits.{kept_meets, outer_fits}
+use Rattle.wac_composition.proofs.Clashing.{none_kept}
 use Rattle.wac_composition.proofs.OuterClasses.{asks_are_met, outers_are_apart}
 use Rattle.wac_composition.proofs.Merged.{all_met}
 use Rattle.wac_composition.proofs.outer_imports_fit.Goals as goal
 
 pub returns-clause-kept : goal.returns-clause-kept
 returns-clause-kept c s = kept_meets
+
+pub returns-clause-none : goal.returns-clause-none
+returns-clause-none c s = none_kept
 
 pub returns-clause-outer : goal.returns-clause-outer
 returns-clause-outer c s = λ asks n x e a m. outer_fits asks n x e a m
