@@ -31,9 +31,9 @@ gathered [] = []
 gathered (None ∷ os) = gathered os
 gathered (Some x ∷ os) = x.1 ++ gathered os
 
--- the owners of the resources that something speaks of
+-- the owners of the resources that something speaks of, and of those that an owner speaks of
 abbrev pub owners_at : Shape → List (Option (Stated × List Stated)) → List Stated
-owners_at (resource_alias n) (Some x ∷ Some owner ∷ os) = x.1 ++ owner.0 ∷ []
+owners_at (resource_alias n) (Some x ∷ Some owner ∷ os) = x.1 ++ owner.0 ∷ owner.1
 owners_at (type_of s) os = owners_at s os
 owners_at (own_of s) os = owners_at s os
 owners_at (borrow_of s) os = owners_at s os
@@ -62,7 +62,7 @@ is_called (Some m) n = bytes_eq m n
 abbrev pub is_wit : Name → Stated → Bool
 is_wit n x =
     is_instance (kind_of x) && is_called (identifier_of x) n && list_all (λ e. is_wit_kind (kind_of e.1)) (exports_of x)
-    && list_all (λ i. is_some (identifier_of i)) (reached x)
+    && list_all (λ u. is_some (identifier_of u.interface)) (uses_of x)
     && list_all (λ e. list_all (λ o. list_any (same o) (reached x)) (owners e.1)) (exports_of x)
 
 -- ---- the greatest that fits both of one family, with the identifier of the first and the uses of both

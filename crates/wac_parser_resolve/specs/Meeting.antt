@@ -1,8 +1,8 @@
 -- The target of a directive, by the types that statements ask.
-use Rattle.std.specs.Prelude.{Bool, true, false, not, List, [], ◌∷◌, ◌++◌, map, Option, Some, None, is_some, option_map, filter, filter_map, ⊤, Err, if◌then◌else◌}
+use Rattle.std.specs.Prelude.{Bool, true, false, not, List, [], ◌∷◌, ◌++◌, map, Option, Some, None, is_some, ⊤, Err, if◌then◌else◌}
 use Rattle.std.specs.List.{flat_map, list_all}
 use Rattle.wac_types_base.specs.declared.item.ExternKind.{ExternKind}
-use Rattle.wac_types_base.specs.Entries.{Name, value_at}
+use Rattle.wac_types_base.specs.Entries.{Name, value_at, put_entry}
 use Rattle.wac_types_base.specs.Stated.{Stated, Kind, IsWorld, Used, kind_of, desc, promote, untyped, exports_of, imports_of, uses_of, identifier_of}
 use Rattle.wac_types_names.specs.Keys.{Key}
 use Rattle.wac_composition.specs.Tests.{fits}
@@ -20,9 +20,17 @@ use Rattle.wac_parser_resolve.specs.Saying.{export_span, statements}
 abbrev pub implicit_uses : Stated → List Used
 implicit_uses w = uses_of w ++ flat_map (λ e. if is_instance (kind_of e.1) then uses_of e.1 else []) (imports_of w)
 
--- the interfaces that they name, under their identifiers
+abbrev pub put_named : List (Name × Stated) → Stated → Option Name → List (Name × Stated)
+put_named es x None = es
+put_named es x (Some n) = put_entry es n x
+
+abbrev pub by_identifier : List (Name × Stated) → List Used → List (Name × Stated)
+by_identifier es [] = es
+by_identifier es (u ∷ us) = by_identifier (put_named es u.interface (identifier_of u.interface)) us
+
+-- the interfaces that they name, under their identifiers: of two under one the last, in the first one's place
 abbrev pub implicit_interfaces : Stated → List (Name × Stated)
-implicit_interfaces w = filter_map (λ (u : Used). option_map (λ n. (n, u.interface)) (identifier_of u.interface)) (implicit_uses w)
+implicit_interfaces w = by_identifier [] (implicit_uses w)
 
 abbrev pub given_by : Stated → Name → Option Stated
 given_by w n = or_else (value_at (implicit_interfaces w) n) (value_at (imports_of w) n)
