@@ -17,13 +17,13 @@ abbrev pub Below : ℕ → Origin → Type 0
 Below k (imported n) = Unit {0}
 Below k (instance j) = j < k
 Below k (projected o n) = Below k o
-Below k (defined n) = Unit {0}
+Below k (defined n x) = Unit {0}
 
 pub below_more : (j k : ℕ) (o : Origin) → j ≤ k → Below j o → Below k o
 below_more j k (imported n) h b = tt
 below_more j k (instance i) h b = omega (arith, h, b)
 below_more j k (projected o n) h b = below_more j k o h b
-below_more j k (defined n) h b = tt
+below_more j k (defined n x) h b = tt
 
 module _ {A : Type 0} where
   pub length_more : (xs : List A) (x : A) → length (xs ++ x ∷ []) ≡ suc (length xs)

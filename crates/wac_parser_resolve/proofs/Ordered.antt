@@ -26,22 +26,22 @@ use Rattle.wac_parser_resolve.proofs.Sound.{Sound, statements_sound}
 
 -- ---- the instances with their numbers
 
-pub record IsNumbered (ds : List (Name × Stated)) (ms : List Made) (k : ℕ) (x : c.Made Asker ℕ) : Type 0 where
+pub record IsNumbered (ms : List Made) (k : ℕ) (x : c.Made Asker ℕ) : Type 0 where
   pub made : Made
   pub there : slice_get ms k ≡ Some made
   pub number : ℕ
-  pub is : x ≡ made_in ds number made
+  pub is : x ≡ made_in number made
 
-numbered_is : (ds : List (Name × Stated)) (j : ℕ) (ms : List Made) (k : ℕ) (x : c.Made Asker ℕ) → slice_get (numbered ds j ms) k ≡ Some x → IsNumbered ds ms k x
-numbered_is ds j [] k x e = absurd (none_is e)
-numbered_is ds j (m ∷ ms) zero x e = record { made = m; there = refl; number = j; is = sym (some_is e) }
-numbered_is ds j (m ∷ ms) (suc k) x e =
-    let r = numbered_is ds (suc j) ms k x e in record { made = r.made; there = r.there; number = r.number; is = r.is }
+numbered_is : (j : ℕ) (ms : List Made) (k : ℕ) (x : c.Made Asker ℕ) → slice_get (numbered j ms) k ≡ Some x → IsNumbered ms k x
+numbered_is j [] k x e = absurd (none_is e)
+numbered_is j (m ∷ ms) zero x e = record { made = m; there = refl; number = j; is = sym (some_is e) }
+numbered_is j (m ∷ ms) (suc k) x e =
+    let r = numbered_is (suc j) ms k x e in record { made = r.made; there = r.there; number = r.number; is = r.is }
 
-numbered_there : (ds : List (Name × Stated)) (j : ℕ) (ms : List Made) (k : ℕ) (m : Made) → slice_get ms k ≡ Some m → (x : c.Made Asker ℕ) × (slice_get (numbered ds j ms) k ≡ Some x)
-numbered_there ds j [] k m e = absurd (none_is e)
-numbered_there ds j (x ∷ ms) zero m e = (made_in ds j x, refl)
-numbered_there ds j (x ∷ ms) (suc k) m e = numbered_there ds (suc j) ms k m e
+numbered_there : (j : ℕ) (ms : List Made) (k : ℕ) (m : Made) → slice_get ms k ≡ Some m → (x : c.Made Asker ℕ) × (slice_get (numbered j ms) k ≡ Some x)
+numbered_there j [] k m e = absurd (none_is e)
+numbered_there j (x ∷ ms) zero m e = (made_in j x, refl)
+numbered_there j (x ∷ ms) (suc k) m e = numbered_there (suc j) ms k m e
 
 -- ---- sources
 
@@ -53,34 +53,30 @@ uses_project P (Projection s m) n u = u
 uses_project P (Bundle f) n u = u n
 uses_project P (Definition t) n u = tt
 
-module _ (P : ℕ → Type 0) (asks : List (Ask Asker)) (ds : List (Name × Stated)) where
-  origin_uses : (k : ℕ) → ((j : ℕ) → j < k → P j) → (o : Origin) → Below k o → Uses P (source_of asks (origin_in ds o))
+module _ (P : ℕ → Type 0) (asks : List (Ask Asker)) where
+  origin_uses : (k : ℕ) → ((j : ℕ) → j < k → P j) → (o : Origin) → Below k o → Uses P (source_of asks (origin_in o))
   origin_uses k h (imported n) b = tt
   origin_uses k h (instance j) b = h j b
-  origin_uses k h (projected o n) b = uses_project P (source_of asks (origin_in ds o)) n (origin_uses k h o b)
-  origin_uses k h (defined n) b = go (value_at ds n)
-    where
-      go : (v : Option Stated) → Uses P (source_of asks (elim v [ None ↦ c.imported n | Some x ↦ c.defined x ]))
-      go None = tt
-      go (Some x) = tt
+  origin_uses k h (projected o n) b = uses_project P (source_of asks (origin_in o)) n (origin_uses k h o b)
+  origin_uses k h (defined n x) b = tt
 
 -- what is passed under a name
-argument_is : (ds : List (Name × Stated)) (as_ : List (Name × Denoted)) (n : Name) → value_at (map (argument_in ds) as_) n ≡ option_map (λ (d : Denoted). origin_in ds d.origin) (value_at as_ n)
-argument_is ds [] n = refl
-argument_is ds (a ∷ as_) n = go (argument_is ds as_ n) (pointwise ◌==◌ n a.0)
+argument_is : (as_ : List (Name × Denoted)) (n : Name) → value_at (map argument_in as_) n ≡ option_map (λ (d : Denoted). origin_in d.origin) (value_at as_ n)
+argument_is [] n = refl
+argument_is (a ∷ as_) n = go (argument_is as_ n) (pointwise ◌==◌ n a.0)
   where
-    go : value_at (map (argument_in ds) as_) n ≡ option_map (λ (d : Denoted). origin_in ds d.origin) (value_at as_ n) → (b : Bool)
-        → (if b then Some (origin_in ds a.1.origin) else value_at (map (argument_in ds) as_) n) ≡ option_map (λ (d : Denoted). origin_in ds d.origin) (if b then Some a.1 else value_at as_ n)
+    go : value_at (map argument_in as_) n ≡ option_map (λ (d : Denoted). origin_in d.origin) (value_at as_ n) → (b : Bool)
+        → (if b then Some (origin_in a.1.origin) else value_at (map argument_in as_) n) ≡ option_map (λ (d : Denoted). origin_in d.origin) (if b then Some a.1 else value_at as_ n)
     go rest true = refl
     go rest false = rest
 
 -- what is exported under a name
-export_is : (ds : List (Name × Stated)) (es : List (Name × Bound)) (n : Name) → value_at (map (λ (e : Name × c.Origin ℕ × Stated). (e.0, e.1)) (map (exported_in ds) es)) n ≡ option_map (λ (b : Bound). origin_in ds b.denoted.origin) (value_at es n)
-export_is ds [] n = refl
-export_is ds (e ∷ es) n = go (export_is ds es n) (pointwise ◌==◌ n e.0)
+export_is : (es : List (Name × Bound)) (n : Name) → value_at (map (λ (e : Name × c.Origin ℕ × Stated). (e.0, e.1)) (map exported_in es)) n ≡ option_map (λ (b : Bound). origin_in b.denoted.origin) (value_at es n)
+export_is [] n = refl
+export_is (e ∷ es) n = go (export_is es n) (pointwise ◌==◌ n e.0)
   where
-    go : value_at (map (λ (e : Name × c.Origin ℕ × Stated). (e.0, e.1)) (map (exported_in ds) es)) n ≡ option_map (λ (b : Bound). origin_in ds b.denoted.origin) (value_at es n) → (b : Bool)
-        → (if b then Some (origin_in ds e.1.denoted.origin) else value_at (map (λ (e : Name × c.Origin ℕ × Stated). (e.0, e.1)) (map (exported_in ds) es)) n) ≡ option_map (λ (b : Bound). origin_in ds b.denoted.origin) (if b then Some e.1 else value_at es n)
+    go : value_at (map (λ (e : Name × c.Origin ℕ × Stated). (e.0, e.1)) (map exported_in es)) n ≡ option_map (λ (b : Bound). origin_in b.denoted.origin) (value_at es n) → (b : Bool)
+        → (if b then Some (origin_in e.1.denoted.origin) else value_at (map (λ (e : Name × c.Origin ℕ × Stated). (e.0, e.1)) (map exported_in es)) n) ≡ option_map (λ (b : Bound). origin_in b.denoted.origin) (if b then Some e.1 else value_at es n)
     go rest true = refl
     go rest false = rest
 
@@ -96,43 +92,43 @@ module _ (ps : List (Key × Stated)) (g : State) (sound : Sound ps g) (tag_of : 
   there : (j : ℕ) → j < length g.made → IsSome (W.at j)
   there j h =
       let m = slice_there g.made j h in
-      let r = numbered_there g.definitions zero g.made j m.0 m.1 in
+      let r = numbered_there zero g.made j m.0 m.1 in
       subst (λ o. IsSome (option_map (instantiation tag_of x) o)) (sym r.1) refl
 
   abbrev Earlier : ℕ → ℕ → Type 0
   Earlier k j = (j < k) × IsSome (W.at j)
 
-  args_earlier : (k : ℕ) → k < length g.made → (m : c.Made Asker ℕ) → IsNumbered g.definitions g.made k m → (n : Name) → Uses (Earlier k) (argument_source tag_of x m n)
+  args_earlier : (k : ℕ) → k < length g.made → (m : c.Made Asker ℕ) → IsNumbered g.made k m → (n : Name) → Uses (Earlier k) (argument_source tag_of x m n)
   args_earlier k below m r n =
       subst (λ (y : c.Made Asker ℕ). Uses (Earlier k) (argument_source tag_of x y n)) (sym r.is) (imported_or (is_some (value_at (imports_of r.made.world) n)))
     where
       each : (j : ℕ) → j < k → Earlier k j
       each j h = (h, there j (omega (arith, h, below)))
 
-      passed : (o : Option Denoted) → value_at r.made.arguments n ≡ o → Uses (Earlier k) (source_for tag_of x (option_map (λ (d : Denoted). origin_in g.definitions d.origin) o) n)
+      passed : (o : Option Denoted) → value_at r.made.arguments n ≡ o → Uses (Earlier k) (source_for tag_of x (option_map (λ (d : Denoted). origin_in d.origin) o) n)
       passed None e = tt
-      passed (Some d) e = origin_uses (Earlier k) (asks_of x) g.definitions k each d.origin ((sound.made k r.made r.there).before n d e)
+      passed (Some d) e = origin_uses (Earlier k) (asks_of x) k each d.origin ((sound.made k r.made r.there).before n d e)
 
-      imported_or : (b : Bool) → Uses (Earlier k) (if b then source_for tag_of x (value_at (map (argument_in g.definitions) r.made.arguments) n) n else Absent)
+      imported_or : (b : Bool) → Uses (Earlier k) (if b then source_for tag_of x (value_at (map argument_in r.made.arguments) n) n else Absent)
       imported_or false = tt
       imported_or true =
-          subst (λ o. Uses (Earlier k) (source_for tag_of x o n)) (sym (argument_is g.definitions r.made.arguments n)) (passed (value_at r.made.arguments n) refl)
+          subst (λ o. Uses (Earlier k) (source_for tag_of x o n)) (sym (argument_is r.made.arguments n)) (passed (value_at r.made.arguments n) refl)
 
   pub ordered_wiring : IsOrdered W
   ordered_wiring = record {
-    args = λ k y e n. go k (slice_get (numbered g.definitions zero g.made) k) refl y e n;
-    exports = λ n. subst (λ o. Uses (λ j. IsSome (W.at j)) (export_source tag_of x o)) (sym (export_is g.definitions g.exports n)) (exported n (value_at g.exports n) refl);
+    args = λ k y e n. go k (slice_get (numbered zero g.made) k) refl y e n;
+    exports = λ n. subst (λ o. Uses (λ j. IsSome (W.at j)) (export_source tag_of x o)) (sym (export_is g.exports n)) (exported n (value_at g.exports n) refl);
   }
     where
-      go : (k : ℕ) (o : Option (c.Made Asker ℕ)) → slice_get (numbered g.definitions zero g.made) k ≡ o → (y : Instantiation ℕ) → option_map (instantiation tag_of x) o ≡ Some y → (n : Name) → Uses (Earlier k) (y.args n)
+      go : (k : ℕ) (o : Option (c.Made Asker ℕ)) → slice_get (numbered zero g.made) k ≡ o → (y : Instantiation ℕ) → option_map (instantiation tag_of x) o ≡ Some y → (n : Name) → Uses (Earlier k) (y.args n)
       go k None q y e n = absurd (none_is e)
       go k (Some m) q y e n =
-          let r = numbered_is g.definitions zero g.made k m q in
+          let r = numbered_is zero g.made k m q in
           subst (λ (z : Instantiation ℕ). Uses (Earlier k) (z.args n)) (some_is e) (args_earlier k (slice_below g.made k r.made r.there) m r n)
 
-      exported : (n : Name) (o : Option Bound) → value_at g.exports n ≡ o → Uses (λ j. IsSome (W.at j)) (export_source tag_of x (option_map (λ (b : Bound). origin_in g.definitions b.denoted.origin) o))
+      exported : (n : Name) (o : Option Bound) → value_at g.exports n ≡ o → Uses (λ j. IsSome (W.at j)) (export_source tag_of x (option_map (λ (b : Bound). origin_in b.denoted.origin) o))
       exported n None e = tt
-      exported n (Some b) e = origin_uses (λ j. IsSome (W.at j)) (asks_of x) g.definitions (length g.made) there b.denoted.origin (sound.exports n b e)
+      exported n (Some b) e = origin_uses (λ j. IsSome (W.at j)) (asks_of x) (length g.made) there b.denoted.origin (sound.exports n b e)
 
 -- ---- a document
 
@@ -162,5 +158,5 @@ ordered d ps define x e tag_of =
 pub known : Packages_are_known
 known d ps define x e k m q =
     let s = said d ps define x e in
-    let r = numbered_is s.state.definitions zero s.state.made k m (ap (λ (y : Composition Asker ℕ). slice_get y.made k) (sym s.is) ∙ q) in
+    let r = numbered_is zero s.state.made k m (ap (λ (y : Composition Asker ℕ). slice_get y.made k) (sym s.is) ∙ q) in
     subst (λ (y : c.Made Asker ℕ). world_under ps y.key ≡ Some y.world) (sym r.is) (s.sound.made k r.made r.there).known

@@ -274,8 +274,8 @@ module _ (ps : Packages) where
 
   declaration_sound : (g : State) (i : t.Ident) (x : Stated) (h : State) → Sound ps g → Ok h ≡ declaration g i x → Sound ps h
   declaration_sound g i x h s e =
-      let one : Bound = record { denoted = record { origin = defined i.string; item = x }; span = i.span } in
-      bound_sound (with_definition g i x) i (record { origin = defined i.string; item = x }) h (record {
+      let one : Bound = record { denoted = record { origin = defined i.string x; item = x }; span = i.span } in
+      bound_sound (with_definition g i x) i (record { origin = defined i.string x; item = x }) h (record {
         same = s.same;
         made = s.made;
         root = s.root;

@@ -1,7 +1,7 @@
 -- What a document ascribes over the packages handed in: its composition, or the first cause.
 use Rattle.std.specs.Prelude.{ℕ, suc, Bool, true, List, [], ◌∷◌, map, Option, Some, None, unwrap_or, Ok, Err, ⊤}
 use Rattle.wac_types_base.specs.declared.item.ExternKind.{ExternKind}
-use Rattle.wac_types_base.specs.Entries.{Name, value_at}
+use Rattle.wac_types_base.specs.Entries.{Name}
 use Rattle.wac_types_base.specs.Stated.{Stated}
 use Rattle.wac_types_names.specs.Keys.{Key}
 use Rattle.wac_composition.specs.Composition as c
@@ -22,29 +22,22 @@ pub data Asker : Type 0 where
   by_instance : Key → Span → Asker
   by_definition : Asker
 
--- a definition is the item of that name
-abbrev pub origin_in : List (Name × Stated) → Origin → c.Origin ℕ
-origin_in ds (imported n) = c.imported n
-origin_in ds (instance k) = c.instance k
-origin_in ds (projected o n) = c.projected (origin_in ds o) n
-origin_in ds (defined n) = elim (value_at ds n) [ None ↦ c.imported n | Some x ↦ c.defined x ]
+abbrev pub origin_in : Origin → c.Origin ℕ
+origin_in (imported n) = c.imported n
+origin_in (instance k) = c.instance k
+origin_in (projected o n) = c.projected (origin_in o) n
+origin_in (defined n x) = c.defined x
 
-abbrev pub argument_in : List (Name × Stated) → Name × Denoted → Name × c.Origin ℕ
-argument_in ds a = (a.0, origin_in ds a.1.origin)
+abbrev pub argument_in : Name × Denoted → Name × c.Origin ℕ
+argument_in a = (a.0, origin_in a.1.origin)
 
-abbrev pub made_in : List (Name × Stated) → ℕ → Made → c.Made Asker ℕ
-made_in ds k m = record {
-  by = by_instance m.key m.span;
-  number = k;
-  key = m.key;
-  world = m.world;
-  arguments = map (argument_in ds) m.arguments;
-}
+abbrev pub made_in : ℕ → Made → c.Made Asker ℕ
+made_in k m = record { by = by_instance m.key m.span; number = k; key = m.key; world = m.world; arguments = map argument_in m.arguments }
 
 -- with numbers from k on
-abbrev pub numbered : List (Name × Stated) → ℕ → List Made → List (c.Made Asker ℕ)
-numbered ds k [] = []
-numbered ds k (m ∷ ms) = made_in ds k m ∷ numbered ds (suc k) ms
+abbrev pub numbered : ℕ → List Made → List (c.Made Asker ℕ)
+numbered k [] = []
+numbered k (m ∷ ms) = made_in k m ∷ numbered (suc k) ms
 
 abbrev pub placed_import : Import → Placed Asker
 placed_import i = record { by = by_import i; name = i.name; item = i.item }
@@ -55,16 +48,16 @@ placed_definition d = record { by = by_definition; name = d.0; item = d.1 }
 abbrev pub alias_in : Denoted → Name × Stated
 alias_in d = (unwrap_or (own_name d.origin) [], d.item)
 
-abbrev pub exported_in : List (Name × Stated) → Name × Bound → Name × c.Origin ℕ × Stated
-exported_in ds e = (e.0, origin_in ds e.1.denoted.origin, e.1.denoted.item)
+abbrev pub exported_in : Name × Bound → Name × c.Origin ℕ × Stated
+exported_in e = (e.0, origin_in e.1.denoted.origin, e.1.denoted.item)
 
 abbrev pub composition : State → Composition Asker ℕ
 composition g = record {
   imports = map placed_import g.imports;
-  made = numbered g.definitions 0 g.made;
+  made = numbered 0 g.made;
   definitions = map placed_definition g.definitions;
   aliases = map alias_in g.aliases;
-  exports = map (exported_in g.definitions) g.exports;
+  exports = map exported_in g.exports;
 }
 
 -- ---- why it cannot be written, as the document's fault

@@ -15,7 +15,8 @@ pub data Origin : Type 0 where
   -- the instance of this number
   instance : ℕ → Origin
   projected : Origin → Name → Origin
-  defined : Name → Origin
+  -- the definition of this name and type
+  defined : Name → Stated → Origin
 
 -- with the type by which steps go
 pub record Denoted : Type 0 where
@@ -84,10 +85,10 @@ abbrev pub own_name : Origin → Option Name
 own_name (imported n) = Some n
 own_name (projected o n) = Some n
 own_name (instance k) = None
-own_name (defined n) = None
+own_name (defined n x) = None
 
 abbrev pub is_definition : Origin → Bool
-is_definition (defined n) = true
+is_definition (defined n x) = true
 is_definition o = false
 
 -- two are one thing
@@ -95,7 +96,7 @@ abbrev pub same_origin : Origin → Origin → Bool
 same_origin (imported m) (imported n) = bytes_eq m n
 same_origin (instance j) (instance k) = j == k
 same_origin (projected o m) (projected p n) = same_origin o p && bytes_eq m n
-same_origin (defined m) (defined n) = bytes_eq m n
+same_origin (defined m x) (defined n y) = bytes_eq m n
 same_origin o p = false
 
 abbrev pub is_projection : Origin → Bool

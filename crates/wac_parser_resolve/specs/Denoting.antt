@@ -115,7 +115,7 @@ spreads_of (t.argument a as_) = spreads_of as_
 
 -- a definition is compared as it is written
 abbrev pub compared_by : Origin → Stated → Stated
-compared_by (defined n) x = written_definition x
+compared_by (defined n y) x = written_definition x
 compared_by o x = x
 
 -- an argument is of an import that the world has, and fits it

@@ -111,12 +111,12 @@ not_exported g (Some e) i = refuse (DeclarationConflict i.string (export_span g 
 abbrev pub with_definition : State → t.Ident → Stated → State
 with_definition g i x = record g {
   definitions = g.definitions ++ (i.string, x) ∷ [];
-  exports = g.exports ++ (i.string, record { denoted = record { origin = defined i.string; item = x }; span = i.span }) ∷ [];
+  exports = g.exports ++ (i.string, record { denoted = record { origin = defined i.string x; item = x }; span = i.span }) ∷ [];
 }
 
 abbrev pub declaration : State → t.Ident → Stated → Answer State
 declaration g i x = not_exported g (value_at g.exports i.string) i
-    >> bound (with_definition g i x) i (record { origin = defined i.string; item = x })
+    >> bound (with_definition g i x) i (record { origin = defined i.string x; item = x })
 
 abbrev pub type_id : t.TypeDecl → t.Ident
 type_id (t.TypeDecl.variant d) = d.id
