@@ -98,7 +98,7 @@ no_names_with (n ∷ ns) = refl
 
 module _ {A U : Type 0} (ns : List Name) where
   -- behind the used interfaces
-  fields_behind : (us : List U) (os : List (Option (Stated × A))) (ts : Wholes Shape) → firsts os ≡ places_in ts → fields ns (past us (trees ts)) ≡ fields_of (first_parts (with_names ns (drop (length us) os)))
+  pub fields_behind : (us : List U) (os : List (Option (Stated × A))) (ts : Wholes Shape) → firsts os ≡ places_in ts → fields ns (past us (trees ts)) ≡ fields_of (first_parts (with_names ns (drop (length us) os)))
   fields_behind [] os ts e = fields_with ns ts ∙ ap (λ l. fields_of (with_names ns l)) (sym e) ∙ ap fields_of (sym (first_names ns os))
   fields_behind (u ∷ us) [] no_more e = no_fields_with ns ∙ sym (empty ns)
     where

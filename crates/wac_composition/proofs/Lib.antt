@@ -10,3 +10,4 @@ pub mod NamesBack
 pub mod FitBack
 pub mod Renamed
 pub mod Clashing
+pub mod Unused

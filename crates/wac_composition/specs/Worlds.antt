@@ -37,5 +37,8 @@ module _ {A : Type 0} where
   world_exports asks es = map (λ e. (e.0, exported_type asks (e.1, e.2))) es
 
 -- Its imports are the outer imports, and its exports what stands under the sources.
+abbrev pub used_world : {A I : Type 0} → Composition A I → Stated
+used_world c = world_of None [] (outer_imports (asks_of c)) (world_exports (asks_of c) c.exports)
+
 abbrev pub composed_world : {A I : Type 0} → Composition A I → Stated
-composed_world c = without_uses (world_of None [] (outer_imports (asks_of c)) (world_exports (asks_of c) c.exports))
+composed_world c = without_uses (used_world c)

@@ -21,7 +21,8 @@ ghost use Rattle.wac_composition.specs.OuterLaws.{Classes_are_linked, Links_turn
 ghost use Rattle.wac_composition.specs.Conflicts.{ImplicitImport, ExplicitImport, ImportTypes, Unwritable, ImportNames, first_cause, name_cause, dependencies_of};
 ghost use Rattle.wac_composition.specs.Composition.{Composition};
 ghost use Rattle.wac_composition.specs.Renaming.{KeepsMeaning};
-ghost use Rattle.wac_composition.specs.Worlds.{composed_world, source_of};
+ghost use Rattle.wac_composition.specs.Worlds.{composed_world, used_world, source_of};
+ghost use Rattle.wac_composition.specs.Written.{without_uses};
 ghost use Rattle.wac_composition.specs.Examples.{plain_func, named_instance, passing, older, newer, wider, using_types, types, one_instance, two_versions, clashing_versions, clashing_imports, one_identifier, used_interface, asked_twice, alike_names, nameless_resource, asked_value, twice_made, byte_list, defined_twice, lacks_used, given_another, given_renamed, holding};
 ghost use Rattle.wac_composition.specs.Outlines.{agrees};
 ghost use Rattle.wac_graph_bytes.specs.Wirings.{Definition};
@@ -67,6 +68,13 @@ pub fn outer_imports_fit<A, I>()
     ensures met { Asks_are_met A }
     ensures accepted { Accepted_are_met A I }
     ensures apart { Outers_are_apart A }
+{}
+
+/// Taking the uses out of the worlds in a type changes no tree, so the world that is handed out has the
+/// tree of the one whose imports are the outer imports and whose exports are what the sources state.
+pub fn uses_change_no_tree<A, I>()
+    ensures types { (x : Stated) → tree (without_uses x) ≡ tree x }
+    ensures worlds { (c : Composition A I) → tree (composed_world c) ≡ tree (used_world c) }
 {}
 
 /// Under other names of its askers and instances a composition asks the same, has the same outer imports
