@@ -18,8 +18,9 @@ use Rattle.wac_composition.specs.Tests.{fits}
 use Rattle.wac_composition.specs.Merging.{is_interface, Merge, both, merged_with, merged_exports, has_use, merged_interface, rebuilt, if_kind, same_tree_as, merge_at, merge, Asked, narrower, in_family, kept_from, kept}
 use Rattle.wac_composition.specs.Regular.{IsFlat, IsFlatItem, Regular, flat, an_instance, an_interface, AreRegular}
 use Rattle.wac_composition.specs.OuterLaws.{trees_asked, KeepNothing}
+use Rattle.wac_composition.specs.Sound.{fields_of}
 use Rattle.wac_composition.proofs.FitBack.{fits_decides}
-use Rattle.wac_composition.proofs.KeptFits.{fields_of, fields_looked, firsts, first_names, folded_firsts, only_firsts, exports_at, interface_tree, instance_tree, item_tree, row_again, row_places, names_filled, both_is, if_is, mapped_is, trees_append, append_nil, no_more_kept, kept_meets}
+use Rattle.wac_composition.proofs.KeptFits.{fields_looked, firsts, first_names, folded_firsts, only_firsts, exports_at, interface_tree, instance_tree, item_tree, row_again, row_places, names_filled, both_is, if_is, mapped_is, trees_append, append_nil, no_more_kept, kept_meets}
 use Rattle.wac_composition.proofs.Closures.{filter_among}
 use Rattle.std.proofs.lemmas.List.{map-append}
 
@@ -231,7 +232,7 @@ drop_firsts (suc k) (o ∷ os) = drop_firsts k os
 exports_are : {A : Type 0} (i : Option Name) (us : List (Name × Option Name)) (es : List Name) (os : List (Option (Stated × A))) (ts : Wholes Shape) → firsts os ≡ places_in ts → exports_at (interface i us es) os ≡ with_names es (drop (length us) (places_in ts))
 exports_are i us es os ts e = first_names es (drop (length us) os) ∙ ap (with_names es) (drop_firsts (length us) os ∙ ap (drop (length us)) e)
 
-own_exports : (i : Option Name) (us : List (Name × Option Name)) (es : List Name) (ts : Wholes Shape) → exports_at (interface i us es) (folded_row merge_at ts) ≡ exports_of (node (interface i us es) ts)
+pub own_exports : (i : Option Name) (us : List (Name × Option Name)) (es : List Name) (ts : Wholes Shape) → exports_at (interface i us es) (folded_row merge_at ts) ≡ exports_of (node (interface i us es) ts)
 own_exports i us es ts = exports_are i us es (folded_row merge_at ts) ts (folded_firsts merge_at ts) ∙ sym (exports_are i us es (only_places ts) ts (only_firsts ts))
 
 map_none : {A B : Type 0} (f : A → B) (o : Option A) → option_map f o ≡ None → o ≡ None
@@ -321,7 +322,7 @@ mutual
 
 -- ---- what is merged is of a family again
 
-value_among : (xs : List (Name × Stated)) (n : Name) (x : Stated) → value_at xs n ≡ Some x → Among (n, x) xs
+pub value_among : (xs : List (Name × Stated)) (n : Name) (x : Stated) → value_at xs n ≡ Some x → Among (n, x) xs
 value_among [] n x e = absurd (none_is e)
 value_among (y ∷ xs) n x e = go (value_among xs n x) (pointwise ◌==◌ n y.0) refl e
   where
@@ -329,7 +330,7 @@ value_among (y ∷ xs) n x e = go (value_among xs n x) (pointwise ◌==◌ n y.0
     go rest true q r = inl (λ i. ((bytes_decides n y.0).0 q i, sym (some_is r) i))
     go rest false q r = inr (rest r)
 
-among_append : {X : Type 0} (xs ys : List X) (x : X) → Among x (xs ++ ys) → Among x xs ⊎ Among x ys
+pub among_append : {X : Type 0} (xs ys : List X) (x : X) → Among x (xs ++ ys) → Among x xs ⊎ Among x ys
 among_append [] ys x m = inr m
 among_append (z ∷ xs) ys x (inl e) = inl (inl e)
 among_append (z ∷ xs) ys x (inr m) = elim (among_append xs ys x m) [ inl k ↦ inl (inr k) | inr k ↦ inr k ]
@@ -405,7 +406,7 @@ drop_used : (us : List Used) (os : List (Option Stated)) → drop (length (names
 drop_used [] os = refl
 drop_used (u ∷ us) os = drop_used us os
 
-made_exports : (i : Option Name) (us : List Used) (xs : List (Name × Stated)) → exports_of (interface_of i us xs) ≡ xs
+pub made_exports : (i : Option Name) (us : List Used) (xs : List (Name × Stated)) → exports_of (interface_of i us xs) ≡ xs
 made_exports i us xs =
     let ts = row (used_places us ++ filled xs) in
     exports_are i (names_used us) (names xs) (only_places ts) ts (only_firsts ts)

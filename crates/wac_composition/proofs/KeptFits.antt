@@ -22,6 +22,7 @@ use Rattle.wac_composition.specs.Merging.{is_interface, Merge, both, merged_with
 use Rattle.wac_composition.specs.Asks.{Ask}
 use Rattle.wac_composition.specs.OuterImports.{asked_in, outer_of}
 use Rattle.wac_composition.specs.OuterLaws.{trees_asked, Kept_is_meet}
+use Rattle.wac_composition.specs.Sound.{fields_of}
 use Rattle.wac_composition.proofs.FitLaws.{fits_is}
 
 some_is : {A : Type 0} {x y : A} → Some x ≡ Some y → x ≡ y
@@ -31,10 +32,6 @@ none_is : {A : Type 0} {x : A} → None ≡ Some x → ⊥
 none_is e = cc
 
 -- ---- the map that named items are
-
-abbrev pub fields_of : List (Name × Stated) → Fields
-fields_of [] = no_fields
-fields_of (e ∷ es) = put e.0 (tree e.1) (fields_of es)
 
 pub fields_ordered : (es : List (Name × Stated)) → AllInOrder (fields_of es)
 fields_ordered [] = tt

@@ -11,3 +11,5 @@ pub mod FitBack
 pub mod Renamed
 pub mod Clashing
 pub mod Unused
+pub mod Straight
+pub mod Bound

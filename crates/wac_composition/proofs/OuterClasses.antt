@@ -250,6 +250,10 @@ module _ {A : Type 0} (asks : List (Ask A)) where
   all_of found [] h sub = h
   all_of found (b ∷ as_) h sub = all_of (with_new found (outer_of (class asks b))) as_ (added found h b (sub b (inl refl))).of_asks (λ c m. sub c (inr m))
 
+  -- an outer import is that of an ask's class
+  pub outer_of_ask : (n : Name) (x : Stated) → value_at (outer_imports asks) n ≡ Some x → (a : Ask A) × Among a asks × (outer_of (class asks a) ≡ Some (n, x))
+  outer_of_ask n x e = let b = all_of [] asks (λ k z r. absurd (none_is r)) (λ b k. k) n x e in (b.0, b.1, b.2)
+
   -- two outer imports whose names are compatible are one
   apart : (n m : Name) (x y : Stated) → value_at (outer_imports asks) n ≡ Some x → value_at (outer_imports asks) m ≡ Some y → compatible n m ≡ true → n ≡ m
   apart n m x y e f h =

@@ -7,7 +7,8 @@ use Rattle.wac_types_base.specs.Collection.{Shape, world, type_of}
 use Rattle.wac_types_base.specs.Stated.{Stated, row, folded_row, places_in, with_names, names, filled, first_parts, Parts, parts_at, world_of}
 use Rattle.wac_types_base.specs.Tree.{Row, Fields, component, type_item, put, fields, past, tree_at, tree, trees}
 use Rattle.wac_composition.specs.Written.{found_in, over_found, world_without, without_at, without_uses}
-use Rattle.wac_composition.proofs.KeptFits.{fields_of, firsts, folded_firsts, fields_behind, row_again}
+use Rattle.wac_composition.specs.Sound.{fields_of}
+use Rattle.wac_composition.proofs.KeptFits.{firsts, folded_firsts, fields_behind, row_again}
 
 -- ---- what was found of the parts has their trees
 
@@ -55,7 +56,7 @@ made_last : (xs : List (Name × Stated)) → fields (names xs) (trees (row (fill
 made_last [] = refl
 made_last (x ∷ xs) = ap (put x.0 (tree x.1)) (made_last xs)
 
-made_world : (i : Option Name) (is es : List (Name × Stated)) → tree (world_of i [] is es) ≡ component (fields_of is) (fields_of es)
+pub made_world : (i : Option Name) (is es : List (Name × Stated)) → tree (world_of i [] is es) ≡ component (fields_of is) (fields_of es)
 made_world i is es = λ j. component (made_fields is (filled es) j) ((ap (fields (names es)) (made_past is (filled es)) ∙ made_last es) j)
 
 -- ---- behind some places

@@ -11,6 +11,7 @@ pub mod Writable
 pub mod Conflicts
 pub mod Worlds
 pub mod Wired
+pub mod Sound
 pub mod Outlines
 pub mod OuterLaws
 pub mod Examples

@@ -4,9 +4,10 @@
 //! of a function without a body.
 #![tactic(auto)]
 
-ghost use Rattle.std.specs.Prelude.{◌≡◌, ◌∷◌, [], map, Some, None, codes, true, false};
+ghost use Rattle.std.specs.Prelude.{◌≡◌, ◌∷◌, [], ℕ, map, Bool, Some, None, codes, true, false};
 ghost use Rattle.std.specs.Bool.{Decides};
 ghost use Rattle.wac_types_base.specs.Entries.{Name, names_of};
+ghost use Rattle.wac_types_names.specs.Keys.{Key};
 ghost use Rattle.wac_types_names.specs.Tracks.{AreCompatible, IsLater};
 ghost use Rattle.wac_composition.specs.Names.{compatible, is_later};
 ghost use Rattle.wac_types_base.specs.Collection.{Shape};
@@ -21,11 +22,12 @@ ghost use Rattle.wac_composition.specs.OuterLaws.{Classes_are_linked, Links_turn
 ghost use Rattle.wac_composition.specs.Conflicts.{ImplicitImport, ExplicitImport, ImportTypes, Unwritable, ImportNames, first_cause, name_cause, dependencies_of};
 ghost use Rattle.wac_composition.specs.Composition.{Composition};
 ghost use Rattle.wac_composition.specs.Renaming.{KeepsMeaning};
+ghost use Rattle.wac_composition.specs.Sound.{IsSound, IsWired};
 ghost use Rattle.wac_composition.specs.Worlds.{composed_world, used_world, source_of};
 ghost use Rattle.wac_composition.specs.Written.{without_uses};
 ghost use Rattle.wac_composition.specs.Examples.{plain_func, named_instance, passing, older, newer, wider, using_types, types, one_instance, two_versions, clashing_versions, clashing_imports, one_identifier, used_interface, asked_twice, alike_names, nameless_resource, asked_value, twice_made, byte_list, defined_twice, lacks_used, given_another, given_renamed, holding};
 ghost use Rattle.wac_composition.specs.Outlines.{agrees};
-ghost use Rattle.wac_graph_bytes.specs.Wirings.{Definition};
+ghost use Rattle.wac_graph_bytes.specs.Wirings.{Tag, Definition};
 
 /// The tests of labels and trees say yes exactly of equal ones.
 pub fn tests_decide()
@@ -81,6 +83,12 @@ pub fn uses_change_no_tree<A, I>()
 /// and the same world, and what stands against it is the same.
 pub fn names_do_not_matter<A, B, I, J>()
     ensures { (f : A → B) (g : I → J) (c : Composition A I) → KeepsMeaning f g c }
+{}
+
+/// In a composition that speaks of what is there alone, whose arguments fit, and that nothing stands against, each import
+/// of each instance is bound once, to what fits it and was there before, and the world that is handed out is true of the wiring.
+pub fn compositions_are_wired<A>()
+    ensures { (define : Bool) (tag_of : Key → Tag) (c : Composition A ℕ) → IsSound c → first_cause define c ≡ None → IsWired tag_of c }
 {}
 
 /// Compositions from outside: what they import, and why some cannot be written.
