@@ -71,7 +71,7 @@ item_same (core_module is es) u f h = absurd f
 -- ---- what is compared as it is
 
 module _ (os : List (Option (Stated × Merge))) where
-  merge_flat : (s : Shape) (y : Stated) → is_instance (shape_kind s) ≡ false → is_interface (shape_kind s) ≡ false → merge_at s os y ≡ same_tree_as (rebuilt s os) y
+  pub merge_flat : (s : Shape) (y : Stated) → is_instance (shape_kind s) ≡ false → is_interface (shape_kind s) ≡ false → merge_at s os y ≡ same_tree_as (rebuilt s os) y
   merge_flat (primitive p) y g h = refl
   merge_flat tuple y g h = refl
   merge_flat list y g h = refl
@@ -213,7 +213,7 @@ among_names [] n x m = m
 among_names (y ∷ xs) n x (inl e) = inl (ap (λ (p : Name × Stated). p.0) e)
 among_names (y ∷ xs) n x (inr m) = inr (among_names xs n x m)
 
-value_there : (xs : List (Name × Stated)) (n : Name) (x : Stated) → AreDistinct (names_of xs) → Among (n, x) xs → value_at xs n ≡ Some x
+pub value_there : (xs : List (Name × Stated)) (n : Name) (x : Stated) → AreDistinct (names_of xs) → Among (n, x) xs → value_at xs n ≡ Some x
 value_there [] n x d m = absurd m
 value_there (y ∷ xs) n x d (inl e) = ap (λ (b : Bool). if b then Some y.1 else value_at xs n) ((bytes_decides n y.0).1 (ap (λ (p : Name × Stated). p.0) e)) ∙ ap Some (sym (ap (λ (p : Name × Stated). p.1) e))
 value_there (y ∷ xs) n x d (inr m) = go (value_there xs n x d.1 m) (pointwise ◌==◌ n y.0) refl
@@ -335,11 +335,11 @@ among_append [] ys x m = inr m
 among_append (z ∷ xs) ys x (inl e) = inl (inl e)
 among_append (z ∷ xs) ys x (inr m) = elim (among_append xs ys x m) [ inl k ↦ inl (inr k) | inr k ↦ inr k ]
 
-distinct_append : (ms ns : List Name) → AreDistinct ms → AreDistinct ns → ((n : Name) → Among n ms → Among n ns → ⊥) → AreDistinct (ms ++ ns)
+pub distinct_append : (ms ns : List Name) → AreDistinct ms → AreDistinct ns → ((n : Name) → Among n ms → Among n ns → ⊥) → AreDistinct (ms ++ ns)
 distinct_append [] ns a b c = b
 distinct_append (m ∷ ms) ns a b c = (λ k. elim (among_append ms ns m k) [ inl i ↦ a.0 i | inr i ↦ c m (inl refl) i ], distinct_append ms ns a.1 b (λ n i j. c n (inr i) j))
 
-name_passing : (t : Name × Stated → Bool) (fs : List (Name × Stated)) (n : Name) → Among n (names_of (filter t fs)) → (f : Name × Stated) × Among f fs × (t f ≡ true) × (n ≡ f.0)
+pub name_passing : (t : Name × Stated → Bool) (fs : List (Name × Stated)) (n : Name) → Among n (names_of (filter t fs)) → (f : Name × Stated) × Among f fs × (t f ≡ true) × (n ≡ f.0)
 name_passing t [] n m = absurd m
 name_passing t (f ∷ fs) n m = go (name_passing t fs n) (t f) refl m
   where
@@ -348,12 +348,12 @@ name_passing t (f ∷ fs) n m = go (name_passing t fs n) (t f) refl m
     go rest true e (inr k) = let r = rest k in (r.0, inr r.1, r.2, r.3)
     go rest false e k = let r = rest k in (r.0, inr r.1, r.2, r.3)
 
-among_name : (fs : List (Name × Stated)) (f : Name × Stated) → Among f fs → Among f.0 (names_of fs)
+pub among_name : (fs : List (Name × Stated)) (f : Name × Stated) → Among f fs → Among f.0 (names_of fs)
 among_name [] f m = absurd m
 among_name (g ∷ fs) f (inl e) = inl (ap (λ (p : Name × Stated). p.0) e)
 among_name (g ∷ fs) f (inr m) = inr (among_name fs f m)
 
-distinct_filter : (t : Name × Stated → Bool) (fs : List (Name × Stated)) → AreDistinct (names_of fs) → AreDistinct (names_of (filter t fs))
+pub distinct_filter : (t : Name × Stated → Bool) (fs : List (Name × Stated)) → AreDistinct (names_of fs) → AreDistinct (names_of (filter t fs))
 distinct_filter t [] d = tt
 distinct_filter t (f ∷ fs) d = go (distinct_filter t fs d.1) (t f)
   where
@@ -361,7 +361,7 @@ distinct_filter t (f ∷ fs) d = go (distinct_filter t fs d.1) (t f)
     go rest true = (λ m. let r = name_passing t fs f.0 m in d.0 (subst (λ k. Among k (names_of fs)) (sym r.3) (among_name fs r.0 r.1)), rest)
     go rest false = rest
 
-name_found : {A : Type 0} (es : List (Name × A)) (n : Name) → Among n (names_of es) → is_none (value_at es n) ≡ false
+pub name_found : {A : Type 0} (es : List (Name × A)) (n : Name) → Among n (names_of es) → is_none (value_at es n) ≡ false
 name_found [] n m = absurd m
 name_found (e ∷ es) n m = go (name_found es n) (pointwise ◌==◌ n e.0) refl m
   where
@@ -381,7 +381,7 @@ abbrev AllRegular : List (Name × (Stated × Merge)) → Type 0
 AllRegular [] = Unit {0}
 AllRegular (e ∷ es) = RegularBoth e.1.0 e.1.1 × AllRegular es
 
-merged_names : (es : List (Name × (Stated × Merge))) (fs xs : List (Name × Stated)) → merged_exports es fs ≡ Some xs → names_of xs ≡ names_of es
+pub merged_names : (es : List (Name × (Stated × Merge))) (fs xs : List (Name × Stated)) → merged_exports es fs ≡ Some xs → names_of xs ≡ names_of es
 merged_names [] fs xs e = ap names_of (sym (some_is e))
 merged_names (e ∷ es) fs xs q =
     let b = both_is (λ x ys. (e.0, x) ∷ ys) (merged_with e.1.1 e.1.0 (value_at fs e.0)) (merged_exports es fs) xs q in
@@ -520,7 +520,7 @@ narrower_none x y e = go (fits x y) refl (fits y x) refl e
     go false p false q e = (λ f. true≢false (sym ((fits_decides x y).1 f) ∙ p), λ f. true≢false (sym ((fits_decides y x).1 f) ∙ q))
 
 -- asks behind a first one that keep something go on from there
-kept_further : (before as_ bs : List Asked) (x w : Stated) → kept_from before (Some x) as_ ≡ Some w → kept_from before (Some x) (as_ ++ bs) ≡ kept_from (before ++ as_) (Some w) bs
+pub kept_further : (before as_ bs : List Asked) (x w : Stated) → kept_from before (Some x) as_ ≡ Some w → kept_from before (Some x) (as_ ++ bs) ≡ kept_from (before ++ as_) (Some w) bs
 kept_further before [] bs x w e = λ i. kept_from (sym (append_nil before) i) (Some (some_is e i)) bs
 kept_further before (c ∷ as_) bs x w e = go (λ v r. kept_further (before ++ c ∷ []) as_ bs v w r) (if in_family (before ++ c ∷ []) then merge x c.1 else narrower x c.1) e
   where

@@ -266,7 +266,7 @@ merged_all (e ∷ es) fs xs h q =
 
 -- ---- the merged interface
 
-value_append : {V : Type 0} (xs ys : List (Name × V)) (n : Name) (v : V) → value_at xs n ≡ Some v → value_at (xs ++ ys) n ≡ Some v
+pub value_append : {V : Type 0} (xs ys : List (Name × V)) (n : Name) (v : V) → value_at xs n ≡ Some v → value_at (xs ++ ys) n ≡ Some v
 value_append [] ys n v e = absurd (none_is e)
 value_append (x ∷ xs) ys n v e = go (value_append xs ys n v) (pointwise ◌==◌ n x.0) e
   where
@@ -274,7 +274,7 @@ value_append (x ∷ xs) ys n v e = go (value_append xs ys n v) (pointwise ◌==�
     go rest true q = q
     go rest false q = rest q
 
-value_behind : {V : Type 0} (xs ys : List (Name × V)) (n : Name) → value_at xs n ≡ None → value_at (xs ++ ys) n ≡ value_at ys n
+pub value_behind : {V : Type 0} (xs ys : List (Name × V)) (n : Name) → value_at xs n ≡ None → value_at (xs ++ ys) n ≡ value_at ys n
 value_behind [] ys n e = refl
 value_behind (x ∷ xs) ys n e = go (value_behind xs ys n) (pointwise ◌==◌ n x.0) e
   where
@@ -283,7 +283,7 @@ value_behind (x ∷ xs) ys n e = go (value_behind xs ys n) (pointwise ◌==◌ n
     go rest false q = rest q
 
 -- those whose names pass a test
-value_passing : (t : Name → Bool) (fs : List (Name × Stated)) (n : Name) (y : Stated) → t n ≡ true → value_at fs n ≡ Some y → value_at (filter (λ f. t f.0) fs) n ≡ Some y
+pub value_passing : (t : Name → Bool) (fs : List (Name × Stated)) (n : Name) (y : Stated) → t n ≡ true → value_at fs n ≡ Some y → value_at (filter (λ f. t f.0) fs) n ≡ Some y
 value_passing t [] n y p e = absurd (none_is e)
 value_passing t (f ∷ fs) n y p e = go (value_passing t fs n y p) (pointwise ◌==◌ n f.0) refl (t f.0) refl e
   where

@@ -13,3 +13,4 @@ pub mod Clashing
 pub mod Unused
 pub mod Straight
 pub mod Bound
+pub mod Again

@@ -5,6 +5,7 @@ pub mod Tests
 pub mod Classes
 pub mod Merging
 pub mod Regular
+pub mod Again
 pub mod OuterImports
 pub mod Written
 pub mod Writable
