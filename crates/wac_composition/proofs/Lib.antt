@@ -14,3 +14,4 @@ pub mod Unused
 pub mod Straight
 pub mod Bound
 pub mod Again
+pub mod AskedAgain

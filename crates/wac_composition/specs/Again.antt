@@ -1,10 +1,12 @@
 -- Stated types as collections have them, and what asking twice does.
-use Rattle.std.specs.Prelude.{◌≡◌, List, ◌∷◌, ◌++◌, false}
+use Rattle.std.specs.Prelude.{◌≡◌, ◌↔◌, List, ◌∷◌, ◌++◌, false}
 use Rattle.wac_types_base.specs.Entries.{Name, AreDistinct, names_of}
 use Rattle.wac_types_base.specs.Graph.{Among}
 use Rattle.wac_types_base.specs.Stated.{Stated, kind_of, interface_of, as_type, exports_of, uses_of, identifier_of}
-use Rattle.wac_composition.specs.Classes.{is_instance}
+use Rattle.wac_composition.specs.Asks.{Ask}
+use Rattle.wac_composition.specs.Classes.{is_instance, class, spelling}
 use Rattle.wac_composition.specs.Merging.{is_interface, Asked, kept}
+use Rattle.wac_composition.specs.OuterImports.{asked_in}
 
 -- Each interface in it is of its identifier, uses and exports alone, and exports no name twice.
 pub data IsWell : Stated → Type 0 where
@@ -15,3 +17,15 @@ pub data IsWell : Stated → Type 0 where
 -- what several asks keep does not change where one of them is asked again
 abbrev pub Asking_twice : Type 0
 Asking_twice = (before after : List Asked) (a : Asked) → Among a before → ((b : Asked) → Among b before → IsWell b.1) → kept (before ++ a ∷ after) ≡ kept (before ++ after)
+
+-- with more asks, each ask has its class, what that keeps and its spelling as before
+pub record KeepsClasses {A : Type 0} (asks more : List (Ask A)) : Type 0 where
+  pub classes : (c d : Ask A) → Among c asks → Among d asks → Among d (class more c) ↔ Among d (class asks c)
+  pub kept : (c : Ask A) → Among c asks → kept (asked_in (class more c)) ≡ kept (asked_in (class asks c))
+  pub spelled : (n : Name) → spelling more n ≡ spelling asks n
+
+-- nothing changes where what was asked under a name is asked again, by whomever
+abbrev pub Asked_again : Type 0 → Type 0
+Asked_again A =
+    (before after : List (Ask A)) (a b : Ask A) → Among b before → b.name ≡ a.name → b.item ≡ a.item → ((c : Ask A) → Among c before → IsWell c.item)
+    → KeepsClasses (before ++ after) (before ++ a ∷ after)

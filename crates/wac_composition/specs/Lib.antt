@@ -5,8 +5,8 @@ pub mod Tests
 pub mod Classes
 pub mod Merging
 pub mod Regular
-pub mod Again
 pub mod OuterImports
+pub mod Again
 pub mod Written
 pub mod Writable
 pub mod Conflicts

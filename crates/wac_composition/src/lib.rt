@@ -21,7 +21,7 @@ ghost use Rattle.wac_composition.specs.OuterImports.{outer_imports};
 ghost use Rattle.wac_composition.specs.OuterLaws.{Classes_are_linked, Links_turn, Links_go_on, Kept_is_meet, None_are_kept, Outer_fits, Asks_are_met, Accepted_are_met, Outers_are_apart};
 ghost use Rattle.wac_composition.specs.Conflicts.{ImplicitImport, ExplicitImport, ImportTypes, Unwritable, ImportNames, first_cause, name_cause, dependencies_of};
 ghost use Rattle.wac_composition.specs.Composition.{Composition};
-ghost use Rattle.wac_composition.specs.Again.{Asking_twice};
+ghost use Rattle.wac_composition.specs.Again.{Asked_again, Asking_twice};
 ghost use Rattle.wac_composition.specs.Renaming.{KeepsMeaning};
 ghost use Rattle.wac_composition.specs.Sound.{IsSound, IsWired};
 ghost use Rattle.wac_composition.specs.Worlds.{composed_world, used_world, source_of};
@@ -74,9 +74,10 @@ pub fn outer_imports_fit<A, I>()
 {}
 
 /// What several asks of one outer import keep, with its identifier and its uses, does not change where
-/// one of them is asked again.
-pub fn asking_twice_changes_nothing()
-    ensures { Asking_twice }
+/// one of them is asked again; and no class and no spelling does.
+pub fn asking_twice_changes_nothing<A>()
+    ensures kept { Asking_twice }
+    ensures classes { Asked_again A }
 {}
 
 /// Taking the uses out of the worlds in a type changes no tree, so the world that is handed out has the

@@ -1,5 +1,9 @@
 use Rattle.wac_composition.proofs.Again.{asking_twice}
+use Rattle.wac_composition.proofs.AskedAgain.{asked_again}
 use Rattle.wac_composition.proofs.asking_twice_changes_nothing.Goals as goal
 
-pub returns : goal.returns
-returns c = asking_twice
+pub returns-clause-kept : goal.returns-clause-kept
+returns-clause-kept c s = asking_twice
+
+pub returns-clause-classes : goal.returns-clause-classes
+returns-clause-classes c s = asked_again
