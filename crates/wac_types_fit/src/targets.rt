@@ -1,7 +1,8 @@
 //! Whether a component meets a target world.
 
-ghost use Rattle.std.specs.Prelude.{◌≡◌, ◌++◌, ◌∷◌, [], IfOk, IfErr, OnOk, IsTrue, IsSome, ◌↔◌, Some, None, Option, Result, ⊤, slice_get};
+ghost use Rattle.std.specs.Prelude.{◌≡◌, ◌++◌, ◌∷◌, [], IfOk, IfErr, OnOk, IsTrue, IsSome, ◌↔◌, Some, None, Option, Result, String, ⊤, slice_get};
 ghost use Rattle.std.specs.Option.{option_copied};
+ghost use Rattle.std.specs.Iterator.Adapters.{IterYieldsInOrder};
 ghost use Rattle.std.specs.Slice.Iter.{iter_rest};
 ghost use Rattle.wac_types_base.specs.declared.item.ItemKind.{ItemKind};
 ghost use Rattle.wac_types_base.specs.declared.item.ExternKind.{ExternKind};
@@ -51,21 +52,24 @@ pub type TargetValidationResult = Result<(), TargetValidationReport>;
 impl TargetValidationReport {
     /// The imports of the component that the target does not have.
     pub fn imports_not_in_target(&self) -> Iter<'_, String>
-        ensures { texts_of (iter_rest result) ≡ self.now.imports_not_in_target }
+        ensures rest { texts_of (iter_rest result) ≡ self.now.imports_not_in_target }
+        ensures runs { IterYieldsInOrder (String Global) }
     {
         self.imports_not_in_target.iter()
     }
 
     /// The exports of the target that the component does not have.
     pub fn missing_exports(&self) -> Iter<'_, (String, ItemKind)>
-        ensures { entries_of (iter_rest result) ≡ self.now.missing_exports }
+        ensures rest { entries_of (iter_rest result) ≡ self.now.missing_exports }
+        ensures runs { IterYieldsInOrder (String Global × ItemKind) }
     {
         self.missing_exports.iter()
     }
 
     /// The imports and exports whose types do not fit.
     pub fn mismatched_types(&self) -> Iter<'_, (String, ExternKind, SubtypeError)>
-        ensures { mismatches (iter_rest result) ≡ self.now.mismatched_types }
+        ensures rest { mismatches (iter_rest result) ≡ self.now.mismatched_types }
+        ensures runs { IterYieldsInOrder (String Global × ExternKind × SubtypeError) }
     {
         self.mismatched_types.iter()
     }
