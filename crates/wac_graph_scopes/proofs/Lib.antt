@@ -7,3 +7,4 @@ pub mod RootLaws
 pub mod ExportLaws
 pub mod InsideLaws
 pub mod KnownLaws
+pub mod CoreLaws

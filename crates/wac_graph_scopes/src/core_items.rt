@@ -1,35 +1,51 @@
 //! Core module types.
 
+ghost use Rattle.std.specs.Prelude.{◌≡◌, ◌∷◌, [], Some, IfOk, map, slice_get, ◌<◌, length, string_bytes};
+ghost use Rattle.wac_types_base.specs.declared.core_types.CoreExtern.TheVariants as extern;
+ghost use Rattle.wac_graph_bytes.specs.Typing.{core_reference_type, core_type, module_tree};
+ghost use Rattle.wac_graph_bytes.specs.Views.{module_view};
+ghost use Rattle.wac_graph_scopes.specs.CoreItems.{AddsSignature, IsItem, DescribesCore, AddsCores};
+ghost use Rattle.wac_types_base.specs.Entries.{names_of, AreDistinct};
+ghost use Rattle.wac_types_fit.specs.Checking.{module_tree as tree_of_module};
+
 use crate::fault::WriteError;
 use crate::scope::next_of;
 use std::alloc::Global;
 use wac_graph_bytes::{
     CoreDeclaration, CoreDescription, CoreReference, CoreValue, Limits, core_reference, core_value,
 };
-use wac_types_base::{CoreExtern, CoreFuncType, CoreRefType, CoreType, ModuleType};
+use wac_types_base::{
+    CoreExtern, CoreFuncType, CoreImports, CoreRefType, CoreType, ModuleType, NamedMap,
+};
 
 /// The declarations of a module type, and how many of them are signatures.
 #[derive(Drop)]
-struct ModuleScope {
+pub(crate) struct ModuleScope {
     declarations: Vec<CoreDeclaration>,
     signatures: u32,
 }
 
-fn reference_of(ty: CoreRefType) -> Result<CoreReference, WriteError> {
+fn reference_of(ty: CoreRefType) -> Result<CoreReference, WriteError>
+    ensures { IfOk result (λ r. core_reference_type r ≡ ty) }
+{
     match core_reference(ty) {
         Some(reference) => Ok(reference),
         None => Err(WriteError::Unwritable),
     }
 }
 
-fn value_of(ty: CoreType) -> Result<CoreValue, WriteError> {
+fn value_of(ty: CoreType) -> Result<CoreValue, WriteError>
+    ensures { IfOk result (λ v. core_type v ≡ ty) }
+{
     match core_value(ty) {
         Some(value) => Ok(value),
         None => Err(WriteError::Unwritable),
     }
 }
 
-fn values_of(alloc: Global, types: &[CoreType]) -> Result<Vec<CoreValue>, WriteError> {
+fn values_of(alloc: Global, types: &[CoreType]) -> Result<Vec<CoreValue>, WriteError>
+    ensures { IfOk result (λ v. map core_type v.items ≡ types.now) }
+{
     let mut all = Vec::new(alloc);
     for ty in types {
         all.push(value_of(*ty)?)?;
@@ -42,7 +58,9 @@ fn table_of(
     element: CoreRefType,
     limits: Limits,
     shared: bool,
-) -> Result<CoreDescription, WriteError> {
+) -> Result<CoreDescription, WriteError>
+    ensures { IfOk result (λ d. IsItem d (extern.Table element limits.minimum limits.maximum limits.wide shared)) }
+{
     if shared {
         return Err(WriteError::Unwritable);
     }
@@ -55,7 +73,9 @@ fn memory_of(
     limits: Limits,
     shared: bool,
     page_size: Option<u32>,
-) -> Result<CoreDescription, WriteError> {
+) -> Result<CoreDescription, WriteError>
+    ensures { IfOk result (λ d. IsItem d (extern.Memory limits.wide shared limits.minimum limits.maximum page_size)) }
+{
     match page_size {
         Some(_) => Err(WriteError::Unwritable),
         None => Ok(CoreDescription::Memory(limits, shared)),
@@ -63,7 +83,9 @@ fn memory_of(
 }
 
 /// The type of a global, which is not shared.
-fn global_of(ty: CoreType, mutable: bool, shared: bool) -> Result<CoreDescription, WriteError> {
+fn global_of(ty: CoreType, mutable: bool, shared: bool) -> Result<CoreDescription, WriteError>
+    ensures { IfOk result (λ d. IsItem d (extern.Global ty mutable shared)) }
+{
     if shared {
         return Err(WriteError::Unwritable);
     }
@@ -71,9 +93,53 @@ fn global_of(ty: CoreType, mutable: bool, shared: bool) -> Result<CoreDescriptio
     Ok(CoreDescription::Global(value, mutable))
 }
 
+/// What an item of a module is that needs no signature.
+fn describe_plain(item: &CoreExtern) -> Result<CoreDescription, WriteError>
+    ensures { IfOk result (λ d. IsItem d item.now) }
+{
+    match item {
+        CoreExtern::Table {
+            element_type,
+            initial,
+            maximum,
+            table64,
+            shared,
+        } => {
+            let limits = Limits {
+                minimum: *initial,
+                maximum: *maximum,
+                wide: *table64,
+            };
+            table_of(*element_type, limits, *shared)
+        }
+        CoreExtern::Memory {
+            memory64,
+            shared,
+            initial,
+            maximum,
+            page_size_log2,
+        } => {
+            let limits = Limits {
+                minimum: *initial,
+                maximum: *maximum,
+                wide: *memory64,
+            };
+            memory_of(limits, *shared, *page_size_log2)
+        }
+        CoreExtern::Global {
+            val_type,
+            mutable,
+            shared,
+        } => global_of(*val_type, *mutable, *shared),
+        _ => Err(WriteError::Unwritable),
+    }
+}
+
 impl ModuleScope {
     /// The index of a function's signature.
-    fn signature(&mut self, alloc: Global, func: &CoreFuncType) -> Result<u32, WriteError> {
+    fn signature(&mut self, alloc: Global, func: &CoreFuncType) -> Result<u32, WriteError>
+        ensures { IfOk result (λ k. AddsSignature self.old self.new func.now k) }
+    {
         let params = values_of(alloc, func.params.as_slice())?;
         let results = values_of(alloc, func.results.as_slice())?;
         let index = self.signatures;
@@ -85,11 +151,9 @@ impl ModuleScope {
     }
 
     /// What an item of a module is.
-    fn describe(
-        &mut self,
-        alloc: Global,
-        item: &CoreExtern,
-    ) -> Result<CoreDescription, WriteError> {
+    fn describe(&mut self, alloc: Global, item: &CoreExtern) -> Result<CoreDescription, WriteError>
+        ensures { IfOk result (λ d. DescribesCore self.old self.new item.now d) }
+    {
         match item {
             CoreExtern::Func(func) => {
                 let index = self.signature(alloc, func)?;
@@ -99,39 +163,7 @@ impl ModuleScope {
                 let index = self.signature(alloc, func)?;
                 Ok(CoreDescription::Tag(index))
             }
-            CoreExtern::Table {
-                element_type,
-                initial,
-                maximum,
-                table64,
-                shared,
-            } => {
-                let limits = Limits {
-                    minimum: *initial,
-                    maximum: *maximum,
-                    wide: *table64,
-                };
-                table_of(*element_type, limits, *shared)
-            }
-            CoreExtern::Memory {
-                memory64,
-                shared,
-                initial,
-                maximum,
-                page_size_log2,
-            } => {
-                let limits = Limits {
-                    minimum: *initial,
-                    maximum: *maximum,
-                    wide: *memory64,
-                };
-                memory_of(limits, *shared, *page_size_log2)
-            }
-            CoreExtern::Global {
-                val_type,
-                mutable,
-                shared,
-            } => global_of(*val_type, *mutable, *shared),
+            _ => describe_plain(item),
         }
     }
 
@@ -140,7 +172,9 @@ impl ModuleScope {
         alloc: Global,
         names: &(String, String),
         item: &CoreExtern,
-    ) -> Result<(), WriteError> {
+    ) -> Result<(), WriteError>
+        ensures { IfOk result (λ _. AddsCores self.old self.new (((string_bytes names.now.0, string_bytes names.now.1), item.now) ∷ []) []) }
+    {
         let description = self.describe(alloc, item)?;
         let module = String::from_str(alloc, names.0.as_str())?;
         let name = String::from_str(alloc, names.1.as_str())?;
@@ -149,11 +183,39 @@ impl ModuleScope {
         Ok(())
     }
 
-    fn export(&mut self, alloc: Global, name: &str, item: &CoreExtern) -> Result<(), WriteError> {
+    fn export(&mut self, alloc: Global, name: &str, item: &CoreExtern) -> Result<(), WriteError>
+        ensures { IfOk result (λ _. AddsCores self.old self.new [] ((name.now, item.now) ∷ [])) }
+    {
         let description = self.describe(alloc, item)?;
         let name = String::from_str(alloc, name)?;
         self.declarations
             .push(CoreDeclaration::Export(name, description))?;
+        Ok(())
+    }
+
+    fn import_all(&mut self, alloc: Global, imports: &CoreImports) -> Result<(), WriteError>
+        ensures adds { IfOk result (λ _. AddsCores self.old self.new imports.now []) }
+        ensures distinct { AreDistinct (names_of imports.now) }
+    {
+        for at in 0..imports.len() {
+            let item = &imports.values()[at];
+            self.import(alloc, &imports.names()[at], item)?;
+        }
+        Ok(())
+    }
+
+    fn export_all(
+        &mut self,
+        alloc: Global,
+        exports: &NamedMap<CoreExtern>,
+    ) -> Result<(), WriteError>
+        ensures adds { IfOk result (λ _. AddsCores self.old self.new [] exports.now) }
+        ensures distinct { AreDistinct (names_of exports.now) }
+    {
+        for at in 0..exports.len() {
+            let (name, item) = exports.entry(at);
+            self.export(alloc, name, item)?;
+        }
         Ok(())
     }
 }
@@ -162,16 +224,14 @@ impl ModuleScope {
 pub(crate) fn module_declarations(
     alloc: Global,
     module: &ModuleType,
-) -> Result<Vec<CoreDeclaration>, WriteError> {
+) -> Result<Vec<CoreDeclaration>, WriteError>
+    ensures { IfOk result (λ v. module_tree (module_view v.items) ≡ Some (tree_of_module «module».now)) }
+{
     let mut scope = ModuleScope {
         declarations: Vec::new(alloc),
         signatures: 0,
     };
-    for (names, item) in module.imports.names().iter().zip(module.imports.values()) {
-        scope.import(alloc, names, item)?;
-    }
-    for (name, item) in module.exports.names().iter().zip(module.exports.values()) {
-        scope.export(alloc, name.as_str(), item)?;
-    }
+    scope.import_all(alloc, &module.imports)?;
+    scope.export_all(alloc, &module.exports)?;
     Ok(scope.declarations)
 }
