@@ -5,7 +5,7 @@ use Rattle.std.specs.declared.cmp.Ordering.{Ordering}
 use Rattle.std.proofs.lemmas.Slice.Eq.{bytes_eq-Decides}
 use Rattle.std.proofs.lemmas.Bool.Decides.{Decides-eqb}
 use Rattle.std.proofs.lemmas.List.{map-append}
-use Rattle.std.proofs.Common.{◌≡◌, ℕ, List, [], ◌∷◌, ◌++◌, map, length, Bool, true, false, true≢false, Option, Some, None, ◌⊎◌, inl, inr, refl, sym, ap, subst, ◌∙◌}
+use Rattle.std.proofs.Common.{◌≡◌, ℕ, List, [], ◌∷◌, ◌++◌, map, Bool, true, false, true≢false, Option, Some, None, ◌⊎◌, inl, inr, refl, sym, ap, subst, ◌∙◌}
 use Rattle.semver.specs.Parse.{Parts}
 use Rattle.wac_types_base.specs.Entries.{Name}
 use Rattle.wac_types_base.specs.Graph.{Among}
@@ -20,8 +20,8 @@ use Rattle.wac_composition.specs.Merging.{Asked, kept}
 use Rattle.wac_composition.specs.OuterImports.{asked_in}
 use Rattle.wac_composition.specs.Again.{IsWell, KeepsClasses, Asked_again}
 use Rattle.wac_composition.proofs.Again.{asking_twice}
-use Rattle.wac_composition.proofs.Closures.{any_among, among_any, filter_among, among_filter, filter_same, closed, reached}
-use Rattle.wac_composition.proofs.OuterClasses.{itself as joined_itself, turned, class_is, within, class_itself}
+use Rattle.wac_composition.proofs.Closures.{any_among, among_any, filter_among, among_filter, filter_same, closed}
+use Rattle.wac_composition.proofs.OuterClasses.{itself as joined_itself, turned, class_is, class_itself}
 use Rattle.wac_composition.proofs.ClassLaws.{in_class_linked, linked_in_class}
 
 -- ---- later names

@@ -1,20 +1,20 @@
 -- In a sound composition that nothing stands against each import is bound to what fits it, and the world that is handed out is true.
-use Rattle.std.specs.Prelude.{◌==◌, ◌<◌, drop, option_map, unwrap_or, is_some, not, cond, filter, slice_get, IsSome, if◌then◌else◌, ⊤}
+use Rattle.std.specs.Prelude.{◌==◌, ◌<◌, drop, option_map, unwrap_or, is_some, not, cond, filter, slice_get, IsSome, if◌then◌else◌}
 use Rattle.std.specs.List.{flat_map}
 use Rattle.std.specs.Cmp.Lexicographic.{pointwise, bytes_decides}
-use Rattle.std.proofs.Common.{◌≡◌, ℕ, zero, suc, ◌+◌, List, [], ◌∷◌, ◌++◌, map, length, Bool, true, false, true≢false, Option, Some, None, ◌⊎◌, inl, inr, refl, sym, ap, subst, ◌∙◌, arith}
+use Rattle.std.proofs.Common.{◌≡◌, ℕ, zero, suc, ◌+◌, List, [], ◌∷◌, ◌++◌, map, length, Bool, true, false, true≢false, Option, Some, None, inl, inr, refl, sym, ap, subst, ◌∙◌, arith}
 use Rattle.wac_types_base.specs.Entries.{Name, value_at}
-use Rattle.wac_types_base.specs.Graph.{Among, node}
-use Rattle.wac_types_base.specs.Collection.{Shape, world}
+use Rattle.wac_types_base.specs.Graph.{Among}
+use Rattle.wac_types_base.specs.Collection.{world}
 use Rattle.wac_types_base.specs.Stated.{Stated, row, folded_row, names, filled, parts_at, only_places, with_names, first_parts, Kind, kind_of, imports_of, exports_of, uses_of, instance_type, world_of}
 use Rattle.wac_types_base.specs.Tree.{Tree, Fields, tree}
 use Rattle.wac_types_base.specs.Fits.{HasField, Fits, FieldsFit, instance_fits}
 use Rattle.wac_types_fit.proofs.TreeLaws.{Fits-refl, Fits-trans}
 use Rattle.wac_types_fit.proofs.Looking.{given, looked-has, has-looked}
 use Rattle.wac_types_names.specs.Keys.{Key}
-use Rattle.wac_graph_bytes.specs.Wirings.{Tag, Source, Absent, Outer, Inst, Projection, Bundle, Definition, project, Uses, Instantiation, IsOrdered}
-use Rattle.wac_nesting.specs.Given.{World, HasNone, HasTree, IsDefinition, Gives, Provides, States, AreOuters, IsBoundInstance, IsTrueWorld}
-use Rattle.wac_nesting.proofs.Given.{project_tree, gives_more}
+use Rattle.wac_graph_bytes.specs.Wirings.{Tag, Source, Absent, Outer, Inst, Projection, Bundle, Definition, project, Uses, Instantiation}
+use Rattle.wac_nesting.specs.Given.{HasNone, HasTree, IsDefinition, Gives, Provides, States, AreOuters, IsBoundInstance}
+use Rattle.wac_nesting.proofs.Given.{project_tree}
 use Rattle.wac_composition.specs.Composition.{Origin, imported, projected, defined, Placed, Made, Composition}
 use Rattle.wac_composition.specs.Asks.{ToFill, Ask, explicit_ask, filled_asks, named_asks, asks_of}
 use Rattle.wac_composition.specs.Classes.{is_instance, spelling}
@@ -23,7 +23,7 @@ use Rattle.wac_composition.specs.Conflicts.{first_cause}
 use Rattle.wac_composition.specs.Written.{is_type, found_in, without_at, written_definition}
 use Rattle.wac_composition.specs.Worlds.{then_in, final_type, source_of, exported_type, world_exports, used_world, composed_world}
 use Rattle.wac_composition.specs.Wired.{source_for, argument_source, instantiation, export_source, composed_wiring}
-use Rattle.wac_composition.specs.Sound.{fields_of, maps_of, IsStraight, an_instance, no_instance, HasType, of_import, of_instance, of_export, of_definition, given_as, IsBefore, IsGiven, IsSound, IsMade, IsWired}
+use Rattle.wac_composition.specs.Sound.{fields_of, maps_of, IsStraight, an_instance, no_instance, HasType, of_import, of_instance, of_export, of_definition, given_as, IsBefore, IsSound, IsMade, IsWired}
 use Rattle.wac_composition.proofs.KeptFits.{fields_ordered, fields_looked, instance_tree, made_tree}
 use Rattle.wac_composition.proofs.Clashing.{value_among}
 use Rattle.wac_composition.proofs.Merged.{all_met}

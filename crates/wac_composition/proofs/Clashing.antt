@@ -6,12 +6,11 @@ use Rattle.wac_types_base.specs.Entries.{Name, AreDistinct, names_of, value_at}
 use Rattle.wac_types_base.specs.Graph.{Wholes, node, no_more, more, hole, Among}
 use Rattle.wac_types_base.specs.Collection.{Shape, primitive, tuple, list, fixed_size_list, option, result, variant, record_of, flags, enum, alias, stream, future, resource, resource_alias, func, interface, world, module_type, type_of, borrow_of, own_of}
 use Rattle.wac_types_base.specs.Stated.{Stated, row, folded_row, places_in, with_names, names, filled, names_used, used_places, interface_of, shape_kind, kind_of, Used, uses_of, Parts, parts_at, only_places, first_parts, exports_of, as_type}
-use Rattle.wac_types_base.specs.Tree.{Tree, rigid, instance, component, core_module, handle_own, handle_borrow, type_item, Fields, tree, trees}
-use Rattle.wac_types_base.specs.Fits.{HasField, Fits, rigid_fits, own_fits, borrow_fits, instance_fits, component_fits, module_fits, type_fits, FieldsFit}
-use Rattle.wac_types_fit.specs.Ordered.{InOrder, AllInOrder}
-use Rattle.wac_types_fit.specs.Meets.{FitsAll, IsMeet, Clash}
+use Rattle.wac_types_base.specs.Tree.{Tree, rigid, instance, component, core_module, handle_own, handle_borrow, type_item, Fields, tree}
+use Rattle.wac_types_base.specs.Fits.{Fits, rigid_fits, own_fits, borrow_fits, instance_fits, type_fits, FieldsFit}
+use Rattle.wac_types_fit.specs.Ordered.{AllInOrder}
+use Rattle.wac_types_fit.specs.Meets.{FitsAll, Clash}
 use Rattle.wac_types_fit.proofs.Looking.{looked-has, has-looked, in_order-at, given}
-use Rattle.wac_types_fit.proofs.Ordering.{tree_in_order}
 use Rattle.wac_types_fit.proofs.Meeting.{FitsAll-left, FitsAll-right}
 use Rattle.wac_composition.specs.Classes.{is_instance}
 use Rattle.wac_composition.specs.Tests.{fits}

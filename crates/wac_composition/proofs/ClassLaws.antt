@@ -1,5 +1,5 @@
 -- The class of an ask is what is linked to it.
-use Rattle.std.proofs.Common.{◌≡◌, ℕ, List, [], ◌∷◌, length, Bool, true, refl, sym, subst}
+use Rattle.std.proofs.Common.{List, length, sym, subst}
 use Rattle.wac_types_base.specs.Graph.{Among}
 use Rattle.wac_composition.specs.Asks.{Ask}
 use Rattle.wac_composition.specs.Classes.{joined, class, Linked, itself, joined_to}

@@ -1,20 +1,20 @@
 -- What several asks of one outer import keep is the greatest tree that fits each of them.
 use Rattle.std.specs.Prelude.{◌==◌, drop, option_map, is_none, not, cond, filter, if◌then◌else◌, ◌&&◌, ⊤}
 use Rattle.std.specs.Cmp.Lexicographic.{pointwise, bytes_decides}
-use Rattle.std.proofs.Common.{◌≡◌, ℕ, zero, suc, List, [], ◌∷◌, ◌++◌, append_assoc, map, length, Bool, true, false, true≢false, Option, Some, None, ◌⊎◌, inl, inr, refl, sym, ap, subst, ◌∙◌}
+use Rattle.std.proofs.Common.{◌≡◌, List, [], ◌∷◌, ◌++◌, append_assoc, map, length, Bool, true, false, true≢false, Option, Some, None, inl, inr, refl, sym, ap, subst, ◌∙◌}
 use Rattle.wac_types_base.specs.Entries.{Name, value_at}
-use Rattle.wac_types_base.specs.Graph.{Whole, Wholes, node, no_more, more, hole, Among}
+use Rattle.wac_types_base.specs.Graph.{Wholes, node, no_more, more, hole, Among}
 use Rattle.wac_types_base.specs.Collection.{Shape, primitive, tuple, list, fixed_size_list, option, result, variant, record_of, flags, enum, alias, stream, future, resource, resource_alias, func, interface, world, module_type, type_of, own_of, borrow_of}
-use Rattle.wac_types_base.specs.Stated.{Stated, row, folded, folded_row, places_in, with_names, names, filled, Used, names_used, used_places, over, interface_of, Kind, IsInstance, shape_kind, kind_of, Parts, parts_at, only_places, parts_of, first_parts, exports_of, uses_of, as_type}
-use Rattle.wac_types_base.specs.Tree.{Tree, instance, type_item, Row, end, place, gap, Fields, no_fields, put, fields, past, tree, trees}
-use Rattle.wac_types_base.specs.Fits.{HasField, Fits, FieldsFit, instance_fits, type_fits}
+use Rattle.wac_types_base.specs.Stated.{Stated, row, folded_row, places_in, with_names, names, filled, Used, names_used, used_places, interface_of, shape_kind, kind_of, Parts, parts_at, only_places, first_parts, exports_of, uses_of, as_type}
+use Rattle.wac_types_base.specs.Tree.{Tree, instance, type_item, end, no_fields, put, fields, past, tree, trees}
+use Rattle.wac_types_base.specs.Fits.{HasField, Fits, FieldsFit, type_fits}
 use Rattle.wac_types_fit.specs.Ordered.{InOrder, AllInOrder}
 use Rattle.wac_types_fit.specs.Meets.{FitsAll, IsMeet}
 use Rattle.wac_types_fit.proofs.Meeting.{Joins, FieldsMeet, fields_meet, meet_one, meet_narrower, meet_more}
 use Rattle.wac_types_fit.specs.Lookups.{lookup}
 use Rattle.wac_types_fit.proofs.Looking.{looked-has, has-looked, all_given, looked-put, looked-other}
 use Rattle.wac_types_fit.proofs.Ordering.{tree_in_order, AllInOrder-put}
-use Rattle.wac_types_fit.proofs.TreeLaws.{Fits-refl, Fits-trans}
+use Rattle.wac_types_fit.proofs.TreeLaws.{Fits-refl}
 use Rattle.wac_composition.specs.Names.{has_track}
 use Rattle.wac_composition.specs.Classes.{is_instance, spelled}
 use Rattle.wac_composition.specs.Tests.{fits}

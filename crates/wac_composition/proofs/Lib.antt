@@ -15,3 +15,6 @@ pub mod Straight
 pub mod Bound
 pub mod Again
 pub mod AskedAgain
+pub mod NotWritten
+pub mod NotFound
+pub mod Against

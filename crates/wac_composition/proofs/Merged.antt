@@ -2,7 +2,7 @@
 use Rattle.std.specs.Prelude.{cond, filter, is_some, option_map, bytes_eq, if◌then◌else◌, ◌||◌}
 use Rattle.std.specs.List.{list_any}
 use Rattle.std.proofs.lemmas.Slice.Eq.{bytes_eq-Decides}
-use Rattle.std.proofs.Common.{◌≡◌, ℕ, List, [], ◌∷◌, ◌++◌, append_assoc, Bool, true, false, true≢false, Option, Some, None, ◌⊎◌, inl, inr, refl, sym, ap, subst, ◌∙◌}
+use Rattle.std.proofs.Common.{◌≡◌, List, [], ◌∷◌, ◌++◌, append_assoc, Bool, true, false, true≢false, Option, Some, None, inl, inr, refl, sym, ap, subst, ◌∙◌}
 use Rattle.wac_types_base.specs.Entries.{Name, value_at}
 use Rattle.wac_types_base.specs.Graph.{Among}
 use Rattle.wac_types_base.specs.Stated.{Stated}
@@ -13,8 +13,8 @@ use Rattle.wac_composition.specs.Asks.{Asking, ByName, ToFill, ToUse, Ask, asks_
 use Rattle.wac_composition.specs.Classes.{joined, class, spelled, spelling}
 use Rattle.wac_composition.specs.Merging.{kept, identified}
 use Rattle.wac_composition.specs.OuterImports.{asked_in, outer_of, outer_imports}
-use Rattle.wac_composition.specs.Conflicts.{Cause, or_else, implicit_conflict, merge_cause, merge_fails, those_in, merge_conflict, unwritable_cause, first_cause}
-use Rattle.wac_composition.proofs.Closures.{any_among, among_any, filter_among, among_filter, filter_same, closed, reached_next}
+use Rattle.wac_composition.specs.Conflicts.{or_else, implicit_conflict, merge_cause, merge_fails, those_in, merge_conflict, first_cause}
+use Rattle.wac_composition.proofs.Closures.{any_among, among_any, among_filter, filter_same, closed}
 use Rattle.wac_composition.proofs.OuterClasses.{joined_by_name, itself, turned, class_is, class_same, within, class_itself, class_by_name, asks_are_met}
 
 some_is : {A : Type 0} {x y : A} → Some x ≡ Some y → x ≡ y

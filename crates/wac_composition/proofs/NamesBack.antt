@@ -1,17 +1,15 @@
 -- The tests of names say yes of each two names that are compatible, and of each that is later.
 use Rattle.std.proofs.Common.{◌≡◌, ℕ, suc, ◌+◌, take, arith, ◌<◌, ◌^◌, Bool, true, false, true≢false, List, [], ◌∷◌, ◌++◌, length, Option, Some, None, refl, sym, ap, subst, ◌∙◌, inl, inr}
-use Rattle.std.specs.Prelude.{◌&&◌, ◌||◌, ◌==◌, ◌⊎◌, bytes_eq, nat_lt, if◌then◌else◌}
+use Rattle.std.specs.Prelude.{◌&&◌, ◌||◌, ◌==◌, bytes_eq, nat_lt, if◌then◌else◌}
 use Rattle.std.specs.List.{position_or_len, before_first, after_first, list_any}
 use Rattle.std.specs.Fmt.{decimal}
-use Rattle.std.specs.declared.cmp.Ordering.{Ordering}
 use Rattle.std.proofs.lemmas.Fmt.{decimal_injective}
 use Rattle.std.proofs.lemmas.Slice.Eq.{bytes_eq-Decides}
 use Rattle.std.proofs.lemmas.Bool.Decides.{Decides-eqb}
 use Rattle.semver.specs.Parse.{Parts}
 use Rattle.semver.specs.Grammar.{IsValid}
 use Rattle.wac_types_base.specs.Entries.{Name}
-use Rattle.wac_types_names.specs.Tracks.{is_at, read_version, before_at, version_of, track_text, key_with, key_from, lookup_key, IsOnTrack, ShareTrack, AreCompatible, IsLater}
-use Rattle.wac_types_names.specs.Versions.{version_cmp}
+use Rattle.wac_types_names.specs.Tracks.{is_at, read_version, before_at, version_of, track_text, key_with, key_from, lookup_key, IsOnTrack, AreCompatible, IsLater}
 use Rattle.wac_types_names.proofs.Places.{NoByte}
 use Rattle.wac_types_names.proofs.TrackTexts.{read-text, decimal_no_dot}
 use Rattle.wac_composition.specs.Names.{track_number, numbers_agree, tracks_agree, same_track, compatible, is_greater, later_version, is_later}

@@ -1,5 +1,5 @@
 -- A composition keeps its meaning under other names of askers and instances.
-use Rattle.std.specs.Prelude.{cond, not, filter, filter_map, find, option_map, unwrap_or, is_some, bytes_eq, if◌then◌else◌, ◌||◌, ◌==◌}
+use Rattle.std.specs.Prelude.{cond, not, filter, find, option_map, unwrap_or, is_some, bytes_eq, if◌then◌else◌, ◌||◌, ◌==◌}
 use Rattle.std.specs.List.{list_any, flat_map, cons_option}
 use Rattle.std.specs.Cmp.Lexicographic.{pointwise}
 use Rattle.std.proofs.lemmas.List.{map-append}
@@ -14,10 +14,10 @@ use Rattle.wac_composition.specs.Names.{greatest}
 use Rattle.wac_composition.specs.Classes.{joined, near, within_steps, class, spelled, spelling}
 use Rattle.wac_composition.specs.Merging.{kept, identified}
 use Rattle.wac_composition.specs.OuterImports.{with_new, asked_in, outer_of, outers_from, outer_imports}
-use Rattle.wac_composition.specs.Conflicts.{Cause, ImplicitImport, ExplicitImport, ImportTypes, Unwritable, ImportNames, ExportNames, or_else, first_found, dependency_name, same_key, each_once, dependencies_of, implicit_with, implicit_by, implicit_conflict, merge_cause, merge_fails, those_in, merge_conflict, cause_at, placed, unwritable_cause, first_cause, twins, alike, import_names, name_cause}
+use Rattle.wac_composition.specs.Conflicts.{Cause, Unwritable, ImportNames, ExportNames, or_else, first_found, dependency_name, same_key, each_once, dependencies_of, implicit_with, implicit_by, implicit_conflict, merge_cause, merge_fails, those_in, merge_conflict, cause_at, placed, unwritable_cause, first_cause, twins, alike, import_names, name_cause}
 use Rattle.wac_composition.specs.Writable.{outer_unwritable, definition_unwritable, package_unwritable, alias_unwritable}
 use Rattle.wac_composition.specs.Written.{without_uses}
-use Rattle.wac_composition.specs.Worlds.{then_in, final_type, source_of, exported_type, world_exports, composed_world}
+use Rattle.wac_composition.specs.Worlds.{then_in, final_type, source_of, world_exports, composed_world}
 use Rattle.wac_composition.specs.Renaming.{origin_renamed, placed_renamed, ask_renamed, cause_renamed, made_renamed, renamed, KeepsMeaning}
 
 -- ---- lists

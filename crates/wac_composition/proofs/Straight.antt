@@ -1,6 +1,6 @@
 -- What asks keep has the tree of an instance only where it is one.
-use Rattle.std.specs.Prelude.{◌==◌, drop, option_map, is_none, not, filter, if◌then◌else◌, ◌&&◌}
-use Rattle.std.proofs.Common.{◌≡◌, List, [], ◌∷◌, ◌++◌, append_assoc, map, length, Bool, true, false, true≢false, Option, Some, None, ◌⊎◌, inl, inr, refl, sym, ap, subst, ◌∙◌}
+use Rattle.std.specs.Prelude.{drop, is_none, not, filter, if◌then◌else◌, ◌&&◌}
+use Rattle.std.proofs.Common.{◌≡◌, List, [], ◌∷◌, ◌++◌, map, length, Bool, true, false, true≢false, Option, Some, None, inl, inr, refl, sym, ap, subst, ◌∙◌}
 use Rattle.wac_types_base.specs.Entries.{Name, value_at}
 use Rattle.wac_types_base.specs.Graph.{Wholes, node, no_more, more, hole, Among}
 use Rattle.wac_types_base.specs.Collection.{Shape, primitive, tuple, list, fixed_size_list, option, result, variant, record_of, flags, enum, alias, stream, future, resource, resource_alias, func, interface, world, module_type, type_of, borrow_of, own_of}
@@ -11,7 +11,7 @@ use Rattle.wac_composition.specs.Names.{has_track}
 use Rattle.wac_composition.specs.Asks.{Ask}
 use Rattle.wac_composition.specs.Classes.{is_instance, class, spelled}
 use Rattle.wac_composition.specs.Tests.{fits}
-use Rattle.wac_composition.specs.Merging.{Merge, both, merged_with, merged_exports, has_use, merged_interface, merge_at, merge, Asked, narrower, in_family, kept_from, kept, identified_by, identified}
+use Rattle.wac_composition.specs.Merging.{Merge, merged_with, merged_exports, has_use, merged_interface, merge_at, merge, Asked, narrower, in_family, kept_from, kept, identified_by, identified}
 use Rattle.wac_composition.specs.OuterImports.{asked_in, outer_of, outer_imports}
 use Rattle.wac_composition.specs.Sound.{IsStraight, an_instance, no_instance}
 use Rattle.wac_composition.proofs.KeptFits.{instance_tree, both_is, if_is, mapped_is, merge_fits, no_more_kept}

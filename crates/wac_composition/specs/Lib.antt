@@ -9,7 +9,9 @@ pub mod OuterImports
 pub mod Again
 pub mod Written
 pub mod Writable
+pub mod NotWritten
 pub mod Conflicts
+pub mod Against
 pub mod Worlds
 pub mod Wired
 pub mod Sound

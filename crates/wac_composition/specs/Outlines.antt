@@ -1,8 +1,7 @@
 -- What the world of an output keeps beside its tree, at each interface and world in it: the identifier, the names in order, and
 -- what is used under which name.
-use Rattle.std.specs.Prelude.{◌≡◌, Bool, true, false, ◌&&◌, List, [], ◌∷◌, map, Option, bytes_eq}
+use Rattle.std.specs.Prelude.{◌≡◌, Bool, true, false, ◌&&◌, List, [], ◌∷◌, map, bytes_eq}
 use Rattle.wac_types_base.specs.Entries.{Name}
-use Rattle.wac_types_base.specs.Collection.{Shape}
 use Rattle.wac_types_base.specs.Stated.{Stated, folded, Used, Parts, parts_at, untyped_shape, exports_of, imports_of, uses_of, identifier_of}
 use Rattle.wac_composition.specs.Names.{compatible}
 use Rattle.wac_composition.specs.Tests.{lists_agree, options_agree}

@@ -1,5 +1,5 @@
 -- The same composition, whose askers and instances have other names: a document's and its graph's are so related.
-use Rattle.std.specs.Prelude.{◌≡◌, Bool, List, map, option_map, Option}
+use Rattle.std.specs.Prelude.{◌≡◌, Bool, map, option_map}
 use Rattle.wac_types_base.specs.Entries.{Name}
 use Rattle.wac_graph_bytes.specs.Wirings.{rename}
 use Rattle.wac_composition.specs.Composition.{Origin, imported, instance, projected, defined, Placed, Made, Composition}

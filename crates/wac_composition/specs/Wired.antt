@@ -1,7 +1,7 @@
 -- The wiring that a composition is, where each package has its tag.
 use Rattle.std.specs.Prelude.{ℕ, Option, Some, None, is_some, map, option_map, slice_get, if◌then◌else◌}
 use Rattle.wac_types_base.specs.Entries.{Name, value_at}
-use Rattle.wac_types_base.specs.Stated.{Stated, imports_of}
+use Rattle.wac_types_base.specs.Stated.{imports_of}
 use Rattle.wac_types_base.specs.Tree.{tree}
 use Rattle.wac_types_names.specs.Keys.{Key}
 use Rattle.wac_graph_bytes.specs.Wirings.{Tag, Source, Absent, Outer, Instantiation, Wiring}

@@ -1,5 +1,5 @@
 -- Which types cannot be written.
-use Rattle.std.specs.Prelude.{Bool, true, false, not, ◌&&◌, ◌||◌, List, [], ◌∷◌, ◌++◌, map, Option, Some, None, is_some, is_none, option_map, filter, filter_map, bytes_eq, unwrap_or}
+use Rattle.std.specs.Prelude.{Bool, true, false, not, ◌&&◌, ◌||◌, List, [], ◌∷◌, ◌++◌, map, Option, Some, None, is_none, option_map, filter, filter_map, bytes_eq, unwrap_or}
 use Rattle.std.specs.List.{flat_map, list_all, list_any}
 use Rattle.wac_types_base.specs.declared.core_types.HeapType.{HeapType}
 use Rattle.wac_types_base.specs.declared.core_types.CoreRefType.{CoreRefType}
@@ -48,9 +48,15 @@ pub record Holder : Type 0 where
   pub used : List (Name × Stated)
   pub roots : List Name
 
--- the item that a use takes
+-- the name there of what a use takes, the item that an interface has under it, and that with the use's name
+abbrev pub there_of : Used → Name
+there_of u = unwrap_or u.there u.name
+
+abbrev pub item_in : Stated → Used → Option Stated
+item_in i u = value_at (exports_of i) (there_of u)
+
 abbrev pub taken : Used → Option (Name × Stated)
-taken u = option_map (λ x. (u.name, x)) (value_at (exports_of u.interface) (unwrap_or u.there u.name))
+taken u = option_map (λ x. (u.name, x)) (item_in u.interface u)
 
 abbrev pub is_resource : Kind → Bool
 is_resource IsResource = true
@@ -86,31 +92,27 @@ is_value_type k = false
 abbrev pub is_used_value : Holder → Stated → Bool
 is_used_value h v = list_any (λ e. is_value_type (kind_of e.1) && same_tree (tree (untyped e.1)) (tree v)) h.used
 
--- ---- values: a resource, not inside a used type, whose root name the holder does not have
+-- ---- values: a handle, not inside a used type, of a resource whose root name the holder does not have
 
--- whether it fails, and its root name
-abbrev pub Below : Type 0
-Below = Bool × Name
+-- what stands over places with these types
+abbrev pub stated_at : {A : Type 0} → Shape → List (Option (Stated × A)) → Stated
+stated_at s os = over s (map (option_map (λ x. x.0)) os)
 
 module _ (h : Holder) where
-  abbrev pub place_fails : List (Option (Stated × Below)) → Bool
+  abbrev pub place_fails : List (Option (Stated × Bool)) → Bool
   place_fails [] = false
   place_fails (None ∷ os) = place_fails os
-  place_fails (Some x ∷ os) = (not (is_used_value h x.0) && x.1.0) || place_fails os
+  place_fails (Some x ∷ os) = (not (is_used_value h x.0) && x.1) || place_fails os
 
-  abbrev pub source_root : Name → List (Option (Stated × Below)) → Name
-  source_root n (Some x ∷ os) = x.1.1
-  source_root n os = n
-
-  abbrev pub value_at_label : Shape → List (Option (Stated × Below)) → Below
-  value_at_label (resource n) os = (false, n)
-  value_at_label (resource_alias n) os = (false, source_root n os)
-  value_at_label (own_of s) os = (not (has_name h.roots (value_at_label s os).1), [])
-  value_at_label (borrow_of s) os = (not (has_name h.roots (value_at_label s os).1), [])
-  value_at_label s os = (place_fails os, [])
+  abbrev pub value_at_label : Shape → List (Option (Stated × Bool)) → Bool
+  value_at_label (resource n) os = false
+  value_at_label (resource_alias n) os = false
+  value_at_label (own_of s) os = not (has_name h.roots (root_name (stated_at (own_of s) os)))
+  value_at_label (borrow_of s) os = not (has_name h.roots (root_name (stated_at (borrow_of s) os)))
+  value_at_label s os = place_fails os
 
   abbrev pub value_fails : Stated → Bool
-  value_fails v = not (is_used_value h v) && (folded value_at_label v).0
+  value_fails v = not (is_used_value h v) && folded value_at_label v
 
 -- ---- items
 
@@ -118,11 +120,10 @@ module _ (h : Holder) where
 abbrev pub Test : Type 0
 Test = Name → Holder → Bool → Bool
 
--- a use: the identifier of its interface, the name there, what stands there, the test of the interface's types alone
+-- a use, the identifier of its interface, and the test of that interface's types alone
 pub record Needed : Type 0 where
   pub name : Name
-  pub there : Name
-  pub item : Option Stated
+  pub by : Used
   pub types : Bool → Bool
 
 -- what is found of each place: its test; the test of its type exports alone; the uses below it
@@ -156,8 +157,7 @@ type_items es = filter (λ e. is_type (kind_of e.1.0)) es
 
 abbrev pub needed_from : Used × Found → Option Name → List Needed
 needed_from u None = []
-needed_from u (Some n) =
-    record { name = n; there = unwrap_or u.0.there u.0.name; item = value_at (exports_of u.0.interface) (unwrap_or u.0.there u.0.name); types = u.1.types } ∷ []
+needed_from u (Some n) = record { name = n; by = u.0; types = u.1.types } ∷ []
 
 abbrev pub below_use : Used × Found → List Needed
 below_use u = u.1.uses ++ needed_from u (identifier_of u.0.interface)
@@ -175,13 +175,13 @@ stands_as None o = true
 stands_as (Some x) None = false
 stands_as (Some x) (Some y) = not (is_resource (kind_of x)) || same_tree (tree x) (tree y)
 
-abbrev pub is_given_by : Option (Stated × Found) → Needed → Bool
+abbrev pub is_given_by : Option (Stated × Found) → Used → Bool
 is_given_by None u = false
-is_given_by (Some x) u = stands_as u.item (value_at (exports_of x.0) u.there)
+is_given_by (Some x) u = stands_as (item_in u.interface u) (item_in x.0 u)
 
 -- a use that the imports do not give: in an outer import it fails; in a definition the interface is added, unless the name is there
 abbrev pub use_fails : Parts Found → Bool → Needed → Bool
-use_fails p outer u = not (is_given_by (value_at p.imports u.name) u) && (outer || u.types outer)
+use_fails p outer u = not (is_given_by (value_at p.imports u.name) u.by) && (outer || u.types outer)
 
 abbrev pub with_roots : Holder → List Name → Holder
 with_roots h ns = record { used = h.used; roots = h.roots ++ ns }
@@ -210,13 +210,6 @@ found_interface p = record {
   uses = flat_map below_use p.uses ++ below_items p.exports;
 }
 
-abbrev pub alias_fails : List (Option (Stated × Found)) → Holder → Bool
-alias_fails (Some x ∷ os) h = not (has_name h.roots (root_name x.0))
-alias_fails os h = false
-
-abbrev pub stated_at : Shape → List (Option (Stated × Found)) → Stated
-stated_at s os = over s (map (λ o. option_map (λ x. x.0) o) os)
-
 abbrev pub found_at : Shape → List (Option (Stated × Found)) → Found
 found_at (func ps a) os = simple (λ n h outer. any_value h os)
 found_at (type_of (func ps a)) os = simple (λ n h outer. any_value h os)
@@ -228,8 +221,8 @@ found_at (module_type m) os = simple (λ n h outer. not (writable_module m))
 -- a module type as a type item
 found_at (type_of (module_type m)) os = simple (λ n h outer. true)
 -- a resource under another name, that no use gives
-found_at (resource r) os = simple (λ n h outer. not (bytes_eq n r) && not (is_given h n (over (resource r) [])))
-found_at (resource_alias r) os = simple (λ n h outer. alias_fails os h)
+found_at (resource r) os = simple (λ n h outer. not (bytes_eq n r) && not (is_given h n (stated_at (resource r) os)))
+found_at (resource_alias r) os = simple (λ n h outer. not (has_name h.roots (root_name (stated_at (resource_alias r) os))))
 found_at (type_of s) os = simple (λ n h outer. value_fails h (stated_at s os))
 -- a value item
 found_at s os = simple (λ n h outer. true)
@@ -244,13 +237,16 @@ abbrev pub outer_unwritable : List (Name × Stated) → Name × Stated → Bool
 outer_unwritable outers e = unwritable e.1 e.0 (holder [] outers) true
 
 -- an interface with identifier is written inside a component type
-abbrev pub definition_fails : Kind → Option Name → List (Name × Stated) → Name → Stated → Bool
-definition_fails IsInterface (Some i) outers n x = unwritable (world_of None [] [] ((i, untyped x) ∷ [])) n (holder [] outers) false
-definition_fails k i outers n x = unwritable x n (holder [] outers) false
+abbrev pub in_component : Kind → Option Name → Stated → Stated
+in_component IsInterface (Some i) x = world_of None [] [] ((i, untyped x) ∷ [])
+in_component k i x = x
+
+abbrev pub as_defined : Stated → Stated
+as_defined x = in_component (kind_of x) (identifier_of x) x
 
 -- a definition, beside the outer imports
 abbrev pub definition_unwritable : List (Name × Stated) → Name × Stated → Bool
-definition_unwritable outers d = definition_fails (kind_of d.1) (identifier_of d.1) outers d.0 d.1
+definition_unwritable outers d = unwritable (as_defined d.1) d.0 (holder [] outers) false
 
 -- an imported package's world, under the dependency's name
 abbrev pub package_unwritable : Name × Stated → Bool

@@ -21,11 +21,13 @@ ghost use Rattle.wac_composition.specs.OuterImports.{outer_imports};
 ghost use Rattle.wac_composition.specs.OuterLaws.{Classes_are_linked, Links_turn, Links_go_on, Kept_is_meet, None_are_kept, Outer_fits, Asks_are_met, Accepted_are_met, Outers_are_apart};
 ghost use Rattle.wac_composition.specs.Conflicts.{ImplicitImport, ExplicitImport, ImportTypes, Unwritable, ImportNames, first_cause, name_cause, dependencies_of};
 ghost use Rattle.wac_composition.specs.Composition.{Composition};
+ghost use Rattle.wac_composition.specs.Against.{FirstStands};
 ghost use Rattle.wac_composition.specs.Again.{Asked_again, Asking_twice};
 ghost use Rattle.wac_composition.specs.Renaming.{KeepsMeaning};
 ghost use Rattle.wac_composition.specs.Sound.{IsSound, IsWired};
 ghost use Rattle.wac_composition.specs.Worlds.{composed_world, used_world, source_of};
 ghost use Rattle.wac_composition.specs.Written.{without_uses};
+ghost use Rattle.wac_composition.specs.NotWritten.{Test_of_writing};
 ghost use Rattle.wac_composition.specs.Examples.{plain_func, named_instance, passing, older, newer, wider, using_types, types, one_instance, two_versions, clashing_versions, clashing_imports, one_identifier, used_interface, asked_twice, alike_names, nameless_resource, asked_value, twice_made, byte_list, defined_twice, lacks_used, given_another, given_renamed, holding};
 ghost use Rattle.wac_composition.specs.Outlines.{agrees};
 ghost use Rattle.wac_graph_bytes.specs.Wirings.{Tag, Definition};
@@ -42,6 +44,11 @@ pub fn tests_of_fitting()
     ensures ordered { (a : Stated) → InOrder (tree a) }
     ensures fitting { (a b : Stated) → Decides (fits a b) (Fits (tree a) (tree b)) }
     ensures trees { (t u : Tree) → fit t true u ≡ true → Fits t u }
+{}
+
+/// The test of what cannot be written says yes exactly of what cannot, in an outer import and elsewhere.
+pub fn test_of_writing()
+    ensures { Test_of_writing }
 {}
 
 /// The tests of names say yes exactly of compatible ones, and of a name with a later one, as the maps of
@@ -85,6 +92,11 @@ pub fn asking_twice_changes_nothing<A>()
 pub fn uses_change_no_tree<A, I>()
     ensures types { (x : Stated) → tree (without_uses x) ≡ tree x }
     ensures worlds { (c : Composition A I) → tree (composed_world c) ≡ tree (used_world c) }
+{}
+
+/// The first cause against a composition is one that stands; where there is none, no cause stands.
+pub fn causes_stand<A, I>()
+    ensures { (define : Bool) (c : Composition A I) → FirstStands define c }
 {}
 
 /// Under other names of its askers and instances a composition asks the same, has the same outer imports
