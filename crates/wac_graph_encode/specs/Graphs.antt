@@ -8,6 +8,7 @@ use Rattle.wac_types_names.specs.Packaged.{Packaged}
 use Rattle.wac_types_names.specs.Keys.{package_key}
 use Rattle.wac_graph_core.specs.declared.edge.Edge.{Edge}
 use Rattle.wac_graph_core.specs.declared.edge.Label.{Label}
+use Rattle.wac_graph_core.specs.Walking.{first_source}
 use Rattle.wac_graph_core.specs.Nodes.{NodeData, Role}
 use Rattle.wac_graph_core.specs.Graph.{Graph, node_at, package_if}
 use Rattle.wac_composition.specs.Composition.{Origin, imported, instance, projected, defined, Placed, Made, Composition}
@@ -17,23 +18,6 @@ abbrev pub nodes_of : Graph → List (ℕ × NodeData)
 nodes_of g = finite.entries g.nodes
 
 -- ---- edges
-
-abbrev pub alias_by : Label → Edge → Option (ℕ × Name)
-alias_by (Label.Alias n) e = Some (e.from, n)
-alias_by l e = None
-
-abbrev pub if_to : Bool → Option (ℕ × Name) → Option (ℕ × Name)
-if_to true o = o
-if_to false o = None
-
--- the export of an instance that a node is
-abbrev pub alias_into : List Edge → ℕ → Option (ℕ × Name)
-alias_into [] k = None
-alias_into (e ∷ es) k = first_of (if_to (e.to == k) (alias_by e.label e)) (alias_into es k)
-  where
-    first_of : Option (ℕ × Name) → Option (ℕ × Name) → Option (ℕ × Name)
-    first_of (Some x) o = Some x
-    first_of None o = o
 
 abbrev pub argument_by : Label → Edge → Option (Name × ℕ)
 argument_by (Label.Argument n) e = Some (n, e.from)
@@ -54,6 +38,11 @@ first_export (e ∷ es) k = if e.1 == k then e.0 else first_export es k
 
 -- ---- where a node comes from
 
+-- the export that an alias is; each alias is one of an instance
+abbrev pub export_of : (ℕ → Origin ℕ) → ℕ → Option (ℕ × Name) → Origin ℕ
+export_of from k (Some e) = projected (from e.0) e.1
+export_of from k None = instance k
+
 module _ (g : Graph) where
   abbrev pub item_of : NodeData → Stated
   item_of x = stated_of g.types x.item_kind
@@ -62,11 +51,7 @@ module _ (g : Graph) where
   origin_by from k (Role.Imported n) x = imported n
   origin_by from k Role.Instance x = instance k
   origin_by from k Role.Defined x = defined (item_of x)
-  origin_by from k Role.Aliased x = through (alias_into g.edges k)
-    where
-      through : Option (ℕ × Name) → Origin ℕ
-      through (Some e) = projected (from e.0) e.1
-      through None = instance k
+  origin_by from k Role.Aliased x = export_of from k (first_source g.edges k)
 
   abbrev pub origin_at : (ℕ → Origin ℕ) → ℕ → Option NodeData → Origin ℕ
   origin_at from k None = instance k
@@ -113,6 +98,6 @@ module _ (g : Graph) where
     imports = filter_map (λ e. import_by e.0 e.1 e.1.role) (nodes_of g);
     made = filter_map (λ e. made_with e.0 (package_if g e.1.of)) (nodes_of g);
     definitions = filter_map (λ e. definition_by e.0 e.1 e.1.role) (nodes_of g);
-    aliases = filter_map (λ e. alias_with e.1 (alias_into g.edges e.0)) (nodes_of g);
+    aliases = filter_map (λ e. alias_with e.1 (first_source g.edges e.0)) (nodes_of g);
     exports = map (λ e. (e.0, origin_of e.1, item_at e.1)) g.exports;
   }

@@ -1,3 +1,4 @@
 pub mod Acyclic
 pub mod Graphs
 pub mod Encoding
+pub mod Composed

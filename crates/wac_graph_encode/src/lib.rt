@@ -22,6 +22,6 @@ mod written;
 
 pub use encode::EncodeGraph;
 pub use errors::{EncodeError, ValidationFault};
-pub use laws::first_name_of_a_definition;
+pub use laws::{first_name_of_a_definition, graphs_are_composed};
 pub use options::{EncodeOptions, Encoded};
 pub use wac_graph_bytes::Processor;
