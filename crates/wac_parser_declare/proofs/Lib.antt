@@ -1,5 +1,4 @@
 pub mod Added
-pub mod Outcomes
 pub mod Kept
 pub mod Values
 pub mod TypeViews
@@ -8,4 +7,3 @@ pub mod Members
 pub mod RowWords
 pub mod RefusedRows
 pub mod Standing
-pub mod Keeping

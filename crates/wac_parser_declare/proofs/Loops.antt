@@ -5,12 +5,13 @@ use Rattle.wac_types_base.specs.declared.item.ValueType.{ValueType}
 use Rattle.wac_types_base.specs.Record.{Collection}
 use Rattle.wac_types_base.specs.Stated.{Stated}
 use Rattle.wac_parser_tree.specs.Trees as t
-use Rattle.wac_parser_declare.specs.declared.error.Error.{Error}
-use Rattle.wac_parser_declare.specs.Causes.{Answer, ◌>>=◌, each}
+use Rattle.wac_parser_refusals.specs.declared.refusal.Refusal.{Refusal}
+use Rattle.wac_parser_refusals.specs.Causes.{Answer, ◌>>=◌, each}
 use Rattle.wac_parser_declare.specs.Scope.{Scope}
 use Rattle.wac_parser_declare.specs.ValueTypes.{value, values}
-use Rattle.wac_parser_declare.specs.Holding.{IsHeld, IsRefusal, IsValue}
-use Rattle.wac_parser_declare.proofs.Outcomes.{then_refused}
+use Rattle.wac_parser_refusals.specs.Outcomes.{IsHeld, IsRefusal}
+use Rattle.wac_parser_declare.specs.Holding.{IsValue}
+use Rattle.wac_parser_refusals.proofs.Outcomes.{then_refused}
 
 past_all : {X : Type 0} (xs : List X) (i : ℕ) → length xs ≤ i → drop i xs ≡ []
 past_all [] zero h = refl
@@ -30,7 +31,7 @@ module _ {S A X : Type 0} (f : S → A → Answer S) (view : X → A) (xs : List
       let n = step_by h (λ u. each f u (map view (drop (i + 1) xs))) (f s (view (get_or xs i d))) b x in
       (n.0, n.1, ap (λ (ys : List X). each f s (map view ys)) (drop_more xs i d lt) ∙ n.2)
 
-  pub each_stops : (s : S) (d : X) (e : Error) → i < length xs → IsRefusal (f s (view (get_or xs i d))) e → IsRefusal (each f s (map view (drop i xs))) e
+  pub each_stops : (s : S) (d : X) (e : Refusal) → i < length xs → IsRefusal (f s (view (get_or xs i d))) e → IsRefusal (each f s (map view (drop i xs))) e
   each_stops s d e lt x =
       subst (λ (ys : List X). IsRefusal (each f s (map view ys)) e) (sym (drop_more xs i d lt))
       (then_refused (λ u. each f u (map view (drop (i + 1) xs))) (f s (view (get_or xs i d))) e x)
@@ -46,7 +47,7 @@ module _ {X : Type 0} (ns : Scope) (view : X → t.Ty) (xs : List X) (i : ℕ) w
       let n = step_by (IsValue c) (λ u. values ns (os ++ Some u ∷ []) (t.tys (map view (drop (i + 1) xs)))) (value ns (view (get_or xs i d))) v x in
       (n.0, n.1, ap (λ (ys : List X). values ns os (t.tys (map view ys))) (drop_more xs i d lt) ∙ n.2)
 
-  pub members_stop : (os : List (Option Stated)) (d : X) (e : Error) → i < length xs → IsRefusal (value ns (view (get_or xs i d))) e → IsRefusal (values ns os (t.tys (map view (drop i xs)))) e
+  pub members_stop : (os : List (Option Stated)) (d : X) (e : Refusal) → i < length xs → IsRefusal (value ns (view (get_or xs i d))) e → IsRefusal (values ns os (t.tys (map view (drop i xs)))) e
   members_stop os d e lt x =
       subst (λ (ys : List X). IsRefusal (values ns os (t.tys (map view ys))) e) (sym (drop_more xs i d lt))
       (then_refused (λ u. values ns (os ++ Some u ∷ []) (t.tys (map view (drop (i + 1) xs)))) (value ns (view (get_or xs i d))) e x)
@@ -55,10 +56,10 @@ module _ {X : Type 0} (ns : Scope) (view : X → t.Ty) (xs : List X) (i : ℕ) w
   members_end os h = ap (λ (ys : List X). values ns os (t.tys (map view ys))) (past_all xs i h)
 
   -- the same from a state that says it in another scope and of another item
-  pub members_refused : (os : List (Option Stated)) (ms : Scope) (d : X) (e : Error) → i < length xs → ms ≡ ns → d ≡ get_or xs i d → IsRefusal (value ms (view d)) e → IsRefusal (values ns os (t.tys (map view (drop i xs)))) e
+  pub members_refused : (os : List (Option Stated)) (ms : Scope) (d : X) (e : Refusal) → i < length xs → ms ≡ ns → d ≡ get_or xs i d → IsRefusal (value ms (view d)) e → IsRefusal (values ns os (t.tys (map view (drop i xs)))) e
   members_refused os ms d e lt same is h =
       members_stop os d e lt (subst (λ (y : X). IsRefusal (value ns (view y)) e) is (subst (λ (n : Scope). IsRefusal (value n (view d)) e) same h))
 
-  pub members_refused_whole : (q : Answer (List (Option Stated))) (os : List (Option Stated)) (ms : Scope) (d : X) (e : Error) → q ≡ values ns os (t.tys (map view (drop i xs))) → i < length xs → ms ≡ ns → d ≡ get_or xs i d
+  pub members_refused_whole : (q : Answer (List (Option Stated))) (os : List (Option Stated)) (ms : Scope) (d : X) (e : Refusal) → q ≡ values ns os (t.tys (map view (drop i xs))) → i < length xs → ms ≡ ns → d ≡ get_or xs i d
       → IsRefusal (value ms (view d)) e → IsRefusal q e
   members_refused_whole q os ms d e whole lt same is h = subst (λ (q : Answer (List (Option Stated))). IsRefusal q e) (sym whole) (members_refused os ms d e lt same is h)

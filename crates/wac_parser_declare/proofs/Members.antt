@@ -17,12 +17,13 @@ use Rattle.wac_types_base.proofs.Slots.{stands_typed_func}
 use Rattle.wac_parser_tree.specs.Trees as t
 use Rattle.wac_parser_tree.specs.Trees.{Span}
 use Rattle.wac_parser_tree.specs.Accessors.{ty_span}
-use Rattle.wac_parser_declare.specs.declared.error.Error.{Error}
-use Rattle.wac_parser_declare.specs.Causes.{Answer, Fault, ◌>>=◌, ◌>>◌, unless_clear, BorrowInResult, NotFuncType}
+use Rattle.wac_parser_refusals.specs.declared.refusal.Refusal.{Refusal}
+use Rattle.wac_parser_refusals.specs.Causes.{Answer, Fault, ◌>>=◌, ◌>>◌, unless_clear, BorrowInResult, NotFuncType}
 use Rattle.wac_parser_declare.specs.Scope.{has}
 use Rattle.wac_parser_declare.specs.Declarations.{add_member, member, no_borrow, func_by}
-use Rattle.wac_parser_declare.specs.Holding.{IsHeld, IsRefusal, Refuses, IsValue, IsValueIf, IsFunc, StandsIf, AreEntries, EachStands, ValueStands, AreNamedValues, stated_value, stated_if}
-use Rattle.wac_parser_declare.proofs.Outcomes.{then_refused, after_refused}
+use Rattle.wac_parser_refusals.specs.Outcomes.{IsHeld, IsRefusal, Refuses}
+use Rattle.wac_parser_declare.specs.Holding.{IsValue, IsValueIf, IsFunc, StandsIf, AreEntries, EachStands, ValueStands, AreNamedValues, stated_value, stated_if}
+use Rattle.wac_parser_refusals.proofs.Outcomes.{then_refused, after_refused}
 use Rattle.wac_parser_declare.proofs.Kept.{entry_holds, children, both_stand, named_values_stand, option_stands, option_places, IsValueIf-kept, stated-kept, AreEntries-kept, EachStands-more, with_values-more, value_at-with_values}
 
 -- ---- names
@@ -49,14 +50,14 @@ new_name (e ∷ es) n h (inr m) = new_name es n (absent_by (pointwise ◌==◌ n
 -- ---- one more member
 
 module _ {V T : Type 0} (g : V → T) (es : List (Name × V)) (i : t.Ident) (f : Fault) (q : Answer T) where
-  pub member_refused : (e : Error) → IsRefusal q e → IsRefusal (member (with_values g es) i f q) e
+  pub member_refused : (e : Refusal) → IsRefusal q e → IsRefusal (member (with_values g es) i f q) e
   member_refused e h = then_refused (add_member (with_values g es) i f) q e h
 
-  taken_by : (v : T) (b : Bool) (e : Error) → b ≡ true → Refuses e f i.span → IsRefusal (unless_clear b f i.span >> Ok (with_values g es ++ (i.string, v) ∷ [])) e
+  taken_by : (v : T) (b : Bool) (e : Refusal) → b ≡ true → Refuses e f i.span → IsRefusal (unless_clear b f i.span >> Ok (with_values g es ++ (i.string, v) ∷ [])) e
   taken_by v true e h r = r
   taken_by v false e h r = absurd (cc h)
 
-  pub member_taken : (R : T → V → Type 0) (v : V) (e : Error) → IsHeld R q v → is_some (value_at es i.string) ≡ true → Refuses e f i.span → IsRefusal (member (with_values g es) i f q) e
+  pub member_taken : (R : T → V → Type 0) (v : V) (e : Refusal) → IsHeld R q v → is_some (value_at es i.string) ≡ true → Refuses e f i.span → IsRefusal (member (with_values g es) i f q) e
   member_taken R v e h there r = after_refused (add_member (with_values g es) i f) R q v e h (λ t x. taken_by t (has (with_values g es) i.string) e (has-with_values g es i.string ∙ there) r)
 
 added_by : {T B : Type 0} (P : List (Name × T) → B → Type 0) (xs : List (Name × T)) (b : Bool) (f : Fault) (s : Span) (u : B) → b ≡ false → P xs u → IsHeld P (unless_clear b f s >> Ok xs) u
@@ -85,12 +86,12 @@ value_added c d g es fs i f q v u stand h absent is =
 
 -- ---- results
 
-borrowing_by : (s : Span) (x : Stated) (b : Bool) (e : Error) → b ≡ true → Refuses e BorrowInResult s → IsRefusal {A = Option Stated} (unless_clear b BorrowInResult s >> Ok (Some x)) e
+borrowing_by : (s : Span) (x : Stated) (b : Bool) (e : Refusal) → b ≡ true → Refuses e BorrowInResult s → IsRefusal {A = Option Stated} (unless_clear b BorrowInResult s >> Ok (Some x)) e
 borrowing_by s x true e h r = r
 borrowing_by s x false e h r = absurd (cc h)
 
 -- a borrow in a result
-pub borrowing : (c : Collection) (ty : t.Ty) (q : Answer Stated) (v : ValueType) (e : Error) → IsHeld (IsValue c) q v → contains_borrow (stated_value c v) ≡ true → Refuses e BorrowInResult (ty_span ty) → IsRefusal (q >>= λ x. no_borrow ty x) e
+pub borrowing : (c : Collection) (ty : t.Ty) (q : Answer Stated) (v : ValueType) (e : Refusal) → IsHeld (IsValue c) q v → contains_borrow (stated_value c v) ≡ true → Refuses e BorrowInResult (ty_span ty) → IsRefusal (q >>= λ x. no_borrow ty x) e
 borrowing c ty q v e h b r = after_refused (λ x. no_borrow ty x) (IsValue c) q v e h (λ x y. borrowing_by (ty_span ty) x (contains_borrow x) e (ap contains_borrow (sym y.same) ∙ b) r)
 
 clear_by : (c : Collection) (s : Span) (x : Stated) (v : ValueType) (b : Bool) → b ≡ false → IsValue c x v → IsHeld (IsValueIf c) (unless_clear b BorrowInResult s >> Ok (Some x)) (Some v)
@@ -153,7 +154,7 @@ module _ (c : Collection) (a : IsAcyclic c) (i : t.Ident) where
   pub same_func : (f : FuncTypeId) → Stands c (ItemKind.Func f) → IsHeld (IsFunc c) (func_by (kind_of (stated_of c (ItemKind.Func f))) i (stated_of c (ItemKind.Func f))) f
   same_func f stands = rw (kind_stated c a (ItemKind.Func f) stands) (record { stands = stands; same = refl })
 
-no_func_at : (ty : TypeKind) (i : t.Ident) (x : Stated) (e : Error) → ((f : FuncTypeId) → ty ≡ TypeKind.Func f → ⊥) → Refuses e (NotFuncType i.string (desc x)) i.span → IsRefusal (func_by (item_kind (ItemKind.Ty ty)) i x) e
+no_func_at : (ty : TypeKind) (i : t.Ident) (x : Stated) (e : Refusal) → ((f : FuncTypeId) → ty ≡ TypeKind.Func f → ⊥) → Refuses e (NotFuncType i.string (desc x)) i.span → IsRefusal (func_by (item_kind (ItemKind.Ty ty)) i x) e
 no_func_at (TypeKind.Resource r) i x e h f = f
 no_func_at (TypeKind.Func r) i x e h f = absurd (h r refl)
 no_func_at (TypeKind.Value v) i x e h f = f
@@ -161,7 +162,7 @@ no_func_at (TypeKind.Interface r) i x e h f = f
 no_func_at (TypeKind.World r) i x e h f = f
 no_func_at (TypeKind.Module r) i x e h f = f
 
-no_func : (k : ItemKind) (i : t.Ident) (x : Stated) (e : Error) → ((ty : TypeKind) → k ≡ ItemKind.Ty ty → ⊥) → ((f : FuncTypeId) → k ≡ ItemKind.Func f → ⊥) → Refuses e (NotFuncType i.string (desc x)) i.span → IsRefusal (func_by (item_kind k) i x) e
+no_func : (k : ItemKind) (i : t.Ident) (x : Stated) (e : Refusal) → ((ty : TypeKind) → k ≡ ItemKind.Ty ty → ⊥) → ((f : FuncTypeId) → k ≡ ItemKind.Func f → ⊥) → Refuses e (NotFuncType i.string (desc x)) i.span → IsRefusal (func_by (item_kind k) i x) e
 no_func (ItemKind.Ty ty) i x e h g f = absurd (h ty refl)
 no_func (ItemKind.Func r) i x e h g f = absurd (g r refl)
 no_func (ItemKind.Instance r) i x e h g f = f
@@ -169,7 +170,7 @@ no_func (ItemKind.Component r) i x e h g f = f
 no_func (ItemKind.Module r) i x e h g f = f
 no_func (ItemKind.Value r) i x e h g f = f
 
-module _ (c : Collection) (a : IsAcyclic c) (i : t.Ident) (e : Error) where
+module _ (c : Collection) (a : IsAcyclic c) (i : t.Ident) (e : Refusal) where
   pub no_func_type : (ty : TypeKind) → Stands c (ItemKind.Ty ty) → ((f : FuncTypeId) → ty ≡ TypeKind.Func f → ⊥) → Refuses e (NotFuncType i.string (desc (stated_of c (ItemKind.Ty ty)))) i.span
       → IsRefusal (func_by (kind_of (stated_of c (ItemKind.Ty ty))) i (stated_of c (ItemKind.Ty ty))) e
   no_func_type ty stands h f = rw (kind_stated c a (ItemKind.Ty ty) stands) (no_func_at ty i (stated_of c (ItemKind.Ty ty)) e h f)

@@ -8,7 +8,7 @@ use Rattle.wac_types_base.specs.Collection.{primitive, record_of, resource}
 use Rattle.wac_types_base.specs.Stated.{Stated, func_of, interface_of, world_of, leaf, over, own, as_type, desc, value_desc, contains_borrow}
 use Rattle.wac_types_names.specs.Keys.{Key}
 use Rattle.wac_parser_tree.specs.Trees as m
-use Rattle.wac_parser_declare.specs.Causes as f
+use Rattle.wac_parser_refusals.specs.Causes as f
 use Rattle.wac_parser_declare.specs.Scope.{in_package, at_root}
 use Rattle.wac_parser_declare.proofs.RowWords as t
 use Rattle.wac_parser_declare.proofs.RowWords.{sp, id_at, refusal, declared}

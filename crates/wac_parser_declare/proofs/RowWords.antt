@@ -4,7 +4,7 @@ use Rattle.wac_types_base.specs.Entries.{Name}
 use Rattle.wac_types_base.specs.Stated.{Stated}
 use Rattle.wac_types_names.specs.Keys.{Key}
 use Rattle.wac_parser_tree.specs.Trees as m
-use Rattle.wac_parser_declare.specs.Causes.{Answer, Fault, ◌>>=◌, pure}
+use Rattle.wac_parser_refusals.specs.Causes.{Answer, Fault, ◌>>=◌, pure}
 use Rattle.wac_parser_declare.specs.Scope.{Scope, Context, Path, in_package, at_root, bind}
 use Rattle.wac_parser_declare.specs.Worlds.{type_statement}
 

@@ -21,9 +21,10 @@ use Rattle.wac_types_base.proofs.Adding.{Among-left, Among-right, Grows-trans, G
 use Rattle.wac_types_base.proofs.Slots.{entry_at-is, stands_typed_func, stands_typed_value, stands_typed_interface, stands_typed_world}
 use Rattle.wac_types_base.proofs.Copying.{Among-All}
 use Rattle.wac_types_base.proofs.Telling.{child_stands, resource_node}
-use Rattle.wac_parser_declare.specs.Holding.{IsOutcome, StandsIf, ValueStands, BindingStands, EachStands, ItemsStand, UsesStand, NamesStand, AddsNew}
+use Rattle.wac_parser_refusals.specs.Outcomes.{IsOutcome}
+use Rattle.wac_parser_declare.specs.Holding.{StandsIf, ValueStands, BindingStands, EachStands, ItemsStand, UsesStand, NamesStand, AddsNew}
 use Rattle.wac_parser_tree.specs.Trees as t
-use Rattle.wac_parser_declare.specs.declared.error.Error.{Error}
+use Rattle.wac_parser_refusals.specs.declared.refusal.Refusal.{Refusal}
 use Rattle.wac_parser_declare.specs.declared.scope.Binding.{Binding}
 use Rattle.wac_parser_declare.specs.declared.bodies.Body.{Body}
 use Rattle.wac_parser_declare.specs.Held.{BodyStands}
@@ -189,7 +190,7 @@ owner_stands c a r x b at own is =
     (option_map ItemKind.Instance b.owner) (inr (inl refl))
 
 -- what a name means stands
-pub meant_stands : (c : Collection) (bs : List (Name × Binding)) (i : t.Ident) (r : Result Binding Error) → NamesStand c bs → IsOutcome (λ x y. y ≡ x) (sought bs i) r → IfOk r (λ b. Stands c b.kind)
+pub meant_stands : (c : Collection) (bs : List (Name × Binding)) (i : t.Ident) (r : Result Binding Refusal) → NamesStand c bs → IsOutcome (λ x y. y ≡ x) (sought bs i) r → IfOk r (λ b. Stands c b.kind)
 meant_stands c bs i (Ok b) s h = binding_stands c bs i b s h
 meant_stands c bs i (Err e) s h = tt
 

@@ -11,9 +11,9 @@ use Rattle.wac_parser_tree.specs.declared.value_type.«Type».{«Type», U8 as U
 use Rattle.wac_parser_tree.specs.Trees as t
 use Rattle.wac_parser_tree.specs.Trees.{Span}
 use Rattle.wac_parser_tree.specs.Views.{view_ident, view_ty}
-use Rattle.wac_parser_declare.specs.declared.error.Error.{Error}
-use Rattle.wac_parser_declare.specs.Causes.{Answer}
-use Rattle.wac_parser_declare.specs.Holding.{IsRefusal}
+use Rattle.wac_parser_refusals.specs.declared.refusal.Refusal.{Refusal}
+use Rattle.wac_parser_refusals.specs.Causes.{Answer}
+use Rattle.wac_parser_refusals.specs.Outcomes.{IsRefusal}
 use Rattle.wac_parser_declare.proofs.Values.{some_refused}
 use Rattle.wac_parser_declare.specs.Scope.{Scope}
 use Rattle.wac_parser_declare.specs.Payloads.{boxed_payload}
@@ -157,7 +157,7 @@ pub at_tuple : (ns : Scope) (P : Answer Stated → Type 0) (ty : «Type») (vs :
 at_tuple ns P ty vs x e h = subst (λ (m : t.Ty). P (value ns m)) (sym (ap view_ty e ∙ by_tuple vs x)) h
 
 -- an optional type whose type is refused
-pub payload_refused : (ns : Scope) (o : Option (Box «Type» Global)) (b : Box «Type» Global) (y : «Type») (e : Error) → o ≡ Some b → y ≡ b.value → IsRefusal (value ns (view_ty y)) e → IsRefusal (maybe_value ns (boxed_payload o)) e
+pub payload_refused : (ns : Scope) (o : Option (Box «Type» Global)) (b : Box «Type» Global) (y : «Type») (e : Refusal) → o ≡ Some b → y ≡ b.value → IsRefusal (value ns (view_ty y)) e → IsRefusal (maybe_value ns (boxed_payload o)) e
 payload_refused ns o b y e is at h =
     subst (λ (p : Option (Box «Type» Global)). IsRefusal (maybe_value ns (boxed_payload p)) e) (sym is)
     (some_refused (value ns (view_ty b.value)) e (subst (λ (z : «Type»). IsRefusal (value ns (view_ty z)) e) at h))

@@ -14,14 +14,15 @@ use Rattle.wac_types_base.proofs.Telling.{item_kind, kind_stated, untyped_stated
 use Rattle.wac_types_base.proofs.Slots.{stands_typed_value}
 use Rattle.wac_parser_tree.specs.Trees as t
 use Rattle.wac_parser_tree.specs.Trees.{Span}
-use Rattle.wac_parser_declare.specs.declared.error.Error.{Error}
+use Rattle.wac_parser_refusals.specs.declared.refusal.Refusal.{Refusal}
 use Rattle.wac_parser_declare.specs.declared.scope.Binding.{Binding}
-use Rattle.wac_parser_declare.specs.Causes.{Answer, Fault, ◌>>=◌, present, UndefinedName, NotValueType, NotResourceType}
+use Rattle.wac_parser_refusals.specs.Causes.{Answer, Fault, ◌>>=◌, present, UndefinedName, NotValueType, NotResourceType}
 use Rattle.wac_parser_declare.specs.Scope.{Meant, Scope, named}
 use Rattle.wac_parser_declare.specs.ValueTypes.{maybe_value, value_by, borrow_by, of_one, of_maybe, of_two, of_all, some_of, primitive}
-use Rattle.wac_parser_declare.specs.Holding.{IsHeld, IsRefusal, IsOutcome, Refuses, IsValue, IsValueIf, AreValues, StandsIf, NamesStand, BindingStands, stated_if, meant_by, scope_of}
+use Rattle.wac_parser_refusals.specs.Outcomes.{IsHeld, IsRefusal, IsOutcome, Refuses}
+use Rattle.wac_parser_declare.specs.Holding.{IsValue, IsValueIf, AreValues, StandsIf, NamesStand, BindingStands, stated_if, meant_by, scope_of}
 use Rattle.wac_parser_declare.proofs.Kept.{entry_holds, labelled_holds, children, values_stand, option_places, value_places, Holds-kept, IsValueIf-kept, AreValues-kept, found_stands, value_at-with_values}
-use Rattle.wac_parser_declare.proofs.Outcomes.{memory_refusal}
+use Rattle.wac_parser_refusals.proofs.Outcomes.{memory_refusal}
 
 -- ---- names
 
@@ -42,12 +43,12 @@ named_found c bs i b h =
     ap (λ o. present o (UndefinedName i.string) i.span >>= λ m. Ok m.item) (value_at-with_values (meant_by c) bs i.string)
     ∙ ap (λ o. meant_in c o (UndefinedName i.string) i.span) (is_found (value_at bs i.string) (UndefinedName i.string) i.span b h)
 
-refused_in : (c : Collection) (o : Option Binding) (f : Fault) (s : Span) (e : Error) → IsRefusal (present o f s) e → IsRefusal (meant_in c o f s) e
+refused_in : (c : Collection) (o : Option Binding) (f : Fault) (s : Span) (e : Refusal) → IsRefusal (present o f s) e → IsRefusal (meant_in c o f s) e
 unfolding meant_in
 refused_in c None f s e h = h
 refused_in c (Some b) f s e h = h
 
-pub named_refused : (c : Collection) (bs : List (Name × Binding)) (i : t.Ident) (e : Error) → IsRefusal (sought bs i) e → IsRefusal (named (scope_of c bs) i) e
+pub named_refused : (c : Collection) (bs : List (Name × Binding)) (i : t.Ident) (e : Refusal) → IsRefusal (sought bs i) e → IsRefusal (named (scope_of c bs) i) e
 unfolding meant_in
 named_refused c bs i e h =
     subst (λ (o : Option Meant). IsRefusal (present o (UndefinedName i.string) i.span >>= λ m. Ok m.item) e) (sym (value_at-with_values (meant_by c) bs i.string))
@@ -57,7 +58,7 @@ pub binding_stands : (c : Collection) (bs : List (Name × Binding)) (i : t.Ident
 binding_stands c bs i b s h = found_stands (BindingStands c) bs i.string b s (is_found (value_at bs i.string) (UndefinedName i.string) i.span b h)
 
 -- a name, then what is made of its item
-pub by_name : {C D : Type 0} (k : C → D → Type 0) (f : Stated → Answer C) (c : Collection) (bs : List (Name × Binding)) (i : t.Ident) (b : Binding) (r : Result D Error)
+pub by_name : {C D : Type 0} (k : C → D → Type 0) (f : Stated → Answer C) (c : Collection) (bs : List (Name × Binding)) (i : t.Ident) (b : Binding) (r : Result D Refusal)
     → IsHeld (λ x y. y ≡ x) (sought bs i) b → IsOutcome k (f (stated_of c b.kind)) r → IsOutcome k (named (scope_of c bs) i >>= f) r
 by_name k f c bs i b r h x = subst (λ q. IsOutcome k (q >>= f) r) (sym (named_found c bs i b h)) x
 
@@ -99,7 +100,7 @@ module _ (c : Collection) (a : IsAcyclic c) (i : t.Ident) (ty : TypeKind) where
       subst (λ (y : TypeKind). IsHeld (IsValue c) (value_by (kind_of (stated_of c (ItemKind.Ty y))) i (stated_of c (ItemKind.Ty y))) v) (sym e)
       (untyped_value c a i v (subst (λ (y : TypeKind). Stands c (ItemKind.Ty y)) e stands))
 
-no_value_at : (ty : TypeKind) (i : t.Ident) (x : Stated) (e : Error) → ((r : ResourceId) → ty ≡ TypeKind.Resource r → ⊥) → ((v : ValueType) → ty ≡ TypeKind.Value v → ⊥)
+no_value_at : (ty : TypeKind) (i : t.Ident) (x : Stated) (e : Refusal) → ((r : ResourceId) → ty ≡ TypeKind.Resource r → ⊥) → ((v : ValueType) → ty ≡ TypeKind.Value v → ⊥)
     → Refuses e (NotValueType i.string (desc x)) i.span → IsRefusal (value_by (item_kind (ItemKind.Ty ty)) i x) e
 no_value_at (TypeKind.Resource r) i x e h g f = absurd (h r refl)
 no_value_at (TypeKind.Func r) i x e h g f = f
@@ -108,7 +109,7 @@ no_value_at (TypeKind.Interface r) i x e h g f = f
 no_value_at (TypeKind.World r) i x e h g f = f
 no_value_at (TypeKind.Module r) i x e h g f = f
 
-no_value : (k : ItemKind) (i : t.Ident) (x : Stated) (e : Error) → ((ty : TypeKind) → k ≡ ItemKind.Ty ty → ⊥) → Refuses e (NotValueType i.string (desc x)) i.span → IsRefusal (value_by (item_kind k) i x) e
+no_value : (k : ItemKind) (i : t.Ident) (x : Stated) (e : Refusal) → ((ty : TypeKind) → k ≡ ItemKind.Ty ty → ⊥) → Refuses e (NotValueType i.string (desc x)) i.span → IsRefusal (value_by (item_kind k) i x) e
 no_value (ItemKind.Ty ty) i x e h f = absurd (h ty refl)
 no_value (ItemKind.Func r) i x e h f = f
 no_value (ItemKind.Instance r) i x e h f = f
@@ -116,7 +117,7 @@ no_value (ItemKind.Component r) i x e h f = f
 no_value (ItemKind.Module r) i x e h f = f
 no_value (ItemKind.Value r) i x e h f = f
 
-no_resource_at : (ty : TypeKind) (i : t.Ident) (x : Stated) (e : Error) → ((r : ResourceId) → ty ≡ TypeKind.Resource r → ⊥) → Refuses e (NotResourceType i.string (desc x)) i.span → IsRefusal (borrow_by (item_kind (ItemKind.Ty ty)) i x) e
+no_resource_at : (ty : TypeKind) (i : t.Ident) (x : Stated) (e : Refusal) → ((r : ResourceId) → ty ≡ TypeKind.Resource r → ⊥) → Refuses e (NotResourceType i.string (desc x)) i.span → IsRefusal (borrow_by (item_kind (ItemKind.Ty ty)) i x) e
 no_resource_at (TypeKind.Resource r) i x e h f = absurd (h r refl)
 no_resource_at (TypeKind.Func r) i x e h f = f
 no_resource_at (TypeKind.Value v) i x e h f = f
@@ -124,7 +125,7 @@ no_resource_at (TypeKind.Interface r) i x e h f = f
 no_resource_at (TypeKind.World r) i x e h f = f
 no_resource_at (TypeKind.Module r) i x e h f = f
 
-no_resource : (k : ItemKind) (i : t.Ident) (x : Stated) (e : Error) → ((ty : TypeKind) → k ≡ ItemKind.Ty ty → ⊥) → Refuses e (NotResourceType i.string (desc x)) i.span → IsRefusal (borrow_by (item_kind k) i x) e
+no_resource : (k : ItemKind) (i : t.Ident) (x : Stated) (e : Refusal) → ((ty : TypeKind) → k ≡ ItemKind.Ty ty → ⊥) → Refuses e (NotResourceType i.string (desc x)) i.span → IsRefusal (borrow_by (item_kind k) i x) e
 no_resource (ItemKind.Ty ty) i x e h f = absurd (h ty refl)
 no_resource (ItemKind.Func r) i x e h f = f
 no_resource (ItemKind.Instance r) i x e h f = f
@@ -132,7 +133,7 @@ no_resource (ItemKind.Component r) i x e h f = f
 no_resource (ItemKind.Module r) i x e h f = f
 no_resource (ItemKind.Value r) i x e h f = f
 
-module _ (c : Collection) (a : IsAcyclic c) (i : t.Ident) (e : Error) where
+module _ (c : Collection) (a : IsAcyclic c) (i : t.Ident) (e : Refusal) where
   pub no_value_type : (ty : TypeKind) → Stands c (ItemKind.Ty ty) → ((r : ResourceId) → ty ≡ TypeKind.Resource r → ⊥) → ((v : ValueType) → ty ≡ TypeKind.Value v → ⊥) → Refuses e (NotValueType i.string (desc (stated_of c (ItemKind.Ty ty)))) i.span
       → IsRefusal (value_by (kind_of (stated_of c (ItemKind.Ty ty))) i (stated_of c (ItemKind.Ty ty))) e
   no_value_type ty stands h g f = rw (kind_stated c a (ItemKind.Ty ty) stands) (no_value_at ty i (stated_of c (ItemKind.Ty ty)) e h g f)
@@ -192,42 +193,42 @@ all_stand c (Err x) vs h = absurd h
 
 -- ---- refusals
 
-pub one_refused : (l : Shape) (q : Answer Stated) (e : Error) → IsRefusal q e → IsRefusal (of_one l q) e
+pub one_refused : (l : Shape) (q : Answer Stated) (e : Refusal) → IsRefusal q e → IsRefusal (of_one l q) e
 one_refused l (Ok x) e h = h
 one_refused l (Err c) e h = h
 
-pub maybe_refused : (l : Shape) (q : Answer (Option Stated)) (e : Error) → IsRefusal q e → IsRefusal (of_maybe l q) e
+pub maybe_refused : (l : Shape) (q : Answer (Option Stated)) (e : Refusal) → IsRefusal q e → IsRefusal (of_maybe l q) e
 maybe_refused l (Ok x) e h = h
 maybe_refused l (Err c) e h = h
 
-pub all_refused : (l : Shape) (q : Answer (List (Option Stated))) (e : Error) → IsRefusal q e → IsRefusal (of_all l q) e
+pub all_refused : (l : Shape) (q : Answer (List (Option Stated))) (e : Refusal) → IsRefusal q e → IsRefusal (of_all l q) e
 all_refused l (Ok x) e h = h
 all_refused l (Err c) e h = h
 
-pub some_refused : (q : Answer Stated) (e : Error) → IsRefusal q e → IsRefusal (some_of q) e
+pub some_refused : (q : Answer Stated) (e : Refusal) → IsRefusal q e → IsRefusal (some_of q) e
 some_refused (Ok x) e h = h
 some_refused (Err c) e h = h
 
-pub first_refused : (l : Shape) (q q' : Answer (Option Stated)) (e : Error) → IsRefusal q e → IsRefusal (of_two l q q') e
+pub first_refused : (l : Shape) (q q' : Answer (Option Stated)) (e : Refusal) → IsRefusal q e → IsRefusal (of_two l q q') e
 first_refused l (Ok x) (Ok y) e h = h
 first_refused l (Ok x) (Err c) e h = memory_refusal {A = Stated} (Err c) e h
 first_refused l (Err c) q' e h = h
 
-pub second_refused : (l : Shape) (c : Collection) (q q' : Answer (Option Stated)) (o : Option ValueType) (e : Error) → IsHeld (IsValueIf c) q o → IsRefusal q' e → IsRefusal (of_two l q q') e
+pub second_refused : (l : Shape) (c : Collection) (q q' : Answer (Option Stated)) (o : Option ValueType) (e : Refusal) → IsHeld (IsValueIf c) q o → IsRefusal q' e → IsRefusal (of_two l q q') e
 second_refused l c (Ok x) (Ok y) o e h r = r
 second_refused l c (Ok x) (Err d) o e h r = r
 second_refused l c (Err d) q' o e h r = absurd h
 
-pub second_refused_in : (l : Shape) (c : Collection) (ns ms : Scope) (p p' : t.MaybeTy) (o : Option ValueType) (e : Error) → ms ≡ ns → IsHeld (IsValueIf c) (maybe_value ns p) o → IsRefusal (maybe_value ms p') e
+pub second_refused_in : (l : Shape) (c : Collection) (ns ms : Scope) (p p' : t.MaybeTy) (o : Option ValueType) (e : Refusal) → ms ≡ ns → IsHeld (IsValueIf c) (maybe_value ns p) o → IsRefusal (maybe_value ms p') e
     → IsRefusal (of_two l (maybe_value ns p) (maybe_value ns p')) e
 second_refused_in l c ns ms p p' o e same h r = second_refused l c (maybe_value ns p) (maybe_value ns p') o e h (subst (λ (n : Scope). IsRefusal (maybe_value n p') e) same r)
 
 -- a first part that is known
-joined_by : (d c : Collection) (q q' : Answer (Option Stated)) (o : Option ValueType) (r : Result ValueType Error) → IsHeld (IsValueIf c) q o → IsOutcome (IsValue d) (of_two s.result (Ok (stated_if c o)) q') r → IsOutcome (IsValue d) (of_two s.result q q') r
+joined_by : (d c : Collection) (q q' : Answer (Option Stated)) (o : Option ValueType) (r : Result ValueType Refusal) → IsHeld (IsValueIf c) q o → IsOutcome (IsValue d) (of_two s.result (Ok (stated_if c o)) q') r → IsOutcome (IsValue d) (of_two s.result q q') r
 joined_by d c (Ok t) q' o r h x = subst (λ (u : Option Stated). IsOutcome (IsValue d) (of_two s.result (Ok u) q') r) h.same x
 joined_by d c (Err e) q' o r h x = absurd h
 
-pub joined : (c d : Collection) (ns ms : Scope) (p p' : t.MaybeTy) (o : Option ValueType) (r : Result ValueType Error) → ms ≡ ns → IsHeld (IsValueIf c) (maybe_value ns p) o
+pub joined : (c d : Collection) (ns ms : Scope) (p p' : t.MaybeTy) (o : Option ValueType) (r : Result ValueType Refusal) → ms ≡ ns → IsHeld (IsValueIf c) (maybe_value ns p) o
     → IsOutcome (IsValue d) (of_two s.result (Ok (stated_if c o)) (maybe_value ms p')) r → IsOutcome (IsValue d) (of_two s.result (maybe_value ns p) (maybe_value ns p')) r
 joined c d ns ms p p' o r same h x =
     joined_by d c (maybe_value ns p) (maybe_value ns p') o r h (subst (λ (n : Scope). IsOutcome (IsValue d) (of_two s.result (Ok (stated_if c o)) (maybe_value n p')) r) same x)

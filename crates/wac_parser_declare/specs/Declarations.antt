@@ -8,7 +8,7 @@ use Rattle.wac_parser_tree.specs.Trees as t
 use Rattle.wac_parser_tree.specs.Accessors.{ty_span}
 use Rattle.wac_parser_declare.specs.Scope.{Scope, has, named}
 use Rattle.wac_parser_declare.specs.ValueTypes.{value, value_if}
-use Rattle.wac_parser_declare.specs.Causes.{Answer, Fault, ◌>>=◌, ◌>>◌, pure, refuse, unless_clear, each, NotFuncType, DuplicateParameter, BorrowInResult, DuplicateVariantCase, DuplicateRecordField, DuplicateFlag, DuplicateEnumCase, InvalidAliasType}
+use Rattle.wac_parser_refusals.specs.Causes.{Answer, Fault, ◌>>=◌, ◌>>◌, pure, refuse, unless_clear, each, NotFuncType, DuplicateParameter, BorrowInResult, DuplicateVariantCase, DuplicateRecordField, DuplicateFlag, DuplicateEnumCase, InvalidAliasType}
 
 -- one more member, whose name is new
 abbrev pub add_member : {T : Type 0} → List (Name × T) → t.Ident → Fault → T → Answer (List (Name × T))

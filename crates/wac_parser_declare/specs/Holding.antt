@@ -1,4 +1,4 @@
--- What a collection holds of what is stated, what a map of the code says, and when an answer of the code is right.
+-- What a collection holds of what is stated, and what a map of the code says.
 use Rattle.std.specs.Prelude.{◌≡◌, Bool, true, false, List, [], ◌∷◌, ◌++◌, map, Option, Some, None, is_some, option_map, Result, Ok, Err, codes}
 use Rattle.wac_types_base.specs.declared.item.ValueType.{ValueType}
 use Rattle.wac_types_base.specs.declared.item.ItemKind.{ItemKind}
@@ -9,40 +9,8 @@ use Rattle.wac_types_base.specs.Record.{Collection}
 use Rattle.wac_types_base.specs.Collection.{Stands}
 use Rattle.wac_types_base.specs.Entries.{Name, with_values, value_at}
 use Rattle.wac_types_base.specs.Stated.{Stated, stated_of}
-use Rattle.wac_parser_tree.specs.Trees.{Span}
-use Rattle.wac_parser_declare.specs.declared.error.Error.{Error}
 use Rattle.wac_parser_declare.specs.declared.scope.Binding.{Binding}
-use Rattle.wac_parser_declare.specs.Causes.{Answer, Cause, Fault}
 use Rattle.wac_parser_declare.specs.Scope.{Meant, Scope}
-use Rattle.wac_parser_declare.specs.Views.{cause_of}
-
--- ---- answers
-
--- the named cause is none: memory was refused
-abbrev pub IsMemory : Option Cause → Type 0
-IsMemory None = Unit {0}
-IsMemory (Some c) = ⊥
-
--- the cause that is named is this one; want of memory may always be answered
-abbrev pub Tells : Option Cause → Cause → Type 0
-Tells None c = Unit {0}
-Tells (Some d) c = d ≡ c
-
-abbrev pub Refuses : Error → Fault → Span → Type 0
-Refuses e f s = Tells (cause_of e) (record { fault = f; span = Some s })
-
-abbrev pub IsHeld : {A B : Type 0} → (A → B → Type 0) → Answer A → B → Type 0
-IsHeld holds (Ok a) b = holds a b
-IsHeld holds (Err c) b = ⊥
-
-abbrev pub IsRefusal : {A : Type 0} → Answer A → Error → Type 0
-IsRefusal (Ok a) e = IsMemory (cause_of e)
-IsRefusal (Err c) e = Tells (cause_of e) c
-
--- what is answered is what is stated, or an error that names its cause
-abbrev pub IsOutcome : {A B : Type 0} → (A → B → Type 0) → Answer A → Result B Error → Type 0
-IsOutcome holds q (Ok b) = IsHeld holds q b
-IsOutcome holds q (Err e) = IsRefusal q e
 
 -- ---- items
 

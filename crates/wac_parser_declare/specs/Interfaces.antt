@@ -7,7 +7,7 @@ use Rattle.wac_parser_tree.specs.Trees as t
 use Rattle.wac_parser_declare.specs.Scope.{Context, has, identifier}
 use Rattle.wac_parser_declare.specs.Declarations.{func_ref}
 use Rattle.wac_parser_declare.specs.Bodies.{Body, Holder, no_body, with_item, use_types, item_type}
-use Rattle.wac_parser_declare.specs.Causes.{Answer, ◌>>=◌, ◌>>◌, pure, unless_clear, each, DuplicateInterfaceExport}
+use Rattle.wac_parser_refusals.specs.Causes.{Answer, ◌>>=◌, ◌>>◌, pure, unless_clear, each, DuplicateInterfaceExport}
 
 -- one more function: its type, then its name
 abbrev pub export_item : Holder → Body → t.InterfaceExport → Answer Body

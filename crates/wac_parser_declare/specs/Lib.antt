@@ -1,12 +1,9 @@
-pub mod Causes
 pub mod Scope
 pub mod ValueTypes
 pub mod Declarations
 pub mod Bodies
 pub mod Interfaces
 pub mod Worlds
-pub mod Views
 pub mod Holding
 pub mod Payloads
 pub mod Held
-pub mod Keeping

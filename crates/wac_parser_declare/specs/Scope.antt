@@ -10,7 +10,7 @@ use Rattle.wac_graph_bytes.specs.NameTests.{pair_test, path_test}
 use Rattle.wac_parser_tree.specs.Trees as t
 use Rattle.wac_parser_tree.specs.Trees.{Span}
 use Rattle.wac_parser_tree.specs.Segments.{Segment, segment_spans, package_name_span}
-use Rattle.wac_parser_declare.specs.Causes.{Answer, ◌>>=◌, ◌>>◌, pure, refuse, present, UndefinedName, DuplicateName, UnknownPackage, PackageMissingExport, PackagePathMissingExport}
+use Rattle.wac_parser_refusals.specs.Causes.{Answer, ◌>>=◌, ◌>>◌, pure, refuse, present, UndefinedName, DuplicateName, UnknownPackage, PackageMissingExport, PackagePathMissingExport}
 
 -- an item, and where it got its name
 pub record Meant : Type 0 where

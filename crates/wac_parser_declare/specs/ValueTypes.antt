@@ -5,7 +5,7 @@ use Rattle.wac_types_base.specs.Collection as s
 use Rattle.wac_types_base.specs.Stated.{Stated, Kind, IsResource, IsValueType, kind_of, desc, untyped, over, leaf, own, borrow}
 use Rattle.wac_parser_tree.specs.Trees as t
 use Rattle.wac_parser_declare.specs.Scope.{Scope, named}
-use Rattle.wac_parser_declare.specs.Causes.{Answer, ◌>>=◌, pure, refuse, NotValueType, NotResourceType}
+use Rattle.wac_parser_refusals.specs.Causes.{Answer, ◌>>=◌, pure, refuse, NotValueType, NotResourceType}
 
 -- a name of a value type is that type, a name of a resource is a handle that owns it
 abbrev pub value_by : Kind → t.Ident → Stated → Answer Stated

@@ -7,13 +7,12 @@ ghost use Rattle.wac_types_base.specs.declared.item.«Type».{«Type» as TypeKi
 ghost use Rattle.wac_types_base.specs.Collection.{Stands, Grows, SlotStands, item_node, func_entry};
 ghost use Rattle.wac_parser_declare.specs.Holding.{NamesStand};
 
-use crate::error::ResolutionResult;
 use crate::functions::func_type;
 use crate::growing::GrowingTypes;
-use crate::refusals::invalid_alias_type;
 use crate::scope::{Binding, meaning};
 use crate::value_types::{define, value_type};
 use std::alloc::{AllocError, Global};
+use wac_parser_refusals::{Outcome, invalid_alias_type};
 use wac_parser_tree as ast;
 use wac_parser_tree::{Ident, TypeAliasKind};
 use wac_types_base::{
@@ -38,7 +37,7 @@ fn resource_alias<T: GrowingTypes>(
     types: &mut T,
     name: &str,
     source: ResourceId,
-) -> ResolutionResult<Type>
+) -> Outcome<Type>
     requires { Stands (T.collection types.old) (ItemKind.Ty (TypeKind.Resource source)) }
     ensures stands { IfOk result (λ t. Stands (T.collection types.new) (ItemKind.Ty t)) }
     ensures grows { Grows (T.collection types.old) (T.collection types.new) }
@@ -56,7 +55,7 @@ fn resource_alias<T: GrowingTypes>(
 }
 
 /// Another name of a value type.
-fn value_alias<T: GrowingTypes>(types: &mut T, ty: ValueType) -> ResolutionResult<Type>
+fn value_alias<T: GrowingTypes>(types: &mut T, ty: ValueType) -> Outcome<Type>
     requires { Stands (T.collection types.old) (ItemKind.Value ty) }
     ensures stands { IfOk result (λ t. Stands (T.collection types.new) (ItemKind.Ty t)) }
     ensures grows { Grows (T.collection types.old) (T.collection types.new) }
@@ -95,11 +94,7 @@ fn copy_func(alloc: Global, types: &Types, id: FuncTypeId) -> Result<FuncType, A
 }
 
 /// A function type like another.
-fn func_alias<T: GrowingTypes>(
-    alloc: Global,
-    types: &mut T,
-    func: FuncTypeId,
-) -> ResolutionResult<Type>
+fn func_alias<T: GrowingTypes>(alloc: Global, types: &mut T, func: FuncTypeId) -> Outcome<Type>
     requires { Stands (T.collection types.old) (ItemKind.Func func) }
     ensures stands { IfOk result (λ t. Stands (T.collection types.new) (ItemKind.Ty t)) }
     ensures grows { Grows (T.collection types.old) (T.collection types.new) }
@@ -127,7 +122,7 @@ fn alias_of_type<T: GrowingTypes>(
     alias: &Ident<'_>,
     source: &Ident<'_>,
     ty: Type,
-) -> ResolutionResult<Type>
+) -> Outcome<Type>
     requires { Stands (T.collection types.old) (ItemKind.Ty ty) }
     ensures stands { IfOk result (λ t. Stands (T.collection types.new) (ItemKind.Ty t)) }
     ensures grows { Grows (T.collection types.old) (T.collection types.new) }
@@ -139,7 +134,12 @@ fn alias_of_type<T: GrowingTypes>(
         Type::Resource(resource) if place == Place::Body => {
             resource_alias(alloc, types, alias.string, resource)
         }
-        other => Err(invalid_alias_type(alloc, source, other.desc(types.types()))),
+        other => Err(invalid_alias_type(
+            alloc,
+            source.string,
+            other.desc(types.types()),
+            source.span,
+        )),
     }
 }
 
@@ -151,7 +151,7 @@ fn alias_of<T: GrowingTypes>(
     alias: &Ident<'_>,
     source: &Ident<'_>,
     kind: ItemKind,
-) -> ResolutionResult<Type>
+) -> Outcome<Type>
     requires { Stands (T.collection types.old) kind }
     ensures stands { IfOk result (λ t. Stands (T.collection types.new) (ItemKind.Ty t)) }
     ensures grows { Grows (T.collection types.old) (T.collection types.new) }
@@ -160,7 +160,12 @@ fn alias_of<T: GrowingTypes>(
     match kind {
         ItemKind::Ty(ty) => alias_of_type(alloc, types, place, alias, source, ty),
         ItemKind::Func(func) => func_alias(alloc, types, func),
-        other => Err(invalid_alias_type(alloc, source, other.desc(types.types()))),
+        other => Err(invalid_alias_type(
+            alloc,
+            source.string,
+            other.desc(types.types()),
+            source.span,
+        )),
     }
 }
 
@@ -172,7 +177,7 @@ fn alias_named<T: GrowingTypes>(
     place: Place,
     alias: &Ident<'_>,
     source: &Ident<'_>,
-) -> ResolutionResult<Type>
+) -> Outcome<Type>
     requires { NamesStand (T.collection types.old) names.now }
     ensures stands { IfOk result (λ t. Stands (T.collection types.new) (ItemKind.Ty t)) }
     ensures grows { Grows (T.collection types.old) (T.collection types.new) }
@@ -184,51 +189,51 @@ fn alias_named<T: GrowingTypes>(
 
 /// A name of a type that is written.
 fn alias_value<T: GrowingTypes>(
+    ty: &ast::Type<'_>,
     alloc: Global,
     names: &NamedMap<Binding>,
     types: &mut T,
-    ty: &ast::Type<'_>,
-) -> ResolutionResult<Type>
+) -> Outcome<Type>
     requires { NamesStand (T.collection types.old) names.now }
     ensures stands { IfOk result (λ t. Stands (T.collection types.new) (ItemKind.Ty t)) }
     ensures grows { Grows (T.collection types.old) (T.collection types.new) }
 {
-    let value = value_type(alloc, names, types, ty)?;
+    let value = value_type(ty, alloc, names, types)?;
     value_alias(types, value)
 }
 
 /// A name of a function type that is written.
 fn alias_func<T: GrowingTypes>(
+    ty: &ast::FuncType<'_>,
     alloc: Global,
     names: &NamedMap<Binding>,
     types: &mut T,
-    ty: &ast::FuncType<'_>,
-) -> ResolutionResult<Type>
+) -> Outcome<Type>
     requires { NamesStand (T.collection types.old) names.now }
     ensures stands { IfOk result (λ t. Stands (T.collection types.new) (ItemKind.Ty t)) }
     ensures grows { Grows (T.collection types.old) (T.collection types.new) }
 {
-    let func = func_type(alloc, names, types, ty)?;
+    let func = func_type(ty, alloc, names, types)?;
     Ok(Type::Func(func))
 }
 
 /// The type item of an alias.
 pub(crate) fn type_alias<T: GrowingTypes>(
+    decl: &ast::TypeAlias<'_>,
     alloc: Global,
     names: &NamedMap<Binding>,
     types: &mut T,
     place: Place,
-    decl: &ast::TypeAlias<'_>,
-) -> ResolutionResult<Type>
+) -> Outcome<Type>
     requires { NamesStand (T.collection types.old) names.now }
     ensures stands { IfOk result (λ t. Stands (T.collection types.new) (ItemKind.Ty t)) }
     ensures grows { Grows (T.collection types.old) (T.collection types.new) }
 {
     match &decl.kind {
-        TypeAliasKind::Func(ty) => alias_func(alloc, names, types, ty),
+        TypeAliasKind::Func(ty) => alias_func(ty, alloc, names, types),
         TypeAliasKind::Ty(ast::Type::Ident(source)) => {
             alias_named(alloc, names, types, place, &decl.id, source)
         }
-        TypeAliasKind::Ty(ty) => alias_value(alloc, names, types, ty),
+        TypeAliasKind::Ty(ty) => alias_value(ty, alloc, names, types),
     }
 }

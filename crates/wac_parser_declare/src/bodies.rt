@@ -7,11 +7,10 @@ ghost use Rattle.wac_types_base.specs.Record.{Collection};
 ghost use Rattle.wac_types_base.specs.Collection.{Stands};
 ghost use Rattle.wac_parser_declare.specs.Held.{BodyStands};
 
-use crate::error::{Error, ResolutionResult};
 use crate::functions::add_new;
-use crate::refusals::{duplicate_export, duplicate_world_item};
 use crate::scope::{Binding, bind};
 use std::alloc::Global;
+use wac_parser_refusals::{Outcome, Refusal, duplicate_export, duplicate_world_item};
 use wac_parser_tree::Ident;
 use wac_types_base::{ExternKind, ItemKind, NamedMap, Type, UsedType};
 
@@ -44,9 +43,9 @@ impl<'a> Holder<'a> {
     }
 
     /// The refusal of an item whose name is taken.
-    pub(crate) fn duplicate(self, alloc: Global, id: &Ident<'_>) -> Error {
+    pub(crate) fn duplicate(self, alloc: Global, id: &Ident<'_>) -> Refusal {
         match self {
-            Holder::Interface(name) => duplicate_export(alloc, id, name),
+            Holder::Interface(name) => duplicate_export(alloc, id.string, name, id.span),
             Holder::World(world) => {
                 duplicate_world_item(alloc, ExternKind::Import, id.string, world, id.span)
             }
@@ -75,7 +74,7 @@ pub(crate) fn add_item(
     body: &mut Body,
     id: &Ident<'_>,
     kind: ItemKind,
-) -> ResolutionResult<()>
+) -> Outcome<()>
     ensures { OnOk result ((c : Collection) → BodyStands c body.old → Stands c kind → BodyStands c body.new) }
 {
     if add_new(alloc, &mut body.items, id.string, kind)? {
@@ -92,7 +91,7 @@ pub(crate) fn add_type(
     body: &mut Body,
     id: &Ident<'_>,
     ty: Type,
-) -> ResolutionResult<()>
+) -> Outcome<()>
     ensures { OnOk result ((c : Collection) → BodyStands c body.old → Stands c (ItemKind.Ty ty) → BodyStands c body.new) }
 {
     bind(alloc, &mut body.names, id, ItemKind::Ty(ty))?;

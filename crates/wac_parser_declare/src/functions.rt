@@ -7,12 +7,11 @@ ghost use Rattle.wac_types_base.specs.declared.item.«Type».{«Type» as TypeKi
 ghost use Rattle.wac_types_base.specs.Collection.{Stands, Grows};
 ghost use Rattle.wac_parser_declare.specs.Holding.{AddsNew, EachStands, NamesStand, StandsIf, ValueStands, self_params};
 
-use crate::error::{Error, ResolutionResult};
 use crate::growing::GrowingTypes;
-use crate::refusals::{duplicate_parameter, not_func_type};
 use crate::scope::{Binding, meaning};
 use crate::value_types::value_type;
 use std::alloc::{AllocError, Global};
+use wac_parser_refusals::{Error, Outcome, Refusal, duplicate_parameter, not_func_type};
 use wac_parser_tree as ast;
 use wac_parser_tree::{Ident, ResultList};
 use wac_types_base::{FuncKind, FuncType, FuncTypeId, ItemKind, NamedMap, Type, Types, ValueType};
@@ -65,35 +64,35 @@ fn first_params(
 
 /// One more parameter.
 fn add_param<T: GrowingTypes>(
+    param: &ast::NamedType<'_>,
     alloc: Global,
     names: &NamedMap<Binding>,
     types: &mut T,
     kind: FuncKind,
     found: &mut NamedMap<ValueType>,
-    param: &ast::NamedType<'_>,
-) -> ResolutionResult<()>
+) -> Outcome<()>
     requires names { NamesStand (T.collection types.old) names.now }
     requires found { EachStands (ValueStands (T.collection types.old)) found.old }
     ensures found { OnOk result (EachStands (ValueStands (T.collection types.new)) found.new) }
     ensures grows { Grows (T.collection types.old) (T.collection types.new) }
 {
-    let ty = value_type(alloc, names, types, &param.ty)?;
+    let ty = value_type(&param.ty, alloc, names, types)?;
     if add_new(alloc, found, param.id.string, ty)? {
         Ok(())
     } else {
-        Err(duplicate_parameter(alloc, &param.id, kind))
+        Err(duplicate_parameter(alloc, param.id.string, kind, param.id.span))
     }
 }
 
 /// The declared parameters, behind those that were found.
 fn add_params<T: GrowingTypes>(
+    params: &Vec<ast::NamedType<'_>>,
     alloc: Global,
     names: &NamedMap<Binding>,
     types: &mut T,
     kind: FuncKind,
     found: &mut NamedMap<ValueType>,
-    params: &Vec<ast::NamedType<'_>>,
-) -> ResolutionResult<()>
+) -> Outcome<()>
     requires names { NamesStand (T.collection types.old) names.now }
     requires found { EachStands (ValueStands (T.collection types.old)) found.old }
     ensures found { OnOk result (EachStands (ValueStands (T.collection types.new)) found.new) }
@@ -101,37 +100,37 @@ fn add_params<T: GrowingTypes>(
 {
     types.types().see_acyclic();
     for param in params {
-        add_param(alloc, names, types, kind, found, param)?;
+        add_param(param, alloc, names, types, kind, found)?;
     }
     Ok(())
 }
 
 /// A result that is no borrow.
 fn scalar_result<T: GrowingTypes>(
+    ty: &ast::Type<'_>,
     alloc: Global,
     names: &NamedMap<Binding>,
     types: &mut T,
-    ty: &ast::Type<'_>,
-) -> ResolutionResult<Option<ValueType>>
+) -> Outcome<Option<ValueType>>
     requires { NamesStand (T.collection types.old) names.now }
     ensures stands { IfOk result (StandsIf (T.collection types.new)) }
     ensures grows { Grows (T.collection types.old) (T.collection types.new) }
 {
-    let found = value_type(alloc, names, types, ty)?;
+    let found = value_type(ty, alloc, names, types)?;
     if found.contains_borrow(types.types()) {
-        return Err(Error::BorrowInResult { span: ty.span() });
+        return Err(Refusal::named(alloc, Error::BorrowInResult { span: ty.span() }));
     }
     Ok(Some(found))
 }
 
 /// What a function returns.
 fn result_type<T: GrowingTypes>(
+    results: &ResultList<'_>,
     alloc: Global,
     names: &NamedMap<Binding>,
     types: &mut T,
     given: Option<ValueType>,
-    results: &ResultList<'_>,
-) -> ResolutionResult<Option<ValueType>>
+) -> Outcome<Option<ValueType>>
     requires names { NamesStand (T.collection types.old) names.now }
     requires given { StandsIf (T.collection types.old) given }
     ensures stands { IfOk result (StandsIf (T.collection types.new)) }
@@ -140,19 +139,19 @@ fn result_type<T: GrowingTypes>(
     types.types().see_acyclic();
     match results {
         ResultList::Empty => Ok(given),
-        ResultList::Scalar(ty) => scalar_result(alloc, names, types, ty),
+        ResultList::Scalar(ty) => scalar_result(ty, alloc, names, types),
     }
 }
 
 /// The function type of these parameters and results.
 pub(crate) fn function<T: GrowingTypes>(
+    params: &Vec<ast::NamedType<'_>>,
+    results: &ResultList<'_>,
     alloc: Global,
     names: &NamedMap<Binding>,
     types: &mut T,
     signature: Signature,
-    params: &Vec<ast::NamedType<'_>>,
-    results: &ResultList<'_>,
-) -> ResolutionResult<FuncTypeId>
+) -> Outcome<FuncTypeId>
     requires names { NamesStand (T.collection types.old) names.now }
     requires receiver { StandsIf (T.collection types.old) signature.receiver }
     requires given { StandsIf (T.collection types.old) signature.given }
@@ -161,8 +160,8 @@ pub(crate) fn function<T: GrowingTypes>(
 {
     types.types().see_acyclic();
     let mut found = first_params(alloc, signature.receiver)?;
-    add_params(alloc, names, types, signature.kind, &mut found, params)?;
-    let result = result_type(alloc, names, types, signature.given, results)?;
+    add_params(params, alloc, names, types, signature.kind, &mut found)?;
+    let result = result_type(results, alloc, names, types, signature.given)?;
     let func = FuncType {
         params: found,
         result,
@@ -174,11 +173,11 @@ pub(crate) fn function<T: GrowingTypes>(
 
 /// The function type of a function that belongs to no resource.
 pub fn func_type<T: GrowingTypes>(
+    ty: &ast::FuncType<'_>,
     alloc: Global,
     names: &NamedMap<Binding>,
     types: &mut T,
-    ty: &ast::FuncType<'_>,
-) -> ResolutionResult<FuncTypeId>
+) -> Outcome<FuncTypeId>
     requires { NamesStand (T.collection types.old) names.now }
     ensures stands { IfOk result (λ f. Stands (T.collection types.new) (ItemKind.Func f)) }
     ensures grows { Grows (T.collection types.old) (T.collection types.new) }
@@ -189,33 +188,23 @@ pub fn func_type<T: GrowingTypes>(
         given: None,
         is_async: ty.is_async,
     };
-    function(alloc, names, types, signature, &ty.params, &ty.results)
+    function(&ty.params, &ty.results, alloc, names, types, signature)
 }
 
 /// The function type that a type is.
-fn func_of_type(
-    alloc: Global,
-    types: &Types,
-    ty: Type,
-    id: &Ident<'_>,
-) -> ResolutionResult<FuncTypeId>
+fn func_of_type(alloc: Global, types: &Types, ty: Type, id: &Ident<'_>) -> Outcome<FuncTypeId>
     requires { Stands types.now (ItemKind.Ty ty) }
     ensures { IfOk result (λ f. Stands types.now (ItemKind.Func f)) }
 {
     types.see_acyclic();
     match ty {
         Type::Func(func) => Ok(func),
-        other => Err(not_func_type(alloc, id, other.desc(types))),
+        other => Err(not_func_type(alloc, id.string, other.desc(types), id.span)),
     }
 }
 
 /// The function type that an item is, or is the type of.
-fn func_of(
-    alloc: Global,
-    types: &Types,
-    kind: ItemKind,
-    id: &Ident<'_>,
-) -> ResolutionResult<FuncTypeId>
+fn func_of(alloc: Global, types: &Types, kind: ItemKind, id: &Ident<'_>) -> Outcome<FuncTypeId>
     requires { Stands types.now kind }
     ensures { IfOk result (λ f. Stands types.now (ItemKind.Func f)) }
 {
@@ -223,7 +212,7 @@ fn func_of(
     match kind {
         ItemKind::Ty(ty) => func_of_type(alloc, types, ty, id),
         ItemKind::Func(func) => Ok(func),
-        other => Err(not_func_type(alloc, id, other.desc(types))),
+        other => Err(not_func_type(alloc, id.string, other.desc(types), id.span)),
     }
 }
 
@@ -233,7 +222,7 @@ fn func_named(
     names: &NamedMap<Binding>,
     types: &Types,
     id: &Ident<'_>,
-) -> ResolutionResult<FuncTypeId>
+) -> Outcome<FuncTypeId>
     requires { NamesStand types.now names.now }
     ensures { IfOk result (λ f. Stands types.now (ItemKind.Func f)) }
 {
@@ -243,18 +232,18 @@ fn func_named(
 
 /// The function type that is written or named.
 pub fn func_type_ref<T: GrowingTypes>(
+    ty: &ast::FuncTypeRef<'_>,
     alloc: Global,
     names: &NamedMap<Binding>,
     types: &mut T,
-    ty: &ast::FuncTypeRef<'_>,
-) -> ResolutionResult<FuncTypeId>
+) -> Outcome<FuncTypeId>
     requires { NamesStand (T.collection types.old) names.now }
     ensures stands { IfOk result (λ f. Stands (T.collection types.new) (ItemKind.Func f)) }
     ensures grows { Grows (T.collection types.old) (T.collection types.new) }
 {
     types.types().see_acyclic();
     match ty {
-        ast::FuncTypeRef::Func(ty) => func_type(alloc, names, types, ty),
+        ast::FuncTypeRef::Func(ty) => func_type(ty, alloc, names, types),
         ast::FuncTypeRef::Ident(id) => func_named(alloc, names, types.types(), id),
     }
 }

@@ -8,8 +8,8 @@ ghost use Rattle.wac_types_base.specs.declared.item.«Type».{«Type» as TypeKi
 ghost use Rattle.wac_types_base.specs.Record.{Collection};
 ghost use Rattle.wac_types_base.specs.Collection.{HasChildren, Grows, SlotStands, item_node, func_entry, interface_entry, world_entry, defined_entry, resource_entry};
 
-use crate::error::ResolutionResult;
 use std::alloc::{AllocError, Global};
+use wac_parser_refusals::Outcome;
 use wac_parser_tree::PackagePath;
 use wac_types_base::{
     DefinedType, DefinedTypeId, FuncType, FuncTypeId, Interface, InterfaceId, ItemKind, Resource,
@@ -64,7 +64,7 @@ pub trait PackagedTypes: GrowingTypes {
         alloc: Global,
         path: &PackagePath<'_>,
         name: &str,
-    ) -> ResolutionResult<Option<ItemKind>>
+    ) -> Outcome<Option<ItemKind>>
         ensures stands { IfOk result (λ o. SlotStands (Self.collection self.new) o) }
         ensures grows { Grows (Self.collection self.old) (Self.collection self.new) };
 }

@@ -9,13 +9,14 @@ ghost use Rattle.wac_parser_declare.specs.Held.{BodyStands};
 ghost use Rattle.wac_parser_declare.specs.Holding.{ItemsStand, NamesStand};
 
 use crate::bodies::Body;
-use crate::error::{Error, ResolutionResult, WITH_HELP};
 use crate::functions::add_new;
 use crate::growing::PackagedTypes;
 use crate::paths::world_at;
-use crate::refusals::{duplicate_with_name, missing_with_name};
 use crate::scope::Context;
 use std::alloc::{AllocError, Global};
+use wac_parser_refusals::{
+    Error, Outcome, Refusal, WITH_HELP, duplicate_with_name, missing_with_name,
+};
 use wac_parser_tree::{Ident, WorldInclude, WorldIncludeItem};
 use wac_types_base::{ExternKind, ItemKind, NamedMap, Names, Types, World, WorldId};
 
@@ -25,24 +26,20 @@ fn has_colon(name: &str) -> bool {
 }
 
 /// One more name of a `with` clause, which is new.
-fn add_with_name(
-    alloc: Global,
-    found: &mut Names,
-    item: &WorldIncludeItem<'_>,
-) -> ResolutionResult<()> {
+fn add_with_name(item: &WorldIncludeItem<'_>, alloc: Global, found: &mut Names) -> Outcome<()> {
     let name = String::from_str(alloc, item.from.string)?;
     if found.insert(name)? {
         Ok(())
     } else {
-        Err(duplicate_with_name(alloc, &item.from))
+        Err(duplicate_with_name(alloc, item.from.string, item.from.span))
     }
 }
 
 /// Refuses a name that stands twice in a `with` clause.
-fn check_with_names(alloc: Global, with: &Vec<WorldIncludeItem<'_>>) -> ResolutionResult<()> {
+fn check_with_names(with: &Vec<WorldIncludeItem<'_>>, alloc: Global) -> Outcome<()> {
     let mut found = Names::new(alloc);
     for item in with {
-        add_with_name(alloc, &mut found, item)?;
+        add_with_name(item, alloc, &mut found)?;
     }
     Ok(())
 }
@@ -75,15 +72,20 @@ fn help_for(include: &WorldInclude<'_>) -> Option<&'static str> {
 }
 
 /// An item that is there already.
-fn conflict(alloc: Global, inclusion: Inclusion<'_>, id: &Ident<'_>) -> Result<Error, AllocError> {
-    Ok(Error::WorldIncludeConflict {
+fn conflict(
+    alloc: Global,
+    inclusion: Inclusion<'_>,
+    id: &Ident<'_>,
+) -> Result<Refusal, AllocError> {
+    let error = Error::WorldIncludeConflict {
         kind: inclusion.kind,
         name: String::from_str(alloc, id.string)?,
         from: String::from_str(alloc, inclusion.include.world.name())?,
         to: String::from_str(alloc, inclusion.to)?,
         span: id.span,
         help: help_for(inclusion.include),
-    })
+    };
+    Ok(Refusal::named(alloc, error))
 }
 
 /// One more item under its name, or under another.
@@ -94,7 +96,7 @@ fn include_item(
     name: &str,
     item: ItemKind,
     renamed: Option<Ident<'_>>,
-) -> ResolutionResult<()>
+) -> Outcome<()>
     ensures { OnOk result ((c : Collection) → ItemsStand c stand.old → Stands c item → ItemsStand c stand.new) }
 {
     if has_colon(name) {
@@ -121,7 +123,7 @@ fn include_imports(
     inclusion: Inclusion<'_>,
     stand: &mut NamedMap<ItemKind>,
     imports: &NamedMap<ItemKind>,
-) -> ResolutionResult<()>
+) -> Outcome<()>
     ensures { OnOk result ((c : Collection) → ItemsStand c stand.old → ItemsStand c imports.now → ItemsStand c stand.new) }
 {
     for at in 0..imports.len() {
@@ -151,7 +153,7 @@ fn include_exports(
     inclusion: Inclusion<'_>,
     stand: &mut NamedMap<ItemKind>,
     world: &World,
-) -> ResolutionResult<()>
+) -> Outcome<()>
     ensures { OnOk result ((c : Collection) → ItemsStand c stand.old → ItemsStand c world.now.exports → ItemsStand c stand.new) }
 {
     for at in 0..world.exports.len() {
@@ -169,10 +171,15 @@ fn is_met(world: &World, id: &Ident<'_>) -> bool {
 }
 
 /// Refuses a name of a `with` clause that the world lacks.
-fn check_met(alloc: Global, world: &World, include: &WorldInclude<'_>) -> ResolutionResult<()> {
+fn check_met(include: &WorldInclude<'_>, alloc: Global, world: &World) -> Outcome<()> {
     for item in &include.with {
         if !is_met(world, &item.from) {
-            return Err(missing_with_name(alloc, include.world.name(), &item.from));
+            return Err(missing_with_name(
+                alloc,
+                include.world.name(),
+                item.from.string,
+                item.from.span,
+            ));
         }
     }
     Ok(())
@@ -180,13 +187,13 @@ fn check_met(alloc: Global, world: &World, include: &WorldInclude<'_>) -> Resolu
 
 /// The items of a world.
 fn include_items(
+    include: &WorldInclude<'_>,
     alloc: Global,
     types: &Types,
     to: &str,
     body: &mut Body,
-    include: &WorldInclude<'_>,
     world: WorldId,
-) -> ResolutionResult<()>
+) -> Outcome<()>
     requires world { Stands types.now (ItemKind.Component world) }
     requires body { BodyStands types.now body.old }
     ensures body { OnOk result (BodyStands types.now body.new) }
@@ -204,25 +211,25 @@ fn include_items(
     };
     include_imports(alloc, imports, &mut body.items, &world.imports)?;
     include_exports(alloc, exports, &mut body.exports, world)?;
-    check_met(alloc, world, include)
+    check_met(include, alloc, world)
 }
 
 /// An include of a world: its imports and exports, and not its uses.
 pub(crate) fn include_world<T: PackagedTypes>(
+    include: &WorldInclude<'_>,
     alloc: Global,
     context: Context<'_>,
     types: &mut T,
     to: &str,
     body: &mut Body,
-    include: &WorldInclude<'_>,
-) -> ResolutionResult<()>
+) -> Outcome<()>
     requires root { NamesStand (T.collection types.old) context.root.now }
     requires body { BodyStands (T.collection types.old) body.old }
     ensures body { OnOk result (BodyStands (T.collection types.new) body.new) }
     ensures grows { Grows (T.collection types.old) (T.collection types.new) }
 {
     types.types().see_acyclic();
-    check_with_names(alloc, &include.with)?;
-    let world = world_at(alloc, context, types, &include.world)?;
-    include_items(alloc, types.types(), to, body, include, world)
+    check_with_names(&include.with, alloc)?;
+    let world = world_at(&include.world, alloc, context, types)?;
+    include_items(include, alloc, types.types(), to, body, world)
 }

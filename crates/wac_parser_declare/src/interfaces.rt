@@ -8,7 +8,6 @@ ghost use Rattle.wac_parser_declare.specs.Held.{BodyStands};
 ghost use Rattle.wac_parser_declare.specs.Holding.{NamesStand};
 
 use crate::bodies::{Body, Holder, add_item};
-use crate::error::ResolutionResult;
 use crate::functions::func_type_ref;
 use crate::growing::PackagedTypes;
 use crate::resources::item_type;
@@ -16,6 +15,7 @@ use crate::scope::Context;
 use crate::uses::use_types;
 use std::alloc::{AllocError, Global};
 use std::fmt::Write;
+use wac_parser_refusals::Outcome;
 use wac_parser_tree as ast;
 use wac_parser_tree::PackageName;
 use wac_types_base::{Interface, InterfaceId, ItemKind, Text};
@@ -39,59 +39,83 @@ pub(crate) fn identifier(
 
 /// A function of an interface: its type, then its name.
 fn export_item<T: PackagedTypes>(
+    export: &ast::InterfaceExport<'_>,
     alloc: Global,
     types: &mut T,
     holder: Holder<'_>,
     body: &mut Body,
-    export: &ast::InterfaceExport<'_>,
-) -> ResolutionResult<()>
+) -> Outcome<()>
     requires body { BodyStands (T.collection types.old) body.old }
     ensures body { OnOk result (BodyStands (T.collection types.new) body.new) }
     ensures grows { Grows (T.collection types.old) (T.collection types.new) }
 {
-    let func = func_type_ref(alloc, &body.names, types, &export.ty)?;
+    let func = func_type_ref(&export.ty, alloc, &body.names, types)?;
     add_item(alloc, holder, body, &export.id, ItemKind::Func(func))
 }
 
 /// One more item of an interface.
 fn interface_item<T: PackagedTypes>(
+    item: &ast::InterfaceItem<'_>,
     alloc: Global,
     context: Context<'_>,
     types: &mut T,
     holder: Holder<'_>,
     body: &mut Body,
-    item: &ast::InterfaceItem<'_>,
-) -> ResolutionResult<()>
+) -> Outcome<()>
     requires root { NamesStand (T.collection types.old) context.root.now }
     requires body { BodyStands (T.collection types.old) body.old }
     ensures body { OnOk result (BodyStands (T.collection types.new) body.new) }
     ensures grows { Grows (T.collection types.old) (T.collection types.new) }
 {
     match item {
-        ast::InterfaceItem::Use(item) => use_types(alloc, context, types, holder, body, item),
-        ast::InterfaceItem::Ty(decl) => item_type(alloc, types, holder, body, decl),
-        ast::InterfaceItem::Export(export) => export_item(alloc, types, holder, body, export),
+        ast::InterfaceItem::Use(item) => use_types(item, alloc, context, types, holder, body),
+        ast::InterfaceItem::Ty(decl) => item_type(decl, alloc, types, holder, body),
+        ast::InterfaceItem::Export(export) => export_item(export, alloc, types, holder, body),
     }
 }
 
-/// What the items of an interface state, in order.
+/// Adds what the items of an interface state, in order.
+fn add_items<T: PackagedTypes>(
+    items: &Vec<ast::InterfaceItem<'_>>,
+    alloc: Global,
+    context: Context<'_>,
+    types: &mut T,
+    holder: Holder<'_>,
+    body: &mut Body,
+) -> Outcome<()>
+    requires root { NamesStand (T.collection types.old) context.root.now }
+    requires body { BodyStands (T.collection types.old) body.old }
+    ensures body { OnOk result (BodyStands (T.collection types.new) body.new) }
+    ensures grows { Grows (T.collection types.old) (T.collection types.new) }
+{
+    types.types().see_acyclic();
+    for item in items {
+        interface_item(item, alloc, context, types, holder, body)?;
+    }
+    Ok(())
+}
+
+/// What the items of an interface state.
 fn interface_items<T: PackagedTypes>(
+    items: &Vec<ast::InterfaceItem<'_>>,
     alloc: Global,
     context: Context<'_>,
     types: &mut T,
     name: Option<&str>,
-    items: &Vec<ast::InterfaceItem<'_>>,
-) -> ResolutionResult<Body>
+) -> Outcome<Body>
     requires root { NamesStand (T.collection types.old) context.root.now }
     ensures body { IfOk result (BodyStands (T.collection types.new)) }
     ensures grows { Grows (T.collection types.old) (T.collection types.new) }
 {
-    types.types().see_acyclic();
-    let holder = Holder::Interface(name);
     let mut body = Body::new(alloc);
-    for item in items {
-        interface_item(alloc, context, types, holder, &mut body, item)?;
-    }
+    add_items(
+        items,
+        alloc,
+        context,
+        types,
+        Holder::Interface(name),
+        &mut body,
+    )?;
     Ok(body)
 }
 
@@ -118,35 +142,51 @@ fn add_interface<T: PackagedTypes>(
     })
 }
 
+/// Adds the interface that a body states, under the identifier of a name.
+fn add_named<T: PackagedTypes>(
+    alloc: Global,
+    own: &PackageName<'_>,
+    types: &mut T,
+    name: &str,
+    body: Body,
+) -> Result<InterfaceId, AllocError>
+    requires { BodyStands (T.collection types.old) body }
+    ensures stands { IfOk result (λ i. Stands (T.collection types.new) (ItemKind.Instance i)) }
+    ensures grows { Grows (T.collection types.old) (T.collection types.new) }
+{
+    types.types().see_acyclic();
+    let id = identifier(alloc, own, name)?;
+    add_interface(types, Some(id), body)
+}
+
 /// The interface without identifier that is written.
 pub fn inline_interface<T: PackagedTypes>(
+    interface: &ast::InlineInterface<'_>,
     alloc: Global,
     context: Context<'_>,
     types: &mut T,
-    interface: &ast::InlineInterface<'_>,
-) -> ResolutionResult<InterfaceId>
+) -> Outcome<InterfaceId>
     requires { NamesStand (T.collection types.old) context.root.now }
     ensures stands { IfOk result (λ i. Stands (T.collection types.new) (ItemKind.Instance i)) }
     ensures grows { Grows (T.collection types.old) (T.collection types.new) }
 {
-    let body = interface_items(alloc, context, types, None, &interface.items)?;
+    let body = interface_items(&interface.items, alloc, context, types, None)?;
     let id = add_interface(types, None, body)?;
     Ok(id)
 }
 
 /// The interface that a declaration states.
 pub(crate) fn interface_decl<T: PackagedTypes>(
+    decl: &ast::InterfaceDecl<'_>,
     alloc: Global,
     context: Context<'_>,
     types: &mut T,
-    decl: &ast::InterfaceDecl<'_>,
-) -> ResolutionResult<InterfaceId>
+) -> Outcome<InterfaceId>
     requires { NamesStand (T.collection types.old) context.root.now }
     ensures stands { IfOk result (λ i. Stands (T.collection types.new) (ItemKind.Instance i)) }
     ensures grows { Grows (T.collection types.old) (T.collection types.new) }
 {
-    let body = interface_items(alloc, context, types, Some(decl.id.string), &decl.items)?;
-    let text = identifier(alloc, context.own, decl.id.string)?;
-    let id = add_interface(types, Some(text), body)?;
+    let body = interface_items(&decl.items, alloc, context, types, Some(decl.id.string))?;
+    let id = add_named(alloc, context.own, types, decl.id.string, body)?;
     Ok(id)
 }

@@ -7,12 +7,11 @@ ghost use Rattle.wac_types_base.specs.declared.item.«Type».{«Type» as TypeKi
 ghost use Rattle.wac_types_base.specs.Collection.{Stands, Grows};
 ghost use Rattle.wac_parser_declare.specs.Holding.{NamesStand, ItemsStand};
 
-use crate::error::{Error, ResolutionResult};
 use crate::growing::PackagedTypes;
-use crate::refusals::{not_interface, not_world, undefined_name};
 use crate::scope::{Binding, Context, meaning};
 use std::alloc::{AllocError, Global};
 use wac_parser_lexer::SourceSpan;
+use wac_parser_refusals::{Error, Outcome, Refusal, not_interface, not_world, undefined_name};
 use wac_parser_tree::{Ident, PackagePath, UsePath, WorldRef};
 use wac_types_base::{InterfaceId, ItemKind, NamedMap, Type, Types, WorldId};
 
@@ -49,13 +48,14 @@ fn own_missing(
     kind: &'static str,
     export: &str,
     span: SourceSpan,
-) -> Result<Error, AllocError> {
-    Ok(Error::PackagePathMissingExport {
+) -> Result<Refusal, AllocError> {
+    let error = Error::PackagePathMissingExport {
         name: String::from_str(alloc, parent)?,
         kind,
         export: String::from_str(alloc, export)?,
         span,
-    })
+    };
+    Ok(Refusal::named(alloc, error))
 }
 
 /// The export that a further segment names.
@@ -66,7 +66,7 @@ fn own_step(
     kind: ItemKind,
     segment: &str,
     span: SourceSpan,
-) -> ResolutionResult<ItemKind>
+) -> Outcome<ItemKind>
     requires { Stands types.now kind }
     ensures { IfOk result (Stands types.now) }
 {
@@ -82,7 +82,7 @@ fn item_named(
     types: &Types,
     names: &NamedMap<Binding>,
     id: &Ident<'_>,
-) -> ResolutionResult<ItemKind>
+) -> Outcome<ItemKind>
     requires { NamesStand types.now names.now }
     ensures { IfOk result (Stands types.now) }
 {
@@ -93,17 +93,17 @@ fn item_named(
 
 /// The item that a path of the document's own package names.
 fn own_path(
+    path: &PackagePath<'_>,
     alloc: Global,
     context: Context<'_>,
     types: &Types,
-    path: &PackagePath<'_>,
-) -> ResolutionResult<ItemKind>
+) -> Outcome<ItemKind>
     requires { NamesStand types.now context.root.now }
     ensures { IfOk result (Stands types.now) }
 {
     let mut segments = path.segment_spans();
     let Some((first, span)) = segments.next() else {
-        return Err(undefined_name(alloc, &whole_path(path)));
+        return Err(undefined_name(alloc, path.string, path.span));
     };
     let id = Ident {
         string: first,
@@ -128,49 +128,50 @@ fn whole_path<'a>(path: &PackagePath<'a>) -> Ident<'a> {
 
 /// An export that a package lacks, or an item in it.
 fn foreign_missing(
-    alloc: Global,
     path: &PackagePath<'_>,
+    alloc: Global,
     kind: Option<&'static str>,
     passed: &str,
     export: &str,
     span: SourceSpan,
-) -> Result<Error, AllocError> {
-    Ok(Error::PackageMissingExport {
+) -> Result<Refusal, AllocError> {
+    let error = Error::PackageMissingExport {
         package: String::from_str(alloc, path.name)?,
         export: String::from_str(alloc, export)?,
         kind,
         path: String::from_str(alloc, passed)?,
         span,
-    })
+    };
+    Ok(Refusal::named(alloc, error))
 }
 
 /// The export that a further segment names.
 fn foreign_step(
+    path: &PackagePath<'_>,
     alloc: Global,
     types: &Types,
-    path: &PackagePath<'_>,
     kind: ItemKind,
     passed: &str,
     segment: &str,
     span: SourceSpan,
-) -> ResolutionResult<ItemKind>
+) -> Outcome<ItemKind>
     requires { Stands types.now kind }
     ensures { IfOk result (Stands types.now) }
 {
     match export_of(types, kind, segment) {
         Some(next) => Ok(next),
-        None => Err(foreign_missing(alloc, path, Some(kind.desc(types)), passed, segment, span)?),
+        None => Err(foreign_missing(path, alloc, Some(kind.desc(types)), passed, segment, span)?),
     }
 }
 
 /// The item that the further segments of a path name.
 fn foreign_rest(
+    path: &PackagePath<'_>,
     alloc: Global,
     types: &Types,
-    path: &PackagePath<'_>,
     first: &str,
     kind: ItemKind,
-) -> ResolutionResult<ItemKind>
+) -> Outcome<ItemKind>
     requires { Stands types.now kind }
     ensures { IfOk result (Stands types.now) }
 {
@@ -179,7 +180,7 @@ fn foreign_rest(
     let mut segments = path.segment_spans();
     let _ = segments.next();
     for (segment, span) in segments {
-        kind = foreign_step(alloc, types, path, kind, passed.as_str(), segment, span)?;
+        kind = foreign_step(path, alloc, types, kind, passed.as_str(), segment, span)?;
         passed.push_str("/")?;
         passed.push_str(segment)?;
     }
@@ -188,41 +189,41 @@ fn foreign_rest(
 
 /// The item that a path of another package names.
 fn foreign_path<T: PackagedTypes>(
+    path: &PackagePath<'_>,
     alloc: Global,
     types: &mut T,
-    path: &PackagePath<'_>,
-) -> ResolutionResult<ItemKind>
+) -> Outcome<ItemKind>
     ensures stands { IfOk result (Stands (T.collection types.new)) }
     ensures grows { Grows (T.collection types.old) (T.collection types.new) }
 {
     types.types().see_acyclic();
     let mut segments = path.segment_spans();
     let Some((first, span)) = segments.next() else {
-        return Err(undefined_name(alloc, &whole_path(path)));
+        return Err(undefined_name(alloc, path.string, path.span));
     };
     match types.definition(alloc, path, first)? {
-        Some(kind) => foreign_rest(alloc, types.types(), path, first, kind),
-        None => Err(foreign_missing(alloc, path, None, "", first, span)?),
+        Some(kind) => foreign_rest(path, alloc, types.types(), first, kind),
+        None => Err(foreign_missing(path, alloc, None, "", first, span)?),
     }
 }
 
 /// The item that a path of a package names: in the document's own package a name of the root and its exports, else a
 /// definition of the package and its exports.
 pub fn package_path<T: PackagedTypes>(
+    path: &PackagePath<'_>,
     alloc: Global,
     context: Context<'_>,
     types: &mut T,
-    path: &PackagePath<'_>,
-) -> ResolutionResult<ItemKind>
+) -> Outcome<ItemKind>
     requires { NamesStand (T.collection types.old) context.root.now }
     ensures stands { IfOk result (Stands (T.collection types.new)) }
     ensures grows { Grows (T.collection types.old) (T.collection types.new) }
 {
     types.types().see_acyclic();
     if path.name == context.own.name {
-        own_path(alloc, context, types.types(), path)
+        own_path(path, alloc, context, types.types())
     } else {
-        foreign_path(alloc, types, path)
+        foreign_path(path, alloc, types)
     }
 }
 
@@ -232,7 +233,7 @@ fn root_item<T: PackagedTypes>(
     context: Context<'_>,
     types: &mut T,
     id: &Ident<'_>,
-) -> ResolutionResult<ItemKind>
+) -> Outcome<ItemKind>
     requires { NamesStand (T.collection types.old) context.root.now }
     ensures stands { IfOk result (Stands (T.collection types.new)) }
     ensures grows { Grows (T.collection types.old) (T.collection types.new) }
@@ -248,7 +249,7 @@ fn as_interface(
     types: &Types,
     kind: ItemKind,
     path: &Ident<'_>,
-) -> ResolutionResult<InterfaceId>
+) -> Outcome<InterfaceId>
     requires { Stands types.now kind }
     ensures { IfOk result (λ i. Stands types.now (ItemKind.Instance i)) }
 {
@@ -260,16 +261,16 @@ fn as_interface(
 
 /// The interface that a path of a package names.
 pub(crate) fn package_interface<T: PackagedTypes>(
+    path: &PackagePath<'_>,
     alloc: Global,
     context: Context<'_>,
     types: &mut T,
-    path: &PackagePath<'_>,
-) -> ResolutionResult<InterfaceId>
+) -> Outcome<InterfaceId>
     requires { NamesStand (T.collection types.old) context.root.now }
     ensures stands { IfOk result (λ i. Stands (T.collection types.new) (ItemKind.Instance i)) }
     ensures grows { Grows (T.collection types.old) (T.collection types.new) }
 {
-    let kind = package_path(alloc, context, types, path)?;
+    let kind = package_path(path, alloc, context, types)?;
     as_interface(alloc, types.types(), kind, &whole_path(path))
 }
 
@@ -279,7 +280,7 @@ pub(crate) fn root_interface<T: PackagedTypes>(
     context: Context<'_>,
     types: &mut T,
     id: &Ident<'_>,
-) -> ResolutionResult<InterfaceId>
+) -> Outcome<InterfaceId>
     requires { NamesStand (T.collection types.old) context.root.now }
     ensures stands { IfOk result (λ i. Stands (T.collection types.new) (ItemKind.Instance i)) }
     ensures grows { Grows (T.collection types.old) (T.collection types.new) }
@@ -290,28 +291,23 @@ pub(crate) fn root_interface<T: PackagedTypes>(
 
 /// The interface that a `use` names.
 pub fn interface_at<T: PackagedTypes>(
+    path: &UsePath<'_>,
     alloc: Global,
     context: Context<'_>,
     types: &mut T,
-    path: &UsePath<'_>,
-) -> ResolutionResult<InterfaceId>
+) -> Outcome<InterfaceId>
     requires { NamesStand (T.collection types.old) context.root.now }
     ensures stands { IfOk result (λ i. Stands (T.collection types.new) (ItemKind.Instance i)) }
     ensures grows { Grows (T.collection types.old) (T.collection types.new) }
 {
     match path {
-        UsePath::Package(path) => package_interface(alloc, context, types, path),
+        UsePath::Package(path) => package_interface(path, alloc, context, types),
         UsePath::Ident(id) => root_interface(alloc, context, types, id),
     }
 }
 
 /// An item that is to be a world.
-fn as_world(
-    alloc: Global,
-    types: &Types,
-    kind: ItemKind,
-    path: &Ident<'_>,
-) -> ResolutionResult<WorldId>
+fn as_world(alloc: Global, types: &Types, kind: ItemKind, path: &Ident<'_>) -> Outcome<WorldId>
     requires { Stands types.now kind }
     ensures { IfOk result (λ i. Stands types.now (ItemKind.Component i)) }
 {
@@ -324,17 +320,17 @@ fn as_world(
 
 /// The world that an `include` names.
 pub fn world_at<T: PackagedTypes>(
+    world: &WorldRef<'_>,
     alloc: Global,
     context: Context<'_>,
     types: &mut T,
-    world: &WorldRef<'_>,
-) -> ResolutionResult<WorldId>
+) -> Outcome<WorldId>
     requires { NamesStand (T.collection types.old) context.root.now }
     ensures stands { IfOk result (λ i. Stands (T.collection types.new) (ItemKind.Component i)) }
     ensures grows { Grows (T.collection types.old) (T.collection types.new) }
 {
     let kind = match world {
-        WorldRef::Package(path) => package_path(alloc, context, types, path)?,
+        WorldRef::Package(path) => package_path(path, alloc, context, types)?,
         WorldRef::Ident(id) => root_item(alloc, context, types, id)?,
     };
     let path = Ident {

@@ -11,12 +11,11 @@ ghost use Rattle.wac_parser_declare.specs.Holding.{StandsIf};
 
 use crate::aliases::{Place, type_alias};
 use crate::bodies::{Body, Holder, add_type};
-use crate::error::ResolutionResult;
 use crate::functions::{Signature, add_new, function};
 use crate::growing::GrowingTypes;
-use crate::refusals::{duplicate_constructor, duplicate_method};
 use crate::type_decls::{enum_decl, flags_decl, record_decl, variant_decl};
 use std::alloc::{AllocError, Global};
+use wac_parser_refusals::{Outcome, duplicate_constructor, duplicate_method};
 use wac_parser_tree as ast;
 use wac_types_base::{FuncKind, ItemKind, Resource, ResourceId, Text, Type, ValueType};
 
@@ -51,33 +50,33 @@ fn method_name(
 
 /// Adds the function of a resource.
 fn add_function<T: GrowingTypes>(
+    params: &Vec<ast::NamedType<'_>>,
+    results: &ast::ResultList<'_>,
     alloc: Global,
     types: &mut T,
     body: &mut Body,
     name: &str,
     signature: Signature,
-    params: &Vec<ast::NamedType<'_>>,
-    results: &ast::ResultList<'_>,
-) -> ResolutionResult<()>
+) -> Outcome<()>
     requires body { BodyStands (T.collection types.old) body.old }
     requires receiver { StandsIf (T.collection types.old) signature.receiver }
     requires given { StandsIf (T.collection types.old) signature.given }
     ensures body { OnOk result (BodyStands (T.collection types.new) body.new) }
     ensures grows { Grows (T.collection types.old) (T.collection types.new) }
 {
-    let func = function(alloc, &body.names, types, signature, params, results)?;
+    let func = function(params, results, alloc, &body.names, types, signature)?;
     let _ = add_new(alloc, &mut body.items, name, ItemKind::Func(func))?;
     Ok(())
 }
 
 /// The constructor of a resource.
 fn add_constructor<T: GrowingTypes>(
+    decl: &ast::Constructor<'_>,
     alloc: Global,
     types: &mut T,
     owner: Owner<'_>,
     body: &mut Body,
-    decl: &ast::Constructor<'_>,
-) -> ResolutionResult<()>
+) -> Outcome<()>
     requires body { BodyStands (T.collection types.old) body.old }
     requires owner { Stands (T.collection types.old) (ItemKind.Ty (TypeKind.Resource owner.id)) }
     ensures body { OnOk result (BodyStands (T.collection types.new) body.new) }
@@ -96,18 +95,18 @@ fn add_constructor<T: GrowingTypes>(
     };
     let results = ast::ResultList::Empty;
     add_function(
+        &decl.params,
+        &results,
         alloc,
         types,
         body,
         name.as_str(),
         signature,
-        &decl.params,
-        &results,
     )
 }
 
 /// What is given of a method, static or not.
-fn method_signature(resource: ResourceId, decl: &ast::Method<'_>) -> Signature
+fn method_signature(decl: &ast::Method<'_>, resource: ResourceId) -> Signature
     ensures given { result.given ≡ None }
     ensures receiver { (result.receiver ≡ None) ⊎ (result.receiver ≡ Some (ValueType.Borrow resource)) }
 {
@@ -130,12 +129,12 @@ fn method_signature(resource: ResourceId, decl: &ast::Method<'_>) -> Signature
 
 /// A method of a resource, static or not.
 fn add_method<T: GrowingTypes>(
+    decl: &ast::Method<'_>,
     alloc: Global,
     types: &mut T,
     owner: Owner<'_>,
     body: &mut Body,
-    decl: &ast::Method<'_>,
-) -> ResolutionResult<()>
+) -> Outcome<()>
     requires body { BodyStands (T.collection types.old) body.old }
     requires owner { Stands (T.collection types.old) (ItemKind.Ty (TypeKind.Resource owner.id)) }
     ensures body { OnOk result (BodyStands (T.collection types.new) body.new) }
@@ -145,47 +144,47 @@ fn add_method<T: GrowingTypes>(
     let name = method_name(alloc, decl.is_static, owner.name, decl.id.string)?;
     let other = method_name(alloc, !decl.is_static, owner.name, decl.id.string)?;
     if body.items.contains(name.as_str()) || body.items.contains(other.as_str()) {
-        return Err(duplicate_method(alloc, &decl.id, owner.name));
+        return Err(duplicate_method(alloc, decl.id.string, owner.name, decl.id.span));
     }
-    let signature = method_signature(owner.id, decl);
+    let signature = method_signature(decl, owner.id);
     add_function(
+        &decl.ty.params,
+        &decl.ty.results,
         alloc,
         types,
         body,
         name.as_str(),
         signature,
-        &decl.ty.params,
-        &decl.ty.results,
     )
 }
 
 /// One more function of a resource.
 fn resource_method<T: GrowingTypes>(
+    method: &ast::ResourceMethod<'_>,
     alloc: Global,
     types: &mut T,
     owner: Owner<'_>,
     body: &mut Body,
-    method: &ast::ResourceMethod<'_>,
-) -> ResolutionResult<()>
+) -> Outcome<()>
     requires body { BodyStands (T.collection types.old) body.old }
     requires owner { Stands (T.collection types.old) (ItemKind.Ty (TypeKind.Resource owner.id)) }
     ensures body { OnOk result (BodyStands (T.collection types.new) body.new) }
     ensures grows { Grows (T.collection types.old) (T.collection types.new) }
 {
     match method {
-        ast::ResourceMethod::Constructor(decl) => add_constructor(alloc, types, owner, body, decl),
-        ast::ResourceMethod::Method(decl) => add_method(alloc, types, owner, body, decl),
+        ast::ResourceMethod::Constructor(decl) => add_constructor(decl, alloc, types, owner, body),
+        ast::ResourceMethod::Method(decl) => add_method(decl, alloc, types, owner, body),
     }
 }
 
 /// The functions of a resource, in order.
 fn resource_methods<T: GrowingTypes>(
+    methods: &Vec<ast::ResourceMethod<'_>>,
     alloc: Global,
     types: &mut T,
     owner: Owner<'_>,
     body: &mut Body,
-    methods: &Vec<ast::ResourceMethod<'_>>,
-) -> ResolutionResult<()>
+) -> Outcome<()>
     requires body { BodyStands (T.collection types.old) body.old }
     requires owner { Stands (T.collection types.old) (ItemKind.Ty (TypeKind.Resource owner.id)) }
     ensures body { OnOk result (BodyStands (T.collection types.new) body.new) }
@@ -193,7 +192,7 @@ fn resource_methods<T: GrowingTypes>(
 {
     types.types().see_acyclic();
     for method in methods {
-        resource_method(alloc, types, owner, body, method)?;
+        resource_method(method, alloc, types, owner, body)?;
     }
     Ok(())
 }
@@ -217,12 +216,12 @@ fn new_resource<T: GrowingTypes>(
 
 /// A resource with its functions.
 fn resource_decl<T: GrowingTypes>(
+    decl: &ast::ResourceDecl<'_>,
     alloc: Global,
     types: &mut T,
     holder: Holder<'_>,
     body: &mut Body,
-    decl: &ast::ResourceDecl<'_>,
-) -> ResolutionResult<()>
+) -> Outcome<()>
     requires body { BodyStands (T.collection types.old) body.old }
     ensures body { OnOk result (BodyStands (T.collection types.new) body.new) }
     ensures grows { Grows (T.collection types.old) (T.collection types.new) }
@@ -233,16 +232,16 @@ fn resource_decl<T: GrowingTypes>(
         name: decl.id.string,
         id,
     };
-    resource_methods(alloc, types, owner, body, &decl.methods)
+    resource_methods(&decl.methods, alloc, types, owner, body)
 }
 
 /// The type that a declaration in a body states, where that is no resource of its own.
 fn declared_type<T: GrowingTypes>(
+    decl: &ast::ItemTypeDecl<'_>,
     alloc: Global,
     types: &mut T,
     body: &Body,
-    decl: &ast::ItemTypeDecl<'_>,
-) -> ResolutionResult<Option<Type>>
+) -> Outcome<Option<Type>>
     requires body { BodyStands (T.collection types.old) body.now }
     ensures stands { IfOk result (λ o. IfSome o (λ t. Stands (T.collection types.new) (ItemKind.Ty t))) }
     ensures grows { Grows (T.collection types.old) (T.collection types.new) }
@@ -251,31 +250,31 @@ fn declared_type<T: GrowingTypes>(
     let names = &body.names;
     let ty = match decl {
         ast::ItemTypeDecl::Resource(_) => return Ok(None),
-        ast::ItemTypeDecl::Variant(decl) => variant_decl(alloc, names, types, decl)?,
-        ast::ItemTypeDecl::Record(decl) => record_decl(alloc, names, types, decl)?,
-        ast::ItemTypeDecl::Flags(decl) => flags_decl(alloc, types, decl)?,
-        ast::ItemTypeDecl::Enum(decl) => enum_decl(alloc, types, decl)?,
-        ast::ItemTypeDecl::Alias(decl) => type_alias(alloc, names, types, Place::Body, decl)?,
+        ast::ItemTypeDecl::Variant(decl) => variant_decl(decl, alloc, names, types)?,
+        ast::ItemTypeDecl::Record(decl) => record_decl(decl, alloc, names, types)?,
+        ast::ItemTypeDecl::Flags(decl) => flags_decl(decl, alloc, types)?,
+        ast::ItemTypeDecl::Enum(decl) => enum_decl(decl, alloc, types)?,
+        ast::ItemTypeDecl::Alias(decl) => type_alias(decl, alloc, names, types, Place::Body)?,
     };
     Ok(Some(ty))
 }
 
 /// A declaration in a body.
 pub(crate) fn item_type<T: GrowingTypes>(
+    decl: &ast::ItemTypeDecl<'_>,
     alloc: Global,
     types: &mut T,
     holder: Holder<'_>,
     body: &mut Body,
-    decl: &ast::ItemTypeDecl<'_>,
-) -> ResolutionResult<()>
+) -> Outcome<()>
     requires body { BodyStands (T.collection types.old) body.old }
     ensures body { OnOk result (BodyStands (T.collection types.new) body.new) }
     ensures grows { Grows (T.collection types.old) (T.collection types.new) }
 {
     if let ast::ItemTypeDecl::Resource(decl) = decl {
-        return resource_decl(alloc, types, holder, body, decl);
+        return resource_decl(decl, alloc, types, holder, body);
     }
-    match declared_type(alloc, types, body, decl)? {
+    match declared_type(decl, alloc, types, body)? {
         Some(ty) => add_type(alloc, holder, body, decl.id(), ty),
         None => Ok(()),
     }

@@ -3,14 +3,13 @@
 
 ghost use Rattle.std.specs.Prelude.{◌≡◌, ◌∷◌, ◌++◌, [], OnOk, OnErr, string_bytes};
 ghost use Rattle.wac_types_base.specs.Entries.{value_at};
-ghost use Rattle.wac_parser_declare.specs.Causes.{present, UndefinedName};
-ghost use Rattle.wac_parser_declare.specs.Holding.{IsOutcome};
+ghost use Rattle.wac_parser_refusals.specs.Causes.{present, UndefinedName};
+ghost use Rattle.wac_parser_refusals.specs.Outcomes.{IsOutcome};
 
-use crate::error::{Error, ResolutionResult};
 use crate::functions::add_new;
-use crate::refusals::{duplicate_name, undefined_name};
 use std::alloc::Global;
 use wac_parser_lexer::SourceSpan;
+use wac_parser_refusals::{Outcome, duplicate_name, undefined_name};
 use wac_parser_tree::{Ident, PackageName};
 use wac_types_base::{ItemKind, NamedMap};
 
@@ -33,16 +32,12 @@ pub struct Context<'a> {
 }
 
 /// What a name of a scope means.
-pub fn meaning(
-    alloc: Global,
-    names: &NamedMap<Binding>,
-    id: &Ident<'_>,
-) -> ResolutionResult<Binding>
+pub fn meaning(alloc: Global, names: &NamedMap<Binding>, id: &Ident<'_>) -> Outcome<Binding>
     ensures { IsOutcome (λ b r. r ≡ b) (present (value_at names.now id.now.string.now) (UndefinedName id.now.string.now) id.now.span) result }
 {
     match names.get(id.string) {
         Some(binding) => Ok(*binding),
-        None => Err(undefined_name(alloc, id)),
+        None => Err(undefined_name(alloc, id.string, id.span)),
     }
 }
 
@@ -52,12 +47,12 @@ pub fn bind(
     names: &mut NamedMap<Binding>,
     id: &Ident<'_>,
     kind: ItemKind,
-) -> ResolutionResult<()>
+) -> Outcome<()>
     ensures ok { OnOk result (names.new ≡ names.old ++ (id.now.string.now, record { kind = kind; span = id.now.span }) ∷ []) }
     ensures kept { OnErr result (names.new ≡ names.old) }
 {
     if let Some(earlier) = names.get(id.string) {
-        return Err(duplicate_name(alloc, id, earlier.span));
+        return Err(duplicate_name(alloc, id.string, id.span, earlier.span));
     }
     let binding = Binding {
         kind,

@@ -7,23 +7,24 @@ ghost use Rattle.wac_types_base.specs.Collection.{Stands, Grows};
 ghost use Rattle.wac_parser_declare.specs.Holding.{EachStands, NamesStand, StandsIf, ValueStands};
 
 use crate::aliases::{Place, type_alias};
-use crate::error::ResolutionResult;
 use crate::functions::add_new;
 use crate::growing::GrowingTypes;
-use crate::refusals::{duplicate_case, duplicate_enum_case, duplicate_field, duplicate_flag};
 use crate::scope::Binding;
 use crate::value_types::{define, value_type};
 use std::alloc::Global;
+use wac_parser_refusals::{
+    Outcome, duplicate_case, duplicate_enum_case, duplicate_field, duplicate_flag,
+};
 use wac_parser_tree as ast;
 use wac_types_base::{DefinedType, Enum, Flags, NamedMap, Names, Record, Type, ValueType, Variant};
 
 /// The type of a case, if it has one.
 fn case_type<T: GrowingTypes>(
+    ty: &Option<ast::Type<'_>>,
     alloc: Global,
     names: &NamedMap<Binding>,
     types: &mut T,
-    ty: &Option<ast::Type<'_>>,
-) -> ResolutionResult<Option<ValueType>>
+) -> Outcome<Option<ValueType>>
     requires { NamesStand (T.collection types.old) names.now }
     ensures stands { IfOk result (StandsIf (T.collection types.new)) }
     ensures grows { Grows (T.collection types.old) (T.collection types.new) }
@@ -31,7 +32,7 @@ fn case_type<T: GrowingTypes>(
     types.types().see_acyclic();
     match ty {
         Some(ty) => {
-            let found = value_type(alloc, names, types, ty)?;
+            let found = value_type(ty, alloc, names, types)?;
             Ok(Some(found))
         }
         None => Ok(None),
@@ -40,33 +41,33 @@ fn case_type<T: GrowingTypes>(
 
 /// One more case of a variant.
 fn add_case<T: GrowingTypes>(
+    case: &ast::VariantCase<'_>,
     alloc: Global,
     names: &NamedMap<Binding>,
     types: &mut T,
     variant: &str,
     found: &mut NamedMap<Option<ValueType>>,
-    case: &ast::VariantCase<'_>,
-) -> ResolutionResult<()>
+) -> Outcome<()>
     requires names { NamesStand (T.collection types.old) names.now }
     requires found { EachStands (StandsIf (T.collection types.old)) found.old }
     ensures found { OnOk result (EachStands (StandsIf (T.collection types.new)) found.new) }
     ensures grows { Grows (T.collection types.old) (T.collection types.new) }
 {
-    let ty = case_type(alloc, names, types, &case.ty)?;
+    let ty = case_type(&case.ty, alloc, names, types)?;
     if add_new(alloc, found, case.id.string, ty)? {
         Ok(())
     } else {
-        Err(duplicate_case(alloc, &case.id, variant))
+        Err(duplicate_case(alloc, case.id.string, variant, case.id.span))
     }
 }
 
 /// The cases of a variant.
 fn cases<T: GrowingTypes>(
+    decl: &ast::VariantDecl<'_>,
     alloc: Global,
     names: &NamedMap<Binding>,
     types: &mut T,
-    decl: &ast::VariantDecl<'_>,
-) -> ResolutionResult<NamedMap<Option<ValueType>>>
+) -> Outcome<NamedMap<Option<ValueType>>>
     requires { NamesStand (T.collection types.old) names.now }
     ensures stand { IfOk result (EachStands (StandsIf (T.collection types.new))) }
     ensures grows { Grows (T.collection types.old) (T.collection types.new) }
@@ -74,56 +75,56 @@ fn cases<T: GrowingTypes>(
     types.types().see_acyclic();
     let mut found = NamedMap::new(alloc);
     for case in &decl.cases {
-        add_case(alloc, names, types, decl.id.string, &mut found, case)?;
+        add_case(case, alloc, names, types, decl.id.string, &mut found)?;
     }
     Ok(found)
 }
 
 /// The type of a variant.
 pub(crate) fn variant_decl<T: GrowingTypes>(
+    decl: &ast::VariantDecl<'_>,
     alloc: Global,
     names: &NamedMap<Binding>,
     types: &mut T,
-    decl: &ast::VariantDecl<'_>,
-) -> ResolutionResult<Type>
+) -> Outcome<Type>
     requires { NamesStand (T.collection types.old) names.now }
     ensures stands { IfOk result (λ t. Stands (T.collection types.new) (ItemKind.Ty t)) }
     ensures grows { Grows (T.collection types.old) (T.collection types.new) }
 {
-    let cases = cases(alloc, names, types, decl)?;
+    let cases = cases(decl, alloc, names, types)?;
     let ty = define(types, DefinedType::Variant(Variant { cases }))?;
     Ok(Type::Value(ty))
 }
 
 /// One more field of a record.
 fn add_field<T: GrowingTypes>(
+    field: &ast::Field<'_>,
     alloc: Global,
     names: &NamedMap<Binding>,
     types: &mut T,
     record: &str,
     found: &mut NamedMap<ValueType>,
-    field: &ast::Field<'_>,
-) -> ResolutionResult<()>
+) -> Outcome<()>
     requires names { NamesStand (T.collection types.old) names.now }
     requires found { EachStands (ValueStands (T.collection types.old)) found.old }
     ensures found { OnOk result (EachStands (ValueStands (T.collection types.new)) found.new) }
     ensures grows { Grows (T.collection types.old) (T.collection types.new) }
 {
-    let ty = value_type(alloc, names, types, &field.ty)?;
+    let ty = value_type(&field.ty, alloc, names, types)?;
     if add_new(alloc, found, field.id.string, ty)? {
         Ok(())
     } else {
-        Err(duplicate_field(alloc, &field.id, record))
+        Err(duplicate_field(alloc, field.id.string, record, field.id.span))
     }
 }
 
 /// The fields of a record.
 fn fields<T: GrowingTypes>(
+    decl: &ast::RecordDecl<'_>,
     alloc: Global,
     names: &NamedMap<Binding>,
     types: &mut T,
-    decl: &ast::RecordDecl<'_>,
-) -> ResolutionResult<NamedMap<ValueType>>
+) -> Outcome<NamedMap<ValueType>>
     requires { NamesStand (T.collection types.old) names.now }
     ensures stand { IfOk result (EachStands (ValueStands (T.collection types.new))) }
     ensures grows { Grows (T.collection types.old) (T.collection types.new) }
@@ -131,121 +132,116 @@ fn fields<T: GrowingTypes>(
     types.types().see_acyclic();
     let mut found = NamedMap::new(alloc);
     for field in &decl.fields {
-        add_field(alloc, names, types, decl.id.string, &mut found, field)?;
+        add_field(field, alloc, names, types, decl.id.string, &mut found)?;
     }
     Ok(found)
 }
 
 /// The type of a record.
 pub(crate) fn record_decl<T: GrowingTypes>(
+    decl: &ast::RecordDecl<'_>,
     alloc: Global,
     names: &NamedMap<Binding>,
     types: &mut T,
-    decl: &ast::RecordDecl<'_>,
-) -> ResolutionResult<Type>
+) -> Outcome<Type>
     requires { NamesStand (T.collection types.old) names.now }
     ensures stands { IfOk result (λ t. Stands (T.collection types.new) (ItemKind.Ty t)) }
     ensures grows { Grows (T.collection types.old) (T.collection types.new) }
 {
-    let fields = fields(alloc, names, types, decl)?;
+    let fields = fields(decl, alloc, names, types)?;
     let ty = define(types, DefinedType::Record(Record { fields }))?;
     Ok(Type::Value(ty))
 }
 
 /// One more flag.
-fn add_flag(
-    alloc: Global,
-    flags: &str,
-    found: &mut Names,
-    flag: &ast::Flag<'_>,
-) -> ResolutionResult<()> {
+fn add_flag(flag: &ast::Flag<'_>, alloc: Global, flags: &str, found: &mut Names) -> Outcome<()> {
     let name = String::from_str(alloc, flag.id.string)?;
     if found.insert(name)? {
         Ok(())
     } else {
-        Err(duplicate_flag(alloc, &flag.id, flags))
+        Err(duplicate_flag(alloc, flag.id.string, flags, flag.id.span))
     }
 }
 
 /// The flags of a declaration.
-fn flags(alloc: Global, decl: &ast::FlagsDecl<'_>) -> ResolutionResult<Names> {
+fn flags(decl: &ast::FlagsDecl<'_>, alloc: Global) -> Outcome<Names> {
     let mut found = Names::new(alloc);
     for flag in &decl.flags {
-        add_flag(alloc, decl.id.string, &mut found, flag)?;
+        add_flag(flag, alloc, decl.id.string, &mut found)?;
     }
     Ok(found)
 }
 
 /// The type of flags.
 pub(crate) fn flags_decl<T: GrowingTypes>(
+    decl: &ast::FlagsDecl<'_>,
     alloc: Global,
     types: &mut T,
-    decl: &ast::FlagsDecl<'_>,
-) -> ResolutionResult<Type>
+) -> Outcome<Type>
     ensures stands { IfOk result (λ t. Stands (T.collection types.new) (ItemKind.Ty t)) }
     ensures grows { Grows (T.collection types.old) (T.collection types.new) }
 {
     types.types().see_acyclic();
-    let flags = flags(alloc, decl)?;
+    let flags = flags(decl, alloc)?;
     let ty = define(types, DefinedType::Flags(Flags(flags)))?;
     Ok(Type::Value(ty))
 }
 
 /// One more case of an enum.
 fn add_enum_case(
+    case: &ast::EnumCase<'_>,
     alloc: Global,
     ty: &str,
     found: &mut Names,
-    case: &ast::EnumCase<'_>,
-) -> ResolutionResult<()> {
+) -> Outcome<()> {
     let name = String::from_str(alloc, case.id.string)?;
     if found.insert(name)? {
         Ok(())
     } else {
-        Err(duplicate_enum_case(alloc, &case.id, ty))
+        Err(duplicate_enum_case(alloc, case.id.string, ty, case.id.span))
     }
 }
 
 /// The cases of an enum.
-fn enum_cases(alloc: Global, decl: &ast::EnumDecl<'_>) -> ResolutionResult<Names> {
+fn enum_cases(decl: &ast::EnumDecl<'_>, alloc: Global) -> Outcome<Names> {
     let mut found = Names::new(alloc);
     for case in &decl.cases {
-        add_enum_case(alloc, decl.id.string, &mut found, case)?;
+        add_enum_case(case, alloc, decl.id.string, &mut found)?;
     }
     Ok(found)
 }
 
 /// The type of an enum.
 pub(crate) fn enum_decl<T: GrowingTypes>(
+    decl: &ast::EnumDecl<'_>,
     alloc: Global,
     types: &mut T,
-    decl: &ast::EnumDecl<'_>,
-) -> ResolutionResult<Type>
+) -> Outcome<Type>
     ensures stands { IfOk result (λ t. Stands (T.collection types.new) (ItemKind.Ty t)) }
     ensures grows { Grows (T.collection types.old) (T.collection types.new) }
 {
     types.types().see_acyclic();
-    let cases = enum_cases(alloc, decl)?;
+    let cases = enum_cases(decl, alloc)?;
     let ty = define(types, DefinedType::Enum(Enum(cases)))?;
     Ok(Type::Value(ty))
 }
 
 /// The type item of a declaration at the root.
 pub(crate) fn type_decl<T: GrowingTypes>(
+    decl: &ast::TypeDecl<'_>,
     alloc: Global,
     names: &NamedMap<Binding>,
     types: &mut T,
-    decl: &ast::TypeDecl<'_>,
-) -> ResolutionResult<Type>
+) -> Outcome<Type>
     requires { NamesStand (T.collection types.old) names.now }
     ensures stands { IfOk result (λ t. Stands (T.collection types.new) (ItemKind.Ty t)) }
     ensures grows { Grows (T.collection types.old) (T.collection types.new) }
 {
     match decl {
-        ast::TypeDecl::Variant(decl) => variant_decl(alloc, names, types, decl),
-        ast::TypeDecl::Record(decl) => record_decl(alloc, names, types, decl),
-        ast::TypeDecl::Flags(decl) => flags_decl(alloc, types, decl),
-        ast::TypeDecl::Enum(decl) => enum_decl(alloc, types, decl),
-        ast::TypeDecl::Alias(decl) => type_alias(alloc, names, types, Place::Root, decl),
+        ast::TypeDecl::Variant(decl) => variant_decl(decl, alloc, names, types),
+        ast::TypeDecl::Record(decl) => record_decl(decl, alloc, names, types),
+        ast::TypeDecl::Flags(decl) => flags_decl(decl, alloc, types),
+        ast::TypeDecl::Enum(decl) => enum_decl(decl, alloc, types),
+        ast::TypeDecl::Alias(decl) => type_alias(decl, alloc, names, types, Place::Root),
     }
 }

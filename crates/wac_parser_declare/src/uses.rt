@@ -9,13 +9,12 @@ ghost use Rattle.wac_parser_declare.specs.Held.{BodyStands};
 ghost use Rattle.wac_parser_declare.specs.Holding.{NamesStand};
 
 use crate::bodies::{Body, Holder};
-use crate::error::{AS_HELP, ResolutionResult};
 use crate::functions::add_new;
 use crate::growing::PackagedTypes;
 use crate::paths::{export_of, interface_at};
-use crate::refusals::{not_used_type, undefined_type, use_conflict};
 use crate::scope::{Context, bind};
 use std::alloc::{AllocError, Global};
+use wac_parser_refusals::{AS_HELP, Outcome, not_used_type, undefined_type, use_conflict};
 use wac_parser_tree as ast;
 use wac_parser_tree::{Ident, UseItem, UsePath};
 use wac_types_base::{InterfaceId, ItemKind, Text, Type, Types, UsedType};
@@ -44,7 +43,7 @@ fn local_name<'a>(item: &UseItem<'a>) -> Ident<'a> {
 }
 
 /// The name there, where it is another.
-fn name_there(alloc: Global, item: &UseItem<'_>) -> Result<Option<Text>, AllocError> {
+fn name_there(item: &UseItem<'_>, alloc: Global) -> Result<Option<Text>, AllocError> {
     match item.as_id {
         Some(_) => Ok(Some(Text::new(String::from_str(alloc, item.id.string)?))),
         None => Ok(None),
@@ -71,44 +70,45 @@ fn usable(kind: ItemKind) -> Option<Type>
 }
 
 /// The type that is used.
-fn used_type(
-    alloc: Global,
-    types: &Types,
-    from: Used<'_>,
-    item: &UseItem<'_>,
-) -> ResolutionResult<Type>
+fn used_type(item: &UseItem<'_>, alloc: Global, types: &Types, from: Used<'_>) -> Outcome<Type>
     requires { Stands types.now (ItemKind.Instance from.interface) }
     ensures { IfOk result (λ t. Stands types.now (ItemKind.Ty t)) }
 {
     let interface = ItemKind::Instance(from.interface);
     let Some(kind) = export_of(types, interface, item.id.string) else {
-        return Err(undefined_type(alloc, &item.id, from.path));
+        return Err(undefined_type(alloc, item.id.string, from.path, item.id.span));
     };
     match usable(kind) {
         Some(ty) => Ok(ty),
-        None => Err(not_used_type(alloc, &item.id, kind.desc(types), from.path)),
+        None => Err(not_used_type(
+            alloc,
+            item.id.string,
+            kind.desc(types),
+            from.path,
+            item.id.span,
+        )),
     }
 }
 
 /// One more use of a type that is known.
 fn add_use(
+    item: &UseItem<'_>,
     alloc: Global,
     holder: Holder<'_>,
     body: &mut Body,
     interface: InterfaceId,
-    item: &UseItem<'_>,
     ty: Type,
-) -> ResolutionResult<()>
+) -> Outcome<()>
     ensures { OnOk result ((c : Collection) → BodyStands c body.old → Stands c (ItemKind.Instance interface) → Stands c (ItemKind.Ty ty) → BodyStands c body.new) }
 {
     let id = local_name(item);
     if body.items.contains(id.string) || body.uses.contains(id.string) {
-        return Err(use_conflict(alloc, &id, holder.kind(), help_for(item)));
+        return Err(use_conflict(alloc, id.string, holder.kind(), help_for(item), id.span));
     }
     bind(alloc, &mut body.names, &id, ItemKind::Ty(ty))?;
     let used = UsedType {
         interface,
-        name: name_there(alloc, item)?,
+        name: name_there(item, alloc)?,
     };
     let _ = add_new(alloc, &mut body.uses, id.string, used)?;
     let _ = add_new(alloc, &mut body.items, id.string, ItemKind::Ty(ty))?;
@@ -117,42 +117,42 @@ fn add_use(
 
 /// The types that a `use` names, in order.
 fn use_items(
+    items: &Vec<UseItem<'_>>,
     alloc: Global,
     types: &Types,
     holder: Holder<'_>,
     body: &mut Body,
     from: Used<'_>,
-    items: &Vec<UseItem<'_>>,
-) -> ResolutionResult<()>
+) -> Outcome<()>
     requires interface { Stands types.now (ItemKind.Instance from.interface) }
     requires body { BodyStands types.now body.old }
     ensures { OnOk result (BodyStands types.now body.new) }
 {
     for item in items {
-        let ty = used_type(alloc, types, from, item)?;
-        add_use(alloc, holder, body, from.interface, item, ty)?;
+        let ty = used_type(item, alloc, types, from)?;
+        add_use(item, alloc, holder, body, from.interface, ty)?;
     }
     Ok(())
 }
 
 /// A `use` in a body.
 pub(crate) fn use_types<T: PackagedTypes>(
+    item: &ast::Use<'_>,
     alloc: Global,
     context: Context<'_>,
     types: &mut T,
     holder: Holder<'_>,
     body: &mut Body,
-    item: &ast::Use<'_>,
-) -> ResolutionResult<()>
+) -> Outcome<()>
     requires root { NamesStand (T.collection types.old) context.root.now }
     requires body { BodyStands (T.collection types.old) body.old }
     ensures body { OnOk result (BodyStands (T.collection types.new) body.new) }
     ensures grows { Grows (T.collection types.old) (T.collection types.new) }
 {
-    let interface = interface_at(alloc, context, types, &item.path)?;
+    let interface = interface_at(&item.path, alloc, context, types)?;
     let from = Used {
         interface,
         path: path_text(&item.path),
     };
-    use_items(alloc, types.types(), holder, body, from, &item.items)
+    use_items(&item.items, alloc, types.types(), holder, body, from)
 }

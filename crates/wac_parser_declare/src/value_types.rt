@@ -9,15 +9,15 @@ ghost use Rattle.wac_types_base.specs.Stated.{stated_of, kind_of};
 ghost use Rattle.wac_parser_tree.specs.Trees as t;
 ghost use Rattle.wac_parser_tree.specs.Views.{view_ident, view_ty, view_boxed_ty};
 ghost use Rattle.wac_parser_declare.specs.ValueTypes as stated;
-ghost use Rattle.wac_parser_declare.specs.Holding.{IsOutcome, IsValue, IsValueIf, AreValues, NamesStand, StandsIf, scope_of, stated_if};
-ghost use Rattle.wac_parser_declare.specs.Causes.{pure};
+ghost use Rattle.wac_parser_refusals.specs.Outcomes.{IsOutcome};
+ghost use Rattle.wac_parser_declare.specs.Holding.{IsValue, IsValueIf, AreValues, NamesStand, StandsIf, scope_of, stated_if};
+ghost use Rattle.wac_parser_refusals.specs.Causes.{pure};
 ghost use Rattle.wac_parser_declare.specs.Payloads.{boxed_payload};
 
-use crate::error::{Error, ResolutionResult};
 use crate::growing::GrowingTypes;
-use crate::refusals::{not_resource_type, not_value_type};
 use crate::scope::{Binding, meaning};
 use std::alloc::{AllocError, Global};
+use wac_parser_refusals::{Outcome, not_resource_type, not_value_type};
 use wac_parser_tree as ast;
 use wac_parser_tree::Ident;
 use wac_types_base::{
@@ -25,12 +25,7 @@ use wac_types_base::{
 };
 
 /// The value type that a type is: a resource is owned.
-fn value_of_type(
-    alloc: Global,
-    types: &Types,
-    ty: Type,
-    id: &Ident<'_>,
-) -> ResolutionResult<ValueType>
+fn value_of_type(alloc: Global, types: &Types, ty: Type, id: &Ident<'_>) -> Outcome<ValueType>
     requires { Stands types.now (ItemKind.Ty ty) }
     ensures { IsOutcome (IsValue types.now) (stated.value_by (kind_of (stated_of types.now (ItemKind.Ty ty))) (view_ident id.now) (stated_of types.now (ItemKind.Ty ty))) result }
 {
@@ -38,58 +33,43 @@ fn value_of_type(
     match ty {
         Type::Resource(resource) => Ok(ValueType::Own(resource)),
         Type::Value(value) => Ok(value),
-        other => Err(not_value_type(alloc, id, other.desc(types))),
+        other => Err(not_value_type(alloc, id.string, other.desc(types), id.span)),
     }
 }
 
 /// The value type that an item is as a type.
-fn value_of(
-    alloc: Global,
-    types: &Types,
-    kind: ItemKind,
-    id: &Ident<'_>,
-) -> ResolutionResult<ValueType>
+fn value_of(alloc: Global, types: &Types, kind: ItemKind, id: &Ident<'_>) -> Outcome<ValueType>
     requires { Stands types.now kind }
     ensures { IsOutcome (IsValue types.now) (stated.value_by (kind_of (stated_of types.now kind)) (view_ident id.now) (stated_of types.now kind)) result }
 {
     types.see_acyclic();
     match kind {
         ItemKind::Ty(ty) => value_of_type(alloc, types, ty, id),
-        other => Err(not_value_type(alloc, id, other.desc(types))),
+        other => Err(not_value_type(alloc, id.string, other.desc(types), id.span)),
     }
 }
 
 /// The borrow of a type that is a resource.
-fn borrow_of_type(
-    alloc: Global,
-    types: &Types,
-    ty: Type,
-    id: &Ident<'_>,
-) -> ResolutionResult<ValueType>
+fn borrow_of_type(alloc: Global, types: &Types, ty: Type, id: &Ident<'_>) -> Outcome<ValueType>
     requires { Stands types.now (ItemKind.Ty ty) }
     ensures { IsOutcome (IsValue types.now) (stated.borrow_by (kind_of (stated_of types.now (ItemKind.Ty ty))) (view_ident id.now) (stated_of types.now (ItemKind.Ty ty))) result }
 {
     types.see_acyclic();
     match ty {
         Type::Resource(resource) => Ok(ValueType::Borrow(resource)),
-        other => Err(not_resource_type(alloc, id, other.desc(types))),
+        other => Err(not_resource_type(alloc, id.string, other.desc(types), id.span)),
     }
 }
 
 /// The borrow of an item that is a resource.
-fn borrow_of(
-    alloc: Global,
-    types: &Types,
-    kind: ItemKind,
-    id: &Ident<'_>,
-) -> ResolutionResult<ValueType>
+fn borrow_of(alloc: Global, types: &Types, kind: ItemKind, id: &Ident<'_>) -> Outcome<ValueType>
     requires { Stands types.now kind }
     ensures { IsOutcome (IsValue types.now) (stated.borrow_by (kind_of (stated_of types.now kind)) (view_ident id.now) (stated_of types.now kind)) result }
 {
     types.see_acyclic();
     match kind {
         ItemKind::Ty(ty) => borrow_of_type(alloc, types, ty, id),
-        other => Err(not_resource_type(alloc, id, other.desc(types))),
+        other => Err(not_resource_type(alloc, id.string, other.desc(types), id.span)),
     }
 }
 
@@ -99,7 +79,7 @@ fn value_named(
     names: &NamedMap<Binding>,
     types: &Types,
     id: &Ident<'_>,
-) -> ResolutionResult<ValueType>
+) -> Outcome<ValueType>
     requires { NamesStand types.now names.now }
     ensures { IsOutcome (IsValue types.now) (stated.value_named (scope_of types.now names.now) (view_ident id.now)) result }
 {
@@ -113,7 +93,7 @@ fn borrow_named(
     names: &NamedMap<Binding>,
     types: &Types,
     id: &Ident<'_>,
-) -> ResolutionResult<ValueType>
+) -> Outcome<ValueType>
     requires { NamesStand types.now names.now }
     ensures { IsOutcome (IsValue types.now) (stated.borrow_named (scope_of types.now names.now) (view_ident id.now)) result }
 {
@@ -135,7 +115,7 @@ pub(crate) fn define<T: GrowingTypes>(
 }
 
 /// A primitive type.
-fn primitive<T: GrowingTypes>(types: &mut T, ty: PrimitiveType) -> ResolutionResult<ValueType>
+fn primitive<T: GrowingTypes>(types: &mut T, ty: PrimitiveType) -> Outcome<ValueType>
     ensures outcome { IsOutcome (IsValue (T.collection types.new)) (stated.primitive ty) result }
     ensures grows { Grows (T.collection types.old) (T.collection types.new) }
 {
@@ -146,11 +126,11 @@ fn primitive<T: GrowingTypes>(types: &mut T, ty: PrimitiveType) -> ResolutionRes
 /// The value type that a type states.
 #[cycle(value)]
 pub fn value_type<T: GrowingTypes>(
+    ty: &ast::Type<'_>,
     alloc: Global,
     names: &NamedMap<Binding>,
     types: &mut T,
-    ty: &ast::Type<'_>,
-) -> ResolutionResult<ValueType>
+) -> Outcome<ValueType>
     requires { NamesStand (T.collection types.old) names.now }
     ensures outcome { IsOutcome (IsValue (T.collection types.new)) (stated.value (scope_of (T.collection types.old) names.now) (view_ty ty.now)) result }
     ensures grows { Grows (T.collection types.old) (T.collection types.new) }
@@ -170,15 +150,15 @@ pub fn value_type<T: GrowingTypes>(
         ast::Type::Bool(_) => primitive(types, PrimitiveType::Bool),
         ast::Type::String(_) => primitive(types, PrimitiveType::String),
         ast::Type::ErrorContext(_) => primitive(types, PrimitiveType::ErrorContext),
-        ast::Type::Tuple(members, _) => tuple_type(alloc, names, types, members),
-        ast::Type::List(element, _) => list_type(alloc, names, types, element),
-        ast::Type::Option(payload, _) => option_type(alloc, names, types, payload),
+        ast::Type::Tuple(members, _) => tuple_type(members, alloc, names, types),
+        ast::Type::List(element, _) => list_type(element, alloc, names, types),
+        ast::Type::Option(payload, _) => option_type(payload, alloc, names, types),
         ast::Type::Result { ok, err, .. } => {
-            let ok = maybe_type(alloc, names, types, ok)?;
-            result_type(alloc, names, types, ok, err)
+            let ok = maybe_type(ok, alloc, names, types)?;
+            result_type(err, alloc, names, types, ok)
         }
-        ast::Type::Stream(payload, _) => stream_type(alloc, names, types, payload),
-        ast::Type::Future(payload, _) => future_type(alloc, names, types, payload),
+        ast::Type::Stream(payload, _) => stream_type(payload, alloc, names, types),
+        ast::Type::Future(payload, _) => future_type(payload, alloc, names, types),
         ast::Type::Borrow(id, _) => borrow_at(alloc, names, types, id),
         ast::Type::Ident(id) => value_at(alloc, names, types, id),
     }
@@ -190,7 +170,7 @@ fn value_at<T: GrowingTypes>(
     names: &NamedMap<Binding>,
     types: &mut T,
     id: &Ident<'_>,
-) -> ResolutionResult<ValueType>
+) -> Outcome<ValueType>
     requires { NamesStand (T.collection types.old) names.now }
     ensures outcome { IsOutcome (IsValue (T.collection types.new)) (stated.value_named (scope_of (T.collection types.old) names.now) (view_ident id.now)) result }
     ensures grows { Grows (T.collection types.old) (T.collection types.new) }
@@ -206,7 +186,7 @@ fn borrow_at<T: GrowingTypes>(
     names: &NamedMap<Binding>,
     types: &mut T,
     id: &Ident<'_>,
-) -> ResolutionResult<ValueType>
+) -> Outcome<ValueType>
     requires { NamesStand (T.collection types.old) names.now }
     ensures outcome { IsOutcome (IsValue (T.collection types.new)) (stated.borrow_named (scope_of (T.collection types.old) names.now) (view_ident id.now)) result }
     ensures grows { Grows (T.collection types.old) (T.collection types.new) }
@@ -218,43 +198,43 @@ fn borrow_at<T: GrowingTypes>(
 
 #[cycle(value)]
 fn list_type<T: GrowingTypes>(
+    element: &ast::Type<'_>,
     alloc: Global,
     names: &NamedMap<Binding>,
     types: &mut T,
-    element: &ast::Type<'_>,
-) -> ResolutionResult<ValueType>
+) -> Outcome<ValueType>
     requires { NamesStand (T.collection types.old) names.now }
     ensures outcome { IsOutcome (IsValue (T.collection types.new)) (stated.of_one s.list (stated.value (scope_of (T.collection types.old) names.now) (view_ty element.now))) result }
     ensures grows { Grows (T.collection types.old) (T.collection types.new) }
 {
-    let element = value_type(alloc, names, types, element)?;
+    let element = value_type(element, alloc, names, types)?;
     let list = define(types, DefinedType::List(element))?;
     Ok(list)
 }
 
 #[cycle(value)]
 fn option_type<T: GrowingTypes>(
+    payload: &ast::Type<'_>,
     alloc: Global,
     names: &NamedMap<Binding>,
     types: &mut T,
-    payload: &ast::Type<'_>,
-) -> ResolutionResult<ValueType>
+) -> Outcome<ValueType>
     requires { NamesStand (T.collection types.old) names.now }
     ensures outcome { IsOutcome (IsValue (T.collection types.new)) (stated.of_one s.option (stated.value (scope_of (T.collection types.old) names.now) (view_ty payload.now))) result }
     ensures grows { Grows (T.collection types.old) (T.collection types.new) }
 {
-    let payload = value_type(alloc, names, types, payload)?;
+    let payload = value_type(payload, alloc, names, types)?;
     let option = define(types, DefinedType::Option(payload))?;
     Ok(option)
 }
 
 #[cycle(value)]
 fn maybe_type<T: GrowingTypes>(
+    ty: &Option<Box<ast::Type<'_>>>,
     alloc: Global,
     names: &NamedMap<Binding>,
     types: &mut T,
-    ty: &Option<Box<ast::Type<'_>>>,
-) -> ResolutionResult<Option<ValueType>>
+) -> Outcome<Option<ValueType>>
     requires { NamesStand (T.collection types.old) names.now }
     ensures outcome { IsOutcome (IsValueIf (T.collection types.new)) (stated.maybe_value (scope_of (T.collection types.old) names.now) (boxed_payload ty.now)) result }
     ensures grows { Grows (T.collection types.old) (T.collection types.new) }
@@ -264,7 +244,7 @@ fn maybe_type<T: GrowingTypes>(
     types.types().see_acyclic();
     match ty {
         Some(ty) => {
-            let found = value_type(alloc, names, types, ty)?;
+            let found = value_type(ty, alloc, names, types)?;
             Ok(Some(found))
         }
         None => Ok(None),
@@ -273,32 +253,32 @@ fn maybe_type<T: GrowingTypes>(
 
 #[cycle(value)]
 fn stream_type<T: GrowingTypes>(
+    payload: &Option<Box<ast::Type<'_>>>,
     alloc: Global,
     names: &NamedMap<Binding>,
     types: &mut T,
-    payload: &Option<Box<ast::Type<'_>>>,
-) -> ResolutionResult<ValueType>
+) -> Outcome<ValueType>
     requires { NamesStand (T.collection types.old) names.now }
     ensures outcome { IsOutcome (IsValue (T.collection types.new)) (stated.of_maybe s.stream (stated.maybe_value (scope_of (T.collection types.old) names.now) (boxed_payload payload.now))) result }
     ensures grows { Grows (T.collection types.old) (T.collection types.new) }
 {
-    let payload = maybe_type(alloc, names, types, payload)?;
+    let payload = maybe_type(payload, alloc, names, types)?;
     let stream = define(types, DefinedType::Stream(payload))?;
     Ok(stream)
 }
 
 #[cycle(value)]
 fn future_type<T: GrowingTypes>(
+    payload: &Option<Box<ast::Type<'_>>>,
     alloc: Global,
     names: &NamedMap<Binding>,
     types: &mut T,
-    payload: &Option<Box<ast::Type<'_>>>,
-) -> ResolutionResult<ValueType>
+) -> Outcome<ValueType>
     requires { NamesStand (T.collection types.old) names.now }
     ensures outcome { IsOutcome (IsValue (T.collection types.new)) (stated.of_maybe s.future (stated.maybe_value (scope_of (T.collection types.old) names.now) (boxed_payload payload.now))) result }
     ensures grows { Grows (T.collection types.old) (T.collection types.new) }
 {
-    let payload = maybe_type(alloc, names, types, payload)?;
+    let payload = maybe_type(payload, alloc, names, types)?;
     let future = define(types, DefinedType::Future(payload))?;
     Ok(future)
 }
@@ -306,18 +286,18 @@ fn future_type<T: GrowingTypes>(
 /// The result type of a payload that is known and one that is written.
 #[cycle(value)]
 fn result_type<T: GrowingTypes>(
+    err: &Option<Box<ast::Type<'_>>>,
     alloc: Global,
     names: &NamedMap<Binding>,
     types: &mut T,
     ok: Option<ValueType>,
-    err: &Option<Box<ast::Type<'_>>>,
-) -> ResolutionResult<ValueType>
+) -> Outcome<ValueType>
     requires names { NamesStand (T.collection types.old) names.now }
     requires ok { StandsIf (T.collection types.old) ok }
     ensures outcome { IsOutcome (IsValue (T.collection types.new)) (stated.of_two s.result (pure (stated_if (T.collection types.old) ok)) (stated.maybe_value (scope_of (T.collection types.old) names.now) (boxed_payload err.now))) result }
     ensures grows { Grows (T.collection types.old) (T.collection types.new) }
 {
-    let err = maybe_type(alloc, names, types, err)?;
+    let err = maybe_type(err, alloc, names, types)?;
     let result = define(types, DefinedType::Result { ok, err })?;
     Ok(result)
 }
@@ -325,11 +305,11 @@ fn result_type<T: GrowingTypes>(
 /// The value types of a tuple, in order.
 #[cycle(value)]
 fn member_types<T: GrowingTypes>(
+    members: &Vec<ast::Type<'_>>,
     alloc: Global,
     names: &NamedMap<Binding>,
     types: &mut T,
-    members: &Vec<ast::Type<'_>>,
-) -> ResolutionResult<Items<ValueType>>
+) -> Outcome<Items<ValueType>>
     requires { NamesStand (T.collection types.old) names.now }
     ensures outcome { IsOutcome (AreValues (T.collection types.new)) (stated.values (scope_of (T.collection types.old) names.now) [] (t.tys (map view_ty members.now.items))) result }
     ensures grows { Grows (T.collection types.old) (T.collection types.new) }
@@ -337,7 +317,7 @@ fn member_types<T: GrowingTypes>(
     types.types().see_acyclic();
     let mut found = Items::new(alloc);
     for member in members {
-        let ty = value_type(alloc, names, types, member)?;
+        let ty = value_type(member, alloc, names, types)?;
         found.push(ty)?;
     }
     Ok(found)
@@ -345,16 +325,16 @@ fn member_types<T: GrowingTypes>(
 
 #[cycle(value)]
 fn tuple_type<T: GrowingTypes>(
+    members: &Vec<ast::Type<'_>>,
     alloc: Global,
     names: &NamedMap<Binding>,
     types: &mut T,
-    members: &Vec<ast::Type<'_>>,
-) -> ResolutionResult<ValueType>
+) -> Outcome<ValueType>
     requires { NamesStand (T.collection types.old) names.now }
     ensures outcome { IsOutcome (IsValue (T.collection types.new)) (stated.of_all s.tuple (stated.values (scope_of (T.collection types.old) names.now) [] (t.tys (map view_ty members.now.items)))) result }
     ensures grows { Grows (T.collection types.old) (T.collection types.new) }
 {
-    let found = member_types(alloc, names, types, members)?;
+    let found = member_types(members, alloc, names, types)?;
     let tuple = define(types, DefinedType::Tuple(found))?;
     Ok(tuple)
 }

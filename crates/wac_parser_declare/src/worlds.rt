@@ -9,38 +9,32 @@ ghost use Rattle.wac_parser_declare.specs.Held.{BodyStands};
 ghost use Rattle.wac_parser_declare.specs.Holding.{NamesStand};
 
 use crate::bodies::{Body, Holder};
-use crate::error::ResolutionResult;
 use crate::functions::{add_new, func_type};
 use crate::growing::PackagedTypes;
 use crate::includes::include_world;
 use crate::interfaces::{identifier, inline_interface};
 use crate::paths::{package_interface, root_interface};
-use crate::refusals::{duplicate_world_item, not_func_or_interface, unwritable};
 use crate::resources::item_type;
 use crate::scope::{Binding, Context, meaning};
 use crate::uses::use_types;
 use std::alloc::{AllocError, Global};
 use wac_parser_lexer::SourceSpan;
+use wac_parser_refusals::{Outcome, duplicate_world_item, not_func_or_interface, unwritable};
 use wac_parser_tree as ast;
-use wac_parser_tree::Ident;
+use wac_parser_tree::{Ident, PackageName};
 use wac_types_base::{
     ExternKind, InterfaceId, ItemKind, NamedMap, Text, Type, Types, World, WorldId,
 };
 
 /// What a world holds under a name of a function type or an interface.
-fn extern_of(
-    alloc: Global,
-    types: &Types,
-    kind: ItemKind,
-    id: &Ident<'_>,
-) -> ResolutionResult<ItemKind>
+fn extern_of(alloc: Global, types: &Types, kind: ItemKind, id: &Ident<'_>) -> Outcome<ItemKind>
     requires { Stands types.now kind }
     ensures { IfOk result (Stands types.now) }
 {
     match kind {
         ItemKind::Ty(Type::Interface(interface)) => Ok(ItemKind::Instance(interface)),
         ItemKind::Ty(Type::Func(func)) => Ok(ItemKind::Func(func)),
-        other => Err(not_func_or_interface(alloc, id, other.desc(types))),
+        other => Err(not_func_or_interface(alloc, id.string, other.desc(types), id.span)),
     }
 }
 
@@ -50,7 +44,7 @@ fn body_or_root(
     context: Context<'_>,
     names: &NamedMap<Binding>,
     id: &Ident<'_>,
-) -> ResolutionResult<Binding>
+) -> Outcome<Binding>
     ensures { (c : Collection) → NamesStand c context.entry.root.now → NamesStand c names.now → IfOk result (λ b. Stands c b.kind) }
 {
     match names.get(id.string) {
@@ -61,12 +55,12 @@ fn body_or_root(
 
 /// The item of a world that is written or named.
 fn extern_type<T: PackagedTypes>(
+    ty: &ast::ExternType<'_>,
     alloc: Global,
     context: Context<'_>,
     types: &mut T,
     names: &NamedMap<Binding>,
-    ty: &ast::ExternType<'_>,
-) -> ResolutionResult<ItemKind>
+) -> Outcome<ItemKind>
     requires root { NamesStand (T.collection types.old) context.root.now }
     requires names { NamesStand (T.collection types.old) names.now }
     ensures stands { IfOk result (Stands (T.collection types.new)) }
@@ -79,11 +73,11 @@ fn extern_type<T: PackagedTypes>(
             extern_of(alloc, types.types(), binding.kind, id)
         }
         ast::ExternType::Func(ty) => {
-            let func = func_type(alloc, names, types, ty)?;
+            let func = func_type(ty, alloc, names, types)?;
             Ok(ItemKind::Func(func))
         }
         ast::ExternType::Interface(interface) => {
-            let interface = inline_interface(alloc, context, types, interface)?;
+            let interface = inline_interface(interface, alloc, context, types)?;
             Ok(ItemKind::Instance(interface))
         }
     }
@@ -107,12 +101,7 @@ struct Slot<'a> {
 }
 
 /// Adds an import or an export, where its name is new.
-fn add_extern(
-    alloc: Global,
-    body: &mut Body,
-    slot: Slot<'_>,
-    item: ItemKind,
-) -> ResolutionResult<()>
+fn add_extern(alloc: Global, body: &mut Body, slot: Slot<'_>, item: ItemKind) -> Outcome<()>
     ensures { OnOk result ((c : Collection) → BodyStands c body.old → Stands c item → BodyStands c body.new) }
 {
     let is_new = match slot.kind {
@@ -128,13 +117,13 @@ fn add_extern(
 
 /// An item under a name of its own: the name, then its type.
 fn named_item<T: PackagedTypes>(
+    ty: &ast::ExternType<'_>,
     alloc: Global,
     context: Context<'_>,
     types: &mut T,
     slot: Slot<'_>,
     body: &mut Body,
-    ty: &ast::ExternType<'_>,
-) -> ResolutionResult<()>
+) -> Outcome<()>
     requires root { NamesStand (T.collection types.old) context.root.now }
     requires body { BodyStands (T.collection types.old) body.old }
     ensures body { OnOk result (BodyStands (T.collection types.new) body.new) }
@@ -144,7 +133,7 @@ fn named_item<T: PackagedTypes>(
     if stands_there(body, slot.kind, slot.name) {
         return Err(duplicate_world_item(alloc, slot.kind, slot.name, slot.world, slot.span));
     }
-    let item = extern_type(alloc, context, types, &body.names, ty)?;
+    let item = extern_type(ty, alloc, context, types, &body.names)?;
     add_extern(alloc, body, slot, item)
 }
 
@@ -156,7 +145,7 @@ fn add_interface(
     body: &mut Body,
     interface: InterfaceId,
     span: SourceSpan,
-) -> ResolutionResult<()>
+) -> Outcome<()>
     requires interface { Stands types.now (ItemKind.Instance interface) }
     requires body { BodyStands types.now body.old }
     ensures body { OnOk result (BodyStands types.now body.new) }
@@ -182,13 +171,13 @@ struct Side<'a> {
 
 /// One more import or export.
 fn world_item<T: PackagedTypes>(
+    path: &ast::WorldItemPath<'_>,
     alloc: Global,
     context: Context<'_>,
     types: &mut T,
     owner: Side<'_>,
     body: &mut Body,
-    path: &ast::WorldItemPath<'_>,
-) -> ResolutionResult<()>
+) -> Outcome<()>
     requires root { NamesStand (T.collection types.old) context.root.now }
     requires body { BodyStands (T.collection types.old) body.old }
     ensures body { OnOk result (BodyStands (T.collection types.new) body.new) }
@@ -202,10 +191,10 @@ fn world_item<T: PackagedTypes>(
                 name: item.id.string,
                 span: item.id.span,
             };
-            named_item(alloc, context, types, slot, body, &item.ty)
+            named_item(&item.ty, alloc, context, types, slot, body)
         }
         ast::WorldItemPath::Package(path) => {
-            let interface = package_interface(alloc, context, types, path)?;
+            let interface = package_interface(path, alloc, context, types)?;
             add_interface(alloc, types.types(), owner, body, interface, path.span)
         }
         ast::WorldItemPath::Ident(id) => {
@@ -217,13 +206,13 @@ fn world_item<T: PackagedTypes>(
 
 /// An item of a world that is no include.
 fn world_part<T: PackagedTypes>(
+    item: &ast::WorldItem<'_>,
     alloc: Global,
     context: Context<'_>,
     types: &mut T,
     world: &str,
     body: &mut Body,
-    item: &ast::WorldItem<'_>,
-) -> ResolutionResult<()>
+) -> Outcome<()>
     requires root { NamesStand (T.collection types.old) context.root.now }
     requires body { BodyStands (T.collection types.old) body.old }
     ensures body { OnOk result (BodyStands (T.collection types.new) body.new) }
@@ -240,13 +229,13 @@ fn world_part<T: PackagedTypes>(
         kind: ExternKind::Export,
     };
     match item {
-        ast::WorldItem::Use(item) => use_types(alloc, context, types, holder, body, item),
-        ast::WorldItem::Ty(decl) => item_type(alloc, types, holder, body, decl),
+        ast::WorldItem::Use(item) => use_types(item, alloc, context, types, holder, body),
+        ast::WorldItem::Ty(decl) => item_type(decl, alloc, types, holder, body),
         ast::WorldItem::Import(item) => world_item(
-            alloc, context, types, imports, body, &item.path,
+            &item.path, alloc, context, types, imports, body,
         ),
         ast::WorldItem::Export(item) => world_item(
-            alloc, context, types, exports, body, &item.path,
+            &item.path, alloc, context, types, exports, body,
         ),
         ast::WorldItem::Include(_) => Ok(()),
     }
@@ -254,13 +243,13 @@ fn world_part<T: PackagedTypes>(
 
 /// An include, where the item is one.
 fn world_include<T: PackagedTypes>(
+    item: &ast::WorldItem<'_>,
     alloc: Global,
     context: Context<'_>,
     types: &mut T,
     world: &str,
     body: &mut Body,
-    item: &ast::WorldItem<'_>,
-) -> ResolutionResult<()>
+) -> Outcome<()>
     requires root { NamesStand (T.collection types.old) context.root.now }
     requires body { BodyStands (T.collection types.old) body.old }
     ensures body { OnOk result (BodyStands (T.collection types.new) body.new) }
@@ -269,76 +258,21 @@ fn world_include<T: PackagedTypes>(
     types.types().see_acyclic();
     match item {
         ast::WorldItem::Include(include) => {
-            include_world(alloc, context, types, world, body, include)
+            include_world(include, alloc, context, types, world, body)
         }
         _other => Ok(()),
     }
 }
 
-/// What a world is stated by, part by part.
-trait WorldPart: Drop {
-    /// Adds what the part states, unless it is an include.
-    fn add_item<T: PackagedTypes>(
-        &self,
-        alloc: Global,
-        context: Context<'_>,
-        types: &mut T,
-        world: &str,
-        body: &mut Body,
-    ) -> ResolutionResult<()>
-        requires root { NamesStand (T.collection types.old) context.root.now }
-        requires body { BodyStands (T.collection types.old) body.old }
-        ensures body { OnOk result (BodyStands (T.collection types.new) body.new) }
-        ensures grows { Grows (T.collection types.old) (T.collection types.new) };
-
-    /// Adds what the part includes, if it is an include.
-    fn add_include<T: PackagedTypes>(
-        &self,
-        alloc: Global,
-        context: Context<'_>,
-        types: &mut T,
-        world: &str,
-        body: &mut Body,
-    ) -> ResolutionResult<()>
-        requires root { NamesStand (T.collection types.old) context.root.now }
-        requires body { BodyStands (T.collection types.old) body.old }
-        ensures body { OnOk result (BodyStands (T.collection types.new) body.new) }
-        ensures grows { Grows (T.collection types.old) (T.collection types.new) };
-}
-
-impl<'a> WorldPart for ast::WorldItem<'a> {
-    fn add_item<T: PackagedTypes>(
-        &self,
-        alloc: Global,
-        context: Context<'_>,
-        types: &mut T,
-        world: &str,
-        body: &mut Body,
-    ) -> ResolutionResult<()> {
-        world_part(alloc, context, types, world, body, self)
-    }
-
-    fn add_include<T: PackagedTypes>(
-        &self,
-        alloc: Global,
-        context: Context<'_>,
-        types: &mut T,
-        world: &str,
-        body: &mut Body,
-    ) -> ResolutionResult<()> {
-        world_include(alloc, context, types, world, body, self)
-    }
-}
-
 /// What the parts of a world state, its includes left out.
-fn add_items<P: WorldPart, T: PackagedTypes>(
+fn add_items<T: PackagedTypes>(
+    parts: &Vec<ast::WorldItem<'_>>,
     alloc: Global,
     context: Context<'_>,
     types: &mut T,
     world: &str,
     body: &mut Body,
-    parts: &Vec<P>,
-) -> ResolutionResult<()>
+) -> Outcome<()>
     requires root { NamesStand (T.collection types.old) context.root.now }
     requires body { BodyStands (T.collection types.old) body.old }
     ensures body { OnOk result (BodyStands (T.collection types.new) body.new) }
@@ -346,20 +280,20 @@ fn add_items<P: WorldPart, T: PackagedTypes>(
 {
     types.types().see_acyclic();
     for part in parts {
-        part.add_item(alloc, context, types, world, body)?;
+        world_part(part, alloc, context, types, world, body)?;
     }
     Ok(())
 }
 
 /// The includes of a world, after its other items.
-fn add_includes<P: WorldPart, T: PackagedTypes>(
+fn add_includes<T: PackagedTypes>(
+    parts: &Vec<ast::WorldItem<'_>>,
     alloc: Global,
     context: Context<'_>,
     types: &mut T,
     world: &str,
     body: &mut Body,
-    parts: &Vec<P>,
-) -> ResolutionResult<()>
+) -> Outcome<()>
     requires root { NamesStand (T.collection types.old) context.root.now }
     requires body { BodyStands (T.collection types.old) body.old }
     ensures body { OnOk result (BodyStands (T.collection types.new) body.new) }
@@ -367,17 +301,43 @@ fn add_includes<P: WorldPart, T: PackagedTypes>(
 {
     types.types().see_acyclic();
     for part in parts {
-        part.add_include(alloc, context, types, world, body)?;
+        world_include(part, alloc, context, types, world, body)?;
     }
     Ok(())
 }
 
-/// Adds the world that a body states.
-fn add_world<T: PackagedTypes>(types: &mut T, id: Text, body: Body) -> Result<WorldId, AllocError>
+/// What the parts of a world state.
+fn body_of<T: PackagedTypes>(
+    parts: &Vec<ast::WorldItem<'_>>,
+    alloc: Global,
+    context: Context<'_>,
+    types: &mut T,
+    world: &str,
+) -> Outcome<Body>
+    requires { NamesStand (T.collection types.old) context.root.now }
+    ensures body { IfOk result (BodyStands (T.collection types.new)) }
+    ensures grows { Grows (T.collection types.old) (T.collection types.new) }
+{
+    let mut body = Body::new(alloc);
+    add_items(parts, alloc, context, types, world, &mut body)?;
+    add_includes(parts, alloc, context, types, world, &mut body)?;
+    Ok(body)
+}
+
+/// Adds the world that a body states, under the identifier of a name.
+fn add_world<T: PackagedTypes>(
+    alloc: Global,
+    own: &PackageName<'_>,
+    types: &mut T,
+    name: &str,
+    body: Body,
+) -> Result<WorldId, AllocError>
     requires { BodyStands (T.collection types.old) body }
     ensures stands { IfOk result (λ i. Stands (T.collection types.new) (ItemKind.Component i)) }
     ensures grows { Grows (T.collection types.old) (T.collection types.new) }
 {
+    types.types().see_acyclic();
+    let id = identifier(alloc, own, name)?;
     let Body {
         names: _,
         uses,
@@ -392,37 +352,18 @@ fn add_world<T: PackagedTypes>(types: &mut T, id: Text, body: Body) -> Result<Wo
     })
 }
 
-/// The world that parts state, under the identifier of a name.
-fn world_of<P: WorldPart, T: PackagedTypes>(
-    alloc: Global,
-    context: Context<'_>,
-    types: &mut T,
-    name: &str,
-    parts: &Vec<P>,
-) -> ResolutionResult<WorldId>
-    requires { NamesStand (T.collection types.old) context.root.now }
-    ensures stands { IfOk result (λ i. Stands (T.collection types.new) (ItemKind.Component i)) }
-    ensures grows { Grows (T.collection types.old) (T.collection types.new) }
-{
-    types.types().see_acyclic();
-    let mut body = Body::new(alloc);
-    add_items(alloc, context, types, name, &mut body, parts)?;
-    add_includes(alloc, context, types, name, &mut body, parts)?;
-    let text = identifier(alloc, context.own, name)?;
-    let id = add_world(types, text, body)?;
-    Ok(id)
-}
-
 /// The world that a declaration states.
 pub(crate) fn world_decl<T: PackagedTypes>(
+    decl: &ast::WorldDecl<'_>,
     alloc: Global,
     context: Context<'_>,
     types: &mut T,
-    decl: &ast::WorldDecl<'_>,
-) -> ResolutionResult<WorldId>
+) -> Outcome<WorldId>
     requires { NamesStand (T.collection types.old) context.root.now }
     ensures stands { IfOk result (λ i. Stands (T.collection types.new) (ItemKind.Component i)) }
     ensures grows { Grows (T.collection types.old) (T.collection types.new) }
 {
-    world_of(alloc, context, types, decl.id.string, &decl.items)
+    let body = body_of(&decl.items, alloc, context, types, decl.id.string)?;
+    let id = add_world(alloc, context.own, types, decl.id.string, body)?;
+    Ok(id)
 }

@@ -9,12 +9,13 @@ use Rattle.wac_parser_tree.specs.declared.value_type.«Type».{«Type»}
 use Rattle.wac_parser_tree.specs.Trees as tree
 use Rattle.wac_parser_tree.specs.Views.{view_ty}
 use Rattle.wac_types_base.specs.Stated.{Stated}
-use Rattle.wac_parser_declare.specs.Causes.{Answer}
+use Rattle.wac_parser_refusals.specs.Causes.{Answer}
 use Rattle.wac_parser_declare.specs.Scope.{Scope}
 use Rattle.wac_parser_declare.specs.Payloads.{boxed_payload}
 use Rattle.wac_parser_declare.specs.ValueTypes.{value, values, maybe_value, of_one, of_maybe, of_two, of_all}
-use Rattle.wac_parser_declare.specs.Holding.{IsHeld, IsOutcome, IsValue, IsValueIf, AreValues, scope_of, stated_if}
-use Rattle.wac_parser_declare.proofs.Outcomes.{refused_outcome, memory_outcome}
+use Rattle.wac_parser_refusals.specs.Outcomes.{IsHeld, IsOutcome}
+use Rattle.wac_parser_declare.specs.Holding.{IsValue, IsValueIf, AreValues, scope_of, stated_if}
+use Rattle.wac_parser_refusals.proofs.Outcomes.{refused_outcome, memory_outcome}
 use Rattle.wac_parser_declare.proofs.Kept.{children, option_stands, scope-kept, NamesStand-kept, StandsIf-kept, AreValues-kept, AreValues-more}
 use Rattle.wac_parser_declare.proofs.Loops.{members_next, members_refused_whole, members_end}
 use Rattle.wac_parser_declare.proofs.Values.{value_stands, maybe_stands, all_stand, one_held, maybe_held, two_held, all_held, some_held, one_refused, maybe_refused, all_refused, first_refused, second_refused, joined}

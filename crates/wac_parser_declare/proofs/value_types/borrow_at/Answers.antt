@@ -4,7 +4,8 @@ use Rattle.wac_types_base.specs.Collection.{IsAcyclic}
 use Rattle.wac_types_base.proofs.Adding.{Grows-refl}
 use Rattle.wac_parser_tree.specs.Views.{view_ident}
 use Rattle.wac_parser_declare.specs.ValueTypes.{borrow_named}
-use Rattle.wac_parser_declare.specs.Holding.{IsOutcome, IsValue, NamesStand, scope_of}
+use Rattle.wac_parser_refusals.specs.Outcomes.{IsOutcome}
+use Rattle.wac_parser_declare.specs.Holding.{IsValue, NamesStand, scope_of}
 use Rattle.wac_parser_declare.proofs.value_types.borrow_at.Goals as goal
 
 pub borrow_named-requires : goal.borrow_named-requires

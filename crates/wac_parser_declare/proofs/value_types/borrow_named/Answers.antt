@@ -3,7 +3,7 @@ use Rattle.wac_parser_tree.specs.Views.{view_ident}
 use Rattle.wac_parser_declare.specs.Scope.{named}
 use Rattle.wac_parser_declare.specs.ValueTypes.{borrow_by, borrow_named as stated_named}
 use Rattle.wac_parser_declare.specs.Holding.{IsValue, scope_of}
-use Rattle.wac_parser_declare.proofs.Outcomes.{refused_outcome, then_refused}
+use Rattle.wac_parser_refusals.proofs.Outcomes.{refused_outcome, then_refused}
 use Rattle.wac_parser_declare.proofs.Values.{binding_stands, by_name, named_refused}
 use Rattle.wac_parser_declare.proofs.value_types.borrow_named.Goals as goal
 

@@ -4,9 +4,10 @@ use Rattle.wac_types_base.specs.Collection.{Stands}
 use Rattle.wac_types_base.specs.Entries.{Name}
 use Rattle.wac_types_base.specs.Stated.{stated_of, kind_of}
 use Rattle.wac_parser_tree.specs.Views.{view_ident}
-use Rattle.wac_parser_declare.specs.Causes.{NotResourceType}
+use Rattle.wac_parser_refusals.specs.Causes.{NotResourceType}
 use Rattle.wac_parser_declare.specs.ValueTypes.{borrow_by}
-use Rattle.wac_parser_declare.specs.Holding.{IsOutcome, IsValue, Refuses}
+use Rattle.wac_parser_refusals.specs.Outcomes.{IsOutcome, Refuses}
+use Rattle.wac_parser_declare.specs.Holding.{IsValue}
 use Rattle.wac_parser_declare.proofs.Values.{no_resource_kind}
 use Rattle.wac_parser_declare.proofs.value_types.borrow_of.Goals as goal
 

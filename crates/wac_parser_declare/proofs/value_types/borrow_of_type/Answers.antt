@@ -1,8 +1,8 @@
 use Rattle.std.proofs.Common.{subst}
 use Rattle.wac_types_base.specs.Entries.{Name}
 use Rattle.wac_parser_tree.specs.Views.{view_ident}
-use Rattle.wac_parser_declare.specs.Causes.{NotResourceType}
-use Rattle.wac_parser_declare.specs.Holding.{Refuses}
+use Rattle.wac_parser_refusals.specs.Causes.{NotResourceType}
+use Rattle.wac_parser_refusals.specs.Outcomes.{Refuses}
 use Rattle.wac_parser_declare.proofs.Values.{borrowed_at, no_resource_type}
 use Rattle.wac_parser_declare.proofs.value_types.borrow_of_type.Goals as goal
 

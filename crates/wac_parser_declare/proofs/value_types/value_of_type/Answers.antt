@@ -1,8 +1,8 @@
 use Rattle.std.proofs.Common.{subst}
 use Rattle.wac_types_base.specs.Entries.{Name}
 use Rattle.wac_parser_tree.specs.Views.{view_ident}
-use Rattle.wac_parser_declare.specs.Causes.{NotValueType}
-use Rattle.wac_parser_declare.specs.Holding.{Refuses}
+use Rattle.wac_parser_refusals.specs.Causes.{NotValueType}
+use Rattle.wac_parser_refusals.specs.Outcomes.{Refuses}
 use Rattle.wac_parser_declare.proofs.Values.{owned_at, untyped_at, no_value_type}
 use Rattle.wac_parser_declare.proofs.value_types.value_of_type.Goals as goal
 

@@ -4,8 +4,8 @@ use Rattle.wac_types_base.specs.declared.item.FuncKind.{FuncKind}
 use Rattle.wac_types_base.specs.declared.item.ExternKind.{ExternKind}
 use Rattle.wac_types_base.specs.Entries.{Name}
 use Rattle.wac_types_names.specs.Keys.{Key}
-use Rattle.wac_parser_tree.specs.Trees.{Span}
-use Rattle.wac_parser_declare.specs.declared.error.InstanceOperation.{InstanceOperation}
+use Rattle.wac_parser_lexer.specs.declared.span.SourceSpan.{SourceSpan as Span}
+use Rattle.wac_parser_refusals.specs.declared.error.InstanceOperation.{InstanceOperation}
 
 -- in each, the fields are those of the error; a `help` is whether there is one
 pub data Fault : Type 0 where

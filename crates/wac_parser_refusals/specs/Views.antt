@@ -1,10 +1,11 @@
 -- What an error says, without where its texts lie in memory.
-use Rattle.std.specs.Prelude.{Option, Some, None, is_some, option_map, string_bytes}
+use Rattle.std.specs.Prelude.{◌≡◌, Option, Some, None, is_some, option_map, string_bytes}
 use Rattle.wac_types_names.specs.Keys.{owned_key}
-use Rattle.wac_parser_tree.specs.Trees.{Span}
-use Rattle.wac_parser_declare.specs.Causes.{Cause, Fault}
-use Rattle.wac_parser_declare.specs.declared.error.Error.{Error}
-use Rattle.wac_parser_declare.specs.declared.error.Error.TheVariants as error
+use Rattle.wac_parser_lexer.specs.declared.span.SourceSpan.{SourceSpan as Span}
+use Rattle.wac_parser_refusals.specs.Causes.{Cause, Fault}
+use Rattle.wac_parser_refusals.specs.declared.error.Error.{Error}
+use Rattle.wac_parser_refusals.specs.declared.error.Error.TheVariants as error
+use Rattle.wac_parser_refusals.specs.declared.refusal.Refusal.{Refusal}
 
 abbrev pub at_place : Fault → Span → Option Cause
 at_place f s = Some (record { fault = f; span = Some s })
@@ -69,3 +70,13 @@ cause_of (error.DuplicateFlag flag name span) = at_place (Fault.DuplicateFlag (s
 cause_of (error.DuplicateParameter name kind span) = at_place (Fault.DuplicateParameter (string_bytes name) kind) span
 cause_of (error.BorrowInResult span) = at_place Fault.BorrowInResult span
 cause_of error.Memory = None
+
+-- the cause that a refusal names
+abbrev pub cause_in : Refusal → Option Cause
+cause_in (Refusal.Named e) = cause_of e.value
+cause_in Refusal.Memory = None
+
+-- the cause that is named is this one; want of memory may always be answered
+abbrev pub Names : Refusal → Option Cause → Type 0
+Names (Refusal.Named e) c = cause_of e.value ≡ c
+Names Refusal.Memory c = Unit {0}

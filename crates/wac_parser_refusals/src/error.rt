@@ -1,8 +1,8 @@
 //! Why a document is refused.
 
 ghost use Rattle.std.specs.Prelude.{◌≡◌};
-ghost use Rattle.wac_parser_declare.specs.Causes.{span_of};
-ghost use Rattle.wac_parser_declare.specs.Views.{cause_of};
+ghost use Rattle.wac_parser_refusals.specs.Causes.{span_of};
+ghost use Rattle.wac_parser_refusals.specs.Views.{cause_of};
 
 use std::alloc::{AllocError, AllocFailed};
 use std::fmt;
@@ -38,7 +38,7 @@ impl fmt::Display for InstanceOperation {
 }
 
 /// Why a document is refused, with the place of the fault.
-#[derive(Debug, Drop)]
+#[derive(Drop)]
 pub enum Error {
     /// An undefined name was met.
     UndefinedName {
@@ -505,7 +505,7 @@ pub type ResolutionResult<T> = Result<T, Error>;
 
 impl From<AllocError> for Error {
     ghost use Rattle.std.specs.Prelude.{◌≡◌};
-    ghost use Rattle.wac_parser_declare.specs.declared.error.Error.{Error};
+    ghost use Rattle.wac_parser_refusals.specs.declared.error.Error.{Error};
 
     ghost from_gives = { λ _ e. e ≡ Error.Memory };
 
@@ -516,7 +516,7 @@ impl From<AllocError> for Error {
 
 impl<T: Drop> From<AllocFailed<T>> for Error {
     ghost use Rattle.std.specs.Prelude.{◌≡◌};
-    ghost use Rattle.wac_parser_declare.specs.declared.error.Error.{Error};
+    ghost use Rattle.wac_parser_refusals.specs.declared.error.Error.{Error};
 
     ghost from_gives = { λ _ e. e ≡ Error.Memory };
 

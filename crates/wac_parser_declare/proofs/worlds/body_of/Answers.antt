@@ -1,4 +1,4 @@
-use Rattle.wac_parser_declare.proofs.worlds.world_of.Goals as goal
+use Rattle.wac_parser_declare.proofs.worlds.body_of.Goals as goal
 
 pub add_items-requires-clause-body : goal.add_items-requires-clause-body
 add_items-requires-clause-body g c = c.new-body.ensures (g.T.GrowingTypes.collection c.args.types.now)

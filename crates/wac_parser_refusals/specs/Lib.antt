@@ -1,0 +1,3 @@
+pub mod Causes
+pub mod Views
+pub mod Outcomes

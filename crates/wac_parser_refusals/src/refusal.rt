@@ -1,0 +1,84 @@
+//! Refusals on their way.
+
+ghost use Rattle.std.specs.Prelude.{◌≡◌, IfSome};
+ghost use Rattle.wac_parser_refusals.specs.Views.{Names, cause_in, cause_of};
+
+use crate::error::Error;
+use std::alloc::{AllocError, AllocFailed, Global};
+
+/// Why a document is refused, while the refusal is on its way: the error stands behind a pointer, so an answer is small.
+#[derive(Debug, Drop)]
+pub enum Refusal {
+    /// An error.
+    Named(Box<Error>),
+    /// Memory was refused.
+    Memory,
+}
+
+/// What a step of a resolution answers.
+pub type Outcome<T> = Result<T, Refusal>;
+
+/// A value behind a pointer, where there is memory for it.
+fn boxed<T: Drop>(alloc: Global, value: T) -> Option<Box<T>>
+    ensures { IfSome result (λ b. b.value ≡ value) }
+{
+    match Box::new(alloc, value) {
+        Ok(pointer) => Some(pointer),
+        Err(_) => None,
+    }
+}
+
+impl Refusal {
+    /// The refusal for an error, or for want of memory where there is none for it.
+    pub fn named(alloc: Global, error: Error) -> Self
+        ensures { Names result (cause_of error) }
+    {
+        match boxed(alloc, error) {
+            Some(error) => Refusal::Named(error),
+            None => Refusal::Memory,
+        }
+    }
+
+    /// The error.
+    pub fn into_error(self) -> Error
+        ensures { cause_of result ≡ cause_in self }
+    {
+        match self {
+            Refusal::Named(error) => Box::into_inner(error),
+            Refusal::Memory => Error::Memory,
+        }
+    }
+}
+
+impl From<AllocError> for Refusal {
+    ghost use Rattle.std.specs.Prelude.{◌≡◌};
+    ghost use Rattle.wac_parser_refusals.specs.declared.refusal.Refusal.{Refusal};
+
+    ghost from_gives = { λ _ e. e ≡ Refusal.Memory };
+
+    fn from(_error: AllocError) -> Self {
+        Refusal::Memory
+    }
+}
+
+impl<T: Drop> From<AllocFailed<T>> for Refusal {
+    ghost use Rattle.std.specs.Prelude.{◌≡◌};
+    ghost use Rattle.wac_parser_refusals.specs.declared.refusal.Refusal.{Refusal};
+
+    ghost from_gives = { λ _ e. e ≡ Refusal.Memory };
+
+    fn from(_error: AllocFailed<T>) -> Self {
+        Refusal::Memory
+    }
+}
+
+impl From<Refusal> for Error {
+    ghost use Rattle.std.specs.Prelude.{◌≡◌};
+    ghost use Rattle.wac_parser_refusals.specs.Views.{cause_in, cause_of};
+
+    ghost from_gives = { λ refusal error. cause_of error ≡ cause_in refusal };
+
+    fn from(refusal: Refusal) -> Self {
+        refusal.into_error()
+    }
+}

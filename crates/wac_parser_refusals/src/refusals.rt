@@ -1,0 +1,372 @@
+//! Refusals with their names.
+
+ghost use Rattle.std.specs.Prelude.{◌≡◌, IfOk, is_some, option_map, string_bytes};
+ghost use Rattle.wac_parser_refusals.specs.Causes as fault;
+ghost use Rattle.wac_parser_refusals.specs.Outcomes.{Refuses};
+ghost use Rattle.wac_parser_refusals.specs.Views.{Names, maybe_at};
+
+use crate::error::Error;
+use crate::refusal::Refusal;
+use std::alloc::{AllocError, Global};
+use wac_parser_lexer::SourceSpan;
+use wac_types_base::{ExternKind, FuncKind};
+
+/// A refusal of a name that is not there.
+pub fn undefined_name(alloc: Global, name: &str, span: SourceSpan) -> Refusal
+    ensures { Refuses result (fault.UndefinedName name.now) span }
+{
+    let Ok(name) = String::from_str(alloc, name) else {
+        return Refusal::Memory;
+    };
+    Refusal::named(alloc, Error::UndefinedName { name, span })
+}
+
+/// A refusal of what is no value type.
+pub fn not_value_type(alloc: Global, name: &str, kind: &'static str, span: SourceSpan) -> Refusal
+    ensures { Refuses result (fault.NotValueType name.now kind.now) span }
+{
+    let Ok(name) = String::from_str(alloc, name) else {
+        return Refusal::Memory;
+    };
+    Refusal::named(alloc, Error::NotValueType { name, kind, span })
+}
+
+/// A refusal of what is no resource type.
+pub fn not_resource_type(alloc: Global, name: &str, kind: &'static str, span: SourceSpan) -> Refusal
+    ensures { Refuses result (fault.NotResourceType name.now kind.now) span }
+{
+    let Ok(name) = String::from_str(alloc, name) else {
+        return Refusal::Memory;
+    };
+    Refusal::named(alloc, Error::NotResourceType { name, kind, span })
+}
+
+/// A refusal of what is no function type.
+pub fn not_func_type(alloc: Global, name: &str, kind: &'static str, span: SourceSpan) -> Refusal
+    ensures { Refuses result (fault.NotFuncType name.now kind.now) span }
+{
+    let Ok(name) = String::from_str(alloc, name) else {
+        return Refusal::Memory;
+    };
+    Refusal::named(alloc, Error::NotFuncType { name, kind, span })
+}
+
+/// A refusal of what cannot be aliased.
+pub fn invalid_alias_type(
+    alloc: Global,
+    name: &str,
+    kind: &'static str,
+    span: SourceSpan,
+) -> Refusal
+    ensures { Refuses result (fault.InvalidAliasType name.now kind.now) span }
+{
+    let Ok(name) = String::from_str(alloc, name) else {
+        return Refusal::Memory;
+    };
+    Refusal::named(alloc, Error::InvalidAliasType { name, kind, span })
+}
+
+/// A refusal of a second parameter of a name.
+pub fn duplicate_parameter(alloc: Global, name: &str, kind: FuncKind, span: SourceSpan) -> Refusal
+    ensures { Refuses result (fault.DuplicateParameter name.now kind) span }
+{
+    let Ok(name) = String::from_str(alloc, name) else {
+        return Refusal::Memory;
+    };
+    Refusal::named(alloc, Error::DuplicateParameter { name, kind, span })
+}
+
+/// The name of a member, and that of its type.
+fn two_names(alloc: Global, member: &str, ty: &str) -> Result<(String, String), AllocError>
+    ensures { IfOk result (λ r. (string_bytes r.0 ≡ member.now) × (string_bytes r.1 ≡ ty.now)) }
+{
+    Ok((
+        String::from_str(alloc, member)?,
+        String::from_str(alloc, ty)?,
+    ))
+}
+
+/// A refusal of a second case of a variant under a name.
+pub fn duplicate_case(alloc: Global, name: &str, ty: &str, span: SourceSpan) -> Refusal
+    ensures { Refuses result (fault.DuplicateVariantCase name.now ty.now) span }
+{
+    let Ok((case, name)) = two_names(alloc, name, ty) else {
+        return Refusal::Memory;
+    };
+    Refusal::named(alloc, Error::DuplicateVariantCase { case, name, span })
+}
+
+/// A refusal of a second field of a record under a name.
+pub fn duplicate_field(alloc: Global, name: &str, ty: &str, span: SourceSpan) -> Refusal
+    ensures { Refuses result (fault.DuplicateRecordField name.now ty.now) span }
+{
+    let Ok((field, name)) = two_names(alloc, name, ty) else {
+        return Refusal::Memory;
+    };
+    Refusal::named(alloc, Error::DuplicateRecordField { field, name, span })
+}
+
+/// A refusal of a second case of an enum under a name.
+pub fn duplicate_enum_case(alloc: Global, name: &str, ty: &str, span: SourceSpan) -> Refusal
+    ensures { Refuses result (fault.DuplicateEnumCase name.now ty.now) span }
+{
+    let Ok((case, name)) = two_names(alloc, name, ty) else {
+        return Refusal::Memory;
+    };
+    Refusal::named(alloc, Error::DuplicateEnumCase { case, name, span })
+}
+
+/// A refusal of a second flag of a name.
+pub fn duplicate_flag(alloc: Global, name: &str, ty: &str, span: SourceSpan) -> Refusal
+    ensures { Refuses result (fault.DuplicateFlag name.now ty.now) span }
+{
+    let Ok((flag, name)) = two_names(alloc, name, ty) else {
+        return Refusal::Memory;
+    };
+    Refusal::named(alloc, Error::DuplicateFlag { flag, name, span })
+}
+
+/// A refusal of a name that is defined before.
+pub fn duplicate_name(alloc: Global, name: &str, span: SourceSpan, previous: SourceSpan) -> Refusal
+    ensures { Refuses result (fault.DuplicateName name.now previous) span }
+{
+    let Ok(name) = String::from_str(alloc, name) else {
+        return Refusal::Memory;
+    };
+    Refusal::named(
+        alloc,
+        Error::DuplicateName {
+            name,
+            span,
+            previous,
+        },
+    )
+}
+
+/// A refusal of a package that nobody knows.
+pub fn unknown_package(alloc: Global, name: &str, span: SourceSpan) -> Refusal
+    ensures { Refuses result (fault.UnknownPackage name.now) span }
+{
+    let Ok(name) = String::from_str(alloc, name) else {
+        return Refusal::Memory;
+    };
+    Refusal::named(alloc, Error::UnknownPackage { name, span })
+}
+
+/// A refusal of what is no world.
+pub fn not_world(alloc: Global, name: &str, kind: &'static str, span: SourceSpan) -> Refusal
+    ensures { Refuses result (fault.NotWorld name.now kind.now) span }
+{
+    let Ok(name) = String::from_str(alloc, name) else {
+        return Refusal::Memory;
+    };
+    Refusal::named(alloc, Error::NotWorld { name, kind, span })
+}
+
+/// A refusal of what is no interface.
+pub fn not_interface(alloc: Global, name: &str, kind: &'static str, span: SourceSpan) -> Refusal
+    ensures { Refuses result (fault.NotInterface name.now kind.now) span }
+{
+    let Ok(name) = String::from_str(alloc, name) else {
+        return Refusal::Memory;
+    };
+    Refusal::named(alloc, Error::NotInterface { name, kind, span })
+}
+
+/// A refusal of what is neither a function type nor an interface.
+pub fn not_func_or_interface(
+    alloc: Global,
+    name: &str,
+    kind: &'static str,
+    span: SourceSpan,
+) -> Refusal
+    ensures { Refuses result (fault.NotFuncOrInterface name.now kind.now) span }
+{
+    let Ok(name) = String::from_str(alloc, name) else {
+        return Refusal::Memory;
+    };
+    Refusal::named(alloc, Error::NotFuncOrInterface { name, kind, span })
+}
+
+/// A refusal of a type that has no written form.
+pub fn unwritable(alloc: Global, name: &str, span: Option<SourceSpan>) -> Refusal
+    ensures { Names result (maybe_at (fault.TypeCannotBeWritten name.now) span) }
+{
+    let Ok(name) = String::from_str(alloc, name) else {
+        return Refusal::Memory;
+    };
+    Refusal::named(alloc, Error::TypeCannotBeWritten { name, span })
+}
+
+/// A refusal of a type that its interface lacks.
+pub fn undefined_type(alloc: Global, name: &str, interface: &str, span: SourceSpan) -> Refusal
+    ensures { Refuses result (fault.UndefinedInterfaceType name.now interface.now) span }
+{
+    let Ok((name, interface_name)) = two_names(alloc, name, interface) else {
+        return Refusal::Memory;
+    };
+    Refusal::named(
+        alloc,
+        Error::UndefinedInterfaceType {
+            name,
+            interface_name,
+            span,
+        },
+    )
+}
+
+/// A refusal of a use of what is no value type of its interface.
+pub fn not_used_type(
+    alloc: Global,
+    name: &str,
+    kind: &'static str,
+    interface: &str,
+    span: SourceSpan,
+) -> Refusal
+    ensures { Refuses result (fault.NotInterfaceValueType name.now kind.now interface.now) span }
+{
+    let Ok((name, interface_name)) = two_names(alloc, name, interface) else {
+        return Refusal::Memory;
+    };
+    Refusal::named(
+        alloc,
+        Error::NotInterfaceValueType {
+            name,
+            kind,
+            interface_name,
+            span,
+        },
+    )
+}
+
+/// A refusal of a used type under the name of another item.
+pub fn use_conflict(
+    alloc: Global,
+    name: &str,
+    kind: ExternKind,
+    help: Option<&'static str>,
+    span: SourceSpan,
+) -> Refusal
+    ensures { Refuses result (fault.UseConflict name.now kind (is_some help.entry)) span }
+{
+    let Ok(name) = String::from_str(alloc, name) else {
+        return Refusal::Memory;
+    };
+    Refusal::named(
+        alloc,
+        Error::UseConflict {
+            name,
+            kind,
+            span,
+            help,
+        },
+    )
+}
+
+fn optional_name(alloc: Global, name: Option<&str>) -> Result<Option<String>, AllocError>
+    ensures { IfOk result (λ r. option_map string_bytes r ≡ option_map (λ n. n.now) name.entry) }
+{
+    match name {
+        Some(name) => Ok(Some(String::from_str(alloc, name)?)),
+        None => Ok(None),
+    }
+}
+
+/// A refusal of a second export of an interface under a name.
+pub fn duplicate_export(
+    alloc: Global,
+    name: &str,
+    interface: Option<&str>,
+    span: SourceSpan,
+) -> Refusal
+    ensures { Refuses result (fault.DuplicateInterfaceExport name.now (option_map (λ n. n.now) interface.entry)) span }
+{
+    let Ok(name) = String::from_str(alloc, name) else {
+        return Refusal::Memory;
+    };
+    let Ok(interface_name) = optional_name(alloc, interface) else {
+        return Refusal::Memory;
+    };
+    Refusal::named(
+        alloc,
+        Error::DuplicateInterfaceExport {
+            name,
+            interface_name,
+            span,
+        },
+    )
+}
+
+/// A refusal of a second import, or a second export, of a world under a name.
+pub fn duplicate_world_item(
+    alloc: Global,
+    kind: ExternKind,
+    name: &str,
+    world: &str,
+    span: SourceSpan,
+) -> Refusal
+    ensures { Refuses result (fault.DuplicateWorldItem kind name.now world.now) span }
+{
+    let Ok((name, world)) = two_names(alloc, name, world) else {
+        return Refusal::Memory;
+    };
+    Refusal::named(
+        alloc,
+        Error::DuplicateWorldItem {
+            kind,
+            name,
+            world,
+            span,
+        },
+    )
+}
+
+/// A refusal of a second constructor of a resource.
+pub fn duplicate_constructor(alloc: Global, resource: &str, span: SourceSpan) -> Refusal
+    ensures { Refuses result (fault.DuplicateResourceConstructor resource.now) span }
+{
+    let Ok(resource) = String::from_str(alloc, resource) else {
+        return Refusal::Memory;
+    };
+    Refusal::named(
+        alloc,
+        Error::DuplicateResourceConstructor { resource, span },
+    )
+}
+
+/// A refusal of a second method of a resource under a name.
+pub fn duplicate_method(alloc: Global, name: &str, resource: &str, span: SourceSpan) -> Refusal
+    ensures { Refuses result (fault.DuplicateResourceMethod name.now resource.now) span }
+{
+    let Ok((name, resource)) = two_names(alloc, name, resource) else {
+        return Refusal::Memory;
+    };
+    Refusal::named(
+        alloc,
+        Error::DuplicateResourceMethod {
+            name,
+            resource,
+            span,
+        },
+    )
+}
+
+/// A refusal of a name that stands twice in a `with` clause.
+pub fn duplicate_with_name(alloc: Global, name: &str, span: SourceSpan) -> Refusal
+    ensures { Refuses result (fault.DuplicateWorldIncludeName name.now) span }
+{
+    let Ok(name) = String::from_str(alloc, name) else {
+        return Refusal::Memory;
+    };
+    Refusal::named(alloc, Error::DuplicateWorldIncludeName { name, span })
+}
+
+/// A refusal of a name of a `with` clause that the world lacks.
+pub fn missing_with_name(alloc: Global, world: &str, name: &str, span: SourceSpan) -> Refusal
+    ensures { Refuses result (fault.MissingWorldInclude world.now name.now) span }
+{
+    let Ok((world, name)) = two_names(alloc, world, name) else {
+        return Refusal::Memory;
+    };
+    Refusal::named(alloc, Error::MissingWorldInclude { world, name, span })
+}
