@@ -1,6 +1,6 @@
 -- Answers that go on, and what each step of a list keeps.
 use Rattle.std.proofs.Common.{◌≡◌, List, [], ◌∷◌, Ok, Err, refl, subst, ap, sym}
-use Rattle.wac_parser_declare.specs.Causes.{Answer, Cause, each, ◌>>=◌, ◌>>◌}
+use Rattle.wac_parser_refusals.specs.Causes.{Answer, Cause, each, ◌>>=◌, ◌>>◌}
 
 IsGiven : {X : Type 0} → Answer X → Type 0
 IsGiven (Ok x) = Unit {0}

@@ -7,3 +7,6 @@ pub mod Growing
 pub mod Fresh
 pub mod SoundGraph
 pub mod TargetMet
+pub mod Keeping
+pub mod Refused
+pub mod Documents

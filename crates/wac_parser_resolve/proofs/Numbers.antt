@@ -1,6 +1,6 @@
 -- Origins that name instances below a number, and lists that grow at their end.
 use Rattle.std.specs.Prelude.{slice_get, ◌==◌, if◌then◌else◌}
-use Rattle.std.specs.Cmp.Lexicographic.{pointwise}
+use Rattle.std.specs.Cmp.Lexicographic.{pointwise, bytes_decides}
 use Rattle.std.proofs.Common.{◌≡◌, ℕ, zero, suc, ◌<◌, ◌≤◌, List, [], ◌∷◌, ◌++◌, Bool, true, false, Option, Some, None, ◌⊎◌, inl, inr, length, refl, sym, ap, subst, ◌∙◌, arith}
 use Rattle.wac_types_base.specs.Entries.{Name, value_at}
 use Rattle.wac_types_base.specs.Graph.{Among}
@@ -37,6 +37,32 @@ module _ {A : Type 0} where
   slice_more (z ∷ xs) x y zero e = inl e
   slice_more (z ∷ xs) x y (suc i) e = elim (slice_more xs x y i e) [ inl h ↦ inl h | inr h ↦ inr (ap suc h.0, h.1) ]
 
+  -- what stood stands there, and the last stands behind it
+  pub slice_kept : (xs : List A) (x y : A) (i : ℕ) → slice_get xs i ≡ Some y → slice_get (xs ++ x ∷ []) i ≡ Some y
+  slice_kept [] x y i e = absurd (none_is e)
+  slice_kept (z ∷ xs) x y zero e = e
+  slice_kept (z ∷ xs) x y (suc i) e = slice_kept xs x y i e
+
+  pub slice_last : (xs : List A) (x : A) → slice_get (xs ++ x ∷ []) (length xs) ≡ Some x
+  slice_last [] x = refl
+  slice_last (y ∷ xs) x = slice_last xs x
+
+  pub among_more : (y : A) (xs : List A) (x : A) → Among y xs → Among y (xs ++ x ∷ [])
+  among_more y [] x m = absurd m
+  among_more y (z ∷ xs) x (inl e) = inl e
+  among_more y (z ∷ xs) x (inr m) = inr (among_more y xs x m)
+
+  pub among_last : (xs : List A) (x : A) → Among x (xs ++ x ∷ [])
+  among_last [] x = inl refl
+  among_last (y ∷ xs) x = inr (among_last xs x)
+
+  -- what holds of each holds with one more
+  pub each_more : (P : A → Type 0) (xs : List A) (x : A) → ((y : A) → Among y xs → P y) → P x → (y : A) → Among y (xs ++ x ∷ []) → P y
+  each_more P [] x h p y (inl e) = subst P (sym e) p
+  each_more P [] x h p y (inr m) = absurd m
+  each_more P (z ∷ xs) x h p y (inl e) = h y (inl e)
+  each_more P (z ∷ xs) x h p y (inr m) = each_more P xs x (λ w n. h w (inr n)) p y m
+
   pub slice_below : (xs : List A) (i : ℕ) (x : A) → slice_get xs i ≡ Some x → i < length xs
   slice_below [] i x e = absurd (none_is e)
   slice_below (y ∷ xs) zero x e = omega arith
@@ -70,3 +96,12 @@ value_more P xs m v h p n w e = go (value_at xs n) refl (sym (value_append xs m 
     go : (o : Option _) → value_at xs n ≡ o → first_of o (value_at ((m, v) ∷ []) n) ≡ Some w → P w
     go (Some u) q d = subst P (some_is d) (h n u q)
     go None q d = last (pointwise ◌==◌ n m) d
+
+-- what is found is there
+pub value_among : {V : Type 0} (xs : List (Name × V)) (n : Name) (v : V) → value_at xs n ≡ Some v → Among (n, v) xs
+value_among [] n v e = absurd (none_is e)
+value_among (x ∷ xs) n v e = go (value_among xs n v) (pointwise ◌==◌ n x.0) refl e
+  where
+    go : (value_at xs n ≡ Some v → Among (n, v) xs) → (b : Bool) → pointwise ◌==◌ n x.0 ≡ b → (if b then Some x.1 else value_at xs n) ≡ Some v → Among (n, v) (x ∷ xs)
+    go rest true q r = inl (λ i. ((bytes_decides n x.0).0 q i, sym (some_is r) i))
+    go rest false q r = inr (rest r)

@@ -1,7 +1,7 @@
 -- The ascribed wiring is of packages handed in, and in order.
 use Rattle.std.specs.Prelude.{◌==◌, slice_get, option_map, is_some, if◌then◌else◌, IsSome}
 use Rattle.std.specs.Cmp.Lexicographic.{pointwise}
-use Rattle.std.proofs.Common.{◌≡◌, ℕ, zero, suc, ◌+◌, ◌<◌, List, [], ◌∷◌, map, Bool, true, false, Option, Some, None, Ok, length, refl, sym, ap, subst, ◌∙◌, arith}
+use Rattle.std.proofs.Common.{◌≡◌, ℕ, zero, suc, ◌<◌, List, [], ◌∷◌, map, Bool, true, false, Option, Some, None, Ok, length, refl, sym, ap, subst, ◌∙◌, arith}
 use Rattle.wac_types_base.specs.Entries.{Name, value_at}
 use Rattle.wac_types_base.specs.Stated.{Stated, imports_of}
 use Rattle.wac_types_names.specs.Keys.{Key}
@@ -11,18 +11,19 @@ use Rattle.wac_composition.specs.Worlds.{source_of}
 use Rattle.wac_composition.specs.Wired.{source_for, argument_source, instantiation, export_source, composed_wiring}
 use Rattle.wac_composition.specs.Composition as c
 use Rattle.wac_composition.specs.Composition.{Composition}
+use Rattle.wac_composition.specs.Conflicts as cause
 use Rattle.wac_composition.specs.Conflicts.{first_cause, name_cause}
 use Rattle.wac_parser_tree.specs.Trees as t
-use Rattle.wac_parser_declare.specs.Causes.{Answer, ◌>>=◌, ◌>>◌, pure}
+use Rattle.wac_parser_refusals.specs.Causes.{Answer, ◌>>◌}
 use Rattle.wac_parser_declare.specs.Scope.{world_under}
 use Rattle.wac_parser_resolve.specs.Ascribing.{Origin, imported, instance, projected, defined, Denoted, Made, Bound, State}
 use Rattle.wac_parser_resolve.specs.Saying.{statements}
 use Rattle.wac_parser_resolve.specs.Meeting.{target, resolved}
 use Rattle.wac_parser_resolve.specs.Ascribed.{Asker, origin_in, argument_in, made_in, numbered, exported_in, composition, unless_cause, ascribed}
 use Rattle.wac_parser_resolve.specs.Laws.{Packages_are_known, Wirings_are_ordered}
-use Rattle.wac_parser_resolve.proofs.Answers.{ok_of, then_ok, ok_is}
-use Rattle.wac_parser_resolve.proofs.Numbers.{some_is, none_is, Below, slice_below, slice_there}
-use Rattle.wac_parser_resolve.proofs.Sound.{Sound, statements_sound}
+use Rattle.wac_parser_resolve.proofs.Answers.{err_ok, ok_of, then_ok, ok_is}
+use Rattle.wac_parser_resolve.proofs.Numbers.{some_is, none_is, Below, slice_below, slice_there, value_among}
+use Rattle.wac_parser_resolve.proofs.Sound.{Sound, has_below, statements_sound}
 
 -- ---- the instances with their numbers
 
@@ -32,11 +33,17 @@ pub record IsNumbered (ms : List Made) (k : ℕ) (x : c.Made Asker ℕ) : Type 0
   pub number : ℕ
   pub is : x ≡ made_in number made
 
-numbered_is : (j : ℕ) (ms : List Made) (k : ℕ) (x : c.Made Asker ℕ) → slice_get (numbered j ms) k ≡ Some x → IsNumbered ms k x
+pub numbered_is : (j : ℕ) (ms : List Made) (k : ℕ) (x : c.Made Asker ℕ) → slice_get (numbered j ms) k ≡ Some x → IsNumbered ms k x
 numbered_is j [] k x e = absurd (none_is e)
 numbered_is j (m ∷ ms) zero x e = record { made = m; there = refl; number = j; is = sym (some_is e) }
 numbered_is j (m ∷ ms) (suc k) x e =
     let r = numbered_is (suc j) ms k x e in record { made = r.made; there = r.there; number = r.number; is = r.is }
+
+-- and what was said is there with a number
+pub numbered_at : (j : ℕ) (ms : List Made) (k : ℕ) (m : Made) → slice_get ms k ≡ Some m → (i : ℕ) × (slice_get (numbered j ms) k ≡ Some (made_in i m))
+numbered_at j [] k m e = absurd (none_is e)
+numbered_at j (x ∷ ms) zero m e = (j, ap (λ y. Some (made_in j y)) (some_is e))
+numbered_at j (x ∷ ms) (suc k) m e = numbered_at (suc j) ms k m e
 
 numbered_there : (j : ℕ) (ms : List Made) (k : ℕ) (m : Made) → slice_get ms k ≡ Some m → (x : c.Made Asker ℕ) × (slice_get (numbered j ms) k ≡ Some x)
 numbered_there j [] k m e = absurd (none_is e)
@@ -61,7 +68,7 @@ module _ (P : ℕ → Type 0) (asks : List (Ask Asker)) where
   origin_uses k h (defined n x) b = tt
 
 -- what is passed under a name
-argument_is : (as_ : List (Name × Denoted)) (n : Name) → value_at (map argument_in as_) n ≡ option_map (λ (d : Denoted). origin_in d.origin) (value_at as_ n)
+pub argument_is : (as_ : List (Name × Denoted)) (n : Name) → value_at (map argument_in as_) n ≡ option_map (λ (d : Denoted). origin_in d.origin) (value_at as_ n)
 argument_is [] n = refl
 argument_is (a ∷ as_) n = go (argument_is as_ n) (pointwise ◌==◌ n a.0)
   where
@@ -128,16 +135,22 @@ module _ (ps : List (Key × Stated)) (g : State) (sound : Sound ps g) (tag_of : 
 
       exported : (n : Name) (o : Option Bound) → value_at g.exports n ≡ o → Uses (λ j. IsSome (W.at j)) (export_source tag_of x (option_map (λ (b : Bound). origin_in b.denoted.origin) o))
       exported n None e = tt
-      exported n (Some b) e = origin_uses (λ j. IsSome (W.at j)) (asks_of x) (length g.made) there b.denoted.origin (sound.exports n b e)
+      exported n (Some b) e = origin_uses (λ j. IsSome (W.at j)) (asks_of x) (length g.made) there b.denoted.origin (has_below g b.denoted.origin b.denoted.item (sound.exports (n, b) (value_among g.exports n b e)))
 
 -- ---- a document
 
-record Said (d : t.Document) (ps : List (Key × Stated)) (x : Composition Asker ℕ) : Type 0 where
-  state : State
-  sound : Sound ps state
-  is : x ≡ composition state
+pub record Said (define : Bool) (d : t.Document) (ps : List (Key × Stated)) (x : Composition Asker ℕ) : Type 0 where
+  pub state : State
+  pub sound : Sound ps state
+  pub is : x ≡ composition state
+  pub free : first_cause define (composition state) ≡ None
 
-said : (d : t.Document) (ps : List (Key × Stated)) (define : Bool) (x : Composition Asker ℕ × Option Stated) → Ok x ≡ ascribed define d ps → Said d ps x.0
+-- no cause stood against what went on
+no_cause : {A : Type 0} (o : Option (cause.Cause Asker)) (q : Answer A) (r : A) → Ok r ≡ (unless_cause o >> q) → o ≡ None
+no_cause None q r e = refl
+no_cause (Some c) q r e = absurd (err_ok _ r e)
+
+pub said : (d : t.Document) (ps : List (Key × Stated)) (define : Bool) (x : Composition Asker ℕ × Option Stated) → Ok x ≡ ascribed define d ps → Said define d ps x.0
 said d ps define x e =
     let r = ok_of (resolved d ps) _ x e in
     let a = then_ok (unless_cause (first_cause define (composition r.0.0))) _ x r.2 in
@@ -149,6 +162,7 @@ said d ps define x e =
       state = g.0;
       sound = statements_sound ps d g.0 (sym g.1);
       is = ap (λ (y : Composition Asker ℕ × Option Stated). y.0) (ok_is x (composition r.0.0, r.0.1) b) ∙ ap (λ (q : State × Option Stated). composition q.0) same;
+      free = ap (λ (q : State × Option Stated). first_cause define (composition q.0)) (sym same) ∙ no_cause (first_cause define (composition r.0.0)) _ x r.2;
     }
 
 pub ordered : Wirings_are_ordered

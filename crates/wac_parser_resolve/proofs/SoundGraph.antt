@@ -13,7 +13,7 @@ use Rattle.wac_graph_core.specs.NodeMaps.{IsImport}
 use Rattle.wac_graph_core.specs.Graph.{Graph, node_at, ContainsNode, package_of, ContainsPackage}
 use Rattle.wac_parser_declare.specs.declared.scope.Binding.{Binding}
 use Rattle.wac_parser_declare.specs.Holding.{EachStands, BindingStands, NamesStand}
-use Rattle.wac_parser_declare.specs.Keeping.{Keeps}
+use Rattle.wac_parser_resolve.specs.Keeping.{Keeps}
 use Rattle.wac_parser_resolve.specs.declared.arguments.Given.{Given}
 use Rattle.wac_parser_resolve.specs.Later.{Later, Inner, SameNumber}
 use Rattle.wac_parser_resolve.specs.Standing.{AreThere, IsSound}

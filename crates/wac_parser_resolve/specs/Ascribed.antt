@@ -1,5 +1,5 @@
 -- What a document ascribes over the packages handed in: its composition, or the first cause.
-use Rattle.std.specs.Prelude.{ℕ, suc, Bool, true, List, [], ◌∷◌, map, Option, Some, None, unwrap_or, Ok, Err, ⊤}
+use Rattle.std.specs.Prelude.{ℕ, suc, Bool, true, List, [], ◌∷◌, map, Option, Some, None, unwrap_or, Err, ⊤}
 use Rattle.wac_types_base.specs.declared.item.ExternKind.{ExternKind}
 use Rattle.wac_types_base.specs.Entries.{Name}
 use Rattle.wac_types_base.specs.Stated.{Stated}
@@ -10,7 +10,7 @@ use Rattle.wac_composition.specs.Conflicts as cause
 use Rattle.wac_composition.specs.Conflicts.{first_cause, name_cause}
 use Rattle.wac_parser_tree.specs.Trees as t
 use Rattle.wac_parser_tree.specs.Trees.{Span}
-use Rattle.wac_parser_declare.specs.Causes.{Answer, Cause, Fault, ◌>>=◌, ◌>>◌, pure, ImportConflict, ExplicitImportConflict, InstantiationArgMergeFailure, TypeCannotBeWritten, ValidationFailure}
+use Rattle.wac_parser_refusals.specs.Causes.{Answer, Cause, ◌>>=◌, ◌>>◌, pure, ImportConflict, ExplicitImportConflict, InstantiationArgMergeFailure, TypeCannotBeWritten, ValidationFailure}
 use Rattle.wac_parser_resolve.specs.Ascribing.{Origin, imported, instance, projected, defined, Denoted, Made, Import, Bound, State, own_name}
 use Rattle.wac_parser_resolve.specs.Meeting.{resolved}
 

@@ -1,12 +1,12 @@
 -- What the statements of a document have said so far, as plain lists in order.
-use Rattle.std.specs.Prelude.{ℕ, Bool, true, false, not, ◌==◌, ◌&&◌, ◌||◌, if◌then◌else◌, List, [], ◌∷◌, ◌++◌, map, Option, Some, None, option_map, bytes_eq}
+use Rattle.std.specs.Prelude.{ℕ, Bool, true, false, not, ◌==◌, ◌&&◌, ◌||◌, if◌then◌else◌, List, [], ◌∷◌, ◌++◌, Option, Some, None, option_map, bytes_eq}
 use Rattle.std.specs.List.{list_any}
 use Rattle.wac_types_base.specs.Entries.{Name, value_at, with_values}
 use Rattle.wac_types_base.specs.Stated.{Stated}
 use Rattle.wac_types_names.specs.Keys.{Key}
 use Rattle.wac_parser_tree.specs.Trees as t
 use Rattle.wac_parser_tree.specs.Trees.{Span}
-use Rattle.wac_parser_declare.specs.Causes.{Answer, ◌>>=◌, ◌>>◌, pure, present, UndefinedName}
+use Rattle.wac_parser_refusals.specs.Causes.{Answer, ◌>>◌, pure, present, UndefinedName}
 use Rattle.wac_parser_declare.specs.Scope.{Scope, Context, Meant, bind}
 
 -- where something comes from, by the names that import statements and declarations have

@@ -1,21 +1,18 @@
 -- What expressions denote. Each makes its instances, in the order in which they are complete.
-use Rattle.std.specs.Prelude.{ℕ, Bool, true, false, not, ◌&&◌, List, [], ◌∷◌, ◌++◌, map, length, Option, Some, None, is_some, filter, find, ⊤, bytes_eq, unwrap_or, if◌then◌else◌}
+use Rattle.std.specs.Prelude.{Bool, true, false, not, ◌&&◌, List, [], ◌∷◌, ◌++◌, map, length, Option, Some, None, is_some, filter, find, ⊤, bytes_eq, unwrap_or, if◌then◌else◌}
 use Rattle.wac_types_base.specs.Entries.{Name, value_at, names_of, has_name}
 use Rattle.wac_types_base.specs.Stated.{Stated, Kind, IsInstance, kind_of, desc, exports_of, imports_of, identifier_of, instance_type}
 use Rattle.wac_types_names.specs.Keys.{Key}
 use Rattle.wac_composition.specs.Tests.{fits}
+use Rattle.wac_composition.specs.Classes.{is_instance}
 use Rattle.wac_composition.specs.Written.{written_definition}
 use Rattle.wac_parser_tree.specs.Trees as t
 use Rattle.wac_parser_tree.specs.Trees.{Span}
-use Rattle.wac_parser_declare.specs.declared.error.InstanceOperation.{InstanceOperation}
-use Rattle.wac_parser_declare.specs.Causes.{Answer, ◌>>=◌, ◌>>◌, pure, refuse, unless_clear, present, each, UnknownPackage, NotAnInstance, MissingInstanceExport, MissingComponentImport, MismatchedInstantiationArg, DuplicateInstantiationArg, MissingInstantiationArg, FillArgumentNotLast, SpreadInstantiationNoMatch}
+use Rattle.wac_parser_refusals.specs.declared.error.InstanceOperation.{InstanceOperation}
+use Rattle.wac_parser_refusals.specs.Causes.{Answer, ◌>>=◌, ◌>>◌, pure, refuse, unless_clear, present, each, UnknownPackage, NotAnInstance, MissingInstanceExport, MissingComponentImport, MismatchedInstantiationArg, DuplicateInstantiationArg, MissingInstantiationArg, FillArgumentNotLast, SpreadInstantiationNoMatch}
 use Rattle.wac_parser_declare.specs.Scope.{world_of_package}
 use Rattle.wac_parser_resolve.specs.Matching.{matched}
-use Rattle.wac_parser_resolve.specs.Ascribing.{Origin, imported, instance, projected, defined, Denoted, Made, State, denoted_by, projection, own_name, speak_of, speak_of_all}
-
-abbrev pub is_instance : Kind → Bool
-is_instance IsInstance = true
-is_instance k = false
+use Rattle.wac_parser_resolve.specs.Ascribing.{Origin, instance, defined, Denoted, Made, State, denoted_by, projection, own_name, speak_of, speak_of_all}
 
 -- an operation asks for an instance
 abbrev pub needs_instance : Denoted → InstanceOperation → Span → Answer ⊤

@@ -4,6 +4,7 @@ pub mod Denoting
 pub mod Saying
 pub mod Meeting
 pub mod Ascribed
+pub mod Refused
 pub mod Rows
 pub mod RowLaws
 pub mod Laws
@@ -15,3 +16,4 @@ pub mod Resolved
 pub mod Processing
 pub mod Passing
 pub mod Giving
+pub mod Keeping

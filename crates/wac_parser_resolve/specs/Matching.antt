@@ -1,5 +1,5 @@
 -- The name that a shorter one means.
-use Rattle.std.specs.Prelude.{◌==◌, ℕ, Bool, true, false, List, [], ◌∷◌, Option, Some, None, option_map, filter, bytes_eq, if◌then◌else◌}
+use Rattle.std.specs.Prelude.{◌==◌, Bool, false, List, [], ◌∷◌, Option, Some, None, option_map, filter, bytes_eq, if◌then◌else◌}
 use Rattle.std.specs.List.{before_first}
 use Rattle.wac_types_base.specs.Entries.{Name, has_name}
 

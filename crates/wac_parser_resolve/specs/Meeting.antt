@@ -1,17 +1,18 @@
 -- The target of a directive, by the types that statements ask.
-use Rattle.std.specs.Prelude.{Bool, true, false, not, List, [], ◌∷◌, ◌++◌, map, Option, Some, None, is_some, filter, ⊤, Err, if◌then◌else◌}
+use Rattle.std.specs.Prelude.{Bool, not, List, [], ◌∷◌, ◌++◌, map, Option, Some, None, is_some, filter, ⊤, Err, if◌then◌else◌}
 use Rattle.std.specs.List.{flat_map, list_all}
 use Rattle.wac_types_base.specs.declared.item.ExternKind.{ExternKind}
 use Rattle.wac_types_base.specs.Entries.{Name, value_at, put_entry}
 use Rattle.wac_types_base.specs.Stated.{Stated, Kind, IsWorld, Used, kind_of, desc, promote, untyped, exports_of, imports_of, uses_of, identifier_of}
 use Rattle.wac_types_names.specs.Keys.{Key}
 use Rattle.wac_composition.specs.Tests.{fits}
+use Rattle.wac_composition.specs.Classes.{is_instance}
 use Rattle.wac_parser_tree.specs.Trees as t
 use Rattle.wac_parser_tree.specs.Trees.{Span}
-use Rattle.wac_parser_declare.specs.Causes.{Answer, Fault, ◌>>=◌, ◌>>◌, pure, refuse, unless_clear, each, NotWorld, TypeCannotBeWritten, ImportNotInTarget, TargetMismatch, MissingTargetExport}
+use Rattle.wac_parser_refusals.specs.Causes.{Answer, Fault, ◌>>=◌, ◌>>◌, pure, refuse, unless_clear, each, NotWorld, TypeCannotBeWritten, ImportNotInTarget, TargetMismatch, MissingTargetExport}
 use Rattle.wac_parser_declare.specs.Scope.{path_item}
 use Rattle.wac_parser_resolve.specs.Ascribing.{Import, Made, Bound, State, context}
-use Rattle.wac_parser_resolve.specs.Denoting.{is_instance, or_else}
+use Rattle.wac_parser_resolve.specs.Denoting.{or_else}
 use Rattle.wac_parser_resolve.specs.Saying.{export_span, statements}
 
 -- ---- what a target gives

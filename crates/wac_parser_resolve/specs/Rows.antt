@@ -1,16 +1,16 @@
 -- Documents from outside with what they ascribe, for the law `examples`.
 use Rattle.std.specs.Prelude.{ℕ, suc, false, true, List, [], ◌∷◌, Option, Some, None, Ok, Err, codes, map}
 use Rattle.wac_types_base.specs.Entries.{Name}
-use Rattle.wac_types_base.specs.Stated.{Stated, interface_of, world_of}
+use Rattle.wac_types_base.specs.Stated.{Stated, world_of}
 use Rattle.wac_types_names.specs.Keys.{Key}
 use Rattle.wac_composition.specs.Asks.{asks_of}
 use Rattle.wac_composition.specs.OuterImports.{outer_imports}
 use Rattle.wac_composition.specs.Composition as c
 use Rattle.wac_composition.specs.Composition.{Composition}
-use Rattle.wac_composition.specs.Examples.{plain_func, func_of_number, named_instance, older, newer, wider, passing, importing}
+use Rattle.wac_composition.specs.Examples.{plain_func, named_instance, older, newer, passing, importing}
 use Rattle.wac_parser_tree.specs.Trees as t
 use Rattle.wac_parser_tree.specs.Trees.{Span}
-use Rattle.wac_parser_declare.specs.Causes.{Answer, Cause, Fault}
+use Rattle.wac_parser_refusals.specs.Causes.{Answer, Fault}
 use Rattle.wac_parser_resolve.specs.Ascribed.{Asker, ascribed}
 
 -- ---- words

@@ -1,7 +1,7 @@
 -- What each statement adds to what the ones before said, or its cause.
 use Rattle.std.specs.Prelude.{Bool, true, false, not, ◌==◌, ◌&&◌, ◌||◌, List, [], ◌∷◌, ◌++◌, Option, Some, None, is_some, is_none, filter, find, codes, ⊤, bytes_eq, unwrap_or, if◌then◌else◌}
 use Rattle.wac_types_base.specs.declared.item.ExternKind.{ExternKind}
-use Rattle.wac_types_base.specs.Entries.{Name, value_at}
+use Rattle.wac_types_base.specs.Entries.{Name, value_at, names_of}
 use Rattle.wac_types_base.specs.Stated.{Stated, Kind, IsInstance, IsComponent, kind_of, desc, promote, exports_of, identifier_of}
 use Rattle.wac_types_names.specs.Keys.{Key}
 use Rattle.std.specs.List.{list_any}
@@ -9,14 +9,14 @@ use Rattle.wac_graph_bytes.specs.NameTests.{plain_test, behind_test}
 use Rattle.wac_composition.specs.Names.{is_interface_name}
 use Rattle.wac_parser_tree.specs.Trees as t
 use Rattle.wac_parser_tree.specs.Trees.{Span}
-use Rattle.wac_parser_declare.specs.declared.error.InstanceOperation.{InstanceOperation}
-use Rattle.wac_parser_declare.specs.Causes.{Answer, ◌>>=◌, ◌>>◌, pure, refuse, unless_clear, present, each, DuplicateExternName, InvalidExternName, DeclarationConflict, ExportRequiresAs, ExportConflict, SpreadExportNoEffect}
+use Rattle.wac_parser_refusals.specs.declared.error.InstanceOperation.{InstanceOperation}
+use Rattle.wac_parser_refusals.specs.Causes.{Answer, ◌>>=◌, ◌>>◌, pure, refuse, unless_clear, present, each, DuplicateExternName, InvalidExternName, DeclarationConflict, ExportRequiresAs, ExportConflict, SpreadExportNoEffect}
 use Rattle.wac_parser_declare.specs.Scope.{named, path_item}
 use Rattle.wac_parser_declare.specs.Declarations.{free}
 use Rattle.wac_parser_declare.specs.Interfaces.{inline_interface}
 use Rattle.wac_parser_declare.specs.Worlds.{type_statement}
-use Rattle.wac_parser_resolve.specs.Ascribing.{Origin, imported, defined, Denoted, Import, Bound, State, start, root_scope, context, bound, projection, own_name, is_definition, same_origin, speak_of}
-use Rattle.wac_parser_resolve.specs.Denoting.{denote, instance_identifier, needs_instance, or_else}
+use Rattle.wac_parser_resolve.specs.Ascribing.{Origin, imported, defined, Denoted, Import, Bound, State, start, root_scope, context, bound, own_name, is_definition, same_origin, speak_of}
+use Rattle.wac_parser_resolve.specs.Denoting.{denote, export_named, instance_identifier, needs_instance, or_else}
 
 -- ---- names of imports and exports
 
@@ -153,16 +153,18 @@ exported d helped g n = do
 abbrev pub export_name : Denoted → Option Name
 export_name d = or_else (instance_identifier (kind_of d.item) d.item) (own_name d.origin)
 
-abbrev pub export_left : State → Span → Span → Denoted → List (Name × Stated) → Answer State
+abbrev pub export_one : Span → Denoted → State → Name → Answer State
+export_one dots d g n = export_named d n dots >>= λ e. exported e false g (record { string = n; span = dots })
+
+abbrev pub export_left : State → Span → Span → Denoted → List Name → Answer State
 export_left g s dots d [] = refuse SpreadExportNoEffect s
-export_left g s dots d (e ∷ es) =
-    each (λ h x. exported (projection d x.0 x.1) false h (record { string = x.0; span = dots })) g (e ∷ es)
+export_left g s dots d (n ∷ ns) = each (export_one dots d) g (n ∷ ns)
 
 abbrev pub export_as : State → Span → Denoted → t.ExportOptions → Answer State
 export_as g s d t.ExportOptions.none =
     present (export_name d) ExportRequiresAs s >>= λ n. exported d true g (record { string = n; span = s })
 export_as g s d (t.ExportOptions.spread dots) = needs_instance d InstanceOperation.Spread s
-    >> export_left g s dots d (filter (λ e. not (is_some (value_at g.exports e.0))) (exports_of d.item))
+    >> export_left g s dots d (filter (λ n. not (is_some (value_at g.exports n))) (names_of (exports_of d.item)))
 export_as g s d (t.ExportOptions.rename n) = exported d false g (written_name n)
 
 abbrev pub expr_span : t.Expr → Span

@@ -14,8 +14,8 @@ use crate::names::matched;
 use crate::root::Root;
 use std::alloc::{AllocError, Global};
 use wac_graph_core::{CompositionGraph, NodeId};
-use wac_parser_declare::{Error, InstanceOperation, ResolutionResult};
 use wac_parser_lexer::SourceSpan;
+use wac_parser_refusals::{Error, InstanceOperation, ResolutionResult};
 use wac_parser_tree::{Ident, InstantiationArgument, InstantiationArgumentName, PackageName};
 use wac_types_base::{InterfaceId, ItemKind, NamedMap, Types, WorldId};
 
@@ -53,9 +53,9 @@ pub(crate) fn give(given: &mut Vec<Given>, one: Given) -> ResolutionResult<()>
 
 /// The import that an argument's name means.
 pub(crate) fn argument_name(
+    name: &InstantiationArgumentName<'_>,
     alloc: Global,
     imports: &NamedMap<ItemKind>,
-    name: &InstantiationArgumentName<'_>,
 ) -> Result<String, AllocError> {
     match name {
         InstantiationArgumentName::Ident(id) => String::from_str(
@@ -233,10 +233,10 @@ fn spread_id<'a>(argument: &InstantiationArgument<'a>) -> Option<Ident<'a>> {
 
 /// The spread arguments, in order.
 pub(crate) fn spreads(
+    arguments: &Vec<InstantiationArgument<'_>>,
     root: Root<'_, '_>,
     graph: &mut CompositionGraph,
     world: WorldId,
-    arguments: &Vec<InstantiationArgument<'_>>,
     given: &mut Vec<Given>,
 ) -> ResolutionResult<()>
     requires world { Stands graph.old.types (ItemKind.Component world) }
@@ -292,10 +292,10 @@ fn first_missing<'a>(imports: &'a [String], given: &Vec<Given>) -> Option<&'a st
 
 /// Refuses where nothing is given for an import of the world.
 pub(crate) fn complete(
+    package: &PackageName<'_>,
     alloc: Global,
     types: &Types,
     world: WorldId,
-    package: &PackageName<'_>,
     given: &Vec<Given>,
 ) -> ResolutionResult<()>
     requires { Stands types.now (ItemKind.Component world) }

@@ -9,11 +9,12 @@ ghost use Rattle.wac_types_names.specs.Packaged.{Packaged};
 ghost use Rattle.wac_graph_core.specs.Graph.{ContainsNode, ContainsPackage, IsOfKind, package_of};
 ghost use Rattle.wac_parser_resolve.specs.Told.{TellsOwnName, identifier};
 
+use crate::packages::GraphTypes;
 use crate::spans::Spans;
 use std::alloc::Global;
 use wac_graph_core::{CompositionGraph, NodeId, PackageId};
-use wac_parser_declare::{Error, GraphTypes, InstanceOperation, ResolutionResult};
 use wac_parser_lexer::SourceSpan;
+use wac_parser_refusals::{Error, InstanceOperation, ResolutionResult};
 use wac_types_base::{InterfaceId, ItemKind, WorldId};
 
 /// The graph that a document builds over the packages handed in, and where its instances stand.

@@ -14,8 +14,8 @@ use wac_graph_core::{
     AliasError, CompositionGraph, DefineTypeError, ExportError, ImportError,
     InstantiationArgumentError, NodeId, PackageId,
 };
-use wac_parser_declare::{Error, InstanceOperation, ResolutionResult};
 use wac_parser_lexer::SourceSpan;
+use wac_parser_refusals::{Error, InstanceOperation, ResolutionResult};
 use wac_types_base::{ItemKind, Type};
 
 /// What is done with an instance: where the instance stands, and where the access does.

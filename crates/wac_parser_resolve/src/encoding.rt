@@ -10,8 +10,8 @@ use crate::resolver::Resolved;
 use wac_graph_bytes::Processor;
 use wac_graph_core::NodeId;
 use wac_graph_encode::{EncodeError, EncodeGraph, EncodeOptions, Encoded, ValidationFault};
-use wac_parser_declare::{Error, ResolutionResult};
 use wac_parser_lexer::SourceSpan;
+use wac_parser_refusals::{Error, ResolutionResult};
 use wac_types_base::ExternKind;
 
 /// What is said to have written a component where nothing else is said.

@@ -16,8 +16,9 @@ use crate::spans::Spans;
 use crate::state::State;
 use std::alloc::{AllocError, Global};
 use wac_graph_core::{CompositionGraph, ExportError, NodeId, NodeKind};
-use wac_parser_declare::{AS_HELP, Binding, Error, InstanceOperation, ResolutionResult};
+use wac_parser_declare::Binding;
 use wac_parser_lexer::SourceSpan;
+use wac_parser_refusals::{AS_HELP, Error, InstanceOperation, ResolutionResult};
 use wac_parser_tree::ExportOptions;
 use wac_types_base::{ExternKind, InterfaceId, NamedMap};
 
@@ -249,31 +250,31 @@ impl<'p> State<'p> {
         };
         self.export_all(alloc, node, access, &names)
     }
+}
 
-    /// Exports what an expression denotes.
-    pub(crate) fn export_as(
-        &mut self,
-        alloc: Global,
-        node: NodeId,
-        span: SourceSpan,
-        options: &ExportOptions<'_>,
-    ) -> ResolutionResult<()>
-        requires node { ContainsNode self.old.board.types.graph node }
-        requires sound { IsSound self.old.board.types.graph self.old.names }
-        ensures sound { OnOk result (IsSound self.new.board.types.graph self.new.names) }
-        ensures number { SameNumber self.old.board.types.graph self.new.board.types.graph }
-    {
-        match options {
-            ExportOptions::None => self.export_inferred(alloc, node, span),
-            ExportOptions::Spread(dots) => self.export_spread(alloc, node, span, *dots),
-            ExportOptions::Rename(name) => {
-                let name = ExportName {
-                    text: name.as_str(),
-                    span: name.span(),
-                    is_helped: false,
-                };
-                self.export(alloc, node, name)
-            }
+/// Exports what an expression denotes.
+pub(crate) fn export_as(
+    options: &ExportOptions<'_>,
+    state: &mut State<'_>,
+    alloc: Global,
+    node: NodeId,
+    span: SourceSpan,
+) -> ResolutionResult<()>
+    requires node { ContainsNode state.old.board.types.graph node }
+    requires sound { IsSound state.old.board.types.graph state.old.names }
+    ensures sound { OnOk result (IsSound state.new.board.types.graph state.new.names) }
+    ensures number { SameNumber state.old.board.types.graph state.new.board.types.graph }
+{
+    match options {
+        ExportOptions::None => state.export_inferred(alloc, node, span),
+        ExportOptions::Spread(dots) => state.export_spread(alloc, node, span, *dots),
+        ExportOptions::Rename(name) => {
+            let name = ExportName {
+                text: name.as_str(),
+                span: name.span(),
+                is_helped: false,
+            };
+            state.export(alloc, node, name)
         }
     }
 }

@@ -18,8 +18,8 @@ use crate::names::matched;
 use crate::root::Root;
 use std::alloc::{AllocError, Global};
 use wac_graph_core::{CompositionGraph, NodeId, PackageId};
-use wac_parser_declare::{Error, InstanceOperation, ResolutionResult, unknown_package};
 use wac_parser_lexer::SourceSpan;
+use wac_parser_refusals::{Error, InstanceOperation, ResolutionResult, unknown_package};
 use wac_parser_tree::{
     Expr, Ident, InstantiationArgument, NamedInstantiationArgument, NewExpr, PackageName,
     PostfixExpr, PrimaryExpr,
@@ -43,11 +43,11 @@ fn export_meant(
 
 /// The node of one access.
 fn access(
+    one: &PostfixExpr<'_>,
     alloc: Global,
     graph: &mut CompositionGraph,
     node: NodeId,
     before: SourceSpan,
-    one: &PostfixExpr<'_>,
 ) -> ResolutionResult<NodeId>
     requires { ContainsNode graph.old node }
     ensures node { IfOk result (λ k. ContainsNode graph.new k) }
@@ -69,11 +69,11 @@ fn access(
 
 /// The node of accesses, one behind the other.
 fn accesses(
+    list: &Vec<PostfixExpr<'_>>,
     alloc: Global,
     graph: &mut CompositionGraph,
     first: NodeId,
     before: SourceSpan,
-    list: &Vec<PostfixExpr<'_>>,
 ) -> ResolutionResult<NodeId>
     requires { ContainsNode graph.old first }
     ensures node { IfOk result (λ k. ContainsNode graph.new k) }
@@ -82,7 +82,7 @@ fn accesses(
     let mut node = first;
     let mut span = before;
     for one in list {
-        node = access(alloc, graph, node, span, one)?;
+        node = access(one, alloc, graph, node, span)?;
         span = one.span();
     }
     Ok(node)
@@ -90,28 +90,29 @@ fn accesses(
 
 /// The package that an instantiation names: never the document's own.
 fn new_package(
+    name: &PackageName<'_>,
     root: Root<'_, '_>,
     board: &mut Board<'_>,
-    name: &PackageName<'_>,
 ) -> ResolutionResult<PackageId>
     ensures id { IfOk result (λ id. ContainsPackage board.new.types.graph id) }
     ensures own { OnOk result (name.now.name.now ≢ root.entry.own.now) }
     ensures inner { Inner board.old.types.graph board.new.types.graph }
 {
     if name.name == root.own {
-        return Err(unknown_package(root.alloc, name.name, name.span));
+        return Err(unknown_package(root.alloc, name.name, name.span).into_error());
     }
-    board
+    let id = board
         .types
-        .package(root.alloc, name.name, name.version.as_ref(), name.span)
+        .package(root.alloc, name.name, name.version.as_ref(), name.span)?;
+    Ok(id)
 }
 
 /// The instance that the arguments make.
 fn finish(
+    new: &NewExpr<'_>,
     alloc: Global,
     board: &mut Board<'_>,
     id: PackageId,
-    new: &NewExpr<'_>,
     given: Vec<Given>,
 ) -> ResolutionResult<NodeId>
     requires id { ContainsPackage board.old.types.graph id }
@@ -125,10 +126,10 @@ fn finish(
     pass_all(&mut board.types.graph, instance, &given)?;
     if !is_filled(&new.arguments) {
         complete(
+            &new.package,
             alloc,
             board.types.graph.types(),
             world,
-            &new.package,
             &given,
         )?;
     }
@@ -138,36 +139,36 @@ fn finish(
 /// The node that an expression denotes.
 #[cycle(expr)]
 pub(crate) fn expression(
+    expr: &Expr<'_>,
     root: Root<'_, '_>,
     board: &mut Board<'_>,
-    expr: &Expr<'_>,
 ) -> ResolutionResult<NodeId>
     ensures node { IfOk result (λ k. ContainsNode board.new.types.graph k) }
     ensures inner { Inner board.old.types.graph board.new.types.graph }
 {
-    let first = primary(root, board, &expr.primary)?;
+    let first = primary(&expr.primary, root, board)?;
     accesses(
+        &expr.postfix,
         root.alloc,
         &mut board.types.graph,
         first,
         expr.primary.span(),
-        &expr.postfix,
     )
 }
 
 /// The node that a primary expression denotes.
 #[cycle(expr)]
 fn primary(
+    expr: &PrimaryExpr<'_>,
     root: Root<'_, '_>,
     board: &mut Board<'_>,
-    expr: &PrimaryExpr<'_>,
 ) -> ResolutionResult<NodeId>
     ensures node { IfOk result (λ k. ContainsNode board.new.types.graph k) }
     ensures inner { Inner board.old.types.graph board.new.types.graph }
 {
     match expr {
-        PrimaryExpr::New(new) => instance(root, board, new),
-        PrimaryExpr::Nested(nested) => expression(root, board, &nested.inner),
+        PrimaryExpr::New(new) => instance(new, root, board),
+        PrimaryExpr::Nested(nested) => expression(&nested.inner, root, board),
         PrimaryExpr::Ident(id) => root.node(&board.types.graph, id),
     }
 }
@@ -175,34 +176,34 @@ fn primary(
 /// A new instance of a package.
 #[cycle(expr)]
 fn instance(
+    new: &NewExpr<'_>,
     root: Root<'_, '_>,
     board: &mut Board<'_>,
-    new: &NewExpr<'_>,
 ) -> ResolutionResult<NodeId>
     ensures node { IfOk result (λ k. ContainsNode board.new.types.graph k) }
     ensures inner { Inner board.old.types.graph board.new.types.graph }
 {
-    let id = new_package(root, board, &new.package)?;
+    let id = new_package(&new.package, root, board)?;
     let world = world_of(&board.types.graph, id);
     let mut given = Vec::new(root.alloc);
-    arguments(root, board, world, &new.arguments, &mut given)?;
+    arguments(&new.arguments, root, board, world, &mut given)?;
     spreads(
+        &new.arguments,
         root,
         &mut board.types.graph,
         world,
-        &new.arguments,
         &mut given,
     )?;
-    finish(root.alloc, board, id, new, given)
+    finish(new, root.alloc, board, id, given)
 }
 
 /// The arguments that are no spreads, in order.
 #[cycle(expr)]
 fn arguments(
+    list: &Vec<InstantiationArgument<'_>>,
     root: Root<'_, '_>,
     board: &mut Board<'_>,
     world: WorldId,
-    list: &Vec<InstantiationArgument<'_>>,
     given: &mut Vec<Given>,
 ) -> ResolutionResult<()>
     requires world { Stands board.old.types.graph.types (ItemKind.Component world) }
@@ -213,7 +214,7 @@ fn arguments(
     let mut seen: usize = 0;
     for one in list {
         seen = seen.saturating_add(1);
-        argument(root, board, world, one, seen == list.len(), given)?;
+        argument(one, root, board, world, seen == list.len(), given)?;
     }
     Ok(())
 }
@@ -221,10 +222,10 @@ fn arguments(
 /// An argument, where it is no spread.
 #[cycle(expr)]
 fn argument(
+    one: &InstantiationArgument<'_>,
     root: Root<'_, '_>,
     board: &mut Board<'_>,
     world: WorldId,
-    one: &InstantiationArgument<'_>,
     is_last: bool,
     given: &mut Vec<Given>,
 ) -> ResolutionResult<()>
@@ -240,7 +241,7 @@ fn argument(
         }
         InstantiationArgument::Spread(_) => Ok(()),
         InstantiationArgument::Named(one) => {
-            let argument = named(root, board, world, one)?;
+            let argument = named(one, root, board, world)?;
             give(given, argument)?;
             Ok(())
         }
@@ -257,19 +258,19 @@ fn argument(
 /// An argument with its name.
 #[cycle(expr)]
 fn named(
+    one: &NamedInstantiationArgument<'_>,
     root: Root<'_, '_>,
     board: &mut Board<'_>,
     world: WorldId,
-    one: &NamedInstantiationArgument<'_>,
 ) -> ResolutionResult<Given>
     requires { Stands board.old.types.graph.types (ItemKind.Component world) }
     ensures node { IfOk result (λ one. ContainsNode board.new.types.graph one.node) }
     ensures inner { Inner board.old.types.graph board.new.types.graph }
 {
-    let node = expression(root, board, &one.expr)?;
+    let node = expression(&one.expr, root, board)?;
     let imports = &board.types.graph.types().world(world).imports;
     Ok(Given {
-        name: argument_name(root.alloc, imports, &one.name)?,
+        name: argument_name(&one.name, root.alloc, imports)?,
         node,
         span: one.name.span(),
     })

@@ -8,6 +8,7 @@ mod encoding;
 mod exports;
 mod expressions;
 mod names;
+mod packages;
 mod resolver;
 mod root;
 mod spans;
@@ -15,11 +16,13 @@ mod state;
 mod statements;
 mod targets;
 
-ghost use Rattle.wac_parser_resolve.specs.Laws.{Packages_are_known, Wirings_are_ordered};
+ghost use Rattle.wac_parser_resolve.specs.Laws.{Packages_are_known, Wirings_are_ordered, Documents_are_wired};
+ghost use Rattle.wac_parser_resolve.specs.Refused.{Refusals_stand};
 ghost use Rattle.wac_parser_resolve.specs.RowLaws.{Says_one, Says_missing, Says_passed, Says_mismatched, Says_merged, Says_unmerged, Says_unknown, Says_own, Says_conflict, Says_no_name, Says_identified};
 
+pub use packages::{GraphTypes, PackageRef, Packages};
 pub use resolver::{AstResolver, Resolution, ResolveDocument, Resolved, Said};
-pub use wac_parser_declare::{Error, InstanceOperation, PackageRef, Packages, ResolutionResult};
+pub use wac_parser_refusals::{Error, InstanceOperation, ResolutionResult};
 
 /// What some documents from outside ascribe.
 pub fn examples()
@@ -44,4 +47,16 @@ pub fn packages_are_known()
 /// In an ascribed wiring an instance's sources name earlier instances alone.
 pub fn wirings_are_ordered()
     ensures { Wirings_are_ordered }
+{}
+
+/// What an accepted document ascribes is wired: each import of each instance is bound once, to what fits it and was there before,
+/// and the world that is handed out is true of the wiring.
+pub fn documents_are_wired()
+    ensures { Documents_are_wired }
+{}
+
+/// A document whose statements can be said is refused for a cause that stands against its composition, or for names that
+/// are alike.
+pub fn refusals_stand()
+    ensures { Refusals_stand }
 {}

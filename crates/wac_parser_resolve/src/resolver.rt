@@ -10,13 +10,14 @@ ghost use Rattle.wac_parser_resolve.specs.Standing.{IsSound};
 ghost use Rattle.wac_parser_resolve.specs.Targeting.{IsTarget};
 
 use crate::board::Board;
+use crate::packages::{GraphTypes, Packages};
 use crate::spans::Spans;
 use crate::state::State;
-use crate::statements::say_statements;
+use crate::statements::{item_at, say_statements};
 use crate::targets::target_met;
 use std::alloc::Global;
 use wac_graph_core::CompositionGraph;
-use wac_parser_declare::{GraphTypes, Packages, ResolutionResult, not_world};
+use wac_parser_refusals::{ResolutionResult, not_world};
 use wac_parser_tree::{Document, PackageDirective, PackagePath};
 use wac_types_base::{ItemKind, Type, Types, WorldId};
 
@@ -95,63 +96,61 @@ fn world_item(kind: ItemKind, types: &Types) -> Option<WorldId>
     }
 }
 
-impl<'p> State<'p> {
-    /// The world that a path names.
-    fn target_world(
-        &mut self,
-        alloc: Global,
-        directive: &PackageDirective<'_>,
-        path: &PackagePath<'_>,
-    ) -> ResolutionResult<WorldId>
-        requires { IsSound self.old.board.types.graph self.old.names }
-        ensures world { IfOk result (λ id. Stands self.new.board.types.graph.types (ItemKind.Component id)) }
-        ensures number { SameNumber self.old.board.types.graph self.new.board.types.graph }
-    {
-        let kind = self.item_at(alloc, &directive.package, path)?;
-        let types = self.board.types.graph.types();
-        match world_item(kind, types) {
-            Some(id) => Ok(id),
-            None => Err(not_world(alloc, path.string, kind.desc(types), path.span)),
-        }
+/// The world that a path names.
+fn target_world(
+    path: &PackagePath<'_>,
+    directive: &PackageDirective<'_>,
+    state: &mut State<'_>,
+    alloc: Global,
+) -> ResolutionResult<WorldId>
+    requires { IsSound state.old.board.types.graph state.old.names }
+    ensures world { IfOk result (λ id. Stands state.new.board.types.graph.types (ItemKind.Component id)) }
+    ensures number { SameNumber state.old.board.types.graph state.new.board.types.graph }
+{
+    let kind = item_at(path, &directive.package, state, alloc)?;
+    let types = state.board.types.graph.types();
+    match world_item(kind, types) {
+        Some(id) => Ok(id),
+        None => Err(not_world(alloc, path.string, kind.desc(types), path.span).into_error()),
     }
+}
 
-    /// The directive's world, which what was said so far has to meet.
-    fn target(
-        &mut self,
-        alloc: Global,
-        directive: &PackageDirective<'_>,
-        path: &PackagePath<'_>,
-    ) -> ResolutionResult<WorldId>
-        requires { IsSound self.old.board.types.graph self.old.names }
-        ensures world { IfOk result (λ id. IsTarget self.new.board.types.graph (Some id)) }
-        ensures number { SameNumber self.old.board.types.graph self.new.board.types.graph }
-    {
-        let world = self.target_world(alloc, directive, path)?;
-        target_met(
-            alloc,
-            &self.board.types.graph,
-            &self.imports,
-            &self.exports,
-            path,
-            world,
-        )?;
-        Ok(world)
-    }
+/// The directive's world, which what was said so far has to meet.
+fn target(
+    path: &PackagePath<'_>,
+    directive: &PackageDirective<'_>,
+    state: &mut State<'_>,
+    alloc: Global,
+) -> ResolutionResult<WorldId>
+    requires { IsSound state.old.board.types.graph state.old.names }
+    ensures world { IfOk result (λ id. IsTarget state.new.board.types.graph (Some id)) }
+    ensures number { SameNumber state.old.board.types.graph state.new.board.types.graph }
+{
+    let world = target_world(path, directive, state, alloc)?;
+    target_met(
+        alloc,
+        &state.board.types.graph,
+        &state.imports,
+        &state.exports,
+        path,
+        world,
+    )?;
+    Ok(world)
+}
 
-    /// The directive's world, if it names one.
-    fn maybe_target(
-        &mut self,
-        alloc: Global,
-        directive: &PackageDirective<'_>,
-    ) -> ResolutionResult<Option<WorldId>>
-        requires { IsSound self.old.board.types.graph self.old.names }
-        ensures world { IfOk result (λ world. IsTarget self.new.board.types.graph world) }
-        ensures number { SameNumber self.old.board.types.graph self.new.board.types.graph }
-    {
-        match &directive.targets {
-            Some(path) => Ok(Some(self.target(alloc, directive, path)?)),
-            None => Ok(None),
-        }
+/// The directive's world, if it names one.
+fn maybe_target(
+    directive: &PackageDirective<'_>,
+    state: &mut State<'_>,
+    alloc: Global,
+) -> ResolutionResult<Option<WorldId>>
+    requires { IsSound state.old.board.types.graph state.old.names }
+    ensures world { IfOk result (λ world. IsTarget state.new.board.types.graph world) }
+    ensures number { SameNumber state.old.board.types.graph state.new.board.types.graph }
+{
+    match &directive.targets {
+        Some(path) => Ok(Some(target(path, directive, state, alloc)?)),
+        None => Ok(None),
     }
 }
 
@@ -196,7 +195,7 @@ fn say_document(
 {
     let directive = &document.directive;
     say_statements(&document.statements, &directive.package, &mut *state, alloc)?;
-    state.maybe_target(alloc, directive)
+    maybe_target(directive, state, alloc)
 }
 
 /// What a document says, over these packages.

@@ -5,7 +5,7 @@ ghost use Rattle.wac_graph_core.specs.Graph.{ContainsNode};
 
 use std::alloc::Global;
 use wac_graph_core::{CompositionGraph, NodeId};
-use wac_parser_declare::{ResolutionResult, undefined_name};
+use wac_parser_refusals::{ResolutionResult, undefined_name};
 use wac_parser_tree::Ident;
 use wac_types_base::NamedMap;
 
@@ -29,10 +29,10 @@ impl<'o, 'n> Root<'o, 'n> {
                 if graph.contains_node(*node) {
                     Ok(*node)
                 } else {
-                    Err(undefined_name(self.alloc, id))
+                    Err(undefined_name(self.alloc, id.string, id.span).into_error())
                 }
             }
-            None => Err(undefined_name(self.alloc, id)),
+            None => Err(undefined_name(self.alloc, id.string, id.span).into_error()),
         }
     }
 }

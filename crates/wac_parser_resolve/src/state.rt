@@ -8,10 +8,12 @@ ghost use Rattle.wac_parser_resolve.specs.Standing.{IsSound};
 
 use crate::board::{Board, item_of};
 use crate::calls::name_once;
+use crate::packages::{GraphTypes, Packages};
 use crate::spans::Spans;
 use std::alloc::Global;
 use wac_graph_core::{CompositionGraph, NodeId};
-use wac_parser_declare::{Binding, GraphTypes, Packages, ResolutionResult, bind};
+use wac_parser_declare::{Binding, bind};
+use wac_parser_refusals::ResolutionResult;
 use wac_parser_tree::Ident;
 use wac_types_base::NamedMap;
 

@@ -8,18 +8,16 @@ ghost use Rattle.wac_parser_resolve.specs.Later.{SameNumber};
 ghost use Rattle.wac_parser_resolve.specs.Standing.{IsSound};
 
 use crate::calls::{define, import};
-use crate::exports::help;
+use crate::exports::{export_as, help};
 use crate::expressions::expression;
 use crate::root::Root;
 use crate::spans::Spans;
 use crate::state::State;
 use std::alloc::Global;
 use wac_graph_core::{DefineTypeError, ImportError, NodeId};
-use wac_parser_declare::{
-    Context, Error, ResolutionResult, func_type, inline_interface, package_path, type_statement,
-    undefined_name,
-};
+use wac_parser_declare::{Context, func_type, inline_interface, package_path, type_statement};
 use wac_parser_lexer::SourceSpan;
+use wac_parser_refusals::{Error, ResolutionResult, undefined_name};
 use wac_parser_tree::{
     ExportStatement, FuncType, Ident, ImportStatement, ImportType, InlineInterface, LetStatement,
     PackageName, PackagePath, Statement, TypeStatement,
@@ -82,249 +80,248 @@ fn declared_id<'a>(statement: &TypeStatement<'a>) -> Ident<'a> {
     }
 }
 
-impl<'p> State<'p> {
-    /// The item of a name.
-    fn item_named(&self, alloc: Global, id: &Ident<'_>) -> ResolutionResult<ItemKind>
-        requires { IsSound self.now.board.types.graph self.now.names }
-        ensures { IfOk result (λ kind. Stands self.now.board.types.graph.types kind) }
-    {
-        match self.names.get(id.string) {
-            Some(binding) => Ok(binding.kind),
-            None => Err(undefined_name(alloc, id)),
+/// The item of a name.
+fn item_named(id: &Ident<'_>, state: &State<'_>, alloc: Global) -> ResolutionResult<ItemKind>
+    requires { IsSound state.now.board.types.graph state.now.names }
+    ensures { IfOk result (λ kind. Stands state.now.board.types.graph.types kind) }
+{
+    match state.names.get(id.string) {
+        Some(binding) => Ok(binding.kind),
+        None => Err(undefined_name(alloc, id.string, id.span).into_error()),
+    }
+}
+
+/// The name of an import: by `as`, else the path, else the identifier of what an ident names, else its ident.
+fn import_name(
+    statement: &ImportStatement<'_>,
+    state: &State<'_>,
+    alloc: Global,
+) -> ResolutionResult<ImportName>
+    requires { IsSound state.now.board.types.graph state.now.names }
+{
+    let id = &statement.id;
+    let (text, span) = match (&statement.name, &statement.ty) {
+        (Some(name), _) => (name.as_str(), name.span()),
+        (None, ImportType::Package(path)) => (path.string, path.span),
+        (None, ImportType::Func(_)) => (id.string, id.span),
+        (None, ImportType::Interface(_)) => (id.string, id.span),
+        (None, ImportType::Ident(ty)) => {
+            let kind = item_named(ty, state, alloc)?;
+            let types = state.board.types.graph.types();
+            (told_name(types, kind, id.string), id.span)
         }
-    }
+    };
+    Ok(ImportName {
+        text: String::from_str(alloc, text)?,
+        span,
+    })
+}
 
-    /// The name of an import: by `as`, else the path, else the identifier of what an ident names, else its ident.
-    fn import_name(
-        &self,
-        alloc: Global,
-        statement: &ImportStatement<'_>,
-    ) -> ResolutionResult<ImportName>
-        requires { IsSound self.now.board.types.graph self.now.names }
-    {
-        let id = &statement.id;
-        let (text, span) = match (&statement.name, &statement.ty) {
-            (Some(name), _) => (name.as_str(), name.span()),
-            (None, ImportType::Package(path)) => (path.string, path.span),
-            (None, ImportType::Func(_)) => (id.string, id.span),
-            (None, ImportType::Interface(_)) => (id.string, id.span),
-            (None, ImportType::Ident(ty)) => {
-                let kind = self.item_named(alloc, ty)?;
-                let types = self.board.types.graph.types();
-                (told_name(types, kind, id.string), id.span)
-            }
-        };
-        Ok(ImportName {
-            text: String::from_str(alloc, text)?,
-            span,
-        })
-    }
+/// The item that a path names.
+pub(crate) fn item_at(
+    path: &PackagePath<'_>,
+    own: &PackageName<'_>,
+    state: &mut State<'_>,
+    alloc: Global,
+) -> ResolutionResult<ItemKind>
+    requires { IsSound state.old.board.types.graph state.old.names }
+    ensures kind { IfOk result (λ kind. Stands state.new.board.types.graph.types kind) }
+    ensures sound { IsSound state.new.board.types.graph state.new.names }
+    ensures number { SameNumber state.old.board.types.graph state.new.board.types.graph }
+{
+    let context = Context {
+        own,
+        root: &state.names,
+    };
+    let kind = package_path(path, alloc, context, &mut state.board.types)?;
+    Ok(kind)
+}
 
-    /// The item that a path names.
-    pub(crate) fn item_at(
-        &mut self,
-        alloc: Global,
-        own: &PackageName<'_>,
-        path: &PackagePath<'_>,
-    ) -> ResolutionResult<ItemKind>
-        requires { IsSound self.old.board.types.graph self.old.names }
-        ensures kind { IfOk result (λ kind. Stands self.new.board.types.graph.types kind) }
-        ensures sound { IsSound self.new.board.types.graph self.new.names }
-        ensures number { SameNumber self.old.board.types.graph self.new.board.types.graph }
-    {
-        let context = Context {
-            own,
-            root: &self.names,
-        };
-        package_path(alloc, context, &mut self.board.types, path)
-    }
+/// The interface that is written.
+fn written_interface(
+    interface: &InlineInterface<'_>,
+    own: &PackageName<'_>,
+    state: &mut State<'_>,
+    alloc: Global,
+) -> ResolutionResult<ItemKind>
+    requires { IsSound state.old.board.types.graph state.old.names }
+    ensures kind { IfOk result (λ kind. Stands state.new.board.types.graph.types kind) }
+    ensures sound { IsSound state.new.board.types.graph state.new.names }
+    ensures number { SameNumber state.old.board.types.graph state.new.board.types.graph }
+{
+    let context = Context {
+        own,
+        root: &state.names,
+    };
+    let id = inline_interface(interface, alloc, context, &mut state.board.types)?;
+    Ok(ItemKind::Instance(id))
+}
 
-    /// The interface that is written.
-    fn written_interface(
-        &mut self,
-        alloc: Global,
-        own: &PackageName<'_>,
-        interface: &InlineInterface<'_>,
-    ) -> ResolutionResult<ItemKind>
-        requires { IsSound self.old.board.types.graph self.old.names }
-        ensures kind { IfOk result (λ kind. Stands self.new.board.types.graph.types kind) }
-        ensures sound { IsSound self.new.board.types.graph self.new.names }
-        ensures number { SameNumber self.old.board.types.graph self.new.board.types.graph }
-    {
-        let context = Context {
-            own,
-            root: &self.names,
-        };
-        let id = inline_interface(alloc, context, &mut self.board.types, interface)?;
-        Ok(ItemKind::Instance(id))
-    }
+/// The function that is written.
+fn written_func(
+    ty: &FuncType<'_>,
+    state: &mut State<'_>,
+    alloc: Global,
+) -> ResolutionResult<ItemKind>
+    requires { IsSound state.old.board.types.graph state.old.names }
+    ensures kind { IfOk result (λ kind. Stands state.new.board.types.graph.types kind) }
+    ensures sound { IsSound state.new.board.types.graph state.new.names }
+    ensures number { SameNumber state.old.board.types.graph state.new.board.types.graph }
+{
+    let id = func_type(ty, alloc, &state.names, &mut state.board.types)?;
+    Ok(ItemKind::Func(id))
+}
 
-    /// The function that is written.
-    fn written_func(&mut self, alloc: Global, ty: &FuncType<'_>) -> ResolutionResult<ItemKind>
-        requires { IsSound self.old.board.types.graph self.old.names }
-        ensures kind { IfOk result (λ kind. Stands self.new.board.types.graph.types kind) }
-        ensures sound { IsSound self.new.board.types.graph self.new.names }
-        ensures number { SameNumber self.old.board.types.graph self.new.board.types.graph }
-    {
-        let id = func_type(alloc, &self.names, &mut self.board.types, ty)?;
-        Ok(ItemKind::Func(id))
+/// The item that an import statement asks for.
+fn asked(
+    ty: &ImportType<'_>,
+    own: &PackageName<'_>,
+    state: &mut State<'_>,
+    alloc: Global,
+) -> ResolutionResult<ItemKind>
+    requires { IsSound state.old.board.types.graph state.old.names }
+    ensures kind { IfOk result (λ kind. Stands state.new.board.types.graph.types kind) }
+    ensures sound { IsSound state.new.board.types.graph state.new.names }
+    ensures number { SameNumber state.old.board.types.graph state.new.board.types.graph }
+{
+    match ty {
+        ImportType::Package(path) => item_at(path, own, state, alloc),
+        ImportType::Func(ty) => written_func(ty, state, alloc),
+        ImportType::Interface(interface) => written_interface(interface, own, state, alloc),
+        ImportType::Ident(id) => item_named(id, state, alloc),
     }
+}
 
-    /// The item that an import statement asks for.
-    fn asked(
-        &mut self,
-        alloc: Global,
-        own: &PackageName<'_>,
-        ty: &ImportType<'_>,
-    ) -> ResolutionResult<ItemKind>
-        requires { IsSound self.old.board.types.graph self.old.names }
-        ensures kind { IfOk result (λ kind. Stands self.new.board.types.graph.types kind) }
-        ensures sound { IsSound self.new.board.types.graph self.new.names }
-        ensures number { SameNumber self.old.board.types.graph self.new.board.types.graph }
-    {
-        match ty {
-            ImportType::Package(path) => self.item_at(alloc, own, path),
-            ImportType::Func(ty) => self.written_func(alloc, ty),
-            ImportType::Interface(interface) => self.written_interface(alloc, own, interface),
-            ImportType::Ident(id) => self.item_named(alloc, id),
+/// An import.
+fn import_statement(
+    statement: &ImportStatement<'_>,
+    own: &PackageName<'_>,
+    state: &mut State<'_>,
+    alloc: Global,
+) -> ResolutionResult<()>
+    requires { IsSound state.old.board.types.graph state.old.names }
+    ensures sound { OnOk result (IsSound state.new.board.types.graph state.new.names) }
+    ensures number { SameNumber state.old.board.types.graph state.new.board.types.graph }
+{
+    let name = import_name(statement, state, alloc)?;
+    let kind = asked(&statement.ty, own, state, alloc)?.promote();
+    match import(&mut state.board.types.graph, name.text.as_str(), kind) {
+        Ok(node) => {
+            state.imports.note(node, name.span)?;
+            state.ids.note(node, statement.id.span)?;
+            state.bind(alloc, &statement.id, node)
         }
+        Err(fault) => Err(import_fault(&state.imports, name.span, statement.name.is_none(), fault)),
     }
+}
 
-    /// An import.
-    fn import_statement(
-        &mut self,
-        alloc: Global,
-        own: &PackageName<'_>,
-        statement: &ImportStatement<'_>,
-    ) -> ResolutionResult<()>
-        requires { IsSound self.old.board.types.graph self.old.names }
-        ensures sound { OnOk result (IsSound self.new.board.types.graph self.new.names) }
-        ensures number { SameNumber self.old.board.types.graph self.new.board.types.graph }
-    {
-        let name = self.import_name(alloc, statement)?;
-        let kind = self.asked(alloc, own, &statement.ty)?.promote();
-        match import(&mut self.board.types.graph, name.text.as_str(), kind) {
-            Ok(node) => {
-                self.imports.note(node, name.span)?;
-                self.ids.note(node, statement.id.span)?;
-                self.bind(alloc, &statement.id, node)
-            }
-            Err(fault) => Err(import_fault(
-                &self.imports,
-                name.span,
-                statement.name.is_none(),
-                fault,
-            )),
-        }
-    }
-
-    // What is declared is new and no resource: the other refusals never come.
-    fn definition_fault(&self, id: &Ident<'_>, fault: DefineTypeError) -> Error {
-        match fault {
-            DefineTypeError::ExportConflict { name } => {
-                let export = match self.board.types.graph.get_export(id.string) {
-                    Some(node) => self.exports.of_or(node, id.span),
-                    None => id.span,
-                };
-                Error::DeclarationConflict {
-                    name,
-                    span: id.span,
-                    export,
-                }
-            }
-            DefineTypeError::InvalidExternName { name, source } => Error::InvalidExternName {
+// What is declared is new and no resource: the other refusals never come.
+fn definition_fault(id: &Ident<'_>, state: &State<'_>, fault: DefineTypeError) -> Error {
+    match fault {
+        DefineTypeError::ExportConflict { name } => {
+            let export = match state.board.types.graph.get_export(id.string) {
+                Some(node) => state.exports.of_or(node, id.span),
+                None => id.span,
+            };
+            Error::DeclarationConflict {
                 name,
-                kind: ExternKind::Export,
                 span: id.span,
-                source,
-            },
-            DefineTypeError::TypeAlreadyDefined => Error::Memory,
-            DefineTypeError::CannotDefineResource => Error::Memory,
-            DefineTypeError::Memory => Error::Memory,
-        }
-    }
-
-    /// The type that a statement declares.
-    fn declared(
-        &mut self,
-        alloc: Global,
-        own: &PackageName<'_>,
-        statement: &TypeStatement<'_>,
-    ) -> ResolutionResult<Type>
-        requires { IsSound self.old.board.types.graph self.old.names }
-        ensures ty { IfOk result (λ ty. Stands self.new.board.types.graph.types (ItemKind.Ty ty)) }
-        ensures sound { IsSound self.new.board.types.graph self.new.names }
-        ensures number { SameNumber self.old.board.types.graph self.new.board.types.graph }
-    {
-        let context = Context {
-            own,
-            root: &self.names,
-        };
-        type_statement(alloc, context, &mut self.board.types, statement)
-    }
-
-    /// A declaration.
-    fn type_statement(
-        &mut self,
-        alloc: Global,
-        own: &PackageName<'_>,
-        statement: &TypeStatement<'_>,
-    ) -> ResolutionResult<()>
-        requires { IsSound self.old.board.types.graph self.old.names }
-        ensures sound { OnOk result (IsSound self.new.board.types.graph self.new.names) }
-        ensures number { SameNumber self.old.board.types.graph self.new.board.types.graph }
-    {
-        let ty = self.declared(alloc, own, statement)?;
-        let id = declared_id(statement);
-        match define(&mut self.board.types.graph, id.string, ty) {
-            Ok(node) => {
-                self.exports.note(node, id.span)?;
-                self.ids.note(node, id.span)?;
-                self.bind(alloc, &id, node)
+                export,
             }
-            Err(fault) => Err(self.definition_fault(&id, fault)),
         }
+        DefineTypeError::InvalidExternName { name, source } => Error::InvalidExternName {
+            name,
+            kind: ExternKind::Export,
+            span: id.span,
+            source,
+        },
+        DefineTypeError::TypeAlreadyDefined => Error::Memory,
+        DefineTypeError::CannotDefineResource => Error::Memory,
+        DefineTypeError::Memory => Error::Memory,
     }
+}
 
-    /// A name for an expression.
-    fn let_statement(
-        &mut self,
-        alloc: Global,
-        own: &PackageName<'_>,
-        statement: &LetStatement<'_>,
-    ) -> ResolutionResult<()>
-        requires { IsSound self.old.board.types.graph self.old.names }
-        ensures sound { OnOk result (IsSound self.new.board.types.graph self.new.names) }
-        ensures number { SameNumber self.old.board.types.graph self.new.board.types.graph }
-    {
-        let root = Root {
-            alloc,
-            own: own.name,
-            nodes: &self.nodes,
-        };
-        let node = expression(root, &mut self.board, &statement.expr)?;
-        self.bind(alloc, &statement.id, node)
-    }
+/// The type that a statement declares.
+fn declared(
+    statement: &TypeStatement<'_>,
+    own: &PackageName<'_>,
+    state: &mut State<'_>,
+    alloc: Global,
+) -> ResolutionResult<Type>
+    requires { IsSound state.old.board.types.graph state.old.names }
+    ensures ty { IfOk result (λ ty. Stands state.new.board.types.graph.types (ItemKind.Ty ty)) }
+    ensures sound { IsSound state.new.board.types.graph state.new.names }
+    ensures number { SameNumber state.old.board.types.graph state.new.board.types.graph }
+{
+    let context = Context {
+        own,
+        root: &state.names,
+    };
+    let ty = type_statement(statement, alloc, context, &mut state.board.types)?;
+    Ok(ty)
+}
 
-    /// An export.
-    fn export_statement(
-        &mut self,
-        alloc: Global,
-        own: &PackageName<'_>,
-        statement: &ExportStatement<'_>,
-    ) -> ResolutionResult<()>
-        requires { IsSound self.old.board.types.graph self.old.names }
-        ensures sound { OnOk result (IsSound self.new.board.types.graph self.new.names) }
-        ensures number { SameNumber self.old.board.types.graph self.new.board.types.graph }
-    {
-        let root = Root {
-            alloc,
-            own: own.name,
-            nodes: &self.nodes,
-        };
-        let node = expression(root, &mut self.board, &statement.expr)?;
-        self.export_as(alloc, node, statement.expr.span, &statement.options)
+/// A declaration.
+fn declaration(
+    statement: &TypeStatement<'_>,
+    own: &PackageName<'_>,
+    state: &mut State<'_>,
+    alloc: Global,
+) -> ResolutionResult<()>
+    requires { IsSound state.old.board.types.graph state.old.names }
+    ensures sound { OnOk result (IsSound state.new.board.types.graph state.new.names) }
+    ensures number { SameNumber state.old.board.types.graph state.new.board.types.graph }
+{
+    let ty = declared(statement, own, state, alloc)?;
+    let id = declared_id(statement);
+    match define(&mut state.board.types.graph, id.string, ty) {
+        Ok(node) => {
+            state.exports.note(node, id.span)?;
+            state.ids.note(node, id.span)?;
+            state.bind(alloc, &id, node)
+        }
+        Err(fault) => Err(definition_fault(&id, state, fault)),
     }
+}
+
+/// A name for an expression.
+fn let_statement(
+    statement: &LetStatement<'_>,
+    own: &PackageName<'_>,
+    state: &mut State<'_>,
+    alloc: Global,
+) -> ResolutionResult<()>
+    requires { IsSound state.old.board.types.graph state.old.names }
+    ensures sound { OnOk result (IsSound state.new.board.types.graph state.new.names) }
+    ensures number { SameNumber state.old.board.types.graph state.new.board.types.graph }
+{
+    let root = Root {
+        alloc,
+        own: own.name,
+        nodes: &state.nodes,
+    };
+    let node = expression(&statement.expr, root, &mut state.board)?;
+    state.bind(alloc, &statement.id, node)
+}
+
+/// An export.
+fn export_statement(
+    statement: &ExportStatement<'_>,
+    own: &PackageName<'_>,
+    state: &mut State<'_>,
+    alloc: Global,
+) -> ResolutionResult<()>
+    requires { IsSound state.old.board.types.graph state.old.names }
+    ensures sound { OnOk result (IsSound state.new.board.types.graph state.new.names) }
+    ensures number { SameNumber state.old.board.types.graph state.new.board.types.graph }
+{
+    let root = Root {
+        alloc,
+        own: own.name,
+        nodes: &state.nodes,
+    };
+    let node = expression(&statement.expr, root, &mut state.board)?;
+    export_as(&statement.options, state, alloc, node, statement.expr.span)
 }
 
 /// Says a statement.
@@ -339,10 +336,10 @@ fn say_statement(
     ensures number { SameNumber state.old.board.types.graph state.new.board.types.graph }
 {
     match statement {
-        Statement::Import(statement) => state.import_statement(alloc, own, statement),
-        Statement::Ty(statement) => state.type_statement(alloc, own, statement),
-        Statement::Let(statement) => state.let_statement(alloc, own, statement),
-        Statement::Export(statement) => state.export_statement(alloc, own, statement),
+        Statement::Import(statement) => import_statement(statement, own, state, alloc),
+        Statement::Ty(statement) => declaration(statement, own, state, alloc),
+        Statement::Let(statement) => let_statement(statement, own, state, alloc),
+        Statement::Export(statement) => export_statement(statement, own, state, alloc),
     }
 }
 

@@ -15,8 +15,8 @@ use crate::spans::Spans;
 use indexmap::IndexMap;
 use std::alloc::{AllocError, Global};
 use wac_graph_core::{CompositionGraph, NodeId};
-use wac_parser_declare::{Error, ResolutionResult, unwritable};
 use wac_parser_lexer::SourceSpan;
+use wac_parser_refusals::{Error, ResolutionResult, unwritable};
 use wac_parser_tree::PackagePath;
 use wac_types_base::{ExternKind, ItemKind, NamedMap, TargetError, Types, WorldId};
 use wac_types_fit::{SubtypeChecker, SubtypeError, new_cache};
@@ -329,7 +329,7 @@ fn exported(graph: &CompositionGraph, name: &str) -> Option<NodeId>
 fn implicit_fault(alloc: Global, path: &PackagePath<'_>, fault: TargetError) -> Error {
     match fault {
         TargetError::Memory => Error::Memory,
-        TargetError::UsedWithoutIdentifier => unwritable(alloc, path.string, None),
+        TargetError::UsedWithoutIdentifier => unwritable(alloc, path.string, None).into_error(),
     }
 }
 

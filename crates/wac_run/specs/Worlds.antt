@@ -9,7 +9,7 @@ use Rattle.wac_types_base.specs.Copying.{IsCopy}
 use Rattle.wac_types_base.specs.Entries.{Name, value_at}
 use Rattle.wac_graph_core.specs.Graph.{Graph, node_at}
 use Rattle.wac_graph_core.specs.Nodes.{NodeData, Role}
-use Rattle.wac_parser_declare.specs.declared.packages.PackageRef.{PackageRef}
+use Rattle.wac_parser_resolve.specs.declared.packages.PackageRef.{PackageRef}
 
 -- the graph has a definition of the world under that name
 pub record IsDefined (g : Graph) (name : Name) (world : WorldId) : Type 0 where

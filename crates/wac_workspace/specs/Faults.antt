@@ -2,8 +2,8 @@
 use Rattle.std.specs.Prelude.{◌≡◌}
 use Rattle.wac_parser_grammar.specs.declared.error.Error.{Error as ParseError}
 use Rattle.wac_parser_grammar.specs.declared.error.Error.TheVariants as parse
-use Rattle.wac_parser_declare.specs.declared.error.Error.{Error as ResolutionError}
-use Rattle.wac_parser_declare.specs.declared.error.Error.TheVariants as resolution
+use Rattle.wac_parser_refusals.specs.declared.error.Error.{Error as ResolutionError}
+use Rattle.wac_parser_refusals.specs.declared.error.Error.TheVariants as resolution
 use Rattle.wac_workspace.specs.declared.errors.ComposeError.{ComposeError}
 use Rattle.wac_workspace.specs.declared.errors.ComposeError.TheVariants as error
 

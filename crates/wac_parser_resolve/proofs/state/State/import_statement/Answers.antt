@@ -1,9 +1,0 @@
-use Rattle.std.proofs.Common.{sym, subst}
-use Rattle.wac_types_base.specs.Collection.{Stands}
-use Rattle.wac_types_fit.proofs.Reports.{promoted_stands}
-use Rattle.wac_parser_resolve.proofs.state.State.import_statement.Goals as goal
-
-pub import-requires : goal.import-requires
-import-requires c =
-    subst (Stands c.asked.new.self.board.types.graph.types) (sym c.promote-kind.ensures.kind)
-    (promoted_stands c.asked.new.self.board.types.graph.types c.in_ok-asked.field-0 c.in_ok-asked.ensures.kind)
