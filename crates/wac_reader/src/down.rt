@@ -1,0 +1,249 @@
+//! Reading down: nested compositions are read too, until handed packages and outer imports are left.
+
+use super::entries::item_of;
+use super::{Import, Item, ReadError, Reading, Root, Source, read};
+use std::alloc::Global;
+
+/// What an instance of the whole is made of.
+#[derive(Clone, Debug, Drop)]
+pub enum Made {
+    /// The handed package of that number.
+    Leaf(usize),
+    /// A component that is imported.
+    Imported,
+    /// A composition, with what its exports are.
+    Composition(Vec<Item>),
+}
+
+/// An instance somewhere in the whole.
+#[derive(Debug, Drop)]
+pub struct Inner {
+    pub made: Made,
+    pub of: Source,
+    pub arguments: Vec<Item>,
+}
+
+/// A component with all that is nested in it. The outermost component's instances are counted first, then those of
+/// each composition in turn. No source goes through a composition: it is followed inside.
+#[derive(Debug, Drop)]
+pub struct WholeReading {
+    pub imports: Vec<Import>,
+    pub instances: Vec<Inner>,
+    pub exports: Vec<Item>,
+}
+
+/// The most instances that are read.
+const MAX_INSTANCES: usize = 1000;
+
+/// The most steps from a source to where it comes from.
+const MAX_STEPS: usize = 1000;
+
+#[derive(Drop)]
+struct Whole<'a> {
+    alloc: Global,
+    leaves: &'a [&'a [u8]],
+    components: Vec<Vec<u8>>,
+    instances: Vec<Inner>,
+}
+
+/// Where one level's numbers begin in the whole, and what its imports are: none at the outermost.
+#[derive(Drop)]
+struct Place {
+    components: usize,
+    instances: usize,
+    given: Option<Vec<Item>>,
+}
+
+/// Reads a component and every composition nested in it; the leaves are taken as they are.
+pub fn read_down(alloc: Global, bytes: &[u8], leaves: &[&[u8]]) -> Result<WholeReading, ReadError> {
+    let outermost = read(alloc, bytes)?;
+    let mut whole = Whole {
+        alloc,
+        leaves,
+        components: Vec::new(alloc),
+        instances: Vec::new(alloc),
+    };
+    let exports = whole.enter(&outermost, None)?;
+    for number in 0..MAX_INSTANCES {
+        if number >= whole.instances.len() {
+            return whole.finish(outermost, &exports);
+        }
+        whole.open(number)?;
+    }
+    Err(ReadError::At(0, "too many instances"))
+}
+
+impl<'a> Whole<'a> {
+    /// Adds a level's components and instances; what its exports are.
+    fn enter(&mut self, level: &Reading, given: Option<Vec<Item>>) -> Result<Vec<Item>, ReadError> {
+        let place = Place {
+            components: self.components.len(),
+            instances: self.instances.len(),
+            given,
+        };
+        for bytes in &level.components {
+            self.components.push(bytes.clone()?)?;
+        }
+        for instance in &level.instances {
+            let inner = Inner {
+                made: Made::Imported,
+                of: place.placed(&instance.of)?,
+                arguments: place.placed_all(self.alloc, &instance.arguments)?,
+            };
+            self.instances.push(inner)?;
+        }
+        place.placed_all(self.alloc, &level.exports)
+    }
+
+    /// Finds what an instance is made of, and enters it where that is a composition.
+    fn open(&mut self, number: usize) -> Result<(), ReadError> {
+        let Some(inner) = self.instances.get(number) else {
+            return Err(ReadError::At(0, "no such instance"));
+        };
+        let arguments = inner.arguments.clone()?;
+        let of = self.settle(&inner.of)?;
+        let made = match of.root {
+            Root::Component(n) if of.path.is_empty() => self.made(n, arguments)?,
+            _ => Made::Imported,
+        };
+        if let Some(inner) = self.instances.get_mut(number) {
+            inner.made = made;
+        }
+        Ok(())
+    }
+
+    fn made(&mut self, component: usize, arguments: Vec<Item>) -> Result<Made, ReadError> {
+        let Some(bytes) = self.components.get(component) else {
+            return Err(ReadError::At(0, "no such component"));
+        };
+        if let Some(leaf) = leaf_of(self.leaves, bytes) {
+            return Ok(Made::Leaf(leaf));
+        }
+        let level = read(self.alloc, bytes)?;
+        let exports = self.enter(&level, Some(arguments))?;
+        Ok(Made::Composition(exports))
+    }
+
+    /// Where a source comes from, followed through compositions.
+    fn settle(&self, source: &Source) -> Result<Source, ReadError> {
+        let mut source = source.clone()?;
+        for _ in 0..MAX_STEPS {
+            match self.followed(&source)? {
+                Some(next) => source = next,
+                None => return Ok(source),
+            }
+        }
+        Err(ReadError::At(0, "too many steps"))
+    }
+
+    /// What an export of a composition is; none where the source names no such export.
+    fn followed(&self, source: &Source) -> Result<Option<Source>, ReadError> {
+        let (Root::Instance(number), Some((name, rest))) = (&source.root, source.path.split_first())
+        else {
+            return Ok(None);
+        };
+        let Some(inner) = self.instances.get(*number) else {
+            return Err(ReadError::At(0, "no such instance"));
+        };
+        let Made::Composition(exports) = &inner.made else {
+            return Ok(None);
+        };
+        match item_of(exports, name.as_str()) {
+            Some(item) => Ok(Some(extended(&item.source, rest)?)),
+            None => Err(ReadError::At(0, "no export of that name")),
+        }
+    }
+
+    fn settle_all(&self, items: &Vec<Item>) -> Result<Vec<Item>, ReadError> {
+        let mut settled = Vec::new(self.alloc);
+        for item in items {
+            settled.push(with_source(item, self.settle(&item.source)?)?)?;
+        }
+        Ok(settled)
+    }
+
+    fn settle_made(&self, made: &Made) -> Result<Made, ReadError> {
+        match made {
+            Made::Composition(exports) => Ok(Made::Composition(self.settle_all(exports)?)),
+            _ => Ok(made.clone()?),
+        }
+    }
+
+    fn finish(&self, outermost: Reading, exports: &Vec<Item>) -> Result<WholeReading, ReadError> {
+        let mut instances = Vec::new(self.alloc);
+        for inner in &self.instances {
+            instances.push(Inner {
+                made: self.settle_made(&inner.made)?,
+                of: self.settle(&inner.of)?,
+                arguments: self.settle_all(&inner.arguments)?,
+            })?;
+        }
+        let Reading {
+            imports,
+            components: _,
+            instances: _,
+            exports: _,
+            customs: _,
+        } = outermost;
+        Ok(WholeReading {
+            imports,
+            instances,
+            exports: self.settle_all(exports)?,
+        })
+    }
+}
+
+impl Place {
+    /// A level's source, in the whole's numbers.
+    fn placed(&self, source: &Source) -> Result<Source, ReadError> {
+        let mut placed = source.clone()?;
+        match (&source.root, &self.given) {
+            (Root::Instance(n), _) => {
+                placed.root = Root::Instance(self.instances.wrapping_add(*n));
+            }
+            (Root::Component(n), _) => {
+                placed.root = Root::Component(self.components.wrapping_add(*n));
+            }
+            (Root::Import(name), Some(given)) => {
+                let Some(item) = item_of(given, name.as_str()) else {
+                    return Err(ReadError::At(0, "an import without an argument"));
+                };
+                return extended(&item.source, &source.path);
+            }
+            _ => {}
+        }
+        Ok(placed)
+    }
+
+    fn placed_all(&self, alloc: Global, items: &Vec<Item>) -> Result<Vec<Item>, ReadError> {
+        let mut placed = Vec::new(alloc);
+        for item in items {
+            placed.push(with_source(item, self.placed(&item.source)?)?)?;
+        }
+        Ok(placed)
+    }
+}
+
+/// The number of the leaf that has these bytes.
+fn leaf_of(leaves: &[&[u8]], bytes: &[u8]) -> Option<usize> {
+    for (number, leaf) in leaves.iter().enumerate() {
+        if *leaf == bytes {
+            return Some(number);
+        }
+    }
+    None
+}
+
+fn extended(source: &Source, path: &[String]) -> Result<Source, ReadError> {
+    let mut longer = source.clone()?;
+    for name in path {
+        longer.path.push(name.clone()?)?;
+    }
+    Ok(longer)
+}
+
+fn with_source(item: &Item, source: Source) -> Result<Item, ReadError> {
+    let mut copy = item.clone()?;
+    copy.source = source;
+    Ok(copy)
+}

@@ -1,0 +1,294 @@
+//! A slow reader of component bytes, written from the standard's binary format alone: it shares nothing with the
+//! writers. One level at a time; `down` follows sources through nested compositions.
+#![tactic(auto)]
+
+mod aliases;
+mod chains;
+mod core_types;
+mod cursor;
+mod customs;
+mod down;
+mod entries;
+mod names;
+#[cfg(test)]
+mod tests;
+mod told;
+mod types;
+mod wiring;
+
+use cursor::Cursor;
+pub use customs::{DebugName, Processor};
+pub use down::{Inner, Made, WholeReading, read_down};
+use std::alloc::{AllocError, AllocFailed, Global};
+pub use wiring::{Leaf, tell};
+
+/// Why bytes were not read.
+#[derive(Debug, Drop)]
+pub enum ReadError {
+    /// At which offset, and what is wrong there.
+    At(usize, &'static str),
+    Memory,
+}
+
+impl From<AllocError> for ReadError {
+    fn from(_: AllocError) -> Self {
+        ReadError::Memory
+    }
+}
+
+impl<T: Drop> From<AllocFailed<T>> for ReadError {
+    fn from(_: AllocFailed<T>) -> Self {
+        ReadError::Memory
+    }
+}
+
+/// What an index stands for.
+#[derive(Clone, Copy, Debug, Drop, PartialEq, Eq)]
+pub enum Sort {
+    Module,
+    Func,
+    Type,
+    Component,
+    Instance,
+    /// A core type: it can be neither imported nor exported.
+    CoreType,
+}
+
+/// Where a source begins.
+#[derive(Clone, Debug, Drop, PartialEq, Eq)]
+pub enum Root {
+    /// The outer import of that name.
+    Import(String),
+    /// The instance of that number, counted over the instances that are made here.
+    Instance(usize),
+    /// The nested component of that number.
+    Component(usize),
+    /// A type that is defined here: its tree as text.
+    Type(String),
+}
+
+/// Where something comes from: a root, and the export names by which it is reached from there.
+#[derive(Clone, Debug, Drop, PartialEq, Eq)]
+pub struct Source {
+    pub root: Root,
+    pub path: Vec<String>,
+}
+
+/// A name and what goes under it: an export, or an argument.
+#[derive(Clone, Debug, Drop, PartialEq, Eq)]
+pub struct Item {
+    pub name: String,
+    pub sort: Sort,
+    pub source: Source,
+    /// What an export is said to be, where that is written.
+    pub stated: Option<String>,
+}
+
+#[derive(Debug, Drop)]
+pub struct Import {
+    pub name: String,
+    pub sort: Sort,
+    /// Its type's tree as text, as `func(a: list<u8>) -> string`.
+    pub ty: String,
+}
+
+/// An instance that is made here: of which component, with which arguments.
+#[derive(Debug, Drop)]
+pub struct Instance {
+    pub of: Source,
+    pub arguments: Vec<Item>,
+}
+
+#[derive(Debug, Drop)]
+pub struct Custom {
+    pub name: String,
+    pub contents: Vec<u8>,
+}
+
+/// One level of a component.
+#[derive(Debug, Drop)]
+pub struct Reading {
+    pub imports: Vec<Import>,
+    pub components: Vec<Vec<u8>>,
+    pub instances: Vec<Instance>,
+    pub exports: Vec<Item>,
+    pub customs: Vec<Custom>,
+}
+
+/// What a type's tree is at its top.
+#[derive(Clone, Copy, Debug, Drop, PartialEq, Eq)]
+enum Kind {
+    Value,
+    Resource,
+    Func,
+    Component,
+    Instance,
+    Module,
+    /// The type of something in a nested component, which is not read here.
+    Unknown,
+}
+
+/// An export of a component type or an instance type; its type by number.
+#[derive(Clone, Debug, Drop)]
+struct Member {
+    name: String,
+    sort: Sort,
+    ty: usize,
+}
+
+/// A type: its tree as text, and the exports that an alias can name.
+#[derive(Debug, Drop)]
+struct Node {
+    kind: Kind,
+    text: String,
+    exports: Vec<Member>,
+}
+
+/// What stands at an index: its type by number.
+#[derive(Clone, Debug, Drop)]
+struct Thing {
+    sort: Sort,
+    source: Source,
+    ty: usize,
+}
+
+/// The component itself, or a component or instance type inside it, with index spaces of its own.
+#[derive(Debug, Drop)]
+struct Scope {
+    kind: Kind,
+    /// How many declarations are still to be read.
+    left: u32,
+    text: String,
+    things: Vec<Thing>,
+    imports: Vec<String>,
+    exports: Vec<Member>,
+}
+
+/// One level while it is read.
+#[derive(Drop)]
+struct Level<'a> {
+    alloc: Global,
+    cursor: Cursor<'a>,
+    /// The component, and the types inside which the cursor is, outermost first.
+    scopes: Vec<Scope>,
+    nodes: Vec<Node>,
+    reading: Reading,
+}
+
+/// Reads one level of a component.
+pub fn read(alloc: Global, bytes: &[u8]) -> Result<Reading, ReadError> {
+    let mut sections = Cursor::new(bytes);
+    sections.preamble()?;
+    let mut level = Level::new(alloc, sections)?;
+    for _ in 0..bytes.len() {
+        if sections.is_empty() {
+            break;
+        }
+        let id = sections.section_id()?;
+        let size = sections.unsigned()?;
+        level.cursor = sections.part(size)?;
+        level.section(id)?;
+    }
+    let Level {
+        alloc: _,
+        cursor: _,
+        scopes: _,
+        nodes: _,
+        reading,
+    } = level;
+    Ok(reading)
+}
+
+fn new_scope(alloc: Global, kind: Kind, left: u32) -> Scope {
+    Scope {
+        kind,
+        left,
+        text: String::new(alloc),
+        things: Vec::new(alloc),
+        imports: Vec::new(alloc),
+        exports: Vec::new(alloc),
+    }
+}
+
+impl<'a> Level<'a> {
+    fn new(alloc: Global, cursor: Cursor<'a>) -> Result<Self, ReadError> {
+        Ok(Level {
+            alloc,
+            cursor,
+            scopes: vec![in alloc; new_scope(alloc, Kind::Component, 0)]?,
+            nodes: Vec::new(alloc),
+            reading: Reading {
+                imports: Vec::new(alloc),
+                components: Vec::new(alloc),
+                instances: Vec::new(alloc),
+                exports: Vec::new(alloc),
+                customs: Vec::new(alloc),
+            },
+        })
+    }
+
+    fn fault<T>(&self, what: &'static str) -> Result<T, ReadError> {
+        Err(ReadError::At(self.cursor.offset(), what))
+    }
+
+    /// Adds one index to its sort's space in the innermost scope.
+    fn add(&mut self, sort: Sort, source: Source, ty: usize) -> Result<(), ReadError> {
+        let Some(inner) = self.scopes.last_mut() else {
+            return self.fault("no scope");
+        };
+        inner.things.push(Thing { sort, source, ty })?;
+        Ok(())
+    }
+
+    /// What stands at an index of a sort, in the scope so many scopes further out.
+    fn find_outside(&self, count: u32, sort: Sort, index: u32) -> Result<Thing, ReadError> {
+        let Some(scope) = self.scopes.iter().rev().nth(count as usize) else {
+            return self.fault("no such scope");
+        };
+        let mut of_sort = scope.things.iter().filter(|thing| thing.sort == sort);
+        match of_sort.nth(index as usize) {
+            Some(thing) => Ok(thing.clone()?),
+            None => self.fault("index out of range"),
+        }
+    }
+
+    fn find(&self, sort: Sort, index: u32) -> Result<Thing, ReadError> {
+        self.find_outside(0, sort, index)
+    }
+
+    /// The number of a new type.
+    fn node(&mut self, kind: Kind, text: String, exports: Vec<Member>) -> Result<usize, ReadError> {
+        let number = self.nodes.len();
+        self.nodes.push(Node {
+            kind,
+            text,
+            exports,
+        })?;
+        Ok(number)
+    }
+
+    fn kind_of(&self, ty: usize) -> Kind {
+        match self.nodes.get(ty) {
+            Some(node) => node.kind,
+            None => Kind::Unknown,
+        }
+    }
+
+    fn text_of(&self, ty: usize) -> Result<String, ReadError> {
+        match self.nodes.get(ty) {
+            Some(node) => Ok(node.text.clone()?),
+            None => self.fault("no such type"),
+        }
+    }
+
+    fn copy(&self, text: &str) -> Result<String, ReadError> {
+        Ok(String::from_str(self.alloc, text)?)
+    }
+
+    fn source(&self, root: Root) -> Source {
+        Source {
+            root,
+            path: Vec::new(self.alloc),
+        }
+    }
+}
