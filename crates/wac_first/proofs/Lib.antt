@@ -1,0 +1,13 @@
+pub mod Parsing
+pub mod PlainLaws
+pub mod EncodingLaws
+pub mod Searching
+pub mod Apart
+pub mod Holding
+pub mod WorldLaws
+pub mod WorldTrees
+pub mod LabelLaws
+pub mod FirstSame
+pub mod InstanceTrees
+pub mod Wired
+pub mod StreamLaws

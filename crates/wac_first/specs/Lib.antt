@@ -1,0 +1,13 @@
+pub mod FirstLanguage
+pub mod Plain
+pub mod PlainViews
+pub mod Packages
+pub mod FirstEncoding
+pub mod EncodeViews
+pub mod PackageView
+pub mod WorkspaceView
+pub mod StoredKeys
+pub mod FirstMeaning
+pub mod FaultViews
+pub mod Composing
+pub mod Streaming
