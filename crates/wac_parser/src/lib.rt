@@ -1,7 +1,6 @@
 //! The language: tokens, trees, parsers, printing: the public crate over its parts.
 #![tactic(auto)]
 
-pub use wac_parser_declare as declare;
 pub use wac_parser_lexer as lexer;
 pub use wac_parser_print::{ByteSink, DocumentPrinter, DocumentValue, PrintError};
 pub use wac_parser_read::{
@@ -20,6 +19,17 @@ pub use wac_parser_tree::{
     VariantDecl, WorldDecl, WorldExport, WorldImport, WorldInclude, WorldIncludeItem, WorldItem,
     WorldItemPath, WorldRef,
 };
+
+/// The types that declarations state, and the refusals.
+pub mod declare {
+    pub use wac_parser_declare::{
+        AS_HELP, Binding, Context, Error, GrowingTypes, InstanceOperation, Outcome, PackagedTypes,
+        Refusal, ResolutionResult, WITH_HELP, bind, duplicate_name, func_type, func_type_ref,
+        inline_interface, interface_at, meaning, not_world, package_path, type_statement,
+        undefined_name, unknown_package, unwritable, value_type, world_at,
+    };
+    pub use wac_parser_resolve::{GraphTypes, PackageRef, Packages};
+}
 
 /// Documents and the graphs that they build.
 pub mod resolution {

@@ -1,3 +1,5 @@
+mod declaring;
 mod parsers;
+mod printing;
 mod tokens;
 mod trees;
