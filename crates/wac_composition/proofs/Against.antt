@@ -80,6 +80,7 @@ module _ {A I : Type 0} (define : Bool) (c : Composition A I) where
       filled : (a : Ask A) → Among a (asks_of c) → a.asking ≡ ToFill → (o : Option (Placed A)) → find (λ i. bytes_eq i.name a.name) c.imports ≡ o → implicit_with a o ≡ Some x → Stands x
       filled a m k None q r = absurd (none_is r)
       filled a m k (Some i) q r = let h = find_some (λ i. bytes_eq i.name a.name) c.imports i q in subst Stands (some_is r) (asked_twice i a h.0 m k ((bytes_decides i.name a.name).0 h.1))
+
       one : (a : Ask A) → Among a (asks_of c) → (k : Asking) → a.asking ≡ k → implicit_by k c.imports a ≡ Some x → Stands x
       one a m ToFill k r = filled a m k (find (λ i. bytes_eq i.name a.name) c.imports) refl r
       one a m ByName k r = absurd (none_is r)

@@ -155,6 +155,7 @@ module _ (o : Bool) where
       to : (some_unnamed us ≡ true) ⊎ SomeFail (holder us (plain es)) (plain es) → ItemsFail o us (plain es)
       to (inl e) = unnamed e
       to (inr (n, x, m, g, c)) = an_item m g c
+
       back : ItemsFail o us (plain es) → (some_unnamed us ≡ true) ⊎ SomeFail (holder us (plain es)) (plain es)
       back (unnamed e) = inl e
       back (an_item {n = n} {x = x} m g c) = inr (n, x, m, g, c)
@@ -267,17 +268,19 @@ module _ (p : Parts Found) (fu : UsesFound p.uses) (fi : ItemsFound p.imports) (
         where
           go_both : (b : Bool) → is_resource (kind_of x) ≡ b → Decides (not b || same_tree (tree x) (tree y)) ((z : Stated) → Some x ≡ Some z → (w : Stated) × (Some y ≡ Some w) × (kind_of z ≡ IsResource → tree z ≡ tree w))
           go_both false e = (λ q z r. (y, refl, λ k. absurd (true≢false (sym ((resource_decides (kind_of x)).1 (ap kind_of (some_is r) ∙ k)) ∙ e))), λ h. refl)
-          go_both true e =
-              (λ q z r. (y, refl, λ k. ap tree (sym (some_is r)) ∙ (trees_decide x y).0 q),
-              λ h. let w = h x refl in (trees_decide x y).1 (w.2 ((resource_decides (kind_of x)).0 e) ∙ ap tree (sym (some_is w.1))))
+          go_both true e = (
+            λ q z r. (y, refl, λ k. ap tree (sym (some_is r)) ∙ (trees_decide x y).0 q),
+            λ h. let w = h x refl in (trees_decide x y).1 (w.2 ((resource_decides (kind_of x)).0 e) ∙ ap tree (sym (some_is w.1))),
+          )
 
       go : (o : Option (Stated × Found)) → value_at (plain p.imports) n ≡ option_map (λ x. x.0) o → Decides (is_given_by o u) (IsImported (plain p.imports) n u)
       go None e = (λ q. absurd (true≢false (sym q)), λ h. absurd (none_is (sym e ∙ h.there)))
       go (Some x) e =
-          let d = stands (item_in u.interface u) (item_in x.0 u) in
-          (λ q. record { interface = x.0; there = e; item = d.0 q },
-          λ h. let s : x.0 ≡ h.interface = some_is (sym e ∙ h.there) in
-          d.1 (λ z r. let w = h.item z r in (w.0, ap (λ i. item_in i u) s ∙ w.1, w.2)))
+          let d = stands (item_in u.interface u) (item_in x.0 u) in (
+            λ q. record { interface = x.0; there = e; item = d.0 q },
+            λ h. let s : x.0 ≡ h.interface = some_is (sym e ∙ h.there) in
+                d.1 (λ z r. let w = h.item z r in (w.0, ap (λ i. item_in i u) s ∙ w.1, w.2)),
+          )
 
   module _ (o : Bool) where
     -- a use that no import gives
@@ -301,6 +304,7 @@ module _ (p : Parts Found) (fu : UsesFound p.uses) (fi : ItemsFound p.imports) (
       where
         to : ((m : Needed) × Among m (all_needed p) × UseFails m.by m.name) → SomeUseFails
         to (m, n, f) = let h = needed_is m n in (m.by, m.name, h.needs, h.named, f)
+
         back : SomeUseFails → (m : Needed) × Among m (all_needed p) × UseFails m.by m.name
         back (u, n, w, e, f) =
             let l = needed_listed p.uses (p.imports ++ p.exports) fu both_found u n (subst (λ l. Needs (used_of p) l u) (sym (plain_both p.imports p.exports)) w) e in
@@ -332,16 +336,20 @@ module _ (p : Parts Found) (fu : UsesFound p.uses) (fi : ItemsFound p.imports) (
       where
         held : world_holder p ≡ component_holder w
         held = λ i. with_roots (holder (eu i) (ei i)) (map root_of (filter is_fresh (ex i)))
+
         moved : (u : Used) → Needs (used_of p) (plain p.imports ++ plain p.exports) u → Needs (uses_of w) (imports_of w ++ exports_of w) u
         moved u d = subst (λ us. Needs us (imports_of w ++ exports_of w) u) eu (subst (λ is. Needs (used_of p) (is ++ exports_of w) u) ei (subst (λ es. Needs (used_of p) (plain p.imports ++ es) u) ex d))
+
         moved_back : (u : Used) → Needs (uses_of w) (imports_of w ++ exports_of w) u → Needs (used_of p) (plain p.imports ++ plain p.exports) u
         moved_back u d = subst (λ us. Needs us (plain p.imports ++ plain p.exports) u) (sym eu) (subst (λ is. Needs (uses_of w) (is ++ plain p.exports) u) (sym ei) (subst (λ es. Needs (uses_of w) (imports_of w ++ es) u) (sym ex) d))
+
         to : WorldFails → ComponentFails o w
         to (inl (inl e)) = unnamed_use (ap some_unnamed (sym eu) ∙ e)
         to (inl (inr (u, n, d, e, (f, inl q)))) = not_imported n (moved u d) e (λ g. f (subst (λ is. IsImported is n u) (sym ei) g)) q
         to (inl (inr (u, n, d, e, (f, inr t)))) = not_added n (moved u d) e (λ g. f (subst (λ is. IsImported is n u) (sym ei) g)) t.0 t.1
         to (inr (inl (n, x, m, g, c))) = an_import (subst (Among (n, x)) ei m) (λ k. g (subst (λ h. IsGiven h n x) (sym held) k)) (subst (λ h. CannotBeWritten o h n x) held c)
         to (inr (inr (n, x, m, c))) = an_export (subst (Among (n, x)) ex m) (subst (λ h. CannotBeWritten o h n x) held c)
+
         back : ComponentFails o w → WorldFails
         back (unnamed_use e) = inl (inl (ap some_unnamed eu ∙ e))
         back (not_imported {u = u} n d e f q) = inl (inr (u, n, moved_back u d, e, (λ g. f (subst (λ is. IsImported is n u) ei g), inl q)))
@@ -449,8 +457,10 @@ resource_found r ts = simply x (λ n h outer. not (bytes_eq n r) && not (is_give
   where
     x : Stated
     x = node (resource r) ts
+
     given : (h : Holder) (n : Name) → Decides (is_given h n (stated_at (resource r) (folded_row found_at ts))) (IsGiven h n x)
     given h n = subst (λ y. Decides (is_given h n y) (IsGiven h n x)) (sym (stated_again found_at (resource r) ts)) (given_decides h n x)
+
     decided : (o : Bool) (h : Holder) (n : Name) → Decides (not (bytes_eq n r) && not (is_given h n (stated_at (resource r) (folded_row found_at ts)))) (OwnResource o h n x ⊎ Aliased o h n x)
     decided o h n = Decides-like _ (λ f. inl (r, refl, f.0, f.1)) back (Decides-and (not (bytes_eq n r)) _ (Decides-not (bytes_eq n r) (bytes_decides n r)) (Decides-not _ (given h n)))
       where
@@ -463,8 +473,10 @@ alias_found r ts = simply x (λ n h outer. not (has_name h.roots (root_name (sta
   where
     x : Stated
     x = node (resource_alias r) ts
+
     rooted : (h : Holder) → Decides (has_name h.roots (root_name (stated_at (resource_alias r) (folded_row found_at ts)))) (HasRoot h x)
     rooted h = subst (λ y. Decides (has_name h.roots (root_name y)) (HasRoot h x)) (sym (stated_again found_at (resource_alias r) ts)) (has_decides h.roots (root_name x))
+
     decided : (o : Bool) (h : Holder) (n : Name) → Decides (not (has_name h.roots (root_name (stated_at (resource_alias r) (folded_row found_at ts))))) (OwnResource o h n x ⊎ Aliased o h n x)
     decided o h n = Decides-like _ (λ f. inr (r, refl, f)) back (Decides-not _ (rooted h))
       where
@@ -495,16 +507,21 @@ module _ (i : Option Name) (us : List (Name × Option Name)) (es : List Name) (t
     where
       fu : UsesFound parts.uses
       fu = uses_found us (folded_row found_at ts) f
+
       fx : ItemsFound parts.exports
       fx = names_found es (drop (length us) (folded_row found_at ts)) (drop_found (length us) (folded_row found_at ts) f)
+
       whole : (o : Bool) → Decides (interface_fails (used_of parts) parts.exports o) (ItemsFail o (uses_of x) (exports_of x))
       whole o = subst (λ l. Decides (interface_fails (used_of parts) parts.exports o) (ItemsFail o l (exports_of x))) eu
           (subst (λ l. Decides (interface_fails (used_of parts) parts.exports o) (ItemsFail o (used_of parts) l)) ex (interface_decides o (used_of parts) parts.exports fx))
+
       named : plain (type_items parts.exports) ≡ type_exports x
       named = plain_types parts.exports ∙ ap (filter (λ e. is_type (kind_of e.1))) ex
+
       of_types : (o : Bool) → Decides (interface_fails (used_of parts) (type_items parts.exports) o) (ItemsFail o (uses_of x) (type_exports x))
       of_types o = subst (λ l. Decides (interface_fails (used_of parts) (type_items parts.exports) o) (ItemsFail o l (type_exports x))) eu
           (subst (λ l. Decides (interface_fails (used_of parts) (type_items parts.exports) o) (ItemsFail o (used_of parts) l)) named (interface_decides o (used_of parts) (type_items parts.exports) (types_found parts.exports fx)))
+
       moved : (m : Needed) → IsNeeded (used_of parts) (plain parts.exports) m → IsNeeded (uses_of x) (exports_of x) m
       moved m = subst (λ l. IsNeeded (used_of parts) (plain parts.exports) m → IsNeeded l (exports_of x) m) eu (subst (λ l. IsNeeded (used_of parts) (plain parts.exports) m → IsNeeded (used_of parts) l m) ex (λ w. w))
 
@@ -520,8 +537,10 @@ module _ (i : Option Name) (us : List (Name × Option Name)) (is es : List Name)
     where
       fu : UsesFound world_parts.uses
       fu = uses_found us (folded_row found_at ts) f
+
       fi : ItemsFound world_parts.imports
       fi = names_found is (drop (length us) (folded_row found_at ts)) (drop_found (length us) (folded_row found_at ts) f)
+
       fx : ItemsFound world_parts.exports
       fx = names_found es (drop (length us + length is) (folded_row found_at ts)) (drop_found (length us + length is) (folded_row found_at ts) f)
 

@@ -204,6 +204,7 @@ module _ (h : Holder) where
         to : Dangles h t ⊎ SomeDangles ts → SomeDangles (more t ts)
         to (inl g) = (t, inl refl, g)
         to (inr p) = (p.0, inr p.1, p.2)
+
         from : SomeDangles (more t ts) → Dangles h t ⊎ SomeDangles ts
         from (u, inl e, g) = inl (subst (Dangles h) (some_is e) g)
         from (u, inr m, g) = inr (u, m, g)
@@ -220,6 +221,7 @@ module _ (h : Holder) where
       to : Dangles h x.0 ⊎ ((v : Stated) × Among (Some v) (firsts os) × Dangles h v) → (v : Stated) × Among (Some v) (firsts (Some x ∷ os)) × Dangles h v
       to (inl g) = (x.0, inl refl, g)
       to (inr p) = (p.0, inr p.1, p.2)
+
       from : ((v : Stated) × Among (Some v) (firsts (Some x ∷ os)) × Dangles h v) → Dangles h x.0 ⊎ ((v : Stated) × Among (Some v) (firsts os) × Dangles h v)
       from (u, inl e, g) = inl (subst (Dangles h) (some_is e) g)
       from (u, inr m, g) = inr (u, m, g)

@@ -233,6 +233,7 @@ module _ (g : Graph) (sound : IsGraph g) (finite_types : IsFinite g.types) where
       by_id : (o : Option PackageId) → package_if g o ≡ Some p → (id : PackageId) × (package_if g (Some id) ≡ Some p)
       by_id None h = absurd (none_is h)
       by_id (Some id) h = (id, h)
+
       by_node : (o : Option NodeData) → package_made g o ≡ Some p → (id : PackageId) × (package_if g (Some id) ≡ Some p)
       by_node None h = absurd (none_is h)
       by_node (Some x) h = by_id x.of h
@@ -293,6 +294,7 @@ module _ (g : Graph) (sound : IsGraph g) (finite_types : IsFinite g.types) where
             tag = x.2.tag;
             given = given_is k p x.0 e x.2;
           }
+
       exported : (n : Name) (o : Option ℕ) → value_at g.exports n ≡ o → W.exports n ≡ export_source (λ key. OfBytes []) (composition_of g) (option_map (origin_of g) o)
       exported n None e = is.no_export n e
       exported n (Some k) e = denoted k (W.exports n) (is.exported n k e)

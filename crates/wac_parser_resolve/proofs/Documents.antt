@@ -55,10 +55,10 @@ module _ (ps : List (Key × Stated)) (g : State) (sound : Sound ps g) (regular :
   is_sound : IsSound (composition g)
   is_sound = record {
     given = λ k m n o x e v w. let r = numbered_is zero g.made k m e in
-    is_given k r.made n x (sound.made k r.made r.there) (ap (λ (y : c.Made Asker ℕ). value_at (imports_of y.world) n) (sym r.is) ∙ w) (value_at r.made.arguments n) refl o
-    (sym (argument_is r.made.arguments n) ∙ ap (λ (y : c.Made Asker ℕ). value_at y.arguments n) (sym r.is) ∙ v);
+        is_given k r.made n x (sound.made k r.made r.there) (ap (λ (y : c.Made Asker ℕ). value_at (imports_of y.world) n) (sym r.is) ∙ w) (value_at r.made.arguments n) refl o
+        (sym (argument_is r.made.arguments n) ∙ ap (λ (y : c.Made Asker ℕ). value_at y.arguments n) (sym r.is) ∙ v);
     exported = λ n o x m. let a = among_map exported_in g.exports (n, o, x) m in
-    subst (λ (e : Name × c.Origin ℕ × Stated). HasType (composition g) e.1 e.2) (sym a.2) (has_type a.0.1.denoted.origin a.0.1.denoted.item (sound.exports a.0 a.1));
+        subst (λ (e : Name × c.Origin ℕ × Stated). HasType (composition g) e.1 e.2) (sym a.2) (has_type a.0.1.denoted.origin a.0.1.denoted.item (sound.exports a.0 a.1));
     straight = regular.straight;
   }
 

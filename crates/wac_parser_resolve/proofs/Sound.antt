@@ -418,8 +418,8 @@ module _ (ps : Packages) where
       let w : Grows g k = grows_then g m k (speak_grows g d) v in
       subst (Comes g) (sym (ok_is h k z)) (record {
         sound = renamed_sound m k v refl refl
-        (λ l u q. has_more m k v u.denoted.origin u.denoted.item (spoken.root l u q))
-        (each_more (λ (x : Name × Bound). HasThat k x.1.denoted) g.exports (n.string, one) (λ x m. has_more g k w x.1.denoted.origin x.1.denoted.item (s.exports x m)) (has_more g k w d.origin d.item has)) spoken;
+            (λ l u q. has_more m k v u.denoted.origin u.denoted.item (spoken.root l u q))
+            (each_more (λ (x : Name × Bound). HasThat k x.1.denoted) g.exports (n.string, one) (λ x m. has_more g k w x.1.denoted.origin x.1.denoted.item (s.exports x m)) (has_more g k w d.origin d.item has)) spoken;
         grows = w;
       })
 
