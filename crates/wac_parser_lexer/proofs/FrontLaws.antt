@@ -58,7 +58,7 @@ first_by : (a b : Token × ℕ) (t : Bool) → ltb a.1 b.1 ≡ t → b.1 ≤ a.1
 first_by a b true e h = absurd (omega (arith, less a.1 b.1 e))
 first_by a b false e h = refl
 
-first_wins : (a b : Token × ℕ) → b.1 ≤ a.1 → longer a b ≡ a
+pub first_wins : (a b : Token × ℕ) → b.1 ≤ a.1 → longer a b ≡ a
 first_wins a b h = first_by a b (ltb a.1 b.1) refl h
 
 -- ---- the table
@@ -70,7 +70,7 @@ begins_back : (z p rest : List ℕ) → z ≡ p ++ rest → starts_with nat_eq z
 begins_back z p rest h = (starts_is Decides-eqb z p (starts_with nat_eq z p) refl).1 rest h
 
 -- an entry of a table, where it has a length
-abbrev Listed : List (List ℕ × Token) → List ℕ → Token × ℕ → Type 0
+abbrev pub Listed : List (List ℕ × Token) → List ℕ → Token × ℕ → Type 0
 Listed table z a = 0 < a.1 → (w : List ℕ) × (rest : List ℕ) × (z ≡ w ++ rest) × (length w ≡ a.1) × Spells table a.0 w
 
 abbrev Within : List (List ℕ × Token) → List (List ℕ × Token) → Type 0
@@ -114,11 +114,11 @@ from_most (entry ∷ part) best z kind w rest e (inl s) =
 from_most (entry ∷ part) best z kind w rest e (inr s) =
     from_most part (cond (starts_with nat_eq z entry.0) (longer best (entry.1, length entry.0)) best) z kind w rest e s
 
-spelled_listed : (z : List ℕ) → Listed spellings z (spelled_at z)
+pub spelled_listed : (z : List ℕ) → Listed spellings z (spelled_at z)
 unfolding spelled_at
 spelled_listed z = from_listed spellings spellings (k.Ident, 0) z (λ kind w s. s) (λ some. absurd (omega arith))
 
-spelled_most : (z : List ℕ) (kind : Token) (w rest : List ℕ) → z ≡ w ++ rest → Spells spellings kind w → length w ≤ (spelled_at z).1
+pub spelled_most : (z : List ℕ) (kind : Token) (w rest : List ℕ) → z ≡ w ++ rest → Spells spellings kind w → length w ≤ (spelled_at z).1
 unfolding spelled_at
 spelled_most z kind w rest e s = from_most spellings (k.Ident, 0) z kind w rest e s
 
@@ -205,7 +205,7 @@ longest_sound z =
     longer_sound z _ (k.BlockComment, block_comment_len z) e (class_sound z k.BlockComment IsBlockComment block_comment_len block_longest (λ w h. block_comment h))
 
 -- every token at the front is no longer than the longest
-longest_parts : (z : List ℕ) → ((spelled_at z).1 ≤ (longest_at z).1) × (ident_len z ≤ (longest_at z).1) × (package_name_len z ≤ (longest_at z).1) × (package_path_len z ≤ (longest_at z).1)
+pub longest_parts : (z : List ℕ) → ((spelled_at z).1 ≤ (longest_at z).1) × (ident_len z ≤ (longest_at z).1) × (package_name_len z ≤ (longest_at z).1) × (package_path_len z ≤ (longest_at z).1)
     × (string_len z ≤ (longest_at z).1) × (line_comment_len z ≤ (longest_at z).1) × (block_comment_len z ≤ (longest_at z).1)
 unfolding longest_at
 longest_parts z =

@@ -1,5 +1,5 @@
 -- The items of pieces, from one to the next.
-use Rattle.std.proofs.Common.{◌≡◌, ℕ, ◌<◌, List, [], ◌∷◌, ◌++◌, length, Option, Some, None, Result, refl, ap, sym, ◌∙◌, arith}
+use Rattle.std.proofs.Common.{◌≡◌, ℕ, ◌<◌, List, [], ◌∷◌, ◌++◌, length, Option, Some, None, Result, Ok, Err, refl, ap, sym, ◌∙◌, arith}
 use Rattle.std.specs.Prelude.{⊤}
 use Rattle.std.specs.Iterator.{MakesProgress, at_most}
 use Rattle.wac_parser_lexer.specs.declared.span.SourceSpan.{SourceSpan}
@@ -79,6 +79,17 @@ ended source at last e =
     (ap (items_of []) none ∙ none_left [] ps e)
     (ap (docs_behind []) none ∙ left_none (docs_behind [] ps) [] ps e)
     (span_none source [] ps e)
+
+-- what is kept is the first item
+pub kept_first : (source : List ℕ) (at : ℕ) (last : SourceSpan) (next : Option (Result Token Error × SourceSpan)) (now : Input) → next ≡ ahead (pieces_at source at) → input_at source at last ≡ now
+    → next ≡ first_item now
+kept_first source at last next now first view = first ∙ first_ahead [] (pieces_at source at) ∙ ap first_item view
+
+pub token_same : (k t : Token) (r : Result Token Error) (a b : SourceSpan) → ◌≡◌ {A = Option (Result Token Error × SourceSpan)} (Some (Ok k, a)) (Some (r, b)) → r ≡ Ok t → t ≡ k
+token_same k t r a b e f = let g : Ok k ≡ Ok t = ap (λ (q : Result Token Error × SourceSpan). q.0) (inside_some e) ∙ f in cc
+
+pub no_fault : (k : Token) (x : Error) (r : Result Token Error) (a b : SourceSpan) → ◌≡◌ {A = Option (Result Token Error × SourceSpan)} (Some (Ok k, a)) (Some (r, b)) → r ≡ Err x → ⊥
+no_fault k x r a b e f = let g : Ok k ≡ Err x = ap (λ (q : Result Token Error × SourceSpan). q.0) (inside_some e) ∙ f in cc
 
 -- taking an item leaves one less
 pub fewer : (is : List Item) (r : Result Token Error × SourceSpan) → first_of_items is ≡ Some r → length (rest_of_items is) < length is

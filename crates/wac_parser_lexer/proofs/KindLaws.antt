@@ -16,7 +16,7 @@ use Rattle.wac_parser_lexer.proofs.FrontLaws.{token_next, token_none}
 
 -- ---- the kind that a text of a class has, by its bytes
 
-is_first : ℕ → Bool
+unfoldable pub is_first : ℕ → Bool
 is_first c = is_lower c || is_upper c || eqb c 37
 
 has : ℕ → List ℕ → Bool
@@ -67,11 +67,10 @@ lacks_has x (b ∷ w) h =
 
 -- ---- the first byte
 
-First : List ℕ → Type 0
+abbrev pub First : List ℕ → Type 0
 First w = (c : ℕ) × (rest : List ℕ) × (w ≡ c ∷ rest) × (is_first c ≡ true)
 
 first_append : (v w : List ℕ) → First v → First (v ++ w)
-unfolding First
 first_append v w h = (h.0, h.1 ++ w, ap (λ (y : List ℕ). y ++ w) h.2, h.3)
 
 lower_first : (c : ℕ) → is_lower c ≡ true → is_first c ≡ true
@@ -87,7 +86,6 @@ upper_first c h = rw h (upper_by (is_lower c))
     upper_by false = refl
 
 word_first : (w : List ℕ) → IsWord w → First w
-unfolding First
 word_first [] h = absurd h
 word_first (c ∷ cs) (inl h) = (c, cs, refl, lower_first c h.0)
 word_first (c ∷ cs) (inr h) = (c, cs, refl, upper_first c h.0)
@@ -96,8 +94,8 @@ label_first : (w : List ℕ) → IsLabel w → First w
 label_first _ (one {w = w} h) = word_first w h
 label_first _ (more {w = v} {ws = ws} h j) = first_append v (45 ∷ ws) (word_first v h)
 
-ident_first : (w : List ℕ) → IsIdent w → First w
-unfolding First is_first
+pub ident_first : (w : List ℕ) → IsIdent w → First w
+unfolding is_first
 ident_first w (inl h) = label_first w h
 ident_first w (inr h) = (37, h.0, h.2, refl)
 
@@ -115,7 +113,7 @@ path_first : (w : List ℕ) → IsPath w → First w
 path_first = followed_first 47 IsNames (Joined IsIdent 47) names_first
 
 class_first : (w : List ℕ) → First w → class_of w ≡ Some (named w)
-unfolding First class_of
+unfolding class_of
 class_first w h = let e : is_first (get_or w 0 0) ≡ true = ap (λ (y : List ℕ). is_first (get_or y 0 0)) h.2 ∙ h.3 in rw e refl
 
 -- ---- each class
@@ -195,7 +193,7 @@ unfolding spellings is_other class_of is_first named has marked
 spelled_class = table_class spellings refl
 
 -- no text stands twice
-distinct : List (List ℕ × Token) → Bool
+unfoldable pub distinct : List (List ℕ × Token) → Bool
 distinct [] = true
 distinct (entry ∷ table) = list_all (λ other. not (bytes_eq other.0 entry.0)) table && distinct table
 
@@ -208,7 +206,7 @@ not_again (entry ∷ table) v h kind (inl s) =
     (let u = t.0 in cc)
 not_again (entry ∷ table) v h kind (inr s) = not_again table v (both_true (not (bytes_eq entry.0 v)) _ h).1 kind s
 
-spelled_once : (table : List (List ℕ × Token)) → distinct table ≡ true → (a b : Token) (w : List ℕ) → Spells table a w → Spells table b w → a ≡ b
+pub spelled_once : (table : List (List ℕ × Token)) → distinct table ≡ true → (a b : Token) (w : List ℕ) → Spells table a w → Spells table b w → a ≡ b
 unfolding distinct
 spelled_once [] h a b w s t = absurd s
 spelled_once (entry ∷ table) h a b w (inl s) (inl t) = s.1 ∙ sym t.1
@@ -218,7 +216,7 @@ spelled_once (entry ∷ table) h a b w (inr s) (inl t) =
     let P : List ℕ → Type 0 = λ (y : List ℕ). Spells table a y in absurd (not_again table entry.0 (both_true _ (distinct table) h).0 a (subst P t.0 s))
 spelled_once (entry ∷ table) h a b w (inr s) (inr t) = spelled_once table (both_true _ (distinct table) h).1 a b w s t
 
-all_distinct : distinct spellings ≡ true
+pub all_distinct : distinct spellings ≡ true
 unfolding distinct spellings
 all_distinct = refl
 

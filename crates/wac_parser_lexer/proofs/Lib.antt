@@ -18,5 +18,8 @@ pub mod RefusedLaws
 pub mod PlainLaws
 pub mod LaneLaws
 pub mod KindLaws
+pub mod TableLaws
+pub mod WordPieceLaws
+pub mod KeywordLaws
 pub mod CutLaws
 pub mod CharLaws

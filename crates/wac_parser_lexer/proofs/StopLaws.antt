@@ -44,7 +44,7 @@ same_first : (z w rest : List ℕ) → z ≡ w ++ rest → 0 < length w → get_
 same_first z [] rest e some = absurd (omega arith)
 same_first z (b ∷ w) rest e some = ap (λ (y : List ℕ). get_or y 0 0) e
 
-item_by : (z : List ℕ) (o : Option (Result Token Error)) (n : ℕ) → IsPiece z (o, n) → is_blank (get_or z 0 0) ≡ false → get_or z 0 0 ≢ 47 → is_some o ≡ true
+pub item_by : (z : List ℕ) (o : Option (Result Token Error)) (n : ℕ) → IsPiece z (o, n) → is_blank (get_or z 0 0) ≡ false → get_or z 0 0 ≢ 47 → is_some o ≡ true
 item_by z (Some token) n h plain other = refl
 item_by z None n h plain other = elim h.2 [
   | inl w ↦ (let e = w.0 in cc)

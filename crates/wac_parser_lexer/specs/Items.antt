@@ -1,5 +1,5 @@
 -- The items of a source: its tokens and faults, each with the doc comments before it.
-use Rattle.std.specs.Prelude.{◌≡◌, ℕ, ◌+◌, ◌-◌, ◌&&◌, ◌==◌, nat_eq, if◌then◌else◌, List, [], ◌∷◌, ◌++◌, length, take, drop, Option, Some, None, Result, codes, IfSome, ◌≤◌}
+use Rattle.std.specs.Prelude.{◌≡◌, ◌≢◌, ℕ, ◌+◌, ◌-◌, Bool, ◌&&◌, ◌==◌, nat_eq, if◌then◌else◌, List, [], ◌∷◌, ◌++◌, length, take, drop, Option, Some, None, Result, Ok, codes, IfSome, IsTrue, ◌≤◌}
 use Rattle.std.specs.List.{starts_with, ends_with}
 use Rattle.std.specs.Str.{trim}
 use Rattle.wac_parser_lexer.specs.declared.span.SourceSpan.{SourceSpan}
@@ -128,13 +128,14 @@ shown_span input =
     if input.last.offset + input.last.length == length input.source then record { offset = input.last.offset - 1; length = 1 } else input.last
 
 -- what a lexer keeps at a place: the next item and the place behind it
-pub record IsReady (source : List ℕ) (at : ℕ) (last : SourceSpan) (next : Option (Result Token Error × SourceSpan)) (rest : ℕ) : Type 0 where
+pub record IsReady (source : List ℕ) (at : ℕ) (last : SourceSpan) (next : Option (Result Token Error × SourceSpan)) (rest : ℕ) (bare : Bool) : Type 0 where
   pub place : IsCharBoundary source at
   pub taken : last.offset + last.length ≤ length source
   pub first : next ≡ ahead (pieces_at source at)
   pub others : pieces_at source rest ≡ behind (pieces_at source at)
   pub edge : IsCharBoundary source rest
   pub within : IfSome next (λ r. IsSpanIn source r.1)
+  pub no_docs : IsTrue bare → docs_before [] (pieces_at source at) ≡ []
 
 -- What `next` does: it gives the first item, whose span lies in the source, and leaves the rest.
 pub record Gives (old : Input) (found : Option (Result Token Error × SourceSpan)) (new : Input) : Type 0 where
@@ -142,3 +143,8 @@ pub record Gives (old : Input) (found : Option (Result Token Error × SourceSpan
   pub after : new ≡ rest_input old
   pub source : new.source ≡ old.source
   pub within : IfSome found (λ r. IsSpanIn new.source r.1)
+
+-- What `take` does: it gives the first item's span, which lies in the source, and leaves the rest, if that item is the token; else all stays.
+abbrev pub Takes : Token → Input → Option SourceSpan → Input → Type 0
+Takes token old (Some span) new = (first_item old ≡ Some (Ok token, span)) × (new ≡ rest_input old) × IsSpanIn old.source span
+Takes token old None new = ((span : SourceSpan) → first_item old ≢ Some (Ok token, span)) × (new ≡ old)

@@ -14,6 +14,10 @@ is_upper b = nat_le 65 b && nat_le b 90
 abbrev pub is_digit : ℕ → Bool
 is_digit b = nat_le 48 b && nat_le b 57
 
+-- `a` to `z`, `A` to `Z`
+abbrev pub is_letter : ℕ → Bool
+is_letter b = is_lower b || is_upper b
+
 -- what may follow a lower-case letter in a word
 abbrev pub is_lower_word_byte : ℕ → Bool
 is_lower_word_byte b = is_lower b || is_digit b

@@ -1,12 +1,15 @@
 //! The token at the front of a text.
 
-ghost use Rattle.std.specs.Prelude.{◌≡◌, ◌<◌, ◌≤◌, length, map, IfSome};
+ghost use Rattle.std.specs.Prelude.{◌≡◌, ◌<◌, ◌≤◌, ◌==◌, ◌&&◌, nat_lt, true, length, map, slice_index, IfSome, Some, Ok};
+ghost use Rattle.wac_parser_lexer.specs.Begun as begun;
 ghost use Rattle.wac_parser_lexer.specs.Front as spec;
+ghost use Rattle.wac_parser_lexer.specs.Pieces as pieces;
 ghost use Rattle.wac_parser_lexer.specs.Scan as scan;
+ghost use Rattle.wac_parser_lexer.specs.Words as words;
 
 use crate::scan::{
-    block_comment_len, ident_len, line_comment_len, names_len, package_name_len, package_path_len,
-    path_len, string_len,
+    block_comment_len, ident_len, label_len, line_comment_len, names_len, package_name_len,
+    package_path_len, path_len, string_len,
 };
 use crate::spellings::spellings_by;
 use crate::token::Token;
@@ -42,6 +45,36 @@ fn spelled_at(z: &[u8]) -> (Token, usize)
     spelled_in(spellings_by(z[0]), z)
 }
 
+/// The keyword that a word is, or an identifier.
+#[inline(always)]
+fn keyword(word: &[u8]) -> Token
+    requires { 0 < length word.now }
+    ensures { result ≡ begun.keyword_in (begun.spellings_by (slice_index word.now 0)) word.now }
+{
+    let mut table = spellings_by(word[0]);
+    'table: while let [(text, token), rest @ ..] = table {
+        if text.as_bytes() == word {
+            return *token;
+        }
+        table = rest;
+    }
+    Token::Ident
+}
+
+/// The longer of a keyword or symbol and an identifier, which has been measured.
+fn spelled_or_ident(z: &[u8], ident: usize) -> (Token, usize)
+    requires some { 0 < length z.now }
+    requires measured { ident ≡ scan.ident_len z.now }
+    requires within { ident ≤ length z.now }
+    ensures value { result ≡ spec.longer (spec.spelled_at z.now) (Token.Ident, scan.ident_len z.now) }
+    ensures fits { result.1 ≤ length z.now }
+{
+    if ident == 0 {
+        return spelled_at(z);
+    }
+    (keyword(&z[..ident]), ident)
+}
+
 /// The longest token where no string and no comment begins: the identifiers are walked over once.
 fn longest_word(z: &[u8]) -> (Token, usize)
     requires some { 0 < length z.now }
@@ -50,7 +83,7 @@ fn longest_word(z: &[u8]) -> (Token, usize)
     ensures fits { result.1 ≤ length z.now }
 {
     let ident = ident_len(z);
-    let best = longer(spelled_at(z), (Token::Ident, ident));
+    let best = spelled_or_ident(z, ident);
     let names = names_len(z, ident);
     if names == 0 {
         return best;
@@ -58,6 +91,28 @@ fn longest_word(z: &[u8]) -> (Token, usize)
     let best = longer(best, (Token::PackageName, package_name_len(z, names)));
     let path = path_len(z, names);
     longer(best, (Token::PackagePath, package_path_len(z, path)))
+}
+
+/// Whether a colon stands at a place.
+fn has_colon(z: &[u8], at: usize) -> bool
+    ensures { result ≡ (nat_lt at (length z.now) && slice_index z.now at == 58) }
+{
+    at < z.len() && z[at] == b':'
+}
+
+/// The word at the front of a text that begins with a letter. Where no colon is behind its label, that is all of it.
+#[inline(never)]
+pub(crate) fn word_piece(z: &[u8]) -> (Token, usize)
+    requires some { 0 < length z.now }
+    requires letter { words.is_letter (slice_index z.now 0) ≡ true }
+    ensures value { pieces.front_piece z.now ≡ (Some (Ok result.0), result.1) }
+    ensures fits { (1 ≤ result.1) × (result.1 ≤ length z.now) }
+{
+    let label = label_len(z);
+    if has_colon(z, label) {
+        return longest_word(z);
+    }
+    (keyword(&z[..label]), label)
 }
 
 /// The longest token of any kind, a keyword or a symbol where another kind is as long. Only a string

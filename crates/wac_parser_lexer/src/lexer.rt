@@ -1,18 +1,21 @@
 //! The lexer.
 
-ghost use Rattle.std.specs.Prelude.{◌≡◌, ◌+◌, ◌<◌, ◌≤◌, ◌==◌, ◌↔◌, ◌∷◌, length, drop, map, IfSome, IfOk, IfErr, OnOk, IsTrue, Some, None, [], ◌++◌};
+ghost use Rattle.std.specs.Prelude.{◌≡◌, ◌+◌, ◌<◌, ◌≤◌, ◌==◌, ◌↔◌, ◌∷◌, true, length, drop, slice_index, map, IfSome, IfOk, IfErr, OnOk, IsTrue, Some, None, Ok, [], ◌++◌};
 ghost use Rattle.std.specs.Str.{IsCharBoundary};
 ghost use Rattle.std.specs.Iterator.{at_most};
 ghost use Rattle.wac_parser_lexer.specs.Pieces.{pieces_at, piece_by, IsSpanIn, text_at};
-ghost use Rattle.wac_parser_lexer.specs.Items.{ahead, behind, input_of, first_item, second_item, docs_ahead, doc_in, shown_span, docs_before, Gives};
+ghost use Rattle.wac_parser_lexer.specs.Words as words;
+ghost use Rattle.wac_parser_lexer.specs.Items.{ahead, behind, input_of, first_item, second_item, rest_input, docs_ahead, doc_in, shown_span, docs_before, Gives, Takes};
 ghost use Rattle.wac_parser_lexer.specs.Docs.{doc_of};
 ghost use Rattle.wac_parser_lexer.specs.Refused.{first_refused as refused_in};
 
 use crate::LexerResult;
 use crate::docs::doc_text;
 use crate::error::Error;
+use crate::front::word_piece;
 use crate::pieces::{front_piece, is_blank};
 use crate::refused::first_refused;
+use crate::scan::is_letter;
 use crate::span::{SourceSpan, span_in};
 use crate::spellings::lone_symbol;
 use crate::token::Token;
@@ -33,37 +36,57 @@ fn piece_at(source: &str, at: usize) -> (Option<LexerResult<Token>>, usize)
     front_piece(&source.as_bytes()[at..])
 }
 
-/// The first item from a place on, and the place behind it.
+/// The word at a place where a letter stands, and how long it is.
 #[inline(always)]
-fn first(source: &str, start: usize) -> (Option<Found>, usize)
+fn word_at(source: &str, at: usize) -> (Token, usize)
+    requires begins { IsCharBoundary source.now at }
+    requires more { at < length source.now }
+    requires letter { words.is_letter (slice_index source.now at) ≡ true }
+    ensures cut { pieces_at source.now at ≡ piece_by at (drop at source.now) (Some (Ok result.0), result.1) ∷ pieces_at source.now (at + result.1) }
+    ensures ends { IsCharBoundary source.now (at + result.1) }
+{
+    word_piece(&source.as_bytes()[at..])
+}
+
+/// The first item from a place on, the place behind it, and whether only blanks stand before it.
+#[inline(always)]
+fn first(source: &str, start: usize) -> (Option<Found>, usize, bool)
     requires { IsCharBoundary source.now start }
     ensures found { result.0 ≡ ahead (pieces_at source.now start) }
     ensures rest { pieces_at source.now result.1 ≡ behind (pieces_at source.now start) }
     ensures place { IsCharBoundary source.now result.1 }
     ensures within { IfSome result.0 (λ r. IsSpanIn source.now r.1) }
+    ensures bare { IsTrue result.2 → docs_before [] (pieces_at source.now start) ≡ [] }
 {
     let bytes = source.as_bytes();
     let mut at = start;
+    let mut bare = true;
     'pieces: while at < source.len() {
         if is_blank(bytes[at]) {
             at += 1;
             continue 'pieces;
+        }
+        if is_letter(bytes[at]) {
+            let (word, length) = word_at(source, at);
+            let span = SourceSpan { offset: at, length };
+            return (Some((Ok(word), span)), at + length, bare);
         }
         if let Some(symbol) = lone_symbol(bytes[at]) {
             let span = SourceSpan {
                 offset: at,
                 length: 1,
             };
-            return (Some((Ok(symbol), span)), at + 1);
+            return (Some((Ok(symbol), span)), at + 1, bare);
         }
         let (token, length) = piece_at(source, at);
         if let Some(token) = token {
             let span = SourceSpan { offset: at, length };
-            return (Some((token, span)), at + length);
+            return (Some((token, span)), at + length, bare);
         }
         at += length;
+        bare = false;
     }
-    (None, at)
+    (None, at, bare)
 }
 
 /// Adds a comment, if it is a doc comment.
@@ -122,6 +145,8 @@ pub struct Lexer<'a> {
     next: Option<Found>,
     // the place behind the next item
     rest: usize,
+    // whether only blanks stand before the next item
+    bare: bool,
 }
 
 impl<'a> Model for Lexer<'a> {
@@ -131,7 +156,7 @@ impl<'a> Model for Lexer<'a> {
 
     ghost view = { λ l. input_at l.source.now l.at l.last };
 
-    ghost invariant = { λ l. IsReady l.source.now l.at l.last l.next l.rest };
+    ghost invariant = { λ l. IsReady l.source.now l.at l.last l.next l.rest l.bare };
 }
 
 impl<'a> Lexer<'a> {
@@ -144,7 +169,7 @@ impl<'a> Lexer<'a> {
         if let Some(refused) = first_refused(source) {
             return Err(refused);
         }
-        let (next, rest) = first(source, 0);
+        let (next, rest, bare) = first(source, 0);
         Ok(Lexer {
             source,
             at: 0,
@@ -154,6 +179,7 @@ impl<'a> Lexer<'a> {
             },
             next,
             rest,
+            bare,
         })
     }
 
@@ -207,20 +233,18 @@ impl<'a> Lexer<'a> {
     pub fn comments(&self, alloc: Global) -> Result<Vec<(&'a str, SourceSpan)>, AllocError>
         ensures { IfOk result (λ v. map doc_of v.items ≡ docs_ahead self.now) }
     {
+        if self.bare {
+            return Ok(Vec::new(alloc));
+        }
         docs_from(alloc, self.source, self.at)
     }
-}
 
-impl<'a> Iterator for Lexer<'a> {
-    type Item = (LexerResult<Token>, SourceSpan);
-
-    ghost next_gives = { Gives };
-
-    ghost remaining = { λ s. at_most (length s.items) };
-
-    fn next(&mut self) -> Option<(LexerResult<Token>, SourceSpan)> {
-        let found = self.next;
-        match found {
+    /// Goes on behind the next item, or to the end.
+    #[inline(never)]
+    fn advance(&mut self)
+        ensures { self.new ≡ rest_input self.old }
+    {
+        match self.next {
             Some((_, span)) => {
                 self.at = self.rest;
                 self.last = span;
@@ -233,7 +257,38 @@ impl<'a> Iterator for Lexer<'a> {
                 };
             }
         }
-        (self.next, self.rest) = first(self.source, self.at);
+        (self.next, self.rest, self.bare) = first(self.source, self.at);
+    }
+
+    /// Takes the next item if it is this token, and gives its span.
+    #[inline(always)]
+    pub fn take(&mut self, token: Token) -> Option<SourceSpan>
+        ensures { Takes token self.old result self.new }
+    {
+        let Some((item, span)) = self.next else {
+            return None;
+        };
+        let Ok(found) = item else {
+            return None;
+        };
+        if found != token {
+            return None;
+        }
+        self.advance();
+        Some(span)
+    }
+}
+
+impl<'a> Iterator for Lexer<'a> {
+    type Item = (LexerResult<Token>, SourceSpan);
+
+    ghost next_gives = { Gives };
+
+    ghost remaining = { λ s. at_most (length s.items) };
+
+    fn next(&mut self) -> Option<(LexerResult<Token>, SourceSpan)> {
+        let found = self.next;
+        self.advance();
         found
     }
 }

@@ -5,16 +5,40 @@ ghost use Rattle.std.specs.List.{prefix_len};
 ghost use Rattle.wac_parser_lexer.specs.Words as words;
 ghost use Rattle.wac_parser_lexer.specs.Scan as spec;
 
+// What may follow a lower-case letter in a word.
+const LOWER: u8 = 1;
+
+// What may follow an upper-case letter in a word.
+const UPPER: u8 = 2;
+
+// For each byte a digit, whose low two bits are the flags above.
+static WORD_BYTES: [u8; 256] = *b"\
+    00000000000000000000000000000000\
+    00000000000000003333333333000000\
+    02222222222222222222222222200000\
+    01111111111111111111111111100000\
+    00000000000000000000000000000000\
+    00000000000000000000000000000000\
+    00000000000000000000000000000000\
+    00000000000000000000000000000000";
+
 fn is_lower_word_byte(b: u8) -> bool
     ensures { result ≡ words.is_lower_word_byte b }
 {
-    b.is_ascii_lowercase() || b.is_ascii_digit()
+    WORD_BYTES[b as usize] & LOWER != 0
 }
 
 fn is_upper_word_byte(b: u8) -> bool
     ensures { result ≡ words.is_upper_word_byte b }
 {
-    b.is_ascii_uppercase() || b.is_ascii_digit()
+    WORD_BYTES[b as usize] & UPPER != 0
+}
+
+/// Whether a byte is a letter, with which a word begins.
+pub(crate) fn is_letter(b: u8) -> bool
+    ensures { result ≡ words.is_letter b }
+{
+    b.is_ascii_lowercase() || b.is_ascii_uppercase()
 }
 
 fn is_version_byte(b: u8) -> bool
@@ -65,6 +89,7 @@ fn line_len(z: &[u8]) -> usize
     z.iter().take_while(|b| **b != b'\n').count()
 }
 
+#[inline(always)]
 #[tactic(auto, unfolding(crate::specs::Scan::word_len))]
 fn word_len(z: &[u8]) -> usize
     ensures value { result ≡ spec.word_len z.now }
@@ -77,6 +102,7 @@ fn word_len(z: &[u8]) -> usize
     }
 }
 
+#[inline(always)]
 #[tactic(auto, unfolding(crate::specs::Scan::next_len))]
 fn next_word_len(z: &[u8]) -> usize
     ensures value { result ≡ spec.next_len spec.word_len 45 z.now }
@@ -91,7 +117,9 @@ fn next_word_len(z: &[u8]) -> usize
     }
 }
 
-fn label_len(z: &[u8]) -> usize
+/// The length of words joined by `-`.
+#[inline(always)]
+pub(crate) fn label_len(z: &[u8]) -> usize
     ensures value { result ≡ spec.label_len z.now }
     ensures fits { result ≤ length z.now }
 {
@@ -152,6 +180,7 @@ fn idents_len(z: &[u8], joint: u8) -> usize
     end
 }
 
+#[inline(always)]
 #[tactic(auto, unfolding(crate::specs::Scan::next_len))]
 fn next_idents_len(z: &[u8], joint: u8) -> usize
     ensures value { result ≡ spec.next_len (spec.idents_len joint) joint z.now }

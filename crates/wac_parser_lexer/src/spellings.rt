@@ -123,6 +123,7 @@ pub(crate) fn spellings_by(first: u8) -> &'static [(&'static str, Token)]
 }
 
 /// The symbol that a byte is, whatever stands behind it.
+#[inline(always)]
 pub(crate) fn lone_symbol(b: u8) -> Option<Token>
     ensures { IfSome result (λ symbol. (z : List ℕ) → front_piece (b ∷ z) ≡ (Some (Ok symbol), 1)) }
 {

@@ -1,6 +1,8 @@
-use Rattle.std.proofs.Common.{drop, Some, None, Ok, refl, sym, ap, ◌∙◌, arith}
+use Rattle.std.proofs.Common.{[], drop, Some, None, Ok, refl, sym, ap, ◌∙◌, arith}
 use Rattle.wac_parser_lexer.specs.Items.{ahead, behind}
 use Rattle.wac_parser_lexer.proofs.PieceLaws.{no_pieces, blank_cut, blank_place, symbol_cut, symbol_place, item_ahead, item_behind, skip_ahead, skip_behind}
+use Rattle.wac_parser_lexer.proofs.DocLaws.{docs_stop, docs_end}
+use Rattle.wac_parser_lexer.proofs.StopLaws.{docs_blank}
 use Rattle.wac_parser_lexer.proofs.lexer.first.Goals as goal
 
 pub returns-in-Some-token-clause-found : goal.returns-in-Some-token-clause-found
@@ -24,6 +26,7 @@ pieces-preserved c = record {
   found = sym (skip_ahead c.args.source.now c.pieces.at _ c.piece_at-token.result _ c.piece_at-token.ensures.cut c.in_default-token.is) ∙ c.pieces.invariant.found;
   rest = sym (skip_behind c.args.source.now c.pieces.at _ c.piece_at-token.result _ c.piece_at-token.ensures.cut c.in_default-token.is) ∙ c.pieces.invariant.rest;
   place = c.piece_at-token.ensures.ends;
+  bare = λ h. cc;
 }
 
 pub returns-clause-found : goal.returns-clause-found
@@ -40,6 +43,7 @@ pieces-preserved-then-is_blank c =
       found = sym (skip_ahead c.args.source.now c.pieces.at _ (None, 1) _ cut refl) ∙ c.pieces.invariant.found;
       rest = sym (skip_behind c.args.source.now c.pieces.at _ (None, 1) _ cut refl) ∙ c.pieces.invariant.rest;
       place = blank_place c.args.source.now c.pieces.at c.pieces-test.true blank c.utf8.source c.pieces.invariant.place;
+      bare = λ h. sym (docs_blank c.args.source.now c.pieces.at c.pieces-test.true [] blank) ∙ c.pieces.invariant.bare h;
     }
 
 pub returns-in-Some : goal.returns-in-Some
@@ -54,4 +58,8 @@ returns-in-Some c =
       rest = sym (item_behind source at (drop at source) (Some (Ok c.in-Some.symbol), 1) _ cut (Ok c.in-Some.symbol) refl) ∙ c.pieces.invariant.rest;
       place = place;
       within = record { small = omega arith; within = place.0; begins = c.pieces.invariant.place; ends = place };
+      bare = λ h. sym (c.pieces.invariant.bare h) ∙ docs_stop source at (drop at source) (Some (Ok c.in-Some.symbol), 1) _ cut [] refl;
     }
+
+pub returns-clause-bare : goal.returns-clause-bare
+returns-clause-bare c = λ h. sym (c.pieces.invariant.bare h) ∙ docs_end c.args.source.now c.pieces.at [] c.pieces-test.false

@@ -1,7 +1,8 @@
-use Rattle.std.proofs.Common.{◌≡◌, ◌-◌, length}
+use Rattle.std.proofs.Common.{◌≡◌, ◌-◌, [], length}
+use Rattle.std.specs.Prelude.{IsTrue}
 use Rattle.std.specs.Str.{IsCharBoundary}
 use Rattle.wac_parser_lexer.specs.Pieces.{pieces_at}
-use Rattle.wac_parser_lexer.specs.Items.{ahead, behind}
+use Rattle.wac_parser_lexer.specs.Items.{ahead, behind, docs_before}
 use Rattle.wac_parser_lexer.proofs.lexer.first.Given as goal
 
 abbrev pub invariant-pieces : goal.invariant-pieces
@@ -9,6 +10,7 @@ invariant-pieces l = record {
   found : ahead (pieces_at l.source l.at) ≡ ahead (pieces_at l.source l.start);
   rest : behind (pieces_at l.source l.at) ≡ behind (pieces_at l.source l.start);
   place : IsCharBoundary l.source l.at;
+  bare : IsTrue l.bare → docs_before [] (pieces_at l.source l.at) ≡ docs_before [] (pieces_at l.source l.start);
 }
 
 abbrev pub decreases-pieces : goal.decreases-pieces

@@ -13,4 +13,5 @@ invariant_of-result c = record {
   others = c.first-next.ensures.rest;
   edge = c.first-next.ensures.place;
   within = c.first-next.ensures.within;
+  no_docs = c.first-next.ensures.bare;
 }
