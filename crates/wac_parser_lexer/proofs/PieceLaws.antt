@@ -1,5 +1,5 @@
 -- The pieces of a text, from one to the next.
-use Rattle.std.proofs.Common.{◌≡◌, ℕ, zero, suc, ◌+◌, ◌-◌, ◌<◌, ◌≤◌, Bool, true, false, cond, eqb, List, [], ◌∷◌, length, drop, get_or, Option, Some, None, Result, Ok, Err, refl, ap, sym, subst, ◌∙◌, arith, length-drop, get_or-drop, drop-cons}
+use Rattle.std.proofs.Common.{◌≡◌, ℕ, zero, suc, ◌+◌, ◌-◌, ◌<◌, ◌≤◌, Bool, true, false, cond, eqb, List, [], ◌∷◌, length, drop, get_or, Option, Some, None, is_some, Result, Ok, Err, refl, ap, sym, subst, ◌∙◌, arith, length-drop, get_or-drop, drop-cons}
 use Rattle.std.proofs.lemmas.List.{drop-drop}
 use Rattle.std.proofs.Math.ListN.{drop_of_length-le}
 use Rattle.std.proofs.lemmas.Bool.{eqb-true}
@@ -8,6 +8,7 @@ use Rattle.std.proofs.lemmas.List.Sums.{prefix_len_stops}
 use Rattle.std.proofs.lemmas.Str.{IsCharBoundary-after_ascii, IsCharBoundary-end, IsCharBoundary-from_rest, IsUtf8-drop}
 use Rattle.std.specs.Str.{IsUtf8, IsCharBoundary}
 use Rattle.std.specs.List.{prefix_len}
+use Rattle.std.specs.Option.{option_map}
 use Rattle.wac_parser_lexer.specs.declared.token.Token.{Token}
 use Rattle.wac_parser_lexer.specs.declared.error.Error.{Error}
 use Rattle.wac_parser_lexer.specs.declared.error.Error.TheVariants as fault
@@ -150,3 +151,27 @@ module _ (source : List ℕ) (at : ℕ) (z : List ℕ) (p : Option (Result Token
 
   pub skip_behind : p.0 ≡ None → behind (pieces_at source at) ≡ behind ps
   skip_behind e = ap behind cut ∙ (rw e refl)
+
+  ahead_by : (o : Option (Result Token Error)) → is_some o ≡ true → option_map (λ token. (token, record { offset = at; length = p.1 })) o ≡ ahead (piece_by at z (o, p.1) ∷ ps)
+  ahead_by (Some token) e = refl
+  ahead_by None e = cc
+
+  behind_by : (o : Option (Result Token Error)) → is_some o ≡ true → behind (piece_by at z (o, p.1) ∷ ps) ≡ ps
+  behind_by (Some token) e = refl
+  behind_by None e = cc
+
+  pub items_ahead : is_some p.0 ≡ true → ahead (pieces_at source at) ≡ option_map (λ token. (token, record { offset = at; length = p.1 })) p.0
+  items_ahead e = ap ahead cut ∙ sym (ahead_by p.0 e)
+
+  pub item_behind_some : is_some p.0 ≡ true → behind (pieces_at source at) ≡ ps
+  item_behind_some e = ap behind cut ∙ behind_by p.0 e
+
+  none_by : (o : Option (Result Token Error)) → is_some o ≡ false → o ≡ None
+  none_by (Some token) e = cc
+  none_by None e = refl
+
+  pub skip_ahead_some : is_some p.0 ≡ false → ahead (pieces_at source at) ≡ ahead ps
+  skip_ahead_some e = skip_ahead (none_by p.0 e)
+
+  pub skip_behind_some : is_some p.0 ≡ false → behind (pieces_at source at) ≡ behind ps
+  skip_behind_some e = skip_behind (none_by p.0 e)

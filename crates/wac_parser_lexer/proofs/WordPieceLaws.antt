@@ -1,15 +1,15 @@
 -- The piece at the front of a text that begins with a letter.
-use Rattle.std.proofs.Common.{◌≡◌, ◌≢◌, ℕ, ◌<◌, ◌≤◌, inl, inr, Bool, true, false, ◌||◌, ◌&&◌, cond, eqb, ltb, List, [], ◌∷◌, length, take, drop, get_or, Option, Some, None, is_some, Result, Ok, refl, ap, sym, ◌∙◌, arith, get_or-drop, length-drop}
+use Rattle.std.proofs.Common.{◌≡◌, ◌≢◌, ℕ, suc, ◌<◌, ◌≤◌, inl, inr, Bool, true, false, ◌||◌, ◌&&◌, cond, eqb, ltb, List, [], ◌∷◌, length, take, drop, get_or, Option, Some, None, is_some, Result, Ok, refl, ap, ◌∙◌, arith}
 use Rattle.std.proofs.lemmas.Bool.Decides.{nat_tests}
 use Rattle.wac_parser_lexer.specs.declared.token.Token.{Token}
 use Rattle.wac_parser_lexer.specs.declared.error.Error.{Error}
 use Rattle.wac_parser_lexer.specs.Words.{is_lower, is_upper, is_letter, one, IsLabel}
-use Rattle.wac_parser_lexer.specs.Scan.{label_len, ident_len, idents_len, names_len, next_len}
+use Rattle.wac_parser_lexer.specs.Scan.{label_len, ident_len, idents_len, names_len, names_go_on, next_len}
 use Rattle.wac_parser_lexer.specs.Front.{longest_at, token_at}
 use Rattle.wac_parser_lexer.specs.Pieces.{is_blank, is_comment, is_unclosed, token_or_fault, front_piece}
 use Rattle.wac_parser_lexer.proofs.WordLaws.{label_longest}
 use Rattle.wac_parser_lexer.proofs.FrontLaws.{longest_parts}
-use Rattle.wac_parser_lexer.proofs.FirstLaws.{no_text, ident_longest}
+use Rattle.wac_parser_lexer.proofs.FirstLaws.{no_text, no_letter, ident_longest}
 use Rattle.wac_parser_lexer.proofs.KeywordLaws.{keyword, keyword_longest}
 use Rattle.wac_parser_lexer.proofs.StandLaws.{front_is}
 use Rattle.wac_parser_lexer.proofs.StopLaws.{item_by}
@@ -42,26 +42,44 @@ label_some : (z : List ℕ) → 0 < length z → is_letter (get_or z 0 0) ≡ tr
 label_some [] some h = absurd (omega arith)
 label_some (b ∷ z) some h = let g = label_longest.greatest (b ∷ []) z (letter_label b (is_lower b) (is_upper b) refl refl h) in omega (arith, g)
 
--- ---- no colon behind it
+-- ---- no names behind it
 
-no_next : (part : List ℕ → ℕ) (y : List ℕ) → (0 < length y → get_or y 0 0 ≢ 58) → next_len part 58 y ≡ 0
-unfolding next_len
-no_next part [] h = refl
-no_next part (b ∷ z) h = rw (ne b (h (omega arith))) refl
+no_idents : (c : ℕ) (z : List ℕ) → (is_letter c || eqb c 37) ≡ false → idents_len 58 (c ∷ z) ≡ 0
+unfolding idents_len
+no_idents c z h = let p = parts (is_lower c) (is_upper c) (eqb c 37) h in rw (no_letter c z p.0 p.1 p.2) refl
   where
-    ne : (b : ℕ) → b ≢ 58 → eqb b 58 ≡ false
-    ne b h = grind (arith, nat_tests)
+    parts : (l u p : Bool) → ((l || u) || p) ≡ false → (l ≡ false) × (u ≡ false) × (p ≡ false)
+    parts false false false h = (refl, refl, refl)
+    parts false false true h = cc
+    parts false true p h = cc
+    parts true u p h = cc
+
+next_by : (b : ℕ) (y : List ℕ) → idents_len 58 y ≡ 0 → next_len (idents_len 58) 58 (b ∷ y) ≡ 0
+unfolding next_len
+next_by b y e = rw e (stops (eqb b 58))
+  where
+    stops : (t : Bool) → cond {A = ℕ} (t && false) (suc 0) 0 ≡ 0
+    stops true = refl
+    stops false = refl
+
+begins_by : (b c : ℕ) (z : List ℕ) (t u : Bool) → eqb b 58 ≡ t → (is_letter c || eqb c 37) ≡ u → (t && u) ≡ false → next_len (idents_len 58) 58 (b ∷ c ∷ z) ≡ 0
+unfolding next_len
+begins_by b c z true u e f h = next_by b (c ∷ z) (no_idents c z (f ∙ h))
+begins_by b c z false u e f h = rw e refl
+
+no_next : (y : List ℕ) → names_go_on y ≡ false → next_len (idents_len 58) 58 y ≡ 0
+unfolding next_len idents_len ident_len
+no_next [] h = refl
+no_next (b ∷ []) h = next_by b [] refl
+no_next (b ∷ c ∷ z) h = begins_by b c z (eqb b 58) (is_letter c || eqb c 37) refl refl h
 
 names_by : (z : List ℕ) → next_len (idents_len 58) 58 (drop (ident_len z) z) ≡ 0 → (t : Bool) → ltb 0 (ident_len z) ≡ t → names_len z ≡ 0
 unfolding names_len
 names_by z e true f = rw (f, e) refl
 names_by z e false f = rw f refl
 
-no_names : (z : List ℕ) → (ident_len z < length z → get_or z (ident_len z) 0 ≢ 58) → names_len z ≡ 0
-no_names z h =
-    let n = ident_len z in
-    let here : get_or (drop n z) 0 0 ≡ get_or z n 0 = rw get_or-drop (ap (λ i. get_or z i 0) (omega arith)) in
-    names_by z (no_next (idents_len 58) (drop n z) (λ some e. h (omega (arith, some, length-drop n z)) (sym here ∙ e))) (ltb 0 n) refl
+no_names : (z : List ℕ) → names_go_on (drop (ident_len z) z) ≡ false → names_len z ≡ 0
+no_names z h = names_by z (no_next (drop (ident_len z) z) h) (ltb 0 (ident_len z)) refl
 
 -- ---- the piece
 
@@ -75,16 +93,13 @@ module _ (z : List ℕ) (some : 0 < length z) (letter : is_letter (get_or z 0 0)
   pub label_some_here : 0 < label_len z
   label_some_here = label_some z some letter
 
-  -- a label that no colon is behind
-  pub label_longest_at : (ltb (label_len z) (length z) && eqb (get_or z (label_len z) 0) 58) ≡ false → longest_at z ≡ (keyword (take (label_len z) z), label_len z)
+  -- a label that no names are behind
+  pub label_longest_at : names_go_on (drop (label_len z) z) ≡ false → longest_at z ≡ (keyword (take (label_len z) z), label_len z)
   label_longest_at h =
       let same = letter_ident z some letter in
-      let none = no_names z (rw same (λ few e. no_colon (label_len z) few e h)) in
+      let none = no_names z (rw same h) in
       let long : 0 < ident_len z = rw same (label_some z some letter) in
       ident_longest z (no_text z no_marks.0 no_marks.1) none ∙ keyword_longest z long ∙ ap (λ n. (keyword (take n z), n)) same
-    where
-      no_colon : (n : ℕ) → n < length z → get_or z n 0 ≡ 58 → (ltb n (length z) && eqb (get_or z n 0) 58) ≡ false → ⊥
-      no_colon n few e h = grind (arith, nat_tests)
 
   pub longest_some : 1 ≤ (longest_at z).1
   longest_some =

@@ -1,7 +1,7 @@
 -- How many bytes at the front of a text belong together; 0 where none do.
-use Rattle.std.specs.Prelude.{ℕ, zero, suc, ◌+◌, ◌&&◌, ◌==◌, nat_lt, if◌then◌else◌, List, [], ◌∷◌, drop, length}
+use Rattle.std.specs.Prelude.{ℕ, zero, suc, ◌+◌, Bool, false, ◌&&◌, ◌||◌, ◌==◌, nat_lt, if◌then◌else◌, List, [], ◌∷◌, drop, length}
 use Rattle.std.specs.List.{prefix_len}
-use Rattle.wac_parser_lexer.specs.Words.{is_lower, is_upper, is_digit, is_lower_word_byte, is_upper_word_byte, is_version_byte, is_unquoted, is_in_line, opens_comment, closes_comment}
+use Rattle.wac_parser_lexer.specs.Words.{is_lower, is_upper, is_letter, is_digit, is_lower_word_byte, is_upper_word_byte, is_version_byte, is_unquoted, is_in_line, opens_comment, closes_comment}
 
 unfoldable pub word_len : List ℕ → ℕ
 word_len [] = 0
@@ -42,6 +42,12 @@ ident_len (b ∷ z) = if b == 37 then (if nat_lt 0 (label_len z) then suc (label
 
 unfoldable pub idents_len : ℕ → List ℕ → ℕ
 idents_len joint z = joined_len ident_len joint z
+
+-- a colon, and what begins an identifier behind it
+abbrev pub names_go_on : List ℕ → Bool
+names_go_on [] = false
+names_go_on (b ∷ []) = false
+names_go_on (b ∷ c ∷ z) = b == 58 && (is_letter c || c == 37)
 
 unfoldable pub names_len : List ℕ → ℕ
 names_len z = followed_len ident_len 58 (idents_len 58) z

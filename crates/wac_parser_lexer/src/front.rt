@@ -1,6 +1,6 @@
 //! The token at the front of a text.
 
-ghost use Rattle.std.specs.Prelude.{◌≡◌, ◌<◌, ◌≤◌, ◌==◌, ◌&&◌, nat_lt, true, length, map, slice_index, IfSome, Some, Ok};
+ghost use Rattle.std.specs.Prelude.{◌≡◌, ◌<◌, ◌≤◌, true, length, map, slice_index, IfSome, Some, Ok};
 ghost use Rattle.wac_parser_lexer.specs.Begun as begun;
 ghost use Rattle.wac_parser_lexer.specs.Front as spec;
 ghost use Rattle.wac_parser_lexer.specs.Pieces as pieces;
@@ -8,8 +8,8 @@ ghost use Rattle.wac_parser_lexer.specs.Scan as scan;
 ghost use Rattle.wac_parser_lexer.specs.Words as words;
 
 use crate::scan::{
-    block_comment_len, ident_len, label_len, line_comment_len, names_len, package_name_len,
-    package_path_len, path_len, string_len,
+    block_comment_len, ident_len, is_letter, label_len, line_comment_len, names_len,
+    package_name_len, package_path_len, path_len, string_len,
 };
 use crate::spellings::spellings_by;
 use crate::token::Token;
@@ -93,14 +93,17 @@ fn longest_word(z: &[u8]) -> (Token, usize)
     longer(best, (Token::PackagePath, package_path_len(z, path)))
 }
 
-/// Whether a colon stands at a place.
-fn has_colon(z: &[u8], at: usize) -> bool
-    ensures { result ≡ (nat_lt at (length z.now) && slice_index z.now at == 58) }
+/// Whether a text begins with a colon and what begins an identifier behind it.
+fn names_go_on(z: &[u8]) -> bool
+    ensures { result ≡ scan.names_go_on z.now }
 {
-    at < z.len() && z[at] == b':'
+    match z {
+        [b':', first, ..] => is_letter(*first) || *first == b'%',
+        _ => false,
+    }
 }
 
-/// The word at the front of a text that begins with a letter. Where no colon is behind its label, that is all of it.
+/// The word at the front of a text that begins with a letter. Where no names go on behind its label, that is all of it.
 #[inline(never)]
 pub(crate) fn word_piece(z: &[u8]) -> (Token, usize)
     requires some { 0 < length z.now }
@@ -109,7 +112,7 @@ pub(crate) fn word_piece(z: &[u8]) -> (Token, usize)
     ensures fits { (1 ≤ result.1) × (result.1 ≤ length z.now) }
 {
     let label = label_len(z);
-    if has_colon(z, label) {
+    if names_go_on(&z[label..]) {
         return longest_word(z);
     }
     (keyword(&z[..label]), label)

@@ -3,6 +3,7 @@
 ghost use Rattle.std.specs.Prelude.{◌≡◌, ◌+◌, ◌<◌, ◌≤◌, ◌==◌, ◌↔◌, ◌∷◌, true, length, drop, slice_index, map, IfSome, IfOk, IfErr, OnOk, IsTrue, Some, None, Ok, [], ◌++◌};
 ghost use Rattle.std.specs.Str.{IsCharBoundary};
 ghost use Rattle.std.specs.Iterator.{at_most};
+ghost use Rattle.std.specs.Option.{option_map};
 ghost use Rattle.wac_parser_lexer.specs.Pieces.{pieces_at, piece_by, IsSpanIn, text_at};
 ghost use Rattle.wac_parser_lexer.specs.Words as words;
 ghost use Rattle.wac_parser_lexer.specs.Items.{ahead, behind, input_of, first_item, second_item, rest_input, docs_ahead, doc_in, shown_span, docs_before, Gives, Takes};
@@ -48,6 +49,68 @@ fn word_at(source: &str, at: usize) -> (Token, usize)
     word_piece(&source.as_bytes()[at..])
 }
 
+/// The symbol that stands alone at a place, if one does.
+#[inline(always)]
+fn symbol_at(source: &str, at: usize) -> Option<Token>
+    requires { IsCharBoundary source.now at }
+    ensures cut { IfSome result (λ symbol. pieces_at source.now at ≡ piece_by at (drop at source.now) (Some (Ok symbol), 1) ∷ pieces_at source.now (at + 1)) }
+    ensures ends { IfSome result (λ symbol. IsCharBoundary source.now (at + 1)) }
+{
+    if at < source.len() {
+        lone_symbol(source.as_bytes()[at])
+    } else {
+        None
+    }
+}
+
+/// The place behind the blanks at a place.
+#[inline(always)]
+fn skip_blanks(source: &str, start: usize) -> usize
+    requires { IsCharBoundary source.now start }
+    ensures first { ahead (pieces_at source.now result) ≡ ahead (pieces_at source.now start) }
+    ensures rest { behind (pieces_at source.now result) ≡ behind (pieces_at source.now start) }
+    ensures docs { docs_before [] (pieces_at source.now result) ≡ docs_before [] (pieces_at source.now start) }
+    ensures place { IsCharBoundary source.now result }
+{
+    let bytes = source.as_bytes();
+    let mut at = start;
+    'blanks: while at < source.len() && is_blank(bytes[at]) {
+        at += 1;
+    }
+    at
+}
+
+/// The first item from a place on, where it stands, and whether only blanks stand before it.
+#[inline(never)]
+fn item_behind(source: &str, start: usize) -> (Option<LexerResult<Token>>, SourceSpan, bool)
+    requires { IsCharBoundary source.now start }
+    ensures found { option_map (λ token. (token, result.1)) result.0 ≡ ahead (pieces_at source.now start) }
+    ensures rest { pieces_at source.now (result.1.offset + result.1.length) ≡ behind (pieces_at source.now start) }
+    ensures within { IsSpanIn source.now result.1 }
+    ensures bare { IsTrue result.2 → docs_before [] (pieces_at source.now start) ≡ [] }
+{
+    let bytes = source.as_bytes();
+    let mut at = start;
+    let mut bare = true;
+    'pieces: while at < source.len() {
+        if is_blank(bytes[at]) {
+            at += 1;
+            continue 'pieces;
+        }
+        let (token, length) = piece_at(source, at);
+        if token.is_some() {
+            return (token, SourceSpan { offset: at, length }, bare);
+        }
+        at += length;
+        bare = false;
+    }
+    let span = SourceSpan {
+        offset: at,
+        length: 0,
+    };
+    (None, span, bare)
+}
+
 /// The first item from a place on, the place behind it, and whether only blanks stand before it.
 #[inline(always)]
 fn first(source: &str, start: usize) -> (Option<Found>, usize, bool)
@@ -59,34 +122,25 @@ fn first(source: &str, start: usize) -> (Option<Found>, usize, bool)
     ensures bare { IsTrue result.2 → docs_before [] (pieces_at source.now start) ≡ [] }
 {
     let bytes = source.as_bytes();
-    let mut at = start;
-    let mut bare = true;
-    'pieces: while at < source.len() {
-        if is_blank(bytes[at]) {
-            at += 1;
-            continue 'pieces;
-        }
-        if is_letter(bytes[at]) {
-            let (word, length) = word_at(source, at);
-            let span = SourceSpan { offset: at, length };
-            return (Some((Ok(word), span)), at + length, bare);
-        }
-        if let Some(symbol) = lone_symbol(bytes[at]) {
-            let span = SourceSpan {
-                offset: at,
-                length: 1,
-            };
-            return (Some((Ok(symbol), span)), at + 1, bare);
-        }
-        let (token, length) = piece_at(source, at);
-        if let Some(token) = token {
-            let span = SourceSpan { offset: at, length };
-            return (Some((token, span)), at + length, bare);
-        }
-        at += length;
-        bare = false;
+    let at = skip_blanks(source, start);
+    if at < source.len() && is_letter(bytes[at]) {
+        let (word, length) = word_at(source, at);
+        let span = SourceSpan { offset: at, length };
+        return (Some((Ok(word), span)), at + length, true);
     }
-    (None, at, bare)
+    if let Some(symbol) = symbol_at(source, at) {
+        let span = SourceSpan {
+            offset: at,
+            length: 1,
+        };
+        return (Some((Ok(symbol), span)), at + 1, true);
+    }
+    let (token, span, bare) = item_behind(source, at);
+    let rest = span.offset + span.length;
+    match token {
+        Some(token) => (Some((token, span)), rest, bare),
+        None => (None, rest, bare),
+    }
 }
 
 /// Adds a comment, if it is a doc comment.
@@ -104,6 +158,7 @@ fn add_doc<'a>(
 }
 
 /// The doc comments before the first item from a place on.
+#[inline(never)]
 fn docs_from<'a>(
     alloc: Global,
     source: &'a str,
@@ -230,6 +285,7 @@ impl<'a> Lexer<'a> {
     }
 
     /// The doc comments before the next item, or before the end: the text of each, and where the whole comment stands.
+    #[inline(always)]
     pub fn comments(&self, alloc: Global) -> Result<Vec<(&'a str, SourceSpan)>, AllocError>
         ensures { IfOk result (λ v. map doc_of v.items ≡ docs_ahead self.now) }
     {

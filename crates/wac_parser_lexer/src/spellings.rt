@@ -6,6 +6,7 @@ ghost use Rattle.wac_parser_lexer.specs.Pieces.{front_piece};
 
 use crate::token::Token;
 
+#[inline(always)]
 #[tactic(auto, unfolding(crate::specs::Begun::spellings_by, crate::specs::Spellings::spellings))]
 fn keywords_to_o(first: u8) -> &'static [(&'static str, Token)]
     requires { (97 ≤ first) × (first ≤ 111) }
@@ -45,6 +46,7 @@ fn keywords_to_o(first: u8) -> &'static [(&'static str, Token)]
     }
 }
 
+#[inline(always)]
 #[tactic(auto, unfolding(crate::specs::Begun::spellings_by, crate::specs::Spellings::spellings))]
 fn keywords_from_p(first: u8) -> &'static [(&'static str, Token)]
     requires { (112 ≤ first) × (first ≤ 122) }
@@ -112,6 +114,7 @@ fn symbols(first: u8) -> &'static [(&'static str, Token)]
 }
 
 /// The keywords and symbols that begin with a byte.
+#[inline(always)]
 pub(crate) fn spellings_by(first: u8) -> &'static [(&'static str, Token)]
     ensures { map (λ entry. (entry.0.now, entry.1)) result.now ≡ spec.spellings_by first }
 {

@@ -3,7 +3,7 @@ use Rattle.std.specs.Prelude.{IsTrue}
 use Rattle.std.specs.Str.{IsCharBoundary}
 use Rattle.wac_parser_lexer.specs.Pieces.{pieces_at}
 use Rattle.wac_parser_lexer.specs.Items.{ahead, behind, docs_before}
-use Rattle.wac_parser_lexer.proofs.lexer.first.Given as goal
+use Rattle.wac_parser_lexer.proofs.lexer.item_behind.Given as goal
 
 abbrev pub invariant-pieces : goal.invariant-pieces
 invariant-pieces l = record {
