@@ -1,0 +1,307 @@
+//! Types as lines, each of which may name those before it:
+//! `func NAME params P=V ..`, `record NAME fields F=V ..`, `type NAME V` (another name of a value type),
+//! `resource NAME TEXT of RESOURCE in INTERFACE`, `interface NAME as TEXT uses R=I .. exports E=ITEM ..`,
+//! `world NAME as TEXT uses R=I .. imports I=ITEM .. exports E=ITEM ..`, `value NAME V` (the item of a value) and
+//! `module NAME HEAP`.
+
+use crate::words::{
+    item_named, pairs_behind, resource_named, value_named, word_at, word_behind, words_of,
+};
+use std::alloc::Global;
+use std::process::Abort;
+use std::test::Fail;
+use wac_graph_core::CompositionGraph;
+use wac_types_base::{
+    CoreExtern, CoreFuncType, CoreImports, CoreRefType, CoreType, DefinedType, FuncType, HeapType,
+    Interface, InterfaceId, ItemKind, Items, ModuleType, NamedMap, PrimitiveType, Record, Resource,
+    ResourceAlias, Text, Type, UsedType, ValueType, World,
+};
+
+/// The named value types behind a word.
+fn values_behind(
+    alloc: Global,
+    items: &NamedMap<ItemKind>,
+    words: &[&str],
+    before: &str,
+) -> Result<NamedMap<ValueType>, Fail> {
+    let mut map = NamedMap::new(alloc);
+    for (name, word) in &pairs_behind(alloc, words, before)? {
+        let value = value_named(items, word)?;
+        let _ = map.insert(String::from_str(alloc, name)?, value)?;
+    }
+    Ok(map)
+}
+
+/// The named items behind a word.
+fn items_behind(
+    alloc: Global,
+    items: &NamedMap<ItemKind>,
+    words: &[&str],
+    before: &str,
+) -> Result<NamedMap<ItemKind>, Fail> {
+    let mut map = NamedMap::new(alloc);
+    for (name, word) in &pairs_behind(alloc, words, before)? {
+        let item = item_named(items, word)?;
+        let _ = map.insert(String::from_str(alloc, name)?, item)?;
+    }
+    Ok(map)
+}
+
+/// The interface of a name.
+fn interface_named(items: &NamedMap<ItemKind>, name: &str) -> Result<InterfaceId, Fail> {
+    match items.get(name) {
+        Some(ItemKind::Instance(id)) => Ok(*id),
+        _ => Err(Fail::from("no such interface")),
+    }
+}
+
+/// The uses of types under their own names.
+fn uses_in(
+    alloc: Global,
+    items: &NamedMap<ItemKind>,
+    words: &[&str],
+) -> Result<NamedMap<UsedType>, Fail> {
+    let mut map = NamedMap::new(alloc);
+    for (name, word) in &pairs_behind(alloc, words, "uses")? {
+        let used = UsedType {
+            interface: interface_named(items, word)?,
+            name: None,
+        };
+        let _ = map.insert(String::from_str(alloc, name)?, used)?;
+    }
+    Ok(map)
+}
+
+/// The identifier, if there is one.
+fn identifier_in(alloc: Global, words: &[&str]) -> Result<Option<Text>, Fail> {
+    match word_behind(words, "as") {
+        Some(word) => Ok(Some(Text::new(String::from_str(alloc, word)?))),
+        None => Ok(None),
+    }
+}
+
+fn add_func(
+    rt: &impl Abort,
+    graph: &mut CompositionGraph,
+    params: NamedMap<ValueType>,
+) -> Result<ItemKind, Fail> {
+    let func = FuncType {
+        params,
+        result: None,
+        is_async: false,
+    };
+    assert!(rt; graph.types().has_ids_of(&func));
+    Ok(ItemKind::Func(graph.types_mut().add_func_type(func)?))
+}
+
+fn add_defined(
+    rt: &impl Abort,
+    graph: &mut CompositionGraph,
+    ty: DefinedType,
+) -> Result<ItemKind, Fail> {
+    assert!(rt; graph.types().has_ids_of(&ty));
+    let id = graph.types_mut().add_defined_type(ty)?;
+    Ok(ItemKind::Ty(Type::Value(ValueType::Defined(id))))
+}
+
+/// What a resource is an alias of.
+fn alias_in(items: &NamedMap<ItemKind>, words: &[&str]) -> Result<Option<ResourceAlias>, Fail> {
+    let Some(source) = word_behind(words, "of") else {
+        return Ok(None);
+    };
+    let owner = match word_behind(words, "in") {
+        Some(word) => Some(interface_named(items, word)?),
+        None => None,
+    };
+    Ok(Some(ResourceAlias {
+        owner,
+        source: resource_named(items, source)?,
+    }))
+}
+
+fn add_resource(
+    rt: &impl Abort,
+    graph: &mut CompositionGraph,
+    items: &NamedMap<ItemKind>,
+    words: &[&str],
+) -> Result<ItemKind, Fail> {
+    let alias = alias_in(items, words)?;
+    let name = String::from_str(graph.alloc(), word_at(words, 2))?;
+    let resource = Resource {
+        name: Text::new(name),
+        alias,
+    };
+    assert!(rt; graph.types().has_ids_of(&resource));
+    let id = graph.types_mut().add_resource(resource)?;
+    Ok(ItemKind::Ty(Type::Resource(id)))
+}
+
+fn interface_of(
+    alloc: Global,
+    items: &NamedMap<ItemKind>,
+    words: &[&str],
+) -> Result<Interface, Fail> {
+    let uses = uses_in(alloc, items, words)?;
+    let exports = items_behind(alloc, items, words, "exports")?;
+    Ok(Interface {
+        id: identifier_in(alloc, words)?,
+        uses,
+        exports,
+    })
+}
+
+fn add_interface(
+    rt: &impl Abort,
+    graph: &mut CompositionGraph,
+    interface: Interface,
+) -> Result<ItemKind, Fail> {
+    assert!(rt; graph.types().has_ids_of(&interface));
+    let id = graph.types_mut().add_interface(interface)?;
+    Ok(ItemKind::Instance(id))
+}
+
+fn world_of(alloc: Global, items: &NamedMap<ItemKind>, words: &[&str]) -> Result<World, Fail> {
+    let inner = interface_of(alloc, items, words)?;
+    let imports = items_behind(alloc, items, words, "imports")?;
+    Ok(World {
+        id: inner.id,
+        uses: inner.uses,
+        imports,
+        exports: inner.exports,
+    })
+}
+
+fn add_world(
+    rt: &impl Abort,
+    graph: &mut CompositionGraph,
+    world: World,
+) -> Result<ItemKind, Fail> {
+    assert!(rt; graph.types().has_ids_of(&world));
+    let id = graph.types_mut().add_world(world)?;
+    Ok(ItemKind::Component(id))
+}
+
+/// `m` `f`, a function of an `i32` that answers an `i64`.
+fn module_imports(alloc: Global) -> Result<CoreImports, Fail> {
+    let mut params = Items::new(alloc);
+    params.push(CoreType::I32)?;
+    let mut results = Items::new(alloc);
+    results.push(CoreType::I64)?;
+    let mut imports = CoreImports::new(alloc);
+    let module = String::from_str(alloc, "m")?;
+    let name = String::from_str(alloc, "f")?;
+    let func = CoreExtern::Func(CoreFuncType { params, results });
+    imports.push(module, name, func)?;
+    Ok(imports)
+}
+
+/// The memory `g`, and the table `t` of references to that heap type.
+fn module_exports(alloc: Global, heap_type: HeapType) -> Result<NamedMap<CoreExtern>, Fail> {
+    let mut exports = NamedMap::new(alloc);
+    let memory = CoreExtern::Memory {
+        memory64: false,
+        shared: false,
+        initial: 1,
+        maximum: Some(2),
+        page_size_log2: None,
+    };
+    let _ = exports.insert(String::from_str(alloc, "g")?, memory)?;
+    let table = CoreExtern::Table {
+        element_type: CoreRefType {
+            nullable: true,
+            heap_type,
+        },
+        initial: 3,
+        maximum: None,
+        table64: false,
+        shared: false,
+    };
+    let _ = exports.insert(String::from_str(alloc, "t")?, table)?;
+    Ok(exports)
+}
+
+/// A module type with a table of references to functions, or to any value.
+fn add_module(graph: &mut CompositionGraph, word: &str) -> Result<ItemKind, Fail> {
+    let alloc = graph.alloc();
+    let heap_type = if word == "func" {
+        HeapType::Func
+    } else {
+        HeapType::Any
+    };
+    let imports = module_imports(alloc)?;
+    let exports = module_exports(alloc, heap_type)?;
+    let module = ModuleType { imports, exports };
+    Ok(ItemKind::Module(graph.types_mut().add_module_type(module)?))
+}
+
+/// Adds a value type, or the item of a value.
+fn add_value(
+    rt: &impl Abort,
+    graph: &mut CompositionGraph,
+    items: &NamedMap<ItemKind>,
+    words: &[&str],
+) -> Result<ItemKind, Fail> {
+    let alloc = graph.alloc();
+    match word_at(words, 0) {
+        "record" => {
+            let fields = values_behind(alloc, items, words, "fields")?;
+            add_defined(rt, graph, DefinedType::Record(Record { fields }))
+        }
+        "type" => {
+            let of = value_named(items, word_at(words, 2))?;
+            add_defined(rt, graph, DefinedType::Alias(of))
+        }
+        "value" => Ok(ItemKind::Value(value_named(items, word_at(words, 2))?)),
+        _ => Err(Fail::from("no such line of types")),
+    }
+}
+
+/// Adds what a line says.
+fn add_item(
+    rt: &impl Abort,
+    graph: &mut CompositionGraph,
+    items: &NamedMap<ItemKind>,
+    words: &[&str],
+) -> Result<ItemKind, Fail> {
+    let alloc = graph.alloc();
+    match word_at(words, 0) {
+        "func" => add_func(rt, graph, values_behind(alloc, items, words, "params")?),
+        "resource" => add_resource(rt, graph, items, words),
+        "interface" => add_interface(rt, graph, interface_of(alloc, items, words)?),
+        "world" => add_world(rt, graph, world_of(alloc, items, words)?),
+        "module" => add_module(graph, word_at(words, 2)),
+        _ => add_value(rt, graph, items, words),
+    }
+}
+
+/// Adds what a line says, under its name.
+fn add_line(
+    rt: &impl Abort,
+    graph: &mut CompositionGraph,
+    items: &mut NamedMap<ItemKind>,
+    line: &str,
+) -> Result<(), Fail> {
+    let alloc = graph.alloc();
+    let words = words_of(alloc, line)?;
+    let item = add_item(rt, graph, items, &words)?;
+    let _ = items.insert(String::from_str(alloc, word_at(&words, 1))?, item)?;
+    Ok(())
+}
+
+/// Adds the types of a text; each is an item under its name, as `u32` is.
+pub(crate) fn add_types(
+    rt: &impl Abort,
+    graph: &mut CompositionGraph,
+    text: &str,
+) -> Result<NamedMap<ItemKind>, Fail> {
+    let alloc = graph.alloc();
+    let mut items = NamedMap::new(alloc);
+    let u32_type = ItemKind::Ty(Type::Value(ValueType::Primitive(PrimitiveType::U32)));
+    let _ = items.insert(String::from_str(alloc, "u32")?, u32_type)?;
+    for line in text.split('\n') {
+        if !line.is_empty() {
+            add_line(rt, graph, &mut items, line)?;
+        }
+    }
+    Ok(items)
+}
