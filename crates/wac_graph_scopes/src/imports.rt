@@ -1,5 +1,9 @@
 //! Imports of a component type, or of the root, with the interfaces that they use.
 
+ghost use Rattle.std.specs.Prelude.{IfSome};
+ghost use Rattle.wac_types_base.specs.declared.item.ItemKind.{ItemKind};
+ghost use Rattle.wac_types_fit.specs.Trees.{IsInside};
+
 use crate::fault::WriteError;
 use crate::items::{Around, ItemScope, describe, export_item, export_resource, find_used};
 use crate::order::{ImportOrder, order_of};
@@ -59,23 +63,50 @@ pub fn sort_of(description: Description) -> Sort {
     }
 }
 
+/// Adds a place under a name, unless one stands there.
+fn add_place(
+    alloc: Global,
+    found: &mut NamedMap<usize>,
+    name: &str,
+    at: usize,
+) -> Result<(), AllocError> {
+    if !found.contains(name) {
+        let _ = found.insert(String::from_str(alloc, name)?, at)?;
+    }
+    Ok(())
+}
+
+/// Adds the places of the imports under their own names.
+fn add_places(
+    alloc: Global,
+    all: Importing<'_>,
+    found: &mut NamedMap<usize>,
+) -> Result<(), AllocError> {
+    for at in 0..import_count(all.types, all.world) {
+        if let Some(import) = import_at(all.types, all.world, at) {
+            add_place(alloc, found, import.name, at)?;
+        }
+    }
+    Ok(())
+}
+
 /// Where the imports stand, by the names under which they are asked for, and by their own.
 fn places_called(alloc: Global, all: Importing<'_>) -> Result<NamedMap<usize>, AllocError> {
     let mut found = NamedMap::new(alloc);
     for called in all.called {
-        let name = called.name.as_str();
-        if !found.contains(name) {
-            let _ = found.insert(String::from_str(alloc, name)?, called.at)?;
-        }
+        add_place(alloc, &mut found, called.name.as_str(), called.at)?;
     }
-    for at in 0..import_count(all.types, all.world) {
-        if let Some(import) = import_at(all.types, all.world, at) {
-            if !found.contains(import.name) {
-                let _ = found.insert(String::from_str(alloc, import.name)?, at)?;
-            }
-        }
-    }
+    add_places(alloc, all, &mut found)?;
     Ok(found)
+}
+
+/// No import is written yet.
+fn places_of(alloc: Global, count: usize) -> Result<Vec<Option<SortIndex>>, AllocError> {
+    let mut places = Vec::new(alloc);
+    for _ in 0..count {
+        places.push(None)?;
+    }
+    Ok(places)
 }
 
 /// The interface of the instance that is imported at a place.
@@ -126,16 +157,19 @@ fn instance_index(places: &[Option<SortIndex>], at: usize) -> Option<u32> {
 impl ImportScope {
     /// Nothing is written of the imports of a world.
     pub fn new(alloc: Global, all: Importing<'_>) -> Result<Self, AllocError> {
-        let mut places = Vec::new(alloc);
-        for _ in 0..import_count(all.types, all.world) {
-            places.push(None)?;
-        }
+        let found = places_called(alloc, all)?;
+        let places = places_of(alloc, import_count(all.types, all.world))?;
         Ok(ImportScope {
             scope: ItemScope::new(alloc),
             used: UsedTypes::new(alloc),
             places,
-            found: places_called(alloc, all)?,
+            found,
         })
+    }
+
+    /// What is declared.
+    fn into_declarations(self) -> Vec<Declaration> {
+        self.scope.into_declarations()
     }
 
     /// What is written, and where the imports stand in it.
@@ -299,6 +333,24 @@ impl ImportScope {
         }
     }
 
+    /// What an import is that needs no type written: a type that the world uses, or a resource under its own name.
+    fn describe_plainly(
+        &mut self,
+        alloc: Global,
+        all: Importing<'_>,
+        import: Item<'_>,
+    ) -> Result<Option<Description>, WriteError> {
+        let used = self.describe_used(alloc, all, import)?;
+        if used.is_some() {
+            return Ok(used);
+        }
+        if is_fresh(all.types, import) {
+            return Ok(Some(Description::Resource));
+        }
+        self.prepare(alloc, all, import.kind)?;
+        Ok(None)
+    }
+
     /// What an import is; its type is written.
     #[cycle(types)]
     fn describe_import(
@@ -307,14 +359,10 @@ impl ImportScope {
         all: Importing<'_>,
         import: Item<'_>,
     ) -> Result<Description, WriteError> {
-        if let Some(description) = self.describe_used(alloc, all, import)? {
-            return Ok(description);
+        match self.describe_plainly(alloc, all, import)? {
+            Some(description) => Ok(description),
+            None => self.describe(alloc, all.types, import.kind),
         }
-        if is_fresh(all.types, import) {
-            return Ok(Description::Resource);
-        }
-        self.prepare(alloc, all, import.kind)?;
-        self.describe(alloc, all.types, import.kind)
     }
 
     /// Writes an import that is so described.
@@ -342,6 +390,20 @@ impl ImportScope {
         }
     }
 
+    /// Writes the import at a place that is so described.
+    fn import_at(
+        &mut self,
+        alloc: Global,
+        types: &Types,
+        import: Item<'_>,
+        description: Description,
+        at: usize,
+    ) -> Result<(), WriteError> {
+        let place = self.import(alloc, types, import, description)?;
+        self.set_place(at, place);
+        Ok(())
+    }
+
     /// Writes the import at a place.
     #[cycle(types)]
     pub fn write_import(
@@ -350,12 +412,13 @@ impl ImportScope {
         all: Importing<'_>,
         at: usize,
     ) -> Result<(), WriteError> {
-        if let Some(import) = import_at(all.types, all.world, at) {
-            let description = self.describe_import(alloc, all, import)?;
-            let place = self.import(alloc, all.types, import, description)?;
-            self.set_place(at, place);
+        match import_at(all.types, all.world, at) {
+            Some(import) => {
+                let description = self.describe_import(alloc, all, import)?;
+                self.import_at(alloc, all.types, import, description, at)
+            }
+            None => Ok(()),
         }
-        Ok(())
     }
 
     /// Writes an export of a component type.
@@ -403,6 +466,21 @@ fn alias_world_uses(
     Ok(())
 }
 
+/// Exports a resource of a world under its own name, if it does not stand yet, and adds its name.
+fn export_new_resource(
+    alloc: Global,
+    all: Importing<'_>,
+    scope: &mut ItemScope,
+    item: Item<'_>,
+    exported: &mut Names,
+) -> Result<(), WriteError> {
+    if is_fresh(all.types, item) && scope.types.resource(item.name).is_none() {
+        export_resource(alloc, scope, all.types, item)?;
+        let _ = exported.insert(String::from_str(alloc, item.name)?)?;
+    }
+    Ok(())
+}
+
 /// Exports the resources of a world under their own names that do not stand yet; their names.
 fn export_new_resources(
     alloc: Global,
@@ -412,10 +490,7 @@ fn export_new_resources(
     let mut exported = Names::new(alloc);
     for at in 0..world_export_count(all.types, all.world) {
         if let Some(item) = world_export_at(all.types, all.world, at) {
-            if is_fresh(all.types, item) && scope.types.resource(item.name).is_none() {
-                export_resource(alloc, scope, all.types, item)?;
-                let _ = exported.insert(String::from_str(alloc, item.name)?)?;
-            }
+            export_new_resource(alloc, all, scope, item, &mut exported)?;
         }
     }
     Ok(exported)
@@ -438,6 +513,22 @@ fn export_resources(
     Ok(())
 }
 
+/// The world's export at a place, if it is no resource under its own name.
+fn other_at<'a>(all: Importing<'a>, at: usize) -> Option<Item<'a>>
+    ensures { IfSome result (λ x. IsInside all.entry.types.now x.kind (ItemKind.Component all.entry.world)) }
+{
+    match world_export_at(all.types, all.world, at) {
+        Some(item) => {
+            if is_fresh(all.types, item) {
+                None
+            } else {
+                Some(item)
+            }
+        }
+        None => None,
+    }
+}
+
 /// Exports the other items of a world.
 #[cycle(types)]
 fn export_others(
@@ -446,16 +537,51 @@ fn export_others(
     scope: &mut ImportScope,
 ) -> Result<(), WriteError> {
     for at in 0..world_export_count(all.types, all.world) {
-        if let Some(item) = world_export_at(all.types, all.world, at) {
-            if !is_fresh(all.types, item) {
-                scope.export(alloc, all, item)?;
-            }
+        if let Some(item) = other_at(all, at) {
+            scope.export(alloc, all, item)?;
         }
     }
     Ok(())
 }
 
-/// The declarations of a component type. A resource that is only exported stands before what is imported and needs it.
+/// Makes the types stand that a world uses, and exports the resources that do not stand yet; their names.
+fn write_between(
+    alloc: Global,
+    all: Importing<'_>,
+    scope: &mut ImportScope,
+) -> Result<Names, WriteError> {
+    alias_world_uses(alloc, all, scope)?;
+    export_new_resources(alloc, all, &mut scope.scope)
+}
+
+/// Writes the imports of a world, and exports its resources. A resource that is only exported stands before what is
+/// imported and needs it.
+#[cycle(types)]
+fn write_before_others(
+    alloc: Global,
+    all: Importing<'_>,
+    scope: &mut ImportScope,
+    order: &ImportOrder,
+) -> Result<(), WriteError> {
+    write_imports(alloc, all, scope, &order.sources)?;
+    let exported = write_between(alloc, all, scope)?;
+    write_imports(alloc, all, scope, &order.others)?;
+    export_resources(alloc, all, &mut scope.scope, &exported)
+}
+
+/// Writes a component type.
+#[cycle(types)]
+fn write_component(
+    alloc: Global,
+    all: Importing<'_>,
+    scope: &mut ImportScope,
+) -> Result<(), WriteError> {
+    let order = scope.order(alloc, all)?;
+    write_before_others(alloc, all, scope, &order)?;
+    export_others(alloc, all, scope)
+}
+
+/// The declarations of a component type.
 #[cycle(types)]
 pub(crate) fn component_type(
     alloc: Global,
@@ -468,12 +594,6 @@ pub(crate) fn component_type(
         called: &[],
     };
     let mut scope = ImportScope::new(alloc, all)?;
-    let order = scope.order(alloc, all)?;
-    write_imports(alloc, all, &mut scope, &order.sources)?;
-    alias_world_uses(alloc, all, &mut scope)?;
-    let exported = export_new_resources(alloc, all, &mut scope.scope)?;
-    write_imports(alloc, all, &mut scope, &order.others)?;
-    export_resources(alloc, all, &mut scope.scope, &exported)?;
-    export_others(alloc, all, &mut scope)?;
-    Ok(scope.scope.types.declarations)
+    write_component(alloc, all, &mut scope)?;
+    Ok(scope.into_declarations())
 }

@@ -1,5 +1,9 @@
 //! Items in a scope of written types, and the types of instances.
 
+ghost use Rattle.std.specs.Prelude.{IfSome};
+ghost use Rattle.wac_types_base.specs.declared.item.ItemKind.{ItemKind};
+ghost use Rattle.wac_types_fit.specs.Trees.{IsInside};
+
 use crate::core_items::module_declarations;
 use crate::fault::WriteError;
 use crate::imports::component_type;
@@ -35,6 +39,17 @@ pub struct Around<'a> {
     pub depth: u32,
 }
 
+impl<'a> Around<'a> {
+    /// The same, one scope deeper.
+    fn deeper(self) -> Result<Around<'a>, WriteError> {
+        let depth = next_of(self.depth)?;
+        Ok(Around {
+            used: self.used,
+            depth,
+        })
+    }
+}
+
 impl ItemScope {
     /// Nothing stands there yet.
     pub fn new(alloc: Global) -> Self {
@@ -46,6 +61,11 @@ impl ItemScope {
             instances: 0,
             modules: 0,
         }
+    }
+
+    /// What is declared.
+    pub(crate) fn into_declarations(self) -> Vec<Declaration> {
+        self.types.declarations
     }
 
     /// Adds a declaration of a type.
@@ -209,6 +229,26 @@ fn alias_around(
     }
 }
 
+/// Exports a used type that is the one at an index, where the interface has that export. Whether there is it.
+fn export_used(
+    alloc: Global,
+    scope: &mut ItemScope,
+    types: &Types,
+    id: InterfaceId,
+    used: Use<'_>,
+    item: ItemKind,
+    alias: u32,
+) -> Result<bool, WriteError> {
+    if !exports_taken(alloc, types, id, used.name, item)? {
+        scope.note(alloc, types, item, alias)?;
+        return Ok(false);
+    }
+    let text = String::from_str(alloc, used.name)?;
+    let own = scope.types.export_type(text, alias)?;
+    scope.note(alloc, types, item, own)?;
+    Ok(true)
+}
+
 /// Writes a used type: an alias of what stands around, and the export that is the same. Whether there is that export.
 fn take_use(
     alloc: Global,
@@ -221,17 +261,28 @@ fn take_use(
     let Some(item) = taken(types, used) else {
         return Ok(false);
     };
-    let Some(alias) = alias_around(alloc, scope, types, around, used, item)? else {
-        return Ok(false);
-    };
-    if !exports_taken(alloc, types, id, used.name, item)? {
-        scope.note(alloc, types, item, alias)?;
-        return Ok(false);
+    match alias_around(alloc, scope, types, around, used, item)? {
+        Some(alias) => export_used(alloc, scope, types, id, used, item, alias),
+        None => Ok(false),
     }
-    let text = String::from_str(alloc, used.name)?;
-    let own = scope.types.export_type(text, alias)?;
-    scope.note(alloc, types, item, own)?;
-    Ok(true)
+}
+
+/// Writes the used type at a place, and adds its name if it is exported.
+fn take_use_at(
+    alloc: Global,
+    scope: &mut ItemScope,
+    types: &Types,
+    around: Around<'_>,
+    id: InterfaceId,
+    at: usize,
+    given: &mut Names,
+) -> Result<(), WriteError> {
+    if let Some(used) = use_at(types, id, at) {
+        if take_use(alloc, scope, types, around, id, used)? {
+            let _ = given.insert(String::from_str(alloc, used.name)?)?;
+        }
+    }
+    Ok(())
 }
 
 /// Writes the used types of an interface; the names of those that it exports.
@@ -244,11 +295,7 @@ fn take_uses(
 ) -> Result<Names, WriteError> {
     let mut given = Names::new(alloc);
     for at in 0..use_count(types, id) {
-        if let Some(used) = use_at(types, id, at) {
-            if take_use(alloc, scope, types, around, id, used)? {
-                let _ = given.insert(String::from_str(alloc, used.name)?)?;
-            }
-        }
+        take_use_at(alloc, scope, types, around, id, at, &mut given)?;
     }
     Ok(given)
 }
@@ -266,6 +313,20 @@ pub(crate) fn export_resource(
     scope.note(alloc, types, item.kind, index)
 }
 
+/// Exports an item that is so described.
+fn export_described(
+    alloc: Global,
+    scope: &mut ItemScope,
+    types: &Types,
+    item: Item<'_>,
+    description: Description,
+) -> Result<(), WriteError> {
+    let text = String::from_str(alloc, item.name)?;
+    let declaration = Declaration::Export(text, description);
+    let index = scope.add_item(declaration, description)?;
+    scope.note(alloc, types, item.kind, index)
+}
+
 /// Exports an item that is no resource under its own name.
 #[cycle(types)]
 pub(crate) fn export_item(
@@ -276,10 +337,7 @@ pub(crate) fn export_item(
     item: Item<'_>,
 ) -> Result<(), WriteError> {
     let description = describe(alloc, scope, types, around, item.kind)?;
-    let text = String::from_str(alloc, item.name)?;
-    let declaration = Declaration::Export(text, description);
-    let index = scope.add_item(declaration, description)?;
-    scope.note(alloc, types, item.kind, index)
+    export_described(alloc, scope, types, item, description)
 }
 
 /// Exports the resources of an interface that no use gives.
@@ -300,6 +358,22 @@ fn export_resources(
     Ok(())
 }
 
+/// The export at a place, if it is no resource under its own name and no use gives it.
+fn other_at<'a>(types: &'a Types, id: InterfaceId, given: &Names, at: usize) -> Option<Item<'a>>
+    ensures { IfSome result (λ x. IsInside types.now x.kind (ItemKind.Instance id)) }
+{
+    match export_at(types, id, at) {
+        Some(item) => {
+            if is_fresh(types, item) || given.contains(item.name) {
+                None
+            } else {
+                Some(item)
+            }
+        }
+        None => None,
+    }
+}
+
 /// Exports the other items of an interface that no use gives.
 #[cycle(types)]
 fn export_others(
@@ -311,13 +385,37 @@ fn export_others(
     given: &Names,
 ) -> Result<(), WriteError> {
     for at in 0..export_count(types, id) {
-        if let Some(item) = export_at(types, id, at) {
-            if !is_fresh(types, item) && !given.contains(item.name) {
-                export_item(alloc, scope, types, around, item)?;
-            }
+        if let Some(item) = other_at(types, id, given, at) {
+            export_item(alloc, scope, types, around, item)?;
         }
     }
     Ok(())
+}
+
+/// Writes what stands first in an instance type: used types and resources. The names that uses give.
+fn begin_instance(
+    alloc: Global,
+    scope: &mut ItemScope,
+    types: &Types,
+    around: Around<'_>,
+    id: InterfaceId,
+) -> Result<Names, WriteError> {
+    let given = take_uses(alloc, scope, types, around, id)?;
+    export_resources(alloc, scope, types, id, &given)?;
+    Ok(given)
+}
+
+/// Writes an instance type.
+#[cycle(types)]
+fn write_instance(
+    alloc: Global,
+    scope: &mut ItemScope,
+    types: &Types,
+    around: Around<'_>,
+    id: InterfaceId,
+) -> Result<(), WriteError> {
+    let given = begin_instance(alloc, scope, types, around, id)?;
+    export_others(alloc, scope, types, around, id, &given)
 }
 
 /// The declarations of an instance type.
@@ -329,10 +427,8 @@ fn instance_type(
     id: InterfaceId,
 ) -> Result<Vec<Declaration>, WriteError> {
     let mut scope = ItemScope::new(alloc);
-    let given = take_uses(alloc, &mut scope, types, around, id)?;
-    export_resources(alloc, &mut scope, types, id, &given)?;
-    export_others(alloc, &mut scope, types, around, id, &given)?;
-    Ok(scope.types.declarations)
+    write_instance(alloc, &mut scope, types, around, id)?;
+    Ok(scope.into_declarations())
 }
 
 /// The index of the type of an instance, which is written.
@@ -344,10 +440,7 @@ fn push_instance_type(
     around: Around<'_>,
     id: InterfaceId,
 ) -> Result<u32, WriteError> {
-    let inner = Around {
-        used: around.used,
-        depth: next_of(around.depth)?,
-    };
+    let inner = around.deeper()?;
     let declarations = instance_type(alloc, types, inner, id)?;
     scope.add_type(Declaration::InstanceType(declarations))
 }

@@ -46,10 +46,22 @@ impl UsedTypes {
         used: UsedIndex,
     ) -> Result<(), AllocError> {
         let name = String::from_str(self.alloc, name)?;
-        if let Some(names) = self.found.get_mut(identifier) {
-            let _ = names.insert(name, used)?;
-            return Ok(());
+        match self.found.get_mut(identifier) {
+            Some(names) => {
+                let _ = names.insert(name, used)?;
+                Ok(())
+            }
+            None => self.insert_first(identifier, name, used),
         }
+    }
+
+    /// Adds the first type of an interface.
+    fn insert_first(
+        &mut self,
+        identifier: &str,
+        name: String,
+        used: UsedIndex,
+    ) -> Result<(), AllocError> {
         let mut names = IndexMap::new(self.alloc);
         let _ = names.insert(name, used)?;
         let identifier = String::from_str(self.alloc, identifier)?;
