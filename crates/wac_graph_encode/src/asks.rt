@@ -355,19 +355,41 @@ fn ask_definition(
     Ok(())
 }
 
+/// Adds the interfaces that asked items use.
+fn ask_uses_of_asks(alloc: Global, asked: &Asked, all: &mut UseAsks) -> Result<(), AllocError> {
+    for ask in &asked.asks {
+        ask_uses(alloc, &asked.types, all, ask.by, ask.item)?;
+    }
+    Ok(())
+}
+
+/// Adds the interfaces that definitions use which are written as they are.
+fn ask_uses_of_definitions(
+    alloc: Global,
+    asked: &Asked,
+    all: &mut UseAsks,
+) -> Result<(), AllocError> {
+    for definition in &asked.definitions {
+        ask_definition(alloc, &asked.types, all, definition)?;
+    }
+    Ok(())
+}
+
+impl UseAsks {
+    fn into_asks(self) -> Vec<Ask> {
+        self.asks
+    }
+}
+
 /// The asks of used interfaces, by those that use them.
 fn uses_asked(alloc: Global, asked: &Asked) -> Result<Vec<Ask>, AllocError> {
     let mut all = UseAsks {
         asks: Vec::new(alloc),
         seen: IndexSet::new(alloc),
     };
-    for ask in &asked.asks {
-        ask_uses(alloc, &asked.types, &mut all, ask.by, ask.item)?;
-    }
-    for definition in &asked.definitions {
-        ask_definition(alloc, &asked.types, &mut all, definition)?;
-    }
-    Ok(all.asks)
+    ask_uses_of_asks(alloc, asked, &mut all)?;
+    ask_uses_of_definitions(alloc, asked, &mut all)?;
+    Ok(all.into_asks())
 }
 
 /// Adds the definitions, each under the first name that leads to it.
@@ -389,6 +411,47 @@ fn ask_definitions(
     Ok(())
 }
 
+/// Adds what the imports of a graph ask.
+fn ask_imports(
+    alloc: Global,
+    graph: &CompositionGraph,
+    asked: &mut Asked,
+) -> Result<(), AllocError> {
+    for node in graph.node_ids() {
+        asked.ask_import(alloc, graph, node)?;
+    }
+    Ok(())
+}
+
+/// Adds what the instances of a graph ask.
+fn ask_instances(
+    alloc: Global,
+    graph: &CompositionGraph,
+    asked: &mut Asked,
+) -> Result<(), AllocError> {
+    for node in graph.node_ids() {
+        asked.ask_instance(alloc, graph, node)?;
+    }
+    Ok(())
+}
+
+/// Adds asks behind the others.
+fn add_asks(asked: &mut Asked, asks: Vec<Ask>) -> Result<(), AllocError> {
+    for ask in asks {
+        asked.asks.push(ask)?;
+    }
+    Ok(())
+}
+
+/// Adds all that a graph asks and defines.
+fn ask_all(alloc: Global, graph: &CompositionGraph, asked: &mut Asked) -> Result<(), AllocError> {
+    ask_imports(alloc, graph, asked)?;
+    ask_instances(alloc, graph, asked)?;
+    ask_definitions(alloc, graph, asked)?;
+    let uses = uses_asked(alloc, asked)?;
+    add_asks(asked, uses)
+}
+
 /// What a graph asks: by its imports, by its instances, and for what these and its definitions use.
 pub(crate) fn asked_by(
     alloc: Global,
@@ -396,16 +459,6 @@ pub(crate) fn asked_by(
     number: u64,
 ) -> Result<Asked, AllocError> {
     let mut asked = Asked::new(alloc, number);
-    for node in graph.node_ids() {
-        asked.ask_import(alloc, graph, node)?;
-    }
-    for node in graph.node_ids() {
-        asked.ask_instance(alloc, graph, node)?;
-    }
-    ask_definitions(alloc, graph, &mut asked)?;
-    let uses = uses_asked(alloc, &asked)?;
-    for ask in uses {
-        asked.asks.push(ask)?;
-    }
+    ask_all(alloc, graph, &mut asked)?;
     Ok(asked)
 }

@@ -111,28 +111,67 @@ fn join_by(
     Ok(())
 }
 
-/// The classes: asks of one name, one track or one identifier are joined.
-fn labels_of(alloc: Global, names: &[Named<'_>]) -> Result<Vec<usize>, AllocError> {
-    let mut labels = Vec::new(alloc);
-    let mut by_name = NamedMap::new(alloc);
-    let mut by_track = NamedMap::new(alloc);
-    let mut by_identifier = NamedMap::new(alloc);
-    for (at, name) in names.iter().enumerate() {
-        labels.push(at)?;
-        join_by(alloc, &mut by_name, &mut labels, name.name, at)?;
-        if let Some((track, _)) = &name.track {
-            join_by(alloc, &mut by_track, &mut labels, track, at)?;
-        }
-        if let Some(identifier) = name.identifier {
-            join_by(alloc, &mut by_identifier, &mut labels, identifier, at)?;
+/// The first asks of names, tracks and identifiers.
+#[derive(Drop)]
+struct Firsts {
+    by_name: NamedMap<usize>,
+    by_track: NamedMap<usize>,
+    by_identifier: NamedMap<usize>,
+}
+
+impl Firsts {
+    fn new(alloc: Global) -> Self {
+        Firsts {
+            by_name: NamedMap::new(alloc),
+            by_track: NamedMap::new(alloc),
+            by_identifier: NamedMap::new(alloc),
         }
     }
-    for at in 0..names.len() {
-        let first = first_of(&labels, at);
+}
+
+/// Joins an ask with the first of its name, of its track and of its identifier.
+fn join_ask(
+    alloc: Global,
+    name: &Named<'_>,
+    firsts: &mut Firsts,
+    labels: &mut Vec<usize>,
+    at: usize,
+) -> Result<(), AllocError> {
+    labels.push(at)?;
+    join_by(alloc, &mut firsts.by_name, labels, name.name, at)?;
+    if let Some((track, _)) = &name.track {
+        join_by(alloc, &mut firsts.by_track, labels, track, at)?;
+    }
+    if let Some(identifier) = name.identifier {
+        join_by(alloc, &mut firsts.by_identifier, labels, identifier, at)?;
+    }
+    Ok(())
+}
+
+/// The asks, each joined with those before it.
+fn labels_joined(alloc: Global, names: &[Named<'_>]) -> Result<Vec<usize>, AllocError> {
+    let mut firsts = Firsts::new(alloc);
+    let mut labels = Vec::new(alloc);
+    for (at, name) in names.iter().enumerate() {
+        join_ask(alloc, name, &mut firsts, &mut labels, at)?;
+    }
+    Ok(labels)
+}
+
+/// Makes each label the first ask of its class.
+fn settle(labels: &mut Vec<usize>) {
+    for at in 0..labels.len() {
+        let first = first_of(labels, at);
         if let Some(label) = labels.get_mut(at) {
             *label = first;
         }
     }
+}
+
+/// The classes: asks of one name, one track or one identifier are joined.
+fn labels_of(alloc: Global, names: &[Named<'_>]) -> Result<Vec<usize>, AllocError> {
+    let mut labels = labels_joined(alloc, names)?;
+    settle(&mut labels);
     Ok(labels)
 }
 
@@ -157,16 +196,26 @@ fn spellings_of(
     Ok(best)
 }
 
+/// The asked names.
+fn names_asked<'a>(
+    alloc: Global,
+    types: &'a Types,
+    asks: &'a [Ask],
+) -> Result<Vec<Named<'a>>, AllocError> {
+    let mut names = Vec::new(alloc);
+    for ask in asks {
+        names.push(name_asked(alloc, types, ask)?)?;
+    }
+    Ok(names)
+}
+
 /// The classes of asks.
 pub(crate) fn classes_of(
     alloc: Global,
     types: &Types,
     asks: &[Ask],
 ) -> Result<Classes, AllocError> {
-    let mut names = Vec::new(alloc);
-    for ask in asks {
-        names.push(name_asked(alloc, types, ask)?)?;
-    }
+    let names = names_asked(alloc, types, asks)?;
     let labels = labels_of(alloc, &names)?;
     let spellings = spellings_of(alloc, &names, &labels)?;
     Ok(Classes { labels, spellings })

@@ -51,6 +51,22 @@ fn implicit_conflict(
     })
 }
 
+/// An ask of an instance has not exactly the name of an import of the graph.
+fn check_ask(
+    alloc: Global,
+    graph: &CompositionGraph,
+    imports: &NamedMap<NodeId>,
+    ask: &Ask,
+) -> Result<(), Refusal> {
+    let Some(import) = imports.get(ask.name.as_str()) else {
+        return Ok(());
+    };
+    match instantiated(graph, ask.by) {
+        Some(package) => Err(implicit_conflict(alloc, package, *import, ask)?),
+        None => Ok(()),
+    }
+}
+
 /// No instance fills an import that has exactly the name of an import of the graph.
 pub(crate) fn check_implicit(
     alloc: Global,
@@ -60,11 +76,7 @@ pub(crate) fn check_implicit(
     let imports = imports_named(alloc, asks)?;
     for ask in asks {
         if ask.asking == Asking::ToFill {
-            if let Some(import) = imports.get(ask.name.as_str()) {
-                if let Some(package) = instantiated(graph, ask.by) {
-                    return Err(implicit_conflict(alloc, package, *import, ask)?);
-                }
-            }
+            check_ask(alloc, graph, &imports, ask)?;
         }
     }
     Ok(())
@@ -142,6 +154,31 @@ fn is_unwritable(
     }
 }
 
+/// A definition can be written beside what stands in a holder.
+fn check_definition(
+    test: Test<'_>,
+    types: &Types,
+    outers: &mut Holder,
+    definition: &Definition,
+) -> Result<(), Refusal> {
+    if is_unwritable(test, types, outers, definition)? {
+        return Err(unwritable(test.alloc, definition.name.as_str()));
+    }
+    Ok(())
+}
+
+fn check_each(
+    test: Test<'_>,
+    types: &Types,
+    outers: &mut Holder,
+    definitions: &[Definition],
+) -> Result<(), Refusal> {
+    for definition in definitions {
+        check_definition(test, types, outers, definition)?;
+    }
+    Ok(())
+}
+
 fn check_definitions(
     alloc: Global,
     graph: &CompositionGraph,
@@ -150,14 +187,8 @@ fn check_definitions(
     outers: &Outers,
 ) -> Result<(), Refusal> {
     let test = test_of(alloc, &asked.types, unnamed, false);
-    let mut holder = Holder::new(alloc);
-    holder.add_world(&asked.types, outers.world)?;
-    for definition in &asked.definitions {
-        if is_unwritable(test, graph.types(), &mut holder, definition)? {
-            return Err(unwritable(alloc, definition.name.as_str()));
-        }
-    }
-    Ok(())
+    let mut holder = Holder::of_world(alloc, &asked.types, outers.world)?;
+    check_each(test, graph.types(), &mut holder, &asked.definitions)
 }
 
 fn check_packages(
@@ -176,6 +207,23 @@ fn check_packages(
     Ok(())
 }
 
+/// Each type of the asked collection that is written can be written.
+fn check_types(
+    alloc: Global,
+    graph: &CompositionGraph,
+    asked: &Asked,
+    unnamed: &Unnamed,
+    outers: &Outers,
+    options: &EncodeOptions,
+) -> Result<(), Refusal> {
+    check_outers(alloc, asked, unnamed, outers)?;
+    check_definitions(alloc, graph, asked, unnamed, outers)?;
+    if options.define_components {
+        return Ok(());
+    }
+    check_packages(alloc, graph, asked, unnamed)
+}
+
 /// Each type that is written can be written.
 pub(crate) fn check_writable(
     alloc: Global,
@@ -186,12 +234,7 @@ pub(crate) fn check_writable(
 ) -> Result<(), Refusal> {
     check_aliases(alloc, graph)?;
     let unnamed = Unnamed::all(alloc, &asked.types)?;
-    check_outers(alloc, asked, &unnamed, outers)?;
-    check_definitions(alloc, graph, asked, &unnamed, outers)?;
-    if !options.define_components {
-        check_packages(alloc, graph, asked, &unnamed)?;
-    }
-    Ok(())
+    check_types(alloc, graph, asked, &unnamed, outers, options)
 }
 
 // ---- names
@@ -232,6 +275,22 @@ fn likeness(alloc: Global, validate: bool, name: &str) -> Result<String, AllocEr
     Ok(text)
 }
 
+/// The place of an earlier name that this one is too like, or else it is remembered.
+fn twin_before(
+    alloc: Global,
+    validate: bool,
+    firsts: &mut NamedMap<usize>,
+    name: &str,
+    at: usize,
+) -> Result<Option<usize>, AllocError> {
+    let likeness = likeness(alloc, validate, name)?;
+    let first = firsts.get(likeness.as_str()).copied();
+    if first.is_none() {
+        let _ = firsts.insert(likeness, at)?;
+    }
+    Ok(first)
+}
+
 /// The first name that is too like an earlier one, behind that one.
 fn find_twins(
     alloc: Global,
@@ -240,11 +299,9 @@ fn find_twins(
 ) -> Result<Option<(usize, usize)>, AllocError> {
     let mut firsts = NamedMap::new(alloc);
     for (at, name) in names.iter().enumerate() {
-        let likeness = likeness(alloc, validate, name.as_str())?;
-        if let Some(first) = firsts.get(likeness.as_str()) {
-            return Ok(Some((*first, at)));
+        if let Some(first) = twin_before(alloc, validate, &mut firsts, name.as_str(), at)? {
+            return Ok(Some((first, at)));
         }
-        let _ = firsts.insert(likeness, at)?;
     }
     Ok(None)
 }
@@ -267,6 +324,36 @@ fn twins_of(
     }
 }
 
+/// Adds the names of the outer imports.
+fn push_outer_names(
+    alloc: Global,
+    names: &mut Vec<Text>,
+    asked: &Asked,
+    outers: &Outers,
+) -> Result<(), AllocError> {
+    for at in 0..import_count(&asked.types, outers.world) {
+        if let Some(import) = import_at(&asked.types, outers.world, at) {
+            let name = String::from_str(alloc, import.name)?;
+            names.push(Text::new(name))?;
+        }
+    }
+    Ok(())
+}
+
+/// Adds the names under which packages are imported.
+fn push_package_names(
+    alloc: Global,
+    names: &mut Vec<Text>,
+    graph: &CompositionGraph,
+    asked: &Asked,
+) -> Result<(), AllocError> {
+    for id in asked.packages.keys() {
+        let name = dependency_name(alloc, graph, *id)?;
+        names.push(Text::new(name))?;
+    }
+    Ok(())
+}
+
 /// The names of all that is imported.
 fn import_names(
     alloc: Global,
@@ -276,15 +363,9 @@ fn import_names(
     options: &EncodeOptions,
 ) -> Result<Vec<Text>, AllocError> {
     let mut names = Vec::new(alloc);
-    for at in 0..import_count(&asked.types, outers.world) {
-        if let Some(import) = import_at(&asked.types, outers.world, at) {
-            names.push(Text::new(String::from_str(alloc, import.name)?))?;
-        }
-    }
+    push_outer_names(alloc, &mut names, asked, outers)?;
     if !options.define_components {
-        for id in asked.packages.keys() {
-            names.push(Text::new(dependency_name(alloc, graph, *id)?))?;
-        }
+        push_package_names(alloc, &mut names, graph, asked)?;
     }
     Ok(names)
 }

@@ -6,7 +6,7 @@ use wac_types_base::{
 };
 
 /// The same text again, if there is one.
-fn copy_text(text: &Option<Text>) -> Result<Option<Text>, AllocError> {
+pub(crate) fn copy_text(text: &Option<Text>) -> Result<Option<Text>, AllocError> {
     match text {
         None => Ok(None),
         Some(text) => {
@@ -17,10 +17,7 @@ fn copy_text(text: &Option<Text>) -> Result<Option<Text>, AllocError> {
 }
 
 /// The same items again.
-pub(crate) fn copy_items(
-    alloc: Global,
-    items: &NamedMap<ItemKind>,
-) -> Result<NamedMap<ItemKind>, AllocError> {
+fn copy_items(alloc: Global, items: &NamedMap<ItemKind>) -> Result<NamedMap<ItemKind>, AllocError> {
     let mut copy = NamedMap::new(alloc);
     for at in 0..items.len() {
         let (name, kind) = items.entry(at);
@@ -29,27 +26,27 @@ pub(crate) fn copy_items(
     Ok(copy)
 }
 
+/// The same use again.
+fn copy_use(used: &UsedType) -> Result<UsedType, AllocError> {
+    let name = copy_text(&used.name)?;
+    Ok(UsedType {
+        interface: used.interface,
+        name,
+    })
+}
+
 /// The same uses again.
-fn copy_uses(alloc: Global, uses: &NamedMap<UsedType>) -> Result<NamedMap<UsedType>, AllocError> {
+pub(crate) fn copy_uses(
+    alloc: Global,
+    uses: &NamedMap<UsedType>,
+) -> Result<NamedMap<UsedType>, AllocError> {
     let mut copy = NamedMap::new(alloc);
     for at in 0..uses.len() {
         let (name, used) = uses.entry(at);
-        let used = UsedType {
-            interface: used.interface,
-            name: copy_text(&used.name)?,
-        };
-        let _ = copy.insert(String::from_str(alloc, name)?, used)?;
+        let name = String::from_str(alloc, name)?;
+        let _ = copy.insert(name, copy_use(used)?)?;
     }
     Ok(copy)
-}
-
-/// The same interface again.
-fn copy_interface(alloc: Global, interface: &Interface) -> Result<Interface, AllocError> {
-    Ok(Interface {
-        id: copy_text(&interface.id)?,
-        uses: copy_uses(alloc, &interface.uses)?,
-        exports: copy_items(alloc, &interface.exports)?,
-    })
 }
 
 /// The same world again.
@@ -62,30 +59,17 @@ fn copy_world(alloc: Global, world: &World) -> Result<World, AllocError> {
     })
 }
 
-/// The interface of an id again, if it stands.
-pub(crate) fn interface_at(
-    alloc: Global,
-    types: &Types,
-    id: InterfaceId,
-) -> Result<Option<Interface>, AllocError> {
-    if types.has(ItemKind::Instance(id)) {
-        Ok(Some(copy_interface(alloc, types.interface(id))?))
-    } else {
-        Ok(None)
-    }
-}
-
 /// The world of an id again, if it stands.
 pub(crate) fn world_at(
     alloc: Global,
     types: &Types,
     id: WorldId,
 ) -> Result<Option<World>, AllocError> {
-    if types.has(ItemKind::Component(id)) {
-        Ok(Some(copy_world(alloc, types.world(id))?))
-    } else {
-        Ok(None)
+    if !types.has(ItemKind::Component(id)) {
+        return Ok(None);
     }
+    let copy = copy_world(alloc, types.world(id))?;
+    Ok(Some(copy))
 }
 
 /// Adds an interface, if all that it names stands.
@@ -93,18 +77,18 @@ pub(crate) fn add_interface(
     types: &mut Types,
     interface: Interface,
 ) -> Result<Option<InterfaceId>, AllocError> {
-    if types.has_ids_of(&interface) {
-        Ok(Some(types.add_interface(interface)?))
-    } else {
-        Ok(None)
+    if !types.has_ids_of(&interface) {
+        return Ok(None);
     }
+    let id = types.add_interface(interface)?;
+    Ok(Some(id))
 }
 
 /// Adds a world, if all that it names stands.
 pub(crate) fn add_world(types: &mut Types, world: World) -> Result<Option<WorldId>, AllocError> {
-    if types.has_ids_of(&world) {
-        Ok(Some(types.add_world(world)?))
-    } else {
-        Ok(None)
+    if !types.has_ids_of(&world) {
+        return Ok(None);
     }
+    let id = types.add_world(world)?;
+    Ok(Some(id))
 }

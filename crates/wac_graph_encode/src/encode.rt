@@ -11,31 +11,68 @@ use crate::errors::{EncodeError, Refusal, error_of};
 use crate::instances::Wired;
 use crate::options::{EncodeOptions, Encoded};
 use crate::outers::{Outers, outers_of};
-use crate::root::write_root;
+use crate::root::{Root, write_root};
 use crate::world::composed_world;
 use crate::written::written_definition;
 use std::alloc::{AllocError, Global};
-use wac_graph_bytes::push_component;
+use wac_graph_bytes::{Entry, SortNames, push_component};
 use wac_graph_core::CompositionGraph;
-use wac_graph_scopes::imports::Importing;
+use wac_graph_scopes::imports::{Called, Importing};
 use wac_types_base::{Types, WorldId};
+
+/// A definition in the form in which it is written.
+fn written_again(
+    alloc: Global,
+    types: &mut Types,
+    definition: &Definition,
+) -> Result<Definition, AllocError> {
+    let copy = match definition.copy {
+        Some(kind) => Some(written_definition(alloc, types, kind)?),
+        None => None,
+    };
+    let name = definition.name.copy()?;
+    Ok(Definition {
+        node: definition.node,
+        name,
+        ty: definition.ty,
+        copy,
+    })
+}
 
 /// The definitions in the form in which they are written.
 fn written_definitions(alloc: Global, asked: &mut Asked) -> Result<Vec<Definition>, AllocError> {
     let mut written = Vec::new(alloc);
     for definition in &asked.definitions {
-        let copy = match definition.copy {
-            Some(kind) => Some(written_definition(alloc, &mut asked.types, kind)?),
-            None => None,
-        };
-        written.push(Definition {
-            node: definition.node,
-            name: definition.name.copy()?,
-            ty: definition.ty,
-            copy,
-        })?;
+        let again = written_again(alloc, &mut asked.types, definition)?;
+        written.push(again)?;
     }
     Ok(written)
+}
+
+/// The bytes of a component of these entries.
+fn bytes_of_entries(
+    alloc: Global,
+    entries: &[Entry],
+    names: &[SortNames],
+    options: &EncodeOptions,
+) -> Result<Vec<u8>, Refusal> {
+    let mut bytes = Vec::new(alloc);
+    let processor = options.processor.as_ref();
+    push_component(alloc, &mut bytes, entries, processor, names)?;
+    Ok(bytes)
+}
+
+/// The bytes of a composition whose types and imports are written.
+fn bytes_of_root(
+    alloc: Global,
+    graph: &CompositionGraph,
+    called: &[Called],
+    root: Root,
+    options: &EncodeOptions,
+) -> Result<Vec<u8>, Refusal> {
+    let wired = Wired::new(alloc, graph, called, root)?;
+    let (entries, names) = wired.finish()?;
+    bytes_of_entries(alloc, &entries, &names, options)
 }
 
 /// The bytes of a composition.
@@ -47,23 +84,14 @@ fn bytes_of(
     definitions: &[Definition],
     options: &EncodeOptions,
 ) -> Result<Vec<u8>, Refusal> {
+    let called = outers.called.as_slice();
     let all = Importing {
         types: &asked.types,
         world: outers.world,
-        called: outers.called.as_slice(),
+        called,
     };
     let root = write_root(alloc, graph, asked, all, definitions, options)?;
-    let wired = Wired::new(alloc, graph, outers.called.as_slice(), root)?;
-    let (entries, names) = wired.finish()?;
-    let mut bytes = Vec::new(alloc);
-    push_component(
-        alloc,
-        &mut bytes,
-        &entries,
-        options.processor.as_ref(),
-        &names,
-    )?;
-    Ok(bytes)
+    bytes_of_root(alloc, graph, called, root, options)
 }
 
 /// The world of a composition, in a collection of this number.
@@ -86,6 +114,54 @@ fn world_of(
     }
 }
 
+/// The bytes of what is asked, and the definitions as they are written.
+fn bytes_asked(
+    graph: &CompositionGraph,
+    options: &EncodeOptions,
+    asked: &mut Asked,
+    outers: &Outers,
+) -> Result<(Vec<u8>, Vec<Definition>), Refusal> {
+    let alloc = graph.alloc();
+    let definitions = written_definitions(alloc, asked)?;
+    let bytes = bytes_of(alloc, graph, asked, outers, &definitions, options)?;
+    check_names(alloc, graph, asked, outers, options)?;
+    Ok((bytes, definitions))
+}
+
+/// The bytes and the world of what is asked and can be written.
+fn encoded_asked(
+    graph: &CompositionGraph,
+    options: &EncodeOptions,
+    asked: &mut Asked,
+    outers: &Outers,
+    number: u64,
+) -> Result<Encoded, Refusal>
+    ensures number { IfOk result (λ e. e.types.number ≡ number) }
+    ensures stands { IfOk result (λ e. Stands e.types (ItemKind.Component e.world)) }
+{
+    let (bytes, definitions) = bytes_asked(graph, options, asked, outers)?;
+    let alloc = graph.alloc();
+    let (types, world) = world_of(alloc, graph, asked, outers, &definitions, number)?;
+    Ok(Encoded {
+        bytes,
+        types,
+        world,
+    })
+}
+
+/// The outer imports of what is asked, if all of it can be written.
+fn outers_checked(
+    graph: &CompositionGraph,
+    options: &EncodeOptions,
+    asked: &mut Asked,
+) -> Result<Outers, Refusal> {
+    let alloc = graph.alloc();
+    check_implicit(alloc, graph, &asked.asks)?;
+    let outers = outers_of(alloc, asked)?;
+    check_writable(alloc, graph, asked, &outers, options)?;
+    Ok(outers)
+}
+
 /// The bytes and the world of a graph.
 fn encoded(
     graph: &CompositionGraph,
@@ -95,20 +171,9 @@ fn encoded(
     ensures number { IfOk result (λ e. e.types.number ≡ numbers.1) }
     ensures stands { IfOk result (λ e. Stands e.types (ItemKind.Component e.world)) }
 {
-    let alloc = graph.alloc();
-    let mut asked = asked_by(alloc, graph, numbers.0)?;
-    check_implicit(alloc, graph, &asked.asks)?;
-    let outers = outers_of(alloc, &mut asked)?;
-    check_writable(alloc, graph, &asked, &outers, options)?;
-    let definitions = written_definitions(alloc, &mut asked)?;
-    let bytes = bytes_of(alloc, graph, &asked, &outers, &definitions, options)?;
-    check_names(alloc, graph, &asked, &outers, options)?;
-    let (types, world) = world_of(alloc, graph, &mut asked, &outers, &definitions, numbers.1)?;
-    Ok(Encoded {
-        bytes,
-        types,
-        world,
-    })
+    let mut asked = asked_by(graph.alloc(), graph, numbers.0)?;
+    let outers = outers_checked(graph, options, &mut asked)?;
+    encoded_asked(graph, options, &mut asked, &outers, numbers.1)
 }
 
 /// Two numbers that are not this one.

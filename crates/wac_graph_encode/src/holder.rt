@@ -58,7 +58,7 @@ fn is_value_type(kind: ItemKind) -> bool {
 
 impl Holder {
     /// Nothing stands there.
-    pub(crate) fn new(alloc: Global) -> Self {
+    fn new(alloc: Global) -> Self {
         Holder {
             alloc,
             used: NamedMap::new(alloc),
@@ -93,11 +93,7 @@ impl Holder {
     }
 
     /// Adds what stands in an interface.
-    pub(crate) fn add_interface(
-        &mut self,
-        types: &Types,
-        id: InterfaceId,
-    ) -> Result<(), AllocError> {
+    fn add_interface(&mut self, types: &Types, id: InterfaceId) -> Result<(), AllocError> {
         for at in 0..use_count(types, id) {
             if let Some(used) = use_at(types, id, at) {
                 self.add_use(types, used)?;
@@ -112,7 +108,7 @@ impl Holder {
     }
 
     /// Adds what stands in a component type.
-    pub(crate) fn add_world(&mut self, types: &Types, id: WorldId) -> Result<(), AllocError> {
+    fn add_world(&mut self, types: &Types, id: WorldId) -> Result<(), AllocError> {
         for at in 0..world_use_count(types, id) {
             if let Some(used) = world_use_at(types, id, at) {
                 self.add_use(types, used)?;
@@ -129,6 +125,24 @@ impl Holder {
             }
         }
         Ok(())
+    }
+
+    /// What stands in an interface.
+    pub(crate) fn of_interface(
+        alloc: Global,
+        types: &Types,
+        id: InterfaceId,
+    ) -> Result<Self, AllocError> {
+        let mut holder = Holder::new(alloc);
+        holder.add_interface(types, id)?;
+        Ok(holder)
+    }
+
+    /// What stands in a component type.
+    pub(crate) fn of_world(alloc: Global, types: &Types, id: WorldId) -> Result<Self, AllocError> {
+        let mut holder = Holder::new(alloc);
+        holder.add_world(types, id)?;
+        Ok(holder)
     }
 
     /// Whether a use gives the item: under its name, with its tree.

@@ -99,9 +99,9 @@ impl<'a> Wired<'a> {
 
     /// Adds an entry that adds one thing of a sort.
     fn add(&mut self, entry: Entry, sort: Sort) -> Result<SortIndex, Refusal> {
+        self.root.entries.push(entry)?;
         let index = count_of(&self.root.counts, sort);
         let next = next_index(index)?;
-        self.root.entries.push(entry)?;
         set_count(&mut self.root.counts, sort, next);
         Ok(SortIndex { sort, index })
     }
@@ -207,16 +207,38 @@ impl<'a> Wired<'a> {
 
     /// Writes a node behind those that it needs, unless it stands. No path of nodes is longer than there are nodes,
     /// since none needs itself, so the depth that is left lasts.
+    #[cycle(nodes)]
     fn write_node(&mut self, node: NodeId, depth: usize) -> Result<(), Refusal> {
         if depth == 0 || self.node(node).is_some() {
             return Ok(());
         }
         let bound = arguments_of(self.alloc, self.graph, node)?;
-        let sources = self.sources_of(node, &bound)?;
+        self.write_sources(node, &bound, depth - 1)?;
+        self.write_itself(node, &bound)
+    }
+
+    /// Writes the nodes that one needs.
+    #[cycle(nodes)]
+    fn write_sources(
+        &mut self,
+        node: NodeId,
+        bound: &IndexMap<String, NodeId>,
+        depth: usize,
+    ) -> Result<(), Refusal> {
+        let sources = self.sources_of(node, bound)?;
         for source in &sources {
-            self.write_node(*source, depth - 1)?;
+            self.write_node(*source, depth)?;
         }
-        match self.written(node, &bound)? {
+        Ok(())
+    }
+
+    /// Writes a node where those that it needs stand.
+    fn write_itself(
+        &mut self,
+        node: NodeId,
+        bound: &IndexMap<String, NodeId>,
+    ) -> Result<(), Refusal> {
+        match self.written(node, bound)? {
             Some(place) => {
                 let _ = self.root.nodes.insert(node, place)?;
                 Ok(())
@@ -251,19 +273,29 @@ impl<'a> Wired<'a> {
         Ok(())
     }
 
+    /// Adds the name of a node that has an index.
+    fn push_name(
+        &self,
+        names: &mut Vec<IndexName>,
+        named: &mut IndexSet<u32>,
+        node: NodeId,
+        index: u32,
+    ) -> Result<(), AllocError> {
+        if let Some(name) = name_of(self.graph, node) {
+            let _ = named.insert(index)?;
+            let name = String::from_str(self.alloc, name)?;
+            names.push(IndexName { index, name })?;
+        }
+        Ok(())
+    }
+
     /// The names of the nodes of a sort, one for each index.
     fn names_of(&self, sort: Sort) -> Result<Vec<IndexName>, AllocError> {
         let mut names = Vec::new(self.alloc);
         let mut named = IndexSet::new(self.alloc);
         for (node, place) in self.root.nodes.iter() {
             if place.sort == sort && !named.contains(&place.index) {
-                if let Some(name) = name_of(self.graph, *node) {
-                    let _ = named.insert(place.index)?;
-                    names.push(IndexName {
-                        index: place.index,
-                        name: String::from_str(self.alloc, name)?,
-                    })?;
-                }
+                self.push_name(&mut names, &mut named, *node, place.index)?;
             }
         }
         Ok(names)
@@ -287,13 +319,23 @@ impl<'a> Wired<'a> {
         Ok(all)
     }
 
-    /// All entries of the component, and the names of nodes.
-    pub(crate) fn finish(mut self) -> Result<(Vec<Entry>, Vec<SortNames>), Refusal> {
+    /// Writes all that stands behind the root's types and imports; the names of nodes.
+    fn write_all(&mut self) -> Result<Vec<SortNames>, Refusal> {
         self.write_nodes()?;
         self.write_exports()?;
         let names = self.debug_names()?;
+        Ok(names)
+    }
+
+    fn into_entries(self) -> Vec<Entry> {
         let root = self.root;
-        Ok((root.entries, names))
+        root.entries
+    }
+
+    /// All entries of the component, and the names of nodes.
+    pub(crate) fn finish(mut self) -> Result<(Vec<Entry>, Vec<SortNames>), Refusal> {
+        let names = self.write_all()?;
+        Ok((self.into_entries(), names))
     }
 }
 

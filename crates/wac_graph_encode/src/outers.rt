@@ -166,6 +166,18 @@ impl<'a> Merging<'a> {
         let _ = self.kept.insert(class, after)?;
         Ok(())
     }
+
+    /// Takes all asks.
+    fn take_all(&mut self, types: &mut Types, classes: &Classes) -> Result<(), Refusal> {
+        for (ask, class) in self.asks.iter().zip(&classes.labels) {
+            self.take(types, ask, *class)?;
+        }
+        Ok(())
+    }
+
+    fn into_kept(self) -> IndexMap<usize, Kept> {
+        self.kept
+    }
 }
 
 /// What is kept of each class, in asking order.
@@ -181,10 +193,8 @@ fn kept_of_all(
         kept: IndexMap::new(alloc),
         unnamed: Unnamed::new(alloc),
     };
-    for (ask, class) in asks.iter().zip(&classes.labels) {
-        merging.take(types, ask, *class)?;
-    }
-    Ok(merging.kept)
+    merging.take_all(types, classes)?;
+    Ok(merging.into_kept())
 }
 
 /// The item under the spelling: an instance that several ask for on a track is identified by it.
@@ -233,6 +243,20 @@ fn names_called(
     Ok(called)
 }
 
+/// Adds the outer import under a spelling.
+fn add_import(
+    alloc: Global,
+    types: &mut Types,
+    kept: Kept,
+    spelling: &str,
+    imports: &mut NamedMap<ItemKind>,
+) -> Result<(), AllocError> {
+    let item = identified(alloc, types, kept, spelling)?;
+    let name = String::from_str(alloc, spelling)?;
+    let _ = imports.insert(name, item)?;
+    Ok(())
+}
+
 /// The outer imports, as the imports of a world.
 fn imports_kept(
     alloc: Global,
@@ -243,27 +267,45 @@ fn imports_kept(
     let mut imports = NamedMap::new(alloc);
     for (class, one) in kept.iter() {
         let spelling = spelling_of(&asked.asks, classes, *class);
-        let item = identified(alloc, &mut asked.types, *one, spelling)?;
-        let name = String::from_str(alloc, spelling)?;
-        let _ = imports.insert(name, item)?;
+        add_import(alloc, &mut asked.types, *one, spelling, &mut imports)?;
     }
     Ok(imports)
 }
 
-/// The outer imports of what is asked.
-pub(crate) fn outers_of(alloc: Global, asked: &mut Asked) -> Result<Outers, Refusal> {
-    let classes = classes_of(alloc, &asked.types, &asked.asks)?;
-    let kept = kept_of_all(alloc, &mut asked.types, &asked.asks, &classes)?;
-    let imports = imports_kept(alloc, asked, &classes, &kept)?;
+/// A world with the outer imports.
+fn add_outer_world(
+    alloc: Global,
+    asked: &mut Asked,
+    imports: NamedMap<ItemKind>,
+) -> Result<WorldId, Refusal> {
     let world = World {
         id: None,
         uses: NamedMap::new(alloc),
         imports,
         exports: NamedMap::new(alloc),
     };
-    let Some(world) = add_world(&mut asked.types, world)? else {
-        return Err(Refusal::TooLarge);
-    };
-    let called = names_called(alloc, &asked.asks, &classes, &kept)?;
+    match add_world(&mut asked.types, world)? {
+        Some(world) => Ok(world),
+        None => Err(Refusal::TooLarge),
+    }
+}
+
+/// The outer imports of what is kept of the classes.
+fn outers_kept(
+    alloc: Global,
+    asked: &mut Asked,
+    classes: &Classes,
+    kept: &IndexMap<usize, Kept>,
+) -> Result<Outers, Refusal> {
+    let imports = imports_kept(alloc, asked, classes, kept)?;
+    let world = add_outer_world(alloc, asked, imports)?;
+    let called = names_called(alloc, &asked.asks, classes, kept)?;
     Ok(Outers { world, called })
+}
+
+/// The outer imports of what is asked.
+pub(crate) fn outers_of(alloc: Global, asked: &mut Asked) -> Result<Outers, Refusal> {
+    let classes = classes_of(alloc, &asked.types, &asked.asks)?;
+    let kept = kept_of_all(alloc, &mut asked.types, &asked.asks, &classes)?;
+    outers_kept(alloc, asked, &classes, &kept)
 }

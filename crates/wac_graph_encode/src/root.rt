@@ -12,7 +12,7 @@ use wac_graph_core::{CompositionGraph, NodeId, PackageId};
 use wac_graph_scopes::imports::{ImportScope, Importing, SortIndex};
 use wac_graph_scopes::items::ItemScope;
 use wac_graph_scopes::parts::{Item, import_at};
-use wac_types_base::{ItemKind, Types};
+use wac_types_base::{ItemKind, Types, WorldId};
 
 /// How many things of each sort stand there.
 #[derive(Clone, Copy)]
@@ -53,15 +53,47 @@ fn name_at<'a>(all: Importing<'a>, at: usize) -> &'a str {
     }
 }
 
+/// Writes the outer import at a place.
+fn write_outer(
+    alloc: Global,
+    all: Importing<'_>,
+    scope: &mut ImportScope,
+    at: usize,
+) -> Result<(), Refusal> {
+    match scope.write_import(alloc, all, at) {
+        Ok(()) => Ok(()),
+        Err(fault) => Err(not_written(alloc, name_at(all, at), fault)),
+    }
+}
+
+/// Writes the outer imports at places.
+fn write_in_order(
+    alloc: Global,
+    all: Importing<'_>,
+    scope: &mut ImportScope,
+    order: &[usize],
+) -> Result<(), Refusal> {
+    for at in order {
+        write_outer(alloc, all, scope, *at)?;
+    }
+    Ok(())
+}
+
+/// Writes the outer imports in a scope.
+fn write_all_outers(
+    alloc: Global,
+    all: Importing<'_>,
+    scope: &mut ImportScope,
+) -> Result<(), Refusal> {
+    let order = scope.order(alloc, all)?;
+    write_in_order(alloc, all, scope, &order.sources)?;
+    write_in_order(alloc, all, scope, &order.others)
+}
+
 /// Writes the outer imports.
 fn write_outers(alloc: Global, all: Importing<'_>) -> Result<ImportScope, Refusal> {
     let mut scope = ImportScope::new(alloc, all)?;
-    let order = scope.order(alloc, all)?;
-    for at in order.sources.iter().chain(order.others.iter()) {
-        if let Err(fault) = scope.write_import(alloc, all, *at) {
-            return Err(not_written(alloc, name_at(all, *at), fault));
-        }
-    }
+    write_all_outers(alloc, all, &mut scope)?;
     Ok(scope)
 }
 
@@ -120,8 +152,8 @@ fn write_definitions(
     Ok(written)
 }
 
-/// Imports a package.
-fn import_package(
+/// Imports an item.
+fn import_item(
     alloc: Global,
     scope: &mut ImportScope,
     all: Importing<'_>,
@@ -134,6 +166,23 @@ fn import_package(
     }
 }
 
+/// Imports a package of that world.
+fn import_package(
+    alloc: Global,
+    graph: &CompositionGraph,
+    scope: &mut ImportScope,
+    all: Importing<'_>,
+    id: PackageId,
+    world: WorldId,
+) -> Result<u32, Refusal> {
+    let name = dependency_name(alloc, graph, id)?;
+    let item = Item {
+        name: name.as_str(),
+        kind: ItemKind::Component(world),
+    };
+    import_item(alloc, scope, all, item)
+}
+
 /// Imports the packages.
 fn import_packages(
     alloc: Global,
@@ -144,12 +193,7 @@ fn import_packages(
 ) -> Result<IndexMap<PackageId, u32>, Refusal> {
     let mut imported = IndexMap::new(alloc);
     for (id, world) in asked.packages.iter() {
-        let name = dependency_name(alloc, graph, *id)?;
-        let item = Item {
-            name: name.as_str(),
-            kind: ItemKind::Component(*world),
-        };
-        let index = import_package(alloc, scope, all, item)?;
+        let index = import_package(alloc, graph, scope, all, *id, *world)?;
         let _ = imported.insert(*id, index)?;
     }
     Ok(imported)
@@ -187,6 +231,21 @@ fn bytes_of(alloc: Global, graph: &CompositionGraph, id: PackageId) -> Result<Ve
     Ok(bytes)
 }
 
+/// Nests a package behind what is written.
+fn nest_package(
+    alloc: Global,
+    graph: &CompositionGraph,
+    root: &mut Root,
+    id: PackageId,
+) -> Result<(), Refusal> {
+    let index = root.counts.components;
+    root.counts.components = next_index(index)?;
+    let bytes = bytes_of(alloc, graph, id)?;
+    root.entries.push(Entry::Nested(bytes))?;
+    let _ = root.packages.insert(id, index)?;
+    Ok(())
+}
+
 /// Nests the packages behind what is written.
 fn nest_packages(
     alloc: Global,
@@ -195,12 +254,7 @@ fn nest_packages(
     root: &mut Root,
 ) -> Result<(), Refusal> {
     for id in asked.packages.keys() {
-        let bytes = bytes_of(alloc, graph, *id)?;
-        let index = root.counts.components;
-        let next = next_index(index)?;
-        root.entries.push(Entry::Nested(bytes))?;
-        root.counts.components = next;
-        let _ = root.packages.insert(*id, index)?;
+        nest_package(alloc, graph, root, *id)?;
     }
     Ok(())
 }
@@ -238,6 +292,32 @@ fn root_of(
     })
 }
 
+/// The root where packages are nested.
+fn nested_root(
+    alloc: Global,
+    graph: &CompositionGraph,
+    asked: &Asked,
+    scope: ImportScope,
+    written: IndexMap<NodeId, SortIndex>,
+) -> Result<Root, Refusal> {
+    let mut root = root_of(alloc, scope, written, IndexMap::new(alloc))?;
+    nest_packages(alloc, graph, asked, &mut root)?;
+    Ok(root)
+}
+
+/// The root where packages are imported.
+fn imported_root(
+    alloc: Global,
+    graph: &CompositionGraph,
+    asked: &Asked,
+    all: Importing<'_>,
+    mut scope: ImportScope,
+    written: IndexMap<NodeId, SortIndex>,
+) -> Result<Root, Refusal> {
+    let packages = import_packages(alloc, graph, &mut scope, all, asked)?;
+    root_of(alloc, scope, written, packages)
+}
+
 /// The types, the imports and the packages of a composition.
 pub(crate) fn write_root(
     alloc: Global,
@@ -250,11 +330,8 @@ pub(crate) fn write_root(
     let mut scope = write_outers(alloc, all)?;
     let written = write_definitions(alloc, graph, &mut scope, all, definitions)?;
     if options.define_components {
-        let mut root = root_of(alloc, scope, written, IndexMap::new(alloc))?;
-        nest_packages(alloc, graph, asked, &mut root)?;
-        Ok(root)
+        nested_root(alloc, graph, asked, scope, written)
     } else {
-        let packages = import_packages(alloc, graph, &mut scope, all, asked)?;
-        root_of(alloc, scope, written, packages)
+        imported_root(alloc, graph, asked, all, scope, written)
     }
 }

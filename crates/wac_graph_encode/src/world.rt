@@ -23,28 +23,48 @@ struct Typed {
     definitions: IndexMap<NodeId, ItemKind>,
 }
 
+/// The types of outer imports, by the names under which they are asked for.
+fn outers_told(
+    alloc: Global,
+    types: &Types,
+    outers: &Outers,
+) -> Result<NamedMap<ItemKind>, AllocError> {
+    let mut told = NamedMap::new(alloc);
+    for called in &outers.called {
+        if let Some(import) = import_at(types, outers.world, called.at) {
+            let name = String::from_str(alloc, called.name.as_str())?;
+            let _ = told.insert(name, import.kind)?;
+        }
+    }
+    Ok(told)
+}
+
+/// The written types of definitions.
+fn definitions_told(
+    alloc: Global,
+    definitions: &[Definition],
+) -> Result<IndexMap<NodeId, ItemKind>, AllocError> {
+    let mut told = IndexMap::new(alloc);
+    for definition in definitions {
+        if let Some(copy) = definition.copy {
+            let _ = told.insert(definition.node, copy)?;
+        }
+    }
+    Ok(told)
+}
+
 fn types_told(
     alloc: Global,
     types: &Types,
     outers: &Outers,
     definitions: &[Definition],
 ) -> Result<Typed, AllocError> {
-    let mut typed = Typed {
-        outers: NamedMap::new(alloc),
-        definitions: IndexMap::new(alloc),
-    };
-    for called in &outers.called {
-        if let Some(import) = import_at(types, outers.world, called.at) {
-            let name = String::from_str(alloc, called.name.as_str())?;
-            let _ = typed.outers.insert(name, import.kind)?;
-        }
-    }
-    for definition in definitions {
-        if let Some(copy) = definition.copy {
-            let _ = typed.definitions.insert(definition.node, copy)?;
-        }
-    }
-    Ok(typed)
+    let outers = outers_told(alloc, types, outers)?;
+    let definitions = definitions_told(alloc, definitions)?;
+    Ok(Typed {
+        outers,
+        definitions,
+    })
 }
 
 /// An export of an instance.
@@ -126,6 +146,22 @@ fn exported_type(
     }
 }
 
+/// The types under the exports, by the types that are told.
+fn exports_typed(
+    alloc: Global,
+    graph: &CompositionGraph,
+    types: &mut Types,
+    typed: &Typed,
+) -> Result<NamedMap<ItemKind>, AllocError> {
+    let mut exports = NamedMap::new(alloc);
+    for (name, node) in graph.exports() {
+        if let Some(item) = exported_type(alloc, graph, types, typed, *node)? {
+            let _ = exports.insert(String::from_str(alloc, name.as_str())?, item)?;
+        }
+    }
+    Ok(exports)
+}
+
 /// The types under the exports.
 fn exports_of(
     alloc: Global,
@@ -135,13 +171,7 @@ fn exports_of(
     definitions: &[Definition],
 ) -> Result<NamedMap<ItemKind>, AllocError> {
     let typed = types_told(alloc, types, outers, definitions)?;
-    let mut exports = NamedMap::new(alloc);
-    for (name, node) in graph.exports() {
-        if let Some(item) = exported_type(alloc, graph, types, &typed, *node)? {
-            let _ = exports.insert(String::from_str(alloc, name.as_str())?, item)?;
-        }
-    }
-    Ok(exports)
+    exports_typed(alloc, graph, types, &typed)
 }
 
 /// The outer imports again.

@@ -198,8 +198,7 @@ fn interface_fails(test: Test<'_>, id: InterfaceId, which: Which) -> Result<bool
     if test.unnamed.is_found(id) {
         return Ok(true);
     }
-    let mut holder = Holder::new(test.alloc);
-    holder.add_interface(test.types, id)?;
+    let mut holder = Holder::of_interface(test.alloc, test.types, id)?;
     exports_fail(test, &mut holder, id, which)
 }
 
@@ -396,35 +395,63 @@ fn world_exports_fail(
     Ok(false)
 }
 
+/// Whether a use of a world or of its items fails, among those that its imports do not give.
+#[cycle(items)]
+fn all_uses_fail(test: Test<'_>, giver: &mut Giver, id: WorldId) -> Result<bool, AllocError> {
+    if world_uses_fail(test, giver, id)? {
+        return Ok(true);
+    }
+    if uses_of_imports_fail(test, giver, id)? {
+        return Ok(true);
+    }
+    uses_of_exports_fail(test, giver, id)
+}
+
+/// The same of a world whose uses are looked at afresh.
+#[cycle(items)]
+fn uses_of_world_fail(test: Test<'_>, id: WorldId) -> Result<bool, AllocError> {
+    let mut giver = Giver::new(test.alloc, Some(id));
+    all_uses_fail(test, &mut giver, id)
+}
+
+/// Whether an item of a world fails in what holds it.
+#[cycle(items)]
+fn all_items_fail(test: Test<'_>, holder: &mut Holder, id: WorldId) -> Result<bool, AllocError> {
+    if imports_fail(test, holder, id)? {
+        return Ok(true);
+    }
+    world_exports_fail(test, holder, id)
+}
+
+/// Whether an item of a world fails.
+#[cycle(items)]
+fn items_of_world_fail(test: Test<'_>, id: WorldId) -> Result<bool, AllocError> {
+    let mut holder = Holder::of_world(test.alloc, test.types, id)?;
+    all_items_fail(test, &mut holder, id)
+}
+
 #[cycle(items)]
 fn world_fails(test: Test<'_>, id: WorldId) -> Result<bool, AllocError> {
     if test.unnamed.is_found_of_world(test.types, id) {
         return Ok(true);
     }
-    let mut giver = Giver::new(test.alloc, Some(id));
-    if world_uses_fail(test, &mut giver, id)?
-        || uses_of_imports_fail(test, &mut giver, id)?
-        || uses_of_exports_fail(test, &mut giver, id)?
-    {
+    if uses_of_world_fail(test, id)? {
         return Ok(true);
     }
-    let mut holder = Holder::new(test.alloc);
-    holder.add_world(test.types, id)?;
-    Ok(imports_fail(test, &mut holder, id)? || world_exports_fail(test, &mut holder, id)?)
+    items_of_world_fail(test, id)
 }
 
 // ---- at the root
 
-/// The first outer import whose type cannot be written: its place.
-pub(crate) fn unwritable_outer(
+/// The first import of a world that fails in what holds it: its place.
+fn first_that_fails(
     test: Test<'_>,
+    holder: &mut Holder,
     world: WorldId,
 ) -> Result<Option<usize>, AllocError> {
-    let mut holder = Holder::new(test.alloc);
-    holder.add_world(test.types, world)?;
     for at in 0..import_count(test.types, world) {
         if let Some(item) = import_at(test.types, world, at) {
-            if item_fails(test, &mut holder, item)? {
+            if item_fails(test, holder, item)? {
                 return Ok(Some(at));
             }
         }
@@ -432,13 +459,27 @@ pub(crate) fn unwritable_outer(
     Ok(None)
 }
 
+/// The first outer import whose type cannot be written: its place.
+pub(crate) fn unwritable_outer(
+    test: Test<'_>,
+    world: WorldId,
+) -> Result<Option<usize>, AllocError> {
+    let mut holder = Holder::of_world(test.alloc, test.types, world)?;
+    first_that_fails(test, &mut holder, world)
+}
+
+/// Whether a use of an interface inside a component type of its own fails.
+fn wrapped_uses_fail(test: Test<'_>, id: InterfaceId) -> Result<bool, AllocError> {
+    let mut giver = Giver::new(test.alloc, None);
+    uses_fail(test, &mut giver, ItemKind::Instance(id))
+}
+
 /// Whether an interface cannot be written inside a component type of its own.
 fn wrapped_fails(test: Test<'_>, id: InterfaceId) -> Result<bool, AllocError> {
-    let mut giver = Giver::new(test.alloc, None);
-    Ok(
-        uses_fail(test, &mut giver, ItemKind::Instance(id))?
-            || interface_fails(test, id, Which::All)?,
-    )
+    if wrapped_uses_fail(test, id)? {
+        return Ok(true);
+    }
+    interface_fails(test, id, Which::All)
 }
 
 /// The interface with identifier that a definition is.

@@ -1,6 +1,6 @@
 //! The forms in which worlds are written, and in which they are handed out.
 
-use crate::copies::{add_interface, add_world, interface_at, world_at};
+use crate::copies::{add_interface, add_world, copy_text, copy_uses, world_at};
 use indexmap::{IndexMap, IndexSet};
 use std::alloc::{AllocError, Global};
 use wac_graph_scopes::parts::{
@@ -71,6 +71,48 @@ fn add_below(
     Ok(())
 }
 
+/// Adds the interfaces that a world uses itself.
+fn add_world_uses(
+    types: &Types,
+    id: WorldId,
+    found: &mut IndexSet<InterfaceId>,
+) -> Result<(), AllocError> {
+    for at in 0..world_use_count(types, id) {
+        if let Some(used) = world_use_at(types, id, at) {
+            add_used(types, used.interface, found)?;
+        }
+    }
+    Ok(())
+}
+
+/// Adds the interfaces that a world's imports use.
+fn add_imports_below(
+    types: &Types,
+    id: WorldId,
+    found: &mut IndexSet<InterfaceId>,
+) -> Result<(), AllocError> {
+    for at in 0..import_count(types, id) {
+        if let Some(item) = import_at(types, id, at) {
+            add_below(types, item.kind, found)?;
+        }
+    }
+    Ok(())
+}
+
+/// Adds the interfaces that a world's exports use.
+fn add_exports_below(
+    types: &Types,
+    id: WorldId,
+    found: &mut IndexSet<InterfaceId>,
+) -> Result<(), AllocError> {
+    for at in 0..world_export_count(types, id) {
+        if let Some(item) = world_export_at(types, id, at) {
+            add_below(types, item.kind, found)?;
+        }
+    }
+    Ok(())
+}
+
 /// The interfaces that a world and its items use, each behind those that it uses itself.
 fn used_by_world(
     alloc: Global,
@@ -78,21 +120,9 @@ fn used_by_world(
     id: WorldId,
 ) -> Result<IndexSet<InterfaceId>, AllocError> {
     let mut found = IndexSet::new(alloc);
-    for at in 0..world_use_count(types, id) {
-        if let Some(used) = world_use_at(types, id, at) {
-            add_used(types, used.interface, &mut found)?;
-        }
-    }
-    for at in 0..import_count(types, id) {
-        if let Some(item) = import_at(types, id, at) {
-            add_below(types, item.kind, &mut found)?;
-        }
-    }
-    for at in 0..world_export_count(types, id) {
-        if let Some(item) = world_export_at(types, id, at) {
-            add_below(types, item.kind, &mut found)?;
-        }
-    }
+    add_world_uses(types, id, &mut found)?;
+    add_imports_below(types, id, &mut found)?;
+    add_exports_below(types, id, &mut found)?;
     Ok(found)
 }
 
@@ -113,23 +143,26 @@ fn type_items(
     Ok(kept)
 }
 
-/// The interface with its type exports only.
+/// An interface with its type exports only.
+fn with_types_only(alloc: Global, interface: &Interface) -> Result<Interface, AllocError> {
+    Ok(Interface {
+        id: copy_text(&interface.id)?,
+        uses: copy_uses(alloc, &interface.uses)?,
+        exports: type_items(alloc, &interface.exports)?,
+    })
+}
+
+/// The interface of an id with its type exports only.
 fn types_only(
     alloc: Global,
     types: &mut Types,
     id: InterfaceId,
 ) -> Result<Option<InterfaceId>, AllocError> {
-    match interface_at(alloc, types, id)? {
-        Some(copy) => {
-            let interface = Interface {
-                id: copy.id,
-                uses: copy.uses,
-                exports: type_items(alloc, &copy.exports)?,
-            };
-            add_interface(types, interface)
-        }
-        None => Ok(None),
+    if !types.has(ItemKind::Instance(id)) {
+        return Ok(None);
     }
+    let interface = with_types_only(alloc, types.interface(id))?;
+    add_interface(types, interface)
 }
 
 /// Adds an import of a used interface, unless its name is there.
@@ -153,6 +186,33 @@ fn add_missing(
     Ok(())
 }
 
+/// Adds imports of used interfaces, unless their names are there.
+fn add_all_missing(
+    alloc: Global,
+    types: &mut Types,
+    used: &IndexSet<InterfaceId>,
+    own: &NamedMap<ItemKind>,
+    imports: &mut NamedMap<ItemKind>,
+) -> Result<(), AllocError> {
+    for interface in used.iter() {
+        add_missing(alloc, types, *interface, own, imports)?;
+    }
+    Ok(())
+}
+
+/// Adds imports behind others.
+fn add_own(
+    alloc: Global,
+    own: &NamedMap<ItemKind>,
+    imports: &mut NamedMap<ItemKind>,
+) -> Result<(), AllocError> {
+    for at in 0..own.len() {
+        let (name, kind) = own.entry(at);
+        let _ = imports.insert(String::from_str(alloc, name)?, *kind)?;
+    }
+    Ok(())
+}
+
 /// The imports of a component type: the interfaces that it uses and does not import, and its own imports.
 fn with_missing(
     alloc: Global,
@@ -162,31 +222,29 @@ fn with_missing(
 ) -> Result<NamedMap<ItemKind>, AllocError> {
     let used = used_by_world(alloc, types, id)?;
     let mut imports = NamedMap::new(alloc);
-    for interface in used.iter() {
-        add_missing(alloc, types, *interface, own, &mut imports)?;
-    }
-    for at in 0..own.len() {
-        let (name, kind) = own.entry(at);
-        let _ = imports.insert(String::from_str(alloc, name)?, *kind)?;
-    }
+    add_all_missing(alloc, types, &used, own, &mut imports)?;
+    add_own(alloc, own, &mut imports)?;
     Ok(imports)
+}
+
+/// A world with those imports in place of its own.
+fn with_imports(world: World, imports: NamedMap<ItemKind>) -> World {
+    World {
+        id: world.id,
+        uses: world.uses,
+        imports,
+        exports: world.exports,
+    }
 }
 
 /// The world as a component type.
 fn importing(alloc: Global, types: &mut Types, id: WorldId) -> Result<WorldId, AllocError> {
-    let Some(copy) = world_at(alloc, types, id)? else {
+    let Some(world) = world_at(alloc, types, id)? else {
         return Ok(id);
     };
-    let world = World {
-        id: copy.id,
-        uses: copy.uses,
-        imports: with_missing(alloc, types, id, &copy.imports)?,
-        exports: copy.exports,
-    };
-    match add_world(types, world)? {
-        Some(new) => Ok(new),
-        None => Ok(id),
-    }
+    let imports = with_missing(alloc, types, id, &world.imports)?;
+    let new = add_world(types, with_imports(world, imports))?;
+    Ok(new.unwrap_or(id))
 }
 
 // ---- worlds inside items
@@ -210,6 +268,37 @@ fn add_parts(
     Ok(())
 }
 
+/// Adds the parts of an interface.
+#[cycle(parts)]
+fn add_items_of_interface(
+    types: &Types,
+    id: InterfaceId,
+    parts: &mut IndexSet<ItemKind>,
+) -> Result<(), AllocError> {
+    for at in 0..export_count(types, id) {
+        if let Some(item) = export_at(types, id, at) {
+            add_parts(types, item.kind, parts)?;
+        }
+    }
+    Ok(())
+}
+
+/// Adds the interfaces that an interface uses.
+#[cycle(parts)]
+fn add_uses_of_interface(
+    types: &Types,
+    id: InterfaceId,
+    parts: &mut IndexSet<ItemKind>,
+) -> Result<(), AllocError> {
+    for at in 0..use_count(types, id) {
+        if let Some(used) = use_at(types, id, at) {
+            add_interface_parts(types, used.interface, parts)?;
+        }
+    }
+    Ok(())
+}
+
+/// Adds an interface behind its parts, unless it is there.
 #[cycle(parts)]
 fn add_interface_parts(
     types: &Types,
@@ -219,20 +308,58 @@ fn add_interface_parts(
     if parts.contains(&ItemKind::Instance(id)) {
         return Ok(());
     }
-    for at in 0..use_count(types, id) {
-        if let Some(used) = use_at(types, id, at) {
-            add_interface_parts(types, used.interface, parts)?;
-        }
-    }
-    for at in 0..export_count(types, id) {
-        if let Some(item) = export_at(types, id, at) {
-            add_parts(types, item.kind, parts)?;
-        }
-    }
+    add_uses_of_interface(types, id, parts)?;
+    add_items_of_interface(types, id, parts)?;
     let _ = parts.insert(ItemKind::Instance(id))?;
     Ok(())
 }
 
+/// Adds the interfaces that a world uses.
+#[cycle(parts)]
+fn add_uses_of_world(
+    types: &Types,
+    id: WorldId,
+    parts: &mut IndexSet<ItemKind>,
+) -> Result<(), AllocError> {
+    for at in 0..world_use_count(types, id) {
+        if let Some(used) = world_use_at(types, id, at) {
+            add_interface_parts(types, used.interface, parts)?;
+        }
+    }
+    Ok(())
+}
+
+/// Adds the parts of a world's imports.
+#[cycle(parts)]
+fn add_imports_of_world(
+    types: &Types,
+    id: WorldId,
+    parts: &mut IndexSet<ItemKind>,
+) -> Result<(), AllocError> {
+    for at in 0..import_count(types, id) {
+        if let Some(item) = import_at(types, id, at) {
+            add_parts(types, item.kind, parts)?;
+        }
+    }
+    Ok(())
+}
+
+/// Adds the parts of a world's exports.
+#[cycle(parts)]
+fn add_exports_of_world(
+    types: &Types,
+    id: WorldId,
+    parts: &mut IndexSet<ItemKind>,
+) -> Result<(), AllocError> {
+    for at in 0..world_export_count(types, id) {
+        if let Some(item) = world_export_at(types, id, at) {
+            add_parts(types, item.kind, parts)?;
+        }
+    }
+    Ok(())
+}
+
+/// Adds a world behind its parts, unless it is there.
 #[cycle(parts)]
 fn add_world_parts(
     types: &Types,
@@ -242,21 +369,9 @@ fn add_world_parts(
     if parts.contains(&ItemKind::Component(id)) {
         return Ok(());
     }
-    for at in 0..world_use_count(types, id) {
-        if let Some(used) = world_use_at(types, id, at) {
-            add_interface_parts(types, used.interface, parts)?;
-        }
-    }
-    for at in 0..import_count(types, id) {
-        if let Some(item) = import_at(types, id, at) {
-            add_parts(types, item.kind, parts)?;
-        }
-    }
-    for at in 0..world_export_count(types, id) {
-        if let Some(item) = world_export_at(types, id, at) {
-            add_parts(types, item.kind, parts)?;
-        }
-    }
+    add_uses_of_world(types, id, parts)?;
+    add_imports_of_world(types, id, parts)?;
+    add_exports_of_world(types, id, parts)?;
     let _ = parts.insert(ItemKind::Component(id))?;
     Ok(())
 }
@@ -310,19 +425,25 @@ fn found_items(
     Ok(all)
 }
 
+/// A use of what became of its interface.
+fn found_use(done: &Changes, used: &UsedType) -> Result<UsedType, AllocError> {
+    let name = copy_text(&used.name)?;
+    Ok(UsedType {
+        interface: found_interface(done, used.interface),
+        name,
+    })
+}
+
 fn found_uses(
     alloc: Global,
     done: &Changes,
-    uses: NamedMap<UsedType>,
+    uses: &NamedMap<UsedType>,
 ) -> Result<NamedMap<UsedType>, AllocError> {
     let mut all = NamedMap::new(alloc);
-    for (name, used) in uses.into_map() {
-        let interface = found_interface(done, used.interface);
-        let used = UsedType {
-            interface,
-            name: used.name,
-        };
-        let _ = all.insert(name, used)?;
+    for at in 0..uses.len() {
+        let (name, used) = uses.entry(at);
+        let name = String::from_str(alloc, name)?;
+        let _ = all.insert(name, found_use(done, used)?)?;
     }
     Ok(all)
 }
@@ -346,28 +467,36 @@ fn uses_kept(done: &Changes, uses: &NamedMap<UsedType>) -> bool {
     true
 }
 
-/// The interface of what its parts became.
+/// An interface of what its parts became.
+fn interface_of_found(
+    alloc: Global,
+    done: &Changes,
+    interface: &Interface,
+) -> Result<Interface, AllocError> {
+    Ok(Interface {
+        id: copy_text(&interface.id)?,
+        exports: found_items(alloc, done, &interface.exports)?,
+        uses: found_uses(alloc, done, &interface.uses)?,
+    })
+}
+
+/// What becomes of an interface.
 fn form_interface(
     alloc: Global,
     types: &mut Types,
     done: &Changes,
     id: InterfaceId,
 ) -> Result<InterfaceId, AllocError> {
-    let Some(copy) = interface_at(alloc, types, id)? else {
-        return Ok(id);
-    };
-    if are_kept(done, &copy.exports) && uses_kept(done, &copy.uses) {
+    if !types.has(ItemKind::Instance(id)) {
         return Ok(id);
     }
-    let interface = Interface {
-        id: copy.id,
-        exports: found_items(alloc, done, &copy.exports)?,
-        uses: found_uses(alloc, done, copy.uses)?,
-    };
-    match add_interface(types, interface)? {
-        Some(new) => Ok(new),
-        None => Ok(id),
+    let interface = types.interface(id);
+    if are_kept(done, &interface.exports) && uses_kept(done, &interface.uses) {
+        return Ok(id);
     }
+    let interface = interface_of_found(alloc, done, interface)?;
+    let new = add_interface(types, interface)?;
+    Ok(new.unwrap_or(id))
 }
 
 /// The uses of a world in a form.
@@ -375,7 +504,7 @@ fn uses_in(
     alloc: Global,
     form: Form,
     done: &Changes,
-    uses: NamedMap<UsedType>,
+    uses: &NamedMap<UsedType>,
 ) -> Result<NamedMap<UsedType>, AllocError> {
     match form {
         Form::Importing => found_uses(alloc, done, uses),
@@ -383,7 +512,22 @@ fn uses_in(
     }
 }
 
-/// The world of what its parts became, in that form.
+/// A world of what its parts became, in that form.
+fn world_of_found(
+    alloc: Global,
+    form: Form,
+    done: &Changes,
+    world: &World,
+) -> Result<World, AllocError> {
+    Ok(World {
+        id: copy_text(&world.id)?,
+        imports: found_items(alloc, done, &world.imports)?,
+        exports: found_items(alloc, done, &world.exports)?,
+        uses: uses_in(alloc, form, done, &world.uses)?,
+    })
+}
+
+/// What becomes of a world in that form.
 fn form_world(
     alloc: Global,
     types: &mut Types,
@@ -391,21 +535,16 @@ fn form_world(
     done: &Changes,
     id: WorldId,
 ) -> Result<WorldId, AllocError> {
-    let Some(copy) = world_at(alloc, types, id)? else {
+    if !types.has(ItemKind::Component(id)) {
         return Ok(id);
-    };
-    let world = World {
-        id: copy.id,
-        imports: found_items(alloc, done, &copy.imports)?,
-        exports: found_items(alloc, done, &copy.exports)?,
-        uses: uses_in(alloc, form, done, copy.uses)?,
-    };
-    let Some(new) = add_world(types, world)? else {
-        return Ok(id);
-    };
-    match form {
-        Form::Importing => importing(alloc, types, new),
-        Form::WithoutUses => Ok(new),
+    }
+    let world = world_of_found(alloc, form, done, types.world(id))?;
+    match add_world(types, world)? {
+        Some(new) => match form {
+            Form::Importing => importing(alloc, types, new),
+            Form::WithoutUses => Ok(new),
+        },
+        None => Ok(id),
     }
 }
 
@@ -430,6 +569,32 @@ fn form_part(
     }
 }
 
+/// The interfaces and worlds that an item is made of, each behind its own parts.
+fn parts_of(
+    alloc: Global,
+    types: &Types,
+    kind: ItemKind,
+) -> Result<IndexSet<ItemKind>, AllocError> {
+    let mut parts = IndexSet::new(alloc);
+    add_parts(types, kind, &mut parts)?;
+    Ok(parts)
+}
+
+/// What became of parts.
+fn form_parts(
+    alloc: Global,
+    types: &mut Types,
+    form: Form,
+    parts: &IndexSet<ItemKind>,
+) -> Result<Changes, AllocError> {
+    let mut done = IndexMap::new(alloc);
+    for part in parts.iter() {
+        let after = form_part(alloc, types, form, &done, *part)?;
+        let _ = done.insert(*part, after)?;
+    }
+    Ok(done)
+}
+
 /// The item, with each world in it in that form.
 pub(crate) fn formed(
     alloc: Global,
@@ -437,13 +602,8 @@ pub(crate) fn formed(
     form: Form,
     kind: ItemKind,
 ) -> Result<ItemKind, AllocError> {
-    let mut parts = IndexSet::new(alloc);
-    add_parts(types, kind, &mut parts)?;
-    let mut done = IndexMap::new(alloc);
-    for part in parts.iter() {
-        let after = form_part(alloc, types, form, &done, *part)?;
-        let _ = done.insert(*part, after)?;
-    }
+    let parts = parts_of(alloc, types, kind)?;
+    let done = form_parts(alloc, types, form, &parts)?;
     Ok(found_item(&done, kind))
 }
 

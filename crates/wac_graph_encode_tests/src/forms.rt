@@ -110,12 +110,7 @@ fn component_that_imports_what_it_uses(rt: HostRuntime) -> Result<(), Fail> {
 
 #[test]
 fn component_that_does_not(rt: HostRuntime) -> Result<(), Fail> {
-    says(
-        &rt,
-        USING,
-        "import k w",
-        "a type of `k` cannot be written",
-    )
+    says(&rt, USING, "import k w", "a type of `k` cannot be written")
 }
 
 /// A world with an identifier is written inside a component type, and imports what it uses.

@@ -70,19 +70,17 @@ impl ItemScope {
 
     /// Adds a declaration of a type.
     fn add_type(&mut self, declaration: Declaration) -> Result<u32, WriteError> {
-        let index = self.types.types;
-        let next = next_of(index)?;
         self.types.declarations.push(declaration)?;
-        self.types.types = next;
+        let index = self.types.types;
+        self.types.types = next_of(index)?;
         Ok(index)
     }
 
     /// Adds a core module type.
     fn add_core(&mut self, declaration: Declaration) -> Result<u32, WriteError> {
-        let index = self.cores;
-        let next = next_of(index)?;
         self.types.declarations.push(declaration)?;
-        self.cores = next;
+        let index = self.cores;
+        self.cores = next_of(index)?;
         Ok(index)
     }
 
@@ -92,9 +90,9 @@ impl ItemScope {
         declaration: Declaration,
         description: Description,
     ) -> Result<u32, WriteError> {
+        self.types.declarations.push(declaration)?;
         let index = self.count_of(description);
         let next = next_of(index)?;
-        self.types.declarations.push(declaration)?;
         self.set_count(description, next);
         Ok(index)
     }

@@ -4,7 +4,7 @@ use Rattle.wac_types_base.specs.Collection.{size_of}
 use Rattle.wac_graph_encode.proofs.writable.+items.Given as goal
 
 abbrev pub decreases-item_fails : goal.decreases-item_fails
-decreases-item_fails l = 16 * size_of l.test.types.now l.item.kind + 8
+decreases-item_fails l = 16 * size_of l.test.types.now l.item.kind + 9
 
 abbrev pub decreases-interface_fails : goal.decreases-interface_fails
 decreases-interface_fails l = 16 * size_of l.test.types.now (ItemKind.Instance l.id) + 7
@@ -13,22 +13,22 @@ abbrev pub decreases-exports_fail : goal.decreases-exports_fail
 decreases-exports_fail l = 16 * size_of l.test.types.now (ItemKind.Instance l.id) + 6
 
 abbrev pub decreases-world_fails : goal.decreases-world_fails
-decreases-world_fails l = 16 * size_of l.test.types.now (ItemKind.Component l.id) + 7
+decreases-world_fails l = 16 * size_of l.test.types.now (ItemKind.Component l.id) + 8
 
 abbrev pub decreases-world_uses_fail : goal.decreases-world_uses_fail
-decreases-world_uses_fail l = 16 * size_of l.test.types.now (ItemKind.Component l.id) + 6
+decreases-world_uses_fail l = 16 * size_of l.test.types.now (ItemKind.Component l.id) + 5
 
 abbrev pub decreases-uses_of_imports_fail : goal.decreases-uses_of_imports_fail
-decreases-uses_of_imports_fail l = 16 * size_of l.test.types.now (ItemKind.Component l.id) + 6
+decreases-uses_of_imports_fail l = 16 * size_of l.test.types.now (ItemKind.Component l.id) + 5
 
 abbrev pub decreases-uses_of_exports_fail : goal.decreases-uses_of_exports_fail
-decreases-uses_of_exports_fail l = 16 * size_of l.test.types.now (ItemKind.Component l.id) + 6
+decreases-uses_of_exports_fail l = 16 * size_of l.test.types.now (ItemKind.Component l.id) + 5
 
 abbrev pub decreases-imports_fail : goal.decreases-imports_fail
-decreases-imports_fail l = 16 * size_of l.test.types.now (ItemKind.Component l.id) + 6
+decreases-imports_fail l = 16 * size_of l.test.types.now (ItemKind.Component l.id) + 5
 
 abbrev pub decreases-world_exports_fail : goal.decreases-world_exports_fail
-decreases-world_exports_fail l = 16 * size_of l.test.types.now (ItemKind.Component l.id) + 6
+decreases-world_exports_fail l = 16 * size_of l.test.types.now (ItemKind.Component l.id) + 5
 
 abbrev pub decreases-use_fails : goal.decreases-use_fails
 decreases-use_fails l = 16 * size_of l.test.types.now (ItemKind.Instance l.used.interface) + 9
@@ -41,3 +41,15 @@ decreases-direct_fails l = 16 * size_of l.test.types.now (ItemKind.Instance l.id
 
 abbrev pub decreases-uses_fail : goal.decreases-uses_fail
 decreases-uses_fail l = 16 * size_of l.test.types.now l.kind + 8
+
+abbrev pub decreases-all_uses_fail : goal.decreases-all_uses_fail
+decreases-all_uses_fail l = 16 * size_of l.test.types.now (ItemKind.Component l.id) + 6
+
+abbrev pub decreases-all_items_fail : goal.decreases-all_items_fail
+decreases-all_items_fail l = 16 * size_of l.test.types.now (ItemKind.Component l.id) + 6
+
+abbrev pub decreases-uses_of_world_fail : goal.decreases-uses_of_world_fail
+decreases-uses_of_world_fail l = 16 * size_of l.test.types.now (ItemKind.Component l.id) + 7
+
+abbrev pub decreases-items_of_world_fail : goal.decreases-items_of_world_fail
+decreases-items_of_world_fail l = 16 * size_of l.test.types.now (ItemKind.Component l.id) + 7
