@@ -17,10 +17,11 @@ use Rattle.wac_composition.proofs.NotWritten.{among_map, map_among}
 use Rattle.wac_parser_resolve.specs.Ascribing.{Origin, imported, instance, projected, defined, Denoted, Made, State}
 use Rattle.wac_parser_resolve.specs.Denoting.{compared_by}
 use Rattle.wac_parser_resolve.specs.Ascribed.{Asker, origin_in, made_in, placed_import, placed_definition, exported_in, composition}
-use Rattle.wac_parser_resolve.specs.Laws.{IsRegular, Documents_are_wired}
+use Rattle.wac_parser_resolve.specs.Laws.{Documents_are_wired}
 use Rattle.wac_parser_resolve.proofs.Numbers.{some_is, none_is, Below}
 use Rattle.wac_parser_resolve.proofs.Sound.{Has, an_import, an_instance, an_export, a_definition, IsMadeOk, Sound}
 use Rattle.wac_parser_resolve.proofs.Ordered.{numbered_is, numbered_at, argument_is, said}
+use Rattle.wac_parser_resolve.proofs.ProperStates.{IsRegular, statements_formed, is_regular}
 
 before : (k : ℕ) (o : Origin) → Below k o → IsBefore k (origin_in o)
 before k (imported n) b = tt
@@ -63,6 +64,7 @@ module _ (ps : List (Key × Stated)) (g : State) (sound : Sound ps g) (regular :
   }
 
 pub documents_are_wired : Documents_are_wired
-documents_are_wired d ps define x e regular tag_of =
+documents_are_wired d ps define x packages e tag_of =
     let s = said d ps define x e in
-    subst (IsWired tag_of) (sym s.is) (wired tag_of (composition s.state) define s.free (is_sound ps s.state s.sound (subst IsRegular s.is regular)))
+    let regular = is_regular ps packages s.state s.sound (statements_formed ps packages d s.state s.statements) in
+    subst (IsWired tag_of) (sym s.is) (wired tag_of (composition s.state) define s.free (is_sound ps s.state s.sound regular))

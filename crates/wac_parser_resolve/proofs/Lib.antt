@@ -10,3 +10,9 @@ pub mod TargetMet
 pub mod Keeping
 pub mod Refused
 pub mod Documents
+pub mod Proper
+pub mod ProperAsks
+pub mod ProperTypes
+pub mod ProperBodies
+pub mod ProperStates
+pub mod ProperCollections

@@ -141,6 +141,7 @@ module _ (ps : List (Key × Stated)) (g : State) (sound : Sound ps g) (tag_of : 
 
 pub record Said (define : Bool) (d : t.Document) (ps : List (Key × Stated)) (x : Composition Asker ℕ) : Type 0 where
   pub state : State
+  pub statements : Ok state ≡ statements d ps
   pub sound : Sound ps state
   pub is : x ≡ composition state
   pub free : first_cause define (composition state) ≡ None
@@ -160,6 +161,7 @@ said d ps define x e =
     let same : r.0 ≡ (g.0, w.0) = ok_is r.0 (g.0, w.0) w.2 in
     record {
       state = g.0;
+      statements = sym g.1;
       sound = statements_sound ps d g.0 (sym g.1);
       is = ap (λ (y : Composition Asker ℕ × Option Stated). y.0) (ok_is x (composition r.0.0, r.0.1) b) ∙ ap (λ (q : State × Option Stated). composition q.0) same;
       free = ap (λ (q : State × Option Stated). first_cause define (composition q.0)) (sym same) ∙ no_cause (first_cause define (composition r.0.0)) _ x r.2;

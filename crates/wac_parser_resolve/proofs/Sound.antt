@@ -103,12 +103,12 @@ there_each g (x ∷ gs) h a (inr m) = there_each g gs h.1 a m
 
 -- ---- exports of instances
 
-present_is : {A : Type 0} (o : Option A) (f : Fault) (s : Span) (a : A) → Ok a ≡ present o f s → o ≡ Some a
+pub present_is : {A : Type 0} (o : Option A) (f : Fault) (s : Span) (a : A) → Ok a ≡ present o f s → o ≡ Some a
 present_is (Some x) f s a e = ap Some (sym (ok_is a x e))
 present_is None f s a e = absurd (err_ok _ a e)
 
 -- nothing stood against what went on
-clear_is : {A : Type 0} (b : Bool) (f : Fault) (s : Span) (q : Answer A) (r : A) → Ok r ≡ (unless_clear b f s >> q) → b ≡ false
+pub clear_is : {A : Type 0} (b : Bool) (f : Fault) (s : Span) (q : Answer A) (r : A) → Ok r ≡ (unless_clear b f s >> q) → b ≡ false
 clear_is true f s q r e = absurd (err_ok _ r e)
 clear_is false f s q r e = refl
 
@@ -454,7 +454,7 @@ module _ (ps : Packages) where
       (λ x m. has_more g k w x.1.denoted.origin x.1.denoted.item (s.exports x m)) s)
       (an_import one (among_last g.imports one)) z
 
-  statement_sound : (g h : State) (x : t.Statement) → Sound ps g → statement g x ≡ Ok h → Sound ps h
+  pub statement_sound : (g h : State) (x : t.Statement) → Sound ps g → statement g x ≡ Ok h → Sound ps h
   statement_sound g h (t.Statement.import x) s e = import_sound g x h s (sym e)
   statement_sound g h (t.Statement.ty x) s e =
       let a = ok_of (type_statement (context g) x) _ h (sym e) in declaration_sound g (declared_id x) a.0 h s a.2

@@ -1,19 +1,15 @@
 -- What holds of each ascribed composition.
-use Rattle.std.specs.Prelude.{◌≡◌, ℕ, Bool, true, Option, List, Some, Ok, slice_get}
-use Rattle.wac_types_base.specs.Graph.{Among}
-use Rattle.wac_types_base.specs.Stated.{Stated, kind_of}
-use Rattle.wac_types_base.specs.Tree.{tree}
+use Rattle.std.specs.Prelude.{◌≡◌, ℕ, Bool, Option, List, Some, Ok, slice_get}
+use Rattle.wac_types_base.specs.Stated.{Stated}
 use Rattle.wac_types_names.specs.Keys.{Key}
 use Rattle.wac_graph_bytes.specs.Wirings.{Tag, IsOrdered}
-use Rattle.wac_nesting.specs.Given.{IsDefinition}
-use Rattle.wac_composition.specs.Asks.{Ask, asks_of}
 use Rattle.wac_composition.specs.Composition as c
 use Rattle.wac_composition.specs.Composition.{Placed, Composition}
-use Rattle.wac_composition.specs.Sound.{IsStraight, IsWired}
-use Rattle.wac_composition.specs.Written.{is_type, written_definition}
+use Rattle.wac_composition.specs.Sound.{IsWired}
 use Rattle.wac_composition.specs.Wired.{composed_wiring}
 use Rattle.wac_parser_tree.specs.Trees as t
 use Rattle.wac_parser_declare.specs.Scope.{world_under}
+use Rattle.wac_parser_resolve.specs.Proper.{AreProper}
 use Rattle.wac_parser_resolve.specs.Ascribed.{Asker, ascribed}
 
 -- each instance is of a package handed in, with the world of that package
@@ -24,12 +20,7 @@ Packages_are_known = (d : t.Document) (ps : List (Key × Stated)) (define : Bool
 abbrev pub Wirings_are_ordered : Type 0
 Wirings_are_ordered = (d : t.Document) (ps : List (Key × Stated)) (define : Bool) (x : Composition Asker ℕ × Option Stated) → Ok x ≡ ascribed define d ps → (tag_of : Key → Tag) → IsOrdered (composed_wiring tag_of x.0)
 
--- what is asked has the tree of an instance only where it is one, and definitions are types
-pub record IsRegular (x : Composition Asker ℕ) : Type 0 where
-  pub straight : (a : Ask Asker) → Among a (asks_of x) → IsStraight a.item
-  pub types : (d : Placed Asker) → Among d x.definitions → (is_type (kind_of d.item) ≡ true) × IsDefinition (tree (written_definition d.item))
-
--- what an accepted document ascribes is wired: each import of each instance is bound once, to what fits it and was there before, and
--- the world that is handed out is true
+-- what an accepted document ascribes over packages with proper worlds is wired: each import of each instance is bound once, to what
+-- fits it and was there before, and the world that is handed out is true
 abbrev pub Documents_are_wired : Type 0
-Documents_are_wired = (d : t.Document) (ps : List (Key × Stated)) (define : Bool) (x : Composition Asker ℕ × Option Stated) → Ok x ≡ ascribed define d ps → IsRegular x.0 → (tag_of : Key → Tag) → IsWired tag_of x.0
+Documents_are_wired = (d : t.Document) (ps : List (Key × Stated)) (define : Bool) (x : Composition Asker ℕ × Option Stated) → AreProper ps → Ok x ≡ ascribed define d ps → (tag_of : Key → Tag) → IsWired tag_of x.0

@@ -17,3 +17,4 @@ pub mod Processing
 pub mod Passing
 pub mod Giving
 pub mod Keeping
+pub mod Proper

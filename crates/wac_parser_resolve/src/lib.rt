@@ -16,7 +16,11 @@ mod state;
 mod statements;
 mod targets;
 
+ghost use Rattle.wac_types_base.specs.declared.item.ItemKind.{ItemKind};
+ghost use Rattle.wac_types_base.specs.Record.{Collection};
+ghost use Rattle.wac_types_base.specs.Stated.{stated_of};
 ghost use Rattle.wac_parser_resolve.specs.Laws.{Packages_are_known, Wirings_are_ordered, Documents_are_wired};
+ghost use Rattle.wac_parser_resolve.specs.Proper.{Proper};
 ghost use Rattle.wac_parser_resolve.specs.Refused.{Refusals_stand};
 ghost use Rattle.wac_parser_resolve.specs.RowLaws.{Says_one, Says_missing, Says_passed, Says_mismatched, Says_merged, Says_unmerged, Says_unknown, Says_own, Says_conflict, Says_no_name, Says_identified};
 
@@ -49,8 +53,13 @@ pub fn wirings_are_ordered()
     ensures { Wirings_are_ordered }
 {}
 
-/// What an accepted document ascribes is wired: each import of each instance is bound once, to what fits it and was there before,
-/// and the world that is handed out is true of the wiring.
+/// What the kinds of a collection state is proper: an alias is of no instance.
+pub fn stated_types_are_proper()
+    ensures { (c : Collection) (k : ItemKind) → Proper (stated_of c k) }
+{}
+
+/// What an accepted document ascribes over packages with proper worlds is wired: each import of each instance is bound once, to
+/// what fits it and was there before, and the world that is handed out is true of the wiring.
 pub fn documents_are_wired()
     ensures { Documents_are_wired }
 {}
