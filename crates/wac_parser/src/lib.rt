@@ -31,8 +31,9 @@ pub mod declare {
     pub use wac_parser_resolve::{GraphTypes, PackageRef, Packages};
 }
 
-/// Documents and the graphs that they build.
+/// Documents, the graphs that they build, and their bytes.
 pub mod resolution {
+    pub use wac_parser_encode::{EncodeOptions, EncodeResolution, Encoded, Processor};
     pub use wac_parser_resolve::{
         AstResolver, Error, InstanceOperation, PackageRef, Packages, Resolution, ResolutionResult,
         ResolveDocument,

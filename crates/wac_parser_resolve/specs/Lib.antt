@@ -13,7 +13,6 @@ pub mod Standing
 pub mod Told
 pub mod Targeting
 pub mod Resolved
-pub mod Processing
 pub mod Passing
 pub mod Giving
 pub mod Keeping

@@ -15,7 +15,7 @@ use crate::root::Root;
 use std::alloc::{AllocError, Global};
 use wac_graph_core::{CompositionGraph, NodeId};
 use wac_parser_lexer::SourceSpan;
-use wac_parser_refusals::{Error, InstanceOperation, ResolutionResult};
+use wac_parser_refusals::{Error, InstanceOperation, Outcome, Refusal};
 use wac_parser_tree::{Ident, InstantiationArgument, InstantiationArgumentName, PackageName};
 use wac_types_base::{InterfaceId, ItemKind, NamedMap, Types, WorldId};
 
@@ -38,14 +38,15 @@ fn is_given(given: &Vec<Given>, name: &str) -> bool {
 }
 
 /// One more argument, whose name is new.
-pub(crate) fn give(given: &mut Vec<Given>, one: Given) -> ResolutionResult<()>
+pub(crate) fn give(alloc: Global, given: &mut Vec<Given>, one: Given) -> Outcome<()>
     ensures { OnOk result (given.new.items ≡ given.old.items ++ one ∷ []) }
 {
     if is_given(given, one.name.as_str()) {
-        return Err(Error::DuplicateInstantiationArg {
+        let fault = Error::DuplicateInstantiationArg {
             name: one.name,
             span: one.span,
-        });
+        };
+        return Err(Refusal::named(alloc, fault));
     }
     given.push(one)?;
     Ok(())
@@ -105,7 +106,7 @@ pub(crate) fn inferred(
     graph: &CompositionGraph,
     world: WorldId,
     id: &Ident<'_>,
-) -> ResolutionResult<Given>
+) -> Outcome<Given>
     requires { Stands graph.now.types (ItemKind.Component world) }
     ensures { IfOk result (λ one. ContainsNode graph.now one.node) }
 {
@@ -148,7 +149,7 @@ fn give_exports(
     span: SourceSpan,
     names: &Vec<String>,
     given: &mut Vec<Given>,
-) -> ResolutionResult<()>
+) -> Outcome<()>
     requires node { ContainsNode graph.old node }
     requires given { AreThere graph.old given.old.items }
     ensures given { OnOk result (AreThere graph.new given.new.items) }
@@ -168,7 +169,7 @@ fn given_export(
     node: NodeId,
     span: SourceSpan,
     name: &str,
-) -> ResolutionResult<Given>
+) -> Outcome<Given>
     requires { ContainsNode graph.old node }
     ensures node { IfOk result (λ one. ContainsNode graph.new one.node) }
     ensures inner { Inner graph.old graph.new }
@@ -208,7 +209,7 @@ fn spread(
     world: WorldId,
     id: &Ident<'_>,
     given: &mut Vec<Given>,
-) -> ResolutionResult<()>
+) -> Outcome<()>
     requires world { Stands graph.old.types (ItemKind.Component world) }
     requires given { AreThere graph.old given.old.items }
     ensures given { OnOk result (AreThere graph.new given.new.items) }
@@ -218,7 +219,8 @@ fn spread(
     let interface = instance_of(graph, node, InstanceOperation::Spread, id.span)?;
     let names = spread_names(root.alloc, graph.types(), world, interface, given)?;
     if names.is_empty() {
-        return Err(Error::SpreadInstantiationNoMatch { span: id.span });
+        let fault = Error::SpreadInstantiationNoMatch { span: id.span };
+        return Err(Refusal::named(root.alloc, fault));
     }
     give_exports(root.alloc, graph, node, id.span, &names, given)
 }
@@ -238,7 +240,7 @@ pub(crate) fn spreads(
     graph: &mut CompositionGraph,
     world: WorldId,
     given: &mut Vec<Given>,
-) -> ResolutionResult<()>
+) -> Outcome<()>
     requires world { Stands graph.old.types (ItemKind.Component world) }
     requires given { AreThere graph.old given.old.items }
     ensures given { OnOk result (AreThere graph.new given.new.items) }
@@ -257,7 +259,7 @@ pub(crate) fn pass_all(
     graph: &mut CompositionGraph,
     instance: NodeId,
     given: &Vec<Given>,
-) -> ResolutionResult<()>
+) -> Outcome<()>
     requires instance { ContainsNode graph.old instance }
     requires fresh { IsFresh graph.old instance }
     requires given { AreThere graph.old given.now.items }
@@ -290,6 +292,22 @@ fn first_missing<'a>(imports: &'a [String], given: &Vec<Given>) -> Option<&'a st
     None
 }
 
+/// A refusal of an instance for which an argument of a name is missing.
+fn missing_argument(alloc: Global, name: &str, package: &PackageName<'_>) -> Refusal {
+    let Ok(name) = String::from_str(alloc, name) else {
+        return Refusal::Memory;
+    };
+    let Ok(text) = String::from_str(alloc, package.string) else {
+        return Refusal::Memory;
+    };
+    let fault = Error::MissingInstantiationArg {
+        name,
+        package: text,
+        span: package.span,
+    };
+    Refusal::named(alloc, fault)
+}
+
 /// Refuses where nothing is given for an import of the world.
 pub(crate) fn complete(
     package: &PackageName<'_>,
@@ -297,15 +315,11 @@ pub(crate) fn complete(
     types: &Types,
     world: WorldId,
     given: &Vec<Given>,
-) -> ResolutionResult<()>
+) -> Outcome<()>
     requires { Stands types.now (ItemKind.Component world) }
 {
     match first_missing(types.world(world).imports.names(), given) {
         None => Ok(()),
-        Some(name) => Err(Error::MissingInstantiationArg {
-            name: String::from_str(alloc, name)?,
-            package: String::from_str(alloc, package.string)?,
-            span: package.span,
-        }),
+        Some(name) => Err(missing_argument(alloc, name, package)),
     }
 }

@@ -14,7 +14,7 @@ use crate::spans::Spans;
 use std::alloc::Global;
 use wac_graph_core::{CompositionGraph, NodeId, PackageId};
 use wac_parser_lexer::SourceSpan;
-use wac_parser_refusals::{Error, InstanceOperation, ResolutionResult};
+use wac_parser_refusals::{Error, InstanceOperation, Outcome, Refusal};
 use wac_types_base::{InterfaceId, ItemKind, WorldId};
 
 /// The graph that a document builds over the packages handed in, and where its instances stand.
@@ -41,20 +41,21 @@ pub(crate) fn word_of(graph: &CompositionGraph, node: NodeId) -> &'static str
     item_of(graph, node).desc(graph.types())
 }
 
-/// What an operation asks for, where a node is no instance.
+/// A refusal of an operation that asks for an instance, where a node is none.
 pub(crate) fn not_an_instance(
     graph: &CompositionGraph,
     node: NodeId,
     operation: InstanceOperation,
     span: SourceSpan,
-) -> Error
+) -> Refusal
     requires { ContainsNode graph.now node }
 {
-    Error::NotAnInstance {
+    let fault = Error::NotAnInstance {
         kind: word_of(graph, node),
         operation,
         span,
-    }
+    };
+    Refusal::named(graph.alloc(), fault)
 }
 
 /// The interface of a node, which has to be an instance.
@@ -63,7 +64,7 @@ pub(crate) fn instance_of(
     node: NodeId,
     operation: InstanceOperation,
     span: SourceSpan,
-) -> ResolutionResult<InterfaceId>
+) -> Outcome<InterfaceId>
     requires { ContainsNode graph.now node }
     ensures { IfOk result (λ id. Stands graph.now.types (ItemKind.Instance id)) }
 {

@@ -9,13 +9,13 @@ ghost use Rattle.wac_parser_resolve.specs.Later.{Inner, Later};
 ghost use Rattle.wac_parser_resolve.specs.Standing.{IsFresh};
 
 use crate::board::not_an_instance;
-use std::alloc::AllocError;
+use std::alloc::{AllocError, Global};
 use wac_graph_core::{
     AliasError, CompositionGraph, DefineTypeError, ExportError, ImportError,
     InstantiationArgumentError, NodeId, PackageId,
 };
 use wac_parser_lexer::SourceSpan;
-use wac_parser_refusals::{Error, InstanceOperation, ResolutionResult};
+use wac_parser_refusals::{Error, InstanceOperation, Outcome, Refusal};
 use wac_types_base::{ItemKind, Type};
 
 /// What is done with an instance: where the instance stands, and where the access does.
@@ -26,18 +26,21 @@ pub(crate) struct Access {
     pub(crate) access: SourceSpan,
 }
 
-fn alias_fault(graph: &CompositionGraph, node: NodeId, access: Access, fault: AliasError) -> Error
+fn alias_fault(graph: &CompositionGraph, node: NodeId, access: Access, fault: AliasError) -> Refusal
     requires { ContainsNode graph.now node }
 {
     match fault {
         AliasError::NodeIsNotAnInstance { .. } => {
             not_an_instance(graph, node, access.operation, access.instance)
         }
-        AliasError::InstanceMissingExport { export, .. } => Error::MissingInstanceExport {
-            name: export,
-            span: access.access,
-        },
-        AliasError::Memory => Error::Memory,
+        AliasError::InstanceMissingExport { export, .. } => {
+            let fault = Error::MissingInstanceExport {
+                name: export,
+                span: access.access,
+            };
+            Refusal::named(graph.alloc(), fault)
+        }
+        AliasError::Memory => Refusal::Memory,
     }
 }
 
@@ -47,7 +50,7 @@ pub(crate) fn alias(
     node: NodeId,
     name: &str,
     access: Access,
-) -> ResolutionResult<NodeId>
+) -> Outcome<NodeId>
     requires { ContainsNode graph.old node }
     ensures alias { IfOk result (λ k. ContainsNode graph.new k) }
     ensures inner { Inner graph.old graph.new }
@@ -76,6 +79,16 @@ pub(crate) fn instantiate(graph: &mut CompositionGraph, id: PackageId) -> Result
     }
 }
 
+/// A refusal of an argument that a package has no import for.
+fn no_import(alloc: Global, package: String, import: String, span: SourceSpan) -> Refusal {
+    let fault = Error::MissingComponentImport {
+        package,
+        import,
+        span,
+    };
+    Refusal::named(alloc, fault)
+}
+
 /// Passes a node to an instance that is new, where nothing else is passed under the name.
 pub(crate) fn pass(
     graph: &mut CompositionGraph,
@@ -83,7 +96,7 @@ pub(crate) fn pass(
     name: &str,
     node: NodeId,
     span: SourceSpan,
-) -> ResolutionResult<()>
+) -> Outcome<()>
     requires instance { ContainsNode graph.old instance }
     requires node { ContainsNode graph.old node }
     requires fresh { IsFresh graph.old instance }
@@ -96,19 +109,17 @@ pub(crate) fn pass(
         Err(InstantiationArgumentError::NodeIsNotAnInstantiation { .. }) => unreachable!(),
         Err(InstantiationArgumentError::WouldFormCycle { .. }) => unreachable!(),
         Err(InstantiationArgumentError::InvalidArgumentName { name, package, .. }) => {
-            Err(Error::MissingComponentImport {
-                package,
-                import: name,
-                span,
-            })
+            Err(no_import(graph.alloc(), package, name, span))
         }
         Err(InstantiationArgumentError::ArgumentTypeMismatch { name, source }) => {
-            Err(Error::MismatchedInstantiationArg { name, span, source })
+            let fault = Error::MismatchedInstantiationArg { name, span, source };
+            Err(Refusal::named(graph.alloc(), fault))
         }
         Err(InstantiationArgumentError::ArgumentAlreadyPassed { name, .. }) => {
-            Err(Error::DuplicateInstantiationArg { name, span })
+            let fault = Error::DuplicateInstantiationArg { name, span };
+            Err(Refusal::named(graph.alloc(), fault))
         }
-        Err(InstantiationArgumentError::Memory) => Err(Error::Memory),
+        Err(InstantiationArgumentError::Memory) => Err(Refusal::Memory),
     }
 }
 

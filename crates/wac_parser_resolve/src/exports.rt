@@ -18,7 +18,7 @@ use std::alloc::{AllocError, Global};
 use wac_graph_core::{CompositionGraph, ExportError, NodeId, NodeKind};
 use wac_parser_declare::Binding;
 use wac_parser_lexer::SourceSpan;
-use wac_parser_refusals::{AS_HELP, Error, InstanceOperation, ResolutionResult};
+use wac_parser_refusals::{AS_HELP, Error, InstanceOperation, Outcome, Refusal};
 use wac_parser_tree::ExportOptions;
 use wac_types_base::{ExternKind, InterfaceId, NamedMap};
 
@@ -70,23 +70,24 @@ fn definition_of(
     }
 }
 
-/// The export of a name that denotes a definition.
+/// A refusal of the export of a name that denotes a definition.
 fn export_conflict(
     alloc: Global,
     word: &'static str,
     definition: SourceSpan,
     name: ExportName<'_>,
-) -> Error {
+) -> Refusal {
     let Ok(text) = String::from_str(alloc, name.text) else {
-        return Error::Memory;
+        return Refusal::Memory;
     };
-    Error::ExportConflict {
+    let fault = Error::ExportConflict {
         name: text,
         kind: word,
         span: name.span,
         definition,
         help: help(name.is_helped),
-    }
+    };
+    Refusal::named(alloc, fault)
 }
 
 fn export_fault(spans: &Spans, name: ExportName<'_>, fault: ExportError) -> Error {
@@ -139,7 +140,7 @@ fn unexported(
 
 impl<'p> State<'p> {
     /// Exports a node under a name that denotes no definition.
-    fn export(&mut self, alloc: Global, node: NodeId, name: ExportName<'_>) -> ResolutionResult<()>
+    fn export(&mut self, alloc: Global, node: NodeId, name: ExportName<'_>) -> Outcome<()>
         requires node { ContainsNode self.old.board.types.graph node }
         requires sound { IsSound self.old.board.types.graph self.old.names }
         ensures sound { OnOk result (IsSound self.new.board.types.graph self.new.names) }
@@ -155,17 +156,12 @@ impl<'p> State<'p> {
                 self.exports.note(node, name.span)?;
                 Ok(())
             }
-            Err(fault) => Err(export_fault(&self.exports, name, fault)),
+            Err(fault) => Err(Refusal::named(alloc, export_fault(&self.exports, name, fault))),
         }
     }
 
     /// Exports a node under the name that it tells.
-    fn export_inferred(
-        &mut self,
-        alloc: Global,
-        node: NodeId,
-        span: SourceSpan,
-    ) -> ResolutionResult<()>
+    fn export_inferred(&mut self, alloc: Global, node: NodeId, span: SourceSpan) -> Outcome<()>
         requires node { ContainsNode self.old.board.types.graph node }
         requires sound { IsSound self.old.board.types.graph self.old.names }
         ensures sound { OnOk result (IsSound self.new.board.types.graph self.new.names) }
@@ -173,7 +169,7 @@ impl<'p> State<'p> {
     {
         let name = match inferred_name(&self.board.types.graph, node) {
             Some(name) => String::from_str(alloc, name)?,
-            None => return Err(Error::ExportRequiresAs { span }),
+            None => return Err(Refusal::named(alloc, Error::ExportRequiresAs { span })),
         };
         let name = ExportName {
             text: name.as_str(),
@@ -184,13 +180,7 @@ impl<'p> State<'p> {
     }
 
     /// Exports an export of an instance under its name.
-    fn export_one(
-        &mut self,
-        alloc: Global,
-        node: NodeId,
-        access: Access,
-        text: &str,
-    ) -> ResolutionResult<()>
+    fn export_one(&mut self, alloc: Global, node: NodeId, access: Access, text: &str) -> Outcome<()>
         requires node { ContainsNode self.old.board.types.graph node }
         requires sound { IsSound self.old.board.types.graph self.old.names }
         ensures sound { OnOk result (IsSound self.new.board.types.graph self.new.names) }
@@ -212,7 +202,7 @@ impl<'p> State<'p> {
         node: NodeId,
         access: Access,
         names: &Vec<String>,
-    ) -> ResolutionResult<()>
+    ) -> Outcome<()>
         requires node { ContainsNode self.old.board.types.graph node }
         requires sound { IsSound self.old.board.types.graph self.old.names }
         ensures sound { OnOk result (IsSound self.new.board.types.graph self.new.names) }
@@ -231,7 +221,7 @@ impl<'p> State<'p> {
         node: NodeId,
         span: SourceSpan,
         dots: SourceSpan,
-    ) -> ResolutionResult<()>
+    ) -> Outcome<()>
         requires node { ContainsNode self.old.board.types.graph node }
         requires sound { IsSound self.old.board.types.graph self.old.names }
         ensures sound { OnOk result (IsSound self.new.board.types.graph self.new.names) }
@@ -241,7 +231,7 @@ impl<'p> State<'p> {
         let interface = instance_of(graph, node, InstanceOperation::Spread, span)?;
         let names = unexported(alloc, graph, interface)?;
         if names.is_empty() {
-            return Err(Error::SpreadExportNoEffect { span });
+            return Err(Refusal::named(alloc, Error::SpreadExportNoEffect { span }));
         }
         let access = Access {
             operation: InstanceOperation::Spread,
@@ -259,7 +249,7 @@ pub(crate) fn export_as(
     alloc: Global,
     node: NodeId,
     span: SourceSpan,
-) -> ResolutionResult<()>
+) -> Outcome<()>
     requires node { ContainsNode state.old.board.types.graph node }
     requires sound { IsSound state.old.board.types.graph state.old.names }
     ensures sound { OnOk result (IsSound state.new.board.types.graph state.new.names) }

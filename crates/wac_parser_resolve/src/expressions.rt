@@ -19,7 +19,7 @@ use crate::root::Root;
 use std::alloc::{AllocError, Global};
 use wac_graph_core::{CompositionGraph, NodeId, PackageId};
 use wac_parser_lexer::SourceSpan;
-use wac_parser_refusals::{Error, InstanceOperation, ResolutionResult, unknown_package};
+use wac_parser_refusals::{Error, InstanceOperation, Outcome, Refusal, unknown_package};
 use wac_parser_tree::{
     Expr, Ident, InstantiationArgument, NamedInstantiationArgument, NewExpr, PackageName,
     PostfixExpr, PrimaryExpr,
@@ -33,7 +33,7 @@ fn export_meant(
     node: NodeId,
     before: SourceSpan,
     name: &str,
-) -> ResolutionResult<String>
+) -> Outcome<String>
     requires { ContainsNode graph.now node }
 {
     let id = instance_of(graph, node, InstanceOperation::Access, before)?;
@@ -48,7 +48,7 @@ fn access(
     graph: &mut CompositionGraph,
     node: NodeId,
     before: SourceSpan,
-) -> ResolutionResult<NodeId>
+) -> Outcome<NodeId>
     requires { ContainsNode graph.old node }
     ensures node { IfOk result (λ k. ContainsNode graph.new k) }
     ensures inner { Inner graph.old graph.new }
@@ -74,7 +74,7 @@ fn accesses(
     graph: &mut CompositionGraph,
     first: NodeId,
     before: SourceSpan,
-) -> ResolutionResult<NodeId>
+) -> Outcome<NodeId>
     requires { ContainsNode graph.old first }
     ensures node { IfOk result (λ k. ContainsNode graph.new k) }
     ensures inner { Inner graph.old graph.new }
@@ -93,13 +93,13 @@ fn new_package(
     name: &PackageName<'_>,
     root: Root<'_, '_>,
     board: &mut Board<'_>,
-) -> ResolutionResult<PackageId>
+) -> Outcome<PackageId>
     ensures id { IfOk result (λ id. ContainsPackage board.new.types.graph id) }
     ensures own { OnOk result (name.now.name.now ≢ root.entry.own.now) }
     ensures inner { Inner board.old.types.graph board.new.types.graph }
 {
     if name.name == root.own {
-        return Err(unknown_package(root.alloc, name.name, name.span).into_error());
+        return Err(unknown_package(root.alloc, name.name, name.span));
     }
     let id = board
         .types
@@ -114,7 +114,7 @@ fn finish(
     board: &mut Board<'_>,
     id: PackageId,
     given: Vec<Given>,
-) -> ResolutionResult<NodeId>
+) -> Outcome<NodeId>
     requires id { ContainsPackage board.old.types.graph id }
     requires given { AreThere board.old.types.graph given.items }
     ensures node { IfOk result (λ k. ContainsNode board.new.types.graph k) }
@@ -142,7 +142,7 @@ pub(crate) fn expression(
     expr: &Expr<'_>,
     root: Root<'_, '_>,
     board: &mut Board<'_>,
-) -> ResolutionResult<NodeId>
+) -> Outcome<NodeId>
     ensures node { IfOk result (λ k. ContainsNode board.new.types.graph k) }
     ensures inner { Inner board.old.types.graph board.new.types.graph }
 {
@@ -158,11 +158,7 @@ pub(crate) fn expression(
 
 /// The node that a primary expression denotes.
 #[cycle(expr)]
-fn primary(
-    expr: &PrimaryExpr<'_>,
-    root: Root<'_, '_>,
-    board: &mut Board<'_>,
-) -> ResolutionResult<NodeId>
+fn primary(expr: &PrimaryExpr<'_>, root: Root<'_, '_>, board: &mut Board<'_>) -> Outcome<NodeId>
     ensures node { IfOk result (λ k. ContainsNode board.new.types.graph k) }
     ensures inner { Inner board.old.types.graph board.new.types.graph }
 {
@@ -175,11 +171,7 @@ fn primary(
 
 /// A new instance of a package.
 #[cycle(expr)]
-fn instance(
-    new: &NewExpr<'_>,
-    root: Root<'_, '_>,
-    board: &mut Board<'_>,
-) -> ResolutionResult<NodeId>
+fn instance(new: &NewExpr<'_>, root: Root<'_, '_>, board: &mut Board<'_>) -> Outcome<NodeId>
     ensures node { IfOk result (λ k. ContainsNode board.new.types.graph k) }
     ensures inner { Inner board.old.types.graph board.new.types.graph }
 {
@@ -205,7 +197,7 @@ fn arguments(
     board: &mut Board<'_>,
     world: WorldId,
     given: &mut Vec<Given>,
-) -> ResolutionResult<()>
+) -> Outcome<()>
     requires world { Stands board.old.types.graph.types (ItemKind.Component world) }
     requires given { AreThere board.old.types.graph given.old.items }
     ensures given { OnOk result (AreThere board.new.types.graph given.new.items) }
@@ -228,7 +220,7 @@ fn argument(
     world: WorldId,
     is_last: bool,
     given: &mut Vec<Given>,
-) -> ResolutionResult<()>
+) -> Outcome<()>
     requires world { Stands board.old.types.graph.types (ItemKind.Component world) }
     requires given { AreThere board.old.types.graph given.old.items }
     ensures given { OnOk result (AreThere board.new.types.graph given.new.items) }
@@ -237,19 +229,20 @@ fn argument(
 {
     match one {
         InstantiationArgument::Inferred(id) => {
-            give(given, inferred(root, &board.types.graph, world, id)?)
+            let argument = inferred(root, &board.types.graph, world, id)?;
+            give(root.alloc, given, argument)
         }
         InstantiationArgument::Spread(_) => Ok(()),
         InstantiationArgument::Named(one) => {
             let argument = named(one, root, board, world)?;
-            give(given, argument)?;
-            Ok(())
+            give(root.alloc, given, argument)
         }
         InstantiationArgument::Fill(span) => {
             if is_last {
                 Ok(())
             } else {
-                Err(Error::FillArgumentNotLast { span: *span })
+                let fault = Error::FillArgumentNotLast { span: *span };
+                Err(Refusal::named(root.alloc, fault))
             }
         }
     }
@@ -262,7 +255,7 @@ fn named(
     root: Root<'_, '_>,
     board: &mut Board<'_>,
     world: WorldId,
-) -> ResolutionResult<Given>
+) -> Outcome<Given>
     requires { Stands board.old.types.graph.types (ItemKind.Component world) }
     ensures node { IfOk result (λ one. ContainsNode board.new.types.graph one.node) }
     ensures inner { Inner board.old.types.graph board.new.types.graph }

@@ -4,7 +4,6 @@
 mod arguments;
 mod board;
 mod calls;
-mod encoding;
 mod exports;
 mod expressions;
 mod names;

@@ -16,8 +16,9 @@ use crate::state::State;
 use crate::statements::{item_at, say_statements};
 use crate::targets::target_met;
 use std::alloc::Global;
-use wac_graph_core::CompositionGraph;
-use wac_parser_refusals::{ResolutionResult, not_world};
+use wac_graph_core::{CompositionGraph, NodeId};
+use wac_parser_lexer::SourceSpan;
+use wac_parser_refusals::{Outcome, ResolutionResult, not_world};
 use wac_parser_tree::{Document, PackageDirective, PackagePath};
 use wac_types_base::{ItemKind, Type, Types, WorldId};
 
@@ -25,19 +26,18 @@ use wac_types_base::{ItemKind, Type, Types, WorldId};
 /// instances stand.
 #[derive(Drop)]
 pub struct Said {
-    pub(crate) alloc: Global,
-    pub(crate) graph: CompositionGraph,
+    graph: CompositionGraph,
     target: Option<WorldId>,
-    pub(crate) imports: Spans,
-    pub(crate) ids: Spans,
-    pub(crate) instances: Spans,
+    imports: Spans,
+    ids: Spans,
+    instances: Spans,
 }
 
 /// Something with the graph that its statements build.
 #[derive(Drop)]
 pub struct Resolved<'d, D> {
     document: &'d D,
-    pub(crate) said: Said,
+    said: Said,
 }
 
 /// A document with the graph that its statements build.
@@ -63,6 +63,19 @@ impl<'d, D> Resolved<'d, D> {
         ensures { result ≡ target_of self.now }
     {
         self.said.target
+    }
+
+    /// Where the name of an import stands.
+    pub fn import_span(&self, node: NodeId) -> SourceSpan {
+        self.said.imports.of_or(node, SourceSpan::new(0, 0))
+    }
+
+    /// Where what asks for something stands: the package of an instance, the identifier of an import or a declaration.
+    pub fn asker_span(&self, node: NodeId) -> SourceSpan {
+        match self.said.instances.of(node) {
+            Some(span) => span,
+            None => self.said.ids.of_or(node, SourceSpan::new(0, 0)),
+        }
     }
 
     /// The graph, taken out.
@@ -102,7 +115,7 @@ fn target_world(
     directive: &PackageDirective<'_>,
     state: &mut State<'_>,
     alloc: Global,
-) -> ResolutionResult<WorldId>
+) -> Outcome<WorldId>
     requires { IsSound state.old.board.types.graph state.old.names }
     ensures world { IfOk result (λ id. Stands state.new.board.types.graph.types (ItemKind.Component id)) }
     ensures number { SameNumber state.old.board.types.graph state.new.board.types.graph }
@@ -111,7 +124,7 @@ fn target_world(
     let types = state.board.types.graph.types();
     match world_item(kind, types) {
         Some(id) => Ok(id),
-        None => Err(not_world(alloc, path.string, kind.desc(types), path.span).into_error()),
+        None => Err(not_world(alloc, path.string, kind.desc(types), path.span)),
     }
 }
 
@@ -121,7 +134,7 @@ fn target(
     directive: &PackageDirective<'_>,
     state: &mut State<'_>,
     alloc: Global,
-) -> ResolutionResult<WorldId>
+) -> Outcome<WorldId>
     requires { IsSound state.old.board.types.graph state.old.names }
     ensures world { IfOk result (λ id. IsTarget state.new.board.types.graph (Some id)) }
     ensures number { SameNumber state.old.board.types.graph state.new.board.types.graph }
@@ -143,7 +156,7 @@ fn maybe_target(
     directive: &PackageDirective<'_>,
     state: &mut State<'_>,
     alloc: Global,
-) -> ResolutionResult<Option<WorldId>>
+) -> Outcome<Option<WorldId>>
     requires { IsSound state.old.board.types.graph state.old.names }
     ensures world { IfOk result (λ world. IsTarget state.new.board.types.graph world) }
     ensures number { SameNumber state.old.board.types.graph state.new.board.types.graph }
@@ -169,9 +182,7 @@ fn come_to(state: State<'_>, target: Option<WorldId>) -> Said
     } = state;
     let Board { types, instances } = board;
     let GraphTypes { graph, packages: _ } = types;
-    let alloc = graph.alloc();
     Said {
-        alloc,
         graph,
         target,
         imports,
@@ -188,7 +199,7 @@ fn say_document(
     document: &Document<'_>,
     state: &mut State<'_>,
     alloc: Global,
-) -> ResolutionResult<Option<WorldId>>
+) -> Outcome<Option<WorldId>>
     requires { IsSound state.old.board.types.graph state.old.names }
     ensures world { IfOk result (λ world. IsTarget state.new.board.types.graph world) }
     ensures number { SameNumber state.old.board.types.graph state.new.board.types.graph }
@@ -204,7 +215,7 @@ fn said_of(
     alloc: Global,
     packages: &Packages<'_>,
     number: u64,
-) -> ResolutionResult<Said>
+) -> Outcome<Said>
     ensures number { IfOk result (λ said. said.graph.types.number ≡ number) }
     ensures target { IfOk result (λ said. IsTarget said.graph said.target) }
 {
@@ -248,8 +259,10 @@ impl<'d, 's> AstResolver<'d, 's> {
         ensures target { IfOk result (λ r. IsTarget (graph_of r) (target_of r)) }
     {
         let AstResolver { document } = self;
-        let said = said_of(document, alloc, &*packages, number)?;
-        Ok(with_document(document, said))
+        match said_of(document, alloc, &*packages, number) {
+            Ok(said) => Ok(with_document(document, said)),
+            Err(refusal) => Err(refusal.into_error()),
+        }
     }
 }
 
@@ -271,13 +284,18 @@ pub trait ResolveDocument: Sized {
         ensures number { IfOk result (λ r. (graph_of r).types.number ≡ number) }
         ensures target { IfOk result (λ r. IsTarget (graph_of r) (target_of r)) }
     {
-        let said = self.say(alloc, &*packages, number)?;
-        Ok(with_document(self, said))
+        match self.say(alloc, &*packages, number) {
+            Ok(said) => Ok(with_document(self, said)),
+            Err(fault) => Err(fault),
+        }
     }
 }
 
 impl<'s> ResolveDocument for Document<'s> {
     fn say(&self, alloc: Global, packages: &Packages<'_>, number: u64) -> ResolutionResult<Said> {
-        said_of(self, alloc, &*packages, number)
+        match said_of(self, alloc, &*packages, number) {
+            Ok(said) => Ok(said),
+            Err(refusal) => Err(refusal.into_error()),
+        }
     }
 }

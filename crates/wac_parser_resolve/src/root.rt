@@ -5,7 +5,7 @@ ghost use Rattle.wac_graph_core.specs.Graph.{ContainsNode};
 
 use std::alloc::Global;
 use wac_graph_core::{CompositionGraph, NodeId};
-use wac_parser_refusals::{ResolutionResult, undefined_name};
+use wac_parser_refusals::{Outcome, undefined_name};
 use wac_parser_tree::Ident;
 use wac_types_base::NamedMap;
 
@@ -21,7 +21,7 @@ pub(crate) struct Root<'o, 'n> {
 
 impl<'o, 'n> Root<'o, 'n> {
     /// The node that a name stands for.
-    pub(crate) fn node(self, graph: &CompositionGraph, id: &Ident<'_>) -> ResolutionResult<NodeId>
+    pub(crate) fn node(self, graph: &CompositionGraph, id: &Ident<'_>) -> Outcome<NodeId>
         ensures { IfOk result (λ node. ContainsNode graph.now node) }
     {
         match self.nodes.get(id.string) {
@@ -29,10 +29,10 @@ impl<'o, 'n> Root<'o, 'n> {
                 if graph.contains_node(*node) {
                     Ok(*node)
                 } else {
-                    Err(undefined_name(self.alloc, id.string, id.span).into_error())
+                    Err(undefined_name(self.alloc, id.string, id.span))
                 }
             }
-            None => Err(undefined_name(self.alloc, id.string, id.span).into_error()),
+            None => Err(undefined_name(self.alloc, id.string, id.span)),
         }
     }
 }

@@ -13,7 +13,7 @@ use crate::spans::Spans;
 use std::alloc::Global;
 use wac_graph_core::{CompositionGraph, NodeId};
 use wac_parser_declare::{Binding, bind};
-use wac_parser_refusals::ResolutionResult;
+use wac_parser_refusals::Outcome;
 use wac_parser_tree::Ident;
 use wac_types_base::NamedMap;
 
@@ -52,12 +52,7 @@ impl<'p> State<'p> {
     }
 
     /// `id` now stands for this node, whose first name it may be.
-    pub(crate) fn bind(
-        &mut self,
-        alloc: Global,
-        id: &Ident<'_>,
-        node: NodeId,
-    ) -> ResolutionResult<()>
+    pub(crate) fn bind(&mut self, alloc: Global, id: &Ident<'_>, node: NodeId) -> Outcome<()>
         requires node { ContainsNode self.old.board.types.graph node }
         requires sound { IsSound self.old.board.types.graph self.old.names }
         ensures sound { OnOk result (IsSound self.new.board.types.graph self.new.names) }

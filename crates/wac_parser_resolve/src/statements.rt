@@ -4,6 +4,8 @@
 ghost use Rattle.std.specs.Prelude.{IfOk, OnOk};
 ghost use Rattle.wac_types_base.specs.declared.item.ItemKind.{ItemKind};
 ghost use Rattle.wac_types_base.specs.Collection.{Stands};
+ghost use Rattle.wac_graph_core.specs.Graph.{ContainsNode};
+ghost use Rattle.wac_parser_declare.specs.Holding.{NamesStand};
 ghost use Rattle.wac_parser_resolve.specs.Later.{SameNumber};
 ghost use Rattle.wac_parser_resolve.specs.Standing.{IsSound};
 
@@ -14,15 +16,17 @@ use crate::root::Root;
 use crate::spans::Spans;
 use crate::state::State;
 use std::alloc::Global;
-use wac_graph_core::{DefineTypeError, ImportError, NodeId};
-use wac_parser_declare::{Context, func_type, inline_interface, package_path, type_statement};
+use wac_graph_core::{CompositionGraph, DefineTypeError, ImportError, NodeId};
+use wac_parser_declare::{
+    Binding, Context, func_type, inline_interface, package_path, type_statement,
+};
 use wac_parser_lexer::SourceSpan;
-use wac_parser_refusals::{Error, ResolutionResult, undefined_name};
+use wac_parser_refusals::{Error, Outcome, Refusal, undefined_name};
 use wac_parser_tree::{
     ExportStatement, FuncType, Ident, ImportStatement, ImportType, InlineInterface, LetStatement,
     PackageName, PackagePath, Statement, TypeStatement,
 };
-use wac_types_base::{ExternKind, ItemKind, Text, Type, Types};
+use wac_types_base::{ExternKind, ItemKind, NamedMap, Text, Type, Types};
 
 /// The name of an import, and where it stands.
 #[derive(Drop)]
@@ -81,23 +85,30 @@ fn declared_id<'a>(statement: &TypeStatement<'a>) -> Ident<'a> {
 }
 
 /// The item of a name.
-fn item_named(id: &Ident<'_>, state: &State<'_>, alloc: Global) -> ResolutionResult<ItemKind>
-    requires { IsSound state.now.board.types.graph state.now.names }
-    ensures { IfOk result (λ kind. Stands state.now.board.types.graph.types kind) }
+fn item_named(
+    id: &Ident<'_>,
+    names: &NamedMap<Binding>,
+    types: &Types,
+    alloc: Global,
+) -> Outcome<ItemKind>
+    requires { NamesStand types.now names.now }
+    ensures { IfOk result (λ kind. Stands types.now kind) }
 {
-    match state.names.get(id.string) {
+    let _ = types;
+    match names.get(id.string) {
         Some(binding) => Ok(binding.kind),
-        None => Err(undefined_name(alloc, id.string, id.span).into_error()),
+        None => Err(undefined_name(alloc, id.string, id.span)),
     }
 }
 
 /// The name of an import: by `as`, else the path, else the identifier of what an ident names, else its ident.
 fn import_name(
     statement: &ImportStatement<'_>,
-    state: &State<'_>,
+    names: &NamedMap<Binding>,
+    types: &Types,
     alloc: Global,
-) -> ResolutionResult<ImportName>
-    requires { IsSound state.now.board.types.graph state.now.names }
+) -> Outcome<ImportName>
+    requires { NamesStand types.now names.now }
 {
     let id = &statement.id;
     let (text, span) = match (&statement.name, &statement.ty) {
@@ -106,8 +117,7 @@ fn import_name(
         (None, ImportType::Func(_)) => (id.string, id.span),
         (None, ImportType::Interface(_)) => (id.string, id.span),
         (None, ImportType::Ident(ty)) => {
-            let kind = item_named(ty, state, alloc)?;
-            let types = state.board.types.graph.types();
+            let kind = item_named(ty, names, types, alloc)?;
             (told_name(types, kind, id.string), id.span)
         }
     };
@@ -123,7 +133,7 @@ pub(crate) fn item_at(
     own: &PackageName<'_>,
     state: &mut State<'_>,
     alloc: Global,
-) -> ResolutionResult<ItemKind>
+) -> Outcome<ItemKind>
     requires { IsSound state.old.board.types.graph state.old.names }
     ensures kind { IfOk result (λ kind. Stands state.new.board.types.graph.types kind) }
     ensures sound { IsSound state.new.board.types.graph state.new.names }
@@ -143,7 +153,7 @@ fn written_interface(
     own: &PackageName<'_>,
     state: &mut State<'_>,
     alloc: Global,
-) -> ResolutionResult<ItemKind>
+) -> Outcome<ItemKind>
     requires { IsSound state.old.board.types.graph state.old.names }
     ensures kind { IfOk result (λ kind. Stands state.new.board.types.graph.types kind) }
     ensures sound { IsSound state.new.board.types.graph state.new.names }
@@ -158,11 +168,7 @@ fn written_interface(
 }
 
 /// The function that is written.
-fn written_func(
-    ty: &FuncType<'_>,
-    state: &mut State<'_>,
-    alloc: Global,
-) -> ResolutionResult<ItemKind>
+fn written_func(ty: &FuncType<'_>, state: &mut State<'_>, alloc: Global) -> Outcome<ItemKind>
     requires { IsSound state.old.board.types.graph state.old.names }
     ensures kind { IfOk result (λ kind. Stands state.new.board.types.graph.types kind) }
     ensures sound { IsSound state.new.board.types.graph state.new.names }
@@ -178,7 +184,7 @@ fn asked(
     own: &PackageName<'_>,
     state: &mut State<'_>,
     alloc: Global,
-) -> ResolutionResult<ItemKind>
+) -> Outcome<ItemKind>
     requires { IsSound state.old.board.types.graph state.old.names }
     ensures kind { IfOk result (λ kind. Stands state.new.board.types.graph.types kind) }
     ensures sound { IsSound state.new.board.types.graph state.new.names }
@@ -188,7 +194,51 @@ fn asked(
         ImportType::Package(path) => item_at(path, own, state, alloc),
         ImportType::Func(ty) => written_func(ty, state, alloc),
         ImportType::Interface(interface) => written_interface(interface, own, state, alloc),
-        ImportType::Ident(id) => item_named(id, state, alloc),
+        ImportType::Ident(id) => {
+            item_named(id, &state.names, state.board.types.graph.types(), alloc)
+        }
+    }
+}
+
+/// An import of this name, and where it stands.
+fn named_import(
+    id: &Ident<'_>,
+    state: &mut State<'_>,
+    alloc: Global,
+    node: NodeId,
+    span: SourceSpan,
+) -> Outcome<()>
+    requires node { ContainsNode state.old.board.types.graph node }
+    requires sound { IsSound state.old.board.types.graph state.old.names }
+    ensures sound { OnOk result (IsSound state.new.board.types.graph state.new.names) }
+    ensures number { SameNumber state.old.board.types.graph state.new.board.types.graph }
+{
+    state.imports.note(node, span)?;
+    state.ids.note(node, id.span)?;
+    state.bind(alloc, id, node)
+}
+
+/// Adds an import under a name.
+fn add_import(
+    statement: &ImportStatement<'_>,
+    state: &mut State<'_>,
+    alloc: Global,
+    name: &str,
+    span: SourceSpan,
+    kind: ItemKind,
+) -> Outcome<()>
+    requires kind { Stands state.old.board.types.graph.types kind }
+    requires sound { IsSound state.old.board.types.graph state.old.names }
+    ensures sound { OnOk result (IsSound state.new.board.types.graph state.new.names) }
+    ensures number { SameNumber state.old.board.types.graph state.new.board.types.graph }
+{
+    match import(&mut state.board.types.graph, name, kind) {
+        Ok(node) => named_import(&statement.id, state, alloc, node, span),
+        Err(fault) => {
+            let is_helped = statement.name.is_none();
+            let fault = import_fault(&state.imports, span, is_helped, fault);
+            Err(Refusal::named(alloc, fault))
+        }
     }
 }
 
@@ -198,29 +248,28 @@ fn import_statement(
     own: &PackageName<'_>,
     state: &mut State<'_>,
     alloc: Global,
-) -> ResolutionResult<()>
+) -> Outcome<()>
     requires { IsSound state.old.board.types.graph state.old.names }
     ensures sound { OnOk result (IsSound state.new.board.types.graph state.new.names) }
     ensures number { SameNumber state.old.board.types.graph state.new.board.types.graph }
 {
-    let name = import_name(statement, state, alloc)?;
+    let types = state.board.types.graph.types();
+    let name = import_name(statement, &state.names, types, alloc)?;
     let kind = asked(&statement.ty, own, state, alloc)?.promote();
-    match import(&mut state.board.types.graph, name.text.as_str(), kind) {
-        Ok(node) => {
-            state.imports.note(node, name.span)?;
-            state.ids.note(node, statement.id.span)?;
-            state.bind(alloc, &statement.id, node)
-        }
-        Err(fault) => Err(import_fault(&state.imports, name.span, statement.name.is_none(), fault)),
-    }
+    add_import(statement, state, alloc, name.text.as_str(), name.span, kind)
 }
 
 // What is declared is new and no resource: the other refusals never come.
-fn definition_fault(id: &Ident<'_>, state: &State<'_>, fault: DefineTypeError) -> Error {
+fn definition_fault(
+    id: &Ident<'_>,
+    graph: &CompositionGraph,
+    exports: &Spans,
+    fault: DefineTypeError,
+) -> Error {
     match fault {
         DefineTypeError::ExportConflict { name } => {
-            let export = match state.board.types.graph.get_export(id.string) {
-                Some(node) => state.exports.of_or(node, id.span),
+            let export = match graph.get_export(id.string) {
+                Some(node) => exports.of_or(node, id.span),
                 None => id.span,
             };
             Error::DeclarationConflict {
@@ -247,7 +296,7 @@ fn declared(
     own: &PackageName<'_>,
     state: &mut State<'_>,
     alloc: Global,
-) -> ResolutionResult<Type>
+) -> Outcome<Type>
     requires { IsSound state.old.board.types.graph state.old.names }
     ensures ty { IfOk result (λ ty. Stands state.new.board.types.graph.types (ItemKind.Ty ty)) }
     ensures sound { IsSound state.new.board.types.graph state.new.names }
@@ -261,13 +310,30 @@ fn declared(
     Ok(ty)
 }
 
+/// A definition of this name.
+fn named_definition(
+    id: &Ident<'_>,
+    state: &mut State<'_>,
+    alloc: Global,
+    node: NodeId,
+) -> Outcome<()>
+    requires node { ContainsNode state.old.board.types.graph node }
+    requires sound { IsSound state.old.board.types.graph state.old.names }
+    ensures sound { OnOk result (IsSound state.new.board.types.graph state.new.names) }
+    ensures number { SameNumber state.old.board.types.graph state.new.board.types.graph }
+{
+    state.exports.note(node, id.span)?;
+    state.ids.note(node, id.span)?;
+    state.bind(alloc, id, node)
+}
+
 /// A declaration.
 fn declaration(
     statement: &TypeStatement<'_>,
     own: &PackageName<'_>,
     state: &mut State<'_>,
     alloc: Global,
-) -> ResolutionResult<()>
+) -> Outcome<()>
     requires { IsSound state.old.board.types.graph state.old.names }
     ensures sound { OnOk result (IsSound state.new.board.types.graph state.new.names) }
     ensures number { SameNumber state.old.board.types.graph state.new.board.types.graph }
@@ -275,12 +341,12 @@ fn declaration(
     let ty = declared(statement, own, state, alloc)?;
     let id = declared_id(statement);
     match define(&mut state.board.types.graph, id.string, ty) {
-        Ok(node) => {
-            state.exports.note(node, id.span)?;
-            state.ids.note(node, id.span)?;
-            state.bind(alloc, &id, node)
+        Ok(node) => named_definition(&id, state, alloc, node),
+        Err(fault) => {
+            let graph = &state.board.types.graph;
+            let fault = definition_fault(&id, graph, &state.exports, fault);
+            Err(Refusal::named(alloc, fault))
         }
-        Err(fault) => Err(definition_fault(&id, state, fault)),
     }
 }
 
@@ -290,7 +356,7 @@ fn let_statement(
     own: &PackageName<'_>,
     state: &mut State<'_>,
     alloc: Global,
-) -> ResolutionResult<()>
+) -> Outcome<()>
     requires { IsSound state.old.board.types.graph state.old.names }
     ensures sound { OnOk result (IsSound state.new.board.types.graph state.new.names) }
     ensures number { SameNumber state.old.board.types.graph state.new.board.types.graph }
@@ -310,7 +376,7 @@ fn export_statement(
     own: &PackageName<'_>,
     state: &mut State<'_>,
     alloc: Global,
-) -> ResolutionResult<()>
+) -> Outcome<()>
     requires { IsSound state.old.board.types.graph state.old.names }
     ensures sound { OnOk result (IsSound state.new.board.types.graph state.new.names) }
     ensures number { SameNumber state.old.board.types.graph state.new.board.types.graph }
@@ -330,7 +396,7 @@ fn say_statement(
     own: &PackageName<'_>,
     state: &mut State<'_>,
     alloc: Global,
-) -> ResolutionResult<()>
+) -> Outcome<()>
     requires { IsSound state.old.board.types.graph state.old.names }
     ensures sound { OnOk result (IsSound state.new.board.types.graph state.new.names) }
     ensures number { SameNumber state.old.board.types.graph state.new.board.types.graph }
@@ -349,7 +415,7 @@ pub(crate) fn say_statements(
     own: &PackageName<'_>,
     state: &mut State<'_>,
     alloc: Global,
-) -> ResolutionResult<()>
+) -> Outcome<()>
     requires { IsSound state.old.board.types.graph state.old.names }
     ensures sound { OnOk result (IsSound state.new.board.types.graph state.new.names) }
     ensures number { SameNumber state.old.board.types.graph state.new.board.types.graph }

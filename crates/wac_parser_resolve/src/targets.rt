@@ -16,7 +16,7 @@ use indexmap::IndexMap;
 use std::alloc::{AllocError, Global};
 use wac_graph_core::{CompositionGraph, NodeId};
 use wac_parser_lexer::SourceSpan;
-use wac_parser_refusals::{Error, ResolutionResult, unwritable};
+use wac_parser_refusals::{Error, Outcome, Refusal, unwritable};
 use wac_parser_tree::PackagePath;
 use wac_types_base::{ExternKind, ItemKind, NamedMap, TargetError, Types, WorldId};
 use wac_types_fit::{SubtypeChecker, SubtypeError, new_cache};
@@ -93,31 +93,34 @@ fn is_passed(graph: &CompositionGraph, instance: NodeId, name: &str) -> bool
 }
 
 impl<'p, 'i, 't> Target<'p, 'i, 't> {
-    fn not_in_target(&self, asked: Asked<'_>) -> Result<Error, AllocError> {
-        Ok(Error::ImportNotInTarget {
+    fn not_in_target(&self, asked: Asked<'_>) -> Result<Refusal, AllocError> {
+        let fault = Error::ImportNotInTarget {
             name: String::from_str(self.alloc, asked.name)?,
             world: String::from_str(self.alloc, self.path)?,
             span: asked.span,
-        })
+        };
+        Ok(Refusal::named(self.alloc, fault))
     }
 
-    fn mismatched(&self, place: Place<'_>, source: SubtypeError) -> Result<Error, AllocError> {
-        Ok(Error::TargetMismatch {
+    fn mismatched(&self, place: Place<'_>, source: SubtypeError) -> Result<Refusal, AllocError> {
+        let fault = Error::TargetMismatch {
             kind: place.kind,
             name: String::from_str(self.alloc, place.name)?,
             world: String::from_str(self.alloc, self.path)?,
             span: place.span,
             source,
-        })
+        };
+        Ok(Refusal::named(self.alloc, fault))
     }
 
-    fn missing_export(&self, name: &str, kind: &'static str) -> Result<Error, AllocError> {
-        Ok(Error::MissingTargetExport {
+    fn missing_export(&self, name: &str, kind: &'static str) -> Result<Refusal, AllocError> {
+        let fault = Error::MissingTargetExport {
             name: String::from_str(self.alloc, name)?,
             kind,
             world: String::from_str(self.alloc, self.path)?,
             span: self.span,
-        })
+        };
+        Ok(Refusal::named(self.alloc, fault))
     }
 
     /// What the target gives under the name of an import: an implicit interface, else an import.
@@ -131,13 +134,7 @@ impl<'p, 'i, 't> Target<'p, 'i, 't> {
     }
 
     /// Refuses where one kind does not fit the other.
-    fn fits(
-        &self,
-        types: &Types,
-        given: ItemKind,
-        asked: ItemKind,
-        place: Place<'_>,
-    ) -> ResolutionResult<()>
+    fn fits(&self, types: &Types, given: ItemKind, asked: ItemKind, place: Place<'_>) -> Outcome<()>
         requires given { Stands types.now given }
         requires asked { Stands types.now asked }
         ensures { OnOk result (Fit types.now given types.now asked) }
@@ -150,7 +147,7 @@ impl<'p, 'i, 't> Target<'p, 'i, 't> {
     }
 
     /// An import is one of the target's, and the target's fits it.
-    fn import_met(&self, types: &Types, asked: Asked<'_>) -> ResolutionResult<()>
+    fn import_met(&self, types: &Types, asked: Asked<'_>) -> Outcome<()>
         requires given { GivesStanding types.now (given_by self.now) }
         requires asked { Stands types.now asked.kind }
         ensures { OnOk result (IsImportMet types.now (given_by self.now) asked.entry.name.now asked.entry.kind) }
@@ -167,12 +164,7 @@ impl<'p, 'i, 't> Target<'p, 'i, 't> {
     }
 
     /// An import that a statement asks.
-    fn explicit_met(
-        &self,
-        graph: &CompositionGraph,
-        spans: &Spans,
-        node: NodeId,
-    ) -> ResolutionResult<()>
+    fn explicit_met(&self, graph: &CompositionGraph, spans: &Spans, node: NodeId) -> Outcome<()>
         requires given { GivesStanding graph.now.types (given_by self.now) }
         requires node { ContainsNode graph.now node }
         ensures { OnOk result (IsStatementMet graph.now (given_by self.now) node) }
@@ -197,7 +189,7 @@ impl<'p, 'i, 't> Target<'p, 'i, 't> {
         instance: NodeId,
         name: &str,
         kind: ItemKind,
-    ) -> ResolutionResult<()>
+    ) -> Outcome<()>
         requires given { GivesStanding graph.now.types (given_by self.now) }
         requires instance { ContainsNode graph.now instance }
         requires kind { Stands graph.now.types kind }
@@ -220,7 +212,7 @@ impl<'p, 'i, 't> Target<'p, 'i, 't> {
         graph: &CompositionGraph,
         instance: NodeId,
         imports: &NamedMap<ItemKind>,
-    ) -> ResolutionResult<()>
+    ) -> Outcome<()>
         requires given { GivesStanding graph.now.types (given_by self.now) }
         requires instance { ContainsNode graph.now instance }
         requires imports { AllStand graph.now.types imports.now }
@@ -235,7 +227,7 @@ impl<'p, 'i, 't> Target<'p, 'i, 't> {
 
     /// The imports that a node asks, where it is an instance.
     #[tactic(auto, using(crate::proofs::TargetMet::instance))]
-    fn instance_met(&self, graph: &CompositionGraph, node: NodeId) -> ResolutionResult<()>
+    fn instance_met(&self, graph: &CompositionGraph, node: NodeId) -> Outcome<()>
         requires given { GivesStanding graph.now.types (given_by self.now) }
         requires node { ContainsNode graph.now node }
         ensures { OnOk result (IsInstanceMet graph.now (given_by self.now) node) }
@@ -252,7 +244,7 @@ impl<'p, 'i, 't> Target<'p, 'i, 't> {
     }
 
     /// The imports of all statements.
-    fn statements_met(&self, graph: &CompositionGraph, spans: &Spans) -> ResolutionResult<()>
+    fn statements_met(&self, graph: &CompositionGraph, spans: &Spans) -> Outcome<()>
         requires { GivesStanding graph.now.types (given_by self.now) }
         ensures { OnOk result ((k : ℕ) → IsStatementMet graph.now (given_by self.now) k) }
     {
@@ -263,7 +255,7 @@ impl<'p, 'i, 't> Target<'p, 'i, 't> {
     }
 
     /// The imports of all instances.
-    fn instances_met(&self, graph: &CompositionGraph) -> ResolutionResult<()>
+    fn instances_met(&self, graph: &CompositionGraph) -> Outcome<()>
         requires { GivesStanding graph.now.types (given_by self.now) }
         ensures { OnOk result ((k : ℕ) → IsInstanceMet graph.now (given_by self.now) k) }
     {
@@ -280,7 +272,7 @@ impl<'p, 'i, 't> Target<'p, 'i, 't> {
         spans: &Spans,
         name: &str,
         kind: ItemKind,
-    ) -> ResolutionResult<()>
+    ) -> Outcome<()>
         requires { Stands graph.now.types kind }
         ensures { OnOk result (IsExportMet graph.now name.now kind) }
     {
@@ -304,7 +296,7 @@ impl<'p, 'i, 't> Target<'p, 'i, 't> {
         graph: &CompositionGraph,
         spans: &Spans,
         exports: &NamedMap<ItemKind>,
-    ) -> ResolutionResult<()>
+    ) -> Outcome<()>
         requires { AllStand graph.now.types exports.now }
         ensures { OnOk result (AreExportsMet graph.now exports.now) }
     {
@@ -326,10 +318,10 @@ fn exported(graph: &CompositionGraph, name: &str) -> Option<NodeId>
 }
 
 /// Why the implicit interfaces of a target are not to be had.
-fn implicit_fault(alloc: Global, path: &PackagePath<'_>, fault: TargetError) -> Error {
+fn implicit_fault(alloc: Global, path: &PackagePath<'_>, fault: TargetError) -> Refusal {
     match fault {
-        TargetError::Memory => Error::Memory,
-        TargetError::UsedWithoutIdentifier => unwritable(alloc, path.string, None).into_error(),
+        TargetError::Memory => Refusal::Memory,
+        TargetError::UsedWithoutIdentifier => unwritable(alloc, path.string, None),
     }
 }
 
@@ -342,7 +334,7 @@ pub(crate) fn target_met(
     exports: &Spans,
     path: &PackagePath<'_>,
     world: WorldId,
-) -> ResolutionResult<()>
+) -> Outcome<()>
     requires { Stands graph.now.types (ItemKind.Component world) }
     ensures { OnOk result (IsMet graph.now world) }
 {

@@ -18,7 +18,7 @@ use crate::output::Output;
 use crate::workspace::Workspace;
 use semver::Version;
 use std::alloc::{AllocError, Global};
-use wac_graph_encode::{EncodeOptions, Encoded};
+use wac_parser_encode::{EncodeOptions, EncodeResolution, Encoded};
 use wac_parser_read::ParseDocument;
 use wac_parser_resolve::{AstResolver, Error as ResolutionError, Packages, Resolved};
 use wac_parser_tree::{Document, PackageDirective, PackageName};

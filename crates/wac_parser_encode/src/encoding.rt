@@ -1,0 +1,141 @@
+//! Resolved documents as components.
+
+ghost use Rattle.std.specs.Prelude.{◌≡◌, IfOk, Some};
+ghost use Rattle.wac_types_base.specs.declared.item.ItemKind.{ItemKind};
+ghost use Rattle.wac_types_base.specs.Collection.{Stands};
+ghost use Rattle.wac_graph_encode.specs.Acyclic.{IsNoCycle};
+ghost use Rattle.wac_parser_encode.specs.Processing.{IsProcessed};
+
+use std::alloc::{AllocError, Global};
+use wac_graph_bytes::Processor;
+use wac_graph_encode::{EncodeError, EncodeGraph, EncodeOptions, Encoded, ValidationFault};
+use wac_parser_refusals::{Error, ResolutionResult};
+use wac_parser_resolve::Resolved;
+use wac_types_base::ExternKind;
+
+/// What is said to have written a component where nothing else is said.
+const PROCESSOR: &str = "wac-parser";
+
+const VERSION: &str = "0.11.0";
+
+/// Two names that are too much alike.
+fn alike(fault: ValidationFault) -> Error {
+    match fault {
+        ValidationFault::ImportNames(first, second) => Error::ValidationFailure {
+            kind: ExternKind::Import,
+            first,
+            second,
+        },
+        ValidationFault::ExportNames(first, second) => Error::ValidationFailure {
+            kind: ExternKind::Export,
+            first,
+            second,
+        },
+    }
+}
+
+/// The document's fault that a refusal of its graph is. No graph has a cycle.
+fn fault_of<D>(resolution: &Resolved<'_, D>, fault: EncodeError) -> Error
+    requires { IsNoCycle fault }
+{
+    match fault {
+        EncodeError::ImplicitImportConflict {
+            import,
+            instantiation,
+            package,
+            name,
+        } => Error::ImportConflict {
+            name,
+            package,
+            instantiation: resolution.asker_span(instantiation),
+            import: resolution.import_span(import),
+        },
+        EncodeError::ExplicitImportConflict {
+            name,
+            first,
+            second,
+        } => Error::ExplicitImportConflict {
+            name,
+            span: resolution.import_span(second),
+            previous: resolution.import_span(first),
+        },
+        EncodeError::ImportTypeMergeConflict {
+            import,
+            first,
+            second,
+            source,
+        } => Error::InstantiationArgMergeFailure {
+            name: import,
+            span: resolution.asker_span(second),
+            instantiation: resolution.asker_span(first),
+            source,
+        },
+        EncodeError::TypeCannotBeWritten { name } => Error::TypeCannotBeWritten {
+            name,
+            span: None,
+        },
+        EncodeError::TooLarge => Error::TooLarge,
+        EncodeError::ValidationFailure { source } => alike(source),
+        EncodeError::GraphContainsCycle { .. } => unreachable!(),
+        EncodeError::Memory => Error::Memory,
+    }
+}
+
+/// The options, with a processor.
+fn with_processor(alloc: Global, options: EncodeOptions) -> Result<EncodeOptions, AllocError>
+    ensures { IfOk result (λ all. IsProcessed options all) }
+{
+    let EncodeOptions {
+        define_components,
+        validate,
+        processor,
+    } = options;
+    let processor = match processor {
+        Some(processor) => processor,
+        None => Processor {
+            name: String::from_str(alloc, PROCESSOR)?,
+            version: String::from_str(alloc, VERSION)?,
+        },
+    };
+    Ok(EncodeOptions {
+        define_components,
+        validate,
+        processor: Some(processor),
+    })
+}
+
+/// Encoding of resolved documents.
+pub trait EncodeResolution {
+    /// The component of the graph.
+    fn encode(&self, options: EncodeOptions) -> ResolutionResult<Vec<u8>>;
+
+    /// The component of the graph, and the world that is true of it, in a collection of the second number. The first is
+    /// that of the collection in which imports are merged.
+    fn encode_world(&self, options: EncodeOptions, numbers: (u64, u64)) -> ResolutionResult<Encoded>
+        ensures number { IfOk result (λ e. e.types.number ≡ numbers.1) }
+        ensures stands { IfOk result (λ e. Stands e.types (ItemKind.Component e.world)) };
+}
+
+impl<'d, D> EncodeResolution for Resolved<'d, D> {
+    fn encode(&self, options: EncodeOptions) -> ResolutionResult<Vec<u8>> {
+        let graph = self.graph();
+        let options = with_processor(graph.alloc(), options)?;
+        match graph.encode(options) {
+            Ok(bytes) => Ok(bytes),
+            Err(fault) => Err(fault_of(self, fault)),
+        }
+    }
+
+    fn encode_world(
+        &self,
+        options: EncodeOptions,
+        numbers: (u64, u64),
+    ) -> ResolutionResult<Encoded> {
+        let graph = self.graph();
+        let options = with_processor(graph.alloc(), options)?;
+        match graph.encode_world(options, numbers) {
+            Ok(encoded) => Ok(encoded),
+            Err(fault) => Err(fault_of(self, fault)),
+        }
+    }
+}
