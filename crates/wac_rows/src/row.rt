@@ -1,0 +1,61 @@
+//! A row and its parts.
+
+use std::alloc::{AllocError, Global};
+
+/// A part of a row.
+#[derive(Clone, Copy, Debug, Drop)]
+pub struct Part<'a> {
+    /// The first word of its line.
+    pub kind: &'a str,
+    /// The rest of its line.
+    pub name: &'a str,
+    /// What stands below its line.
+    pub text: &'a str,
+}
+
+impl<'a> Part<'a> {
+    /// The part of its line and the text below it.
+    fn read(part: &'a str) -> Part<'a> {
+        let (title, text) = part.split_once('\n').unwrap_or((part, ""));
+        let (kind, name) = title.split_once(' ').unwrap_or((title, ""));
+        Part {
+            kind,
+            name,
+            text: text.trim_end_matches('\n'),
+        }
+    }
+}
+
+/// A row.
+#[derive(Debug, Drop)]
+pub struct Row<'a> {
+    pub name: &'a str,
+    /// The parts as they stand in the file.
+    pub parts: Vec<Part<'a>>,
+}
+
+impl<'a> Row<'a> {
+    /// The row of the text behind `=== `.
+    pub fn read(alloc: Global, chunk: &'a str) -> Result<Row<'a>, AllocError> {
+        let mut chunks = chunk.split("\n--- ");
+        let name = chunks.next().unwrap_or("");
+        let mut parts = Vec::new(alloc);
+        for part in chunks {
+            parts.push(Part::read(part))?;
+        }
+        Ok(Row {
+            name: name.trim_end_matches('\n'),
+            parts,
+        })
+    }
+
+    /// The text of the first part of a kind.
+    pub fn text(&self, kind: &str) -> Option<&'a str> {
+        for part in &self.parts {
+            if part.kind == kind {
+                return Some(part.text);
+            }
+        }
+        None
+    }
+}
