@@ -1,0 +1,57 @@
+//! Shows rows of resolution: packages and a document as texts, and the graph or the refusal that comes of them.
+#![tactic(auto)]
+
+mod handed;
+mod shown;
+
+use anyhow::{Context, Result};
+use handed::{hand_all, packages_of};
+use shown::{show_error, show_graph};
+use std::alloc::Global;
+use std::io::Read;
+use wac_parser_read::ParseDocument;
+use wac_parser_resolve::{Packages, ResolveDocument};
+use wac_parser_tree::Document;
+use wac_rows::{Row, RowTeller, report};
+
+// What owns a document is generic in its type, and named where no document is there yet: a proof then need not take the
+// whole tree of types apart.
+
+/// The graph of a source's document, or its fault.
+fn resolved<'s, D: ParseDocument<'s> + ResolveDocument>(
+    source: &'s str,
+    alloc: Global,
+    packages: &Packages<'_>,
+) -> Result<String> {
+    let document = D::parse(alloc, source)?;
+    match document.resolve(alloc, packages, 100) {
+        Ok(resolution) => show_graph(alloc, resolution.graph()),
+        Err(error) => show_error(alloc, &error),
+    }
+}
+
+/// A row has the part `packages`, a document in each line, and the part `source`, the document over them.
+struct ResolveRows;
+
+impl RowTeller for ResolveRows {
+    fn tell(&self, alloc: Global, row: &Row<'_>) -> Result<String> {
+        let source = row.text("source").context("no source")?;
+        let handed = hand_all(alloc, row.text("packages").unwrap_or(""))?;
+        let packages = packages_of(alloc, &handed)?;
+        resolved::<Document<'_>>(source, alloc, &packages)
+    }
+}
+
+/// The report on the rows of standard input.
+fn reported(rt: &HostRuntime) -> Result<String> {
+    let mut bytes = Vec::new(rt.alloc());
+    rt.stdin().read_to_end(&mut bytes)?;
+    let text = std::str::from_utf8(&bytes)?;
+    Ok(report(&ResolveRows, rt.alloc(), text)?)
+}
+
+fn main(rt: HostRuntime) -> Result<()> {
+    let report = reported(&rt)?;
+    print!(rt; "{report}")?;
+    Ok(())
+}
