@@ -5,7 +5,7 @@ use Rattle.semver.specs.Parse.{Parts}
 use Rattle.wac_types_base.specs.Entries.{Name}
 use Rattle.wac_types_names.specs.Tracks.{read_version, before_at, version_of}
 use Rattle.wac_types_names.specs.Versions.{version_cmp}
-use Rattle.wac_graph_bytes.specs.NameTests.{path_test, pair_test}
+use Rattle.wac_names.specs.NameTests.{path_test, pair_test}
 
 -- What names the track of a version: its major number, or where that is 0 its minor number. A version with a pre-release
 -- is on no track, and neither is one of 0.0.

@@ -2,8 +2,8 @@ pub use Rattle.wac_graph_bytes.specs.Leb
 pub use Rattle.wac_graph_bytes.specs.Entries
 pub use Rattle.wac_graph_bytes.specs.Spelling
 pub use Rattle.wac_graph_bytes.specs.Sizes
-pub use Rattle.wac_graph_bytes.specs.ComponentNames
-pub use Rattle.wac_graph_bytes.specs.NameTests
+pub use Rattle.wac_names.specs.ComponentNames
+pub use Rattle.wac_names.specs.NameTests
 pub use Rattle.wac_graph_bytes.specs.Wirings
 pub use Rattle.wac_graph_bytes.specs.Typing
 pub use Rattle.wac_graph_bytes.specs.Meaning

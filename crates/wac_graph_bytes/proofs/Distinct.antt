@@ -7,7 +7,7 @@ use Rattle.std.proofs.lemmas.Slice.Eq.{bytes_eq-Decides}
 use Rattle.wac_types_base.specs.Entries.{Name, AreDistinct}
 use Rattle.wac_types_base.specs.Graph.{Among}
 use Rattle.wac_graph_bytes.specs.Typing.{same_name, same_pair, is_new, are_distinct, distinct_names}
-use Rattle.wac_graph_bytes.proofs.Written.{and_parts}
+use Rattle.wac_names.proofs.Parts.{and_parts}
 
 not_true : (b : Bool) → not b ≡ true → b ≡ false
 not_true false e = refl

@@ -15,7 +15,8 @@ use Rattle.wac_graph_bytes.specs.Spelling.{section_bytes, component_bytes, pream
 use Rattle.wac_graph_bytes.specs.Wirings.{Source, Absent, Outer, Inst, Projection, Bundle, Definition, IsNamed, IsPlain, IsClosed, Uses, Tag, OfBytes, OfDependency, Instantiation, Wiring, IsOrdered}
 use Rattle.wac_graph_bytes.specs.Typing.{◌>>=◌, Meaning, Item, Made, Part, Known, Code, Scope, space, with_one, with_core, found, found_at, Worlds, item_of, item_tree, part_of, export_named, item_of_sort, described, module_tree, type_of, alias_sort, alias_of, same_name}
 use Rattle.wac_graph_bytes.specs.Meaning.{source_of, tag_of, arguments_of, Listed, makes, adds, imports_one, exports_one, states, State, start, step, steps, source_at, instantiation, Means}
-use Rattle.wac_graph_bytes.proofs.Steps.{bind_some, some_of, some_is, states_keeps, core_kept}
+use Rattle.wac_names.proofs.Parts.{some_of}
+use Rattle.wac_graph_bytes.proofs.Steps.{bind_some, some_is, states_keeps, core_kept}
 
 -- ---- what is kept: numbers below n, nested strings shorter than l
 

@@ -12,8 +12,6 @@ pub mod Earlier
 pub mod Written
 pub mod Extending
 pub mod Distinct
-pub mod NameForms
-pub mod NameKinds
 pub mod Exemplified
 pub mod Rowed
 pub mod Looked

@@ -22,7 +22,8 @@ use Rattle.wac_graph_bytes.specs.declared.module.CoreDescription.TheVariants as 
 use Rattle.wac_graph_bytes.specs.Leb.{unsigned, signed}
 use Rattle.wac_graph_bytes.specs.Entries.{DefinedType, PrimitiveEntry, RecordEntry, VariantEntry, ListEntry, OptionEntry, FixedListEntry, TupleEntry, FlagsEntry, EnumEntry, ResultEntry, OwnEntry, BorrowEntry, StreamEntry, FutureEntry, FuncEntry, Alias, ExportAlias, OuterAlias, CoreDeclaration, CoreImport, CoreSignature, CoreExport, Declarations, End, CoreThen, TypeThen, ComponentTypeThen, InstanceTypeThen, AliasThen, ImportThen, ExportThen, TypeEntry, PlainType, ComponentType, InstanceType, ExportEntry, Argument, Section, Custom, CoreTypes, NestedComponent, Instances, Aliases, Types, Imports, Exports}
 use Rattle.wac_graph_bytes.specs.Spelling.{vec, name, extern_name, sort_bytes, primitive_byte, value_type, optional, field, case_bytes, answer, func_byte, defined_type, description, alias_bytes, core_reference, core_value, bit, limits_by, limits, core_description, core_declaration, core_type, declaration_count, declaration_bytes, type_entry, argument, instance_entry, import_entry, stated_bytes, export_entry, section_id, contents, section_bytes, preamble, component_bytes}
-use Rattle.wac_graph_bytes.proofs.LebLaws.{digits_last, digits_more, cons_head, cons_tail}
+use Rattle.wac_graph_bytes.proofs.LebLaws.{digits_last, digits_more}
+use Rattle.wac_names.proofs.Parts.{cons_head, cons_tail}
 use Rattle.wac_graph_bytes.proofs.Codes.{Same, IsCode, unsigned_code, signed_code, then_one, first_one, name_code, vec_code, whole, framed_one, all_one, both_code, tagged_code, ended_code}
 
 sort_one : (a b : Sort) (x y : List ℕ) → sort_bytes a ++ x ≡ sort_bytes b ++ y → Same a b x y

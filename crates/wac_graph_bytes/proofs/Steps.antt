@@ -15,14 +15,12 @@ use Rattle.wac_graph_bytes.specs.Typing.{◌>>=◌, Meaning, Item, Made, Known, 
 use Rattle.wac_graph_bytes.specs.Meaning.{source_of, tag_of, arguments_of, makes, adds, imports_one, exports_one, states, State, start, step, steps}
 use Rattle.wac_graph_bytes.specs.Views.{view}
 use Rattle.wac_graph_bytes.specs.Counting.{same_sort, description_sort, entry_sort, is_sort, is_core, count_of, core_count}
+use Rattle.wac_names.proofs.Parts.{some_of}
 
 -- the value of a step that was taken
 pub bind_some : {A B : Type 0} (o : Option A) (f : A → Option B) (y : B) → (o >>= f) ≡ Some y → (x : A) × (o ≡ Some x) × (f x ≡ Some y)
 bind_some (Some x) f y e = (x, refl, e)
 bind_some None f y e = absurd cc
-
-abbrev pub some_of : {A : Type 0} → A → Option A
-some_of x = Some x
 
 pub some_is : {A : Type 0} (x y : A) → some_of x ≡ some_of y → x ≡ y
 some_is x y e = cc

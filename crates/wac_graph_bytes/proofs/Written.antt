@@ -2,6 +2,7 @@
 use Rattle.std.proofs.Common.{◌≡◌, ℕ, Bool, true, false, List, [], ◌∷◌, ◌++◌, length, map, Option, Some, None, refl, ap, ◌∙◌}
 use Rattle.std.specs.Prelude.{◌&&◌}
 use Rattle.std.specs.List.{AllByRecursion, list_all}
+use Rattle.wac_names.proofs.Parts.{and_parts}
 use Rattle.wac_types_base.specs.Entries.{Name, names_of, AreDistinct}
 use Rattle.wac_graph_bytes.specs.declared.value.Sort.{Sort}
 use Rattle.wac_graph_bytes.specs.Entries.{Entry, Core, Nested, Instantiate, Aliased, Typed, Imported, Exported, Section, section_entries, entries_of}
@@ -12,10 +13,6 @@ use Rattle.wac_graph_bytes.specs.Meaning.{State, start, steps, wiring_of, IsApar
 use Rattle.wac_graph_bytes.specs.Writing.{section_of, entry_fits, debug_part_fits, debug_names, debug_if, debug_if_fits, producers, producers_if, producers_if_fit, sections_for, sections_fit}
 
 -- the two tests of a conjunction
-pub and_parts : (a b : Bool) → (a && b) ≡ true → (a ≡ true) × (b ≡ true)
-and_parts true b e = (refl, e)
-and_parts false b e = absurd cc
-
 entry_alone : (e : Entry) → section_entries (section_of e) ≡ e ∷ []
 entry_alone (Core ds) = refl
 entry_alone (Nested bytes) = refl

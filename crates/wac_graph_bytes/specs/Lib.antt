@@ -2,8 +2,6 @@ pub mod Leb
 pub mod Entries
 pub mod Spelling
 pub mod Sizes
-pub mod ComponentNames
-pub mod NameTests
 pub mod Wirings
 pub mod Typing
 pub mod Meaning

@@ -10,7 +10,7 @@ use Rattle.wac_types_base.specs.Entries.{Name, names_of, value_at, AreDistinct}
 use Rattle.wac_graph_bytes.specs.Entries.{Argument, Entry, Core, Nested, Instantiate, Aliased, Typed, Imported, Exported, Section, entries_of}
 use Rattle.wac_graph_bytes.specs.Spelling.{component_bytes}
 use Rattle.wac_graph_bytes.specs.Sizes.{section_fits}
-use Rattle.wac_graph_bytes.specs.ComponentNames.{IsDependency}
+use Rattle.wac_names.specs.ComponentNames.{IsDependency}
 use Rattle.wac_graph_bytes.specs.Wirings.{Source, Absent, Outer, Inst, Projection, Definition, Asks, Tag, OfBytes, OfDependency, Instantiation, Wiring}
 use Rattle.wac_graph_bytes.specs.Typing.{◌>>=◌, Meaning, Item, Made, Part, Known, Code, Scope, no_scope, with_one, with_core, found, Worlds, item_of, item_tree, module_tree, described, alias_sort, alias_of, type_of, same_name}
 

@@ -9,7 +9,6 @@ pub mod entry;
 pub mod fault;
 mod laws;
 pub mod module;
-pub mod names;
 mod text;
 mod types;
 pub mod value;
@@ -37,10 +36,10 @@ pub use laws::{
 pub use module::{
     CoreDeclaration, CoreDescription, CoreReference, CoreValue, Limits, core_reference, core_value,
 };
-pub use names::{NameKind, component_name};
 pub use text::{push_bound, push_extern_name, push_name, push_names, push_signed, push_unsigned};
 pub use types::{
     push_alias, push_answer, push_cases, push_defined_type, push_description, push_optional,
     push_params, push_sort, push_value_type, push_value_types,
 };
 pub use value::{Description, PrimitiveType, Sort, ValueType};
+pub use wac_names::{NameKind, component_name};

@@ -9,9 +9,9 @@ use Rattle.wac_graph_core.specs.declared.errors.ExportError.{ExportError}
 use Rattle.wac_graph_core.specs.declared.errors.UnexportError.{UnexportError}
 use Rattle.wac_graph_core.specs.Nodes.{NodeData, Role, imported_as}
 use Rattle.wac_graph_core.specs.Graph.{Graph, node_at}
-use Rattle.wac_graph_bytes.specs.declared.names.NameKind.{NameKind}
-use Rattle.wac_graph_bytes.specs.declared.names.NameKind.TheVariants as kind
-use Rattle.wac_graph_bytes.specs.ComponentNames.{IsName}
+use Rattle.wac_names.specs.declared.names.NameKind.{NameKind}
+use Rattle.wac_names.specs.declared.names.NameKind.TheVariants as kind
+use Rattle.wac_names.specs.ComponentNames.{IsName}
 use Rattle.wac_graph_core.specs.Steps.{with_node}
 
 -- the name of an import

@@ -7,8 +7,8 @@ use Rattle.wac_types_base.specs.Graph.{Among}
 use Rattle.wac_types_names.specs.Packaged.{Packaged}
 use Rattle.wac_types_names.specs.Keys.{Key, package_key}
 use Rattle.wac_types_fit.specs.Trees.{Fit}
-use Rattle.wac_graph_bytes.specs.ComponentNames.{IsName}
-use Rattle.wac_graph_bytes.specs.declared.names.NameKind.{NameKind}
+use Rattle.wac_names.specs.ComponentNames.{IsName}
+use Rattle.wac_names.specs.declared.names.NameKind.{NameKind}
 use Rattle.wac_graph_core.specs.declared.ids.PackageId.{PackageId}
 use Rattle.wac_graph_core.specs.declared.edge.Edge.{Edge}
 use Rattle.wac_graph_core.specs.declared.edge.Follow.{Follow}

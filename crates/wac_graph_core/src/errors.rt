@@ -3,15 +3,9 @@
 use crate::ids::NodeId;
 use std::alloc::{AllocError, AllocFailed};
 use thiserror::Error;
+pub use wac_names::NameError;
 use wac_types_fit::SubtypeError;
 use wac_types_names::PackageKey;
-
-/// Why a text is no name of an import or an export.
-#[derive(Clone, Copy, Debug, PartialEq, Eq, Error)]
-pub enum NameError {
-    #[error("not a label, an interface, a dependency, a URL or a hash")]
-    NoKind,
-}
 
 /// Why a package is not registered.
 #[derive(Debug, Drop, Error)]

@@ -6,7 +6,7 @@ use Rattle.semver.specs.Identifiers.{parts_text}
 use Rattle.wac_types_base.specs.Entries.{Name, value_at}
 use Rattle.wac_types_base.specs.Stated.{Stated, Kind, IsInstance, IsComponent, IsWorld, kind_of, desc, exports_of, as_type}
 use Rattle.wac_types_names.specs.Keys.{Key}
-use Rattle.wac_graph_bytes.specs.NameTests.{pair_test, path_test}
+use Rattle.wac_names.specs.NameTests.{pair_test, path_test}
 use Rattle.wac_parser_tree.specs.Trees as t
 use Rattle.wac_parser_tree.specs.Trees.{Span}
 use Rattle.wac_parser_tree.specs.Segments.{Segment, segment_spans, package_name_span}

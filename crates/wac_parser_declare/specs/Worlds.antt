@@ -4,7 +4,7 @@ use Rattle.std.specs.Cmp.Lexicographic.{pointwise}
 use Rattle.wac_types_base.specs.declared.item.ExternKind.{ExternKind}
 use Rattle.wac_types_base.specs.Entries.{Name, has_name}
 use Rattle.wac_types_base.specs.Stated.{Stated, Kind, IsFunctionType, IsInterface, IsWorld, IsComponent, kind_of, desc, untyped, as_type, world_of, exports_of, imports_of, identifier_of}
-use Rattle.wac_graph_bytes.specs.ComponentNames.{has_byte}
+use Rattle.wac_names.specs.ComponentNames.{has_byte}
 use Rattle.wac_parser_tree.specs.Trees as t
 use Rattle.wac_parser_declare.specs.Scope.{Scope, Context, Path, in_package, at_root, has, named, at_path, path_text, path_span, world_path, identifier}
 use Rattle.wac_parser_declare.specs.Declarations.{free, type_decl}

@@ -6,7 +6,7 @@ ghost use Rattle.wac_parser_refusals.specs.Views.{cause_of};
 
 use std::alloc::{AllocError, AllocFailed};
 use std::fmt;
-use wac_graph_core::NameError;
+use wac_names::NameError;
 use wac_parser_lexer::SourceSpan;
 use wac_types_base::{ExternKind, FuncKind};
 use wac_types_fit::SubtypeError;

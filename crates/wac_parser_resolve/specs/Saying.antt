@@ -5,7 +5,7 @@ use Rattle.wac_types_base.specs.Entries.{Name, value_at, names_of}
 use Rattle.wac_types_base.specs.Stated.{Stated, Kind, IsInstance, IsComponent, kind_of, desc, promote, exports_of, identifier_of}
 use Rattle.wac_types_names.specs.Keys.{Key}
 use Rattle.std.specs.List.{list_any}
-use Rattle.wac_graph_bytes.specs.NameTests.{plain_test, behind_test}
+use Rattle.wac_names.specs.NameTests.{plain_test, behind_test}
 use Rattle.wac_composition.specs.Names.{is_interface_name}
 use Rattle.wac_parser_tree.specs.Trees as t
 use Rattle.wac_parser_tree.specs.Trees.{Span}

@@ -10,7 +10,7 @@ use Rattle.wac_types_base.specs.Record.{Collection}
 use Rattle.wac_types_base.specs.Entries.{Name, IsNew, names_of, AreDistinct}
 use Rattle.wac_types_base.proofs.Looked.{take-one_more}
 use Rattle.wac_types_base.proofs.Loops.{map-take, take-all}
-use Rattle.wac_graph_bytes.specs.ComponentNames.{IsInterfaceName}
+use Rattle.wac_names.specs.ComponentNames.{IsInterfaceName}
 use Rattle.wac_types_names.specs.Packages.{meaning, Defines, IsMeaning, AreDefinitions, no_exports, defined, passed}
 use Rattle.wac_types_names.proofs.Copied.{name_before}
 

@@ -8,7 +8,7 @@ use Rattle.wac_types_base.specs.declared.defined.Interface.{Interface}
 use Rattle.wac_types_base.specs.declared.defined.World.{World}
 use Rattle.wac_types_base.specs.Entries.{Name}
 use Rattle.wac_types_base.specs.Record.{Collection}
-use Rattle.wac_graph_bytes.specs.ComponentNames.{IsInterfaceName}
+use Rattle.wac_names.specs.ComponentNames.{IsInterfaceName}
 
 -- the type that the one export of a definition's world stands for
 abbrev pub meaning : ItemKind → Option ItemKind

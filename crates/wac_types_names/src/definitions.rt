@@ -2,14 +2,14 @@
 
 ghost use Rattle.std.specs.Prelude.{◌≡◌, IfOk, Some};
 ghost use Rattle.std.specs.Bool.{Decides};
-ghost use Rattle.wac_graph_bytes.specs.ComponentNames.{IsInterfaceName};
-ghost use Rattle.wac_graph_bytes.specs.declared.names.NameKind.TheVariants as kind;
+ghost use Rattle.wac_names.specs.ComponentNames.{IsInterfaceName};
+ghost use Rattle.wac_names.specs.declared.names.NameKind.TheVariants as kind;
 ghost use Rattle.wac_types_base.specs.Collection.{Stands};
 ghost use Rattle.wac_types_base.specs.declared.item.«Type».{«Type» as TypeKind};
 ghost use Rattle.wac_types_names.specs.Packages.{meaning, IsMeaning, DefinitionsOf};
 
 use std::alloc::{AllocError, Global};
-use wac_graph_bytes::{NameKind, component_name};
+use wac_names::{NameKind, component_name};
 use wac_types_base::{ItemKind, NamedMap, Type, Types, WorldId};
 
 /// Whether a name of that kind is one of an interface.

@@ -1,4 +1,4 @@
-use Rattle.wac_graph_bytes.specs.declared.names.NameKind.TheVariants as kind
+use Rattle.wac_names.specs.declared.names.NameKind.TheVariants as kind
 use Rattle.wac_types_names.proofs.definitions.is_interface_name.Goals as goal
 
 pub returns : goal.returns

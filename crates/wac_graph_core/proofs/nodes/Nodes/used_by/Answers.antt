@@ -1,5 +1,5 @@
 use Rattle.std.proofs.Common.{subst}
-use Rattle.wac_graph_bytes.proofs.NameKinds.{ok_map}
+use Rattle.wac_names.proofs.NameKinds.{ok_map}
 use Rattle.wac_graph_core.specs.NodeMaps.{AreThose}
 use Rattle.wac_graph_core.specs.Defining.{DefinesMarked}
 use Rattle.wac_graph_core.proofs.Reached.{unmarked_length, unmarked_closed, used_those}

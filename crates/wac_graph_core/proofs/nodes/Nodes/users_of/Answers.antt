@@ -1,5 +1,5 @@
 use Rattle.std.proofs.Common.{sym, ◌∙◌}
-use Rattle.wac_graph_bytes.proofs.NameKinds.{ok_map}
+use Rattle.wac_names.proofs.NameKinds.{ok_map}
 use Rattle.wac_graph_core.proofs.Reached.{users_those, no_users}
 use Rattle.wac_graph_core.proofs.nodes.Nodes.users_of.Goals as goal
 

@@ -1,11 +1,11 @@
-//! Component names.
+//! The names of a component's imports and exports.
 ghost use Rattle.std.specs.Prelude.{◌≡◌, ◌==◌, position, not, false, Some, ◌<◌, List, ℕ, IfOk, IsOk, length, codes, string_bytes};
 ghost use Rattle.std.specs.Bool.{Decides};
 ghost use Rattle.std.specs.Option.{MatchOption};
 ghost use Rattle.std.specs.List.{list_all, position_or_len, before_first, after_first};
-ghost use Rattle.wac_graph_bytes.specs.ComponentNames.{lower_word, upper_word, word_test, lower_or_digit, upper_or_digit, IsVersion, IsBehind, IsInside, IsInterfaceName, IsPlainName, IsDependency, IsName, has_byte};
-ghost use Rattle.wac_graph_bytes.specs.declared.names.NameKind.TheVariants as kind;
-ghost use Rattle.wac_graph_bytes.specs.NameTests.{joined_test, label_test, pair_test, behind_test, member_test, plain_test, package_test, path_test, unbroken_test};
+ghost use Rattle.wac_names.specs.ComponentNames.{lower_word, upper_word, word_test, lower_or_digit, upper_or_digit, IsVersion, IsBehind, IsInside, IsInterfaceName, IsPlainName, IsDependency, IsName, has_byte};
+ghost use Rattle.wac_names.specs.declared.names.NameKind.TheVariants as kind;
+ghost use Rattle.wac_names.specs.NameTests.{joined_test, label_test, pair_test, behind_test, member_test, plain_test, package_test, path_test, unbroken_test};
 
 use semver::{Error, Version};
 use std::alloc::{AllocError, Global};

@@ -1,6 +1,6 @@
-use Rattle.wac_graph_bytes.specs.declared.names.NameKind.TheVariants as kind
-use Rattle.wac_graph_bytes.proofs.NameKinds.{kind_at}
-use Rattle.wac_graph_bytes.proofs.names.component_name.Goals as goal
+use Rattle.wac_names.specs.declared.names.NameKind.TheVariants as kind
+use Rattle.wac_names.proofs.NameKinds.{kind_at}
+use Rattle.wac_names.proofs.names.component_name.Goals as goal
 
 pub returns-then-is_plain_name-clause-kind : goal.returns-then-is_plain_name-clause-kind
 returns-then-is_plain_name-clause-kind c = kind_at kind.Plain c.args.text.now c.as_bytes.result.now c.is_plain_name.result c.as_bytes.ensures.value c.is_plain_name.ensures c.if-is_plain_name.true

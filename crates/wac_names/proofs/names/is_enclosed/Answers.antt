@@ -1,6 +1,6 @@
-use Rattle.wac_graph_bytes.specs.ComponentNames.{IsInside}
-use Rattle.wac_graph_bytes.proofs.NameKinds.{behind_some, behind_none}
-use Rattle.wac_graph_bytes.proofs.names.is_enclosed.Goals as goal
+use Rattle.wac_names.specs.ComponentNames.{IsInside}
+use Rattle.wac_names.proofs.NameKinds.{behind_some, behind_none}
+use Rattle.wac_names.proofs.names.is_enclosed.Goals as goal
 
 pub returns-in-None : goal.returns-in-None
 returns-in-None c = behind_none c.args.front.now c.args.text.now IsInside c.in-None.ensures.cases

@@ -1,7 +1,7 @@
 use Rattle.std.proofs.Common.{lit<, Some, None}
 use Rattle.std.proofs.lemmas.Str.Pattern.{split_once_first}
-use Rattle.wac_graph_bytes.proofs.NameKinds.{path_only, with_version, without_path}
-use Rattle.wac_graph_bytes.proofs.names.is_interface.Goals as goal
+use Rattle.wac_names.proofs.NameKinds.{path_only, with_version, without_path}
+use Rattle.wac_names.proofs.names.is_interface.Goals as goal
 
 pub returns-in-None-clause-decides : goal.returns-in-None-clause-decides
 returns-in-None-clause-decides c =

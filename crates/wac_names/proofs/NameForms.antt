@@ -10,10 +10,9 @@ use Rattle.std.proofs.lemmas.Slice.Eq.{bytes_eq-Decides}
 use Rattle.std.proofs.lemmas.List.Sums.{passes_at_first, split_at_first}
 use Rattle.std.proofs.lemmas.List.Splits.{join_with_byte-slice_split, length-slice_split, slice_split-cons_no, slice_split-cons_yes}
 use Rattle.std.proofs.lemmas.Bool.Decides.{Decides-eqb}
-use Rattle.wac_graph_bytes.specs.ComponentNames.{IsJoined, IsPair, IsBehind}
-use Rattle.wac_graph_bytes.specs.NameTests.{joined_test, pair_test, behind_test}
-use Rattle.wac_graph_bytes.proofs.Written.{and_parts}
-use Rattle.wac_graph_bytes.proofs.Steps.{some_of}
+use Rattle.wac_names.specs.ComponentNames.{IsJoined, IsPair, IsBehind}
+use Rattle.wac_names.specs.NameTests.{joined_test, pair_test, behind_test}
+use Rattle.wac_names.proofs.Parts.{and_parts, some_of}
 
 some_none : (n : ℕ) → some_of n ≡ None → ⊥
 some_none n e = cc

@@ -13,13 +13,12 @@ use Rattle.std.proofs.lemmas.Bool.{and_from}
 use Rattle.std.proofs.lemmas.List.{append-nil}
 use Rattle.std.proofs.lemmas.List.Folds.{list_all-append}
 use Rattle.std.proofs.lemmas.Bool.Decides.{Decides-eqb}
-use Rattle.wac_graph_bytes.specs.declared.names.NameKind.{NameKind}
-use Rattle.wac_graph_bytes.specs.declared.names.NameKind.TheVariants as kind
-use Rattle.wac_graph_bytes.specs.ComponentNames.{lower_or_digit, upper_or_digit, lower_word, upper_word, word_test, IsWord, IsJoined, IsPair, IsBehind, IsLabel, IsInside, IsPlainName, IsPath, IsVersion, IsInterfaceName, IsDependency, IsName}
-use Rattle.wac_graph_bytes.specs.NameTests.{label_test, member_test, plain_test, package_test, path_test, is_full, unbroken_test, joined_test}
-use Rattle.wac_graph_bytes.proofs.LebLaws.{cons_head, cons_tail}
-use Rattle.wac_graph_bytes.proofs.Written.{and_parts}
-use Rattle.wac_graph_bytes.proofs.NameForms.{first_place, no_place, dropped, joined_decides, pair_decides, behind_decides}
+use Rattle.wac_names.specs.declared.names.NameKind.{NameKind}
+use Rattle.wac_names.specs.declared.names.NameKind.TheVariants as kind
+use Rattle.wac_names.specs.ComponentNames.{lower_or_digit, upper_or_digit, lower_word, upper_word, word_test, IsWord, IsJoined, IsPair, IsBehind, IsLabel, IsInside, IsPlainName, IsPath, IsVersion, IsInterfaceName, IsDependency, IsName}
+use Rattle.wac_names.specs.NameTests.{label_test, member_test, plain_test, package_test, path_test, is_full, unbroken_test, joined_test}
+use Rattle.wac_names.proofs.Parts.{and_parts, cons_head, cons_tail}
+use Rattle.wac_names.proofs.NameForms.{first_place, no_place, dropped, joined_decides, pair_decides, behind_decides}
 
 or_parts : (a b : Bool) → (a || b) ≡ true → (a ≡ true) ⊎ (b ≡ true)
 or_parts true b e = inl refl

@@ -3,9 +3,8 @@ use Rattle.std.specs.Prelude.{◌≡◌, ◌≢◌, ◌==◌, ℕ, List, [], ◌
 use Rattle.std.specs.List.{AllByRecursion, list_all, list_any, join_with_byte}
 use Rattle.std.specs.Char.{is_ascii_lowercase, is_ascii_uppercase, is_ascii_digit}
 use Rattle.semver.specs.Parse.{Parts, version_parts}
-use Rattle.wac_types_base.specs.Entries.{Name}
-use Rattle.wac_graph_bytes.specs.declared.names.NameKind.{NameKind}
-use Rattle.wac_graph_bytes.specs.declared.names.NameKind.TheVariants as kind
+use Rattle.wac_names.specs.declared.names.NameKind.{NameKind}
+use Rattle.wac_names.specs.declared.names.NameKind.TheVariants as kind
 
 -- a word: `[a-z][a-z0-9]*` or `[A-Z][A-Z0-9]*`
 abbrev pub lower_or_digit : ℕ → Bool
@@ -78,11 +77,11 @@ pub record IsInside (text : List ℕ) : Type 0 where
   pub unbroken : AllByRecursion (λ b. (b == 60) ≡ false) inside
 
 -- the name of a dependency
-abbrev pub IsDependency : Name → Type 0
+abbrev pub IsDependency : List ℕ → Type 0
 IsDependency text = IsBehind (codes "unlocked-dep=<") IsInside text ⊎ IsBehind (codes "locked-dep=<") IsInside text
 
 -- the text is a name of that kind
-abbrev pub IsName : NameKind → Name → Type 0
+abbrev pub IsName : NameKind → List ℕ → Type 0
 IsName kind.Plain text = IsPlainName text
 IsName kind.Interface text = IsInterfaceName text
 IsName kind.Dependency text = IsDependency text

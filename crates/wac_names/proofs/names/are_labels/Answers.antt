@@ -1,11 +1,11 @@
 use Rattle.std.proofs.Common.{rules, tests}
 use Rattle.std.proofs.lemmas.Iterator.Search.{all_from_yields_List}
 use Rattle.std.proofs.lemmas.Iterator.Splits.{YieldsList-from_slice_split}
-use Rattle.wac_graph_bytes.specs.ComponentNames.{word_test}
-use Rattle.wac_graph_bytes.proofs.names.is_label.Goals as goal
+use Rattle.wac_names.specs.NameTests.{label_test}
+use Rattle.wac_names.proofs.names.are_labels.Goals as goal
 
 pub returns : goal.returns
 returns c =
-    all_from_yields_List word_test _ _ _ c.all.ensures.ran
+    all_from_yields_List label_test _ _ _ c.all.ensures.ran
     (YieldsList-from_slice_split _ _ c.args.text.now c.split.ensures.rest c.split.ensures.done c.split.ensures.closure (λ x r q k. search (rules, tests)))
     (λ x b q k. search (rules, tests))

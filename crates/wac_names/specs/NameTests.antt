@@ -2,7 +2,7 @@
 use Rattle.std.specs.Prelude.{◌==◌, ℕ, List, [], ◌∷◌, length, nat_lt, codes, ◌&&◌, ◌||◌, not, Bool, true, false, take, drop}
 use Rattle.std.specs.List.{list_all, slice_split, before_first, after_first, position_or_len}
 use Rattle.std.specs.Cmp.Lexicographic.{pointwise}
-use Rattle.wac_graph_bytes.specs.ComponentNames.{word_test}
+use Rattle.wac_names.specs.ComponentNames.{word_test}
 
 -- each part between such bytes passes
 abbrev pub joined_test : ℕ → (List ℕ → Bool) → List ℕ → Bool

@@ -2,9 +2,9 @@ use Rattle.std.proofs.Common.{sym, ◌∙◌}
 use Rattle.std.specs.Prelude.{◌==◌}
 use Rattle.std.proofs.lemmas.Bool.{and_from}
 use Rattle.std.proofs.lemmas.Bool.Decides.{Decides-eqb}
-use Rattle.wac_graph_bytes.proofs.Written.{and_parts}
-use Rattle.wac_graph_bytes.proofs.NameKinds.{inside_decides}
-use Rattle.wac_graph_bytes.proofs.names.is_inside.Goals as goal
+use Rattle.wac_names.proofs.Parts.{and_parts}
+use Rattle.wac_names.proofs.NameKinds.{inside_decides}
+use Rattle.wac_names.proofs.names.is_inside.Goals as goal
 
 pub returns-then-last-eq62 : goal.returns-then-last-eq62
 returns-then-last-eq62 c =

@@ -1,5 +1,0 @@
-use Rattle.wac_graph_bytes.proofs.NameKinds.{plain_name}
-use Rattle.wac_graph_bytes.proofs.names.is_plain_name.Goals as goal
-
-pub returns : goal.returns
-returns c = plain_name c.args.text.now c.is_plain.result c.is_plain.ensures

@@ -1,0 +1,2 @@
+pub mod ComponentNames
+pub mod NameTests
