@@ -1,7 +1,7 @@
-//! Lines as words.
+//! Lines as words, and what they name.
 
+use anyhow::{Context, Result, bail};
 use std::alloc::{AllocError, Global};
-use std::test::Fail;
 use wac_types_base::{ItemKind, NamedMap, ResourceId, Type, ValueType};
 
 /// The words of a line.
@@ -45,23 +45,20 @@ pub(crate) fn pairs_behind<'a>(
 }
 
 /// The item of a name.
-pub(crate) fn item_named(items: &NamedMap<ItemKind>, name: &str) -> Result<ItemKind, Fail> {
-    match items.get(name) {
-        Some(item) => Ok(*item),
-        None => Err(Fail::from("no such item")),
-    }
+pub(crate) fn item_named(items: &NamedMap<ItemKind>, name: &str) -> Result<ItemKind> {
+    items.get(name).copied().context("no such item")
 }
 
 /// The resource of a name.
-pub(crate) fn resource_named(items: &NamedMap<ItemKind>, name: &str) -> Result<ResourceId, Fail> {
+pub(crate) fn resource_named(items: &NamedMap<ItemKind>, name: &str) -> Result<ResourceId> {
     match items.get(name) {
         Some(ItemKind::Ty(Type::Resource(id))) => Ok(*id),
-        _ => Err(Fail::from("no such resource")),
+        _ => bail!("no such resource"),
     }
 }
 
 /// The value type of a word: `u32`, `own.RESOURCE`, `borrow.RESOURCE`, or a name.
-pub(crate) fn value_named(items: &NamedMap<ItemKind>, word: &str) -> Result<ValueType, Fail> {
+pub(crate) fn value_named(items: &NamedMap<ItemKind>, word: &str) -> Result<ValueType> {
     if let Some(("own", name)) = word.split_once('.') {
         return Ok(ValueType::Own(resource_named(items, name)?));
     }
@@ -70,6 +67,6 @@ pub(crate) fn value_named(items: &NamedMap<ItemKind>, word: &str) -> Result<Valu
     }
     match items.get(word) {
         Some(ItemKind::Ty(Type::Value(ty))) => Ok(*ty),
-        _ => Err(Fail::from("no such value type")),
+        _ => bail!("no such value type"),
     }
 }

@@ -7,9 +7,8 @@
 use crate::words::{
     item_named, pairs_behind, resource_named, value_named, word_at, word_behind, words_of,
 };
+use anyhow::{Result, bail, ensure};
 use std::alloc::Global;
-use std::process::Abort;
-use std::test::Fail;
 use wac_graph_core::CompositionGraph;
 use wac_types_base::{
     CoreExtern, CoreFuncType, CoreImports, CoreRefType, CoreType, DefinedType, FuncType, HeapType,
@@ -23,7 +22,7 @@ fn values_behind(
     items: &NamedMap<ItemKind>,
     words: &[&str],
     before: &str,
-) -> Result<NamedMap<ValueType>, Fail> {
+) -> Result<NamedMap<ValueType>> {
     let mut map = NamedMap::new(alloc);
     for (name, word) in &pairs_behind(alloc, words, before)? {
         let value = value_named(items, word)?;
@@ -38,7 +37,7 @@ fn items_behind(
     items: &NamedMap<ItemKind>,
     words: &[&str],
     before: &str,
-) -> Result<NamedMap<ItemKind>, Fail> {
+) -> Result<NamedMap<ItemKind>> {
     let mut map = NamedMap::new(alloc);
     for (name, word) in &pairs_behind(alloc, words, before)? {
         let item = item_named(items, word)?;
@@ -48,10 +47,10 @@ fn items_behind(
 }
 
 /// The interface of a name.
-fn interface_named(items: &NamedMap<ItemKind>, name: &str) -> Result<InterfaceId, Fail> {
+fn interface_named(items: &NamedMap<ItemKind>, name: &str) -> Result<InterfaceId> {
     match items.get(name) {
         Some(ItemKind::Instance(id)) => Ok(*id),
-        _ => Err(Fail::from("no such interface")),
+        _ => bail!("no such interface"),
     }
 }
 
@@ -60,7 +59,7 @@ fn uses_in(
     alloc: Global,
     items: &NamedMap<ItemKind>,
     words: &[&str],
-) -> Result<NamedMap<UsedType>, Fail> {
+) -> Result<NamedMap<UsedType>> {
     let mut map = NamedMap::new(alloc);
     for (name, word) in &pairs_behind(alloc, words, "uses")? {
         let used = UsedType {
@@ -73,39 +72,31 @@ fn uses_in(
 }
 
 /// The identifier, if there is one.
-fn identifier_in(alloc: Global, words: &[&str]) -> Result<Option<Text>, Fail> {
+fn identifier_in(alloc: Global, words: &[&str]) -> Result<Option<Text>> {
     match word_behind(words, "as") {
         Some(word) => Ok(Some(Text::new(String::from_str(alloc, word)?))),
         None => Ok(None),
     }
 }
 
-fn add_func(
-    rt: &impl Abort,
-    graph: &mut CompositionGraph,
-    params: NamedMap<ValueType>,
-) -> Result<ItemKind, Fail> {
+fn add_func(graph: &mut CompositionGraph, params: NamedMap<ValueType>) -> Result<ItemKind> {
     let func = FuncType {
         params,
         result: None,
         is_async: false,
     };
-    assert!(rt; graph.types().has_ids_of(&func));
+    ensure!(graph.types().has_ids_of(&func), "an id does not stand");
     Ok(ItemKind::Func(graph.types_mut().add_func_type(func)?))
 }
 
-fn add_defined(
-    rt: &impl Abort,
-    graph: &mut CompositionGraph,
-    ty: DefinedType,
-) -> Result<ItemKind, Fail> {
-    assert!(rt; graph.types().has_ids_of(&ty));
+fn add_defined(graph: &mut CompositionGraph, ty: DefinedType) -> Result<ItemKind> {
+    ensure!(graph.types().has_ids_of(&ty), "an id does not stand");
     let id = graph.types_mut().add_defined_type(ty)?;
     Ok(ItemKind::Ty(Type::Value(ValueType::Defined(id))))
 }
 
 /// What a resource is an alias of.
-fn alias_in(items: &NamedMap<ItemKind>, words: &[&str]) -> Result<Option<ResourceAlias>, Fail> {
+fn alias_in(items: &NamedMap<ItemKind>, words: &[&str]) -> Result<Option<ResourceAlias>> {
     let Some(source) = word_behind(words, "of") else {
         return Ok(None);
     };
@@ -120,27 +111,22 @@ fn alias_in(items: &NamedMap<ItemKind>, words: &[&str]) -> Result<Option<Resourc
 }
 
 fn add_resource(
-    rt: &impl Abort,
     graph: &mut CompositionGraph,
     items: &NamedMap<ItemKind>,
     words: &[&str],
-) -> Result<ItemKind, Fail> {
+) -> Result<ItemKind> {
     let alias = alias_in(items, words)?;
     let name = String::from_str(graph.alloc(), word_at(words, 2))?;
     let resource = Resource {
         name: Text::new(name),
         alias,
     };
-    assert!(rt; graph.types().has_ids_of(&resource));
+    ensure!(graph.types().has_ids_of(&resource), "an id does not stand");
     let id = graph.types_mut().add_resource(resource)?;
     Ok(ItemKind::Ty(Type::Resource(id)))
 }
 
-fn interface_of(
-    alloc: Global,
-    items: &NamedMap<ItemKind>,
-    words: &[&str],
-) -> Result<Interface, Fail> {
+fn interface_of(alloc: Global, items: &NamedMap<ItemKind>, words: &[&str]) -> Result<Interface> {
     let uses = uses_in(alloc, items, words)?;
     let exports = items_behind(alloc, items, words, "exports")?;
     Ok(Interface {
@@ -150,17 +136,13 @@ fn interface_of(
     })
 }
 
-fn add_interface(
-    rt: &impl Abort,
-    graph: &mut CompositionGraph,
-    interface: Interface,
-) -> Result<ItemKind, Fail> {
-    assert!(rt; graph.types().has_ids_of(&interface));
+fn add_interface(graph: &mut CompositionGraph, interface: Interface) -> Result<ItemKind> {
+    ensure!(graph.types().has_ids_of(&interface), "an id does not stand");
     let id = graph.types_mut().add_interface(interface)?;
     Ok(ItemKind::Instance(id))
 }
 
-fn world_of(alloc: Global, items: &NamedMap<ItemKind>, words: &[&str]) -> Result<World, Fail> {
+fn world_of(alloc: Global, items: &NamedMap<ItemKind>, words: &[&str]) -> Result<World> {
     let inner = interface_of(alloc, items, words)?;
     let imports = items_behind(alloc, items, words, "imports")?;
     Ok(World {
@@ -171,18 +153,14 @@ fn world_of(alloc: Global, items: &NamedMap<ItemKind>, words: &[&str]) -> Result
     })
 }
 
-fn add_world(
-    rt: &impl Abort,
-    graph: &mut CompositionGraph,
-    world: World,
-) -> Result<ItemKind, Fail> {
-    assert!(rt; graph.types().has_ids_of(&world));
+fn add_world(graph: &mut CompositionGraph, world: World) -> Result<ItemKind> {
+    ensure!(graph.types().has_ids_of(&world), "an id does not stand");
     let id = graph.types_mut().add_world(world)?;
     Ok(ItemKind::Component(id))
 }
 
 /// `m` `f`, a function of an `i32` that answers an `i64`.
-fn module_imports(alloc: Global) -> Result<CoreImports, Fail> {
+fn module_imports(alloc: Global) -> Result<CoreImports> {
     let mut params = Items::new(alloc);
     params.push(CoreType::I32)?;
     let mut results = Items::new(alloc);
@@ -196,7 +174,7 @@ fn module_imports(alloc: Global) -> Result<CoreImports, Fail> {
 }
 
 /// The memory `g`, and the table `t` of references to that heap type.
-fn module_exports(alloc: Global, heap_type: HeapType) -> Result<NamedMap<CoreExtern>, Fail> {
+fn module_exports(alloc: Global, heap_type: HeapType) -> Result<NamedMap<CoreExtern>> {
     let mut exports = NamedMap::new(alloc);
     let memory = CoreExtern::Memory {
         memory64: false,
@@ -221,7 +199,7 @@ fn module_exports(alloc: Global, heap_type: HeapType) -> Result<NamedMap<CoreExt
 }
 
 /// A module type with a table of references to functions, or to any value.
-fn add_module(graph: &mut CompositionGraph, word: &str) -> Result<ItemKind, Fail> {
+fn add_module(graph: &mut CompositionGraph, word: &str) -> Result<ItemKind> {
     let alloc = graph.alloc();
     let heap_type = if word == "func" {
         HeapType::Func
@@ -236,71 +214,64 @@ fn add_module(graph: &mut CompositionGraph, word: &str) -> Result<ItemKind, Fail
 
 /// Adds a value type, or the item of a value.
 fn add_value(
-    rt: &impl Abort,
     graph: &mut CompositionGraph,
     items: &NamedMap<ItemKind>,
     words: &[&str],
-) -> Result<ItemKind, Fail> {
+) -> Result<ItemKind> {
     let alloc = graph.alloc();
     match word_at(words, 0) {
         "record" => {
             let fields = values_behind(alloc, items, words, "fields")?;
-            add_defined(rt, graph, DefinedType::Record(Record { fields }))
+            add_defined(graph, DefinedType::Record(Record { fields }))
         }
         "type" => {
             let of = value_named(items, word_at(words, 2))?;
-            add_defined(rt, graph, DefinedType::Alias(of))
+            add_defined(graph, DefinedType::Alias(of))
         }
         "value" => Ok(ItemKind::Value(value_named(items, word_at(words, 2))?)),
-        _ => Err(Fail::from("no such line of types")),
+        _ => bail!("no such line of types"),
     }
 }
 
 /// Adds what a line says.
 fn add_item(
-    rt: &impl Abort,
     graph: &mut CompositionGraph,
     items: &NamedMap<ItemKind>,
     words: &[&str],
-) -> Result<ItemKind, Fail> {
+) -> Result<ItemKind> {
     let alloc = graph.alloc();
     match word_at(words, 0) {
-        "func" => add_func(rt, graph, values_behind(alloc, items, words, "params")?),
-        "resource" => add_resource(rt, graph, items, words),
-        "interface" => add_interface(rt, graph, interface_of(alloc, items, words)?),
-        "world" => add_world(rt, graph, world_of(alloc, items, words)?),
+        "func" => add_func(graph, values_behind(alloc, items, words, "params")?),
+        "resource" => add_resource(graph, items, words),
+        "interface" => add_interface(graph, interface_of(alloc, items, words)?),
+        "world" => add_world(graph, world_of(alloc, items, words)?),
         "module" => add_module(graph, word_at(words, 2)),
-        _ => add_value(rt, graph, items, words),
+        _ => add_value(graph, items, words),
     }
 }
 
 /// Adds what a line says, under its name.
 fn add_line(
-    rt: &impl Abort,
     graph: &mut CompositionGraph,
     items: &mut NamedMap<ItemKind>,
     line: &str,
-) -> Result<(), Fail> {
+) -> Result<()> {
     let alloc = graph.alloc();
     let words = words_of(alloc, line)?;
-    let item = add_item(rt, graph, items, &words)?;
+    let item = add_item(graph, items, &words)?;
     let _ = items.insert(String::from_str(alloc, word_at(&words, 1))?, item)?;
     Ok(())
 }
 
 /// Adds the types of a text; each is an item under its name, as `u32` is.
-pub(crate) fn add_types(
-    rt: &impl Abort,
-    graph: &mut CompositionGraph,
-    text: &str,
-) -> Result<NamedMap<ItemKind>, Fail> {
+pub(crate) fn add_types(graph: &mut CompositionGraph, text: &str) -> Result<NamedMap<ItemKind>> {
     let alloc = graph.alloc();
     let mut items = NamedMap::new(alloc);
     let u32_type = ItemKind::Ty(Type::Value(ValueType::Primitive(PrimitiveType::U32)));
     let _ = items.insert(String::from_str(alloc, "u32")?, u32_type)?;
     for line in text.split('\n') {
         if !line.is_empty() {
-            add_line(rt, graph, &mut items, line)?;
+            add_line(graph, &mut items, line)?;
         }
     }
     Ok(items)
