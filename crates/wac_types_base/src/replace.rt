@@ -1,6 +1,6 @@
 //! Replacing entries, where nothing comes to reach itself.
 
-ghost use Rattle.std.specs.Prelude.{◌≡◌, ◌↔◌, IsTrue, OnOk, OnErr};
+ghost use Rattle.std.specs.Prelude.{◌≡◌, ◌↔◌, ◌<◌, IsTrue, OnOk, OnErr, slice_set, vec_len};
 ghost use Rattle.wac_types_base.specs.Collection.{Stands, HasChildren, item_node, defined_entry, resource_entry, func_entry, interface_entry, world_entry, module_entry};
 ghost use Rattle.wac_types_base.specs.Reaching.{Reaches, LeadsBack, NamesEntry, KeepsOthers, KeepsStanding, value_entry_kind, entry_kind, with_defined_type, with_resource, with_func_type, with_interface, with_world, with_module_type};
 
@@ -104,6 +104,19 @@ impl Types {
     }
 }
 
+// What is generic in the type of an entry needs nothing of what the entry holds, so its proof is short.
+
+/// Puts a value in the place of another.
+fn put<T: Drop>(list: &mut Vec<T>, at: usize, value: T)
+    requires { at < vec_len list.old }
+    ensures { list.new.items ≡ slice_set list.old.items at value }
+{
+    list[at] = value;
+}
+
+/// Lets a value go.
+fn let_go<T: Drop>(_value: T) {}
+
 // Each entry that is put in may hold ids of this collection alone, which `contains` tests. It is refused where the id
 // would reach itself, and then nothing is changed.
 impl Types {
@@ -123,9 +136,10 @@ impl Types {
         ensures keeps { OnOk result (KeepsOthers self.old self.new (ItemKind.Value (ValueType.Defined id))) }
     {
         if self.leads_back(ItemKind::Value(ValueType::Defined(id)), &ty) {
+            let_go(ty);
             return Err(CycleError::Cycle);
         }
-        self.defined_types[id.index] = ty;
+        put(&mut self.defined_types, id.index, ty);
         Ok(())
     }
 
@@ -141,9 +155,10 @@ impl Types {
         ensures keeps { OnOk result (KeepsOthers self.old self.new (ItemKind.Ty (Type.Resource id))) }
     {
         if self.leads_back(ItemKind::Ty(Type::Resource(id)), &resource) {
+            let_go(resource);
             return Err(CycleError::Cycle);
         }
-        self.resources[id.index] = resource;
+        put(&mut self.resources, id.index, resource);
         Ok(())
     }
 
@@ -159,9 +174,10 @@ impl Types {
         ensures keeps { OnOk result (KeepsOthers self.old self.new (ItemKind.Func id)) }
     {
         if self.leads_back(ItemKind::Func(id), &func) {
+            let_go(func);
             return Err(CycleError::Cycle);
         }
-        self.func_types[id.index] = func;
+        put(&mut self.func_types, id.index, func);
         Ok(())
     }
 
@@ -181,9 +197,10 @@ impl Types {
         ensures keeps { OnOk result (KeepsOthers self.old self.new (ItemKind.Instance id)) }
     {
         if self.leads_back(ItemKind::Instance(id), &interface) {
+            let_go(interface);
             return Err(CycleError::Cycle);
         }
-        self.interfaces[id.index] = interface;
+        put(&mut self.interfaces, id.index, interface);
         Ok(())
     }
 
@@ -199,9 +216,10 @@ impl Types {
         ensures keeps { OnOk result (KeepsOthers self.old self.new (ItemKind.Component id)) }
     {
         if self.leads_back(ItemKind::Component(id), &world) {
+            let_go(world);
             return Err(CycleError::Cycle);
         }
-        self.worlds[id.index] = world;
+        put(&mut self.worlds, id.index, world);
         Ok(())
     }
 
@@ -221,9 +239,10 @@ impl Types {
         ensures keeps { OnOk result (KeepsOthers self.old self.new (ItemKind.Module id)) }
     {
         if self.leads_back(ItemKind::Module(id), &ty) {
+            let_go(ty);
             return Err(CycleError::Cycle);
         }
-        self.modules[id.index] = ty;
+        put(&mut self.modules, id.index, ty);
         Ok(())
     }
 }

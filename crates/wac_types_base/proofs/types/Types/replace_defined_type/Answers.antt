@@ -7,8 +7,8 @@ use Rattle.wac_types_base.proofs.Standing.{defined_found}
 use Rattle.wac_types_base.proofs.Replacing.{defined_acyclic, defined_keeps, defined_stand}
 use Rattle.wac_types_base.proofs.types.Types.replace_defined_type.Goals as goal
 
-pub index_mut-requires : goal.index_mut-requires
-index_mut-requires c =
+pub put-requires : goal.put-requires
+put-requires c =
     let f = defined_found c.args.self.now c.args.id c.requires.stands in
     let same = ap (λ v. length v.defined_types) c.self.view_is in
     grind (arith, f.within, same)
@@ -17,9 +17,10 @@ pub invariant_of-self : goal.invariant_of-self
 invariant_of-self c =
     let stood = subst (λ v. Stands v (ItemKind.Value (ValueType.Defined c.args.id))) (sym c.self.view_is) c.requires.stands in
     let f = defined_found _ c.args.id stood in
-    defined_acyclic _ c.args.id f.own f.within c.args.ty stood c.self.invariant
+    rw c.put.ensures
+    (defined_acyclic _ c.args.id f.own f.within c.args.ty stood c.self.invariant
     (subst (λ v. HasChildren v (defined_entry c.args.ty)) (sym c.self.view_is) c.requires.children)
-    (λ l. absurd (cc (c.if-leads_back.ensures.1 (subst (λ v. LeadsBack v (ItemKind.Value (ValueType.Defined c.args.id)) (defined_entry c.args.ty)) c.self.view_is l))))
+    (λ l. absurd (cc (c.if-leads_back.ensures.1 (subst (λ v. LeadsBack v (ItemKind.Value (ValueType.Defined c.args.id)) (defined_entry c.args.ty)) c.self.view_is l)))))
 
 pub returns-clause-keeps : goal.returns-clause-keeps
 returns-clause-keeps c =
@@ -28,7 +29,7 @@ returns-clause-keeps c =
     let k = defined_keeps _ c.args.id f.own f.within c.args.ty stood c.self.invariant
     (subst (λ v. HasChildren v (defined_entry c.args.ty)) (sym c.self.view_is) c.requires.children)
     (λ l. absurd (cc (c.if-leads_back.ensures.1 (subst (λ v. LeadsBack v (ItemKind.Value (ValueType.Defined c.args.id)) (defined_entry c.args.ty)) c.self.view_is l)))) in
-    rw (← c.self.view_is) k
+    rw (← c.self.view_is) (rw c.put.ensures k)
 
 pub returns-clause-stand : goal.returns-clause-stand
 returns-clause-stand c =
@@ -37,4 +38,4 @@ returns-clause-stand c =
     let k = defined_stand _ c.args.id f.own f.within c.args.ty stood c.self.invariant
     (subst (λ v. HasChildren v (defined_entry c.args.ty)) (sym c.self.view_is) c.requires.children)
     (λ l. absurd (cc (c.if-leads_back.ensures.1 (subst (λ v. LeadsBack v (ItemKind.Value (ValueType.Defined c.args.id)) (defined_entry c.args.ty)) c.self.view_is l)))) in
-    rw (← c.self.view_is) k
+    rw (← c.self.view_is) (rw c.put.ensures k)

@@ -6,8 +6,8 @@ use Rattle.wac_types_base.proofs.Standing.{module_found}
 use Rattle.wac_types_base.proofs.Replacing.{module_acyclic, module_keeps, module_stand}
 use Rattle.wac_types_base.proofs.types.Types.replace_module_type.Goals as goal
 
-pub index_mut-requires : goal.index_mut-requires
-index_mut-requires c =
+pub put-requires : goal.put-requires
+put-requires c =
     let f = module_found c.args.self.now c.args.id c.requires.stands in
     let same = ap (λ v. length v.modules) c.self.view_is in
     grind (arith, f.within, same)
@@ -16,9 +16,10 @@ pub invariant_of-self : goal.invariant_of-self
 invariant_of-self c =
     let stood = subst (λ v. Stands v (ItemKind.Module c.args.id)) (sym c.self.view_is) c.requires.stands in
     let f = module_found _ c.args.id stood in
-    module_acyclic _ c.args.id f.own f.within c.args.ty stood c.self.invariant
+    rw c.put.ensures
+    (module_acyclic _ c.args.id f.own f.within c.args.ty stood c.self.invariant
     (subst (λ v. HasChildren v (module_entry c.args.ty)) (sym c.self.view_is) c.requires.children)
-    (λ l. absurd (cc (c.if-leads_back.ensures.1 (subst (λ v. LeadsBack v (ItemKind.Module c.args.id) (module_entry c.args.ty)) c.self.view_is l))))
+    (λ l. absurd (cc (c.if-leads_back.ensures.1 (subst (λ v. LeadsBack v (ItemKind.Module c.args.id) (module_entry c.args.ty)) c.self.view_is l)))))
 
 pub returns-clause-keeps : goal.returns-clause-keeps
 returns-clause-keeps c =
@@ -27,7 +28,7 @@ returns-clause-keeps c =
     let k = module_keeps _ c.args.id f.own f.within c.args.ty stood c.self.invariant
     (subst (λ v. HasChildren v (module_entry c.args.ty)) (sym c.self.view_is) c.requires.children)
     (λ l. absurd (cc (c.if-leads_back.ensures.1 (subst (λ v. LeadsBack v (ItemKind.Module c.args.id) (module_entry c.args.ty)) c.self.view_is l)))) in
-    rw (← c.self.view_is) k
+    rw (← c.self.view_is) (rw c.put.ensures k)
 
 pub returns-clause-stand : goal.returns-clause-stand
 returns-clause-stand c =
@@ -36,4 +37,4 @@ returns-clause-stand c =
     let k = module_stand _ c.args.id f.own f.within c.args.ty stood c.self.invariant
     (subst (λ v. HasChildren v (module_entry c.args.ty)) (sym c.self.view_is) c.requires.children)
     (λ l. absurd (cc (c.if-leads_back.ensures.1 (subst (λ v. LeadsBack v (ItemKind.Module c.args.id) (module_entry c.args.ty)) c.self.view_is l)))) in
-    rw (← c.self.view_is) k
+    rw (← c.self.view_is) (rw c.put.ensures k)
