@@ -1,12 +1,12 @@
 -- The items of pieces, from one to the next.
-use Rattle.std.proofs.Common.{◌≡◌, ℕ, ◌<◌, List, [], ◌∷◌, ◌++◌, length, Option, Some, None, Result, Ok, Err, refl, ap, sym, ◌∙◌, arith}
+use Rattle.std.proofs.Common.{◌≡◌, ℕ, ◌<◌, true, false, List, [], ◌∷◌, ◌++◌, length, Option, Some, None, Result, Ok, Err, refl, ap, sym, ◌∙◌, arith}
 use Rattle.std.specs.Prelude.{⊤}
 use Rattle.std.specs.Iterator.{MakesProgress, at_most}
 use Rattle.wac_parser_lexer.specs.declared.span.SourceSpan.{SourceSpan}
 use Rattle.wac_parser_lexer.specs.declared.token.Token.{Token}
 use Rattle.wac_parser_lexer.specs.declared.error.Error.{Error}
 use Rattle.wac_parser_lexer.specs.Pieces.{Piece, skipped, item, pieces_at}
-use Rattle.wac_parser_lexer.specs.Items.{Doc, Item, Input, doc_in, items_of, docs_behind, ahead, behind, input_at, first_of_items, rest_of_items, docs_left, next_span, rest_input, first_item, Gives}
+use Rattle.wac_parser_lexer.specs.Items.{Doc, Item, Input, doc_in, items_of, docs_behind, ahead, behind, input_at, first_of_items, rest_of_items, docs_left, next_span, rest_input, first_item, token_of, found_by, is_end, Gives}
 use Rattle.wac_parser_lexer.proofs.PieceLaws.{no_pieces}
 
 pub first_ahead : (docs : List Doc) (ps : List Piece) → ahead ps ≡ first_of_items (items_of docs ps)
@@ -85,11 +85,33 @@ pub kept_first : (source : List ℕ) (at : ℕ) (last : SourceSpan) (next : Opti
     → next ≡ first_item now
 kept_first source at last next now first view = first ∙ first_ahead [] (pieces_at source at) ∙ ap first_item view
 
-pub token_same : (k t : Token) (r : Result Token Error) (a b : SourceSpan) → ◌≡◌ {A = Option (Result Token Error × SourceSpan)} (Some (Ok k, a)) (Some (r, b)) → r ≡ Ok t → t ≡ k
-token_same k t r a b e f = let g : Ok k ≡ Ok t = ap (λ (q : Result Token Error × SourceSpan). q.0) (inside_some e) ∙ f in cc
+-- an item that is a token is noted as that token, and the other way round
+pub token_found : (t : Option Token) (f : Option Error) (s span : SourceSpan) (k : Token) → found_by t f s ≡ Some (Ok k, span) → t ≡ Some k
+token_found (Some t) f s span k e = let same : Ok t ≡ Ok k = ap (λ (q : Result Token Error × SourceSpan). q.0) (inside_some e) in cc
+token_found None (Some x) s span k e = let same : Err x ≡ Ok k = ap (λ (q : Result Token Error × SourceSpan). q.0) (inside_some e) in cc
+token_found None None s span k e = cc
 
-pub no_fault : (k : Token) (x : Error) (r : Result Token Error) (a b : SourceSpan) → ◌≡◌ {A = Option (Result Token Error × SourceSpan)} (Some (Ok k, a)) (Some (r, b)) → r ≡ Err x → ⊥
-no_fault k x r a b e f = let g : Ok k ≡ Err x = ap (λ (q : Result Token Error × SourceSpan). q.0) (inside_some e) ∙ f in cc
+pub found_token : (t : Option Token) (f : Option Error) (s : SourceSpan) (k : Token) → t ≡ Some k → found_by t f s ≡ Some (Ok k, s)
+found_token t f s k e = ap (λ (o : Option Token). found_by o f s) e
+
+-- what is noted is the end, or an item
+pub end_found : (t : Option Token) (f : Option Error) (s : SourceSpan) → is_end t f ≡ true → found_by t f s ≡ None
+end_found (Some t) f s e = cc
+end_found None (Some x) s e = cc
+end_found None None s e = refl
+
+pub else_found : (t : Option Token) (f : Option Error) (s : SourceSpan) → is_end t f ≡ false → (r : Result Token Error) × (found_by t f s ≡ Some (r, s))
+else_found (Some t) f s e = (Ok t, refl)
+else_found None (Some x) s e = (Err x, refl)
+else_found None None s e = let no : ⊥ = cc in absurd no
+
+pub token_kept : (t : Option Token) (f : Option Error) (s : SourceSpan) → t ≡ token_of (found_by t f s)
+token_kept (Some t) f s = refl
+token_kept None (Some x) s = refl
+token_kept None None s = refl
+
+pub same_inside : (t : Option Token) (a b : Token) → t ≡ Some a → t ≡ Some b → a ≡ b
+same_inside t a b e f = cc
 
 -- taking an item leaves one less
 pub fewer : (is : List Item) (r : Result Token Error × SourceSpan) → first_of_items is ≡ Some r → length (rest_of_items is) < length is

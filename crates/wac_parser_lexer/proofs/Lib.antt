@@ -7,8 +7,10 @@ pub mod AsciiLaws
 pub mod BlockLaws
 pub mod FrontLaws
 pub mod SpellingLaws
+pub mod FindLaws
 pub mod FirstLaws
 pub mod SymbolLaws
+pub mod BlockPieceLaws
 pub mod PieceLaws
 pub mod ItemLaws
 pub mod DocLaws

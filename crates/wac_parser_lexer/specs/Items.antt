@@ -1,5 +1,5 @@
 -- The items of a source: its tokens and faults, each with the doc comments before it.
-use Rattle.std.specs.Prelude.{◌≡◌, ◌≢◌, ℕ, ◌+◌, ◌-◌, Bool, ◌&&◌, ◌==◌, nat_eq, if◌then◌else◌, List, [], ◌∷◌, ◌++◌, length, take, drop, Option, Some, None, Result, Ok, codes, IfSome, IsTrue, ◌≤◌}
+use Rattle.std.specs.Prelude.{◌≡◌, ◌≢◌, ℕ, ◌+◌, ◌-◌, Bool, true, false, ◌&&◌, ◌==◌, nat_eq, if◌then◌else◌, List, [], ◌∷◌, ◌++◌, length, take, drop, Option, Some, None, Result, Ok, Err, codes, IfSome, IsTrue, ◌≤◌}
 use Rattle.std.specs.List.{starts_with, ends_with}
 use Rattle.std.specs.Str.{trim}
 use Rattle.wac_parser_lexer.specs.declared.span.SourceSpan.{SourceSpan}
@@ -95,6 +95,16 @@ first_item input = first_of_items input.items
 abbrev pub second_item : Input → Option (Result Token Error × SourceSpan)
 second_item input = first_of_items (rest_of_items input.items)
 
+-- the token of an item, if it is one
+abbrev pub token_of : Option (Result Token Error × SourceSpan) → Option Token
+token_of None = None
+token_of (Some (Ok token, span)) = Some token
+token_of (Some (Err fault, span)) = None
+
+-- the token that comes next, if one does
+abbrev pub next_token : Input → Option Token
+next_token input = token_of (first_item input)
+
 -- the doc comments before the end, which are passed at the end
 abbrev pub docs_left : List Doc → List Item → List Doc
 docs_left docs [] = []
@@ -126,6 +136,37 @@ docs_ahead input = docs_by input.docs input.items
 abbrev pub shown_span : Input → SourceSpan
 shown_span input =
     if input.last.offset + input.last.length == length input.source then record { offset = input.last.offset - 1; length = 1 } else input.last
+
+-- the token and the fault that an item is
+abbrev pub token_part : Option (Result Token Error) → Option Token
+token_part None = None
+token_part (Some (Ok token)) = Some token
+token_part (Some (Err fault)) = None
+
+abbrev pub fault_part : Option (Result Token Error) → Option Error
+fault_part None = None
+fault_part (Some (Ok token)) = None
+fault_part (Some (Err fault)) = Some fault
+
+-- an item by these two, at a span
+abbrev pub found_by : Option Token → Option Error → SourceSpan → Option (Result Token Error × SourceSpan)
+found_by (Some token) fault span = Some (Ok token, span)
+found_by None (Some fault) span = Some (Err fault, span)
+found_by None None span = None
+
+-- whether these two are of no item
+abbrev pub is_end : Option Token → Option Error → Bool
+is_end (Some token) fault = false
+is_end None (Some fault) = false
+is_end None None = true
+
+-- what is scanned ahead of a place: the first item and the place behind it
+pub record IsScanned (source : List ℕ) (at : ℕ) (token : Option Token) (fault : Option Error) (span : SourceSpan) (rest : ℕ) (bare : Bool) : Type 0 where
+  pub first : found_by token fault span ≡ ahead (pieces_at source at)
+  pub others : pieces_at source rest ≡ behind (pieces_at source at)
+  pub edge : IsCharBoundary source rest
+  pub within : IfSome (found_by token fault span) (λ r. IsSpanIn source r.1)
+  pub no_docs : IsTrue bare → docs_before [] (pieces_at source at) ≡ []
 
 -- what a lexer keeps at a place: the next item and the place behind it
 pub record IsReady (source : List ℕ) (at : ℕ) (last : SourceSpan) (next : Option (Result Token Error × SourceSpan)) (rest : ℕ) (bare : Bool) : Type 0 where

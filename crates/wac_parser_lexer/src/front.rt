@@ -84,6 +84,9 @@ fn longest_word(z: &[u8]) -> (Token, usize)
 {
     let ident = ident_len(z);
     let best = spelled_or_ident(z, ident);
+    if ident == 0 {
+        return best;
+    }
     let names = names_len(z, ident);
     if names == 0 {
         return best;

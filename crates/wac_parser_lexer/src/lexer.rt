@@ -6,7 +6,7 @@ ghost use Rattle.std.specs.Iterator.{at_most};
 ghost use Rattle.std.specs.Option.{option_map};
 ghost use Rattle.wac_parser_lexer.specs.Pieces.{pieces_at, piece_by, IsSpanIn, text_at};
 ghost use Rattle.wac_parser_lexer.specs.Words as words;
-ghost use Rattle.wac_parser_lexer.specs.Items.{ahead, behind, input_of, first_item, second_item, rest_input, docs_ahead, doc_in, shown_span, docs_before, Gives, Takes};
+ghost use Rattle.wac_parser_lexer.specs.Items.{ahead, behind, input_of, first_item, second_item, rest_input, docs_ahead, doc_in, shown_span, docs_before, found_by, is_end, next_token, token_part, fault_part, IsScanned, Gives, Takes};
 ghost use Rattle.wac_parser_lexer.specs.Docs.{doc_of};
 ghost use Rattle.wac_parser_lexer.specs.Refused.{first_refused as refused_in};
 
@@ -111,36 +111,127 @@ fn item_behind(source: &str, start: usize) -> (Option<LexerResult<Token>>, Sourc
     (None, span, bare)
 }
 
-/// The first item from a place on, the place behind it, and whether only blanks stand before it.
-#[inline(always)]
-fn first(source: &str, start: usize) -> (Option<Found>, usize, bool)
+/// What is scanned ahead of a place.
+#[derive(Drop)]
+struct Ahead {
+    // the next item's token, if it is one
+    token: Option<Token>,
+    // where the next item stands
+    span: SourceSpan,
+    // the place behind the next item
+    rest: usize,
+    // whether only blanks stand before the next item
+    bare: bool,
+    // the fault that the next item is, if it is no token; none at the end
+    fault: Option<Error>,
+}
+
+impl Ahead {
+    /// Before anything is scanned.
+    fn new() -> Self {
+        Ahead {
+            token: None,
+            span: SourceSpan {
+                offset: 0,
+                length: 0,
+            },
+            rest: 0,
+            bare: false,
+            fault: None,
+        }
+    }
+
+    /// The next item.
+    #[inline(always)]
+    fn found(&self) -> Option<Found>
+        ensures { result ≡ found_by self.now.token self.now.fault self.now.span }
+    {
+        match (self.token, self.fault) {
+            (Some(token), _) => Some((Ok(token), self.span)),
+            (None, Some(fault)) => Some((Err(fault), self.span)),
+            (None, None) => None,
+        }
+    }
+
+    /// Whether no item comes next.
+    #[inline(always)]
+    fn is_end(&self) -> bool
+        ensures { result ≡ is_end self.now.token self.now.fault }
+    {
+        matches!((self.token, self.fault), (None, None))
+    }
+
+    /// Notes a token behind blanks.
+    #[inline(always)]
+    fn note(&mut self, token: Token, span: SourceSpan, rest: usize)
+        ensures token { self.new.token ≡ Some token }
+        ensures span { self.new.span ≡ span }
+        ensures rest { self.new.rest ≡ rest }
+        ensures bare { self.new.bare ≡ true }
+    {
+        self.token = Some(token);
+        self.span = span;
+        self.rest = rest;
+        self.bare = true;
+    }
+}
+
+/// The token that an item is, if it is one.
+fn token_of(item: Option<LexerResult<Token>>) -> Option<Token>
+    ensures { result ≡ token_part item }
+{
+    match item {
+        Some(Ok(token)) => Some(token),
+        _ => None,
+    }
+}
+
+/// The fault that an item is, if it is one.
+fn fault_of(item: Option<LexerResult<Token>>) -> Option<Error>
+    ensures { result ≡ fault_part item }
+{
+    match item {
+        Some(Err(fault)) => Some(fault),
+        _ => None,
+    }
+}
+
+/// Scans the first item from a place on, whatever it is.
+#[inline(never)]
+fn scan_any(next: &mut Ahead, source: &str, start: usize)
     requires { IsCharBoundary source.now start }
-    ensures found { result.0 ≡ ahead (pieces_at source.now start) }
-    ensures rest { pieces_at source.now result.1 ≡ behind (pieces_at source.now start) }
-    ensures place { IsCharBoundary source.now result.1 }
-    ensures within { IfSome result.0 (λ r. IsSpanIn source.now r.1) }
-    ensures bare { IsTrue result.2 → docs_before [] (pieces_at source.now start) ≡ [] }
+    ensures { IsScanned source.now start next.new.token next.new.fault next.new.span next.new.rest next.new.bare }
+{
+    let (item, span, bare) = item_behind(source, start);
+    next.token = token_of(item);
+    next.fault = fault_of(item);
+    next.rest = span.offset + span.length;
+    next.span = span;
+    next.bare = bare;
+}
+
+/// Scans the first item from a place on.
+#[inline(always)]
+fn scan(next: &mut Ahead, source: &str, start: usize)
+    requires { IsCharBoundary source.now start }
+    ensures { IsScanned source.now start next.new.token next.new.fault next.new.span next.new.rest next.new.bare }
 {
     let bytes = source.as_bytes();
     let at = skip_blanks(source, start);
     if at < source.len() && is_letter(bytes[at]) {
         let (word, length) = word_at(source, at);
-        let span = SourceSpan { offset: at, length };
-        return (Some((Ok(word), span)), at + length, true);
+        next.note(word, SourceSpan { offset: at, length }, at + length);
+        return;
     }
     if let Some(symbol) = symbol_at(source, at) {
         let span = SourceSpan {
             offset: at,
             length: 1,
         };
-        return (Some((Ok(symbol), span)), at + 1, true);
+        next.note(symbol, span, at + 1);
+        return;
     }
-    let (token, span, bare) = item_behind(source, at);
-    let rest = span.offset + span.length;
-    match token {
-        Some(token) => (Some((token, span)), rest, bare),
-        None => (None, rest, bare),
-    }
+    scan_any(next, source, at);
 }
 
 /// Adds a comment, if it is a doc comment.
@@ -197,21 +288,17 @@ pub struct Lexer<'a> {
     at: usize,
     // the span of the last item
     last: SourceSpan,
-    next: Option<Found>,
-    // the place behind the next item
-    rest: usize,
-    // whether only blanks stand before the next item
-    bare: bool,
+    next: Ahead,
 }
 
 impl<'a> Model for Lexer<'a> {
-    ghost use Rattle.wac_parser_lexer.specs.Items.{Input, input_at, IsReady};
+    ghost use Rattle.wac_parser_lexer.specs.Items.{Input, input_at, found_by, IsReady};
 
     ghost Value = { Input };
 
     ghost view = { λ l. input_at l.source.now l.at l.last };
 
-    ghost invariant = { λ l. IsReady l.source.now l.at l.last l.next l.rest l.bare };
+    ghost invariant = { λ l. IsReady l.source.now l.at l.last (found_by l.next.token l.next.fault l.next.span) l.next.rest l.next.bare };
 }
 
 impl<'a> Lexer<'a> {
@@ -224,7 +311,8 @@ impl<'a> Lexer<'a> {
         if let Some(refused) = first_refused(source) {
             return Err(refused);
         }
-        let (next, rest, bare) = first(source, 0);
+        let mut next = Ahead::new();
+        scan(&mut next, source, 0);
         Ok(Lexer {
             source,
             at: 0,
@@ -233,8 +321,6 @@ impl<'a> Lexer<'a> {
                 length: 0,
             },
             next,
-            rest,
-            bare,
         })
     }
 
@@ -273,7 +359,15 @@ impl<'a> Lexer<'a> {
         ensures value { result ≡ first_item self.now }
         ensures within { IfSome result (λ r. IsSpanIn self.now.source r.1) }
     {
-        self.next
+        self.next.found()
+    }
+
+    /// The next item's token, if it is one; the item stays.
+    #[inline(always)]
+    pub fn token(&self) -> Option<Token>
+        ensures { result ≡ next_token self.now }
+    {
+        self.next.token
     }
 
     /// The item behind the next one, which stays too.
@@ -281,7 +375,9 @@ impl<'a> Lexer<'a> {
         ensures value { result ≡ second_item self.now }
         ensures within { IfSome result (λ r. IsSpanIn self.now.source r.1) }
     {
-        first(self.source, self.rest).0
+        let mut second = Ahead::new();
+        scan(&mut second, self.source, self.next.rest);
+        second.found()
     }
 
     /// The doc comments before the next item, or before the end: the text of each, and where the whole comment stands.
@@ -289,7 +385,7 @@ impl<'a> Lexer<'a> {
     pub fn comments(&self, alloc: Global) -> Result<Vec<(&'a str, SourceSpan)>, AllocError>
         ensures { IfOk result (λ v. map doc_of v.items ≡ docs_ahead self.now) }
     {
-        if self.bare {
+        if self.next.bare {
             return Ok(Vec::new(alloc));
         }
         docs_from(alloc, self.source, self.at)
@@ -300,20 +396,17 @@ impl<'a> Lexer<'a> {
     fn advance(&mut self)
         ensures { self.new ≡ rest_input self.old }
     {
-        match self.next {
-            Some((_, span)) => {
-                self.at = self.rest;
-                self.last = span;
-            }
-            None => {
-                self.at = self.source.len();
-                self.last = SourceSpan {
-                    offset: self.source.len(),
-                    length: 0,
-                };
-            }
+        if self.next.is_end() {
+            self.at = self.source.len();
+            self.last = SourceSpan {
+                offset: self.source.len(),
+                length: 0,
+            };
+        } else {
+            self.at = self.next.rest;
+            self.last = self.next.span;
         }
-        (self.next, self.rest, self.bare) = first(self.source, self.at);
+        scan(&mut self.next, self.source, self.at);
     }
 
     /// Takes the next item if it is this token, and gives its span.
@@ -321,15 +414,13 @@ impl<'a> Lexer<'a> {
     pub fn take(&mut self, token: Token) -> Option<SourceSpan>
         ensures { Takes token self.old result self.new }
     {
-        let Some((item, span)) = self.next else {
-            return None;
-        };
-        let Ok(found) = item else {
+        let Some(found) = self.next.token else {
             return None;
         };
         if found != token {
             return None;
         }
+        let span = self.next.span;
         self.advance();
         Some(span)
     }
@@ -343,7 +434,7 @@ impl<'a> Iterator for Lexer<'a> {
     ghost remaining = { λ s. at_most (length s.items) };
 
     fn next(&mut self) -> Option<(LexerResult<Token>, SourceSpan)> {
-        let found = self.next;
+        let found = self.next.found();
         self.advance();
         found
     }

@@ -1,8 +1,9 @@
 //! A text cut into blanks, comments, tokens and faults.
 
-ghost use Rattle.std.specs.Prelude.{◌≡◌, ◌<◌, ◌≤◌, length, IfSome};
+ghost use Rattle.std.specs.Prelude.{◌≡◌, ◌<◌, ◌≤◌, true, length, slice_index, IfSome};
 ghost use Rattle.std.specs.List.{prefix_len};
 ghost use Rattle.wac_parser_lexer.specs.Pieces as spec;
+ghost use Rattle.wac_parser_lexer.specs.Words as words;
 
 use crate::LexerResult;
 use crate::error::Error;
@@ -29,14 +30,28 @@ fn is_comment(token: Token) -> bool
     matches!(token, Token::Comment | Token::BlockComment)
 }
 
-/// Whether the text begins with a `/*` that has no `*/`.
-fn is_unclosed(z: &[u8]) -> bool
-    ensures { result ≡ spec.is_unclosed z.now }
+/// Whether the text begins with `/*`.
+fn opens_block(z: &[u8]) -> bool
+    ensures { result ≡ words.opens_comment (slice_index z.now 0) (slice_index z.now 1) }
 {
     match z {
-        [b'/', b'*', ..] => block_comment_len(z) == 0,
+        [b'/', b'*', ..] => true,
         _ => false,
     }
+}
+
+/// A comment between `/*` and `*/`, or the fault where it has no end.
+fn block_piece(z: &[u8]) -> (Option<LexerResult<Token>>, usize)
+    requires some { 0 < length z.now }
+    requires opens { words.opens_comment (slice_index z.now 0) (slice_index z.now 1) ≡ true }
+    ensures value { result ≡ spec.front_piece z.now }
+    ensures fits { (1 ≤ result.1) × (result.1 ≤ length z.now) }
+{
+    let len = block_comment_len(z);
+    if len == 0 {
+        return (Some(Err(Error::UnterminatedComment)), z.len());
+    }
+    (None, len)
 }
 
 fn continuations_len(z: &[u8]) -> usize
@@ -80,8 +95,8 @@ pub(crate) fn front_piece(z: &[u8]) -> (Option<LexerResult<Token>>, usize)
     if is_blank(z[0]) {
         return (None, 1);
     }
-    if is_unclosed(z) {
-        return (Some(Err(Error::UnterminatedComment)), z.len());
+    if opens_block(z) {
+        return block_piece(z);
     }
     token_or_fault(z, token_at(z))
 }

@@ -1,9 +1,13 @@
 //! How many bytes at the front of a text belong together; 0 where none do.
 
-ghost use Rattle.std.specs.Prelude.{◌≡◌, ◌<◌, ◌≤◌, length, drop};
+ghost use Rattle.std.specs.Prelude.{◌≡◌, ◌<◌, ◌≤◌, length, drop, map, not};
+ghost use Rattle.std.specs.Simd.Lanes.{mask_l};
 ghost use Rattle.std.specs.List.{prefix_len};
 ghost use Rattle.wac_parser_lexer.specs.Words as words;
 ghost use Rattle.wac_parser_lexer.specs.Scan as spec;
+
+use memchr::memchr;
+use std::simd::prelude::*;
 
 // What may follow a lower-case letter in a word.
 const LOWER: u8 = 1;
@@ -47,11 +51,37 @@ fn is_version_byte(b: u8) -> bool
     b.is_ascii_digit() || b.is_ascii_lowercase() || b.is_ascii_uppercase() || b == b'-' || b == b'+'
 }
 
-fn lower_run(z: &[u8]) -> usize
+/// Which of 16 bytes may not follow a lower-case letter in a word, by a bit for each.
+fn foreign_lanes(v: u8x16) -> u64
+    ensures { result ≡ mask_l (map (λ b. not (words.is_lower_word_byte b)) v) }
+{
+    let no_digit = v.simd_lt(u8x16::splat(b'0')) | v.simd_ge(u8x16::splat(b'9' + 1));
+    let no_lower = v.simd_lt(u8x16::splat(b'a')) | v.simd_ge(u8x16::splat(b'z' + 1));
+    (no_digit & no_lower).to_bitmask()
+}
+
+/// The run at the front byte by byte.
+fn lower_tail(z: &[u8]) -> usize
     ensures value { result ≡ prefix_len words.is_lower_word_byte z.now }
     ensures fits { result ≤ length z.now }
 {
     z.iter().take_while(|b| is_lower_word_byte(**b)).count()
+}
+
+#[inline(always)]
+fn lower_run(z: &[u8]) -> usize
+    ensures value { result ≡ prefix_len words.is_lower_word_byte z.now }
+    ensures fits { result ≤ length z.now }
+{
+    let mut at = 0;
+    'lanes: while z.len() - at >= 16 {
+        let foreign = foreign_lanes(u8x16::from_slice(&z[at..]));
+        if foreign != 0 {
+            return at + foreign.trailing_zeros() as usize;
+        }
+        at += 16;
+    }
+    at + lower_tail(&z[at..])
 }
 
 fn upper_run(z: &[u8]) -> usize
@@ -79,14 +109,20 @@ fn unquoted_len(z: &[u8]) -> usize
     ensures value { result ≡ prefix_len words.is_unquoted z.now }
     ensures fits { result ≤ length z.now }
 {
-    z.iter().take_while(|b| **b != b'"').count()
+    match memchr(b'"', z) {
+        Some(at) => at,
+        None => z.len(),
+    }
 }
 
 fn line_len(z: &[u8]) -> usize
     ensures value { result ≡ prefix_len words.is_in_line z.now }
     ensures fits { result ≤ length z.now }
 {
-    z.iter().take_while(|b| **b != b'\n').count()
+    match memchr(b'\n', z) {
+        Some(at) => at,
+        None => z.len(),
+    }
 }
 
 #[inline(always)]

@@ -7,4 +7,4 @@ use Rattle.wac_parser_lexer.proofs.lexer.Lexer.peek2.Goals as goal
 pub returns-clause-value : goal.returns-clause-value
 returns-clause-value c =
     let ps = pieces_at c.self.inside.source.now c.self.inside.at in
-    c.first.ensures.found ∙ ap ahead c.self.invariant.others ∙ first_ahead [] (behind ps) ∙ ap first_of_items (rest_behind [] ps) ∙ ap second_item c.self.view_is
+    c.found.ensures ∙ c.scan.ensures.first ∙ ap ahead c.self.invariant.others ∙ first_ahead [] (behind ps) ∙ ap first_of_items (rest_behind [] ps) ∙ ap second_item c.self.view_is
