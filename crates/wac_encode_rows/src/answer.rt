@@ -1,11 +1,11 @@
 //! What a graph is encoded to, as a text.
 
-use crate::graph::PACKAGE;
 use anyhow::{Context, Error, Result, anyhow, bail, ensure};
 use std::alloc::{AllocError, Global};
 use wac_graph_core::CompositionGraph;
 use wac_graph_encode::{EncodeError, EncodeGraph, EncodeOptions, Encoded, Processor};
 use wac_reader::{ReadError, read, read_down};
+use wac_row_graphs::PACKAGE;
 use wac_types_base::ItemKind;
 
 /// The numbers of the collections.

@@ -2,10 +2,7 @@
 #![tactic(auto)]
 
 mod answer;
-mod graph;
 mod teller;
-mod types;
-mod words;
 
 use std::io::{self, Read};
 use std::process::ExitCode;

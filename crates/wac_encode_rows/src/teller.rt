@@ -1,12 +1,11 @@
 //! What comes of a row: its graph is built, encoded and told.
 
 use crate::answer::{Manner, answer_of, encoded_of};
-use crate::graph::{Named, add_lines, register};
-use crate::types::add_types;
 use anyhow::{Result, bail, ensure};
 use std::alloc::Global;
 use wac_graph_core::{CompositionGraph, PackageId};
 use wac_graph_encode::Encoded;
+use wac_row_graphs::{Named, add_lines, add_types, register};
 use wac_rows::{Part, Row, RowTeller};
 use wac_types_base::ItemKind;
 

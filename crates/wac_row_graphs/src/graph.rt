@@ -2,29 +2,31 @@
 //! `package NAME WORLD`, `instance NAME PACKAGE`, `alias NAME INSTANCE EXPORT`, `import NAME ITEM`,
 //! `pass INSTANCE IMPORT NODE`, `export NODE NAME` and `define NAME ITEM`.
 
-use crate::words::{item_named, word_at, words_of};
-use anyhow::{Context, Result, bail, ensure};
+use crate::words::{item_named, type_named, word_at, words_of};
+use anyhow::{Context, Error, Result, anyhow, bail, ensure};
 use std::alloc::Global;
-use wac_graph_core::{CompositionGraph, NodeId, PackageId};
+use wac_graph_core::{
+    CompositionGraph, ExportError, ImportError, InstantiationArgumentError, NodeId, PackageId,
+};
 use wac_types_base::{ItemKind, NamedMap, Type, WorldId};
 
 /// The bytes of `p:p`: it imports `f: func()`, and exports it as `g`.
-pub(crate) const PACKAGE: [u8; 32] = [
+pub const PACKAGE: [u8; 32] = [
     0x00, 0x61, 0x73, 0x6d, 0x0d, 0x00, 0x01, 0x00, 0x07, 0x05, 0x01, 0x40, 0x00, 0x01, 0x00, 0x0a,
     0x06, 0x01, 0x00, 0x01, 0x66, 0x01, 0x00, 0x0b, 0x07, 0x01, 0x00, 0x01, 0x67, 0x01, 0x00, 0x00,
 ];
 
-/// What stands under names.
+/// What stands under the names of lines.
 #[derive(Drop)]
-pub(crate) struct Named {
-    items: NamedMap<ItemKind>,
+pub struct Named {
+    pub items: NamedMap<ItemKind>,
     packages: NamedMap<PackageId>,
     nodes: NamedMap<NodeId>,
 }
 
 impl Named {
     /// These items alone.
-    pub(crate) fn new(alloc: Global, items: NamedMap<ItemKind>) -> Self {
+    pub fn new(alloc: Global, items: NamedMap<ItemKind>) -> Self {
         Named {
             items,
             packages: NamedMap::new(alloc),
@@ -33,12 +35,7 @@ impl Named {
     }
 
     /// Adds a package under its name.
-    pub(crate) fn add_package(
-        &mut self,
-        alloc: Global,
-        name: &str,
-        package: PackageId,
-    ) -> Result<()> {
+    pub fn add_package(&mut self, alloc: Global, name: &str, package: PackageId) -> Result<()> {
         let _ = self
             .packages
             .insert(String::from_str(alloc, name)?, package)?;
@@ -51,29 +48,21 @@ impl Named {
         Ok(())
     }
 
-    fn package(&self, name: &str) -> Result<PackageId> {
+    /// The package of a name.
+    pub fn package(&self, name: &str) -> Result<PackageId> {
         self.packages.get(name).copied().context("no such package")
     }
 
-    fn node(&self, name: &str) -> Result<NodeId> {
+    /// The node of a name.
+    pub fn node(&self, name: &str) -> Result<NodeId> {
         self.nodes.get(name).copied().context("no such node")
     }
 
+    /// The world of a name.
     fn world(&self, name: &str) -> Result<WorldId> {
         match self.items.get(name) {
             Some(ItemKind::Component(world)) => Ok(*world),
             _ => bail!("no such world"),
-        }
-    }
-
-    /// The type that an item is, or that it is of.
-    fn ty(&self, name: &str) -> Result<Type> {
-        match item_named(&self.items, name)? {
-            ItemKind::Ty(ty) => Ok(ty),
-            ItemKind::Func(id) => Ok(Type::Func(id)),
-            ItemKind::Instance(id) => Ok(Type::Interface(id)),
-            ItemKind::Component(id) => Ok(Type::World(id)),
-            _ => bail!("no type"),
         }
     }
 }
@@ -93,8 +82,37 @@ fn bytes_of(alloc: Global, name: &str) -> Result<Vec<u8>> {
     Ok(bytes)
 }
 
+/// The refusal of an import, with the node that has its name.
+fn import_refusal(fault: ImportError) -> Error {
+    match &fault {
+        ImportError::ImportAlreadyExists { node, .. } => anyhow!("{fault}: {node}"),
+        _ => anyhow!("{fault}"),
+    }
+}
+
+/// The refusal of an export, with the node that has its name.
+fn export_refusal(fault: ExportError) -> Error {
+    match &fault {
+        ExportError::ExportAlreadyExists { node, .. } => anyhow!("{fault}: {node}"),
+        _ => anyhow!("{fault}"),
+    }
+}
+
+/// The refusal of an argument, with the instance that has no such import.
+pub fn argument_refusal(fault: InstantiationArgumentError) -> Error {
+    match &fault {
+        InstantiationArgumentError::InvalidArgumentName { node, .. } => {
+            anyhow!("{fault}: {node}")
+        }
+        InstantiationArgumentError::ArgumentTypeMismatch { name, .. } => {
+            anyhow!("argument `{name}` has another type than the import")
+        }
+        _ => anyhow!("{fault}"),
+    }
+}
+
 /// Registers a package of that world.
-pub(crate) fn register(
+pub fn register(
     graph: &mut CompositionGraph,
     name: &str,
     bytes: Vec<u8>,
@@ -108,6 +126,7 @@ pub(crate) fn register(
     Ok(graph.register_package(package)?)
 }
 
+/// Adds the package that a line says.
 fn add_package(graph: &mut CompositionGraph, named: &mut Named, words: &[&str]) -> Result<()> {
     let alloc = graph.alloc();
     let name = word_at(words, 1);
@@ -117,6 +136,7 @@ fn add_package(graph: &mut CompositionGraph, named: &mut Named, words: &[&str]) 
     named.add_package(alloc, name, package)
 }
 
+/// Adds an instance.
 fn add_instance(graph: &mut CompositionGraph, package: PackageId) -> Result<NodeId> {
     ensure!(
         graph.contains_package(package),
@@ -125,16 +145,19 @@ fn add_instance(graph: &mut CompositionGraph, package: PackageId) -> Result<Node
     Ok(graph.instantiate(package)?)
 }
 
+/// Adds an alias of an instance's export.
 fn add_alias(graph: &mut CompositionGraph, instance: NodeId, export: &str) -> Result<NodeId> {
     ensure!(graph.contains_node(instance), "the instance does not stand");
     Ok(graph.alias_instance_export(instance, export)?)
 }
 
+/// Adds an import.
 fn add_import(graph: &mut CompositionGraph, name: &str, item: ItemKind) -> Result<NodeId> {
     ensure!(graph.types().has(item), "the item does not stand");
-    Ok(graph.import(name, item)?)
+    graph.import(name, item).map_err(import_refusal)
 }
 
+/// Adds a definition.
 fn add_definition(graph: &mut CompositionGraph, name: &str, ty: Type) -> Result<NodeId> {
     ensure!(
         graph.types().has(ItemKind::Ty(ty)),
@@ -151,28 +174,30 @@ fn add_node(graph: &mut CompositionGraph, named: &Named, words: &[&str]) -> Resu
         "instance" => add_instance(graph, named.package(of)?),
         "alias" => add_alias(graph, named.node(of)?, word_at(words, 3)),
         "import" => add_import(graph, name, item_named(&named.items, of)?),
-        "define" => add_definition(graph, name, named.ty(of)?),
+        "define" => add_definition(graph, name, type_named(&named.items, of)?),
         _ => bail!("no such line of graphs"),
     }
 }
 
+/// Passes an argument.
 fn pass(graph: &mut CompositionGraph, named: &Named, words: &[&str]) -> Result<()> {
     let instance = named.node(word_at(words, 1))?;
     let argument = named.node(word_at(words, 3))?;
     ensure!(graph.contains_node(instance), "the instance does not stand");
     ensure!(graph.contains_node(argument), "the argument does not stand");
-    graph.set_instantiation_argument(instance, word_at(words, 2), argument)?;
-    Ok(())
+    graph
+        .set_instantiation_argument(instance, word_at(words, 2), argument)
+        .map_err(argument_refusal)
 }
 
+/// Exports a node.
 fn export(graph: &mut CompositionGraph, node: NodeId, name: &str) -> Result<()> {
     ensure!(graph.contains_node(node), "the node does not stand");
-    graph.export(node, name)?;
-    Ok(())
+    graph.export(node, name).map_err(export_refusal)
 }
 
-/// Does what a line says.
-fn say(graph: &mut CompositionGraph, named: &mut Named, words: &[&str]) -> Result<()> {
+/// Does what a line of these words says. The error of a refused call is its refusal, with the node that it names.
+pub fn do_line(graph: &mut CompositionGraph, named: &mut Named, words: &[&str]) -> Result<()> {
     match word_at(words, 0) {
         "package" => add_package(graph, named, words),
         "pass" => pass(graph, named, words),
@@ -185,12 +210,12 @@ fn say(graph: &mut CompositionGraph, named: &mut Named, words: &[&str]) -> Resul
 }
 
 /// Does what the lines of a text say.
-pub(crate) fn add_lines(graph: &mut CompositionGraph, named: &mut Named, text: &str) -> Result<()> {
+pub fn add_lines(graph: &mut CompositionGraph, named: &mut Named, text: &str) -> Result<()> {
     let alloc = graph.alloc();
     for line in text.split('\n') {
         if !line.is_empty() {
             let words = words_of(alloc, line)?;
-            say(graph, named, &words)?;
+            do_line(graph, named, &words)?;
         }
     }
     Ok(())

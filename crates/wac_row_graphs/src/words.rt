@@ -5,12 +5,12 @@ use std::alloc::{AllocError, Global};
 use wac_types_base::{ItemKind, NamedMap, ResourceId, Type, ValueType};
 
 /// The words of a line.
-pub(crate) fn words_of<'a>(alloc: Global, line: &'a str) -> Result<Vec<&'a str>, AllocError> {
+pub fn words_of<'a>(alloc: Global, line: &'a str) -> Result<Vec<&'a str>, AllocError> {
     line.split(' ').collect(alloc)
 }
 
 /// The word at a place, or none.
-pub(crate) fn word_at<'a>(words: &[&'a str], at: usize) -> &'a str {
+pub fn word_at<'a>(words: &[&'a str], at: usize) -> &'a str {
     match words.get(at) {
         Some(word) => *word,
         None => "",
@@ -45,8 +45,19 @@ pub(crate) fn pairs_behind<'a>(
 }
 
 /// The item of a name.
-pub(crate) fn item_named(items: &NamedMap<ItemKind>, name: &str) -> Result<ItemKind> {
+pub fn item_named(items: &NamedMap<ItemKind>, name: &str) -> Result<ItemKind> {
     items.get(name).copied().context("no such item")
+}
+
+/// The type that the item of a name is, or that it is of.
+pub fn type_named(items: &NamedMap<ItemKind>, name: &str) -> Result<Type> {
+    match item_named(items, name)? {
+        ItemKind::Ty(ty) => Ok(ty),
+        ItemKind::Func(id) => Ok(Type::Func(id)),
+        ItemKind::Instance(id) => Ok(Type::Interface(id)),
+        ItemKind::Component(id) => Ok(Type::World(id)),
+        _ => bail!("no type"),
+    }
 }
 
 /// The resource of a name.

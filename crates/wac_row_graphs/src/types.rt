@@ -1,9 +1,10 @@
 //! Types as lines, each of which may name those before it:
 //! `func NAME params P=V ..`, `record NAME fields F=V ..`, `type NAME V` (another name of a value type),
 //! `resource NAME TEXT of RESOURCE in INTERFACE`, `interface NAME as TEXT uses R=I .. exports E=ITEM ..`,
-//! `world NAME as TEXT uses R=I .. imports I=ITEM .. exports E=ITEM ..`, `value NAME V` (the item of a value) and
-//! `module NAME HEAP`.
+//! `world NAME as TEXT uses R=I .. imports I=ITEM .. exports E=ITEM ..`, `value NAME V` (the item of a value),
+//! `module NAME HEAP` and `memories NAME imports M::N=PAGES .. exports N=PAGES ..` (the type of a module of memories).
 
+use crate::modules::{memories_of, module_of};
 use crate::words::{
     item_named, pairs_behind, resource_named, value_named, word_at, word_behind, words_of,
 };
@@ -11,10 +12,17 @@ use anyhow::{Result, bail, ensure};
 use std::alloc::Global;
 use wac_graph_core::CompositionGraph;
 use wac_types_base::{
-    CoreExtern, CoreFuncType, CoreImports, CoreRefType, CoreType, DefinedType, FuncType, HeapType,
-    Interface, InterfaceId, ItemKind, Items, ModuleType, NamedMap, PrimitiveType, Record, Resource,
-    ResourceAlias, Text, Type, UsedType, ValueType, World,
+    DefinedType, FuncType, Interface, InterfaceId, ItemKind, NamedMap, PrimitiveType, Record,
+    Resource, ResourceAlias, Text, Type, UsedType, ValueType, World,
 };
+
+/// The primitive types that lines name.
+const PRIMITIVES: [(&str, PrimitiveType); 4] = [
+    ("u8", PrimitiveType::U8),
+    ("s32", PrimitiveType::S32),
+    ("u32", PrimitiveType::U32),
+    ("string", PrimitiveType::String),
+];
 
 /// The named value types behind a word.
 fn values_behind(
@@ -159,56 +167,13 @@ fn add_world(graph: &mut CompositionGraph, world: World) -> Result<ItemKind> {
     Ok(ItemKind::Component(id))
 }
 
-/// `m` `f`, a function of an `i32` that answers an `i64`.
-fn module_imports(alloc: Global) -> Result<CoreImports> {
-    let mut params = Items::new(alloc);
-    params.push(CoreType::I32)?;
-    let mut results = Items::new(alloc);
-    results.push(CoreType::I64)?;
-    let mut imports = CoreImports::new(alloc);
-    let module = String::from_str(alloc, "m")?;
-    let name = String::from_str(alloc, "f")?;
-    let func = CoreExtern::Func(CoreFuncType { params, results });
-    imports.push(module, name, func)?;
-    Ok(imports)
-}
-
-/// The memory `g`, and the table `t` of references to that heap type.
-fn module_exports(alloc: Global, heap_type: HeapType) -> Result<NamedMap<CoreExtern>> {
-    let mut exports = NamedMap::new(alloc);
-    let memory = CoreExtern::Memory {
-        memory64: false,
-        shared: false,
-        initial: 1,
-        maximum: Some(2),
-        page_size_log2: None,
-    };
-    let _ = exports.insert(String::from_str(alloc, "g")?, memory)?;
-    let table = CoreExtern::Table {
-        element_type: CoreRefType {
-            nullable: true,
-            heap_type,
-        },
-        initial: 3,
-        maximum: None,
-        table64: false,
-        shared: false,
-    };
-    let _ = exports.insert(String::from_str(alloc, "t")?, table)?;
-    Ok(exports)
-}
-
-/// A module type with a table of references to functions, or to any value.
-fn add_module(graph: &mut CompositionGraph, word: &str) -> Result<ItemKind> {
+/// Adds a module type: `module` by its heap type, `memories` by its memories.
+fn add_module(graph: &mut CompositionGraph, words: &[&str]) -> Result<ItemKind> {
     let alloc = graph.alloc();
-    let heap_type = if word == "func" {
-        HeapType::Func
-    } else {
-        HeapType::Any
+    let module = match word_at(words, 0) {
+        "module" => module_of(alloc, word_at(words, 2))?,
+        _ => memories_of(alloc, words)?,
     };
-    let imports = module_imports(alloc)?;
-    let exports = module_exports(alloc, heap_type)?;
-    let module = ModuleType { imports, exports };
     Ok(ItemKind::Module(graph.types_mut().add_module_type(module)?))
 }
 
@@ -245,7 +210,7 @@ fn add_item(
         "resource" => add_resource(graph, items, words),
         "interface" => add_interface(graph, interface_of(alloc, items, words)?),
         "world" => add_world(graph, world_of(alloc, items, words)?),
-        "module" => add_module(graph, word_at(words, 2)),
+        "module" | "memories" => add_module(graph, words),
         _ => add_value(graph, items, words),
     }
 }
@@ -263,12 +228,25 @@ fn add_line(
     Ok(())
 }
 
-/// Adds the types of a text; each is an item under its name, as `u32` is.
-pub(crate) fn add_types(graph: &mut CompositionGraph, text: &str) -> Result<NamedMap<ItemKind>> {
+/// Adds a primitive type under its name.
+fn add_primitive(
+    alloc: Global,
+    items: &mut NamedMap<ItemKind>,
+    name: &str,
+    ty: PrimitiveType,
+) -> Result<()> {
+    let item = ItemKind::Ty(Type::Value(ValueType::Primitive(ty)));
+    let _ = items.insert(String::from_str(alloc, name)?, item)?;
+    Ok(())
+}
+
+/// Adds the types of a text; each is an item under its name, as some primitive types are.
+pub fn add_types(graph: &mut CompositionGraph, text: &str) -> Result<NamedMap<ItemKind>> {
     let alloc = graph.alloc();
     let mut items = NamedMap::new(alloc);
-    let u32_type = ItemKind::Ty(Type::Value(ValueType::Primitive(PrimitiveType::U32)));
-    let _ = items.insert(String::from_str(alloc, "u32")?, u32_type)?;
+    for (name, ty) in PRIMITIVES {
+        add_primitive(alloc, &mut items, name, ty)?;
+    }
     for line in text.split('\n') {
         if !line.is_empty() {
             add_line(graph, &mut items, line)?;
