@@ -1,6 +1,6 @@
 //! What a graph is encoded to, as a text.
 
-use anyhow::{Context, Error, Result, anyhow, bail, ensure};
+use anyhow::{Context, Result, bail, ensure};
 use std::alloc::{AllocError, Global};
 use wac_graph_core::CompositionGraph;
 use wac_graph_encode::{EncodeError, EncodeGraph, EncodeOptions, Encoded, Processor};
@@ -75,11 +75,12 @@ pub(crate) fn encoded_of(
     }
 }
 
-/// Bytes that the slow reader does not read.
-fn unread(fault: ReadError) -> Error {
-    match fault {
-        ReadError::At(at, what) => anyhow!("the bytes are not read at {at}: {what}"),
-        ReadError::Memory => anyhow!("out of memory"),
+/// What the slow reader tells, or where it does not read the bytes.
+fn text_read(answer: Result<String, ReadError>) -> Result<String> {
+    match answer {
+        Ok(text) => Ok(text),
+        Err(ReadError::At(at, what)) => bail!("the bytes are not read at {at}: {what}"),
+        Err(ReadError::Memory) => bail!("out of memory"),
     }
 }
 
@@ -139,7 +140,7 @@ fn components_of(alloc: Global, bytes: &[u8]) -> Result<String, ReadError> {
 
 /// What the bytes say, and the names of the world.
 fn reading_and_world(alloc: Global, encoded: &Encoded) -> Result<String> {
-    let mut shown = reading_of(alloc, &encoded.bytes).map_err(unread)?;
+    let mut shown = text_read(reading_of(alloc, &encoded.bytes))?;
     push_world(encoded, &mut shown)?;
     Ok(shown)
 }
@@ -153,8 +154,8 @@ fn show(alloc: Global, encoded: &Encoded, what: &str) -> Result<String> {
             push_hex(alloc, &encoded.bytes, &mut shown)?;
             Ok(shown)
         }
-        "components" => components_of(alloc, &encoded.bytes).map_err(unread),
-        "whole" => whole_reading_of(alloc, &encoded.bytes).map_err(unread),
+        "components" => text_read(components_of(alloc, &encoded.bytes)),
+        "whole" => text_read(whole_reading_of(alloc, &encoded.bytes)),
         _ => bail!("no such thing to show"),
     }
 }

@@ -45,14 +45,15 @@ fn unpass(
 ) -> Result<()> {
     ensure!(graph.contains_node(instance), "the instance does not stand");
     ensure!(graph.contains_node(argument), "the argument does not stand");
-    graph
-        .unset_instantiation_argument(instance, name, argument)
-        .map_err(argument_refusal)
+    match graph.unset_instantiation_argument(instance, name, argument) {
+        Ok(()) => Ok(()),
+        Err(fault) => Err(argument_refusal(&fault)),
+    }
 }
 
 /// The refusal of plugs.
-fn plug_refusal(fault: PlugError) -> Error {
-    match &fault {
+fn plug_refusal(fault: &PlugError) -> Error {
+    match fault {
         PlugError::GraphError {
             source: PlugFault::Argument(
                 InstantiationArgumentError::ArgumentAlreadyPassed { name, .. },
@@ -62,11 +63,19 @@ fn plug_refusal(fault: PlugError) -> Error {
     }
 }
 
+/// That plugs are taken, or the refusal.
+fn plugged(answer: Result<(), PlugError>) -> Result<()> {
+    match answer {
+        Ok(()) => Ok(()),
+        Err(fault) => Err(plug_refusal(&fault)),
+    }
+}
+
 /// Plugs nothing.
 fn plug_none(graph: &mut CompositionGraph, socket: PackageId) -> Result<()> {
     let alloc = graph.alloc();
     ensure!(graph.contains_package(socket), "the socket does not stand");
-    plug(alloc, graph, Vec::new(alloc), socket).map_err(plug_refusal)
+    plugged(plug(alloc, graph, Vec::new(alloc), socket))
 }
 
 /// Plugs one package.
@@ -75,7 +84,7 @@ fn plug_one(graph: &mut CompositionGraph, socket: PackageId, first: PackageId) -
     let plugs = Vec::from_slice(alloc, &[first])?;
     ensure!(graph.contains_package(first), "the plug does not stand");
     ensure!(graph.contains_package(socket), "the socket does not stand");
-    plug(alloc, graph, plugs, socket).map_err(plug_refusal)
+    plugged(plug(alloc, graph, plugs, socket))
 }
 
 /// Plugs two packages.
@@ -96,7 +105,7 @@ fn plug_two(
         "the second plug does not stand"
     );
     ensure!(graph.contains_package(socket), "the socket does not stand");
-    plug(alloc, graph, plugs, socket).map_err(plug_refusal)
+    plugged(plug(alloc, graph, plugs, socket))
 }
 
 /// Plugs the packages that a line says.

@@ -83,24 +83,24 @@ fn bytes_of(alloc: Global, name: &str) -> Result<Vec<u8>> {
 }
 
 /// The refusal of an import, with the node that has its name.
-fn import_refusal(fault: ImportError) -> Error {
-    match &fault {
+fn import_refusal(fault: &ImportError) -> Error {
+    match fault {
         ImportError::ImportAlreadyExists { node, .. } => anyhow!("{fault}: {node}"),
         _ => anyhow!("{fault}"),
     }
 }
 
 /// The refusal of an export, with the node that has its name.
-fn export_refusal(fault: ExportError) -> Error {
-    match &fault {
+fn export_refusal(fault: &ExportError) -> Error {
+    match fault {
         ExportError::ExportAlreadyExists { node, .. } => anyhow!("{fault}: {node}"),
         _ => anyhow!("{fault}"),
     }
 }
 
 /// The refusal of an argument, with the instance that has no such import.
-pub fn argument_refusal(fault: InstantiationArgumentError) -> Error {
-    match &fault {
+pub fn argument_refusal(fault: &InstantiationArgumentError) -> Error {
+    match fault {
         InstantiationArgumentError::InvalidArgumentName { node, .. } => {
             anyhow!("{fault}: {node}")
         }
@@ -154,7 +154,10 @@ fn add_alias(graph: &mut CompositionGraph, instance: NodeId, export: &str) -> Re
 /// Adds an import.
 fn add_import(graph: &mut CompositionGraph, name: &str, item: ItemKind) -> Result<NodeId> {
     ensure!(graph.types().has(item), "the item does not stand");
-    graph.import(name, item).map_err(import_refusal)
+    match graph.import(name, item) {
+        Ok(node) => Ok(node),
+        Err(fault) => Err(import_refusal(&fault)),
+    }
 }
 
 /// Adds a definition.
@@ -185,15 +188,19 @@ fn pass(graph: &mut CompositionGraph, named: &Named, words: &[&str]) -> Result<(
     let argument = named.node(word_at(words, 3))?;
     ensure!(graph.contains_node(instance), "the instance does not stand");
     ensure!(graph.contains_node(argument), "the argument does not stand");
-    graph
-        .set_instantiation_argument(instance, word_at(words, 2), argument)
-        .map_err(argument_refusal)
+    match graph.set_instantiation_argument(instance, word_at(words, 2), argument) {
+        Ok(()) => Ok(()),
+        Err(fault) => Err(argument_refusal(&fault)),
+    }
 }
 
 /// Exports a node.
 fn export(graph: &mut CompositionGraph, node: NodeId, name: &str) -> Result<()> {
     ensure!(graph.contains_node(node), "the node does not stand");
-    graph.export(node, name).map_err(export_refusal)
+    match graph.export(node, name) {
+        Ok(()) => Ok(()),
+        Err(fault) => Err(export_refusal(&fault)),
+    }
 }
 
 /// Does what a line of these words says. The error of a refused call is its refusal, with the node that it names.

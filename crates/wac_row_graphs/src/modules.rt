@@ -1,7 +1,7 @@
 //! Types of core modules.
 
 use crate::words::pairs_behind;
-use anyhow::{Context, Result};
+use anyhow::{Result, ensure};
 use std::alloc::{AllocError, Global};
 use wac_types_base::{
     CoreExtern, CoreFuncType, CoreImports, CoreRefType, CoreType, HeapType, Items, ModuleType,
@@ -70,22 +70,29 @@ fn memory(initial: u64) -> CoreExtern {
     }
 }
 
-/// The memories that a module asks for.
-fn memory_imports(alloc: Global, words: &[&str]) -> Result<CoreImports> {
+/// A memory of so many pages that a module asks for as `M::N`.
+fn memory_import(alloc: Global, name: &str, pages: u64) -> Result<CoreImports, AllocError> {
+    let (module, name) = name.split_once("::").unwrap_or((name, ""));
+    let module = String::from_str(alloc, module)?;
+    let name = String::from_str(alloc, name)?;
     let mut imports = CoreImports::new(alloc);
-    for (name, pages) in &pairs_behind(alloc, words, "imports")? {
-        let (module, name) = name.split_once("::").context("no name of a module")?;
-        let pages = pages.parse::<u64>()?;
-        let module = String::from_str(alloc, module)?;
-        imports.push(module, String::from_str(alloc, name)?, memory(pages))?;
-    }
+    imports.push(module, name, memory(pages))?;
     Ok(imports)
 }
 
+/// The memory that a module asks for, if it asks for one.
+fn memory_imports(alloc: Global, pairs: &[(&str, &str)]) -> Result<CoreImports> {
+    ensure!(pairs.len() < 2, "more than one import of a module");
+    match pairs.first() {
+        Some((name, pages)) => Ok(memory_import(alloc, name, pages.parse::<u64>()?)?),
+        None => Ok(CoreImports::new(alloc)),
+    }
+}
+
 /// The memories that a module gives.
-fn memory_exports(alloc: Global, words: &[&str]) -> Result<NamedMap<CoreExtern>> {
+fn memory_exports(alloc: Global, pairs: &[(&str, &str)]) -> Result<NamedMap<CoreExtern>> {
     let mut exports = NamedMap::new(alloc);
-    for (name, pages) in &pairs_behind(alloc, words, "exports")? {
+    for (name, pages) in pairs {
         let pages = pages.parse::<u64>()?;
         let _ = exports.insert(String::from_str(alloc, name)?, memory(pages))?;
     }
@@ -94,7 +101,10 @@ fn memory_exports(alloc: Global, words: &[&str]) -> Result<NamedMap<CoreExtern>>
 
 /// The type of a module of memories.
 pub(crate) fn memories_of(alloc: Global, words: &[&str]) -> Result<ModuleType> {
-    let imports = memory_imports(alloc, words)?;
-    let exports = memory_exports(alloc, words)?;
-    Ok(ModuleType { imports, exports })
+    let imports = pairs_behind(alloc, words, "imports")?;
+    let exports = pairs_behind(alloc, words, "exports")?;
+    Ok(ModuleType {
+        imports: memory_imports(alloc, &imports)?,
+        exports: memory_exports(alloc, &exports)?,
+    })
 }

@@ -2,7 +2,7 @@
 //! `func NAME params P=V ..`, `record NAME fields F=V ..`, `type NAME V` (another name of a value type),
 //! `resource NAME TEXT of RESOURCE in INTERFACE`, `interface NAME as TEXT uses R=I .. exports E=ITEM ..`,
 //! `world NAME as TEXT uses R=I .. imports I=ITEM .. exports E=ITEM ..`, `value NAME V` (the item of a value),
-//! `module NAME HEAP` and `memories NAME imports M::N=PAGES .. exports N=PAGES ..` (the type of a module of memories).
+//! `module NAME HEAP` and `memories NAME imports M::N=PAGES exports N=PAGES ..` (the type of a module of memories).
 
 use crate::modules::{memories_of, module_of};
 use crate::words::{
