@@ -4,6 +4,7 @@ pub mod Values
 pub mod TypeViews
 pub mod Loops
 pub mod Members
+pub mod Named
 pub mod RowWords
 pub mod RefusedRows
 pub mod Standing

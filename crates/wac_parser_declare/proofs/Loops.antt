@@ -36,6 +36,10 @@ module _ {S A X : Type 0} (f : S → A → Answer S) (view : X → A) (xs : List
       subst (λ (ys : List X). IsRefusal (each f s (map view ys)) e) (sym (drop_more xs i d lt))
       (then_refused (λ u. each f u (map view (drop (i + 1) xs))) (f s (view (get_or xs i d))) e x)
 
+  -- a step of what is left, of all
+  pub each_refused_whole : (q : Answer S) (s : S) (d : X) (e : Refusal) → q ≡ each f s (map view (drop i xs)) → i < length xs → d ≡ get_or xs i d → IsRefusal (f s (view d)) e → IsRefusal q e
+  each_refused_whole q s d e whole lt is h = subst (λ (p : Answer S). IsRefusal p e) (sym whole) (each_stops s d e lt (subst (λ (x : X). IsRefusal (f s (view x)) e) is h))
+
   pub each_ends : (s : S) → length xs ≤ i → each f s (map view (drop i xs)) ≡ Ok s
   each_ends s h = ap (λ (ys : List X). each f s (map view ys)) (past_all xs i h)
 

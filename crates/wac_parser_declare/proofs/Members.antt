@@ -18,13 +18,15 @@ use Rattle.wac_parser_tree.specs.Trees as t
 use Rattle.wac_parser_tree.specs.Trees.{Span}
 use Rattle.wac_parser_tree.specs.Accessors.{ty_span}
 use Rattle.wac_parser_refusals.specs.declared.refusal.Refusal.{Refusal}
-use Rattle.wac_parser_refusals.specs.Causes.{Answer, Fault, ◌>>=◌, ◌>>◌, unless_clear, BorrowInResult, NotFuncType}
-use Rattle.wac_parser_declare.specs.Scope.{has}
-use Rattle.wac_parser_declare.specs.Declarations.{add_member, member, no_borrow, func_by}
-use Rattle.wac_parser_refusals.specs.Outcomes.{IsHeld, IsRefusal, Refuses}
-use Rattle.wac_parser_declare.specs.Holding.{IsValue, IsValueIf, IsFunc, StandsIf, AreEntries, EachStands, ValueStands, AreNamedValues, stated_value, stated_if}
+use Rattle.wac_parser_refusals.specs.Views.{Names, cause_in}
+use Rattle.wac_parser_refusals.specs.Causes.{Answer, Cause, Fault, ◌>>=◌, ◌>>◌, unless_clear, BorrowInResult, NotFuncType}
+use Rattle.wac_parser_declare.specs.declared.scope.Binding.{Binding}
+use Rattle.wac_parser_declare.specs.Scope.{Scope, has}
+use Rattle.wac_parser_declare.specs.Declarations.{add_member, member, no_borrow, result_of, func_by}
+use Rattle.wac_parser_refusals.specs.Outcomes.{IsHeld, IsRefusal, Refuses, Tells}
+use Rattle.wac_parser_declare.specs.Holding.{AddsNew, IsValue, IsValueIf, IsFunc, NamesStand, StandsIf, AreEntries, EachStands, ValueStands, AreNamedValues, AreCases, scope_of, self_params, stated_value, stated_if}
 use Rattle.wac_parser_refusals.proofs.Outcomes.{then_refused, after_refused}
-use Rattle.wac_parser_declare.proofs.Kept.{entry_holds, children, both_stand, named_values_stand, option_stands, option_places, IsValueIf-kept, stated-kept, AreEntries-kept, EachStands-more, with_values-more, value_at-with_values}
+use Rattle.wac_parser_declare.proofs.Kept.{entry_holds, children, both_stand, named_values_stand, option_stands, option_places, IsValueIf-kept, StandsIf-kept, scope-kept, stated-kept, stated_if-kept, AreEntries-kept, EachStands-more, with_values-more, value_at-with_values}
 
 -- ---- names
 
@@ -48,6 +50,16 @@ new_name (e ∷ es) n h (inl is) = let p = absent_by (pointwise ◌==◌ n e.0) 
 new_name (e ∷ es) n h (inr m) = new_name es n (absent_by (pointwise ◌==◌ n e.0) e.1 (value_at es n) h).1 m
 
 -- ---- one more member
+
+-- an entry whose name was new, and one whose name was there
+module _ {V : Type 0} (es fs : List (Name × V)) (n : Name) (v : V) where
+  pub new_entry : (b : Bool) → b ≡ true → AddsNew es n v fs b → (is_some (value_at es n) ≡ false) × (fs ≡ es ++ (n, v) ∷ [])
+  new_entry true e a = a
+  new_entry false e a = absurd (cc e)
+
+  pub old_entry : (b : Bool) → b ≡ false → AddsNew es n v fs b → (is_some (value_at es n) ≡ true) × (fs ≡ es)
+  old_entry true e a = absurd (cc e)
+  old_entry false e a = a
 
 module _ {V T : Type 0} (g : V → T) (es : List (Name × V)) (i : t.Ident) (f : Fault) (q : Answer T) where
   pub member_refused : (e : Refusal) → IsRefusal q e → IsRefusal (member (with_values g es) i f q) e
@@ -84,6 +96,21 @@ pub value_added : {B : Type 0} (c d : Collection) → Grows c d → (es fs : Lis
 value_added c d g es fs i f q v u stand h absent is =
     member_added (ValueStands c) (ValueStands d) (stated_value c) (stated_value d) (λ v s. g.stand (ItemKind.Value v) s) (λ v s. stated-kept c d g (ItemKind.Value v) s) (IsValue d) (λ t v h. (h.stands, h.same)) es fs i f q v u stand h absent is
 
+-- one more case
+pub case_added : {B : Type 0} (c d : Collection) → Grows c d → (es fs : List (Name × Option ValueType)) (i : t.Ident) (f : Fault) (q : Answer (Option Stated)) (o : Option ValueType) (u : B) → EachStands (StandsIf c) es → IsHeld (IsValueIf d) q o
+    → is_some (value_at es i.string) ≡ false → fs ≡ es ++ (i.string, o) ∷ [] → IsHeld (λ xs w. AreCases d xs fs) (member (with_values (stated_if c) es) i f q) u
+case_added c d g es fs i f q o u stand h absent is =
+    member_added (StandsIf c) (StandsIf d) (stated_if c) (stated_if d) (λ o s. StandsIf-kept c d g o s) (λ o s. stated_if-kept c d g o s) (IsValueIf d) (λ t o h. (h.stands, h.same)) es fs i f q o u stand h absent is
+
+-- a step over what is equal
+pub refused_over : {T S : Type 0} (f : T → Answer S) (x y : T) (e : Refusal) → x ≡ y → IsRefusal (f x) e → IsRefusal (f y) e
+refused_over f x y e same h = subst (λ (z : _). IsRefusal (f z) e) same h
+
+-- a refusal that names a cause tells it
+pub told : (e : Refusal) (x : Cause) → Names e (Some x) → Tells (cause_in e) x
+told (Refusal.Named b) x h = subst (λ (o : Option Cause). Tells o x) (sym h) refl
+told Refusal.Memory x h = tt
+
 -- ---- results
 
 borrowing_by : (s : Span) (x : Stated) (b : Bool) (e : Refusal) → b ≡ true → Refuses e BorrowInResult s → IsRefusal {A = Option Stated} (unless_clear b BorrowInResult s >> Ok (Some x)) e
@@ -107,7 +134,7 @@ given_held c o h = record { stands = h; same = refl }
 
 -- ---- functions
 
-filled_places : (d : Collection) (es : List (Name × ValueType)) → map (option_map (stated_of d)) (map value_slot (values_of es)) ≡ filled (with_values (stated_value d) es)
+pub filled_places : (d : Collection) (es : List (Name × ValueType)) → map (option_map (stated_of d)) (map value_slot (values_of es)) ≡ filled (with_values (stated_value d) es)
 filled_places d [] = refl
 filled_places d (e ∷ es) = ap (λ os. Some (stated_value d e.1) ∷ os) (filled_places d es)
 
@@ -141,6 +168,21 @@ pub function_held : {B : Type 0} (c d e : Collection) → Grows c d → Grows d 
 function_held c d e g k i es o b (Ok ps) (Ok a) u h x node = func_holds e k.acyclic i es o b ps a node (named_values-kept d e k ps es (named_values-kept c d g ps es h)) (IsValueIf-kept d e k a o x)
 function_held c d e g k i es o b (Ok ps) (Err y) u h x node = absurd x
 function_held c d e g k i es o b (Err y) r u h x node = absurd h
+
+-- what a method takes first, and what is given, while a collection grows
+pub self_given : (c : Collection) (o : Option ValueType) → with_values (stated_value c) (self_params o) ≡ self_params (stated_if c o)
+self_given c None = refl
+self_given c (Some v) = refl
+
+pub result_kept : (c d : Collection) → Grows c d → (names : List (Name × Binding)) → NamesStand c names → (given : Option ValueType) → StandsIf c given → (rs : t.ResultList) → (P : Answer (Option Stated) → Type 0)
+    → P (result_of (scope_of d names) (stated_if d given) rs) → P (result_of (scope_of c names) (stated_if c given) rs)
+result_kept c d g names s given t rs P h =
+    subst (λ (ns : Scope). P (result_of ns (stated_if c given) rs)) (scope-kept c d g names s)
+    (subst (λ (o : Option Stated). P (result_of (scope_of d names) o rs)) (stated_if-kept c d g given t) h)
+
+pub result_refused : (c d : Collection) → Grows c d → (names : List (Name × Binding)) → NamesStand c names → (given : Option ValueType) → StandsIf c given → (rs : t.ResultList) → (e : Refusal)
+    → IsRefusal (result_of (scope_of d names) (stated_if d given) rs) e → IsRefusal (result_of (scope_of c names) (stated_if c given) rs) e
+result_refused c d g names s given t rs e h = result_kept c d g names s given t rs (λ (q : Answer (Option Stated)). IsRefusal q e) h
 
 -- ---- items as functions
 

@@ -1,6 +1,8 @@
 pub mod Scope
 pub mod ValueTypes
 pub mod Declarations
+pub mod Functions
+pub mod TypeDeclarations
 pub mod Bodies
 pub mod Interfaces
 pub mod Worlds

@@ -5,6 +5,7 @@ ghost use Rattle.std.specs.Prelude.{◌≡◌, IfOk, OnOk, OnErr};
 ghost use Rattle.wac_types_base.specs.declared.item.ItemKind.{ItemKind};
 ghost use Rattle.wac_types_base.specs.declared.item.«Type».{«Type» as TypeKind};
 ghost use Rattle.wac_types_base.specs.Collection.{Stands, Grows};
+ghost use Rattle.wac_parser_declare.specs.Functions.{AreParams, IsFree, IsFuncNamed, IsFuncOf, IsFuncRef, IsFuncWith, IsParam, IsResultOf, IsScalar};
 ghost use Rattle.wac_parser_declare.specs.Holding.{AddsNew, EachStands, NamesStand, StandsIf, ValueStands, self_params};
 
 use crate::growing::GrowingTypes;
@@ -73,6 +74,7 @@ fn add_param<T: GrowingTypes>(
 ) -> Outcome<()>
     requires names { NamesStand (T.collection types.old) names.now }
     requires found { EachStands (ValueStands (T.collection types.old)) found.old }
+    ensures outcome { IsParam kind (T.collection types.old) names.now found.old param.now (T.collection types.new) found.new result }
     ensures found { OnOk result (EachStands (ValueStands (T.collection types.new)) found.new) }
     ensures grows { Grows (T.collection types.old) (T.collection types.new) }
 {
@@ -95,6 +97,7 @@ fn add_params<T: GrowingTypes>(
 ) -> Outcome<()>
     requires names { NamesStand (T.collection types.old) names.now }
     requires found { EachStands (ValueStands (T.collection types.old)) found.old }
+    ensures outcome { AreParams kind (T.collection types.old) names.now found.old params.now.items (T.collection types.new) found.new result }
     ensures found { OnOk result (EachStands (ValueStands (T.collection types.new)) found.new) }
     ensures grows { Grows (T.collection types.old) (T.collection types.new) }
 {
@@ -113,6 +116,7 @@ fn scalar_result<T: GrowingTypes>(
     types: &mut T,
 ) -> Outcome<Option<ValueType>>
     requires { NamesStand (T.collection types.old) names.now }
+    ensures outcome { IsScalar (T.collection types.old) names.now ty.now (T.collection types.new) result }
     ensures stands { IfOk result (StandsIf (T.collection types.new)) }
     ensures grows { Grows (T.collection types.old) (T.collection types.new) }
 {
@@ -133,6 +137,7 @@ fn result_type<T: GrowingTypes>(
 ) -> Outcome<Option<ValueType>>
     requires names { NamesStand (T.collection types.old) names.now }
     requires given { StandsIf (T.collection types.old) given }
+    ensures outcome { IsResultOf (T.collection types.old) names.now given results.now (T.collection types.new) result }
     ensures stands { IfOk result (StandsIf (T.collection types.new)) }
     ensures grows { Grows (T.collection types.old) (T.collection types.new) }
 {
@@ -155,6 +160,7 @@ pub(crate) fn function<T: GrowingTypes>(
     requires names { NamesStand (T.collection types.old) names.now }
     requires receiver { StandsIf (T.collection types.old) signature.receiver }
     requires given { StandsIf (T.collection types.old) signature.given }
+    ensures outcome { IsFuncWith signature (T.collection types.old) names.now params.now.items results.now (T.collection types.new) result }
     ensures stands { IfOk result (λ f. Stands (T.collection types.new) (ItemKind.Func f)) }
     ensures grows { Grows (T.collection types.old) (T.collection types.new) }
 {
@@ -179,6 +185,7 @@ pub fn func_type<T: GrowingTypes>(
     types: &mut T,
 ) -> Outcome<FuncTypeId>
     requires { NamesStand (T.collection types.old) names.now }
+    ensures outcome { IsFree (T.collection types.old) names.now ty.now (T.collection types.new) result }
     ensures stands { IfOk result (λ f. Stands (T.collection types.new) (ItemKind.Func f)) }
     ensures grows { Grows (T.collection types.old) (T.collection types.new) }
 {
@@ -194,7 +201,8 @@ pub fn func_type<T: GrowingTypes>(
 /// The function type that a type is.
 fn func_of_type(alloc: Global, types: &Types, ty: Type, id: &Ident<'_>) -> Outcome<FuncTypeId>
     requires { Stands types.now (ItemKind.Ty ty) }
-    ensures { IfOk result (λ f. Stands types.now (ItemKind.Func f)) }
+    ensures outcome { IsFuncOf types.now (ItemKind.Ty ty) id.now result }
+    ensures stands { IfOk result (λ f. Stands types.now (ItemKind.Func f)) }
 {
     types.see_acyclic();
     match ty {
@@ -206,7 +214,8 @@ fn func_of_type(alloc: Global, types: &Types, ty: Type, id: &Ident<'_>) -> Outco
 /// The function type that an item is, or is the type of.
 fn func_of(alloc: Global, types: &Types, kind: ItemKind, id: &Ident<'_>) -> Outcome<FuncTypeId>
     requires { Stands types.now kind }
-    ensures { IfOk result (λ f. Stands types.now (ItemKind.Func f)) }
+    ensures outcome { IsFuncOf types.now kind id.now result }
+    ensures stands { IfOk result (λ f. Stands types.now (ItemKind.Func f)) }
 {
     types.see_acyclic();
     match kind {
@@ -224,7 +233,8 @@ fn func_named(
     id: &Ident<'_>,
 ) -> Outcome<FuncTypeId>
     requires { NamesStand types.now names.now }
-    ensures { IfOk result (λ f. Stands types.now (ItemKind.Func f)) }
+    ensures outcome { IsFuncNamed types.now names.now id.now result }
+    ensures stands { IfOk result (λ f. Stands types.now (ItemKind.Func f)) }
 {
     let binding = meaning(alloc, names, id)?;
     func_of(alloc, types, binding.kind, id)
@@ -238,6 +248,7 @@ pub fn func_type_ref<T: GrowingTypes>(
     types: &mut T,
 ) -> Outcome<FuncTypeId>
     requires { NamesStand (T.collection types.old) names.now }
+    ensures outcome { IsFuncRef (T.collection types.old) names.now ty.now (T.collection types.new) result }
     ensures stands { IfOk result (λ f. Stands (T.collection types.new) (ItemKind.Func f)) }
     ensures grows { Grows (T.collection types.old) (T.collection types.new) }
 {

@@ -5,6 +5,7 @@ ghost use Rattle.std.specs.Prelude.{◌≡◌, IfOk, OnOk};
 ghost use Rattle.wac_types_base.specs.declared.item.ItemKind.{ItemKind};
 ghost use Rattle.wac_types_base.specs.Collection.{Stands, Grows};
 ghost use Rattle.wac_parser_declare.specs.Holding.{EachStands, NamesStand, StandsIf, ValueStands};
+ghost use Rattle.wac_parser_declare.specs.TypeDeclarations.{AreCasesOf, AreEnumCasesOf, AreFieldsOf, AreFlags, AreFlagsOf, IsCase, IsEnum, IsEnumCase, IsField, IsFlag, IsPayload, IsRecord, IsVariant};
 
 use crate::aliases::{Place, type_alias};
 use crate::functions::add_new;
@@ -26,6 +27,7 @@ fn case_type<T: GrowingTypes>(
     types: &mut T,
 ) -> Outcome<Option<ValueType>>
     requires { NamesStand (T.collection types.old) names.now }
+    ensures outcome { IsPayload (T.collection types.old) names.now ty.now (T.collection types.new) result }
     ensures stands { IfOk result (StandsIf (T.collection types.new)) }
     ensures grows { Grows (T.collection types.old) (T.collection types.new) }
 {
@@ -50,6 +52,7 @@ fn add_case<T: GrowingTypes>(
 ) -> Outcome<()>
     requires names { NamesStand (T.collection types.old) names.now }
     requires found { EachStands (StandsIf (T.collection types.old)) found.old }
+    ensures outcome { IsCase variant.now (T.collection types.old) names.now found.old case.now (T.collection types.new) found.new result }
     ensures found { OnOk result (EachStands (StandsIf (T.collection types.new)) found.new) }
     ensures grows { Grows (T.collection types.old) (T.collection types.new) }
 {
@@ -69,6 +72,7 @@ fn cases<T: GrowingTypes>(
     types: &mut T,
 ) -> Outcome<NamedMap<Option<ValueType>>>
     requires { NamesStand (T.collection types.old) names.now }
+    ensures outcome { AreCasesOf (T.collection types.old) names.now decl.now (T.collection types.new) result }
     ensures stand { IfOk result (EachStands (StandsIf (T.collection types.new))) }
     ensures grows { Grows (T.collection types.old) (T.collection types.new) }
 {
@@ -88,6 +92,7 @@ pub(crate) fn variant_decl<T: GrowingTypes>(
     types: &mut T,
 ) -> Outcome<Type>
     requires { NamesStand (T.collection types.old) names.now }
+    ensures outcome { IsVariant (T.collection types.old) names.now decl.now (T.collection types.new) result }
     ensures stands { IfOk result (λ t. Stands (T.collection types.new) (ItemKind.Ty t)) }
     ensures grows { Grows (T.collection types.old) (T.collection types.new) }
 {
@@ -102,11 +107,12 @@ fn add_field<T: GrowingTypes>(
     alloc: Global,
     names: &NamedMap<Binding>,
     types: &mut T,
-    record: &str,
+    record_name: &str,
     found: &mut NamedMap<ValueType>,
 ) -> Outcome<()>
     requires names { NamesStand (T.collection types.old) names.now }
     requires found { EachStands (ValueStands (T.collection types.old)) found.old }
+    ensures outcome { IsField record_name.now (T.collection types.old) names.now found.old field.now (T.collection types.new) found.new result }
     ensures found { OnOk result (EachStands (ValueStands (T.collection types.new)) found.new) }
     ensures grows { Grows (T.collection types.old) (T.collection types.new) }
 {
@@ -114,7 +120,7 @@ fn add_field<T: GrowingTypes>(
     if add_new(alloc, found, field.id.string, ty)? {
         Ok(())
     } else {
-        Err(duplicate_field(alloc, field.id.string, record, field.id.span))
+        Err(duplicate_field(alloc, field.id.string, record_name, field.id.span))
     }
 }
 
@@ -126,6 +132,7 @@ fn fields<T: GrowingTypes>(
     types: &mut T,
 ) -> Outcome<NamedMap<ValueType>>
     requires { NamesStand (T.collection types.old) names.now }
+    ensures outcome { AreFieldsOf (T.collection types.old) names.now decl.now (T.collection types.new) result }
     ensures stand { IfOk result (EachStands (ValueStands (T.collection types.new))) }
     ensures grows { Grows (T.collection types.old) (T.collection types.new) }
 {
@@ -145,6 +152,7 @@ pub(crate) fn record_decl<T: GrowingTypes>(
     types: &mut T,
 ) -> Outcome<Type>
     requires { NamesStand (T.collection types.old) names.now }
+    ensures outcome { IsRecord (T.collection types.old) names.now decl.now (T.collection types.new) result }
     ensures stands { IfOk result (λ t. Stands (T.collection types.new) (ItemKind.Ty t)) }
     ensures grows { Grows (T.collection types.old) (T.collection types.new) }
 {
@@ -154,7 +162,9 @@ pub(crate) fn record_decl<T: GrowingTypes>(
 }
 
 /// One more flag.
-fn add_flag(flag: &ast::Flag<'_>, alloc: Global, flags: &str, found: &mut Names) -> Outcome<()> {
+fn add_flag(flag: &ast::Flag<'_>, alloc: Global, flags: &str, found: &mut Names) -> Outcome<()>
+    ensures { IsFlag flags.now found.old flag.now found.new result }
+{
     let name = String::from_str(alloc, flag.id.string)?;
     if found.insert(name)? {
         Ok(())
@@ -164,7 +174,9 @@ fn add_flag(flag: &ast::Flag<'_>, alloc: Global, flags: &str, found: &mut Names)
 }
 
 /// The flags of a declaration.
-fn flags(decl: &ast::FlagsDecl<'_>, alloc: Global) -> Outcome<Names> {
+fn flags(decl: &ast::FlagsDecl<'_>, alloc: Global) -> Outcome<Names>
+    ensures { AreFlagsOf decl.now result }
+{
     let mut found = Names::new(alloc);
     for flag in &decl.flags {
         add_flag(flag, alloc, decl.id.string, &mut found)?;
@@ -178,6 +190,7 @@ pub(crate) fn flags_decl<T: GrowingTypes>(
     alloc: Global,
     types: &mut T,
 ) -> Outcome<Type>
+    ensures outcome { AreFlags decl.now (T.collection types.new) result }
     ensures stands { IfOk result (λ t. Stands (T.collection types.new) (ItemKind.Ty t)) }
     ensures grows { Grows (T.collection types.old) (T.collection types.new) }
 {
@@ -193,7 +206,9 @@ fn add_enum_case(
     alloc: Global,
     ty: &str,
     found: &mut Names,
-) -> Outcome<()> {
+) -> Outcome<()>
+    ensures { IsEnumCase ty.now found.old case.now found.new result }
+{
     let name = String::from_str(alloc, case.id.string)?;
     if found.insert(name)? {
         Ok(())
@@ -203,7 +218,9 @@ fn add_enum_case(
 }
 
 /// The cases of an enum.
-fn enum_cases(decl: &ast::EnumDecl<'_>, alloc: Global) -> Outcome<Names> {
+fn enum_cases(decl: &ast::EnumDecl<'_>, alloc: Global) -> Outcome<Names>
+    ensures { AreEnumCasesOf decl.now result }
+{
     let mut found = Names::new(alloc);
     for case in &decl.cases {
         add_enum_case(case, alloc, decl.id.string, &mut found)?;
@@ -217,6 +234,7 @@ pub(crate) fn enum_decl<T: GrowingTypes>(
     alloc: Global,
     types: &mut T,
 ) -> Outcome<Type>
+    ensures outcome { IsEnum decl.now (T.collection types.new) result }
     ensures stands { IfOk result (λ t. Stands (T.collection types.new) (ItemKind.Ty t)) }
     ensures grows { Grows (T.collection types.old) (T.collection types.new) }
 {

@@ -1,5 +1,32 @@
+use Rattle.std.proofs.Common.{List, [], map, Option, Ok}
+use Rattle.wac_types_base.specs.Entries.{Name}
+use Rattle.wac_types_base.specs.Stated.{Stated, as_type}
+use Rattle.wac_parser_tree.specs.Views.{view_variant_case, view_variant_decl}
+use Rattle.wac_parser_refusals.specs.Causes.{each}
+use Rattle.wac_parser_refusals.proofs.Outcomes.{memory_outcome, refused_outcome, then_refused}
+use Rattle.wac_parser_declare.specs.Declarations.{case_of, variant_of, variant_decl as stated}
+use Rattle.wac_parser_declare.specs.Holding.{IsType, scope_of}
+use Rattle.wac_parser_declare.proofs.Named.{variant_held}
 use Rattle.wac_parser_declare.proofs.Standing.{cases_children}
 use Rattle.wac_parser_declare.proofs.type_decls.variant_decl.Goals as goal
 
 pub define-requires : goal.define-requires
 define-requires g c = cases_children (g.T.GrowingTypes.collection c.cases.new.types) c.in_ok-cases.cases c.in_ok-cases.ensures.stand
+
+pub returns-in_err-cases-clause-outcome : goal.returns-in_err-cases-clause-outcome
+returns-in_err-cases-clause-outcome g c =
+    let ns = scope_of (g.T.GrowingTypes.collection c.args.types.now) c.args.names.now in
+    let d = c.args.decl.now in
+    refused_outcome (IsType (g.T.GrowingTypes.collection c.cases.new.types)) (stated ns (view_variant_decl d)) _ _ c.from_residual.ensures.1
+    (then_refused (λ (xs : List (Name × Option Stated)). Ok (as_type (variant_of xs))) (each (case_of d.id.string.now ns) [] (map view_variant_case d.cases.items)) _ c.in_err-cases.ensures.outcome)
+
+pub returns-in_err-ty-clause-outcome : goal.returns-in_err-ty-clause-outcome
+returns-in_err-ty-clause-outcome g c =
+    memory_outcome (IsType (g.T.GrowingTypes.collection c.define.new.types)) (stated (scope_of (g.T.GrowingTypes.collection c.args.types.now) c.args.names.now) (view_variant_decl c.args.decl.now)) _ c.from_residual-in_err-ty.ensures.1
+
+pub returns-clause-outcome : goal.returns-clause-outcome
+returns-clause-outcome g c =
+    let ns = scope_of (g.T.GrowingTypes.collection c.args.types.now) c.args.names.now in
+    let d = c.args.decl.now in
+    variant_held (g.T.GrowingTypes.collection c.cases.new.types) (g.T.GrowingTypes.collection c.define.new.types) c.in_ok-ty.ensures.grows c.in_ok-ty.ty c.in_ok-cases.cases
+    (each (case_of d.id.string.now ns) [] (map view_variant_case d.cases.items)) c.in_ok-cases.ensures.outcome c.in_ok-ty.ensures.node
