@@ -10,7 +10,7 @@ use wac_parser_tree::Document;
 // `show` has its tree where the printer's method has it, behind the printer.
 
 /// A tree that is printed, and that can be cloned.
-pub(crate) trait Shown: Sized + Drop {
+pub(crate) trait Shown: Sized {
     fn show(printer: &mut DocumentPrinter<'_, Vec<u8>>, tree: &Self) -> Result<(), PrintError>;
 
     fn copied(&self, alloc: Global) -> Result<Self, AllocError>;
@@ -36,7 +36,12 @@ fn text_of<T: Shown>(tree: &T, alloc: Global, source: &str, unit: &str) -> Resul
 }
 
 /// The text of a clone of a tree.
-fn text_of_clone<T: Shown>(tree: &T, alloc: Global, source: &str, unit: &str) -> Result<String> {
+fn text_of_clone<'s, D: ParseDocument<'s> + Shown>(
+    tree: &D,
+    alloc: Global,
+    source: &str,
+    unit: &str,
+) -> Result<String> {
     let copy = tree.copied(alloc)?;
     text_of(&copy, alloc, source, unit)
 }

@@ -22,8 +22,13 @@ fn yes_or_no(alloc: Global, answer: bool) -> Result<String, AllocError> {
     String::from_str(alloc, if answer { "yes" } else { "no" })
 }
 
-fn count_text(alloc: Global, count: usize) -> Result<String, AllocError> {
-    format!(in alloc; "{count}")
+/// How many nodes a graph has.
+fn count_text(graph: &CompositionGraph) -> Result<String, AllocError> {
+    let mut count = 0u64;
+    for _ in graph.nodes() {
+        count = count.saturating_add(1);
+    }
+    format!(in graph.alloc(); "{count}")
 }
 
 /// The package of a name, with its place and how often a package was unregistered there before.
@@ -55,7 +60,10 @@ fn answer_of_node(graph: &CompositionGraph, node: NodeId, what: &str) -> Result<
         "import_name" => name_text(alloc, graph.get_import_name(node))?,
         "export_name" => name_text(alloc, graph[node].export_name())?,
         "name" => name_text(alloc, graph[node].name())?,
-        "arguments" => count_text(alloc, graph.get_instantiation_arguments(node).count())?,
+        "argued" => {
+            let first = graph.get_instantiation_arguments(node).next();
+            yes_or_no(alloc, first.is_some())?
+        }
         _ => bail!("nothing is known of that"),
     };
     Ok(text)
@@ -72,8 +80,8 @@ fn answer_of_name(graph: &CompositionGraph, node: NodeId, what: &str) -> Result<
     }
 }
 
-/// What a line asks: `export NAME`, `exported NAME`, `package NAME`, `registered NAME`, `nodes`, `first_node`, `packages`; or
-/// of a node `node`, `standing`, `source`, `import_name`, `export_name`, `name` and `arguments`.
+/// What a line asks: `export NAME`, `exported NAME`, `package NAME`, `registered NAME`, `nodes`, `first_node`, `packaged`; or
+/// of a node `node`, `standing`, `source`, `import_name`, `export_name`, `name` and `argued`.
 pub(crate) fn answer(
     graph: &CompositionGraph,
     named: &Named,
@@ -89,9 +97,9 @@ pub(crate) fn answer(
             let package = named.package(name)?;
             Ok(yes_or_no(alloc, graph.contains_package(package))?)
         }
-        "nodes" => Ok(count_text(alloc, graph.nodes().count())?),
+        "nodes" => Ok(count_text(graph)?),
         "first_node" => Ok(number_text(alloc, graph.node_ids().next())?),
-        "packages" => Ok(count_text(alloc, graph.packages().count())?),
+        "packaged" => Ok(yes_or_no(alloc, graph.packages().next().is_some())?),
         _ => answer_of_name(graph, named.node(name)?, what),
     }
 }

@@ -35,10 +35,10 @@ fn merged(
     let mut checker = SubtypeChecker::new(alloc, &mut cache);
     let mut all = TypeAggregator::new(alloc, NUMBER);
     for line in text.split('\n') {
-        match asked(all, alloc, (types, items), line, &mut checker)? {
-            Ok(more) => all = more,
+        all = match asked(all, alloc, (types, items), line, &mut checker)? {
+            Ok(more) => more,
             Err(fault) => return Ok(Err(fault)),
-        }
+        };
     }
     Ok(Ok(all))
 }
@@ -62,7 +62,10 @@ fn push_import(types: &Types, name: &str, kind: ItemKind, told: &mut String) -> 
         told.push_str(" is no instance\n")?;
         return Ok(());
     };
-    ensure!(types.has(kind), "what is kept does not stand");
+    ensure!(
+        types.has(ItemKind::Instance(id)),
+        "what is kept does not stand"
+    );
     push_interface(types.interface(id), told)?;
     Ok(())
 }
