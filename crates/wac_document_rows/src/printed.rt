@@ -39,7 +39,7 @@ fn text_of<T: Shown>(tree: &T, alloc: Global, source: &str, unit: &str) -> Resul
 fn text_of_clone<'s, D: ParseDocument<'s> + Shown>(
     tree: &D,
     alloc: Global,
-    source: &str,
+    source: &'s str,
     unit: &str,
 ) -> Result<String> {
     let copy = tree.copied(alloc)?;
