@@ -1,3 +1,6 @@
+mod definitions;
+mod graph;
 mod names;
+mod plug;
 mod sections;
 mod tables;

@@ -1,3 +1,4 @@
+mod declaring;
 mod parsers;
 mod printing;
 mod tokens;
