@@ -1,6 +1,6 @@
 //! Graphs and faults as texts.
 
-use anyhow::{Context, Result, ensure};
+use anyhow::{Context, Result, bail, ensure};
 use std::alloc::Global;
 use wac_graph_core::{CompositionGraph, Node, NodeId, NodeKind};
 use wac_parser_resolve::Error;
@@ -31,9 +31,14 @@ fn show_instance(graph: &CompositionGraph, node: NodeId, shown: &mut String) -> 
 
 /// Writes an alias: the instance and the name of its export.
 fn show_alias(graph: &CompositionGraph, node: NodeId, shown: &mut String) -> Result<()> {
-    let (source, name) = graph.get_alias_source(node).context("an alias of nothing")?;
-    write!(shown, "{source}.{name}")?;
-    Ok(())
+    match graph.get_alias_source(node) {
+        None => bail!("an alias of nothing"),
+        Some((source, name)) => {
+            let text = format!(in graph.alloc(); "{source}.{name}")?;
+            shown.push_str(text.as_str())?;
+            Ok(())
+        }
+    }
 }
 
 /// Writes what a node is.
