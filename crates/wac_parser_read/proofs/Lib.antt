@@ -3,3 +3,4 @@ pub mod Tried
 pub mod TextLaws
 pub mod Types
 pub mod Whiles
+pub mod Tokens

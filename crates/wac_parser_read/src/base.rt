@@ -1,44 +1,61 @@
 //! One token at a time.
 
 ghost use Rattle.wac_parser_grammar.specs.Places.{IsBehind};
-ghost use Rattle.std.specs.Prelude.{◌≡◌, ◌<◌, ◌≤◌, length, if◌then◌else◌, IfOk, OnOk};
+ghost use Rattle.std.specs.Prelude.{◌≡◌, ◌<◌, ◌≤◌, length, if◌then◌else◌, IfOk, OnOk, Some};
 ghost use Rattle.wac_parser_grammar.specs.Faults.{fault_of, nested_too_deep};
 ghost use Rattle.wac_parser_lexer.specs.Pieces.{IsSpanIn};
 ghost use Rattle.wac_parser_grammar.specs.Ahead as ahead;
 ghost use Rattle.wac_parser_grammar.specs.Rules as rules;
 ghost use Rattle.wac_parser_grammar.specs.Reads.{Reads};
+ghost use Rattle.wac_parser_read.specs.Absent as spec;
 
 use crate::lookahead::{Lookahead, same_token};
 use wac_parser_grammar::{Error, ParseResult};
 use wac_parser_lexer::{Lexer, SourceSpan, Token};
 
+/// The fault where this token is missing. The item that stands there is taken.
+#[cold]
+#[inline(never)]
+#[tactic(auto, using(crate::proofs::Behind::places), unfolding(wac_parser_grammar::specs::Ahead::missed))]
+fn missed(lexer: &mut Lexer<'_>, expected: Token) -> Error
+    ensures fault { fault_of result ≡ ahead.missed expected lexer.old }
+    ensures goes_on { IsBehind lexer.new lexer.old }
+{
+    match lexer.next() {
+        None => Error::Expected {
+            expected,
+            found: None,
+            span: lexer.span(),
+        },
+        Some((Err(error), span)) => Error::Lexer { error, span },
+        Some((Ok(found), span)) => Error::Expected {
+            expected,
+            found: Some(found),
+            span,
+        },
+    }
+}
+
 /// Takes the next item, which must be this token, and gives its span.
-#[tactic(auto, using(crate::proofs::Behind::places), unfolding(wac_parser_grammar::specs::Ahead::sees, wac_parser_grammar::specs::Ahead::missed))]
+#[tactic(auto, using(crate::proofs::Behind::places))]
 pub fn parse_token(lexer: &mut Lexer<'_>, expected: Token) -> ParseResult<SourceSpan>
     ensures value { Reads (λ x. x) (rules.token expected) lexer.old result lexer.new }
     ensures within { IfOk result (λ span. IsSpanIn lexer.new.source span) }
     ensures takes { OnOk result (rules.left lexer.new < rules.left lexer.old) }
     ensures goes_on { IsBehind lexer.new lexer.old }
 {
-    match lexer.next() {
-        None => Err(Error::Expected {
-            expected,
-            found: None,
-            span: lexer.span(),
-        }),
-        Some((Err(error), span)) => Err(Error::Lexer { error, span }),
-        Some((Ok(found), span)) => {
-            if same_token(found, expected) {
-                Ok(span)
-            } else {
-                Err(Error::Expected {
-                    expected,
-                    found: Some(found),
-                    span,
-                })
-            }
-        }
+    match lexer.take(expected) {
+        Some(span) => Ok(span),
+        None => Err(missed(lexer, expected)),
     }
+}
+
+/// The token that comes next, if one does.
+#[inline(always)]
+fn next_token(lexer: &Lexer<'_>) -> Option<Token>
+    ensures { result ≡ ahead.next_token lexer.now }
+{
+    lexer.token()
 }
 
 /// Whether this token comes next.
@@ -46,10 +63,22 @@ pub fn parse_token(lexer: &mut Lexer<'_>, expected: Token) -> ParseResult<Source
 pub(crate) fn sees(lexer: &Lexer<'_>, token: Token) -> bool
     ensures { result ≡ ahead.sees token lexer.now }
 {
-    match lexer.peek() {
-        Some((Ok(found), _)) => same_token(found, token),
-        _ => false,
+    match next_token(lexer) {
+        Some(found) => same_token(found, token),
+        None => false,
     }
+}
+
+/// Whether the token is one of these.
+fn is_any(tokens: &[Token], found: Token) -> bool
+    ensures { result ≡ ahead.is_any tokens.now (Some found) }
+{
+    for token in tokens {
+        if same_token(found, *token) {
+            return true;
+        }
+    }
+    false
 }
 
 /// Whether one of these tokens comes next.
@@ -57,7 +86,10 @@ pub(crate) fn sees(lexer: &Lexer<'_>, token: Token) -> bool
 pub(crate) fn sees_any(lexer: &Lexer<'_>, tokens: &[Token]) -> bool
     ensures { result ≡ ahead.sees_any tokens.now lexer.now }
 {
-    Lookahead::new(lexer).peek_any(tokens)
+    match next_token(lexer) {
+        Some(found) => is_any(tokens, found),
+        None => false,
+    }
 }
 
 /// The fault where one of these tokens is expected.
@@ -98,24 +130,31 @@ pub(crate) fn too_deep(lexer: &Lexer<'_>, first: &[Token]) -> Error
 fn sees_token(lexer: &Lexer<'_>) -> bool
     ensures { result ≡ rules.sees_token lexer.now }
 {
-    matches!(lexer.peek(), Some((Ok(_), _)))
+    matches!(next_token(lexer), Some(_))
+}
+
+/// That an optional token is not there; a faulty item is refused.
+#[tactic(auto, unfolding(wac_parser_grammar::specs::Rules::fault_ahead))]
+fn absent(lexer: &Lexer<'_>) -> ParseResult<bool>
+    ensures { Reads (λ x. x) spec.absent lexer.now result lexer.now }
+{
+    match lexer.peek() {
+        Some((Err(error), span)) => Err(Error::Lexer { error, span }),
+        _ => Ok(false),
+    }
 }
 
 /// Takes the token where it comes next, and answers whether it did; a faulty item is refused.
-#[tactic(auto, using(crate::proofs::Behind::places), unfolding(wac_parser_grammar::specs::Rules::optional, wac_parser_grammar::specs::Rules::fault_ahead))]
+#[tactic(auto, using(crate::proofs::Behind::places))]
 pub(crate) fn optional(lexer: &mut Lexer<'_>, token: Token) -> ParseResult<bool>
     ensures value { Reads (λ x. x) (rules.optional token) lexer.old result lexer.new }
     ensures keeps { OnOk result (rules.left lexer.new ≤ rules.left lexer.old) }
     ensures goes_on { IsBehind lexer.new lexer.old }
 {
-    if let Some((Err(error), span)) = lexer.peek() {
-        return Err(Error::Lexer { error, span });
+    match lexer.take(token) {
+        Some(_) => Ok(true),
+        None => absent(lexer),
     }
-    if !sees(lexer, token) {
-        return Ok(false);
-    }
-    parse_token(lexer, token)?;
-    Ok(true)
 }
 
 /// Takes what stands behind a value of a list.

@@ -3,6 +3,7 @@
 
 ghost use Rattle.wac_parser_grammar.specs.Places.{IsBehind};
 ghost use Rattle.std.specs.Prelude.{◌≡◌, ◌∷◌, [], ◌<◌, ◌≤◌, ◌+◌, ◌^◌, true, false, map, IfOk, OnOk};
+ghost use Rattle.wac_parser_lexer.specs.Docs.{doc_of};
 ghost use Rattle.wac_parser_lexer.specs.Items.{docs_ahead};
 ghost use Rattle.wac_parser_lexer.specs.declared.token.Token.TheVariants as k;
 ghost use Rattle.wac_parser_tree.specs.Trees as t;
@@ -15,19 +16,21 @@ ghost use Rattle.wac_parser_grammar.specs.Ahead as ahead;
 use crate::base::parse_token;
 use crate::lookahead::Lookahead;
 use crate::parse::{Parse, Peek};
-use std::alloc::Global;
+use std::alloc::{AllocError, Global};
 use wac_parser_grammar::ParseResult;
-use wac_parser_lexer::{Lexer, Token};
+use wac_parser_lexer::{Lexer, SourceSpan, Token};
 use wac_parser_tree::{DocComment, Ident, String};
 
-/// The doc comments before the next item, or before the end.
-#[tactic(auto, unfolding(wac_parser_grammar::specs::Names::docs))]
-pub(crate) fn doc_comments<'a>(alloc: Global, lexer: &Lexer<'a>) -> ParseResult<Vec<DocComment<'a>>>
-    ensures { Reads (λ v. map view_doc_comment v.items) grammar.docs lexer.now result lexer.now }
+/// Doc comments, each a text and where the whole comment stands.
+#[inline(never)]
+fn docs_of<'a>(
+    alloc: Global,
+    comments: &[(&'a str, SourceSpan)],
+) -> Result<Vec<DocComment<'a>>, AllocError>
+    ensures { IfOk result (λ v. map view_doc_comment v.items ≡ map grammar.doc_comment (map doc_of comments.now)) }
 {
-    let comments = lexer.comments(alloc)?;
     let mut docs = Vec::new(alloc);
-    for c in &comments {
+    for c in comments {
         docs.push(DocComment {
             comment: c.0,
             span: c.1,
@@ -36,10 +39,26 @@ pub(crate) fn doc_comments<'a>(alloc: Global, lexer: &Lexer<'a>) -> ParseResult<
     Ok(docs)
 }
 
+/// The doc comments before the next item, or before the end.
+#[inline(always)]
+#[tactic(auto, unfolding(wac_parser_grammar::specs::Names::docs))]
+pub(crate) fn doc_comments<'a>(alloc: Global, lexer: &Lexer<'a>) -> ParseResult<Vec<DocComment<'a>>>
+    ensures { Reads (λ v. map view_doc_comment v.items) grammar.docs lexer.now result lexer.now }
+{
+    let comments = lexer.comments(alloc)?;
+    if comments.is_empty() {
+        return Ok(Vec::new(alloc));
+    }
+    Ok(docs_of(alloc, &comments)?)
+}
+
 fn strip_percent(text: &str) -> &str
     ensures { result.now ≡ grammar.strip_percent text.now }
 {
-    text.strip_prefix("%").unwrap_or(text)
+    match text.as_bytes() {
+        [b'%', ..] => &text[1..],
+        _ => text,
+    }
 }
 
 fn strip_open(text: &str) -> &str
