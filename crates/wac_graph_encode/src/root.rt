@@ -80,11 +80,7 @@ fn write_in_order(
 }
 
 /// Writes the outer imports.
-fn write_outers(
-    alloc: Global,
-    all: Importing<'_>,
-    scope: &mut ImportScope,
-) -> Result<(), Refusal> {
+fn write_outers(alloc: Global, all: Importing<'_>, scope: &mut ImportScope) -> Result<(), Refusal> {
     scope.begin(alloc, all)?;
     let order = scope.order(alloc, all)?;
     write_in_order(alloc, all, scope, &order.sources)?;
@@ -207,10 +203,7 @@ fn entry_of(declaration: Declaration) -> Option<Entry> {
 }
 
 /// Adds declarations as entries.
-fn add_entries(
-    entries: &mut Vec<Entry>,
-    declarations: Vec<Declaration>,
-) -> Result<(), AllocError> {
+fn add_entries(entries: &mut Vec<Entry>, declarations: Vec<Declaration>) -> Result<(), AllocError> {
     for declaration in declarations {
         if let Some(entry) = entry_of(declaration) {
             entries.push(entry)?;
@@ -287,11 +280,7 @@ impl Root {
 }
 
 /// Takes what is written in a scope.
-fn take_scope(
-    alloc: Global,
-    scope: &mut ImportScope,
-    root: &mut Root,
-) -> Result<(), AllocError> {
+fn take_scope(alloc: Global, scope: &mut ImportScope, root: &mut Root) -> Result<(), AllocError> {
     root.counts = counts_of(&scope.scope);
     root.imports = scope.take_places(alloc);
     add_entries(&mut root.entries, scope.scope.take_declarations(alloc))

@@ -104,12 +104,7 @@ fn push_resolved(
 }
 
 /// Whether an item fits another. What does not stand fits nothing.
-pub fn fits_in(
-    alloc: Global,
-    types: &Types,
-    a: ItemKind,
-    b: ItemKind,
-) -> Result<bool, WriteError>
+pub fn fits_in(alloc: Global, types: &Types, a: ItemKind, b: ItemKind) -> Result<bool, WriteError>
     ensures fits { IfOk result (λ yes. yes ≡ true → Fit types.now a types.now b) }
     ensures stands { IfOk result (λ yes. yes ≡ true → Stands types.now a) }
 {
