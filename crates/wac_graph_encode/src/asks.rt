@@ -12,7 +12,7 @@ use wac_types_base::copy::copy_item;
 use wac_types_base::{InterfaceId, ItemKind, Text, Type, Types, WorldId};
 
 /// Why something is asked.
-#[derive(Clone, Copy, Debug, PartialEq, Eq)]
+#[derive(Clone, Copy, PartialEq, Eq)]
 pub(crate) enum Asking {
     /// An import asks for it by its name.
     ByName,

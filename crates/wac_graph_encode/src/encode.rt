@@ -11,13 +11,13 @@ use crate::errors::{EncodeError, Refusal, error_of};
 use crate::instances::Wired;
 use crate::options::{EncodeOptions, Encoded};
 use crate::outers::{Outers, outers_of};
-use crate::root::{Root, write_root};
+use crate::root::write_root;
 use crate::world::composed_world;
 use crate::written::written_definition;
 use std::alloc::{AllocError, Global};
 use wac_graph_bytes::{Entry, SortNames, push_component};
 use wac_graph_core::CompositionGraph;
-use wac_graph_scopes::imports::{Called, Importing};
+use wac_graph_scopes::imports::Importing;
 use wac_types_base::{Types, WorldId};
 
 /// A definition in the form in which it is written.
@@ -62,27 +62,14 @@ fn bytes_of_entries(
     Ok(bytes)
 }
 
-/// The bytes of a composition whose types and imports are written.
-fn bytes_of_root(
-    alloc: Global,
-    graph: &CompositionGraph,
-    called: &[Called],
-    root: Root,
-    options: &EncodeOptions,
-) -> Result<Vec<u8>, Refusal> {
-    let wired = Wired::new(alloc, graph, called, root)?;
-    let (entries, names) = wired.finish()?;
-    bytes_of_entries(alloc, &entries, &names, options)
-}
-
-/// The bytes of a composition.
-fn bytes_of(
-    alloc: Global,
+/// The bytes of a composition, where nothing of it is written yet.
+fn bytes_wired(
     graph: &CompositionGraph,
     asked: &Asked,
     outers: &Outers,
     definitions: &[Definition],
     options: &EncodeOptions,
+    wired: &mut Wired<'_>,
 ) -> Result<Vec<u8>, Refusal> {
     let called = outers.called.as_slice();
     let all = Importing {
@@ -90,8 +77,21 @@ fn bytes_of(
         world: outers.world,
         called,
     };
-    let root = write_root(alloc, graph, asked, all, definitions, options)?;
-    bytes_of_root(alloc, graph, called, root, options)
+    write_root(graph, asked, all, definitions, options, &mut wired.root)?;
+    let names = wired.write_all(called)?;
+    bytes_of_entries(graph.alloc(), &wired.root.entries, &names, options)
+}
+
+/// The bytes of a composition.
+fn bytes_of(
+    graph: &CompositionGraph,
+    asked: &Asked,
+    outers: &Outers,
+    definitions: &[Definition],
+    options: &EncodeOptions,
+) -> Result<Vec<u8>, Refusal> {
+    let mut wired = Wired::new(graph.alloc(), graph);
+    bytes_wired(graph, asked, outers, definitions, options, &mut wired)
 }
 
 /// The world of a composition, in a collection of this number.
@@ -123,7 +123,7 @@ fn bytes_asked(
 ) -> Result<(Vec<u8>, Vec<Definition>), Refusal> {
     let alloc = graph.alloc();
     let definitions = written_definitions(alloc, asked)?;
-    let bytes = bytes_of(alloc, graph, asked, outers, &definitions, options)?;
+    let bytes = bytes_of(graph, asked, outers, &definitions, options)?;
     check_names(alloc, graph, asked, outers, options)?;
     Ok((bytes, definitions))
 }

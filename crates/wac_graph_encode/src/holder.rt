@@ -2,12 +2,12 @@
 
 use indexmap::IndexMap;
 use std::alloc::{AllocError, Global};
+use wac_graph_scopes::fits_in;
 use wac_graph_scopes::parts::{
     Item, Use, export_at, export_count, export_named, import_at, import_count, is_fresh, root_name,
     use_at, use_count, world_export_at, world_export_count, world_use_at, world_use_count,
 };
 use wac_types_base::{DefinedTypeId, InterfaceId, ItemKind, NamedMap, Names, Type, Types, WorldId};
-use wac_types_fit::{SubtypeChecker, SubtypeError, new_cache};
 
 /// Used items under the names that they have here, the root names of resources, and which value types were tested
 /// here: whether they fail.
@@ -34,18 +34,9 @@ pub(crate) fn is_same_item(
 
 /// Whether one item fits another. What does not stand fits nothing.
 fn fits(alloc: Global, types: &Types, a: ItemKind, b: ItemKind) -> Result<bool, AllocError> {
-    if !types.has(a) {
-        return Ok(false);
-    }
-    if !types.has(b) {
-        return Ok(false);
-    }
-    let mut cache = new_cache(alloc);
-    let mut checker = SubtypeChecker::new(alloc, &mut cache);
-    match checker.is_subtype(a, types, b, types) {
-        Ok(()) => Ok(true),
-        Err(SubtypeError::Memory) => Err(AllocError),
-        Err(_) => Ok(false),
+    match fits_in(alloc, types, a, b) {
+        Ok(fits) => Ok(fits),
+        Err(_) => Err(AllocError),
     }
 }
 

@@ -18,7 +18,7 @@ pub(crate) struct Wired<'a> {
     graph: &'a CompositionGraph,
     /// What stands for outer imports, by the names under which they are asked for.
     outers: NamedMap<SortIndex>,
-    root: Root,
+    pub root: Root,
 }
 
 fn sort_of(kind: ItemKind) -> Option<Sort> {
@@ -60,36 +60,31 @@ fn set_count(counts: &mut Counts, sort: Sort, next: u32) {
     }
 }
 
-/// What stands for the outer imports, by the names under which they are asked for.
-fn outers_called(
+/// Adds what stands for the outer imports, by the names under which they are asked for.
+fn add_outers(
     alloc: Global,
     called: &[Called],
     imports: &[Option<SortIndex>],
-) -> Result<NamedMap<SortIndex>, AllocError> {
-    let mut outers = NamedMap::new(alloc);
+    outers: &mut NamedMap<SortIndex>,
+) -> Result<(), AllocError> {
     for one in called {
         if let Some(Some(place)) = imports.get(one.at) {
             let name = String::from_str(alloc, one.name.as_str())?;
             let _ = outers.insert(name, *place)?;
         }
     }
-    Ok(outers)
+    Ok(())
 }
 
 impl<'a> Wired<'a> {
-    pub(crate) fn new(
-        alloc: Global,
-        graph: &'a CompositionGraph,
-        called: &[Called],
-        root: Root,
-    ) -> Result<Self, AllocError> {
-        let outers = outers_called(alloc, called, &root.imports)?;
-        Ok(Wired {
+    /// Nothing is written yet.
+    pub(crate) fn new(alloc: Global, graph: &'a CompositionGraph) -> Self {
+        Wired {
             alloc,
             graph,
-            outers,
-            root,
-        })
+            outers: NamedMap::new(alloc),
+            root: Root::new(alloc),
+        }
     }
 
     /// What stands for a node, if anything does yet.
@@ -320,22 +315,12 @@ impl<'a> Wired<'a> {
     }
 
     /// Writes all that stands behind the root's types and imports; the names of nodes.
-    fn write_all(&mut self) -> Result<Vec<SortNames>, Refusal> {
+    pub(crate) fn write_all(&mut self, called: &[Called]) -> Result<Vec<SortNames>, Refusal> {
+        add_outers(self.alloc, called, &self.root.imports, &mut self.outers)?;
         self.write_nodes()?;
         self.write_exports()?;
         let names = self.debug_names()?;
         Ok(names)
-    }
-
-    fn into_entries(self) -> Vec<Entry> {
-        let root = self.root;
-        root.entries
-    }
-
-    /// All entries of the component, and the names of nodes.
-    pub(crate) fn finish(mut self) -> Result<(Vec<Entry>, Vec<SortNames>), Refusal> {
-        let names = self.write_all()?;
-        Ok((self.into_entries(), names))
     }
 }
 

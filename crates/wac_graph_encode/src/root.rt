@@ -79,22 +79,12 @@ fn write_in_order(
     Ok(())
 }
 
-/// Writes the outer imports in a scope.
-fn write_all_outers(
-    alloc: Global,
-    all: Importing<'_>,
-    scope: &mut ImportScope,
-) -> Result<(), Refusal> {
+/// Writes the outer imports.
+fn write_outers(alloc: Global, all: Importing<'_>, scope: &mut ImportScope) -> Result<(), Refusal> {
+    scope.begin(alloc, all)?;
     let order = scope.order(alloc, all)?;
     write_in_order(alloc, all, scope, &order.sources)?;
     write_in_order(alloc, all, scope, &order.others)
-}
-
-/// Writes the outer imports.
-fn write_outers(alloc: Global, all: Importing<'_>) -> Result<ImportScope, Refusal> {
-    let mut scope = ImportScope::new(alloc, all)?;
-    write_all_outers(alloc, all, &mut scope)?;
-    Ok(scope)
 }
 
 /// Writes the type of an item that stands at the root.
@@ -132,24 +122,25 @@ fn write_definition(
     }
 }
 
-/// Writes the definitions. Types of the graph's collection are written, and no longer of the asked one.
+/// Writes the definitions, and adds what stands for them. Types of the graph's collection are written, and no longer of
+/// the asked one.
 fn write_definitions(
-    alloc: Global,
     graph: &CompositionGraph,
     scope: &mut ImportScope,
     all: Importing<'_>,
     definitions: &[Definition],
-) -> Result<IndexMap<NodeId, SortIndex>, Refusal> {
-    let mut written = IndexMap::new(alloc);
+    nodes: &mut IndexMap<NodeId, SortIndex>,
+) -> Result<(), Refusal> {
+    let alloc = graph.alloc();
     scope.scope.types.forget(alloc);
     for definition in definitions {
         let description = write_definition(alloc, scope, all, graph.types(), definition)?;
         if let Description::Equal(index) = description {
             let sort = Sort::Ty;
-            let _ = written.insert(definition.node, SortIndex { sort, index })?;
+            let _ = nodes.insert(definition.node, SortIndex { sort, index })?;
         }
     }
-    Ok(written)
+    Ok(())
 }
 
 /// Imports an item.
@@ -183,20 +174,19 @@ fn import_package(
     import_item(alloc, scope, all, item)
 }
 
-/// Imports the packages.
+/// Imports the packages, and adds their indexes.
 fn import_packages(
-    alloc: Global,
     graph: &CompositionGraph,
     scope: &mut ImportScope,
     all: Importing<'_>,
     asked: &Asked,
-) -> Result<IndexMap<PackageId, u32>, Refusal> {
-    let mut imported = IndexMap::new(alloc);
+    packages: &mut IndexMap<PackageId, u32>,
+) -> Result<(), Refusal> {
     for (id, world) in asked.packages.iter() {
-        let index = import_package(alloc, graph, scope, all, *id, *world)?;
-        let _ = imported.insert(*id, index)?;
+        let index = import_package(graph.alloc(), graph, scope, all, *id, *world)?;
+        let _ = packages.insert(*id, index)?;
     }
-    Ok(imported)
+    Ok(())
 }
 
 /// The declaration as an entry. An export is none.
@@ -212,14 +202,14 @@ fn entry_of(declaration: Declaration) -> Option<Entry> {
     }
 }
 
-fn entries_of(alloc: Global, declarations: Vec<Declaration>) -> Result<Vec<Entry>, AllocError> {
-    let mut entries = Vec::new(alloc);
+/// Adds declarations as entries.
+fn add_entries(entries: &mut Vec<Entry>, declarations: Vec<Declaration>) -> Result<(), AllocError> {
     for declaration in declarations {
         if let Some(entry) = entry_of(declaration) {
             entries.push(entry)?;
         }
     }
-    Ok(entries)
+    Ok(())
 }
 
 /// The bytes of a package.
@@ -270,68 +260,63 @@ fn counts_of(scope: &ItemScope) -> Counts {
     }
 }
 
-fn declarations_of(scope: ItemScope) -> Vec<Declaration> {
-    scope.types.declarations
+impl Root {
+    /// Nothing stands there.
+    pub(crate) fn new(alloc: Global) -> Self {
+        Root {
+            entries: Vec::new(alloc),
+            counts: Counts {
+                funcs: 0,
+                types: 0,
+                components: 0,
+                instances: 0,
+                modules: 0,
+            },
+            imports: Vec::new(alloc),
+            nodes: IndexMap::new(alloc),
+            packages: IndexMap::new(alloc),
+        }
+    }
 }
 
-fn root_of(
-    alloc: Global,
-    scope: ImportScope,
-    nodes: IndexMap<NodeId, SortIndex>,
-    packages: IndexMap<PackageId, u32>,
-) -> Result<Root, Refusal> {
-    let (items, imports) = scope.into_parts();
-    let counts = counts_of(&items);
-    let entries = entries_of(alloc, declarations_of(items))?;
-    Ok(Root {
-        entries,
-        counts,
-        imports,
-        nodes,
-        packages,
-    })
+/// Takes what is written in a scope.
+fn take_scope(alloc: Global, scope: &mut ImportScope, root: &mut Root) -> Result<(), AllocError> {
+    root.counts = counts_of(&scope.scope);
+    root.imports = scope.take_places(alloc);
+    add_entries(&mut root.entries, scope.scope.take_declarations(alloc))
 }
 
-/// The root where packages are nested.
-fn nested_root(
-    alloc: Global,
-    graph: &CompositionGraph,
-    asked: &Asked,
-    scope: ImportScope,
-    written: IndexMap<NodeId, SortIndex>,
-) -> Result<Root, Refusal> {
-    let mut root = root_of(alloc, scope, written, IndexMap::new(alloc))?;
-    nest_packages(alloc, graph, asked, &mut root)?;
-    Ok(root)
-}
-
-/// The root where packages are imported.
-fn imported_root(
-    alloc: Global,
-    graph: &CompositionGraph,
-    asked: &Asked,
-    all: Importing<'_>,
-    mut scope: ImportScope,
-    written: IndexMap<NodeId, SortIndex>,
-) -> Result<Root, Refusal> {
-    let packages = import_packages(alloc, graph, &mut scope, all, asked)?;
-    root_of(alloc, scope, written, packages)
-}
-
-/// The types, the imports and the packages of a composition.
-pub(crate) fn write_root(
-    alloc: Global,
+/// Writes the types and the imports of a composition in a scope, and takes them with its packages.
+fn write_in(
     graph: &CompositionGraph,
     asked: &Asked,
     all: Importing<'_>,
     definitions: &[Definition],
     options: &EncodeOptions,
-) -> Result<Root, Refusal> {
-    let mut scope = write_outers(alloc, all)?;
-    let written = write_definitions(alloc, graph, &mut scope, all, definitions)?;
+    scope: &mut ImportScope,
+    root: &mut Root,
+) -> Result<(), Refusal> {
+    let alloc = graph.alloc();
+    write_outers(alloc, all, scope)?;
+    write_definitions(graph, scope, all, definitions, &mut root.nodes)?;
     if options.define_components {
-        nested_root(alloc, graph, asked, scope, written)
-    } else {
-        imported_root(alloc, graph, asked, all, scope, written)
+        take_scope(alloc, scope, root)?;
+        return nest_packages(alloc, graph, asked, root);
     }
+    import_packages(graph, scope, all, asked, &mut root.packages)?;
+    take_scope(alloc, scope, root)?;
+    Ok(())
+}
+
+/// Writes the types, the imports and the packages of a composition.
+pub(crate) fn write_root(
+    graph: &CompositionGraph,
+    asked: &Asked,
+    all: Importing<'_>,
+    definitions: &[Definition],
+    options: &EncodeOptions,
+    root: &mut Root,
+) -> Result<(), Refusal> {
+    let mut scope = ImportScope::new(graph.alloc());
+    write_in(graph, asked, all, definitions, options, &mut scope, root)
 }

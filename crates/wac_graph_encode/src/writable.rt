@@ -24,7 +24,7 @@ pub(crate) struct Test<'a> {
 }
 
 /// Which items of an interface are tested.
-#[derive(Clone, Copy, Debug, PartialEq, Eq)]
+#[derive(Clone, Copy, PartialEq, Eq)]
 enum Which {
     All,
     TypesOnly,

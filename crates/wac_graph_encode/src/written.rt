@@ -12,7 +12,7 @@ use wac_types_base::{
 };
 
 /// A form of worlds.
-#[derive(Clone, Copy, Debug, PartialEq, Eq)]
+#[derive(Clone, Copy, PartialEq, Eq)]
 pub(crate) enum Form {
     /// As a component type, which imports what its items use.
     Importing,

@@ -70,15 +70,14 @@ module _ (w : Worlds) (c : Collection) (outer : List Scope) (i : Inside) where
       let a = defines i t h reads in
       record { after = a.after; goes = a.goes; value = is a.after.here a.index }
 
-  -- the places, the entry, its index, and that it is remembered
-  pub value_written : (acyclic : IsAcyclic c) (d : DefinedTypeId) (x : DefinedType) (s u v : TypeScope) (bs : List (Option Written)) (ty : CodeType) (k : ℕ)
+  -- the places, the entry and its index
+  pub value_written : (acyclic : IsAcyclic c) (d : DefinedTypeId) (x : DefinedType) (s u : TypeScope) (bs : List (Option Written)) (ty : CodeType) (k : ℕ)
       → IsNoAlias c (ValueType.Defined d) → slice_get c.defined_types d.index ≡ Some x → d.collection ≡ c.number
       → AnswersPlaces w c outer i (place_trees c (ItemKind.Value (ValueType.Defined d))) s bs
       → defined_view ty ≡ entry_of x bs
       → ((j : Inside) (t : Tree) → IsScope w c outer j s → defined w (j.here ∷ outer) (defined_view ty) ≡ Some t → AnswersType w c outer j t u k)
-      → ((j : Inside) → IsScope w c outer j u → value_of w (j.here ∷ outer) (Index k) ≡ Some (tree_in c (ItemKind.Value (ValueType.Defined d))) → IsScope w c outer j v)
-      → AnswersValue w c outer i (tree_in c (ItemKind.Value (ValueType.Defined d))) v (Index k)
-  value_written acyclic d x s u v bs ty k n at own a form defines remembers =
+      → AnswersValue w c outer i (tree_in c (ItemKind.Value (ValueType.Defined d))) u (Index k)
+  value_written acyclic d x s u bs ty k n at own a form defines =
       let t = of_row x (tree_in c) in
       let same : tree_in c (ItemKind.Value (ValueType.Defined d)) ≡ t = defined_tree_is c acyclic d x n at own in
       let no_alias = not_alias c d x n at in
@@ -86,14 +85,21 @@ module _ (w : Worlds) (c : Collection) (outer : List Scope) (i : Inside) where
       let reads : defined w (a.after.here ∷ outer) (defined_view ty) ≡ Some t =
       ap (defined w (a.after.here ∷ outer)) form ∙ entry_reads w (a.after.here ∷ outer) (tree_in c) x bs no_alias places in
       let b = defines a.after t a.goes.stands reads in
-      let g = Goes-trans w c outer i a.after b.after s u a.goes b.goes in
-      let value : value_of w (b.after.here ∷ outer) (Index k) ≡ Some (tree_in c (ItemKind.Value (ValueType.Defined d))) =
-      index_reads w (b.after.here ∷ outer) k t (entry_is_value x (row_of (trees_by (tree_in c) (defined_entry x).1)) no_alias) b.index ∙ ap Some (sym same) in
       record {
         after = b.after;
-        goes = record { stands = remembers b.after b.goes.stands value; extends = g.extends; imports = g.imports; exports = g.exports };
-        value = value;
+        goes = Goes-trans w c outer i a.after b.after s u a.goes b.goes;
+        value = index_reads w (b.after.here ∷ outer) k t (entry_is_value x (row_of (trees_by (tree_in c) (defined_entry x).1)) no_alias) b.index ∙ ap Some (sym same);
       }
+
+  -- an index that is remembered
+  pub value_remembered : (t : Tree) (s u : TypeScope) (k : ℕ) → AnswersValue w c outer i t s (Index k)
+      → ((j : Inside) → IsScope w c outer j s → value_of w (j.here ∷ outer) (Index k) ≡ Some t → IsScope w c outer j u)
+      → AnswersValue w c outer i t u (Index k)
+  value_remembered t s u k a remembers = record {
+    after = a.after;
+    goes = record { stands = remembers a.after a.goes.stands a.value; extends = a.goes.extends; imports = a.goes.imports; exports = a.goes.exports };
+    value = a.value;
+  }
 
   -- likewise of a function
   pub func_written : (acyclic : IsAcyclic c) (f : FuncTypeId) (x : FuncType) (s u : TypeScope) (bs : List (Option Written)) (ty : CodeType) (k : ℕ)

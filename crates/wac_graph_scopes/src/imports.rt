@@ -15,6 +15,7 @@ use crate::parts::{
 use crate::used::{UsedIndex, UsedTypes};
 use crate::value::{define_apart, fits_in};
 use std::alloc::{AllocError, Global};
+use std::mem;
 use wac_graph_bytes::{Declaration, Description, Sort};
 use wac_types_base::{InterfaceId, ItemKind, NamedMap, Names, Text, Type, Types, WorldId};
 
@@ -90,23 +91,24 @@ fn add_places(
     Ok(())
 }
 
-/// Where the imports stand, by the names under which they are asked for, and by their own.
-fn places_called(alloc: Global, all: Importing<'_>) -> Result<NamedMap<usize>, AllocError> {
-    let mut found = NamedMap::new(alloc);
+/// Adds the places of the imports under the names under which they are asked for.
+fn add_called(
+    alloc: Global,
+    all: Importing<'_>,
+    found: &mut NamedMap<usize>,
+) -> Result<(), AllocError> {
     for called in all.called {
-        add_place(alloc, &mut found, called.name.as_str(), called.at)?;
+        add_place(alloc, found, called.name.as_str(), called.at)?;
     }
-    add_places(alloc, all, &mut found)?;
-    Ok(found)
+    Ok(())
 }
 
-/// No import is written yet.
-fn places_of(alloc: Global, count: usize) -> Result<Vec<Option<SortIndex>>, AllocError> {
-    let mut places = Vec::new(alloc);
+/// Adds places at which no import is written yet.
+fn add_empty(count: usize, places: &mut Vec<Option<SortIndex>>) -> Result<(), AllocError> {
     for _ in 0..count {
         places.push(None)?;
     }
-    Ok(places)
+    Ok(())
 }
 
 /// The interface of the instance that is imported at a place.
@@ -155,26 +157,28 @@ fn instance_index(places: &[Option<SortIndex>], at: usize) -> Option<u32> {
 }
 
 impl ImportScope {
-    /// Nothing is written of the imports of a world.
-    pub fn new(alloc: Global, all: Importing<'_>) -> Result<Self, AllocError> {
-        let found = places_called(alloc, all)?;
-        let places = places_of(alloc, import_count(all.types, all.world))?;
-        Ok(ImportScope {
+    /// No world is begun.
+    pub fn new(alloc: Global) -> Self {
+        ImportScope {
             scope: ItemScope::new(alloc),
             used: UsedTypes::new(alloc),
-            places,
-            found,
-        })
+            places: Vec::new(alloc),
+            found: NamedMap::new(alloc),
+        }
     }
 
-    /// What is declared.
-    fn into_declarations(self) -> Vec<Declaration> {
-        self.scope.into_declarations()
+    /// Begins a world: nothing is written of its imports, which are found under the names under which they are asked
+    /// for, and under their own.
+    pub fn begin(&mut self, alloc: Global, all: Importing<'_>) -> Result<(), AllocError> {
+        add_called(alloc, all, &mut self.found)?;
+        add_places(alloc, all, &mut self.found)?;
+        add_empty(import_count(all.types, all.world), &mut self.places)
     }
 
-    /// What is written, and where the imports stand in it.
-    pub fn into_parts(self) -> (ItemScope, Vec<Option<SortIndex>>) {
-        (self.scope, self.places)
+    /// What is written of the imports, in their order, which is taken from here.
+    pub fn take_places(&mut self, alloc: Global) -> Vec<Option<SortIndex>> {
+        let none = Vec::new(alloc);
+        mem::replace(&mut self.places, none)
     }
 
     /// Where the imports of the world stand, in the order in which they are written.
@@ -569,16 +573,18 @@ fn write_before_others(
     export_resources(alloc, all, &mut scope.scope, &exported)
 }
 
-/// Writes a component type.
+/// Writes a component type; its declarations.
 #[cycle(types)]
 fn write_component(
     alloc: Global,
     all: Importing<'_>,
     scope: &mut ImportScope,
-) -> Result<(), WriteError> {
+) -> Result<Vec<Declaration>, WriteError> {
+    scope.begin(alloc, all)?;
     let order = scope.order(alloc, all)?;
     write_before_others(alloc, all, scope, &order)?;
-    export_others(alloc, all, scope)
+    export_others(alloc, all, scope)?;
+    Ok(scope.scope.take_declarations(alloc))
 }
 
 /// The declarations of a component type.
@@ -593,7 +599,6 @@ pub(crate) fn component_type(
         world: id,
         called: &[],
     };
-    let mut scope = ImportScope::new(alloc, all)?;
-    write_component(alloc, all, &mut scope)?;
-    Ok(scope.into_declarations())
+    let mut scope = ImportScope::new(alloc);
+    write_component(alloc, all, &mut scope)
 }

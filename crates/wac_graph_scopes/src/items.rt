@@ -15,6 +15,7 @@ use crate::scope::{TypeScope, next_of};
 use crate::used::UsedTypes;
 use crate::value::{define_value, fits_in, note_named, push_func};
 use std::alloc::Global;
+use std::mem;
 use wac_graph_bytes::{Alias, Declaration, Description, Sort};
 use wac_types_base::{
     FuncTypeId, InterfaceId, ItemKind, ModuleTypeId, Names, ResourceId, Type, Types, ValueType,
@@ -63,9 +64,10 @@ impl ItemScope {
         }
     }
 
-    /// What is declared.
-    pub(crate) fn into_declarations(self) -> Vec<Declaration> {
-        self.types.declarations
+    /// What is declared, which is taken from here.
+    pub fn take_declarations(&mut self, alloc: Global) -> Vec<Declaration> {
+        let none = Vec::new(alloc);
+        mem::replace(&mut self.types.declarations, none)
     }
 
     /// Adds a declaration of a type.
@@ -298,19 +300,6 @@ fn take_uses(
     Ok(given)
 }
 
-/// Exports a resource under its own name.
-pub(crate) fn export_resource(
-    alloc: Global,
-    scope: &mut ItemScope,
-    types: &Types,
-    item: Item<'_>,
-) -> Result<(), WriteError> {
-    let text = String::from_str(alloc, item.name)?;
-    let declaration = Declaration::Export(text, Description::Resource);
-    let index = scope.add_item(declaration, Description::Resource)?;
-    scope.note(alloc, types, item.kind, index)
-}
-
 /// Exports an item that is so described.
 fn export_described(
     alloc: Global,
@@ -323,6 +312,16 @@ fn export_described(
     let declaration = Declaration::Export(text, description);
     let index = scope.add_item(declaration, description)?;
     scope.note(alloc, types, item.kind, index)
+}
+
+/// Exports a resource under its own name.
+pub(crate) fn export_resource(
+    alloc: Global,
+    scope: &mut ItemScope,
+    types: &Types,
+    item: Item<'_>,
+) -> Result<(), WriteError> {
+    export_described(alloc, scope, types, item, Description::Resource)
 }
 
 /// Exports an item that is no resource under its own name.
@@ -403,7 +402,7 @@ fn begin_instance(
     Ok(given)
 }
 
-/// Writes an instance type.
+/// Writes an instance type; its declarations.
 #[cycle(types)]
 fn write_instance(
     alloc: Global,
@@ -411,9 +410,10 @@ fn write_instance(
     types: &Types,
     around: Around<'_>,
     id: InterfaceId,
-) -> Result<(), WriteError> {
+) -> Result<Vec<Declaration>, WriteError> {
     let given = begin_instance(alloc, scope, types, around, id)?;
-    export_others(alloc, scope, types, around, id, &given)
+    export_others(alloc, scope, types, around, id, &given)?;
+    Ok(scope.take_declarations(alloc))
 }
 
 /// The declarations of an instance type.
@@ -425,8 +425,7 @@ fn instance_type(
     id: InterfaceId,
 ) -> Result<Vec<Declaration>, WriteError> {
     let mut scope = ItemScope::new(alloc);
-    write_instance(alloc, &mut scope, types, around, id)?;
-    Ok(scope.into_declarations())
+    write_instance(alloc, &mut scope, types, around, id)
 }
 
 /// The index of the type of an instance, which is written.

@@ -16,3 +16,4 @@ pub mod used;
 mod value;
 
 pub use laws::types_at_the_root;
+pub use value::fits_in;

@@ -8,10 +8,11 @@ use crate::parts::{
     is_fresh, use_at, use_count, world_use_named,
 };
 use std::alloc::{AllocError, Global};
+use std::mem;
 use wac_types_base::{InterfaceId, ItemKind, NamedMap, Types};
 
 /// Which imports are put in order together.
-#[derive(Clone, Copy, Debug, PartialEq, Eq)]
+#[derive(Clone, Copy, PartialEq, Eq)]
 enum Turn {
     /// Resources under their own names.
     Fresh,
@@ -170,6 +171,14 @@ impl<'a> Order<'a> {
         }
         Ok(())
     }
+
+    /// Puts those in order whose turn is the first or the second; they alone are handed out.
+    fn put_both(&mut self, first: Turn, second: Turn) -> Result<Vec<usize>, AllocError> {
+        self.put_all(first)?;
+        self.put_all(second)?;
+        let next = Vec::new(self.alloc);
+        Ok(mem::replace(&mut self.order, next))
+    }
 }
 
 /// Where the imports of a world stand, in the order in which they are written.
@@ -182,26 +191,19 @@ pub struct ImportOrder {
     pub others: Vec<usize>,
 }
 
+/// Puts all in order: sources, and then the others.
+fn put_sources_and_others(order: &mut Order<'_>) -> Result<ImportOrder, AllocError> {
+    let sources = order.put_both(Turn::Fresh, Turn::Interfaces)?;
+    let others = order.put_both(Turn::Types, Turn::Others)?;
+    Ok(ImportOrder { sources, others })
+}
+
 /// The order in which imports are written.
 pub(crate) fn order_of<'a>(
     alloc: Global,
     all: Importing<'a>,
     found: &'a NamedMap<usize>,
 ) -> Result<ImportOrder, AllocError> {
-    let mut sources = Order::new(alloc, all, found)?;
-    sources.put_all(Turn::Fresh)?;
-    sources.put_all(Turn::Interfaces)?;
-    let mut others = Order {
-        alloc,
-        all,
-        found,
-        begun: sources.begun,
-        order: Vec::new(alloc),
-    };
-    others.put_all(Turn::Types)?;
-    others.put_all(Turn::Others)?;
-    Ok(ImportOrder {
-        sources: sources.order,
-        others: others.order,
-    })
+    let mut order = Order::new(alloc, all, found)?;
+    put_sources_and_others(&mut order)
 }

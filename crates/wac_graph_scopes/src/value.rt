@@ -10,6 +10,7 @@ ghost use Rattle.wac_types_base.specs.Resolving.{IsNoAlias};
 ghost use Rattle.wac_types_base.specs.Tree.{rigid, end};
 ghost use Rattle.wac_types_fit.specs.Trees.{tree_in, Fit};
 ghost use Rattle.wac_types_fit.specs.Checking.{value_in, HoldsValues, ValueStands, value_tree, place_trees};
+ghost use Rattle.wac_graph_bytes.specs.declared.value.ValueType.TheVariants.{Index};
 ghost use Rattle.wac_graph_bytes.specs.Typing.{Worlds, Scope, Inside, type_at};
 ghost use Rattle.wac_graph_scopes.specs.Scopes.{IsScope, KeepsScope, FindsType, AnswersType, AnswersValue, AnswersPlace, AnswersPlaces};
 
@@ -103,12 +104,7 @@ fn push_resolved(
 }
 
 /// Whether an item fits another. What does not stand fits nothing.
-pub(crate) fn fits_in(
-    alloc: Global,
-    types: &Types,
-    a: ItemKind,
-    b: ItemKind,
-) -> Result<bool, WriteError>
+pub fn fits_in(alloc: Global, types: &Types, a: ItemKind, b: ItemKind) -> Result<bool, WriteError>
     ensures fits { IfOk result (λ yes. yes ≡ true → Fit types.now a types.now b) }
     ensures stands { IfOk result (λ yes. yes ≡ true → Stands types.now a) }
 {
@@ -236,14 +232,10 @@ fn define_once(
     if !types.has(kind) {
         return Err(WriteError::Unwritable);
     }
-    let known = known_index(alloc, scope, types, id)?;
-    if let Some(index) = known {
-        return Ok(index);
+    match known_index(alloc, scope, types, id)? {
+        Some(index) => Ok(index),
+        None => define_entry(alloc, scope, types, id),
     }
-    let ty = types.defined_type(id);
-    let places = push_places(alloc, scope, types, kind)?;
-    let entry = entry_of(alloc, ty, places.as_slice())?;
-    Ok(scope.define(entry)?)
 }
 
 /// The index of a type entry of its own that is a value type, whatever else is written.
@@ -273,10 +265,7 @@ fn define_anew(
     if !types.has(kind) {
         return Err(WriteError::Unwritable);
     }
-    let ty = types.defined_type(id);
-    let places = push_places(alloc, scope, types, kind)?;
-    let entry = entry_of(alloc, ty, places.as_slice())?;
-    let index = scope.define(entry)?;
+    let index = define_entry(alloc, scope, types, id)?;
     scope.remember(id, index)?;
     Ok(index)
 }
@@ -293,17 +282,31 @@ fn push_defined(
     requires no_alias { IsNoAlias types.now (ValueType.Defined id) }
     ensures { (w : Worlds) (outer : List Scope) (i : Inside) → IsScope w types.now outer i scope.old → IfOk result (λ b. AnswersValue w types.now outer i (tree_in types.now (ItemKind.Value (ValueType.Defined id))) scope.new b) }
 {
-    types.see_acyclic();
     let known = known_index(alloc, scope, types, id)?;
     if let Some(index) = known {
         return Ok(Written::Index(index));
     }
+    let index = define_entry(alloc, scope, types, id)?;
+    scope.remember(id, index)?;
+    Ok(Written::Index(index))
+}
+
+/// The index of the entry of a defined type, which is written behind what it is made of.
+#[cycle(values)]
+fn define_entry(
+    alloc: Global,
+    scope: &mut TypeScope,
+    types: &Types,
+    id: DefinedTypeId,
+) -> Result<u32, WriteError>
+    requires { Stands types.now (ItemKind.Value (ValueType.Defined id)) }
+    ensures { (w : Worlds) (outer : List Scope) (i : Inside) → IsNoAlias types.now (ValueType.Defined id) → IsScope w types.now outer i scope.old → IfOk result (λ k. AnswersValue w types.now outer i (tree_in types.now (ItemKind.Value (ValueType.Defined id))) scope.new (Index k)) }
+{
+    types.see_acyclic();
     let ty = types.defined_type(id);
     let places = push_places(alloc, scope, types, ItemKind::Value(ValueType::Defined(id)))?;
     let entry = entry_of(alloc, ty, places.as_slice())?;
-    let index = scope.define(entry)?;
-    scope.remember(id, index)?;
-    Ok(Written::Index(index))
+    Ok(scope.define(entry)?)
 }
 
 /// The written forms of the value types in the places of a kind.

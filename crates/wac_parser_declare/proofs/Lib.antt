@@ -5,6 +5,7 @@ pub mod TypeViews
 pub mod Loops
 pub mod Members
 pub mod Named
+pub mod Aliasing
 pub mod RowWords
 pub mod RefusedRows
 pub mod Standing

@@ -1,5 +1,5 @@
 -- What declarations of types state: records, variants, flags, enums.
-use Rattle.std.proofs.Common.{◌≡◌, List, [], ◌∷◌, ◌++◌, map, Option, Some, None, option_map, Bool, true, false, not, Ok, Err, refl, sym, ap, subst, ◌∙◌, if◌then◌else◌}
+use Rattle.std.proofs.Common.{◌≡◌, List, [], ◌∷◌, ◌++◌, map, Option, Some, option_map, Bool, true, false, not, Ok, Err, refl, sym, ap, subst, ◌∙◌, if◌then◌else◌}
 use Rattle.wac_types_base.specs.declared.item.ValueType.{ValueType}
 use Rattle.wac_types_base.specs.declared.item.ItemKind.{ItemKind}
 use Rattle.wac_types_base.specs.declared.item.«Type».{«Type» as TypeKind}
@@ -14,7 +14,7 @@ use Rattle.wac_parser_refusals.specs.declared.refusal.Refusal.{Refusal}
 use Rattle.wac_parser_refusals.specs.Causes.{Answer, Fault, ◌>>=◌, ◌>>◌, unless_clear}
 use Rattle.wac_parser_refusals.specs.Outcomes.{IsHeld, IsRefusal, Refuses}
 use Rattle.wac_parser_declare.specs.Declarations.{name_of, payloads, record_of, variant_of}
-use Rattle.wac_parser_declare.specs.Holding.{AreCases, AreNamedValues, EachStands, Holds, IsType, StandsIf, stated_if, stated_value}
+use Rattle.wac_parser_declare.specs.Holding.{AreCases, AreNamedValues, Holds, IsType, StandsIf, stated_if, stated_value}
 use Rattle.wac_parser_declare.specs.TypeDeclarations.{AreNames}
 use Rattle.wac_parser_declare.proofs.Kept.{AreEntries-kept, StandsIf-kept, entry_holds, labelled_holds, option_places, stated_if-kept}
 use Rattle.wac_parser_declare.proofs.Members.{filled_places, named_values-kept}

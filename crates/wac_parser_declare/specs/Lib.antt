@@ -3,6 +3,7 @@ pub mod ValueTypes
 pub mod Declarations
 pub mod Functions
 pub mod TypeDeclarations
+pub mod Aliases
 pub mod Bodies
 pub mod Interfaces
 pub mod Worlds

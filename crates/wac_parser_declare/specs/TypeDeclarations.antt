@@ -14,7 +14,7 @@ use Rattle.wac_parser_tree.specs.declared.declaration.Flag.{Flag}
 use Rattle.wac_parser_tree.specs.declared.declaration.FlagsDecl.{FlagsDecl}
 use Rattle.wac_parser_tree.specs.declared.declaration.EnumCase.{EnumCase}
 use Rattle.wac_parser_tree.specs.declared.declaration.EnumDecl.{EnumDecl}
-use Rattle.wac_parser_tree.specs.Views.{view_ident, view_ty, view_variant_case, view_variant_decl, view_field, view_record_decl, view_flag, view_flags_decl, view_enum_case, view_enum_decl}
+use Rattle.wac_parser_tree.specs.Views.{view_ty, view_variant_case, view_variant_decl, view_field, view_record_decl, view_flag, view_flags_decl, view_enum_case, view_enum_decl}
 use Rattle.wac_parser_refusals.specs.declared.refusal.Refusal.{Refusal}
 use Rattle.wac_parser_refusals.specs.Causes.{each}
 use Rattle.wac_parser_refusals.specs.Outcomes.{IsOutcome}

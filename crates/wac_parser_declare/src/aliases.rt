@@ -5,6 +5,7 @@ ghost use Rattle.std.specs.Prelude.{◌≡◌, IfOk, Some, option_map};
 ghost use Rattle.wac_types_base.specs.declared.item.ItemKind.{ItemKind};
 ghost use Rattle.wac_types_base.specs.declared.item.«Type».{«Type» as TypeKind};
 ghost use Rattle.wac_types_base.specs.Collection.{Stands, Grows, SlotStands, item_node, func_entry};
+ghost use Rattle.wac_parser_declare.specs.Aliases.{IsAlias, IsAliasFunc, IsAliasNamed, IsAliasType, IsAliasValue, IsFuncAlias, IsOwner, IsResourceAlias, IsTypeAlias, IsValueAlias};
 ghost use Rattle.wac_parser_declare.specs.Holding.{NamesStand};
 
 use crate::functions::func_type;
@@ -23,7 +24,8 @@ use wac_types_base::{
 /// The interface that an alias of a resource belongs to.
 fn owner_of(types: &Types, source: ResourceId) -> Option<InterfaceId>
     requires { Stands types.now (ItemKind.Ty (TypeKind.Resource source)) }
-    ensures { SlotStands types.now (option_map ItemKind.Instance result) }
+    ensures owner { IsOwner types.now source result }
+    ensures stands { SlotStands types.now (option_map ItemKind.Instance result) }
 {
     match types.resource(source).alias {
         Some(alias) => alias.owner,
@@ -39,6 +41,7 @@ fn resource_alias<T: GrowingTypes>(
     source: ResourceId,
 ) -> Outcome<Type>
     requires { Stands (T.collection types.old) (ItemKind.Ty (TypeKind.Resource source)) }
+    ensures outcome { IsResourceAlias (T.collection types.old) name.now source (T.collection types.new) result }
     ensures stands { IfOk result (λ t. Stands (T.collection types.new) (ItemKind.Ty t)) }
     ensures grows { Grows (T.collection types.old) (T.collection types.new) }
 {
@@ -57,6 +60,7 @@ fn resource_alias<T: GrowingTypes>(
 /// Another name of a value type.
 fn value_alias<T: GrowingTypes>(types: &mut T, ty: ValueType) -> Outcome<Type>
     requires { Stands (T.collection types.old) (ItemKind.Value ty) }
+    ensures outcome { IsValueAlias (T.collection types.old) ty (T.collection types.new) result }
     ensures stands { IfOk result (λ t. Stands (T.collection types.new) (ItemKind.Ty t)) }
     ensures grows { Grows (T.collection types.old) (T.collection types.new) }
 {
@@ -96,6 +100,7 @@ fn copy_func(alloc: Global, types: &Types, id: FuncTypeId) -> Result<FuncType, A
 /// A function type like another.
 fn func_alias<T: GrowingTypes>(alloc: Global, types: &mut T, func: FuncTypeId) -> Outcome<Type>
     requires { Stands (T.collection types.old) (ItemKind.Func func) }
+    ensures outcome { IsFuncAlias (T.collection types.old) func (T.collection types.new) result }
     ensures stands { IfOk result (λ t. Stands (T.collection types.new) (ItemKind.Ty t)) }
     ensures grows { Grows (T.collection types.old) (T.collection types.new) }
 {
@@ -114,6 +119,32 @@ pub(crate) enum Place {
     Body,
 }
 
+/// Another name of a resource, which a body alone can give.
+fn resource_at<T: GrowingTypes>(
+    alloc: Global,
+    types: &mut T,
+    place: Place,
+    alias: &Ident<'_>,
+    source: &Ident<'_>,
+    resource: ResourceId,
+) -> Outcome<Type>
+    requires { Stands (T.collection types.old) (ItemKind.Ty (TypeKind.Resource resource)) }
+    ensures outcome { IsAlias place (T.collection types.old) alias.now source.now (ItemKind.Ty (TypeKind.Resource resource)) (T.collection types.new) result }
+    ensures stands { IfOk result (λ t. Stands (T.collection types.new) (ItemKind.Ty t)) }
+    ensures grows { Grows (T.collection types.old) (T.collection types.new) }
+{
+    types.types().see_acyclic();
+    match place {
+        Place::Body => resource_alias(alloc, types, alias.string, resource),
+        Place::Root => Err(invalid_alias_type(
+            alloc,
+            source.string,
+            Type::Resource(resource).desc(types.types()),
+            source.span,
+        )),
+    }
+}
+
 /// Another name of a type.
 fn alias_of_type<T: GrowingTypes>(
     alloc: Global,
@@ -124,6 +155,7 @@ fn alias_of_type<T: GrowingTypes>(
     ty: Type,
 ) -> Outcome<Type>
     requires { Stands (T.collection types.old) (ItemKind.Ty ty) }
+    ensures outcome { IsAlias place (T.collection types.old) alias.now source.now (ItemKind.Ty ty) (T.collection types.new) result }
     ensures stands { IfOk result (λ t. Stands (T.collection types.new) (ItemKind.Ty t)) }
     ensures grows { Grows (T.collection types.old) (T.collection types.new) }
 {
@@ -131,9 +163,7 @@ fn alias_of_type<T: GrowingTypes>(
     match ty {
         Type::Value(value) => value_alias(types, value),
         Type::Func(func) => func_alias(alloc, types, func),
-        Type::Resource(resource) if place == Place::Body => {
-            resource_alias(alloc, types, alias.string, resource)
-        }
+        Type::Resource(resource) => resource_at(alloc, types, place, alias, source, resource),
         other => Err(invalid_alias_type(
             alloc,
             source.string,
@@ -153,6 +183,7 @@ fn alias_of<T: GrowingTypes>(
     kind: ItemKind,
 ) -> Outcome<Type>
     requires { Stands (T.collection types.old) kind }
+    ensures outcome { IsAlias place (T.collection types.old) alias.now source.now kind (T.collection types.new) result }
     ensures stands { IfOk result (λ t. Stands (T.collection types.new) (ItemKind.Ty t)) }
     ensures grows { Grows (T.collection types.old) (T.collection types.new) }
 {
@@ -179,6 +210,7 @@ fn alias_named<T: GrowingTypes>(
     source: &Ident<'_>,
 ) -> Outcome<Type>
     requires { NamesStand (T.collection types.old) names.now }
+    ensures outcome { IsAliasNamed place (T.collection types.old) names.now alias.now source.now (T.collection types.new) result }
     ensures stands { IfOk result (λ t. Stands (T.collection types.new) (ItemKind.Ty t)) }
     ensures grows { Grows (T.collection types.old) (T.collection types.new) }
 {
@@ -195,11 +227,32 @@ fn alias_value<T: GrowingTypes>(
     types: &mut T,
 ) -> Outcome<Type>
     requires { NamesStand (T.collection types.old) names.now }
+    ensures outcome { IsAliasValue (T.collection types.old) names.now ty.now (T.collection types.new) result }
     ensures stands { IfOk result (λ t. Stands (T.collection types.new) (ItemKind.Ty t)) }
     ensures grows { Grows (T.collection types.old) (T.collection types.new) }
 {
     let value = value_type(ty, alloc, names, types)?;
     value_alias(types, value)
+}
+
+/// A name of a type that is written or named.
+fn alias_type<T: GrowingTypes>(
+    ty: &ast::Type<'_>,
+    alloc: Global,
+    names: &NamedMap<Binding>,
+    types: &mut T,
+    place: Place,
+    alias: &Ident<'_>,
+) -> Outcome<Type>
+    requires { NamesStand (T.collection types.old) names.now }
+    ensures outcome { IsAliasType place (T.collection types.old) names.now alias.now ty.now (T.collection types.new) result }
+    ensures stands { IfOk result (λ t. Stands (T.collection types.new) (ItemKind.Ty t)) }
+    ensures grows { Grows (T.collection types.old) (T.collection types.new) }
+{
+    match ty {
+        ast::Type::Ident(source) => alias_named(alloc, names, types, place, alias, source),
+        ty => alias_value(ty, alloc, names, types),
+    }
 }
 
 /// A name of a function type that is written.
@@ -210,6 +263,7 @@ fn alias_func<T: GrowingTypes>(
     types: &mut T,
 ) -> Outcome<Type>
     requires { NamesStand (T.collection types.old) names.now }
+    ensures outcome { IsAliasFunc (T.collection types.old) names.now ty.now (T.collection types.new) result }
     ensures stands { IfOk result (λ t. Stands (T.collection types.new) (ItemKind.Ty t)) }
     ensures grows { Grows (T.collection types.old) (T.collection types.new) }
 {
@@ -226,14 +280,12 @@ pub(crate) fn type_alias<T: GrowingTypes>(
     place: Place,
 ) -> Outcome<Type>
     requires { NamesStand (T.collection types.old) names.now }
+    ensures outcome { IsTypeAlias place (T.collection types.old) names.now decl.now (T.collection types.new) result }
     ensures stands { IfOk result (λ t. Stands (T.collection types.new) (ItemKind.Ty t)) }
     ensures grows { Grows (T.collection types.old) (T.collection types.new) }
 {
     match &decl.kind {
         TypeAliasKind::Func(ty) => alias_func(ty, alloc, names, types),
-        TypeAliasKind::Ty(ast::Type::Ident(source)) => {
-            alias_named(alloc, names, types, place, &decl.id, source)
-        }
-        TypeAliasKind::Ty(ty) => alias_value(ty, alloc, names, types),
+        TypeAliasKind::Ty(ty) => alias_type(ty, alloc, names, types, place, &decl.id),
     }
 }

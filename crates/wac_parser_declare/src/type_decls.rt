@@ -4,6 +4,7 @@
 ghost use Rattle.std.specs.Prelude.{◌≡◌, IfOk, OnOk};
 ghost use Rattle.wac_types_base.specs.declared.item.ItemKind.{ItemKind};
 ghost use Rattle.wac_types_base.specs.Collection.{Stands, Grows};
+ghost use Rattle.wac_parser_declare.specs.Aliases.{IsTypeDecl};
 ghost use Rattle.wac_parser_declare.specs.Holding.{EachStands, NamesStand, StandsIf, ValueStands};
 ghost use Rattle.wac_parser_declare.specs.TypeDeclarations.{AreCasesOf, AreEnumCasesOf, AreFieldsOf, AreFlags, AreFlagsOf, IsCase, IsEnum, IsEnumCase, IsField, IsFlag, IsPayload, IsRecord, IsVariant};
 
@@ -252,6 +253,7 @@ pub(crate) fn type_decl<T: GrowingTypes>(
     types: &mut T,
 ) -> Outcome<Type>
     requires { NamesStand (T.collection types.old) names.now }
+    ensures outcome { IsTypeDecl (T.collection types.old) names.now decl.now (T.collection types.new) result }
     ensures stands { IfOk result (λ t. Stands (T.collection types.new) (ItemKind.Ty t)) }
     ensures grows { Grows (T.collection types.old) (T.collection types.new) }
 {

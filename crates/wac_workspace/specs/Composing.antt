@@ -71,6 +71,17 @@ pub record IsNumbered (next : ℕ) (source : List ℕ) : Type 0 where
 abbrev pub WithKey : List ℕ → (Key → Type 0) → Type 0
 WithKey source P = (d : Document) × IsDocument source d × P (directive_key d)
 
+-- the source is a document
+abbrev pub HasDocument : List ℕ → Type 0
+HasDocument source = (d : Document) × IsDocument source d
+
+-- why a source has no graph, whatever packages there are
+abbrev pub IsUnresolved : List ℕ → ComposeError → Type 0
+IsUnresolved source (error.Parse f) = read_source document source ≡ Err (fault_of f)
+IsUnresolved source (error.Resolution f) = HasDocument source
+IsUnresolved source error.Memory = Unit {0}
+IsUnresolved source e = ⊥
+
 -- why a source has no output, whatever packages there are
 abbrev pub IsUnmade : ℕ → List ℕ → ComposeError → Type 0
 IsUnmade next source (error.Parse f) = read_source document source ≡ Err (fault_of f)

@@ -38,6 +38,12 @@ IsLate (error.Target r) = Unit {0}
 IsLate error.Memory = Unit {0}
 IsLate e = ⊥
 
+-- a fault of resolving, or want of memory
+abbrev pub IsOfResolving : ComposeError → Type 0
+IsOfResolving (error.Resolution f) = Unit {0}
+IsOfResolving error.Memory = Unit {0}
+IsOfResolving e = ⊥
+
 -- a component under the name and the version of a package
 pub record IsNamed (p : PackageName) (e : Encoded) (o : Output) : Type 0 where
   pub key : output_key o ≡ (p.name, p.version)

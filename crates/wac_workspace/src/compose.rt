@@ -9,8 +9,8 @@ ghost use Rattle.wac_parser_tree.specs.Trees.{PackageName as PackageTree};
 ghost use Rattle.wac_parser_tree.specs.Views.{view_package_name};
 ghost use Rattle.wac_parser_resolve.specs.Resolved.{graph_of, target_of};
 ghost use Rattle.wac_parser_resolve.specs.Targeting.{IsTarget};
-ghost use Rattle.wac_workspace.specs.Composing.{greatest, IsUnmade, IsOutput};
-ghost use Rattle.wac_workspace.specs.Steps.{AreNext, IsPair, IsEncoded, IsLate, IsNamed, IsOf, IsUnencoded};
+ghost use Rattle.wac_workspace.specs.Composing.{greatest, IsUnmade, IsOutput, HasDocument, IsUnresolved};
+ghost use Rattle.wac_workspace.specs.Steps.{AreNext, IsPair, IsEncoded, IsLate, IsNamed, IsOf, IsUnencoded, IsOfResolving};
 
 use crate::entries::{Entry, packages_of};
 use crate::errors::ComposeError;
@@ -18,6 +18,7 @@ use crate::output::Output;
 use crate::workspace::Workspace;
 use semver::Version;
 use std::alloc::{AllocError, Global};
+use wac_graph_core::CompositionGraph;
 use wac_parser_encode::{EncodeOptions, EncodeResolution, Encoded};
 use wac_parser_read::ParseDocument;
 use wac_parser_resolve::{AstResolver, Error as ResolutionError, Packages, Resolved};
@@ -215,13 +216,35 @@ fn compose_document(
     Ok((output, numbers.after))
 }
 
-// A document is owned by one function, which looks at it by one method of a trait without its lifetime: a proof then need
+/// The graph of a document over these packages.
+fn document_graph(
+    document: &Document<'_>,
+    alloc: Global,
+    packages: &Packages<'_>,
+) -> Result<CompositionGraph, ComposeError>
+    ensures number { IfOk result (λ g. g.types.number ≡ greatest) }
+    ensures refused { IfErr result IsOfResolving }
+{
+    let resolution = AstResolver::new(document).resolve(alloc, packages, UNSEEN)?;
+    Ok(resolution.into_graph())
+}
+
+// A document is owned by one function, which looks at it by a method of a trait without its lifetime: a proof then need
 // not take the whole tree of types apart.
 
 /// Documents that are composed.
 trait ComposeDocument: Sized {
     // the package that the directive names
     ghost package_of: { Self → PackageTree };
+
+    /// The document's graph over these packages.
+    fn graph(
+        &self,
+        alloc: Global,
+        packages: &Packages<'_>,
+    ) -> Result<CompositionGraph, ComposeError>
+        ensures number { IfOk result (λ g. g.types.number ≡ greatest) }
+        ensures refused { IfErr result IsOfResolving };
 
     /// What the document is composed to, by the next three numbers, and the number behind them.
     fn compose(
@@ -238,6 +261,14 @@ trait ComposeDocument: Sized {
 
 impl<'s> ComposeDocument for Document<'s> {
     ghost package_of = { λ d. view_package_name d.directive.«package» };
+
+    fn graph(
+        &self,
+        alloc: Global,
+        packages: &Packages<'_>,
+    ) -> Result<CompositionGraph, ComposeError> {
+        document_graph(self, alloc, packages)
+    }
 
     fn compose(
         &self,
@@ -282,9 +313,34 @@ fn compose_over(
     compose_source(source, alloc, &packages, next, options)
 }
 
+/// The graph of a source over these packages.
+fn source_graph(
+    source: &str,
+    alloc: Global,
+    packages: &Packages<'_>,
+) -> Result<CompositionGraph, ComposeError>
+    ensures number { IfOk result (λ g. g.types.number ≡ greatest) }
+    ensures document { IfOk result (λ _. HasDocument source.now) }
+    ensures refused { IfErr result (IsUnresolved source.now) }
+{
+    let document: Document<'_> = ParseDocument::parse(alloc, source)?;
+    document.graph(alloc, packages)
+}
+
 impl Workspace {
     ghost use Rattle.std.specs.Prelude.{◌≡◌, IfOk, IfErr, OnErr};
-    ghost use Rattle.wac_workspace.specs.Composing.{IsComposed, IsRefused};
+    ghost use Rattle.wac_workspace.specs.Composing.{greatest, IsComposed, IsRefused, HasDocument, IsUnresolved};
+
+    /// The graph of the document that the source is, over the packages: to look at, with nothing registered. The number of
+    /// its collection is the greatest `u64`, which no output has.
+    pub fn graph(&self, source: &str) -> Result<CompositionGraph, ComposeError>
+        ensures number { IfOk result (λ g. g.types.number ≡ greatest) }
+        ensures document { IfOk result (λ _. HasDocument source.now) }
+        ensures refused { IfErr result (IsUnresolved source.now) }
+    {
+        let packages = packages_of(self.alloc, &self.entries)?;
+        source_graph(source, self.alloc, &packages)
+    }
 
     /// Composes the component of the document that the source is. With components defined it is registered under the
     /// directive's key, and later sources may instantiate it. Names are tested whatever the options say. Spans of faults

@@ -13,7 +13,7 @@ use Rattle.wac_graph_bytes.specs.declared.value.ValueType.TheVariants.{Primitive
 use Rattle.wac_graph_bytes.specs.Typing.{value_of}
 use Rattle.wac_graph_scopes.specs.Forms.{entry_of}
 use Rattle.wac_graph_scopes.specs.Scopes.{AnswersPlaces}
-use Rattle.wac_graph_scopes.proofs.ValueLaws.{value_of_tree, value_there, value_written, places_none, places_next, trees_next, trees_all}
+use Rattle.wac_graph_scopes.proofs.ValueLaws.{value_of_tree, value_there, value_written, value_remembered, places_none, places_next, trees_next, trees_all}
 use Rattle.wac_graph_scopes.proofs.HandleLaws.{if_ok_map, take_zero, place_none, place_some}
 use Rattle.wac_graph_scopes.proofs.value.+values.Goals as goal
 
@@ -63,9 +63,8 @@ push_resolved-returns-in-Defined t c w outer i h =
     let types = c.args.types.now in
     if_ok_map c.push_defined.result (λ b a. value_of_tree w types outer i (tree_in types (ItemKind.Value (ValueType.Defined c.in-Defined.id))) (tree_in types (ItemKind.Value c.args.ty)) c.push_defined.new.scope b (ap (λ v. tree_in types (ItemKind.Value v)) (sym c.in-Defined.is)) a) (c.push_defined.ensures w outer i h)
 
-pub push_defined-push_places-requires : goal.push_defined-push_places-requires
-push_defined-push_places-requires t c =
-    (omega (arith, c.decreases), (c.requires.stands, defined_holds c.args.types.now (ValueType.Defined c.args.id) c.args.id c.defined_type-ty.result.now refl c.defined_type-ty.ensures.entry c.defined_type-ty.ensures.own))
+pub push_defined-define_entry-requires : goal.push_defined-define_entry-requires
+push_defined-define_entry-requires t c = (omega (arith, c.decreases), c.requires.stands)
 
 pub push_defined-returns-in-Some : goal.push_defined-returns-in-Some
 push_defined-returns-in-Some t c w outer i h =
@@ -76,10 +75,20 @@ push_defined-returns-in-Some t c w outer i h =
 pub push_defined-returns : goal.push_defined-returns
 push_defined-returns t c w outer i h =
     let types = c.args.types.now in
-    value_written w types outer i c.see_acyclic.ensures c.args.id c.defined_type-ty.result.now c.push_places.new.scope c.define.new.self c.remember.new.self c.in_ok-places.places.items c.in_ok-entry.entry c.in_ok-index.index
-    c.requires.no_alias c.defined_type-ty.ensures.entry c.defined_type-ty.ensures.own (c.in_ok-places.ensures w outer i (c.known_index.ensures.keeps w outer i h))
+    value_remembered w types outer i (tree_in types (ItemKind.Value (ValueType.Defined c.args.id))) c.define_entry.new.scope c.remember.new.self c.in_ok-index.index
+    (c.in_ok-index.ensures w outer i c.requires.no_alias (c.known_index.ensures.keeps w outer i h)) (λ j hs e. c.in_ok-remember.ensures w types outer j hs e)
+
+pub define_entry-push_places-requires : goal.define_entry-push_places-requires
+define_entry-push_places-requires t c =
+    (omega (arith, c.decreases), (c.requires, defined_holds c.args.types.now (ValueType.Defined c.args.id) c.args.id c.defined_type-ty.result.now refl c.defined_type-ty.ensures.entry c.defined_type-ty.ensures.own))
+
+pub define_entry-returns : goal.define_entry-returns
+define_entry-returns t c w outer i no_alias h =
+    let types = c.args.types.now in
+    value_written w types outer i c.see_acyclic.ensures c.args.id c.defined_type-ty.result.now c.push_places.new.scope c.define.new.self c.in_ok-places.places.items c.in_ok-entry.entry c.in_ok-define.field-0
+    no_alias c.defined_type-ty.ensures.entry c.defined_type-ty.ensures.own (c.in_ok-places.ensures w outer i h)
     (c.in_ok-entry.ensures ∙ ap (entry_of c.defined_type-ty.result.now) c.as_slice.ensures.value)
-    (λ j x hs e. c.in_ok-index.ensures.stands w types outer j x hs e) (λ j hs e. c.in_ok-remember.ensures w types outer j hs e)
+    (λ j x hs e. c.in_ok-define.ensures.stands w types outer j x hs e)
 
 pub push_places-push_place-requires : goal.push_places-push_place-requires
 push_places-push_place-requires t c =

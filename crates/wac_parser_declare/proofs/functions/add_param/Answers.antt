@@ -1,5 +1,4 @@
 use Rattle.std.specs.Prelude.{List, ⊤}
-use Rattle.wac_types_base.specs.declared.item.ValueType.{ValueType}
 use Rattle.wac_types_base.specs.Entries.{Name, with_values}
 use Rattle.wac_types_base.specs.Stated.{Stated}
 use Rattle.wac_parser_tree.specs.Views.{view_ident, view_named_type, view_ty}

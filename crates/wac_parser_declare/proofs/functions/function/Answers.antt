@@ -1,5 +1,5 @@
 use Rattle.std.specs.Prelude.{⊤}
-use Rattle.std.proofs.Common.{◌≡◌, List, map, Option, Ok, ap, subst, ◌∙◌}
+use Rattle.std.proofs.Common.{List, map, Option, Ok, ap, subst, ◌∙◌}
 use Rattle.wac_types_base.specs.Entries.{Name, with_values}
 use Rattle.wac_types_base.specs.Stated.{Stated, func_of}
 use Rattle.wac_parser_tree.specs.Views.{view_named_type, view_result_list}

@@ -1,5 +1,5 @@
 use Rattle.std.specs.Prelude.{⊤}
-use Rattle.std.proofs.Common.{◌≡◌, List, [], map, get_or, drop, ◌+◌, Option, Ok, ap, refl, subst, sym, ◌∙◌, arith}
+use Rattle.std.proofs.Common.{◌≡◌, List, [], map, get_or, drop, ◌+◌, Ok, ap, refl, subst, sym, ◌∙◌, arith}
 use Rattle.wac_types_base.specs.Entries.{Name, with_values}
 use Rattle.wac_types_base.specs.Stated.{Stated}
 use Rattle.wac_types_base.proofs.Adding.{Grows-trans}

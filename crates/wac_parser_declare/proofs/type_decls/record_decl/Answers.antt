@@ -1,4 +1,4 @@
-use Rattle.std.proofs.Common.{List, [], map, Option, Ok}
+use Rattle.std.proofs.Common.{List, [], map, Ok}
 use Rattle.wac_types_base.specs.Entries.{Name}
 use Rattle.wac_types_base.specs.Stated.{Stated, as_type}
 use Rattle.wac_parser_tree.specs.Views.{view_field, view_record_decl}
