@@ -1,6 +1,3 @@
-mod definitions;
-mod graph;
 mod names;
-mod plug;
 mod sections;
 mod tables;

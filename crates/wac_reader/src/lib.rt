@@ -10,8 +10,6 @@ mod customs;
 mod down;
 mod entries;
 mod names;
-#[cfg(test)]
-mod tests;
 mod told;
 mod types;
 mod wiring;
