@@ -1,7 +1,9 @@
 -- JSON values of plain data.
-use Rattle.std.specs.Prelude.{ℕ, List, [], ◌∷◌, map, Option, Some, None, codes}
+use Rattle.std.specs.Prelude.{◌≡◌, ℕ, List, [], ◌∷◌, map, Option, Some, None, Result, IfOk, codes}
+use Rattle.std.specs.declared.alloc.AllocError.{AllocError}
 use Rattle.serde_json.specs.Data.{Data, null, number, unsigned, string, array, object, Members, no_members, put}
-use Rattle.serde_json.specs.View.{items_of}
+use Rattle.serde_json.specs.View.{items_of, view}
+use Rattle.serde_json.specs.declared.value.Value.{Value}
 use Rattle.semver.specs.Identifiers.{parts_text}
 use Rattle.wac_parser_lexer.specs.declared.span.SourceSpan.{SourceSpan}
 use Rattle.wac_parser_tree.specs.Trees as t
@@ -33,3 +35,7 @@ span x = object_of ((codes "offset", number (unsigned x.offset)) ∷ (codes "len
 unfoldable pub version : Option t.Version → Data
 version None = null
 version (Some v) = string (parts_text v)
+
+-- the value stands for this, where there was memory for it
+abbrev pub Gives : Result Value AllocError → Data → Type 0
+Gives r x = IfOk r (λ v. view v ≡ x)

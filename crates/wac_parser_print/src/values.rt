@@ -9,6 +9,7 @@ ghost use Rattle.wac_parser_print.specs.Values as values;
 mod declarations;
 mod exprs;
 mod interfaces;
+mod members;
 mod objects;
 mod statements;
 mod types;

@@ -2,14 +2,18 @@
 
 ghost use Rattle.std.specs.Prelude.{◌≡◌, IfOk, map};
 ghost use Rattle.serde_json.specs.View.{view};
+ghost use Rattle.wac_parser_tree.specs.Trees as t;
 ghost use Rattle.wac_parser_tree.specs.Trees.{arguments as arguments_of};
 ghost use Rattle.serde_json.specs.Data.{array};
 ghost use Rattle.wac_parser_tree.specs.Views.{view_access_expr, view_expr, view_instantiation_argument, view_instantiation_argument_name, view_named_access_expr, view_named_instantiation_argument, view_nested_expr, view_new_expr, view_postfix_expr, view_primary_expr};
-ghost use Rattle.wac_parser_print.specs.Objects.{array_of};
+ghost use Rattle.wac_parser_print.specs.Objects.{Gives};
 ghost use Rattle.wac_parser_print.specs.Values as values;
 
-use super::objects::{ident, package_name, span, string_literal, variant};
-use serde_json::{Value, json};
+use super::members::{pair, variant};
+use super::objects::{
+    Valued, array, ident, package_name, placed, placed_both, span, string_literal,
+};
+use serde_json::Value;
 use std::alloc::{AllocError, Global};
 use wac_parser_tree::{
     AccessExpr, Expr, InstantiationArgument, InstantiationArgumentName, NamedAccessExpr,
@@ -20,10 +24,8 @@ use wac_parser_tree::{
 pub(crate) fn access_expr(alloc: Global, access: &AccessExpr<'_>) -> Result<Value, AllocError>
     ensures { IfOk result (λ v. view v ≡ values.access_expr (view_access_expr access.now)) }
 {
-    json!(in alloc; {
-        "span": span(alloc, access.span)?,
-        "id": ident(alloc, &access.id)?
-    })
+    let id = ident(alloc, &access.id);
+    placed(alloc, access.span, "id", id)
 }
 
 #[tactic(auto, unfolding(crate::specs::Values::named_access_expr))]
@@ -33,33 +35,30 @@ pub(crate) fn named_access_expr(
 ) -> Result<Value, AllocError>
     ensures { IfOk result (λ v. view v ≡ values.named_access_expr (view_named_access_expr access.now)) }
 {
-    json!(in alloc; {
-        "span": span(alloc, access.span)?,
-        "string": string_literal(alloc, &access.string)?
-    })
+    let string = string_literal(alloc, &access.string);
+    placed(alloc, access.span, "string", string)
 }
 
-#[tactic(auto, unfolding(crate::specs::Values::postfix_expr))]
-pub(crate) fn postfix_expr(alloc: Global, access: &PostfixExpr<'_>) -> Result<Value, AllocError>
-    ensures { IfOk result (λ v. view v ≡ values.postfix_expr (view_postfix_expr access.now)) }
-{
-    match access {
-        PostfixExpr::Access(x) => variant(alloc, "access", access_expr(alloc, x)?),
-        PostfixExpr::NamedAccess(x) => variant(alloc, "namedAccess", named_access_expr(alloc, x)?),
-    }
-}
+impl<'a> Valued for PostfixExpr<'a> {
+    ghost Plain = { t.PostfixExpr };
 
-pub(crate) fn postfix_exprs(
-    alloc: Global,
-    postfix_exprs: &Vec<PostfixExpr<'_>>,
-) -> Result<Value, AllocError>
-    ensures { IfOk result (λ v. view v ≡ array_of values.postfix_expr (map view_postfix_expr postfix_exprs.now.items)) }
-{
-    let mut values = Vec::new(alloc);
-    for access in postfix_exprs {
-        values.push(postfix_expr(alloc, access)?)?;
+    ghost plain = { view_postfix_expr };
+
+    ghost shown = { values.postfix_expr };
+
+    #[tactic(auto, unfolding(crate::specs::Values::postfix_expr))]
+    fn value(&self, alloc: Global) -> Result<Value, AllocError>
+        ensures { Gives result (values.postfix_expr (view_postfix_expr self.now)) }
+    {
+        match self {
+            PostfixExpr::Access(x) => variant(alloc, "access", access_expr(alloc, x)),
+            PostfixExpr::NamedAccess(x) => variant(
+                alloc,
+                "namedAccess",
+                named_access_expr(alloc, x),
+            ),
+        }
     }
-    Ok(Value::from(values))
 }
 
 #[tactic(auto, unfolding(crate::specs::Values::argument_name))]
@@ -70,8 +69,8 @@ pub(crate) fn argument_name(
     ensures { IfOk result (λ v. view v ≡ values.argument_name (view_instantiation_argument_name name.now)) }
 {
     match name {
-        InstantiationArgumentName::Ident(x) => variant(alloc, "ident", ident(alloc, x)?),
-        InstantiationArgumentName::String(x) => variant(alloc, "string", string_literal(alloc, x)?),
+        InstantiationArgumentName::Ident(x) => variant(alloc, "ident", ident(alloc, x)),
+        InstantiationArgumentName::String(x) => variant(alloc, "string", string_literal(alloc, x)),
     }
 }
 
@@ -80,11 +79,9 @@ pub(crate) fn argument_name(
 pub(crate) fn expr(alloc: Global, expr: &Expr<'_>) -> Result<Value, AllocError>
     ensures { IfOk result (λ v. view v ≡ values.expr (view_expr expr.now)) }
 {
-    json!(in alloc; {
-        "span": span(alloc, expr.span)?,
-        "primary": primary_expr(alloc, &expr.primary)?,
-        "postfix": postfix_exprs(alloc, &expr.postfix)?
-    })
+    let primary = primary_expr(alloc, &expr.primary);
+    let postfix = array(alloc, &expr.postfix);
+    placed_both(alloc, expr.span, "primary", primary, "postfix", postfix)
 }
 
 #[cycle(expr)]
@@ -93,9 +90,9 @@ pub(crate) fn primary_expr(alloc: Global, expr: &PrimaryExpr<'_>) -> Result<Valu
     ensures { IfOk result (λ v. view v ≡ values.primary_expr (view_primary_expr expr.now)) }
 {
     match expr {
-        PrimaryExpr::New(x) => variant(alloc, "new", new_expr(alloc, x)?),
-        PrimaryExpr::Nested(x) => variant(alloc, "nested", nested_expr(alloc, x)?),
-        PrimaryExpr::Ident(x) => variant(alloc, "ident", ident(alloc, x)?),
+        PrimaryExpr::New(x) => variant(alloc, "new", new_expr(alloc, x)),
+        PrimaryExpr::Nested(x) => variant(alloc, "nested", nested_expr(alloc, x)),
+        PrimaryExpr::Ident(x) => variant(alloc, "ident", ident(alloc, x)),
     }
 }
 
@@ -104,10 +101,8 @@ pub(crate) fn primary_expr(alloc: Global, expr: &PrimaryExpr<'_>) -> Result<Valu
 pub(crate) fn nested_expr(alloc: Global, nested: &NestedExpr<'_>) -> Result<Value, AllocError>
     ensures { IfOk result (λ v. view v ≡ values.nested_expr (view_nested_expr nested.now)) }
 {
-    json!(in alloc; {
-        "span": span(alloc, nested.span)?,
-        "inner": expr(alloc, &nested.inner)?
-    })
+    let inner = expr(alloc, &nested.inner);
+    placed(alloc, nested.span, "inner", inner)
 }
 
 #[cycle(expr)]
@@ -115,11 +110,9 @@ pub(crate) fn nested_expr(alloc: Global, nested: &NestedExpr<'_>) -> Result<Valu
 pub(crate) fn new_expr(alloc: Global, made: &NewExpr<'_>) -> Result<Value, AllocError>
     ensures { IfOk result (λ v. view v ≡ values.new_expr (view_new_expr made.now)) }
 {
-    json!(in alloc; {
-        "span": span(alloc, made.span)?,
-        "package": package_name(alloc, &made.package)?,
-        "arguments": arguments(alloc, &made.arguments)?
-    })
+    let package = package_name(alloc, &made.package);
+    let arguments = arguments(alloc, &made.arguments);
+    placed_both(alloc, made.span, "package", package, "arguments", arguments)
 }
 
 #[cycle(expr)]
@@ -146,10 +139,10 @@ pub(crate) fn argument(
     ensures { IfOk result (λ v. view v ≡ values.argument (view_instantiation_argument argument.now)) }
 {
     match argument {
-        InstantiationArgument::Inferred(x) => variant(alloc, "inferred", ident(alloc, x)?),
-        InstantiationArgument::Spread(x) => variant(alloc, "spread", ident(alloc, x)?),
-        InstantiationArgument::Named(x) => variant(alloc, "named", named_argument(alloc, x)?),
-        InstantiationArgument::Fill(x) => variant(alloc, "fill", span(alloc, *x)?),
+        InstantiationArgument::Inferred(x) => variant(alloc, "inferred", ident(alloc, x)),
+        InstantiationArgument::Spread(x) => variant(alloc, "spread", ident(alloc, x)),
+        InstantiationArgument::Named(x) => variant(alloc, "named", named_argument(alloc, x)),
+        InstantiationArgument::Fill(x) => variant(alloc, "fill", span(alloc, *x)),
     }
 }
 
@@ -161,8 +154,7 @@ pub(crate) fn named_argument(
 ) -> Result<Value, AllocError>
     ensures { IfOk result (λ v. view v ≡ values.named_argument (view_named_instantiation_argument argument.now)) }
 {
-    json!(in alloc; {
-        "name": argument_name(alloc, &argument.name)?,
-        "expr": expr(alloc, &argument.expr)?
-    })
+    let name = argument_name(alloc, &argument.name);
+    let expr = expr(alloc, &argument.expr);
+    pair(alloc, "name", name, "expr", expr)
 }

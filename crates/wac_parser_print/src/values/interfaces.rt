@@ -3,14 +3,18 @@
 ghost use Rattle.std.specs.Prelude.{◌≡◌, IfOk, map};
 ghost use Rattle.std.specs.Option.{option_map};
 ghost use Rattle.serde_json.specs.View.{view};
+ghost use Rattle.wac_parser_tree.specs.Trees as t;
 ghost use Rattle.wac_parser_tree.specs.Views.{view_ident, view_inline_interface, view_interface_decl, view_interface_export, view_interface_item, view_use, view_use_item, view_use_path};
-ghost use Rattle.wac_parser_print.specs.Objects.{array_of, or_null};
+ghost use Rattle.wac_parser_print.specs.Objects.{Gives, or_null};
 ghost use Rattle.wac_parser_print.specs.Values as values;
 
 use super::declarations::item_type_decl;
-use super::objects::{docs, ident, package_path, variant};
+use super::members::variant;
+use super::objects::{
+    Valued, array, declaration, documented_both, ident, identified, package_path,
+};
 use super::types::func_type_ref;
-use serde_json::{Value, json};
+use serde_json::Value;
 use std::alloc::{AllocError, Global};
 use wac_parser_tree::{
     Ident, InlineInterface, InterfaceDecl, InterfaceExport, InterfaceItem, Use, UseItem, UsePath,
@@ -21,8 +25,8 @@ pub(crate) fn use_path(alloc: Global, path: &UsePath<'_>) -> Result<Value, Alloc
     ensures { IfOk result (λ v. view v ≡ values.use_path (view_use_path path.now)) }
 {
     match path {
-        UsePath::Package(x) => variant(alloc, "package", package_path(alloc, x)?),
-        UsePath::Ident(x) => variant(alloc, "ident", ident(alloc, x)?),
+        UsePath::Package(x) => variant(alloc, "package", package_path(alloc, x)),
+        UsePath::Ident(x) => variant(alloc, "ident", ident(alloc, x)),
     }
 }
 
@@ -35,35 +39,29 @@ pub(crate) fn new_name(alloc: Global, name: &Option<Ident<'_>>) -> Result<Value,
     }
 }
 
-#[tactic(auto, unfolding(crate::specs::Values::use_item))]
-pub(crate) fn use_item(alloc: Global, item: &UseItem<'_>) -> Result<Value, AllocError>
-    ensures { IfOk result (λ v. view v ≡ values.use_item (view_use_item item.now)) }
-{
-    json!(in alloc; {
-        "id": ident(alloc, &item.id)?,
-        "asId": new_name(alloc, &item.as_id)?
-    })
-}
+impl<'a> Valued for UseItem<'a> {
+    ghost Plain = { t.UseItem };
 
-pub(crate) fn use_items(alloc: Global, use_items: &Vec<UseItem<'_>>) -> Result<Value, AllocError>
-    ensures { IfOk result (λ v. view v ≡ array_of values.use_item (map view_use_item use_items.now.items)) }
-{
-    let mut values = Vec::new(alloc);
-    for item in use_items {
-        values.push(use_item(alloc, item)?)?;
+    ghost plain = { view_use_item };
+
+    ghost shown = { values.use_item };
+
+    #[tactic(auto, unfolding(crate::specs::Values::use_item))]
+    fn value(&self, alloc: Global) -> Result<Value, AllocError>
+        ensures { Gives result (values.use_item (view_use_item self.now)) }
+    {
+        let as_id = new_name(alloc, &self.as_id);
+        identified(alloc, &self.id, "asId", as_id)
     }
-    Ok(Value::from(values))
 }
 
 #[tactic(auto, unfolding(crate::specs::Values::use_type))]
 pub(crate) fn use_type(alloc: Global, item: &Use<'_>) -> Result<Value, AllocError>
     ensures { IfOk result (λ v. view v ≡ values.use_type (view_use item.now)) }
 {
-    json!(in alloc; {
-        "docs": docs(alloc, &item.docs)?,
-        "path": use_path(alloc, &item.path)?,
-        "items": use_items(alloc, &item.items)?
-    })
+    let path = use_path(alloc, &item.path);
+    let items = array(alloc, &item.items);
+    documented_both(alloc, &item.docs, "path", path, "items", items)
 }
 
 #[tactic(auto, unfolding(crate::specs::Values::interface_export))]
@@ -73,35 +71,27 @@ pub(crate) fn interface_export(
 ) -> Result<Value, AllocError>
     ensures { IfOk result (λ v. view v ≡ values.interface_export (view_interface_export export.now)) }
 {
-    json!(in alloc; {
-        "docs": docs(alloc, &export.docs)?,
-        "id": ident(alloc, &export.id)?,
-        "ty": func_type_ref(alloc, &export.ty)?
-    })
+    let ty = func_type_ref(alloc, &export.ty);
+    declaration(alloc, &export.docs, &export.id, "ty", ty)
 }
 
-#[tactic(auto, unfolding(crate::specs::Values::interface_item))]
-pub(crate) fn interface_item(alloc: Global, item: &InterfaceItem<'_>) -> Result<Value, AllocError>
-    ensures { IfOk result (λ v. view v ≡ values.interface_item (view_interface_item item.now)) }
-{
-    match item {
-        InterfaceItem::Use(x) => variant(alloc, "use", use_type(alloc, x)?),
-        InterfaceItem::Ty(x) => variant(alloc, "type", item_type_decl(alloc, x)?),
-        InterfaceItem::Export(x) => variant(alloc, "export", interface_export(alloc, x)?),
-    }
-}
+impl<'a> Valued for InterfaceItem<'a> {
+    ghost Plain = { t.InterfaceItem };
 
-pub(crate) fn interface_items(
-    alloc: Global,
-    interface_items: &Vec<InterfaceItem<'_>>,
-) -> Result<Value, AllocError>
-    ensures { IfOk result (λ v. view v ≡ array_of values.interface_item (map view_interface_item interface_items.now.items)) }
-{
-    let mut values = Vec::new(alloc);
-    for item in interface_items {
-        values.push(interface_item(alloc, item)?)?;
+    ghost plain = { view_interface_item };
+
+    ghost shown = { values.interface_item };
+
+    #[tactic(auto, unfolding(crate::specs::Values::interface_item))]
+    fn value(&self, alloc: Global) -> Result<Value, AllocError>
+        ensures { Gives result (values.interface_item (view_interface_item self.now)) }
+    {
+        match self {
+            InterfaceItem::Use(x) => variant(alloc, "use", use_type(alloc, x)),
+            InterfaceItem::Ty(x) => variant(alloc, "type", item_type_decl(alloc, x)),
+            InterfaceItem::Export(x) => variant(alloc, "export", interface_export(alloc, x)),
+        }
     }
-    Ok(Value::from(values))
 }
 
 #[tactic(auto, unfolding(crate::specs::Values::inline_interface))]
@@ -111,18 +101,13 @@ pub(crate) fn inline_interface(
 ) -> Result<Value, AllocError>
     ensures { IfOk result (λ v. view v ≡ values.inline_interface (view_inline_interface interface.now)) }
 {
-    json!(in alloc; {
-        "items": interface_items(alloc, &interface.items)?
-    })
+    variant(alloc, "items", array(alloc, &interface.items))
 }
 
 #[tactic(auto, unfolding(crate::specs::Values::interface_decl))]
 pub(crate) fn interface_decl(alloc: Global, decl: &InterfaceDecl<'_>) -> Result<Value, AllocError>
     ensures { IfOk result (λ v. view v ≡ values.interface_decl (view_interface_decl decl.now)) }
 {
-    json!(in alloc; {
-        "docs": docs(alloc, &decl.docs)?,
-        "id": ident(alloc, &decl.id)?,
-        "items": interface_items(alloc, &decl.items)?
-    })
+    let items = array(alloc, &decl.items);
+    declaration(alloc, &decl.docs, &decl.id, "items", items)
 }

@@ -1,24 +1,44 @@
 //! Values of names, spans and versions, and objects of variants.
 
-ghost use Rattle.std.specs.Prelude.{◌≡◌, IfOk, map};
+ghost use Rattle.std.specs.Prelude.{◌≡◌, ◌∷◌, [], IfOk, codes, map};
 ghost use Rattle.std.specs.Option.{option_map};
 ghost use Rattle.semver.specs.Identifiers.{parts_of};
+ghost use Rattle.serde_json.specs.Data.{Data, boolean, string};
 ghost use Rattle.serde_json.specs.View.{view};
+ghost use Rattle.wac_parser_tree.specs.Trees as t;
 ghost use Rattle.wac_parser_tree.specs.Views.{view_doc_comment, view_extern_name, view_ident, view_package_name, view_package_path, view_string};
+ghost use Rattle.wac_parser_print.specs.Objects.{Gives, array_of};
 ghost use Rattle.wac_parser_print.specs.Objects as objects;
 ghost use Rattle.wac_parser_print.specs.Values as values;
 
+use super::members::{added, none, object_of, pair, quadruple, triple, variant};
 use semver::Version;
 use serde_json::{Value, json};
 use std::alloc::{AllocError, Global};
 use wac_parser_lexer::SourceSpan;
 use wac_parser_tree::{DocComment, ExternName, Ident, PackageName, PackagePath, String};
 
-/// An object with the name of a variant and what it holds.
-pub(crate) fn variant(alloc: Global, name: &str, contents: Value) -> Result<Value, AllocError>
-    ensures { IfOk result (λ v. view v ≡ objects.variant name.now (view contents)) }
+/// What has a JSON value.
+pub(crate) trait Valued {
+    ghost Plain: { Type 0 };
+
+    ghost plain: { Self → Plain };
+
+    ghost shown: { Plain → Data };
+
+    fn value(&self, alloc: Global) -> Result<Value, AllocError>
+        ensures { Gives result (shown (plain self.now)) };
+}
+
+/// The values of all, in order.
+pub(crate) fn array<T: Valued>(alloc: Global, items: &Vec<T>) -> Result<Value, AllocError>
+    ensures { Gives result (array_of T.shown (map T.plain items.now.items)) }
 {
-    json!(in alloc; {name: contents})
+    let mut values = Vec::new(alloc);
+    for item in items {
+        values.push(item.value(alloc)?)?;
+    }
+    Ok(Value::from(values))
 }
 
 #[tactic(auto, unfolding(crate::specs::Objects::span))]
@@ -26,6 +46,13 @@ pub(crate) fn span(alloc: Global, span: SourceSpan) -> Result<Value, AllocError>
     ensures { IfOk result (λ v. view v ≡ objects.span span) }
 {
     json!(in alloc; {"offset": span.offset, "length": span.length})
+}
+
+/// Whether something holds.
+pub(crate) fn truth(holds: bool) -> Result<Value, AllocError>
+    ensures { Gives result (boolean holds) }
+{
+    Ok(Value::Bool(holds))
 }
 
 #[tactic(auto, unfolding(crate::specs::Objects::version))]
@@ -38,69 +65,187 @@ pub(crate) fn version(alloc: Global, version: &Option<Version>) -> Result<Value,
     }
 }
 
+/// A text under a name, and where it stands.
+fn spelled(alloc: Global, name: &str, text: &str, at: SourceSpan) -> Result<Value, AllocError>
+    ensures { Gives result (objects.object_of ((name.now, string text.now) ∷ (codes "span", objects.span at) ∷ [])) }
+{
+    pair(
+        alloc,
+        name,
+        Value::try_from_str(alloc, text),
+        "span",
+        span(alloc, at),
+    )
+}
+
 #[tactic(auto, unfolding(crate::specs::Values::ident))]
 pub(crate) fn ident(alloc: Global, id: &Ident<'_>) -> Result<Value, AllocError>
     ensures { IfOk result (λ v. view v ≡ values.ident (view_ident id.now)) }
 {
-    json!(in alloc; {
-        "string": id.string,
-        "span": span(alloc, id.span)?
-    })
+    spelled(alloc, "string", id.string, id.span)
 }
 
 #[tactic(auto, unfolding(crate::specs::Values::string_literal))]
 pub(crate) fn string_literal(alloc: Global, string: &String<'_>) -> Result<Value, AllocError>
     ensures { IfOk result (λ v. view v ≡ values.string_literal (view_string string.now)) }
 {
-    json!(in alloc; {
-        "value": string.value,
-        "span": span(alloc, string.span)?
-    })
+    spelled(alloc, "value", string.value, string.span)
 }
 
-#[tactic(auto, unfolding(crate::specs::Values::doc_comment))]
-pub(crate) fn doc_comment(alloc: Global, doc: &DocComment<'_>) -> Result<Value, AllocError>
-    ensures { IfOk result (λ v. view v ≡ values.doc_comment (view_doc_comment doc.now)) }
-{
-    json!(in alloc; {
-        "comment": doc.comment,
-        "span": span(alloc, doc.span)?
-    })
-}
+impl<'a> Valued for DocComment<'a> {
+    ghost Plain = { t.DocComment };
 
-pub(crate) fn docs(alloc: Global, docs: &Vec<DocComment<'_>>) -> Result<Value, AllocError>
-    ensures { IfOk result (λ v. view v ≡ values.docs (map view_doc_comment docs.now.items)) }
-{
-    let mut values = Vec::new(alloc);
-    for doc in docs {
-        values.push(doc_comment(alloc, doc)?)?;
+    ghost plain = { view_doc_comment };
+
+    ghost shown = { values.doc_comment };
+
+    #[tactic(auto, unfolding(crate::specs::Values::doc_comment))]
+    fn value(&self, alloc: Global) -> Result<Value, AllocError>
+        ensures { Gives result (values.doc_comment (view_doc_comment self.now)) }
+    {
+        spelled(alloc, "comment", self.comment, self.span)
     }
-    Ok(Value::from(values))
+}
+
+/// Doc comments, and one member more.
+pub(crate) fn documented(
+    alloc: Global,
+    comments: &Vec<DocComment<'_>>,
+    name: &str,
+    value: Result<Value, AllocError>,
+) -> Result<Value, AllocError>
+    ensures { (x : Data) → Gives value x → Gives result (objects.object_of ((codes "docs", values.docs (map view_doc_comment comments.now.items)) ∷ (name.now, x) ∷ [])) }
+{
+    pair(alloc, "docs", array(alloc, comments), name, value)
+}
+
+/// Doc comments, and two members more.
+pub(crate) fn documented_both(
+    alloc: Global,
+    comments: &Vec<DocComment<'_>>,
+    first: &str,
+    one: Result<Value, AllocError>,
+    second: &str,
+    other: Result<Value, AllocError>,
+) -> Result<Value, AllocError>
+    ensures { (x y : Data) → Gives one x → Gives other y → Gives result (objects.object_of ((codes "docs", values.docs (map view_doc_comment comments.now.items)) ∷ (first.now, x) ∷ (second.now, y) ∷ [])) }
+{
+    triple(
+        alloc,
+        "docs",
+        array(alloc, comments),
+        first,
+        one,
+        second,
+        other,
+    )
+}
+
+/// Doc comments, the identifier that is declared, and one member more.
+pub(crate) fn declaration(
+    alloc: Global,
+    comments: &Vec<DocComment<'_>>,
+    id: &Ident<'_>,
+    name: &str,
+    value: Result<Value, AllocError>,
+) -> Result<Value, AllocError>
+    ensures { (x : Data) → Gives value x → Gives result (objects.object_of ((codes "docs", values.docs (map view_doc_comment comments.now.items)) ∷ (codes "id", values.ident (view_ident id.now)) ∷ (name.now, x) ∷ [])) }
+{
+    documented_both(alloc, comments, "id", ident(alloc, id), name, value)
+}
+
+/// Doc comments, the identifier that is declared, and two members more.
+pub(crate) fn declaration_of_both(
+    alloc: Global,
+    comments: &Vec<DocComment<'_>>,
+    id: &Ident<'_>,
+    first: &str,
+    one: Result<Value, AllocError>,
+    second: &str,
+    other: Result<Value, AllocError>,
+) -> Result<Value, AllocError>
+    ensures { (x y : Data) → Gives one x → Gives other y → Gives result (objects.object_of ((codes "docs", values.docs (map view_doc_comment comments.now.items)) ∷ (codes "id", values.ident (view_ident id.now)) ∷ (first.now, x) ∷ (second.now, y) ∷ [])) }
+{
+    let comments = array(alloc, comments);
+    let id = ident(alloc, id);
+    quadruple(alloc, "docs", comments, "id", id, first, one, second, other)
+}
+
+/// An identifier, and one member more.
+pub(crate) fn identified(
+    alloc: Global,
+    id: &Ident<'_>,
+    name: &str,
+    value: Result<Value, AllocError>,
+) -> Result<Value, AllocError>
+    ensures { (x : Data) → Gives value x → Gives result (objects.object_of ((codes "id", values.ident (view_ident id.now)) ∷ (name.now, x) ∷ [])) }
+{
+    pair(alloc, "id", ident(alloc, id), name, value)
+}
+
+/// Where a form stands, and one member more.
+pub(crate) fn placed(
+    alloc: Global,
+    at: SourceSpan,
+    name: &str,
+    value: Result<Value, AllocError>,
+) -> Result<Value, AllocError>
+    ensures { (x : Data) → Gives value x → Gives result (objects.object_of ((codes "span", objects.span at) ∷ (name.now, x) ∷ [])) }
+{
+    pair(alloc, "span", span(alloc, at), name, value)
+}
+
+/// Where a form stands, and two members more.
+pub(crate) fn placed_both(
+    alloc: Global,
+    at: SourceSpan,
+    first: &str,
+    one: Result<Value, AllocError>,
+    second: &str,
+    other: Result<Value, AllocError>,
+) -> Result<Value, AllocError>
+    ensures { (x y : Data) → Gives one x → Gives other y → Gives result (objects.object_of ((codes "span", objects.span at) ∷ (first.now, x) ∷ (second.now, y) ∷ [])) }
+{
+    triple(alloc, "span", span(alloc, at), first, one, second, other)
 }
 
 #[tactic(auto, unfolding(crate::specs::Values::package_name))]
 pub(crate) fn package_name(alloc: Global, name: &PackageName<'_>) -> Result<Value, AllocError>
     ensures { IfOk result (λ v. view v ≡ values.package_name (view_package_name name.now)) }
 {
-    json!(in alloc; {
-        "string": name.string,
-        "name": name.name,
-        "version": version(alloc, &name.version)?,
-        "span": span(alloc, name.span)?
-    })
+    let string = Value::try_from_str(alloc, name.string);
+    let own = Value::try_from_str(alloc, name.name);
+    let version = version(alloc, &name.version);
+    let at = span(alloc, name.span);
+    quadruple(
+        alloc, "string", string, "name", own, "version", version, "span", at,
+    )
 }
 
 #[tactic(auto, unfolding(crate::specs::Values::package_path))]
 pub(crate) fn package_path(alloc: Global, path: &PackagePath<'_>) -> Result<Value, AllocError>
     ensures { IfOk result (λ v. view v ≡ values.package_path (view_package_path path.now)) }
 {
-    json!(in alloc; {
-        "span": span(alloc, path.span)?,
-        "string": path.string,
-        "name": path.name,
-        "segments": path.segments,
-        "version": version(alloc, &path.version)?
-    })
+    let members = added(alloc, none(alloc), "span", span(alloc, path.span));
+    let members = added(
+        alloc,
+        members,
+        "string",
+        Value::try_from_str(alloc, path.string),
+    );
+    let members = added(
+        alloc,
+        members,
+        "name",
+        Value::try_from_str(alloc, path.name),
+    );
+    let members = added(
+        alloc,
+        members,
+        "segments",
+        Value::try_from_str(alloc, path.segments),
+    );
+    object_of(added(alloc, members, "version", version(alloc, &path.version)))
 }
 
 #[tactic(auto, unfolding(crate::specs::Values::extern_name))]
@@ -108,7 +253,7 @@ pub(crate) fn extern_name(alloc: Global, name: &ExternName<'_>) -> Result<Value,
     ensures { IfOk result (λ v. view v ≡ values.extern_name (view_extern_name name.now)) }
 {
     match name {
-        ExternName::Ident(x) => variant(alloc, "ident", ident(alloc, x)?),
-        ExternName::String(x) => variant(alloc, "string", string_literal(alloc, x)?),
+        ExternName::Ident(x) => variant(alloc, "ident", ident(alloc, x)),
+        ExternName::String(x) => variant(alloc, "string", string_literal(alloc, x)),
     }
 }

@@ -3,17 +3,22 @@
 ghost use Rattle.std.specs.Prelude.{◌≡◌, IfOk, map};
 ghost use Rattle.std.specs.Option.{option_map};
 ghost use Rattle.serde_json.specs.View.{view};
+ghost use Rattle.wac_parser_tree.specs.Trees as t;
 ghost use Rattle.wac_parser_tree.specs.Views.{view_document, view_export_options, view_export_statement, view_extern_name, view_import_statement, view_import_type, view_let_statement, view_package_directive, view_statement, view_type_statement};
-ghost use Rattle.wac_parser_print.specs.Objects.{array_of, or_null};
+ghost use Rattle.wac_parser_print.specs.Objects.{Gives, or_null};
 ghost use Rattle.wac_parser_print.specs.Values as values;
 
 use super::declarations::type_decl;
 use super::exprs::expr;
 use super::interfaces::{inline_interface, interface_decl};
-use super::objects::{docs, extern_name, ident, package_name, package_path, span, variant};
+use super::members::{pair, variant};
+use super::objects::{
+    Valued, array, declaration, declaration_of_both, documented_both, extern_name, ident,
+    package_name, package_path, span,
+};
 use super::types::func_type;
 use super::worlds::world_decl;
-use serde_json::{Value, json};
+use serde_json::Value;
 use std::alloc::{AllocError, Global};
 use wac_parser_tree::{
     Document, ExportOptions, ExportStatement, ExternName, ImportStatement, ImportType,
@@ -25,10 +30,10 @@ pub(crate) fn import_type(alloc: Global, ty: &ImportType<'_>) -> Result<Value, A
     ensures { IfOk result (λ v. view v ≡ values.import_type (view_import_type ty.now)) }
 {
     match ty {
-        ImportType::Package(x) => variant(alloc, "package", package_path(alloc, x)?),
-        ImportType::Func(x) => variant(alloc, "func", func_type(alloc, x)?),
-        ImportType::Interface(x) => variant(alloc, "interface", inline_interface(alloc, x)?),
-        ImportType::Ident(x) => variant(alloc, "ident", ident(alloc, x)?),
+        ImportType::Package(x) => variant(alloc, "package", package_path(alloc, x)),
+        ImportType::Func(x) => variant(alloc, "func", func_type(alloc, x)),
+        ImportType::Interface(x) => variant(alloc, "interface", inline_interface(alloc, x)),
+        ImportType::Ident(x) => variant(alloc, "ident", ident(alloc, x)),
     }
 }
 
@@ -48,12 +53,17 @@ pub(crate) fn import_statement(
 ) -> Result<Value, AllocError>
     ensures { IfOk result (λ v. view v ≡ values.import_statement (view_import_statement statement.now)) }
 {
-    json!(in alloc; {
-        "docs": docs(alloc, &statement.docs)?,
-        "id": ident(alloc, &statement.id)?,
-        "name": import_name(alloc, &statement.name)?,
-        "ty": import_type(alloc, &statement.ty)?
-    })
+    let name = import_name(alloc, &statement.name);
+    let ty = import_type(alloc, &statement.ty);
+    declaration_of_both(
+        alloc,
+        &statement.docs,
+        &statement.id,
+        "name",
+        name,
+        "ty",
+        ty,
+    )
 }
 
 #[tactic(auto, unfolding(crate::specs::Values::let_statement))]
@@ -63,11 +73,8 @@ pub(crate) fn let_statement(
 ) -> Result<Value, AllocError>
     ensures { IfOk result (λ v. view v ≡ values.let_statement (view_let_statement statement.now)) }
 {
-    json!(in alloc; {
-        "docs": docs(alloc, &statement.docs)?,
-        "id": ident(alloc, &statement.id)?,
-        "expr": expr(alloc, &statement.expr)?
-    })
+    let expr = expr(alloc, &statement.expr);
+    declaration(alloc, &statement.docs, &statement.id, "expr", expr)
 }
 
 #[tactic(auto, unfolding(crate::specs::Values::export_options))]
@@ -79,8 +86,8 @@ pub(crate) fn export_options(
 {
     match options {
         ExportOptions::None => Value::try_from_str(alloc, "none"),
-        ExportOptions::Spread(x) => variant(alloc, "spread", span(alloc, *x)?),
-        ExportOptions::Rename(x) => variant(alloc, "rename", extern_name(alloc, x)?),
+        ExportOptions::Spread(x) => variant(alloc, "spread", span(alloc, *x)),
+        ExportOptions::Rename(x) => variant(alloc, "rename", extern_name(alloc, x)),
     }
 }
 
@@ -91,11 +98,9 @@ pub(crate) fn export_statement(
 ) -> Result<Value, AllocError>
     ensures { IfOk result (λ v. view v ≡ values.export_statement (view_export_statement statement.now)) }
 {
-    json!(in alloc; {
-        "docs": docs(alloc, &statement.docs)?,
-        "expr": expr(alloc, &statement.expr)?,
-        "options": export_options(alloc, &statement.options)?
-    })
+    let expr = expr(alloc, &statement.expr);
+    let options = export_options(alloc, &statement.options);
+    documented_both(alloc, &statement.docs, "expr", expr, "options", options)
 }
 
 #[tactic(auto, unfolding(crate::specs::Values::type_statement))]
@@ -106,35 +111,30 @@ pub(crate) fn type_statement(
     ensures { IfOk result (λ v. view v ≡ values.type_statement (view_type_statement statement.now)) }
 {
     match statement {
-        TypeStatement::Interface(x) => variant(alloc, "interface", interface_decl(alloc, x)?),
-        TypeStatement::World(x) => variant(alloc, "world", world_decl(alloc, x)?),
-        TypeStatement::Ty(x) => variant(alloc, "type", type_decl(alloc, x)?),
+        TypeStatement::Interface(x) => variant(alloc, "interface", interface_decl(alloc, x)),
+        TypeStatement::World(x) => variant(alloc, "world", world_decl(alloc, x)),
+        TypeStatement::Ty(x) => variant(alloc, "type", type_decl(alloc, x)),
     }
 }
 
-#[tactic(auto, unfolding(crate::specs::Values::statement))]
-pub(crate) fn statement(alloc: Global, statement: &Statement<'_>) -> Result<Value, AllocError>
-    ensures { IfOk result (λ v. view v ≡ values.statement (view_statement statement.now)) }
-{
-    match statement {
-        Statement::Import(x) => variant(alloc, "Import", import_statement(alloc, x)?),
-        Statement::Ty(x) => variant(alloc, "Type", type_statement(alloc, x)?),
-        Statement::Let(x) => variant(alloc, "Let", let_statement(alloc, x)?),
-        Statement::Export(x) => variant(alloc, "Export", export_statement(alloc, x)?),
-    }
-}
+impl<'a> Valued for Statement<'a> {
+    ghost Plain = { t.Statement };
 
-pub(crate) fn statements(
-    alloc: Global,
-    statements: &Vec<Statement<'_>>,
-) -> Result<Value, AllocError>
-    ensures { IfOk result (λ v. view v ≡ array_of values.statement (map view_statement statements.now.items)) }
-{
-    let mut values = Vec::new(alloc);
-    for item in statements {
-        values.push(statement(alloc, item)?)?;
+    ghost plain = { view_statement };
+
+    ghost shown = { values.statement };
+
+    #[tactic(auto, unfolding(crate::specs::Values::statement))]
+    fn value(&self, alloc: Global) -> Result<Value, AllocError>
+        ensures { Gives result (values.statement (view_statement self.now)) }
+    {
+        match self {
+            Statement::Import(x) => variant(alloc, "Import", import_statement(alloc, x)),
+            Statement::Ty(x) => variant(alloc, "Type", type_statement(alloc, x)),
+            Statement::Let(x) => variant(alloc, "Let", let_statement(alloc, x)),
+            Statement::Export(x) => variant(alloc, "Export", export_statement(alloc, x)),
+        }
     }
-    Ok(Value::from(values))
 }
 
 #[tactic(auto, unfolding(crate::specs::Values::package_directive))]
@@ -144,12 +144,13 @@ pub(crate) fn package_directive(
 ) -> Result<Value, AllocError>
     ensures { IfOk result (λ v. view v ≡ values.package_directive (view_package_directive directive.now)) }
 {
+    let package = package_name(alloc, &directive.package);
     match &directive.targets {
-        Some(path) => json!(in alloc; {
-            "package": package_name(alloc, &directive.package)?,
-            "targets": package_path(alloc, path)?
-        }),
-        None => json!(in alloc; {"package": package_name(alloc, &directive.package)?}),
+        Some(path) => {
+            let targets = package_path(alloc, path);
+            pair(alloc, "package", package, "targets", targets)
+        }
+        None => variant(alloc, "package", package),
     }
 }
 
@@ -157,9 +158,14 @@ pub(crate) fn package_directive(
 pub(crate) fn document(alloc: Global, document: &Document<'_>) -> Result<Value, AllocError>
     ensures { IfOk result (λ v. view v ≡ values.document (view_document document.now)) }
 {
-    json!(in alloc; {
-        "docs": docs(alloc, &document.docs)?,
-        "directive": package_directive(alloc, &document.directive)?,
-        "statements": statements(alloc, &document.statements)?
-    })
+    let directive = package_directive(alloc, &document.directive);
+    let statements = array(alloc, &document.statements);
+    documented_both(
+        alloc,
+        &document.docs,
+        "directive",
+        directive,
+        "statements",
+        statements,
+    )
 }

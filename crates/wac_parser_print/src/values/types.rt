@@ -3,44 +3,52 @@
 ghost use Rattle.std.specs.Prelude.{◌≡◌, IfOk, map, codes, [], ◌∷◌};
 ghost use Rattle.std.specs.Option.{option_map};
 ghost use Rattle.serde_json.specs.View.{view};
+ghost use Rattle.wac_parser_tree.specs.Trees as t;
 ghost use Rattle.wac_parser_tree.specs.Trees.{maybe_ty, tys};
-ghost use Rattle.serde_json.specs.Data.{array};
+ghost use Rattle.serde_json.specs.Data.{Data, array};
 ghost use Rattle.wac_parser_tree.specs.Views.{view_boxed_ty, view_func_type, view_func_type_ref, view_ident, view_named_type, view_result_list, view_ty};
-ghost use Rattle.wac_parser_print.specs.Objects.{array_of};
+ghost use Rattle.wac_parser_print.specs.Objects.{Gives};
 ghost use Rattle.wac_parser_print.specs.Objects as objects;
 ghost use Rattle.wac_parser_print.specs.Values.{with_span};
 ghost use Rattle.wac_parser_print.specs.Values as values;
 
-use super::objects::{ident, span, variant};
+use super::members::{triple, variant};
+use super::objects::{Valued, array, ident, identified, span, truth};
 use serde_json::{Value, json};
 use std::alloc::{AllocError, Global};
 use wac_parser_lexer::SourceSpan;
 use wac_parser_tree::{FuncType, FuncTypeRef, Ident, NamedType, ResultList, Type};
 
 /// A value, and where its form stands.
-pub(crate) fn with_span(alloc: Global, contents: Value, at: SourceSpan) -> Result<Value, AllocError>
-    ensures { IfOk result (λ v. view v ≡ with_span (view contents) (at)) }
+pub(crate) fn with_span(
+    alloc: Global,
+    contents: Result<Value, AllocError>,
+    at: SourceSpan,
+) -> Result<Value, AllocError>
+    ensures { (x : Data) → Gives contents x → Gives result (with_span x (at)) }
 {
-    json!(in alloc; [contents, span(alloc, at)?])
+    let contents = contents?;
+    let at = span(alloc, at)?;
+    json!(in alloc; [contents, at])
 }
 
 /// A variant that holds its place alone.
 pub(crate) fn spanned(alloc: Global, name: &str, at: SourceSpan) -> Result<Value, AllocError>
     ensures { IfOk result (λ v. view v ≡ objects.variant name.now (objects.span at)) }
 {
-    variant(alloc, name, span(alloc, at)?)
+    variant(alloc, name, span(alloc, at))
 }
 
 pub(crate) fn borrow(alloc: Global, id: &Ident<'_>, at: SourceSpan) -> Result<Value, AllocError>
     ensures { IfOk result (λ v. view v ≡ objects.variant (codes "borrow") (with_span (values.ident (view_ident id.now)) at)) }
 {
-    variant(alloc, "borrow", with_span(alloc, ident(alloc, id)?, at)?)
+    variant(alloc, "borrow", with_span(alloc, ident(alloc, id), at))
 }
 
 pub(crate) fn declared(alloc: Global, id: &Ident<'_>) -> Result<Value, AllocError>
     ensures { IfOk result (λ v. view v ≡ objects.variant (codes "ident") (values.ident (view_ident id.now))) }
 {
-    variant(alloc, "ident", ident(alloc, id)?)
+    variant(alloc, "ident", ident(alloc, id))
 }
 
 #[cycle(ty)]
@@ -66,9 +74,7 @@ pub(crate) fn ty(alloc: Global, ty: &Type<'_>) -> Result<Value, AllocError>
         Type::List(ty, at) => one_type(alloc, "list", ty, *at),
         Type::Option(ty, at) => one_type(alloc, "option", ty, *at),
         Type::Result { ok, err, span } => {
-            let ok = payload(alloc, ok)?;
-            let err = payload(alloc, err)?;
-            result_type(alloc, ok, err, *span)
+            result_type(alloc, payload(alloc, ok), payload(alloc, err), *span)
         }
         Type::Borrow(id, at) => borrow(alloc, id, *at),
         Type::Stream(ty, at) => optional_type(alloc, "stream", ty, *at),
@@ -87,7 +93,7 @@ pub(crate) fn one_type(
 ) -> Result<Value, AllocError>
     ensures { IfOk result (λ v. view v ≡ objects.variant name.now (with_span (values.ty (view_ty one.now)) at)) }
 {
-    variant(alloc, name, with_span(alloc, ty(alloc, one)?, at)?)
+    variant(alloc, name, with_span(alloc, ty(alloc, one), at))
 }
 
 #[cycle(ty)]
@@ -110,18 +116,18 @@ pub(crate) fn optional_type(
 ) -> Result<Value, AllocError>
     ensures { IfOk result (λ v. view v ≡ objects.variant name.now (with_span (values.maybe_ty (maybe_ty (option_map view_boxed_ty one.now))) at)) }
 {
-    variant(alloc, name, with_span(alloc, payload(alloc, one)?, at)?)
+    variant(alloc, name, with_span(alloc, payload(alloc, one), at))
 }
 
 pub(crate) fn result_type(
     alloc: Global,
-    ok: Value,
-    err: Value,
+    ok: Result<Value, AllocError>,
+    err: Result<Value, AllocError>,
     at: SourceSpan,
 ) -> Result<Value, AllocError>
-    ensures { IfOk result (λ v. view v ≡ objects.variant (codes "result") (objects.object_of ((codes "ok", view ok) ∷ (codes "err", view err) ∷ (codes "span", objects.span at) ∷ []))) }
+    ensures { (x y : Data) → Gives ok x → Gives err y → Gives result (objects.variant (codes "result") (objects.object_of ((codes "ok", x) ∷ (codes "err", y) ∷ (codes "span", objects.span at) ∷ []))) }
 {
-    let types = json!(in alloc; {"ok": ok, "err": err, "span": span(alloc, at)?})?;
+    let types = triple(alloc, "ok", ok, "err", err, "span", span(alloc, at));
     variant(alloc, "result", types)
 }
 
@@ -138,30 +144,27 @@ pub(crate) fn tuple(
     for one in types {
         values.push(ty(alloc, one)?)?;
     }
-    variant(alloc, "tuple", with_span(alloc, Value::from(values), at)?)
+    variant(
+        alloc,
+        "tuple",
+        with_span(alloc, Ok(Value::from(values)), at),
+    )
 }
 
-#[tactic(auto, unfolding(crate::specs::Values::named_type))]
-pub(crate) fn named_type(alloc: Global, named: &NamedType<'_>) -> Result<Value, AllocError>
-    ensures { IfOk result (λ v. view v ≡ values.named_type (view_named_type named.now)) }
-{
-    json!(in alloc; {
-        "id": ident(alloc, &named.id)?,
-        "ty": ty(alloc, &named.ty)?
-    })
-}
+impl<'a> Valued for NamedType<'a> {
+    ghost Plain = { t.NamedType };
 
-pub(crate) fn named_types(
-    alloc: Global,
-    named_types: &Vec<NamedType<'_>>,
-) -> Result<Value, AllocError>
-    ensures { IfOk result (λ v. view v ≡ array_of values.named_type (map view_named_type named_types.now.items)) }
-{
-    let mut values = Vec::new(alloc);
-    for named in named_types {
-        values.push(named_type(alloc, named)?)?;
+    ghost plain = { view_named_type };
+
+    ghost shown = { values.named_type };
+
+    #[tactic(auto, unfolding(crate::specs::Values::named_type))]
+    fn value(&self, alloc: Global) -> Result<Value, AllocError>
+        ensures { Gives result (values.named_type (view_named_type self.now)) }
+    {
+        let ty = ty(alloc, &self.ty);
+        identified(alloc, &self.id, "ty", ty)
     }
-    Ok(Value::from(values))
 }
 
 #[tactic(auto, unfolding(crate::specs::Values::result_list))]
@@ -170,7 +173,7 @@ pub(crate) fn result_list(alloc: Global, results: &ResultList<'_>) -> Result<Val
 {
     match results {
         ResultList::Empty => Value::try_from_str(alloc, "empty"),
-        ResultList::Scalar(x) => variant(alloc, "scalar", ty(alloc, x)?),
+        ResultList::Scalar(x) => variant(alloc, "scalar", ty(alloc, x)),
     }
 }
 
@@ -178,11 +181,12 @@ pub(crate) fn result_list(alloc: Global, results: &ResultList<'_>) -> Result<Val
 pub(crate) fn func_type(alloc: Global, ty: &FuncType<'_>) -> Result<Value, AllocError>
     ensures { IfOk result (λ v. view v ≡ values.func_type (view_func_type ty.now)) }
 {
-    json!(in alloc; {
-        "isAsync": ty.is_async,
-        "params": named_types(alloc, &ty.params)?,
-        "results": result_list(alloc, &ty.results)?
-    })
+    let is_async = truth(ty.is_async);
+    let params = array(alloc, &ty.params);
+    let results = result_list(alloc, &ty.results);
+    triple(
+        alloc, "isAsync", is_async, "params", params, "results", results,
+    )
 }
 
 #[tactic(auto, unfolding(crate::specs::Values::func_type_ref))]
@@ -190,7 +194,7 @@ pub(crate) fn func_type_ref(alloc: Global, ty: &FuncTypeRef<'_>) -> Result<Value
     ensures { IfOk result (λ v. view v ≡ values.func_type_ref (view_func_type_ref ty.now)) }
 {
     match ty {
-        FuncTypeRef::Func(x) => variant(alloc, "func", func_type(alloc, x)?),
-        FuncTypeRef::Ident(x) => variant(alloc, "ident", ident(alloc, x)?),
+        FuncTypeRef::Func(x) => variant(alloc, "func", func_type(alloc, x)),
+        FuncTypeRef::Ident(x) => variant(alloc, "ident", ident(alloc, x)),
     }
 }

@@ -1,8 +1,0 @@
-use Rattle.std.proofs.Common.{◌≡◌, map, take}
-use Rattle.serde_json.specs.View.{view}
-use Rattle.wac_parser_tree.specs.Views.{view_statement}
-use Rattle.wac_parser_print.specs.Values as values
-use Rattle.wac_parser_print.proofs.values.statements.statements.Given as goal
-
-abbrev pub invariant-loop-item : goal.invariant-loop-item
-invariant-loop-item l = map view l.values.items ≡ map values.statement (map view_statement (take l.item-index l.item-items))

@@ -1,0 +1,6 @@
+use Rattle.wac_parser_print.specs.Values.{func_type}
+use Rattle.wac_parser_print.proofs.values.types.func_type.Goals as goal
+
+pub returns : goal.returns
+unfolding func_type
+returns c = c.triple.ensures _ _ _ c.truth-is_async.ensures c.array-params.ensures c.result_list-results.ensures

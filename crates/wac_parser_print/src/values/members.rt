@@ -1,0 +1,107 @@
+//! Objects, member by member. What is made of a value for which there was no memory has none either.
+
+ghost use Rattle.std.specs.Prelude.{◌≡◌, ◌∷◌, [], IfOk};
+ghost use Rattle.serde_json.specs.Data.{Data, Members, object, no_members, put as with_member};
+ghost use Rattle.serde_json.specs.View.{members_view};
+ghost use Rattle.wac_parser_print.specs.Objects.{Gives};
+ghost use Rattle.wac_parser_print.specs.Objects as objects;
+
+use serde_json::{Map, Value, put};
+use std::alloc::{AllocError, Global};
+
+/// Members of an object.
+type Found = Result<Map<String, Value>, AllocError>;
+
+/// No member.
+pub(crate) fn none(alloc: Global) -> Found
+    ensures { IfOk result (λ m. members_view m.entries ≡ no_members) }
+{
+    Ok(Map::new(alloc))
+}
+
+/// These members and one more.
+pub(crate) fn added(
+    alloc: Global,
+    members: Found,
+    name: &str,
+    value: Result<Value, AllocError>,
+) -> Found
+    ensures { (ms : Members) (x : Data) → IfOk members (λ m. members_view m.entries ≡ ms) → Gives value x → IfOk result (λ m. members_view m.entries ≡ with_member name.now x ms) }
+{
+    let value = value?;
+    let mut members = members?;
+    put(&mut members, alloc, name, value)?;
+    Ok(members)
+}
+
+/// The object of these members.
+pub(crate) fn object_of(members: Found) -> Result<Value, AllocError>
+    ensures { (ms : Members) → IfOk members (λ m. members_view m.entries ≡ ms) → Gives result (object ms) }
+{
+    match members {
+        Ok(members) => Ok(Value::Object(members)),
+        Err(fault) => Err(fault),
+    }
+}
+
+/// An object with the name of a variant and what it holds.
+pub(crate) fn variant(
+    alloc: Global,
+    name: &str,
+    contents: Result<Value, AllocError>,
+) -> Result<Value, AllocError>
+    ensures { (x : Data) → Gives contents x → Gives result (objects.variant name.now x) }
+{
+    object_of(added(alloc, none(alloc), name, contents))
+}
+
+/// An object of two members.
+pub(crate) fn pair(
+    alloc: Global,
+    first: &str,
+    one: Result<Value, AllocError>,
+    second: &str,
+    other: Result<Value, AllocError>,
+) -> Result<Value, AllocError>
+    ensures { (x y : Data) → Gives one x → Gives other y → Gives result (objects.object_of ((first.now, x) ∷ (second.now, y) ∷ [])) }
+{
+    let members = added(alloc, none(alloc), first, one);
+    object_of(added(alloc, members, second, other))
+}
+
+/// An object of three members.
+pub(crate) fn triple(
+    alloc: Global,
+    first: &str,
+    one: Result<Value, AllocError>,
+    second: &str,
+    other: Result<Value, AllocError>,
+    third: &str,
+    last: Result<Value, AllocError>,
+) -> Result<Value, AllocError>
+    ensures { (x y z : Data) → Gives one x → Gives other y → Gives last z → Gives result (objects.object_of ((first.now, x) ∷ (second.now, y) ∷ (third.now, z) ∷ [])) }
+{
+    let members = added(alloc, none(alloc), first, one);
+    let members = added(alloc, members, second, other);
+    object_of(added(alloc, members, third, last))
+}
+
+/// An object of four members.
+pub(crate) fn quadruple(
+    alloc: Global,
+    first: &str,
+    one: Result<Value, AllocError>,
+    second: &str,
+    other: Result<Value, AllocError>,
+    third: &str,
+    more: Result<Value, AllocError>,
+    fourth: &str,
+    last: Result<Value, AllocError>,
+) -> Result<Value, AllocError>
+    ensures { (w x y z : Data) → Gives one w → Gives other x → Gives more y → Gives last z → Gives result (objects.object_of ((first.now, w) ∷ (second.now, x) ∷ (third.now, y) ∷ (fourth.now, z) ∷ [])) }
+{
+    let members = added(alloc, none(alloc), first, one);
+    let members = added(alloc, members, second, other);
+    let members = added(alloc, members, third, more);
+    object_of(added(alloc, members, fourth, last))
+}
