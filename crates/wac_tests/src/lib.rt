@@ -1,0 +1,22 @@
+//! Streams, places, worlds made by calls, plugging as a text and refused growths, by the calls that `wac` passes on. What runs of
+//! the program and steps of a workspace come to is shown by the rows of `wac_run_rows`.
+#![tactic(auto)]
+
+#[cfg(test)]
+mod declared_rows;
+#[cfg(test)]
+mod handed;
+#[cfg(test)]
+mod memory;
+#[cfg(test)]
+mod place_rows;
+#[cfg(test)]
+mod plug_text;
+#[cfg(test)]
+mod streams;
+#[cfg(test)]
+mod streams_tests;
+#[cfg(test)]
+mod worlds;
+#[cfg(test)]
+mod worlds_rows;

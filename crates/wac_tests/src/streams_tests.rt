@@ -1,0 +1,146 @@
+use super::handed::{ONE, PASSING, SOURCE, add, bytes_of};
+use super::streams::{Endless, FailsAtOnce, SliceSource, TakesNothing, VecSink};
+use std::alloc::Global;
+use std::process::Abort;
+use std::test::Fail;
+use wac::*;
+
+#[test]
+fn sources_read_to_their_end(rt: HostRuntime) -> Result<(), Fail> {
+    let alloc = rt.alloc();
+    let mut whole = SliceSource::new(b"package a:b;");
+    assert_eq!(rt;
+        read_source(alloc, &mut whole)?.as_slice(),
+        b"package a:b;".as_slice()
+    );
+    assert_eq!(rt; whole.calls, 2);
+    let mut pieces = SliceSource::new(b"package a:b;");
+    pieces.most = 5;
+    assert_eq!(rt;
+        read_source(alloc, &mut pieces)?.as_slice(),
+        b"package a:b;".as_slice()
+    );
+    assert_eq!(rt; pieces.calls, 4);
+    Ok(())
+}
+
+#[test]
+fn sources_that_fail(rt: HostRuntime) -> Result<(), Fail> {
+    let alloc = rt.alloc();
+    let mut first = FailsAtOnce { calls: 0 };
+    assert!(rt; matches!(read_source(alloc, &mut first), Err(StreamError::Read)));
+    assert_eq!(rt; first.calls, 1);
+    let mut second = SliceSource::new(b"package a:b;");
+    second.most = 5;
+    second.fails_at = Some(2);
+    assert!(rt; matches!(read_source(alloc, &mut second), Err(StreamError::Read)));
+    assert_eq!(rt; second.calls, 2);
+    Ok(())
+}
+
+#[test]
+fn source_without_end(rt: HostRuntime) -> Result<(), Fail> {
+    let mut endless = Endless {
+        byte: b' ',
+        calls: 0,
+    };
+    let outcome = read_source(rt.alloc(), &mut endless);
+    assert!(rt; matches!(outcome, Err(StreamError::SourceTooLong)));
+    assert!(rt; endless.calls <= MAX_SOURCE_LENGTH);
+    Ok(())
+}
+
+#[test]
+fn sinks(rt: HostRuntime) -> Result<(), Fail> {
+    let alloc = rt.alloc();
+    let mut at_once = VecSink::new(alloc);
+    assert!(rt; write_bytes(&mut at_once, b"abc").is_ok());
+    assert_eq!(rt; at_once.taken.as_slice(), b"abc".as_slice());
+    assert_eq!(rt; at_once.calls, 1);
+    let mut single = VecSink::byte_by_byte(alloc);
+    assert!(rt; write_bytes(&mut single, b"abc").is_ok());
+    assert_eq!(rt; single.taken.as_slice(), b"abc".as_slice());
+    assert_eq!(rt; single.calls, 3);
+    let mut none = TakesNothing { calls: 0 };
+    assert!(rt; matches!(write_bytes(&mut none, b"abc"), Err(WriteError)));
+    assert_eq!(rt; none.calls, 1);
+    let mut failing = VecSink::failing(alloc);
+    assert!(rt; matches!(write_bytes(&mut failing, b"abc"), Err(WriteError)));
+    assert_eq!(rt; failing.calls, 1);
+    let mut later = VecSink::byte_by_byte(alloc);
+    later.fails_at = Some(3);
+    assert!(rt; matches!(write_bytes(&mut later, b"abc"), Err(WriteError)));
+    assert_eq!(rt; later.taken.as_slice(), b"ab".as_slice());
+    Ok(())
+}
+
+#[test]
+fn composed_from_end_to_end(rt: HostRuntime) -> Result<(), Fail> {
+    let alloc = rt.alloc();
+    let mut workspace = Workspace::new(alloc);
+    let bytes = bytes_of(alloc, PASSING)?;
+    assert!(rt; matches!(add(alloc, &mut workspace, "p:p", bytes), Some(Ok(()))));
+    let mut source = SliceSource::new(SOURCE.as_bytes());
+    source.most = 7;
+    let mut sink = VecSink::byte_by_byte(alloc);
+    let options = EncodeOptions::default();
+    assert!(rt; compose_stream(&mut workspace, &mut source, &mut sink, options).is_ok());
+    assert!(rt; sink.taken.as_slice() == bytes_of(alloc, ONE)?.as_slice());
+    Ok(())
+}
+
+/// A stream over an empty workspace that is refused: nothing is written, and no number is taken.
+fn refused<R: ByteSource>(
+    rt: &impl Abort,
+    alloc: Global,
+    reader: &mut R,
+) -> Result<StreamError, Fail> {
+    let mut workspace = Workspace::new(alloc);
+    let mut sink = VecSink::new(alloc);
+    let outcome = compose_stream(&mut workspace, reader, &mut sink, EncodeOptions::default());
+    assert_eq!(rt; sink.calls, 0);
+    assert_eq!(rt; workspace.next_number(), 0);
+    match outcome {
+        Ok(()) => Err("composed")?,
+        Err(fault) => Ok(fault),
+    }
+}
+
+#[test]
+fn streams_refused(rt: HostRuntime) -> Result<(), Fail> {
+    let fault = refused(&rt, rt.alloc(), &mut FailsAtOnce { calls: 0 })?;
+    assert!(rt; matches!(fault, StreamError::Read));
+    let fault = refused(&rt, rt.alloc(), &mut SliceSource::new(b"\xff"))?;
+    assert!(rt; matches!(fault, StreamError::NotUtf8));
+    let fault = refused(&rt, rt.alloc(), &mut SliceSource::new(b"package a:b"))?;
+    assert!(rt; matches!(fault, StreamError::Compose(ComposeError::Parse(_))));
+    Ok(())
+}
+
+#[test]
+fn streams_too_long(rt: HostRuntime) -> Result<(), Fail> {
+    let long = vec![in rt.alloc(); b' '; MAX_SOURCE_LENGTH + 1]?;
+    let fault = refused(&rt, rt.alloc(), &mut SliceSource::new(&long))?;
+    assert!(rt; matches!(fault, StreamError::SourceTooLong));
+    let mut endless = Endless {
+        byte: b' ',
+        calls: 0,
+    };
+    let fault = refused(&rt, rt.alloc(), &mut endless)?;
+    assert!(rt; matches!(fault, StreamError::SourceTooLong));
+    Ok(())
+}
+
+#[test]
+fn a_writer_that_takes_nothing(rt: HostRuntime) -> Result<(), Fail> {
+    let mut workspace = Workspace::new(rt.alloc());
+    let outcome = compose_stream(
+        &mut workspace,
+        &mut SliceSource::new(b"package a:b;"),
+        &mut TakesNothing { calls: 0 },
+        EncodeOptions::default(),
+    );
+    assert!(rt; matches!(outcome, Err(StreamError::Write)));
+    assert!(rt; workspace.get("a:b", None).is_some());
+    Ok(())
+}
