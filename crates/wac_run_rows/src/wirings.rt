@@ -16,15 +16,31 @@ fn components_of(alloc: Global, manifest: &str) -> Option<Vec<Component>> {
     }
 }
 
+/// The name of a component with its version.
+fn key_of(
+    alloc: Global,
+    name: String,
+    version: Option<semver::Version>,
+) -> Result<String, AllocError> {
+    match version {
+        None => Ok(name),
+        Some(version) => format!(in alloc; "{name}@{version}"),
+    }
+}
+
 /// A handed component.
 fn leaf_of(alloc: Global, component: Component) -> Result<Option<Leaf>, AllocError> {
-    let key = match component.version {
-        None => component.name,
-        Some(version) => format!(in alloc; "{}@{version}", component.name)?,
-    };
-    match component.bytes {
+    let Component {
+        name,
+        version,
+        bytes,
+        world: _world,
+        select: _select,
+    } = component;
+    let key = key_of(alloc, name, version)?;
+    match bytes {
         BytesData::Bytes(bytes) => Ok(Some(Leaf { key, bytes })),
-        _ => Ok(None),
+        BytesData::File(_path) => Ok(None),
     }
 }
 
