@@ -53,3 +53,61 @@ pub arguments-returns-clause-value : goal.arguments-returns-clause-value
 arguments-returns-clause-value t c =
     Rests-ends (instantiation_argument (expr c.args.inside)).read argument_first k.CloseBrace true (map view_instantiation_argument c.items.items.items) c.items.lexer c.args.lexer.now (length c.items.items.items) (left c.args.lexer.now)
     c.items.invariant.reads (omega (arith, c.items.invariant.room)) (sym c.sees.ensures ∙ c.items-test.false)
+
+pub nested_expr-returns-in_err-inner-clause-goes_on : goal.nested_expr-returns-in_err-inner-clause-goes_on
+nested_expr-returns-in_err-inner-clause-goes_on t c = goes_further _ _ _ c.expr_within.ensures.goes_on c.parse_token.ensures.goes_on
+
+pub nested_expr-returns-in_err-close-clause-goes_on : goal.nested_expr-returns-in_err-close-clause-goes_on
+nested_expr-returns-in_err-close-clause-goes_on t c =
+    goes_further _ _ _ c.parse_token-2.ensures.goes_on
+    (goes_further _ _ _ c.expr_within.ensures.goes_on c.parse_token.ensures.goes_on)
+
+pub nested_expr-returns-in_err-new-clause-goes_on : goal.nested_expr-returns-in_err-new-clause-goes_on
+nested_expr-returns-in_err-new-clause-goes_on t c =
+    goes_further _ _ _ c.parse_token-2.ensures.goes_on
+    (goes_further _ _ _ c.expr_within.ensures.goes_on c.parse_token.ensures.goes_on)
+
+pub nested_expr-returns-clause-goes_on : goal.nested_expr-returns-clause-goes_on
+nested_expr-returns-clause-goes_on t c =
+    goes_further _ _ _ c.parse_token-2.ensures.goes_on
+    (goes_further _ _ _ c.expr_within.ensures.goes_on c.parse_token.ensures.goes_on)
+
+pub new_expr-returns-in_err-package-clause-goes_on : goal.new_expr-returns-in_err-package-clause-goes_on
+new_expr-returns-in_err-package-clause-goes_on t c = goes_further _ _ _ c.parse.ensures.goes_on c.parse_token.ensures.goes_on
+
+pub new_expr-returns-in_err-parse_token-clause-goes_on : goal.new_expr-returns-in_err-parse_token-clause-goes_on
+new_expr-returns-in_err-parse_token-clause-goes_on t c =
+    goes_further _ _ _ c.parse_token-2.ensures.goes_on
+    (goes_further _ _ _ c.parse.ensures.goes_on c.parse_token.ensures.goes_on)
+
+pub new_expr-returns-in_err-arguments-clause-goes_on : goal.new_expr-returns-in_err-arguments-clause-goes_on
+new_expr-returns-in_err-arguments-clause-goes_on t c =
+    goes_further _ _ _ c.arguments.ensures.goes_on
+    (goes_further _ _ _ c.parse_token-2.ensures.goes_on
+    (goes_further _ _ _ c.parse.ensures.goes_on c.parse_token.ensures.goes_on))
+
+pub new_expr-returns-in_err-close-clause-goes_on : goal.new_expr-returns-in_err-close-clause-goes_on
+new_expr-returns-in_err-close-clause-goes_on t c =
+    goes_further _ _ _ c.parse_token-3.ensures.goes_on
+    (goes_further _ _ _ c.arguments.ensures.goes_on
+    (goes_further _ _ _ c.parse_token-2.ensures.goes_on
+    (goes_further _ _ _ c.parse.ensures.goes_on c.parse_token.ensures.goes_on)))
+
+pub new_expr-returns-clause-goes_on : goal.new_expr-returns-clause-goes_on
+new_expr-returns-clause-goes_on t c =
+    goes_further _ _ _ c.parse_token-3.ensures.goes_on
+    (goes_further _ _ _ c.arguments.ensures.goes_on
+    (goes_further _ _ _ c.parse_token-2.ensures.goes_on
+    (goes_further _ _ _ c.parse.ensures.goes_on c.parse_token.ensures.goes_on)))
+
+pub argument_value-returns-in_err-expr-clause-goes_on : goal.argument_value-returns-in_err-expr-clause-goes_on
+argument_value-returns-in_err-expr-clause-goes_on t c = goes_further _ _ _ c.expr_within.ensures.goes_on c.parse_token.ensures.goes_on
+
+pub argument_value-returns-clause-goes_on : goal.argument_value-returns-clause-goes_on
+argument_value-returns-clause-goes_on t c = goes_further _ _ _ c.expr_within.ensures.goes_on c.parse_token.ensures.goes_on
+
+pub expr_level-returns-in_err-postfix-clause-goes_on : goal.expr_level-returns-in_err-postfix-clause-goes_on
+expr_level-returns-in_err-postfix-clause-goes_on t c = goes_further _ _ _ c.postfix_exprs.ensures.goes_on c.primary_expr.ensures.goes_on
+
+pub expr_level-returns-clause-goes_on : goal.expr_level-returns-clause-goes_on
+expr_level-returns-clause-goes_on t c = goes_further _ _ _ c.postfix_exprs.ensures.goes_on c.primary_expr.ensures.goes_on

@@ -61,3 +61,134 @@ pub types-returns-clause-value : goal.types-returns-clause-value
 types-returns-clause-value t c =
     Rests-ends (ty c.args.inside).read type_first k.CloseAngle true (map view_ty c.types.types.items) c.types.lexer c.args.lexer.now (length c.types.types.items) (left c.args.lexer.now)
     c.types.invariant.reads (omega (arith, c.types.invariant.room)) (sym c.sees.ensures ∙ c.types-test.false)
+
+pub tuple_ty-returns-in_err-parse_token-clause-goes_on : goal.tuple_ty-returns-in_err-parse_token-clause-goes_on
+tuple_ty-returns-in_err-parse_token-clause-goes_on t c = goes_further _ _ _ c.parse_token-2.ensures.goes_on c.parse_token.ensures.goes_on
+
+pub tuple_ty-returns-then-not-sees_any-clause-goes_on : goal.tuple_ty-returns-then-not-sees_any-clause-goes_on
+tuple_ty-returns-then-not-sees_any-clause-goes_on t c = goes_further _ _ _ c.parse_token-2.ensures.goes_on c.parse_token.ensures.goes_on
+
+pub tuple_ty-returns-in_err-types-clause-goes_on : goal.tuple_ty-returns-in_err-types-clause-goes_on
+tuple_ty-returns-in_err-types-clause-goes_on t c =
+    goes_further _ _ _ c.types.ensures.goes_on
+    (goes_further _ _ _ c.parse_token-2.ensures.goes_on c.parse_token.ensures.goes_on)
+
+pub tuple_ty-returns-in_err-close-clause-goes_on : goal.tuple_ty-returns-in_err-close-clause-goes_on
+tuple_ty-returns-in_err-close-clause-goes_on t c =
+    goes_further _ _ _ c.parse_token-3.ensures.goes_on
+    (goes_further _ _ _ c.types.ensures.goes_on
+    (goes_further _ _ _ c.parse_token-2.ensures.goes_on c.parse_token.ensures.goes_on))
+
+pub tuple_ty-returns-clause-goes_on : goal.tuple_ty-returns-clause-goes_on
+tuple_ty-returns-clause-goes_on t c =
+    goes_further _ _ _ c.parse_token-3.ensures.goes_on
+    (goes_further _ _ _ c.types.ensures.goes_on
+    (goes_further _ _ _ c.parse_token-2.ensures.goes_on c.parse_token.ensures.goes_on))
+
+pub list_ty-returns-in_err-parse_token-clause-goes_on : goal.list_ty-returns-in_err-parse_token-clause-goes_on
+list_ty-returns-in_err-parse_token-clause-goes_on t c = goes_further _ _ _ c.parse_token-2.ensures.goes_on c.parse_token.ensures.goes_on
+
+pub list_ty-returns-in_err-ty-clause-goes_on : goal.list_ty-returns-in_err-ty-clause-goes_on
+list_ty-returns-in_err-ty-clause-goes_on t c =
+    goes_further _ _ _ c.ty_within.ensures.goes_on
+    (goes_further _ _ _ c.parse_token-2.ensures.goes_on c.parse_token.ensures.goes_on)
+
+pub list_ty-returns-in_err-close-clause-goes_on : goal.list_ty-returns-in_err-close-clause-goes_on
+list_ty-returns-in_err-close-clause-goes_on t c =
+    goes_further _ _ _ c.parse_token-3.ensures.goes_on
+    (goes_further _ _ _ c.ty_within.ensures.goes_on
+    (goes_further _ _ _ c.parse_token-2.ensures.goes_on c.parse_token.ensures.goes_on))
+
+pub list_ty-returns-in_err-new-clause-goes_on : goal.list_ty-returns-in_err-new-clause-goes_on
+list_ty-returns-in_err-new-clause-goes_on t c =
+    goes_further _ _ _ c.parse_token-3.ensures.goes_on
+    (goes_further _ _ _ c.ty_within.ensures.goes_on
+    (goes_further _ _ _ c.parse_token-2.ensures.goes_on c.parse_token.ensures.goes_on))
+
+pub list_ty-returns-clause-goes_on : goal.list_ty-returns-clause-goes_on
+list_ty-returns-clause-goes_on t c =
+    goes_further _ _ _ c.parse_token-3.ensures.goes_on
+    (goes_further _ _ _ c.ty_within.ensures.goes_on
+    (goes_further _ _ _ c.parse_token-2.ensures.goes_on c.parse_token.ensures.goes_on))
+
+pub option_ty-returns-in_err-parse_token-clause-goes_on : goal.option_ty-returns-in_err-parse_token-clause-goes_on
+option_ty-returns-in_err-parse_token-clause-goes_on t c = goes_further _ _ _ c.parse_token-2.ensures.goes_on c.parse_token.ensures.goes_on
+
+pub option_ty-returns-in_err-ty-clause-goes_on : goal.option_ty-returns-in_err-ty-clause-goes_on
+option_ty-returns-in_err-ty-clause-goes_on t c =
+    goes_further _ _ _ c.ty_within.ensures.goes_on
+    (goes_further _ _ _ c.parse_token-2.ensures.goes_on c.parse_token.ensures.goes_on)
+
+pub option_ty-returns-in_err-close-clause-goes_on : goal.option_ty-returns-in_err-close-clause-goes_on
+option_ty-returns-in_err-close-clause-goes_on t c =
+    goes_further _ _ _ c.parse_token-3.ensures.goes_on
+    (goes_further _ _ _ c.ty_within.ensures.goes_on
+    (goes_further _ _ _ c.parse_token-2.ensures.goes_on c.parse_token.ensures.goes_on))
+
+pub option_ty-returns-in_err-new-clause-goes_on : goal.option_ty-returns-in_err-new-clause-goes_on
+option_ty-returns-in_err-new-clause-goes_on t c =
+    goes_further _ _ _ c.parse_token-3.ensures.goes_on
+    (goes_further _ _ _ c.ty_within.ensures.goes_on
+    (goes_further _ _ _ c.parse_token-2.ensures.goes_on c.parse_token.ensures.goes_on))
+
+pub option_ty-returns-clause-goes_on : goal.option_ty-returns-clause-goes_on
+option_ty-returns-clause-goes_on t c =
+    goes_further _ _ _ c.parse_token-3.ensures.goes_on
+    (goes_further _ _ _ c.ty_within.ensures.goes_on
+    (goes_further _ _ _ c.parse_token-2.ensures.goes_on c.parse_token.ensures.goes_on))
+
+pub result_ty-returns-in_err-optional-clause-goes_on : goal.result_ty-returns-in_err-optional-clause-goes_on
+result_ty-returns-in_err-optional-clause-goes_on t c = goes_further _ _ _ c.optional.ensures.goes_on c.parse_token.ensures.goes_on
+
+pub result_ty-returns-then-not-branch-clause-goes_on : goal.result_ty-returns-then-not-branch-clause-goes_on
+result_ty-returns-then-not-branch-clause-goes_on t c = goes_further _ _ _ c.optional.ensures.goes_on c.parse_token.ensures.goes_on
+
+pub result_ty-returns-in_err-ok-clause-goes_on : goal.result_ty-returns-in_err-ok-clause-goes_on
+result_ty-returns-in_err-ok-clause-goes_on t c =
+    goes_further _ _ _ c.omitted_or.ensures.goes_on
+    (goes_further _ _ _ c.optional.ensures.goes_on c.parse_token.ensures.goes_on)
+
+pub result_ty-returns-in_err-err-clause-goes_on : goal.result_ty-returns-in_err-err-clause-goes_on
+result_ty-returns-in_err-err-clause-goes_on t c =
+    goes_further _ _ _ c.second_part.ensures.goes_on
+    (goes_further _ _ _ c.omitted_or.ensures.goes_on
+    (goes_further _ _ _ c.optional.ensures.goes_on c.parse_token.ensures.goes_on))
+
+pub result_ty-returns-in_err-close-clause-goes_on : goal.result_ty-returns-in_err-close-clause-goes_on
+result_ty-returns-in_err-close-clause-goes_on t c =
+    goes_further _ _ _ c.parse_token-2.ensures.goes_on
+    (goes_further _ _ _ c.second_part.ensures.goes_on
+    (goes_further _ _ _ c.omitted_or.ensures.goes_on
+    (goes_further _ _ _ c.optional.ensures.goes_on c.parse_token.ensures.goes_on)))
+
+pub result_ty-returns-clause-goes_on : goal.result_ty-returns-clause-goes_on
+result_ty-returns-clause-goes_on t c =
+    goes_further _ _ _ c.parse_token-2.ensures.goes_on
+    (goes_further _ _ _ c.second_part.ensures.goes_on
+    (goes_further _ _ _ c.omitted_or.ensures.goes_on
+    (goes_further _ _ _ c.optional.ensures.goes_on c.parse_token.ensures.goes_on)))
+
+pub payload-returns-in_err-ty-clause-goes_on : goal.payload-returns-in_err-ty-clause-goes_on
+payload-returns-in_err-ty-clause-goes_on t c = goes_further _ _ _ c.boxed_ty.ensures.goes_on c.optional.ensures.goes_on
+
+pub payload-returns-in_err-close-clause-goes_on : goal.payload-returns-in_err-close-clause-goes_on
+payload-returns-in_err-close-clause-goes_on t c =
+    goes_further _ _ _ c.parse_token.ensures.goes_on
+    (goes_further _ _ _ c.boxed_ty.ensures.goes_on c.optional.ensures.goes_on)
+
+pub payload-returns-clause-goes_on : goal.payload-returns-clause-goes_on
+payload-returns-clause-goes_on t c =
+    goes_further _ _ _ c.parse_token.ensures.goes_on
+    (goes_further _ _ _ c.boxed_ty.ensures.goes_on c.optional.ensures.goes_on)
+
+pub stream_ty-returns-in_err-ty-clause-goes_on : goal.stream_ty-returns-in_err-ty-clause-goes_on
+stream_ty-returns-in_err-ty-clause-goes_on t c = goes_further _ _ _ c.payload.ensures.goes_on c.parse_token.ensures.goes_on
+
+pub stream_ty-returns-clause-goes_on : goal.stream_ty-returns-clause-goes_on
+stream_ty-returns-clause-goes_on t c = goes_further _ _ _ c.payload.ensures.goes_on c.parse_token.ensures.goes_on
+
+pub future_ty-returns-in_err-ty-clause-goes_on : goal.future_ty-returns-in_err-ty-clause-goes_on
+future_ty-returns-in_err-ty-clause-goes_on t c = goes_further _ _ _ c.payload.ensures.goes_on c.parse_token.ensures.goes_on
+
+pub future_ty-returns-clause-goes_on : goal.future_ty-returns-clause-goes_on
+future_ty-returns-clause-goes_on t c = goes_further _ _ _ c.payload.ensures.goes_on c.parse_token.ensures.goes_on
