@@ -5,7 +5,7 @@ use Rattle.wac_parser_lexer.specs.declared.token.Token.TheVariants as k
 use Rattle.wac_parser_tree.specs.Views.{view_instantiation_argument}
 use Rattle.wac_parser_grammar.specs.Rules.{left}
 use Rattle.wac_parser_grammar.specs.Expressions.{expr, expr_first, argument_first, instantiation_argument}
-use Rattle.wac_parser_read.proofs.Behind.{goes_further}
+use Rattle.wac_parser_read.proofs.Behind.{goes_further, stays}
 use Rattle.wac_parser_grammar.proofs.Lists.{deeper, Rests-more, Rests-ends, Rests-begins_not, Rests-fails, Rests-fails_behind, begun_some}
 use Rattle.wac_parser_read.proofs.Types.{too_deep_reads}
 use Rattle.wac_parser_read.proofs.expr.+expr.Goals as goal
@@ -111,3 +111,9 @@ expr_level-returns-in_err-postfix-clause-goes_on t c = goes_further _ _ _ c.post
 
 pub expr_level-returns-clause-goes_on : goal.expr_level-returns-clause-goes_on
 expr_level-returns-clause-goes_on t c = goes_further _ _ _ c.postfix_exprs.ensures.goes_on c.primary_expr.ensures.goes_on
+
+pub primary_expr-returns-clause-goes_on : goal.primary_expr-returns-clause-goes_on
+primary_expr-returns-clause-goes_on t c = stays _
+
+pub instantiation_argument-returns-clause-goes_on : goal.instantiation_argument-returns-clause-goes_on
+instantiation_argument-returns-clause-goes_on t c = stays _

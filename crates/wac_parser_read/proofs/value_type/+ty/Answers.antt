@@ -5,7 +5,7 @@ use Rattle.wac_parser_lexer.specs.declared.token.Token.TheVariants as k
 use Rattle.wac_parser_tree.specs.Views.{view_ty}
 use Rattle.wac_parser_grammar.specs.Rules.{left}
 use Rattle.wac_parser_grammar.specs.ValueTypes.{ty, ty_level, composed_ty, type_first}
-use Rattle.wac_parser_read.proofs.Behind.{goes_further}
+use Rattle.wac_parser_read.proofs.Behind.{goes_further, stays}
 use Rattle.wac_parser_grammar.proofs.Lists.{deeper, Rests-more, Rests-ends, Rests-begins_not, Rests-fails, Rests-fails_behind, begun_some}
 use Rattle.wac_parser_read.proofs.Types.{too_deep_reads, taken_type, passed_type}
 use Rattle.wac_parser_read.proofs.value_type.+ty.Goals as goal
@@ -192,3 +192,9 @@ future_ty-returns-in_err-ty-clause-goes_on t c = goes_further _ _ _ c.payload.en
 
 pub future_ty-returns-clause-goes_on : goal.future_ty-returns-clause-goes_on
 future_ty-returns-clause-goes_on t c = goes_further _ _ _ c.payload.ensures.goes_on c.parse_token.ensures.goes_on
+
+pub composed_ty-returns-else-sees-8-clause-goes_on : goal.composed_ty-returns-else-sees-8-clause-goes_on
+composed_ty-returns-else-sees-8-clause-goes_on t c = stays _
+
+pub omitted_or-returns-then-not-sees_any-clause-goes_on : goal.omitted_or-returns-then-not-sees_any-clause-goes_on
+omitted_or-returns-then-not-sees_any-clause-goes_on t c = stays _
