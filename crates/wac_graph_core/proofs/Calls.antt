@@ -1,5 +1,5 @@
 -- What each call does, from what its parts do.
-use Rattle.std.proofs.Common.{◌≡◌, ◌≢◌, ◌⊎◌, ℕ, Bool, true, false, not, List, [], ◌∷◌, ◌++◌, Option, Some, None, IsSome, filter, slice_get, slice_set, refl, sym, ap, subst, ◌∙◌, inl, inr}
+use Rattle.std.proofs.Common.{◌≡◌, ◌≢◌, ℕ, Bool, true, false, not, List, [], ◌∷◌, ◌++◌, Option, Some, None, IsSome, filter, slice_get, refl, sym, ap, subst, ◌∙◌, inl, inr}
 use Rattle.std.specs.Bool.{Decides}
 use Rattle.std.specs.List.{swap_remove}
 use Rattle.std.specs.FinMap as map
@@ -14,9 +14,9 @@ use Rattle.wac_graph_core.specs.Nodes.{NodeData, Role, plain_node}
 use Rattle.wac_graph_core.specs.NodeMaps.{NodeMap, NoImport}
 use Rattle.wac_graph_core.specs.Edges.{alias_edge, argument_edge, HasAlias, HasArgument, AreEdges, Reaches, IsReached, has, Stays}
 use Rattle.wac_graph_core.specs.Graph.{Graph, node_at, ContainsNode, package_of, package_if, package_made, instantiated, PackageStands, IsExport, IsArgument, IsGraph}
-use Rattle.wac_graph_core.specs.Steps.{IsExternName, with_node, with_edges, AddsEdge, Imports, Instantiates, Aliases, AliasesAgain, AliasesAnew, NodeFits, KeepsArgument, AddsArgument, SetsArgument, UnsetsArgument}
-use Rattle.wac_graph_core.specs.Exporting.{IsExportName, Exports, IsTold, TellsNone, TakesExport, Unexports, Names, place_of}
-use Rattle.wac_graph_core.specs.Removing.{IsClosed, TakesNodes, RemovesNodes}
+use Rattle.wac_graph_core.specs.Steps.{IsExternName, AddsEdge, Imports, Instantiates, Aliases, NodeFits, SetsArgument, UnsetsArgument}
+use Rattle.wac_graph_core.specs.Exporting.{IsExportName, Exports, IsTold, Unexports, Names, place_of}
+use Rattle.wac_graph_core.specs.Removing.{TakesNodes}
 use Rattle.wac_types_base.proofs.Walking.{Among-slice_get}
 use Rattle.wac_graph_core.proofs.ExportSteps.{IsGraph-named, IsGraph-exported, IsGraph-unexported, place_found, place_none, one_named}
 

@@ -1,5 +1,5 @@
 -- A definition is added, with its dependencies.
-use Rattle.std.proofs.Common.{◌≡◌, ◌≢◌, ◌⊎◌, ℕ, true, List, [], ◌∷◌, ◌++◌, Option, Some, None, IsSome, refl, sym, ap, subst, ◌∙◌, inl, inr}
+use Rattle.std.proofs.Common.{◌≡◌, ◌≢◌, ◌⊎◌, ℕ, true, List, [], ◌∷◌, ◌++◌, Some, None, IsSome, refl, sym, ap, subst, ◌∙◌, inl, inr}
 use Rattle.std.specs.FinMap as map
 use Rattle.wac_types_base.specs.declared.item.ItemKind.{ItemKind}
 use Rattle.wac_types_base.specs.declared.item.«Type».{«Type» as TypeKind}
@@ -9,9 +9,9 @@ use Rattle.wac_types_base.specs.Graph.{Among}
 use Rattle.wac_graph_core.specs.declared.edge.Edge.{Edge}
 use Rattle.wac_graph_core.specs.declared.edge.Label.{Label}
 use Rattle.wac_graph_core.specs.declared.edge.Follow.{Follow}
-use Rattle.wac_graph_core.specs.Nodes.{NodeData, Role, defined_node}
+use Rattle.wac_graph_core.specs.Nodes.{NodeData, defined_node}
 use Rattle.wac_graph_core.specs.NodeMaps.{NodeMap, NoDefinition, IsDefinition, AreThose}
-use Rattle.wac_graph_core.specs.Edges.{alias_edge, argument_edge, dependency_edge, HasAlias, HasArgument, follows, has}
+use Rattle.wac_graph_core.specs.Edges.{alias_edge, argument_edge, dependency_edge, follows, has}
 use Rattle.wac_graph_core.specs.Graph.{Graph, node_at, NodeStands, EdgeStands, AreExports, IsGraph}
 use Rattle.wac_graph_core.specs.Defining.{UsesType, Depends, IsDependencyOf, DefinesType, MayDefine, IsUsedBy, IsUserOf, ItemsStand}
 use Rattle.wac_graph_core.proofs.Depending.{AddsEach}

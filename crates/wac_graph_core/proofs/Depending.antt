@@ -1,5 +1,5 @@
 -- Edges of dependencies that are added one after another.
-use Rattle.std.proofs.Common.{◌≡◌, ◌⊎◌, ℕ, ◌+◌, ◌<◌, ◌≤◌, true, List, [], ◌∷◌, ◌++◌, length, take, get_or, refl, sym, ap, subst, ◌∙◌, inl, inr, arith}
+use Rattle.std.proofs.Common.{◌≡◌, ◌⊎◌, ℕ, ◌+◌, ◌<◌, ◌≤◌, true, List, [], ◌∷◌, ◌++◌, length, take, get_or, sym, ap, subst, ◌∙◌, inl, inr}
 use Rattle.wac_types_base.specs.Graph.{Among}
 use Rattle.std.proofs.lemmas.List.{take_more, take_all}
 use Rattle.wac_graph_core.specs.declared.edge.Edge.{Edge}

@@ -1,11 +1,11 @@
 -- Edges that are added and dropped.
-use Rattle.std.proofs.Common.{◌≡◌, ◌≢◌, ◌⊎◌, ℕ, suc, ◌+◌, ◌<◌, Bool, true, false, ◌==◌, List, [], ◌∷◌, ◌++◌, cond, refl, sym, ap, subst, ◌∙◌, inl, inr, arith}
+use Rattle.std.proofs.Common.{◌≡◌, ◌≢◌, ◌⊎◌, ℕ, suc, ◌+◌, ◌<◌, Bool, true, false, ◌==◌, List, [], ◌∷◌, cond, refl, sym, ap, subst, ◌∙◌, inl, inr, arith}
 use Rattle.wac_types_base.specs.Entries.{Name}
 use Rattle.wac_types_base.specs.Graph.{Among}
 use Rattle.wac_graph_core.specs.declared.edge.Edge.{Edge}
 use Rattle.wac_graph_core.specs.declared.edge.Label.{Label}
 use Rattle.wac_graph_core.specs.declared.edge.Follow.{Follow}
-use Rattle.wac_graph_core.specs.Edges.{alias_edge, argument_edge, dependency_edge, HasAlias, HasArgument, AreEdges, follows, has, Reaches, at_start, along, IsReached, IsAcyclic, IsRank, AreKeyed}
+use Rattle.wac_graph_core.specs.Edges.{alias_edge, argument_edge, HasAlias, HasArgument, follows, has, at_start, along, IsReached, IsAcyclic, AreKeyed}
 use Rattle.wac_graph_core.specs.Steps.{AddsEdge}
 use Rattle.wac_graph_core.proofs.Found.{eq_same, eq_false}
 

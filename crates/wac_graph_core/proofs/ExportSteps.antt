@@ -1,5 +1,5 @@
 -- Exports that are added, taken away and told.
-use Rattle.std.proofs.Common.{◌≡◌, ◌≢◌, ◌⊎◌, ℕ, zero, suc, ◌+◌, ◌<◌, ◌≤◌, Bool, true, false, ◌&&◌, ◌==◌, List, [], ◌∷◌, ◌++◌, Option, Some, None, IsSome, cond, length, get_or, slice_get, refl, sym, ap, subst, ◌∙◌, inl, inr, arith, All}
+use Rattle.std.proofs.Common.{◌≡◌, ◌≢◌, ◌⊎◌, ℕ, zero, suc, ◌+◌, ◌<◌, ◌≤◌, Bool, true, false, ◌==◌, List, [], ◌∷◌, ◌++◌, Option, Some, None, IsSome, cond, length, get_or, slice_get, refl, sym, ap, subst, ◌∙◌, inl, inr, arith}
 use Rattle.std.specs.Option.{option_map}
 use Rattle.std.specs.List.{swap_remove, sum_by}
 use Rattle.std.specs.List.Sorted.{IsPermutation}
@@ -7,18 +7,16 @@ use Rattle.std.proofs.lemmas.List.Recursion.{is_sum_by}
 use Rattle.std.proofs.lemmas.List.Sorted.{IsPermutation-swap_remove, IsPermutation-sym, All-permutation, sum_by-IsPermutation}
 use Rattle.std.specs.Cmp.Lexicographic.{pointwise, same_text}
 use Rattle.std.specs.FinMap as map
-use Rattle.wac_types_base.specs.declared.item.ItemKind.{ItemKind}
 use Rattle.wac_types_base.specs.Entries.{Name, value_at, names_of, AreDistinct}
 use Rattle.wac_types_base.specs.Graph.{Among}
 use Rattle.wac_types_base.proofs.Adding.{All-among}
 use Rattle.wac_types_base.proofs.Copying.{Among-All}
-use Rattle.wac_graph_core.specs.Nodes.{NodeData, Role}
-use Rattle.wac_graph_core.specs.NodeMaps.{NodeMap}
-use Rattle.wac_graph_core.specs.Graph.{Graph, node_at, NodeStands, AreWired, AreExports, IsGraph}
+use Rattle.wac_graph_core.specs.Nodes.{NodeData}
+use Rattle.wac_graph_core.specs.Graph.{Graph, node_at, NodeStands, AreExports, IsGraph}
 use Rattle.wac_graph_core.specs.Exporting.{place_of}
 use Rattle.wac_graph_core.proofs.NodeMap.{get-insert_same}
 use Rattle.wac_graph_core.proofs.Found.{same_name, Among-last, Among-front, Among-end}
-use Rattle.wac_graph_core.proofs.NodeSteps.{new_at, each_node, AreOnce-below, IsBelow-written, IsAbove-written, SameBut, some_there}
+use Rattle.wac_graph_core.proofs.NodeSteps.{new_at, each_node, AreOnce-below, IsBelow-written, IsAbove-written, some_there}
 use Rattle.wac_graph_core.proofs.GraphSteps.{AreWired-by, NodeStands-kept, same_places}
 
 -- ---- names

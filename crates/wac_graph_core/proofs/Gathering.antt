@@ -1,9 +1,6 @@
 -- Lists of nodes that grow.
-use Rattle.std.proofs.Common.{◌≡◌, ◌⊎◌, ℕ, Bool, true, false, List, [], ◌∷◌, ◌++◌, Option, Some, refl, sym, ap, subst, ◌∙◌, inl, inr, Contains, arith}
-use Rattle.std.specs.FinMap as map
-use Rattle.wac_graph_core.specs.declared.ids.PackageId.{PackageId}
-use Rattle.wac_graph_core.specs.Nodes.{NodeData}
-use Rattle.wac_graph_core.specs.NodeMaps.{NodeMap, AddsIf}
+use Rattle.std.proofs.Common.{◌≡◌, ◌⊎◌, ℕ, true, List, [], ◌∷◌, sym, ap, ◌∙◌, inl, inr, Contains, arith}
+use Rattle.wac_graph_core.specs.NodeMaps.{AddsIf}
 use Rattle.wac_graph_core.specs.Edges.{has}
 use Rattle.wac_graph_core.proofs.Walks.{has-push, has-kept, has_pushed}
 

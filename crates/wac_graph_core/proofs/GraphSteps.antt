@@ -1,5 +1,5 @@
 -- What holds of graphs is kept by their steps.
-use Rattle.std.proofs.Common.{◌≡◌, ◌≢◌, ◌⊎◌, ℕ, Bool, true, false, List, [], ◌∷◌, ◌++◌, Option, Some, None, IsSome, cond, refl, sym, ap, subst, ◌∙◌, inl, inr, slice_get}
+use Rattle.std.proofs.Common.{◌≡◌, ◌≢◌, ◌⊎◌, ℕ, false, List, [], ◌∷◌, Option, Some, None, IsSome, refl, sym, ap, subst, ◌∙◌, inl, inr}
 use Rattle.std.specs.Ordering.{nat_cmp}
 use Rattle.std.specs.FinMap as map
 use Rattle.wac_types_base.specs.declared.item.ItemKind.{ItemKind}
@@ -15,12 +15,12 @@ use Rattle.wac_graph_core.specs.declared.edge.Label.{Label}
 use Rattle.wac_graph_core.specs.declared.edge.Follow.{Follow}
 use Rattle.wac_graph_core.specs.declared.package.Place.{Place}
 use Rattle.wac_graph_core.specs.Nodes.{NodeData, Role, plain_node}
-use Rattle.wac_graph_core.specs.NodeMaps.{NodeMap, NoImport, NoDefinition, AreOnce}
-use Rattle.wac_graph_core.specs.Edges.{alias_edge, argument_edge, HasAlias, HasArgument, AreEdges, follows, has, IsReached, IsAcyclic, IsRank, AreKeyed}
-use Rattle.wac_graph_core.specs.Graph.{Graph, with_types, node_at, ContainsNode, package_in, package_of, package_if, package_made, instantiated, PackageStands, NodeStands, EdgeStands, AreWired, AreExports, ArePlaces, IsGraph, IsArgument}
+use Rattle.wac_graph_core.specs.NodeMaps.{NodeMap, NoImport, NoDefinition}
+use Rattle.wac_graph_core.specs.Edges.{alias_edge, argument_edge, HasAlias, HasArgument, AreEdges, has, IsReached}
+use Rattle.wac_graph_core.specs.Graph.{Graph, with_types, node_at, ContainsNode, package_in, package_of, package_if, package_made, instantiated, PackageStands, NodeStands, EdgeStands, AreWired, AreExports, IsGraph, IsArgument}
 use Rattle.wac_graph_core.specs.Steps.{with_node, with_edges, AddsEdge}
-use Rattle.wac_graph_core.proofs.NodeMap.{get-insert_same, get-insert_other}
-use Rattle.wac_graph_core.proofs.NodeSteps.{kept_at, new_at, each_node, AreOnce-insert, SameBut, IsAbove, IsAbove-fresh, IsAbove-same, some_there}
+use Rattle.wac_graph_core.proofs.NodeMap.{get-insert_same}
+use Rattle.wac_graph_core.proofs.NodeSteps.{new_at, each_node, AreOnce-insert, SameBut, IsAbove, IsAbove-fresh, IsAbove-same, some_there}
 use Rattle.wac_graph_core.proofs.EdgeSteps.{edge_from, edge_to, edge_label, IsAcyclic-by, IsAcyclic-leaf, IsAcyclic-between, AreKeyed-sub, AreKeyed-alias, AreKeyed-argument}
 
 -- ---- nothing

@@ -1,5 +1,5 @@
 -- A package that is made of a world stands.
-use Rattle.std.proofs.Common.{◌≡◌, List, [], ◌∷◌, ◌++◌, Some, IsSome, length, refl, sym, ap, subst, ◌∙◌, slice_get}
+use Rattle.std.proofs.Common.{◌≡◌, [], ◌∷◌, ◌++◌, Some, IsSome, length, refl, sym, ap, subst, ◌∙◌, slice_get}
 use Rattle.std.specs.Prelude.{Result, Ok, Err}
 use Rattle.std.specs.Result.{IfOk}
 use Rattle.wac_types_base.specs.declared.item.ItemKind.{ItemKind}

@@ -19,3 +19,5 @@ pub mod Passing
 pub mod Depending
 pub mod DefineSteps
 pub mod WiringLaws
+mod Covering
+mod Leading

@@ -1,5 +1,5 @@
 -- Edges that pass the same to a node.
-use Rattle.std.proofs.Common.{◌≡◌, ◌==◌, ◌&&◌, ℕ, Bool, true, false, List, [], ◌∷◌, ◌++◌, Option, Some, None, cond, refl, ap, ◌∙◌}
+use Rattle.std.proofs.Common.{◌≡◌, ◌==◌, ◌&&◌, ℕ, false, List, [], ◌∷◌, ◌++◌, Some, cond, refl, ap, ◌∙◌}
 use Rattle.wac_types_base.specs.Entries.{Name}
 use Rattle.wac_graph_core.specs.declared.edge.Edge.{Edge}
 use Rattle.wac_graph_core.specs.Walking.{first_argument, is_argument, PassesAs}

@@ -1,18 +1,14 @@
 -- Places of packages that are filled and given up.
-use Rattle.std.proofs.Common.{◌≡◌, ◌≢◌, ◌⊎◌, ℕ, zero, suc, ◌+◌, ◌<◌, ◌≤◌, Bool, true, false, ◌==◌, List, [], ◌∷◌, ◌++◌, Option, Some, None, IsSome, is_some, cond, length, slice_get, slice_set, refl, sym, ap, subst, ◌∙◌, inl, inr, arith, if◌then◌else◌}
+use Rattle.std.proofs.Common.{◌≡◌, ◌≢◌, ◌⊎◌, ℕ, zero, suc, ◌<◌, Bool, true, false, ◌==◌, List, [], ◌∷◌, ◌++◌, Option, Some, None, IsSome, is_some, cond, length, slice_get, slice_set, refl, sym, ap, subst, ◌∙◌, inl, inr, arith}
 use Rattle.std.proofs.lemmas.Bool.{cases_eq}
-use Rattle.std.specs.FinMap as map
-use Rattle.wac_types_base.specs.declared.item.ItemKind.{ItemKind}
 use Rattle.wac_types_base.specs.Record.{Collection}
 use Rattle.wac_types_names.specs.Packaged.{Packaged}
-use Rattle.wac_types_names.specs.Keys.{Key, package_key}
+use Rattle.wac_types_names.specs.Keys.{package_key}
 use Rattle.wac_graph_core.specs.declared.ids.PackageId.{PackageId}
 use Rattle.wac_graph_core.specs.declared.package.Place.{Place}
 use Rattle.wac_graph_core.specs.Nodes.{NodeData}
-use Rattle.wac_graph_core.specs.NodeMaps.{NodeMap, AreInstances}
-use Rattle.wac_graph_core.specs.Edges.{has}
 use Rattle.wac_graph_core.specs.Graph.{Graph, node_at, held_at, package_in, package_of, ContainsPackage, PackageStands, ArePlaces, IsGraph}
-use Rattle.wac_graph_core.specs.Packages.{HoldsKey, IsFree, NoKey, IsNewPlace, IsFreePlace, held_place, left_place, PutsPlace, put_last, put_free, PlacesGrow, IsStale}
+use Rattle.wac_graph_core.specs.Packages.{NoKey, IsNewPlace, IsFreePlace, held_place, left_place, PlacesGrow, IsStale}
 use Rattle.wac_graph_core.proofs.Found.{eq_true, eq_same, eq_false}
 use Rattle.wac_graph_core.proofs.NodeSteps.{IsAbove-same}
 use Rattle.wac_graph_core.proofs.GraphSteps.{KeepsUsed, AreWired-by, NodeStands-kept}

@@ -1,5 +1,5 @@
 -- Packages that are registered and unregistered.
-use Rattle.std.proofs.Common.{◌≡◌, ◌≢◌, ◌⊎◌, ℕ, zero, suc, ◌+◌, ◌<◌, ◌≤◌, Bool, true, false, List, [], ◌∷◌, ◌++◌, Option, Some, None, IsSome, length, slice_get, slice_set, refl, sym, ap, subst, ◌∙◌, inl, inr, arith}
+use Rattle.std.proofs.Common.{◌≡◌, ℕ, zero, suc, ◌≤◌, Bool, true, false, List, [], ◌∷◌, ◌++◌, Option, Some, None, slice_get, slice_set, refl, sym, ap, subst, ◌∙◌, inl, inr, arith}
 use Rattle.std.specs.Option.{option_map, IfSome, IfNone}
 use Rattle.std.specs.Borrow.{Bor}
 use Rattle.std.specs.FinMap as map
@@ -12,10 +12,10 @@ use Rattle.wac_graph_core.specs.Nodes.{NodeData}
 use Rattle.wac_graph_core.specs.NodeMaps.{AreInstances}
 use Rattle.wac_graph_core.specs.Edges.{has, IsReached, at_start}
 use Rattle.wac_graph_core.specs.Graph.{Graph, node_at, package_in, package_of, ContainsPackage, PackageStands, IsGraph}
-use Rattle.wac_graph_core.specs.Removing.{TakesNodes, RemovesNodes}
-use Rattle.wac_graph_core.specs.Packages.{HoldsKey, IsFree, NoKey, IsNewPlace, IsFreePlace, held_place, left_place, PutsPlace, put_last, put_free, Registers, Unregisters, PlacesGrow, IsStale, shown_at}
+use Rattle.wac_graph_core.specs.Removing.{TakesNodes}
+use Rattle.wac_graph_core.specs.Packages.{HoldsKey, NoKey, IsNewPlace, IsFreePlace, held_place, left_place, PutsPlace, put_last, put_free, Registers, Unregisters, PlacesGrow, IsStale, shown_at}
 use Rattle.wac_graph_core.proofs.NodeSteps.{stayed}
-use Rattle.wac_graph_core.proofs.PlaceSteps.{Held, some_value, held_in, in_held, get_before, get_last, get_set, get_set_same, IsGraph-last, IsGraph-free, IsGraph-given_up}
+use Rattle.wac_graph_core.proofs.PlaceSteps.{Held, some_value, held_in, in_held, get_before, get_set, get_set_same, IsGraph-last, IsGraph-free, IsGraph-given_up}
 
 -- no place holds the key: no package has it
 pub no_key : (g : Graph) (key : Key) → ((i : ℕ) (p : Place) → slice_get g.places i ≡ Some p → HoldsKey p key → ⊥) → NoKey g key

@@ -1,19 +1,18 @@
 -- Nodes that are removed one by one, and what a removal keeps.
-use Rattle.std.proofs.Common.{◌≡◌, ◌≢◌, ℕ, ◌+◌, ◌<◌, ◌≤◌, Bool, true, false, not, ◌&&◌, ◌==◌, List, [], ◌∷◌, ◌++◌, Option, Some, None, IsSome, cond, filter, length, take, get_or, refl, sym, ap, subst, ◌∙◌, inl, inr}
+use Rattle.std.proofs.Common.{◌≡◌, ◌≢◌, ℕ, ◌+◌, ◌<◌, ◌≤◌, Bool, true, false, not, ◌==◌, List, [], ◌∷◌, ◌++◌, Option, Some, None, IsSome, cond, filter, length, take, get_or, refl, sym, ap, subst, ◌∙◌, inl, inr}
 use Rattle.std.proofs.lemmas.List.{take_more, take_all}
 use Rattle.std.proofs.lemmas.Bool.{cases_eq}
 use Rattle.std.specs.FinMap as map
 use Rattle.wac_types_base.specs.Entries.{Name, names_of, AreDistinct}
 use Rattle.wac_types_base.specs.Graph.{Among}
 use Rattle.wac_graph_core.specs.declared.edge.Edge.{Edge}
-use Rattle.wac_graph_core.specs.declared.edge.Label.{Label}
 use Rattle.wac_graph_core.specs.declared.edge.Follow.{Follow}
 use Rattle.wac_graph_core.specs.declared.ids.PackageId.{PackageId}
-use Rattle.wac_graph_core.specs.Nodes.{NodeData, Role}
+use Rattle.wac_graph_core.specs.Nodes.{NodeData}
 use Rattle.wac_graph_core.specs.NodeMaps.{NodeMap}
-use Rattle.wac_graph_core.specs.Edges.{has, Stays, HasAlias, alias_edge, AreEdges, Reaches, at_start, along, IsReached, follows}
-use Rattle.wac_graph_core.specs.Graph.{Graph, node_at, ContainsNode, instantiated, package_if, package_made, EdgeStands, AreWired, AreExports, IsGraph}
-use Rattle.wac_graph_core.specs.Removing.{IsClosed, TakesNodes}
+use Rattle.wac_graph_core.specs.Edges.{has, Stays, alias_edge, AreEdges, along, IsReached}
+use Rattle.wac_graph_core.specs.Graph.{Graph, node_at, instantiated, package_if, package_made, EdgeStands, AreExports, IsGraph}
+use Rattle.wac_graph_core.specs.Removing.{IsClosed}
 use Rattle.wac_graph_core.proofs.NodeMap.{get-remove_same, get-remove_other, same_shown}
 use Rattle.wac_graph_core.proofs.Walks.{has_pushed}
 use Rattle.wac_graph_core.proofs.Found.{eq_false, filtered, passes}

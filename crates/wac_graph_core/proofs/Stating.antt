@@ -1,5 +1,5 @@
 -- The stated types of worlds and of the interfaces of their instances, by their entries.
-use Rattle.std.proofs.Common.{◌≡◌, ℕ, ◌+◌, List, [], ◌∷◌, ◌++◌, map, length, Option, Some, None, drop, slice_get, refl, sym, ap, subst, ◌∙◌}
+use Rattle.std.proofs.Common.{◌≡◌, ◌+◌, List, [], ◌∷◌, ◌++◌, map, length, Option, Some, None, drop, slice_get, refl, sym, ap, ◌∙◌}
 use Rattle.std.specs.Prelude.{⊤}
 use Rattle.std.specs.Option.{option_map}
 use Rattle.std.proofs.lemmas.List.{map-append, append-nil, drop-drop}
@@ -11,7 +11,7 @@ use Rattle.wac_types_base.specs.declared.defined.Interface.{Interface}
 use Rattle.wac_types_base.specs.declared.defined.World.{World}
 use Rattle.wac_types_base.specs.Record.{Collection}
 use Rattle.wac_types_base.specs.Entries.{Name, names_of, with_values}
-use Rattle.wac_types_base.specs.Collection.{Slot, Stands, IsAcyclic, item_node, interface_entry, world_entry, interface, use_names, used, items}
+use Rattle.wac_types_base.specs.Collection.{Slot, IsAcyclic, item_node, interface_entry, world_entry, interface, use_names, used, items}
 use Rattle.wac_types_base.specs.Stated.{Stated, row, over, stated_of, stated_entry, Used, names, filled, names_used, used_places, with_names, uses_from, only_places, first_parts, exports_of, imports_of, uses_of, instance_type}
 use Rattle.wac_types_base.proofs.Slots.{entry_at-is}
 use Rattle.wac_types_base.proofs.Telling.{stated_step}

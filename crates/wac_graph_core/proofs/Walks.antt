@@ -1,12 +1,11 @@
 -- Walks over lists of edges.
-use Rattle.std.proofs.Common.{◌≡◌, ◌≢◌, ◌⊎◌, ℕ, zero, suc, ◌+◌, ◌<◌, ◌≤◌, Bool, true, false, not, ◌&&◌, List, [], ◌∷◌, ◌++◌, Option, Some, None, length, drop, get_or, cond, ◌==◌, refl, sym, ap, subst, ◌∙◌, inl, inr, arith}
-use Rattle.std.proofs.lemmas.List.{drop_more, drop_all}
-use Rattle.std.proofs.lemmas.Bool.{cases_eq}
+use Rattle.std.proofs.Common.{◌≡◌, ◌⊎◌, ℕ, ◌+◌, ◌<◌, ◌≤◌, Bool, true, false, not, ◌&&◌, List, [], ◌∷◌, ◌++◌, Some, None, length, drop, get_or, cond, ◌==◌, refl, sym, ap, subst, ◌∙◌, inl, inr, arith}
+use Rattle.std.proofs.lemmas.List.{drop_more}
 use Rattle.std.proofs.lemmas.Bool.Decides.{nat_tests}
 use Rattle.wac_types_base.specs.Graph.{Among}
 use Rattle.wac_graph_core.specs.declared.edge.Edge.{Edge}
 use Rattle.wac_graph_core.specs.declared.edge.Follow.{Follow}
-use Rattle.wac_graph_core.specs.Edges.{follows, has, Reaches, at_start, along, IsReached}
+use Rattle.wac_graph_core.specs.Edges.{follows, has, Reaches, at_start, along}
 use Rattle.wac_graph_core.specs.Walking.{first_new, leads_out, outside}
 
 -- the list from a place on, by the item that is read there
@@ -79,7 +78,7 @@ both_true true true true h = absurd (cc)
 both_true true false c h = absurd (cc)
 both_true false b c h = absurd (cc)
 
-closed_at : (a b c : Bool) → (a && (b && not c)) ≡ false → a ≡ true → b ≡ true → c ≡ true
+pub closed_at : (a b c : Bool) → (a && (b && not c)) ≡ false → a ≡ true → b ≡ true → c ≡ true
 closed_at true true true h p q = refl
 closed_at true true false h p q = absurd (cc)
 closed_at true false c h p q = absurd (cc)

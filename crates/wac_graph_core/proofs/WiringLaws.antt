@@ -9,7 +9,7 @@ use Rattle.wac_types_base.specs.Tree.{Tree}
 use Rattle.wac_types_names.specs.Packaged.{Packaged}
 use Rattle.wac_graph_bytes.specs.Wirings.{Source, Absent, Outer, Inst, Definition, project, OfBytes, Instantiation, Wiring}
 use Rattle.wac_graph_core.specs.Nodes.{NodeData, Role}
-use Rattle.wac_graph_core.specs.Edges.{HasAlias, HasArgument, alias_edge, argument_edge}
+use Rattle.wac_graph_core.specs.Edges.{HasAlias, alias_edge, argument_edge}
 use Rattle.wac_graph_core.specs.Walking.{first_argument}
 use Rattle.wac_graph_core.specs.Graph.{Graph, IsGraph, ContainsNode, node_at, instantiated, item_import}
 use Rattle.wac_graph_core.specs.GraphWiring as w

@@ -1,6 +1,5 @@
 -- A graph as a value, and what holds of each.
-use Rattle.std.specs.Prelude.{◌≡◌, ◌<◌, ℕ, List, [], ◌∷◌, Bool, true, false, Option, Some, None, IsSome, slice_get, ◌==◌, if◌then◌else◌}
-use Rattle.std.specs.Option.{option_map}
+use Rattle.std.specs.Prelude.{◌≡◌, ◌<◌, ℕ, List, [], Bool, true, false, Option, Some, None, IsSome, slice_get, ◌==◌, if◌then◌else◌}
 use Rattle.std.specs.FinMap as map
 use Rattle.wac_types_base.specs.declared.item.ItemKind.{ItemKind}
 use Rattle.wac_types_base.specs.declared.ids.WorldId.{WorldId}
@@ -19,7 +18,7 @@ use Rattle.wac_graph_core.specs.declared.edge.Label.{Label}
 use Rattle.wac_graph_core.specs.declared.package.Place.{Place}
 use Rattle.wac_graph_core.specs.Nodes.{NodeData, Role}
 use Rattle.wac_graph_core.specs.NodeMaps.{NodeMap, AreOnce}
-use Rattle.wac_graph_core.specs.Edges.{IsAcyclic, AreKeyed, HasAlias, HasArgument}
+use Rattle.wac_graph_core.specs.Edges.{IsAcyclic, AreKeyed, HasAlias}
 
 pub record Graph : Type 0 where
   pub types : Collection

@@ -15,3 +15,6 @@ pub mod Listing
 pub mod Reaching
 pub mod Defining
 pub mod GraphWiring
+pub mod Spans
+pub mod Ends
+pub mod EdgesView

@@ -7,7 +7,7 @@ use Rattle.wac_graph_core.specs.declared.ids.PackageId.{PackageId}
 use Rattle.wac_graph_core.specs.declared.package.Place.{Place}
 use Rattle.wac_graph_core.specs.declared.errors.RegisterPackageError.{RegisterPackageError}
 use Rattle.wac_graph_core.specs.NodeMaps.{AreInstances}
-use Rattle.wac_graph_core.specs.Graph.{Graph, package_of, ContainsPackage, node_at}
+use Rattle.wac_graph_core.specs.Graph.{Graph, package_of}
 use Rattle.wac_graph_core.specs.Removing.{RemovesNodes}
 
 -- the place holds a package of this key

@@ -1,11 +1,10 @@
 -- What each call does to a graph. Edges are read as a set.
-use Rattle.std.specs.Prelude.{◌≡◌, ◌≢◌, ◌⊎◌, ℕ, ◌<◌, List, [], ◌∷◌, ◌++◌, filter, not, Option, Some, None, slice_get, slice_set, length}
+use Rattle.std.specs.Prelude.{◌≡◌, ◌≢◌, ◌⊎◌, ℕ, List, [], ◌∷◌, Some, None}
 use Rattle.std.specs.FinMap as map
 use Rattle.wac_types_base.specs.declared.item.ItemKind.{ItemKind}
 use Rattle.wac_types_base.specs.Entries.{Name}
 use Rattle.wac_types_base.specs.Graph.{Among}
 use Rattle.wac_types_names.specs.Packaged.{Packaged}
-use Rattle.wac_types_names.specs.Keys.{Key, package_key}
 use Rattle.wac_types_fit.specs.Trees.{Fit}
 use Rattle.wac_names.specs.ComponentNames.{IsName}
 use Rattle.wac_names.specs.declared.names.NameKind.{NameKind}
@@ -14,8 +13,8 @@ use Rattle.wac_graph_core.specs.declared.edge.Edge.{Edge}
 use Rattle.wac_graph_core.specs.declared.edge.Follow.{Follow}
 use Rattle.wac_graph_core.specs.Nodes.{NodeData, Role, plain_node}
 use Rattle.wac_graph_core.specs.NodeMaps.{NoImport}
-use Rattle.wac_graph_core.specs.Edges.{AreEdges, HasAlias, HasArgument, alias_edge, argument_edge, Reaches, IsReached, Stays, has}
-use Rattle.wac_graph_core.specs.Graph.{Graph, node_at, package_of, IsExport, IsArgument, IsOfKind, instantiated}
+use Rattle.wac_graph_core.specs.Edges.{AreEdges, HasAlias, HasArgument, alias_edge, argument_edge, Reaches}
+use Rattle.wac_graph_core.specs.Graph.{Graph, node_at, package_of, IsExport, IsArgument, IsOfKind}
 
 -- the text is the name of an import or an export
 abbrev pub IsExternName : Name → Type 0

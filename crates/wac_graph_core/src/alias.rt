@@ -49,7 +49,7 @@ impl CompositionGraph {
         ensures kept { OnErr result (self.new ≡ self.old) }
     {
         let item = self.export_item(instance, export)?;
-        if let Some(alias) = find_alias(self.edges.as_slice(), instance, export) {
+        if let Some(alias) = find_alias(&self.edges, instance, export) {
             return Ok(alias);
         }
         self.edges.reserve(1)?;
@@ -72,6 +72,6 @@ impl CompositionGraph {
         ensures found { IfSome result (λ x. HasAlias self.now.edges x.0 x.1.now alias) }
         ensures none { IfNone result ((i : ℕ) (n : Name) → HasAlias self.now.edges i n alias → ⊥) }
     {
-        find_source(self.edges.as_slice(), alias)
+        find_source(&self.edges, alias)
     }
 }

@@ -9,7 +9,7 @@ ghost use Rattle.wac_graph_core.specs.Steps.{SetsArgument, UnsetsArgument};
 ghost use Rattle.wac_graph_core.specs.Refusals.{ArgumentRefused, LacksImport, Mismatches};
 
 use crate::edge::{
-    Edge, Follow, Label, add_edge, alone, find_argument, is_among, reached, remove_argument,
+    Edge, Follow, Label, add_edge, find_argument, is_among, reached_from, remove_argument,
 };
 use crate::errors::InstantiationArgumentError;
 use crate::graph::CompositionGraph;
@@ -110,7 +110,7 @@ impl CompositionGraph {
             Err(fault) => return Err(fault),
         };
         let own = String::from_str(self.alloc, name)?;
-        if let Some(passed) = find_argument(self.edges.as_slice(), instantiation, name) {
+        if let Some(passed) = find_argument(&self.edges, instantiation, name) {
             if passed.index() == argument.index() {
                 return Ok(());
             }
@@ -128,8 +128,7 @@ impl CompositionGraph {
                 return Err(InstantiationArgumentError::ArgumentTypeMismatch { name: own, source });
             }
         }
-        let start = alone(self.alloc, instantiation)?;
-        let seen = reached(self.edges.as_slice(), Follow::Flow, start)?;
+        let seen = reached_from(self.alloc, &self.edges, Follow::Flow, instantiation)?;
         if is_among(seen.as_slice(), argument) {
             return Err(InstantiationArgumentError::WouldFormCycle {
                 node: instantiation,

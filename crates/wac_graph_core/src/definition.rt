@@ -8,6 +8,7 @@ ghost use Rattle.wac_graph_core.specs.Edges.{AreEdges, dependency_edge, has};
 ghost use Rattle.wac_graph_core.specs.Defining.{IsResource, MayDefine, DefinesType, DefineRefused};
 
 use crate::edge::{Edge, Label};
+use crate::edges::Edges;
 use crate::errors::{DefineTypeError, NameError};
 use crate::graph::{CompositionGraph, is_extern_name};
 use crate::ids::NodeId;
@@ -22,7 +23,7 @@ fn is_resource(ty: Type) -> bool
 }
 
 /// Adds the dependencies of a node, for which there is room.
-fn depend_on(edges: &mut Vec<Edge>, sources: &[NodeId], node: NodeId)
+fn depend_on(edges: &mut Edges, sources: &[NodeId], node: NodeId)
     requires { vec_len edges.old + length sources.now ≤ vec_capacity edges.old }
     ensures added { AreEdges edges.new.items (λ d. Among d edges.old.items ⊎ ((a : ℕ) × (has sources.now a ≡ true) × (d ≡ dependency_edge a node))) }
     ensures len { vec_len edges.new ≡ vec_len edges.old + length sources.now }
@@ -38,7 +39,7 @@ fn depend_on(edges: &mut Vec<Edge>, sources: &[NodeId], node: NodeId)
 }
 
 /// Adds the dependencies on a node, for which there is room.
-fn depended_by(edges: &mut Vec<Edge>, node: NodeId, targets: &[NodeId])
+fn depended_by(edges: &mut Edges, node: NodeId, targets: &[NodeId])
     requires { vec_len edges.old + length targets.now ≤ vec_capacity edges.old }
     ensures { AreEdges edges.new.items (λ d. Among d edges.old.items ⊎ ((b : ℕ) × (has targets.now b ≡ true) × (d ≡ dependency_edge node b))) }
 {
@@ -52,7 +53,7 @@ fn depended_by(edges: &mut Vec<Edge>, node: NodeId, targets: &[NodeId])
 }
 
 /// Makes room for so many edges, and for so many more.
-fn reserve_both(edges: &mut Vec<Edge>, first: usize, second: usize) -> Result<(), AllocError>
+fn reserve_both(edges: &mut Edges, first: usize, second: usize) -> Result<(), AllocError>
     ensures room { OnOk result (vec_len edges.new + (first + second) ≤ vec_capacity edges.new) }
     ensures same { edges.new.items ≡ edges.old.items }
 {

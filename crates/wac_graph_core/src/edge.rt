@@ -6,6 +6,7 @@ ghost use Rattle.wac_types_base.specs.Graph.{Among};
 ghost use Rattle.wac_graph_core.specs.Edges.{follows, has, IsReached, AreEdges, HasAlias, HasArgument, argument_edge, Stays};
 ghost use Rattle.wac_graph_core.specs.Walking.{PassesAs, first_alias, first_argument, first_source, first_new, is_passed, is_apart};
 
+use crate::edges::Edges;
 use crate::ids::NodeId;
 use std::alloc::{AllocError, Global};
 use wac_types_base::Text;
@@ -106,6 +107,22 @@ pub(crate) fn alone(alloc: Global, node: NodeId) -> Result<Vec<NodeId>, AllocErr
     Ok(list)
 }
 
+/// The nodes that are reached from one, that first. Where no edge that is followed leads from it, no others are looked at.
+pub(crate) fn reached_from(
+    alloc: Global,
+    edges: &Edges,
+    follow: Follow,
+    node: NodeId,
+) -> Result<Vec<NodeId>, AllocError>
+    ensures { IfOk result (λ seen. IsReached follow edges.now.items (node ∷ []) seen.items) }
+{
+    let start = alone(alloc, node)?;
+    match next_reached(edges.leading_from(node), follow, start.as_slice()) {
+        None => Ok(start),
+        Some(_) => reached(edges.as_slice(), follow, start),
+    }
+}
+
 /// The first alias of an export.
 fn alias_found(edges: &[Edge], instance: NodeId, export: &str) -> Option<NodeId>
     ensures { result ≡ first_alias edges.now instance export.now }
@@ -121,46 +138,18 @@ fn alias_found(edges: &[Edge], instance: NodeId, export: &str) -> Option<NodeId>
 }
 
 /// The alias of an export, if there is one.
-pub(crate) fn find_alias(edges: &[Edge], instance: NodeId, export: &str) -> Option<NodeId>
-    ensures found { IfSome result (λ k. HasAlias edges.now instance export.now k) }
-    ensures none { IfNone result ((k : ℕ) → HasAlias edges.now instance export.now k → ⊥) }
+pub(crate) fn find_alias(edges: &Edges, instance: NodeId, export: &str) -> Option<NodeId>
+    ensures found { IfSome result (λ k. HasAlias edges.now.items instance export.now k) }
+    ensures none { IfNone result ((k : ℕ) → HasAlias edges.now.items instance export.now k → ⊥) }
 {
-    alias_found(edges, instance, export)
+    alias_found(edges.leading_from(instance), instance, export)
 }
 
-/// The edges behind those at the front that do not lead to a node.
-fn from_first(edges: &[Edge], node: NodeId) -> &[Edge]
-    ensures { PassesAs edges.now node result.now }
+/// The part of the edges in which all those to a node are.
+pub(crate) fn edges_to(edges: &Edges, node: NodeId) -> &[Edge]
+    ensures { PassesAs edges.now.items node result.now }
 {
-    let mut left = edges;
-    while let Some((first, rest)) = left.split_first() {
-        if first.to.index() == node.index() {
-            break;
-        }
-        left = rest;
-    }
-    left
-}
-
-/// The edges before those at the end that do not lead to a node.
-fn until_last(edges: &[Edge], node: NodeId) -> &[Edge]
-    ensures { PassesAs edges.now node result.now }
-{
-    let mut left = edges;
-    while let Some((last, rest)) = left.split_last() {
-        if last.to.index() == node.index() {
-            break;
-        }
-        left = rest;
-    }
-    left
-}
-
-/// The edges from the first to the last that lead to a node.
-pub(crate) fn edges_to(edges: &[Edge], node: NodeId) -> &[Edge]
-    ensures { PassesAs edges.now node result.now }
-{
-    until_last(from_first(edges, node), node)
+    edges.leading_to(node)
 }
 
 /// What is passed first as an argument.
@@ -182,11 +171,11 @@ pub(crate) fn argument_found(
 }
 
 /// What is passed as an argument, if anything is.
-pub(crate) fn find_argument(edges: &[Edge], instantiation: NodeId, argument: &str) -> Option<NodeId>
-    ensures found { IfSome result (λ a. HasArgument edges.now instantiation argument.now a) }
-    ensures none { IfNone result ((a : ℕ) → HasArgument edges.now instantiation argument.now a → ⊥) }
+pub(crate) fn find_argument(edges: &Edges, instantiation: NodeId, argument: &str) -> Option<NodeId>
+    ensures found { IfSome result (λ a. HasArgument edges.now.items instantiation argument.now a) }
+    ensures none { IfNone result ((a : ℕ) → HasArgument edges.now.items instantiation argument.now a → ⊥) }
 {
-    argument_found(edges, instantiation, argument)
+    argument_found(edges.leading_to(instantiation), instantiation, argument)
 }
 
 /// The first edge that makes a node an alias.
@@ -204,22 +193,22 @@ fn source_found(edges: &[Edge], alias: NodeId) -> Option<(NodeId, &str)>
 }
 
 /// The instance and the export that a node is an alias of.
-pub(crate) fn find_source(edges: &[Edge], alias: NodeId) -> Option<(NodeId, &str)>
-    ensures found { IfSome result (λ x. HasAlias edges.now x.0 x.1.now alias) }
-    ensures none { IfNone result ((i : ℕ) (n : Name) → HasAlias edges.now i n alias → ⊥) }
+pub(crate) fn find_source(edges: &Edges, alias: NodeId) -> Option<(NodeId, &str)>
+    ensures found { IfSome result (λ x. HasAlias edges.now.items x.0 x.1.now alias) }
+    ensures none { IfNone result ((i : ℕ) (n : Name) → HasAlias edges.now.items i n alias → ⊥) }
 {
-    source_found(edges, alias)
+    source_found(edges.leading_to(alias), alias)
 }
 
 /// Adds an edge, for which there is room.
-pub(crate) fn add_edge(edges: &mut Vec<Edge>, edge: Edge)
+pub(crate) fn add_edge(edges: &mut Edges, edge: Edge)
     requires { vec_len edges.old + 1 ≤ vec_capacity edges.old }
     ensures { AreEdges edges.new.items (λ d. Among d edges.old.items ⊎ (d ≡ edge)) }
 {
     edges.push_reserved(edge);
 }
 
-fn is_this(edge: &Edge, argument: NodeId, instantiation: NodeId, name: &str) -> bool
+pub(crate) fn is_this(edge: &Edge, argument: NodeId, instantiation: NodeId, name: &str) -> bool
     ensures { result ≡ is_passed argument instantiation name.now edge.now }
 {
     match &edge.label {
@@ -232,33 +221,21 @@ fn is_this(edge: &Edge, argument: NodeId, instantiation: NodeId, name: &str) -> 
     }
 }
 
-fn retain_others(edges: &mut Vec<Edge>, argument: NodeId, instantiation: NodeId, name: &str)
-    ensures { edges.new.items ≡ filter (λ d. not (is_passed argument instantiation name.now d)) edges.old.items }
-{
-    edges.retain(|edge| !is_this(edge, argument, instantiation, name));
-}
-
 /// Takes the edge of an argument away, if it is there.
 pub(crate) fn remove_argument(
-    edges: &mut Vec<Edge>,
+    edges: &mut Edges,
     argument: NodeId,
     instantiation: NodeId,
     name: &str,
 )
     ensures { AreEdges edges.new.items (λ d. Among d edges.old.items × (d ≢ argument_edge argument instantiation name.now)) }
 {
-    retain_others(edges, argument, instantiation, name);
-}
-
-fn retain_apart(edges: &mut Vec<Edge>, gone: &[NodeId])
-    ensures { edges.new.items ≡ filter (is_apart gone.now) edges.old.items }
-{
-    edges.retain(|edge| !is_among(gone, edge.from) && !is_among(gone, edge.to));
+    edges.retain_others(argument, instantiation, name);
 }
 
 /// Takes each edge with an end in the list away.
-pub(crate) fn remove_edges(edges: &mut Vec<Edge>, gone: &[NodeId])
+pub(crate) fn remove_edges(edges: &mut Edges, gone: &[NodeId])
     ensures { AreEdges edges.new.items (λ d. Among d edges.old.items × (Stays gone.now d.from × Stays gone.now d.to)) }
 {
-    retain_apart(edges, gone);
+    edges.retain_apart(gone);
 }

@@ -8,7 +8,7 @@ ghost use Rattle.wac_graph_core.specs.Graph.{IsGraph, with_types, node_at, Conta
 ghost use Rattle.wac_graph_core.specs.Steps.{IsExternName, Imports, Instantiates};
 ghost use Rattle.wac_graph_core.specs.Refusals.{ImportRefused};
 
-use crate::edge::Edge;
+use crate::edges::Edges;
 use crate::errors::{ImportError, NameError};
 use crate::ids::{NodeId, PackageId};
 use crate::node::{Node, NodeKind};
@@ -26,7 +26,7 @@ pub struct CompositionGraph {
     pub(crate) alloc: Global,
     pub(crate) types: Types,
     pub(crate) nodes: Nodes,
-    pub(crate) edges: Vec<Edge>,
+    pub(crate) edges: Edges,
     pub(crate) exports: Vec<(Text, NodeId)>,
     pub(crate) places: Vec<Place>,
 }
@@ -66,7 +66,7 @@ impl CompositionGraph {
             alloc,
             types: Types::new(alloc, number),
             nodes: Nodes::new(alloc),
-            edges: Vec::new(alloc),
+            edges: Edges::new(alloc),
             exports: Vec::new(alloc),
             places: Vec::new(alloc),
         }

@@ -5,6 +5,7 @@ mod alias;
 mod argument;
 mod definition;
 mod edge;
+mod edges;
 pub mod errors;
 mod export;
 pub mod graph;
@@ -18,6 +19,7 @@ mod package;
 mod reach;
 mod registry;
 mod remove;
+mod spans;
 pub mod types_mut;
 mod wiring;
 

@@ -5,6 +5,7 @@ mod asks;
 mod classes;
 mod conflicts;
 mod copies;
+mod copying;
 pub mod encode;
 pub mod errors;
 mod holder;

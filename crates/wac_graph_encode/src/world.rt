@@ -6,6 +6,7 @@ ghost use Rattle.wac_types_base.specs.Collection.{Stands, Grows};
 
 use crate::asks::{Asked, Definition};
 use crate::copies::add_world;
+use crate::copying::Copies;
 use crate::nodes::{import_name, kind_of};
 use crate::outers::Outers;
 use crate::written::{Form, formed};
@@ -132,13 +133,14 @@ fn exported_type(
     graph: &CompositionGraph,
     types: &mut Types,
     typed: &Typed,
+    copies: &mut Copies,
     node: NodeId,
 ) -> Result<Option<ItemKind>, AllocError> {
     match final_type(alloc, graph, types, typed, node)? {
         Some(kind) => Ok(Some(kind)),
         None => match kind_of(graph, node) {
             Some(kind) => {
-                let copy = copy_item(alloc, graph.types(), kind, types)?;
+                let copy = copies.item(graph.types(), types, kind)?;
                 Ok(Some(copy))
             }
             None => Ok(None),
@@ -154,8 +156,9 @@ fn exports_typed(
     typed: &Typed,
 ) -> Result<NamedMap<ItemKind>, AllocError> {
     let mut exports = NamedMap::new(alloc);
+    let mut copies = Copies::new(alloc);
     for (name, node) in graph.exports() {
-        if let Some(item) = exported_type(alloc, graph, types, typed, *node)? {
+        if let Some(item) = exported_type(alloc, graph, types, typed, &mut copies, *node)? {
             let _ = exports.insert(String::from_str(alloc, name.as_str())?, item)?;
         }
     }

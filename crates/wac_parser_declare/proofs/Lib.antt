@@ -6,6 +6,7 @@ pub mod Loops
 pub mod Members
 pub mod Named
 pub mod Aliasing
+pub mod InBodies
 pub mod RowWords
 pub mod RefusedRows
 pub mod Standing

@@ -1,7 +1,16 @@
--- What stands in a body.
+-- What stands in a body, and what is stated in it.
+use Rattle.std.specs.Prelude.{map, option_map}
+use Rattle.wac_types_base.specs.declared.item.ItemKind.{ItemKind}
+use Rattle.wac_types_base.specs.declared.defined.UsedType.{UsedType}
 use Rattle.wac_types_base.specs.Record.{Collection}
+use Rattle.wac_types_base.specs.Entries.{Name, with_values}
+use Rattle.wac_types_base.specs.Stated.{Used, stated_of}
 use Rattle.wac_parser_declare.specs.declared.bodies.Body.{Body}
-use Rattle.wac_parser_declare.specs.Holding.{ItemsStand, NamesStand, UsesStand}
+use Rattle.wac_parser_declare.specs.declared.bodies.Holder.{Holder}
+use Rattle.wac_parser_declare.specs.Bodies as stated
+use Rattle.wac_parser_declare.specs.Interfaces.{exporting}
+use Rattle.wac_parser_declare.specs.Worlds.{importing}
+use Rattle.wac_parser_declare.specs.Holding.{ItemsStand, NamesStand, UsesStand, scope_of}
 
 -- each id in the body stands
 pub record BodyStands (c : Collection) (b : Body) : Type 0 where
@@ -9,3 +18,20 @@ pub record BodyStands (c : Collection) (b : Body) : Type 0 where
   pub uses : UsesStand c b.uses
   pub items : ItemsStand c b.items
   pub exports : ItemsStand c b.exports
+
+abbrev pub stated_use : Collection → Name × UsedType → Used
+stated_use c u = record { name = u.0; there = u.1.name; interface = stated_of c (ItemKind.Instance u.1.interface) }
+
+-- what is stated in the body
+abbrev pub stated_body : Collection → Body → stated.Body
+stated_body c b = record {
+  names = scope_of c b.names;
+  uses = map (stated_use c) b.uses;
+  items = with_values (stated_of c) b.items;
+  exports = with_values (stated_of c) b.exports;
+}
+
+-- whose body it is
+abbrev pub holder_of : Holder → stated.Holder
+holder_of (Holder.Interface n) = exporting (option_map (λ m. m.now) n)
+holder_of (Holder.World n) = importing n.now

@@ -10,3 +10,4 @@ pub mod Worlds
 pub mod Holding
 pub mod Payloads
 pub mod Held
+pub mod InBodies

@@ -6,6 +6,7 @@ ghost use Rattle.wac_types_base.specs.declared.item.ItemKind.{ItemKind};
 ghost use Rattle.wac_types_base.specs.Record.{Collection};
 ghost use Rattle.wac_types_base.specs.Collection.{Stands};
 ghost use Rattle.wac_parser_declare.specs.Held.{BodyStands};
+ghost use Rattle.wac_parser_declare.specs.InBodies.{IsItemAdded, IsTypeAdded};
 
 use crate::functions::add_new;
 use crate::scope::{Binding, bind};
@@ -34,8 +35,14 @@ pub(crate) enum Holder<'a> {
 }
 
 impl<'a> Holder<'a> {
+    ghost use Rattle.std.specs.Prelude.{◌≡◌};
+    ghost use Rattle.wac_parser_refusals.specs.Outcomes.{Refuses};
+    ghost use Rattle.wac_parser_declare.specs.Held.{holder_of};
+
     /// What the items of the body are.
-    pub(crate) fn kind(self) -> ExternKind {
+    pub(crate) fn kind(self) -> ExternKind
+        ensures { result ≡ (holder_of self.entry).kind }
+    {
         match self {
             Holder::Interface(_) => ExternKind::Export,
             Holder::World(_) => ExternKind::Import,
@@ -43,7 +50,9 @@ impl<'a> Holder<'a> {
     }
 
     /// The refusal of an item whose name is taken.
-    pub(crate) fn duplicate(self, alloc: Global, id: &Ident<'_>) -> Refusal {
+    pub(crate) fn duplicate(self, alloc: Global, id: &Ident<'_>) -> Refusal
+        ensures { Refuses result ((holder_of self.entry).duplicate id.now.string.now) id.now.span }
+    {
         match self {
             Holder::Interface(name) => duplicate_export(alloc, id.string, name, id.span),
             Holder::World(world) => {
@@ -75,7 +84,8 @@ pub(crate) fn add_item(
     id: &Ident<'_>,
     kind: ItemKind,
 ) -> Outcome<()>
-    ensures { OnOk result ((c : Collection) → BodyStands c body.old → Stands c kind → BodyStands c body.new) }
+    ensures outcome { IsItemAdded holder.entry body.old id.now kind body.new result }
+    ensures stands { OnOk result ((c : Collection) → BodyStands c body.old → Stands c kind → BodyStands c body.new) }
 {
     if add_new(alloc, &mut body.items, id.string, kind)? {
         Ok(())
@@ -92,7 +102,8 @@ pub(crate) fn add_type(
     id: &Ident<'_>,
     ty: Type,
 ) -> Outcome<()>
-    ensures { OnOk result ((c : Collection) → BodyStands c body.old → Stands c (ItemKind.Ty ty) → BodyStands c body.new) }
+    ensures outcome { IsTypeAdded holder.entry body.old id.now ty body.new result }
+    ensures stands { OnOk result ((c : Collection) → BodyStands c body.old → Stands c (ItemKind.Ty ty) → BodyStands c body.new) }
 {
     bind(alloc, &mut body.names, id, ItemKind::Ty(ty))?;
     add_item(alloc, holder, body, id, ItemKind::Ty(ty))

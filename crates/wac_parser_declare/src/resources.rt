@@ -1,13 +1,17 @@
 //! Declarations in a body, resources with their methods among them.
 #![tactic(auto, using(crate::proofs::Standing::bodies))]
 
-ghost use Rattle.std.specs.Prelude.{◌≡◌, ◌⊎◌, IfOk, IfSome, None, OnOk, Some};
+ghost use Rattle.std.specs.Prelude.{◌≡◌, IfOk, OnOk, false, is_some, string_bytes};
 ghost use Rattle.wac_types_base.specs.declared.item.ItemKind.{ItemKind};
-ghost use Rattle.wac_types_base.specs.declared.item.ValueType.{ValueType};
 ghost use Rattle.wac_types_base.specs.declared.item.«Type».{«Type» as TypeKind};
-ghost use Rattle.wac_types_base.specs.Collection.{Stands, Grows};
+ghost use Rattle.wac_types_base.specs.Record.{Collection};
+ghost use Rattle.wac_types_base.specs.Collection.{Stands, Grows, resource};
+ghost use Rattle.wac_types_base.specs.Entries.{value_at};
+ghost use Rattle.wac_types_base.specs.Stated.{leaf};
+ghost use Rattle.wac_parser_declare.specs.Aliases.{stated_resource};
+ghost use Rattle.wac_parser_declare.specs.Bodies as stated;
 ghost use Rattle.wac_parser_declare.specs.Held.{BodyStands};
-ghost use Rattle.wac_parser_declare.specs.Holding.{StandsIf};
+ghost use Rattle.wac_parser_declare.specs.InBodies.{Constructs, Declares, FunctionStands, InBody, IsDeclared, IsFunctionAdded, IsMember, IsMethod, Members, TypeStands, is_method, signature_of};
 
 use crate::aliases::{Place, type_alias};
 use crate::bodies::{Body, Holder, add_type};
@@ -17,7 +21,10 @@ use crate::type_decls::{enum_decl, flags_decl, record_decl, variant_decl};
 use std::alloc::{AllocError, Global};
 use wac_parser_refusals::{Outcome, duplicate_constructor, duplicate_method};
 use wac_parser_tree as ast;
-use wac_types_base::{FuncKind, ItemKind, Resource, ResourceId, Text, Type, ValueType};
+use wac_parser_tree::Ident;
+use wac_types_base::{
+    FuncKind, FuncTypeId, ItemKind, NamedMap, Resource, ResourceId, Text, Type, ValueType,
+};
 
 /// A resource whose functions are declared.
 #[derive(Clone, Copy)]
@@ -27,7 +34,9 @@ struct Owner<'a> {
 }
 
 /// `[constructor]r`
-fn constructor_name(alloc: Global, resource: &str) -> Result<String, AllocError> {
+fn constructor_name(alloc: Global, resource: &str) -> Result<String, AllocError>
+    ensures { IfOk result (λ n. string_bytes n ≡ stated.constructor_name resource.now) }
+{
     let mut name = String::from_str(alloc, "[constructor]")?;
     name.push_str(resource)?;
     Ok(name)
@@ -39,7 +48,9 @@ fn method_name(
     is_static: bool,
     resource: &str,
     method: &str,
-) -> Result<String, AllocError> {
+) -> Result<String, AllocError>
+    ensures { IfOk result (λ n. string_bytes n ≡ stated.method_name is_static resource.now method.now) }
+{
     let word = if is_static { "[static]" } else { "[method]" };
     let mut name = String::from_str(alloc, word)?;
     name.push_str(resource)?;
@@ -48,23 +59,18 @@ fn method_name(
     Ok(name)
 }
 
-/// Adds the function of a resource.
-fn add_function<T: GrowingTypes>(
-    params: &Vec<ast::NamedType<'_>>,
-    results: &ast::ResultList<'_>,
+/// Adds a function of a resource under a name that is new, if its type is one.
+fn add_function(
     alloc: Global,
-    types: &mut T,
     body: &mut Body,
     name: &str,
-    signature: Signature,
+    declared: Outcome<FuncTypeId>,
 ) -> Outcome<()>
-    requires body { BodyStands (T.collection types.old) body.old }
-    requires receiver { StandsIf (T.collection types.old) signature.receiver }
-    requires given { StandsIf (T.collection types.old) signature.given }
-    ensures body { OnOk result (BodyStands (T.collection types.new) body.new) }
-    ensures grows { Grows (T.collection types.old) (T.collection types.new) }
+    requires { is_some (value_at body.old.items name.now) ≡ false }
+    ensures outcome { IsFunctionAdded body.old name.now declared body.new result }
+    ensures stands { FunctionStands body.old declared body.new result }
 {
-    let func = function(params, results, alloc, &body.names, types, signature)?;
+    let func = declared?;
     let _ = add_new(alloc, &mut body.items, name, ItemKind::Func(func))?;
     Ok(())
 }
@@ -79,6 +85,7 @@ fn add_constructor<T: GrowingTypes>(
 ) -> Outcome<()>
     requires body { BodyStands (T.collection types.old) body.old }
     requires owner { Stands (T.collection types.old) (ItemKind.Ty (TypeKind.Resource owner.id)) }
+    ensures outcome { Constructs owner.entry decl.now (T.collection types.old) body.old (T.collection types.new) body.new result }
     ensures body { OnOk result (BodyStands (T.collection types.new) body.new) }
     ensures grows { Grows (T.collection types.old) (T.collection types.new) }
 {
@@ -94,21 +101,27 @@ fn add_constructor<T: GrowingTypes>(
         is_async: false,
     };
     let results = ast::ResultList::Empty;
-    add_function(
-        &decl.params,
-        &results,
-        alloc,
-        types,
-        body,
-        name.as_str(),
-        signature,
-    )
+    let declared = function(&decl.params, &results, alloc, &body.names, types, signature);
+    add_function(alloc, body, name.as_str(), declared)
+}
+
+/// Whether the resource has a method of this name, static or not.
+fn has_method(
+    alloc: Global,
+    items: &NamedMap<ItemKind>,
+    resource: &str,
+    method: &str,
+) -> Result<bool, AllocError>
+    ensures { IfOk result (λ b. b ≡ is_method items.now resource.now method.now) }
+{
+    let of_type = method_name(alloc, true, resource, method)?;
+    let of_value = method_name(alloc, false, resource, method)?;
+    Ok(items.contains(of_type.as_str()) || items.contains(of_value.as_str()))
 }
 
 /// What is given of a method, static or not.
 fn method_signature(decl: &ast::Method<'_>, resource: ResourceId) -> Signature
-    ensures given { result.given ≡ None }
-    ensures receiver { (result.receiver ≡ None) ⊎ (result.receiver ≡ Some (ValueType.Borrow resource)) }
+    ensures { result ≡ signature_of decl.now resource }
 {
     if decl.is_static {
         Signature {
@@ -137,25 +150,26 @@ fn add_method<T: GrowingTypes>(
 ) -> Outcome<()>
     requires body { BodyStands (T.collection types.old) body.old }
     requires owner { Stands (T.collection types.old) (ItemKind.Ty (TypeKind.Resource owner.id)) }
+    ensures outcome { IsMethod owner.entry decl.now (T.collection types.old) body.old (T.collection types.new) body.new result }
     ensures body { OnOk result (BodyStands (T.collection types.new) body.new) }
     ensures grows { Grows (T.collection types.old) (T.collection types.new) }
 {
     types.types().see_acyclic();
-    let name = method_name(alloc, decl.is_static, owner.name, decl.id.string)?;
-    let other = method_name(alloc, !decl.is_static, owner.name, decl.id.string)?;
-    if body.items.contains(name.as_str()) || body.items.contains(other.as_str()) {
+    if has_method(alloc, &body.items, owner.name, decl.id.string)? {
         return Err(duplicate_method(alloc, decl.id.string, owner.name, decl.id.span));
     }
+    let name = method_name(alloc, decl.is_static, owner.name, decl.id.string)?;
     let signature = method_signature(decl, owner.id);
-    add_function(
-        &decl.ty.params,
-        &decl.ty.results,
+    let ty = &decl.ty;
+    let declared = function(
+        &ty.params,
+        &ty.results,
         alloc,
+        &body.names,
         types,
-        body,
-        name.as_str(),
         signature,
-    )
+    );
+    add_function(alloc, body, name.as_str(), declared)
 }
 
 /// One more function of a resource.
@@ -168,6 +182,7 @@ fn resource_method<T: GrowingTypes>(
 ) -> Outcome<()>
     requires body { BodyStands (T.collection types.old) body.old }
     requires owner { Stands (T.collection types.old) (ItemKind.Ty (TypeKind.Resource owner.id)) }
+    ensures outcome { IsMember owner.entry method.now (T.collection types.old) body.old (T.collection types.new) body.new result }
     ensures body { OnOk result (BodyStands (T.collection types.new) body.new) }
     ensures grows { Grows (T.collection types.old) (T.collection types.new) }
 {
@@ -187,6 +202,7 @@ fn resource_methods<T: GrowingTypes>(
 ) -> Outcome<()>
     requires body { BodyStands (T.collection types.old) body.old }
     requires owner { Stands (T.collection types.old) (ItemKind.Ty (TypeKind.Resource owner.id)) }
+    ensures outcome { Members owner.entry methods.now (T.collection types.old) body.old (T.collection types.new) body.new result }
     ensures body { OnOk result (BodyStands (T.collection types.new) body.new) }
     ensures grows { Grows (T.collection types.old) (T.collection types.new) }
 {
@@ -203,6 +219,7 @@ fn new_resource<T: GrowingTypes>(
     types: &mut T,
     name: &str,
 ) -> Result<ResourceId, AllocError>
+    ensures stated { IfOk result (λ r. stated_resource (T.collection types.new) r ≡ leaf (resource name.now)) }
     ensures stands { IfOk result (λ r. Stands (T.collection types.new) (ItemKind.Ty (TypeKind.Resource r))) }
     ensures grows { Grows (T.collection types.old) (T.collection types.new) }
 {
@@ -223,6 +240,7 @@ fn resource_decl<T: GrowingTypes>(
     body: &mut Body,
 ) -> Outcome<()>
     requires body { BodyStands (T.collection types.old) body.old }
+    ensures outcome { Declares holder.entry decl.now (T.collection types.old) body.old (T.collection types.new) body.new result }
     ensures body { OnOk result (BodyStands (T.collection types.new) body.new) }
     ensures grows { Grows (T.collection types.old) (T.collection types.new) }
 {
@@ -235,28 +253,19 @@ fn resource_decl<T: GrowingTypes>(
     resource_methods(&decl.methods, alloc, types, owner, body)
 }
 
-/// The type that a declaration in a body states, where that is no resource of its own.
-fn declared_type<T: GrowingTypes>(
-    decl: &ast::ItemTypeDecl<'_>,
+/// Adds a type that is declared, if it is one.
+fn add_declared(
     alloc: Global,
-    types: &mut T,
-    body: &Body,
-) -> Outcome<Option<Type>>
-    requires body { BodyStands (T.collection types.old) body.now }
-    ensures stands { IfOk result (λ o. IfSome o (λ t. Stands (T.collection types.new) (ItemKind.Ty t))) }
-    ensures grows { Grows (T.collection types.old) (T.collection types.new) }
+    holder: Holder<'_>,
+    body: &mut Body,
+    id: &Ident<'_>,
+    declared: Outcome<Type>,
+) -> Outcome<()>
+    ensures outcome { IsDeclared holder.entry body.old id.now declared body.new result }
+    ensures stands { TypeStands body.old declared body.new result }
 {
-    types.types().see_acyclic();
-    let names = &body.names;
-    let ty = match decl {
-        ast::ItemTypeDecl::Resource(_) => return Ok(None),
-        ast::ItemTypeDecl::Variant(decl) => variant_decl(decl, alloc, names, types)?,
-        ast::ItemTypeDecl::Record(decl) => record_decl(decl, alloc, names, types)?,
-        ast::ItemTypeDecl::Flags(decl) => flags_decl(decl, alloc, types)?,
-        ast::ItemTypeDecl::Enum(decl) => enum_decl(decl, alloc, types)?,
-        ast::ItemTypeDecl::Alias(decl) => type_alias(decl, alloc, names, types, Place::Body)?,
-    };
-    Ok(Some(ty))
+    let ty = declared?;
+    add_type(alloc, holder, body, id, ty)
 }
 
 /// A declaration in a body.
@@ -268,14 +277,31 @@ pub(crate) fn item_type<T: GrowingTypes>(
     body: &mut Body,
 ) -> Outcome<()>
     requires body { BodyStands (T.collection types.old) body.old }
+    ensures outcome { InBody holder.entry decl.now (T.collection types.old) body.old (T.collection types.new) body.new result }
     ensures body { OnOk result (BodyStands (T.collection types.new) body.new) }
     ensures grows { Grows (T.collection types.old) (T.collection types.new) }
 {
-    if let ast::ItemTypeDecl::Resource(decl) = decl {
-        return resource_decl(decl, alloc, types, holder, body);
-    }
-    match declared_type(decl, alloc, types, body)? {
-        Some(ty) => add_type(alloc, holder, body, decl.id(), ty),
-        None => Ok(()),
+    match decl {
+        ast::ItemTypeDecl::Resource(decl) => resource_decl(decl, alloc, types, holder, body),
+        ast::ItemTypeDecl::Variant(decl) => {
+            let declared = variant_decl(decl, alloc, &body.names, types);
+            add_declared(alloc, holder, body, &decl.id, declared)
+        }
+        ast::ItemTypeDecl::Record(decl) => {
+            let declared = record_decl(decl, alloc, &body.names, types);
+            add_declared(alloc, holder, body, &decl.id, declared)
+        }
+        ast::ItemTypeDecl::Flags(decl) => {
+            let declared = flags_decl(decl, alloc, types);
+            add_declared(alloc, holder, body, &decl.id, declared)
+        }
+        ast::ItemTypeDecl::Enum(decl) => {
+            let declared = enum_decl(decl, alloc, types);
+            add_declared(alloc, holder, body, &decl.id, declared)
+        }
+        ast::ItemTypeDecl::Alias(decl) => {
+            let declared = type_alias(decl, alloc, &body.names, types, Place::Body);
+            add_declared(alloc, holder, body, &decl.id, declared)
+        }
     }
 }

@@ -5,6 +5,7 @@ ghost use Rattle.std.specs.Prelude.{◌≡◌, ◌∷◌, ◌++◌, [], OnOk, On
 ghost use Rattle.wac_types_base.specs.Entries.{value_at};
 ghost use Rattle.wac_parser_refusals.specs.Causes.{present, UndefinedName};
 ghost use Rattle.wac_parser_refusals.specs.Outcomes.{IsOutcome};
+ghost use Rattle.wac_parser_declare.specs.InBodies.{IsBound};
 
 use crate::functions::add_new;
 use std::alloc::Global;
@@ -48,6 +49,7 @@ pub fn bind(
     id: &Ident<'_>,
     kind: ItemKind,
 ) -> Outcome<()>
+    ensures outcome { IsBound names.old id.now kind names.new result }
     ensures ok { OnOk result (names.new ≡ names.old ++ (id.now.string.now, record { kind = kind; span = id.now.span }) ∷ []) }
     ensures kept { OnErr result (names.new ≡ names.old) }
 {

@@ -10,7 +10,7 @@ use std::alloc::Global;
 use wac_graph_core::CompositionGraph;
 use wac_manifest::{BytesData, Component, TextData};
 use wac_parser_read::ParseDocument;
-use wac_parser_resolve::{Packages, ResolveDocument};
+use wac_parser_resolve::{Error as ResolutionError, Packages, ResolveDocument};
 use wac_parser_tree::Document;
 use wac_types_names::BorrowedPackageKey;
 use wac_workspace::{AddPackageError, Workspace};
@@ -116,6 +116,13 @@ fn add_with_graph(
     }
 }
 
+/// Why a document was not resolved. It is dropped by a call, so that no proof takes its type apart.
+fn unresolved(alloc: Global, fault: ResolutionError) -> Stop {
+    let stop = not_resolved(alloc, &fault);
+    drop(fault);
+    stop
+}
+
 /// Adds a component whose world a text declares.
 fn add_with_text<'s, D: ParseDocument<'s> + ResolveDocument + DeclareDocument>(
     source: &'s str,
@@ -131,7 +138,7 @@ fn add_with_text<'s, D: ParseDocument<'s> + ResolveDocument + DeclareDocument>(
     let none: Packages<'_> = Packages::new(alloc);
     match document.resolve(alloc, &none, DECLARED) {
         Ok(resolution) => { add_with_graph(alloc, workspace, added, resolution.graph(), declares) }
-        Err(fault) => Err(not_resolved(alloc, &fault)),
+        Err(fault) => Err(unresolved(alloc, fault)),
     }
 }
 

@@ -59,12 +59,23 @@ fn asked<'a>(words: &[&'a str]) -> Option<(Command, &'a str)>
     }
 }
 
+// A fault is dropped by a call of `drop`: in an arm of a `match` each proof would take its whole type apart.
+
+/// Why the input was not read.
+fn unread(alloc: Global, fault: StreamError) -> Stop {
+    let stop = match &fault {
+        StreamError::Memory => Stop::Memory,
+        _ => cannot_read(alloc, "-"),
+    };
+    drop(fault);
+    stop
+}
+
 /// What the input has.
 fn read_input<R: ByteSource>(alloc: Global, input: &mut R) -> Result<Vec<u8>, Stop> {
     match read_source(alloc, input) {
         Ok(bytes) => Ok(bytes),
-        Err(StreamError::Memory) => Err(Stop::Memory),
-        Err(_) => Err(cannot_read(alloc, "-")),
+        Err(fault) => Err(unread(alloc, fault)),
     }
 }
 

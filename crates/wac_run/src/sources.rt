@@ -83,6 +83,16 @@ fn taken_by<'s, D: ParseDocument<'s> + NameDocument>(source: &'s str, alloc: Glo
     }
 }
 
+/// Why a text was not composed.
+fn refused(source: &str, alloc: Global, fault: ComposeError) -> Stop {
+    let stop = match &fault {
+        ComposeError::KeyTaken => taken_by::<Document<'_>>(source, alloc),
+        fault => not_composed(alloc, fault),
+    };
+    drop(fault);
+    stop
+}
+
 /// Composes a text.
 fn composed(
     source: &str,
@@ -97,8 +107,7 @@ fn composed(
     };
     match workspace.compose(source, options) {
         Ok(output) => Ok(output),
-        Err(ComposeError::KeyTaken) => Err(taken_by::<Document<'_>>(source, alloc)),
-        Err(fault) => Err(not_composed(alloc, &fault)),
+        Err(fault) => Err(refused(source, alloc, fault)),
     }
 }
 

@@ -1,4 +1,4 @@
-use Rattle.std.proofs.Common.{◌≡◌, ap, refl}
+use Rattle.std.proofs.Common.{ap, refl}
 use Rattle.wac_types_fit.specs.Errors.{steps, steps_of}
 use Rattle.wac_graph_core.proofs.argument.mismatch.Goals as goal
 

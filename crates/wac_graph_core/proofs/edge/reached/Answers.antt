@@ -1,5 +1,5 @@
-use Rattle.std.proofs.Common.{◌≡◌, Some, ap, sym, ◌∙◌, refl, subst, ◌<◌, ◌++◌, ◌∷◌, [], true, ℕ}
-use Rattle.wac_graph_core.specs.Edges.{has, Reaches, at_start}
+use Rattle.std.proofs.Common.{ap, sym, ◌∙◌, subst, ◌<◌}
+use Rattle.wac_graph_core.specs.Edges.{has, at_start}
 use Rattle.wac_graph_core.specs.Walking.{outside, first_new}
 use Rattle.wac_graph_core.proofs.Walks.{has-kept, step_smaller, step_known, complete_at_end}
 use Rattle.wac_graph_core.proofs.edge.reached.Goals as goal

@@ -1,4 +1,4 @@
-use Rattle.std.proofs.Common.{Some, None, refl, sym, ap, subst, ◌∙◌, arith}
+use Rattle.std.proofs.Common.{Some, sym, ap, subst, ◌∙◌, arith}
 use Rattle.wac_types_base.specs.Collection.{slots_of}
 use Rattle.wac_types_base.proofs.Walking.{child_smaller, some_place}
 use Rattle.wac_types_base.proofs.Visited.{no_child}

@@ -1,4 +1,4 @@
-use Rattle.std.proofs.Common.{ℕ, ◌-◌, length}
+use Rattle.std.proofs.Common.{◌-◌, length}
 use Rattle.wac_types_base.specs.Collection.{size_of, slots_of}
 use Rattle.wac_graph_core.proofs.Reached.{Gathered}
 use Rattle.wac_graph_core.proofs.reach.+mark_reached.Given as goal

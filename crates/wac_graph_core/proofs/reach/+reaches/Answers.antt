@@ -1,9 +1,9 @@
-use Rattle.std.proofs.Common.{Some, None, refl, sym, ap, subst, ◌∙◌, arith}
+use Rattle.std.proofs.Common.{Some, refl, sym, ap, subst, ◌∙◌, arith}
 use Rattle.wac_types_base.specs.Collection.{slots_of}
 use Rattle.wac_types_base.proofs.Walking.{child_smaller, some_place}
 use Rattle.wac_types_base.proofs.Visited.{no_child}
 use Rattle.wac_graph_core.specs.Reaching.{reaches_own, MarkedOwn, Marks}
-use Rattle.wac_graph_core.proofs.Reached.{own_marked, sought_first, sought_hole, sought_next, found_below, not_reached, without_all}
+use Rattle.wac_graph_core.proofs.Reached.{own_marked, sought_hole, sought_next, found_below, not_reached, without_all}
 use Rattle.wac_graph_core.proofs.reach.+reaches.Goals as goal
 use Rattle.wac_graph_core.proofs.reach.+reaches.Goals.{in-Some-place+else-reaches, in_default-place}
 

@@ -1,11 +1,11 @@
-use Rattle.std.proofs.Common.{◌≡◌, ℕ, ap, sym, ◌∙◌, refl, subst}
+use Rattle.std.proofs.Common.{ap, sym, ◌∙◌, subst}
 use Rattle.wac_types_base.specs.Collection.{Stands}
-use Rattle.wac_graph_core.specs.Edges.{alias_edge, HasAlias}
+use Rattle.wac_graph_core.specs.Edges.{alias_edge}
 use Rattle.wac_graph_core.specs.Graph.{Graph, ContainsNode, IsExport}
 use Rattle.wac_graph_core.specs.Steps.{AddsEdge, Aliases}
 use Rattle.wac_graph_core.specs.View.{graph}
 use Rattle.wac_graph_core.proofs.GraphSteps.{alias_by}
-use Rattle.wac_graph_core.proofs.Calls.{alias_step, again_step}
+use Rattle.wac_graph_core.proofs.Calls.{alias_step}
 use Rattle.wac_graph_core.proofs.graph.CompositionGraph.alias_instance_export.Goals as goal
 
 pub invariant_of-self-2 : goal.invariant_of-self-2
@@ -17,7 +17,7 @@ invariant_of-self-2 c =
     c.in_ok-id.ensures.free
     (subst (λ g. ContainsNode g c.args.instance) (sym c.self.view_is) c.requires)
     (subst (λ (g : Graph). Stands g.types c.in_ok-item.item) (sym c.self.view_is) c.in_ok-item.ensures.stands)
-    (subst (λ es. (k : ℕ) → HasAlias es c.args.instance c.args.export.now k → ⊥) c.as_slice.ensures.value c.in_default.ensures.none)
+    c.in_default.ensures.none
     c.self.invariant
 
 pub returns-clause-aliased : goal.returns-clause-aliased
@@ -27,6 +27,6 @@ returns-clause-aliased c =
     c.in_ok-id.ensures.added c.new-node.ensures
     (subst (λ es. AddsEdge es c.add_edge.new.edges.items (alias_edge c.args.instance c.in_ok-id.id c.new-name.result)) c.in_ok-reserve.ensures.items c.add_edge.ensures)
     (ap (alias_edge c.args.instance c.in_ok-id.id) (c.new-name.ensures ∙ c.in_ok-from_str.ensures.ok))
-    (subst (λ es. (k : ℕ) → HasAlias es c.args.instance c.args.export.now k → ⊥) c.as_slice.ensures.value c.in_default.ensures.none)
+    c.in_default.ensures.none
     (subst (λ g. IsExport g c.args.instance c.args.export.now c.in_ok-item.item) (sym c.self.view_is) c.in_ok-item.ensures.found)
     c.in_ok-id.ensures.free)

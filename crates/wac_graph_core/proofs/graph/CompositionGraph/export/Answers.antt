@@ -1,8 +1,7 @@
-use Rattle.std.proofs.Common.{◌≡◌, Some, None, ap, sym, ◌∙◌, subst, ◌++◌, ◌∷◌, []}
+use Rattle.std.proofs.Common.{Some, ap, sym, ◌∙◌, subst, ◌++◌, ◌∷◌, []}
 use Rattle.std.specs.FinMap as map
 use Rattle.wac_types_base.specs.Entries.{value_at}
-use Rattle.wac_graph_core.specs.Nodes.{NodeData}
-use Rattle.wac_graph_core.specs.Graph.{Graph, ContainsNode, IsGraph}
+use Rattle.wac_graph_core.specs.Graph.{Graph, ContainsNode}
 use Rattle.wac_graph_core.specs.Exporting.{Exports}
 use Rattle.wac_graph_core.specs.View.{graph}
 use Rattle.wac_graph_core.proofs.Calls.{node_of, export_step, exported_by}

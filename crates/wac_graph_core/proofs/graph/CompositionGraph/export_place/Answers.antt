@@ -1,4 +1,4 @@
-use Rattle.std.proofs.Common.{◌≡◌, Some, None, ap, sym, ◌∙◌}
+use Rattle.std.proofs.Common.{ap, sym, ◌∙◌}
 use Rattle.wac_graph_core.specs.Graph.{Graph}
 use Rattle.wac_graph_core.specs.Exporting.{place_of}
 use Rattle.wac_graph_core.proofs.Calls.{told_by, told_none}

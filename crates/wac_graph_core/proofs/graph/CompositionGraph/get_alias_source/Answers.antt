@@ -1,4 +1,4 @@
-use Rattle.std.proofs.Common.{◌≡◌, ℕ, ap, ◌∙◌, subst}
+use Rattle.std.proofs.Common.{ℕ, ap, subst}
 use Rattle.std.specs.Option.{IfNone}
 use Rattle.wac_types_base.specs.Entries.{Name}
 use Rattle.wac_graph_core.specs.Edges.{HasAlias}
@@ -7,4 +7,4 @@ use Rattle.wac_graph_core.proofs.graph.CompositionGraph.get_alias_source.Goals a
 
 pub returns-clause-none : goal.returns-clause-none
 returns-clause-none c =
-    subst (λ es. IfNone c.find_source.result ((i : ℕ) (n : Name) → HasAlias es i n c.args.alias → ⊥)) (c.as_slice.ensures.value ∙ ap (λ (g : Graph). g.edges) c.self.view_is) c.find_source.ensures.none
+    subst (λ es. IfNone c.find_source.result ((i : ℕ) (n : Name) → HasAlias es i n c.args.alias → ⊥)) (ap (λ (g : Graph). g.edges) c.self.view_is) c.find_source.ensures.none

@@ -1,5 +1,5 @@
-use Rattle.std.proofs.Common.{◌≡◌, ℕ, Some, ap, sym, ◌∙◌, refl, subst, slice_get}
-use Rattle.std.specs.Option.{IfSome, IfNone}
+use Rattle.std.proofs.Common.{◌≡◌, ℕ, Some, ap, sym, ◌∙◌, subst, slice_get}
+use Rattle.std.specs.Option.{IfSome}
 use Rattle.wac_types_names.specs.Keys.{borrowed_key, package_key}
 use Rattle.wac_graph_core.specs.declared.package.Place.{Place}
 use Rattle.wac_graph_core.specs.Graph.{Graph, package_of}

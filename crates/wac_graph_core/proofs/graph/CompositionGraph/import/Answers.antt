@@ -1,4 +1,4 @@
-use Rattle.std.proofs.Common.{◌≡◌, None, ap, sym, ◌∙◌, refl, subst}
+use Rattle.std.proofs.Common.{None, ap, sym, ◌∙◌, subst}
 use Rattle.wac_types_base.specs.Collection.{Stands}
 use Rattle.wac_graph_core.specs.Nodes.{Role, plain_node}
 use Rattle.wac_graph_core.specs.Graph.{Graph}

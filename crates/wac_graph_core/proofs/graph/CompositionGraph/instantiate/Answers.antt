@@ -1,7 +1,7 @@
-use Rattle.std.proofs.Common.{◌≡◌, Some, None, ap, sym, ◌∙◌, refl, subst}
+use Rattle.std.proofs.Common.{Some, ap, ◌∙◌, subst}
 use Rattle.wac_types_base.specs.declared.item.ItemKind.{ItemKind}
 use Rattle.wac_graph_core.specs.Nodes.{Role, plain_node}
-use Rattle.wac_graph_core.specs.Graph.{Graph, package_of}
+use Rattle.wac_graph_core.specs.Graph.{package_of}
 use Rattle.wac_graph_core.specs.Steps.{Instantiates}
 use Rattle.wac_graph_core.specs.View.{graph}
 use Rattle.wac_graph_core.proofs.GraphSteps.{instance_by}

@@ -1,9 +1,9 @@
-use Rattle.std.proofs.Common.{◌≡◌, ◌≤◌, ◌<◌, ◌++◌, ◌∷◌, [], ℕ, Some, length, ap, sym, ◌∙◌, refl, subst, slice_get, slice_set, arith}
+use Rattle.std.proofs.Common.{◌≡◌, ◌<◌, ℕ, Some, length, ap, sym, ◌∙◌, refl, subst, slice_get, slice_set, arith}
 use Rattle.wac_types_names.specs.Keys.{borrowed_key, package_key}
 use Rattle.wac_graph_core.specs.declared.ids.PackageId.{PackageId}
 use Rattle.wac_graph_core.specs.declared.package.Place.{Place}
 use Rattle.wac_graph_core.specs.Graph.{Graph, PackageStands}
-use Rattle.wac_graph_core.specs.Packages.{HoldsKey, IsFreePlace, IsNewPlace, NoKey, Registers, PlacesGrow, held_place}
+use Rattle.wac_graph_core.specs.Packages.{HoldsKey, IsFreePlace, NoKey, Registers, PlacesGrow, held_place}
 use Rattle.wac_graph_core.specs.View.{graph}
 use Rattle.wac_graph_core.proofs.ExportSteps.{got, within_list}
 use Rattle.wac_graph_core.proofs.Registering.{no_key, key_held, free_by, free_step, last_by, last_step, grow_set, grow_last}

@@ -1,8 +1,6 @@
-use Rattle.std.proofs.Common.{◌≡◌, ap, sym, ◌∙◌, refl, subst, filter, not}
-use Rattle.std.specs.FinMap as map
+use Rattle.std.proofs.Common.{sym, subst}
 use Rattle.wac_graph_core.specs.declared.edge.Follow.{Follow}
-use Rattle.wac_graph_core.specs.Edges.{has}
-use Rattle.wac_graph_core.specs.Graph.{Graph, IsGraph}
+use Rattle.wac_graph_core.specs.Graph.{Graph}
 use Rattle.wac_graph_core.specs.Removing.{IsClosed, TakesNodes}
 use Rattle.wac_graph_core.specs.View.{graph}
 use Rattle.wac_graph_core.proofs.Removal.{left_by}

@@ -1,4 +1,4 @@
-use Rattle.std.proofs.Common.{◌≡◌, ℕ, true, Option, Some, None, MatchOption, ap, sym, ◌∙◌, refl, subst, false, ◌∷◌, []}
+use Rattle.std.proofs.Common.{ℕ, MatchOption, ap, sym, ◌∙◌, refl, subst, ◌∷◌, []}
 use Rattle.wac_types_fit.specs.Trees.{Fit}
 use Rattle.wac_graph_core.specs.declared.edge.Follow.{Follow}
 use Rattle.wac_graph_core.specs.Edges.{has, IsReached, argument_edge, HasArgument}
@@ -17,19 +17,19 @@ pub invariant_of-self-2 : goal.invariant_of-self-2
 invariant_of-self-2 c =
     let g = graph c.self.inside in
     let reached : IsReached Follow.Flow c.self.inside.edges.items (c.args.instantiation ∷ []) c.in_ok-seen.seen.items =
-    subst (λ es. IsReached Follow.Flow es (c.args.instantiation ∷ []) c.in_ok-seen.seen.items) c.as_slice-2.ensures.value (subst (λ ss. IsReached Follow.Flow c.as_slice-2.result.now ss c.in_ok-seen.seen.items) c.in_ok-start.ensures c.in_ok-seen.ensures) in
+    c.in_ok-seen.ensures in
     argument_by g c.add_edge.new.edges.items c.args.argument c.args.instantiation c.args.name.now c.in-Ok.item (argument_edge c.args.argument c.args.instantiation c.new-text.result) c.in_ok-seen.seen.items
     (subst (λ es. AddsEdge es c.add_edge.new.edges.items (argument_edge c.args.argument c.args.instantiation c.new-text.result)) c.in_ok-reserve.ensures.items c.add_edge.ensures)
     (ap (argument_edge c.args.argument c.args.instantiation) (c.new-text.ensures ∙ c.in_ok-own.ensures.ok))
     (subst (λ g. ContainsNode g c.args.argument) (sym c.self.view_is) c.requires.argument)
     (subst (λ g. ContainsNode g c.args.instantiation) (sym c.self.view_is) c.requires.instantiation)
     (subst (λ g. IsArgument g c.args.instantiation c.args.name.now c.in-Ok.item) (sym c.self.view_is) c.in-Ok.ensures.found)
-    (subst (λ es. (b : ℕ) → HasArgument es c.args.instantiation c.args.name.now b → ⊥) c.as_slice.ensures.value c.in_default.ensures.none)
-    reached (sym (c.is_among.ensures ∙ ap (λ l. has l c.args.argument) c.as_slice-3.ensures.value) ∙ c.if-is_among.false) c.self.invariant
+    c.in_default.ensures.none
+    reached (sym (c.is_among.ensures ∙ ap (λ l. has l c.args.argument) c.as_slice.ensures.value) ∙ c.if-is_among.false) c.self.invariant
 
 pub returns-in-Some-fault-clause-refused : goal.returns-in-Some-fault-clause-refused
 returns-in-Some-fault-clause-refused c =
-    let none = subst (λ es. (b : ℕ) → HasArgument es c.args.instantiation c.args.name.now b → ⊥) (c.as_slice.ensures.value ∙ ap (λ (g : Graph). g.edges) c.self.view_is) c.in_default.ensures.none in
+    let none = subst (λ es. (b : ℕ) → HasArgument es c.args.instantiation c.args.name.now b → ⊥) (ap (λ (g : Graph). g.edges) c.self.view_is) c.in_default.ensures.none in
     let differs : Mismatches c.self.inside.types c.item_kind-given.result c.in-Ok.item c.in-Some-fault.source =
     subst (λ o. MatchOption o (Fit c.self.inside.types c.item_kind-given.result c.self.inside.types c.in-Ok.item) (λ x. Mismatches c.self.inside.types c.item_kind-given.result c.in-Ok.item x)) c.in-Some-fault.is c.in_ok-fault.ensures in
     let free : IsOpen c.args.self.now c.args.instantiation c.args.name.now c.in-Ok.item = record { is = c.in-Ok.ensures.found; none = none } in (
@@ -46,28 +46,26 @@ returns-in-Some-fault-clause-refused c =
 
 pub returns-then-is_among-clause-refused : goal.returns-then-is_among-clause-refused
 returns-then-is_among-clause-refused c =
-    let none = subst (λ es. (b : ℕ) → HasArgument es c.args.instantiation c.args.name.now b → ⊥) (c.as_slice.ensures.value ∙ ap (λ (g : Graph). g.edges) c.self.view_is) c.in_default.ensures.none in
+    let none = subst (λ es. (b : ℕ) → HasArgument es c.args.instantiation c.args.name.now b → ⊥) (ap (λ (g : Graph). g.edges) c.self.view_is) c.in_default.ensures.none in
     let fit : Fit c.self.inside.types c.item_kind-given.result c.self.inside.types c.in-Ok.item =
     subst (λ o. MatchOption o (Fit c.self.inside.types c.item_kind-given.result c.self.inside.types c.in-Ok.item) (λ x. Mismatches c.self.inside.types c.item_kind-given.result c.in-Ok.item x)) c.in-None.is c.in_ok-fault.ensures in
     let reached : IsReached Follow.Flow c.args.self.now.edges (c.args.instantiation ∷ []) c.in_ok-seen.seen.items =
-    subst (λ es. IsReached Follow.Flow es (c.args.instantiation ∷ []) c.in_ok-seen.seen.items) (c.as_slice-2.ensures.value ∙ ap (λ (g : Graph). g.edges) c.self.view_is)
-    (subst (λ ss. IsReached Follow.Flow c.as_slice-2.result.now ss c.in_ok-seen.seen.items) c.in_ok-start.ensures c.in_ok-seen.ensures) in
+    subst (λ es. IsReached Follow.Flow es (c.args.instantiation ∷ []) c.in_ok-seen.seen.items) (ap (λ (g : Graph). g.edges) c.self.view_is) c.in_ok-seen.ensures in
     let free : IsOpen c.args.self.now c.args.instantiation c.args.name.now c.in-Ok.item = record { is = c.in-Ok.ensures.found; none = none } in
     let fits : NodeFits c.args.self.now c.args.argument c.in-Ok.item = record {
       node = c.node.result.now;
       there = c.node.ensures;
       kind = subst (λ (g : Graph). Fit g.types c.node.result.now.item_kind g.types c.in-Ok.item) c.self.view_is (subst (λ k. Fit c.self.inside.types k c.self.inside.types c.in-Ok.item) c.item_kind-given.ensures fit);
     } in
-    (refl, c.in-Ok.item, free, fits, reached.sound c.args.argument (sym (c.is_among.ensures ∙ ap (λ l. has l c.args.argument) c.as_slice-3.ensures.value) ∙ c.if-is_among.true))
+    (refl, c.in-Ok.item, free, fits, reached.sound c.args.argument (sym (c.is_among.ensures ∙ ap (λ l. has l c.args.argument) c.as_slice.ensures.value) ∙ c.if-is_among.true))
 
 pub returns-clause-set : goal.returns-clause-set
 returns-clause-set c =
-    let none = subst (λ es. (b : ℕ) → HasArgument es c.args.instantiation c.args.name.now b → ⊥) c.as_slice.ensures.value c.in_default.ensures.none in
+    let none = c.in_default.ensures.none in
     let fit : Fit c.self.inside.types c.item_kind-given.result c.self.inside.types c.in-Ok.item =
     subst (λ o. MatchOption o (Fit c.self.inside.types c.item_kind-given.result c.self.inside.types c.in-Ok.item) (λ x. Mismatches c.self.inside.types c.item_kind-given.result c.in-Ok.item x)) c.in-None.is c.in_ok-fault.ensures in
     let reached : IsReached Follow.Flow c.self.inside.edges.items (c.args.instantiation ∷ []) c.in_ok-seen.seen.items =
-    subst (λ es. IsReached Follow.Flow es (c.args.instantiation ∷ []) c.in_ok-seen.seen.items) c.as_slice-2.ensures.value
-    (subst (λ ss. IsReached Follow.Flow c.as_slice-2.result.now ss c.in_ok-seen.seen.items) c.in_ok-start.ensures c.in_ok-seen.ensures) in
+    c.in_ok-seen.ensures in
     let fits : NodeFits (graph c.self.inside) c.args.argument c.in-Ok.item = record {
       node = c.node.result.now;
       there = ap (λ g. node_at g c.args.argument) c.self.view_is ∙ c.node.ensures;
@@ -80,4 +78,4 @@ returns-clause-set c =
     (subst (λ g. IsArgument g c.args.instantiation c.args.name.now c.in-Ok.item) (sym c.self.view_is) c.in-Ok.ensures.found)
     none fits
     (not_reached (graph c.self.inside) c.self.inside.edges.items (c.args.instantiation ∷ []) c.in_ok-seen.seen.items c.args.argument reached
-    (sym (c.is_among.ensures ∙ ap (λ l. has l c.args.argument) c.as_slice-3.ensures.value) ∙ c.if-is_among.false)))
+    (sym (c.is_among.ensures ∙ ap (λ l. has l c.args.argument) c.as_slice.ensures.value) ∙ c.if-is_among.false)))

@@ -1,11 +1,9 @@
-use Rattle.std.proofs.Common.{◌≡◌, ◌<◌, Some, None, length, ap, sym, ◌∙◌, refl, subst, arith, slice_get}
+use Rattle.std.proofs.Common.{◌<◌, Some, length, ap, sym, ◌∙◌, refl, subst, arith}
 use Rattle.std.specs.List.{swap_remove}
-use Rattle.std.specs.FinMap as map
-use Rattle.wac_graph_core.specs.Nodes.{NodeData, Role}
-use Rattle.wac_graph_core.specs.Graph.{Graph, ContainsNode, IsGraph}
-use Rattle.wac_graph_core.specs.Exporting.{Unexports, IsTold}
+use Rattle.wac_graph_core.specs.Graph.{ContainsNode}
+use Rattle.wac_graph_core.specs.Exporting.{IsTold}
 use Rattle.wac_graph_core.specs.View.{graph}
-use Rattle.wac_graph_core.proofs.Calls.{unexport_step, unexported_by}
+use Rattle.wac_graph_core.proofs.Calls.{unexported_by}
 use Rattle.wac_graph_core.proofs.ExportSteps.{got, within_list}
 use Rattle.wac_graph_core.proofs.graph.CompositionGraph.unexport.Goals as goal
 

@@ -1,9 +1,9 @@
-use Rattle.std.proofs.Common.{◌≡◌, ℕ, List, Some, IsSome, ap, sym, ◌∙◌, refl, subst, slice_get, slice_set, ◌<◌, length, arith}
+use Rattle.std.proofs.Common.{IsSome, ap, sym, ◌∙◌, refl, subst, slice_set, ◌<◌, length, arith}
 use Rattle.wac_graph_core.specs.declared.edge.Follow.{Follow}
 use Rattle.wac_graph_core.specs.declared.package.Place.{Place}
 use Rattle.wac_graph_core.specs.NodeMaps.{AreInstances}
 use Rattle.wac_graph_core.specs.Edges.{IsReached}
-use Rattle.wac_graph_core.specs.Graph.{Graph, ContainsPackage}
+use Rattle.wac_graph_core.specs.Graph.{Graph}
 use Rattle.wac_graph_core.specs.Removing.{IsClosed, TakesNodes}
 use Rattle.wac_graph_core.specs.Packages.{left_place, PlacesGrow}
 use Rattle.wac_graph_core.specs.View.{graph}

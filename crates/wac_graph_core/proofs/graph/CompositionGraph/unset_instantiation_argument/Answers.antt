@@ -1,5 +1,5 @@
-use Rattle.std.proofs.Common.{refl, sym, subst}
-use Rattle.wac_graph_core.specs.Graph.{Graph, IsArgument}
+use Rattle.std.proofs.Common.{sym, subst}
+use Rattle.wac_graph_core.specs.Graph.{IsArgument}
 use Rattle.wac_graph_core.specs.Steps.{UnsetsArgument}
 use Rattle.wac_graph_core.specs.View.{graph}
 use Rattle.wac_graph_core.proofs.GraphSteps.{IsGraph-unset}

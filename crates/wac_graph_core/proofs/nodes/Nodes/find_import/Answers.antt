@@ -1,7 +1,6 @@
-use Rattle.std.proofs.Common.{arith, ◌≡◌, ap, inl, inr, sym, ◌∙◌, refl}
+use Rattle.std.proofs.Common.{arith, ap, inl, inr, sym, ◌∙◌, refl}
 use Rattle.std.specs.FinMap as map
 use Rattle.slab.proofs.SlabLemmas.{Contains-cons, Contains-cons_cases, Contains-entries}
-use Rattle.wac_graph_core.specs.NodeMaps.{IsImport, NoImport}
 use Rattle.wac_graph_core.proofs.NodeMap.{get-shown}
 use Rattle.wac_graph_core.proofs.nodes.Nodes.find_import.Goals as goal
 

@@ -1,7 +1,6 @@
-use Rattle.std.proofs.Common.{arith, ◌≡◌, Some, true, ap, subst, inl, inr, sym, ◌∙◌, refl}
+use Rattle.std.proofs.Common.{arith, ◌≡◌, true, ap, subst, inl, inr, sym, ◌∙◌, refl}
 use Rattle.std.specs.FinMap as map
 use Rattle.slab.proofs.SlabLemmas.{Contains-cons, Contains-cons_cases, Contains-entries}
-use Rattle.wac_graph_core.specs.Nodes.{NodeData}
 use Rattle.wac_graph_core.specs.Defining.{DefinesReaching}
 use Rattle.wac_graph_core.specs.NodeMaps.{AddsIf}
 use Rattle.wac_graph_core.specs.Edges.{has}

@@ -1,0 +1,10 @@
+-- Where the edges of each node stand.
+use Rattle.std.specs.Prelude.{List, Option, Some, None, map}
+use Rattle.wac_graph_core.specs.declared.edge.Edge.{Edge}
+use Rattle.wac_graph_core.specs.declared.edges.Ends.{Ends}
+use Rattle.wac_graph_core.specs.Spans.{Covers}
+
+-- where it is known, it is so of these edges
+abbrev pub KnowsEnds : Option Ends → List Edge → Type 0
+KnowsEnds None es = Unit {0}
+KnowsEnds (Some x) es = Covers x.from.items (map (λ (e : Edge). e.from) es) × Covers x.to.items (map (λ (e : Edge). e.to) es)
