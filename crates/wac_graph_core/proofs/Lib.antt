@@ -21,3 +21,4 @@ pub mod DefineSteps
 pub mod WiringLaws
 mod Covering
 mod Leading
+mod Naming

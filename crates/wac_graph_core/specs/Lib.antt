@@ -18,3 +18,5 @@ pub mod GraphWiring
 pub mod Spans
 pub mod Ends
 pub mod EdgesView
+pub mod Named
+pub mod NamedView

@@ -15,7 +15,7 @@ use wac_graph_bytes::{NameKind, component_name};
 use wac_types_base::Text;
 
 /// The node that is exported under a name.
-fn find_export(exports: &[(Text, NodeId)], name: &str) -> Option<NodeId>
+pub(crate) fn find_export(exports: &[(Text, NodeId)], name: &str) -> Option<NodeId>
     ensures { result ≡ value_at exports.now name.now }
 {
     for (own, node) in exports {
@@ -62,7 +62,7 @@ impl CompositionGraph {
     pub fn get_export(&self, name: &str) -> Option<NodeId>
         ensures { result ≡ value_at self.now.exports name.now }
     {
-        find_export(self.exports.as_slice(), name)
+        self.exports.get(name)
     }
 
     /// Exports a node under a name. Under a second name it is a second export.

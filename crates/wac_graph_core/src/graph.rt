@@ -11,13 +11,14 @@ ghost use Rattle.wac_graph_core.specs.Refusals.{ImportRefused};
 use crate::edges::Edges;
 use crate::errors::{ImportError, NameError};
 use crate::ids::{NodeId, PackageId};
+use crate::named::NamedNodes;
 use crate::node::{Node, NodeKind};
 use crate::nodes::Nodes;
 use crate::package::Place;
 use std::alloc::{AllocError, Global};
 use std::marker::Model;
 use wac_graph_bytes::component_name;
-use wac_types_base::{ItemKind, Text, Types};
+use wac_types_base::{ItemKind, Types};
 use wac_types_names::Package;
 
 /// Nodes with their types, the edges between them, ordered exports, and packages.
@@ -27,7 +28,7 @@ pub struct CompositionGraph {
     pub(crate) types: Types,
     pub(crate) nodes: Nodes,
     pub(crate) edges: Edges,
-    pub(crate) exports: Vec<(Text, NodeId)>,
+    pub(crate) exports: NamedNodes,
     pub(crate) places: Vec<Place>,
 }
 
@@ -67,7 +68,7 @@ impl CompositionGraph {
             types: Types::new(alloc, number),
             nodes: Nodes::new(alloc),
             edges: Edges::new(alloc),
-            exports: Vec::new(alloc),
+            exports: NamedNodes::new(alloc),
             places: Vec::new(alloc),
         }
     }

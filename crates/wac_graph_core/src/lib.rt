@@ -13,6 +13,7 @@ pub mod ids;
 mod index;
 pub mod iter;
 pub mod laws;
+mod named;
 pub mod node;
 mod nodes;
 mod package;

@@ -5,17 +5,17 @@ ghost use Rattle.wac_graph_core.specs.Graph.{ContainsNode};
 ghost use Rattle.wac_graph_core.specs.Edges.{has};
 ghost use Rattle.wac_graph_core.specs.Removing.{IsClosed, TakesNodes, RemovesNodes};
 
-use crate::edge::{Follow, alone, is_among, reached, remove_edges};
+use crate::edge::{Follow, alone, reached, remove_edges};
 use crate::graph::CompositionGraph;
 use crate::ids::NodeId;
+use crate::named::NamedNodes;
 use std::alloc::AllocError;
-use wac_types_base::Text;
 
 /// Takes the exports of these nodes away.
-fn remove_exports(exports: &mut Vec<(Text, NodeId)>, gone: &[NodeId])
+fn remove_exports(exports: &mut NamedNodes, gone: &[NodeId])
     ensures { exports.new.items ≡ filter (λ e. not (has gone.now e.1)) exports.old.items }
 {
-    exports.retain(|export| !is_among(gone, export.1));
+    exports.retain_apart(gone);
 }
 
 impl CompositionGraph {

@@ -1,0 +1,52 @@
+-- Names that are known to be there.
+use Rattle.std.proofs.Common.{◌≡◌, ◌==◌, ◌||◌, ℕ, Bool, true, false, not, List, [], ◌∷◌, ◌++◌, Option, Some, None, cond, refl, ap, ◌∙◌, inl, inr}
+use Rattle.std.specs.Cmp.Lexicographic.{pointwise}
+use Rattle.wac_types_base.specs.Entries.{Name, has_name, put_name, value_at}
+use Rattle.wac_types_fit.proofs.Items.{value_at-among}
+use Rattle.wac_graph_core.specs.Named.{HasNames}
+use Rattle.wac_graph_core.proofs.Found.{same_name, Among-last}
+
+or_true : (b : Bool) → (b || true) ≡ true
+or_true true = refl
+or_true false = refl
+
+last_there : (ns : List Name) (m : Name) → has_name (ns ++ m ∷ []) m ≡ true
+last_there [] m = ap (λ b. b || false) (same_name m)
+last_there (l ∷ ns) m = ap (λ b. pointwise ◌==◌ m l || b) (last_there ns m) ∙ or_true (pointwise ◌==◌ m l)
+
+or_kept : (a b c : Bool) → (b ≡ true → c ≡ true) → (a || b) ≡ true → (a || c) ≡ true
+or_kept true b c k h = refl
+or_kept false b c k h = k h
+
+still_there : (ns : List Name) (m n : Name) → has_name ns n ≡ true → has_name (ns ++ m ∷ []) n ≡ true
+still_there [] m n h = absurd (cc (h))
+still_there (l ∷ ns) m n h = or_kept (pointwise ◌==◌ n l) (has_name ns n) (has_name (ns ++ m ∷ []) n) (still_there ns m n) h
+
+put_there : (b : Bool) (ns : List Name) (m : Name) → has_name ns m ≡ b → has_name (cond b ns (ns ++ m ∷ [])) m ≡ true
+put_there true ns m is = is
+put_there false ns m is = last_there ns m
+
+put_kept : (b : Bool) (ns : List Name) (m n : Name) → has_name ns n ≡ true → has_name (cond b ns (ns ++ m ∷ [])) n ≡ true
+put_kept true ns m n h = h
+put_kept false ns m n h = still_there ns m n h
+
+pub named_one_more : (ns ms : List Name) (m : Name) (xs : List (Name × ℕ)) (k : ℕ) → ms ≡ put_name ns m → HasNames (Some ns) xs → HasNames (Some ms) (xs ++ (m, k) ∷ [])
+named_one_more ns ms m xs k is known n j at =
+    ap (λ l. has_name l n) is
+    ∙ elim (Among-last xs (m, k) (n, j) at) [
+      | inl old ↦ put_kept (has_name ns m) ns m n (known n j old)
+      | inr same ↦
+          let name : n ≡ m = ap (λ x. x.0) same in
+          ap (has_name (put_name ns m)) name ∙ put_there (has_name ns m) ns m refl
+    ]
+
+pub not_true_false : (b : Bool) → not b ≡ true → b ≡ false
+not_true_false true h = absurd (cc (h))
+not_true_false false h = refl
+
+pub missing : (ns : List Name) (xs : List (Name × ℕ)) (n : Name) → HasNames (Some ns) xs → has_name ns n ≡ false → value_at xs n ≡ None
+missing ns xs n known away = by (value_at xs n) refl
+  where
+    by : (o : Option ℕ) → value_at xs n ≡ o → o ≡ None
+    by None is = refl
+    by (Some k) is = let there = known n k (value_at-among xs n k is) in absurd (cc (there, away))
