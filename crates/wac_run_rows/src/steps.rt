@@ -5,6 +5,7 @@
 use anyhow::{Context, Result, anyhow, ensure};
 use semver::Version;
 use std::alloc::Global;
+use std::fmt::Display;
 use wac::{DeclareDocument, EncodeOptions, Output, Workspace, declared_world};
 use wac_parser_read::ParseDocument;
 use wac_parser_resolve::{Packages, ResolveDocument};
@@ -43,6 +44,11 @@ fn key_of(alloc: Global, key: &str) -> Result<(&str, Option<Version>)> {
     }
 }
 
+/// The text of a refusal, which is dropped here alone.
+fn refusal_text<E: Display + Drop>(alloc: Global, fault: E) -> Result<String> {
+    Ok(format!(in alloc; "{fault}")?)
+}
+
 /// Adds a component.
 fn add(alloc: Global, workspace: &mut Workspace, words: &str) -> Result<String> {
     let (key, rest) = words.split_once(' ').context("no digits")?;
@@ -54,7 +60,7 @@ fn add(alloc: Global, workspace: &mut Workspace, words: &str) -> Result<String> 
     let bytes = bytes_of(alloc, digits)?;
     match workspace.add_package(name, version.as_ref(), bytes, &types, world) {
         Ok(()) => Ok(String::from_str(alloc, "added")?),
-        Err(fault) => Ok(format!(in alloc; "{fault}")?),
+        Err(fault) => refusal_text(alloc, fault),
     }
 }
 
@@ -72,7 +78,7 @@ fn output_text(alloc: Global, output: &Output) -> Result<String> {
 fn compose(alloc: Global, workspace: &mut Workspace, source: &str) -> Result<String> {
     match workspace.compose(source, EncodeOptions::default()) {
         Ok(output) => output_text(alloc, &output),
-        Err(fault) => Ok(format!(in alloc; "{fault}")?),
+        Err(fault) => refusal_text(alloc, fault),
     }
 }
 
@@ -85,7 +91,7 @@ fn import(alloc: Global, workspace: &mut Workspace, source: &str) -> Result<Stri
     };
     match workspace.compose(source, options) {
         Ok(output) => Ok(output.name),
-        Err(fault) => Ok(format!(in alloc; "{fault}")?),
+        Err(fault) => refusal_text(alloc, fault),
     }
 }
 
