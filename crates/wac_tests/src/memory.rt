@@ -1,4 +1,4 @@
-//! Growths that are refused. `./test-memory` runs these with each growth refused in turn; without a refusal both pass.
+//! Growths that are refused, one in each quick run of the toolchain; without a refusal both pass.
 
 use super::handed::{ONE, PASSING, SOURCE, add, bytes_of, maybe_bytes};
 use std::alloc::Global;
