@@ -6,8 +6,6 @@ mod ends;
 mod first;
 mod packages;
 mod stream;
-#[cfg(test)]
-mod tests;
 mod workspace;
 
 pub use ends::{MAX_SOURCE_LENGTH, StreamError};

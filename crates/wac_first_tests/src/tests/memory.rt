@@ -1,9 +1,9 @@
 //! Growths that are refused. `./test-memory` runs these with each growth refused in turn; without a refusal both pass.
 
 use super::{ONE, PACKAGE, world_of};
-use crate::*;
 use std::alloc::Global;
 use std::test::Fail;
+use wac_first::{AddPackageError, ComposeError, Workspace};
 use wac_types_base::{ItemKind, Types};
 
 const SOURCE: &str = "package m:m; let x = new p:p { ... }; export x.g as \"g\";";

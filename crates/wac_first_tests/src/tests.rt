@@ -4,9 +4,9 @@ mod memory;
 mod streams;
 mod streams_tests;
 
-use super::*;
 use std::alloc::Global;
 use std::test::Fail;
+use wac_first::{AddPackageError, ComposeError, ParseFault, ResolutionFault, Workspace};
 use wac_types_base::{FuncType, ItemKind, NamedMap, Types, World, WorldId};
 
 /// The bytes of `p:p`: it imports `f: func()`, and exports it as `g`.

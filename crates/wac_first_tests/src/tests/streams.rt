@@ -2,9 +2,9 @@
 //! gives, takes or counts; each counts its calls for the tests.
 ghost use Rattle.std.specs.Prelude.{None};
 
-use crate::{ByteSink, ByteSource};
 use std::alloc::Global;
 use std::io::{self, Read, Write};
+use wac_first::{ByteSink, ByteSource};
 
 /// Fails at each call.
 #[derive(Debug, Drop)]
