@@ -1,4 +1,3 @@
-mod declaring;
 mod parsers;
 mod printing;
 mod tokens;

@@ -6,13 +6,6 @@ use wac_types_base::{
     Types, UsedType, ValueType, WorldId,
 };
 
-fn add_all(out: &mut String, words: &[&str]) -> Result<(), AllocError> {
-    for word in words {
-        out.push_str(*word)?;
-    }
-    Ok(())
-}
-
 fn resource_name(types: &Types, id: ResourceId) -> &str {
     if types.has(ItemKind::Ty(Type::Resource(id))) {
         types[id].name.as_str()
@@ -29,11 +22,11 @@ fn value_word(types: &Types, ty: ValueType) -> &'static str {
     }
 }
 
-// A value type: a defined one by its word, a handle with its resource.
+/// A value type: a defined one by its word, a handle with its resource.
 fn add_value(out: &mut String, types: &Types, ty: ValueType) -> Result<(), AllocError> {
     match ty {
-        ValueType::Borrow(id) => add_all(out, &["borrow<", resource_name(types, id), ">"]),
-        ValueType::Own(id) => add_all(out, &["own<", resource_name(types, id), ">"]),
+        ValueType::Borrow(id) => write!(out, "borrow<{}>", resource_name(types, id)),
+        ValueType::Own(id) => write!(out, "own<{}>", resource_name(types, id)),
         other => out.push_str(value_word(types, other)),
     }
 }
@@ -55,7 +48,7 @@ fn add_params(
         if at > 0 {
             out.push_str(", ")?;
         }
-        add_all(out, &[name, ": "])?;
+        write!(out, "{name}: ")?;
         add_value(out, types, *ty)?;
     }
     Ok(())
@@ -179,9 +172,9 @@ fn add_resource(out: &mut String, types: &Types, id: ResourceId) -> Result<(), A
         return out.push_str("?");
     }
     let resource = &types[id];
-    add_all(out, &["resource ", resource.name.as_str()])?;
+    write!(out, "resource {}", resource.name.as_str())?;
     if let Some(alias) = resource.alias {
-        add_all(out, &[" = ", resource_name(types, alias.source)])?;
+        write!(out, " = {}", resource_name(types, alias.source))?;
         if let Some(owner) = alias.owner {
             out.push_str(" of ")?;
             add_identifier(out, types, owner)?;
@@ -207,14 +200,14 @@ fn add_uses(out: &mut String, types: &Types, uses: &NamedMap<UsedType>) -> Resul
         add_identifier(out, types, used.interface)?;
         out.push_str(".")?;
         if let Some(there) = &used.name {
-            add_all(out, &[there.as_str(), " as "])?;
+            write!(out, "{} as ", there.as_str())?;
         }
-        add_all(out, &[name, "; "])?;
+        write!(out, "{name}; ")?;
     }
     Ok(())
 }
 
-// An item in an interface or a world: an interface or a world in it by its identifier.
+/// An item in an interface or a world: an interface or a world in it by its identifier.
 fn add_item(out: &mut String, types: &Types, kind: ItemKind) -> Result<(), AllocError> {
     match kind {
         ItemKind::Ty(Type::Resource(id)) => add_resource(out, types, id),
@@ -245,7 +238,7 @@ fn add_items(
 ) -> Result<(), AllocError> {
     for at in 0..items.len() {
         let (name, kind) = items.entry(at);
-        add_all(out, &[word, name, ": "])?;
+        write!(out, "{word}{name}: ")?;
         add_item(out, types, *kind)?;
         out.push_str("; ")?;
     }
@@ -282,7 +275,12 @@ fn add_world(out: &mut String, types: &Types, id: WorldId) -> Result<(), AllocEr
     out.push_str("}")
 }
 
-pub fn shown_item(alloc: Global, types: &Types, kind: ItemKind) -> Result<String, AllocError> {
+/// An item: an interface or a world with what it holds.
+pub(crate) fn shown_item(
+    alloc: Global,
+    types: &Types,
+    kind: ItemKind,
+) -> Result<String, AllocError> {
     let mut out = String::new(alloc);
     match kind {
         ItemKind::Ty(Type::Interface(id)) => add_interface(&mut out, types, id)?,
