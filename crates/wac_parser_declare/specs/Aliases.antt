@@ -51,6 +51,13 @@ abbrev pub IsAlias : Place → Collection → Ident → Ident → ItemKind → C
 IsAlias p c n i k d answer =
     IsOutcome (IsType d) (alias_by (kind_of (stated_of c k)) (is_root p) (view_ident n) (view_ident i) (stated_of c k)) answer
 
+-- of a type, and of a resource, by their items
+abbrev pub IsAliasOfType : Place → Ident → Ident → TypeKind → Collection → Collection → Result TypeKind Refusal → Type 0
+IsAliasOfType p n i ty c d answer = IsAlias p c n i (ItemKind.Ty ty) d answer
+
+abbrev pub IsAliasAt : Place → Ident → Ident → ResourceId → Collection → Collection → Result TypeKind Refusal → Type 0
+IsAliasAt p n i r c d answer = IsAliasOfType p n i (TypeKind.Resource r) c d answer
+
 -- of what a name means
 abbrev pub IsAliasNamed : Place → Collection → Names → Ident → Ident → Collection → Result TypeKind Refusal → Type 0
 IsAliasNamed p c names n i d answer =

@@ -5,7 +5,7 @@ ghost use Rattle.std.specs.Prelude.{◌≡◌, IfOk, Some, option_map};
 ghost use Rattle.wac_types_base.specs.declared.item.ItemKind.{ItemKind};
 ghost use Rattle.wac_types_base.specs.declared.item.«Type».{«Type» as TypeKind};
 ghost use Rattle.wac_types_base.specs.Collection.{Stands, Grows, SlotStands, item_node, func_entry};
-ghost use Rattle.wac_parser_declare.specs.Aliases.{IsAlias, IsAliasFunc, IsAliasNamed, IsAliasType, IsAliasValue, IsFuncAlias, IsOwner, IsResourceAlias, IsTypeAlias, IsValueAlias};
+ghost use Rattle.wac_parser_declare.specs.Aliases.{IsAlias, IsAliasAt, IsAliasFunc, IsAliasNamed, IsAliasOfType, IsAliasType, IsAliasValue, IsFuncAlias, IsOwner, IsResourceAlias, IsTypeAlias, IsValueAlias};
 ghost use Rattle.wac_parser_declare.specs.Holding.{NamesStand};
 
 use crate::functions::func_type;
@@ -129,7 +129,7 @@ fn resource_at<T: GrowingTypes>(
     resource: ResourceId,
 ) -> Outcome<Type>
     requires { Stands (T.collection types.old) (ItemKind.Ty (TypeKind.Resource resource)) }
-    ensures outcome { IsAlias place (T.collection types.old) alias.now source.now (ItemKind.Ty (TypeKind.Resource resource)) (T.collection types.new) result }
+    ensures outcome { IsAliasAt place alias.now source.now resource (T.collection types.old) (T.collection types.new) result }
     ensures stands { IfOk result (λ t. Stands (T.collection types.new) (ItemKind.Ty t)) }
     ensures grows { Grows (T.collection types.old) (T.collection types.new) }
 {
@@ -155,7 +155,7 @@ fn alias_of_type<T: GrowingTypes>(
     ty: Type,
 ) -> Outcome<Type>
     requires { Stands (T.collection types.old) (ItemKind.Ty ty) }
-    ensures outcome { IsAlias place (T.collection types.old) alias.now source.now (ItemKind.Ty ty) (T.collection types.new) result }
+    ensures outcome { IsAliasOfType place alias.now source.now ty (T.collection types.old) (T.collection types.new) result }
     ensures stands { IfOk result (λ t. Stands (T.collection types.new) (ItemKind.Ty t)) }
     ensures grows { Grows (T.collection types.old) (T.collection types.new) }
 {
