@@ -18,6 +18,13 @@ fn is_added(alloc: Global, workspace: &mut Workspace) -> Option<bool> {
     }
 }
 
+/// What a refusal is: want of memory, or none.
+fn of_memory(fault: ComposeError) -> Option<bool> {
+    let is_memory = matches!(fault, ComposeError::Memory);
+    drop(fault);
+    if is_memory { Some(false) } else { None }
+}
+
 /// Composes the source. Whether the right bytes came; and none where neither they nor want of memory did.
 fn is_composed(workspace: &mut Workspace, wanted: &[u8]) -> Option<bool> {
     match workspace.compose(SOURCE, EncodeOptions::default()) {
@@ -27,8 +34,7 @@ fn is_composed(workspace: &mut Workspace, wanted: &[u8]) -> Option<bool> {
             }
             None
         }
-        Err(ComposeError::Memory) => Some(false),
-        _other => None,
+        Err(fault) => of_memory(fault),
     }
 }
 

@@ -5,6 +5,21 @@ use std::process::Abort;
 use std::test::Fail;
 use wac::*;
 
+/// How a stream ended, in a word. What it ended with is dropped here alone.
+fn ended<T: Drop>(outcome: Result<T, StreamError>) -> &'static str {
+    let word = match &outcome {
+        Ok(_) => "whole",
+        Err(StreamError::Read) => "unread",
+        Err(StreamError::SourceTooLong) => "too long",
+        Err(StreamError::NotUtf8) => "no text",
+        Err(StreamError::Compose(ComposeError::Parse(_))) => "no document",
+        Err(StreamError::Write) => "unwritten",
+        Err(_) => "another fault",
+    };
+    drop(outcome);
+    word
+}
+
 #[test]
 fn sources_read_to_their_end(rt: HostRuntime) -> Result<(), Fail> {
     let alloc = rt.alloc();
@@ -28,12 +43,12 @@ fn sources_read_to_their_end(rt: HostRuntime) -> Result<(), Fail> {
 fn sources_that_fail(rt: HostRuntime) -> Result<(), Fail> {
     let alloc = rt.alloc();
     let mut first = FailsAtOnce { calls: 0 };
-    assert!(rt; matches!(read_source(alloc, &mut first), Err(StreamError::Read)));
+    assert_eq!(rt; ended(read_source(alloc, &mut first)), "unread");
     assert_eq!(rt; first.calls, 1);
     let mut second = SliceSource::new(b"package a:b;");
     second.most = 5;
     second.fails_at = Some(2);
-    assert!(rt; matches!(read_source(alloc, &mut second), Err(StreamError::Read)));
+    assert_eq!(rt; ended(read_source(alloc, &mut second)), "unread");
     assert_eq!(rt; second.calls, 2);
     Ok(())
 }
@@ -44,8 +59,7 @@ fn source_without_end(rt: HostRuntime) -> Result<(), Fail> {
         byte: b' ',
         calls: 0,
     };
-    let outcome = read_source(rt.alloc(), &mut endless);
-    assert!(rt; matches!(outcome, Err(StreamError::SourceTooLong)));
+    assert_eq!(rt; ended(read_source(rt.alloc(), &mut endless)), "too long");
     assert!(rt; endless.calls <= MAX_SOURCE_LENGTH);
     Ok(())
 }
@@ -84,50 +98,45 @@ fn composed_from_end_to_end(rt: HostRuntime) -> Result<(), Fail> {
     source.most = 7;
     let mut sink = VecSink::byte_by_byte(alloc);
     let options = EncodeOptions::default();
-    assert!(rt; compose_stream(&mut workspace, &mut source, &mut sink, options).is_ok());
+    let outcome = compose_stream(&mut workspace, &mut source, &mut sink, options);
+    assert_eq!(rt; ended(outcome), "whole");
     assert!(rt; sink.taken.as_slice() == bytes_of(alloc, ONE)?.as_slice());
     Ok(())
 }
 
-/// A stream over an empty workspace that is refused: nothing is written, and no number is taken.
-fn refused<R: ByteSource>(
-    rt: &impl Abort,
-    alloc: Global,
-    reader: &mut R,
-) -> Result<StreamError, Fail> {
+/// How a stream over an empty workspace ends: nothing is written, and no number is taken.
+fn refused<R: ByteSource>(rt: &impl Abort, alloc: Global, reader: &mut R) -> &'static str {
     let mut workspace = Workspace::new(alloc);
     let mut sink = VecSink::new(alloc);
     let outcome = compose_stream(&mut workspace, reader, &mut sink, EncodeOptions::default());
     assert_eq!(rt; sink.calls, 0);
     assert_eq!(rt; workspace.next_number(), 0);
-    match outcome {
-        Ok(()) => Err("composed")?,
-        Err(fault) => Ok(fault),
-    }
+    ended(outcome)
 }
 
 #[test]
 fn streams_refused(rt: HostRuntime) -> Result<(), Fail> {
-    let fault = refused(&rt, rt.alloc(), &mut FailsAtOnce { calls: 0 })?;
-    assert!(rt; matches!(fault, StreamError::Read));
-    let fault = refused(&rt, rt.alloc(), &mut SliceSource::new(b"\xff"))?;
-    assert!(rt; matches!(fault, StreamError::NotUtf8));
-    let fault = refused(&rt, rt.alloc(), &mut SliceSource::new(b"package a:b"))?;
-    assert!(rt; matches!(fault, StreamError::Compose(ComposeError::Parse(_))));
+    let unread = refused(&rt, rt.alloc(), &mut FailsAtOnce { calls: 0 });
+    assert_eq!(rt; unread, "unread");
+    let no_text = refused(&rt, rt.alloc(), &mut SliceSource::new(b"\xff"));
+    assert_eq!(rt; no_text, "no text");
+    let no_document = refused(&rt, rt.alloc(), &mut SliceSource::new(b"package a:b"));
+    assert_eq!(rt; no_document, "no document");
     Ok(())
 }
 
 #[test]
 fn streams_too_long(rt: HostRuntime) -> Result<(), Fail> {
     let long = vec![in rt.alloc(); b' '; MAX_SOURCE_LENGTH + 1]?;
-    let fault = refused(&rt, rt.alloc(), &mut SliceSource::new(&long))?;
-    assert!(rt; matches!(fault, StreamError::SourceTooLong));
+    assert_eq!(rt;
+        refused(&rt, rt.alloc(), &mut SliceSource::new(&long)),
+        "too long"
+    );
     let mut endless = Endless {
         byte: b' ',
         calls: 0,
     };
-    let fault = refused(&rt, rt.alloc(), &mut endless)?;
-    assert!(rt; matches!(fault, StreamError::SourceTooLong));
+    assert_eq!(rt; refused(&rt, rt.alloc(), &mut endless), "too long");
     Ok(())
 }
 
@@ -140,7 +149,7 @@ fn a_writer_that_takes_nothing(rt: HostRuntime) -> Result<(), Fail> {
         &mut TakesNothing { calls: 0 },
         EncodeOptions::default(),
     );
-    assert!(rt; matches!(outcome, Err(StreamError::Write)));
+    assert_eq!(rt; ended(outcome), "unwritten");
     assert!(rt; workspace.get("a:b", None).is_some());
     Ok(())
 }

@@ -2,6 +2,7 @@
 
 use super::worlds::{add_func, add_instance, add_resource, add_world};
 use std::alloc::Global;
+use std::fmt::Display;
 use std::test::Fail;
 use wac::*;
 use wac_reader::{Leaf, ReadError, tell};
@@ -23,13 +24,8 @@ fn add(
     Ok(workspace.add_package(leaf.0, None, bytes, types, world)?)
 }
 
-/// The wiring of a source, or the text of its refusal.
-fn shown(
-    alloc: Global,
-    workspace: &mut Workspace,
-    handed: &[(&str, u8)],
-    source: &str,
-) -> Result<String, Fail> {
+/// Components that were handed in, each of one byte.
+fn leaves_of(alloc: Global, handed: &[(&str, u8)]) -> Result<Vec<Leaf>, Fail> {
     let mut leaves = Vec::new(alloc);
     for (key, byte) in handed {
         leaves.push(Leaf {
@@ -37,16 +33,36 @@ fn shown(
             bytes: Vec::from_slice(alloc, &[*byte])?,
         })?;
     }
+    Ok(leaves)
+}
+
+/// The wiring of bytes.
+fn wiring_text(alloc: Global, bytes: &[u8], leaves: &[Leaf]) -> Result<String, Fail> {
     let mut text = String::new(alloc);
-    match workspace.compose(source, EncodeOptions::default()) {
-        Ok(output) => match tell(alloc, &mut text, &output.bytes, &leaves) {
-            Ok(()) => {}
-            Err(ReadError::Memory) => return Err("out of memory")?,
-            Err(ReadError::At(at, what)) => writeln!(text, "unreadable at {at}: {what}")?,
-        },
-        Err(fault) => write!(text, "{fault}")?,
+    match tell(alloc, &mut text, bytes, leaves) {
+        Ok(()) => Ok(text),
+        Err(ReadError::Memory) => Err("out of memory")?,
+        Err(ReadError::At(at, what)) => Ok(format!(in alloc; "unreadable at {at}: {what}\n")?),
     }
-    Ok(text)
+}
+
+/// The text of a refusal, which is dropped here alone.
+fn refusal_text<E: Display + Drop>(alloc: Global, fault: E) -> Result<String, Fail> {
+    Ok(format!(in alloc; "{fault}")?)
+}
+
+/// The wiring of a source, or the text of its refusal.
+fn shown(
+    alloc: Global,
+    workspace: &mut Workspace,
+    handed: &[(&str, u8)],
+    source: &str,
+) -> Result<String, Fail> {
+    let leaves = leaves_of(alloc, handed)?;
+    match workspace.compose(source, EncodeOptions::default()) {
+        Ok(output) => wiring_text(alloc, &output.bytes, &leaves),
+        Err(fault) => refusal_text(alloc, fault),
+    }
 }
 
 const VALUE: ItemKind = ItemKind::Value(ValueType::Primitive(PrimitiveType::U32));
