@@ -4,7 +4,7 @@ ghost use Rattle.std.specs.Prelude.{◌≡◌, ◌∷◌, ◌++◌, [], ◌<◌,
 ghost use Rattle.wac_graph_core.specs.declared.edge.Edge.{Edge};
 ghost use Rattle.wac_graph_core.specs.Walking.{is_passed, is_apart};
 ghost use Rattle.wac_graph_core.specs.Spans.{LeadsAs};
-ghost use Rattle.wac_graph_core.specs.Ends.{KnowsEnds};
+ghost use Rattle.wac_graph_core.specs.Ends.{IsEdgeNoted, KnowsEnds};
 
 use crate::edge::{Edge, is_among, is_this};
 use crate::ids::NodeId;
@@ -43,7 +43,7 @@ impl Model for Edges {
 /// Notes the ends of an edge that comes behind so many.
 fn noted(ends: Option<Ends>, from: usize, to: usize, count: usize) -> Option<Ends>
     requires { count < 18446744073709551615 }
-    ensures { (es : List Edge) (e : Edge) → length es ≡ count → e.from ≡ from → e.to ≡ to → KnowsEnds ends es → KnowsEnds result (es ++ e ∷ []) }
+    ensures { IsEdgeNoted ends from to count result }
 {
     let mut ends = ends?;
     if note(&mut ends.from, from, count).is_err() {

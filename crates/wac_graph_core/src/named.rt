@@ -4,7 +4,7 @@ ghost use Rattle.std.specs.Prelude.{◌≡◌, ◌∷◌, ◌++◌, [], ◌<◌,
 ghost use Rattle.std.specs.List.{swap_remove};
 ghost use Rattle.wac_types_base.specs.Entries.{Name, value_at};
 ghost use Rattle.wac_graph_core.specs.Edges.{has};
-ghost use Rattle.wac_graph_core.specs.Named.{HasNames};
+ghost use Rattle.wac_graph_core.specs.Named.{HasNames, IsNameNoted};
 
 use crate::edge::is_among;
 use crate::export::find_export;
@@ -36,7 +36,7 @@ impl Model for NamedNodes {
 
 /// Adds a name, where it is new.
 fn add_name(names: &mut Names, name: &Text) -> Result<(), AllocError>
-    ensures { OnOk result ((xs : List (Name × ℕ)) (k : ℕ) → HasNames (Some names.old) xs → HasNames (Some names.new) (xs ++ (name.now, k) ∷ [])) }
+    ensures { OnOk result (IsNameNoted names.old name.now names.new) }
 {
     let copy = name.copy()?;
     let _ = names.insert(copy.into_string())?;

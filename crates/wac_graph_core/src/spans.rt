@@ -2,7 +2,7 @@
 
 ghost use Rattle.std.specs.Prelude.{◌≡◌, ◌∷◌, ◌++◌, [], ◌<◌, ◌==◌, ℕ, List, OnOk, length, map, filter};
 ghost use Rattle.wac_graph_core.specs.declared.edge.Edge.{Edge};
-ghost use Rattle.wac_graph_core.specs.Spans.{Covers, LeadsAs};
+ghost use Rattle.wac_graph_core.specs.Spans.{Covers, IsNumberNoted, LeadsAs};
 
 use crate::edge::Edge;
 use std::alloc::AllocError;
@@ -31,7 +31,7 @@ fn fill(spans: &mut Vec<Span>, number: usize, count: usize) -> Result<(), AllocE
 /// Notes a number that comes behind a list of so many places.
 pub(crate) fn note(spans: &mut Vec<Span>, number: usize, count: usize) -> Result<(), AllocError>
     requires { count < 18446744073709551615 }
-    ensures { OnOk result ((ks : List ℕ) → length ks ≡ count → Covers spans.old.items ks → Covers spans.new.items (ks ++ number ∷ [])) }
+    ensures { OnOk result (IsNumberNoted spans.old.items number count spans.new.items) }
 {
     fill(spans, number, count)?;
     let first = spans[number].first;

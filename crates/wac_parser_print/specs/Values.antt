@@ -1,8 +1,10 @@
 -- The JSON value of each form, as the original serializes it: an object for each record, by the names of its fields; a variant as an object with its name, or its name alone.
-use Rattle.std.specs.Prelude.{ℕ, List, [], ◌∷◌, Option, Some, None, codes}
+use Rattle.std.specs.Prelude.{ℕ, List, [], ◌∷◌, Option, Some, None, codes, map}
 use Rattle.serde_json.specs.Data.{Data, null, boolean, string, array, Items, no_items, item}
 use Rattle.serde_json.specs.View.{items_of}
 use Rattle.wac_parser_tree.specs.Trees as t
+use Rattle.wac_parser_tree.specs.Views.{view_doc_comment}
+use Rattle.wac_parser_tree.specs.declared.text.DocComment.{DocComment}
 use Rattle.wac_parser_print.specs.Objects.{object_of, variant, array_of, or_null, span, version}
 
 -- ---- names and doc comments
@@ -19,6 +21,25 @@ doc_comment x = object_of ((codes "comment", string x.comment) ∷ (codes "span"
 abbrev pub docs : List t.DocComment → Data
 docs xs = array_of doc_comment xs
 
+abbrev pub docs_of : List DocComment → List t.DocComment
+docs_of cs = map view_doc_comment cs
+
+-- doc comments, the identifier that is declared, then the members of a form
+abbrev pub documented : List t.DocComment → List ℕ → Data → Data
+documented cs name x = object_of ((codes "docs", docs cs) ∷ (name, x) ∷ [])
+
+abbrev pub documented_both : List t.DocComment → List ℕ → List ℕ → Data → Data → Data
+documented_both cs first second x y = object_of ((codes "docs", docs cs) ∷ (first, x) ∷ (second, y) ∷ [])
+
+abbrev pub decl : List t.DocComment → t.Ident → List ℕ → Data → Data
+decl cs i name x = documented_both cs (codes "id") name (ident i) x
+
+abbrev pub decl_both : List t.DocComment → t.Ident → List ℕ → List ℕ → Data → Data → Data
+decl_both cs i first second x y = object_of ((codes "docs", docs cs) ∷ (codes "id", ident i) ∷ (first, x) ∷ (second, y) ∷ [])
+
+abbrev pub identified : t.Ident → List ℕ → Data → Data
+identified i name x = object_of ((codes "id", ident i) ∷ (name, x) ∷ [])
+
 unfoldable pub package_name : t.PackageName → Data
 package_name x = object_of ((codes "string", string x.string) ∷ (codes "name", string x.name) ∷ (codes "version", version x.version) ∷ (codes "span", span x.span) ∷ [])
 
@@ -30,6 +51,10 @@ extern_name (t.ExternName.ident x) = variant (codes "ident") (ident x)
 extern_name (t.ExternName.string x) = variant (codes "string") (string_literal x)
 
 -- ---- types
+
+-- a result of what it gives, and of its error
+abbrev pub result_of : t.Span → Data → Data → Data
+result_of at ok err = variant (codes "result") (object_of ((codes "ok", ok) ∷ (codes "err", err) ∷ (codes "span", span at) ∷ []))
 
 -- a type, and where it stands
 abbrev pub with_span : Data → t.Span → Data

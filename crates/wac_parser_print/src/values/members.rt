@@ -3,7 +3,7 @@
 ghost use Rattle.std.specs.Prelude.{◌≡◌, ◌∷◌, [], IfOk};
 ghost use Rattle.serde_json.specs.Data.{Data, Members, object, no_members, put as with_member};
 ghost use Rattle.serde_json.specs.View.{members_view};
-ghost use Rattle.wac_parser_print.specs.Objects.{Gives};
+ghost use Rattle.wac_parser_print.specs.Objects.{Gives, GivesFour, GivesThree, GivesTwo};
 ghost use Rattle.wac_parser_print.specs.Objects as objects;
 
 use serde_json::{Map, Value, put};
@@ -63,7 +63,7 @@ pub(crate) fn pair(
     second: &str,
     other: Result<Value, AllocError>,
 ) -> Result<Value, AllocError>
-    ensures { (x y : Data) → Gives one x → Gives other y → Gives result (objects.object_of ((first.now, x) ∷ (second.now, y) ∷ [])) }
+    ensures { GivesTwo one other (objects.two first.now second.now) result }
 {
     let members = added(alloc, none(alloc), first, one);
     object_of(added(alloc, members, second, other))
@@ -79,7 +79,7 @@ pub(crate) fn triple(
     third: &str,
     last: Result<Value, AllocError>,
 ) -> Result<Value, AllocError>
-    ensures { (x y z : Data) → Gives one x → Gives other y → Gives last z → Gives result (objects.object_of ((first.now, x) ∷ (second.now, y) ∷ (third.now, z) ∷ [])) }
+    ensures { GivesThree one other last (objects.three first.now second.now third.now) result }
 {
     let members = added(alloc, none(alloc), first, one);
     let members = added(alloc, members, second, other);
@@ -98,7 +98,7 @@ pub(crate) fn quadruple(
     fourth: &str,
     last: Result<Value, AllocError>,
 ) -> Result<Value, AllocError>
-    ensures { (w x y z : Data) → Gives one w → Gives other x → Gives more y → Gives last z → Gives result (objects.object_of ((first.now, w) ∷ (second.now, x) ∷ (third.now, y) ∷ (fourth.now, z) ∷ [])) }
+    ensures { GivesFour one other more last (objects.four first.now second.now third.now fourth.now) result }
 {
     let members = added(alloc, none(alloc), first, one);
     let members = added(alloc, members, second, other);

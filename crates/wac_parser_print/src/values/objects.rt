@@ -7,8 +7,9 @@ ghost use Rattle.serde_json.specs.Data.{Data, boolean, string};
 ghost use Rattle.serde_json.specs.View.{view};
 ghost use Rattle.wac_parser_tree.specs.Trees as t;
 ghost use Rattle.wac_parser_tree.specs.Views.{view_doc_comment, view_extern_name, view_ident, view_package_name, view_package_path, view_string};
-ghost use Rattle.wac_parser_print.specs.Objects.{Gives, array_of};
+ghost use Rattle.wac_parser_print.specs.Objects.{Gives, GivesOf, GivesTwo, array_of};
 ghost use Rattle.wac_parser_print.specs.Objects as objects;
+ghost use Rattle.wac_parser_print.specs.Values.{docs_of};
 ghost use Rattle.wac_parser_print.specs.Values as values;
 
 use super::members::{added, none, object_of, pair, quadruple, triple, variant};
@@ -110,65 +111,57 @@ impl<'a> Valued for DocComment<'a> {
 /// Doc comments, and one member more.
 pub(crate) fn documented(
     alloc: Global,
-    comments: &Vec<DocComment<'_>>,
+    docs: &Vec<DocComment<'_>>,
     name: &str,
     value: Result<Value, AllocError>,
 ) -> Result<Value, AllocError>
-    ensures { (x : Data) → Gives value x → Gives result (objects.object_of ((codes "docs", values.docs (map view_doc_comment comments.now.items)) ∷ (name.now, x) ∷ [])) }
+    ensures { GivesOf value (values.documented (docs_of docs.now.items) name.now) result }
 {
-    pair(alloc, "docs", array(alloc, comments), name, value)
+    pair(alloc, "docs", array(alloc, docs), name, value)
 }
 
 /// Doc comments, and two members more.
 pub(crate) fn documented_both(
     alloc: Global,
-    comments: &Vec<DocComment<'_>>,
+    docs: &Vec<DocComment<'_>>,
     first: &str,
     one: Result<Value, AllocError>,
     second: &str,
     other: Result<Value, AllocError>,
 ) -> Result<Value, AllocError>
-    ensures { (x y : Data) → Gives one x → Gives other y → Gives result (objects.object_of ((codes "docs", values.docs (map view_doc_comment comments.now.items)) ∷ (first.now, x) ∷ (second.now, y) ∷ [])) }
+    ensures { GivesTwo one other (values.documented_both (docs_of docs.now.items) first.now second.now) result }
 {
-    triple(
-        alloc,
-        "docs",
-        array(alloc, comments),
-        first,
-        one,
-        second,
-        other,
-    )
+    triple(alloc, "docs", array(alloc, docs), first, one, second, other)
 }
 
 /// Doc comments, the identifier that is declared, and one member more.
 pub(crate) fn declaration(
     alloc: Global,
-    comments: &Vec<DocComment<'_>>,
+    docs: &Vec<DocComment<'_>>,
     id: &Ident<'_>,
     name: &str,
     value: Result<Value, AllocError>,
 ) -> Result<Value, AllocError>
-    ensures { (x : Data) → Gives value x → Gives result (objects.object_of ((codes "docs", values.docs (map view_doc_comment comments.now.items)) ∷ (codes "id", values.ident (view_ident id.now)) ∷ (name.now, x) ∷ [])) }
+    ensures { GivesOf value (values.decl (docs_of docs.now.items) (view_ident id.now) name.now) result }
 {
-    documented_both(alloc, comments, "id", ident(alloc, id), name, value)
+    documented_both(alloc, docs, "id", ident(alloc, id), name, value)
 }
 
 /// Doc comments, the identifier that is declared, and two members more.
 pub(crate) fn declaration_of_both(
     alloc: Global,
-    comments: &Vec<DocComment<'_>>,
+    docs: &Vec<DocComment<'_>>,
     id: &Ident<'_>,
     first: &str,
     one: Result<Value, AllocError>,
     second: &str,
     other: Result<Value, AllocError>,
 ) -> Result<Value, AllocError>
-    ensures { (x y : Data) → Gives one x → Gives other y → Gives result (objects.object_of ((codes "docs", values.docs (map view_doc_comment comments.now.items)) ∷ (codes "id", values.ident (view_ident id.now)) ∷ (first.now, x) ∷ (second.now, y) ∷ [])) }
+    ensures { GivesTwo one other (values.decl_both (docs_of docs.now.items) (view_ident id.now) first.now second.now) result }
 {
-    let comments = array(alloc, comments);
+    let docs = array(alloc, docs);
     let id = ident(alloc, id);
-    quadruple(alloc, "docs", comments, "id", id, first, one, second, other)
+    quadruple(alloc, "docs", docs, "id", id, first, one, second, other)
 }
 
 /// An identifier, and one member more.
@@ -178,7 +171,7 @@ pub(crate) fn identified(
     name: &str,
     value: Result<Value, AllocError>,
 ) -> Result<Value, AllocError>
-    ensures { (x : Data) → Gives value x → Gives result (objects.object_of ((codes "id", values.ident (view_ident id.now)) ∷ (name.now, x) ∷ [])) }
+    ensures { GivesOf value (values.identified (view_ident id.now) name.now) result }
 {
     pair(alloc, "id", ident(alloc, id), name, value)
 }
@@ -190,7 +183,7 @@ pub(crate) fn placed(
     name: &str,
     value: Result<Value, AllocError>,
 ) -> Result<Value, AllocError>
-    ensures { (x : Data) → Gives value x → Gives result (objects.object_of ((codes "span", objects.span at) ∷ (name.now, x) ∷ [])) }
+    ensures { GivesOf value (objects.placed at name.now) result }
 {
     pair(alloc, "span", span(alloc, at), name, value)
 }
@@ -204,7 +197,7 @@ pub(crate) fn placed_both(
     second: &str,
     other: Result<Value, AllocError>,
 ) -> Result<Value, AllocError>
-    ensures { (x y : Data) → Gives one x → Gives other y → Gives result (objects.object_of ((codes "span", objects.span at) ∷ (first.now, x) ∷ (second.now, y) ∷ [])) }
+    ensures { GivesTwo one other (objects.placed_both at first.now second.now) result }
 {
     triple(alloc, "span", span(alloc, at), first, one, second, other)
 }

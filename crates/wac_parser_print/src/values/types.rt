@@ -7,7 +7,7 @@ ghost use Rattle.wac_parser_tree.specs.Trees as t;
 ghost use Rattle.wac_parser_tree.specs.Trees.{maybe_ty, tys};
 ghost use Rattle.serde_json.specs.Data.{Data, array};
 ghost use Rattle.wac_parser_tree.specs.Views.{view_boxed_ty, view_func_type, view_func_type_ref, view_ident, view_named_type, view_result_list, view_ty};
-ghost use Rattle.wac_parser_print.specs.Objects.{Gives};
+ghost use Rattle.wac_parser_print.specs.Objects.{Gives, GivesTwo};
 ghost use Rattle.wac_parser_print.specs.Objects as objects;
 ghost use Rattle.wac_parser_print.specs.Values.{with_span};
 ghost use Rattle.wac_parser_print.specs.Values as values;
@@ -125,7 +125,7 @@ pub(crate) fn result_type(
     err: Result<Value, AllocError>,
     at: SourceSpan,
 ) -> Result<Value, AllocError>
-    ensures { (x y : Data) → Gives ok x → Gives err y → Gives result (objects.variant (codes "result") (objects.object_of ((codes "ok", x) ∷ (codes "err", y) ∷ (codes "span", objects.span at) ∷ []))) }
+    ensures { GivesTwo ok err (values.result_of at) result }
 {
     let types = triple(alloc, "ok", ok, "err", err, "span", span(alloc, at));
     variant(alloc, "result", types)
