@@ -1,5 +1,6 @@
 -- What is kept of an ask stays as it is where that is asked again.
 use Rattle.std.specs.Prelude.{◌==◌, drop, option_map, is_none, not, cond, filter, bytes_eq, if◌then◌else◌, ◌&&◌, ◌||◌}
+use Rattle.std.proofs.lemmas.Option.{none-some, same_Some}
 use Rattle.std.specs.List.{list_all, list_any}
 use Rattle.std.specs.Cmp.Lexicographic.{pointwise, bytes_decides}
 use Rattle.std.proofs.lemmas.Slice.Eq.{bytes_eq-Decides}
@@ -16,15 +17,11 @@ use Rattle.wac_composition.specs.Tests.{fits}
 use Rattle.wac_composition.specs.Merging.{is_interface, is_plain, is_wit, Merge, both, merged_with, merged_exports, has_use, merged_interface, rebuilt, if_kind, merge_at, merge, Asked, narrower, in_family, kept_from, kept}
 use Rattle.wac_composition.specs.Again.{IsWell, well_instance, well_interface, no_interface, Asking_twice}
 use Rattle.wac_composition.proofs.FitBack.{fits_decides}
-use Rattle.wac_composition.proofs.KeptFits.{folded_firsts, row_again, value_append, value_behind, value_passing, both_is, if_is, mapped_is, no_more_kept, append_nil, kept_fits}
-use Rattle.wac_composition.proofs.Clashing.{merge_flat, merged_names, value_there, value_among, among_append, distinct_append, distinct_filter, name_passing, among_name, name_found, made_exports, kept_further}
+use Rattle.wac_composition.proofs.KeptFits.{folded_firsts, row_again, value_append, value_behind, value_passing, both_is, if_is, no_more_kept, append_nil, kept_fits}
+use Rattle.wac_composition.proofs.Clashing.{merge_flat, merged_names, value_there, value_among, among_append, distinct_append, distinct_filter, name_passing, among_name, name_found, kept_further}
 use Rattle.wac_composition.proofs.Closures.{filter_among}
-
-some_is : {A : Type 0} {x y : A} → Some x ≡ Some y → x ≡ y
-some_is e = cc
-
-none_is : {A : Type 0} {x : A} → None ≡ Some x → ⊥
-none_is e = cc
+use Rattle.wac_types_fit.proofs.Meeting.{mapped-some}
+use Rattle.wac_types_base.proofs.Made.{made_exports}
 
 -- ---- an interface that is made
 
@@ -108,7 +105,7 @@ record MergedAt (fs xs : List (Name × Stated)) (n : Name) (x : Stated) : Type 0
   is : merged_with (merge x) x (value_at fs n) ≡ Some one
 
 merged_at : (es fs xs : List (Name × Stated)) → merged_exports (merging es) fs ≡ Some xs → (n : Name) (x : Stated) → value_at es n ≡ Some x → MergedAt fs xs n x
-merged_at [] fs xs q n x v = absurd (none_is v)
+merged_at [] fs xs q n x v = absurd (none-some _ v)
 merged_at (e ∷ es) fs xs q n x v =
     let b = both_is (λ x ys. (e.0, x) ∷ ys) (merged_with (merge e.1) e.1 (value_at fs e.0)) (merged_exports (merging es) fs) xs q in
     subst (λ l. MergedAt fs l n x) b.4 (go b.0 b.2 b.1 (merged_at es fs b.1 b.3 n x) (pointwise ◌==◌ n e.0) refl v)
@@ -117,20 +114,20 @@ merged_at (e ∷ es) fs xs q n x v =
     go z m rest h true p r = record {
       one = z;
       there = ap (λ (b : Bool). if b then Some z else value_at rest n) p;
-      is = subst (λ w. merged_with (merge w) w (value_at fs n) ≡ Some z) (some_is r) (ap (λ k. merged_with (merge e.1) e.1 (value_at fs k)) ((bytes_decides n e.0).0 p) ∙ m);
+      is = subst (λ w. merged_with (merge w) w (value_at fs n) ≡ Some z) (same_Some _ _ r) (ap (λ k. merged_with (merge e.1) e.1 (value_at fs k)) ((bytes_decides n e.0).0 p) ∙ m);
     }
     go z m rest h false p r =
         let k = h r in
         record { one = k.one; there = ap (λ (b : Bool). if b then Some z else value_at rest n) p ∙ k.there; is = k.is }
 
 merged_none : (es fs xs : List (Name × Stated)) → merged_exports (merging es) fs ≡ Some xs → (n : Name) → value_at es n ≡ None → value_at xs n ≡ None
-merged_none [] fs xs q n v = ap (λ l. value_at l n) (sym (some_is q))
+merged_none [] fs xs q n v = ap (λ l. value_at l n) (sym (same_Some _ _ q))
 merged_none (e ∷ es) fs xs q n v =
     let b = both_is (λ x ys. (e.0, x) ∷ ys) (merged_with (merge e.1) e.1 (value_at fs e.0)) (merged_exports (merging es) fs) xs q in
     subst (λ l. value_at l n ≡ None) b.4 (go b.0 b.1 (merged_none es fs b.1 b.3 n) (pointwise ◌==◌ n e.0) v)
   where
     go : (z : Stated) (rest : List (Name × Stated)) → (value_at es n ≡ None → value_at rest n ≡ None) → (b : Bool) → (if b then Some e.1 else value_at es n) ≡ None → (if b then Some z else value_at rest n) ≡ None
-    go z rest h true r = absurd (none_is (sym r))
+    go z rest h true r = absurd (none-some _ (sym r))
     go z rest h false r = h r
 
 -- exports that keep what they are merged with stay
@@ -276,11 +273,11 @@ holds_itself x (no_interface g h) = of_equal g h (equal_itself x)
 holds_itself x (well_instance e d each) =
     let k : is_instance (kind_of x) ≡ true = ap (λ w. is_instance (kind_of w)) e in
     of_instances k k (λ u m. has_own (uses_of x) u m) (λ n y q. there_is (exports_of x) n y q)
-    (λ n y z p q. subst (Holds y) (some_is (sym p ∙ q)) (holds_itself y (each n y (value_among (exports_of x) n y p))))
+    (λ n y z p q. subst (Holds y) (same_Some _ _ (sym p ∙ q)) (holds_itself y (each n y (value_among (exports_of x) n y p))))
 holds_itself x (well_interface e d each) =
     let k : is_interface (kind_of x) ≡ true = ap (λ w. is_interface (kind_of w)) e in
     of_interfaces k k (λ u m. has_own (uses_of x) u m) (λ n y q. there_is (exports_of x) n y q)
-    (λ n y z p q. subst (Holds y) (some_is (sym p ∙ q)) (holds_itself y (each n y (value_among (exports_of x) n y p))))
+    (λ n y z p q. subst (Holds y) (same_Some _ _ (sym p ∙ q)) (holds_itself y (each n y (value_among (exports_of x) n y p))))
 
 -- what one more merging gives: it is well, has what is merged, and all that was there
 record Merges (w b z : Stated) : Type 0 where
@@ -322,11 +319,11 @@ module _ (w b : Stated) (dw : AreDistinct (names_of (exports_of w))) (db : AreDi
   old_holds a g f n z y p v = go (value_at (exports_of w) n) refl
     where
       more : (x z : Stated) → value_at (exports_of w) n ≡ Some x → (o : Option Stated) → value_at (exports_of b) n ≡ o → merged_with (merge x) x o ≡ Some z → Holds z y
-      more x z e None k m = subst (λ t. Holds t y) (some_is m) (f n x y e v)
+      more x z e None k m = subst (λ t. Holds t y) (same_Some _ _ m) (f n x y e v)
       more x z e (Some t) k m = (step n x t z (value_among (exports_of w) n x e) (value_among (exports_of b) n t k) m).old y (f n x y e v)
 
       go : (o : Option Stated) → value_at (exports_of w) n ≡ o → Holds z y
-      go (Some x) e = let m = merged_entry n x e in subst (λ t. Holds t y) (some_is (sym m.1 ∙ p)) (more x m.0 e (value_at (exports_of b) n) refl m.2)
+      go (Some x) e = let m = merged_entry n x e in subst (λ t. Holds t y) (same_Some _ _ (sym m.1 ∙ p)) (more x m.0 e (value_at (exports_of b) n) refl m.2)
       go None e = absurd (true≢false (sym (ap is_none e) ∙ g n y v))
 
   new_given : (n : Name) (y : Stated) → value_at (exports_of b) n ≡ Some y → is_none (value_at all n) ≡ false
@@ -343,8 +340,8 @@ module _ (w b : Stated) (dw : AreDistinct (names_of (exports_of w))) (db : AreDi
       go (Some x) e =
           let m = merged_entry n x e in
           let is : merge x y ≡ Some m.0 = ap (merged_with (merge x) x) (sym v) ∙ m.2 in
-          subst (λ t. Holds t y) (some_is (sym m.1 ∙ p)) (step n x y m.0 (value_among (exports_of w) n x e) (value_among (exports_of b) n y v) is).new
-      go None e = subst (λ t. Holds t y) (some_is (sym (new_entry n y e v) ∙ p)) (holds_itself y (eb n y (value_among (exports_of b) n y v)))
+          subst (λ t. Holds t y) (same_Some _ _ (sym m.1 ∙ p)) (step n x y m.0 (value_among (exports_of w) n x e) (value_among (exports_of b) n y v) is).new
+      go None e = subst (λ t. Holds t y) (same_Some _ _ (sym (new_entry n y e v) ∙ p)) (holds_itself y (eb n y (value_among (exports_of b) n y v)))
 
   names_are : names_of xs ≡ names_of (exports_of w)
   names_are = merged_names (merging (exports_of w)) (exports_of b) xs q ∙ names_merging (exports_of w)
@@ -369,11 +366,11 @@ module _ (w b : Stated) (dw : AreDistinct (names_of (exports_of w))) (db : AreDi
   ]
     where
       more : (x z : Stated) → value_at (exports_of w) n ≡ Some x → (o : Option Stated) → value_at (exports_of b) n ≡ o → merged_with (merge x) x o ≡ Some z → IsWell z
-      more x z e None k m = subst IsWell (some_is m) (ew n x (value_among (exports_of w) n x e))
+      more x z e None k m = subst IsWell (same_Some _ _ m) (ew n x (value_among (exports_of w) n x e))
       more x z e (Some t) k m = (step n x t z (value_among (exports_of w) n x e) (value_among (exports_of b) n t k) m).well
 
       first : (o : Option Stated) → value_at (exports_of w) n ≡ o → value_at all n ≡ Some z → Among n (names_of xs) → IsWell z
-      first (Some x) e p k = let m = merged_entry n x e in subst IsWell (some_is (sym m.1 ∙ p)) (more x m.0 e (value_at (exports_of b) n) refl m.2)
+      first (Some x) e p k = let m = merged_entry n x e in subst IsWell (same_Some _ _ (sym m.1 ∙ p)) (more x m.0 e (value_at (exports_of b) n) refl m.2)
       first None e p k = absurd (true≢false (sym (ap is_none e) ∙ name_found (exports_of w) n (subst (Among n) names_are k)))
 
   -- the merged interface itself
@@ -442,16 +439,16 @@ entries_of b (inr k) (no_interface g h) = absurd (true≢false (sym k ∙ h))
 merge_step : (w : Stated) → IsWell w → (b : Stated) → IsWell b → (z : Stated) → merge w b ≡ Some z → Merges w b z
 merge_step w (no_interface g h) b v z m =
     let i = if_is (fits w b && fits b w) (Some w) z (sym (merge_other w b g h) ∙ m) in
-    subst (Merges w b) (some_is i.1) (record { well = no_interface g h; new = of_equal g h i.0; old = λ a o. o })
+    subst (Merges w b) (same_Some _ _ i.1) (record { well = no_interface g h; new = of_equal g h i.0; old = λ a o. o })
 merge_step w (well_instance e d each) b v z m =
     let i = if_is (is_instance (kind_of b)) (merged_of (identifier_of w) (uses_of w) (exports_of w) b) z (sym (merge_made (identifier_of w) (uses_of w) (exports_of w) b) ∙ ap (λ x. merge x b) (sym e) ∙ m) in
-    let r = mapped_is (λ xs. interface_of (identifier_of w) (uses_of w ++ more_uses (uses_of w) b) (xs ++ more_exports (exports_of w) b)) (merged_exports (merging (exports_of w)) (exports_of b)) z i.1 in
+    let r = mapped-some (λ xs. interface_of (identifier_of w) (uses_of w ++ more_uses (uses_of w) b) (xs ++ more_exports (exports_of w) b)) (merged_exports (merging (exports_of w)) (exports_of b)) z i.1 in
     let y = entries_of b (inl i.0) v in
     subst (Merges w b) r.2 (instances_merge w b d y.0 each y.1 (λ n x u t k l q. merge_step x (each n x k) u (y.1 n u l) t q) r.0 r.1 (ap (λ x. is_instance (kind_of x)) e) i.0)
 merge_step w (well_interface e d each) b v z m =
     let i = if_is (is_interface (kind_of b)) (option_map as_type (merged_of (identifier_of w) (uses_of w) (exports_of w) b)) z (sym (merge_typed (identifier_of w) (uses_of w) (exports_of w) b) ∙ ap (λ x. merge x b) (sym e) ∙ m) in
-    let t = mapped_is as_type (merged_of (identifier_of w) (uses_of w) (exports_of w) b) z i.1 in
-    let r = mapped_is (λ xs. interface_of (identifier_of w) (uses_of w ++ more_uses (uses_of w) b) (xs ++ more_exports (exports_of w) b)) (merged_exports (merging (exports_of w)) (exports_of b)) t.0 t.1 in
+    let t = mapped-some as_type (merged_of (identifier_of w) (uses_of w) (exports_of w) b) z i.1 in
+    let r = mapped-some (λ xs. interface_of (identifier_of w) (uses_of w ++ more_uses (uses_of w) b) (xs ++ more_exports (exports_of w) b)) (merged_exports (merging (exports_of w)) (exports_of b)) t.0 t.1 in
     let y = entries_of b (inr i.0) v in
     subst (Merges w b) (ap as_type r.2 ∙ t.2) (interfaces_merge w b d y.0 each y.1 (λ n x u t k l q. merge_step x (each n x k) u (y.1 n u l) t q) r.0 r.1 (ap (λ x. is_interface (kind_of x)) e) i.0)
 
@@ -511,9 +508,9 @@ narrower_is : (x y z : Stated) → narrower x y ≡ Some z → (z ≡ x) ⊎ (z 
 narrower_is x y z e = go (fits x y) (fits y x) e
   where
     go : (a b : Bool) → (if a then Some x else (if b then Some y else None)) ≡ Some z → (z ≡ x) ⊎ (z ≡ y)
-    go true b e = inl (sym (some_is e))
-    go false true e = inr (sym (some_is e))
-    go false false e = absurd (none_is e)
+    go true b e = inl (sym (same_Some _ _ e))
+    go false true e = inr (sym (same_Some _ _ e))
+    go false false e = absurd (none-some _ e)
 
 keeps_step : (before : List Asked) (x : Stated) (a : Asked) (z : Stated) → Keeps before x → IsWell a.1 → (b : Bool) → in_family (before ++ a ∷ []) ≡ b → (if b then merge x a.1 else narrower x a.1) ≡ Some z → Keeps (before ++ a ∷ []) z
 keeps_step before x a z k v false q e = record {
@@ -535,7 +532,7 @@ keeps_step before x a z k v true q e =
     only (inr f) = absurd f
 
 keeps_from : (before : List Asked) (x : Stated) (as_ : List Asked) (z : Stated) → Keeps before x → ((a : Asked) → Among a as_ → IsWell a.1) → kept_from before (Some x) as_ ≡ Some z → Keeps (before ++ as_) z
-keeps_from before x [] z k v e = subst (λ l. Keeps l z) (sym (append_nil before)) (subst (Keeps before) (some_is e) k)
+keeps_from before x [] z k v e = subst (λ l. Keeps l z) (sym (append_nil before)) (subst (Keeps before) (same_Some _ _ e) k)
 keeps_from before x (a ∷ as_) z k v e = go (λ w i q. keeps_from (before ++ a ∷ []) w as_ z i (λ b m. v b (inr m)) q) (if in_family (before ++ a ∷ []) then merge x a.1 else narrower x a.1) refl e
   where
     go : ((w : Stated) → Keeps (before ++ a ∷ []) w → kept_from (before ++ a ∷ []) (Some w) as_ ≡ Some z → Keeps ((before ++ a ∷ []) ++ as_) z) → (o : Option Stated) → (if in_family (before ++ a ∷ []) then merge x a.1 else narrower x a.1) ≡ o
@@ -562,7 +559,7 @@ same_from bs cs (Some x) (a ∷ as_) h =
 
 still_none : (bs : List Asked) (o : Option Stated) (as_ more : List Asked) → kept_from bs o as_ ≡ None → kept_from bs o (as_ ++ more) ≡ None
 still_none bs None as_ more e = refl
-still_none bs (Some x) [] more e = absurd (none_is (sym e))
+still_none bs (Some x) [] more e = absurd (none-some _ (sym e))
 still_none bs (Some x) (a ∷ as_) more e = still_none (bs ++ a ∷ []) (if in_family (bs ++ a ∷ []) then merge x a.1 else narrower x a.1) as_ more e
 
 pub asking_twice : Asking_twice

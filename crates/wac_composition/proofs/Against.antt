@@ -1,5 +1,6 @@
 -- The first cause stands against a composition, and where there is none nothing does.
 use Rattle.std.specs.Prelude.{find, is_some, bytes_eq, cond, if◌then◌else◌}
+use Rattle.std.proofs.lemmas.Option.{none-some, same_Some}
 use Rattle.std.specs.Cmp.Lexicographic.{bytes_decides}
 use Rattle.std.proofs.Common.{◌≡◌, List, [], ◌∷◌, ◌++◌, append_assoc, append-nil, Bool, true, false, true≢false, Option, Some, None, ◌⊎◌, inl, inr, refl, sym, ap, subst, ◌∙◌}
 use Rattle.wac_types_base.specs.Entries.{Name}
@@ -7,14 +8,15 @@ use Rattle.wac_types_base.specs.Graph.{Among}
 use Rattle.wac_types_base.specs.Stated.{Stated, Kind, IsFunction, IsInstance, IsComponent, IsModule, IsValue, IsResource, IsFunctionType, IsValueType, IsInterface, IsWorld, IsModuleType, kind_of}
 use Rattle.wac_composition.specs.Composition.{Placed, Composition}
 use Rattle.wac_composition.specs.Asks.{Asking, ByName, ToFill, ToUse, Ask, asks_of}
-use Rattle.wac_composition.specs.Classes.{class}
+use Rattle.wac_composition.specs.Classes.{class, spelling}
 use Rattle.wac_composition.specs.Merging.{kept}
 use Rattle.wac_composition.specs.OuterImports.{asked_in, outer_imports}
 use Rattle.wac_composition.specs.Writable.{holder, as_defined, is_value, outer_unwritable, definition_unwritable, package_unwritable, alias_unwritable}
-use Rattle.wac_composition.specs.Conflicts.{Cause, Unwritable, or_else, first_found, implicit_with, implicit_by, implicit_conflict, merge_cause, merge_fails, those_in, merge_conflict, cause_at, placed, unwritable_cause, dependencies_of, first_cause}
-use Rattle.wac_composition.specs.Against.{IsUnmerged, StandsAgainst, asked_twice, import_unmerged, ask_unmerged, alias_of_value, outer_import, definition, imported_package, FirstStands}
+use Rattle.wac_composition.specs.Circles.{as_written}
+use Rattle.wac_composition.specs.Conflicts.{Cause, Unwritable, or_else, first_found, implicit_with, implicit_by, implicit_conflict, merge_cause, merge_fails, those_in, merge_conflict, cause_at, placed, unwritable_cause, circle_cause, dependencies_of, first_cause}
+use Rattle.wac_composition.specs.Against.{IsUnmerged, StandsAgainst, asked_twice, import_unmerged, ask_unmerged, alias_of_value, outer_import, in_circle, definition, imported_package, FirstStands}
 use Rattle.wac_composition.proofs.NotFound.{written_decides}
-use Rattle.wac_composition.proofs.NotWritten.{some_is, none_is, among_map, map_among}
+use Rattle.wac_composition.proofs.NotWritten.{among_map, map_among}
 
 -- ---- the first that is found
 
@@ -22,12 +24,12 @@ or_some : {X : Type 0} (o p : Option X) (x : X) → or_else o p ≡ Some x → (
 or_some None p x e = inr (refl, e)
 or_some (Some y) p x e = inl e
 
-or_none : {X : Type 0} (o p : Option X) → or_else o p ≡ None → (o ≡ None) × (p ≡ None)
+pub or_none : {X : Type 0} (o p : Option X) → or_else o p ≡ None → (o ≡ None) × (p ≡ None)
 or_none None p e = (refl, e)
-or_none (Some y) p e = absurd (none_is (sym e))
+or_none (Some y) p e = absurd (none-some _ (sym e))
 
 found_some : {X Y : Type 0} (f : X → Option Y) (xs : List X) (y : Y) → first_found f xs ≡ Some y → (x : X) × Among x xs × (f x ≡ Some y)
-found_some f [] y e = absurd (none_is e)
+found_some f [] y e = absurd (none-some _ e)
 found_some f (x ∷ xs) y e = elim (or_some (f x) (first_found f xs) y e) [
   | inl a ↦ (x, inl refl, a)
   | inr b ↦ let r = found_some f xs y b.1 in (r.0, inr r.1, r.2)
@@ -39,11 +41,11 @@ found_none f (z ∷ zs) e x (inl q) = ap f q ∙ (or_none (f z) (first_found f z
 found_none f (z ∷ zs) e x (inr m) = found_none f zs (or_none (f z) (first_found f zs) e).1 x m
 
 find_some : {X : Type 0} (t : X → Bool) (xs : List X) (x : X) → find t xs ≡ Some x → Among x xs × (t x ≡ true)
-find_some t [] x e = absurd (none_is e)
+find_some t [] x e = absurd (none-some _ e)
 find_some t (z ∷ zs) x e = go (find_some t zs x) (t z) refl e
   where
     go : (find t zs ≡ Some x → Among x zs × (t x ≡ true)) → (b : Bool) → t z ≡ b → cond b (Some z) (find t zs) ≡ Some x → Among x (z ∷ zs) × (t x ≡ true)
-    go rest true q r = (inl (sym (some_is r)), ap t (sym (some_is r)) ∙ q)
+    go rest true q r = (inl (sym (same_Some _ _ r)), ap t (sym (same_Some _ _ r)) ∙ q)
     go rest false q r = let h = rest r in (inr h.0, h.1)
 
 find_none : {X : Type 0} (t : X → Bool) (xs : List X) → find t xs ≡ None → (x : X) → Among x xs → t x ≡ false
@@ -51,7 +53,7 @@ find_none t [] e x m = absurd m
 find_none t (z ∷ zs) e x m = go (λ r. find_none t zs r x) (t z) refl e m
   where
     go : (find t zs ≡ None → Among x zs → t x ≡ false) → (b : Bool) → t z ≡ b → cond b (Some z) (find t zs) ≡ None → Among x (z ∷ zs) → t x ≡ false
-    go rest true q r m = absurd (none_is (sym r))
+    go rest true q r m = absurd (none-some _ (sym r))
     go rest false q r (inl d) = ap t d ∙ q
     go rest false q r (inr n) = rest r n
 
@@ -78,13 +80,13 @@ module _ {A I : Type 0} (define : Bool) (c : Composition A I) where
   implicit_stands x e = let f = found_some (λ a. implicit_by a.asking c.imports a) (asks_of c) x e in one f.0 f.1 f.0.asking refl f.2
     where
       filled : (a : Ask A) → Among a (asks_of c) → a.asking ≡ ToFill → (o : Option (Placed A)) → find (λ i. bytes_eq i.name a.name) c.imports ≡ o → implicit_with a o ≡ Some x → Stands x
-      filled a m k None q r = absurd (none_is r)
-      filled a m k (Some i) q r = let h = find_some (λ i. bytes_eq i.name a.name) c.imports i q in subst Stands (some_is r) (asked_twice i a h.0 m k ((bytes_decides i.name a.name).0 h.1))
+      filled a m k None q r = absurd (none-some _ r)
+      filled a m k (Some i) q r = let h = find_some (λ i. bytes_eq i.name a.name) c.imports i q in subst Stands (same_Some _ _ r) (asked_twice i a h.0 m k ((bytes_decides i.name a.name).0 h.1))
 
       one : (a : Ask A) → Among a (asks_of c) → (k : Asking) → a.asking ≡ k → implicit_by k c.imports a ≡ Some x → Stands x
       one a m ToFill k r = filled a m k (find (λ i. bytes_eq i.name a.name) c.imports) refl r
-      one a m ByName k r = absurd (none_is r)
-      one a m ToUse k r = absurd (none_is r)
+      one a m ByName k r = absurd (none-some _ r)
+      one a m ToUse k r = absurd (none-some _ r)
 
   no_implicit : implicit_conflict c.imports (asks_of c) ≡ None → (i : Placed A) (a : Ask A) → Among i c.imports → Among a (asks_of c) → a.asking ≡ ToFill → i.name ≡ a.name → ⊥
   no_implicit e i a m n k q =
@@ -92,18 +94,18 @@ module _ {A I : Type 0} (define : Bool) (c : Composition A I) where
       go (find (λ i. bytes_eq i.name a.name) c.imports) refl none
     where
       go : (o : Option (Placed A)) → find (λ i. bytes_eq i.name a.name) c.imports ≡ o → implicit_with a o ≡ None → ⊥
-      go (Some j) r s = none_is (sym s)
+      go (Some j) r s = none-some _ (sym s)
       go None r s = true≢false (sym ((bytes_decides i.name a.name).1 q) ∙ find_none (λ i. bytes_eq i.name a.name) c.imports r i m)
 
   -- ---- asks that do not merge
 
   cause_of : (k : Asking) (a b : Ask A) (bs : List (Ask A)) (x : Cause A) → a.asking ≡ k → IsUnmerged define c a b → merge_cause k a (b ∷ bs) ≡ Some x → Stands x
-  cause_of ByName a b bs x k u r = subst Stands (some_is r) (import_unmerged a b u k)
-  cause_of ToFill a b bs x k u r = subst Stands (some_is r) (ask_unmerged a b u (λ q. let d : ⊥ = cc (k, q) in d))
-  cause_of ToUse a b bs x k u r = subst Stands (some_is r) (ask_unmerged a b u (λ q. let d : ⊥ = cc (k, q) in d))
+  cause_of ByName a b bs x k u r = subst Stands (same_Some _ _ r) (import_unmerged a b u k)
+  cause_of ToFill a b bs x k u r = subst Stands (same_Some _ _ r) (ask_unmerged a b u (λ q. let d : ⊥ = cc (k, q) in d))
+  cause_of ToUse a b bs x k u r = subst Stands (same_Some _ _ r) (ask_unmerged a b u (λ q. let d : ⊥ = cc (k, q) in d))
 
   merge_stands : (before rest : List (Ask A)) (x : Cause A) → asks_of c ≡ before ++ rest → merge_conflict (asks_of c) before rest ≡ Some x → Stands x
-  merge_stands before [] x q e = absurd (none_is e)
+  merge_stands before [] x q e = absurd (none-some _ e)
   merge_stands before (a ∷ as_) x q e = elim (or_some (merge_fails a (those_in (class (asks_of c) a) (before ++ a ∷ []))) _ x e) [
     | inl f ↦ failing (those_in (class (asks_of c) a) (before ++ a ∷ [])) refl f
     | inr n ↦ merge_stands (before ++ a ∷ []) as_ x (q ∙ sym (append_assoc before (a ∷ []) as_)) n.1
@@ -113,8 +115,8 @@ module _ {A I : Type 0} (define : Bool) (c : Composition A I) where
       failing bs are f = go bs are (kept (asked_in bs)) refl f
         where
           go : (bs : List (Ask A)) → those_in (class (asks_of c) a) (before ++ a ∷ []) ≡ bs → (o : Option Stated) → kept (asked_in bs) ≡ o → (if is_some o then None else merge_cause a.asking a bs) ≡ Some x → Stands x
-          go bs are (Some y) k f = absurd (none_is f)
-          go [] are None k f = absurd (none_is (sym (nothing a.asking) ∙ f))
+          go bs are (Some y) k f = absurd (none-some _ f)
+          go [] are None k f = absurd (none-some _ (sym (nothing a.asking) ∙ f))
             where
               nothing : (k : Asking) → merge_cause k a [] ≡ None
               nothing ByName = refl
@@ -143,9 +145,9 @@ module _ {A I : Type 0} (define : Bool) (c : Composition A I) where
       fails a.asking (subst (λ o. (if is_some o then None else merge_cause a.asking a (b ∷ u.others)) ≡ None) u.nothing m)
     where
       fails : (k : Asking) → merge_cause k a (b ∷ u.others) ≡ None → ⊥
-      fails ByName q = none_is (sym q)
-      fails ToFill q = none_is (sym q)
-      fails ToUse q = none_is (sym q)
+      fails ByName q = none-some _ (sym q)
+      fails ToFill q = none-some _ (sym q)
+      fails ToUse q = none-some _ (sym q)
 
   -- ---- what cannot be written
 
@@ -156,14 +158,14 @@ module _ {A I : Type 0} (define : Bool) (c : Composition A I) where
   cause_some p es x e = let f = found_some (cause_at p) es x e in go f.0 f.1 (p f.0) refl f.2
     where
       go : (e : Name × Stated) → Among e es → (b : Bool) → p e ≡ b → cause_if b e.0 ≡ Some x → (e : Name × Stated) × Among e es × (p e ≡ true) × (Unwritable e.0 ≡ x)
-      go e m true q r = (e, m, q, some_is r)
-      go e m false q r = absurd (none_is r)
+      go e m true q r = (e, m, q, same_Some _ _ r)
+      go e m false q r = absurd (none-some _ r)
 
   cause_none : (p : Name × Stated → Bool) (es : List (Name × Stated)) → first_found (cause_at {A = A} p) es ≡ None → (e : Name × Stated) → Among e es → p e ≡ true → ⊥
   cause_none p es n e m q = go (p e) refl (found_none (cause_at {A = A} p) es n e m)
     where
       go : (b : Bool) → p e ≡ b → cause_if b e.0 ≡ None → ⊥
-      go true r s = none_is (sym s)
+      go true r s = none-some _ (sym s)
       go false r s = true≢false (sym q ∙ r)
 
   abbrev outers : List (Name × Stated)
@@ -191,12 +193,23 @@ module _ {A I : Type 0} (define : Bool) (c : Composition A I) where
     ]
   ]
 
+  abbrev circling : List (Name × Stated)
+  circling = as_written (spelling (asks_of c)) outers
+
+  circle_stands : (x : Cause A) → circle_cause (spelling (asks_of c)) outers ≡ Some x → Stands x
+  circle_stands x e =
+      let f = cause_some (outer_unwritable outers) circling x e in
+      subst Stands f.3 (in_circle f.0.0 f.0.1 f.1 ((written_decides true (holder [] outers) f.0.0 f.0.1).0 f.2))
+
   first_stands : (x : Cause A) → first_cause define c ≡ Some x → Stands x
   first_stands x e = elim (or_some (implicit_conflict c.imports (asks_of c)) _ x e) [
     | inl a ↦ implicit_stands x a
     | inr r ↦ elim (or_some (merge_conflict (asks_of c) [] (asks_of c)) _ x r.1) [
       | inl a ↦ merge_stands [] (asks_of c) x refl a
-      | inr s ↦ unwritable_stands x s.1
+      | inr s ↦ elim (or_some (unwritable_cause define c outers) _ x s.1) [
+        | inl a ↦ unwritable_stands x a
+        | inr t ↦ circle_stands x t.1
+      ]
     ]
   ]
 
@@ -204,22 +217,24 @@ module _ {A I : Type 0} (define : Bool) (c : Composition A I) where
   none_stands e x s =
       let one = or_none (implicit_conflict c.imports (asks_of c)) _ e in
       let two = or_none (merge_conflict (asks_of c) [] (asks_of c)) _ one.1 in
-      let three = or_none (first_found (cause_at {A = A} alias_unwritable) c.aliases) _ two.1 in
+      let last = or_none (unwritable_cause define c outers) _ two.1 in
+      let three = or_none (first_found (cause_at {A = A} alias_unwritable) c.aliases) _ last.0 in
       let four = or_none (first_found (cause_at {A = A} (outer_unwritable outers)) outers) _ three.1 in
       let five = or_none (first_found (cause_at {A = A} (definition_unwritable outers)) (placed c.definitions)) _ four.1 in
-      go one.0 two.0 three.0 four.0 five.0 five.1 x s
+      go one.0 two.0 three.0 four.0 five.0 five.1 last.1 x s
     where
       go : implicit_conflict c.imports (asks_of c) ≡ None → merge_conflict (asks_of c) [] (asks_of c) ≡ None → first_found (cause_at {A = A} alias_unwritable) c.aliases ≡ None
           → first_found (cause_at {A = A} (outer_unwritable outers)) outers ≡ None → first_found (cause_at {A = A} (definition_unwritable outers)) (placed c.definitions) ≡ None
-          → first_found (cause_at {A = A} package_unwritable) (dependencies_of define c) ≡ None → (x : Cause A) → Stands x → ⊥
-      go p q r s t v x (asked_twice i a m n k e) = no_implicit p i a m n k e
-      go p q r s t v x (import_unmerged a b u k) = no_unmerged q a b u
-      go p q r s t v x (ask_unmerged a b u k) = no_unmerged q a b u
-      go p q r s t v x (alias_of_value n y m k) = cause_none alias_unwritable c.aliases r (n, y) m (ap is_value k)
-      go p q r s t v x (outer_import n y m w) = cause_none (outer_unwritable outers) outers s (n, y) m ((written_decides true (holder [] outers) n y).1 w)
-      go p q r s t v x (definition d m w) =
-          cause_none (definition_unwritable outers) (placed c.definitions) t (d.name, d.item) (map_among (λ d. (d.name, d.item)) c.definitions d m) ((written_decides false (holder [] outers) d.name (as_defined d.item)).1 w)
-      go p q r s t v x (imported_package n y m w) = cause_none package_unwritable (dependencies_of define c) v (n, y) m ((written_decides true (holder [] []) n y).1 w)
+          → first_found (cause_at {A = A} package_unwritable) (dependencies_of define c) ≡ None → first_found (cause_at {A = A} (outer_unwritable outers)) circling ≡ None → (x : Cause A) → Stands x → ⊥
+      go p q r s t v w x (asked_twice i a m n k e) = no_implicit p i a m n k e
+      go p q r s t v w x (import_unmerged a b u k) = no_unmerged q a b u
+      go p q r s t v w x (ask_unmerged a b u k) = no_unmerged q a b u
+      go p q r s t v w x (alias_of_value n y m k) = cause_none alias_unwritable c.aliases r (n, y) m (ap is_value k)
+      go p q r s t v w x (outer_import n y m f) = cause_none (outer_unwritable outers) outers s (n, y) m ((written_decides true (holder [] outers) n y).1 f)
+      go p q r s t v w x (in_circle n y m f) = cause_none (outer_unwritable outers) circling w (n, y) m ((written_decides true (holder [] outers) n y).1 f)
+      go p q r s t v w x (definition d m f) =
+          cause_none (definition_unwritable outers) (placed c.definitions) t (d.name, d.item) (map_among (λ d. (d.name, d.item)) c.definitions d m) ((written_decides false (holder [] outers) d.name (as_defined d.item)).1 f)
+      go p q r s t v w x (imported_package n y m f) = cause_none package_unwritable (dependencies_of define c) v (n, y) m ((written_decides true (holder [] []) n y).1 f)
 
   pub causes_stand : FirstStands define c
   causes_stand = record { stands = first_stands; none = none_stands }

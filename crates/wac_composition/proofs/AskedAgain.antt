@@ -1,5 +1,7 @@
 -- An ask that comes again changes no class and no spelling.
 use Rattle.std.specs.Prelude.{◌==◌, cond, filter, find, option_map, unwrap_or, bytes_eq, if◌then◌else◌, ◌&&◌, ◌||◌}
+use Rattle.std.proofs.lemmas.Bool.{and_parts}
+use Rattle.std.specs.Cmp.Derive.{both_true}
 use Rattle.std.specs.List.{list_any}
 use Rattle.std.specs.declared.cmp.Ordering.{Ordering}
 use Rattle.std.proofs.lemmas.Slice.Eq.{bytes_eq-Decides}
@@ -23,22 +25,15 @@ use Rattle.wac_composition.proofs.Again.{asking_twice}
 use Rattle.wac_composition.proofs.Closures.{any_among, among_any, filter_among, among_filter, filter_same, closed}
 use Rattle.wac_composition.proofs.OuterClasses.{itself as joined_itself, turned, class_is, class_itself}
 use Rattle.wac_composition.proofs.ClassLaws.{in_class_linked, linked_in_class}
+use Rattle.wac_types_fit.proofs.Caching.{found-among}
 
 -- ---- later names
 
-both_true : (a b : Bool) → (a && b) ≡ true → (a ≡ true) × (b ≡ true)
-both_true true b e = (refl, e)
-both_true false b e = absurd (true≢false (sym e))
-
-and_true : (a b : Bool) → a ≡ true → b ≡ true → (a && b) ≡ true
-and_true true b e f = f
-and_true false b e f = absurd (true≢false (sym e))
-
 numbers_through : (o u v : Option (ℕ × ℕ)) → numbers_agree o u ≡ true → numbers_agree u v ≡ true → numbers_agree o v ≡ true
 numbers_through (Some a) (Some b) (Some c) e f =
-    let x = both_true (a.0 == b.0) (a.1 == b.1) e in
-    let y = both_true (b.0 == c.0) (b.1 == c.1) f in
-    and_true (a.0 == c.0) (a.1 == c.1) ((Decides-eqb a.0 c.0).1 ((Decides-eqb a.0 b.0).0 x.0 ∙ (Decides-eqb b.0 c.0).0 y.0)) ((Decides-eqb a.1 c.1).1 ((Decides-eqb a.1 b.1).0 x.1 ∙ (Decides-eqb b.1 c.1).0 y.1))
+    let x = and_parts (a.0 == b.0) (a.1 == b.1) e in
+    let y = and_parts (b.0 == c.0) (b.1 == c.1) f in
+    both_true ((Decides-eqb a.0 c.0).1 ((Decides-eqb a.0 b.0).0 x.0 ∙ (Decides-eqb b.0 c.0).0 y.0)) ((Decides-eqb a.1 c.1).1 ((Decides-eqb a.1 b.1).0 x.1 ∙ (Decides-eqb b.1 c.1).0 y.1))
 numbers_through (Some a) (Some b) None e f = absurd (true≢false (sym f))
 numbers_through (Some a) None v e f = absurd (true≢false (sym e))
 numbers_through None u v e f = absurd (true≢false (sym e))
@@ -51,13 +46,13 @@ tracks_through None u v e f = absurd (true≢false (sym e))
 
 track_through : (k m n : Name) → same_track k m ≡ true → same_track m n ≡ true → same_track k n ≡ true
 track_through k m n e f =
-    let x = both_true (bytes_eq (before_at k) (before_at m)) (tracks_agree (version_of k) (version_of m)) e in
-    let y = both_true (bytes_eq (before_at m) (before_at n)) (tracks_agree (version_of m) (version_of n)) f in
-    and_true (bytes_eq (before_at k) (before_at n)) (tracks_agree (version_of k) (version_of n))
+    let x = and_parts (bytes_eq (before_at k) (before_at m)) (tracks_agree (version_of k) (version_of m)) e in
+    let y = and_parts (bytes_eq (before_at m) (before_at n)) (tracks_agree (version_of m) (version_of n)) f in
+    both_true
     ((bytes_eq-Decides (before_at k) (before_at n)).1 ((bytes_eq-Decides (before_at k) (before_at m)).0 x.0 ∙ (bytes_eq-Decides (before_at m) (before_at n)).0 y.0))
     (tracks_through (version_of k) (version_of m) (version_of n) x.1 y.1)
 
-greater_is : (o : Ordering) → is_greater o ≡ true → o ≡ Ordering.Greater
+pub greater_is : (o : Ordering) → is_greater o ≡ true → o ≡ Ordering.Greater
 greater_is Ordering.Greater e = refl
 greater_is Ordering.Less e = absurd (true≢false (sym e))
 greater_is Ordering.Equal e = absurd (true≢false (sym e))
@@ -70,9 +65,9 @@ version_through None u v e f = absurd (true≢false (sym e))
 
 later_through : (k m n : Name) → is_later k m ≡ true → is_later m n ≡ true → is_later k n ≡ true
 later_through k m n e f =
-    let x = both_true (same_track k m) (later_version (version_of k) (version_of m)) e in
-    let y = both_true (same_track m n) (later_version (version_of m) (version_of n)) f in
-    and_true (same_track k n) (later_version (version_of k) (version_of n)) (track_through k m n x.0 y.0) (version_through (version_of k) (version_of m) (version_of n) x.1 y.1)
+    let x = and_parts (same_track k m) (later_version (version_of k) (version_of m)) e in
+    let y = and_parts (same_track m n) (later_version (version_of m) (version_of n)) f in
+    both_true (track_through k m n x.0 y.0) (version_through (version_of k) (version_of m) (version_of n) x.1 y.1)
 
 not_later_version : (o : Option Parts) → later_version o o ≡ true → ⊥
 not_later_version (Some p) e = not_above_self p (greater_is (version_cmp p p) e)
@@ -82,7 +77,7 @@ later_itself : (n : Name) → is_later n n ≡ false
 later_itself n = go (is_later n n) refl
   where
     go : (b : Bool) → is_later n n ≡ b → b ≡ false
-    go true e = absurd (not_later_version (version_of n) (both_true (same_track n n) (later_version (version_of n) (version_of n)) e).1)
+    go true e = absurd (not_later_version (version_of n) (and_parts (same_track n n) (later_version (version_of n) (version_of n)) e).1)
     go false e = refl
 
 -- what is not later than the first is not later than the greatest
@@ -139,14 +134,6 @@ find_again p (x ∷ xs) ys a b m e = go (λ k. find_again p xs ys a b k e) m (p 
     go rest (inr k) false q = rest k
     go rest (inl d) false q = behind xs (sym e ∙ ap p d ∙ q)
 
-found_among : {X : Type 0} (p : X → Bool) (xs : List X) (x : X) → find p xs ≡ Some x → Among x xs
-found_among p [] x e = absurd (let c : ⊥ = cc e in c)
-found_among p (y ∷ xs) x e = go (found_among p xs x) (p y) e
-  where
-    go : (find p xs ≡ Some x → Among x xs) → (b : Bool) → cond b (Some y) (find p xs) ≡ Some x → Among x (y ∷ xs)
-    go rest true q = inl (let c : x ≡ y = cc q in c)
-    go rest false q = inr (rest q)
-
 module _ {X : Type 0} (before after : List X) (a : X) where
   among_more : (x : X) → Among x (before ++ after) → Among x (before ++ a ∷ after)
   among_more = go before
@@ -165,7 +152,7 @@ module _ {X : Type 0} (before after : List X) (a : X) where
       go (b ∷ bs) x (inl e) = inl (inl e)
       go (b ∷ bs) x (inr m) = elim (go bs x m) [ inl k ↦ inl (inr k) | inr e ↦ inr e ]
 
-among_first : {X : Type 0} (xs ys : List X) (x : X) → Among x xs → Among x (xs ++ ys)
+pub among_first : {X : Type 0} (xs ys : List X) (x : X) → Among x xs → Among x (xs ++ ys)
 among_first [] ys x m = absurd m
 among_first (z ∷ xs) ys x (inl e) = inl e
 among_first (z ∷ xs) ys x (inr m) = inr (among_first xs ys x m)
@@ -290,7 +277,7 @@ module _ {A : Type 0} where
       where
         go : (o : Option (Ask A)) → find (λ d. bytes_eq d.name n) asks ≡ o → unwrap_or (option_map (λ d. spelled (class more d)) o) n ≡ unwrap_or (option_map (λ d. spelled (class asks d)) o) n
         go None e = refl
-        go (Some d) e = class_spelled d (found_among (λ d. bytes_eq d.name n) asks d e)
+        go (Some d) e = class_spelled d (found-among (λ d. bytes_eq d.name n) asks d e)
 
     again : ((d : Ask A) → Among d before → IsWell d.item) → KeepsClasses asks more
     again v = record {

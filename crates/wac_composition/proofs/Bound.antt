@@ -1,8 +1,9 @@
 -- In a sound composition that nothing stands against each import is bound to what fits it, and the world that is handed out is true.
 use Rattle.std.specs.Prelude.{◌==◌, ◌<◌, drop, option_map, unwrap_or, is_some, not, cond, filter, slice_get, IsSome, if◌then◌else◌}
+use Rattle.std.proofs.lemmas.Option.{none-some, same_Some}
 use Rattle.std.specs.List.{flat_map}
 use Rattle.std.specs.Cmp.Lexicographic.{pointwise, bytes_decides}
-use Rattle.std.proofs.Common.{◌≡◌, ℕ, zero, suc, ◌+◌, List, [], ◌∷◌, ◌++◌, map, length, Bool, true, false, true≢false, Option, Some, None, inl, inr, refl, sym, ap, subst, ◌∙◌, arith}
+use Rattle.std.proofs.Common.{◌≡◌, ℕ, ◌+◌, List, [], ◌∷◌, ◌++◌, map, length, Bool, true, false, true≢false, Option, Some, None, inl, inr, refl, sym, ap, subst, ◌∙◌}
 use Rattle.wac_types_base.specs.Entries.{Name, value_at}
 use Rattle.wac_types_base.specs.Graph.{Among}
 use Rattle.wac_types_base.specs.Collection.{world}
@@ -28,13 +29,9 @@ use Rattle.wac_composition.proofs.KeptFits.{fields_ordered, fields_looked, insta
 use Rattle.wac_composition.proofs.Clashing.{value_among}
 use Rattle.wac_composition.proofs.Merged.{all_met}
 use Rattle.wac_composition.proofs.Straight.{outer_straight}
-use Rattle.wac_composition.proofs.Unused.{made_world, without_same}
-
-some_is : {A : Type 0} {x y : A} → Some x ≡ Some y → x ≡ y
-some_is e = cc
-
-none_is : {A : Type 0} {x : A} → None ≡ Some x → ⊥
-none_is e = cc
+use Rattle.wac_composition.proofs.Unused.{made_world, without_same, zero_plus}
+use Rattle.wac_composition.proofs.AskedAgain.{among_first}
+use Rattle.wac_types_base.proofs.Looked.{among-get}
 
 -- ---- maps of named items
 
@@ -42,8 +39,8 @@ has_field : (es : List (Name × Stated)) (n : Name) (x : Stated) → value_at es
 has_field es n x e = looked-has n (tree x) (fields_of es) (fields_looked es n ∙ ap (option_map tree) e)
 
 mapped : (o : Option Stated) (t : Tree) → option_map tree o ≡ Some t → (x : Stated) × (o ≡ Some x) × (tree x ≡ t)
-mapped None t e = absurd (none_is e)
-mapped (Some x) t e = (x, refl, some_is e)
+mapped None t e = absurd (none-some _ e)
+mapped (Some x) t e = (x, refl, same_Some _ _ e)
 
 field_has : (es : List (Name × Stated)) (n : Name) (t : Tree) → HasField n t (fields_of es) → (x : Stated) × (value_at es n ≡ Some x) × (tree x ≡ t)
 field_has es n t h = mapped (value_at es n) t (sym (fields_looked es n) ∙ has-looked n t (fields_of es) (fields_ordered es) h)
@@ -77,34 +74,24 @@ among_map f [] x m = m
 among_map f (y ∷ xs) x (inl e) = inl (ap f e)
 among_map f (y ∷ xs) x (inr m) = inr (among_map f xs x m)
 
-among_left : {X : Type 0} (xs ys : List X) (x : X) → Among x xs → Among x (xs ++ ys)
-among_left [] ys x m = absurd m
-among_left (z ∷ xs) ys x (inl e) = inl e
-among_left (z ∷ xs) ys x (inr m) = inr (among_left xs ys x m)
-
 among_right : {X : Type 0} (xs ys : List X) (x : X) → Among x ys → Among x (xs ++ ys)
 among_right [] ys x m = m
 among_right (z ∷ xs) ys x m = inr (among_right xs ys x m)
 
 among_flat : {X Y : Type 0} (f : X → List Y) (xs : List X) (x : X) (y : Y) → Among x xs → Among y (f x) → Among y (flat_map f xs)
 among_flat f [] x y m k = absurd m
-among_flat f (z ∷ xs) x y (inl e) k = among_left (f z) (flat_map f xs) y (subst (λ w. Among y (f w)) e k)
+among_flat f (z ∷ xs) x y (inl e) k = among_first (f z) (flat_map f xs) y (subst (λ w. Among y (f w)) e k)
 among_flat f (z ∷ xs) x y (inr m) k = among_right (f z) (flat_map f xs) y (among_flat f xs x y m k)
-
-among_got : {X : Type 0} (xs : List X) (k : ℕ) (x : X) → slice_get xs k ≡ Some x → Among x xs
-among_got [] k x e = absurd (none_is e)
-among_got (y ∷ xs) zero x e = inl (sym (some_is e))
-among_got (y ∷ xs) (suc k) x e = inr (among_got xs k x e)
 
 -- an entry that stands under its name, and passes
 among_passing : (t : Name × Stated → Bool) (es : List (Name × Stated)) (n : Name) (x : Stated) → value_at es n ≡ Some x → t (n, x) ≡ true → Among (n, x) (filter t es)
-among_passing t [] n x e p = absurd (none_is e)
+among_passing t [] n x e p = absurd (none-some _ e)
 among_passing t (f ∷ es) n x e p = go (λ r. among_passing t es n x r p) (pointwise ◌==◌ n f.0) refl e (t f) refl
   where
     go : (value_at es n ≡ Some x → Among (n, x) (filter t es)) → (b : Bool) → pointwise ◌==◌ n f.0 ≡ b → (if b then Some f.1 else value_at es n) ≡ Some x → (k : Bool) → t f ≡ k → Among (n, x) (cond k (f ∷ filter t es) (filter t es))
-    go rest true q r true s = inl (λ i. ((bytes_decides n f.0).0 q i, sym (some_is r) i))
+    go rest true q r true s = inl (λ i. ((bytes_decides n f.0).0 q i, sym (same_Some _ _ r) i))
     go rest true q r false s =
-        let is : (n, x) ≡ f = λ i. ((bytes_decides n f.0).0 q i, sym (some_is r) i) in
+        let is : (n, x) ≡ f = λ i. ((bytes_decides n f.0).0 q i, sym (same_Some _ _ r) i) in
         absurd (true≢false (sym p ∙ ap t is ∙ s))
     go rest false q r true s = inr (rest r)
     go rest false q r false s = rest r
@@ -122,9 +109,6 @@ read_exports (e ∷ es) = ap (λ l. e ∷ l) (read_exports es)
 behind_imports : (is : List (Name × Stated)) (os : List (Option Stated)) → drop (length (names is)) (only_places (row (filled is ++ os))) ≡ only_places (row os)
 behind_imports [] os = refl
 behind_imports (e ∷ is) os = behind_imports is os
-
-zero_plus : (n : ℕ) → n ≡ 0 + n
-zero_plus n = omega arith
 
 made_imports : (i : Option Name) (is es : List (Name × Stated)) → imports_of (world_of i [] is es) ≡ is
 made_imports i is es = read_imports is (filled es)
@@ -175,11 +159,11 @@ abbrev paired : {I : Type 0} → List (Name × Origin I × Stated) → List (Nam
 paired es = map (λ e. (e.0, (e.1, e.2))) es
 
 paired_among : {I : Type 0} (es : List (Name × Origin I × Stated)) (n : Name) (p : Export_of I) → value_at (paired es) n ≡ Some p → Among (n, p.0, p.1) es
-paired_among [] n p e = absurd (none_is e)
+paired_among [] n p e = absurd (none-some _ e)
 paired_among (f ∷ es) n p e = go (paired_among es n p) (pointwise ◌==◌ n f.0) refl e
   where
     go : (value_at (paired es) n ≡ Some p → Among (n, p.0, p.1) es) → (b : Bool) → pointwise ◌==◌ n f.0 ≡ b → (if b then Some (f.1, f.2) else value_at (paired es) n) ≡ Some p → Among (n, p.0, p.1) (f ∷ es)
-    go rest true q r = inl (λ i. ((bytes_decides n f.0).0 q i, (sym (some_is r) i).0, (sym (some_is r) i).1))
+    go rest true q r = inl (λ i. ((bytes_decides n f.0).0 q i, (sym (same_Some _ _ r) i).0, (sym (same_Some _ _ r) i).1))
     go rest false q r = inr (rest r)
 
 paired_exports : {A I : Type 0} (as_ : List (Ask A)) (es : List (Name × Origin I × Stated)) → world_exports as_ es ≡ map (λ e. (e.0, exported_type as_ e.1)) (paired es)
@@ -207,7 +191,7 @@ module _ {A : Type 0} (tag_of : Key → Tag) (c : Composition A ℕ) (define : B
 
   imported_stands : (i : Placed A) → Among i c.imports → Stands (imported i.name) i.item
   imported_stands i m =
-      let a : Among (explicit_ask i) asks = among_left (named_asks c) _ (explicit_ask i) (among_left (map explicit_ask c.imports) (flat_map filled_asks c.made) (explicit_ask i) (among_map explicit_ask c.imports i m)) in
+      let a : Among (explicit_ask i) asks = among_first (named_asks c) _ (explicit_ask i) (among_first (map explicit_ask c.imports) (flat_map filled_asks c.made) (explicit_ask i) (among_map explicit_ask c.imports i m)) in
       let k = all_met define c nothing (explicit_ask i) a in
       record {
         item = k.0;
@@ -225,7 +209,7 @@ module _ {A : Type 0} (tag_of : Key → Tag) (c : Composition A ℕ) (define : B
         has = (maps_of m.world, record { made = m; there = e; says = refl }, is);
         fits = Fits-refl (tree (instance_type m.world));
         final = refl;
-        straight = λ q. absurd (none_is q);
+        straight = λ q. absurd (none-some _ q);
       }
 
   defined_stands : (x : Stated) → is_type (kind_of x) ≡ true → IsDefinition (tree (written_definition x)) → Stands (defined x) x
@@ -278,7 +262,7 @@ module _ {A : Type 0} (tag_of : Key → Tag) (c : Composition A ℕ) (define : B
     has = project_tree outs (IsMade c) (source_of asks o) (fields_of (exports_of x)) n (tree y) (subst (HasTree outs (IsMade c) (source_of asks o)) (ap tree (sym same) ∙ instance_tree x k) has) (has_field (exports_of x) n y e);
     fits = Fits-refl (tree y);
     final = ap (λ p. unwrap_or (then_in p n) y) q;
-    straight = λ r. absurd (none_is (sym (ap (λ p. then_in p n) q) ∙ r));
+    straight = λ r. absurd (none-some _ (sym (ap (λ p. then_in p n) q) ∙ r));
   }
 
   exported_stands : (o : Origin ℕ) (x : Stated) (n : Name) (y : Stated) → HasType c o x → Stands o x → is_instance (kind_of x) ≡ true → value_at (exports_of x) n ≡ Some y → Stands (projected o n) y
@@ -309,7 +293,7 @@ module _ {A : Type 0} (tag_of : Key → Tag) (c : Composition A ℕ) (define : B
   filled_ask k m n x e v a =
       let open_ = among_passing (λ (e : Name × Stated). not (is_some (value_at m.arguments e.0))) (imports_of m.world) n x v (ap (λ o. not (is_some o)) a) in
       let one = among_map (λ (e : Name × Stated). record { asking = ToFill; by = m.by; name = e.0; item = e.1 }) _ (n, x) open_ in
-      among_left (named_asks c) _ _ (among_right (map explicit_ask c.imports) (flat_map filled_asks c.made) _ (among_flat filled_asks c.made m _ (among_got c.made k m e) one))
+      among_first (named_asks c) _ _ (among_right (map explicit_ask c.imports) (flat_map filled_asks c.made) _ (among_flat filled_asks c.made m _ (among-get c.made k m e) one))
 
   given_for : (k : ℕ) (m : Made A ℕ) (n : Name) (x : Stated) → slice_get c.made k ≡ Some m → value_at (imports_of m.world) n ≡ Some x → (o : Option (Origin ℕ)) → value_at m.arguments n ≡ o
       → Gives outs (IsMade c) (source_for tag_of c o n) (tree x)
@@ -338,8 +322,8 @@ module _ {A : Type 0} (tag_of : Key → Tag) (c : Composition A ℕ) (define : B
   }
 
   instance_at : (k : ℕ) (x : Instantiation ℕ) (o : Option (Made A ℕ)) → option_map (instantiation tag_of c) o ≡ Some x → (m : Made A ℕ) × (o ≡ Some m) × (instantiation tag_of c m ≡ x)
-  instance_at k x None e = absurd (none_is e)
-  instance_at k x (Some m) e = (m, refl, some_is e)
+  instance_at k x None e = absurd (none-some _ e)
+  instance_at k x (Some m) e = (m, refl, same_Some _ _ e)
 
   bound : (k : ℕ) (x : Instantiation ℕ) → (composed_wiring tag_of c).at k ≡ Some x → IsBoundInstance (IsMade c) (composed_wiring tag_of c) k x
   bound k x e =
@@ -415,14 +399,14 @@ module _ {A : Type 0} (tag_of : Key → Tag) (c : Composition A ℕ) (define : B
 
   export_has : (n : Name) (x : Stated) (o : Option (Export_of ℕ)) → value_at (paired c.exports) n ≡ o → option_map (exported_type asks) o ≡ Some x
       → HasTree outs (IsMade c) (export_source tag_of c (option_map (λ e. e.0) o)) (tree x)
-  export_has n x None q e = absurd (none_is e)
+  export_has n x None q e = absurd (none-some _ e)
   export_has n x (Some p) q e =
       let s = stands p.0 p.1 (sound.exported n p.0 p.1 (paired_among c.exports n p q)) in
-      subst (λ y. HasTree outs (IsMade c) (source_of asks p.0) (tree y)) (sym s.final ∙ some_is e) s.has
+      subst (λ y. HasTree outs (IsMade c) (source_of asks p.0) (tree y)) (sym s.final ∙ same_Some _ _ e) s.has
 
   export_none : (n : Name) (o : Option (Export_of ℕ)) → option_map (exported_type asks) o ≡ None → export_source tag_of c (option_map (λ e. e.0) o) ≡ Absent
   export_none n None e = refl
-  export_none n (Some p) e = absurd (none_is (sym e))
+  export_none n (Some p) e = absurd (none-some _ (sym e))
 
   are_exports : States outs (IsMade c) (composed_wiring tag_of c).exports (fields_of exports)
   are_exports = record {

@@ -1,5 +1,6 @@
 -- Where asks keep nothing, no tree fits them all.
 use Rattle.std.specs.Prelude.{◌==◌, ◌⊎◌, cond, filter, is_none, not, drop, option_map, if◌then◌else◌, ◌&&◌}
+use Rattle.std.proofs.lemmas.Option.{none-some, same_Some}
 use Rattle.std.specs.Cmp.Lexicographic.{pointwise, bytes_decides}
 use Rattle.std.proofs.Common.{◌≡◌, ℕ, zero, suc, List, [], ◌∷◌, ◌++◌, append_assoc, map, length, Bool, true, false, true≢false, Option, Some, None, inl, inr, refl, sym, ap, subst, ◌∙◌}
 use Rattle.wac_types_base.specs.Entries.{Name, AreDistinct, names_of, value_at}
@@ -11,7 +12,7 @@ use Rattle.wac_types_base.specs.Fits.{Fits, rigid_fits, own_fits, borrow_fits, i
 use Rattle.wac_types_fit.specs.Ordered.{AllInOrder}
 use Rattle.wac_types_fit.specs.Meets.{FitsAll, Clash}
 use Rattle.wac_types_fit.proofs.Looking.{looked-has, has-looked, in_order-at, given}
-use Rattle.wac_types_fit.proofs.Meeting.{FitsAll-left, FitsAll-right}
+use Rattle.wac_types_fit.proofs.Meeting.{FitsAll-left, FitsAll-right, mapped-some}
 use Rattle.wac_composition.specs.Classes.{is_instance}
 use Rattle.wac_composition.specs.Tests.{fits}
 use Rattle.wac_composition.specs.Merging.{is_interface, Merge, both, merged_with, merged_exports, has_use, merged_interface, rebuilt, if_kind, same_tree_as, merge_at, merge, Asked, narrower, in_family, kept_from, kept}
@@ -19,15 +20,10 @@ use Rattle.wac_composition.specs.Regular.{IsFlat, IsFlatItem, Regular, flat, an_
 use Rattle.wac_composition.specs.OuterLaws.{trees_asked, KeepNothing}
 use Rattle.wac_composition.specs.Sound.{fields_of}
 use Rattle.wac_composition.proofs.FitBack.{fits_decides}
-use Rattle.wac_composition.proofs.KeptFits.{fields_looked, firsts, first_names, folded_firsts, only_firsts, exports_at, interface_tree, instance_tree, item_tree, row_again, row_places, names_filled, both_is, if_is, mapped_is, trees_append, append_nil, no_more_kept, kept_meets}
+use Rattle.wac_composition.proofs.KeptFits.{fields_looked, folded_firsts, exports_at, interface_tree, instance_tree, item_tree, row_again, both_is, if_is, trees_append, append_nil, no_more_kept, kept_meets}
 use Rattle.wac_composition.proofs.Closures.{filter_among}
 use Rattle.std.proofs.lemmas.List.{map-append}
-
-some_is : {A : Type 0} {x y : A} → Some x ≡ Some y → x ≡ y
-some_is e = cc
-
-none_is : {A : Type 0} {x : A} → None ≡ Some x → ⊥
-none_is e = cc
+use Rattle.wac_types_base.proofs.Made.{only_firsts, exports_are, made_exports}
 
 -- ---- flat trees
 
@@ -124,7 +120,7 @@ flat_clash s ts y f e t o a b =
     let back : Fits (tree y) (tree (node s ts)) = subst (λ u. Fits u (tree (node s ts))) (here ∙ item_same (tree (node s ts)) (tree y) f fit) a in
     let one : fits x y ≡ true = ap (λ w. fits w y) same ∙ (fits_decides (node s ts) y).1 fit in
     let two : fits y x ≡ true = ap (fits y) same ∙ (fits_decides y (node s ts)).1 back in
-    none_is (sym e ∙ (λ i. if_kind (one i && two i) (Some x)))
+    none-some _ (sym e ∙ (λ i. if_kind (one i && two i) (Some x)))
 
 -- ---- instances
 
@@ -146,7 +142,7 @@ fields_clash : (xs ys : List (Name × Stated)) (n : Name) (x y : Stated) → val
 fields_clash xs ys n x y a b c ws o f g =
     let p = given ws (fields_of xs) n (tree x) f (looked-has n (tree x) (fields_of xs) (fields_looked xs n ∙ ap (option_map tree) a)) in
     let q = given ws (fields_of ys) n (tree y) g (looked-has n (tree y) (fields_of ys) (fields_looked ys n ∙ ap (option_map tree) b)) in
-    let same : q.0 ≡ p.0 = some_is (sym (has-looked n q.0 ws o q.1) ∙ has-looked n p.0 ws o p.1) in
+    let same : q.0 ≡ p.0 = same_Some _ _ (sym (has-looked n q.0 ws o q.1) ∙ has-looked n p.0 ws o p.1) in
     c p.0 (in_order-at n p.0 ws o p.1) p.2 (subst (λ t. Fits t (tree y)) same q.2)
 
 instances_clash : (xs ys : List (Name × Stated)) (n : Name) (x y : Stated) → value_at xs n ≡ Some x → value_at ys n ≡ Some y → Clash (tree x) (tree y) → Clash (instance (fields_of xs)) (instance (fields_of ys))
@@ -190,11 +186,11 @@ record Refused (es : List (Name × (Stated × Merge))) (fs : List (Name × State
   clash : Regular first → Regular second → Clash (tree first) (tree second)
 
 refused_with : (m : Merge) (x : Stated) (o : Option Stated) → merged_with m x o ≡ None → (y : Stated) × (o ≡ Some y) × (m y ≡ None)
-refused_with m x None e = absurd (none_is (sym e))
+refused_with m x None e = absurd (none-some _ (sym e))
 refused_with m x (Some y) e = (y, refl, e)
 
 refused_all : (es : List (Name × (Stated × Merge))) (fs : List (Name × Stated)) → AllClash es → merged_exports es fs ≡ None → Refused es fs
-refused_all [] fs h e = absurd (none_is (sym e))
+refused_all [] fs h e = absurd (none-some _ (sym e))
 refused_all (e ∷ es) fs h q = go (λ r. refused_all es fs h.1 r) (merged_with e.1.1 e.1.0 (value_at fs e.0)) refl (merged_exports es fs) refl q
   where
     go : (merged_exports es fs ≡ None → Refused es fs) → (o : Option Stated) → merged_with e.1.1 e.1.0 (value_at fs e.0) ≡ o → (u : Option (List (Name × Stated))) → merged_exports es fs ≡ u → both (λ x xs. (e.0, x) ∷ xs) o u ≡ None → Refused (e ∷ es) fs
@@ -204,7 +200,7 @@ refused_all (e ∷ es) fs h q = go (λ r. refused_all es fs h.1 r) (merged_with 
     go rest (Some x) a None b r =
         let l = rest b in
         record { name = l.name; first = l.first; second = l.second; among = inr l.among; there = l.there; clash = l.clash }
-    go rest (Some x) a (Some xs) b r = absurd (none_is (sym r))
+    go rest (Some x) a (Some xs) b r = absurd (none-some _ (sym r))
 
 -- in a map without a name twice, an entry is what stands under its name
 among_names : (xs : List (Name × Stated)) (n : Name) (x : Stated) → Among (n, x) xs → Among n (names_of xs)
@@ -223,20 +219,12 @@ value_there (y ∷ xs) n x d (inr m) = go (value_there xs n x d.1 m) (pointwise 
 
 -- ---- the exports that a label and its places give
 
-drop_firsts : {A : Type 0} (k : ℕ) (os : List (Option (Stated × A))) → firsts (drop k os) ≡ drop k (firsts os)
-drop_firsts zero os = refl
-drop_firsts (suc k) [] = refl
-drop_firsts (suc k) (o ∷ os) = drop_firsts k os
-
-exports_are : {A : Type 0} (i : Option Name) (us : List (Name × Option Name)) (es : List Name) (os : List (Option (Stated × A))) (ts : Wholes Shape) → firsts os ≡ places_in ts → exports_at (interface i us es) os ≡ with_names es (drop (length us) (places_in ts))
-exports_are i us es os ts e = first_names es (drop (length us) os) ∙ ap (with_names es) (drop_firsts (length us) os ∙ ap (drop (length us)) e)
-
 pub own_exports : (i : Option Name) (us : List (Name × Option Name)) (es : List Name) (ts : Wholes Shape) → exports_at (interface i us es) (folded_row merge_at ts) ≡ exports_of (node (interface i us es) ts)
 own_exports i us es ts = exports_are i us es (folded_row merge_at ts) ts (folded_firsts merge_at ts) ∙ sym (exports_are i us es (only_places ts) ts (only_firsts ts))
 
 map_none : {A B : Type 0} (f : A → B) (o : Option A) → option_map f o ≡ None → o ≡ None
 map_none f None e = refl
-map_none f (Some x) e = absurd (none_is (sym e))
+map_none f (Some x) e = absurd (none-some _ (sym e))
 
 interface_none : (p : Parts Merge) (y : Stated) → merged_interface p y ≡ None → merged_exports p.exports (exports_of y) ≡ None
 interface_none p y e = map_none _ (merged_exports p.exports (exports_of y)) e
@@ -322,11 +310,11 @@ mutual
 -- ---- what is merged is of a family again
 
 pub value_among : (xs : List (Name × Stated)) (n : Name) (x : Stated) → value_at xs n ≡ Some x → Among (n, x) xs
-value_among [] n x e = absurd (none_is e)
+value_among [] n x e = absurd (none-some _ e)
 value_among (y ∷ xs) n x e = go (value_among xs n x) (pointwise ◌==◌ n y.0) refl e
   where
     go : (value_at xs n ≡ Some x → Among (n, x) xs) → (b : Bool) → pointwise ◌==◌ n y.0 ≡ b → (if b then Some y.1 else value_at xs n) ≡ Some x → Among (n, x) (y ∷ xs)
-    go rest true q r = inl (λ i. ((bytes_decides n y.0).0 q i, sym (some_is r) i))
+    go rest true q r = inl (λ i. ((bytes_decides n y.0).0 q i, sym (same_Some _ _ r) i))
     go rest false q r = inr (rest r)
 
 pub among_append : {X : Type 0} (xs ys : List X) (x : X) → Among x (xs ++ ys) → Among x xs ⊎ Among x ys
@@ -381,36 +369,24 @@ AllRegular [] = Unit {0}
 AllRegular (e ∷ es) = RegularBoth e.1.0 e.1.1 × AllRegular es
 
 pub merged_names : (es : List (Name × (Stated × Merge))) (fs xs : List (Name × Stated)) → merged_exports es fs ≡ Some xs → names_of xs ≡ names_of es
-merged_names [] fs xs e = ap names_of (sym (some_is e))
+merged_names [] fs xs e = ap names_of (sym (same_Some _ _ e))
 merged_names (e ∷ es) fs xs q =
     let b = both_is (λ x ys. (e.0, x) ∷ ys) (merged_with e.1.1 e.1.0 (value_at fs e.0)) (merged_exports es fs) xs q in
     ap names_of (sym b.4) ∙ ap (λ l. e.0 ∷ l) (merged_names es fs b.1 b.3)
 
 with_regular : (x : Stated) (m : Merge) (o : Option Stated) (z : Stated) → RegularBoth x m → Regular x → ((y : Stated) → o ≡ Some y → Regular y) → merged_with m x o ≡ Some z → Regular z
-with_regular x m None z h r k e = subst Regular (some_is e) r
+with_regular x m None z h r k e = subst Regular (same_Some _ _ e) r
 with_regular x m (Some y) z h r k e = h r y (k y refl) z e
 
 merged_regular : (es : List (Name × (Stated × Merge))) (fs xs : List (Name × Stated)) → AllRegular es → merged_exports es fs ≡ Some xs → ((n : Name) (x : Stated) → Among (n, x) (first_parts es) → Regular x)
     → ((n : Name) (y : Stated) → value_at fs n ≡ Some y → Regular y) → (n : Name) (z : Stated) → Among (n, z) xs → Regular z
-merged_regular [] fs xs h e a b n z m = absurd (subst (Among (n, z)) (sym (some_is e)) m)
+merged_regular [] fs xs h e a b n z m = absurd (subst (Among (n, z)) (sym (same_Some _ _ e)) m)
 merged_regular (e ∷ es) fs xs h q a b n z m =
     let w = both_is (λ x ys. (e.0, x) ∷ ys) (merged_with e.1.1 e.1.0 (value_at fs e.0)) (merged_exports es fs) xs q in
     elim (subst (Among (n, z)) (sym w.4) m) [
       | inl d ↦ subst Regular (sym (ap (λ (p : Name × Stated). p.1) d)) (with_regular e.1.0 e.1.1 (value_at fs e.0) w.0 h.0 (a e.0 e.1.0 (inl refl)) (λ y r. b e.0 y r) w.2)
       | inr k ↦ merged_regular es fs w.1 h.1 w.3 (λ i x j. a i x (inr j)) b n z k
     ]
-
--- an interface has the exports that it is made of
-drop_used : (us : List Used) (os : List (Option Stated)) → drop (length (names_used us)) (used_places us ++ os) ≡ os
-drop_used [] os = refl
-drop_used (u ∷ us) os = drop_used us os
-
-pub made_exports : (i : Option Name) (us : List Used) (xs : List (Name × Stated)) → exports_of (interface_of i us xs) ≡ xs
-made_exports i us xs =
-    let ts = row (used_places us ++ filled xs) in
-    exports_are i (names_used us) (names xs) (only_places ts) ts (only_firsts ts)
-    ∙ ap (λ os. with_names (names xs) (drop (length (names_used us)) os)) (row_places (used_places us ++ filled xs))
-    ∙ ap (with_names (names xs)) (drop_used us (filled xs)) ∙ names_filled xs
 
 module _ (i : Option Name) (us : List (Name × Option Name)) (es : List Name) (ts : Wholes Shape) (y : Stated) where
   abbrev p : Parts Merge
@@ -458,7 +434,7 @@ module _ (i : Option Name) (us : List (Name × Option Name)) (es : List Name) (t
 
   interface_each : (z : Stated) → AllRegular p.exports → EachRegular (node (interface i us es) ts) → EachRegular y → merged_interface p y ≡ Some z → Is z
   interface_each z h r q e =
-      let m = mapped_is (λ (xs : List (Name × Stated)). interface_of p.identifier uses (xs ++ rest)) (merged_exports p.exports (exports_of y)) z e in
+      let m = mapped-some (λ (xs : List (Name × Stated)). interface_of p.identifier uses (xs ++ rest)) (merged_exports p.exports (exports_of y)) z e in
       let whole = made_each h r q m.0 m.1 in
       subst Is m.2 (refl, refl, whole, whole)
 
@@ -483,7 +459,7 @@ same_regular : (s : Shape) (ts : Wholes Shape) (y z : Stated) → Regular (node 
 same_regular s ts y z r e =
     let x = rebuilt s (folded_row merge_at ts) in
     let same : x ≡ node s ts = ap (λ os. node s (row os)) (folded_firsts merge_at ts) ∙ ap (node s) (row_again ts) in
-    subst Regular (sym same ∙ some_is (if_is (fits x y && fits y x) (Some x) z e).1) r
+    subst Regular (sym same ∙ same_Some _ _ (if_is (fits x y && fits y x) (Some x) z e).1) r
 
 merge_at_regular : (s : Shape) (ts : Wholes Shape) → RowRegular (folded_row merge_at ts) → RegularBoth (node s ts) (merge_at s (folded_row merge_at ts))
 merge_at_regular (interface i us es) ts h r y q z e =
@@ -492,7 +468,7 @@ merge_at_regular (interface i us es) ts h r y q z e =
     an_instance w.0 w.2.0 w.2.1
 merge_at_regular (type_of (interface i us es)) ts h r y q z e =
     let b = if_is (is_interface (kind_of y)) (option_map as_type (merged_interface (parts_at (interface i us es) (folded_row merge_at ts)) y)) z e in
-    let m = mapped_is as_type (merged_interface (parts_at (interface i us es) (folded_row merge_at ts)) y) z b.1 in
+    let m = mapped-some as_type (merged_interface (parts_at (interface i us es) (folded_row merge_at ts)) y) z b.1 in
     let w = interface_each i us es ts y m.0 (names_regular es (drop (length us) (folded_row merge_at ts)) (drop_regular us (folded_row merge_at ts) h)) (interface_regular (node (type_of (interface i us es)) ts) refl r) (interface_regular y b.0 q) m.1 in
     subst Regular m.2 (an_interface w.1 w.3.0 w.3.1)
 merge_at_regular s ts h (flat a b f) y q z e = same_regular s ts y z (flat a b f) (sym (merge_flat (folded_row merge_at ts) s y a b) ∙ e)
@@ -514,13 +490,13 @@ narrower_none : (x y : Stated) → narrower x y ≡ None → (Fits (tree x) (tre
 narrower_none x y e = go (fits x y) refl (fits y x) refl e
   where
     go : (a : Bool) → fits x y ≡ a → (b : Bool) → fits y x ≡ b → (if a then Some x else (if b then Some y else None)) ≡ None → (Fits (tree x) (tree y) → ⊥) × (Fits (tree y) (tree x) → ⊥)
-    go true p b q e = absurd (none_is (sym e))
-    go false p true q e = absurd (none_is (sym e))
+    go true p b q e = absurd (none-some _ (sym e))
+    go false p true q e = absurd (none-some _ (sym e))
     go false p false q e = (λ f. true≢false (sym ((fits_decides x y).1 f) ∙ p), λ f. true≢false (sym ((fits_decides y x).1 f) ∙ q))
 
 -- asks behind a first one that keep something go on from there
 pub kept_further : (before as_ bs : List Asked) (x w : Stated) → kept_from before (Some x) as_ ≡ Some w → kept_from before (Some x) (as_ ++ bs) ≡ kept_from (before ++ as_) (Some w) bs
-kept_further before [] bs x w e = λ i. kept_from (sym (append_nil before) i) (Some (some_is e i)) bs
+kept_further before [] bs x w e = λ i. kept_from (sym (append_nil before) i) (Some (same_Some _ _ e i)) bs
 kept_further before (c ∷ as_) bs x w e = go (λ v r. kept_further (before ++ c ∷ []) as_ bs v w r) (if in_family (before ++ c ∷ []) then merge x c.1 else narrower x c.1) e
   where
     go : ((v : Stated) → kept_from (before ++ c ∷ []) (Some v) as_ ≡ Some w → kept_from (before ++ c ∷ []) (Some v) (as_ ++ bs) ≡ kept_from ((before ++ c ∷ []) ++ as_) (Some w) bs)
@@ -548,16 +524,16 @@ narrower_regular : (x y z : Stated) → Regular x → Regular y → narrower x y
 narrower_regular x y z r q e = go (fits x y) (fits y x) e
   where
     go : (a b : Bool) → (if a then Some x else (if b then Some y else None)) ≡ Some z → Regular z
-    go true b e = subst Regular (some_is e) r
-    go false true e = subst Regular (some_is e) q
-    go false false e = absurd (none_is e)
+    go true b e = subst Regular (same_Some _ _ e) r
+    go false true e = subst Regular (same_Some _ _ e) q
+    go false false e = absurd (none-some _ e)
 
 step_regular : (b : Bool) (x y z : Stated) → Regular x → Regular y → (if b then merge x y else narrower x y) ≡ Some z → Regular z
 step_regular true x y z r q e = merge_regular x r y q z e
 step_regular false x y z r q e = narrower_regular x y z r q e
 
 kept_regular : (before as_ : List Asked) (x z : Stated) → Regular x → AreRegular as_ → kept_from before (Some x) as_ ≡ Some z → Regular z
-kept_regular before [] x z r k e = subst Regular (some_is e) r
+kept_regular before [] x z r k e = subst Regular (same_Some _ _ e) r
 kept_regular before (a ∷ as_) x z r k e = go (λ w i j. kept_regular (before ++ a ∷ []) as_ w z i (λ b m. k b (inr m)) j) (if in_family (before ++ a ∷ []) then merge x a.1 else narrower x a.1) refl e
   where
     go : ((w : Stated) → Regular w → kept_from (before ++ a ∷ []) (Some w) as_ ≡ Some z → Regular z) → (o : Option Stated) → (if in_family (before ++ a ∷ []) then merge x a.1 else narrower x a.1) ≡ o → kept_from (before ++ a ∷ []) o as_ ≡ Some z → Regular z
@@ -565,7 +541,7 @@ kept_regular before (a ∷ as_) x z r k e = go (λ w i j. kept_regular (before +
     go further (Some w) q j = further w (step_regular (in_family (before ++ a ∷ [])) x a.1 w r (k a (inl refl)) q) j
 
 from_none : (b : Asked) (bs as_ : List Asked) (x : Stated) → kept (b ∷ bs) ≡ Some x → kept_from (b ∷ bs) (Some x) as_ ≡ None → KeepNothing (b ∷ bs ++ as_)
-from_none b bs [] x so e = absurd (none_is (sym e))
+from_none b bs [] x so e = absurd (none-some _ (sym e))
 from_none b bs (c ∷ cs) x so e =
     go (λ w s r. subst (λ l. KeepNothing (b ∷ l)) (append_assoc bs (c ∷ []) cs) (from_none b (bs ++ c ∷ []) cs w s r)) (in_family (b ∷ bs ++ c ∷ [])) refl (if in_family (b ∷ bs ++ c ∷ []) then merge x c.1 else narrower x c.1) refl e
   where

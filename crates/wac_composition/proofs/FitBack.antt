@@ -1,7 +1,7 @@
 -- Where one tree fits another, the test says so.
-use Rattle.std.proofs.Common.{◌≡◌, Bool, true, false, true≢false, List, [], ◌∷◌, Some, refl, sym, ap, ◌∙◌, inl, inr}
-use Rattle.std.specs.Prelude.{◌&&◌, ◌==◌, bytes_eq, if◌then◌else◌}
-use Rattle.std.specs.List.{list_any}
+use Rattle.std.proofs.Common.{◌≡◌, Bool, true, false, List, [], ◌∷◌, Some, refl, sym, ap, ◌∙◌, inl, inr}
+use Rattle.std.specs.Cmp.Derive.{both_true}
+use Rattle.std.specs.Prelude.{◌==◌, bytes_eq, if◌then◌else◌}
 use Rattle.std.specs.Cmp.Lexicographic.{pointwise}
 use Rattle.std.specs.declared.cmp.Ordering.{Ordering}
 use Rattle.std.proofs.lemmas.Slice.Eq.{bytes_eq-Decides}
@@ -9,17 +9,13 @@ use Rattle.wac_types_base.specs.Entries.{Name, value_at}
 use Rattle.wac_types_base.specs.Stated.{Stated}
 use Rattle.wac_types_base.specs.Tree.{Tree, rigid, instance, component, core_module, handle_own, handle_borrow, type_item, Fields, no_fields, field, name_cmp, tree}
 use Rattle.wac_types_base.specs.Fits.{HasField, at_first, at_later, Covers, Fits, rigid_fits, own_fits, borrow_fits, instance_fits, component_fits, module_fits, type_fits, FieldsFit, none_asked, one_asked}
-use Rattle.wac_types_fit.specs.Ordered.{IsBelow, IsBelowFields, InOrder, AllInOrder}
-use Rattle.wac_types_fit.proofs.Looking.{cmp_refl, in_order-at}
+use Rattle.wac_types_fit.specs.Ordered.{IsBelow, InOrder, AllInOrder}
+use Rattle.wac_types_fit.proofs.Looking.{cmp_refl, in_order-at, above}
 use Rattle.wac_types_fit.proofs.Ordering.{tree_in_order}
 use Rattle.wac_composition.specs.Tests.{same_core_import, same_core_export, field_is, passes, gives_all, is_given, covers, fit, tests, fits}
 use Rattle.wac_composition.proofs.TestLaws.{Tells, trees_tell, imports_tell, exports_tell}
 use Rattle.wac_composition.proofs.Closures.{among_any}
 use Rattle.wac_composition.proofs.FitLaws.{fits_is}
-
-both_are : (a b : Bool) → a ≡ true → b ≡ true → (a && b) ≡ true
-both_are true b e f = f
-both_are false b e f = absurd (true≢false (sym e))
 
 abbrev Along : Bool → Tree → Tree → Type 0
 Along true t u = Fits t u
@@ -36,14 +32,9 @@ EachSays (field n t xs) = Says t × EachSays xs
 
 covers_all : {A : Type 0} (p : A → A → Bool) → Tells p → (xs ys : List A) → Covers xs ys → covers p xs ys ≡ true
 covers_all p t xs [] c = refl
-covers_all p t xs (y ∷ ys) c = both_are (list_any (p y) xs) (covers p xs ys) (among_any (p y) xs y (c y (inl refl)) (t.itself y)) (covers_all p t xs ys (λ z m. c z (inr m)))
+covers_all p t xs (y ∷ ys) c = both_true (among_any (p y) xs y (c y (inl refl)) (t.itself y)) (covers_all p t xs ys (λ z m. c z (inr m)))
 
 -- ---- maps in order
-
-above : (n m : Name) (t : Tree) (xs : Fields) → IsBelowFields n xs → HasField m t xs → IsBelow name_cmp n m
-above n m t (field k u xs) h at_first = h.0
-above n m t (field k u xs) h (at_later q) = above n m t xs h.1 q
-above n m t no_fields h q = elim q [ ]
 
 not_itself : (n m : Name) → IsBelow name_cmp n m → n ≡ m → ⊥
 not_itself n m b e = let f : name_cmp n m ≡ Ordering.Equal = ap (name_cmp n) (sym e) ∙ cmp_refl n in absurd (cc (b, f))
@@ -60,7 +51,7 @@ passed no_fields n x u o h q a f = elim q [ ]
 gives_back : (xs ys : Fields) → AllInOrder xs → AllInOrder ys → EachSays xs → FieldsFit xs ys → gives_all (tests xs) ys ≡ true
 gives_back xs no_fields a b h none_asked = refl
 gives_back xs (field n u ys) a b h (one_asked {t = t} q f r) =
-    both_are (passes (value_at (tests xs) n) true u) (gives_all (tests xs) ys) (passed xs n t u a h q b.1 f) (gives_back xs ys a b.2 h r)
+    both_true (passed xs n t u a h q b.1 f) (gives_back xs ys a b.2 h r)
 
 field_found : (p : Tree → Bool) (n : Name) (x : Tree) (ys : Fields) → AllInOrder ys → HasField n x ys → p x ≡ true → field_is p n ys ≡ true
 field_found p n x (field m t ys) o at_first e = rw ((bytes_eq-Decides m m).1 refl) e
@@ -74,7 +65,7 @@ field_found p n x no_fields o q e = elim q [ ]
 given_back : (xs ys : Fields) → AllInOrder xs → AllInOrder ys → EachSays xs → FieldsFit ys xs → is_given (tests xs) ys ≡ true
 given_back no_fields ys a b h none_asked = refl
 given_back (field n t xs) ys a b h (one_asked {t = u} q f r) =
-    both_are (field_is (fit t false) n ys) (is_given (tests xs) ys) (field_found (fit t false) n u ys b q (h.0 false u a.1 (in_order-at n u ys b q) f)) (given_back xs ys a.2 b h.1 r)
+    both_true (field_found (fit t false) n u ys b q (h.0 false u a.1 (in_order-at n u ys b q) f)) (given_back xs ys a.2 b h.1 r)
 
 -- ---- trees
 
@@ -89,13 +80,13 @@ mutual
   says (instance xs) true u a o (instance_fits {ys = ys} f) = gives_back xs ys a o (each_says xs) f
   says (instance xs) false u a o (instance_fits {xs = ys} f) = given_back xs ys a o (each_says xs) f
   says (component is es) true u a o (component_fits {js = js} {fs = fs} f g) =
-      both_are (is_given (tests is) js) (gives_all (tests es) fs) (given_back is js a.0 o.0 (each_says is) f) (gives_back es fs a.1 o.1 (each_says es) g)
+      both_true (given_back is js a.0 o.0 (each_says is) f) (gives_back es fs a.1 o.1 (each_says es) g)
   says (component is es) false u a o (component_fits {is = js} {es = fs} f g) =
-      both_are (gives_all (tests is) js) (is_given (tests es) fs) (gives_back is js a.0 o.0 (each_says is) f) (given_back es fs a.1 o.1 (each_says es) g)
+      both_true (gives_back is js a.0 o.0 (each_says is) f) (given_back es fs a.1 o.1 (each_says es) g)
   says (core_module is es) true u a o (module_fits {js = js} {fs = fs} f g) =
-      both_are (covers same_core_import js is) (covers same_core_export es fs) (covers_all same_core_import imports_tell js is f) (covers_all same_core_export exports_tell es fs g)
+      both_true (covers_all same_core_import imports_tell js is f) (covers_all same_core_export exports_tell es fs g)
   says (core_module is es) false u a o (module_fits {is = js} {es = fs} f g) =
-      both_are (covers same_core_import is js) (covers same_core_export fs es) (covers_all same_core_import imports_tell is js f) (covers_all same_core_export exports_tell fs es g)
+      both_true (covers_all same_core_import imports_tell is js f) (covers_all same_core_export exports_tell fs es g)
   says (type_item t) true u a o (type_fits {u = v} f) = says t true v a o f
   says (type_item t) false u a o (type_fits {t = v} f) = says t false v a o f
 

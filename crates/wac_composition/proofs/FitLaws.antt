@@ -1,6 +1,7 @@
 -- Where the test says that one tree fits another, it does.
 use Rattle.std.proofs.Common.{◌≡◌, Bool, true, false, List, [], ◌∷◌, Some, refl, sym, subst, inl, inr}
-use Rattle.std.specs.Prelude.{◌&&◌, ◌||◌, ◌==◌, ◌⊎◌, bytes_eq, if◌then◌else◌}
+use Rattle.std.proofs.lemmas.Bool.{and_parts}
+use Rattle.std.specs.Prelude.{◌==◌, ◌⊎◌, bytes_eq, if◌then◌else◌}
 use Rattle.std.specs.List.{list_any}
 use Rattle.std.specs.Cmp.Lexicographic.{pointwise}
 use Rattle.std.proofs.lemmas.Slice.Eq.{bytes_eq-Decides}
@@ -10,14 +11,7 @@ use Rattle.wac_types_base.specs.Tree.{Tree, rigid, instance, component, core_mod
 use Rattle.wac_types_base.specs.Fits.{HasField, at_first, at_later, Covers, Fits, rigid_fits, own_fits, borrow_fits, instance_fits, component_fits, module_fits, type_fits, FieldsFit, none_asked, one_asked}
 use Rattle.wac_composition.specs.Tests.{same_core_import, same_core_export, field_is, passes, gives_all, is_given, covers, fit, tests}
 use Rattle.wac_composition.proofs.TestLaws.{Tells, trees_tell, imports_tell, exports_tell}
-
-both : (a b : Bool) → (a && b) ≡ true → (a ≡ true) × (b ≡ true)
-both true b e = (refl, e)
-both false b e = absurd (cc e)
-
-either : (a b : Bool) → (a || b) ≡ true → (a ≡ true) ⊎ (b ≡ true)
-either true b e = inl refl
-either false b e = inr e
+use Rattle.wac_names.proofs.NameKinds.{or_parts}
 
 abbrev Along : Bool → Tree → Tree → Type 0
 Along true t u = Fits t u
@@ -34,7 +28,7 @@ EachTold (field n t xs) = Told t × EachTold xs
 
 any_among : {A : Type 0} (p : A → A → Bool) → Tells p → (y : A) (xs : List A) → list_any (p y) xs ≡ true → Among y xs
 any_among p t y [] e = absurd (cc e)
-any_among p t y (x ∷ xs) e = by (either (p y x) (list_any (p y) xs) e) (any_among p t y xs)
+any_among p t y (x ∷ xs) e = by (or_parts (p y x) (list_any (p y) xs) e) (any_among p t y xs)
   where
     by : (p y x ≡ true) ⊎ (list_any (p y) xs ≡ true) → (list_any (p y) xs ≡ true → Among y xs) → Among y (x ∷ xs)
     by (inl h) rest = inl (t.only y x h)
@@ -42,8 +36,8 @@ any_among p t y (x ∷ xs) e = by (either (p y x) (list_any (p y) xs) e) (any_am
 
 covers_is : {A : Type 0} (p : A → A → Bool) → Tells p → (xs ys : List A) → covers p xs ys ≡ true → Covers xs ys
 covers_is p t xs [] e y a = absurd a
-covers_is p t xs (z ∷ ys) e y (inl q) = let f = both (list_any (p z) xs) (covers p xs ys) e in subst (λ x. Among x xs) (sym q) (any_among p t z xs f.0)
-covers_is p t xs (z ∷ ys) e y (inr a) = let f = both (list_any (p z) xs) (covers p xs ys) e in covers_is p t xs ys f.1 y a
+covers_is p t xs (z ∷ ys) e y (inl q) = let f = and_parts (list_any (p z) xs) (covers p xs ys) e in subst (λ x. Among x xs) (sym q) (any_among p t z xs f.0)
+covers_is p t xs (z ∷ ys) e y (inr a) = let f = and_parts (list_any (p z) xs) (covers p xs ys) e in covers_is p t xs ys f.1 y a
 
 -- ---- maps
 
@@ -61,7 +55,7 @@ look (field m t xs) n u h e = look_by m n t u xs (pointwise ◌==◌ n m) h.0 (l
 gives : (xs ys : Fields) → EachTold xs → gives_all (tests xs) ys ≡ true → FieldsFit xs ys
 gives xs no_fields h e = none_asked
 gives xs (field n u ys) h e =
-    let f = both (passes (value_at (tests xs) n) true u) (gives_all (tests xs) ys) e in
+    let f = and_parts (passes (value_at (tests xs) n) true u) (gives_all (tests xs) ys) e in
     let l = look xs n u h f.0 in
     one_asked l.1 l.2 (gives xs ys h f.1)
 
@@ -79,7 +73,7 @@ field_look p n (field m t ys) e = field_by p n m t ys (bytes_eq n m) (field_look
 given : (xs ys : Fields) → EachTold xs → is_given (tests xs) ys ≡ true → FieldsFit ys xs
 given no_fields ys h e = none_asked
 given (field n t xs) ys h e =
-    let f = both (field_is (fit t false) n ys) (is_given (tests xs) ys) e in
+    let f = and_parts (field_is (fit t false) n ys) (is_given (tests xs) ys) e in
     let l = field_look (fit t false) n ys f.0 in
     one_asked l.1 (h.0 false l.0 l.2) (given xs ys h.1 f.1)
 
@@ -96,16 +90,16 @@ mutual
   told (instance xs) true (instance ys) e = instance_fits (gives xs ys (each_told xs) e)
   told (instance xs) false (instance ys) e = instance_fits (given xs ys (each_told xs) e)
   told (component is es) true (component js fs) e =
-      let f = both (is_given (tests is) js) (gives_all (tests es) fs) e in
+      let f = and_parts (is_given (tests is) js) (gives_all (tests es) fs) e in
       component_fits (given is js (each_told is) f.0) (gives es fs (each_told es) f.1)
   told (component is es) false (component js fs) e =
-      let f = both (gives_all (tests is) js) (is_given (tests es) fs) e in
+      let f = and_parts (gives_all (tests is) js) (is_given (tests es) fs) e in
       component_fits (gives is js (each_told is) f.0) (given es fs (each_told es) f.1)
   told (core_module is es) true (core_module js fs) e =
-      let f = both (covers same_core_import js is) (covers same_core_export es fs) e in
+      let f = and_parts (covers same_core_import js is) (covers same_core_export es fs) e in
       module_fits (covers_is same_core_import imports_tell js is f.0) (covers_is same_core_export exports_tell es fs f.1)
   told (core_module is es) false (core_module js fs) e =
-      let f = both (covers same_core_import is js) (covers same_core_export fs es) e in
+      let f = and_parts (covers same_core_import is js) (covers same_core_export fs es) e in
       module_fits (covers_is same_core_import imports_tell is js f.0) (covers_is same_core_export exports_tell fs es f.1)
   told (type_item t) true (type_item u) e = type_fits (told t true u e)
   told (type_item t) false (type_item u) e = type_fits (told t false u e)

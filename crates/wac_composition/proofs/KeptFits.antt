@@ -1,5 +1,6 @@
 -- What several asks of one outer import keep is the greatest tree that fits each of them.
 use Rattle.std.specs.Prelude.{◌==◌, drop, option_map, is_none, not, cond, filter, if◌then◌else◌, ◌&&◌, ⊤}
+use Rattle.std.proofs.lemmas.Option.{none-some, same_Some}
 use Rattle.std.specs.Cmp.Lexicographic.{pointwise, bytes_decides}
 use Rattle.std.proofs.Common.{◌≡◌, List, [], ◌∷◌, ◌++◌, append_assoc, map, length, Bool, true, false, true≢false, Option, Some, None, inl, inr, refl, sym, ap, subst, ◌∙◌}
 use Rattle.wac_types_base.specs.Entries.{Name, value_at}
@@ -10,7 +11,7 @@ use Rattle.wac_types_base.specs.Tree.{Tree, instance, type_item, end, no_fields,
 use Rattle.wac_types_base.specs.Fits.{HasField, Fits, FieldsFit, type_fits}
 use Rattle.wac_types_fit.specs.Ordered.{InOrder, AllInOrder}
 use Rattle.wac_types_fit.specs.Meets.{FitsAll, IsMeet}
-use Rattle.wac_types_fit.proofs.Meeting.{Joins, FieldsMeet, fields_meet, meet_one, meet_narrower, meet_more}
+use Rattle.wac_types_fit.proofs.Meeting.{Joins, FieldsMeet, fields_meet, meet_one, meet_narrower, meet_more, mapped-some}
 use Rattle.wac_types_fit.specs.Lookups.{lookup}
 use Rattle.wac_types_fit.proofs.Looking.{looked-has, has-looked, all_given, looked-put, looked-other}
 use Rattle.wac_types_fit.proofs.Ordering.{tree_in_order, AllInOrder-put}
@@ -24,12 +25,7 @@ use Rattle.wac_composition.specs.OuterImports.{asked_in, outer_of}
 use Rattle.wac_composition.specs.OuterLaws.{trees_asked, Kept_is_meet}
 use Rattle.wac_composition.specs.Sound.{fields_of}
 use Rattle.wac_composition.proofs.FitLaws.{fits_is}
-
-some_is : {A : Type 0} {x y : A} → Some x ≡ Some y → x ≡ y
-some_is e = cc
-
-none_is : {A : Type 0} {x : A} → None ≡ Some x → ⊥
-none_is e = cc
+use Rattle.wac_types_base.proofs.Made.{firsts, first_names, only_firsts, row_places, names_filled}
 
 -- ---- the map that named items are
 
@@ -53,31 +49,17 @@ pub fields_fit : (xs ys : List (Name × Stated)) → ((n : Name) (y : Stated) �
 fields_fit xs ys h = all_given (fields_of xs) (fields_of ys) (λ n u f. go n u (value_at ys n) refl (sym (fields_looked ys n) ∙ has-looked n u (fields_of ys) (fields_ordered ys) f))
   where
     go : (n : Name) (u : Tree) (o : Option Stated) → value_at ys n ≡ o → option_map tree o ≡ Some u → (t : Tree) × HasField n t (fields_of xs) × Fits t u
-    go n u None e q = absurd (none_is q)
+    go n u None e q = absurd (none-some _ q)
     go n u (Some y) e q =
         let g = h n y e in
-        (tree g.0, looked-has n (tree g.0) (fields_of xs) (fields_looked xs n ∙ ap (option_map tree) g.1), subst (Fits (tree g.0)) (some_is q) g.2)
+        (tree g.0, looked-has n (tree g.0) (fields_of xs) (fields_looked xs n ∙ ap (option_map tree) g.1), subst (Fits (tree g.0)) (same_Some _ _ q) g.2)
 
 -- ---- the tree of an interface
-
-abbrev pub firsts : {A : Type 0} → List (Option (Stated × A)) → List (Option Stated)
-firsts os = map (option_map (λ x. x.0)) os
-
-pub first_names : {A : Type 0} (ns : List Name) (os : List (Option (Stated × A))) → first_parts (with_names ns os) ≡ with_names ns (firsts os)
-first_names [] os = refl
-first_names (n ∷ ns) [] = refl
-first_names (n ∷ ns) (None ∷ os) = first_names ns os
-first_names (n ∷ ns) (Some x ∷ os) = ap (λ l. (n, x.0) ∷ l) (first_names ns os)
 
 pub folded_firsts : {A : Type 0} (f : Shape → List (Option (Stated × A)) → A) (ts : Wholes Shape) → firsts (folded_row f ts) ≡ places_in ts
 folded_firsts f no_more = refl
 folded_firsts f (hole ts) = ap (λ l. None ∷ l) (folded_firsts f ts)
 folded_firsts f (more t ts) = ap (λ l. Some t ∷ l) (folded_firsts f ts)
-
-pub only_firsts : (ts : Wholes Shape) → firsts (only_places ts) ≡ places_in ts
-only_firsts no_more = refl
-only_firsts (hole ts) = ap (λ l. None ∷ l) (only_firsts ts)
-only_firsts (more t ts) = ap (λ l. Some t ∷ l) (only_firsts ts)
 
 fields_with : (ns : List Name) (ts : Wholes Shape) → fields ns (trees ts) ≡ fields_of (with_names ns (places_in ts))
 fields_with [] ts = refl
@@ -164,16 +146,6 @@ instance_tree (node (type_of s) ts) e = absurd (typed s e)
     typed (borrow_of s) e = true≢false (sym e)
     typed (type_of s) e = true≢false (sym e)
 
--- what an interface is made of, it has
-pub names_filled : (xs : List (Name × Stated)) → with_names (names xs) (filled xs) ≡ xs
-names_filled [] = refl
-names_filled (x ∷ xs) = ap (λ l. x ∷ l) (names_filled xs)
-
-pub row_places : (os : List (Option Stated)) → places_in (row os) ≡ os
-row_places [] = refl
-row_places (None ∷ os) = ap (λ l. None ∷ l) (row_places os)
-row_places (Some t ∷ os) = ap (λ l. Some t ∷ l) (row_places os)
-
 made_behind : (us : List Used) (xs : List (Name × Stated)) → fields (names xs) (past (names_used us) (trees (row (used_places us ++ filled xs)))) ≡ fields_of xs
 made_behind [] xs = fields_with (names xs) (row (filled xs)) ∙ ap (λ l. fields_of (with_names (names xs) l)) (row_places (filled xs)) ∙ ap fields_of (names_filled xs)
 made_behind (u ∷ us) xs = made_behind us xs
@@ -214,9 +186,9 @@ AllFit [] = Unit {0}
 AllFit (e ∷ es) = MeetsBoth e.1.0 e.1.1 × AllFit es
 
 pub both_is : {A B C : Type 0} (f : A → B → C) (a : Option A) (b : Option B) (c : C) → both f a b ≡ Some c → (x : A) × (y : B) × (a ≡ Some x) × (b ≡ Some y) × (f x y ≡ c)
-both_is f (Some x) (Some y) c e = (x, y, refl, refl, some_is e)
-both_is f (Some x) None c e = absurd (none_is e)
-both_is f None b c e = absurd (none_is e)
+both_is f (Some x) (Some y) c e = (x, y, refl, refl, same_Some _ _ e)
+both_is f (Some x) None c e = absurd (none-some _ e)
+both_is f None b c e = absurd (none-some _ e)
 
 -- name by name: of each entry of the first, what is merged
 record Merged (es : List (Name × (Stated × Merge))) (fs xs : List (Name × Stated)) : Type 0 where
@@ -226,7 +198,7 @@ record Merged (es : List (Name × (Stated × Merge))) (fs xs : List (Name × Sta
 
 merged_all : (es : List (Name × (Stated × Merge))) (fs xs : List (Name × Stated)) → AllFit es → merged_exports es fs ≡ Some xs → Merged es fs xs
 merged_all [] fs xs h e =
-    subst (Merged [] fs) (some_is e) (record { alone = λ n x q. absurd (none_is q); in_both = λ n x y q r. absurd (none_is q); others = λ n q. refl })
+    subst (Merged [] fs) (same_Some _ _ e) (record { alone = λ n x q. absurd (none-some _ q); in_both = λ n x y q r. absurd (none-some _ q); others = λ n q. refl })
 merged_all (e ∷ es) fs xs h q =
     let b = both_is (λ x ys. (e.0, x) ∷ ys) (merged_with e.1.1 e.1.0 (value_at fs e.0)) (merged_exports es fs) xs q in
     let z = b.0 in
@@ -239,35 +211,35 @@ merged_all (e ∷ es) fs xs h q =
     })
   where
     kept_alone : (o : Option Stated) (z : Stated) → o ≡ None → merged_with e.1.1 e.1.0 o ≡ Some z → e.1.0 ≡ z
-    kept_alone None z p r = some_is r
-    kept_alone (Some y) z p r = absurd (none_is (sym p))
+    kept_alone None z p r = same_Some _ _ r
+    kept_alone (Some y) z p r = absurd (none-some _ (sym p))
 
     kept_both : (o : Option Stated) (y z : Stated) → o ≡ Some y → merged_with e.1.1 e.1.0 o ≡ Some z → Meet z e.1.0 y
-    kept_both None y z p r = absurd (none_is p)
-    kept_both (Some w) y z p r = subst (λ k. Meet z e.1.0 k) (some_is p) (h.0 w z r)
+    kept_both None y z p r = absurd (none-some _ p)
+    kept_both (Some w) y z p r = subst (λ k. Meet z e.1.0 k) (same_Some _ _ p) (h.0 w z r)
 
     go_alone : (n : Name) (x : Stated) (b : Bool) → pointwise ◌==◌ n e.0 ≡ b → (z : Stated) → merged_with e.1.1 e.1.0 (value_at fs e.0) ≡ Some z → (rest : List (Name × Stated)) → (value_at (first_parts es) n ≡ Some x → value_at fs n ≡ None → value_at rest n ≡ Some x)
         → (if b then Some e.1.0 else value_at (first_parts es) n) ≡ Some x → value_at fs n ≡ None → (if b then Some z else value_at rest n) ≡ Some x
     go_alone n x true t z m rest r p q =
         let none : value_at fs e.0 ≡ None = ap (value_at fs) (sym ((bytes_decides n e.0).0 t)) ∙ q in
-        ap Some (sym (kept_alone (value_at fs e.0) z none m) ∙ some_is p)
+        ap Some (sym (kept_alone (value_at fs e.0) z none m) ∙ same_Some _ _ p)
     go_alone n x false t z m rest r p q = r p q
 
     go_both : (n : Name) (x y : Stated) (b : Bool) → pointwise ◌==◌ n e.0 ≡ b → (z : Stated) → merged_with e.1.1 e.1.0 (value_at fs e.0) ≡ Some z → (rest : List (Name × Stated)) → (value_at (first_parts es) n ≡ Some x → value_at fs n ≡ Some y → (w : Stated) × (value_at rest n ≡ Some w) × Meet w x y)
         → (if b then Some e.1.0 else value_at (first_parts es) n) ≡ Some x → value_at fs n ≡ Some y → (w : Stated) × ((if b then Some z else value_at rest n) ≡ Some w) × Meet w x y
     go_both n x y true t z m rest r p q =
         let there : value_at fs e.0 ≡ Some y = ap (value_at fs) (sym ((bytes_decides n e.0).0 t)) ∙ q in
-        (z, refl, subst (λ k. Meet z k y) (some_is p) (kept_both (value_at fs e.0) y z there m))
+        (z, refl, subst (λ k. Meet z k y) (same_Some _ _ p) (kept_both (value_at fs e.0) y z there m))
     go_both n x y false t z m rest r p q = r p q
 
     go_others : (n : Name) (b : Bool) (z : Stated) (rest : List (Name × Stated)) → (value_at (first_parts es) n ≡ None → value_at rest n ≡ None) → (if b then Some e.1.0 else value_at (first_parts es) n) ≡ None → (if b then Some z else value_at rest n) ≡ None
-    go_others n true z rest r p = absurd (none_is (sym p))
+    go_others n true z rest r p = absurd (none-some _ (sym p))
     go_others n false z rest r p = r p
 
 -- ---- the merged interface
 
 pub value_append : {V : Type 0} (xs ys : List (Name × V)) (n : Name) (v : V) → value_at xs n ≡ Some v → value_at (xs ++ ys) n ≡ Some v
-value_append [] ys n v e = absurd (none_is e)
+value_append [] ys n v e = absurd (none-some _ e)
 value_append (x ∷ xs) ys n v e = go (value_append xs ys n v) (pointwise ◌==◌ n x.0) e
   where
     go : (value_at xs n ≡ Some v → value_at (xs ++ ys) n ≡ Some v) → (b : Bool) → (if b then Some x.1 else value_at xs n) ≡ Some v → (if b then Some x.1 else value_at (xs ++ ys) n) ≡ Some v
@@ -279,12 +251,12 @@ value_behind [] ys n e = refl
 value_behind (x ∷ xs) ys n e = go (value_behind xs ys n) (pointwise ◌==◌ n x.0) e
   where
     go : (value_at xs n ≡ None → value_at (xs ++ ys) n ≡ value_at ys n) → (b : Bool) → (if b then Some x.1 else value_at xs n) ≡ None → (if b then Some x.1 else value_at (xs ++ ys) n) ≡ value_at ys n
-    go rest true q = absurd (none_is (sym q))
+    go rest true q = absurd (none-some _ (sym q))
     go rest false q = rest q
 
 -- those whose names pass a test
 pub value_passing : (t : Name → Bool) (fs : List (Name × Stated)) (n : Name) (y : Stated) → t n ≡ true → value_at fs n ≡ Some y → value_at (filter (λ f. t f.0) fs) n ≡ Some y
-value_passing t [] n y p e = absurd (none_is e)
+value_passing t [] n y p e = absurd (none-some _ e)
 value_passing t (f ∷ fs) n y p e = go (value_passing t fs n y p) (pointwise ◌==◌ n f.0) refl (t f.0) refl e
   where
     go : (value_at fs n ≡ Some y → value_at (filter (λ f. t f.0) fs) n ≡ Some y) → (b : Bool) → pointwise ◌==◌ n f.0 ≡ b → (k : Bool) → t f.0 ≡ k → (if b then Some f.1 else value_at fs n) ≡ Some y → value_at (cond k (f ∷ filter (λ f. t f.0) fs) (filter (λ f. t f.0) fs)) n ≡ Some y
@@ -303,14 +275,14 @@ value_first (e ∷ es) n = go (value_first es n) (pointwise ◌==◌ n e.0)
 
 none_first : {A : Type 0} (o : Option (Stated × A)) → option_map (λ x. x.0) o ≡ None → is_none o ≡ true
 none_first None e = refl
-none_first (Some x) e = absurd (none_is (sym e))
+none_first (Some x) e = absurd (none-some _ (sym e))
 
 none_passing : (t : Name → Bool) (fs : List (Name × Stated)) (n : Name) → value_at fs n ≡ None → value_at (filter (λ f. t f.0) fs) n ≡ None
 none_passing t [] n e = refl
 none_passing t (f ∷ fs) n e = go (none_passing t fs n) (pointwise ◌==◌ n f.0) refl (t f.0) e
   where
     go : (value_at fs n ≡ None → value_at (filter (λ f. t f.0) fs) n ≡ None) → (b : Bool) → pointwise ◌==◌ n f.0 ≡ b → (k : Bool) → (if b then Some f.1 else value_at fs n) ≡ None → value_at (cond k (f ∷ filter (λ f. t f.0) fs) (filter (λ f. t f.0) fs)) n ≡ None
-    go rest true q k e = absurd (none_is (sym e))
+    go rest true q k e = absurd (none-some _ (sym e))
     go rest false q true e = ap (λ (b : Bool). if b then Some f.1 else value_at (filter (λ f. t f.0) fs) n) q ∙ rest e
     go rest false q false e = rest e
 
@@ -342,11 +314,7 @@ maps_meet es fs xs m =
 
 pub if_is : (b : Bool) (o : Option Stated) (z : Stated) → if_kind b o ≡ Some z → (b ≡ true) × (o ≡ Some z)
 if_is true o z e = (refl, e)
-if_is false o z e = absurd (none_is e)
-
-pub mapped_is : {A B : Type 0} (f : A → B) (o : Option A) (z : B) → option_map f o ≡ Some z → (x : A) × (o ≡ Some x) × (f x ≡ z)
-mapped_is f (Some x) z e = (x, refl, some_is e)
-mapped_is f None z e = absurd (none_is e)
+if_is false o z e = absurd (none-some _ e)
 
 -- the trees of what is merged, as instances
 record MeetsTrees (p : Parts Merge) (y z : Stated) : Type 0 where
@@ -358,7 +326,7 @@ merged_fits : (p : Parts Merge) (y z : Stated) → AllFit p.exports → merged_i
 merged_fits p y z h e =
     let uses = map (λ u. u.0) p.uses ++ filter (λ (u : Used). not (has_use (map (λ v. v.0) p.uses) u.name)) (uses_of y) in
     let rest = filter (λ (f : Name × Stated). is_none (value_at p.exports f.0)) (exports_of y) in
-    let m = mapped_is (λ (xs : List (Name × Stated)). interface_of p.identifier uses (xs ++ rest)) (merged_exports p.exports (exports_of y)) z e in
+    let m = mapped-some (λ (xs : List (Name × Stated)). interface_of p.identifier uses (xs ++ rest)) (merged_exports p.exports (exports_of y)) z e in
     record {
       made = m.0 ++ rest;
       tree_is = ap tree (sym m.2) ∙ made_tree p.identifier uses (m.0 ++ rest);
@@ -396,7 +364,7 @@ same_fits s ts y z e =
     let x = rebuilt s (folded_row merge_at ts) in
     let b = if_is (fits x y && fits y x) (Some x) z e in
     let same : x ≡ node s ts = ap (λ os. node s (row os)) (folded_firsts merge_at ts) ∙ ap (node s) (row_again ts) in
-    subst (λ w. Meet w (node s ts) y) (some_is b.1) (subst (λ w. Meet x w y) same (first_meet x y (fits_is (tree x) (tree y) (left (fits x y) (fits y x) b.0))))
+    subst (λ w. Meet w (node s ts) y) (same_Some _ _ b.1) (subst (λ w. Meet x w y) same (first_meet x y (fits_is (tree x) (tree y) (left (fits x y) (fits y x) b.0))))
   where
     left : (a b : Bool) → (a && b) ≡ true → a ≡ true
     left true b e = refl
@@ -464,7 +432,7 @@ merge_at_fits (interface i us es) ts h y z e =
 merge_at_fits (type_of (interface i us es)) ts h y z e =
     let os = folded_row merge_at ts in
     let b = if_is (is_interface (kind_of y)) (option_map as_type (merged_interface (parts_at (interface i us es) os) y)) z e in
-    let m = mapped_is as_type (merged_interface (parts_at (interface i us es) os) y) z b.1 in
+    let m = mapped-some as_type (merged_interface (parts_at (interface i us es) os) y) z b.1 in
     let f = merged_fits (parts_at (interface i us es) os) y m.0 (names_fit es (drop (length us) os) (drop_fits us os h)) m.1 in
     let own : tree (node (type_of (interface i us es)) ts) ≡ type_item (instance (fields_of (exports_at (interface i us es) os))) = ap type_item (interface_tree i us es os ts (folded_firsts merge_at ts)) in
     met (ap tree (sym m.2) ∙ typed_tree m.0 ∙ ap type_item f.tree_is) own (item_tree y b.0)
@@ -526,17 +494,17 @@ narrower_fits : (x : Stated) → MeetsBoth x (narrower x)
 narrower_fits x y z e = go (fits x y) refl (fits y x) refl e
   where
     go : (a : Bool) → fits x y ≡ a → (b : Bool) → fits y x ≡ b → (if a then Some x else (if b then Some y else None)) ≡ Some z → Meet z x y
-    go true p b q e = subst (λ t. Meet t x y) (some_is e) (first_meet x y (fits_is (tree x) (tree y) p))
-    go false p true q e = subst (λ t. Meet t x y) (some_is e) (second_meet x y (fits_is (tree y) (tree x) q))
-    go false p false q e = absurd (none_is e)
+    go true p b q e = subst (λ t. Meet t x y) (same_Some _ _ e) (first_meet x y (fits_is (tree x) (tree y) p))
+    go false p true q e = subst (λ t. Meet t x y) (same_Some _ _ e) (second_meet x y (fits_is (tree y) (tree x) q))
+    go false p false q e = absurd (none-some _ e)
 
 step_fits : (b : Bool) (x : Stated) → MeetsBoth x (λ y. if b then merge x y else narrower x y)
 step_fits true x = merge_fits x
 step_fits false x = narrower_fits x
 
 pub no_more_kept : (before as_ : List Asked) (z : Stated) → kept_from before None as_ ≡ Some z → ⊥
-no_more_kept before [] z e = none_is e
-no_more_kept before (a ∷ as_) z e = none_is e
+no_more_kept before [] z e = none-some _ e
+no_more_kept before (a ∷ as_) z e = none-some _ e
 
 pub trees_append : (before : List Asked) (a : Asked) → trees_asked (before ++ a ∷ []) ≡ trees_asked before ++ tree a.1 ∷ []
 trees_append [] a = refl
@@ -547,7 +515,7 @@ append_nil [] = refl
 append_nil (x ∷ xs) = ap (λ l. x ∷ l) (append_nil xs)
 
 from_meets : (before : List Asked) (x : Stated) (as_ : List Asked) (z : Stated) → IsMeet (tree x) (trees_asked before) → kept_from before (Some x) as_ ≡ Some z → IsMeet (tree z) (trees_asked (before ++ as_))
-from_meets before x [] z h e = subst (λ l. IsMeet (tree z) (trees_asked l)) (sym (append_nil before)) (subst (λ t. IsMeet (tree t) (trees_asked before)) (some_is e) h)
+from_meets before x [] z h e = subst (λ l. IsMeet (tree z) (trees_asked l)) (sym (append_nil before)) (subst (λ t. IsMeet (tree t) (trees_asked before)) (same_Some _ _ e) h)
 from_meets before x (a ∷ as_) z h e = go (λ w i r. from_meets (before ++ a ∷ []) w as_ z i r) (if in_family (before ++ a ∷ []) then merge x a.1 else narrower x a.1) refl e
   where
     go : ((w : Stated) → IsMeet (tree w) (trees_asked (before ++ a ∷ [])) → kept_from (before ++ a ∷ []) (Some w) as_ ≡ Some z → IsMeet (tree z) (trees_asked ((before ++ a ∷ []) ++ as_))) → (o : Option Stated) → (if in_family (before ++ a ∷ []) then merge x a.1 else narrower x a.1) ≡ o
@@ -560,7 +528,7 @@ from_meets before x (a ∷ as_) z h e = go (λ w i r. from_meets (before ++ a �
 
 -- what is kept is the meet of the asks
 pub kept_meets : Kept_is_meet
-kept_meets [] z e = absurd (none_is e)
+kept_meets [] z e = absurd (none-some _ e)
 kept_meets (b ∷ bs) z e = from_meets (b ∷ []) b.1 bs z (meet_one (tree b.1) (tree_in_order b.1)) e
 
 fits_each : (t : Tree) (asks : List Asked) → FitsAll t (trees_asked asks) → (a : Asked) → Among a asks → Fits t (tree a.1)
@@ -592,6 +560,6 @@ asked_among (b ∷ as_) a (inr m) = inr (asked_among as_ a m)
 
 pub outer_fits : {A : Type 0} (asks : List (Ask A)) (n : Name) (x : Stated) → outer_of asks ≡ Some (n, x) → (a : Ask A) → Among a asks → Fits (tree x) (tree a.item)
 outer_fits asks n x e a m =
-    let k = mapped_is {B = Name × Stated} (λ (y : Stated). (spelled asks, identified (spelled asks) (asked_in asks) y)) (kept (asked_in asks)) (n, x) e in
+    let k = mapped-some {B = Name × Stated} (λ (y : Stated). (spelled asks, identified (spelled asks) (asked_in asks) y)) (kept (asked_in asks)) (n, x) e in
     let is : tree x ≡ tree k.0 = ap (λ (q : Name × Stated). tree q.1) (sym k.2) ∙ identified_tree (spelled asks) (asked_in asks) k.0 in
     subst (λ t. Fits t (tree a.item)) (sym is) (kept_fits (asked_in asks) k.0 k.1 (a.name, a.item) (asked_among asks a m))

@@ -1,5 +1,6 @@
 -- Where nothing stands against a composition, each class of its asks merges.
 use Rattle.std.specs.Prelude.{cond, filter, is_some, option_map, bytes_eq, if◌then◌else◌, ◌||◌}
+use Rattle.std.proofs.lemmas.Option.{none-some}
 use Rattle.std.specs.List.{list_any}
 use Rattle.std.proofs.lemmas.Slice.Eq.{bytes_eq-Decides}
 use Rattle.std.proofs.Common.{◌≡◌, List, [], ◌∷◌, ◌++◌, append_assoc, Bool, true, false, true≢false, Option, Some, None, inl, inr, refl, sym, ap, subst, ◌∙◌}
@@ -13,19 +14,10 @@ use Rattle.wac_composition.specs.Asks.{Asking, ByName, ToFill, ToUse, Ask, asks_
 use Rattle.wac_composition.specs.Classes.{joined, class, spelled, spelling}
 use Rattle.wac_composition.specs.Merging.{kept, identified}
 use Rattle.wac_composition.specs.OuterImports.{asked_in, outer_of, outer_imports}
-use Rattle.wac_composition.specs.Conflicts.{or_else, implicit_conflict, merge_cause, merge_fails, those_in, merge_conflict, first_cause}
+use Rattle.wac_composition.specs.Conflicts.{implicit_conflict, merge_cause, merge_fails, those_in, merge_conflict, first_cause}
 use Rattle.wac_composition.proofs.Closures.{any_among, among_any, among_filter, filter_same, closed}
 use Rattle.wac_composition.proofs.OuterClasses.{joined_by_name, itself, turned, class_is, class_same, within, class_itself, class_by_name, asks_are_met}
-
-some_is : {A : Type 0} {x y : A} → Some x ≡ Some y → x ≡ y
-some_is e = cc
-
-none_is : {A : Type 0} {x : A} → None ≡ Some x → ⊥
-none_is e = cc
-
-none_of : {X : Type 0} (o u : Option X) → or_else o u ≡ None → (o ≡ None) × (u ≡ None)
-none_of None u e = (refl, e)
-none_of (Some x) u e = absurd (none_is (sym e))
+use Rattle.wac_composition.proofs.Against.{or_none}
 
 module _ {A : Type 0} where
   filter_none : (p : Ask A → Bool) (ys : List (Ask A)) → list_any p ys ≡ false → filter p ys ≡ []
@@ -46,9 +38,9 @@ module _ {A : Type 0} where
 
   no_fault : (k : Asking) (a : Ask A) (as_ : List (Ask A)) (m : Ask A) → Among m as_ → merge_cause k a as_ ≡ None → ⊥
   no_fault k a [] m n e = n
-  no_fault ByName a (b ∷ bs) m n e = none_is (sym e)
-  no_fault ToFill a (b ∷ bs) m n e = none_is (sym e)
-  no_fault ToUse a (b ∷ bs) m n e = none_is (sym e)
+  no_fault ByName a (b ∷ bs) m n e = none-some _ (sym e)
+  no_fault ToFill a (b ∷ bs) m n e = none-some _ (sym e)
+  no_fault ToUse a (b ∷ bs) m n e = none-some _ (sym e)
 
   -- asks whose last one meets no fault keep something
   keeps : (a : Ask A) (as_ : List (Ask A)) (m : Ask A) → Among m as_ → merge_fails a as_ ≡ None → is_some (kept (asked_in as_)) ≡ true
@@ -81,7 +73,7 @@ module _ {A : Type 0} where
     merges_from : (a : Ask A) → Among a asks → (before as_ : List (Ask A)) → before ++ as_ ≡ asks → merge_conflict asks before as_ ≡ None → list_any (names_in (class asks a)) as_ ≡ true → is_some (kept (asked_in (class asks a))) ≡ true
     merges_from a there before [] e f g = absurd (true≢false (sym g))
     merges_from a there before (x ∷ xs) e f g =
-        let n = none_of (merge_fails x (those_in (class asks x) (before ++ x ∷ []))) (merge_conflict asks (before ++ x ∷ []) xs) f in
+        let n = or_none (merge_fails x (those_in (class asks x) (before ++ x ∷ []))) (merge_conflict asks (before ++ x ∷ []) xs) f in
         let whole : (before ++ x ∷ []) ++ xs ≡ asks = append_assoc before (x ∷ []) xs ∙ e in
         go (merges_from a there (before ++ x ∷ []) xs whole n.1) n.0 whole (list_any (names_in (class asks a)) xs) refl (names_in (class asks a) x) refl g
       where
@@ -120,8 +112,8 @@ module _ {A : Type 0} where
   pub all_met : {I : Type 0} (define : Bool) (c : Composition A I) → first_cause define c ≡ None → (a : Ask A) → Among a (asks_of c) → (x : Stated) × (value_at (outer_imports (asks_of c)) (spelling (asks_of c) a.name) ≡ Some x) × Fits (tree x) (tree a.item)
   all_met define c e a m =
       let asks = asks_of c in
-      let i = none_of (implicit_conflict c.imports asks) _ e in
-      let f = none_of (merge_conflict asks [] asks) _ i.1 in
+      let i = or_none (implicit_conflict c.imports asks) _ e in
+      let f = or_none (merge_conflict asks [] asks) _ i.1 in
       let own = among_any (names_in (class asks a)) asks a m (among_any (λ (d : Ask A). bytes_eq a.name d.name) (class asks a) a (class_itself asks a m) ((bytes_eq-Decides a.name a.name).1 refl)) in
       let o = outer_some (class asks a) (merges_from asks a m [] asks refl f.0 own) in
       let met = asks_are_met asks a o.0 o.1 m o.2 in

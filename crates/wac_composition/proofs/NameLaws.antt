@@ -1,6 +1,7 @@
 -- The tests of names say yes of compatible ones alone, and of later ones alone.
 use Rattle.std.proofs.Common.{◌≡◌, ℕ, Bool, true, false, List, ◌∷◌, ◌++◌, length, Option, Some, None, refl, sym, ap, ◌∙◌, inl, inr}
-use Rattle.std.specs.Prelude.{◌&&◌, ◌||◌, ◌==◌, ◌⊎◌, bytes_eq, nat_lt, option_map, if◌then◌else◌}
+use Rattle.std.proofs.lemmas.Bool.{and_parts}
+use Rattle.std.specs.Prelude.{◌==◌, ◌⊎◌, bytes_eq, nat_lt, option_map, if◌then◌else◌}
 use Rattle.std.specs.Fmt.{decimal}
 use Rattle.std.specs.declared.cmp.Ordering.{Ordering}
 use Rattle.std.proofs.lemmas.Slice.Eq.{bytes_eq-Decides}
@@ -9,15 +10,9 @@ use Rattle.semver.specs.Parse.{Parts}
 use Rattle.wac_types_base.specs.Entries.{Name}
 use Rattle.wac_types_names.specs.Tracks.{before_at, version_of, track_text, key_with, key_from, lookup_key, IsOnTrack, ShareTrack, AreCompatible, IsLater}
 use Rattle.wac_types_names.specs.Versions.{version_cmp}
-use Rattle.wac_composition.specs.Names.{track_number, numbers_agree, tracks_agree, same_track, compatible, is_greater, later_version, is_later}
-
-both : (a b : Bool) → (a && b) ≡ true → (a ≡ true) × (b ≡ true)
-both true b e = (refl, e)
-both false b e = absurd (cc e)
-
-either : (a b : Bool) → (a || b) ≡ true → (a ≡ true) ⊎ (b ≡ true)
-either true b e = inl refl
-either false b e = inr e
+use Rattle.wac_composition.specs.Names.{track_number, numbers_agree, tracks_agree, same_track, compatible, later_version, is_later}
+use Rattle.wac_composition.proofs.AskedAgain.{greater_is}
+use Rattle.wac_names.proofs.NameKinds.{or_parts}
 
 -- the text of a track's number
 abbrev number_text : ℕ × ℕ → List ℕ
@@ -44,7 +39,7 @@ record AreOn (m n : Name) : Type 0 where
 
 numbers_same : (o u : Option (ℕ × ℕ)) → numbers_agree o u ≡ true → (a : ℕ × ℕ) × (o ≡ Some a) × (u ≡ Some a)
 numbers_same (Some a) (Some b) e =
-    let h = both (a.0 == b.0) (a.1 == b.1) e in
+    let h = and_parts (a.0 == b.0) (a.1 == b.1) e in
     let x = (Decides-eqb a.0 b.0).0 h.0 in
     let y = (Decides-eqb a.1 b.1).0 h.1 in
     let same : b ≡ a = λ o. (sym x o, sym y o) in
@@ -67,7 +62,7 @@ on_track n front p a f v t =
 
 same_track_is : (m n : Name) → same_track m n ≡ true → AreOn m n × (before_at m ≡ before_at n)
 same_track_is m n e =
-    let h = both (bytes_eq (before_at m) (before_at n)) (tracks_agree (version_of m) (version_of n)) e in
+    let h = and_parts (bytes_eq (before_at m) (before_at n)) (tracks_agree (version_of m) (version_of n)) e in
     (tracks_same m n (version_of m) (version_of n) refl refl h.1, (bytes_eq-Decides (before_at m) (before_at n)).0 h.0)
 
 shared : (m n : Name) → AreOn m n → before_at m ≡ before_at n → ShareTrack m n
@@ -80,23 +75,18 @@ shared m n a f = (
 )
 
 pub compatible_is : (m n : Name) → compatible m n ≡ true → AreCompatible m n
-compatible_is m n e = by (either (bytes_eq m n) (same_track m n) e)
+compatible_is m n e = by (or_parts (bytes_eq m n) (same_track m n) e)
   where
     by : (bytes_eq m n ≡ true) ⊎ (same_track m n ≡ true) → AreCompatible m n
     by (inl h) = inl ((bytes_eq-Decides m n).0 h)
     by (inr h) = let s = same_track_is m n h in inr (shared m n s.0 s.1)
-
-greater_is : (o : Ordering) → is_greater o ≡ true → o ≡ Ordering.Greater
-greater_is Ordering.Greater e = refl
-greater_is Ordering.Less e = absurd (cc e)
-greater_is Ordering.Equal e = absurd (cc e)
 
 later_at : (o u : Option Parts) (p q : Parts) → o ≡ Some p → u ≡ Some q → later_version o u ≡ true → version_cmp p q ≡ Ordering.Greater
 later_at o u p q a b e = greater_is (version_cmp p q) (ap (λ x. later_version x (Some q)) (sym a) ∙ ap (λ y. later_version o y) (sym b) ∙ e)
 
 pub later_is : (m n : Name) → is_later m n ≡ true → IsLater m n
 later_is m n e =
-    let h = both (same_track m n) (later_version (version_of m) (version_of n)) e in
+    let h = and_parts (same_track m n) (later_version (version_of m) (version_of n)) e in
     let s = same_track_is m n h.0 in
     let a = s.0 in (
       before_at n ++ 64 ∷ number_text a.number,

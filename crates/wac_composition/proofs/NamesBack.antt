@@ -1,6 +1,8 @@
 -- The tests of names say yes of each two names that are compatible, and of each that is later.
-use Rattle.std.proofs.Common.{◌≡◌, ℕ, suc, ◌+◌, take, arith, ◌<◌, ◌^◌, Bool, true, false, true≢false, List, [], ◌∷◌, ◌++◌, length, Option, Some, None, refl, sym, ap, subst, ◌∙◌, inl, inr}
-use Rattle.std.specs.Prelude.{◌&&◌, ◌||◌, ◌==◌, bytes_eq, nat_lt, if◌then◌else◌}
+use Rattle.std.proofs.Common.{◌≡◌, ℕ, ◌+◌, take, ◌<◌, ◌^◌, Bool, true, false, true≢false, List, [], ◌∷◌, ◌++◌, length, Option, Some, None, refl, sym, ap, subst, ◌∙◌, inl, inr}
+use Rattle.std.specs.Cmp.Derive.{both_true}
+use Rattle.std.proofs.lemmas.Option.{none-some, same_Some}
+use Rattle.std.specs.Prelude.{◌||◌, ◌==◌, bytes_eq, nat_lt, if◌then◌else◌}
 use Rattle.std.specs.List.{position_or_len, before_first, after_first, list_any}
 use Rattle.std.specs.Fmt.{decimal}
 use Rattle.std.proofs.lemmas.Fmt.{decimal_injective}
@@ -11,14 +13,9 @@ use Rattle.semver.specs.Grammar.{IsValid}
 use Rattle.wac_types_base.specs.Entries.{Name}
 use Rattle.wac_types_names.specs.Tracks.{is_at, read_version, before_at, version_of, track_text, key_with, key_from, lookup_key, IsOnTrack, AreCompatible, IsLater}
 use Rattle.wac_types_names.proofs.Places.{NoByte}
-use Rattle.wac_types_names.proofs.TrackTexts.{read-text, decimal_no_dot}
+use Rattle.wac_types_names.proofs.TrackTexts.{read-text, decimal_no_dot, one_longer}
 use Rattle.wac_composition.specs.Names.{track_number, numbers_agree, tracks_agree, same_track, compatible, is_greater, later_version, is_later}
-
-some_is : {A : Type 0} {x y : A} → Some x ≡ Some y → x ≡ y
-some_is e = cc
-
-none_is : {A : Type 0} {x : A} → None ≡ Some x → ⊥
-none_is e = cc
+use Rattle.wac_names.proofs.NameKinds.{or_left}
 
 head_is : {x y : ℕ} {xs ys : List ℕ} → x ∷ xs ≡ y ∷ ys → x ≡ y
 head_is e = cc
@@ -29,22 +26,11 @@ tail_is e = cc
 number_itself : (a : ℕ) → (a == a) ≡ true
 number_itself a = (Decides-eqb a a).1 refl
 
-and_is : (a b : Bool) → a ≡ true → b ≡ true → (a && b) ≡ true
-and_is true b e f = f
-and_is false b e f = absurd (true≢false (sym e))
-
-or_first : (a b : Bool) → a ≡ true → (a || b) ≡ true
-or_first true b e = refl
-or_first false b e = absurd (true≢false (sym e))
-
 or_second : (a b : Bool) → b ≡ true → (a || b) ≡ true
 or_second true b e = refl
 or_second false b e = e
 
 -- ---- what stands before the first `@`, and behind it
-
-one_longer : (n : ℕ) → 1 + n ≡ suc n
-one_longer n = omega arith
 
 none_before : (xs : List ℕ) → NoByte 64 (before_first is_at xs)
 none_before [] = tt
@@ -87,13 +73,13 @@ unfolding lookup_key
 read_on n track p on = read (version_of n) refl on
   where
     cut : (q : Parts) (o : Option (List ℕ)) → version_of n ≡ Some q → track_text q ≡ o → key_with (before_at n) q o ≡ Some (track, p) → IsRead n track p
-    cut q None v e h = absurd (none_is h)
+    cut q None v e h = absurd (none-some _ h)
     cut q (Some t) v e h =
         let same : q ≡ p = ap (parts_in p) h in
         record { text = t; version = v ∙ ap Some same; names = ap track_text (sym same) ∙ e; key = sym (ap (key_in track) h) }
 
     read : (o : Option Parts) → version_of n ≡ o → key_from (before_at n) o ≡ Some (track, p) → IsRead n track p
-    read None v h = absurd (none_is h)
+    read None v h = absurd (none-some _ h)
     read (Some q) v h = cut q (track_text q) v refl h
 
 valid_read : (text : List ℕ) (p : Parts) → read_version text ≡ Some p → IsValid p
@@ -105,7 +91,7 @@ valid_in n p e = by (list_any is_at n) e
   where
     by : (b : Bool) → (if b then read_version (after_first is_at n) else None) ≡ Some p → IsValid p
     by true h = valid_read (after_first is_at n) p h
-    by false h = absurd (none_is h)
+    by false h = absurd (none-some _ h)
 
 -- ---- equal texts of tracks have equal numbers
 
@@ -116,17 +102,17 @@ agree : (x y z x' y' z' : Bool) (a b a' b' : ℕ) (t : List ℕ) → a < 2 ^ 64 
     → (if x then None else if y then Some (decimal a) else if z then Some (48 ∷ 46 ∷ decimal b) else None) ≡ Some t
     → (if x' then None else if y' then Some (decimal a') else if z' then Some (48 ∷ 46 ∷ decimal b') else None) ≡ Some t
     → numbers_agree (if x then None else if y then Some (a, 0) else if z then Some (0, b) else None) (if x' then None else if y' then Some (a', 0) else if z' then Some (0, b') else None) ≡ true
-agree true y z x' y' z' a b a' b' t k l m n e f = absurd (none_is e)
-agree false y z true y' z' a b a' b' t k l m n e f = absurd (none_is f)
+agree true y z x' y' z' a b a' b' t k l m n e f = absurd (none-some _ e)
+agree false y z true y' z' a b a' b' t k l m n e f = absurd (none-some _ f)
 agree false true z false true z' a b a' b' t k l m n e f =
-    and_is (a == a') (0 == 0) ((Decides-eqb a a').1 (decimal_injective a a' k m (some_is (e ∙ sym f)))) refl
-agree false true z false false true a b a' b' t k l m n e f = absurd (no_dot_second 48 (decimal a) (decimal b') (decimal_no_dot a k) (some_is (e ∙ sym f)))
-agree false true z false false false a b a' b' t k l m n e f = absurd (none_is f)
-agree false false true false true z' a b a' b' t k l m n e f = absurd (no_dot_second 48 (decimal a') (decimal b) (decimal_no_dot a' m) (some_is (f ∙ sym e)))
+    both_true ((Decides-eqb a a').1 (decimal_injective a a' k m (same_Some _ _ (e ∙ sym f)))) refl
+agree false true z false false true a b a' b' t k l m n e f = absurd (no_dot_second 48 (decimal a) (decimal b') (decimal_no_dot a k) (same_Some _ _ (e ∙ sym f)))
+agree false true z false false false a b a' b' t k l m n e f = absurd (none-some _ f)
+agree false false true false true z' a b a' b' t k l m n e f = absurd (no_dot_second 48 (decimal a') (decimal b) (decimal_no_dot a' m) (same_Some _ _ (f ∙ sym e)))
 agree false false true false false true a b a' b' t k l m n e f =
-    and_is (0 == 0) (b == b') refl ((Decides-eqb b b').1 (decimal_injective b b' l n (tail_is (tail_is (some_is (e ∙ sym f))))))
-agree false false true false false false a b a' b' t k l m n e f = absurd (none_is f)
-agree false false false x' y' z' a b a' b' t k l m n e f = absurd (none_is e)
+    both_true refl ((Decides-eqb b b').1 (decimal_injective b b' l n (tail_is (tail_is (same_Some _ _ (e ∙ sym f))))))
+agree false false true false false false a b a' b' t k l m n e f = absurd (none-some _ f)
+agree false false false x' y' z' a b a' b' t k l m n e f = absurd (none-some _ e)
 
 numbers_of_text : (p q : Parts) (t : List ℕ) → IsValid p → IsValid q → track_text p ≡ Some t → track_text q ≡ Some t → numbers_agree (track_number p) (track_number q) ≡ true
 numbers_of_text p q t v w e f =
@@ -140,16 +126,16 @@ on_one_track m n track p q a b =
     let y = read_on n track q b in
     let s = seam (before_at m) (before_at n) x.text y.text (none_before m) (none_before n) (sym x.key ∙ y.key) in
     let agreed = numbers_of_text p q x.text (valid_in m p x.version) (valid_in n q y.version) x.names (y.names ∙ ap Some (sym s.1)) in
-    and_is (bytes_eq (before_at m) (before_at n)) (tracks_agree (version_of m) (version_of n)) ((bytes_eq-Decides (before_at m) (before_at n)).1 s.0)
+    both_true ((bytes_eq-Decides (before_at m) (before_at n)).1 s.0)
     (ap (λ o. tracks_agree o (version_of n)) x.version ∙ ap (tracks_agree (Some p)) y.version ∙ agreed)
 
 pub is_compatible : (m n : Name) → AreCompatible m n → compatible m n ≡ true
-is_compatible m n (inl e) = or_first (bytes_eq m n) (same_track m n) ((bytes_eq-Decides m n).1 e)
+is_compatible m n (inl e) = or_left (bytes_eq m n) (same_track m n) ((bytes_eq-Decides m n).1 e)
 is_compatible m n (inr s) = or_second (bytes_eq m n) (same_track m n) (on_one_track m n s.0 s.1 s.2 s.3 s.4)
 
 pub later_on_track : (m n : Name) → IsLater m n → is_later m n ≡ true
 later_on_track m n s =
     let x = read_on m s.0 s.1 s.3 in
     let y = read_on n s.0 s.2 s.4 in
-    and_is (same_track m n) (later_version (version_of m) (version_of n)) (on_one_track m n s.0 s.1 s.2 s.3 s.4)
+    both_true (on_one_track m n s.0 s.1 s.2 s.3 s.4)
     (ap (λ o. later_version o (version_of n)) x.version ∙ ap (later_version (Some s.1)) y.version ∙ ap is_greater s.5)

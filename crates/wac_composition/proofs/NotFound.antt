@@ -1,5 +1,6 @@
 -- The test of an item says yes exactly of what cannot be written.
 use Rattle.std.specs.Prelude.{◌==◌, not, ◌&&◌, ◌||◌, filter, option_map, drop, cond, bytes_eq}
+use Rattle.std.proofs.lemmas.Option.{none-some, same_Some}
 use Rattle.std.specs.Bool.{Decides}
 use Rattle.std.specs.List.{list_any, flat_map}
 use Rattle.std.specs.Cmp.Lexicographic.{pointwise, bytes_decides}
@@ -16,8 +17,10 @@ use Rattle.wac_composition.specs.Written.{is_type}
 use Rattle.wac_composition.specs.Writable.{Holder, is_resource, is_fresh, root_of, is_given, stated_at, value_fails, Test, Needed, Found, some_unnamed, Item, plain, some_fails, used_of, interface_fails, type_items, needed_from, below_use, below_items, all_needed, stands_as, is_given_by, use_fails, with_roots, holder, world_holder, world_fails, any_value, simple, found_interface, found_at, unwritable, item_in, writable_module}
 use Rattle.wac_composition.specs.NotWritten.{IsGiven, HasRoot, Dangles, has_items, Needs, a_use, under_use, under_item, IsImported, type_exports, component_holder, CannotBeWritten, a_value, core_items, module_as_type, renamed, an_alias, a_function, a_function_type, a_value_type, an_instance, an_interface, a_component, a_world, ItemsFail, unnamed, an_item, ComponentFails, unnamed_use, not_imported, not_added, an_import, an_export}
 use Rattle.wac_composition.proofs.Closures.{filter_among}
-use Rattle.wac_composition.proofs.KeptFits.{firsts, first_names, folded_firsts, only_firsts}
-use Rattle.wac_composition.proofs.NotWritten.{some_is, none_is, any_decides, has_decides, among_left, among_right, among_split, among_flat, flat_among, among_map, map_among, trees_decide, given_decides, resource_decides, value_decides, any_value_decides, stated_again}
+use Rattle.wac_composition.proofs.KeptFits.{folded_firsts}
+use Rattle.wac_composition.proofs.NotWritten.{any_decides, has_decides, among_split, among_flat, flat_among, among_map, map_among, trees_decide, given_decides, resource_decides, value_decides, any_value_decides, stated_again}
+use Rattle.wac_types_base.proofs.Adding.{Among-left, Among-right}
+use Rattle.wac_types_base.proofs.Made.{firsts, first_names, drop_firsts, only_firsts}
 
 -- ---- what is found of an item
 
@@ -75,11 +78,6 @@ uses_found (v ∷ us) (Some x ∷ os) h u (inl q) = subst (λ w. IsFound w.0.int
 uses_found (v ∷ us) (Some x ∷ os) h u (inr m) = uses_found us os h.1 u m
 
 -- ---- the parts, with what was found of them and without
-
-drop_firsts : {A : Type 0} (k : ℕ) (os : List (Option (Stated × A))) → firsts (drop k os) ≡ drop k (firsts os)
-drop_firsts zero os = refl
-drop_firsts (suc k) [] = refl
-drop_firsts (suc k) (o ∷ os) = drop_firsts k os
 
 same_names : {A B : Type 0} (ns : List Name) (os : List (Option (Stated × A))) (ps : List (Option (Stated × B))) → firsts os ≡ firsts ps → first_parts (with_names ns os) ≡ first_parts (with_names ns ps)
 same_names ns os ps e = first_names ns os ∙ ap (with_names ns) e ∙ sym (first_names ns ps)
@@ -204,17 +202,17 @@ module _ (us : List (Used × Found)) (es : List Item) (fu : UsesFound us) (fe : 
   widened ms f u n l = record { one = l.one; there = f l.one l.there; called = l.called; by = l.by }
 
   in_uses : (u : Used × Found) → Among u us → (m : Needed) → Among m (below_use u) → Among m (listed us es)
-  in_uses u a m n = among_left m (flat_map below_use us) (below_items es) (flat_among below_use us u m a n)
+  in_uses u a m n = Among-left m (flat_map below_use us) (below_items es) (flat_among below_use us u m a n)
 
   in_items : (e : Item) → Among e es → (m : Needed) → Among m e.1.1.uses → Among m (listed us es)
-  in_items e a m n = among_right m (flat_map below_use us) (below_items es) (flat_among (λ e. e.1.1.uses) es e m a n)
+  in_items e a m n = Among-right m (flat_map below_use us) (below_items es) (flat_among (λ e. e.1.1.uses) es e m a n)
 
   direct : (u : Used × Found) → Among u us → (n : Name) → identifier_of u.0.interface ≡ Some n → IsListed (listed us es) u.0 n
   direct u a n e =
       let m : Needed = record { name = n; by = u.0; types = u.1.types } in
       record {
         one = m;
-        there = in_uses u a m (among_right m u.1.uses (needed_from u (identifier_of u.0.interface)) (subst (λ i. Among m (needed_from u i)) (sym e) (inl refl)));
+        there = in_uses u a m (Among-right m u.1.uses (needed_from u (identifier_of u.0.interface)) (subst (λ i. Among m (needed_from u i)) (sym e) (inl refl)));
         called = refl;
         by = refl;
       }
@@ -226,7 +224,7 @@ module _ (us : List (Used × Found)) (es : List Item) (fu : UsesFound us) (fe : 
   needed_listed u n (under_use v m k w) e =
       let a = among_map (λ w. w.0) us v m in
       let i : v.interface ≡ a.0.0.interface = ap (λ w. w.interface) a.2 in
-      widened a.0.1.uses (λ m b. in_uses a.0 a.1 m (among_left m a.0.1.uses (needed_from a.0 (identifier_of a.0.0.interface)) b)) u n
+      widened a.0.1.uses (λ m b. in_uses a.0 a.1 m (Among-left m a.0.1.uses (needed_from a.0 (identifier_of a.0.0.interface)) b)) u n
       ((fu a.0 a.1).all (ap (λ x. has_items (kind_of x)) (sym i) ∙ k) u n (subst (λ x. Needs (uses_of x) (exports_of x) u) i w) e)
   needed_listed u n (under_item l x m k w) e =
       let a = among_map (λ e. (e.0, e.1.0)) es (l, x) m in
@@ -262,23 +260,23 @@ module _ (p : Parts Found) (fu : UsesFound p.uses) (fi : ItemsFound p.imports) (
   imported_decides u n = go (value_at p.imports n) (plain_value p.imports n)
     where
       stands : (x y : Option Stated) → Decides (stands_as x y) ((z : Stated) → x ≡ Some z → (w : Stated) × (y ≡ Some w) × (kind_of z ≡ IsResource → tree z ≡ tree w))
-      stands None y = (λ e z q. absurd (none_is q), λ h. refl)
-      stands (Some x) None = (λ e. absurd (true≢false (sym e)), λ h. absurd (let r = h x refl in none_is r.1))
+      stands None y = (λ e z q. absurd (none-some _ q), λ h. refl)
+      stands (Some x) None = (λ e. absurd (true≢false (sym e)), λ h. absurd (let r = h x refl in none-some _ r.1))
       stands (Some x) (Some y) = go_both (is_resource (kind_of x)) refl
         where
           go_both : (b : Bool) → is_resource (kind_of x) ≡ b → Decides (not b || same_tree (tree x) (tree y)) ((z : Stated) → Some x ≡ Some z → (w : Stated) × (Some y ≡ Some w) × (kind_of z ≡ IsResource → tree z ≡ tree w))
-          go_both false e = (λ q z r. (y, refl, λ k. absurd (true≢false (sym ((resource_decides (kind_of x)).1 (ap kind_of (some_is r) ∙ k)) ∙ e))), λ h. refl)
+          go_both false e = (λ q z r. (y, refl, λ k. absurd (true≢false (sym ((resource_decides (kind_of x)).1 (ap kind_of (same_Some _ _ r) ∙ k)) ∙ e))), λ h. refl)
           go_both true e = (
-            λ q z r. (y, refl, λ k. ap tree (sym (some_is r)) ∙ (trees_decide x y).0 q),
-            λ h. let w = h x refl in (trees_decide x y).1 (w.2 ((resource_decides (kind_of x)).0 e) ∙ ap tree (sym (some_is w.1))),
+            λ q z r. (y, refl, λ k. ap tree (sym (same_Some _ _ r)) ∙ (trees_decide x y).0 q),
+            λ h. let w = h x refl in (trees_decide x y).1 (w.2 ((resource_decides (kind_of x)).0 e) ∙ ap tree (sym (same_Some _ _ w.1))),
           )
 
       go : (o : Option (Stated × Found)) → value_at (plain p.imports) n ≡ option_map (λ x. x.0) o → Decides (is_given_by o u) (IsImported (plain p.imports) n u)
-      go None e = (λ q. absurd (true≢false (sym q)), λ h. absurd (none_is (sym e ∙ h.there)))
+      go None e = (λ q. absurd (true≢false (sym q)), λ h. absurd (none-some _ (sym e ∙ h.there)))
       go (Some x) e =
           let d = stands (item_in u.interface u) (item_in x.0 u) in (
             λ q. record { interface = x.0; there = e; item = d.0 q },
-            λ h. let s : x.0 ≡ h.interface = some_is (sym e ∙ h.there) in
+            λ h. let s : x.0 ≡ h.interface = same_Some _ _ (sym e ∙ h.there) in
                 d.1 (λ z r. let w = h.item z r in (w.0, ap (λ i. item_in i u) s ∙ w.1, w.2)),
           )
 

@@ -1,5 +1,6 @@
 -- The tests of what cannot be written say yes exactly of what cannot.
 use Rattle.std.specs.Prelude.{◌==◌, not, ◌&&◌}
+use Rattle.std.proofs.lemmas.Option.{none-some, same_Some}
 use Rattle.std.specs.Bool.{Decides}
 use Rattle.std.specs.List.{list_any, flat_map}
 use Rattle.std.specs.Cmp.Lexicographic.{pointwise, bytes_decides}
@@ -15,13 +16,9 @@ use Rattle.wac_composition.specs.Writable.{Holder, is_resource, is_taken_as, is_
 use Rattle.wac_composition.specs.NotWritten.{IsGiven, IsUsed, HasRoot, Handle, Resource, Compound, role, Dangles, handle, part}
 use Rattle.wac_composition.proofs.TestLaws.{decides, trees_tell}
 use Rattle.wac_composition.proofs.Closures.{any_among, among_any}
-use Rattle.wac_composition.proofs.KeptFits.{firsts, folded_firsts, row_again}
-
-pub some_is : {A : Type 0} {x y : A} → Some x ≡ Some y → x ≡ y
-some_is e = cc
-
-pub none_is : {A : Type 0} {x : A} → None ≡ Some x → ⊥
-none_is e = cc
+use Rattle.wac_composition.proofs.KeptFits.{folded_firsts, row_again}
+use Rattle.wac_types_base.proofs.Adding.{Among-left, Among-right}
+use Rattle.wac_types_base.proofs.Made.{firsts}
 
 -- ---- tests and lists
 
@@ -31,15 +28,6 @@ any_decides t P xs d = (λ e. let c = any_among t xs e in (c.0, c.1, (d c.0 c.1)
 pub has_decides : (ns : List Name) (n : Name) → Decides (has_name ns n) (Among n ns)
 has_decides [] n = (λ e. absurd (true≢false (sym e)), λ m. absurd m)
 has_decides (m ∷ ms) n = Decides-or (pointwise ◌==◌ n m) (has_name ms n) (bytes_decides n m) (has_decides ms n)
-
-pub among_left : {X : Type 0} (c : X) (xs ys : List X) → Among c xs → Among c (xs ++ ys)
-among_left c [] ys m = absurd m
-among_left c (x ∷ xs) ys (inl e) = inl e
-among_left c (x ∷ xs) ys (inr m) = inr (among_left c xs ys m)
-
-pub among_right : {X : Type 0} (c : X) (xs ys : List X) → Among c ys → Among c (xs ++ ys)
-among_right c [] ys m = m
-among_right c (x ∷ xs) ys m = inr (among_right c xs ys m)
 
 pub among_split : {X : Type 0} (c : X) (xs ys : List X) → Among c (xs ++ ys) → Among c xs ⊎ Among c ys
 among_split c [] ys m = inr m
@@ -58,8 +46,8 @@ among_flat f (x ∷ xs) y m = elim (among_split y (f x) (flat_map f xs) m) [
 
 pub flat_among : {X Y : Type 0} (f : X → List Y) (xs : List X) (x : X) (y : Y) → Among x xs → Among y (f x) → Among y (flat_map f xs)
 flat_among f [] x y m n = absurd m
-flat_among f (z ∷ zs) x y (inl e) n = among_left y (f z) (flat_map f zs) (subst (λ w. Among y (f w)) e n)
-flat_among f (z ∷ zs) x y (inr m) n = among_right y (f z) (flat_map f zs) (flat_among f zs x y m n)
+flat_among f (z ∷ zs) x y (inl e) n = Among-left y (f z) (flat_map f zs) (subst (λ w. Among y (f w)) e n)
+flat_among f (z ∷ zs) x y (inr m) n = Among-right y (f z) (flat_map f zs) (flat_among f zs x y m n)
 
 pub among_map : {X Y : Type 0} (f : X → Y) (xs : List X) (y : Y) → Among y (map f xs) → (x : X) × Among x xs × (y ≡ f x)
 among_map f [] y m = absurd m
@@ -80,8 +68,8 @@ pub given_decides : (h : Holder) (n : Name) (x : Stated) → Decides (is_given h
 given_decides h n x = go (value_at h.used n) refl
   where
     go : (o : Option Stated) → value_at h.used n ≡ o → Decides (is_taken_as o x) (IsGiven h n x)
-    go None e = (λ q. absurd (true≢false (sym q)), λ g. absurd (none_is (sym e ∙ g.taken)))
-    go (Some y) e = (λ q. record { item = y; taken = e; same = (trees_decide y x).0 q }, λ g. (trees_decide y x).1 (ap tree (some_is (sym e ∙ g.taken)) ∙ g.same))
+    go None e = (λ q. absurd (true≢false (sym q)), λ g. absurd (none-some _ (sym e ∙ g.taken)))
+    go (Some y) e = (λ q. record { item = y; taken = e; same = (trees_decide y x).0 q }, λ g. (trees_decide y x).1 (ap tree (same_Some _ _ (sym e ∙ g.taken)) ∙ g.same))
 
 value_type_decides : (k : Kind) → Decides (is_value_type k) (k ≡ IsValueType)
 value_type_decides k = (only k, λ e. ap is_value_type e)
@@ -197,7 +185,7 @@ module _ (h : Holder) where
     places_decide (hole ts) = Decides-like _ (λ p. (p.0, inr p.1, p.2)) past (places_decide ts)
       where
         past : SomeDangles (hole ts) → SomeDangles ts
-        past (u, inl e, g) = absurd (none_is (sym e))
+        past (u, inl e, g) = absurd (none-some _ (sym e))
         past (u, inr m, g) = (u, m, g)
     places_decide (more t ts) = Decides-like _ to from (Decides-or (value_fails h t) (place_fails h (folded_row (value_at_label h) ts)) (value_decides t) (places_decide ts))
       where
@@ -206,7 +194,7 @@ module _ (h : Holder) where
         to (inr p) = (p.0, inr p.1, p.2)
 
         from : SomeDangles (more t ts) → Dangles h t ⊎ SomeDangles ts
-        from (u, inl e, g) = inl (subst (Dangles h) (some_is e) g)
+        from (u, inl e, g) = inl (subst (Dangles h) (same_Some _ _ e) g)
         from (u, inr m, g) = inr (u, m, g)
 
   pub any_value_decides : (os : List (Option (Stated × Found))) → Decides (any_value h os) ((v : Stated) × Among (Some v) (firsts os) × Dangles h v)
@@ -214,7 +202,7 @@ module _ (h : Holder) where
   any_value_decides (None ∷ os) = Decides-like _ (λ p. (p.0, inr p.1, p.2)) past (any_value_decides os)
     where
       past : ((v : Stated) × Among (Some v) (firsts (None ∷ os)) × Dangles h v) → (v : Stated) × Among (Some v) (firsts os) × Dangles h v
-      past (u, inl e, g) = absurd (none_is (sym e))
+      past (u, inl e, g) = absurd (none-some _ (sym e))
       past (u, inr m, g) = (u, m, g)
   any_value_decides (Some x ∷ os) = Decides-like _ to from (Decides-or (value_fails h x.0) (any_value h os) (value_decides x.0) (any_value_decides os))
     where
@@ -223,5 +211,5 @@ module _ (h : Holder) where
       to (inr p) = (p.0, inr p.1, p.2)
 
       from : ((v : Stated) × Among (Some v) (firsts (Some x ∷ os)) × Dangles h v) → Dangles h x.0 ⊎ ((v : Stated) × Among (Some v) (firsts os) × Dangles h v)
-      from (u, inl e, g) = inl (subst (Dangles h) (some_is e) g)
+      from (u, inl e, g) = inl (subst (Dangles h) (same_Some _ _ e) g)
       from (u, inr m, g) = inr (u, m, g)

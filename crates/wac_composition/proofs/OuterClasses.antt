@@ -1,5 +1,8 @@
 -- The outer import of an ask: under the spelling of its class there is one, and it fits the ask.
-use Rattle.std.specs.Prelude.{◌==◌, option_map, unwrap_or, is_some, find, cond, bytes_eq, if◌then◌else◌, ◌&&◌, ◌||◌}
+use Rattle.std.specs.Prelude.{◌==◌, option_map, unwrap_or, is_some, find, cond, bytes_eq, if◌then◌else◌, ◌||◌}
+use Rattle.std.proofs.lemmas.Bool.{and_parts}
+use Rattle.std.specs.Cmp.Derive.{both_true}
+use Rattle.std.proofs.lemmas.Option.{none-some, same_Some}
 use Rattle.std.specs.Cmp.Lexicographic.{pointwise}
 use Rattle.std.proofs.lemmas.Slice.Eq.{bytes_eq-Decides}
 use Rattle.std.proofs.lemmas.Bool.Decides.{Decides-eqb}
@@ -18,30 +21,9 @@ use Rattle.wac_composition.specs.Merging.{kept, identified}
 use Rattle.wac_composition.specs.OuterImports.{asked_in, with_new, outer_of, outers_from, outer_imports}
 use Rattle.wac_composition.proofs.KeptFits.{outer_fits}
 use Rattle.wac_composition.proofs.Closures.{steps, reached, reached_within, reached_itself, reached_next, reached_same}
-
-some_is : {A : Type 0} {x y : A} → Some x ≡ Some y → x ≡ y
-some_is e = cc
-
-none_is : {A : Type 0} {x : A} → None ≡ Some x → ⊥
-none_is e = cc
+use Rattle.wac_names.proofs.NameKinds.{or_parts, or_left}
 
 -- ---- asks are joined to themselves, and both ways
-
-both_true : (a b : Bool) → (a && b) ≡ true → (a ≡ true) × (b ≡ true)
-both_true true b e = (refl, e)
-both_true false b e = absurd (true≢false (sym e))
-
-and_true : (a b : Bool) → a ≡ true → b ≡ true → (a && b) ≡ true
-and_true true b e f = f
-and_true false b e f = absurd (true≢false (sym e))
-
-either_true : (a b : Bool) → (a || b) ≡ true → (a ≡ true) ⊎ (b ≡ true)
-either_true true b e = inl refl
-either_true false b e = inr e
-
-or_left : (a b : Bool) → a ≡ true → (a || b) ≡ true
-or_left true b e = refl
-or_left false b e = absurd (true≢false (sym e))
 
 or_right : (a b : Bool) → b ≡ true → (a || b) ≡ true
 or_right true b e = refl
@@ -58,8 +40,8 @@ number_turned a b e = (Decides-eqb b a).1 (sym ((Decides-eqb a b).0 e))
 
 numbers_turned : (o u : Option (ℕ × ℕ)) → numbers_agree o u ≡ true → numbers_agree u o ≡ true
 numbers_turned (Some a) (Some b) e =
-    let h = both_true (a.0 == b.0) (a.1 == b.1) e in
-    and_true (b.0 == a.0) (b.1 == a.1) (number_turned a.0 b.0 h.0) (number_turned a.1 b.1 h.1)
+    let h = and_parts (a.0 == b.0) (a.1 == b.1) e in
+    both_true (number_turned a.0 b.0 h.0) (number_turned a.1 b.1 h.1)
 numbers_turned None u e = absurd (cc e)
 numbers_turned (Some a) None e = absurd (cc e)
 
@@ -70,11 +52,11 @@ tracks_turned (Some p) None e = absurd (cc e)
 
 track_turned : (m n : Name) → same_track m n ≡ true → same_track n m ≡ true
 track_turned m n e =
-    let h = both_true (bytes_eq (before_at m) (before_at n)) (tracks_agree (version_of m) (version_of n)) e in
-    and_true (bytes_eq (before_at n) (before_at m)) (tracks_agree (version_of n) (version_of m)) (names_turned (before_at m) (before_at n) h.0) (tracks_turned (version_of m) (version_of n) h.1)
+    let h = and_parts (bytes_eq (before_at m) (before_at n)) (tracks_agree (version_of m) (version_of n)) e in
+    both_true (names_turned (before_at m) (before_at n) h.0) (tracks_turned (version_of m) (version_of n) h.1)
 
 compatible_turned : (m n : Name) → compatible m n ≡ true → compatible n m ≡ true
-compatible_turned m n e = elim (either_true (bytes_eq m n) (same_track m n) e) [
+compatible_turned m n e = elim (or_parts (bytes_eq m n) (same_track m n) e) [
   | inl h ↦ or_left (bytes_eq n m) (same_track n m) (names_turned m n h)
   | inr h ↦ or_right (bytes_eq n m) (same_track n m) (track_turned m n h)
 ]
@@ -93,7 +75,7 @@ pub itself : {A : Type 0} (a : Ask A) → joined a a ≡ true
 itself a = joined_by_name a a refl
 
 pub turned : {A : Type 0} (a b : Ask A) → joined a b ≡ true → joined b a ≡ true
-turned a b e = elim (either_true (compatible a.name b.name) (same_text (identifier_asked a) (identifier_asked b)) e) [
+turned a b e = elim (or_parts (compatible a.name b.name) (same_text (identifier_asked a) (identifier_asked b)) e) [
   | inl h ↦ or_left (compatible b.name a.name) (same_text (identifier_asked b) (identifier_asked a)) (compatible_turned a.name b.name h)
   | inr h ↦ or_right (compatible b.name a.name) (same_text (identifier_asked b) (identifier_asked a)) (text_turned (identifier_asked a) (identifier_asked b) h)
 ]
@@ -159,7 +141,7 @@ module _ {A : Type 0} (asks : List (Ask A)) where
   AreOfAsks found = (n : Name) (x : Stated) → value_at found n ≡ Some x → (b : Ask A) × Among b asks × (outer_of (class asks b) ≡ Some (n, x)) × (n ≡ spelled (class asks b))
 
   value_kept : (xs ys : List (Name × Stated)) (n : Name) (x : Stated) → value_at xs n ≡ Some x → value_at (xs ++ ys) n ≡ Some x
-  value_kept [] ys n x e = absurd (none_is e)
+  value_kept [] ys n x e = absurd (none-some _ e)
   value_kept (y ∷ xs) ys n x e = go (value_kept xs ys n x) (pointwise ◌==◌ n y.0) e
     where
       go : (value_at xs n ≡ Some x → value_at (xs ++ ys) n ≡ Some x) → (b : Bool) → (if b then Some y.1 else value_at xs n) ≡ Some x → (if b then Some y.1 else value_at (xs ++ ys) n) ≡ Some x
@@ -170,8 +152,8 @@ module _ {A : Type 0} (asks : List (Ask A)) where
   value_last [] m y n x e = go (pointwise ◌==◌ n m) refl e
     where
       go : (b : Bool) → pointwise ◌==◌ n m ≡ b → (if b then Some y else None) ≡ Some x → (None ≡ Some x) ⊎ ((n ≡ m) × (y ≡ x))
-      go true q e = inr ((bytes_eq-Decides n m).0 q, some_is e)
-      go false q e = absurd (none_is e)
+      go true q e = inr ((bytes_eq-Decides n m).0 q, same_Some _ _ e)
+      go false q e = absurd (none-some _ e)
   value_last (z ∷ xs) m y n x e = go (value_last xs m y n x) (pointwise ◌==◌ n z.0) e
     where
       go : (value_at (xs ++ (m, y) ∷ []) n ≡ Some x → (value_at xs n ≡ Some x) ⊎ ((n ≡ m) × (y ≡ x))) → (b : Bool) → (if b then Some z.1 else value_at (xs ++ (m, y) ∷ []) n) ≡ Some x → ((if b then Some z.1 else value_at xs n) ≡ Some x) ⊎ ((n ≡ m) × (y ≡ x))
@@ -183,21 +165,21 @@ module _ {A : Type 0} (asks : List (Ask A)) where
   value_there (z ∷ xs) m y e = go (value_there xs m y) (pointwise ◌==◌ m z.0) e
     where
       go : (value_at xs m ≡ None → value_at (xs ++ (m, y) ∷ []) m ≡ Some y) → (b : Bool) → (if b then Some z.1 else value_at xs m) ≡ None → (if b then Some z.1 else value_at (xs ++ (m, y) ∷ []) m) ≡ Some y
-      go rest true q = absurd (none_is (sym q))
+      go rest true q = absurd (none-some _ (sym q))
       go rest false q = rest q
 
   -- under an outer import's name, no other one
   one_outer : (a b : Ask A) (n : Name) (x y : Stated) → Among a asks → Among b asks → outer_of (class asks a) ≡ Some (n, x) → outer_of (class asks b) ≡ Some (n, y) → n ≡ spelled (class asks a) → n ≡ spelled (class asks b) → x ≡ y
   one_outer a b n x y m k e f p q =
       let same = class_by_spelling a b m k (sym p ∙ q) in
-      ap (λ (z : Name × Stated). z.1) (some_is (sym e ∙ ap outer_of same ∙ f))
+      ap (λ (z : Name × Stated). z.1) (same_Some _ _ (sym e ∙ ap outer_of same ∙ f))
 
   spelled_outer : (as_ : List (Ask A)) (n : Name) (x : Stated) → outer_of as_ ≡ Some (n, x) → n ≡ spelled as_
   spelled_outer as_ n x e = go (kept (asked_in as_)) e
     where
       go : (o : Option Stated) → option_map {U = Name × Stated} (λ (z : Stated). (spelled as_, identified (spelled as_) (asked_in as_) z)) o ≡ Some (n, x) → n ≡ spelled as_
-      go None q = absurd (none_is q)
-      go (Some z) q = sym (ap (λ (w : Name × Stated). w.0) (some_is q))
+      go None q = absurd (none-some _ q)
+      go (Some z) q = sym (ap (λ (w : Name × Stated). w.0) (same_Some _ _ q))
 
   -- what one more ask adds
   record Added (found more : List (Name × Stated)) (a : Ask A) : Type 0 where
@@ -213,7 +195,7 @@ module _ {A : Type 0} (asks : List (Ask A)) where
         of_asks = h;
         kept = λ k z r. r;
         there = λ k z r.
-            let own : (n, x) ≡ (k, z) = some_is (sym e ∙ r) in
+            let own : (n, x) ≡ (k, z) = same_Some _ _ (sym e ∙ r) in
             let b = h n y q in
             let same : y ≡ x = one_outer b.0 a n y x b.1 m b.2 e b.3 (spelled_outer (class asks a) n x e) in
             subst (λ (w : Name × Stated). value_at found w.0 ≡ Some w.1) own (q ∙ ap Some same);
@@ -225,12 +207,12 @@ module _ {A : Type 0} (asks : List (Ask A)) where
         ];
         kept = λ k z r. value_kept found ((n, x) ∷ []) k z r;
         there = λ k z r.
-            let own : (n, x) ≡ (k, z) = some_is (sym e ∙ r) in
+            let own : (n, x) ≡ (k, z) = same_Some _ _ (sym e ∙ r) in
             subst (λ (w : Name × Stated). value_at (found ++ (n, x) ∷ []) w.0 ≡ Some w.1) own (value_there found n x q);
       }
 
       go : (o : Option (Name × Stated)) → outer_of (class asks a) ≡ o → Added found (with_new found o) a
-      go None e = record { of_asks = h; kept = λ n x r. r; there = λ n x r. absurd (none_is (sym e ∙ r)) }
+      go None e = record { of_asks = h; kept = λ n x r. r; there = λ n x r. absurd (none-some _ (sym e ∙ r)) }
       go (Some o) e = new o.0 o.1 e (value_at found o.0) refl
 
   all_there : (found : List (Name × Stated)) (as_ : List (Ask A)) → AreOfAsks found → ((b : Ask A) → Among b as_ → Among b asks)
@@ -252,12 +234,12 @@ module _ {A : Type 0} (asks : List (Ask A)) where
 
   -- an outer import is that of an ask's class
   pub outer_of_ask : (n : Name) (x : Stated) → value_at (outer_imports asks) n ≡ Some x → (a : Ask A) × Among a asks × (outer_of (class asks a) ≡ Some (n, x))
-  outer_of_ask n x e = let b = all_of [] asks (λ k z r. absurd (none_is r)) (λ b k. k) n x e in (b.0, b.1, b.2)
+  outer_of_ask n x e = let b = all_of [] asks (λ k z r. absurd (none-some _ r)) (λ b k. k) n x e in (b.0, b.1, b.2)
 
   -- two outer imports whose names are compatible are one
   apart : (n m : Name) (x y : Stated) → value_at (outer_imports asks) n ≡ Some x → value_at (outer_imports asks) m ≡ Some y → compatible n m ≡ true → n ≡ m
   apart n m x y e f h =
-      let all = all_of [] asks (λ k z r. absurd (none_is r)) (λ b k. k) in
+      let all = all_of [] asks (λ k z r. absurd (none-some _ r)) (λ b k. k) in
       let a = all n x e in
       let b = all m y f in
       let c = spelled_among (class asks a.0) a.0 (class_itself a.0 a.1) in
@@ -284,7 +266,7 @@ module _ {A : Type 0} (asks : List (Ask A)) where
 
 pub asks_are_met : {A : Type 0} (asks : List (Ask A)) (a : Ask A) (n : Name) (x : Stated) → Among a asks → outer_of (class asks a) ≡ Some (n, x) → (spelling asks a.name ≡ n) × (value_at (outer_imports asks) n ≡ Some x) × Fits (tree x) (tree a.item)
 asks_are_met asks a n x m e =
-    let found = (all_there asks [] asks (λ k z r. absurd (none_is r)) (λ b k. k)).1 a n x m e in
+    let found = (all_there asks [] asks (λ k z r. absurd (none-some _ r)) (λ b k. k)).1 a n x m e in
     (spelling_is asks a m ∙ sym (spelled_outer asks (class asks a) n x e), found, outer_fits (class asks a) n x e a (class_itself asks a m))
 
 pub outers_are_apart : {A : Type 0} (asks : List (Ask A)) (n m : Name) (x y : Stated) → value_at (outer_imports asks) n ≡ Some x → value_at (outer_imports asks) m ≡ Some y → compatible n m ≡ true → n ≡ m

@@ -14,7 +14,8 @@ use Rattle.wac_composition.specs.Names.{greatest}
 use Rattle.wac_composition.specs.Classes.{joined, near, within_steps, class, spelled, spelling}
 use Rattle.wac_composition.specs.Merging.{kept, identified}
 use Rattle.wac_composition.specs.OuterImports.{with_new, asked_in, outer_of, outers_from, outer_imports}
-use Rattle.wac_composition.specs.Conflicts.{Cause, Unwritable, ImportNames, ExportNames, or_else, first_found, dependency_name, same_key, each_once, dependencies_of, implicit_with, implicit_by, implicit_conflict, merge_cause, merge_fails, those_in, merge_conflict, cause_at, placed, unwritable_cause, first_cause, twins, alike, import_names, name_cause}
+use Rattle.wac_composition.specs.Circles.{as_written}
+use Rattle.wac_composition.specs.Conflicts.{Cause, Unwritable, ImportNames, ExportNames, or_else, first_found, dependency_name, same_key, each_once, dependencies_of, implicit_with, implicit_by, circle_cause, implicit_conflict, merge_cause, merge_fails, those_in, merge_conflict, cause_at, placed, unwritable_cause, first_cause, twins, alike, import_names, name_cause}
 use Rattle.wac_composition.specs.Writable.{outer_unwritable, definition_unwritable, package_unwritable, alias_unwritable}
 use Rattle.wac_composition.specs.Written.{without_uses}
 use Rattle.wac_composition.specs.Worlds.{then_in, final_type, source_of, world_exports, composed_world}
@@ -25,9 +26,6 @@ use Rattle.wac_composition.specs.Renaming.{origin_renamed, placed_renamed, ask_r
 map_twice : {X Y Z : Type 0} (v : Y → Z) (h : X → Y) (xs : List X) → map (λ x. v (h x)) xs ≡ map v (map h xs)
 map_twice v h [] = refl
 map_twice v h (x ∷ xs) = ap (λ l. v (h x) ∷ l) (map_twice v h xs)
-
-map_same : {X Y : Type 0} (v h : X → Y) → ((x : X) → v x ≡ h x) → (xs : List X) → map v xs ≡ map h xs
-map_same v h e xs = λ i. map (λ x. e x i) xs
 
 any_mapped : {X Y : Type 0} (v : X → Y) (p : Y → Bool) (xs : List X) → list_any p (map v xs) ≡ list_any (λ x. p (v x)) xs
 any_mapped v p [] = refl
@@ -265,13 +263,21 @@ module _ {A B : Type 0} (f : A → B) where
           (or_both (first_found (cause_at (outer_unwritable outers)) outers) _ (first_found (cause_at (outer_unwritable outers)) outers) _ (found_same (cause_at (outer_unwritable outers)) (cause_at (outer_unwritable outers)) (cause_here (outer_unwritable outers)) outers)
           (or_both _ _ _ _ definitions_ packages_))
 
+      circle_same : circle_cause (spelling (asks_of (renamed f g c))) (outer_imports (asks_of (renamed f g c))) ≡ option_map as_cause (circle_cause (spelling (asks_of c)) (outer_imports (asks_of c)))
+      circle_same =
+          let outers = outer_imports (asks_of c) in
+          (λ i. circle_cause (λ n. spelling_same g c n i) (outers_same g c i))
+          ∙ found_same (cause_at (outer_unwritable outers)) (cause_at (outer_unwritable outers)) (cause_here (outer_unwritable outers)) (as_written (spelling (asks_of c)) outers)
+
       cause_same : (define : Bool) → first_cause define (renamed f g c) ≡ option_map as_cause (first_cause define c)
       cause_same define =
           or_both _ _ (implicit_conflict c.imports (asks_of c)) _
           (ap (implicit_conflict (map (placed_renamed f) c.imports)) (asks_renamed g c) ∙ conflict_renamed c.imports (asks_of c))
           (or_both _ _ (merge_conflict (asks_of c) [] (asks_of c)) _
           ((λ i. merge_conflict (asks_renamed g c i) [] (asks_renamed g c i)) ∙ merges_renamed (asks_of c) [] (asks_of c))
-          (ap (unwritable_cause define (renamed f g c)) (outers_same g c) ∙ unwritable_renamed define (outer_imports (asks_of c))))
+          (or_both _ _ (unwritable_cause define c (outer_imports (asks_of c))) _
+          (ap (unwritable_cause define (renamed f g c)) (outers_same g c) ∙ unwritable_renamed define (outer_imports (asks_of c)))
+          circle_same))
 
       exported_same : map (λ (e : Name × Origin J × Stated). e.0) (map (λ (e : Name × Origin I × Stated). (e.0, origin_renamed g e.1, e.2)) c.exports) ≡ map (λ (e : Name × Origin I × Stated). e.0) c.exports
       exported_same = sym (map_twice (λ (e : Name × Origin J × Stated). e.0) (λ (e : Name × Origin I × Stated). (e.0, origin_renamed g e.1, e.2)) c.exports)

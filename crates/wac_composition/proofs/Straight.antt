@@ -1,5 +1,6 @@
 -- What asks keep has the tree of an instance only where it is one.
 use Rattle.std.specs.Prelude.{drop, is_none, not, filter, if◌then◌else◌, ◌&&◌}
+use Rattle.std.proofs.lemmas.Option.{none-some, same_Some}
 use Rattle.std.proofs.Common.{◌≡◌, List, [], ◌∷◌, ◌++◌, map, length, Bool, true, false, true≢false, Option, Some, None, inl, inr, refl, sym, ap, subst, ◌∙◌}
 use Rattle.wac_types_base.specs.Entries.{Name, value_at}
 use Rattle.wac_types_base.specs.Graph.{Wholes, node, no_more, more, hole, Among}
@@ -14,16 +15,12 @@ use Rattle.wac_composition.specs.Tests.{fits}
 use Rattle.wac_composition.specs.Merging.{Merge, merged_with, merged_exports, has_use, merged_interface, merge_at, merge, Asked, narrower, in_family, kept_from, kept, identified_by, identified}
 use Rattle.wac_composition.specs.OuterImports.{asked_in, outer_of, outer_imports}
 use Rattle.wac_composition.specs.Sound.{IsStraight, an_instance, no_instance}
-use Rattle.wac_composition.proofs.KeptFits.{instance_tree, both_is, if_is, mapped_is, merge_fits, no_more_kept}
-use Rattle.wac_composition.proofs.Clashing.{value_among, among_append, own_exports, made_exports}
+use Rattle.wac_composition.proofs.KeptFits.{instance_tree, both_is, if_is, merge_fits, no_more_kept}
+use Rattle.wac_composition.proofs.Clashing.{value_among, among_append, own_exports}
 use Rattle.wac_composition.proofs.Closures.{filter_among}
 use Rattle.wac_composition.proofs.OuterClasses.{within, outer_of_ask}
-
-some_is : {A : Type 0} {x y : A} → Some x ≡ Some y → x ≡ y
-some_is e = cc
-
-none_is : {A : Type 0} {x : A} → None ≡ Some x → ⊥
-none_is e = cc
+use Rattle.wac_types_fit.proofs.Meeting.{mapped-some}
+use Rattle.wac_types_base.proofs.Made.{made_exports}
 
 -- ---- what is no instance by its kind is none by its tree
 
@@ -116,12 +113,12 @@ drop_straight (u ∷ us) (None ∷ os) h = drop_straight us os h
 drop_straight (u ∷ us) (Some x ∷ os) h = drop_straight us os h.1
 
 with_straight : (x : Stated) (m : Merge) (o : Option Stated) (z : Stated) → StraightBoth x m → IsStraight x → ((y : Stated) → o ≡ Some y → IsStraight y) → merged_with m x o ≡ Some z → IsStraight z
-with_straight x m None z h r k e = subst IsStraight (some_is e) r
+with_straight x m None z h r k e = subst IsStraight (same_Some _ _ e) r
 with_straight x m (Some y) z h r k e = h r y (k y refl) z e
 
 merged_straight : (es : List (Name × (Stated × Merge))) (fs xs : List (Name × Stated)) → AllStraight es → merged_exports es fs ≡ Some xs → ((n : Name) (x : Stated) → Among (n, x) (first_parts es) → IsStraight x)
     → ((n : Name) (y : Stated) → value_at fs n ≡ Some y → IsStraight y) → (n : Name) (z : Stated) → Among (n, z) xs → IsStraight z
-merged_straight [] fs xs h e a b n z m = absurd (subst (Among (n, z)) (sym (some_is e)) m)
+merged_straight [] fs xs h e a b n z m = absurd (subst (Among (n, z)) (sym (same_Some _ _ e)) m)
 merged_straight (e ∷ es) fs xs h q a b n z m =
     let w = both_is (λ x ys. (e.0, x) ∷ ys) (merged_with e.1.1 e.1.0 (value_at fs e.0)) (merged_exports es fs) xs q in
     elim (subst (Among (n, z)) (sym w.4) m) [
@@ -153,7 +150,7 @@ module _ (i : Option Name) (us : List (Name × Option Name)) (es : List Name) (t
 
     made : (z : Stated) → merged_interface p y ≡ Some z → IsStraight z
     made z s =
-        let m = mapped_is (λ (xs : List (Name × Stated)). interface_of p.identifier uses (xs ++ rest)) (merged_exports p.exports (exports_of y)) z s in
+        let m = mapped-some (λ (xs : List (Name × Stated)). interface_of p.identifier uses (xs ++ rest)) (merged_exports p.exports (exports_of y)) z s in
         subst IsStraight m.2 (an_instance refl (λ n w a. each m.0 m.1 n w (subst (Among (n, w)) (made_exports p.identifier uses (m.0 ++ rest)) a)))
 
 interface_straight : (i : Option Name) (us : List (Name × Option Name)) (es : List Name) (ts : Wholes Shape) → RowStraight (folded_row merge_at ts) → StraightBoth (node (interface i us es) ts) (merge_at (interface i us es) (folded_row merge_at ts))
@@ -182,16 +179,16 @@ narrower_straight : (x : Stated) → StraightBoth x (narrower x)
 narrower_straight x r y q z e = go (fits x y) (fits y x) e
   where
     go : (a b : Bool) → (if a then Some x else (if b then Some y else None)) ≡ Some z → IsStraight z
-    go true b e = subst IsStraight (some_is e) r
-    go false true e = subst IsStraight (some_is e) q
-    go false false e = absurd (none_is e)
+    go true b e = subst IsStraight (same_Some _ _ e) r
+    go false true e = subst IsStraight (same_Some _ _ e) q
+    go false false e = absurd (none-some _ e)
 
 step_straight : (b : Bool) (x : Stated) → StraightBoth x (λ y. if b then merge x y else narrower x y)
 step_straight true x = merge_straight x
 step_straight false x = narrower_straight x
 
 from_straight : (before : List Asked) (x : Stated) (as_ : List Asked) (z : Stated) → IsStraight x → ((a : Asked) → Among a as_ → IsStraight a.1) → kept_from before (Some x) as_ ≡ Some z → IsStraight z
-from_straight before x [] z r h e = subst IsStraight (some_is e) r
+from_straight before x [] z r h e = subst IsStraight (same_Some _ _ e) r
 from_straight before x (a ∷ as_) z r h e = go (λ w i q. from_straight (before ++ a ∷ []) w as_ z i (λ b m. h b (inr m)) q) (if in_family (before ++ a ∷ []) then merge x a.1 else narrower x a.1) refl e
   where
     go : ((w : Stated) → IsStraight w → kept_from (before ++ a ∷ []) (Some w) as_ ≡ Some z → IsStraight z) → (o : Option Stated) → (if in_family (before ++ a ∷ []) then merge x a.1 else narrower x a.1) ≡ o
@@ -200,7 +197,7 @@ from_straight before x (a ∷ as_) z r h e = go (λ w i q. from_straight (before
     go further (Some w) q s = further w (step_straight (in_family (before ++ a ∷ [])) x r a.1 (h a (inl refl)) w q) s
 
 kept_straight : (asks : List Asked) (z : Stated) → ((a : Asked) → Among a asks → IsStraight a.1) → kept asks ≡ Some z → IsStraight z
-kept_straight [] z h e = absurd (none_is e)
+kept_straight [] z h e = absurd (none-some _ e)
 kept_straight (a ∷ asks) z h e = from_straight (a ∷ []) a.1 asks z (h a (inl refl)) (λ b m. h b (inr m)) e
 
 identified_straight : (n : Name) (as_ : List Asked) (x : Stated) → IsStraight x → IsStraight (identified n as_ x)
@@ -220,7 +217,7 @@ asked_straight (a ∷ as_) h b (inr m) = asked_straight as_ (λ c k. h c (inr k)
 
 class_straight : {A : Type 0} (as_ : List (Ask A)) → ((a : Ask A) → Among a as_ → IsStraight a.item) → (n : Name) (x : Stated) → outer_of as_ ≡ Some (n, x) → IsStraight x
 class_straight as_ h n x e =
-    let k = mapped_is {B = Name × Stated} (λ (y : Stated). (spelled as_, identified (spelled as_) (asked_in as_) y)) (kept (asked_in as_)) (n, x) e in
+    let k = mapped-some {B = Name × Stated} (λ (y : Stated). (spelled as_, identified (spelled as_) (asked_in as_) y)) (kept (asked_in as_)) (n, x) e in
     subst IsStraight (ap (λ (q : Name × Stated). q.1) k.2) (identified_straight (spelled as_) (asked_in as_) k.0 (kept_straight (asked_in as_) k.0 (asked_straight as_ h) k.1))
 
 -- where all that is asked is straight, so are the outer imports

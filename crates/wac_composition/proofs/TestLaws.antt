@@ -1,5 +1,7 @@
 -- The tests of labels, stated types and trees say what they are to say.
 use Rattle.std.proofs.Common.{◌≡◌, Bool, true, false, List, [], ◌∷◌, Option, Some, None, refl, ap, subst}
+use Rattle.std.proofs.lemmas.Bool.{and_parts}
+use Rattle.std.specs.Cmp.Derive.{both_true}
 use Rattle.std.specs.Prelude.{◌&&◌, ◌==◌, bytes_eq}
 use Rattle.std.specs.Bool.{Decides}
 use Rattle.std.proofs.lemmas.Slice.Eq.{bytes_eq-Decides}
@@ -16,22 +18,14 @@ use Rattle.wac_types_base.specs.Collection.{Shape, primitive, tuple, list, fixed
 use Rattle.wac_types_base.specs.Tree.{Tree, rigid, instance, component, core_module, handle_own, handle_borrow, type_item, Row, end, place, gap, Fields, no_fields, field}
 use Rattle.wac_composition.specs.Tests.{lists_agree, options_agree, bools_agree, same_names, same_heap, same_reference, same_core_type, same_signature, same_number, same_extern, same_core_import, same_core_export, same_module, same_primitive, same_use, same_label, same_tree, same_row, same_fields}
 
-both : (a b : Bool) → (a && b) ≡ true → (a ≡ true) × (b ≡ true)
-both true b e = (refl, e)
-both false b e = absurd (cc e)
-
-and_true : (a b : Bool) → a ≡ true → b ≡ true → (a && b) ≡ true
-and_true true b e f = f
-and_true false b e f = absurd (cc e)
-
 and3 : (a b c : Bool) → a ≡ true → b ≡ true → c ≡ true → (a && b && c) ≡ true
-and3 a b c e f g = and_true (a && b) c (and_true a b e f) g
+and3 a b c e f g = both_true (both_true e f) g
 
 and4 : (a b c d : Bool) → a ≡ true → b ≡ true → c ≡ true → d ≡ true → (a && b && c && d) ≡ true
-and4 a b c d e f g h = and_true (a && b && c) d (and3 a b c e f g) h
+and4 a b c d e f g h = both_true (and3 a b c e f g) h
 
 and5 : (a b c d x : Bool) → a ≡ true → b ≡ true → c ≡ true → d ≡ true → x ≡ true → (a && b && c && d && x) ≡ true
-and5 a b c d x e f g h k = and_true (a && b && c && d) x (and4 a b c d e f g h) k
+and5 a b c d x e f g h k = both_true (and4 a b c d e f g h) k
 
 -- a test that says yes of equal things alone, and of each thing and itself
 pub record Tells {A : Type 0} (p : A → A → Bool) : Type 0 where
@@ -50,7 +44,7 @@ numbers_tell = record { only = λ x y. (Decides-eqb x y).0; itself = λ x. (Deci
 lists_only : {A : Type 0} (p : A → A → Bool) → Tells p → (xs ys : List A) → lists_agree p xs ys ≡ true → xs ≡ ys
 lists_only p t [] [] e = refl
 lists_only p t (x ∷ xs) (y ∷ ys) e =
-    let h = both (p x y) (lists_agree p xs ys) e in
+    let h = and_parts (p x y) (lists_agree p xs ys) e in
     let first = t.only x y h.0 in
     let rest = lists_only p t xs ys h.1 in
     λ i. first i ∷ rest i
@@ -59,7 +53,7 @@ lists_only p t (x ∷ xs) [] e = absurd (cc e)
 
 lists_itself : {A : Type 0} (p : A → A → Bool) → Tells p → (xs : List A) → lists_agree p xs xs ≡ true
 lists_itself p t [] = refl
-lists_itself p t (x ∷ xs) = and_true (p x x) (lists_agree p xs xs) (t.itself x) (lists_itself p t xs)
+lists_itself p t (x ∷ xs) = both_true (t.itself x) (lists_itself p t xs)
 
 lists_tell : {A : Type 0} (p : A → A → Bool) → Tells p → Tells (lists_agree p)
 lists_tell p t = record { only = lists_only p t; itself = lists_itself p t }
@@ -132,13 +126,13 @@ heap_itself HeapType.NoCont = refl
 
 reference_only : (a b : CoreRefType) → same_reference a b ≡ true → a ≡ b
 reference_only a b e =
-    let h = both (bools_agree a.nullable b.nullable) (same_heap a.heap_type b.heap_type) e in
+    let h = and_parts (bools_agree a.nullable b.nullable) (same_heap a.heap_type b.heap_type) e in
     let n = bools_only a.nullable b.nullable h.0 in
     let t = heap_only a.heap_type b.heap_type h.1 in
     λ i. record { nullable = n i; heap_type = t i }
 
 reference_itself : (a : CoreRefType) → same_reference a a ≡ true
-reference_itself a = and_true (bools_agree a.nullable a.nullable) (same_heap a.heap_type a.heap_type) (bools_itself a.nullable) (heap_itself a.heap_type)
+reference_itself a = both_true (bools_itself a.nullable) (heap_itself a.heap_type)
 
 reference_tells : Tells same_reference
 reference_tells = record { only = reference_only; itself = reference_itself }
@@ -168,13 +162,13 @@ core_types_tell = lists_tell same_core_type core_type_tells
 
 signature_only : (f g : CoreFuncType) → same_signature f g ≡ true → f ≡ g
 signature_only f g e =
-    let h = both (lists_agree same_core_type f.params g.params) (lists_agree same_core_type f.results g.results) e in
+    let h = and_parts (lists_agree same_core_type f.params g.params) (lists_agree same_core_type f.results g.results) e in
     let p = core_types_tell.only f.params g.params h.0 in
     let r = core_types_tell.only f.results g.results h.1 in
     λ i. record { params = p i; results = r i }
 
 signature_itself : (f : CoreFuncType) → same_signature f f ≡ true
-signature_itself f = and_true (lists_agree same_core_type f.params f.params) (lists_agree same_core_type f.results f.results) (core_types_tell.itself f.params) (core_types_tell.itself f.results)
+signature_itself f = both_true (core_types_tell.itself f.params) (core_types_tell.itself f.results)
 
 bounds_tell : Tells (options_agree same_number)
 bounds_tell = options_tell same_number numbers_tell
@@ -182,10 +176,10 @@ bounds_tell = options_tell same_number numbers_tell
 extern_only : (a b : CoreExtern) → same_extern a b ≡ true → a ≡ b
 extern_only (CoreExtern.Func f) (CoreExtern.Func g) e = ap CoreExtern.Func (signature_only f g e)
 extern_only (CoreExtern.Table r i m w s) (CoreExtern.Table q j n v t) e =
-    let a = both (same_reference r q && (i == j) && options_agree same_number m n && bools_agree w v) (bools_agree s t) e in
-    let b = both (same_reference r q && (i == j) && options_agree same_number m n) (bools_agree w v) a.0 in
-    let c = both (same_reference r q && (i == j)) (options_agree same_number m n) b.0 in
-    let d = both (same_reference r q) (i == j) c.0 in
+    let a = and_parts (same_reference r q && (i == j) && options_agree same_number m n && bools_agree w v) (bools_agree s t) e in
+    let b = and_parts (same_reference r q && (i == j) && options_agree same_number m n) (bools_agree w v) a.0 in
+    let c = and_parts (same_reference r q && (i == j)) (options_agree same_number m n) b.0 in
+    let d = and_parts (same_reference r q) (i == j) c.0 in
     let x = reference_only r q d.0 in
     let y = numbers_tell.only i j d.1 in
     let z = bounds_tell.only m n c.1 in
@@ -193,10 +187,10 @@ extern_only (CoreExtern.Table r i m w s) (CoreExtern.Table q j n v t) e =
     let l = bools_only s t a.1 in
     λ o. CoreExtern.Table (x o) (y o) (z o) (k o) (l o)
 extern_only (CoreExtern.Memory w s i m p) (CoreExtern.Memory v t j n q) e =
-    let a = both (bools_agree w v && bools_agree s t && (i == j) && options_agree same_number m n) (options_agree same_number p q) e in
-    let b = both (bools_agree w v && bools_agree s t && (i == j)) (options_agree same_number m n) a.0 in
-    let c = both (bools_agree w v && bools_agree s t) (i == j) b.0 in
-    let d = both (bools_agree w v) (bools_agree s t) c.0 in
+    let a = and_parts (bools_agree w v && bools_agree s t && (i == j) && options_agree same_number m n) (options_agree same_number p q) e in
+    let b = and_parts (bools_agree w v && bools_agree s t && (i == j)) (options_agree same_number m n) a.0 in
+    let c = and_parts (bools_agree w v && bools_agree s t) (i == j) b.0 in
+    let d = and_parts (bools_agree w v) (bools_agree s t) c.0 in
     let x = bools_only w v d.0 in
     let y = bools_only s t d.1 in
     let z = numbers_tell.only i j c.1 in
@@ -204,8 +198,8 @@ extern_only (CoreExtern.Memory w s i m p) (CoreExtern.Memory v t j n q) e =
     let l = bounds_tell.only p q a.1 in
     λ o. CoreExtern.Memory (x o) (y o) (z o) (k o) (l o)
 extern_only (CoreExtern.Global a m s) (CoreExtern.Global b n t) e =
-    let f = both (same_core_type a b && bools_agree m n) (bools_agree s t) e in
-    let g = both (same_core_type a b) (bools_agree m n) f.0 in
+    let f = and_parts (same_core_type a b && bools_agree m n) (bools_agree s t) e in
+    let g = and_parts (same_core_type a b) (bools_agree m n) f.0 in
     let x = core_type_only a b g.0 in
     let y = bools_only m n g.1 in
     let z = bools_only s t f.1 in
@@ -222,8 +216,8 @@ extern_itself (CoreExtern.Tag f) = signature_itself f
 
 core_import_only : (a b : (Name × Name) × CoreExtern) → same_core_import a b ≡ true → a ≡ b
 core_import_only a b e =
-    let f = both (bytes_eq a.0.0 b.0.0 && bytes_eq a.0.1 b.0.1) (same_extern a.1 b.1) e in
-    let g = both (bytes_eq a.0.0 b.0.0) (bytes_eq a.0.1 b.0.1) f.0 in
+    let f = and_parts (bytes_eq a.0.0 b.0.0 && bytes_eq a.0.1 b.0.1) (same_extern a.1 b.1) e in
+    let g = and_parts (bytes_eq a.0.0 b.0.0) (bytes_eq a.0.1 b.0.1) f.0 in
     let x = names_tell.only a.0.0 b.0.0 g.0 in
     let y = names_tell.only a.0.1 b.0.1 g.1 in
     let z = extern_only a.1 b.1 f.1 in
@@ -240,13 +234,13 @@ core_imports_tell = lists_tell same_core_import imports_tell
 
 core_export_only : (a b : Name × CoreExtern) → same_core_export a b ≡ true → a ≡ b
 core_export_only a b e =
-    let f = both (bytes_eq a.0 b.0) (same_extern a.1 b.1) e in
+    let f = and_parts (bytes_eq a.0 b.0) (same_extern a.1 b.1) e in
     let x = names_tell.only a.0 b.0 f.0 in
     let z = extern_only a.1 b.1 f.1 in
     λ o. (x o, z o)
 
 core_export_itself : (a : Name × CoreExtern) → same_core_export a a ≡ true
-core_export_itself a = and_true (bytes_eq a.0 a.0) (same_extern a.1 a.1) (names_tell.itself a.0) (extern_itself a.1)
+core_export_itself a = both_true (names_tell.itself a.0) (extern_itself a.1)
 
 pub exports_tell : Tells same_core_export
 exports_tell = record { only = core_export_only; itself = core_export_itself }
@@ -256,13 +250,13 @@ core_exports_tell = lists_tell same_core_export exports_tell
 
 module_only : (m n : ModuleType) → same_module m n ≡ true → m ≡ n
 module_only m n e =
-    let f = both (lists_agree same_core_import m.imports n.imports) (lists_agree same_core_export m.exports n.exports) e in
+    let f = and_parts (lists_agree same_core_import m.imports n.imports) (lists_agree same_core_export m.exports n.exports) e in
     let x = core_imports_tell.only m.imports n.imports f.0 in
     let y = core_exports_tell.only m.exports n.exports f.1 in
     λ o. record { imports = x o; exports = y o }
 
 module_itself : (m : ModuleType) → same_module m m ≡ true
-module_itself m = and_true (lists_agree same_core_import m.imports m.imports) (lists_agree same_core_export m.exports m.exports) (core_imports_tell.itself m.imports) (core_exports_tell.itself m.exports)
+module_itself m = both_true (core_imports_tell.itself m.imports) (core_exports_tell.itself m.exports)
 
 -- ---- labels
 
@@ -304,13 +298,13 @@ texts_tell = options_tell bytes_eq names_tell
 
 use_only : (a b : Name × Option Name) → same_use a b ≡ true → a ≡ b
 use_only a b e =
-    let f = both (bytes_eq a.0 b.0) (options_agree bytes_eq a.1 b.1) e in
+    let f = and_parts (bytes_eq a.0 b.0) (options_agree bytes_eq a.1 b.1) e in
     let x = names_tell.only a.0 b.0 f.0 in
     let y = texts_tell.only a.1 b.1 f.1 in
     λ o. (x o, y o)
 
 use_itself : (a : Name × Option Name) → same_use a a ≡ true
-use_itself a = and_true (bytes_eq a.0 a.0) (options_agree bytes_eq a.1 a.1) (names_tell.itself a.0) (texts_tell.itself a.1)
+use_itself a = both_true (names_tell.itself a.0) (texts_tell.itself a.1)
 
 uses_tell : Tells (lists_agree same_use)
 uses_tell = lists_tell same_use (record { only = use_only; itself = use_itself })
@@ -332,21 +326,21 @@ label_only future future e = refl
 label_only (resource m) (resource n) e = ap resource (names_tell.only m n e)
 label_only (resource_alias m) (resource_alias n) e = ap resource_alias (names_tell.only m n e)
 label_only (func ms a) (func ns b) e =
-    let f = both (same_names ms ns) (bools_agree a b) e in
+    let f = and_parts (same_names ms ns) (bools_agree a b) e in
     let x = same_names_tell.only ms ns f.0 in
     let y = bools_only a b f.1 in
     λ o. func (x o) (y o)
 label_only (interface i us es) (interface j vs fs) e =
-    let f = both (options_agree bytes_eq i j && lists_agree same_use us vs) (same_names es fs) e in
-    let g = both (options_agree bytes_eq i j) (lists_agree same_use us vs) f.0 in
+    let f = and_parts (options_agree bytes_eq i j && lists_agree same_use us vs) (same_names es fs) e in
+    let g = and_parts (options_agree bytes_eq i j) (lists_agree same_use us vs) f.0 in
     let x = texts_tell.only i j g.0 in
     let y = uses_tell.only us vs g.1 in
     let z = same_names_tell.only es fs f.1 in
     λ o. interface (x o) (y o) (z o)
 label_only (world i us is es) (world j vs js fs) e =
-    let f = both (options_agree bytes_eq i j && lists_agree same_use us vs && same_names is js) (same_names es fs) e in
-    let g = both (options_agree bytes_eq i j && lists_agree same_use us vs) (same_names is js) f.0 in
-    let h = both (options_agree bytes_eq i j) (lists_agree same_use us vs) g.0 in
+    let f = and_parts (options_agree bytes_eq i j && lists_agree same_use us vs && same_names is js) (same_names es fs) e in
+    let g = and_parts (options_agree bytes_eq i j && lists_agree same_use us vs) (same_names is js) f.0 in
+    let h = and_parts (options_agree bytes_eq i j) (lists_agree same_use us vs) g.0 in
     let x = texts_tell.only i j h.0 in
     let y = uses_tell.only us vs h.1 in
     let z = same_names_tell.only is js g.1 in
@@ -374,7 +368,7 @@ label_itself stream = refl
 label_itself future = refl
 label_itself (resource n) = names_tell.itself n
 label_itself (resource_alias n) = names_tell.itself n
-label_itself (func ns a) = and_true (same_names ns ns) (bools_agree a a) (same_names_tell.itself ns) (bools_itself a)
+label_itself (func ns a) = both_true (same_names_tell.itself ns) (bools_itself a)
 label_itself (interface i us es) = and3 (options_agree bytes_eq i i) (lists_agree same_use us us) (same_names es es) (texts_tell.itself i) (uses_tell.itself us) (same_names_tell.itself es)
 label_itself (world i us is es) = and4 (options_agree bytes_eq i i) (lists_agree same_use us us) (same_names is is) (same_names es es) (texts_tell.itself i) (uses_tell.itself us) (same_names_tell.itself is) (same_names_tell.itself es)
 label_itself (module_type m) = module_itself m
@@ -390,18 +384,18 @@ labels_tell = record { only = label_only; itself = label_itself }
 mutual
   tree_only : (t u : Tree) → same_tree t u ≡ true → t ≡ u
   tree_only (rigid s r) (rigid t q) e =
-      let f = both (same_label s t) (same_row r q) e in
+      let f = and_parts (same_label s t) (same_row r q) e in
       let x = label_only s t f.0 in
       let y = row_only r q f.1 in
       λ o. rigid (x o) (y o)
   tree_only (instance xs) (instance ys) e = ap instance (fields_only xs ys e)
   tree_only (component is es) (component js fs) e =
-      let f = both (same_fields is js) (same_fields es fs) e in
+      let f = and_parts (same_fields is js) (same_fields es fs) e in
       let x = fields_only is js f.0 in
       let y = fields_only es fs f.1 in
       λ o. component (x o) (y o)
   tree_only (core_module is es) (core_module js fs) e =
-      let f = both (lists_agree same_core_import is js) (lists_agree same_core_export es fs) e in
+      let f = and_parts (lists_agree same_core_import is js) (lists_agree same_core_export es fs) e in
       let x = core_imports_tell.only is js f.0 in
       let y = core_exports_tell.only es fs f.1 in
       λ o. core_module (x o) (y o)
@@ -414,7 +408,7 @@ mutual
   row_only end end e = refl
   row_only (gap r) (gap q) e = ap gap (row_only r q e)
   row_only (place t r) (place u q) e =
-      let f = both (same_tree t u) (same_row r q) e in
+      let f = and_parts (same_tree t u) (same_row r q) e in
       let x = tree_only t u f.0 in
       let y = row_only r q f.1 in
       λ o. place (x o) (y o)
@@ -423,8 +417,8 @@ mutual
   fields_only : (xs ys : Fields) → same_fields xs ys ≡ true → xs ≡ ys
   fields_only no_fields no_fields e = refl
   fields_only (field m t xs) (field n u ys) e =
-      let f = both (bytes_eq m n && same_tree t u) (same_fields xs ys) e in
-      let g = both (bytes_eq m n) (same_tree t u) f.0 in
+      let f = and_parts (bytes_eq m n && same_tree t u) (same_fields xs ys) e in
+      let g = and_parts (bytes_eq m n) (same_tree t u) f.0 in
       let x = names_tell.only m n g.0 in
       let y = tree_only t u g.1 in
       let z = fields_only xs ys f.1 in
@@ -433,10 +427,10 @@ mutual
 
 mutual
   tree_itself : (t : Tree) → same_tree t t ≡ true
-  tree_itself (rigid s r) = and_true (same_label s s) (same_row r r) (label_itself s) (row_itself r)
+  tree_itself (rigid s r) = both_true (label_itself s) (row_itself r)
   tree_itself (instance xs) = fields_itself xs
-  tree_itself (component is es) = and_true (same_fields is is) (same_fields es es) (fields_itself is) (fields_itself es)
-  tree_itself (core_module is es) = and_true (lists_agree same_core_import is is) (lists_agree same_core_export es es) (core_imports_tell.itself is) (core_exports_tell.itself es)
+  tree_itself (component is es) = both_true (fields_itself is) (fields_itself es)
+  tree_itself (core_module is es) = both_true (core_imports_tell.itself is) (core_exports_tell.itself es)
   tree_itself (handle_own t) = tree_itself t
   tree_itself (handle_borrow t) = tree_itself t
   tree_itself (type_item t) = tree_itself t
@@ -444,11 +438,11 @@ mutual
   row_itself : (r : Row) → same_row r r ≡ true
   row_itself end = refl
   row_itself (gap r) = row_itself r
-  row_itself (place t r) = and_true (same_tree t t) (same_row r r) (tree_itself t) (row_itself r)
+  row_itself (place t r) = both_true (tree_itself t) (row_itself r)
 
   fields_itself : (xs : Fields) → same_fields xs xs ≡ true
   fields_itself no_fields = refl
-  fields_itself (field m t xs) = and_true (bytes_eq m m && same_tree t t) (same_fields xs xs) (and_true (bytes_eq m m) (same_tree t t) (names_tell.itself m) (tree_itself t)) (fields_itself xs)
+  fields_itself (field m t xs) = both_true (both_true (names_tell.itself m) (tree_itself t)) (fields_itself xs)
 
 pub trees_tell : Tells same_tree
 trees_tell = record { only = tree_only; itself = tree_itself }

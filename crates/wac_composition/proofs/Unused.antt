@@ -8,7 +8,8 @@ use Rattle.wac_types_base.specs.Stated.{Stated, row, folded_row, places_in, with
 use Rattle.wac_types_base.specs.Tree.{Row, component, type_item, put, fields, past, tree_at, tree, trees}
 use Rattle.wac_composition.specs.Written.{found_in, world_without, without_at, without_uses}
 use Rattle.wac_composition.specs.Sound.{fields_of}
-use Rattle.wac_composition.proofs.KeptFits.{firsts, folded_firsts, fields_behind, row_again}
+use Rattle.wac_composition.proofs.KeptFits.{folded_firsts, fields_behind, row_again}
+use Rattle.wac_types_base.proofs.Made.{firsts}
 
 -- ---- what was found of the parts has their trees
 
@@ -92,7 +93,7 @@ drop_nil (suc n) = refl
 suc_plus : (m n : ℕ) → suc (m + n) ≡ suc m + n
 suc_plus m n = omega arith
 
-zero_plus : (n : ℕ) → n ≡ 0 + n
+pub zero_plus : (n : ℕ) → n ≡ 0 + n
 zero_plus n = omega arith
 
 drop_more : {A : Type 0} (j k : ℕ) (xs : List A) → drop k (drop j xs) ≡ drop (j + k) xs

@@ -5,10 +5,11 @@ use Rattle.wac_types_base.specs.Graph.{Among}
 use Rattle.wac_types_base.specs.Stated.{Stated, IsValue, kind_of}
 use Rattle.wac_composition.specs.Composition.{Placed, Composition}
 use Rattle.wac_composition.specs.Asks.{ByName, ToFill, Ask, asks_of}
-use Rattle.wac_composition.specs.Classes.{class}
+use Rattle.wac_composition.specs.Classes.{class, spelling}
 use Rattle.wac_composition.specs.Merging.{kept}
 use Rattle.wac_composition.specs.OuterImports.{asked_in, outer_imports}
 use Rattle.wac_composition.specs.Writable.{holder, as_defined}
+use Rattle.wac_composition.specs.Circles.{as_written}
 use Rattle.wac_composition.specs.NotWritten.{CannotBeWritten}
 use Rattle.wac_composition.specs.Conflicts.{Cause, ImplicitImport, ExplicitImport, ImportTypes, Unwritable, those_in, dependencies_of, first_cause}
 
@@ -29,6 +30,8 @@ module _ {A I : Type 0} (define : Bool) (c : Composition A I) where
     ask_unmerged : (a b : Ask A) → IsUnmerged a b → (a.asking ≡ ByName → ⊥) → StandsAgainst (ImportTypes a.name b.by a.by)
     alias_of_value : (n : Name) (x : Stated) → Among (n, x) c.aliases → kind_of x ≡ IsValue → StandsAgainst (Unwritable n)
     outer_import : (n : Name) (x : Stated) → Among (n, x) (outer_imports (asks_of c)) → CannotBeWritten true (holder [] (outer_imports (asks_of c))) n x → StandsAgainst (Unwritable n)
+    -- as it is written: of an import that waits for it nothing stands
+    in_circle : (n : Name) (x : Stated) → Among (n, x) (as_written (spelling (asks_of c)) (outer_imports (asks_of c))) → CannotBeWritten true (holder [] (outer_imports (asks_of c))) n x → StandsAgainst (Unwritable n)
     definition : (d : Placed A) → Among d c.definitions → CannotBeWritten false (holder [] (outer_imports (asks_of c))) d.name (as_defined d.item) → StandsAgainst (Unwritable d.name)
     imported_package : (n : Name) (x : Stated) → Among (n, x) (dependencies_of define c) → CannotBeWritten true (holder [] []) n x → StandsAgainst (Unwritable n)
 

@@ -8,10 +8,11 @@ use Rattle.wac_types_base.specs.Stated.{Stated}
 use Rattle.wac_types_names.specs.Keys.{Key}
 use Rattle.wac_composition.specs.Composition.{Placed, Made, Composition}
 use Rattle.wac_composition.specs.Asks.{Asking, ByName, ToFill, Ask, asks_of}
-use Rattle.wac_composition.specs.Classes.{class}
+use Rattle.wac_composition.specs.Classes.{class, spelling}
 use Rattle.wac_composition.specs.Merging.{kept}
 use Rattle.wac_composition.specs.OuterImports.{asked_in, outer_imports}
 use Rattle.wac_composition.specs.Writable.{outer_unwritable, definition_unwritable, package_unwritable, alias_unwritable}
+use Rattle.wac_composition.specs.Circles.{as_written}
 use Rattle.wac_composition.specs.Tests.{options_agree}
 
 pub data Cause (A : Type 0) : Type 0 where
@@ -111,12 +112,17 @@ module _ {A : Type 0} where
       (or_else (first_found (cause_at (definition_unwritable outers)) (placed c.definitions))
       (first_found (cause_at package_unwritable) (dependencies_of define c))))
 
+  -- an import that could be written but for those that it uses and that wait for it
+  abbrev pub circle_cause : (Name → Name) → List (Name × Stated) → Option (Cause A)
+  circle_cause spell outers = first_found (cause_at (outer_unwritable outers)) (as_written spell outers)
+
   -- the first cause but for sizes and for names that are alike
   abbrev pub first_cause : {I : Type 0} → Bool → Composition A I → Option (Cause A)
   first_cause define c =
       or_else (implicit_conflict c.imports (asks_of c))
       (or_else (merge_conflict (asks_of c) [] (asks_of c))
-      (unwritable_cause define c (outer_imports (asks_of c))))
+      (or_else (unwritable_cause define c (outer_imports (asks_of c)))
+      (circle_cause (spelling (asks_of c)) (outer_imports (asks_of c)))))
 
 -- ---- names that are alike
 

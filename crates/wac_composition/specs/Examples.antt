@@ -3,7 +3,7 @@ use Rattle.std.specs.Prelude.{ℕ, false, List, [], ◌∷◌, Some, None, codes
 use Rattle.wac_types_base.specs.declared.item.PrimitiveType.{PrimitiveType}
 use Rattle.wac_types_base.specs.Entries.{Name}
 use Rattle.wac_types_base.specs.Collection.{primitive, list, record_of, resource}
-use Rattle.wac_types_base.specs.Stated.{Stated, leaf, over, own, as_type, func_of, interface_of, world_of}
+use Rattle.wac_types_base.specs.Stated.{Stated, Used, leaf, over, own, as_type, func_of, interface_of, world_of}
 use Rattle.wac_types_names.specs.Keys.{Key}
 use Rattle.wac_composition.specs.Composition.{instance, projected, defined, Placed, Made, Composition}
 
@@ -172,3 +172,28 @@ given_renamed = instances (made_of 0 (codes "p:p") (importing ((codes "a:b/i", r
 
 abbrev pub holding : Stated → Stated
 holding x = world_of None [] [] ((codes "e", interface_of None [] ((codes "i", x) ∷ [])) ∷ [])
+
+-- ---- two interfaces that use each other, each by another version of it
+
+abbrev pub used_as : Name → Name → Stated → Used
+used_as n there x = record { name = n; there = Some there; interface = x }
+
+abbrev pub first_in_circle : Stated
+first_in_circle = interface_of (Some (codes "a:b/i@0.2.0"))
+    (used_as (codes "r") (codes "p") (named_instance (codes "a:b/t@0.2.0") ((codes "p", as_type number_record) ∷ [])) ∷ [])
+    ((codes "r", as_type number_record) ∷ [])
+
+abbrev pub second_in_circle : Stated → Stated
+second_in_circle x = interface_of (Some (codes "a:b/t@0.2.1"))
+    (used_as (codes "s") (codes "q") (named_instance (codes "a:b/i@0.2.1") ((codes "q", x) ∷ [])) ∷ [])
+    ((codes "s", x) ∷ [])
+
+abbrev pub in_circle_with : Stated → Composition ℕ ℕ
+in_circle_with x = instances (made_of 0 (codes "c:e") (importing ((codes "a:b/i@0.2.0", first_in_circle) ∷ (codes "a:b/t@0.2.1", second_in_circle x) ∷ [])) ∷ [])
+
+abbrev pub values_in_circle : Composition ℕ ℕ
+values_in_circle = in_circle_with (as_type number_record)
+
+-- a resource that is used under another name
+abbrev pub resource_in_circle : Composition ℕ ℕ
+resource_in_circle = in_circle_with (leaf (resource (codes "q")))

@@ -10,6 +10,7 @@ pub mod Again
 pub mod Written
 pub mod Writable
 pub mod NotWritten
+pub mod Circles
 pub mod Conflicts
 pub mod Against
 pub mod Worlds

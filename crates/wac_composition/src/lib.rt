@@ -17,6 +17,8 @@ ghost use Rattle.wac_types_base.specs.Stated.{Stated, interface_of};
 ghost use Rattle.wac_types_fit.specs.Ordered.{InOrder};
 ghost use Rattle.wac_composition.specs.Tests.{same_label, same_tree, fit, fits};
 ghost use Rattle.wac_composition.specs.Asks.{asks_of};
+ghost use Rattle.wac_composition.specs.Classes.{spelling};
+ghost use Rattle.wac_composition.specs.Circles.{written_names};
 ghost use Rattle.wac_composition.specs.OuterImports.{outer_imports};
 ghost use Rattle.wac_composition.specs.OuterLaws.{Classes_are_linked, Links_turn, Links_go_on, Kept_is_meet, None_are_kept, Outer_fits, Asks_are_met, Accepted_are_met, Outers_are_apart};
 ghost use Rattle.wac_composition.specs.Conflicts.{ImplicitImport, ExplicitImport, ImportTypes, Unwritable, ImportNames, first_cause, name_cause, dependencies_of};
@@ -28,7 +30,7 @@ ghost use Rattle.wac_composition.specs.Sound.{IsSound, IsWired};
 ghost use Rattle.wac_composition.specs.Worlds.{composed_world, used_world, source_of};
 ghost use Rattle.wac_composition.specs.Written.{without_uses};
 ghost use Rattle.wac_composition.specs.NotWritten.{Test_of_writing};
-ghost use Rattle.wac_composition.specs.Examples.{plain_func, named_instance, passing, older, newer, wider, using_types, types, one_instance, two_versions, clashing_versions, clashing_imports, one_identifier, used_interface, asked_twice, alike_names, nameless_resource, asked_value, twice_made, byte_list, defined_twice, lacks_used, given_another, given_renamed, holding};
+ghost use Rattle.wac_composition.specs.Examples.{plain_func, named_instance, passing, older, newer, wider, using_types, types, one_instance, two_versions, clashing_versions, clashing_imports, one_identifier, used_interface, asked_twice, alike_names, nameless_resource, asked_value, twice_made, byte_list, defined_twice, lacks_used, given_another, given_renamed, values_in_circle, resource_in_circle, holding};
 ghost use Rattle.wac_composition.specs.Outlines.{agrees};
 ghost use Rattle.wac_graph_bytes.specs.Wirings.{Tag, Definition};
 
@@ -131,6 +133,9 @@ pub fn examples()
     ensures lacks_used { first_cause true lacks_used ≡ Some (Unwritable (codes "c")) }
     ensures given_another { first_cause true given_another ≡ Some (Unwritable (codes "a:b/i")) }
     ensures given_renamed { first_cause true given_renamed ≡ Some (Unwritable (codes "a:b/i")) }
+    ensures circle_in_order { written_names (spelling (asks_of values_in_circle)) (outer_imports (asks_of values_in_circle)) ≡ codes "a:b/t@0.2.1" ∷ codes "a:b/i@0.2.1" ∷ [] }
+    ensures circle_of_values { first_cause true values_in_circle ≡ None }
+    ensures circle_with_resource { first_cause true resource_in_circle ≡ Some (Unwritable (codes "a:b/t@0.2.1")) }
     ensures keeps_identifiers { agrees (holding (named_instance newer wider)) (holding (named_instance newer wider)) ≡ true }
     ensures drops_identifiers { agrees (holding (interface_of None [] wider)) (holding (named_instance newer wider)) ≡ false }
     ensures imported_once { names_of (dependencies_of false twice_made) ≡ codes "unlocked-dep=<p:p>" ∷ [] }

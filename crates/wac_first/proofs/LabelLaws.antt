@@ -1,5 +1,6 @@
 -- A label is text.
 use Rattle.std.proofs.Common.{◌≡◌, ℕ, zero, suc, ◌<◌, Bool, true, false, List, [], ◌∷◌, length, take, drop, get_or, refl, sym, ap, ◌∙◌, arith, if◌then◌else◌}
+use Rattle.std.proofs.lemmas.Bool.{and_parts}
 use Rattle.std.specs.Prelude.{◌&&◌, ◌||◌, ◌==◌, ◌-◌}
 use Rattle.std.specs.Str.{IsUtf8}
 use Rattle.std.proofs.lemmas.Str.{IsUtf8-from_ascii}
@@ -7,10 +8,6 @@ use Rattle.std.proofs.lemmas.Str.Ascii.{IsAscii-from_all}
 use Rattle.std.proofs.lemmas.Bool.Decides.{nat_tests}
 use Rattle.wac_first.specs.Plain.{is_letter, is_digit, is_label, goes_on}
 use Rattle.wac_first.specs.FirstMeaning.{string_value}
-
-both : (a b : Bool) → (a && b) ≡ true → (a ≡ true) × (b ≡ true)
-both true b e = (refl, e)
-both false b e = absurd cc
 
 letter_below : (b : ℕ) → is_letter b ≡ true → b < 128
 letter_below b e = grind (arith, nat_tests)
@@ -30,14 +27,14 @@ step b bs true dash e label on =
     let small : b < 128 = grind (arith, nat_tests) in
     more b bs small (label e)
 step b bs false dash e label on =
-    let parts = both (is_letter b || is_digit b) (goes_on bs) e in
+    let parts = and_parts (is_letter b || is_digit b) (goes_on bs) e in
     more b bs (other_below b parts.0) (on parts.1)
 
 below : (bs : List ℕ) → (is_label bs ≡ true → Below bs) × (goes_on bs ≡ true → Below bs)
 below [] = (λ e. absurd cc, λ e k d h. absurd (omega (arith, h)))
 below (b ∷ bs) =
     let rest = below bs in (
-      λ e. more b bs (letter_below b (both (is_letter b) (goes_on bs) e).0) (rest.1 (both (is_letter b) (goes_on bs) e).1),
+      λ e. more b bs (letter_below b (and_parts (is_letter b) (goes_on bs) e).0) (rest.1 (and_parts (is_letter b) (goes_on bs) e).1),
       λ e. step b bs (b == 45) refl e rest.0 rest.1,
     )
 

@@ -1,13 +1,13 @@
 -- Reading a list of items from its front.
 use Rattle.wac_graph_bytes.specs.Typing.{◌>>=◌}
-use Rattle.std.proofs.Common.{◌≡◌, ℕ, zero, suc, ◌+◌, List, [], ◌∷◌, ◌++◌, drop, Option, Some, None, refl, ap, sym, ◌∙◌, append_assoc, arith, length, ◌≤◌, ◌<◌, take, get_or}
+use Rattle.std.proofs.Common.{◌≡◌, ℕ, ◌+◌, List, [], ◌∷◌, ◌++◌, drop, Option, Some, None, refl, ap, sym, ◌∙◌, append_assoc, length, ◌≤◌, ◌<◌, take, get_or}
 use Rattle.std.specs.Prelude.{option_map, slice_get}
 use Rattle.std.proofs.lemmas.List.{append-nil, take_more, map_push}
 use Rattle.wac_first.specs.declared.first.plain.PlainItem.{PlainItem}
 use Rattle.wac_first.specs.PlainViews.{item_view, items_view}
 use Rattle.std.proofs.Math.ListN.{drop_of_length-le}
 use Rattle.wac_first.specs.Plain.{each}
-use Rattle.std.proofs.lemmas.Option.{none-some, same_Some}
+use Rattle.wac_types_base.proofs.Used.{drop_next}
 
 -- the rest behind what has been read
 abbrev pub behind : {X : Type 0} → List X → Option (List X) → Option (List X)
@@ -21,22 +21,14 @@ pub behind-one : {X : Type 0} (xs : List X) (x : X) (o : Option (List X)) → be
 behind-one xs x None = refl
 behind-one xs x (Some ys) = ap Some (sym (append_assoc xs (x ∷ []) ys))
 
--- the item at a place, and those behind it
-pub drop_at_place : {X : Type 0} (xs : List X) (i : ℕ) (x : X) → slice_get xs i ≡ Some x → drop i xs ≡ x ∷ drop (i + 1) xs
-drop_at_place [] i x e = absurd (none-some _ e)
-drop_at_place (y ∷ xs) zero x e = ap (λ t. t ∷ xs) (same_Some _ _ e)
-drop_at_place (y ∷ xs) (suc i) x e =
-    let next : suc (i + 1) ≡ suc i + 1 = omega arith in
-    drop_at_place xs i x e ∙ ap (λ k. x ∷ drop k (y ∷ xs)) next
-
 -- ---- reading each
 
 pub each_none : {X Y : Type 0} (f : X → Option Y) (xs : List X) (front : List Y) (i : ℕ) (x : X) → each f xs ≡ behind front (each f (drop i xs)) → slice_get xs i ≡ Some x → f x ≡ None → None ≡ each f xs
-each_none f xs front i x so_far there none = sym (so_far ∙ ap (λ t. behind front (each f t)) (drop_at_place xs i x there) ∙ ap (λ o. behind front (o >>= λ y. option_map (λ ys. y ∷ ys) (each f (drop (i + 1) xs)))) none)
+each_none f xs front i x so_far there none = sym (so_far ∙ ap (λ t. behind front (each f t)) (drop_next xs i x there) ∙ ap (λ o. behind front (o >>= λ y. option_map (λ ys. y ∷ ys) (each f (drop (i + 1) xs)))) none)
 
 pub each_more : {X Y : Type 0} (f : X → Option Y) (xs : List X) (front more : List Y) (i : ℕ) (x : X) (y : Y) → each f xs ≡ behind front (each f (drop i xs)) → slice_get xs i ≡ Some x → f x ≡ Some y → more ≡ front ++ y ∷ [] → each f xs ≡ behind more (each f (drop (i + 1) xs))
 each_more f xs front more i x y so_far there some pushed =
-    so_far ∙ ap (λ t. behind front (each f t)) (drop_at_place xs i x there) ∙ ap (λ o. behind front (o >>= λ y. option_map (λ ys. y ∷ ys) (each f (drop (i + 1) xs)))) some
+    so_far ∙ ap (λ t. behind front (each f t)) (drop_next xs i x there) ∙ ap (λ o. behind front (o >>= λ y. option_map (λ ys. y ∷ ys) (each f (drop (i + 1) xs)))) some
     ∙ behind-one front y (each f (drop (i + 1) xs)) ∙ ap (λ t. behind t (each f (drop (i + 1) xs))) (sym pushed)
 
 pub each_all : {X Y : Type 0} (f : X → Option Y) (xs : List X) (front : List Y) (i : ℕ) → each f xs ≡ behind front (each f (drop i xs)) → length xs ≤ i → Some front ≡ each f xs

@@ -36,8 +36,9 @@ use Rattle.wac_graph_bytes.specs.Writing.{sections_fit}
 use Rattle.wac_graph_bytes.specs.Leb as leb
 use Rattle.wac_first.proofs.FirstSame.{nothing_same, one_same}
 use Rattle.wac_first.proofs.WorldLaws.{import_stands, export_stands}
-use Rattle.wac_first.proofs.WorldTrees.{bind_some, once, item_tree, under_is, rest_is, asked_trees, item_names}
+use Rattle.wac_first.proofs.WorldTrees.{once, item_tree, under_is, rest_is, asked_trees, item_names}
 use Rattle.wac_first.proofs.InstanceTrees.{past_used, past_items, get_item}
+use Rattle.wac_graph_bytes.proofs.Steps.{bind_some}
 
 -- a package that is found is one that the worlds are true of
 true_at : (ps : List Package) (worlds : Worlds) (n : Name) (p : Package) → package_named ps n ≡ Some p → AreTrue ps worlds → worlds (OfBytes p.bytes) ≡ instance_tree p

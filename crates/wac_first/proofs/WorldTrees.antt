@@ -20,15 +20,12 @@ use Rattle.std.proofs.lemmas.Option.{same_Some, none-some}
 use Rattle.wac_graph_bytes.specs.Typing.{◌>>=◌}
 use Rattle.wac_first.specs.Plain.{Plain, plain_params, plain_result, plain_func, plain_item, plain_under, plain_items, is_label}
 use Rattle.wac_first.specs.FirstEncoding.{primitive_tree, plain_row, answer_row, plain_tree, asked}
+use Rattle.wac_graph_bytes.proofs.Steps.{bind_some}
 
 deeper : (c : Collection) (n : ℕ) (k : ItemKind) (t : Whole Shape) → whole (item_node c) n k ≡ Some t → grow (item_node c k) (whole (item_node c) n) ≡ Some t
 unfolding whole
 deeper c zero k t h = absurd (none-some _ h)
 deeper c (suc n) k t h = grow-extends (item_node c k) (item_node c k) (whole (item_node c) n) (whole (item_node c) (suc n)) (whole-extends (item_node c) (item_node c) (λ r e p. p) n (suc n) (omega arith)) (λ e p. p) t h
-
-pub bind_some : {A B : Type 0} (o : Option A) (f : A → Option B) (y : B) → (o >>= f) ≡ Some y → (x : A) × (o ≡ Some x) × (f x ≡ Some y)
-bind_some (Some x) f y e = (x, refl, e)
-bind_some None f y e = absurd (none-some _ e)
 
 func_node : (c : Collection) (i : FuncTypeId) (f : FuncType) → slice_get c.func_types i.index ≡ Some f → i.collection ≡ c.number → item_node c (ItemKind.Func i) ≡ Some (func_entry f)
 unfolding item_node

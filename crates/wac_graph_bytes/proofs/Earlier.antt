@@ -1,6 +1,6 @@
 -- In a meaning each instance's sources name earlier instances only, and a nested string is shorter than the one around it.
 use Rattle.std.proofs.Common.{◌≡◌, ℕ, zero, suc, ◌+◌, ◌<◌, ◌≤◌, Bool, true, false, cond, List, [], ◌∷◌, ◌++◌, length, map, Option, Some, None, refl, sym, ap, ◌∙◌, subst, arith, inl, inr, length-append}
-use Rattle.std.specs.Prelude.{slice_get, ◌⊎◌, IsSome}
+use Rattle.std.specs.Prelude.{slice_get, ◌⊎◌}
 use Rattle.std.specs.Option.{option_map}
 use Rattle.std.specs.List.{AllByRecursion, flat_map}
 use Rattle.std.proofs.lemmas.List.{length_push}
@@ -17,6 +17,8 @@ use Rattle.wac_graph_bytes.specs.Typing.{◌>>=◌, Meaning, Item, Made, Part, K
 use Rattle.wac_graph_bytes.specs.Meaning.{source_of, tag_of, arguments_of, Listed, makes, adds, imports_one, exports_one, states, State, start, step, steps, source_at, instantiation, Means}
 use Rattle.wac_names.proofs.Parts.{some_of}
 use Rattle.wac_graph_bytes.proofs.Steps.{bind_some, some_is, states_keeps, core_kept}
+use Rattle.wac_types_base.proofs.Walking.{some_place}
+use Rattle.wac_types_base.proofs.GraphLemmas.{is_there}
 
 -- ---- what is kept: numbers below n, nested strings shorter than l
 
@@ -277,11 +279,6 @@ at_is : (o : Option Made_of) (x : Instantiation ℕ) → option_map instantiatio
 at_is (Some y) x e = (y, refl, some_is (instantiation y) x e)
 at_is None x e = absurd cc
 
-get_length : {X : Type 0} (xs : List X) (k : ℕ) (x : X) → slice_get xs k ≡ Some x → k < length xs
-get_length [] k x e = absurd cc
-get_length (y ∷ xs) zero x e = omega arith
-get_length (y ∷ xs) (suc k) x e = omega (arith, get_length xs k x e)
-
 get_there : (xs : List Made_of) (k : ℕ) → k < length xs → (y : Instantiation ℕ) × (option_map instantiation (slice_get xs k) ≡ Some y)
 get_there [] k lt = absurd (omega (arith, lt))
 get_there (x ∷ xs) zero lt = (instantiation x, refl)
@@ -307,10 +304,6 @@ all_weaker : {X : Type 0} {P Q : X → Type 0} → ((x : X) → P x → Q x) →
 all_weaker h [] a = tt
 all_weaker h (x ∷ xs) a = (h x a.0, all_weaker h xs a.1)
 
-some_there : {X : Type 0} (o : Option X) (x : X) → o ≡ Some x → IsSome o
-some_there (Some y) x e = refl
-some_there None x e = absurd cc
-
 module _ (w : Worlds) (bytes : List ℕ) (v : Wiring ℕ) (m : Means w bytes v) where
   abbrev l : Listed
   l = m.last.listed
@@ -326,7 +319,7 @@ module _ (w : Worlds) (bytes : List ℕ) (v : Wiring ℕ) (m : Means w bytes v) 
       let s = sound w bytes v m in
       let y = made_at k x e in
       let P : Source ℕ → Type 0 = λ a. IsPlain a × Uses (λ j. (j < k) × ((z : Instantiation ℕ) × (v.at j ≡ Some z))) a in
-      let lt = get_length l.instances k y.0 y.1 in
+      let lt = some_place l.instances k y.0 y.1 in
       let one : (a : Source ℕ) → Under k a → P a = λ a u. (named_plain a u.1, Uses-weaker (λ j h. (h, there j (omega (arith, h, lt)))) a u.0) in
       let h = source_has P y.0.1 n (tt, tt) (all_weaker (λ a u. one a.1 u) y.0.1 (s.instances k y.0 y.1).1) in
       subst (λ (x : Instantiation ℕ). P (x.args n)) y.2 h
@@ -341,8 +334,8 @@ module _ (w : Worlds) (bytes : List ℕ) (v : Wiring ℕ) (m : Means w bytes v) 
 
 pub ordered : (w : Worlds) (bytes : List ℕ) (v : Wiring ℕ) → Means w bytes v → IsOrdered v
 ordered w bytes v m = record {
-  args = λ k x e n. Uses-weaker (λ j h. (h.0, some_there (v.at j) h.1.0 h.1.1)) (x.args n) (args_under w bytes v m k x e n).1;
-  exports = λ n. Uses-weaker (λ j h. some_there (v.at j) h.0 h.1) (v.exports n) (exports_under w bytes v m n).1;
+  args = λ k x e n. Uses-weaker (λ j h. (h.0, is_there (v.at j) h.1.0 h.1.1)) (x.args n) (args_under w bytes v m k x e n).1;
+  exports = λ n. Uses-weaker (λ j h. is_there (v.at j) h.0 h.1) (v.exports n) (exports_under w bytes v m n).1;
 }
 
 pub closed : (w : Worlds) (bytes : List ℕ) (v : Wiring ℕ) → Means w bytes v → IsClosed v

@@ -1,12 +1,10 @@
 -- Wirings that are the same up to a renaming of instances.
 use Rattle.std.specs.Prelude.{slice_get}
+use Rattle.std.proofs.lemmas.Option.{same_Some}
 use Rattle.std.proofs.Common.{◌≡◌, ℕ, List, Option, Some, None, refl, sym, ap, ◌∙◌}
 use Rattle.wac_graph_bytes.specs.Wirings.{Source, Absent, Outer, Inst, Projection, Bundle, Definition, IsNamed, IsPlain, IsClosed, project, rename, renamed, Uses, Instantiation, Wiring, Same, IsWritten}
 use Rattle.wac_types_base.specs.Entries.{Name}
 use Rattle.wac_graph_bytes.proofs.Replace.{replace-replace, Uses-weaker, uses_any}
-
-some_is : {A : Type 0} {x y : A} → Some x ≡ Some y → x ≡ y
-some_is e = cc
 
 rename-rename : {I J K : Type 0} (f : I → J) (g : J → K) (s : Source I) → rename g (rename f s) ≡ rename (λ k. g (f k)) s
 rename-rename f g s = replace-replace Outer (λ j. Inst (g j)) Outer (λ k. Inst (f k)) s
@@ -59,7 +57,7 @@ module _ {I J : Type 0} (V : Wiring I) (W : Wiring J) (closed : IsClosed V) (r :
     there = λ j y e.
         let b = r.back j y e in
         let x = b.0 in
-        let is : renamed r.to x ≡ y = some_is (sym (r.there (r.from j) x b.1).1 ∙ ap W.at b.2 ∙ e) in
+        let is : renamed r.to x ≡ y = same_Some _ _ (sym (r.there (r.from j) x b.1).1 ∙ ap W.at b.2 ∙ e) in
         let turned : x ≡ renamed r.from (renamed r.to x) = λ i. record { tag = x.tag; args = λ n. sym (there_back (x.args n) (closed.args_plain (r.from j) x b.1 n) (closed.args_there (r.from j) x b.1 n)) i } in
         (b.2, b.1 ∙ ap Some (turned ∙ ap (renamed r.from) is));
     back = λ k x e. let t = r.there k x e in (renamed r.to x, t.1, t.0);

@@ -47,6 +47,9 @@ fn section_number(e: &Entry) -> u8
 pub fn push_entry(alloc: Global, out: &mut Vec<u8>, e: &Entry) -> Result<(), SizeError>
     ensures { Appends result out.old.items out.new.items (section_bytes (section_of (view e.now))) (entry_fits (view e.now)) }
 {
+    if let Entry::Nested(bytes) = e {
+        return push_framed(out, section_number(e), bytes);
+    }
     let mut inside = Vec::new(alloc);
     push_inside(&mut inside, e)?;
     push_framed(out, section_number(e), &inside)

@@ -17,8 +17,8 @@ use Rattle.wac_graph_core.specs.Graph.{Graph, node_at, ContainsNode, package_of,
 use Rattle.wac_graph_core.specs.Steps.{IsExternName, AddsEdge, Imports, Instantiates, Aliases, NodeFits, SetsArgument, UnsetsArgument}
 use Rattle.wac_graph_core.specs.Exporting.{IsExportName, Exports, IsTold, Unexports, Names, place_of}
 use Rattle.wac_graph_core.specs.Removing.{TakesNodes}
-use Rattle.wac_types_base.proofs.Walking.{Among-slice_get}
 use Rattle.wac_graph_core.proofs.ExportSteps.{IsGraph-named, IsGraph-exported, IsGraph-unexported, place_found, place_none, one_named}
+use Rattle.wac_types_base.proofs.Looked.{among-get}
 
 -- the node of an id that stands
 pub node_of : (g : Graph) (k : ℕ) → ContainsNode g k → (x : NodeData) × (node_at g k ≡ Some x)
@@ -128,7 +128,7 @@ module _ (g : Graph) where
         none = λ e. absurd (place_none g.exports n k (sym place ∙ e) (is.exported.named k x n there told));
         some = λ i e.
             let found = place_found g.exports n i (sym place ∙ e) in
-            let same : found.0 ≡ k = one_named g.exports n found.0 k is.exported.distinct (Among-slice_get g.exports i (n, found.0) found.1) (is.exported.named k x n there told) in
+            let same : found.0 ≡ k = one_named g.exports n found.0 k is.exported.distinct (among-get g.exports i (n, found.0) found.1) (is.exported.named k x n there told) in
             (n, told, subst (λ j. slice_get g.exports i ≡ Some (n, j)) same found.1);
       }
 

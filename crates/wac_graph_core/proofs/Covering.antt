@@ -8,8 +8,9 @@ use Rattle.wac_graph_core.specs.declared.edges.Ends.{Ends}
 use Rattle.wac_graph_core.specs.declared.spans.Span.{Span}
 use Rattle.wac_graph_core.specs.Spans.{Covers, LeadsAs}
 use Rattle.wac_graph_core.specs.Ends.{KnowsEnds}
-use Rattle.wac_graph_core.proofs.Found.{eq_true}
 use Rattle.wac_graph_core.proofs.PlaceSteps.{get_before, get_last, get_set, get_set_same, get_set_other}
+use Rattle.wac_types_base.proofs.Walking.{some_place}
+use Rattle.wac_types_base.proofs.Replacing.{same_number}
 
 -- ---- spans
 
@@ -63,13 +64,8 @@ module _ (ss : List Span) (ks : List ℕ) (key : ℕ) (f s : Span) (here : slice
     low = noted_low;
   }
 
-get_short : {X : Type 0} (xs : List X) (i : ℕ) (x : X) → slice_get xs i ≡ Some x → i < length xs
-get_short [] i x at = absurd (cc (at))
-get_short (y ∷ xs) zero x at = omega arith
-get_short (y ∷ xs) (suc i) x at = let less = get_short xs i x at in omega (arith, less)
-
 pub covers_noted : (ss : List Span) (ks : List ℕ) (key : ℕ) (f s : Span) → slice_get ss key ≡ Some f → s.first ≡ f.first → s.end ≡ length ks + 1 → Covers ss ks → Covers (slice_set ss key s) (ks ++ key ∷ [])
-covers_noted ss ks key f s here first end c = covers_with ss ks key f s here first end c (λ i k at. get_short ks i k at)
+covers_noted ss ks key f s here first end c = covers_with ss ks key f s here first end c (λ i k at. some_place ks i k at)
 
 -- ---- parts
 
@@ -111,14 +107,14 @@ module _ (end : Edge → ℕ) (es : List Edge) (ss : List Span) (k : ℕ) (c : C
       ap (filter (λ e. end e == k)) is
       ∙ part_between (λ e. end e == k) s.first s.end es (λ i e at same.
       let w = c.within i (end e) (map-get end es i e at) in
-      let one : w.0 ≡ s = same_span (sym w.1 ∙ ap (slice_get ss) (eq_true (end e) k same) ∙ there) in
+      let one : w.0 ≡ s = same_span (sym w.1 ∙ ap (slice_get ss) (same_number (end e) k same) ∙ there) in
       (subst (λ (x : Span). x.first ≤ i) one w.2, subst (λ (x : Span). i < x.end) one w.3))
 
   pub none_led : slice_get ss k ≡ None → LeadsAs end k es []
   none_led away =
       without_end (λ e. end e == k) zero es (λ i e at same.
       let w = c.within i (end e) (map-get end es i e at) in
-      let both : Some w.0 ≡ None = sym w.1 ∙ ap (slice_get ss) (eq_true (end e) k same) ∙ away in
+      let both : Some w.0 ≡ None = sym w.1 ∙ ap (slice_get ss) (same_number (end e) k same) ∙ away in
       absurd (cc (both)))
 
 -- ---- ends of edges

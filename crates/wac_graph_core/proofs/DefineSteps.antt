@@ -1,5 +1,6 @@
 -- A definition is added, with its dependencies.
 use Rattle.std.proofs.Common.{◌≡◌, ◌≢◌, ◌⊎◌, ℕ, true, List, [], ◌∷◌, ◌++◌, Some, None, IsSome, refl, sym, ap, subst, ◌∙◌, inl, inr}
+use Rattle.std.proofs.lemmas.Option.{same_Some}
 use Rattle.std.specs.FinMap as map
 use Rattle.wac_types_base.specs.declared.item.ItemKind.{ItemKind}
 use Rattle.wac_types_base.specs.declared.item.«Type».{«Type» as TypeKind}
@@ -16,11 +17,12 @@ use Rattle.wac_graph_core.specs.Graph.{Graph, node_at, NodeStands, EdgeStands, A
 use Rattle.wac_graph_core.specs.Defining.{UsesType, Depends, IsDependencyOf, DefinesType, MayDefine, IsUsedBy, IsUserOf, ItemsStand}
 use Rattle.wac_graph_core.proofs.Depending.{AddsEach}
 use Rattle.wac_graph_core.proofs.NodeMap.{get-insert_same}
-use Rattle.wac_graph_core.proofs.Found.{Among-last, Among-front, Among-end}
+use Rattle.wac_graph_core.proofs.Found.{Among-front, Among-end}
 use Rattle.wac_graph_core.proofs.NodeSteps.{kept_at, new_at, each_node, AreOnce-insert, IsAbove-fresh, some_there}
 use Rattle.wac_graph_core.proofs.EdgeSteps.{edge_from, edge_to, edge_label, IsAcyclic-by, AreKeyed-by}
 use Rattle.wac_graph_core.proofs.GraphSteps.{AreWired-by, same_places}
 use Rattle.wac_graph_core.proofs.ExportSteps.{not_among, distinct_last}
+use Rattle.wac_types_fit.proofs.Items.{Among-last}
 
 -- an edge is old, or a dependency between nodes that stand
 abbrev pub IsOldOrDependency : List Edge → NodeMap → Edge → Type 0
@@ -96,9 +98,6 @@ module _ (g : Graph) (es : List Edge) (k : ℕ) (t : TypeKind) (name : Name) (fr
 
 -- ---- as the call makes it
 
-some_is : {A : Type 0} {x y : A} → Some x ≡ Some y → x ≡ y
-some_is e = cc
-
 module _ (g : Graph) (k : ℕ) (t : TypeKind) (name : Name) (free : node_at g k ≡ None) (sources targets : List ℕ)
     (used : AreThose g.nodes (λ x. IsUsedBy g.types t x) sources) (users : AreThose g.nodes (λ x. IsUserOf g.types t x) targets) (mid es : List Edge)
     (first : AddsEach (λ a. dependency_edge a k) g.edges mid sources) (second : AddsEach (λ b. dependency_edge k b) mid es targets) where
@@ -160,7 +159,7 @@ module _ (g : Graph) (k : ℕ) (t : TypeKind) (name : Name) (free : node_at g k 
 
   type_here : (s : TypeKind) → IsDefinition m k (ItemKind.Ty s) → s ≡ t
   type_here s d =
-      let node : d.node ≡ defined_node t name = some_is (sym d.there ∙ here) in
+      let node : d.node ≡ defined_node t name = same_Some _ _ (sym d.there ∙ here) in
       let kinds : ItemKind.Ty s ≡ ItemKind.Ty t = sym d.type ∙ ap (λ (y : NodeData). y.item_kind) node in
       cc
 

@@ -4,8 +4,9 @@ use Rattle.wac_types_base.specs.Graph.{Among}
 use Rattle.std.proofs.lemmas.List.{take_more, take_all}
 use Rattle.wac_graph_core.specs.declared.edge.Edge.{Edge}
 use Rattle.wac_graph_core.specs.Edges.{has, AreEdges}
-use Rattle.wac_graph_core.proofs.Found.{Among-last, Among-front, Among-end}
+use Rattle.wac_graph_core.proofs.Found.{Among-front, Among-end}
 use Rattle.wac_graph_core.proofs.Walks.{has-push, has-kept, has_pushed}
+use Rattle.wac_types_fit.proofs.Items.{Among-last}
 
 module _ (made : ℕ → Edge) where
   -- one made of a node of the list

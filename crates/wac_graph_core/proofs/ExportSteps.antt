@@ -15,9 +15,10 @@ use Rattle.wac_graph_core.specs.Nodes.{NodeData}
 use Rattle.wac_graph_core.specs.Graph.{Graph, node_at, NodeStands, AreExports, IsGraph}
 use Rattle.wac_graph_core.specs.Exporting.{place_of}
 use Rattle.wac_graph_core.proofs.NodeMap.{get-insert_same}
-use Rattle.wac_graph_core.proofs.Found.{same_name, Among-last, Among-front, Among-end}
+use Rattle.wac_graph_core.proofs.Found.{same_name, Among-front, Among-end}
 use Rattle.wac_graph_core.proofs.NodeSteps.{new_at, each_node, AreOnce-below, IsBelow-written, IsAbove-written, some_there}
 use Rattle.wac_graph_core.proofs.GraphSteps.{AreWired-by, NodeStands-kept, same_places}
+use Rattle.wac_types_fit.proofs.Items.{Among-last}
 
 -- ---- names
 
@@ -30,7 +31,7 @@ not_among (e ∷ xs) n h m = by_test (pointwise ◌==◌ n e.0) (not_among xs n)
     by_test false ih is h (inl same) = absurd (cc (is, ap (pointwise ◌==◌ n) (sym same), same_name n))
     by_test false ih is h (inr m) = ih h m
 
-among_name : (xs : List (Name × ℕ)) (n : Name) (k : ℕ) → Among (n, k) xs → Among n (names_of xs)
+pub among_name : (xs : List (Name × ℕ)) (n : Name) (k : ℕ) → Among (n, k) xs → Among n (names_of xs)
 among_name [] n k m = absurd m
 among_name (e ∷ xs) n k (inl same) = inl (ap (λ (e : Name × ℕ). e.0) same)
 among_name (e ∷ xs) n k (inr m) = inr (among_name xs n k m)
@@ -133,9 +134,6 @@ got (y ∷ xs) zero x d at is =
     let same : y ≡ x = cc in
     is ∙ same
 got (y ∷ xs) (suc i) x d at is = got xs i x d at is
-
-pub within_list : {X : Type 0} (xs : List X) (i : ℕ) (x : X) → slice_get xs i ≡ Some x → i < length xs
-within_list xs i x at = (within xs i x at).0
 
 moved_front : {X : Type 0} (xs : List X) (i : ℕ) (x : X) → slice_get xs i ≡ Some x → IsPermutation xs (x ∷ swap_remove xs i x)
 moved_front xs i x at = let r = within xs i x at in IsPermutation-swap_remove xs i x r.0 r.1

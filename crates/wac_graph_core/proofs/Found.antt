@@ -1,5 +1,7 @@
 -- What searches for edges find, and what adding and dropping leave.
 use Rattle.std.proofs.Common.{◌≡◌, ◌≢◌, ◌⊎◌, ℕ, Bool, true, false, not, ◌&&◌, ◌==◌, List, [], ◌∷◌, ◌++◌, Option, Some, None, cond, filter, refl, sym, ap, subst, ◌∙◌, inl, inr, arith}
+use Rattle.std.proofs.lemmas.Bool.{and_parts}
+use Rattle.std.specs.Cmp.Derive.{both_true}
 use Rattle.std.proofs.lemmas.Bool.Decides.{nat_tests}
 use Rattle.std.specs.Option.{option_map, IfSome, IfNone}
 use Rattle.std.specs.Borrow.{Bor}
@@ -10,9 +12,8 @@ use Rattle.wac_graph_core.specs.declared.edge.Edge.{Edge}
 use Rattle.wac_graph_core.specs.declared.edge.Label.{Label}
 use Rattle.wac_graph_core.specs.Edges.{alias_edge, argument_edge, HasAlias, HasArgument, AreEdges, has, Stays}
 use Rattle.wac_graph_core.specs.Walking.{is_alias, is_argument, first_alias, first_argument, first_source, source_by, is_passed, is_apart}
-
-pub eq_true : (a b : ℕ) → (a == b) ≡ true → a ≡ b
-eq_true a b e = grind (arith, nat_tests)
+use Rattle.wac_types_base.proofs.Replacing.{same_number}
+use Rattle.wac_types_fit.proofs.Items.{Among-last}
 
 pub eq_same : (a : ℕ) → (a == a) ≡ true
 eq_same a = grind (arith, nat_tests)
@@ -23,13 +24,6 @@ eq_false a b ne = grind (arith, nat_tests)
 pub same_name : (m : Name) → pointwise ◌==◌ m m ≡ true
 same_name [] = refl
 same_name (x ∷ m) = ap (λ b. b && pointwise ◌==◌ m m) (eq_same x) ∙ same_name m
-
-pub and_true : (a b : Bool) → (a && b) ≡ true → (a ≡ true) × (b ≡ true)
-and_true true b h = (refl, h)
-and_true false b h = absurd (cc)
-
-pub true_and : (a b : Bool) → a ≡ true → b ≡ true → (a && b) ≡ true
-true_and a b p q = ap (λ x. x && b) p ∙ q
 
 not_true : (b : Bool) → b ≡ true → b ≡ false → ⊥
 not_true b p q = absurd (cc (p, q))
@@ -53,14 +47,14 @@ argument_label Label.Dependency n h = absurd (cc)
 -- ---- aliases
 
 alias_here : (i k : ℕ) (n : Name) (e : Edge) → alias_edge i k n ≡ e → ((e.from == i) && is_alias e.label n) ≡ true
-alias_here i k n e same = ap (λ (d : Edge). (d.from == i) && is_alias d.label n) (sym same) ∙ true_and (i == i) (pointwise ◌==◌ n n) (eq_same i) (same_name n)
+alias_here i k n e same = ap (λ (d : Edge). (d.from == i) && is_alias d.label n) (sym same) ∙ both_true (eq_same i) (same_name n)
 
 alias_at : (b : Bool) (e : Edge) (es : List Edge) (i k : ℕ) (n : Name) → ((e.from == i) && is_alias e.label n) ≡ b
     → (first_alias es i n ≡ Some k → HasAlias es i n k) → cond b (Some e.to) (first_alias es i n) ≡ Some k → HasAlias (e ∷ es) i n k
 alias_at true e es i k n is ih h =
-    let t = and_true (e.from == i) (is_alias e.label n) is in
+    let t = and_parts (e.from == i) (is_alias e.label n) is in
     let to : e.to ≡ k = cc in
-    inl (same_edge e i k (Label.Alias n) (eq_true e.from i t.0) to (alias_label e.label n t.1))
+    inl (same_edge e i k (Label.Alias n) (same_number e.from i t.0) to (alias_label e.label n t.1))
 alias_at false e es i k n is ih h = inr (ih h)
 
 pub alias_found : (es : List Edge) (i k : ℕ) (n : Name) → first_alias es i n ≡ Some k → HasAlias es i n k
@@ -80,14 +74,14 @@ no_alias (e ∷ es) i k n h m = no_alias_at ((e.from == i) && is_alias e.label n
 -- ---- arguments
 
 argument_here : (a i : ℕ) (n : Name) (e : Edge) → argument_edge a i n ≡ e → ((e.to == i) && is_argument e.label n) ≡ true
-argument_here a i n e same = ap (λ (d : Edge). (d.to == i) && is_argument d.label n) (sym same) ∙ true_and (i == i) (pointwise ◌==◌ n n) (eq_same i) (same_name n)
+argument_here a i n e same = ap (λ (d : Edge). (d.to == i) && is_argument d.label n) (sym same) ∙ both_true (eq_same i) (same_name n)
 
 argument_at : (b : Bool) (e : Edge) (es : List Edge) (i a : ℕ) (n : Name) → ((e.to == i) && is_argument e.label n) ≡ b
     → (first_argument es i n ≡ Some a → HasArgument es i n a) → cond b (Some e.from) (first_argument es i n) ≡ Some a → HasArgument (e ∷ es) i n a
 argument_at true e es i a n is ih h =
-    let t = and_true (e.to == i) (is_argument e.label n) is in
+    let t = and_parts (e.to == i) (is_argument e.label n) is in
     let from : e.from ≡ a = cc in
-    inl (same_edge e a i (Label.Argument n) from (eq_true e.to i t.0) (argument_label e.label n t.1))
+    inl (same_edge e a i (Label.Argument n) from (same_number e.to i t.0) (argument_label e.label n t.1))
 argument_at false e es i a n is ih h = inr (ih h)
 
 pub argument_found : (es : List Edge) (i a : ℕ) (n : Name) → first_argument es i n ≡ Some a → HasArgument es i n a
@@ -105,12 +99,6 @@ no_argument [] i a n h m = absurd m
 no_argument (e ∷ es) i a n h m = no_argument_at ((e.to == i) && is_argument e.label n) e es i a n refl (no_argument es i a n) h m
 
 -- ---- adding and dropping
-
-pub Among-last : {X : Type 0} (xs : List X) (x y : X) → Among y (xs ++ x ∷ []) → Among y xs ⊎ (y ≡ x)
-Among-last [] x y (inl e) = inr e
-Among-last [] x y (inr m) = absurd m
-Among-last (z ∷ xs) x y (inl e) = inl (inl e)
-Among-last (z ∷ xs) x y (inr m) = elim (Among-last xs x y m) [ inl h ↦ inl (inr h) | inr e ↦ inr e ]
 
 pub Among-front : {X : Type 0} (xs : List X) (x y : X) → Among y xs → Among y (xs ++ x ∷ [])
 Among-front [] x y m = absurd m
@@ -154,13 +142,13 @@ dropped old new p P is sound complete =
     (λ d. (λ m. ((filtered p old d m).0, sound d (filtered p old d m).1), λ m. passes p old d (complete d m.1) m.0))
 
 passed_here : (a i : ℕ) (n : Name) (d : Edge) → d ≡ argument_edge a i n → is_passed a i n d ≡ true
-passed_here a i n d same = ap (is_passed a i n) same ∙ true_and (a == a) _ (eq_same a) (true_and (i == i) _ (eq_same i) (same_name n))
+passed_here a i n d same = ap (is_passed a i n) same ∙ both_true (eq_same a) (both_true (eq_same i) (same_name n))
 
 passed_is : (a i : ℕ) (n : Name) (d : Edge) → is_passed a i n d ≡ true → d ≡ argument_edge a i n
 passed_is a i n d h =
-    let t = and_true (d.from == a) _ h in
-    let u = and_true (d.to == i) _ t.1 in
-    sym (same_edge d a i (Label.Argument n) (eq_true d.from a t.0) (eq_true d.to i u.0) (argument_label d.label n u.1))
+    let t = and_parts (d.from == a) _ h in
+    let u = and_parts (d.to == i) _ t.1 in
+    sym (same_edge d a i (Label.Argument n) (same_number d.from a t.0) (same_number d.to i u.0) (argument_label d.label n u.1))
 
 not_is : (b : Bool) → not b ≡ true → b ≡ true → ⊥
 not_is true p q = absurd (cc (p))
@@ -226,7 +214,7 @@ source_at true (Label.Alias m) e es k i n is label ih h =
     let pair : Some (e.from, m) ≡ Some (i, n) = h in
     let from : e.from ≡ i = ap (λ o. first_or o i) pair in
     let name : m ≡ n = ap (λ o. second_or o n) pair in
-    inl (same_edge e i k (Label.Alias n) from (eq_true e.to k is) (label ∙ ap Label.Alias name))
+    inl (same_edge e i k (Label.Alias n) from (same_number e.to k is) (label ∙ ap Label.Alias name))
 source_at true (Label.Argument m) e es k i n is label ih h = inr (ih h)
 source_at true Label.Dependency e es k i n is label ih h = inr (ih h)
 source_at false l e es k i n is label ih h = inr (ih h)

@@ -9,9 +9,10 @@ use Rattle.wac_graph_core.specs.declared.edge.Follow.{Follow}
 use Rattle.wac_graph_core.specs.Edges.{alias_edge, argument_edge, HasAlias, HasArgument, has, follows, Reaches, at_start, along, IsReached}
 use Rattle.wac_graph_core.specs.Walking.{first_alias, first_argument, first_source, first_new, is_argument, PassesAs}
 use Rattle.wac_graph_core.specs.Spans.{LeadsAs}
-use Rattle.wac_graph_core.proofs.Found.{eq_true, eq_same, filtered, passes, alias_found, no_alias, argument_found, no_argument, source_found, no_source}
+use Rattle.wac_graph_core.proofs.Found.{eq_same, filtered, passes, alias_found, no_alias, argument_found, no_argument, source_found, no_source}
 use Rattle.wac_graph_core.proofs.Passing.{first_other}
 use Rattle.wac_graph_core.proofs.Walks.{new_none, closed_at}
+use Rattle.wac_types_base.proofs.Replacing.{same_number}
 
 -- an edge with that end stands among the one and the other
 pub among_same : (end : Edge → ℕ) (k : ℕ) (xs ys : List Edge) → LeadsAs end k xs ys → (e : Edge) → end e ≡ k → Among e ys → Among e xs
@@ -58,7 +59,7 @@ passes_led es fs i same = λ n. sym (first_led fs i n) ∙ ap (λ l. first_argum
 
 -- no other node is reached from one that no edge leads from
 alone_at : (b : Bool) (k j : ℕ) → (k == j) ≡ b → cond b true false ≡ true → j ≡ k
-alone_at true k j is h = sym (eq_true k j is)
+alone_at true k j is h = sym (same_number k j is)
 alone_at false k j is h = absurd (cc (h))
 
 module _ (f : Follow) (es fs : List Edge) (k : ℕ) (same : LeadsAs (λ e. e.from) k es fs) (none : first_new f (k ∷ []) fs ≡ None) where

@@ -15,13 +15,13 @@ use Rattle.wac_types_names.specs.Packaged.{Packaged}
 use Rattle.wac_types_names.specs.Packages.{AddsInterfaceOf}
 use Rattle.wac_graph_core.specs.Graph.{PackageStands}
 use Rattle.wac_graph_core.proofs.Stating.{instance_stated}
-use Rattle.wac_graph_core.proofs.PlaceSteps.{get_at_end}
+use Rattle.wac_types_base.proofs.Copying.{last_place}
 
 -- an interface that is added stands
 added_stands : (old : Collection) (i : Interface) → Stands (record old { interfaces = old.interfaces ++ i ∷ [] }) (ItemKind.Instance (record { collection = old.number; index = length old.interfaces }))
 unfolding item_node
 added_stands old i =
-    subst IsSome (sym (entry_at-is interface_entry old.number (old.interfaces ++ i ∷ []) old.number (length old.interfaces) i (get_at_end old.interfaces i) refl)) refl
+    subst IsSome (sym (entry_at-is interface_entry old.number (old.interfaces ++ i ∷ []) old.number (length old.interfaces) i (last_place old.interfaces i) refl)) refl
 
 pub package_made_stands : {E : Type 0} (r : Result Packaged E) (old new : Collection) (world : WorldId) → Grows old new → Stands old (ItemKind.Component world) → IfOk r (λ p. p.ty ≡ world) → IfOk r (λ p. AddsInterfaceOf old new world p.instance_type)
     → IfOk r (λ p. PackageStands new p)
@@ -34,7 +34,7 @@ package_made_stands (Ok p) old new world grows stands ty added =
           let own = (world_found old world stands).own ∙ sym grows.number in
           let at : slice_get new.worlds world.index ≡ Some added.of.world = ap (λ (c : Collection). slice_get c.worlds world.index) added.collection ∙ added.of.stands in
           let there : slice_get new.interfaces p.instance_type.index ≡ Some added.interface =
-          ap (λ (j : InterfaceId). slice_get new.interfaces j.index) added.number ∙ ap (λ (c : Collection). slice_get c.interfaces (length old.interfaces)) added.collection ∙ get_at_end old.interfaces added.interface in
+          ap (λ (j : InterfaceId). slice_get new.interfaces j.index) added.number ∙ ap (λ (c : Collection). slice_get c.interfaces (length old.interfaces)) added.collection ∙ last_place old.interfaces added.interface in
           let here : p.instance_type.collection ≡ new.number = ap (λ (j : InterfaceId). j.collection) added.number ∙ sym grows.number in
           instance_stated new grows.acyclic world p.instance_type added.of.world added.interface at own there here added.of.is
           ∙ ap (λ w. instance_type (stated_of new (ItemKind.Component w))) (sym ty);

@@ -2,9 +2,9 @@
 use Rattle.std.proofs.Common.{◌≡◌, ◌==◌, ◌||◌, ℕ, Bool, true, false, not, List, [], ◌∷◌, ◌++◌, Option, Some, None, cond, refl, ap, ◌∙◌, inl, inr}
 use Rattle.std.specs.Cmp.Lexicographic.{pointwise}
 use Rattle.wac_types_base.specs.Entries.{Name, has_name, put_name, value_at}
-use Rattle.wac_types_fit.proofs.Items.{value_at-among}
+use Rattle.wac_types_fit.proofs.Items.{value_at-among, Among-last}
 use Rattle.wac_graph_core.specs.Named.{HasNames}
-use Rattle.wac_graph_core.proofs.Found.{same_name, Among-last}
+use Rattle.wac_graph_core.proofs.Found.{same_name}
 
 or_true : (b : Bool) → (b || true) ≡ true
 or_true true = refl

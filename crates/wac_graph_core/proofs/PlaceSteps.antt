@@ -9,9 +9,10 @@ use Rattle.wac_graph_core.specs.declared.package.Place.{Place}
 use Rattle.wac_graph_core.specs.Nodes.{NodeData}
 use Rattle.wac_graph_core.specs.Graph.{Graph, node_at, held_at, package_in, package_of, ContainsPackage, PackageStands, ArePlaces, IsGraph}
 use Rattle.wac_graph_core.specs.Packages.{NoKey, IsNewPlace, IsFreePlace, held_place, left_place, PlacesGrow, IsStale}
-use Rattle.wac_graph_core.proofs.Found.{eq_true, eq_same, eq_false}
+use Rattle.wac_graph_core.proofs.Found.{eq_same, eq_false}
 use Rattle.wac_graph_core.proofs.NodeSteps.{IsAbove-same}
 use Rattle.wac_graph_core.proofs.GraphSteps.{KeepsUsed, AreWired-by, NodeStands-kept}
+use Rattle.wac_types_base.proofs.Replacing.{same_number}
 
 -- ---- lists
 
@@ -19,10 +20,6 @@ pub get_before : {X : Type 0} (xs : List X) (x : X) (i : ℕ) (y : X) → slice_
 get_before [] x i y at = absurd (cc (at))
 get_before (z ∷ xs) x zero y at = at
 get_before (z ∷ xs) x (suc i) y at = get_before xs x i y at
-
-pub get_at_end : {X : Type 0} (xs : List X) (x : X) → slice_get (xs ++ x ∷ []) (length xs) ≡ Some x
-get_at_end [] x = refl
-get_at_end (z ∷ xs) x = get_at_end xs x
 
 pub get_last : {X : Type 0} (xs : List X) (x : X) (i : ℕ) (y : X) → slice_get (xs ++ x ∷ []) i ≡ Some y → (slice_get xs i ≡ Some y) ⊎ ((i ≡ length xs) × (x ≡ y))
 get_last [] x zero y at = let same : x ≡ y = cc in inr (refl, same)
@@ -63,7 +60,7 @@ pub held_in : (ps : List Place) (id : PackageId) (p : Packaged) → package_in p
 held_in ps id p at = by_place (slice_get ps id.place) refl at
   where
     by_generation : (q : Place) (b : Bool) → slice_get ps id.place ≡ Some q → (q.generation == id.generation) ≡ b → cond b q.held None ≡ Some p → Held ps id p
-    by_generation q true there now held = record { place = q; there = there; now = eq_true q.generation id.generation now; held = held }
+    by_generation q true there now held = record { place = q; there = there; now = same_number q.generation id.generation now; held = held }
     by_generation q false there now held = absurd (cc (held))
 
     by_place : (o : Option Place) → slice_get ps id.place ≡ o → held_at o id.generation ≡ Some p → Held ps id p

@@ -7,6 +7,7 @@ use Rattle.wac_graph_core.specs.declared.edge.Edge.{Edge}
 use Rattle.wac_graph_core.specs.declared.edge.Follow.{Follow}
 use Rattle.wac_graph_core.specs.Edges.{follows, has, Reaches, at_start, along}
 use Rattle.wac_graph_core.specs.Walking.{first_new, leads_out, outside}
+use Rattle.wac_types_base.proofs.Replacing.{same_number}
 
 -- the list from a place on, by the item that is read there
 pub drop_here : {A : Type 0} (xs : List A) (i : ℕ) (x : A) → i < length xs → x ≡ get_or xs i x → drop i xs ≡ x ∷ drop (i + 1) xs
@@ -15,16 +16,13 @@ drop_here xs i x within is = drop_more xs i x within ∙ ap (λ y. y ∷ drop (i
 eq_refl : (a : ℕ) → (a == a) ≡ true
 eq_refl a = grind (arith, nat_tests)
 
-eq_true : (a b : ℕ) → (a == b) ≡ true → a ≡ b
-eq_true a b e = grind (arith, nat_tests)
-
 -- what is in a list with one more
 has_push_at : (b : Bool) (js : List ℕ) (x k : ℕ) → (has (js ++ x ∷ []) k ≡ true → (has js k ≡ true) ⊎ (x ≡ k)) → cond b true (has (js ++ x ∷ []) k) ≡ true → (cond b true (has js k) ≡ true) ⊎ (x ≡ k)
 has_push_at true js x k ih h = inl refl
 has_push_at false js x k ih h = ih h
 
 has_last_at : (b : Bool) (x k : ℕ) → (x == k) ≡ b → cond b true false ≡ true → (false ≡ true) ⊎ (x ≡ k)
-has_last_at true x k e h = inr (eq_true _ _ e)
+has_last_at true x k e h = inr (same_number _ _ e)
 has_last_at false x k e h = inl h
 
 pub has-push : (js : List ℕ) (x k : ℕ) → has (js ++ x ∷ []) k ≡ true → (has js k ≡ true) ⊎ (x ≡ k)

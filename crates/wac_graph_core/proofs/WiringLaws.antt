@@ -1,5 +1,6 @@
 -- Each graph has one wiring.
 use Rattle.std.proofs.Common.{◌≡◌, ◌==◌, ℕ, zero, suc, ◌<◌, Bool, true, false, cond, List, [], ◌∷◌, Option, Some, None, IsSome, refl, sym, ap, subst, ◌∙◌, inl, inr, arith}
+use Rattle.std.proofs.lemmas.Option.{same_Some}
 use Rattle.std.specs.Cmp.Lexicographic.{pointwise, same_text}
 use Rattle.std.specs.Option.{option_map}
 use Rattle.wac_types_base.specs.declared.item.ItemKind.{ItemKind}
@@ -15,18 +16,15 @@ use Rattle.wac_graph_core.specs.Graph.{Graph, IsGraph, ContainsNode, node_at, in
 use Rattle.wac_graph_core.specs.GraphWiring as w
 use Rattle.wac_graph_core.proofs.Found.{argument_found, no_argument}
 
-some_is : {A : Type 0} {x y : A} → Some x ≡ Some y → x ≡ y
-some_is e = cc
-
 paired : (x : Name × ℕ) (n : Name) (k : ℕ) → n ≡ x.0 → k ≡ x.1 → (n, k) ≡ x
 paired x n k p q = λ i. (p i, q i)
 
 found_at : (b : Bool) (x : Name × ℕ) (es : List (Name × ℕ)) (n : Name) (k : ℕ) → pointwise ◌==◌ n x.0 ≡ b → (value_at es n ≡ Some k → Among (n, k) es) → cond b (Some x.1) (value_at es n) ≡ Some k → Among (n, k) (x ∷ es)
-found_at true x es n k is ih e = inl (paired x n k (same_text n x.0 (sym is)) (sym (some_is e)))
+found_at true x es n k is ih e = inl (paired x n k (same_text n x.0 (sym is)) (sym (same_Some _ _ e)))
 found_at false x es n k is ih e = inr (ih e)
 
 -- what is found is there
-value_among : (es : List (Name × ℕ)) (n : Name) (k : ℕ) → value_at es n ≡ Some k → Among (n, k) es
+pub value_among : (es : List (Name × ℕ)) (n : Name) (k : ℕ) → value_at es n ≡ Some k → Among (n, k) es
 value_among [] n k e = absurd (cc (e))
 value_among (x ∷ es) n k e = found_at (pointwise ◌==◌ n x.0) x es n k refl (value_among es n k) e
 
@@ -51,7 +49,7 @@ module _ (spell : Name → Name) (written : ItemKind → Tree) (g : Graph) (soun
   aliased_node i k n h = (sound.wired.edges (alias_edge i k n) h).alias n refl
 
   same_node : (k : ℕ) (x y : NodeData) → node_at g k ≡ Some x → node_at g k ≡ Some y → x ≡ y
-  same_node k x y e f = some_is (sym e ∙ f)
+  same_node k x y e f = same_Some _ _ (sym e ∙ f)
 
   as_role : (k : ℕ) (s : Source ℕ) (x y : NodeData) (r : Role) → node_at g k ≡ Some x → node_at g k ≡ Some y → y.role ≡ r → AsRole k y r s → AsRole k x x.role s
   as_role k s x y r e f is a =
@@ -157,7 +155,7 @@ module _ (spell : Name → Name) (written : ItemKind → Tree) (g : Graph) (soun
 
   export_denotes : (n : Name) (k : ℕ) (o : Option ℕ) (e : value_at g.exports n ≡ o) → o ≡ Some k → Denotes k (export_at n o e)
   export_denotes n k None e is = absurd (cc (is))
-  export_denotes n k (Some j) e is = subst (λ i. Denotes i (export_at n (Some j) e)) (some_is is) (denoted j (export_stands n j e)).1
+  export_denotes n k (Some j) e is = subst (λ i. Denotes i (export_at n (Some j) e)) (same_Some _ _ is) (denoted j (export_stands n j e)).1
 
   export_absent : (n : Name) (o : Option ℕ) (e : value_at g.exports n ≡ o) → o ≡ None → export_at n o e ≡ Absent
   export_absent n None e is = refl

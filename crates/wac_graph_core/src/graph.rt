@@ -22,7 +22,6 @@ use wac_types_base::{ItemKind, Types};
 use wac_types_names::Package;
 
 /// Nodes with their types, the edges between them, ordered exports, and packages.
-#[derive(Drop)]
 pub struct CompositionGraph {
     pub(crate) alloc: Global,
     pub(crate) types: Types,
@@ -30,6 +29,19 @@ pub struct CompositionGraph {
     pub(crate) edges: Edges,
     pub(crate) exports: NamedNodes,
     pub(crate) places: Vec<Place>,
+}
+
+impl Drop for CompositionGraph {
+    fn drop(self) {
+        let CompositionGraph {
+            alloc: _,
+            types: _,
+            nodes: _,
+            edges: _,
+            exports: _,
+            places: _,
+        } = self;
+    }
 }
 
 impl Model for CompositionGraph {

@@ -1,5 +1,6 @@
 -- The wiring of a graph is the one that its composition has.
 use Rattle.std.specs.Prelude.{◌&&◌, is_some, filter_map, option_map}
+use Rattle.std.proofs.lemmas.Option.{none-some, same_Some}
 use Rattle.std.specs.List.{cons_option}
 use Rattle.std.specs.FinMap as finite
 use Rattle.std.specs.FinMap.{find}
@@ -25,7 +26,7 @@ use Rattle.wac_graph_core.specs.Edges.{HasAlias, alias_edge}
 use Rattle.wac_graph_core.specs.Walking.{is_argument, first_argument, first_source}
 use Rattle.wac_graph_core.specs.Graph.{Graph, IsGraph, node_at, package_if, package_made, instantiated, item_import, imported_in}
 use Rattle.wac_graph_core.specs.GraphWiring as w
-use Rattle.wac_graph_core.proofs.Found.{argument_found, no_argument, source_found, no_source, eq_true}
+use Rattle.wac_graph_core.proofs.Found.{argument_found, no_argument, source_found, no_source}
 use Rattle.wac_graph_core.proofs.Stating.{imports_stated}
 use Rattle.wac_composition.specs.Composition.{Origin, Made}
 use Rattle.wac_composition.specs.Asks.{asks_of}
@@ -35,12 +36,7 @@ use Rattle.wac_composition.specs.Wired.{source_for, argument_source, export_sour
 use Rattle.wac_graph_encode.specs.Graphs.{nodes_of, argument_by, if_argument, arguments_to, export_of, origin_by, origin_at, origin_within, origin_of, made_with, item_at, composition_of}
 use Rattle.wac_graph_encode.specs.Encoding.{written_tree, IsGraphWiring}
 use Rattle.wac_graph_encode.specs.Composed.{IsComposedAs, IsComposed, GraphsAreComposed}
-
-some_is : {A : Type 0} {x y : A} → Some x ≡ Some y → x ≡ y
-some_is e = cc
-
-none_is : {A : Type 0} {x : A} → None ≡ Some x → ⊥
-none_is e = cc
+use Rattle.wac_types_base.proofs.Replacing.{same_number}
 
 -- ---- how many edges pass a test
 
@@ -94,11 +90,11 @@ module _ (p q : Edge → Bool) (wider : (e : Edge) → p e ≡ true → q e ≡ 
 -- ---- lists and maps
 
 find_among : (es : List (ℕ × NodeData)) (k : ℕ) (x : NodeData) → find nat_cmp k es ≡ Some x → Among (k, x) es
-find_among [] k x e = absurd (none_is e)
+find_among [] k x e = absurd (none-some _ e)
 find_among (d ∷ es) k x e = go (find_among es k x) (eq_by_cmp nat_cmp k d.0) refl e
   where
     go : (find nat_cmp k es ≡ Some x → Among (k, x) es) → (b : Bool) → eq_by_cmp nat_cmp k d.0 ≡ b → cond b (Some d.1) (find nat_cmp k es) ≡ Some x → Among (k, x) (d ∷ es)
-    go rest true q r = let same : k ≡ d.0 = eq_true k d.0 (sym (unsigned_tied k d.0) ∙ q) in inl (λ i. (same i, sym (some_is r) i))
+    go rest true q r = let same : k ≡ d.0 = same_number k d.0 (sym (unsigned_tied k d.0) ∙ q) in inl (λ i. (same i, sym (same_Some _ _ r) i))
     go rest false q r = inr (rest r)
 
 node_among : (g : Graph) (k : ℕ) (x : NodeData) → node_at g k ≡ Some x → Among (k, x) (nodes_of g)
@@ -109,8 +105,8 @@ among_mapped f [] x y m e = absurd m
 among_mapped {X = X} {Y = Y} f (z ∷ zs) x y m e = go (among_mapped f zs x y) (f z) refl m
   where
     go : (Among x zs → f x ≡ Some y → Among y (filter_map f zs)) → (o : Option Y) → f z ≡ o → Among x (z ∷ zs) → Among y (cons_option o (filter_map f zs))
-    go rest (Some v) q (inl s) = inl (some_is (sym e ∙ ap f s ∙ q))
-    go rest None q (inl s) = absurd (none_is (sym q ∙ ap f (sym s) ∙ e))
+    go rest (Some v) q (inl s) = inl (same_Some _ _ (sym e ∙ ap f s ∙ q))
+    go rest None q (inl s) = absurd (none-some _ (sym q ∙ ap f (sym s) ∙ e))
     go rest (Some v) q (inr n) = inr (rest n e)
     go rest None q (inr n) = rest n e
 
@@ -224,18 +220,18 @@ module _ (g : Graph) (sound : IsGraph g) (finite_types : IsFinite g.types) where
   made_among k p e = by_node (node_at g k) refl e
     where
       by_node : (o : Option NodeData) → node_at g k ≡ o → package_made g o ≡ Some p → Among (made_of k p) (composition_of g).made
-      by_node None q h = absurd (none_is h)
+      by_node None q h = absurd (none-some _ h)
       by_node (Some x) q h = among_mapped (λ e. made_with g e.0 (package_if g e.1.of)) (nodes_of g) (k, x) (made_of k p) (node_among g k x q) (ap (made_with g k) h)
 
   package_stands : (k : ℕ) (p : Packaged) → instantiated g k ≡ Some p → (id : PackageId) × (package_if g (Some id) ≡ Some p)
   package_stands k p e = by_node (node_at g k) e
     where
       by_id : (o : Option PackageId) → package_if g o ≡ Some p → (id : PackageId) × (package_if g (Some id) ≡ Some p)
-      by_id None h = absurd (none_is h)
+      by_id None h = absurd (none-some _ h)
       by_id (Some id) h = (id, h)
 
       by_node : (o : Option NodeData) → package_made g o ≡ Some p → (id : PackageId) × (package_if g (Some id) ≡ Some p)
-      by_node None h = absurd (none_is h)
+      by_node None h = absurd (none-some _ h)
       by_node (Some x) h = by_id x.of h
 
   import_stated : (k : ℕ) (p : Packaged) → instantiated g k ≡ Some p → (n : Name) → value_at (imports_of (stated_of g.types (ItemKind.Component p.ty))) n ≡ option_map (stated_of g.types) (item_import g.types p.ty n)

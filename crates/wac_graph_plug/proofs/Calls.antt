@@ -22,24 +22,15 @@ use Rattle.wac_graph_plug.specs.Plugging.{AreMatchesOf, AreMatches, no_plugs}
 use Rattle.wac_graph_plug.specs.Steps.{Grown, HasExport, Passes, PassesAll, passed_next, PlugsOne, PlugsEach, plugged_none, plugged_next, ExportsOne, ExportsAll, exported_next}
 use Rattle.wac_graph_plug.specs.Stops.{part_in, world_of, worlds_of, has_match, any_match, AreMatchesIn, PlugsMatches, StopsMatches, PlugsAll, StopsPassing}
 use Rattle.wac_graph_plug.proofs.Growing.{same_world, worlds_same, Grown-instance}
-use Rattle.wac_graph_plug.proofs.State.{map_end, last_of}
 use Rattle.wac_graph_plug.proofs.Fitting.{matched_in, has_export}
 use Rattle.wac_graph_plug.proofs.Causes.{matches_more}
+use Rattle.wac_types_fit.proofs.Items.{Among-last}
+use Rattle.wac_types_base.proofs.Loops.{mapped_next}
 
 -- ---- one after another
 
 take_next : {X : Type 0} (xs : List X) (i : ℕ) (x : X) → i < length xs → x ≡ get_or xs i x → take (i + 1) xs ≡ take i xs ++ x ∷ []
 take_next xs i x within is = take_more xs i x within ∙ ap (λ d. take i xs ++ d ∷ []) (sym is)
-
-pub at_index : {X : Type 0} (xs : List X) (i : ℕ) (x : X) → i < length xs → x ≡ get_or xs i x → slice_get xs i ≡ Some x
-at_index [] i x within is = absurd (omega (arith, within))
-at_index (y ∷ xs) zero x within is = ap Some (sym is)
-at_index (y ∷ xs) (suc i) x within is = at_index xs i x (omega (arith, within)) is
-
-pub among_index : {X : Type 0} (xs : List X) (i : ℕ) (x : X) → slice_get xs i ≡ Some x → Among x xs
-among_index [] i x at = absurd (cc (at))
-among_index (y ∷ xs) zero x at = let same : y ≡ x = cc in inl (sym same)
-among_index (y ∷ xs) (suc i) x at = inr (among_index xs i x at)
 
 pub passes_next : (s p : ℕ) (ms : List Match) (i : ℕ) (m : Match) (f g h : Graph) → i < length ms → m ≡ get_or ms i m → PassesAll s p (take i ms) f g → Passes s p m g h → PassesAll s p (take (i + 1) ms) f h
 passes_next s p ms i m f g h within is rest one = subst (λ l. PassesAll s p l f h) (sym (take_next ms i m within is)) (passed_next rest one)
@@ -123,11 +114,11 @@ plugs_next old g h socket ids i id s a b c within is grown before one either =
     subst (λ l. PlugsAll old h socket l s c) (sym (take_next ids i id within is))
     (record {
       matches = before.matches ++ one.matches ∷ [];
-      are = subst (λ ws. AreMatches (world_of old socket) ws (before.matches ++ one.matches ∷ [])) (sym (map_end (world_of old) (take i ids) id))
+      are = subst (λ ws. AreMatches (world_of old socket) ws (before.matches ++ one.matches ∷ [])) (sym (mapped_next (world_of old) (take i ids) id))
           (matches_more (world_of old id) one.matches before.are
           (subst (λ w. AreMatchesOf (imports_of w) (exports_of (world_of old id)) one.matches) (same_world old g grown socket)
           (subst (λ w. AreMatchesOf (imports_of (world_of g socket)) (exports_of w) one.matches) (same_world old g grown id) one.are)));
-      distinct = λ x at. elim (last_of (take i ids) id x at) [
+      distinct = λ x at. elim (Among-last (take i ids) id x at) [
         | inl old_one ↦ before.distinct x old_one
         | inr same ↦ subst (λ y. AreDistinct (names_of (exports_of (world_of old y)))) (sym same) (subst (λ w. AreDistinct (names_of (exports_of w))) (same_world old g grown id) one.distinct)
       ];

@@ -6,8 +6,7 @@ use Rattle.wac_types_base.specs.Collection.{IsAcyclic}
 use Rattle.wac_types_base.specs.Entries.{Name, names_of, AreDistinct}
 use Rattle.wac_types_base.specs.Graph.{Among}
 use Rattle.wac_types_base.specs.Stated.{Stated, stated_of, imports_of, exports_of}
-use Rattle.wac_types_base.proofs.Looked.{take-one_more}
-use Rattle.wac_types_base.proofs.Walking.{Among-slice_get}
+use Rattle.wac_types_base.proofs.Looked.{take-one_more, among-get}
 use Rattle.wac_types_names.specs.Packaged.{Packaged}
 use Rattle.wac_graph_core.specs.declared.ids.PackageId.{PackageId}
 use Rattle.wac_graph_core.specs.declared.edge.Edge.{Edge}
@@ -24,10 +23,11 @@ use Rattle.wac_graph_plug.specs.Plugging.{Matches, AreMatchesOf, no_exports, mat
 use Rattle.wac_graph_plug.specs.Steps.{Grown, Passes, PassesAll, passed_none, passed_next, PlugsOne, PlugsEach, plugged_none, plugged_next}
 use Rattle.wac_graph_plug.specs.Stops.{world_of, worlds_of, part_in, AreMatchesIn, StopsPlugging, MatchedTwice, PlugsNone, NoneMatches, IsPassedTwice}
 use Rattle.wac_graph_plug.proofs.Growing.{Grown-refl, Grown-same, Grown-trans, Grown-instance, Grown-passes, same_package, same_world, worlds_same, ContainsNode-grown}
-use Rattle.wac_graph_plug.proofs.State.{Bound, imports_of_all, State, IsPlug, map_end, State-instance, apart_from_new}
+use Rattle.wac_graph_plug.proofs.State.{Bound, imports_of_all, State, IsPlug, State-instance, apart_from_new}
 use Rattle.wac_graph_plug.proofs.Passing.{all_bound, exports_in, IsPlug-instance, passes_all_state}
 use Rattle.wac_graph_plug.proofs.Fitting.{Fitting, fitting}
 use Rattle.wac_graph_plug.proofs.Refusing.{is_conflict}
+use Rattle.wac_types_base.proofs.Loops.{mapped_next}
 
 -- ---- graphs grow
 
@@ -269,7 +269,7 @@ module _ (old new : Graph) (socket : PackageId) (ids : List PackageId) (f : Inst
       (subst (λ w. AreDistinct (names_of (exports_of w))) plug_world r.stops.stops.distinct) ms
       (subst (λ w. AreMatchesOf (imports_of w) (exports_of (stated_of old.types (ItemKind.Component pp.ty))) ms) socket_world
       (subst (λ w. AreMatchesOf (imports_of (world_of mid socket)) (exports_of w) ms) plug_world r.stops.stops.are)) m
-      (Among-slice_get ms place m r.stops.stops.stops.stops.there))
+      (among-get ms place m r.stops.stops.stops.stops.there))
 
   found : IsPassedTwice f m.import × Among m.import (imports_of_all (plugged.0 ++ all_bound p (take place ms)))
   found =
@@ -292,7 +292,7 @@ module _ (old new : Graph) (socket : PackageId) (ids : List PackageId) (f : Inst
   all_are : AreMatches (world_of old socket) (worlds_of old (take (r.stops.place + 1) ids)) (before ++ ms ∷ [])
   all_are =
       subst (λ xs. AreMatches (world_of old socket) (worlds_of old xs) (before ++ ms ∷ [])) (sym (take-one_more ids r.stops.place r.stops.id r.stops.there))
-      (subst (λ ws. AreMatches (world_of old socket) ws (before ++ ms ∷ [])) (sym (map_end (world_of old) (take r.stops.place ids) r.stops.id))
+      (subst (λ ws. AreMatches (world_of old socket) ws (before ++ ms ∷ [])) (sym (mapped_next (world_of old) (take r.stops.place ids) r.stops.id))
       (matches_more (world_of old r.stops.id) ms
       (subst (λ ws. AreMatches (world_of old socket) ws before) (worlds_same old r.first grown_first (take r.stops.place ids))
       (subst (λ w. AreMatches w (worlds_of r.first (take r.stops.place ids)) before) (same_world old r.first grown_first socket) r.stops.before.are))

@@ -1,5 +1,6 @@
 -- The wiring of a graph after plugging.
 use Rattle.std.proofs.Common.{◌≡◌, ◌≢◌, ◌⊎◌, ℕ, zero, suc, ◌+◌, ◌<◌, Bool, true, false, ◌==◌, cond, List, [], ◌∷◌, ◌++◌, map, length, Option, Some, None, IsSome, slice_get, refl, sym, ap, subst, ◌∙◌, inl, inr, arith}
+use Rattle.std.proofs.lemmas.Option.{none-some, same_Some}
 use Rattle.std.proofs.lemmas.Bool.{cases_eq}
 use Rattle.std.proofs.lemmas.Bool.Decides.{nat_tests}
 use Rattle.std.specs.Option.{option_map}
@@ -7,7 +8,7 @@ use Rattle.std.specs.Cmp.Lexicographic.{pointwise, same_text}
 use Rattle.wac_types_base.specs.declared.item.ItemKind.{ItemKind}
 use Rattle.wac_types_base.specs.Record.{Collection}
 use Rattle.wac_types_base.specs.Collection.{IsAcyclic}
-use Rattle.wac_types_base.specs.Entries.{Name, names_of, value_at, AreDistinct}
+use Rattle.wac_types_base.specs.Entries.{Name, value_at, AreDistinct}
 use Rattle.wac_types_base.specs.Graph.{Among}
 use Rattle.wac_types_base.specs.Stated.{Stated, stated_of, imports_of, exports_of}
 use Rattle.wac_types_base.specs.Tree.{Tree}
@@ -25,25 +26,23 @@ use Rattle.wac_graph_core.specs.Exporting.{Exports}
 use Rattle.wac_graph_core.proofs.NodeMap.{get-insert_same, get-insert_other}
 use Rattle.wac_graph_core.proofs.EdgeSteps.{edge_label}
 use Rattle.wac_graph_core.proofs.Stating.{imports_stated}
-use Rattle.wac_graph_core.proofs.WiringLaws.{once, binds_once}
+use Rattle.wac_graph_core.proofs.WiringLaws.{once, binds_once, value_among}
 use Rattle.wac_graph_plug.specs.declared.matching.Match.{Match}
 use Rattle.wac_graph_plug.specs.Plugging.{AreMatches}
 use Rattle.wac_graph_plug.specs.Steps.{Grown, ExportsOne, ExportsAll, exported_none, exported_next}
 use Rattle.wac_graph_plug.specs.Stops.{part_in, part_of, world_of, worlds_of, Plugs, socket_exports, IsPlugged}
 use Rattle.wac_graph_plug.specs.Wired.{Part, export_for, or_later, bound_from, if_there, bound_source, socket_instance, plug_instance, plug_at, instance_at, plugged}
-use Rattle.wac_graph_plug.proofs.Near.{same_name, value_named, value_none}
+use Rattle.wac_graph_plug.proofs.Near.{value_named, value_none}
 use Rattle.wac_graph_plug.proofs.Gathered.{value_with}
 use Rattle.wac_graph_plug.proofs.Growing.{Grown-refl, Grown-trans, Grown-alias, Grown-instance, Grown-export, Grown-exports, same_package, same_world, worlds_same}
-use Rattle.wac_graph_plug.proofs.State.{Bound, imports_of_all, State, last_of, front_of, end_of, no_argument}
+use Rattle.wac_graph_plug.proofs.State.{Bound, imports_of_all, State, end_of, no_argument}
 use Rattle.wac_graph_plug.proofs.Causes.{Grown-each, first_state, all_distinct, each_state}
 use Rattle.wac_graph_plug.proofs.Passing.{bound_of}
 use Rattle.wac_graph_plug.proofs.Made.{PlugAt, BoundAt, EachMade, AllMade, each_made, quiet_alias}
-
-some_is : {A : Type 0} {x y : A} → Some x ≡ Some y → x ≡ y
-some_is e = cc
-
-none_some : {A : Type 0} {x : A} → None ≡ Some x → ⊥
-none_some e = cc e
+use Rattle.wac_graph_core.proofs.ExportSteps.{among_name}
+use Rattle.wac_types_base.proofs.Replacing.{same_number}
+use Rattle.wac_graph_core.proofs.Found.{eq_false, same_name, Among-front}
+use Rattle.wac_types_fit.proofs.Items.{Among-last}
 
 -- ---- exports
 
@@ -87,16 +86,16 @@ exported_all {s} (exported_next {ns = ns} {n = n} {f = f} {g = g} {h = h} rest o
       instances = λ k. export_instances one.middle h one.alias n one.exported k ∙ (quiet_alias s g one.middle s n one.alias one.aliased).instances k ∙ r.instances k;
       args = λ k m a at. r.args k m a (alias_args g one.middle s n one.alias one.aliased k m a (subst (Among (argument_edge a k m)) edges at));
       grown = Grown-trans f g h r.grown grown;
-      found = λ m k at. elim (last_of g.exports (n, one.alias) (m, k) (subst (Among (m, k)) exports at)) [
-        | inl old ↦ elim (r.found m k old) [ inl older ↦ inl older | inr x ↦ inr (front_of ns n m x.0, grown.edges (alias_edge s k m) x.1) ]
+      found = λ m k at. elim (Among-last g.exports (n, one.alias) (m, k) (subst (Among (m, k)) exports at)) [
+        | inl old ↦ elim (r.found m k old) [ inl older ↦ inl older | inr x ↦ inr (Among-front ns n m x.0, grown.edges (alias_edge s k m) x.1) ]
         | inr same ↦
             inr (
               subst (λ x. Among x (ns ++ n ∷ [])) (sym (ap (λ (p : Name × ℕ). p.0) same)) (end_of ns n),
               subst (λ (p : Name × ℕ). HasAlias h.edges s p.0 p.1) (sym same) (subst (Among (alias_edge s one.alias n)) (sym edges) (alias_here g one.middle s n one.alias one.aliased)),
             )
       ];
-      all = λ m at. elim (last_of ns n m at) [
-        | inl old ↦ let x = r.all m old in (x.0, subst (Among (m, x.0)) (sym exports) (front_of g.exports (n, one.alias) (m, x.0) x.1))
+      all = λ m at. elim (Among-last ns n m at) [
+        | inl old ↦ let x = r.all m old in (x.0, subst (Among (m, x.0)) (sym exports) (Among-front g.exports (n, one.alias) (m, x.0) x.1))
         | inr same ↦ (one.alias, subst (Among (m, one.alias)) (sym exports) (subst (λ x. Among (x, one.alias) (g.exports ++ (n, one.alias) ∷ [])) (sym same) (end_of g.exports (n, one.alias))))
       ];
     }
@@ -104,21 +103,12 @@ exported_all {s} (exported_next {ns = ns} {n = n} {f = f} {g = g} {h = h} rest o
 -- ---- lists
 
 entry_at : (b : Bool) (x : Name × ℕ) (es : List (Name × ℕ)) (n : Name) (k : ℕ) → pointwise ◌==◌ n x.0 ≡ b → (value_at es n ≡ Some k → Among (n, k) es) → cond b (Some x.1) (value_at es n) ≡ Some k → Among (n, k) (x ∷ es)
-entry_at true x es n k is ih e = let same : x.1 ≡ k = some_is e in inl (λ i. (same_text n x.0 (sym is) i, sym same i))
+entry_at true x es n k is ih e = let same : x.1 ≡ k = same_Some _ _ e in inl (λ i. (same_text n x.0 (sym is) i, sym same i))
 entry_at false x es n k is ih e = inr (ih e)
-
-entry_of_value : (es : List (Name × ℕ)) (n : Name) (k : ℕ) → value_at es n ≡ Some k → Among (n, k) es
-entry_of_value [] n k e = absurd (cc (e))
-entry_of_value (x ∷ es) n k e = entry_at (pointwise ◌==◌ n x.0) x es n k refl (entry_of_value es n k) e
-
-name_of_entry : (es : List (Name × ℕ)) (n : Name) (k : ℕ) → Among (n, k) es → Among n (names_of es)
-name_of_entry [] n k at = absurd at
-name_of_entry (x ∷ es) n k (inl e) = inl (ap (λ (p : Name × ℕ). p.0) e)
-name_of_entry (x ∷ es) n k (inr at) = inr (name_of_entry es n k at)
 
 part_at : (g : Graph) (ids : List PackageId) (p : ℕ) (id : PackageId) → slice_get ids p ≡ Some id → slice_get (map (part_of g) ids) p ≡ Some (part_of g id)
 part_at g [] p id e = absurd (cc (e))
-part_at g (x ∷ ids) zero id e = ap (λ j. Some (part_of g j)) (some_is e)
+part_at g (x ∷ ids) zero id e = ap (λ j. Some (part_of g j)) (same_Some _ _ e)
 part_at g (x ∷ ids) (suc p) id e = part_at g ids p id e
 
 -- what bound_from finds
@@ -138,7 +128,7 @@ found_export (m ∷ ms) n e h = by_test (pointwise ◌==◌ n m.import) refl (fo
   where
     by_test : (b : Bool) → pointwise ◌==◌ n m.import ≡ b → (export_for ms n ≡ Some e → (x : Match) × Among x ms × (x.import ≡ n) × (x.export ≡ e)) → cond b (Some m.export) (export_for ms n) ≡ Some e
         → (x : Match) × Among x (m ∷ ms) × (x.import ≡ n) × (x.export ≡ e)
-    by_test true is later h = (m, inl refl, sym (same_text n m.import (sym is)), some_is h)
+    by_test true is later h = (m, inl refl, sym (same_text n m.import (sym is)), same_Some _ _ h)
     by_test false is later h = let r = later h in (r.0, inr r.1, r.2, r.3)
 
 no_export : (ms : List Match) (n : Name) (m : Match) → export_for ms n ≡ None → Among m ms → m.import ≡ n → ⊥
@@ -155,7 +145,7 @@ found_at None q ms mss n p e is later h =
     let r = later h in
     record { place = suc r.place; counted = omega (arith, r.counted); ms = r.ms; there = r.there; m = r.m; among = r.among; import = r.import; export = r.export }
 found_at (Some x) q ms mss n p e is later h =
-    let same : (q, x) ≡ (p, e) = some_is h in
+    let same : (q, x) ≡ (p, e) = same_Some _ _ h in
     let r = found_export ms n x is in
     let counted : q ≡ p = ap (λ (y : ℕ × Name). y.0) same in
     record { place = 0; counted = omega (arith, counted); ms = ms; there = refl; m = r.0; among = r.1; import = r.2; export = r.3 ∙ ap (λ (y : ℕ × Name). y.1) same }
@@ -170,7 +160,7 @@ not_found_at (Some x) q ms mss n is h = absurd (cc (h))
 
 pub no_bound : (q : ℕ) (mss : List (List Match)) (n : Name) → bound_from q mss n ≡ None → (j : ℕ) (ms : List Match) (m : Match) → slice_get mss j ≡ Some ms → Among m ms → m.import ≡ n → ⊥
 no_bound q [] n h j ms m at among same = absurd (cc (at))
-no_bound q (x ∷ mss) n h zero ms m at among same = let r = not_found_at (export_for x n) q x mss n refl h in no_export x n m r.0 (subst (Among m) (sym (some_is at)) among) same
+no_bound q (x ∷ mss) n h zero ms m at among same = let r = not_found_at (export_for x n) q x mss n refl h in no_export x n m r.0 (subst (Among m) (sym (same_Some _ _ at)) among) same
 no_bound q (x ∷ mss) n h (suc j) ms m at among same = let r = not_found_at (export_for x n) q x mss n refl h in no_bound (suc q) mss n r.1 j ms m at among same
 
 -- ---- the renaming
@@ -190,40 +180,34 @@ place_in (o ∷ os) k = step_place o k (place_in os k)
 eq_same : (a : ℕ) → (a == a) ≡ true
 eq_same a = grind (arith, nat_tests)
 
-eq_true : (a b : ℕ) → (a == b) ≡ true → a ≡ b
-eq_true a b e = grind (arith, nat_tests)
-
-eq_false : (a b : ℕ) → a ≢ b → (a == b) ≡ false
-eq_false a b ne = grind (arith, nat_tests)
-
 place_is : (os : List (Option ℕ)) (p k : ℕ) → slice_get os p ≡ Some (Some k) → slice_get os (place_in os k) ≡ Some (Some k)
 place_is [] p k e = absurd (cc (e))
-place_is (None ∷ os) zero k e = absurd (none_some (some_is e))
+place_is (None ∷ os) zero k e = absurd (none-some _ (same_Some _ _ e))
 place_is (None ∷ os) (suc p) k e = place_is os p k e
 place_is (Some j ∷ os) p k e = by_test (j == k) refl (later p e) (λ q h. place_is os q k h)
   where
     later : (p : ℕ) → slice_get (Some j ∷ os) p ≡ Some (Some k) → (j ≡ k) ⊎ ((q : ℕ) × (slice_get os q ≡ Some (Some k)))
-    later zero e = inl (some_is (some_is e))
+    later zero e = inl (same_Some _ _ (same_Some _ _ e))
     later (suc q) e = inr (q, e)
 
     by_test : (b : Bool) → (j == k) ≡ b → (j ≡ k) ⊎ ((q : ℕ) × (slice_get os q ≡ Some (Some k))) → ((q : ℕ) → slice_get os q ≡ Some (Some k) → slice_get os (place_in os k) ≡ Some (Some k))
         → slice_get (Some j ∷ os) (cond b 0 (suc (place_in os k))) ≡ Some (Some k)
-    by_test true is l ih = ap (λ x. Some (Some x)) (eq_true j k is)
+    by_test true is l ih = ap (λ x. Some (Some x)) (same_number j k is)
     by_test false is (inl same) ih = absurd (cc (ap (λ x. j == x) (sym same) ∙ eq_same j, is))
     by_test false is (inr r) ih = ih r.0 r.1
 
 -- lists that are as long as one another
 there_too : {X Y : Type 0} (xs : List X) (ys : List Y) (i : ℕ) (y : Y) → length xs ≡ length ys → slice_get ys i ≡ Some y → (x : X) × (slice_get xs i ≡ Some x)
-there_too [] [] i y e at = absurd (none_some at)
+there_too [] [] i y e at = absurd (none-some _ at)
 there_too [] (z ∷ ys) i y e at = absurd (omega (arith, e))
-there_too (x ∷ xs) [] i y e at = absurd (none_some at)
+there_too (x ∷ xs) [] i y e at = absurd (none-some _ at)
 there_too (x ∷ xs) (z ∷ ys) zero y e at = (x, refl)
 there_too (x ∷ xs) (z ∷ ys) (suc i) y e at = there_too xs ys i y (omega (arith, e)) at
 
 there_none : {X Y : Type 0} (xs : List X) (ys : List Y) (i : ℕ) → length xs ≡ length ys → slice_get xs i ≡ None → slice_get ys i ≡ None
 there_none xs [] i e at = refl
 there_none [] (z ∷ ys) i e at = absurd (omega (arith, e))
-there_none (x ∷ xs) (z ∷ ys) zero e at = absurd (none_some (sym at))
+there_none (x ∷ xs) (z ∷ ys) zero e at = absurd (none-some _ (sym at))
 there_none (x ∷ xs) (z ∷ ys) (suc i) e at = there_none xs ys i (omega (arith, e)) at
 
 -- ---- the graph after plugging
@@ -259,7 +243,7 @@ module _ (old new : Graph) (socket : PackageId) (ids : List PackageId) (sound : 
   only_socket k q at = elim (cases_eq k s) [
     | inl e ↦ e
     | inr ne ↦
-        absurd (none_some (sym (ap (λ (x : Graph). instantiated x k) r.made.made ∙ ap (package_made old) (get-insert_other old.nodes s (plain_node Role.Instance (Some socket) (ItemKind.Instance sp.instance_type)) k ne) ∙ ap (package_made old) (fresh k)) ∙ at))
+        absurd (none-some _ (sym (ap (λ (x : Graph). instantiated x k) r.made.made ∙ ap (package_made old) (get-insert_other old.nodes s (plain_node Role.Instance (Some socket) (ItemKind.Instance sp.instance_type)) k ne) ∙ ap (package_made old) (fresh k)) ∙ at))
   ]
 
   start : EachMade r.first s [] [] [] []
@@ -267,12 +251,12 @@ module _ (old new : Graph) (socket : PackageId) (ids : List PackageId) (sound : 
       record {
         ids_long = refl;
         mss_long = refl;
-        plug_in = λ p k at. absurd (none_some at);
-        out = λ p at. absurd (none_some at);
-        once = λ p q k at bt. absurd (none_some at);
+        plug_in = λ p k at. absurd (none-some _ at);
+        out = λ p at. absurd (none-some _ at);
+        once = λ p q k at bt. absurd (none-some _ at);
         only = λ k q at. inl (only_socket k q at);
         bound_in = λ b at. absurd at;
-        bound_at = λ p k ms m at there among. absurd (none_some at);
+        bound_at = λ p k ms m at there among. absurd (none-some _ at);
         args = λ k n a at. absurd (none_there a (sound.wired.edges (argument_edge a k n) (subst (Among (argument_edge a k n)) (ap (λ (x : Graph). x.edges) r.made.made) at)).from);
         exports = nothing_exported;
       }
@@ -308,11 +292,11 @@ module _ (old new : Graph) (socket : PackageId) (ids : List PackageId) (sound : 
   instance_node k q at = by_node (node_at new k) refl at
     where
       by_of : (x : NodeData) (o : Option PackageId) → node_at new k ≡ Some x → x.of ≡ o → package_if new o ≡ Some q → (y : NodeData) × (node_at new k ≡ Some y) × (y.role ≡ Role.Instance)
-      by_of x None e of h = absurd (none_some h)
+      by_of x None e of h = absurd (none-some _ h)
       by_of x (Some id) e of h = (x, e, (after.nodes k x e).only id of)
 
       by_node : (o : Option NodeData) → node_at new k ≡ o → package_made new o ≡ Some q → (x : NodeData) × (node_at new k ≡ Some x) × (x.role ≡ Role.Instance)
-      by_node None e h = absurd (none_some h)
+      by_node None e h = absurd (none-some _ h)
       by_node (Some x) e h = by_of x x.of e refl h
 
   -- what a package's import is stated as
@@ -373,7 +357,7 @@ module _ (old new : Graph) (socket : PackageId) (ids : List PackageId) (sound : 
 
     by_made : (n : Name) (x : ℕ × Name) (f : Found 0 mss n x.0 x.1) (o : Option ℕ) → slice_get plugs.made f.place ≡ Some o → Binds s n (Projection (Inst (to (suc x.0))) x.1)
     by_made n x f None at =
-        let empty : f.ms ≡ [] = some_is (sym f.there ∙ plugs.each.out f.place at) in
+        let empty : f.ms ≡ [] = same_Some _ _ (sym f.there ∙ plugs.each.out f.place at) in
         absurd (subst (Among f.m) empty f.among)
     by_made n x f (Some k) at =
         let p = plugs.each.plug_in f.place k at in
@@ -434,27 +418,27 @@ module _ (old new : Graph) (socket : PackageId) (ids : List PackageId) (sound : 
     no_plug p x q None at here = absurd (not_there q (slice_get mss p) (there_none plugs.made mss p plugs.each.mss_long at) here)
       where
         not_there : (q : Option Part) (o : Option (List Match)) → o ≡ None → plug_at spell q o ≡ Some x → ⊥
-        not_there None o e h = absurd (none_some h)
-        not_there (Some q) None e h = absurd (none_some h)
-        not_there (Some q) (Some ms) e h = absurd (none_some (sym e))
+        not_there None o e h = absurd (none-some _ h)
+        not_there (Some q) None e h = absurd (none-some _ h)
+        not_there (Some q) (Some ms) e h = absurd (none-some _ (sym e))
     no_plug p x q (Some None) at here = absurd (not_there q (slice_get mss p) (plugs.each.out p at) here)
       where
         not_there : (q : Option Part) (o : Option (List Match)) → o ≡ Some [] → plug_at spell q o ≡ Some x → ⊥
-        not_there None o e h = absurd (none_some h)
-        not_there (Some q) None e h = absurd (none_some h)
-        not_there (Some q) (Some []) e h = absurd (none_some h)
+        not_there None o e h = absurd (none-some _ h)
+        not_there (Some q) None e h = absurd (none-some _ h)
+        not_there (Some q) (Some []) e h = absurd (none-some _ h)
         not_there (Some q) (Some (m ∷ ms)) e h = absurd (cc (e))
     no_plug p x q (Some (Some k)) at here = (k, at)
 
     there_is : (k : ℕ) (x : Instantiation ℕ) → V.at k ≡ Some x → (from (to k) ≡ k) × (W.at (to k) ≡ Some (renamed to x))
     there_is zero x at =
         let i = is.instances s sp socket_is in
-        (from_socket, i.1 ∙ ap Some (sym (same_socket i.0 i.2)) ∙ ap (λ y. Some (renamed to y)) (some_is at))
+        (from_socket, i.1 ∙ ap Some (sym (same_socket i.0 i.2)) ∙ ap (λ y. Some (renamed to y)) (same_Some _ _ at))
     there_is (suc p) x at =
         let k = no_plug p x (slice_get (map (part_of old) ids) p) (slice_get plugs.made p) refl at in
         let q = plugs.each.plug_in p k.0 k.1 in
         let i = is.instances k.0 q.of (plug_is p k.0 q) in
-        let body : plug_instance spell (part_of old q.id) ≡ x = some_is (sym (plug_there p k.0 q) ∙ at) in (
+        let body : plug_instance spell (part_of old q.id) ≡ x = same_Some _ _ (sym (plug_there p k.0 q) ∙ at) in (
           ap from (to_plug p k.0 k.1) ∙ from_plug p k.0 k.1,
           ap W.at (to_plug p k.0 k.1) ∙ i.1 ∙ ap Some (sym (same_plug p k.0 q i.0 i.2)) ∙ ap (λ y. Some (renamed to y)) body,
         )
@@ -463,7 +447,7 @@ module _ (old new : Graph) (socket : PackageId) (ids : List PackageId) (sound : 
     back_is j y at = by_instance (some_value (instantiated new j))
       where
         by_instance : (instantiated new j ≡ None) ⊎ ((q : Packaged) × (instantiated new j ≡ Some q)) → (x : Instantiation ℕ) × (V.at (from j) ≡ Some x) × (to (from j) ≡ j)
-        by_instance (inl none) = absurd (none_some (sym (is.no_other j none) ∙ at))
+        by_instance (inl none) = absurd (none-some _ (sym (is.no_other j none) ∙ at))
         by_instance (inr q) = elim (plugs.each.only j q.0 (sym (ex.instances j) ∙ q.1)) [
           | inl same ↦ (socket_instance spell (part_of old socket) mss, ap V.at (ap from same ∙ from_socket), ap to (ap from same ∙ from_socket) ∙ sym same)
           | inr p ↦
@@ -474,7 +458,7 @@ module _ (old new : Graph) (socket : PackageId) (ids : List PackageId) (sound : 
     -- ---- exports
 
     exported_there : (n : Name) (k : ℕ) → value_at new.exports n ≡ Some k → Among n ns × HasAlias new.edges s n k
-    exported_there n k at = elim (ex.found n k (entry_of_value new.exports n k at)) [
+    exported_there n k at = elim (ex.found n k (value_among new.exports n k at)) [
       | inl old ↦ absurd (subst (Among (n, k)) plugs.each.exports old)
       | inr x ↦ x
     ]
@@ -487,7 +471,7 @@ module _ (old new : Graph) (socket : PackageId) (ids : List PackageId) (sound : 
     exports_is n (Some t) there =
         let all = ex.all n (value_named (exports_of (world_of old socket)) n t there) in
         elim (some_value (value_at new.exports n)) [
-          | inl e ↦ absurd (value_none new.exports n e (name_of_entry new.exports n all.0 all.1))
+          | inl e ↦ absurd (value_none new.exports n e (among_name new.exports n all.0 all.1))
           | inr x ↦
               once spell written new after x.0 (Projection (Inst s) n) (W.exports n) (alias_denotes s x.0 n sp socket_is (exported_there n x.0 x.1).1) (is.exported n x.0 x.1)
         ]

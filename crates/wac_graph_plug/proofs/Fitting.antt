@@ -1,5 +1,5 @@
 -- A match fits by the items of its packages.
-use Rattle.std.proofs.Common.{◌≡◌, ◌⊎◌, ℕ, Bool, true, false, ◌==◌, cond, List, [], ◌∷◌, map, Option, Some, None, slice_get, refl, sym, ap, subst, ◌∙◌, inl, inr}
+use Rattle.std.proofs.Common.{◌≡◌, ◌⊎◌, ℕ, Bool, true, false, ◌==◌, cond, List, ◌∷◌, map, Option, Some, None, slice_get, refl, sym, ap, subst, ◌∙◌, inl, inr}
 use Rattle.std.specs.Option.{option_map}
 use Rattle.std.specs.Cmp.Lexicographic.{pointwise, same_text}
 use Rattle.wac_types_base.specs.declared.item.ItemKind.{ItemKind}
@@ -20,8 +20,9 @@ use Rattle.wac_graph_core.specs.Graph.{PackageStands, exported_in, imported_in, 
 use Rattle.wac_graph_core.proofs.Stating.{imports_stated, exports_stated, instance_exports_stated, instance_type_exports}
 use Rattle.wac_graph_plug.specs.declared.matching.Match.{Match}
 use Rattle.wac_graph_plug.specs.Plugging.{Matches, AreMatchesOf, no_exports, matched, passed}
-use Rattle.wac_graph_plug.proofs.Near.{same_name}
 use Rattle.wac_graph_plug.proofs.Gathered.{value_with, names_with}
+use Rattle.wac_types_names.proofs.TrackLaws.{name_among}
+use Rattle.wac_types_fit.proofs.Items.{among-value_at}
 
 -- the export of an instance, and the import that it is for
 pub record Fitting (c : Collection) (pp sp : Packaged) (m : Match) : Type 0 where
@@ -47,20 +48,9 @@ matched_in {is = is} m (matched e i given {es = es} x rest) (inl same) =
 matched_in {is = is} m (matched e i given {es = es} x rest) (inr at) = later is es (e, given) m (matched_in m rest at)
 matched_in {is = is} m (passed e given {es = es} none rest) at = later is es (e, given) m (matched_in m rest at)
 
-named : {X : Type 0} (xs : List (Name × X)) (n : Name) (v : X) → Among (n, v) xs → Among n (names_of xs)
-named [] n v at = absurd at
-named {X = X} (x ∷ xs) n v (inl e) = inl (ap (λ (p : Name × X). p.0) e)
-named (x ∷ xs) n v (inr at) = inr (named xs n v at)
-
 by_test : {X : Type 0} (x : Name × X) (xs : List (Name × X)) (n : Name) (v : X) (b : Bool) → pointwise ◌==◌ n x.0 ≡ b → (Among x.0 (names_of xs) → ⊥) → Among (n, v) xs → value_at xs n ≡ Some v → cond b (Some x.1) (value_at xs n) ≡ Some v
-by_test x xs n v true is d at ih = absurd (d (subst (λ m. Among m (names_of xs)) (same_text n x.0 (sym is)) (named xs n v at)))
+by_test x xs n v true is d at ih = absurd (d (subst (λ m. Among m (names_of xs)) (same_text n x.0 (sym is)) (name_among xs n v at)))
 by_test x xs n v false is d at ih = ih
-
-pub value_of_entry : {X : Type 0} (xs : List (Name × X)) (n : Name) (v : X) → AreDistinct (names_of xs) → Among (n, v) xs → value_at xs n ≡ Some v
-value_of_entry [] n v d at = absurd at
-value_of_entry {X = X} (x ∷ xs) n v d (inl e) =
-    ap (λ b. cond b (Some x.1) (value_at xs n)) (ap (pointwise ◌==◌ n) (sym (ap (λ (p : Name × X). p.0) e)) ∙ same_name n) ∙ ap (λ (p : Name × X). Some p.1) (sym e)
-value_of_entry (x ∷ xs) n v d (inr at) = by_test x xs n v (pointwise ◌==◌ n x.0) refl d.0 at (value_of_entry xs n v d.1 at)
 
 module _ (c : Collection) (acyclic : IsAcyclic c) where
   -- what is stated of an import
@@ -83,7 +73,7 @@ module _ (c : Collection) (acyclic : IsAcyclic c) where
       → (k : ItemKind) × (item_export c (ItemKind.Instance p.instance_type) n ≡ Some k) × (t ≡ stated_of c k)
   given_in p stands d n t at =
       let i = interface_found c p.instance_type stands.instance in
-      let there = sym (value_with (stated_of c) i.value.exports n) ∙ ap (λ l. value_at l n) (sym (exports_same p stands)) ∙ value_of_entry (exports_of (stated_of c (ItemKind.Component p.ty))) n t d at in
+      let there = sym (value_with (stated_of c) i.value.exports n) ∙ ap (λ l. value_at l n) (sym (exports_same p stands)) ∙ among-value_at (exports_of (stated_of c (ItemKind.Component p.ty))) n t d at in
       let r = option_map-some (stated_of c) (value_at i.value.exports n) t there in
       (r.0, ap (λ o. exported_in o n) i.at ∙ r.1, r.2)
 

@@ -1,5 +1,6 @@
 -- The matches of a plug, export by export.
 use Rattle.std.proofs.Common.{◌≡◌, ◌⊎◌, ℕ, ◌+◌, ◌<◌, ◌≤◌, Bool, true, false, ◌==◌, cond, List, [], ◌∷◌, ◌++◌, length, map, take, Option, Some, None, slice_get, refl, sym, ap, subst, ◌∙◌, inl, inr}
+use Rattle.std.proofs.lemmas.Option.{same_Some}
 use Rattle.std.proofs.lemmas.List.{take_all, map-append}
 use Rattle.std.specs.Option.{option_map}
 use Rattle.std.specs.Cmp.Lexicographic.{pointwise}
@@ -15,9 +16,6 @@ use Rattle.wac_graph_plug.specs.declared.matching.Match.{Match}
 use Rattle.wac_graph_plug.specs.Plugging.{Finds, Matches, AreMatchesOf, no_exports, matched, passed}
 use Rattle.wac_graph_plug.specs.Lookups.{IsMatchOf, with_match}
 use Rattle.wac_graph_plug.proofs.Near.{finds_once}
-
-some_is : {A : Type 0} {x y : A} → Some x ≡ Some y → x ≡ y
-some_is e = cc
 
 -- ---- names with other values
 
@@ -56,7 +54,7 @@ module _ (c : Collection) (xs : List (Name × ItemKind)) (e : Name) (given : Ite
   unfolding tree_in
   no_fit i asked f at not_fit j m =
       let same : j ≡ i = finds_once (names_of xs) e j i (found_out j m.finds) f in
-      let types : m.asked ≡ stated_of c asked = some_is (sym m.is ∙ ap (value_at asked_in) same ∙ asked_at i asked at) in
+      let types : m.asked ≡ stated_of c asked = same_Some _ _ (sym m.is ∙ ap (value_at asked_in) same ∙ asked_at i asked at) in
       not_fit (subst (λ t. Fits (tree (stated_of c given)) (tree t)) types m.fits)
 
   pub no_find : ((i : Name) → Finds (names_of xs) e i → ⊥) → (j : Name) → Matches asked_in e (stated_of c given) j → ⊥

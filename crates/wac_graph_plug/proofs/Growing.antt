@@ -1,5 +1,6 @@
 -- What stays when a graph grows.
 use Rattle.std.proofs.Common.{◌≡◌, ◌≢◌, ◌⊎◌, ℕ, List, [], ◌∷◌, ◌++◌, Option, Some, None, IsSome, refl, sym, ap, subst, ◌∙◌, inl, inr}
+use Rattle.std.proofs.lemmas.Option.{same_Some}
 use Rattle.std.proofs.lemmas.Bool.{cases_eq}
 use Rattle.std.proofs.lemmas.List.{append-nil, append_assoc}
 use Rattle.std.specs.FinMap as map
@@ -18,9 +19,6 @@ use Rattle.wac_graph_core.proofs.NodeSteps.{kept_at}
 use Rattle.wac_graph_plug.specs.declared.matching.Match.{Match}
 use Rattle.wac_graph_plug.specs.Steps.{StaysNode, Grown, HasExport, Passes, PassesAll, passed_none, passed_next, ExportsOne}
 use Rattle.wac_graph_plug.specs.Stops.{world_of, worlds_of}
-
-some_is : {A : Type 0} {x y : A} → Some x ≡ Some y → x ≡ y
-some_is e = cc
 
 stays : (g : Graph) (k : ℕ) (x : NodeData) → node_at g k ≡ Some x → StaysNode g k x
 stays g k x at = record { node = x; there = at; role = refl; of = refl; item = refl; name = refl }
@@ -80,7 +78,7 @@ Grown-set g h i n a s = elim s.step [
 written : (m : NodeMap) (k : ℕ) (n : Name) (o : NodeData) → map.get m k ≡ Some o → (g : Graph) → g.nodes ≡ map.insert m k (record o { export = Some n }) → (j : ℕ) (x : NodeData) → map.get m j ≡ Some x → StaysNode g j x
 written m k n o at g nodes j x there = elim (cases_eq j k) [
   | inl e ↦
-      let same : o ≡ x = some_is (sym at ∙ ap (map.get m) (sym e) ∙ there) in
+      let same : o ≡ x = same_Some _ _ (sym at ∙ ap (map.get m) (sym e) ∙ there) in
       record {
         node = record o { export = Some n };
         there = ap (λ m. map.get m j) nodes ∙ ap (map.get (map.insert m k (record o { export = Some n }))) e ∙ get-insert_same m k (record o { export = Some n });

@@ -1,5 +1,6 @@
 -- The instances, the arguments and the exports that plugging makes in a graph without nodes.
 use Rattle.std.proofs.Common.{◌≡◌, ◌≢◌, ◌⊎◌, ℕ, zero, suc, ◌+◌, ◌<◌, List, [], ◌∷◌, ◌++◌, length, Option, Some, None, IsSome, slice_get, refl, sym, ap, subst, ◌∙◌, inl, inr, arith}
+use Rattle.std.proofs.lemmas.Option.{none-some, same_Some}
 use Rattle.std.proofs.lemmas.Bool.{cases_eq}
 use Rattle.wac_types_base.specs.declared.item.ItemKind.{ItemKind}
 use Rattle.wac_types_base.specs.Entries.{Name, AreDistinct}
@@ -14,13 +15,16 @@ use Rattle.wac_graph_core.specs.Steps.{Instantiates, Aliases, AliasesAnew, SetsA
 use Rattle.wac_graph_core.specs.Exporting.{Exports}
 use Rattle.wac_graph_core.proofs.NodeMap.{get-insert_same, get-insert_other}
 use Rattle.wac_graph_core.proofs.EdgeSteps.{edge_from, edge_to, edge_label}
-use Rattle.wac_graph_core.proofs.PlaceSteps.{get_before, get_at_end, get_last}
+use Rattle.wac_graph_core.proofs.PlaceSteps.{get_before, get_last}
 use Rattle.wac_graph_plug.specs.declared.matching.Match.{Match}
 use Rattle.wac_graph_plug.specs.Steps.{Grown, Passes, PassesAll, passed_none, passed_next, PlugsOne, PlugsIn, PlugsEach, plugged_none, plugged_next, ExportsOne, ExportsAll, exported_none, exported_next}
 use Rattle.wac_graph_plug.proofs.Growing.{Grown-alias, Grown-instance, Grown-trans, same_package}
-use Rattle.wac_graph_plug.proofs.State.{Bound, State, IsPlug, last_of, front_of, end_of, no_argument, instantiated-grown, State-instance, apart_from_new}
+use Rattle.wac_graph_plug.proofs.State.{Bound, State, IsPlug, end_of, no_argument, instantiated-grown, State-instance, apart_from_new}
 use Rattle.wac_graph_plug.proofs.Passing.{bound_of, all_bound, exports_in, IsPlug-instance, passes_all_state}
 use Rattle.wac_graph_plug.proofs.Causes.{Grown-all}
+use Rattle.wac_types_fit.proofs.Items.{Among-last}
+use Rattle.wac_graph_core.proofs.Found.{Among-front}
+use Rattle.wac_types_base.proofs.Copying.{last_place}
 
 -- the same instances, the same exports, and arguments for one node more at most
 pub record Quiet (s : ℕ) (g h : Graph) : Type 0 where
@@ -115,12 +119,6 @@ pub record EachMade (g : Graph) (s : ℕ) (ids : List PackageId) (mss : List (Li
   pub args : (k : ℕ) (n : Name) (a : ℕ) → HasArgument g.edges k n a → k ≡ s
   pub exports : g.exports ≡ []
 
-some_is : {A : Type 0} {x y : A} → Some x ≡ Some y → x ≡ y
-some_is e = cc
-
-none_some : {A : Type 0} {x : A} → None ≡ Some x → ⊥
-none_some e = cc e
-
 -- what holds still after one more place
 later_plug : (g h : Graph) (s : ℕ) (ids : List PackageId) (mss : List (List Match)) (id : PackageId) (ms : List Match) (p k : ℕ) → h.places ≡ g.places → instantiated h k ≡ instantiated g k → PlugAt g s ids mss p k → PlugAt h s (ids ++ id ∷ []) (mss ++ ms ∷ []) p k
 later_plug g h s ids mss id ms p k places same at =
@@ -157,18 +155,18 @@ long_more (z ∷ xs) (w ∷ ys) x y e = ap suc (long_more xs ys x y (omega (arit
 -- a plug that stays out
 module _ (g : Graph) (s : ℕ) (ids : List PackageId) (mss : List (List Match)) (made : List (Option ℕ)) (done : List Bound) (id : PackageId) (is : EachMade g s ids mss made done) where
   last_matches : (ms : List Match) → slice_get (mss ++ ms ∷ []) (length made) ≡ Some ms
-  last_matches ms = ap (slice_get (mss ++ ms ∷ [])) is.mss_long ∙ get_at_end mss ms
+  last_matches ms = ap (slice_get (mss ++ ms ∷ [])) is.mss_long ∙ last_place mss ms
 
   pub made_out : EachMade g s (ids ++ id ∷ []) (mss ++ [] ∷ []) (made ++ None ∷ []) done
   made_out =
       record {
         ids_long = long_more made ids None id is.ids_long;
         mss_long = long_more made mss None [] is.mss_long;
-        plug_in = λ p k at. elim (get_last made None p (Some k) at) [ inl old ↦ later_plug g g s ids mss id [] p k refl refl (is.plug_in p k old) | inr r ↦ absurd (none_some r.1) ];
+        plug_in = λ p k at. elim (get_last made None p (Some k) at) [ inl old ↦ later_plug g g s ids mss id [] p k refl refl (is.plug_in p k old) | inr r ↦ absurd (none-some _ r.1) ];
         out = λ p at. elim (get_last made None p None at) [ inl old ↦ get_before mss [] p [] (is.out p old) | inr r ↦ ap (slice_get (mss ++ [] ∷ [])) r.0 ∙ last_matches [] ];
         once = λ p q k at bt. elim (get_last made None p (Some k) at) [
-          | inl a ↦ elim (get_last made None q (Some k) bt) [ inl b ↦ is.once p q k a b | inr r ↦ absurd (none_some r.1) ]
-          | inr r ↦ absurd (none_some r.1)
+          | inl a ↦ elim (get_last made None q (Some k) bt) [ inl b ↦ is.once p q k a b | inr r ↦ absurd (none-some _ r.1) ]
+          | inr r ↦ absurd (none-some _ r.1)
         ];
         only = λ k q at. elim (is.only k q at) [ inl same ↦ inl same | inr r ↦ inr (r.0, get_before made None r.0 (Some k) r.1) ];
         bound_in = λ b at. later_bound mss made [] None b (is.bound_in b at);
@@ -177,7 +175,7 @@ module _ (g : Graph) (s : ℕ) (ids : List PackageId) (mss : List (List Match)) 
             | inl x ↦ is.bound_at p k ms m old x among
             | inr x ↦ absurd (subst (Among m) (sym x.1) among)
           ]
-          | inr r ↦ absurd (none_some r.1)
+          | inr r ↦ absurd (none-some _ r.1)
         ];
         args = is.args;
         exports = is.exports;
@@ -222,7 +220,7 @@ module _ (g : Graph) (s : ℕ) (ids : List PackageId) (mss : List (List Match)) 
           of = r.made.of;
           one = c.0;
           rest = c.1;
-          there = ap (slice_get (ids ++ id ∷ [])) is.ids_long ∙ get_at_end ids id;
+          there = ap (slice_get (ids ++ id ∷ [])) is.ids_long ∙ last_place ids id;
           package_is = ap (λ ps. package_in ps id) places ∙ r.made.is;
           is = ap (instantiated h) (sym same) ∙ is_new;
           matches = last_matches ms ∙ ap Some c.2;
@@ -249,22 +247,22 @@ module _ (g : Graph) (s : ℕ) (ids : List PackageId) (mss : List (List Match)) 
           mss_long = long_more made mss (Some p0) ms is.mss_long;
           plug_in = λ p k at. elim (get_last made (Some p0) p (Some k) at) [
             | inl old ↦ old_plug p k old
-            | inr x ↦ subst (λ j. PlugAt h s (ids ++ id ∷ []) (mss ++ ms ∷ []) j k) (sym x.0) (new_plug k (some_is x.1))
+            | inr x ↦ subst (λ j. PlugAt h s (ids ++ id ∷ []) (mss ++ ms ∷ []) j k) (sym x.0) (new_plug k (same_Some _ _ x.1))
           ];
-          out = λ p at. elim (get_last made (Some p0) p None at) [ inl old ↦ get_before mss ms p [] (is.out p old) | inr x ↦ absurd (none_some (sym x.1)) ];
+          out = λ p at. elim (get_last made (Some p0) p None at) [ inl old ↦ get_before mss ms p [] (is.out p old) | inr x ↦ absurd (none-some _ (sym x.1)) ];
           once = λ p q k at bt. elim (get_last made (Some p0) p (Some k) at) [
-            | inl a ↦ elim (get_last made (Some p0) q (Some k) bt) [ inl b ↦ is.once p q k a b | inr y ↦ absurd (clash p k a (some_is y.1)) ]
-            | inr x ↦ elim (get_last made (Some p0) q (Some k) bt) [ inl b ↦ absurd (clash q k b (some_is x.1)) | inr y ↦ x.0 ∙ sym y.0 ]
+            | inl a ↦ elim (get_last made (Some p0) q (Some k) bt) [ inl b ↦ is.once p q k a b | inr y ↦ absurd (clash p k a (same_Some _ _ y.1)) ]
+            | inr x ↦ elim (get_last made (Some p0) q (Some k) bt) [ inl b ↦ absurd (clash q k b (same_Some _ _ x.1)) | inr y ↦ x.0 ∙ sym y.0 ]
           ];
           only = λ k q at. elim (cases_eq k p0) [
-            | inl e ↦ inr (length made, get_at_end made (Some p0) ∙ ap (λ j. Some (Some j)) (sym e))
+            | inl e ↦ inr (length made, last_place made (Some p0) ∙ ap (λ j. Some (Some j)) (sym e))
             | inr ne ↦ elim (is.only k q (sym (others k ne) ∙ at)) [ inl same ↦ inl same | inr x ↦ inr (x.0, get_before made (Some p0) x.0 (Some k) x.1) ]
           ];
           bound_in = λ b at. elim (split_bound done ms b at) [
             | inl old ↦ later_bound mss made ms (Some p0) b (is.bound_in b old)
             | inr x ↦ record {
               place = length made;
-              there = get_at_end made (Some p0) ∙ ap (λ (c : Bound). Some (Some c.plug)) (sym x.2);
+              there = last_place made (Some p0) ∙ ap (λ (c : Bound). Some (Some c.plug)) (sym x.2);
               ms = ms;
               matches = last_matches ms;
               m = x.0;
@@ -281,7 +279,7 @@ module _ (g : Graph) (s : ℕ) (ids : List PackageId) (mss : List (List Match)) 
               | inl y ↦ absurd (let w = within_made mss p ns y in omega (arith, w, x.0, is.mss_long))
               | inr y ↦
                   in_back done (all_bound p0 ms) (bound_of k m)
-                  (subst (λ j. Among (bound_of j m) (all_bound p0 ms)) (some_is x.1) (bound_among ms m (subst (Among m) (sym y.1) among)))
+                  (subst (λ j. Among (bound_of j m) (all_bound p0 ms)) (same_Some _ _ x.1) (bound_among ms m (subst (Among m) (sym y.1) among)))
             ]
           ];
           args = λ k n a at. elim (passing.args k n a at) [
@@ -326,7 +324,7 @@ pub record AllMade (g : Graph) (s : ℕ) (sp : Packaged) (ids : List PackageId) 
 pub each_made : {s : ℕ} {ids : List PackageId} {mss : List (List Match)} {g h : Graph} (sp : Packaged) → PlugsEach s ids mss g h → ((ms : List Match) → Among ms mss → AreDistinct (exports_in ms)) → State g s sp [] → EachMade g s [] [] [] [] → AllMade h s sp ids mss
 each_made sp plugged_none d st is = record { made = []; done = []; state = st; each = is }
 each_made {s} sp (plugged_next {ids = ids} {id = id} {mss = mss} {ms = ms} {g = g} {h = h} rest one) d st is =
-    let r = each_made sp rest (λ x at. d x (front_of mss ms x at)) st is in
+    let r = each_made sp rest (λ x at. d x (Among-front mss ms x at)) st is in
     by_one r one
   where
     by_one : AllMade g s sp ids mss → PlugsOne s id ms g h → AllMade h s sp (ids ++ id ∷ []) (mss ++ ms ∷ [])

@@ -1,5 +1,6 @@
 -- Names that are near one another, and the import that a name finds.
 use Rattle.std.proofs.Common.{◌≡◌, ◌≢◌, ◌⊎◌, ℕ, zero, suc, ◌+◌, ◌<◌, ◌≤◌, Bool, true, false, ◌==◌, cond, List, [], ◌∷◌, length, map, Option, Some, None, is_some, slice_get, refl, sym, ap, subst, ◌∙◌, inl, inr, arith}
+use Rattle.std.proofs.lemmas.Option.{same_Some}
 use Rattle.std.proofs.lemmas.Bool.{cases_eq}
 use Rattle.std.proofs.lemmas.Bool.Decides.{nat_tests}
 use Rattle.std.specs.Cmp.Lexicographic.{pointwise, same_text}
@@ -9,15 +10,14 @@ use Rattle.wac_types_base.specs.Graph.{Among}
 use Rattle.wac_types_names.specs.Tracks.{AreCompatible, ShareTrack}
 use Rattle.wac_graph_plug.specs.Plugging.{IsAloneOnTrack, Finds}
 use Rattle.wac_graph_plug.specs.Lookups.{IsNear, IsNext, NoneNear}
-
-some_is : {A : Type 0} {x y : A} → Some x ≡ Some y → x ≡ y
-some_is e = cc
+use Rattle.wac_types_base.proofs.Walking.{some_place}
+use Rattle.wac_graph_core.proofs.Found.{same_name}
 
 -- ---- the search
 
 pub far : (xs : List (Name × ItemKind)) (e : Name) (at : ℕ) (n : Name) (k : ItemKind) → slice_get xs at ≡ Some (n, k) → (AreCompatible e n → ⊥) → IsNear xs e at → ⊥
 far xs e at n k there not_near is =
-    let same : (n, k) ≡ (is.name, is.item) = some_is (sym there ∙ is.there) in
+    let same : (n, k) ≡ (is.name, is.item) = same_Some _ _ (sym there ∙ is.there) in
     let names : is.name ≡ n = sym (ap (λ (p : Name × ItemKind). p.0) same) in
     not_near (subst (AreCompatible e) names is.near)
 
@@ -27,14 +27,9 @@ none_so_far xs e low at before here j above below is = elim (cases_eq j at) [
   | inr other ↦ before j above (omega (arith, other, below)) is
 ]
 
-within : {X : Type 0} (xs : List X) (i : ℕ) (x : X) → slice_get xs i ≡ Some x → i < length xs
-within [] i x e = absurd (cc (e))
-within (y ∷ xs) zero x e = omega arith
-within (y ∷ xs) (suc i) x e = let h = within xs i x e in omega (arith, h)
-
 pub none_at_all : (xs : List (Name × ItemKind)) (e : Name) (low at : ℕ) → ((j : ℕ) → low ≤ j → j < at → IsNear xs e j → ⊥) → length xs ≤ at → NoneNear xs e low
 none_at_all xs e low at before past j above is =
-    let h = within xs j (is.name, is.item) is.there in
+    let h = some_place xs j (is.name, is.item) is.there in
     before j above (omega (arith, h, past)) is
 
 -- ---- names and places
@@ -46,24 +41,20 @@ place_of (x ∷ xs) n (inr m) = let r = place_of xs n m in (suc r.0, r.1, r.2)
 
 pub at_place : (xs : List (Name × ItemKind)) (at : ℕ) (n : Name) (k : ItemKind) → slice_get xs at ≡ Some (n, k) → Among n (names_of xs)
 at_place [] at n k e = absurd (cc (e))
-at_place (x ∷ xs) zero n k e = inl (sym (ap (λ (p : Name × ItemKind). p.0) (some_is e)))
+at_place (x ∷ xs) zero n k e = inl (sym (ap (λ (p : Name × ItemKind). p.0) (same_Some _ _ e)))
 at_place (x ∷ xs) (suc at) n k e = inr (at_place xs at n k e)
 
 same_place : (xs : List (Name × ItemKind)) (i j : ℕ) (n : Name) (k l : ItemKind) → AreDistinct (names_of xs) → slice_get xs i ≡ Some (n, k) → slice_get xs j ≡ Some (n, l) → i ≡ j
 same_place [] i j n k l d a b = absurd (cc (a))
 same_place (x ∷ xs) zero zero n k l d a b = refl
 same_place (x ∷ xs) zero (suc j) n k l d a b =
-    absurd (d.0 (subst (λ m. Among m (names_of xs)) (sym (ap (λ (p : Name × ItemKind). p.0) (some_is a))) (at_place xs j n l b)))
+    absurd (d.0 (subst (λ m. Among m (names_of xs)) (sym (ap (λ (p : Name × ItemKind). p.0) (same_Some _ _ a))) (at_place xs j n l b)))
 same_place (x ∷ xs) (suc i) zero n k l d a b =
-    absurd (d.0 (subst (λ m. Among m (names_of xs)) (sym (ap (λ (p : Name × ItemKind). p.0) (some_is b))) (at_place xs i n k a)))
+    absurd (d.0 (subst (λ m. Among m (names_of xs)) (sym (ap (λ (p : Name × ItemKind). p.0) (same_Some _ _ b))) (at_place xs i n k a)))
 same_place (x ∷ xs) (suc i) (suc j) n k l d a b = ap suc (same_place xs i j n k l d.1 a b)
 
 eq_same : (a : ℕ) → (a == a) ≡ true
 eq_same a = grind (arith, nat_tests)
-
-pub same_name : (m : Name) → pointwise ◌==◌ m m ≡ true
-same_name [] = refl
-same_name (x ∷ m) = rw (eq_same x) (same_name m)
 
 pub value_named : {T : Type 0} (xs : List (Name × T)) (n : Name) (k : T) → value_at xs n ≡ Some k → Among n (names_of xs)
 value_named [] n k e = absurd (cc (e))
@@ -85,7 +76,7 @@ value_none (x ∷ xs) n e m = by_test (pointwise ◌==◌ n x.0) refl (value_non
 pub value_at_place : (xs : List (Name × ItemKind)) (at : ℕ) (n : Name) (k : ItemKind) → AreDistinct (names_of xs) → slice_get xs at ≡ Some (n, k) → value_at xs n ≡ Some k
 value_at_place [] at n k d e = absurd (cc (e))
 value_at_place (x ∷ xs) zero n k d e =
-    let same : x ≡ (n, k) = some_is e in
+    let same : x ≡ (n, k) = same_Some _ _ e in
     ap (λ b. cond b (Some x.1) (value_at xs n)) (ap (pointwise ◌==◌ n) (ap (λ (p : Name × ItemKind). p.0) same) ∙ same_name n) ∙ ap (λ (p : Name × ItemKind). Some p.1) same
 value_at_place (x ∷ xs) (suc at) n k d e = by_test (pointwise ◌==◌ n x.0) refl (value_at_place xs at n k d.1 e)
   where
@@ -130,7 +121,7 @@ module _ (xs : List (Name × ItemKind)) (e : Name) (none : value_at xs e ≡ Non
   pub finds_one : (at : ℕ) (n : Name) (k : ItemKind) → IsNext xs e 0 at → NoneNear xs e (at + 1) → slice_get xs at ≡ Some (n, k) → Finds (names_of xs) e n
   finds_one at n k first rest there =
       let s = shares_at at first.near in
-      let name : s.0 ≡ n = ap (λ (p : Name × ItemKind). p.0) (some_is (sym s.2 ∙ there)) in
+      let name : s.0 ≡ n = ap (λ (p : Name × ItemKind). p.0) (same_Some _ _ (sym s.2 ∙ there)) in
       inr (record {
         none = value_none xs e none;
         there = at_place xs at n k there;
@@ -146,7 +137,7 @@ module _ (xs : List (Name × ItemKind)) (e : Name) (none : value_at xs e ≡ Non
 
       only : (m : Name) → (j : ℕ) × (l : ItemKind) × (slice_get xs j ≡ Some (m, l)) → ShareTrack e m → m ≡ n
       only m r share = elim (cases_eq r.0 at) [
-        | inl same ↦ ap (λ (p : Name × ItemKind). p.0) (some_is (sym r.2 ∙ ap (slice_get xs) same ∙ there))
+        | inl same ↦ ap (λ (p : Name × ItemKind). p.0) (same_Some _ _ (sym r.2 ∙ ap (slice_get xs) same ∙ there))
         | inr ne ↦ absurd (not_there r.0 (record { name = m; item = r.1; there = r.2; near = inr share }) ne)
       ]
 

@@ -17,7 +17,10 @@ use Rattle.wac_graph_core.proofs.EdgeSteps.{edge_from, edge_to, edge_label}
 use Rattle.wac_graph_plug.specs.declared.matching.Match.{Match}
 use Rattle.wac_graph_plug.specs.Steps.{Grown, StaysNode, Passes, PassesAll, passed_none, passed_next}
 use Rattle.wac_graph_plug.proofs.Growing.{Grown-alias, Grown-instance, Grown-set, ContainsNode-grown}
-use Rattle.wac_graph_plug.proofs.State.{Bound, imports_of_all, State, IsPlug, last_of, front_of, end_of, distinct_front, map_end, no_argument, no_alias, alias_name, instantiated-grown, State-instance, State-alias, State-set, apart_from_new, nothing_from}
+use Rattle.wac_graph_plug.proofs.State.{Bound, imports_of_all, State, IsPlug, end_of, distinct_front, no_argument, no_alias, alias_name, instantiated-grown, State-instance, State-alias, State-set, apart_from_new, nothing_from}
+use Rattle.wac_types_fit.proofs.Items.{Among-last}
+use Rattle.wac_graph_core.proofs.Found.{Among-front}
+use Rattle.wac_types_base.proofs.Loops.{mapped_next}
 
 abbrev pub bound_of : ℕ → Match → Bound
 bound_of p m = record { plug = p; export = m.export; import = m.import }
@@ -60,7 +63,7 @@ module _ (s p : ℕ) (sp pp : Packaged) (apart : p ≢ s) where
   alias_state g h done es e k st is made = (
     State-alias g h s sp done st p k e apart made (plug_there g es is),
     IsPlug-grown g h p pp es (es ++ e ∷ []) (Grown-alias g h p e k (inr made)) (λ n j m. elim ((made.edges (alias_edge p j n)).0 m) [
-      | inl old ↦ front_of es e n (is.aliases n j old)
+      | inl old ↦ Among-front es e n (is.aliases n j old)
       | inr same ↦ subst (λ x. Among x (es ++ e ∷ [])) (sym (ap (λ l. alias_name l n) (edge_label same))) (end_of es e)
     ]) is,
   )
@@ -89,9 +92,9 @@ module _ (s p : ℕ) (sp pp : Packaged) (apart : p ≢ s) where
       → State h s sp (done ++ all_bound p ms) × IsPlug h p pp (exports_in ms)
   passes_all_state {h = h} done passed_none st is d = (subst (State h s sp) (sym (append-nil done)) st, is)
   passes_all_state {h = h} done (passed_next {ms = ms} {m = m} {g = g} rest one) st is d =
-      let split = distinct_front (exports_in ms) m.export (subst AreDistinct (map_end (λ (m : Match). m.export) ms m) d) in
+      let split = distinct_front (exports_in ms) m.export (subst AreDistinct (mapped_next (λ (m : Match). m.export) ms m) d) in
       let r = passes_all_state done rest st is split.0 in
       let q = passes_state g h (done ++ all_bound p ms) (exports_in ms) m r.0 r.1 split.1 one in (
-        subst (State h s sp) (append_assoc done (all_bound p ms) (bound_of p m ∷ []) ∙ ap (λ bs. done ++ bs) (sym (map_end (bound_of p) ms m))) q.0,
-        subst (IsPlug h p pp) (sym (map_end (λ (m : Match). m.export) ms m)) q.1,
+        subst (State h s sp) (append_assoc done (all_bound p ms) (bound_of p m ∷ []) ∙ ap (λ bs. done ++ bs) (sym (mapped_next (bound_of p) ms m))) q.0,
+        subst (IsPlug h p pp) (sym (mapped_next (λ (m : Match). m.export) ms m)) q.1,
       )

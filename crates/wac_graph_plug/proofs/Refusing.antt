@@ -1,5 +1,6 @@
 -- Why a match is not passed: its import has got an argument before.
 use Rattle.std.proofs.Common.{◌≡◌, ◌≢◌, ◌⊎◌, ℕ, Bool, true, false, ◌==◌, cond, List, [], ◌∷◌, ◌++◌, map, Option, Some, None, IsSome, refl, sym, ap, subst, ◌∙◌, inl, inr, arith}
+use Rattle.std.proofs.lemmas.Option.{same_Some}
 use Rattle.std.specs.Prelude.{string_bytes}
 use Rattle.wac_types_base.specs.declared.item.ItemKind.{ItemKind}
 use Rattle.wac_types_base.specs.Record.{Collection}
@@ -17,16 +18,14 @@ use Rattle.wac_graph_core.specs.Graph.{Graph, node_at, instantiated, item_export
 use Rattle.wac_graph_core.specs.Steps.{Aliases, AliasesAnew}
 use Rattle.wac_graph_core.specs.Refusals.{ArgumentRefused, Mismatches, LacksArgument, IsOpen}
 use Rattle.wac_graph_core.proofs.NodeMap.{get-insert_same}
-use Rattle.wac_graph_core.proofs.Found.{eq_true, same_edge}
+use Rattle.wac_graph_core.proofs.Found.{same_edge}
 use Rattle.wac_graph_plug.specs.declared.matching.Match.{Match}
 use Rattle.wac_graph_plug.specs.Stops.{IsPassedTwice}
 use Rattle.wac_graph_plug.proofs.Growing.{Grown-alias}
 use Rattle.wac_graph_plug.proofs.State.{Bound, imports_of_all, State, IsPlug, apart_from_new}
 use Rattle.wac_graph_plug.proofs.Passing.{alias_made, alias_state}
 use Rattle.wac_graph_plug.proofs.Fitting.{Fitting}
-
-some_is : {A : Type 0} {x y : A} → Some x ≡ Some y → x ≡ y
-some_is e = cc
+use Rattle.wac_types_base.proofs.Replacing.{same_number}
 
 among_mapped : {X Y : Type 0} (f : X → Y) (xs : List X) (x : X) → Among x xs → Among (f x) (map f xs)
 among_mapped f [] x at = absurd at
@@ -36,7 +35,7 @@ among_mapped f (y ∷ xs) x (inr at) = inr (among_mapped f xs x at)
 -- ---- nothing is reached from the socket
 
 only_one : (s j : ℕ) (b : Bool) → (s == j) ≡ b → cond b true false ≡ true → j ≡ s
-only_one s j true is h = sym (eq_true s j is)
+only_one s j true is h = sym (same_number s j is)
 only_one s j false is h = absurd (cc (h))
 
 module _ (es : List Edge) (s : ℕ) (quiet : (n : Name) (k : ℕ) → HasAlias es s n k → ⊥) (loose : (i : ℕ) (n : Name) → HasArgument es i n s → ⊥) where
@@ -66,16 +65,16 @@ module _ (s p : ℕ) (sp pp : Packaged) (apart : p ≢ s) (g h : Graph) (done : 
   asked_here = ap (λ c. item_import c sp.ty m.import) types ∙ fits.is_asked
 
   same_of : (q : Packaged) → instantiated h s ≡ Some q → q ≡ sp
-  same_of q at = some_is (sym at ∙ after.socket)
+  same_of q at = same_Some _ _ (sym at ∙ after.socket)
 
   asked_is : (item : ItemKind) → IsArgument h s m.import item → item ≡ fits.asked
   asked_is item a =
-      some_is (sym a.import ∙ ap (λ (q : Packaged). item_import h.types q.ty m.import) (same_of a.of a.is) ∙ asked_here)
+      same_Some _ _ (sym a.import ∙ ap (λ (q : Packaged). item_import h.types q.ty m.import) (same_of a.of a.is) ∙ asked_here)
 
   given_is : made.item ≡ fits.given
   given_is =
-      let node : made.export.node ≡ is.node = some_is (sym made.export.there ∙ is.at) in
-      some_is (sym made.export.kind ∙ ap (λ (x : NodeData). item_export g.types x.item_kind m.export) node ∙ ap (λ x. item_export g.types x m.export) is.kind ∙ fits.is_given)
+      let node : made.export.node ≡ is.node = same_Some _ _ (sym made.export.there ∙ is.at) in
+      same_Some _ _ (sym made.export.kind ∙ ap (λ (x : NodeData). item_export g.types x.item_kind m.export) node ∙ ap (λ x. item_export g.types x m.export) is.kind ∙ fits.is_given)
 
   node_here : node_at h k ≡ Some (plain_node Role.Aliased None made.item)
   node_here = ap (λ (x : Graph). node_at x k) made.made ∙ get-insert_same g.nodes k (plain_node Role.Aliased None made.item)
@@ -87,7 +86,7 @@ module _ (s p : ℕ) (sp pp : Packaged) (apart : p ≢ s) (g h : Graph) (done : 
 
   it_fits : (item : ItemKind) (x : NodeData) → IsArgument h s m.import item → node_at h k ≡ Some x → Fit h.types x.item_kind h.types item
   it_fits item x a at =
-      let kind : x.item_kind ≡ fits.given = ap (λ (y : NodeData). y.item_kind) (some_is (sym at ∙ node_here)) ∙ given_is in
+      let kind : x.item_kind ≡ fits.given = ap (λ (y : NodeData). y.item_kind) (same_Some _ _ (sym at ∙ node_here)) ∙ given_is in
       subst (λ c. Fit c x.item_kind c item) (sym types)
       (subst (λ i. Fit g.types i g.types item) (sym kind) (subst (λ i. Fit g.types fits.given g.types i) (sym (asked_is item a)) fits.fits))
 

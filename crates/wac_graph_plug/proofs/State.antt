@@ -1,5 +1,5 @@
 -- What holds of a graph while plugs are plugged.
-use Rattle.std.proofs.Common.{◌≡◌, ◌≢◌, ◌⊎◌, ℕ, List, [], ◌∷◌, ◌++◌, map, Option, Some, None, IsSome, refl, sym, ap, subst, ◌∙◌, inl, inr}
+use Rattle.std.proofs.Common.{◌≡◌, ◌≢◌, ℕ, List, [], ◌∷◌, ◌++◌, map, Option, Some, None, IsSome, refl, sym, ap, subst, ◌∙◌, inl, inr}
 use Rattle.wac_types_base.specs.declared.item.ItemKind.{ItemKind}
 use Rattle.wac_types_base.specs.Entries.{Name, AreDistinct}
 use Rattle.wac_types_base.specs.Graph.{Among}
@@ -17,6 +17,9 @@ use Rattle.wac_graph_core.proofs.EdgeSteps.{edge_from, edge_to, edge_label}
 use Rattle.wac_graph_plug.specs.declared.matching.Match.{Match}
 use Rattle.wac_graph_plug.specs.Steps.{Grown, Passes, PassesAll, passed_none, passed_next}
 use Rattle.wac_graph_plug.proofs.Growing.{Grown-alias, Grown-instance, Grown-set, ContainsNode-grown}
+use Rattle.wac_types_fit.proofs.Items.{Among-last}
+use Rattle.wac_graph_core.proofs.Found.{Among-front}
+use Rattle.wac_types_base.proofs.Loops.{mapped_next}
 
 -- an export of a plug's instance that is passed
 pub record Bound : Type 0 where
@@ -49,34 +52,19 @@ pub record IsPlug (g : Graph) (p : ℕ) (pp : Packaged) (exports : List Name) : 
 
 -- ---- lists
 
-pub last_of : {X : Type 0} (xs : List X) (x y : X) → Among y (xs ++ x ∷ []) → Among y xs ⊎ (y ≡ x)
-last_of [] x y (inl e) = inr e
-last_of [] x y (inr m) = absurd m
-last_of (z ∷ xs) x y (inl e) = inl (inl e)
-last_of (z ∷ xs) x y (inr m) = elim (last_of xs x y m) [ inl h ↦ inl (inr h) | inr e ↦ inr e ]
-
-pub front_of : {X : Type 0} (xs : List X) (x y : X) → Among y xs → Among y (xs ++ x ∷ [])
-front_of [] x y m = absurd m
-front_of (z ∷ xs) x y (inl e) = inl e
-front_of (z ∷ xs) x y (inr m) = inr (front_of xs x y m)
-
 pub end_of : {X : Type 0} (xs : List X) (x : X) → Among x (xs ++ x ∷ [])
 end_of [] x = inl refl
 end_of (z ∷ xs) x = inr (end_of xs x)
 
 pub distinct_end : (ns : List Name) (n : Name) → AreDistinct ns → (Among n ns → ⊥) → AreDistinct (ns ++ n ∷ [])
 distinct_end [] n d none = (λ m. m, tt)
-distinct_end (m ∷ ns) n d none = (λ at. elim (last_of ns n m at) [ inl old ↦ d.0 old | inr same ↦ none (inl (sym same)) ], distinct_end ns n d.1 (λ at. none (inr at)))
+distinct_end (m ∷ ns) n d none = (λ at. elim (Among-last ns n m at) [ inl old ↦ d.0 old | inr same ↦ none (inl (sym same)) ], distinct_end ns n d.1 (λ at. none (inr at)))
 
 pub distinct_front : (ns : List Name) (n : Name) → AreDistinct (ns ++ n ∷ []) → AreDistinct ns × (Among n ns → ⊥)
 distinct_front [] n d = (tt, λ m. m)
 distinct_front (m ∷ ns) n d =
     let r = distinct_front ns n d.1 in
-    ((λ at. d.0 (front_of ns n m at), r.0), λ at. elim at [ inl same ↦ d.0 (subst (λ x. Among x (ns ++ n ∷ [])) same (end_of ns n)) | inr later ↦ r.1 later ])
-
-pub map_end : {X Y : Type 0} (f : X → Y) (xs : List X) (x : X) → map f (xs ++ x ∷ []) ≡ map f xs ++ f x ∷ []
-map_end f [] x = refl
-map_end f (y ∷ xs) x = ap (λ ys. f y ∷ ys) (map_end f xs x)
+    ((λ at. d.0 (Among-front ns n m at), r.0), λ at. elim at [ inl same ↦ d.0 (subst (λ x. Among x (ns ++ n ∷ [])) same (end_of ns n)) | inr later ↦ r.1 later ])
 
 pub among_map : {X Y : Type 0} (f : X → Y) (xs : List X) (y : Y) → Among y (map f xs) → (x : X) × Among x xs × (f x ≡ y)
 among_map f [] y m = absurd m
@@ -197,11 +185,11 @@ module _ (g h : Graph) (s : ℕ) (sp : Packaged) (done : List Bound) (st : State
         loose = λ i m at. elim ((made.edges (argument_edge s i m)).0 at) [ inl old ↦ st.loose i m old | inr same ↦ apart (sym (edge_from same)) ];
         own = λ i m at. elim ((made.edges (alias_edge i s m)).0 at) [ inl old ↦ st.own i m old | inr same ↦ no_alias m n (edge_label same) ];
         bound = λ m a at. elim ((made.edges (argument_edge a s m)).0 at) [
-          | inl old ↦ let r = st.bound m a old in (r.0, front_of done one r.0 r.1, r.2, (made.edges (alias_edge r.0.plug a r.0.export)).1 (inl r.3))
+          | inl old ↦ let r = st.bound m a old in (r.0, Among-front done one r.0 r.1, r.2, (made.edges (alias_edge r.0.plug a r.0.export)).1 (inl r.3))
           | inr same ↦
               (one, end_of done one, sym (ap (λ l. argument_name l n) (edge_label same)), subst (λ j. HasAlias h.edges p e j) (sym (edge_from same)) ((made.edges (alias_edge p k e)).1 (inl aliased)))
         ];
-        complete = λ b m. elim (last_of done one b m) [
+        complete = λ b m. elim (Among-last done one b m) [
           | inl old ↦
               let r = st.complete b old in
               (r.0, (made.edges (argument_edge r.0 s b.import)).1 (inl r.1), (made.edges (alias_edge b.plug r.0 b.export)).1 (inl r.2))
@@ -209,5 +197,5 @@ module _ (g h : Graph) (s : ℕ) (sp : Packaged) (done : List Bound) (st : State
               subst (λ (b : Bound). (a : ℕ) × HasArgument h.edges s b.import a × HasAlias h.edges b.plug b.export a) (sym same)
               (k, (made.edges (argument_edge k s n)).1 (inr refl), (made.edges (alias_edge p k e)).1 (inl aliased))
         ];
-        distinct = subst AreDistinct (sym (map_end (λ (b : Bound). b.import) done one)) (distinct_end (imports_of_all done) n st.distinct new_import);
+        distinct = subst AreDistinct (sym (mapped_next (λ (b : Bound). b.import) done one)) (distinct_end (imports_of_all done) n st.distinct new_import);
       }

@@ -14,7 +14,7 @@ use Rattle.wac_graph_plug.specs.Steps.{ExportsAll}
 use Rattle.wac_graph_plug.specs.Stops.{PlugsAll, StopsAll, StopsExporting, socket_exports, Plugs, PlugsNone, PlugRefused, PlugCause, IsPlugged}
 use Rattle.wac_graph_plug.proofs.Causes.{argument_cause, none_cause}
 use Rattle.wac_graph_plug.proofs.Final.{is_plugged}
-use Rattle.wac_graph_plug.proofs.Calls.{among_index}
+use Rattle.wac_types_base.proofs.Looked.{among-get}
 
 no_memory : {f : PlugFault} → PlugError.GraphError f ≡ PlugError.Memory → ⊥
 no_memory e = absurd (cc)
@@ -59,7 +59,7 @@ module _ (old first second new : Graph) (socket : PackageId) (ids : List Package
   pub cause_export : (e : PlugError) → StopsExporting s (socket_exports old socket) e second new → PlugCause old socket ids e
   cause_export PlugError.NoPlugHappened r = absurd r.stops
   cause_export (PlugError.GraphError (PlugFault.Argument f)) r = absurd r.stops
-  cause_export (PlugError.GraphError (PlugFault.Export f)) r = (r.at, among_index (socket_exports old socket) r.place r.at r.there, new, r.stops.3)
+  cause_export (PlugError.GraphError (PlugFault.Export f)) r = (r.at, among-get (socket_exports old socket) r.place r.at r.there, new, r.stops.3)
   cause_export PlugError.Memory r = tt
 
   pub plugs_whole : ExportsAll s (socket_exports old socket) second new → Plugs old new socket ids

@@ -6,15 +6,14 @@ use Rattle.std.proofs.lemmas.List.{length_push}
 use Rattle.wac_types_base.specs.Record.{Collection}
 use Rattle.wac_types_base.specs.Graph.{Among}
 use Rattle.wac_types_base.specs.Entries.{Name, value_at}
-use Rattle.wac_types_base.specs.Collection.{resource}
-use Rattle.wac_types_base.specs.Tree.{Tree, rigid, instance, component, core_module, handle_own, handle_borrow, type_item}
+use Rattle.wac_types_base.specs.Tree.{Tree}
 use Rattle.wac_graph_bytes.specs.declared.value.Sort.{Sort}
 use Rattle.wac_graph_bytes.specs.declared.value.Sort.TheVariants as sort
 use Rattle.wac_graph_bytes.specs.declared.value.Description.{Description}
 use Rattle.wac_graph_bytes.specs.declared.value.Description.TheVariants as desc
 use Rattle.wac_graph_bytes.specs.declared.entry.Declaration.{Declaration, Export}
 use Rattle.wac_graph_bytes.specs.Entries.{End}
-use Rattle.wac_graph_bytes.specs.Typing.{◌>>=◌, Worlds, Meaning, Item, Scope, with_one, Inside, nothing_inside, exports_inside, declared, described, item_of, type_in, as_func, as_sort, type_tree, type_at}
+use Rattle.wac_graph_bytes.specs.Typing.{◌>>=◌, Worlds, Meaning, Item, Scope, with_one, Inside, nothing_inside, exports_inside, declared, described, item_of, as_func, as_sort, type_tree, type_at}
 use Rattle.wac_graph_bytes.specs.Views.{before, declarations_of}
 use Rattle.wac_graph_bytes.proofs.Steps.{get_last}
 use Rattle.wac_graph_bytes.proofs.Extending.{one_more}
@@ -22,17 +21,7 @@ use Rattle.wac_graph_scopes.specs.declared.scope.KnownType.{KnownType}
 use Rattle.wac_graph_scopes.specs.declared.scope.TypeScope.{TypeScope}
 use Rattle.wac_graph_scopes.specs.Scopes.{IsScope, Exports, ExportsType}
 use Rattle.wac_graph_scopes.proofs.ScopeLaws.{Extends-one, known_kept, resource_kept}
-
--- a type as an item is that type again
-type_back : (t : Tree) → type_in (item_of t) ≡ Some t
-type_back (rigid (resource n) r) = refl
-type_back (rigid s r) = refl
-type_back (instance xs) = refl
-type_back (component is es) = refl
-type_back (core_module is es) = refl
-type_back (handle_own t) = refl
-type_back (handle_borrow t) = refl
-type_back (type_item t) = refl
+use Rattle.wac_graph_bytes.proofs.Looked.{type_in_item}
 
 module _ (w : Worlds) (c : Collection) (outer : List Scope) (i : Inside) where
   export_reads : (n : String Global) (d : Description) (x : Sort × Tree) → described w (i.here ∷ outer) (string_bytes n) d ≡ Some x → declared w outer i (before (Export n d) End) ≡ Some (exports_inside (string_bytes n) x i)
@@ -74,5 +63,5 @@ module _ (w : Worlds) (c : Collection) (outer : List Scope) (i : Inside) where
       let m = Item (string_bytes n) sort.Ty (item_of t) in
       record {
         exported = export_added n (desc.Equal k) (sort.Ty, item_of t) s u h (ap (λ (o : Option Tree). o >>= λ y. Some (sort.Ty, item_of y)) at) ds (omega (arith, ts, h.types, length_push i.here.types m)) ks rs;
-        index = ap (λ (o : Option Meaning). o >>= type_tree w) (get_last i.here.types m s.types h.types) ∙ type_back t;
+        index = ap (λ (o : Option Meaning). o >>= type_tree w) (get_last i.here.types m s.types h.types) ∙ type_in_item t;
       }

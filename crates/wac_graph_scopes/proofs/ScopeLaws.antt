@@ -26,6 +26,7 @@ use Rattle.wac_graph_bytes.proofs.Extending.{one_more}
 use Rattle.wac_graph_scopes.specs.declared.scope.KnownType.{KnownType}
 use Rattle.wac_graph_scopes.specs.declared.scope.TypeScope.{TypeScope}
 use Rattle.wac_graph_scopes.specs.Scopes.{Extends, IsKnown, IsResource, IsScope, Goes, AnswersType, PlaceReads, PlacesRead}
+use Rattle.wac_types_fit.proofs.Items.{Among-last}
 
 -- ---- what stands on
 
@@ -144,18 +145,12 @@ further : {X : Type 0} (xs : List X) (x y z : X) → Among y xs ⊎ (y ≡ x) �
 further xs x y z (inl b) = inl (inr b)
 further xs x y z (inr e) = inr e
 
-among_more : {X : Type 0} (xs : List X) (x y : X) → Among y (xs ++ x ∷ []) → Among y xs ⊎ (y ≡ x)
-among_more [] x y (inl e) = inr e
-among_more [] x y (inr a) = absurd a
-among_more (z ∷ xs) x y (inl e) = inl (inl e)
-among_more (z ∷ xs) x y (inr a) = further xs x y z (among_more xs x y a)
-
 pub scope_remembers : (w : Worlds) (c : Collection) (outer : List Scope) (i : Inside) (s u : TypeScope) (k : KnownType) → IsScope w c outer i s → IsKnown w (i.here ∷ outer) c k
     → u.declarations.items ≡ s.declarations.items → u.types ≡ s.types → u.known.items ≡ s.known.items ++ k ∷ [] → u.resources ≡ s.resources → IsScope w c outer i u
 scope_remembers w c outer i s u k h true_of d t ks rs = record {
   reads = ap (λ (l : List Declaration). declared w outer nothing_inside (declarations_of l)) d ∙ h.reads;
   types = t ∙ h.types;
-  known = λ x a. by x (among_more s.known.items k x (subst (λ (l : List KnownType). Among x l) ks a));
+  known = λ x a. by x (Among-last s.known.items k x (subst (λ (l : List KnownType). Among x l) ks a));
   resources = λ n k a. h.resources n k (subst (λ (l : List (Name × ℕ)). value_at l n ≡ Some k) rs a);
 }
   where

@@ -1,6 +1,8 @@
 -- What holds of a scope of written types while it is being written: an instance type, a component type, or the root of a
 -- component before anything is instantiated.
-use Rattle.std.specs.Prelude.{◌≡◌, ℕ, List, [], ◌∷◌, ◌++◌, length, Option, Some, None, slice_get, IfSome}
+use Rattle.std.specs.Prelude.{◌≡◌, ℕ, List, [], ◌∷◌, ◌++◌, length, Option, Result, Some, None, slice_get, IfSome, IfOk}
+use Rattle.std.specs.declared.alloc.Global.{Global}
+use Rattle.std.specs.declared.vec.Vec.{Vec}
 use Rattle.wac_types_base.specs.declared.ids.DefinedTypeId.{DefinedTypeId}
 use Rattle.wac_types_base.specs.declared.item.ValueType.{ValueType}
 use Rattle.wac_types_base.specs.declared.item.ItemKind.{ItemKind}
@@ -8,13 +10,15 @@ use Rattle.wac_types_base.specs.Record.{Collection}
 use Rattle.wac_types_base.specs.Graph.{Among}
 use Rattle.wac_types_base.specs.Entries.{Name, value_at}
 use Rattle.wac_types_base.specs.Collection.{resource}
+use Rattle.wac_types_base.specs.Resolving.{IsNoAlias}
 use Rattle.wac_types_base.specs.Tree.{Tree, rigid, end}
 use Rattle.wac_types_fit.specs.Trees.{tree_in}
 use Rattle.wac_graph_bytes.specs.declared.value.Sort.{Sort}
 use Rattle.wac_graph_bytes.specs.declared.value.ValueType.{ValueType as Written}
 use Rattle.wac_graph_bytes.specs.declared.value.ValueType.TheVariants.{Index}
-use Rattle.wac_graph_bytes.specs.Typing.{Worlds, Meaning, Scope, space, Inside, nothing_inside, declared, item_of, type_at, value_of}
-use Rattle.wac_graph_bytes.specs.Views.{declarations_of}
+use Rattle.wac_graph_bytes.specs.Typing.{Worlds, Meaning, Scope, space, Inside, nothing_inside, declared, defined, item_of, type_at, value_of, as_func}
+use Rattle.wac_graph_bytes.specs.declared.entry.DefinedType.{DefinedType}
+use Rattle.wac_graph_bytes.specs.Views.{declarations_of, defined_view}
 use Rattle.wac_graph_scopes.specs.declared.scope.KnownType.{KnownType}
 use Rattle.wac_graph_scopes.specs.declared.scope.TypeScope.{TypeScope}
 
@@ -110,3 +114,49 @@ pub record Exports (w : Worlds) (c : Collection) (outer : List Scope) (i : Insid
 pub record ExportsType (w : Worlds) (c : Collection) (outer : List Scope) (i : Inside) (n : Name) (t : Tree) (s : TypeScope) (k : ℕ) : Type 0 where
   pub exported : Exports w c outer i n (item_of t) s
   pub index : type_at w (exported.after.here ∷ outer) k ≡ Some t
+
+-- ---- whatever scope of the collection it was, this is answered
+
+abbrev pub WritesValue : {E : Type 0} → Collection → Tree → TypeScope → TypeScope → Result Written E → Type 0
+WritesValue c t old new r = (w : Worlds) (outer : List Scope) (i : Inside) → IsScope w c outer i old → IfOk r (λ b. AnswersValue w c outer i t new b)
+
+abbrev pub WritesType : {E : Type 0} → Collection → Tree → TypeScope → TypeScope → Result ℕ E → Type 0
+WritesType c t old new r = (w : Worlds) (outer : List Scope) (i : Inside) → IsScope w c outer i old → IfOk r (λ k. AnswersType w c outer i t new k)
+
+abbrev pub WritesPlaces : {E : Type 0} → Collection → List (Option Tree) → TypeScope → TypeScope → Result (Vec (Option Written) Global) E → Type 0
+WritesPlaces c ts old new r = (w : Worlds) (outer : List Scope) (i : Inside) → IsScope w c outer i old → IfOk r (λ v. AnswersPlaces w c outer i ts new v.items)
+
+abbrev pub WritesPlace : {E : Type 0} → Collection → Option Tree → TypeScope → TypeScope → Result (Option Written) E → Type 0
+WritesPlace c t old new r = (w : Worlds) (outer : List Scope) (i : Inside) → IsScope w c outer i old → IfOk r (λ b. AnswersPlace w c outer i t new b)
+
+-- the index of a defined type that is no alias
+abbrev pub WritesEntry : {E : Type 0} → Collection → DefinedTypeId → TypeScope → TypeScope → Result ℕ E → Type 0
+WritesEntry c id old new r = (w : Worlds) (outer : List Scope) (i : Inside) → IsNoAlias c (ValueType.Defined id) → IsScope w c outer i old
+    → IfOk r (λ k. AnswersValue w c outer i (tree_in c (ItemKind.Value (ValueType.Defined id))) new (Index k))
+
+abbrev pub FindsResource : {E : Type 0} → Collection → Tree → TypeScope → Result ℕ E → Type 0
+FindsResource c t s r = (w : Worlds) (outer : List Scope) (i : Inside) → IsScope w c outer i s → IfOk r (λ k. type_at w (i.here ∷ outer) k ≡ Some t)
+
+-- ---- of whatever collection the scope was
+
+abbrev pub Defines : {E : Type 0} → DefinedType → TypeScope → TypeScope → Result ℕ E → Type 0
+Defines ty old new r = (w : Worlds) (c : Collection) (outer : List Scope) (i : Inside) (t : Tree) → IsScope w c outer i old → defined w (i.here ∷ outer) (defined_view ty) ≡ Some t
+    → IfOk r (λ k. AnswersType w c outer i t new k)
+
+abbrev pub ExportsFunction : {U E : Type 0} → Name → ℕ → TypeScope → TypeScope → Result U E → Type 0
+ExportsFunction n ty old new r = (w : Worlds) (c : Collection) (outer : List Scope) (i : Inside) (t : Tree) → IsScope w c outer i old → type_at w (i.here ∷ outer) ty ≡ Some t → as_func t ≡ Some t
+    → IfOk r (λ _. Exports w c outer i n t new)
+
+abbrev pub ExportsNewType : {E : Type 0} → Name → ℕ → TypeScope → TypeScope → Result ℕ E → Type 0
+ExportsNewType n ty old new r = (w : Worlds) (c : Collection) (outer : List Scope) (i : Inside) (t : Tree) → IsScope w c outer i old → type_at w (i.here ∷ outer) ty ≡ Some t
+    → IfOk r (λ k. ExportsType w c outer i n t new k)
+
+-- the index is remembered for the type that it stands for
+abbrev pub Remembers : {U E : Type 0} → DefinedTypeId → ℕ → TypeScope → TypeScope → Result U E → Type 0
+Remembers id k old new r = (w : Worlds) (c : Collection) (outer : List Scope) (i : Inside) → IsScope w c outer i old → StandsFor w (i.here ∷ outer) c id k → IfOk r (λ _. IsScope w c outer i new)
+
+abbrev pub FindsKnown : TypeScope → Option KnownType → Type 0
+FindsKnown s o = (w : Worlds) (c : Collection) (outer : List Scope) (i : Inside) → IsScope w c outer i s → IfSome o (IsKnown w (i.here ∷ outer) c)
+
+abbrev pub KnowsResource : TypeScope → Name → Option ℕ → Type 0
+KnowsResource s n o = (w : Worlds) (c : Collection) (outer : List Scope) (i : Inside) → IsScope w c outer i s → IfSome o (λ k. type_at w (i.here ∷ outer) k ≡ Some (rigid (resource n) end))

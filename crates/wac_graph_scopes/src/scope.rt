@@ -1,18 +1,10 @@
 //! A scope of written types.
 
-ghost use Rattle.std.specs.Prelude.{◌≡◌, ◌∷◌, ◌<◌, ◌+◌, ◌↔◌, ℕ, List, [], Some, None, IfOk, IfErr, IfSome, IsSome, IsTrue, Err, slice_get, length, string_bytes};
-ghost use Rattle.wac_types_base.specs.declared.item.ItemKind.{ItemKind};
-ghost use Rattle.wac_types_base.specs.declared.item.ValueType.{ValueType};
+ghost use Rattle.std.specs.Prelude.{◌≡◌, ◌+◌, ◌↔◌, List, IfOk, IfErr, IsTrue, Err, string_bytes};
 ghost use Rattle.wac_types_base.specs.Record.{Collection};
-ghost use Rattle.wac_types_base.specs.Graph.{Among};
-ghost use Rattle.wac_types_base.specs.Collection.{resource};
-ghost use Rattle.wac_types_base.specs.Tree.{Tree, rigid, end};
-ghost use Rattle.wac_types_fit.specs.Trees.{tree_in};
 ghost use Rattle.wac_graph_bytes.specs.declared.fault.SizeError.TheVariants.{TooLarge};
-ghost use Rattle.wac_graph_bytes.specs.declared.value.ValueType.TheVariants.{Index};
-ghost use Rattle.wac_graph_bytes.specs.Typing.{Worlds, Scope, Inside, nothing_inside, defined, type_at, value_of, as_func};
-ghost use Rattle.wac_graph_bytes.specs.Views.{defined_view};
-ghost use Rattle.wac_graph_scopes.specs.Scopes.{IsScope, IsKnown, Forgets, FindsType, AnswersType, Exports, ExportsType};
+ghost use Rattle.wac_graph_bytes.specs.Typing.{Worlds, Scope, nothing_inside};
+ghost use Rattle.wac_graph_scopes.specs.Scopes.{IsScope, Forgets, FindsType, Defines, ExportsFunction, ExportsNewType, Remembers, FindsKnown, KnowsResource};
 
 use crate::prints::Prints;
 use indexmap::IndexMap;
@@ -92,7 +84,7 @@ impl TypeScope {
 
     /// Writes a type without declarations.
     pub fn define(&mut self, ty: DefinedType) -> Result<u32, SizeError>
-        ensures stands { (w : Worlds) (c : Collection) (outer : List Scope) (i : Inside) (t : Tree) → IsScope w c outer i self.old → defined w (i.here ∷ outer) (defined_view ty) ≡ Some t → IfOk result (λ k. AnswersType w c outer i t self.new k) }
+        ensures stands { Defines ty self.old self.new result }
         ensures full { result ≡ Err TooLarge → self.old.types ≡ 4294967295 }
     {
         let index = self.types;
@@ -104,7 +96,7 @@ impl TypeScope {
 
     /// Exports a function of the type at an index.
     pub fn export_func(&mut self, name: String, ty: u32) -> Result<(), AllocError>
-        ensures { (w : Worlds) (c : Collection) (outer : List Scope) (i : Inside) (t : Tree) → IsScope w c outer i self.old → type_at w (i.here ∷ outer) ty ≡ Some t → as_func t ≡ Some t → IfOk result (λ _. Exports w c outer i (string_bytes name) t self.new) }
+        ensures { ExportsFunction (string_bytes name) ty self.old self.new result }
     {
         self.declarations
             .push(Declaration::Export(name, Description::Func(ty)))?;
@@ -113,7 +105,7 @@ impl TypeScope {
 
     /// Exports a type that is the one at an index; the export has an index of its own.
     pub fn export_type(&mut self, name: String, ty: u32) -> Result<u32, SizeError>
-        ensures stands { (w : Worlds) (c : Collection) (outer : List Scope) (i : Inside) (t : Tree) → IsScope w c outer i self.old → type_at w (i.here ∷ outer) ty ≡ Some t → IfOk result (λ k. ExportsType w c outer i (string_bytes name) t self.new k) }
+        ensures stands { ExportsNewType (string_bytes name) ty self.old self.new result }
         ensures full { result ≡ Err TooLarge → self.old.types ≡ 4294967295 }
     {
         let own = self.types;
@@ -126,7 +118,7 @@ impl TypeScope {
 
     /// Remembers the index of a type; in place of an earlier one of that id.
     pub fn remember(&mut self, id: DefinedTypeId, index: u32) -> Result<(), AllocError>
-        ensures { (w : Worlds) (c : Collection) (outer : List Scope) (i : Inside) → IsScope w c outer i self.old → value_of w (i.here ∷ outer) (Index index) ≡ Some (tree_in c (ItemKind.Value (ValueType.Defined id))) → IfOk result (λ _. IsScope w c outer i self.new) }
+        ensures { Remembers id index self.old self.new result }
     {
         let at = self.known.len();
         self.places.by_id.insert(id, at)?;
@@ -176,7 +168,7 @@ impl TypeScope {
 
     /// What is remembered at a place.
     pub(crate) fn known_at(&self, at: usize) -> Option<KnownType>
-        ensures { (w : Worlds) (c : Collection) (outer : List Scope) (i : Inside) → IsScope w c outer i self.now → IfSome result (IsKnown w (i.here ∷ outer) c) }
+        ensures { FindsKnown self.now result }
     {
         match self.known.get(at) {
             Some(known) => Some(*known),
@@ -186,7 +178,7 @@ impl TypeScope {
 
     /// The index of a resource that stands here.
     pub fn resource(&self, name: &str) -> Option<u32>
-        ensures { (w : Worlds) (c : Collection) (outer : List Scope) (i : Inside) → IsScope w c outer i self.now → IfSome result (λ k. type_at w (i.here ∷ outer) k ≡ Some (rigid (resource name.now) end)) }
+        ensures { KnowsResource self.now name.now result }
     {
         match self.resources.get(name) {
             Some(index) => Some(*index),

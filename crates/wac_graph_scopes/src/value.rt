@@ -1,6 +1,6 @@
 //! Types of values and functions in a scope of written types.
 
-ghost use Rattle.std.specs.Prelude.{◌≡◌, ◌∷◌, List, Some, IfOk, true};
+ghost use Rattle.std.specs.Prelude.{◌≡◌, IfOk, true};
 ghost use Rattle.wac_types_base.specs.declared.item.ItemKind.{ItemKind};
 ghost use Rattle.wac_types_base.specs.declared.item.ValueType.{ValueType};
 ghost use Rattle.wac_types_base.specs.declared.item.«Type».{«Type» as TypeKind};
@@ -10,9 +10,7 @@ ghost use Rattle.wac_types_base.specs.Resolving.{IsNoAlias};
 ghost use Rattle.wac_types_base.specs.Tree.{rigid, end};
 ghost use Rattle.wac_types_fit.specs.Trees.{tree_in, Fit};
 ghost use Rattle.wac_types_fit.specs.Checking.{value_in, HoldsValues, ValueStands, value_tree, place_trees};
-ghost use Rattle.wac_graph_bytes.specs.declared.value.ValueType.TheVariants.{Index};
-ghost use Rattle.wac_graph_bytes.specs.Typing.{Worlds, Scope, Inside, type_at};
-ghost use Rattle.wac_graph_scopes.specs.Scopes.{IsScope, KeepsScope, FindsType, AnswersType, AnswersValue, AnswersPlace, AnswersPlaces};
+ghost use Rattle.wac_graph_scopes.specs.Scopes.{KeepsScope, FindsType, WritesValue, WritesType, WritesPlaces, WritesPlace, WritesEntry, FindsResource};
 
 use crate::entry::{entry_of, func_entry_of};
 use crate::fault::WriteError;
@@ -26,7 +24,7 @@ use wac_types_fit::{SubtypeChecker, SubtypeError, new_cache};
 /// The index of a resource in the scope.
 fn resource_of(scope: &TypeScope, types: &Types, id: ResourceId) -> Result<u32, WriteError>
     requires { Stands types.now (ItemKind.Ty (TypeKind.Resource id)) }
-    ensures reads { (w : Worlds) (outer : List Scope) (i : Inside) → IsScope w types.now outer i scope.now → IfOk result (λ k. type_at w (i.here ∷ outer) k ≡ Some (tree_in types.now (ItemKind.Ty (TypeKind.Resource id)))) }
+    ensures reads { FindsResource types.now (tree_in types.now (ItemKind.Ty (TypeKind.Resource id))) scope.now result }
     ensures root { (n : Name) × (tree_in types.now (ItemKind.Ty (TypeKind.Resource id)) ≡ rigid (resource n) end) }
 {
     let root = types.resource(types.resolve_resource(id));
@@ -38,7 +36,7 @@ fn resource_of(scope: &TypeScope, types: &Types, id: ResourceId) -> Result<u32, 
 
 fn push_own(scope: &mut TypeScope, types: &Types, id: ResourceId) -> Result<Written, WriteError>
     requires { Stands types.now (ItemKind.Value (ValueType.Own id)) }
-    ensures { (w : Worlds) (outer : List Scope) (i : Inside) → IsScope w types.now outer i scope.old → IfOk result (λ b. AnswersValue w types.now outer i (tree_in types.now (ItemKind.Value (ValueType.Own id))) scope.new b) }
+    ensures { WritesValue types.now (tree_in types.now (ItemKind.Value (ValueType.Own id))) scope.old scope.new result }
 {
     types.see_acyclic();
     let resource = resource_of(scope, types, id)?;
@@ -48,7 +46,7 @@ fn push_own(scope: &mut TypeScope, types: &Types, id: ResourceId) -> Result<Writ
 
 fn push_borrow(scope: &mut TypeScope, types: &Types, id: ResourceId) -> Result<Written, WriteError>
     requires { Stands types.now (ItemKind.Value (ValueType.Borrow id)) }
-    ensures { (w : Worlds) (outer : List Scope) (i : Inside) → IsScope w types.now outer i scope.old → IfOk result (λ b. AnswersValue w types.now outer i (tree_in types.now (ItemKind.Value (ValueType.Borrow id))) scope.new b) }
+    ensures { WritesValue types.now (tree_in types.now (ItemKind.Value (ValueType.Borrow id))) scope.old scope.new result }
 {
     types.see_acyclic();
     let resource = resource_of(scope, types, id)?;
@@ -75,7 +73,7 @@ pub(crate) fn push_value(
     ty: ValueType,
 ) -> Result<Written, WriteError>
     requires { Stands types.now (ItemKind.Value ty) }
-    ensures { (w : Worlds) (outer : List Scope) (i : Inside) → IsScope w types.now outer i scope.old → IfOk result (λ b. AnswersValue w types.now outer i (tree_in types.now (ItemKind.Value ty)) scope.new b) }
+    ensures { WritesValue types.now (tree_in types.now (ItemKind.Value ty)) scope.old scope.new result }
 {
     types.see_acyclic();
     let end = types.resolve_value_type(ty);
@@ -92,7 +90,7 @@ fn push_resolved(
 ) -> Result<Written, WriteError>
     requires stands { Stands types.now (ItemKind.Value ty) }
     requires no_alias { IsNoAlias types.now ty }
-    ensures { (w : Worlds) (outer : List Scope) (i : Inside) → IsScope w types.now outer i scope.old → IfOk result (λ b. AnswersValue w types.now outer i (tree_in types.now (ItemKind.Value ty)) scope.new b) }
+    ensures { WritesValue types.now (tree_in types.now (ItemKind.Value ty)) scope.old scope.new result }
 {
     types.see_acyclic();
     match ty {
@@ -280,7 +278,7 @@ fn push_defined(
 ) -> Result<Written, WriteError>
     requires stands { Stands types.now (ItemKind.Value (ValueType.Defined id)) }
     requires no_alias { IsNoAlias types.now (ValueType.Defined id) }
-    ensures { (w : Worlds) (outer : List Scope) (i : Inside) → IsScope w types.now outer i scope.old → IfOk result (λ b. AnswersValue w types.now outer i (tree_in types.now (ItemKind.Value (ValueType.Defined id))) scope.new b) }
+    ensures { WritesValue types.now (tree_in types.now (ItemKind.Value (ValueType.Defined id))) scope.old scope.new result }
 {
     let known = known_index(alloc, scope, types, id)?;
     if let Some(index) = known {
@@ -300,7 +298,7 @@ fn define_entry(
     id: DefinedTypeId,
 ) -> Result<u32, WriteError>
     requires { Stands types.now (ItemKind.Value (ValueType.Defined id)) }
-    ensures { (w : Worlds) (outer : List Scope) (i : Inside) → IsNoAlias types.now (ValueType.Defined id) → IsScope w types.now outer i scope.old → IfOk result (λ k. AnswersValue w types.now outer i (tree_in types.now (ItemKind.Value (ValueType.Defined id))) scope.new (Index k)) }
+    ensures { WritesEntry types.now id scope.old scope.new result }
 {
     types.see_acyclic();
     let ty = types.defined_type(id);
@@ -319,7 +317,7 @@ fn push_places(
 ) -> Result<Vec<Option<Written>>, WriteError>
     requires stands { Stands types.now kind }
     requires values { HoldsValues types.now kind }
-    ensures { (w : Worlds) (outer : List Scope) (i : Inside) → IsScope w types.now outer i scope.old → IfOk result (λ v. AnswersPlaces w types.now outer i (place_trees types.now kind) scope.new v.items) }
+    ensures { WritesPlaces types.now (place_trees types.now kind) scope.old scope.new result }
 {
     types.see_acyclic();
     let mut written = Vec::new(alloc);
@@ -341,7 +339,7 @@ fn push_place(
     place: Option<ValueType>,
 ) -> Result<Option<Written>, WriteError>
     requires { ValueStands types.now place }
-    ensures { (w : Worlds) (outer : List Scope) (i : Inside) → IsScope w types.now outer i scope.old → IfOk result (λ b. AnswersPlace w types.now outer i (value_tree types.now place) scope.new b) }
+    ensures { WritesPlace types.now (value_tree types.now place) scope.old scope.new result }
 {
     match place {
         None => Ok(None),
@@ -360,7 +358,7 @@ pub(crate) fn push_func(
     id: FuncTypeId,
 ) -> Result<u32, WriteError>
     requires { Stands types.now (ItemKind.Func id) }
-    ensures { (w : Worlds) (outer : List Scope) (i : Inside) → IsScope w types.now outer i scope.old → IfOk result (λ k. AnswersType w types.now outer i (tree_in types.now (ItemKind.Func id)) scope.new k) }
+    ensures { WritesType types.now (tree_in types.now (ItemKind.Func id)) scope.old scope.new result }
 {
     types.see_acyclic();
     let ty = types.func_type(id);

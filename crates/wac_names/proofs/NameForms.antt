@@ -4,7 +4,7 @@ use Rattle.std.specs.Prelude.{◌≢◌, ◌==◌, ◌&&◌, not, nat_lt, None}
 use Rattle.std.specs.Bool.{Decides}
 use Rattle.std.specs.List.{AllByRecursion, list_all, slice_split, onto_first, join_with_byte, before_first, after_first, position_or_len}
 use Rattle.std.specs.Cmp.Lexicographic.{pointwise}
-use Rattle.std.proofs.lemmas.Bool.{and_from, cases_lt, lt-ltb, ltb-true}
+use Rattle.std.proofs.lemmas.Bool.{and_from, cases_lt, lt-ltb, ltb-true, and_parts}
 use Rattle.std.proofs.lemmas.List.{take-append-drop}
 use Rattle.std.proofs.lemmas.Slice.Eq.{bytes_eq-Decides}
 use Rattle.std.proofs.lemmas.List.Sums.{passes_at_first, split_at_first}
@@ -12,7 +12,7 @@ use Rattle.std.proofs.lemmas.List.Splits.{join_with_byte-slice_split, length-sli
 use Rattle.std.proofs.lemmas.Bool.Decides.{Decides-eqb}
 use Rattle.wac_names.specs.ComponentNames.{IsJoined, IsPair, IsBehind}
 use Rattle.wac_names.specs.NameTests.{joined_test, pair_test, behind_test}
-use Rattle.wac_names.proofs.Parts.{and_parts, some_of}
+use Rattle.wac_names.proofs.Parts.{some_of}
 
 some_none : (n : ℕ) → some_of n ≡ None → ⊥
 some_none n e = cc

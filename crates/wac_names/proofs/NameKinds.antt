@@ -9,7 +9,7 @@ use Rattle.std.proofs.lemmas.List.Sums.{passes_at_first, split_at_first}
 use Rattle.std.proofs.lemmas.List.{take-append-drop, append_cancel_left}
 use Rattle.std.proofs.Math.Seq.{take-append_seam}
 use Rattle.std.specs.Char.{is_ascii_lowercase, is_ascii_uppercase, is_ascii_digit}
-use Rattle.std.proofs.lemmas.Bool.{and_from}
+use Rattle.std.proofs.lemmas.Bool.{and_from, and_parts}
 use Rattle.std.proofs.lemmas.List.{append-nil}
 use Rattle.std.proofs.lemmas.List.Folds.{list_all-append}
 use Rattle.std.proofs.lemmas.Bool.Decides.{Decides-eqb}
@@ -17,14 +17,14 @@ use Rattle.wac_names.specs.declared.names.NameKind.{NameKind}
 use Rattle.wac_names.specs.declared.names.NameKind.TheVariants as kind
 use Rattle.wac_names.specs.ComponentNames.{lower_or_digit, upper_or_digit, lower_word, upper_word, word_test, IsWord, IsJoined, IsPair, IsBehind, IsLabel, IsInside, IsPlainName, IsPath, IsVersion, IsInterfaceName, IsDependency, IsName}
 use Rattle.wac_names.specs.NameTests.{label_test, member_test, plain_test, package_test, path_test, is_full, unbroken_test, joined_test}
-use Rattle.wac_names.proofs.Parts.{and_parts, cons_head, cons_tail}
+use Rattle.wac_names.proofs.Parts.{cons_head, cons_tail}
 use Rattle.wac_names.proofs.NameForms.{first_place, no_place, dropped, joined_decides, pair_decides, behind_decides}
 
-or_parts : (a b : Bool) → (a || b) ≡ true → (a ≡ true) ⊎ (b ≡ true)
+pub or_parts : (a b : Bool) → (a || b) ≡ true → (a ≡ true) ⊎ (b ≡ true)
 or_parts true b e = inl refl
 or_parts false b e = inr e
 
-or_left : (a b : Bool) → a ≡ true → (a || b) ≡ true
+pub or_left : (a b : Bool) → a ≡ true → (a || b) ≡ true
 or_left true b e = refl
 or_left false b e = absurd cc
 

@@ -1,5 +1,6 @@
 -- A renaming of a wiring, and of what its tags stand for, is one of what substitution makes of them.
 use Rattle.std.proofs.Common.{◌≡◌, ℕ, zero, suc, ◌<◌, [], ◌∷◌, Option, Some, None, option_map, refl, sym, ap, ap₂, ◌∙◌, subst, arith}
+use Rattle.std.proofs.lemmas.Option.{none-some, same_Some}
 use Rattle.wac_types_base.specs.Entries.{Name}
 use Rattle.wac_graph_bytes.specs.Wirings.{Source, Outer, Inst, Bundle, rename, renamed, Uses, Instantiation, Wiring, Same}
 use Rattle.wac_nesting.specs.Substitution.{Path, Part, Nothing, Leaf, Open, copied, stands, stands_within, placed, instance_in, instance_at}
@@ -26,12 +27,6 @@ abbrev pub inner_back : (s u : Part) → Related s u → Path → Path
 inner_back (Open V) (Open W) r p = r.from p
 inner_back _ _ r p = p
 
-some_is : {A : Type 0} {x y : A} → Some x ≡ Some y → x ≡ y
-some_is e = cc
-
-none_is : {A : Type 0} {x : A} → None ≡ Some x → ⊥
-none_is e = cc
-
 -- a copy's source under a renaming
 copied_carried : (V W : Wiring Path) (r : Same V W) (k j : ℕ) (f : Path → Path) → ((p : Path) → f (k ∷ p) ≡ j ∷ r.to p) → (a b : Name → Source Path) → ((n : Name) → rename f (a n) ≡ b n) → (s : Source Path) → rename f (copied k a s) ≡ copied j b (rename r.to s)
 copied_carried V W r k j f fk a b h s =
@@ -52,26 +47,26 @@ stands_carried (Open V) (Open W) r k j f fk a b h solid =
 
 module _ (k j : ℕ) (f : Path → Path) (a b : Name → Source Path) (h : (n : Name) → rename f (a n) ≡ b n) where
   copy_carried : (V W : Wiring Path) (r : Same V W) → ((p : Path) → f (k ∷ p) ≡ j ∷ r.to p) → (p : Path) (x : Instantiation Path) (o : Option (Instantiation Path)) → V.at p ≡ o → option_map (λ y. record { tag = y.tag; args = λ n. copied k a (y.args n) }) o ≡ Some x → (r.from (r.to p) ≡ p) × (instance_in (Open W) j b (r.to p) ≡ Some (renamed f x))
-  copy_carried V W r fk p x None e m = absurd (none_is m)
+  copy_carried V W r fk p x None e m = absurd (none-some _ m)
   copy_carried V W r fk p x (Some y) e m =
       let t = r.there p y e in
       let same : record { tag = y.tag; args = λ n. copied j b (rename r.to (y.args n)) } ≡ renamed f (record { tag = y.tag; args = λ n. copied k a (y.args n) }) = λ i. record { tag = y.tag; args = λ n. sym (copied_carried V W r k j f fk a b h (y.args n)) i } in
-      (t.0, ap (option_map (λ y. record { tag = y.tag; args = λ n. copied j b (y.args n) })) t.1 ∙ ap Some (same ∙ ap (renamed f) (some_is m)))
+      (t.0, ap (option_map (λ y. record { tag = y.tag; args = λ n. copied j b (y.args n) })) t.1 ∙ ap Some (same ∙ ap (renamed f) (same_Some _ _ m)))
 
   instance_carried : (s u : Part) (r : Related s u) → ((p : Path) → f (k ∷ p) ≡ j ∷ inner s u r p) → (p : Path) (x : Instantiation Path) → instance_in s k a p ≡ Some x → (inner_back s u r (inner s u r p) ≡ p) × (instance_in u j b (inner s u r p) ≡ Some (renamed f x))
-  instance_carried Nothing u r fk p x e = absurd (none_is e)
+  instance_carried Nothing u r fk p x e = absurd (none-some _ e)
   instance_carried (Leaf t) Nothing r fk p x e = absurd r
   instance_carried (Leaf t) (Leaf v) r fk [] x e =
       let same : record { tag = v; args = b } ≡ renamed f (record { tag = t; args = a }) = λ i. record { tag = sym r i; args = λ n. sym (h n) i } in
-      (refl, ap Some (same ∙ ap (renamed f) (some_is e)))
-  instance_carried (Leaf t) (Leaf v) r fk (q ∷ p) x e = absurd (none_is e)
+      (refl, ap Some (same ∙ ap (renamed f) (same_Some _ _ e)))
+  instance_carried (Leaf t) (Leaf v) r fk (q ∷ p) x e = absurd (none-some _ e)
   instance_carried (Leaf t) (Open W) r fk p x e = absurd r
   instance_carried (Open V) Nothing r fk p x e = absurd r
   instance_carried (Open V) (Leaf t) r fk p x e = absurd r
   instance_carried (Open V) (Open W) r fk p x e = copy_carried V W r fk p x (V.at p) refl e
 
   copy_back : (V W : Wiring Path) (r : Same V W) → (q : Path) (y : Instantiation Path) (o : Option (Instantiation Path)) → W.at q ≡ o → option_map (λ y. record { tag = y.tag; args = λ n. copied j b (y.args n) }) o ≡ Some y → (x : Instantiation Path) × (instance_in (Open V) k a (r.from q) ≡ Some x) × (r.to (r.from q) ≡ q)
-  copy_back V W r q y None e m = absurd (none_is m)
+  copy_back V W r q y None e m = absurd (none-some _ m)
   copy_back V W r q y (Some z) e m =
       let t = r.back q z e in
       (record { tag = t.0.tag; args = λ n. copied k a (t.0.args n) }, ap (option_map (λ y. record { tag = y.tag; args = λ n. copied k a (y.args n) })) t.1, t.2)
@@ -80,7 +75,7 @@ module _ (k j : ℕ) (f : Path → Path) (a b : Name → Source Path) (h : (n : 
   instance_back Nothing u r solid q y e = absurd solid
   instance_back (Leaf t) Nothing r solid q y e = absurd r
   instance_back (Leaf t) (Leaf v) r solid [] y e = (record { tag = t; args = a }, refl, refl)
-  instance_back (Leaf t) (Leaf v) r solid (i ∷ q) y e = absurd (none_is e)
+  instance_back (Leaf t) (Leaf v) r solid (i ∷ q) y e = absurd (none-some _ e)
   instance_back (Leaf t) (Open W) r solid q y e = absurd r
   instance_back (Open V) Nothing r solid q y e = absurd r
   instance_back (Open V) (Leaf t) r solid q y e = absurd r
@@ -124,12 +119,12 @@ module _ (parts parts' : ℕ → Part) (args args' : ℕ → Name → Source ℕ
   args_carried k solid n = source_carried (args k n) (Uses-weaker (λ j u. u.1) (args k n) (low k n)) ∙ ap (placed parts' args') (args_are k solid n)
 
   solid_of : (s : Part) (k : ℕ) (a : Name → Source Path) (p : Path) (x : Instantiation Path) → instance_in s k a p ≡ Some x → IsSolid s
-  solid_of Nothing k a p x e = absurd (none_is e)
+  solid_of Nothing k a p x e = absurd (none-some _ e)
   solid_of (Leaf t) k a p x e = tt
   solid_of (Open V) k a p x e = tt
 
   pub there_carried : ((k : ℕ) → IsSolid (parts k) → from (to k) ≡ k) → (p : Path) (x : Instantiation Path) → instance_at parts args p ≡ Some x → (path_from (path_to p) ≡ p) × (instance_at parts' args' (path_to p) ≡ Some (renamed path_to x))
-  there_carried un [] x e = absurd (none_is e)
+  there_carried un [] x e = absurd (none-some _ e)
   there_carried un (k ∷ p) x e =
       let solid = solid_of (parts k) k (λ n. placed parts args (args k n)) p x e in
       let c = instance_carried k (to k) path_to (λ n. placed parts args (args k n)) (λ n. placed parts' args' (args' (to k) n)) (args_carried k solid) (parts k) (parts' (to k)) (rel k) (λ q. refl) p x e in
@@ -138,7 +133,7 @@ module _ (parts parts' : ℕ → Part) (args args' : ℕ → Name → Source ℕ
       (ap₂ (λ (i : ℕ) (r : Path). i ∷ r) (un k solid) turned, c.1)
 
   pub back_carried : ((j : ℕ) → IsSolid (parts' j) → IsSolid (parts (from j)) × (to (from j) ≡ j)) → (q : Path) (y : Instantiation Path) → instance_at parts' args' q ≡ Some y → (x : Instantiation Path) × (instance_at parts args (path_from q) ≡ Some x) × (path_to (path_from q) ≡ q)
-  back_carried un [] y e = absurd (none_is e)
+  back_carried un [] y e = absurd (none-some _ e)
   back_carried un (j ∷ q) y e =
       let u = un j (solid_of (parts' j) j (λ n. placed parts' args' (args' j n)) q y e) in
       let k = from j in

@@ -1,5 +1,6 @@
 -- Every output of every list of steps is what its source ascribes.
 use Rattle.std.specs.Prelude.{slice_get}
+use Rattle.std.proofs.lemmas.Option.{same_Some}
 use Rattle.std.proofs.Common.{◌≡◌, ℕ, List, [], ◌∷◌, ◌++◌, Option, Some, None, ◌⊎◌, inl, inr, refl, sym, ap, subst, ◌∙◌}
 use Rattle.wac_types_base.specs.Entries.{Name}
 use Rattle.wac_types_base.specs.Graph.{Among}
@@ -12,7 +13,6 @@ use Rattle.wac_nesting.specs.Given.{World, Provides, AreOuters, IsBoundInstance,
 use Rattle.wac_nesting.specs.Steps.{Package, handed_in, IsLeaf, IsHandedWith, IsHanded, Ascribed, ascribed_down, AreTrue, Composes, Step, Add, Compose, Other, IsNew, after, AreSteps, after_all}
 use Rattle.wac_nesting.specs.Laws.{IsOfHanded, IsReading, IsAsAscribed, Steps_carry}
 use Rattle.wac_nesting.proofs.Carried.{Related}
-use Rattle.wac_nesting.proofs.Parts.{some_is}
 use Rattle.wac_nesting.proofs.Given.{renamed_provides}
 use Rattle.wac_nesting.proofs.Listed.{among_left, among_last, among_cases, number_of, one_more}
 use Rattle.wac_nesting.proofs.Found.{ReadsTo, ReadsPackage, read_wiring, output_down, output_same}
@@ -75,7 +75,7 @@ module _ (worlds : Worlds) (final : List Package) where
     reading_bound : IsBound (IsOfHanded final D) D
     reading_bound j y e =
         let b = r.back j y e in
-        let is : renamed r.to b.0 ≡ y = some_is (sym (r.there (r.from j) b.0 b.1).1 ∙ ap D.at b.2 ∙ e) in
+        let is : renamed r.to b.0 ≡ y = same_Some _ _ (sym (r.there (r.from j) b.0 b.1).1 ∙ ap D.at b.2 ∙ e) in
         let x = g.bound (r.from j) b.0 b.1 in
         let moved : IsBoundInstance (IsOfHanded final D) D (r.to (r.from j)) (renamed r.to b.0) = record {
           world = x.world;
@@ -167,7 +167,7 @@ module _ (worlds : Worlds) (final : List Package) where
 
   package_read : (o : Option Package) (p : Package) → o ≡ Some p → ReadsPackage worlds (IsHanded final) o → GoodAt final o → IsAsAscribed worlds final p p.ascribed
   package_read None p e r g = absurd (cc e)
-  package_read (Some q) p e r g = subst (λ (x : Package). IsAsAscribed worlds final x x.ascribed) (some_is e) (as_ascribed q q.ascribed r g)
+  package_read (Some q) p e r g = subst (λ (x : Package). IsAsAscribed worlds final x x.ascribed) (same_Some _ _ e) (as_ascribed q q.ascribed r g)
 
 pub carries : Steps_carry
 carries steps are worlds true_of p m =

@@ -1,5 +1,6 @@
 -- The bytes of an output are read down to what its source ascribes, where those of its packages are.
 use Rattle.std.specs.Prelude.{slice_get}
+use Rattle.std.proofs.lemmas.Option.{none-some, same_Some}
 use Rattle.std.proofs.Common.{◌≡◌, ℕ, ◌<◌, List, Option, Some, None, IsSome, refl, sym, ap, subst, ◌∙◌}
 use Rattle.wac_types_base.specs.Entries.{Name}
 use Rattle.wac_graph_bytes.specs.Wirings.{Source, rename, renamed, Uses, Tag, OfBytes, Instantiation, Wiring, Same, IsOrdered}
@@ -11,7 +12,7 @@ use Rattle.wac_nesting.specs.Reading.{Reads, ReadsDown, nested}
 use Rattle.wac_nesting.specs.Steps.{Package, Ascribed, IsKnown, ascribed_to, ascribed_down}
 use Rattle.wac_nesting.proofs.Standing.{Descends}
 use Rattle.wac_nesting.proofs.Carried.{IsSolid, Related, path_to, path_from, source_carried, there_carried, back_carried}
-use Rattle.wac_nesting.proofs.Parts.{some_is, none_is, any_low, part_solid, part_there, part_low, part_exports}
+use Rattle.wac_nesting.proofs.Parts.{any_low, part_solid, part_there, part_low, part_exports}
 
 module _ (worlds : Worlds) (Handed : List ℕ → Type 0) where
   -- a package's bytes are read down to what is ascribed to it, but for names of instances
@@ -36,9 +37,9 @@ module _ (worlds : Worlds) (Handed : List ℕ → Type 0) where
     solid : IsSolid (ascribed_to o)
 
   is_read : (o : Option Package) (r : ReadsPackage o) (p : Package) → o ≡ Some p → IsRead o r p.bytes
-  is_read None r p e = absurd (none_is e)
+  is_read None r p e = absurd (none-some _ e)
   is_read (Some q) r p e =
-      subst (λ (x : Package). IsRead (Some q) r x.bytes) (some_is e) (record { reads = r.reads; related = r.related; solid = r.solid })
+      subst (λ (x : Package). IsRead (Some q) r x.bytes) (same_Some _ _ e) (record { reads = r.reads; related = r.related; solid = r.solid })
 
   module _ (packages : List Package) (A : Ascribed) (known : (k : ℕ) (x : Instantiation ℕ) → A.wiring.at k ≡ Some x → IsKnown packages (A.number k) x) (in_order : IsOrdered A.wiring) (each : (i : ℕ) → ReadsPackage (slice_get packages i)) (W : Wiring ℕ) (same : Same A.wiring W) (in_order' : IsOrdered W) where
     abbrev ascribed_at : ℕ → Part
@@ -67,7 +68,7 @@ module _ (worlds : Worlds) (Handed : List ℕ → Type 0) where
     comes j y e =
         let b = same.back j y e in
         let t : Some (renamed same.to b.0) ≡ Some y = sym (same.there (same.from j) b.0 b.1).1 ∙ ap W.at b.2 ∙ e in
-        (b.0, b.1, sym (ap (λ (z : Instantiation ℕ). z.tag) (some_is t)), b.2)
+        (b.0, b.1, sym (ap (λ (z : Instantiation ℕ). z.tag) (same_Some _ _ t)), b.2)
 
     reads_each : (j : ℕ) (y : Instantiation ℕ) → W.at j ≡ Some y → Reads worlds Handed y.tag (qs j)
     reads_each j y e =

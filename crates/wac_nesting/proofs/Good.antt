@@ -1,5 +1,6 @@
 -- What is ascribed to an output is bound: each import of each handed component is given what fits it, through all levels.
 use Rattle.std.specs.Prelude.{slice_get}
+use Rattle.std.proofs.lemmas.Option.{none-some, same_Some}
 use Rattle.std.proofs.Common.{◌≡◌, ℕ, zero, suc, ◌<◌, List, [], ◌∷◌, Option, Some, None, IsSome, option_map, refl, sym, ap, subst, ◌∙◌, arith}
 use Rattle.wac_types_base.specs.Entries.{Name}
 use Rattle.wac_types_base.specs.Tree.{Tree, instance, Fields}
@@ -14,7 +15,7 @@ use Rattle.wac_nesting.specs.Laws.{IsOfHanded}
 use Rattle.wac_nesting.proofs.Standing.{stands_is}
 use Rattle.wac_nesting.proofs.Carried.{IsSolid}
 use Rattle.wac_nesting.proofs.Given.{gives_more, gives_exactly, gives_bundle, replaced}
-use Rattle.wac_nesting.proofs.Parts.{some_is, none_is, part_there, part_low, part_exports}
+use Rattle.wac_nesting.proofs.Parts.{part_there, part_low, part_exports}
 
 -- all is over the packages that stand in the end
 module _ (final : List Package) where
@@ -79,15 +80,15 @@ module _ (final : List Package) where
       instance_bound : (s : Part) → Good q s → ((p : Path) → D.at (k ∷ p) ≡ instance_in s k a p) → (p : Path) (x : Instantiation Path) → instance_in s k a p ≡ Some x → IsBoundInstance (IsOfHanded final D) D (k ∷ p) x
       instance_bound Nothing g is p x e = absurd g
       instance_bound (Leaf t) g is [] x e =
-          subst (IsBoundInstance (IsOfHanded final D) D (k ∷ [])) (some_is e) (record { world = q.world; is = leaf_handed t g (is []); bound = bound })
-      instance_bound (Leaf t) g is (j ∷ p) x e = absurd (none_is e)
+          subst (IsBoundInstance (IsOfHanded final D) D (k ∷ [])) (same_Some _ _ e) (record { world = q.world; is = leaf_handed t g (is []); bound = bound })
+      instance_bound (Leaf t) g is (j ∷ p) x e = absurd (none-some _ e)
       instance_bound (Open V) g is p x e = go (V.at p) refl e
         where
           go : (o : Option (Instantiation Path)) → V.at p ≡ o → option_map (copy k a) o ≡ Some x → IsBoundInstance (IsOfHanded final D) D (k ∷ p) x
-          go None h m = absurd (none_is m)
+          go None h m = absurd (none-some _ m)
           go (Some y) h m =
               let b = g.bound p y h in
-              subst (IsBoundInstance (IsOfHanded final D) D (k ∷ p)) (some_is m) (record {
+              subst (IsBoundInstance (IsOfHanded final D) D (k ∷ p)) (same_Some _ _ m) (record {
                 world = b.world;
                 is = copy_handed V is p b.world b.is;
                 bound = copied_provides q.world bound V g.outers is y.args b.world.imports b.bound;
@@ -100,8 +101,8 @@ module _ (final : List Package) where
   GoodAt (Some p) = Good p p.ascribed
 
   good_of : (o : Option Package) (p : Package) → o ≡ Some p → GoodAt o → Good p (ascribed_to o)
-  good_of None p e g = absurd (none_is e)
-  good_of (Some q) p e g = subst (λ (r : Package). Good r q.ascribed) (some_is e) g
+  good_of None p e g = absurd (none-some _ e)
+  good_of (Some q) p e g = subst (λ (r : Package). Good r q.ascribed) (same_Some _ _ e) g
 
   good_solid : (p : Package) (s : Part) → Good p s → IsSolid s
   good_solid p Nothing g = absurd g
@@ -144,7 +145,7 @@ module _ (final : List Package) where
       provided : Provides A.wiring.outers (IsOfPackage packages A) (args k) package_of.world.imports
 
     one_package : (k : ℕ) (p : Package) (w : World) → slice_get packages (A.number k) ≡ Some p → IsOfPackage packages A k w → w ≡ p.world
-    one_package k p w e i = sym i.says ∙ ap (λ (q : Package). q.world) (some_is (sym i.stands ∙ e))
+    one_package k p w e i = sym i.says ∙ ap (λ (q : Package). q.world) (same_Some _ _ (sym i.stands ∙ e))
 
     known_at : (k : ℕ) → IsSolid (parts k) → Known k
     known_at k s =
@@ -195,12 +196,12 @@ module _ (final : List Package) where
     bound_solid k n = Uses-weaker (λ j u. u.1) (args k n) (part_low ascribed_at A.wiring in_order solid k n)
 
     solid_of : (s : Part) (k : ℕ) (a : Name → Source Path) (p : Path) (x : Instantiation Path) → instance_in s k a p ≡ Some x → IsSolid s
-    solid_of Nothing k a p x e = absurd (none_is e)
+    solid_of Nothing k a p x e = absurd (none-some _ e)
     solid_of (Leaf t) k a p x e = tt
     solid_of (Open V) k a p x e = tt
 
     each_bound : IsBound (IsOfHanded final D) D
-    each_bound [] x e = absurd (none_is e)
+    each_bound [] x e = absurd (none-some _ e)
     each_bound (k ∷ p) x e =
         let q = known_at k (solid_of (parts k) k (bound_to k) p x e) in
         instance_bound D k (bound_to k) q.package_of (place_provides (args k) q.package_of.world.imports (λ n. gives_any (args k n) (bound_solid k n)) q.provided) (parts k) q.good (λ r. refl) p x e

@@ -1,5 +1,6 @@
 -- What the world of an output exports follows from its bytes, so there are worlds that are true of all packages.
 use Rattle.std.specs.Prelude.{slice_get}
+use Rattle.std.proofs.lemmas.Option.{none-some, same_Some}
 use Rattle.std.proofs.Common.{◌≡◌, ℕ, zero, suc, List, [], ◌∷◌, ◌++◌, Bool, true, false, cond, true≢false, Option, Some, None, ◌⊎◌, inl, inr, bytes_eq, refl, sym, ap, subst, ◌∙◌}
 use Rattle.std.proofs.lemmas.Slice.Eq.{bytes_eq-Decides}
 use Rattle.wac_types_base.specs.Entries.{Name}
@@ -19,7 +20,6 @@ use Rattle.wac_nesting.specs.Substitution.{Open}
 use Rattle.wac_nesting.specs.Given.{World, HasNone, IsDefinition, HasTree}
 use Rattle.wac_nesting.specs.Steps.{Package, handed_in, IsLeaf, Ascribed, IsOfPackage, IsNew, ascribed_down, AreTrue, MeansSame, Composes, Step, Add, Compose, Other, AreSteps, after_all}
 use Rattle.wac_nesting.specs.Laws.{AreInOrder, Worlds_exist}
-use Rattle.wac_nesting.proofs.Parts.{some_is, none_is}
 use Rattle.wac_nesting.proofs.Given.{renamed_tree}
 use Rattle.wac_nesting.proofs.Listed.{among_left, among_last, among_cases}
 use Rattle.wac_nesting.proofs.Carry.{stays}
@@ -56,14 +56,14 @@ module _ (worlds : Worlds) (worlds_in_order : (t : Tag) (v : Tree) → worlds t 
   named_in_order (Definition d) xs p h = absurd (no_instance d xs h.0 h.1)
 
   field_one : (n : Name) (t u : Tree) (xs : Fields) → AllInOrder xs → HasField n t xs → HasField n u xs → t ≡ u
-  field_one n t u xs a f g = some_is (sym (has-looked n t xs a f) ∙ has-looked n u xs a g)
+  field_one n t u xs a f g = same_Some _ _ (sym (has-looked n t xs a f) ∙ has-looked n u xs a g)
 
   named_one : (s : Source ℕ) (t u : Tree) → IsNamed s → Has s t → Has s u → t ≡ u
   named_one Absent t u p h g = absurd p
-  named_one (Outer n) t u p h g = some_is (sym h ∙ g)
+  named_one (Outer n) t u p h g = same_Some _ _ (sym h ∙ g)
   named_one (Inst k) t u p h g =
-      let same : h.1.made ≡ g.1.made = some_is (sym h.1.there ∙ g.1.there) in
-      let one : instance h.0.exports ≡ instance g.0.exports = some_is (sym h.1.says ∙ ap (λ (x : Instantiation ℕ). worlds x.tag) same ∙ g.1.says) in
+      let same : h.1.made ≡ g.1.made = same_Some _ _ (sym h.1.there ∙ g.1.there) in
+      let one : instance h.0.exports ≡ instance g.0.exports = same_Some _ _ (sym h.1.says ∙ ap (λ (x : Instantiation ℕ). worlds x.tag) same ∙ g.1.says) in
       h.2 ∙ one ∙ sym g.2
   named_one (Projection s n) t u p h g =
       let same : h.0 ≡ g.0 = exports_of (named_one s (instance h.0) (instance g.0) p h.1 g.1) in
@@ -82,8 +82,8 @@ module _ (worlds : Worlds) (worlds_in_order : (t : Tag) (v : Tree) → worlds t 
 -- ---- two outputs of the same bytes
 
 slice_among : (packages : List Package) (i : ℕ) (p : Package) → slice_get packages i ≡ Some p → Among p packages
-slice_among [] i p e = absurd (none_is e)
-slice_among (q ∷ packages) zero p e = inl (sym (some_is e))
+slice_among [] i p e = absurd (none-some _ e)
+slice_among (q ∷ packages) zero p e = inl (sym (same_Some _ _ e))
 slice_among (q ∷ packages) (suc i) p e = inr (slice_among packages i p e)
 
 -- an output that was composed over these packages
@@ -100,7 +100,7 @@ module _ (worlds : Worlds) (bytes : List ℕ) (world : World) (o : IsOutput worl
   of_tag : (k : ℕ) (w : World) → IsOfPackage o.packages o.ascribed_one k w → IsOfTag worlds meaning.wiring (meaning.same.to k) w
   of_tag k w i =
       let known = o.composed.known k i.instance i.there in
-      let same : known.which ≡ i.which = some_is (sym known.there ∙ i.stands) in
+      let same : known.which ≡ i.which = same_Some _ _ (sym known.there ∙ i.stands) in
       let says = o.true_of known.which (slice_among o.packages (o.ascribed_one.number k) known.which known.there) in
       record {
         made = renamed meaning.same.to i.instance;
@@ -140,7 +140,7 @@ module _ (worlds : Worlds) (worlds_in_order : (t : Tag) (v : Tree) → worlds t 
 
       go : (l : Option Tree) → lookup n other.exports ≡ l → HasField n t other.exports
       go None e =
-          let absent = world_only worlds bytes other p n (λ u k. none_is (sym e ∙ has-looked n u other.exports exports_in_order k)) in
+          let absent = world_only worlds bytes other p n (λ u k. none-some _ (sym e ∙ has-looked n u other.exports exports_in_order k)) in
           absurd (subst (λ s. HasTree here.outers (IsOfTag worlds here) s t) (sym (ap (λ (W : Wiring ℕ). W.exports n) wirings) ∙ absent) has)
       go (Some u) e =
           let f = looked-has n u other.exports e in
@@ -179,13 +179,13 @@ true_from all a (q ∷ ps) sub p m = go (λ k. true_from all a ps (λ r j. sub r
     ]
 
 in_order_of : (ps : List Package) → AreInOrder ps → (t : Tag) (v : Tree) → worlds_of ps t ≡ Some v → InOrder v
-in_order_of [] a t v e = absurd (none_is e)
+in_order_of [] a t v e = absurd (none-some _ e)
 in_order_of (p ∷ ps) a (OfBytes b) v e = go (λ h. in_order_of ps (λ q m. a q (inr m)) (OfBytes b) v h) (bytes_eq p.bytes b) e
   where
     go : (worlds_of ps (OfBytes b) ≡ Some v → InOrder v) → (c : Bool) → cond c (Some (instance p.world.exports)) (worlds_of ps (OfBytes b)) ≡ Some v → InOrder v
-    go rest true e = subst InOrder (some_is e) (a p (inl refl)).1
+    go rest true e = subst InOrder (same_Some _ _ e) (a p (inl refl)).1
     go rest false e = rest e
-in_order_of (p ∷ ps) a (OfDependency n) v e = absurd (none_is e)
+in_order_of (p ∷ ps) a (OfDependency n) v e = absurd (none-some _ e)
 
 -- ---- along the steps
 

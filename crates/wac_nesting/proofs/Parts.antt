@@ -8,12 +8,6 @@ use Rattle.wac_nesting.specs.Laws.{Substitution_replaces}
 use Rattle.wac_nesting.proofs.Standing.{Descends, stands_is}
 use Rattle.wac_nesting.proofs.Carried.{IsSolid}
 
-pub some_is : {A : Type 0} {x y : A} → Some x ≡ Some y → x ≡ y
-some_is e = cc
-
-pub none_is : {A : Type 0} {x : A} → None ≡ Some x → ⊥
-none_is e = cc
-
 module _ (parts : ℕ → Part) (W : Wiring ℕ) (ordered : IsOrdered W) where
   pub any_low : Descends (λ j. Unit {0}) (λ k. args_of (W.at k))
   any_low k n = go (W.at k) refl

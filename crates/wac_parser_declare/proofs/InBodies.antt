@@ -30,6 +30,7 @@ use Rattle.wac_parser_declare.specs.InBodies.{is_method, receiver_of}
 use Rattle.wac_parser_declare.specs.Scope.{Meant, Scope, bind, has, taken}
 use Rattle.wac_parser_declare.proofs.Kept.{labelled_holds, scope-kept, stated-kept, value_at-with_values, with_values-more, with_values-same}
 use Rattle.wac_parser_declare.proofs.Members.{has-with_values}
+use Rattle.wac_parser_lexer.proofs.SymbolLaws.{neither}
 
 -- ---- steps that are refused where something is there
 
@@ -115,14 +116,10 @@ module _ (c : Collection) (a : IsAcyclic c) (r : ResourceId) (stands : Stands c 
   receiver_stated true = refl
   receiver_stated false = ap (λ (x : Stated). self_params (Some x)) borrow_stated
 
-either_absent : (x y : Bool) → (x || y) ≡ false → (x ≡ false) × (y ≡ false)
-either_absent true y e = absurd (cc e)
-either_absent false y e = (refl, e)
-
 -- no method of the name, so none that is static, or is not
 pub absent_method : (xs : List (Name × ItemKind)) (r m : Name) (is_static : Bool) → is_method xs r m ≡ false → is_some (value_at xs (method_name is_static r m)) ≡ false
-absent_method xs r m true e = (either_absent (is_some (value_at xs (method_name true r m))) (is_some (value_at xs (method_name false r m))) e).0
-absent_method xs r m false e = (either_absent (is_some (value_at xs (method_name true r m))) (is_some (value_at xs (method_name false r m))) e).1
+absent_method xs r m true e = (neither (is_some (value_at xs (method_name true r m))) (is_some (value_at xs (method_name false r m))) e).0
+absent_method xs r m false e = (neither (is_some (value_at xs (method_name true r m))) (is_some (value_at xs (method_name false r m))) e).1
 
 -- an entry whose name was new
 pub added_absent : {V : Type 0} (es fs : List (Name × V)) (n : Name) (v : V) (b : Bool) → is_some (value_at es n) ≡ false → AddsNew es n v fs b → fs ≡ es ++ (n, v) ∷ []

@@ -11,7 +11,7 @@ use Rattle.wac_types_base.specs.Collection as s
 use Rattle.wac_types_base.specs.Collection.{Shape, Slot, SlotStands, Stands, IsAcyclic, Grows, item_node, func_entry, value_slot, option_slot}
 use Rattle.wac_types_base.specs.Entries.{Name, with_values, value_at, names_of, values_of, IsNew}
 use Rattle.wac_types_base.specs.Stated.{Stated, stated_of, kind_of, desc, func_of, names, filled, contains_borrow}
-use Rattle.wac_types_base.proofs.Loops.{names-with_values}
+use Rattle.wac_types_base.proofs.Loops.{names-with_values, mapped_next}
 use Rattle.wac_types_base.proofs.Telling.{item_kind, kind_stated, untyped_stated}
 use Rattle.wac_types_base.proofs.Slots.{stands_typed_func}
 use Rattle.wac_parser_tree.specs.Trees as t
@@ -27,15 +27,12 @@ use Rattle.wac_parser_refusals.specs.Outcomes.{IsHeld, IsRefusal, Refuses, Tells
 use Rattle.wac_parser_declare.specs.Holding.{AddsNew, IsValue, IsValueIf, IsFunc, NamesStand, StandsIf, AreEntries, EachStands, ValueStands, AreNamedValues, AreCases, scope_of, self_params, stated_value, stated_if}
 use Rattle.wac_parser_refusals.proofs.Outcomes.{then_refused, after_refused}
 use Rattle.wac_parser_declare.proofs.Kept.{entry_holds, children, both_stand, named_values_stand, option_stands, option_places, IsValueIf-kept, StandsIf-kept, scope-kept, stated-kept, stated_if-kept, AreEntries-kept, EachStands-more, with_values-more, value_at-with_values}
+use Rattle.wac_types_base.proofs.Standing.{is_some-option_map}
 
 -- ---- names
 
-is_some-mapped : {V T : Type 0} (f : V → T) (o : Option V) → is_some (option_map f o) ≡ is_some o
-is_some-mapped f None = refl
-is_some-mapped f (Some v) = refl
-
 pub has-with_values : {V T : Type 0} (f : V → T) (es : List (Name × V)) (n : Name) → has (with_values f es) n ≡ is_some (value_at es n)
-has-with_values f es n = ap is_some (value_at-with_values f es n) ∙ is_some-mapped f (value_at es n)
+has-with_values f es n = ap is_some (value_at-with_values f es n) ∙ is_some-option_map f (value_at es n)
 
 equal_names : (n m : Name) → n ≡ m → pointwise ◌==◌ n m ≡ true
 equal_names n m e = (bytes_eq-Decides n m).1 e
@@ -138,17 +135,13 @@ pub filled_places : (d : Collection) (es : List (Name × ValueType)) → map (op
 filled_places d [] = refl
 filled_places d (e ∷ es) = ap (λ os. Some (stated_value d e.1) ∷ os) (filled_places d es)
 
-map-both : {A B : Type 0} (f : A → B) (xs : List A) (y : A) → map f (xs ++ y ∷ []) ≡ map f xs ++ f y ∷ []
-map-both f [] y = refl
-map-both f (x ∷ xs) y = ap (λ ys. f x ∷ ys) (map-both f xs y)
-
 func_holds : (d : Collection) → IsAcyclic d → (i : FuncTypeId) (es : List (Name × ValueType)) (o : Option ValueType) (b : Bool) (ps : List (Name × Stated)) (a : Option Stated)
     → item_node d (ItemKind.Func i) ≡ Some (s.func (names_of es) b, map value_slot (values_of es) ++ option_slot o ∷ []) → AreNamedValues d ps es → IsValueIf d a o → IsFunc d (func_of ps a b) i
 func_holds d ac i es o b ps a node h r =
     let label : s.func (names_of es) b ≡ s.func (names ps) b = ap (λ ns. s.func ns b) (sym (names-with_values (stated_value d) es) ∙ ap names h.same) in
     entry_holds d ac (ItemKind.Func i) (s.func (names ps) b) (map value_slot (values_of es) ++ option_slot o ∷ []) (filled ps ++ a ∷ [])
     (node ∙ ap (λ l. Some (l, map value_slot (values_of es) ++ option_slot o ∷ [])) label)
-    (map-both (option_map (stated_of d)) (map value_slot (values_of es)) (option_slot o) ∙ ap (λ x. map (option_map (stated_of d)) (map value_slot (values_of es)) ++ x ∷ []) (option_places d o ∙ r.same)
+    (mapped_next (option_map (stated_of d)) (map value_slot (values_of es)) (option_slot o) ∙ ap (λ x. map (option_map (stated_of d)) (map value_slot (values_of es)) ++ x ∷ []) (option_places d o ∙ r.same)
     ∙ ap (λ xs. xs ++ a ∷ []) (filled_places d es ∙ ap filled h.same))
 
 pub func_children : (c : Collection) (es : List (Name × ValueType)) (o : Option ValueType) → EachStands (ValueStands c) es → StandsIf c o → All (SlotStands c) (map value_slot (values_of es) ++ option_slot o ∷ [])

@@ -1,5 +1,5 @@
 -- What stands: in bodies and in what is added, and while a collection grows.
-use Rattle.std.proofs.Common.{◌≡◌, ℕ, zero, suc, Result, Ok, Err, OnOk, IfOk, List, [], ◌∷◌, ◌++◌, map, All, Option, Some, None, IsSome, option_map, Bool, true, false, slice_get, refl, sym, ap, subst, ◌∙◌, inl, inr}
+use Rattle.std.proofs.Common.{◌≡◌, ℕ, zero, suc, Result, Ok, Err, OnOk, IfOk, List, [], ◌∷◌, ◌++◌, map, All, Option, Some, None, option_map, Bool, true, false, slice_get, refl, sym, ap, subst, ◌∙◌, inl, inr}
 use Rattle.wac_types_base.specs.declared.item.ValueType.{ValueType}
 use Rattle.wac_types_base.specs.declared.item.ItemKind.{ItemKind}
 use Rattle.wac_types_base.specs.declared.item.«Type».{«Type» as TypeKind}
@@ -15,7 +15,7 @@ use Rattle.wac_types_base.specs.declared.ids.FuncTypeId.{FuncTypeId}
 use Rattle.wac_types_base.specs.declared.ids.ResourceId.{ResourceId}
 use Rattle.wac_types_base.specs.Record.{Collection}
 use Rattle.wac_types_base.specs.Graph.{Among}
-use Rattle.wac_types_base.specs.Collection.{Slot, SlotStands, HasChildren, Stands, IsAcyclic, Grows, Entry, Shape, item_node, value_node, entry_at, labelled, type_of, own_of, borrow_of, option_slot, value_slot, func_entry, resource_entry, resource_entry_at, interface_entry, world_entry, items, used}
+use Rattle.wac_types_base.specs.Collection.{Slot, SlotStands, HasChildren, Stands, IsAcyclic, Grows, Entry, item_node, value_node, entry_at, type_of, own_of, borrow_of, option_slot, value_slot, func_entry, resource_entry, resource_entry_at, interface_entry, world_entry, items, used}
 use Rattle.wac_types_base.specs.Entries.{Name, value_at, values_of}
 use Rattle.wac_types_base.proofs.Adding.{Among-left, Among-right, Grows-trans, Grows-refl}
 use Rattle.wac_types_base.proofs.Slots.{entry_at-is, stands_typed_func, stands_typed_value, stands_typed_interface, stands_typed_world}
@@ -32,6 +32,7 @@ use Rattle.wac_parser_declare.proofs.Kept.{SlotsStand, children, cases_stand, na
 use Rattle.wac_types_base.proofs.GraphLemmas.{is_there}
 use Rattle.wac_parser_declare.proofs.Values.{sought, binding_stands, value_stands, maybe_stands}
 use Rattle.wac_parser_declare.proofs.Members.{func_children, new_name}
+use Rattle.wac_types_base.proofs.Replacing.{labelled_there}
 
 -- ---- entries
 
@@ -129,10 +130,6 @@ pub acyclic_after : (c d : Collection) → Grows c d → IsAcyclic d
 acyclic_after c d g = g.acyclic
 
 -- ---- types as items
-
-labelled_there : (l : Shape → Shape) (o : Option Entry) → IsSome o → IsSome (labelled l o)
-labelled_there l None s = s
-labelled_there l (Some e) s = refl
 
 module _ (c : Collection) where
   pub typed_func : (f : FuncTypeId) → Stands c (ItemKind.Func f) → Stands c (ItemKind.Ty (TypeKind.Func f))

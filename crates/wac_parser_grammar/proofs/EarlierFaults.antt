@@ -16,10 +16,10 @@ use Rattle.wac_parser_grammar.specs.Names.{behind_first, end_of, version_read, v
 use Rattle.wac_parser_grammar.specs.Declarations.{some_member, members}
 use Rattle.wac_parser_grammar.specs.Places.{IsBehind, here, on}
 use Rattle.wac_parser_grammar.specs.Standing.{IsNamed, Stands}
-use Rattle.wac_parser_grammar.proofs.Exact.{Exact, Takes, Begins, token_exact}
+use Rattle.wac_parser_grammar.proofs.Exact.{Exact, Takes, Begins, token_exact, inside, both}
 use Rattle.wac_parser_grammar.proofs.ExactLists.{list_exact}
-use Rattle.wac_parser_grammar.proofs.Faithful.{Faithful, Any, ok_inside, err_inside, behind_trans, stands_behind, both, one_of, stands_here, token_faithful}
-use Rattle.wac_parser_grammar.proofs.FaithfulLists.{list_faithful}
+use Rattle.wac_parser_grammar.proofs.Faithful.{Faithful, Any, err_inside, behind_trans, stands_behind, one_of, stands_here, token_faithful}
+use Rattle.wac_parser_grammar.proofs.FaithfulLists.{list_faithful, ok_not_err}
 
 pub token_stood : (k : Token) (s : Input) (x : SourceSpan) (r : Input) → (token k).Is x s r → first_item s ≡ Some (Ok k, x)
 token_stood k s x r h = ap first_of_items h.2
@@ -46,17 +46,14 @@ module _ {X : Type 0} (k : Token) (q : SourceSpan → Rule X)
     ];
   }
 
-ok_not_err : {X : Type 0} (p : X) (f : Fault) → ◌≡◌ {A = Result X Fault} (Ok p) (Err f) → ⊥
-ok_not_err p f e = cc
-
 -- ---- a text that is no version
 
 read_goes : (o : Result t.Version Error) (text : List ℕ) (span : SourceSpan) (m : Input) (x : Option t.Version) (r : Input) → (version_read o text span).read m ≡ Ok (x, r) → IsBehind r m
-read_goes (Ok v) text span m x r h = let P : Input → Type 0 = λ (i : Input). IsBehind i m in subst P (ap (λ p. p.1) (ok_inside h)) here
+read_goes (Ok v) text span m x r h = let P : Input → Type 0 = λ (i : Input). IsBehind i m in subst P (ap (λ p. p.1) (inside h)) here
 read_goes (Err e) text span m x r h = cc
 
 by_goes : (o : Option (List ℕ)) (span : SourceSpan) (m : Input) (x : Option t.Version) (r : Input) → (version_by o span).read m ≡ Ok (x, r) → IsBehind r m
-by_goes None span m x r h = let P : Input → Type 0 = λ (i : Input). IsBehind i m in subst P (ap (λ p. p.1) (ok_inside h)) here
+by_goes None span m x r h = let P : Input → Type 0 = λ (i : Input). IsBehind i m in subst P (ap (λ p. p.1) (inside h)) here
 by_goes (Some text) span m x r h = read_goes (version_parts text) text span m x r h
 
 read_fails : (o : Result t.Version Error) (text : List ℕ) (span : SourceSpan) (m : Input) (f : Fault) → (version_read o text span).read m ≡ Err f
@@ -77,7 +74,7 @@ module _ {X : Type 0} (k : Token) (named : (s : Input) (span : SourceSpan) → f
   unfolding version_of
   rest_goes s span m at x r h =
       let b = both ((version_by (behind_first 64 (text_at m.source span)) span).read m) (λ v n. Ok (make span (text_at m.source span) v, n)) (x, r) h in
-      let same : b.1 ≡ r = ap (λ p. p.1) (ok_inside b.3) in
+      let same : b.1 ≡ r = ap (λ p. p.1) (inside b.3) in
       let P : Input → Type 0 = λ (i : Input). IsBehind i m in
       subst P same (by_goes (behind_first 64 (text_at m.source span)) span m b.0 b.1 b.2)
 
@@ -99,7 +96,7 @@ module _ {X : Type 0} (k : Token) (named : (s : Input) (span : SourceSpan) → f
 
 member_goes : {X : Type 0} (xs : List X) (ty : DeclaredType) (kind : MemberKind) (close : SourceSpan) (m : Input) (x : List X) (r : Input) → (some_member xs ty kind close).read m ≡ Ok (x, r) → IsBehind r m
 member_goes [] ty kind close m x r h = cc
-member_goes (y ∷ ys) ty kind close m x r h = let P : Input → Type 0 = λ (i : Input). IsBehind i m in subst P (ap (λ p. p.1) (ok_inside h)) here
+member_goes (y ∷ ys) ty kind close m x r h = let P : Input → Type 0 = λ (i : Input). IsBehind i m in subst P (ap (λ p. p.1) (inside h)) here
 
 member_fails : {X : Type 0} (xs : List X) (ty : DeclaredType) (kind : MemberKind) (close : SourceSpan) (m : Input) (f : Fault) → (some_member xs ty kind close).read m ≡ Err f → (xs ≡ []) × (empty_type ty kind close ≡ f)
 member_fails [] ty kind close m f h = (refl, err_inside h)

@@ -26,10 +26,10 @@ pub record Takes {X : Type 0} (p : Rule X) : Type 0 where
 pub record Begins {X : Type 0} (ks : List Token) (p : Rule X) : Type 0 where
   pub begins : (s : Input) (x : X) (r : Input) → p.Is x s r → sees_any ks s ≡ true
 
-inside : {X : Type 0} {p q : X} → ◌≡◌ {A = Result X Fault} (Ok p) (Ok q) → p ≡ q
+pub inside : {X : Type 0} {p q : X} → ◌≡◌ {A = Result X Fault} (Ok p) (Ok q) → p ≡ q
 inside e = cc
 
-both : {A B : Type 0} (o : Result (A × Input) Fault) (g : A → Input → Result (B × Input) Fault) (q : B × Input) → and_then o g ≡ Ok q
+pub both : {A B : Type 0} (o : Result (A × Input) Fault) (g : A → Input → Result (B × Input) Fault) (q : B × Input) → and_then o g ≡ Ok q
     → (a : A) × (m : Input) × (o ≡ Ok (a, m)) × (g a m ≡ Ok q)
 both (Err e) g q h = cc
 both (Ok p) g q h = (p.0, p.1, refl, h)

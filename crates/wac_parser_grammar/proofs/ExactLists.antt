@@ -1,24 +1,13 @@
 -- Rules of lists and repetitions read just what they say.
-use Rattle.std.proofs.Common.{◌≡◌, ℕ, zero, suc, ◌+◌, ◌<◌, ◌≤◌, ◌⊎◌, inl, inr, Bool, true, false, List, [], ◌∷◌, length, Result, Ok, Err, refl, ap, subst, sym, arith, cond}
+use Rattle.std.proofs.Common.{◌≡◌, ℕ, zero, suc, ◌+◌, ◌<◌, ◌≤◌, inl, inr, Bool, true, false, List, [], ◌∷◌, length, Result, Ok, Err, refl, ap, subst, sym, arith, cond}
 use Rattle.wac_parser_lexer.specs.declared.token.Token.{Token}
 use Rattle.wac_parser_lexer.specs.Items.{Input, Item}
 use Rattle.wac_parser_grammar.specs.Faults.{Fault}
 use Rattle.wac_parser_grammar.specs.Ahead.{sees, sees_any, none_of}
 use Rattle.wac_parser_grammar.specs.Rules.{Rule, and_then, behind, front, read_list, IsListOf, list_of, IsWhile, read_while, while_of, IsAll, has_item, read_all, all_of, left}
 use Rattle.wac_parser_grammar.proofs.Lists.{begun_some}
-use Rattle.wac_parser_grammar.proofs.Exact.{Exact, Keeps, Takes, Begins, behind_exact, behind_keeps}
-
-inside : {X : Type 0} {p q : X} → ◌≡◌ {A = Result X Fault} (Ok p) (Ok q) → p ≡ q
-inside e = cc
-
-both : {A B : Type 0} (o : Result (A × Input) Fault) (g : A → Input → Result (B × Input) Fault) (q : B × Input) → and_then o g ≡ Ok q
-    → (a : A) × (m : Input) × (o ≡ Ok (a, m)) × (g a m ≡ Ok q)
-both (Err e) g q h = cc
-both (Ok p) g q h = (p.0, p.1, refl, h)
-
-either : {A : Type 0} (b : Bool) (x y z : A) → cond b x y ≡ z → ((b ≡ true) × (x ≡ z)) ⊎ ((b ≡ false) × (y ≡ z))
-either true x y z e = inl (refl, e)
-either false x y z e = inr (refl, e)
+use Rattle.wac_parser_grammar.proofs.Exact.{Exact, Keeps, Takes, Begins, behind_exact, behind_keeps, inside, both}
+use Rattle.wac_parser_lexer.proofs.FrontLaws.{either}
 
 front_ok : {X : Type 0} (x : X) (o : Result (List X × Input) Fault) (q : List X × Input) → front x o ≡ Ok q → (p : List X × Input) × (o ≡ Ok p) × ((x ∷ p.0, p.1) ≡ q)
 front_ok x (Err e) q h = cc

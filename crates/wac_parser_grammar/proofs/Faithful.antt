@@ -14,6 +14,7 @@ use Rattle.wac_parser_grammar.specs.ValueTypes.{type_first, too_deep}
 use Rattle.wac_parser_grammar.specs.Expressions.{expr_first}
 use Rattle.wac_parser_grammar.specs.Places.{IsBehind, here, on}
 use Rattle.wac_parser_grammar.specs.Standing.{IsFound, IsNoneOf, StandsAt, Stands}
+use Rattle.wac_parser_grammar.proofs.Exact.{inside, both}
 
 -- Where the condition holds, the rule goes on to a place behind, or its fault stands.
 pub record Faithful {X : Type 0} (C : Input → Type 0) (p : Rule X) : Type 0 where
@@ -33,16 +34,8 @@ behind_trans a b c h (on j) = on (behind_trans a b _ h j)
 pub stands_behind : (m s : Input) (f : Fault) → IsBehind m s → Stands m f → Stands s f
 stands_behind m s f b h = (h.0, behind_trans h.0 m s h.1 b, h.2)
 
-pub ok_inside : {X : Type 0} {p q : X} → ◌≡◌ {A = Result X Fault} (Ok p) (Ok q) → p ≡ q
-ok_inside e = cc
-
 pub err_inside : {X : Type 0} {f g : Fault} → ◌≡◌ {A = Result X Fault} (Err f) (Err g) → f ≡ g
 err_inside e = cc
-
-pub both : {A B : Type 0} (o : Result (A × Input) Fault) (g : A → Input → Result (B × Input) Fault) (q : B × Input) → and_then o g ≡ Ok q
-    → (a : A) × (m : Input) × (o ≡ Ok (a, m)) × (g a m ≡ Ok q)
-both (Err e) g q h = cc
-both (Ok p) g q h = (p.0, p.1, refl, h)
 
 pub one_of : {A B : Type 0} (o : Result (A × Input) Fault) (g : A → Input → Result (B × Input) Fault) (f : Fault) → and_then o g ≡ Err f
     → (o ≡ Err f) ⊎ ((a : A) × (m : Input) × (o ≡ Ok (a, m)) × (g a m ≡ Err f))
@@ -61,7 +54,7 @@ bind_faithful p f ep ef = record {
 }
 
 same_place : {X : Type 0} (s : Input) (x y : X) (r : Input) → ◌≡◌ {A = Result (X × Input) Fault} (Ok (y, s)) (Ok (x, r)) → IsBehind r s
-same_place s x y r h = let P : Input → Type 0 = λ (m : Input). IsBehind m s in subst P (ap (λ p. p.1) (ok_inside h)) here
+same_place s x y r h = let P : Input → Type 0 = λ (m : Input). IsBehind m s in subst P (ap (λ p. p.1) (inside h)) here
 
 pub pure_faithful : {X : Type 0} {C : Input → Type 0} (x : X) → Faithful C (pure x)
 pure_faithful x = record { goes = λ s y r c h. same_place s y x r h; stands = λ s f c h. cc }
@@ -181,7 +174,7 @@ cause_faithful cause stands = record { goes = λ s x r c h. cc; stands = λ s f 
 -- ---- tokens and choices
 
 token_by : (b : Bool) (s : Input) (x : SourceSpan) (m : Fault) (q : SourceSpan × Input) → cond {A = Result (SourceSpan × Input) Fault} b (Ok (x, rest_input s)) (Err m) ≡ Ok q → IsBehind q.1 s
-token_by true s x m q h = let P : Input → Type 0 = λ (r : Input). IsBehind r s in subst P (ap (λ p. p.1) (ok_inside h)) (on here)
+token_by true s x m q h = let P : Input → Type 0 = λ (r : Input). IsBehind r s in subst P (ap (λ p. p.1) (inside h)) (on here)
 token_by false s x m q h = cc
 
 pub token_fails : (b : Bool) (s : Input) (x : SourceSpan) (m f : Fault) → cond {A = Result (SourceSpan × Input) Fault} b (Ok (x, rest_input s)) (Err m) ≡ Err f → (b ≡ false) × (m ≡ f)
@@ -218,7 +211,7 @@ begin_any_faithful ks p q ep eq = record {
 }
 
 unfaulty_goes : (o : Option Fault) (s : Input) (q : Unit {0} × Input) → unfaulty_by o s ≡ Ok q → IsBehind q.1 s
-unfaulty_goes None s q h = let P : Input → Type 0 = λ (r : Input). IsBehind r s in subst P (ap (λ p. p.1) (ok_inside h)) here
+unfaulty_goes None s q h = let P : Input → Type 0 = λ (r : Input). IsBehind r s in subst P (ap (λ p. p.1) (inside h)) here
 unfaulty_goes (Some f) s q h = cc
 
 unfaulty_fails : (o : Option Fault) (s : Input) (f : Fault) → unfaulty_by o s ≡ Err f → o ≡ Some f

@@ -1,5 +1,5 @@
 -- The faults of lists and repetitions stand in the source.
-use Rattle.std.proofs.Common.{◌≡◌, ℕ, zero, suc, ◌≤◌, ◌⊎◌, inl, inr, Bool, true, false, List, [], ◌∷◌, Result, Ok, Err, refl, ap, subst, sym, arith, cond}
+use Rattle.std.proofs.Common.{◌≡◌, ℕ, zero, suc, ◌≤◌, inl, inr, Bool, true, false, List, [], ◌∷◌, Result, Ok, Err, refl, ap, subst, sym, arith, cond}
 use Rattle.wac_parser_lexer.specs.declared.token.Token.{Token}
 use Rattle.wac_parser_lexer.specs.Items.{Input}
 use Rattle.wac_parser_grammar.specs.Faults.{Fault}
@@ -8,27 +8,24 @@ use Rattle.wac_parser_grammar.specs.Rules.{Rule, and_then, behind, front, read_l
 use Rattle.wac_parser_grammar.specs.Places.{IsBehind, here}
 use Rattle.wac_parser_grammar.specs.Standing.{Stands}
 use Rattle.wac_parser_grammar.proofs.Lists.{begun_some}
-use Rattle.wac_parser_grammar.proofs.Exact.{Exact, Takes}
-use Rattle.wac_parser_grammar.proofs.Faithful.{Faithful, Any, ok_inside, err_inside, behind_trans, stands_behind, both, one_of, none_one, none_both, none_stands, stands_here, behind_faithful, behind_left}
+use Rattle.wac_parser_grammar.proofs.Exact.{Exact, Takes, inside, both}
+use Rattle.wac_parser_grammar.proofs.Faithful.{Faithful, Any, err_inside, behind_trans, stands_behind, one_of, none_one, none_both, none_stands, stands_here, behind_faithful, behind_left}
+use Rattle.wac_parser_lexer.proofs.FrontLaws.{either}
 
-ok_not_err : {X : Type 0} (p : X) (f : Fault) → ◌≡◌ {A = Result X Fault} (Ok p) (Err f) → ⊥
+pub ok_not_err : {X : Type 0} (p : X) (f : Fault) → ◌≡◌ {A = Result X Fault} (Ok p) (Err f) → ⊥
 ok_not_err p f e = cc
 
-err_not_ok : {X : Type 0} (p : X) (f : Fault) → ◌≡◌ {A = Result X Fault} (Err f) (Ok p) → ⊥
+pub err_not_ok : {X : Type 0} (p : X) (f : Fault) → ◌≡◌ {A = Result X Fault} (Err f) (Ok p) → ⊥
 err_not_ok p f e = cc
 
 ends : {X : Type 0} (s : Input) (x : X) (q : X × Input) → ◌≡◌ {A = Result (X × Input) Fault} (Ok (x, s)) (Ok q) → IsBehind q.1 s
-ends s x q h = let P : Input → Type 0 = λ (r : Input). IsBehind r s in subst P (ap (λ v. v.1) (ok_inside h)) here
+ends s x q h = let P : Input → Type 0 = λ (r : Input). IsBehind r s in subst P (ap (λ v. v.1) (inside h)) here
 
 -- ---- lists
 
-either : {A : Type 0} (b : Bool) (x y z : A) → cond b x y ≡ z → ((b ≡ true) × (x ≡ z)) ⊎ ((b ≡ false) × (y ≡ z))
-either true x y z e = inl (refl, e)
-either false x y z e = inr (refl, e)
-
 front_ok : {X : Type 0} (x : X) (o : Result (List X × Input) Fault) (q : List X × Input) → front x o ≡ Ok q → (p : List X × Input) × (o ≡ Ok p) × (p.1 ≡ q.1)
 front_ok x (Err e) q h = cc
-front_ok x (Ok p) q h = (p, refl, ap (λ v. v.1) (ok_inside h))
+front_ok x (Ok p) q h = (p, refl, ap (λ v. v.1) (inside h))
 
 front_err : {X : Type 0} (x : X) (o : Result (List X × Input) Fault) (f : Fault) → front x o ≡ Err f → o ≡ Err f
 front_err x (Err e) f h = ap Err (err_inside h)

@@ -1,5 +1,6 @@
 -- What the rules of types and functions take is nested no deeper than they have room for.
 use Rattle.std.proofs.Common.{◌≡◌, ℕ, zero, suc, ◌≤◌, inl, inr, Bool, true, List, [], ◌∷◌, Option, Some, None, refl, subst, arith}
+use Rattle.std.proofs.lemmas.Option.{same_Some}
 use Rattle.std.proofs.Math.Nat.{max-le}
 use Rattle.wac_parser_lexer.specs.declared.span.SourceSpan.{SourceSpan}
 use Rattle.wac_parser_lexer.specs.declared.token.Token.{Token}
@@ -52,11 +53,8 @@ listed_levels : (depth : ℕ) (xs : List t.Ty) → AllFit (TyFits depth) xs → 
 listed_levels depth [] f = omega arith
 listed_levels depth (x ∷ xs) f = max-le f.0 (listed_levels depth xs f.1)
 
-some_inside : {X : Type 0} {p q : X} → Some p ≡ Some q → p ≡ q
-some_inside h = cc
-
 one_level : (c make : SourceSpan → t.Ty) (span : SourceSpan) → Some c ≡ Some make → levels (c span) ≡ 1 → levels (make span) ≡ 1
-one_level c make span h f = let P : (SourceSpan → t.Ty) → Type 0 = λ (z : SourceSpan → t.Ty). levels (z span) ≡ 1 in subst P (some_inside h) f
+one_level c make span h f = let P : (SourceSpan → t.Ty) → Type 0 = λ (z : SourceSpan → t.Ty). levels (z span) ≡ 1 in subst P (same_Some _ _ h) f
 
 -- a type that is one keyword is one level
 keyword_levels : (l : Token) (make : SourceSpan → t.Ty) (span : SourceSpan) → v.keyword_type l ≡ Some make → levels (make span) ≡ 1

@@ -1,16 +1,17 @@
 -- A loop that reads the values of a list, one by one.
-use Rattle.std.proofs.Common.{◌≡◌, ℕ, zero, suc, ◌+◌, ◌-◌, ◌<◌, ◌≤◌, Bool, true, false, List, [], ◌∷◌, ◌++◌, length, None, Result, Ok, Err, refl, ap, sym, ◌∙◌, arith, append_assoc}
+use Rattle.std.proofs.Common.{◌≡◌, ℕ, zero, suc, ◌+◌, ◌-◌, ◌<◌, ◌≤◌, Bool, true, false, List, [], ◌∷◌, ◌++◌, length, Result, Ok, Err, refl, ap, sym, ◌∙◌, arith, append_assoc}
 use Rattle.std.proofs.lemmas.List.{append-nil}
 use Rattle.wac_parser_lexer.specs.declared.token.Token.{Token}
 use Rattle.wac_parser_lexer.specs.Items.{Input, Item, first_of_items}
 use Rattle.wac_parser_grammar.specs.Faults.{Fault}
 use Rattle.wac_parser_grammar.specs.Ahead.{sees, sees_any, none_of, is_any, token_of}
 use Rattle.wac_parser_grammar.specs.Rules.{left, front, after_front, read_list, behind}
+use Rattle.wac_parser_grammar.proofs.Faithful.{none_is_any}
 
 pub deeper : {X : Type 1} (f : ℕ → X) (n : ℕ) → 0 < n → f n ≡ f (suc (n - 1))
 deeper f n some = let e : n ≡ suc (n - 1) = omega arith in ap f e
 
-front_after : {X : Type 0} (xs : List X) (x : X) (o : Result (List X × Input) Fault) → after_front xs (front x o) ≡ after_front (xs ++ x ∷ []) o
+pub front_after : {X : Type 0} (xs : List X) (x : X) (o : Result (List X × Input) Fault) → after_front xs (front x o) ≡ after_front (xs ++ x ∷ []) o
 front_after xs x (Err e) = refl
 front_after xs x (Ok p) = ap (λ (l : List _). Ok (l, p.1)) (sym (append_assoc xs (x ∷ []) p.0))
 
@@ -72,10 +73,6 @@ module _ {X : Type 0} (read : Input → Result (X × Input) Fault) (first : List
   Rests-fails_behind xs s m start x k total fault h room e b f g = sym (at_count xs s start k total h (omega arith)) ∙ ap (after_front xs) (no_separator (total - k) s m x fault (omega arith) e b f g)
 
 -- ---- where a value begins, an item is left
-
-none_is_any : (ks : List Token) → is_any ks None ≡ false
-none_is_any [] = refl
-none_is_any (k ∷ ks) = none_is_any ks
 
 begun_at : (ks : List Token) (items : List Item) → is_any ks (token_of (first_of_items items)) ≡ true → 0 < length items
 begun_at ks [] e = let none = none_is_any ks in absurd (let two : false ≡ true = sym none ∙ e in cc)

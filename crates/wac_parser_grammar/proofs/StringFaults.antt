@@ -1,5 +1,5 @@
 -- A string that is no argument.
-use Rattle.std.proofs.Common.{◌≡◌, ◌≢◌, ◌⊎◌, inl, inr, Bool, true, false, Some, Result, Ok, Err, refl, ap, sym, ◌∙◌, cond}
+use Rattle.std.proofs.Common.{◌≡◌, ◌≢◌, inl, inr, Some, Result, Ok, Err, ap, sym, ◌∙◌}
 use Rattle.wac_parser_lexer.specs.declared.span.SourceSpan.{SourceSpan}
 use Rattle.wac_parser_lexer.specs.declared.token.Token.TheVariants as k
 use Rattle.wac_parser_lexer.specs.Items.{Input, first_item, first_of_items}
@@ -11,8 +11,11 @@ use Rattle.wac_parser_grammar.specs.Names.{string}
 use Rattle.wac_parser_grammar.specs.Places.{IsBehind}
 use Rattle.wac_parser_grammar.specs.Standing.{Stands}
 use Rattle.wac_parser_grammar.proofs.NameLaws.{string_exact}
-use Rattle.wac_parser_grammar.proofs.Faithful.{Faithful, Any, err_inside, behind_trans, stands_behind, both, one_of, stands_here}
+use Rattle.wac_parser_grammar.proofs.Faithful.{Faithful, Any, err_inside, behind_trans, stands_behind, one_of, stands_here}
 use Rattle.wac_parser_grammar.proofs.NameFaults.{string_faithful}
+use Rattle.wac_parser_grammar.proofs.Exact.{both}
+use Rattle.wac_parser_lexer.proofs.FrontLaws.{either}
+use Rattle.wac_parser_grammar.proofs.FaithfulLists.{err_not_ok}
 
 string_stood : (s : Input) (x : t.StringLiteral) (r : Input) → string.read s ≡ Ok (x, r) → first_item s ≡ Some (Ok k.String, x.span)
 unfolding string
@@ -22,13 +25,6 @@ string_stood s x r h =
 
 not_ident : Some k.String ≢ Some k.Ident
 not_ident e = cc
-
-either : {A : Type 0} (b : Bool) (x y z : A) → cond b x y ≡ z → ((b ≡ true) × (x ≡ z)) ⊎ ((b ≡ false) × (y ≡ z))
-either true x y z e = inl (refl, e)
-either false x y z e = inr (refl, e)
-
-err_not_ok : {X : Type 0} (p : X) (f : Fault) → ◌≡◌ {A = Result X Fault} (Err f) (Ok p) → ⊥
-err_not_ok p f e = cc
 
 module _ {X : Type 0} (p : t.StringLiteral → Rule X) (faithful : (x : t.StringLiteral) → Faithful Any (p x)) where
   abbrev fault : t.StringLiteral → Fault

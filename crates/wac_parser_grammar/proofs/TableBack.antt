@@ -1,5 +1,5 @@
 -- What has a plain form is taken by the rule, where what follows can't go on with it.
-use Rattle.std.proofs.Common.{◌≡◌, ℕ, zero, suc, ◌≤◌, inl, inr, Bool, true, false, List, [], ◌∷◌, Option, Some, None, Result, refl, ap, subst, sym, ◌∙◌, arith}
+use Rattle.std.proofs.Common.{◌≡◌, ℕ, zero, suc, ◌≤◌, inl, inr, true, false, List, [], ◌∷◌, Option, Some, None, Result, refl, ap, subst, sym, ◌∙◌, arith}
 use Rattle.std.proofs.Math.Nat.{le-max_left, le-max_right}
 use denote.Enum.Bare.{true_same}
 use Rattle.semver.specs.declared.error.Error.{Error}
@@ -19,6 +19,7 @@ use Rattle.wac_parser_grammar.specs.FormDepths.{levels, levels_of, levels_in, En
 use Rattle.wac_parser_grammar.proofs.Exact.{Begins}
 use Rattle.wac_parser_grammar.proofs.TypeLaws.{ty_begins}
 use Rattle.wac_parser_grammar.proofs.TableLaws.{apart}
+use Rattle.wac_parser_lexer.proofs.FindLaws.{not_true}
 
 -- ---- the next token
 
@@ -156,10 +157,6 @@ unfolding untys
 tys_again t.Tys.no_more = refl
 tys_again (t.Tys.more ty tys) = ap (t.Tys.more ty) (tys_again tys)
 
-pub is_no : (b : Bool) → (b ≡ true → ⊥) → b ≡ false
-is_no true f = absurd (f refl)
-is_no false f = refl
-
 further_stop : (ts : t.Tys) (m r e : Input) (span : t.Span) → FurtherTys ts m r → At k.CloseAngle span r e → Ends k.OpenAngle m
 unfolding same_token
 further_stop t.Tys.no_more m r e span h at = elim h [
@@ -183,7 +180,7 @@ borrow_back id span s r h =
 
 module _ (depth : ℕ) (inner : Rule t.Ty) (back : (s : Input) (x : t.Ty) (r : Input) → levels x ≤ depth → Ty x s r → Ends k.OpenAngle r → inner.Is x s r) (begins : Begins v.type_first inner) where
   no_token : (l : Token) (s : Input) (x : t.Ty) (r : Input) → is_any v.type_first (Some l) ≡ false → inner.Is x s r → sees l s ≡ false
-  no_token l s x r e is = is_no (sees l s) (λ f. apart l v.type_first s e f (begins.begins s x r is))
+  no_token l s x r e is = not_true (sees l s) (λ f. apart l v.type_first s e f (begins.begins s x r is))
 
   further_back : (ts : t.Tys) (m r e : Input) (span : t.Span) → levels_of ts ≤ depth → FurtherTys ts m r → At k.CloseAngle span r e
       → (a : Input) × (behind k.CloseAngle true).Is tt m a × IsListOf inner.Is k.CloseAngle true (untys ts) a r

@@ -12,9 +12,10 @@ use Rattle.wac_parser_grammar.specs.Forms.{Part, At, Row, Separated, Braces, Beh
 use Rattle.wac_parser_grammar.specs.FormDepths.{Ends, Always, AllFit, FuncEnds}
 use Rattle.wac_parser_grammar.proofs.Exact.{Begins}
 use Rattle.wac_parser_grammar.proofs.TableLaws.{apart}
-use Rattle.wac_parser_grammar.proofs.TableBack.{sees_at, any_at, ends_at, optional_here, optional_past, is_no}
+use Rattle.wac_parser_grammar.proofs.TableBack.{sees_at, any_at, ends_at, optional_here, optional_past}
 use Rattle.wac_parser_grammar.proofs.TableBackFuncs.{list_taken}
 use Rattle.wac_parser_grammar.proofs.TableBackResources.{row_taken}
+use Rattle.wac_parser_lexer.proofs.FindLaws.{not_true}
 
 -- ---- choices
 
@@ -29,7 +30,7 @@ only k s h = one (is_token k (next_token s)) h
 
 -- where one of some tokens comes next, none other does
 pub other : (k : Token) (ks : List Token) (s : Input) → is_any ks (Some k) ≡ false → sees_any ks s ≡ true → sees k s ≡ false
-other k ks s h begun = is_no (sees k s) (λ f. apart k ks s h f begun)
+other k ks s h begun = not_true (sees k s) (λ f. apart k ks s h f begun)
 
 neither : (b c : Bool) → b ≡ false → c ≡ false → cond b true (cond c true false) ≡ false
 neither false false g h = refl

@@ -1,14 +1,10 @@
 -- The scan of block comments gives the longest one.
-use Rattle.std.proofs.Common.{◌≡◌, ◌≢◌, ℕ, zero, suc, ◌+◌, ◌-◌, ◌<◌, ◌≤◌, Bool, true, false, ◌&&◌, cond, eqb, List, [], ◌∷◌, ◌++◌, length, refl, ap, sym, subst, ◌∙◌, arith, append_assoc, length-append}
-use Rattle.std.proofs.lemmas.Bool.{eqb-true}
+use Rattle.std.proofs.Common.{◌≡◌, ◌≢◌, ℕ, zero, suc, ◌+◌, ◌-◌, ◌<◌, ◌≤◌, Bool, true, false, cond, eqb, List, [], ◌∷◌, ◌++◌, length, refl, ap, sym, subst, ◌∙◌, arith, append_assoc, length-append}
+use Rattle.std.proofs.lemmas.Bool.{eqb-true, and_parts}
 use Rattle.wac_parser_lexer.specs.Words.{opens_comment, closes_comment, Inside, close, byte, comment, IsBlockComment}
 use Rattle.wac_parser_lexer.specs.Scan.{past, inside_len, block_comment_len}
 use Rattle.wac_parser_lexer.specs.Longest.{IsLongest}
 use Rattle.wac_parser_lexer.proofs.CommentLaws.{past_some, past_past, open_step, close_step, byte_step, last_step, no_more}
-
-both_true : (a b : Bool) → (a && b) ≡ true → (a ≡ true) × (b ≡ true)
-both_true true b h = (refl, h)
-both_true false b h = cc
 
 -- ---- a comment is passed as a whole
 
@@ -101,7 +97,7 @@ module _ (b c : ℕ) (z : List ℕ) where
   pass_open : (more : ℕ) → opens_comment b c ≡ true → 0 < inside_len (more + 1) z → Passed (more + 1) z → Passed more (b ∷ c ∷ z)
   unfolding Passed Rests
   pass_open more h some p =
-      let t = both_true (eqb b 47) (eqb c 42) h in
+      let t = and_parts (eqb b 47) (eqb c 42) h in
       let one : more + 1 ≡ suc more = omega arith in
       let r : Rests (suc more) p.0 = (let P : ℕ → Type 0 = λ (m : ℕ). Rests m p.0 in subst P one p.4) in
       let size = open_step more b c z h ∙ past_some 2 (inside_len (more + 1) z) some in
@@ -116,7 +112,7 @@ module _ (b c : ℕ) (z : List ℕ) where
 
   closed : closes_comment b c ≡ true → b ∷ c ∷ z ≡ 42 ∷ 47 ∷ z
   closed h =
-      let t = both_true (eqb b 42) (eqb c 47) h in
+      let t = and_parts (eqb b 42) (eqb c 47) h in
       ap (λ (x : ℕ). x ∷ c ∷ z) (eqb-true b 42 t.0) ∙ ap (λ (x : ℕ). 42 ∷ x ∷ z) (eqb-true c 47 t.1)
 
   pass_last : opens_comment b c ≡ false → closes_comment b c ≡ true → Passed 0 (b ∷ c ∷ z)
@@ -177,7 +173,7 @@ BlockFound z = (w : List ℕ) × (rest : List ℕ) × (z ≡ w ++ rest) × (leng
 block_at : (b c : ℕ) (z : List ℕ) → opens_comment b c ≡ true → 0 < inside_len 0 z → Passed 0 z → BlockFound (b ∷ c ∷ z)
 unfolding BlockFound Passed Rests block_comment_len
 block_at b c z h some p =
-    let t = both_true (eqb b 47) (eqb c 42) h in
+    let t = and_parts (eqb b 47) (eqb c 42) h in
     let size : block_comment_len (b ∷ c ∷ z) ≡ 2 + inside_len 0 z = rw h (past_some 2 (inside_len 0 z) some) in (
       47 ∷ 42 ∷ p.0,
       p.1,

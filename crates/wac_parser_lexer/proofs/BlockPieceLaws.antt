@@ -1,6 +1,6 @@
 -- The piece at a `/*`: a comment, or the fault of one that has no end.
-use Rattle.std.proofs.Common.{◌≡◌, ℕ, zero, suc, ◌+◌, ◌<◌, Bool, true, false, ◌&&◌, cond, eqb, ltb, List, [], ◌∷◌, length, get_or, Option, Some, None, Result, Err, refl, ap, sym, subst, ◌∙◌, arith}
-use Rattle.std.proofs.lemmas.Bool.{eqb-true}
+use Rattle.std.proofs.Common.{◌≡◌, ℕ, zero, suc, ◌+◌, ◌<◌, Bool, true, false, cond, eqb, ltb, List, [], ◌∷◌, length, get_or, Option, Some, None, Result, Err, refl, ap, sym, subst, ◌∙◌, arith}
+use Rattle.std.proofs.lemmas.Bool.{eqb-true, and_parts}
 use Rattle.std.proofs.lemmas.Bool.Decides.{nat_tests}
 use Rattle.wac_parser_lexer.specs.declared.token.Token.{Token}
 use Rattle.wac_parser_lexer.specs.declared.token.Token.TheVariants as k
@@ -17,18 +17,13 @@ use Rattle.wac_parser_lexer.proofs.FirstLaws.{comment_alone}
 abbrev pub skip : ℕ → Option (Result Token Error) × ℕ
 skip n = (None, n)
 
-both : (a b : Bool) → (a && b) ≡ true → (a ≡ true) × (b ≡ true)
-both true true e = (refl, refl)
-both true false e = cc
-both false b e = cc
-
 no_zero : (n : ℕ) → 0 < n → eqb n 0 ≡ false
 no_zero n some = grind (arith, nat_tests)
 
 long : (n : ℕ) → 1 < n → ltb 1 n ≡ true
 long n some = grind (arith, nat_tests)
 
-positive : (n : ℕ) → 0 < n → ltb 0 n ≡ true
+pub positive : (n : ℕ) → 0 < n → ltb 0 n ≡ true
 positive n some = grind (arith, nat_tests)
 
 past_some : (m : ℕ) → 0 < m → past 2 m ≡ 2 + m
@@ -82,9 +77,9 @@ unended y none =
 module _ (P : List ℕ → Type 0) (here : (y : List ℕ) → P (47 ∷ 42 ∷ y)) where
   at_block : (z : List ℕ) → opens_comment (get_or z 0 0) (get_or z 1 0) ≡ true → P z
   at_block [] e = cc
-  at_block (b ∷ []) e = let parts = both (eqb b 47) (eqb 0 42) e in cc
+  at_block (b ∷ []) e = let parts = and_parts (eqb b 47) (eqb 0 42) e in cc
   at_block (b ∷ c ∷ y) e =
-      let parts = both (eqb b 47) (eqb c 42) e in
+      let parts = and_parts (eqb b 47) (eqb c 42) e in
       subst (λ (x : ℕ). P (x ∷ c ∷ y)) (sym (eqb-true b 47 parts.0)) (subst (λ (x : ℕ). P (47 ∷ x ∷ y)) (sym (eqb-true c 42 parts.1)) (here y))
 
 pub block_front : (z : List ℕ) → opens_comment (get_or z 0 0) (get_or z 1 0) ≡ true → 0 < block_comment_len z → front_piece z ≡ skip (block_comment_len z)

@@ -1,5 +1,6 @@
 -- How many bytes the first character of a text has.
-use Rattle.std.proofs.Common.{◌≡◌, ℕ, ◌+◌, ◌<◌, ◌≤◌, ◌/◌, ◌%◌, Bool, true, false, ◌&&◌, ltb, List, [], ◌∷◌, ◌++◌, length, refl, ap, sym, ◌∙◌, arith}
+use Rattle.std.proofs.Common.{◌≡◌, ℕ, ◌+◌, ◌<◌, ◌≤◌, ◌/◌, ◌%◌, Bool, true, false, ltb, List, [], ◌∷◌, ◌++◌, length, refl, ap, sym, ◌∙◌, arith}
+use Rattle.std.proofs.lemmas.Bool.{and_parts}
 use Rattle.std.proofs.lemmas.Bool.Decides.{nat_tests}
 use Rattle.std.proofs.lemmas.Str.{IsCharBoundary-start}
 use Rattle.std.specs.Char.{encode_utf8, len_utf8}
@@ -24,15 +25,11 @@ char_by c rest stop false true v e f g = rw (e, f, next_is c, stop) refl
 char_by c rest stop false false true e f g = rw (e, f, g, next_is (c / 64), next_is c, stop) refl
 char_by c rest stop false false false e f g = rw (e, f, g, next_is (c / 4096), next_is (c / 64), next_is c, stop) refl
 
-both_true : (a b : Bool) → (a && b) ≡ true → (a ≡ true) × (b ≡ true)
-both_true true b h = (refl, h)
-both_true false b h = cc
-
 first_char : (z cs : List ℕ) → all_scalars cs ≡ true → encode_utf8_all cs ≡ z → 0 < length z → (c : ℕ) × (rest : List ℕ) × (z ≡ encode_utf8 c ++ rest) × (char_len z ≡ len_utf8 c)
 first_char z [] h e some = absurd (omega (arith, ap length e))
 first_char z (c ∷ cs) h e some =
     let rest = encode_utf8_all cs in
-    let text : IsUtf8 rest = (cs, ((both_true _ (all_scalars cs) h).1, refl)) in
+    let text : IsUtf8 rest = (cs, ((and_parts _ (all_scalars cs) h).1, refl)) in
     let stop = rest_stops rest (IsCharBoundary-start rest text) in
     (c, rest, sym e, ap char_len (sym e) ∙ char_by c rest stop (ltb c 128) (ltb c 2048) (ltb c 65536) refl refl refl)
 

@@ -3,7 +3,7 @@ use Rattle.std.proofs.Common.{◌≡◌, ◌≢◌, ℕ, zero, suc, ◌+◌, ◌
 use Rattle.std.proofs.Math.Seq.{drop-cons}
 use Rattle.wac_parser_lexer.specs.Words.{opens_comment, closes_comment}
 use Rattle.wac_parser_lexer.specs.Scan.{past, inside_len}
-use Rattle.wac_parser_lexer.proofs.Joins.{is_below}
+use Rattle.wac_parser_lexer.proofs.BlockPieceLaws.{positive}
 
 -- the two bytes at a place, and what is behind them
 pub two_at : (z : List ℕ) (end : ℕ) → end + 1 < length z → drop end z ≡ get_or z end 0 ∷ get_or z (end + 1) 0 ∷ drop (end + 2) z
@@ -15,7 +15,7 @@ two_at z end h =
     first ∙ ap (λ (l : List ℕ). get_or z end 0 ∷ l) (second ∙ ap (λ i. get_or z i 0 ∷ drop (suc i) z) one ∙ ap (λ i. get_or z (end + 1) 0 ∷ drop i z) (ap suc (sym one) ∙ two))
 
 pub past_some : (n m : ℕ) → 0 < m → past n m ≡ n + m
-past_some n m h = rw (is_below m h) refl
+past_some n m h = rw (positive m h) refl
 
 pub past_past : (a b m : ℕ) → past a (past b m) ≡ past (a + b) m
 past_past a b zero = refl

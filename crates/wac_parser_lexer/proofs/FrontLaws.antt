@@ -1,5 +1,7 @@
 -- What the scan gives is the longest token.
 use Rattle.std.proofs.Common.{◌≡◌, ℕ, ◌<◌, ◌≤◌, ◌⊎◌, inl, inr, Bool, true, false, ◌&&◌, not, cond, ltb, List, [], ◌∷◌, ◌++◌, length, drop, Option, Some, None, refl, ap, sym, subst, ◌∙◌, arith}
+use Rattle.std.proofs.lemmas.Bool.{and_parts}
+use Rattle.std.proofs.lemmas.Option.{same_Some}
 use Rattle.std.specs.Prelude.{nat_eq}
 use Rattle.std.specs.List.{starts_with, list_all}
 use Rattle.std.specs.Str.{IsUtf8, IsCharBoundary}
@@ -14,21 +16,16 @@ use Rattle.wac_parser_lexer.specs.Spellings.{Spells, spellings}
 use Rattle.wac_parser_lexer.specs.Tokens.{IsToken, comment, block_comment, ident, string, package_name, package_path, spelled, IsNext}
 use Rattle.wac_parser_lexer.specs.Front.{longer, spelled_from, spelled_at, longest_at, token_at}
 use Rattle.wac_parser_lexer.proofs.WordLaws.{ident_longest, package_name_longest, package_path_longest}
-use Rattle.wac_parser_lexer.proofs.TextLaws.{string_longest, line_longest, line_place}
+use Rattle.wac_parser_lexer.proofs.TextLaws.{string_longest, line_longest, line_place, less}
 use Rattle.wac_parser_lexer.proofs.BlockLaws.{block_longest}
 use Rattle.wac_parser_lexer.proofs.AsciiLaws.{Ascii, Ends, is_ascii, ascii_ends, ident_ascii, package_name_ascii, package_path_ascii, string_ends, block_ends, place_behind}
-
-above : (n : ℕ) → ltb 0 n ≡ true → 0 < n
-above n h = grind arith
+use Rattle.wac_parser_lexer.proofs.Joins.{is_above}
 
 none_of : (n : ℕ) → ltb 0 n ≡ false → n ≡ 0
 none_of n h = grind arith
 
-not_less : (a b : ℕ) → ltb a b ≡ false → b ≤ a
+pub not_less : (a b : ℕ) → ltb a b ≡ false → b ≤ a
 not_less a b h = grind (arith, nat_tests)
-
-less : (a b : ℕ) → ltb a b ≡ true → a < b
-less a b h = grind (arith, nat_tests)
 
 -- a front of the text that is a token of this kind and length
 abbrev Front : List ℕ → Token → ℕ → Type 0
@@ -130,11 +127,11 @@ is_ident _ = false
 no_ident : (table : List (List ℕ × Token)) → list_all (λ entry. not (is_ident entry.1)) table ≡ true → (w : List ℕ) → Spells table k.Ident w → ⊥
 unfolding is_ident
 no_ident [] h w s = s
-no_ident (entry ∷ table) h w (inl s) = let e : not (is_ident entry.1) ≡ false = rw (← s.1) refl in absurd (let t = both_true (not (is_ident entry.1)) _ h in (let u = t.0 in cc))
+no_ident (entry ∷ table) h w (inl s) = let e : not (is_ident entry.1) ≡ false = rw (← s.1) refl in absurd (let t = and_parts (not (is_ident entry.1)) _ h in (let u = t.0 in cc))
   where
-    both_true : (a b : Bool) → (a && b) ≡ true → (a ≡ true) × (b ≡ true)
-    both_true true b h = (refl, h)
-    both_true false b h = cc
+    and_parts : (a b : Bool) → (a && b) ≡ true → (a ≡ true) × (b ≡ true)
+    and_parts true b h = (refl, h)
+    and_parts false b h = cc
 no_ident (entry ∷ table) h w (inr s) = no_ident table (second (not (is_ident entry.1)) _ h) w s
   where
     second : (a b : Bool) → (a && b) ≡ true → b ≡ true
@@ -149,18 +146,14 @@ no_ident_spelled = no_ident spellings refl
 is_text : List ℕ → Bool
 is_text w = ltb 0 (length w) && list_all is_ascii w
 
-both_true : (a b : Bool) → (a && b) ≡ true → (a ≡ true) × (b ≡ true)
-both_true true b h = (refl, h)
-both_true false b h = cc
-
 all_ascii : (w : List ℕ) → list_all is_ascii w ≡ true → Ascii w
 all_ascii [] h = tt
-all_ascii (b ∷ w) h = let t = both_true (is_ascii b) (list_all is_ascii w) h in (t.0, all_ascii w t.1)
+all_ascii (b ∷ w) h = let t = and_parts (is_ascii b) (list_all is_ascii w) h in (t.0, all_ascii w t.1)
 
 table_text : (table : List (List ℕ × Token)) → list_all (λ entry. is_text entry.0) table ≡ true → (kind : Token) (w : List ℕ) → Spells table kind w → is_text w ≡ true
 table_text [] h kind w s = absurd s
-table_text (entry ∷ table) h kind w (inl s) = ap is_text s.0 ∙ (both_true (is_text entry.0) _ h).0
-table_text (entry ∷ table) h kind w (inr s) = table_text table (both_true (is_text entry.0) _ h).1 kind w s
+table_text (entry ∷ table) h kind w (inl s) = ap is_text s.0 ∙ (and_parts (is_text entry.0) _ h).0
+table_text (entry ∷ table) h kind w (inr s) = table_text table (and_parts (is_text entry.0) _ h).1 kind w s
 
 spelled_text : (kind : Token) (w : List ℕ) → Spells spellings kind w → is_text w ≡ true
 unfolding spellings is_text
@@ -168,11 +161,11 @@ spelled_text = table_text spellings refl
 
 spelled_some : (kind : Token) (w : List ℕ) → Spells spellings kind w → 0 < length w
 unfolding is_text
-spelled_some kind w s = above (length w) (both_true (ltb 0 (length w)) (list_all is_ascii w) (spelled_text kind w s)).0
+spelled_some kind w s = is_above (length w) (and_parts (ltb 0 (length w)) (list_all is_ascii w) (spelled_text kind w s)).0
 
 spelled_ends : (kind : Token) (w : List ℕ) → Spells spellings kind w → Ends w
 unfolding is_text
-spelled_ends kind w s = ascii_ends w (spelled_some kind w s) (all_ascii w (both_true (ltb 0 (length w)) (list_all is_ascii w) (spelled_text kind w s)).1)
+spelled_ends kind w s = ascii_ends w (spelled_some kind w s) (all_ascii w (and_parts (ltb 0 (length w)) (list_all is_ascii w) (spelled_text kind w s)).1)
 
 ident_ends : (w : List ℕ) → IsIdent w → Ends w
 ident_ends w h = ascii_ends w (ident_longest.some w h) (ident_ascii w h)
@@ -272,7 +265,7 @@ keyword_wins z w rest e size some is other h =
 
 -- ---- the token at the front
 
-either : {A : Type 0} (b : Bool) (x y z : A) → cond b x y ≡ z → ((b ≡ true) × (x ≡ z)) ⊎ ((b ≡ false) × (y ≡ z))
+pub either : {A : Type 0} (b : Bool) (x y z : A) → cond b x y ≡ z → ((b ≡ true) × (x ≡ z)) ⊎ ((b ≡ false) × (y ≡ z))
 either true x y z e = inl (refl, e)
 either false x y z e = inr (refl, e)
 
@@ -294,14 +287,11 @@ longest_next z some =
       },
     )
 
-inside_some : {X : Type 0} {p q : X} → Some p ≡ Some q → p ≡ q
-inside_some e = cc
-
 pub token_next : (z : List ℕ) (kind : Token) (n : ℕ) → token_at z ≡ Some (kind, n) → (word : List ℕ) × (rest : List ℕ) × (length word ≡ n) × IsNext z kind word rest
 unfolding token_at Next
 token_next z kind n e =
     elim (either {A = Option (Token × ℕ)} (ltb 0 (longest_at z).1) (Some (longest_at z)) None (Some (kind, n)) e) [
-      | inl w ↦ (let P : Token × ℕ → Type 0 = λ (p : Token × ℕ). Next z p.0 p.1 in subst P (inside_some w.1) (longest_next z (above (longest_at z).1 w.0)))
+      | inl w ↦ (let P : Token × ℕ → Type 0 = λ (p : Token × ℕ). Next z p.0 p.1 in subst P (same_Some _ _ w.1) (longest_next z (is_above (longest_at z).1 w.0)))
       | inr w ↦ (let r = w.1 in cc)
     ]
 
@@ -360,6 +350,6 @@ pub token_place : (z : List ℕ) (t : Token × ℕ) → token_at z ≡ Some t �
 unfolding token_at
 token_place z t e u =
     elim (either {A = Option (Token × ℕ)} (ltb 0 (longest_at z).1) (Some (longest_at z)) None (Some t) e) [
-      | inl w ↦ (let P : Token × ℕ → Type 0 = λ (p : Token × ℕ). IsCharBoundary z p.1 in subst P (inside_some w.1) (longest_place z (above (longest_at z).1 w.0) u))
+      | inl w ↦ (let P : Token × ℕ → Type 0 = λ (p : Token × ℕ). IsCharBoundary z p.1 in subst P (same_Some _ _ w.1) (longest_place z (is_above (longest_at z).1 w.0) u))
       | inr w ↦ (let r = w.1 in cc)
     ]

@@ -1,5 +1,6 @@
 -- The items of pieces, from one to the next.
 use Rattle.std.proofs.Common.{◌≡◌, ℕ, ◌<◌, true, false, List, [], ◌∷◌, ◌++◌, length, Option, Some, None, Result, Ok, Err, refl, ap, sym, ◌∙◌, arith}
+use Rattle.std.proofs.lemmas.Option.{same_Some}
 use Rattle.std.specs.Prelude.{⊤}
 use Rattle.std.specs.Iterator.{MakesProgress, at_most}
 use Rattle.wac_parser_lexer.specs.declared.span.SourceSpan.{SourceSpan}
@@ -18,9 +19,6 @@ pub rest_behind : (docs : List Doc) (ps : List Piece) → items_of [] (behind ps
 rest_behind docs [] = refl
 rest_behind docs (skipped span text ∷ ps) = rest_behind (docs ++ doc_in span text) ps
 rest_behind docs (item token span ∷ ps) = refl
-
-inside_some : {X : Type 0} {p q : X} → Some p ≡ Some q → p ≡ q
-inside_some e = cc
 
 -- behind an item the doc comments before the end are the same
 docs_same : (docs : List Doc) (ps : List Piece) (r : Result Token Error × SourceSpan) → ahead ps ≡ Some r → docs_behind [] (behind ps) ≡ docs_behind docs ps
@@ -41,7 +39,7 @@ left_none ds docs (item token span ∷ ps) e = cc
 span_some : (source : List ℕ) (docs : List Doc) (ps : List Piece) (r : Result Token Error × SourceSpan) → ahead ps ≡ Some r → r.1 ≡ next_span source (items_of docs ps)
 span_some source docs [] r e = cc
 span_some source docs (skipped span text ∷ ps) r e = span_some source (docs ++ doc_in span text) ps r e
-span_some source docs (item token span ∷ ps) r e = sym (ap (λ (q : Result Token Error × SourceSpan). q.1) (inside_some e))
+span_some source docs (item token span ∷ ps) r e = sym (ap (λ (q : Result Token Error × SourceSpan). q.1) (same_Some _ _ e))
 
 span_none : (source : List ℕ) (docs : List Doc) (ps : List Piece) → ahead ps ≡ None → record { offset = length source; length = 0 } ≡ next_span source (items_of docs ps)
 span_none source docs [] e = refl
@@ -87,8 +85,8 @@ kept_first source at last next now first view = first ∙ first_ahead [] (pieces
 
 -- an item that is a token is noted as that token, and the other way round
 pub token_found : (t : Option Token) (f : Option Error) (s span : SourceSpan) (k : Token) → found_by t f s ≡ Some (Ok k, span) → t ≡ Some k
-token_found (Some t) f s span k e = let same : Ok t ≡ Ok k = ap (λ (q : Result Token Error × SourceSpan). q.0) (inside_some e) in cc
-token_found None (Some x) s span k e = let same : Err x ≡ Ok k = ap (λ (q : Result Token Error × SourceSpan). q.0) (inside_some e) in cc
+token_found (Some t) f s span k e = let same : Ok t ≡ Ok k = ap (λ (q : Result Token Error × SourceSpan). q.0) (same_Some _ _ e) in cc
+token_found None (Some x) s span k e = let same : Err x ≡ Ok k = ap (λ (q : Result Token Error × SourceSpan). q.0) (same_Some _ _ e) in cc
 token_found None None s span k e = cc
 
 pub found_token : (t : Option Token) (f : Option Error) (s : SourceSpan) (k : Token) → t ≡ Some k → found_by t f s ≡ Some (Ok k, s)

@@ -1,22 +1,16 @@
 -- What is joined by a byte that its parts lack is found part by part.
 use Rattle.std.proofs.Common.{◌≡◌, ◌≢◌, ℕ, zero, suc, ◌+◌, ◌<◌, ◌≤◌, Bool, true, false, ◌&&◌, eqb, ltb, eq-eqb, List, [], ◌∷◌, ◌++◌, length, drop, get_or, refl, ap, sym, ◌∙◌, arith, cond, append_assoc, length-append}
-use Rattle.std.proofs.lemmas.Bool.{eqb-true}
+use Rattle.std.proofs.lemmas.Bool.{eqb-true, and_parts}
 use Rattle.std.proofs.lemmas.List.{drop-drop}
 use Rattle.std.proofs.Math.Seq.{get_or-append_seam}
 use Rattle.std.proofs.Math.ListN.{get_or-append}
 use Rattle.wac_parser_lexer.specs.Words.{Joined, one, more}
 use Rattle.wac_parser_lexer.specs.Scan.{parts_len, next_len, joined_len}
 use Rattle.wac_parser_lexer.specs.Longest.{IsLongest}
+use Rattle.wac_parser_lexer.proofs.BlockPieceLaws.{positive}
 
-pub is_below : (n : ℕ) → 0 < n → ltb 0 n ≡ true
-is_below n h = grind arith
-
-is_above : (n : ℕ) → ltb 0 n ≡ true → 0 < n
+pub is_above : (n : ℕ) → ltb 0 n ≡ true → 0 < n
 is_above n h = grind arith
-
-both_true : (a b : Bool) → (a && b) ≡ true → (a ≡ true) × (b ≡ true)
-both_true true b h = (refl, h)
-both_true false b h = cc
 
 not_above : (a b : ℕ) → a ≤ b → (a < b → ⊥) → a ≡ b
 not_above a b h refuted = omega (arith, refuted)
@@ -75,7 +69,7 @@ module _ (part : List ℕ → ℕ) (joint : ℕ) (fits : (z : List ℕ) → part
   next_out z end total sum next = omega (arith, next_stops (drop end z) next, sum)
 
   pub first_part : (z : List ℕ) → 0 < part z → joined_len part joint z ≡ part z + parts_len part joint 0 (drop (part z) z)
-  first_part z h = rw (is_below (part z) h) (skips (part z) z (fits z))
+  first_part z h = rw (positive (part z) h) (skips (part z) z (fits z))
 
 module _ (L : List ℕ → Type 0) (part : List ℕ → ℕ) (joint : ℕ) (longest : IsLongest L part) (apart : (w : List ℕ) → L w → (i : ℕ) → i < length w → get_or w i 0 ≢ joint) where
   abbrev after : List ℕ → ℕ
@@ -87,11 +81,11 @@ module _ (L : List ℕ → Type 0) (part : List ℕ → ℕ) (joint : ℕ) (long
   past_part (b ∷ w) rest = omega (arith, past_part w rest)
 
   pub begins : (z : List ℕ) → 0 < part z → joined_len part joint z ≡ parts_len part joint (part z) z
-  begins z h = rw (is_below (part z) h) refl
+  begins z h = rw (positive (part z) h) refl
 
   pub goes_on : (z : List ℕ) → 0 < part z → after (joint ∷ z) ≡ suc (joined_len part joint z)
   unfolding parts_len
-  goes_on z h = rw (eq-eqb joint joint refl, is_below (part z) h) refl
+  goes_on z h = rw (eq-eqb joint joint refl, positive (part z) h) refl
 
   pub stops : (b : ℕ) (z : List ℕ) → (eqb b joint && ltb 0 (part z)) ≡ false → after (b ∷ z) ≡ 0
   unfolding parts_len
@@ -158,7 +152,7 @@ module _ (L : List ℕ → Type 0) (part : List ℕ → ℕ) (joint : ℕ) (long
   goes_by : (v : List ℕ) (b : ℕ) (y : List ℕ) → L v → (0 < joined_len part joint y → Found y) → (t : Bool) → (eqb b joint && ltb 0 (part y)) ≡ t → Goes v (b ∷ y)
   goes_by v b y is deeper false e = (v, b ∷ y, refl, omega (arith, stops b y e), one is)
   goes_by v b y is deeper true e =
-      let t = both_true (eqb b joint) (ltb 0 (part y)) e in
+      let t = and_parts (eqb b joint) (ltb 0 (part y)) e in
       let next : 0 < part y = is_above (part y) t.1 in
       let s = whole y next in
       let some = longest.some s.first s.is in

@@ -1,7 +1,7 @@
 -- The keyword of a whole word is the longest keyword at the front of a text that begins with the word.
-use Rattle.std.proofs.Common.{◌≡◌, ◌≢◌, ℕ, zero, suc, ◌<◌, ◌≤◌, ◌⊎◌, inl, inr, Bool, true, false, ◌&&◌, ◌||◌, not, cond, eqb, ltb, eq-eqb, List, [], ◌∷◌, ◌++◌, length, take, get_or, refl, ap, sym, subst, ◌∙◌, arith, append_assoc}
+use Rattle.std.proofs.Common.{◌≡◌, ◌≢◌, ℕ, zero, suc, ◌<◌, ◌≤◌, ◌⊎◌, inl, inr, Bool, true, false, ◌||◌, not, cond, eqb, ltb, eq-eqb, List, [], ◌∷◌, ◌++◌, length, take, get_or, refl, ap, sym, subst, ◌∙◌, arith, append_assoc}
 use Rattle.std.proofs.Math.Seq.{take-append_seam}
-use Rattle.std.proofs.lemmas.Bool.{eqb-true}
+use Rattle.std.proofs.lemmas.Bool.{eqb-true, and_parts}
 use Rattle.std.proofs.lemmas.Bool.Decides.{nat_tests}
 use Rattle.std.proofs.lemmas.Slice.Eq.{bytes_eq-Decides}
 use Rattle.std.specs.List.{list_all}
@@ -67,10 +67,6 @@ keyword_kept w = elim (kept (begun_by (get_or w 0 0) spellings) w) [
 
 -- ---- keywords are identifiers
 
-both_true : (a b : Bool) → (a && b) ≡ true → (a ≡ true) × (b ≡ true)
-both_true true b h = (refl, h)
-both_true false b h = cc
-
 second : (a b : Bool) → (not a || b) ≡ true → a ≡ true → b ≡ true
 second true b h e = h
 second false b h e = cc
@@ -83,16 +79,16 @@ table_words : (table : List (List ℕ × Token)) → words_only table ≡ true �
 unfolding words_only
 table_words [] h kind w s e = absurd s
 table_words (entry ∷ table) h kind w (inl s) e =
-    let t = both_true (not (is_first (get_or entry.0 0 0)) || eqb (ident_len entry.0) (length entry.0)) _ h in
+    let t = and_parts (not (is_first (get_or entry.0 0 0)) || eqb (ident_len entry.0) (length entry.0)) _ h in
     let same : eqb (ident_len entry.0) (length entry.0) ≡ true = second (is_first (get_or entry.0 0 0)) _ t.0 (ap (λ (y : List ℕ). is_first (get_or y 0 0)) (sym s.0) ∙ e) in
     ap ident_len s.0 ∙ eqb-true _ _ same ∙ ap length (sym s.0)
-table_words (entry ∷ table) h kind w (inr s) e = table_words table (both_true (not (is_first (get_or entry.0 0 0)) || eqb (ident_len entry.0) (length entry.0)) _ h).1 kind w s e
+table_words (entry ∷ table) h kind w (inr s) e = table_words table (and_parts (not (is_first (get_or entry.0 0 0)) || eqb (ident_len entry.0) (length entry.0)) _ h).1 kind w s e
 
 keyword_is_word : (kind : Token) (w : List ℕ) → Spells spellings kind w → is_first (get_or w 0 0) ≡ true → ident_len w ≡ length w
 unfolding words_only spellings is_first ident_len label_len parts_len word_len
 keyword_is_word = table_words spellings refl
 
-same_first : (z w rest : List ℕ) → z ≡ w ++ rest → 0 < length w → get_or z 0 0 ≡ get_or w 0 0
+pub same_first : (z w rest : List ℕ) → z ≡ w ++ rest → 0 < length w → get_or z 0 0 ≡ get_or w 0 0
 same_first z [] rest e some = absurd (omega arith)
 same_first z (b ∷ w) rest e some = ap (λ (y : List ℕ). get_or y 0 0) e
 

@@ -1,5 +1,7 @@
 -- The kind of the longest token at a place is only one.
 use Rattle.std.proofs.Common.{◌≡◌, ◌≢◌, ℕ, zero, suc, ◌≤◌, ◌⊎◌, inl, inr, Bool, true, false, ◌&&◌, ◌||◌, not, cond, eqb, List, [], ◌∷◌, ◌++◌, length, take, get_or, Option, Some, None, refl, ap, sym, subst, ◌∙◌, arith, eq-eqb}
+use Rattle.std.proofs.lemmas.Bool.{and_parts}
+use Rattle.std.proofs.lemmas.Option.{same_Some}
 use Rattle.std.proofs.Math.Seq.{take-append_seam}
 use Rattle.std.specs.List.{list_all}
 use Rattle.std.specs.Str.{bytes_eq}
@@ -179,14 +181,10 @@ is_other None = true
 is_other (Some k.Ident) = true
 is_other (Some _) = false
 
-both_true : (a b : Bool) → (a && b) ≡ true → (a ≡ true) × (b ≡ true)
-both_true true b h = (refl, h)
-both_true false b h = cc
-
 table_class : (table : List (List ℕ × Token)) → list_all (λ entry. is_other (class_of entry.0)) table ≡ true → (kind : Token) (w : List ℕ) → Spells table kind w → is_other (class_of w) ≡ true
 table_class [] h kind w s = absurd s
-table_class (entry ∷ table) h kind w (inl s) = ap (λ (y : List ℕ). is_other (class_of y)) s.0 ∙ (both_true (is_other (class_of entry.0)) _ h).0
-table_class (entry ∷ table) h kind w (inr s) = table_class table (both_true (is_other (class_of entry.0)) _ h).1 kind w s
+table_class (entry ∷ table) h kind w (inl s) = ap (λ (y : List ℕ). is_other (class_of y)) s.0 ∙ (and_parts (is_other (class_of entry.0)) _ h).0
+table_class (entry ∷ table) h kind w (inr s) = table_class table (and_parts (is_other (class_of entry.0)) _ h).1 kind w s
 
 spelled_class : (kind : Token) (w : List ℕ) → Spells spellings kind w → is_other (class_of w) ≡ true
 unfolding spellings is_other class_of is_first named has marked
@@ -200,21 +198,21 @@ distinct (entry ∷ table) = list_all (λ other. not (bytes_eq other.0 entry.0))
 not_again : (table : List (List ℕ × Token)) (v : List ℕ) → list_all (λ other. not (bytes_eq other.0 v)) table ≡ true → (kind : Token) → Spells table kind v → ⊥
 not_again [] v h kind s = s
 not_again (entry ∷ table) v h kind (inl s) =
-    let t = both_true (not (bytes_eq entry.0 v)) _ h in
+    let t = and_parts (not (bytes_eq entry.0 v)) _ h in
     let e : bytes_eq entry.0 v ≡ true = (bytes_eq-Decides entry.0 v).1 (sym s.0) in
     let f : not (bytes_eq entry.0 v) ≡ false = rw e refl in
     (let u = t.0 in cc)
-not_again (entry ∷ table) v h kind (inr s) = not_again table v (both_true (not (bytes_eq entry.0 v)) _ h).1 kind s
+not_again (entry ∷ table) v h kind (inr s) = not_again table v (and_parts (not (bytes_eq entry.0 v)) _ h).1 kind s
 
 pub spelled_once : (table : List (List ℕ × Token)) → distinct table ≡ true → (a b : Token) (w : List ℕ) → Spells table a w → Spells table b w → a ≡ b
 unfolding distinct
 spelled_once [] h a b w s t = absurd s
 spelled_once (entry ∷ table) h a b w (inl s) (inl t) = s.1 ∙ sym t.1
 spelled_once (entry ∷ table) h a b w (inl s) (inr t) =
-    let P : List ℕ → Type 0 = λ (y : List ℕ). Spells table b y in absurd (not_again table entry.0 (both_true _ (distinct table) h).0 b (subst P s.0 t))
+    let P : List ℕ → Type 0 = λ (y : List ℕ). Spells table b y in absurd (not_again table entry.0 (and_parts _ (distinct table) h).0 b (subst P s.0 t))
 spelled_once (entry ∷ table) h a b w (inr s) (inl t) =
-    let P : List ℕ → Type 0 = λ (y : List ℕ). Spells table a y in absurd (not_again table entry.0 (both_true _ (distinct table) h).0 a (subst P t.0 s))
-spelled_once (entry ∷ table) h a b w (inr s) (inr t) = spelled_once table (both_true _ (distinct table) h).1 a b w s t
+    let P : List ℕ → Type 0 = λ (y : List ℕ). Spells table a y in absurd (not_again table entry.0 (and_parts _ (distinct table) h).0 a (subst P t.0 s))
+spelled_once (entry ∷ table) h a b w (inr s) (inr t) = spelled_once table (and_parts _ (distinct table) h).1 a b w s t
 
 pub all_distinct : distinct spellings ≡ true
 unfolding distinct spellings
@@ -235,9 +233,6 @@ kinds _ w (string h) = inl (string_class w h)
 kinds _ w (package_name h) = inl (name_class w h)
 kinds _ w (package_path h) = inl (path_class w h)
 kinds kind w (spelled h) = inr h
-
-inside_some : {X : Type 0} {p q : X} → Some p ≡ Some q → p ≡ q
-inside_some e = cc
 
 other_is_ident : (kind : Token) → is_other (Some kind) ≡ true → kind ≡ k.Ident
 unfolding is_other
@@ -314,7 +309,7 @@ apart_kinds a b w e s keyword = absurd (keyword (other_is_ident a (ap is_other (
 
 one_kind : (a b : Token) (w : List ℕ) → Kinds a w → Kinds b w → (a ≡ k.Ident → (other : Token) → Spells spellings other w → ⊥) → (b ≡ k.Ident → (other : Token) → Spells spellings other w → ⊥) → a ≡ b
 unfolding Kinds
-one_kind a b w (inl e) (inl f) h l = inside_some (sym e ∙ f)
+one_kind a b w (inl e) (inl f) h l = same_Some _ _ (sym e ∙ f)
 one_kind a b w (inl e) (inr t) h l = apart_kinds a b w e t h
 one_kind a b w (inr s) (inl f) h l = sym (apart_kinds b a w f s l)
 one_kind a b w (inr s) (inr t) h l = spelled_once spellings all_distinct a b w s t

@@ -1,7 +1,7 @@
 -- A source is cut whole into its pieces, and its items stand in order.
-use Rattle.std.proofs.Common.{◌≡◌, ◌≢◌, ℕ, zero, suc, ◌+◌, ◌-◌, ◌<◌, ◌≤◌, inl, inr, Bool, true, false, ◌&&◌, cond, eqb, ltb, List, [], ◌∷◌, ◌++◌, length, take, drop, get_or, Option, Some, None, Result, Ok, Err, refl, ap, sym, subst, ◌∙◌, arith, length-drop, length-append}
+use Rattle.std.proofs.Common.{◌≡◌, ◌≢◌, ℕ, zero, suc, ◌+◌, ◌-◌, ◌<◌, ◌≤◌, inl, inr, Bool, true, false, cond, eqb, ltb, List, [], ◌∷◌, ◌++◌, length, take, drop, get_or, Option, Some, None, Result, Ok, Err, refl, ap, sym, subst, ◌∙◌, arith, length-drop, length-append}
 use Rattle.std.proofs.Math.Seq.{take-append_seam, drop-append_seam}
-use Rattle.std.proofs.lemmas.Bool.{eqb-true}
+use Rattle.std.proofs.lemmas.Bool.{eqb-true, and_parts}
 use Rattle.wac_parser_lexer.specs.declared.token.Token.{Token}
 use Rattle.wac_parser_lexer.specs.declared.error.Error.{Error}
 use Rattle.wac_parser_lexer.specs.declared.error.Error.TheVariants as fault
@@ -14,12 +14,9 @@ use Rattle.wac_parser_lexer.specs.Items.{Doc, doc_in, items_of}
 use Rattle.wac_parser_lexer.specs.Stands.{IsFirst, HasNoToken, HasNoComment, IsUnclosed, IsPlain, IsSkipped, IsItem, Stands, StandInOrder}
 use Rattle.wac_parser_lexer.proofs.WordLaws.{run_fits}
 use Rattle.wac_parser_lexer.proofs.BlockLaws.{block_longest}
-use Rattle.wac_parser_lexer.proofs.FrontLaws.{token_next, token_none, token_some}
+use Rattle.wac_parser_lexer.proofs.FrontLaws.{token_next, token_none, token_some, not_less}
 use Rattle.wac_parser_lexer.proofs.PieceLaws.{piece_step, no_pieces}
-
-both_true : (a b : Bool) → (a && b) ≡ true → (a ≡ true) × (b ≡ true)
-both_true true b h = (refl, h)
-both_true false b h = cc
+use Rattle.wac_parser_lexer.proofs.TextLaws.{less}
 
 -- ---- what stands at the front of a text
 
@@ -70,8 +67,8 @@ no_comment z e word rest split is =
 
 pub unclosed_is : (z : List ℕ) → is_unclosed z ≡ true → IsUnclosed z
 unclosed_is z h =
-    let t = both_true (opens_comment (get_or z 0 0) (get_or z 1 0)) (eqb (block_comment_len z) 0) h in
-    let o = both_true (eqb (get_or z 0 0) 47) (eqb (get_or z 1 0) 42) t.0 in
+    let t = and_parts (opens_comment (get_or z 0 0) (get_or z 1 0)) (eqb (block_comment_len z) 0) h in
+    let o = and_parts (eqb (get_or z 0 0) 47) (eqb (get_or z 1 0) 42) t.0 in
     let f = two_front z 47 42 (λ e. omega arith) (λ e. omega arith) (eqb-true (get_or z 0 0) 47 o.0) (eqb-true (get_or z 1 0) 42 o.1) in
     (f.0, f.1, no_comment z (eqb-true (block_comment_len z) 0 t.1))
 
@@ -112,12 +109,6 @@ stand_step source at (Some token) n ps is rest = (refl, is.2, rest)
 
 stands_end : (source : List ℕ) (at : ℕ) → at ≡ length source → Stands source at (pieces_at source at)
 stands_end source at e = let P : List Piece → Type 0 = Stands source at in subst P (sym (no_pieces source at (omega arith))) e
-
-less : (a b : ℕ) → ltb a b ≡ true → a < b
-less a b h = grind arith
-
-not_less : (a b : ℕ) → ltb a b ≡ false → b ≤ a
-not_less a b h = grind arith
 
 stands_more : (source : List ℕ) (at : ℕ) → at < length source → ((k : ℕ) → at < k → k ≤ length source → Stands source k (pieces_at source k)) → Stands source at (pieces_at source at)
 stands_more source at few deeper =

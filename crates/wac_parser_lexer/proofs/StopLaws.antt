@@ -1,5 +1,6 @@
 -- What is skipped begins with a blank or a slash, and a blank is no doc comment.
-use Rattle.std.proofs.Common.{◌≡◌, ◌≢◌, ℕ, ◌+◌, ◌<◌, inl, inr, Bool, true, false, ◌&&◌, not, eqb, List, [], ◌∷◌, ◌++◌, length, take, drop, get_or, Option, Some, None, is_some, Result, refl, ap, sym, ◌∙◌, arith, length-drop, get_or-drop}
+use Rattle.std.proofs.Common.{◌≡◌, ◌≢◌, ℕ, ◌+◌, ◌<◌, inl, inr, Bool, true, false, not, eqb, List, [], ◌∷◌, ◌++◌, length, take, drop, get_or, Option, Some, None, is_some, Result, refl, ap, sym, ◌∙◌, arith, length-drop, get_or-drop}
+use Rattle.std.proofs.lemmas.Bool.{and_parts}
 use Rattle.std.specs.List.{list_all}
 use Rattle.wac_parser_lexer.specs.declared.span.SourceSpan.{SourceSpan}
 use Rattle.wac_parser_lexer.specs.declared.token.Token.{Token}
@@ -11,12 +12,9 @@ use Rattle.wac_parser_lexer.specs.Items.{Doc, doc_text, doc_in, docs_before}
 use Rattle.wac_parser_lexer.proofs.PieceLaws.{piece_step, blank_cut}
 use Rattle.wac_parser_lexer.proofs.DocLaws.{docs_stop, docs_go}
 use Rattle.wac_parser_lexer.proofs.StandLaws.{IsPiece, front_is, piece_fits}
+use Rattle.wac_parser_lexer.proofs.KeywordLaws.{same_first}
 
 -- ---- a comment begins with a slash
-
-both_true : (a b : Bool) → (a && b) ≡ true → (a ≡ true) × (b ≡ true)
-both_true true b h = (refl, h)
-both_true false b h = cc
 
 opposite : (a : Bool) → not a ≡ true → a ≡ false
 opposite true h = cc
@@ -24,8 +22,8 @@ opposite false h = refl
 
 table_lacks : (table : List (List ℕ × Token)) → list_all (λ entry. not (is_comment entry.1)) table ≡ true → (kind : Token) (w : List ℕ) → Spells table kind w → is_comment kind ≡ false
 table_lacks [] h kind w s = absurd s
-table_lacks (entry ∷ table) h kind w (inl s) = ap is_comment s.1 ∙ opposite (is_comment entry.1) (both_true (not (is_comment entry.1)) _ h).0
-table_lacks (entry ∷ table) h kind w (inr s) = table_lacks table (both_true (not (is_comment entry.1)) _ h).1 kind w s
+table_lacks (entry ∷ table) h kind w (inl s) = ap is_comment s.1 ∙ opposite (is_comment entry.1) (and_parts (not (is_comment entry.1)) _ h).0
+table_lacks (entry ∷ table) h kind w (inr s) = table_lacks table (and_parts (not (is_comment entry.1)) _ h).1 kind w s
 
 no_comment_spelled : (kind : Token) (w : List ℕ) → Spells spellings kind w → is_comment kind ≡ false
 unfolding spellings
@@ -39,10 +37,6 @@ comment_slash _ w e (string h) = cc
 comment_slash _ w e (package_name h) = cc
 comment_slash _ w e (package_path h) = cc
 comment_slash kind w e (spelled h) = let f = no_comment_spelled kind w h in cc
-
-same_first : (z w rest : List ℕ) → z ≡ w ++ rest → 0 < length w → get_or z 0 0 ≡ get_or w 0 0
-same_first z [] rest e some = absurd (omega arith)
-same_first z (b ∷ w) rest e some = ap (λ (y : List ℕ). get_or y 0 0) e
 
 pub item_by : (z : List ℕ) (o : Option (Result Token Error)) (n : ℕ) → IsPiece z (o, n) → is_blank (get_or z 0 0) ≡ false → get_or z 0 0 ≢ 47 → is_some o ≡ true
 item_by z (Some token) n h plain other = refl

@@ -1,23 +1,17 @@
 -- What may have a suffix behind a byte is found with it.
 use Rattle.std.proofs.Common.{◌≡◌, ◌≢◌, ℕ, suc, ◌+◌, ◌<◌, ◌≤◌, inl, inr, Bool, true, false, ◌&&◌, eqb, ltb, eq-eqb, List, [], ◌∷◌, ◌++◌, length, drop, get_or, refl, ap, sym, subst, ◌∙◌, arith, cond, append_assoc, length-append}
-use Rattle.std.proofs.lemmas.Bool.{eqb-true}
+use Rattle.std.proofs.lemmas.Bool.{eqb-true, and_parts}
 use Rattle.std.proofs.Math.Seq.{drop-append_seam}
 use Rattle.wac_parser_lexer.specs.Words.{Followed, Suffixed}
 use Rattle.wac_parser_lexer.specs.Scan.{next_len, followed_len, suffixed_len}
 use Rattle.wac_parser_lexer.specs.Longest.{IsLongest}
-use Rattle.wac_parser_lexer.proofs.Joins.{is_below, tested, same_part}
-
-above : (n : ℕ) → ltb 0 n ≡ true → 0 < n
-above n h = grind arith
-
-both_true : (a b : Bool) → (a && b) ≡ true → (a ≡ true) × (b ≡ true)
-both_true true b h = (refl, h)
-both_true false b h = cc
+use Rattle.wac_parser_lexer.proofs.Joins.{tested, same_part, is_above}
+use Rattle.wac_parser_lexer.proofs.BlockPieceLaws.{positive}
 
 module _ (L M : List ℕ → Type 0) (part other : List ℕ → ℕ) (joint : ℕ) (longest : IsLongest L part) (behind : IsLongest M other)
     (apart : (w : List ℕ) → L w → (i : ℕ) → i < length w → get_or w i 0 ≢ joint) where
   begins : (z : List ℕ) → 0 < part z → suffixed_len part joint other z ≡ part z + next_len other joint (drop (part z) z)
-  begins z h = rw (is_below (part z) h) refl
+  begins z h = rw (positive (part z) h) refl
 
   at_part : (a rest : List ℕ) → length a ≡ part (a ++ rest) → 0 < length a → suffixed_len part joint other (a ++ rest) ≡ length a + next_len other joint rest
   at_part a rest same some =
@@ -26,7 +20,7 @@ module _ (L M : List ℕ → Type 0) (part other : List ℕ → ℕ) (joint : �
 
   at_joint : (y : List ℕ) → 0 < other y → next_len other joint (joint ∷ y) ≡ suc (other y)
   unfolding next_len
-  at_joint y h = rw (eq-eqb joint joint refl, is_below (other y) h) refl
+  at_joint y h = rw (eq-eqb joint joint refl, positive (other y) h) refl
 
   greatest : (w rest : List ℕ) → Suffixed L joint M w → length w ≤ suffixed_len part joint other (w ++ rest)
   greatest w rest (inl h) =
@@ -55,8 +49,8 @@ module _ (L M : List ℕ → Type 0) (part other : List ℕ → ℕ) (joint : �
       let none : next_len other joint (b ∷ y) ≡ 0 = rw e refl in
       (a, b ∷ y, refl, omega (arith, at, none), inl is)
   found_by a b y is same true e =
-      let t = both_true (eqb b joint) (ltb 0 (other y)) e in
-      let f = behind.found y (above (other y) t.1) in
+      let t = and_parts (eqb b joint) (ltb 0 (other y)) e in
+      let f = behind.found y (is_above (other y) t.1) in
       let at = at_part a (b ∷ y) same (longest.some a is) in
       let next : next_len other joint (b ∷ y) ≡ suc (other y) = rw e refl in (
         a ++ joint ∷ f.0,
@@ -87,7 +81,7 @@ module _ (L M : List ℕ → Type 0) (part other : List ℕ → ℕ) (joint : �
   -- ---- what must have the suffix
 
   follows : (z : List ℕ) → 0 < part z → 0 < next_len other joint (drop (part z) z) → followed_len part joint other z ≡ part z + next_len other joint (drop (part z) z)
-  follows z h k = rw (is_below (part z) h, is_below (next_len other joint (drop (part z) z)) k) refl
+  follows z h k = rw (positive (part z) h, positive (next_len other joint (drop (part z) z)) k) refl
 
   follow_parts : (a b : Bool) (n : ℕ) → 0 < cond (a && b) n 0 → (a ≡ true) × (b ≡ true)
   follow_parts true true n h = (refl, refl)
@@ -117,8 +111,8 @@ module _ (L M : List ℕ → Type 0) (part other : List ℕ → ℕ) (joint : �
   unfolding next_len FollowFound
   follow_by a b y is sum false e some = let none : next_len other joint (b ∷ y) ≡ 0 = rw e refl in absurd (omega (arith, none))
   follow_by a b y is sum true e some =
-      let t = both_true (eqb b joint) (ltb 0 (other y)) e in
-      let f = behind.found y (above (other y) t.1) in
+      let t = and_parts (eqb b joint) (ltb 0 (other y)) e in
+      let f = behind.found y (is_above (other y) t.1) in
       let next : next_len other joint (b ∷ y) ≡ suc (other y) = rw e refl in (
         a ++ joint ∷ f.0,
         f.1,
@@ -135,8 +129,8 @@ module _ (L M : List ℕ → Type 0) (part other : List ℕ → ℕ) (joint : �
   follow_found : (z : List ℕ) → 0 < followed_len part joint other z → FollowFound z
   follow_found z h =
       let t = follow_parts (ltb 0 (part z)) (ltb 0 (next_len other joint (drop (part z) z))) _ h in
-      let has = above (part z) t.0 in
-      let next = above (next_len other joint (drop (part z) z)) t.1 in
+      let has = is_above (part z) t.0 in
+      let next = is_above (next_len other joint (drop (part z) z)) t.1 in
       let f = longest.found z has in
       let same : length f.0 ≡ part (f.0 ++ f.1) = f.3 ∙ ap part f.2 in
       let back : drop (part z) z ≡ f.1 = ap (λ n. drop n z) (sym f.3) ∙ ap (drop (length f.0)) f.2 ∙ drop-append_seam f.0 f.1 in

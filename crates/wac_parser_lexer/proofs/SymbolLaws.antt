@@ -26,7 +26,7 @@ record IsMark (b : ℕ) : Type 0 where
   slash : eqb b 47 ≡ false
   blank : is_blank b ≡ false
 
-neither : (a b : Bool) → (a || b) ≡ false → (a ≡ false) × (b ≡ false)
+pub neither : (a b : Bool) → (a || b) ≡ false → (a ≡ false) × (b ≡ false)
 neither true b h = cc
 neither false b h = (refl, h)
 

@@ -1,6 +1,6 @@
 -- The scans of strings and comments are the longest fronts of their kind.
-use Rattle.std.proofs.Common.{◌≡◌, ℕ, suc, ◌+◌, ◌<◌, ◌≤◌, Bool, true, false, ◌&&◌, cond, eqb, ltb, List, [], ◌∷◌, ◌++◌, length, get_or, refl, ap, sym, subst, ◌∙◌, arith, append_assoc, length-append}
-use Rattle.std.proofs.lemmas.Bool.{eqb-true}
+use Rattle.std.proofs.Common.{◌≡◌, ℕ, suc, ◌+◌, ◌<◌, ◌≤◌, Bool, true, false, cond, eqb, ltb, List, [], ◌∷◌, ◌++◌, length, get_or, refl, ap, sym, subst, ◌∙◌, arith, append_assoc, length-append}
+use Rattle.std.proofs.lemmas.Bool.{eqb-true, and_parts}
 use Rattle.std.proofs.lemmas.Bool.Decides.{nat_tests}
 use Rattle.std.proofs.Math.Seq.{get_or-append_seam}
 use Rattle.std.proofs.lemmas.Str.{IsCharBoundary-before_ascii, IsCharBoundary-end}
@@ -11,14 +11,7 @@ use Rattle.wac_parser_lexer.specs.Scan.{string_len, line_comment_len}
 use Rattle.wac_parser_lexer.specs.Longest.{IsLongest}
 use Rattle.wac_parser_lexer.proofs.WordLaws.{run, run_greatest}
 
-both_true : (a b : Bool) → (a && b) ≡ true → (a ≡ true) × (b ≡ true)
-both_true true b h = (refl, h)
-both_true false b h = cc
-
-above : (n : ℕ) → ltb 0 n ≡ true → 0 < n
-above n h = grind arith
-
-less : (a b : ℕ) → ltb a b ≡ true → a < b
+pub less : (a b : ℕ) → ltb a b ≡ true → a < b
 less a b h = grind (arith, nat_tests)
 
 if_some : (t : Bool) (n : ℕ) → 0 < cond t n 0 → t ≡ true
@@ -72,7 +65,7 @@ string_found : (z : List ℕ) → 0 < string_len z → StringFound z
 unfolding string_len
 string_found [] h = absurd (omega arith)
 string_found (b ∷ z) h =
-    let t = both_true (eqb b 34) (ltb (prefix_len is_unquoted z) (length z)) (if_some _ (prefix_len is_unquoted z + 2) h) in
+    let t = and_parts (eqb b 34) (ltb (prefix_len is_unquoted z) (length z)) (if_some _ (prefix_len is_unquoted z + 2) h) in
     let r = run is_unquoted z in
     let few = less (prefix_len is_unquoted z) (length z) t.1 in
     let at = string_at b r.0 r.1 (eqb-true b 34 t.0) r.4 (r.3 ∙ ap (prefix_len is_unquoted) r.2) (omega (arith, few, r.3, ap length r.2)) in
@@ -108,7 +101,7 @@ line_found [] h = absurd (omega arith)
 line_found (b ∷ []) h = absurd (omega arith)
 line_found (b ∷ c ∷ z) h =
     let test = if_some _ (2 + prefix_len is_in_line z) h in
-    let t = both_true (eqb b 47) (eqb c 47) test in
+    let t = and_parts (eqb b 47) (eqb c 47) test in
     let r = run is_in_line z in
     let size : line_comment_len (b ∷ c ∷ z) ≡ 2 + prefix_len is_in_line z = rw test refl in (
       47 ∷ 47 ∷ r.0,
@@ -146,7 +139,7 @@ line_place [] h = absurd (omega arith)
 line_place (b ∷ []) h = absurd (omega arith)
 line_place (b ∷ c ∷ z) h =
     let test = if_some _ (2 + prefix_len is_in_line z) h in
-    let t = both_true (eqb b 47) (eqb c 47) test in
+    let t = and_parts (eqb b 47) (eqb c 47) test in
     let r = run is_in_line z in
     let size : line_comment_len (b ∷ c ∷ z) ≡ 2 + prefix_len is_in_line z = rw test refl in
     let split : b ∷ c ∷ z ≡ 47 ∷ 47 ∷ (r.0 ++ r.1) =

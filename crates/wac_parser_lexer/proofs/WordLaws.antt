@@ -6,8 +6,9 @@ use Rattle.std.specs.List.{prefix_len, AllByRecursion}
 use Rattle.wac_parser_lexer.specs.Words.{is_lower, is_upper, is_digit, is_lower_word_byte, is_upper_word_byte, is_version_byte, Passes, IsRun, IsWord, Joined, one, more, Followed, IsLabel, IsIdent, IsNames, IsPath, IsVersion, IsPackageName, IsPackagePath}
 use Rattle.wac_parser_lexer.specs.Scan.{word_len, label_len, ident_len, idents_len, names_len, path_len, version_parts_len, version_len, package_name_len, package_path_len}
 use Rattle.wac_parser_lexer.specs.Longest.{IsLongest}
-use Rattle.wac_parser_lexer.proofs.Joins.{joined_longest, is_below, tested, longest_fits}
+use Rattle.wac_parser_lexer.proofs.Joins.{joined_longest, tested, longest_fits}
 use Rattle.wac_parser_lexer.proofs.Suffixes.{followed_longest, suffixed_longest}
+use Rattle.wac_parser_lexer.proofs.BlockPieceLaws.{positive}
 
 ne-eqb : (a b : ℕ) → a ≢ b → eqb a b ≡ false
 ne-eqb a b h = grind (arith, nat_tests)
@@ -136,7 +137,7 @@ IdentFound z = (w : List ℕ) × (rest : List ℕ) × (z ≡ w ++ rest) × (leng
 
 at_percent : (z : List ℕ) → 0 < label_len z → ident_len (37 ∷ z) ≡ suc (label_len z)
 unfolding ident_len
-at_percent z h = rw (is_below (label_len z) h) refl
+at_percent z h = rw (positive (label_len z) h) refl
 
 elsewhere : (b : ℕ) (z : List ℕ) → eqb b 37 ≡ false → ident_len (b ∷ z) ≡ label_len (b ∷ z)
 unfolding ident_len
@@ -177,7 +178,7 @@ ident_greatest (c ∷ cs) rest (inl h) =
 ident_greatest w rest (inr h) =
     let ge = label_longest.greatest h.0 rest h.1 in
     let some = label_longest.some h.0 h.1 in
-    rw h.2 (rw (is_below (label_len (h.0 ++ rest)) (omega (arith, ge, some))) (omega (arith, ge)))
+    rw h.2 (rw (positive (label_len (h.0 ++ rest)) (omega (arith, ge, some))) (omega (arith, ge)))
 
 ident_some : (w : List ℕ) → IsIdent w → 0 < length w
 ident_some w (inl h) = label_longest.some w h

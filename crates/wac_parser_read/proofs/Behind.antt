@@ -2,6 +2,7 @@
 use Rattle.std.proofs.Common.{◌≡◌, subst, sym}
 use Rattle.wac_parser_lexer.specs.Items.{Input, rest_input}
 use Rattle.wac_parser_grammar.specs.Places.{IsBehind, here, on}
+use Rattle.wac_parser_grammar.proofs.Faithful.{behind_trans}
 
 pub stays : (s : Input) → IsBehind s s
 stays s = here
@@ -9,9 +10,5 @@ stays s = here
 pub passes : (s r : Input) → r ≡ rest_input s → IsBehind r s
 passes s r e = let P : Input → Type 0 = λ (m : Input). IsBehind m s in subst P (sym e) (on here)
 
-pub goes_further : (a b c : Input) → IsBehind a b → IsBehind b c → IsBehind a c
-goes_further a b b' h here = h
-goes_further a b c h (on j) = on (goes_further a b _ h j)
-
 -- how a place behind another is found
-pub ruleset places = (stays, passes, goes_further)
+pub ruleset places = (stays, passes, behind_trans)

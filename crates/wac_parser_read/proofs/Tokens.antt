@@ -1,5 +1,6 @@
 -- One token that is taken, or is missing.
 use Rattle.std.proofs.Common.{rules, ◌≡◌, ◌≢◌, ℕ, ◌<◌, Bool, true, false, cond, List, [], ◌∷◌, length, Option, Some, None, Result, Ok, Err, refl, ap, sym, ◌∙◌}
+use Rattle.std.proofs.lemmas.Option.{same_Some}
 use denote.Enum.Bare.{same_true, true_same}
 use Rattle.wac_parser_lexer.specs.contracts.token.Token.{the_type}
 use Rattle.wac_parser_lexer.specs.declared.span.SourceSpan.{SourceSpan}
@@ -9,7 +10,7 @@ use Rattle.wac_parser_lexer.specs.Items as items
 use Rattle.wac_parser_lexer.specs.Items.{Item, Input, first_of_items, first_item, rest_input}
 use Rattle.wac_parser_lexer.proofs.ItemLaws.{fewer}
 use Rattle.wac_parser_grammar.specs.Faults.{Fault}
-use Rattle.wac_parser_grammar.specs.Ahead.{same_token, token_of, is_token, is_any, sees, missed}
+use Rattle.wac_parser_grammar.specs.Ahead.{same_token, token_of, is_token, sees, missed}
 use Rattle.wac_parser_grammar.specs.Rules.{span_of_items, fault_ahead, fault_of_item, unfaulty_by, and_then, left, ◌>>◌, pure, token, begin, optional}
 use Rattle.wac_parser_grammar.specs.Reads.{Reads}
 use Rattle.wac_parser_grammar.specs.declared.error.Error as E
@@ -27,12 +28,9 @@ pub sees_taken : (k : Token) (s : Input) (span : SourceSpan) → first_item s �
 unfolding sees same_token
 sees_taken k s span e = ap (λ (o : Option (Result Token Error × SourceSpan)). is_token k (token_of o)) e ∙ true_same the_type k k refl
 
-inside_some : {X : Type 0} {p q : X} → Some p ≡ Some q → p ≡ q
-inside_some e = cc
-
 span_first : (is : List Item) (r : Result Token Error) (span : SourceSpan) → first_of_items is ≡ Some (r, span) → span_of_items is ≡ span
 span_first [] r span e = cc
-span_first (i ∷ is) r span e = ap (λ (q : Result Token Error × SourceSpan). q.1) (inside_some e)
+span_first (i ∷ is) r span e = ap (λ (q : Result Token Error × SourceSpan). q.1) (same_Some _ _ e)
 
 pub token_taken : (k : Token) (s r : Input) (span : SourceSpan) → first_item s ≡ Some (Ok k, span) → r ≡ rest_input s → (token k).read s ≡ Ok (span, r)
 token_taken k s r span e after = rw (sees_taken k s span e, span_first s.items (Ok k) span e, after) refl
@@ -66,10 +64,6 @@ sees_missed k s h = missed_by k (first_item s) h
 
 pub token_missed : (k : Token) (s : Input) (fault : Fault) → ((span : SourceSpan) → first_item s ≢ Some (Ok k, span)) → fault ≡ missed k s → (token k).read s ≡ Err fault
 token_missed k s fault h e = rw (sees_missed k s h, e) refl
-
-pub any_none : (ks : List Token) → is_any ks None ≡ false
-any_none [] = refl
-any_none (k ∷ ks) = any_none ks
 
 -- an optional token that is missing is no more than an item without a fault
 absent_by : (k : Token) (s : Input) (o : Option Fault) → sees k s ≡ false

@@ -1,5 +1,5 @@
 -- A loop that reads values as long as one begins, or to the end.
-use Rattle.std.proofs.Common.{◌≡◌, ℕ, zero, suc, ◌+◌, ◌-◌, ◌<◌, ◌≤◌, Bool, true, false, List, [], ◌∷◌, ◌++◌, length, Option, Result, Ok, Err, refl, ap, sym, ◌∙◌, arith, append_assoc}
+use Rattle.std.proofs.Common.{◌≡◌, ℕ, zero, suc, ◌+◌, ◌-◌, ◌<◌, ◌≤◌, Bool, true, false, List, [], ◌∷◌, ◌++◌, length, Option, Result, Ok, Err, refl, ap, sym, ◌∙◌, arith}
 use Rattle.std.proofs.lemmas.List.{append-nil}
 use Rattle.wac_parser_lexer.specs.declared.span.SourceSpan.{SourceSpan}
 use Rattle.wac_parser_lexer.specs.declared.token.Token.{Token}
@@ -13,10 +13,7 @@ use Rattle.wac_parser_grammar.specs.Ahead.{sees_any}
 use Rattle.wac_parser_grammar.specs.Rules.{front, after_front, read_while, read_all, has_item, left}
 use Rattle.wac_parser_grammar.specs.ValueTypes.{through}
 use Rattle.wac_parser_grammar.specs.Expressions.{spanning}
-
-front_after : {X : Type 0} (xs : List X) (x : X) (o : Result (List X × Input) Fault) → after_front xs (front x o) ≡ after_front (xs ++ x ∷ []) o
-front_after xs x (Err e) = refl
-front_after xs x (Ok p) = ap (λ (l : List _). Ok (l, p.1)) (sym (append_assoc xs (x ∷ []) p.0))
+use Rattle.wac_parser_grammar.proofs.Lists.{front_after}
 
 -- a reader of values that goes on as long as the test holds
 pub record Goes {X : Type 0} (read : Input → Result (X × Input) Fault) (test : Input → Bool) (reads : ℕ → Input → Result (List X × Input) Fault) : Type 0 where

@@ -1,5 +1,6 @@
 -- What an accepted document ascribes is wired.
 use Rattle.std.specs.Prelude.{option_map}
+use Rattle.std.proofs.lemmas.Option.{none-some, same_Some}
 use Rattle.std.proofs.Common.{◌≡◌, ℕ, zero, List, true, Option, Some, None, refl, sym, ap, subst, ◌∙◌}
 use Rattle.wac_types_base.specs.Entries.{Name, value_at}
 use Rattle.wac_types_base.specs.Stated.{Stated, imports_of}
@@ -18,7 +19,7 @@ use Rattle.wac_parser_resolve.specs.Ascribing.{Origin, imported, instance, proje
 use Rattle.wac_parser_resolve.specs.Denoting.{compared_by}
 use Rattle.wac_parser_resolve.specs.Ascribed.{Asker, origin_in, made_in, placed_import, placed_definition, exported_in, composition}
 use Rattle.wac_parser_resolve.specs.Laws.{Documents_are_wired}
-use Rattle.wac_parser_resolve.proofs.Numbers.{some_is, none_is, Below}
+use Rattle.wac_parser_resolve.proofs.Numbers.{Below}
 use Rattle.wac_parser_resolve.proofs.Sound.{Has, an_import, an_instance, an_export, a_definition, IsMadeOk, Sound}
 use Rattle.wac_parser_resolve.proofs.Ordered.{numbered_is, numbered_at, argument_is, said}
 use Rattle.wac_parser_resolve.proofs.ProperStates.{IsRegular, statements_formed, is_regular}
@@ -45,8 +46,8 @@ module _ (ps : List (Key × Stated)) (g : State) (sound : Sound ps g) (regular :
 
   is_given : (k : ℕ) (m : Made) (n : Name) (x : Stated) → IsMadeOk ps g k m → value_at (imports_of m.world) n ≡ Some x → (o : Option Denoted) → value_at m.arguments n ≡ o → (q : c.Origin ℕ)
       → option_map (λ (d : Denoted). origin_in d.origin) o ≡ Some q → IsGiven (composition g) k q x
-  is_given k m n x ok v None e q r = absurd (none_is r)
-  is_given k m n x ok v (Some d) e q r = subst (λ o. IsGiven (composition g) k o x) (some_is r) (record {
+  is_given k m n x ok v None e q r = absurd (none-some _ r)
+  is_given k m n x ok v (Some d) e q r = subst (λ o. IsGiven (composition g) k o x) (same_Some _ _ r) (record {
     item = d.item;
     has = has_type d.origin d.item (ok.has n d e);
     fits = given_fits g d.origin d.item x (ok.has n d e) (ok.fit n d e x v);

@@ -13,12 +13,12 @@ use Rattle.wac_graph_core.specs.declared.errors.InstantiationArgumentError.{Inst
 use Rattle.wac_graph_core.specs.Refusals.{ArgumentRefused}
 use Rattle.wac_graph_core.specs.Steps.{Instantiates, SetsArgument}
 use Rattle.wac_graph_core.proofs.NodeMap.{get-insert_same}
-use Rattle.wac_graph_core.proofs.Found.{eq_true}
 use Rattle.wac_parser_resolve.specs.declared.arguments.Given.{Given}
 use Rattle.wac_parser_resolve.specs.Standing.{AreThere, IsFresh, AreApart}
+use Rattle.wac_types_base.proofs.Replacing.{same_number}
 
 only_one : (s j : ℕ) (b : Bool) → (s == j) ≡ b → cond b true false ≡ true → j ≡ s
-only_one s j true is h = sym (eq_true s j is)
+only_one s j true is h = sym (same_number s j is)
 only_one s j false is h = absurd (cc (h))
 
 module _ (es : List Edge) (s : ℕ) (quiet : (e : Edge) → Among e es → e.from ≡ s → ⊥) where

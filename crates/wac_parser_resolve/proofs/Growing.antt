@@ -173,9 +173,6 @@ alias_there g h i n k is a = (is.wired.edges (alias_edge i k n) (alias_here g h 
 
 -- ---- what stands in a graph
 
-some_is : {A : Type 0} {x y : A} → Some x ≡ Some y → x ≡ y
-some_is e = cc
-
 pub item_stands : (g : Graph) (k : ℕ) (n : NodeData) → IsGraph g → node_at g k ≡ Some n → Stands g.types n.item_kind
 item_stands g k n is at = (is.nodes k n at).item
 

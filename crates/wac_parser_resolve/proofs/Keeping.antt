@@ -10,7 +10,7 @@ use Rattle.wac_graph_core.specs.declared.package.Place.{Place}
 use Rattle.wac_graph_core.specs.Graph.{Graph, ContainsPackage, package_of, package_in}
 use Rattle.wac_graph_core.specs.Packages.{IsFreePlace, PutsPlace, put_last, put_free, Registers, held_place}
 use Rattle.wac_graph_core.specs.Types.{Enlarges, with_collection}
-use Rattle.wac_graph_core.proofs.PlaceSteps.{Held, held_in, in_held, get_before, get_at_end, get_set_same, get_set_other}
+use Rattle.wac_graph_core.proofs.PlaceSteps.{Held, held_in, in_held, get_before, get_set_same, get_set_other}
 use Rattle.std.specs.declared.alloc.AllocError.{AllocError}
 use Rattle.wac_types_base.specs.declared.item.ItemKind.{ItemKind}
 use Rattle.wac_types_base.specs.declared.item.ValueType.{ValueType}
@@ -29,6 +29,7 @@ use Rattle.wac_types_base.specs.Copying.{IsCopy}
 use Rattle.wac_types_base.proofs.Slots.{stands_typed_world}
 use Rattle.wac_parser_resolve.specs.Keeping.{Keeps}
 use Rattle.wac_parser_declare.proofs.Added.{defined_added, resource_added, func_added, interface_added, world_added}
+use Rattle.wac_types_base.proofs.Copying.{last_place}
 
 -- ---- a package that is put
 
@@ -50,7 +51,7 @@ put_keeps ps qs i p (put_free free) id q at =
 pub put_there : (ps qs : List Place) (i : PackageId) (p : Packaged) → PutsPlace ps i p qs → package_in qs i ≡ Some p
 put_there ps qs i p (put_last new) =
     in_held (ps ++ held_place 0 p ∷ []) i p
-    (record { place = held_place 0 p; there = ap (slice_get (ps ++ held_place 0 p ∷ [])) new.place ∙ get_at_end ps (held_place 0 p); now = sym new.first; held = refl })
+    (record { place = held_place 0 p; there = ap (slice_get (ps ++ held_place 0 p ∷ [])) new.place ∙ last_place ps (held_place 0 p); now = sym new.first; held = refl })
 put_there ps qs i p (put_free free) =
     in_held (slice_set ps i.place (held_place i.generation p)) i p
     (record { place = held_place i.generation p; there = get_set_same ps i.place (held_place i.generation p) free.place free.there; now = refl; held = refl })

@@ -1,16 +1,11 @@
 -- Origins that name instances below a number, and lists that grow at their end.
 use Rattle.std.specs.Prelude.{slice_get, ◌==◌, if◌then◌else◌}
-use Rattle.std.specs.Cmp.Lexicographic.{pointwise, bytes_decides}
+use Rattle.std.proofs.lemmas.Option.{none-some, same_Some}
+use Rattle.std.specs.Cmp.Lexicographic.{pointwise}
 use Rattle.std.proofs.Common.{◌≡◌, ℕ, zero, suc, ◌<◌, ◌≤◌, List, [], ◌∷◌, ◌++◌, Bool, true, false, Option, Some, None, ◌⊎◌, inl, inr, length, refl, sym, ap, subst, ◌∙◌, arith}
 use Rattle.wac_types_base.specs.Entries.{Name, value_at}
 use Rattle.wac_types_base.specs.Graph.{Among}
 use Rattle.wac_parser_resolve.specs.Ascribing.{Origin, imported, instance, projected, defined}
-
-pub some_is : {A : Type 0} {x y : A} → Some x ≡ Some y → x ≡ y
-some_is e = cc
-
-pub none_is : {A : Type 0} {x : A} → None ≡ Some x → ⊥
-none_is e = cc
 
 -- each instance that the origin names is below this number
 abbrev pub Below : ℕ → Origin → Type 0
@@ -32,14 +27,14 @@ module _ {A : Type 0} where
 
   -- what stands at a number in the longer list
   pub slice_more : (xs : List A) (x y : A) (i : ℕ) → slice_get (xs ++ x ∷ []) i ≡ Some y → (slice_get xs i ≡ Some y) ⊎ ((i ≡ length xs) × (x ≡ y))
-  slice_more [] x y zero e = inr (refl, some_is e)
-  slice_more [] x y (suc i) e = absurd (none_is e)
+  slice_more [] x y zero e = inr (refl, same_Some _ _ e)
+  slice_more [] x y (suc i) e = absurd (none-some _ e)
   slice_more (z ∷ xs) x y zero e = inl e
   slice_more (z ∷ xs) x y (suc i) e = elim (slice_more xs x y i e) [ inl h ↦ inl h | inr h ↦ inr (ap suc h.0, h.1) ]
 
   -- what stood stands there, and the last stands behind it
   pub slice_kept : (xs : List A) (x y : A) (i : ℕ) → slice_get xs i ≡ Some y → slice_get (xs ++ x ∷ []) i ≡ Some y
-  slice_kept [] x y i e = absurd (none_is e)
+  slice_kept [] x y i e = absurd (none-some _ e)
   slice_kept (z ∷ xs) x y zero e = e
   slice_kept (z ∷ xs) x y (suc i) e = slice_kept xs x y i e
 
@@ -64,7 +59,7 @@ module _ {A : Type 0} where
   each_more P (z ∷ xs) x h p y (inr m) = each_more P xs x (λ w n. h w (inr n)) p y m
 
   pub slice_below : (xs : List A) (i : ℕ) (x : A) → slice_get xs i ≡ Some x → i < length xs
-  slice_below [] i x e = absurd (none_is e)
+  slice_below [] i x e = absurd (none-some _ e)
   slice_below (y ∷ xs) zero x e = omega arith
   slice_below (y ∷ xs) (suc i) x e = let h = slice_below xs i x e in omega (arith, h)
 
@@ -90,18 +85,9 @@ pub value_more : {V : Type 0} (P : V → Type 0) (xs : List (Name × V)) (m : Na
 value_more P xs m v h p n w e = go (value_at xs n) refl (sym (value_append xs m v n) ∙ e)
   where
     last : (b : Bool) → (if b then Some v else None) ≡ Some w → P w
-    last true d = subst P (some_is d) p
-    last false d = absurd (none_is d)
+    last true d = subst P (same_Some _ _ d) p
+    last false d = absurd (none-some _ d)
 
     go : (o : Option _) → value_at xs n ≡ o → first_of o (value_at ((m, v) ∷ []) n) ≡ Some w → P w
-    go (Some u) q d = subst P (some_is d) (h n u q)
+    go (Some u) q d = subst P (same_Some _ _ d) (h n u q)
     go None q d = last (pointwise ◌==◌ n m) d
-
--- what is found is there
-pub value_among : {V : Type 0} (xs : List (Name × V)) (n : Name) (v : V) → value_at xs n ≡ Some v → Among (n, v) xs
-value_among [] n v e = absurd (none_is e)
-value_among (x ∷ xs) n v e = go (value_among xs n v) (pointwise ◌==◌ n x.0) refl e
-  where
-    go : (value_at xs n ≡ Some v → Among (n, v) xs) → (b : Bool) → pointwise ◌==◌ n x.0 ≡ b → (if b then Some x.1 else value_at xs n) ≡ Some v → Among (n, v) (x ∷ xs)
-    go rest true q r = inl (λ i. ((bytes_decides n x.0).0 q i, sym (some_is r) i))
-    go rest false q r = inr (rest r)

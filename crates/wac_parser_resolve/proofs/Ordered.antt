@@ -1,5 +1,6 @@
 -- The ascribed wiring is of packages handed in, and in order.
 use Rattle.std.specs.Prelude.{◌==◌, slice_get, option_map, is_some, if◌then◌else◌, IsSome}
+use Rattle.std.proofs.lemmas.Option.{none-some, same_Some}
 use Rattle.std.specs.Cmp.Lexicographic.{pointwise}
 use Rattle.std.proofs.Common.{◌≡◌, ℕ, zero, suc, ◌<◌, List, [], ◌∷◌, map, Bool, true, false, Option, Some, None, Ok, length, refl, sym, ap, subst, ◌∙◌, arith}
 use Rattle.wac_types_base.specs.Entries.{Name, value_at}
@@ -22,8 +23,9 @@ use Rattle.wac_parser_resolve.specs.Meeting.{target, resolved}
 use Rattle.wac_parser_resolve.specs.Ascribed.{Asker, origin_in, argument_in, made_in, numbered, exported_in, composition, unless_cause, ascribed}
 use Rattle.wac_parser_resolve.specs.Laws.{Packages_are_known, Wirings_are_ordered}
 use Rattle.wac_parser_resolve.proofs.Answers.{err_ok, ok_of, then_ok, ok_is}
-use Rattle.wac_parser_resolve.proofs.Numbers.{some_is, none_is, Below, slice_below, slice_there, value_among}
+use Rattle.wac_parser_resolve.proofs.Numbers.{Below, slice_below, slice_there}
 use Rattle.wac_parser_resolve.proofs.Sound.{Sound, has_below, statements_sound}
+use Rattle.wac_types_fit.proofs.Items.{value_at-among}
 
 -- ---- the instances with their numbers
 
@@ -34,19 +36,19 @@ pub record IsNumbered (ms : List Made) (k : ℕ) (x : c.Made Asker ℕ) : Type 0
   pub is : x ≡ made_in number made
 
 pub numbered_is : (j : ℕ) (ms : List Made) (k : ℕ) (x : c.Made Asker ℕ) → slice_get (numbered j ms) k ≡ Some x → IsNumbered ms k x
-numbered_is j [] k x e = absurd (none_is e)
-numbered_is j (m ∷ ms) zero x e = record { made = m; there = refl; number = j; is = sym (some_is e) }
+numbered_is j [] k x e = absurd (none-some _ e)
+numbered_is j (m ∷ ms) zero x e = record { made = m; there = refl; number = j; is = sym (same_Some _ _ e) }
 numbered_is j (m ∷ ms) (suc k) x e =
     let r = numbered_is (suc j) ms k x e in record { made = r.made; there = r.there; number = r.number; is = r.is }
 
 -- and what was said is there with a number
 pub numbered_at : (j : ℕ) (ms : List Made) (k : ℕ) (m : Made) → slice_get ms k ≡ Some m → (i : ℕ) × (slice_get (numbered j ms) k ≡ Some (made_in i m))
-numbered_at j [] k m e = absurd (none_is e)
-numbered_at j (x ∷ ms) zero m e = (j, ap (λ y. Some (made_in j y)) (some_is e))
+numbered_at j [] k m e = absurd (none-some _ e)
+numbered_at j (x ∷ ms) zero m e = (j, ap (λ y. Some (made_in j y)) (same_Some _ _ e))
 numbered_at j (x ∷ ms) (suc k) m e = numbered_at (suc j) ms k m e
 
 numbered_there : (j : ℕ) (ms : List Made) (k : ℕ) (m : Made) → slice_get ms k ≡ Some m → (x : c.Made Asker ℕ) × (slice_get (numbered j ms) k ≡ Some x)
-numbered_there j [] k m e = absurd (none_is e)
+numbered_there j [] k m e = absurd (none-some _ e)
 numbered_there j (x ∷ ms) zero m e = (made_in j x, refl)
 numbered_there j (x ∷ ms) (suc k) m e = numbered_there (suc j) ms k m e
 
@@ -128,14 +130,14 @@ module _ (ps : List (Key × Stated)) (g : State) (sound : Sound ps g) (tag_of : 
   }
     where
       go : (k : ℕ) (o : Option (c.Made Asker ℕ)) → slice_get (numbered zero g.made) k ≡ o → (y : Instantiation ℕ) → option_map (instantiation tag_of x) o ≡ Some y → (n : Name) → Uses (Earlier k) (y.args n)
-      go k None q y e n = absurd (none_is e)
+      go k None q y e n = absurd (none-some _ e)
       go k (Some m) q y e n =
           let r = numbered_is zero g.made k m q in
-          subst (λ (z : Instantiation ℕ). Uses (Earlier k) (z.args n)) (some_is e) (args_earlier k (slice_below g.made k r.made r.there) m r n)
+          subst (λ (z : Instantiation ℕ). Uses (Earlier k) (z.args n)) (same_Some _ _ e) (args_earlier k (slice_below g.made k r.made r.there) m r n)
 
       exported : (n : Name) (o : Option Bound) → value_at g.exports n ≡ o → Uses (λ j. IsSome (W.at j)) (export_source tag_of x (option_map (λ (b : Bound). origin_in b.denoted.origin) o))
       exported n None e = tt
-      exported n (Some b) e = origin_uses (λ j. IsSome (W.at j)) (asks_of x) (length g.made) there b.denoted.origin (has_below g b.denoted.origin b.denoted.item (sound.exports (n, b) (value_among g.exports n b e)))
+      exported n (Some b) e = origin_uses (λ j. IsSome (W.at j)) (asks_of x) (length g.made) there b.denoted.origin (has_below g b.denoted.origin b.denoted.item (sound.exports (n, b) (value_at-among g.exports n b e)))
 
 -- ---- a document
 

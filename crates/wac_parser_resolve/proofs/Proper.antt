@@ -1,5 +1,6 @@
 -- What is made of proper types is proper, and so is what is read of one.
 use Rattle.std.specs.Prelude.{drop, option_map, ⊤}
+use Rattle.std.proofs.lemmas.Option.{none-some, same_Some}
 use Rattle.std.proofs.Common.{◌≡◌, ℕ, zero, suc, ◌+◌, List, [], ◌∷◌, ◌++◌, length, Bool, true, false, true≢false, Option, Some, None, inl, inr, refl, sym, ap, subst, ◌∙◌}
 use Rattle.wac_types_base.specs.Entries.{Name, value_at}
 use Rattle.wac_types_base.specs.Graph.{Wholes, node, no_more, more, hole, Among}
@@ -11,7 +12,7 @@ use Rattle.wac_composition.specs.Sound.{IsStraight, an_instance, no_instance}
 use Rattle.wac_composition.proofs.KeptFits.{row_places}
 use Rattle.wac_composition.proofs.NotWritten.{among_split, among_map}
 use Rattle.wac_parser_resolve.specs.Proper.{NoInstance, NamesNoInstance, Proper, proper}
-use Rattle.wac_parser_resolve.proofs.Numbers.{some_is, none_is, value_among}
+use Rattle.wac_types_fit.proofs.Items.{value_at-among}
 
 pub below : (x y : Stated) → Proper x → Among (Some y) (places_of x) → Proper y
 below x y (proper l h) m = h y m
@@ -86,7 +87,7 @@ uses_among (v ∷ us) (Some x ∷ os) u (inr m) = inr (uses_among us os u m)
 
 only_among : (ts : Wholes Shape) (y : Stated × ⊤) → Among (Some y) (only_places ts) → Among (Some y.0) (places_in ts)
 only_among no_more y m = absurd m
-only_among (hole ts) y (inl q) = absurd (none_is (sym q))
+only_among (hole ts) y (inl q) = absurd (none-some _ (sym q))
 only_among (hole ts) y (inr m) = inr (only_among ts y m)
 only_among (more t ts) y (inl q) = inl (ap (option_map (λ (x : Stated × ⊤). x.0)) q)
 only_among (more t ts) y (inr m) = inr (only_among ts y m)
@@ -163,15 +164,15 @@ pub uses_proper : (x : Stated) → Proper x → AllUses (uses_of x)
 uses_proper x h u m = below x u.interface h (used_among x u m)
 
 pub item_proper : (xs : List (Name × Stated)) (n : Name) (y : Stated) → AllItems xs → value_at xs n ≡ Some y → Proper y
-item_proper xs n y h e = h (n, y) (value_among xs n y e)
+item_proper xs n y h e = h (n, y) (value_at-among xs n y e)
 
 -- ---- functions, interfaces and worlds that are made
 
 pub filled_places : (xs : List (Name × Stated)) → AllItems xs → AllPlaces (filled xs)
-filled_places xs h y m = let r = among_map (λ (x : Name × Stated). Some x.1) xs (Some y) m in subst Proper (sym (some_is r.2)) (h r.0 r.1)
+filled_places xs h y m = let r = among_map (λ (x : Name × Stated). Some x.1) xs (Some y) m in subst Proper (sym (same_Some _ _ r.2)) (h r.0 r.1)
 
 used_all : (us : List Used) → AllUses us → AllPlaces (used_places us)
-used_all us h y m = let r = among_map (λ (u : Used). Some u.interface) us (Some y) m in subst Proper (sym (some_is r.2)) (h r.0 r.1)
+used_all us h y m = let r = among_map (λ (u : Used). Some u.interface) us (Some y) m in subst Proper (sym (same_Some _ _ r.2)) (h r.0 r.1)
 
 pub behind_places : (os ps : List (Option Stated)) → AllPlaces os → AllPlaces ps → AllPlaces (os ++ ps)
 behind_places os ps h k y m = elim (among_split (Some y) os ps m) [ inl a ↦ h y a | inr b ↦ k y b ]
@@ -180,10 +181,10 @@ abbrev pub IfProper : Option Stated → Type 0
 IfProper o = (y : Stated) → o ≡ Some y → Proper y
 
 pub if_some : (x : Stated) → Proper x → IfProper (Some x)
-if_some x h y e = subst Proper (some_is e) h
+if_some x h y e = subst Proper (same_Some _ _ e) h
 
 pub if_none : IfProper None
-if_none y e = absurd (none_is e)
+if_none y e = absurd (none-some _ e)
 
 pub one_place : (o : Option Stated) → IfProper o → AllPlaces (o ∷ [])
 one_place o h y (inl e) = h y (sym e)
@@ -255,7 +256,7 @@ mutual
 
   places_straight : (ts : Wholes Shape) → AllPlaces (places_in ts) → (y : Stated) → Among (Some y) (places_in ts) → IsStraight y
   places_straight no_more h y m = absurd m
-  places_straight (hole ts) h y (inl e) = absurd (none_is (sym e))
+  places_straight (hole ts) h y (inl e) = absurd (none-some _ (sym e))
   places_straight (hole ts) h y (inr m) = places_straight ts (λ z k. h z (inr k)) y m
-  places_straight (more t ts) h y (inl e) = subst IsStraight (sym (some_is e)) (straight t (h t (inl refl)))
+  places_straight (more t ts) h y (inl e) = subst IsStraight (sym (same_Some _ _ e)) (straight t (h t (inl refl)))
   places_straight (more t ts) h y (inr m) = places_straight ts (λ z k. h z (inr k)) y m

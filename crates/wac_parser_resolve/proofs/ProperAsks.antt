@@ -1,5 +1,6 @@
 -- What a composition of proper types asks is proper.
 use Rattle.std.specs.Prelude.{map, not, is_some, filter, filter_map, option_map}
+use Rattle.std.proofs.lemmas.Option.{none-some, same_Some}
 use Rattle.std.specs.List.{flat_map, cons_option}
 use Rattle.std.proofs.Common.{◌≡◌, List, [], ◌∷◌, ◌++◌, Option, Some, None, inl, inr, refl, sym, ap, subst, ◌∙◌}
 use Rattle.wac_types_base.specs.Entries.{Name, value_at}
@@ -11,7 +12,6 @@ use Rattle.wac_composition.specs.Asks.{Ask, ToFill, ToUse, below_use, below_part
 use Rattle.wac_composition.proofs.Closures.{filter_among}
 use Rattle.wac_composition.proofs.NotWritten.{among_split, among_map, among_flat}
 use Rattle.wac_parser_resolve.specs.Proper.{Proper}
-use Rattle.wac_parser_resolve.proofs.Numbers.{some_is, none_is}
 use Rattle.wac_parser_resolve.proofs.Proper.{below, in_places, AllPlaces, imports_proper, uses_proper}
 
 -- ---- the interfaces that are used
@@ -84,9 +84,9 @@ mutual
 
   row_proper : (ts : Wholes Shape) → AllPlaces (places_in ts) → AllFound (folded_row used_at ts)
   row_proper no_more h o m = absurd m
-  row_proper (hole ts) h o (inl e) = absurd (none_is (sym e))
+  row_proper (hole ts) h o (inl e) = absurd (none-some _ (sym e))
   row_proper (hole ts) h o (inr m) = row_proper ts (λ z k. h z (inr k)) o m
-  row_proper (more t ts) h o (inl e) = subst (λ (f : Stated × List Stated). Proper f.0 × AllOf f.1) (sym (some_is e)) (h t (inl refl), used_proper t (h t (inl refl)))
+  row_proper (more t ts) h o (inl e) = subst (λ (f : Stated × List Stated). Proper f.0 × AllOf f.1) (sym (same_Some _ _ e)) (h t (inl refl), used_proper t (h t (inl refl)))
   row_proper (more t ts) h o (inr m) = row_proper ts (λ z k. h z (inr k)) o m
 
 used_by_world : (x : Stated) → Proper x → AllOf (flat_map (λ u. u.interface ∷ used_by u.interface) (uses_of x))
@@ -132,8 +132,8 @@ module _ {A : Type 0} where
       go r.0 (identifier_of r.0) (h r.0 r.1) r.2
     where
       go : (x : Stated) (o : Option Name) → Proper x → option_map (λ n. record { asking = ToUse; by = by; name = n; item = x }) o ≡ Some a → Proper a.item
-      go x None f e = absurd (none_is e)
-      go x (Some n) f e = subst (λ (b : Ask A). Proper b.item) (some_is e) f
+      go x None f e = absurd (none-some _ e)
+      go x (Some n) f e = subst (λ (b : Ask A). Proper b.item) (same_Some _ _ e) f
 
   module _ {I : Type 0} (c : Composition A I) (imports : (i : Placed A) → Among i c.imports → Proper i.item) (made : (m : Made A I) → Among m c.made → Proper m.world) (defined : (d : Placed A) → Among d c.definitions → Proper d.item) where
     filled_proper : (m : Made A I) → Proper m.world → AllAsks (filled_asks m)

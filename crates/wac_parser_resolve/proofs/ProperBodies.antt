@@ -1,5 +1,6 @@
 -- The types that paths name and that interfaces and worlds state are proper.
 use Rattle.std.specs.Prelude.{option_map, cond, ◌&&◌, ◌||◌, ◌==◌, not, is_none, if◌then◌else◌}
+use Rattle.std.proofs.lemmas.Option.{none-some, same_Some}
 use Rattle.std.specs.Cmp.Lexicographic.{pointwise}
 use Rattle.std.proofs.Common.{◌≡◌, List, [], ◌∷◌, ◌++◌, Bool, true, false, Option, Some, None, Ok, inl, inr, refl, sym, subst, ◌∙◌}
 use Rattle.wac_types_base.specs.declared.item.FuncKind.{FuncKind}
@@ -21,7 +22,7 @@ use Rattle.wac_parser_declare.specs.Worlds.{extern_by, extern_type, with_identif
 use Rattle.wac_parser_resolve.specs.Denoting.{or_else}
 use Rattle.wac_parser_resolve.specs.Proper.{Proper, AreProper}
 use Rattle.wac_parser_resolve.proofs.Answers.{err_ok, ok_of, then_ok, ok_is, each_keeps}
-use Rattle.wac_parser_resolve.proofs.Numbers.{some_is, none_is, each_more, value_more}
+use Rattle.wac_parser_resolve.proofs.Numbers.{each_more, value_more}
 use Rattle.wac_parser_resolve.proofs.Sound.{present_is}
 use Rattle.wac_parser_resolve.proofs.Proper.{leaf_proper, typed_proper, own_proper, borrow_proper, untyped_proper, AllItems, AllUses, exports_proper, imports_proper, item_proper, if_some, if_none, interface_proper, world_proper}
 use Rattle.wac_parser_resolve.proofs.ProperAsks.{mapped_among}
@@ -30,37 +31,37 @@ use Rattle.wac_parser_resolve.proofs.ProperTypes.{typed_is, ScopeProper, named_p
 -- ---- packages
 
 pub under_proper : (ps : List (Key × Stated)) (k : Key) (w : Stated) → AreProper ps → world_under ps k ≡ Some w → Proper w
-under_proper [] k w h e = absurd (none_is e)
+under_proper [] k w h e = absurd (none-some _ e)
 under_proper (p ∷ ps) k w h e = go (under_proper ps k w (λ q m. h q (inr m))) (is_key k p.0) e
   where
     go : (world_under ps k ≡ Some w → Proper w) → (b : Bool) → cond b (Some p.1) (world_under ps k) ≡ Some w → Proper w
-    go rest true q = subst Proper (some_is q) (h p (inl refl))
+    go rest true q = subst Proper (same_Some _ _ q) (h p (inl refl))
     go rest false q = rest q
 
 pub package_proper : (ps : List (Key × Stated)) (k : Key) (z : Span) (w : Stated) → AreProper ps → Ok w ≡ world_of_package ps k z → Proper w
 package_proper ps k z w h e = under_proper ps k w h (present_is (world_under ps k) (UnknownPackage k.0) z w e)
 
 only_proper : (es : List (Name × Stated)) (x : Stated) → AllItems es → only_export es ≡ Some x → Proper x
-only_proper [] x h e = absurd (none_is e)
+only_proper [] x h e = absurd (none-some _ e)
 only_proper (d ∷ []) x h e = go (is_interface_name d.0 && is_instance_or_component (kind_of d.1)) e
   where
     go : (b : Bool) → cond b (Some (as_type d.1)) None ≡ Some x → Proper x
-    go true q = subst Proper (some_is q) (typed_proper d.1 (h d (inl refl)))
-    go false q = absurd (none_is q)
-only_proper (d ∷ f ∷ es) x h e = absurd (none_is e)
+    go true q = subst Proper (same_Some _ _ q) (typed_proper d.1 (h d (inl refl)))
+    go false q = absurd (none-some _ q)
+only_proper (d ∷ f ∷ es) x h e = absurd (none-some _ e)
 
 definition_proper : (k : Kind) (w x : Stated) → Proper w → definition_by k w ≡ Some x → Proper x
 definition_proper IsWorld w x h e = only_proper (exports_of w) x (exports_proper w h) e
-definition_proper IsFunction w x h e = absurd (none_is e)
-definition_proper IsInstance w x h e = absurd (none_is e)
-definition_proper IsComponent w x h e = absurd (none_is e)
-definition_proper IsModule w x h e = absurd (none_is e)
-definition_proper IsValue w x h e = absurd (none_is e)
-definition_proper IsResource w x h e = absurd (none_is e)
-definition_proper IsFunctionType w x h e = absurd (none_is e)
-definition_proper IsValueType w x h e = absurd (none_is e)
-definition_proper IsInterface w x h e = absurd (none_is e)
-definition_proper IsModuleType w x h e = absurd (none_is e)
+definition_proper IsFunction w x h e = absurd (none-some _ e)
+definition_proper IsInstance w x h e = absurd (none-some _ e)
+definition_proper IsComponent w x h e = absurd (none-some _ e)
+definition_proper IsModule w x h e = absurd (none-some _ e)
+definition_proper IsValue w x h e = absurd (none-some _ e)
+definition_proper IsResource w x h e = absurd (none-some _ e)
+definition_proper IsFunctionType w x h e = absurd (none-some _ e)
+definition_proper IsValueType w x h e = absurd (none-some _ e)
+definition_proper IsInterface w x h e = absurd (none-some _ e)
+definition_proper IsModuleType w x h e = absurd (none-some _ e)
 
 definitions_proper : (w : Stated) → Proper w → AllItems (definitions w)
 definitions_proper w h d m =
@@ -68,8 +69,8 @@ definitions_proper w h d m =
     go r.0 (definition_by (kind_of r.0.1) r.0.1) refl (exports_proper w h r.0 r.1) r.2
   where
     go : (e : Name × Stated) (o : Option Stated) → definition_by (kind_of e.1) e.1 ≡ o → Proper e.1 → option_map (λ x. (e.0, x)) o ≡ Some d → Proper d.1
-    go e None q f g = absurd (none_is g)
-    go e (Some x) q f g = subst (λ (c : Name × Stated). Proper c.1) (some_is g) (definition_proper (kind_of e.1) e.1 x f q)
+    go e None q f g = absurd (none-some _ g)
+    go e (Some x) q f g = subst (λ (c : Name × Stated). Proper c.1) (same_Some _ _ g) (definition_proper (kind_of e.1) e.1 x f q)
 
 -- ---- paths
 
@@ -129,7 +130,7 @@ record BodyProper (b : Body) : Type 0 where
   exports : AllItems b.exports
 
 nothing_proper : BodyProper no_body
-nothing_proper = record { names = λ n m e. absurd (none_is e); uses = λ u m. absurd m; items = no_items; exports = no_items }
+nothing_proper = record { names = λ n m e. absurd (none-some _ e); uses = λ u m. absurd m; items = no_items; exports = no_items }
 
 item_more : (b : Body) (n : Name) (x : Stated) → BodyProper b → Proper x → BodyProper (with_item b n x)
 item_more b n x h k = record { names = h.names; uses = h.uses; items = more_items b.items (n, x) h.items k; exports = h.exports }
@@ -248,7 +249,7 @@ both_scopes : (ns ms : Scope) → ScopeProper ns → ScopeProper ms → ScopePro
 both_scopes ns ms h k n m e = go (value_at ns n) refl (sym (value_both ns ms n) ∙ e)
   where
     go : (o : Option Meant) → value_at ns n ≡ o → or_else o (value_at ms n) ≡ Some m → Proper m.item
-    go (Some u) q r = subst (λ (x : Meant). Proper x.item) (some_is r) (h n u q)
+    go (Some u) q r = subst (λ (x : Meant). Proper x.item) (same_Some _ _ r) (h n u q)
     go None q r = k n m r
 
 extern_by_proper : (k : Kind) (i : t.Ident) (x y : Stated) → Proper x → Ok y ≡ extern_by k i x → Proper y

@@ -1,5 +1,6 @@
 -- The stated types of each collection are proper.
 use Rattle.std.specs.Prelude.{◌==◌, option_map, slice_get, if◌then◌else◌}
+use Rattle.std.proofs.lemmas.Option.{none-some, same_Some}
 use Rattle.std.proofs.Common.{◌≡◌, ℕ, zero, suc, List, [], ◌∷◌, Bool, true, false, Option, Some, None, inl, inr, refl, sym, ap, subst, ◌∙◌}
 use Rattle.wac_types_base.specs.declared.item.ValueType.{ValueType}
 use Rattle.wac_types_base.specs.declared.item.«Type».{«Type» as TypeKind}
@@ -13,23 +14,22 @@ use Rattle.wac_types_base.specs.Collection as s
 use Rattle.wac_types_base.specs.Collection.{Shape, Entry, Slot, defined_entry, resource_entry, resource_entry_at, func_entry, interface_entry, world_entry, module_entry, entry_at, labelled, value_node, type_node, item_node, depth, unfolding_of}
 use Rattle.wac_types_base.specs.Stated.{Stated, IsInstance, shape_kind, kind_of, places_in, stated_in, stated_of}
 use Rattle.wac_parser_resolve.specs.Proper.{NoInstance, NamesNoInstance, Proper, proper}
-use Rattle.wac_parser_resolve.proofs.Numbers.{some_is, none_is}
 
 -- an entry of a collection
 at_entry : {E : Type 0} (P : Entry → Type 0) (f : E → Entry) → ((x : E) → P (f x)) → (number : ℕ) (es : List E) (collection index : ℕ) (e : Entry) → entry_at f number es collection index ≡ Some e → P e
 at_entry {E = E} P f h number es collection index e q = go (collection == number) q
   where
     found : (o : Option E) → option_map f o ≡ Some e → P e
-    found None r = absurd (none_is r)
-    found (Some x) r = subst P (some_is r) (h x)
+    found None r = absurd (none-some _ r)
+    found (Some x) r = subst P (same_Some _ _ r) (h x)
 
     go : (b : Bool) → (if b then option_map f (slice_get es index) else None) ≡ Some e → P e
     go true r = found (slice_get es index) r
-    go false r = absurd (none_is r)
+    go false r = absurd (none-some _ r)
 
 at_label : (P : Entry → Type 0) (l : Shape → Shape) (o : Option Entry) → ((d : Entry) → o ≡ Some d → P (l d.0, d.1)) → (e : Entry) → labelled l o ≡ Some e → P e
-at_label P l None h e q = absurd (none_is q)
-at_label P l (Some d) h e q = subst P (some_is q) (h d refl)
+at_label P l None h e q = absurd (none-some _ q)
+at_label P l (Some d) h e q = subst P (same_Some _ _ q) (h d refl)
 
 -- ---- values and resources are no instances
 
@@ -56,7 +56,7 @@ resource_at_kind n (Some a) q = cc
 
 module _ (c : Collection) where
   value_entry : (v : ValueType) (e : Entry) → value_node c v ≡ Some e → OfNoInstance e
-  value_entry (ValueType.Primitive p) e q = subst OfNoInstance (some_is q) (λ r. cc)
+  value_entry (ValueType.Primitive p) e q = subst OfNoInstance (same_Some _ _ q) (λ r. cc)
   value_entry (ValueType.Borrow r) e q = at_label OfNoInstance s.borrow_of (entry_at resource_entry c.number c.resources r.collection r.index) (λ d h k. cc) e q
   value_entry (ValueType.Own r) e q = at_label OfNoInstance s.own_of (entry_at resource_entry c.number c.resources r.collection r.index) (λ d h k. cc) e q
   value_entry (ValueType.Defined d) e q = at_entry OfNoInstance defined_entry defined_kind c.number c.defined_types d.collection d.index e q
@@ -108,7 +108,7 @@ module _ (c : Collection) where
   resources_well collection index e q = at_entry IsWell resource_entry (λ x. resource_well x.name x.alias) c.number c.resources collection index e q
 
   value_well : (v : ValueType) (e : Entry) → value_node c v ≡ Some e → IsWell e
-  value_well (ValueType.Primitive p) e q = subst IsWell (some_is q) tt
+  value_well (ValueType.Primitive p) e q = subst IsWell (same_Some _ _ q) tt
   value_well (ValueType.Borrow r) e q = at_label IsWell s.borrow_of (entry_at resource_entry c.number c.resources r.collection r.index) (resources_well r.collection r.index) e q
   value_well (ValueType.Own r) e q = at_label IsWell s.own_of (entry_at resource_entry c.number c.resources r.collection r.index) (resources_well r.collection r.index) e q
   value_well (ValueType.Defined d) e q = at_entry IsWell defined_entry defined_well c.number c.defined_types d.collection d.index e q
@@ -145,18 +145,18 @@ module _ (c : Collection) where
 
   no_depth : (k : ItemKind) (x : Stated) → Unfolds zero k x → ⊥
   unfolding whole
-  no_depth k x e = none_is e
+  no_depth k x e = none-some _ e
 
   node_is : (n : ℕ) (k : ItemKind) (x : Stated) → Unfolds (suc n) k x → IsNode n k x
   unfolding whole
   node_is n k x q = grown (item_node c k) refl q
     where
       closed : (e : Entry) → item_node c k ≡ Some e → (o : Option (Wholes Shape)) → wholes_by (whole (item_node c) n) e.1 ≡ o → close e.0 o ≡ Some x → IsNode n k x
-      closed e h None r f = absurd (none_is f)
-      closed e h (Some ts) r f = record { entry = e; there = h; places = ts; rows = r; is = sym (some_is f) }
+      closed e h None r f = absurd (none-some _ f)
+      closed e h (Some ts) r f = record { entry = e; there = h; places = ts; rows = r; is = sym (same_Some _ _ f) }
 
       grown : (o : Option Entry) → item_node c k ≡ o → grow o (whole (item_node c) n) ≡ Some x → IsNode n k x
-      grown None h r = absurd (none_is r)
+      grown None h r = absurd (none-some _ r)
       grown (Some e) h r = closed e h (wholes_by (whole (item_node c) n) e.1) refl r
 
   kind_never : (n : ℕ) (k : ItemKind) (x : Stated) → NeverInstance k → Unfolds n k x → NoInstance x
@@ -172,24 +172,24 @@ module _ (c : Collection) where
     first_slot k ks ts e = go (w k) refl (wholes_by w ks) refl e
       where
         go : (o : Option Stated) → w k ≡ o → (p : Option (Wholes Shape)) → wholes_by w ks ≡ p → both o p ≡ Some ts → (x : Stated) × (us : Wholes Shape) × (ts ≡ more x us) × (w k ≡ Some x) × (wholes_by w ks ≡ Some us)
-        go None a p b r = absurd (none_is r)
-        go (Some x) a None b r = absurd (none_is r)
-        go (Some x) a (Some us) b r = (x, us, sym (some_is r), a, b)
+        go None a p b r = absurd (none-some _ r)
+        go (Some x) a None b r = absurd (none-some _ r)
+        go (Some x) a (Some us) b r = (x, us, sym (same_Some _ _ r), a, b)
 
     first_gap : (ks : List Slot) (ts : Wholes Shape) → wholes_by w (None ∷ ks) ≡ Some ts → (us : Wholes Shape) × (ts ≡ hole us) × (wholes_by w ks ≡ Some us)
     first_gap ks ts e = go (wholes_by w ks) refl e
       where
         go : (p : Option (Wholes Shape)) → wholes_by w ks ≡ p → skip p ≡ Some ts → (us : Wholes Shape) × (ts ≡ hole us) × (wholes_by w ks ≡ Some us)
-        go None b r = absurd (none_is r)
-        go (Some us) b r = (us, sym (some_is r), b)
+        go None b r = absurd (none-some _ r)
+        go (Some us) b r = (us, sym (same_Some _ _ r), b)
 
     -- each filled place is an unfolding
     place_of : (ks : List Slot) (ts : Wholes Shape) (y : Stated) → wholes_by w ks ≡ Some ts → Among (Some y) (places_in ts) → (k : ItemKind) × (w k ≡ Some y)
-    place_of [] ts y e m = absurd (subst (λ us. Among (Some y) (places_in us)) (sym (some_is e)) m)
+    place_of [] ts y e m = absurd (subst (λ us. Among (Some y) (places_in us)) (sym (same_Some _ _ e)) m)
     place_of (None ∷ ks) ts y e m = let r = first_gap ks ts e in gap (places_in r.0) (place_of ks r.0 y r.2) (subst (λ us. Among (Some y) (places_in us)) r.1 m)
       where
         gap : (us : List (Option Stated)) → (Among (Some y) us → (k : ItemKind) × (w k ≡ Some y)) → Among (Some y) (None ∷ us) → (k : ItemKind) × (w k ≡ Some y)
-        gap us rest (inl q) = absurd (none_is (sym q))
+        gap us rest (inl q) = absurd (none-some _ (sym q))
         gap us rest (inr l) = rest l
     place_of (Some k ∷ ks) ts y e m = let r = first_slot k ks ts e in filled r.0 (places_in r.1) r.3 (place_of ks r.1 y r.4) (subst (λ us. Among (Some y) (places_in us)) r.2 m)
       where
@@ -198,12 +198,12 @@ module _ (c : Collection) where
         filled x us h rest (inr l) = rest l
 
     alias_names : (ks : List Slot) (ts : Wholes Shape) → wholes_by w ks ≡ Some ts → NamesNever s.alias ks → NamesNoInstance s.alias (places_in ts)
-    alias_names [] ts e h = subst (λ us. NamesNoInstance s.alias (places_in us)) (some_is e) tt
+    alias_names [] ts e h = subst (λ us. NamesNoInstance s.alias (places_in us)) (same_Some _ _ e) tt
     alias_names (None ∷ ks) ts e h = let r = first_gap ks ts e in subst (λ us. NamesNoInstance s.alias (places_in us)) (sym r.1) tt
     alias_names (Some k ∷ ks) ts e h = let r = first_slot k ks ts e in subst (λ us. NamesNoInstance s.alias (places_in us)) (sym r.2) (kind_never n k r.0 h r.3)
 
     resource_names : (m : Name) (ks : List Slot) (ts : Wholes Shape) → wholes_by w ks ≡ Some ts → NamesNever (s.resource_alias m) ks → NamesNoInstance (s.resource_alias m) (places_in ts)
-    resource_names m [] ts e h = subst (λ us. NamesNoInstance (s.resource_alias m) (places_in us)) (some_is e) tt
+    resource_names m [] ts e h = subst (λ us. NamesNoInstance (s.resource_alias m) (places_in us)) (same_Some _ _ e) tt
     resource_names m (None ∷ ks) ts e h = let r = first_gap ks ts e in subst (λ us. NamesNoInstance (s.resource_alias m) (places_in us)) (sym r.1) tt
     resource_names m (Some k ∷ ks) ts e h = let r = first_slot k ks ts e in subst (λ us. NamesNoInstance (s.resource_alias m) (places_in us)) (sym r.2) (kind_never n k r.0 h r.3)
 

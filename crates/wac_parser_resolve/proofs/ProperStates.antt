@@ -1,5 +1,6 @@
 -- What the statements of a document say over proper packages is proper, and each definition is a type.
 use Rattle.std.specs.Prelude.{◌++◌, map, slice_get, option_map, not, ⊤, if◌then◌else◌, ◌||◌, is_none}
+use Rattle.std.proofs.lemmas.Option.{none-some, same_Some}
 use Rattle.std.specs.List.{list_any}
 use Rattle.std.proofs.Common.{◌≡◌, ℕ, zero, suc, List, [], ◌∷◌, Bool, true, false, Option, Some, None, Ok, inl, inr, refl, sym, ap, subst, ◌∙◌}
 use Rattle.wac_types_base.specs.declared.item.ExternKind.{ExternKind}
@@ -29,7 +30,7 @@ use Rattle.wac_parser_resolve.specs.Saying.{asked, import_name, import_called, n
 use Rattle.wac_parser_resolve.specs.Ascribed.{Asker, numbered, placed_import, placed_definition, composition}
 use Rattle.wac_parser_resolve.specs.Proper.{Proper, AreProper}
 use Rattle.wac_parser_resolve.proofs.Answers.{err_ok, ok_of, then_ok, ok_is, each_keeps}
-use Rattle.wac_parser_resolve.proofs.Numbers.{some_is, none_is, each_more}
+use Rattle.wac_parser_resolve.proofs.Numbers.{each_more}
 use Rattle.wac_parser_resolve.proofs.Sound.{Packages, Has, an_import, an_instance, an_export, a_definition, Sound, statement_sound}
 use Rattle.wac_parser_resolve.proofs.Proper.{exports_proper, item_proper, untyped_proper, instance_proper, straight}
 use Rattle.wac_parser_resolve.proofs.ProperAsks.{asks_proper}
@@ -160,8 +161,8 @@ module _ (ps : Packages) (packages : AreProper ps) where
     root_proper n m e = go (value_at g.root n) refl (sym (value_at-with_values meant_by g.root n) ∙ e)
       where
         go : (o : Option Bound) → value_at g.root n ≡ o → option_map meant_by o ≡ Some m → Proper m.item
-        go None q r = absurd (none_is r)
-        go (Some b) q r = subst (λ (x : Meant). Proper x.item) (some_is r) (has_proper b.denoted.origin b.denoted.item (s.root n b q))
+        go None q r = absurd (none-some _ r)
+        go (Some b) q r = subst (λ (x : Meant). Proper x.item) (same_Some _ _ r) (has_proper b.denoted.origin b.denoted.item (s.root n b q))
 
     context_proper : ContextProper (context g)
     context_proper = record { packages = subst AreProper (sym s.same) packages; root = root_proper }
@@ -204,7 +205,7 @@ module _ (ps : Packages) (packages : AreProper ps) where
   pub statements_formed : (d : t.Document) (g : State) → Ok g ≡ statements d ps → Formed g
   statements_formed d g e =
       (each_keeps statement (λ h. Sound ps h × Formed h) (λ k l x s q. (statement_sound ps k l x s.0 q, statement_formed k s.0 s.1 l x q)) (start d ps) g d.statements
-      (record { same = refl; made = λ i m q. absurd (none_is q); root = λ n b q. absurd (none_is q); exports = λ x m. absurd m }, record { imports = λ i m. absurd m; definitions = λ e m. absurd m }) e).1
+      (record { same = refl; made = λ i m q. absurd (none-some _ q); root = λ n b q. absurd (none-some _ q); exports = λ x m. absurd m }, record { imports = λ i m. absurd m; definitions = λ e m. absurd m }) e).1
 
 -- ---- the composition that is said is regular
 

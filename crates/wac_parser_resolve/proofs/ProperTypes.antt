@@ -1,5 +1,6 @@
 -- The types that functions and declarations of types state are proper.
 use Rattle.std.specs.Prelude.{map}
+use Rattle.std.proofs.lemmas.Option.{none-some}
 use Rattle.std.proofs.Common.{◌≡◌, List, [], ◌∷◌, ◌++◌, Bool, true, false, true≢false, Option, Some, None, Ok, inl, inr, refl, sym, ap, subst}
 use Rattle.wac_types_base.specs.declared.item.PrimitiveType.{PrimitiveType}
 use Rattle.wac_types_base.specs.declared.item.FuncKind.{FuncKind}
@@ -17,7 +18,7 @@ use Rattle.wac_parser_declare.specs.Declarations.{add_member, param, result_of, 
 use Rattle.wac_composition.proofs.NotWritten.{among_map}
 use Rattle.wac_parser_resolve.specs.Proper.{NoInstance, NamesNoInstance, Proper}
 use Rattle.wac_parser_resolve.proofs.Answers.{err_ok, ok_of, then_ok, ok_is, each_keeps}
-use Rattle.wac_parser_resolve.proofs.Numbers.{none_is, each_more}
+use Rattle.wac_parser_resolve.proofs.Numbers.{each_more}
 use Rattle.wac_parser_resolve.proofs.Sound.{present_is}
 use Rattle.wac_parser_resolve.proofs.Proper.{below, AllPlaces, over_proper, leaf_proper, typed_proper, own_proper, borrow_proper, untyped_proper, AllItems, IfProper, if_some, if_none, one_place, two_places, filled_places, behind_places, func_proper}
 
@@ -356,29 +357,29 @@ enum_declared d y e = let a = ok_of (each (enum_case_of d.id.string) [] d.cases)
 -- the owner stands in the second place
 owner_among : (l : Shape) (os : List (Option Stated)) (y : Stated) → owner_at l os ≡ Some y → Among (Some y) os
 owner_among (s.resource_alias n) (o ∷ owner ∷ os) y e = inr (inl (sym e))
-owner_among (s.resource_alias n) (o ∷ []) y e = absurd (none_is e)
-owner_among (s.resource_alias n) [] y e = absurd (none_is e)
-owner_among (s.primitive p) os y e = absurd (none_is e)
-owner_among s.tuple os y e = absurd (none_is e)
-owner_among s.list os y e = absurd (none_is e)
-owner_among (s.fixed_size_list n) os y e = absurd (none_is e)
-owner_among s.option os y e = absurd (none_is e)
-owner_among s.result os y e = absurd (none_is e)
-owner_among (s.variant ns) os y e = absurd (none_is e)
-owner_among (s.record_of ns) os y e = absurd (none_is e)
-owner_among (s.flags ns) os y e = absurd (none_is e)
-owner_among (s.enum ns) os y e = absurd (none_is e)
-owner_among s.alias os y e = absurd (none_is e)
-owner_among s.stream os y e = absurd (none_is e)
-owner_among s.future os y e = absurd (none_is e)
-owner_among (s.resource n) os y e = absurd (none_is e)
-owner_among (s.func ps a) os y e = absurd (none_is e)
-owner_among (s.interface i us es) os y e = absurd (none_is e)
-owner_among (s.world i us is es) os y e = absurd (none_is e)
-owner_among (s.module_type m) os y e = absurd (none_is e)
-owner_among (s.type_of s) os y e = absurd (none_is e)
-owner_among (s.borrow_of s) os y e = absurd (none_is e)
-owner_among (s.own_of s) os y e = absurd (none_is e)
+owner_among (s.resource_alias n) (o ∷ []) y e = absurd (none-some _ e)
+owner_among (s.resource_alias n) [] y e = absurd (none-some _ e)
+owner_among (s.primitive p) os y e = absurd (none-some _ e)
+owner_among s.tuple os y e = absurd (none-some _ e)
+owner_among s.list os y e = absurd (none-some _ e)
+owner_among (s.fixed_size_list n) os y e = absurd (none-some _ e)
+owner_among s.option os y e = absurd (none-some _ e)
+owner_among s.result os y e = absurd (none-some _ e)
+owner_among (s.variant ns) os y e = absurd (none-some _ e)
+owner_among (s.record_of ns) os y e = absurd (none-some _ e)
+owner_among (s.flags ns) os y e = absurd (none-some _ e)
+owner_among (s.enum ns) os y e = absurd (none-some _ e)
+owner_among s.alias os y e = absurd (none-some _ e)
+owner_among s.stream os y e = absurd (none-some _ e)
+owner_among s.future os y e = absurd (none-some _ e)
+owner_among (s.resource n) os y e = absurd (none-some _ e)
+owner_among (s.func ps a) os y e = absurd (none-some _ e)
+owner_among (s.interface i us es) os y e = absurd (none-some _ e)
+owner_among (s.world i us is es) os y e = absurd (none-some _ e)
+owner_among (s.module_type m) os y e = absurd (none-some _ e)
+owner_among (s.type_of s) os y e = absurd (none-some _ e)
+owner_among (s.borrow_of s) os y e = absurd (none-some _ e)
+owner_among (s.own_of s) os y e = absurd (none-some _ e)
 
 alias_proper : (v : Stated) → Proper v → NoInstance v → Proper (alias_of v)
 alias_proper v h k = typed_proper (over s.alias (Some v ∷ [])) (over_proper s.alias (Some v ∷ []) k (one_place (Some v) (if_some v h)))

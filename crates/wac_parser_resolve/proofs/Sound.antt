@@ -1,6 +1,7 @@
 -- What the statements say is sound: each instance is of a package handed in and names instances before it alone, and all that
 -- is spoken of is there.
 use Rattle.std.specs.Prelude.{◌==◌, slice_get, option_map, ⊤, not, ◌||◌, if◌then◌else◌, is_none, bytes_eq}
+use Rattle.std.proofs.lemmas.Option.{none-some, same_Some}
 use Rattle.std.specs.List.{list_any}
 use Rattle.std.specs.Cmp.Lexicographic.{pointwise, bytes_decides}
 use Rattle.std.proofs.Common.{◌≡◌, ℕ, List, [], ◌∷◌, ◌++◌, map, Bool, true, false, true≢false, Option, Some, None, Ok, Err, inl, inr, length, refl, sym, ap, subst, ◌∙◌}
@@ -22,7 +23,7 @@ use Rattle.wac_parser_resolve.specs.Denoting.{Given, given_names, needs_instance
 use Rattle.wac_parser_resolve.specs.Matching.{matched}
 use Rattle.wac_parser_resolve.specs.Saying.{asked, import_name, import_called, not_imported, is_extern_name, with_import, import_statement, not_exported, with_definition, declaration, declared_id, no_definition, new_export, is_exportable, exported, export_name, export_one, export_left, export_as, written_name, expr_span, statement, statements}
 use Rattle.wac_parser_resolve.proofs.Answers.{err_ok, ok_of, then_ok, ok_is, each_keeps}
-use Rattle.wac_parser_resolve.proofs.Numbers.{some_is, none_is, Below, slice_more, slice_kept, slice_last, slice_below, value_more, among_more, among_last, each_more}
+use Rattle.wac_parser_resolve.proofs.Numbers.{Below, slice_more, slice_kept, slice_last, slice_below, value_more, among_more, among_last, each_more}
 
 abbrev pub Packages : Type 0
 Packages = List (Key × Stated)
@@ -88,12 +89,12 @@ all_last g (x ∷ gs) a b h = (b.0, all_last g gs a b.1 h)
 
 -- what is passed under a name
 passed : (P : Given → Type 0) (gs : List Given) (n : Name) (d : Denoted) → ((a : Given) → Among a gs → P a) → value_at (map (λ (a : Given). (a.name, a.denoted)) gs) n ≡ Some d → (a : Given) × (a.name ≡ n) × (a.denoted ≡ d) × P a
-passed P [] n d h e = absurd (none_is e)
+passed P [] n d h e = absurd (none-some _ e)
 passed P (a ∷ gs) n d h e = go (passed P gs n d (λ b m. h b (inr m))) (pointwise ◌==◌ n a.name) refl e
   where
     go : (value_at (map (λ (a : Given). (a.name, a.denoted)) gs) n ≡ Some d → (a : Given) × (a.name ≡ n) × (a.denoted ≡ d) × P a) → (c : Bool) → pointwise ◌==◌ n a.name ≡ c
         → (if c then Some a.denoted else value_at (map (λ (a : Given). (a.name, a.denoted)) gs) n) ≡ Some d → (a : Given) × (a.name ≡ n) × (a.denoted ≡ d) × P a
-    go rest true q r = (a, sym ((bytes_decides n a.name).0 q), some_is r, h a (inl refl))
+    go rest true q r = (a, sym ((bytes_decides n a.name).0 q), same_Some _ _ r, h a (inl refl))
     go rest false q r = rest r
 
 there_each : (g : State) (gs : List Given) → AllThere g gs → (a : Given) → Among a gs → HasThat g a.denoted
@@ -227,8 +228,8 @@ module _ (ps : Packages) where
   denoted_has g i d s e = go (value_at g.root i.string) refl (present_is (option_map (λ b. b.denoted) (value_at g.root i.string)) (UndefinedName i.string) i.span d e)
     where
       go : (o : Option Bound) → value_at g.root i.string ≡ o → option_map (λ b. b.denoted) o ≡ Some d → HasThat g d
-      go None q r = absurd (none_is r)
-      go (Some b) q r = subst (HasThat g) (some_is r) (s.root i.string b q)
+      go None q r = absurd (none-some _ r)
+      go (Some b) q r = subst (HasThat g) (same_Some _ _ r) (s.root i.string b q)
 
   -- ---- spreads
 
@@ -256,7 +257,7 @@ module _ (ps : Packages) where
   one_fits : (k : Key) (w : Stated) (a : Given) → Ok tt ≡ argument_fits k w tt a → IsFitting w a
   one_fits k w a e x v =
       let y = ok_of (present (value_at (imports_of w) a.name) (MissingComponentImport k.0 a.name) a.span) _ tt e in
-      let is : y.0 ≡ x = some_is (sym (present_is (value_at (imports_of w) a.name) (MissingComponentImport k.0 a.name) a.span y.0 (sym y.1)) ∙ v) in
+      let is : y.0 ≡ x = same_Some _ _ (sym (present_is (value_at (imports_of w) a.name) (MissingComponentImport k.0 a.name) a.span y.0 (sym y.1)) ∙ v) in
       subst (λ z. fits (compared_by a.denoted.origin a.denoted.item) z ≡ true) is
       (not_false (fits (compared_by a.denoted.origin a.denoted.item) y.0) (clear_alone (not (fits (compared_by a.denoted.origin a.denoted.item) y.0)) (MismatchedInstantiationArg a.name) a.span y.2))
 
@@ -471,4 +472,4 @@ module _ (ps : Packages) where
   pub statements_sound : (d : t.Document) (g : State) → Ok g ≡ statements d ps → Sound ps g
   statements_sound d g e =
       each_keeps statement (Sound ps) (λ k l x s q. statement_sound k l x s q) (start d ps) g d.statements
-      (record { same = refl; made = λ i m q. absurd (none_is q); root = λ n b q. absurd (none_is q); exports = λ x m. absurd m }) e
+      (record { same = refl; made = λ i m q. absurd (none-some _ q); root = λ n b q. absurd (none-some _ q); exports = λ x m. absurd m }) e

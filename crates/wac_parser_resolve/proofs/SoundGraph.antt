@@ -1,11 +1,10 @@
 -- What stands, while a document is resolved.
-use Rattle.std.proofs.Common.{◌≡◌, ◌≢◌, ◌⊎◌, ℕ, List, [], ◌∷◌, ◌++◌, Option, Some, None, IsSome, Bool, true, false, if◌then◌else◌, ◌==◌, refl, sym, ap, subst, ◌∙◌, inl, inr}
+use Rattle.std.proofs.Common.{◌≡◌, ◌≢◌, ℕ, List, [], ◌∷◌, ◌++◌, Option, Some, None, IsSome, Bool, true, false, if◌then◌else◌, ◌==◌, refl, sym, ap, subst, ◌∙◌, inl, inr}
 use Rattle.std.specs.Cmp.Lexicographic.{pointwise}
 use Rattle.std.specs.FinMap as map
 use Rattle.wac_types_base.specs.declared.item.ItemKind.{ItemKind}
 use Rattle.wac_types_base.specs.Record.{Collection}
 use Rattle.wac_types_base.specs.Entries.{Name, value_at}
-use Rattle.wac_types_base.specs.Graph.{Among}
 use Rattle.wac_types_base.specs.Collection.{Stands, Grows}
 use Rattle.wac_types_names.specs.Packaged.{Packaged}
 use Rattle.wac_graph_core.specs.declared.ids.PackageId.{PackageId}
@@ -18,6 +17,7 @@ use Rattle.wac_parser_resolve.specs.declared.arguments.Given.{Given}
 use Rattle.wac_parser_resolve.specs.Later.{Later, Inner, SameNumber}
 use Rattle.wac_parser_resolve.specs.Standing.{AreThere, IsSound}
 use Rattle.wac_parser_resolve.proofs.Growing.{Later-refl, Later-same, Later-trans, Inner-refl, Inner-same, Inner-trans}
+use Rattle.wac_types_fit.proofs.Items.{Among-last}
 
 -- ---- names of the root
 
@@ -111,15 +111,9 @@ there_later g h xs later there = record { nodes = λ one m. later.nodes one.node
 pub there_inner : (g h : Graph) (xs : List Given) → Inner g h → AreThere g xs → AreThere h xs
 there_inner g h xs inner there = there_later g h xs inner.later there
 
-last_of : {X : Type 0} (xs : List X) (x y : X) → Among y (xs ++ x ∷ []) → Among y xs ⊎ (y ≡ x)
-last_of [] x y (inl e) = inr e
-last_of [] x y (inr m) = absurd m
-last_of (z ∷ xs) x y (inl e) = inl (inl e)
-last_of (z ∷ xs) x y (inr m) = elim (last_of xs x y m) [ inl h ↦ inl (inr h) | inr e ↦ inr e ]
-
 pub there_more : (g : Graph) (xs : List Given) (x : Given) → AreThere g xs → ContainsNode g x.node → AreThere g (xs ++ x ∷ [])
 there_more g xs x there here = record {
-  nodes = λ one m. elim (last_of xs x one m) [
+  nodes = λ one m. elim (Among-last xs x one m) [
     | inl before ↦ there.nodes one before
     | inr e ↦ subst (λ (y : Given). ContainsNode g y.node) (sym e) here
   ];

@@ -24,13 +24,40 @@ use wac_types_base::{ItemKind, Type, Types, WorldId};
 
 /// What a document says, without the document: the graph, the directive's world in it, and where imports, identifiers and
 /// instances stand.
-#[derive(Drop)]
 pub struct Said {
     graph: CompositionGraph,
     target: Option<WorldId>,
     imports: Spans,
     ids: Spans,
     instances: Spans,
+}
+
+impl Drop for Said {
+    fn drop(self) {
+        let Said {
+            graph: _,
+            target: _,
+            imports: _,
+            ids: _,
+            instances: _,
+        } = self;
+    }
+}
+
+impl Said {
+    /// The graph, taken out.
+    fn into_graph(self) -> CompositionGraph
+        ensures { result ≡ self.entry.graph }
+    {
+        let Said {
+            graph,
+            target: _,
+            imports: _,
+            ids: _,
+            instances: _,
+        } = self;
+        graph
+    }
 }
 
 /// Something with the graph that its statements build.
@@ -82,7 +109,7 @@ impl<'d, D> Resolved<'d, D> {
     pub fn into_graph(self) -> CompositionGraph
         ensures { result ≡ graph_of self.entry }
     {
-        self.said.graph
+        self.said.into_graph()
     }
 }
 

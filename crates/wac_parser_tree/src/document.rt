@@ -15,7 +15,6 @@ use std::alloc::{AllocError, Global};
 use std::fmt;
 
 /// A document: a package directive, then statements.
-#[derive(Drop)]
 pub struct Document<'a> {
     /// The doc comments of the package.
     pub docs: Vec<DocComment<'a>>,
@@ -23,6 +22,16 @@ pub struct Document<'a> {
     pub directive: PackageDirective<'a>,
     /// The statements, in the order of the source.
     pub statements: Vec<Statement<'a>>,
+}
+
+impl Drop for Document<'_> {
+    fn drop(self) {
+        let Document {
+            docs: _,
+            directive: _,
+            statements: _,
+        } = self;
+    }
 }
 
 impl fmt::Debug for Document<'_> {

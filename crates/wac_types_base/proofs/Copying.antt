@@ -35,6 +35,7 @@ use Rattle.wac_types_base.proofs.Walking.{child_smaller, slice_get-Among}
 use Rattle.wac_types_base.proofs.Standing.{defined_found, resource_found, func_found, interface_found, world_found, module_found}
 use Rattle.wac_types_base.proofs.Slots.{entry_at-is, stands_borrow, stands_own, stands_typed_func, stands_typed_value, stands_typed_interface, stands_typed_world, stands_typed_module, slots_borrow, slots_own, slots_typed_func, slots_typed_value, slots_typed_interface, slots_typed_world, slots_typed_module}
 use Rattle.wac_types_base.proofs.Loops.{map-map, map-append, names-with_values, values-with_values}
+use Rattle.wac_types_base.proofs.Replacing.{labelled_there}
 
 -- at the full depth the unfolding of a node is its label over the unfoldings of its children
 unfold_step : {R S : Type 0} (g : R → Option (S × List (Option R))) (n : ℕ) (r : R) → IsSome (whole g n r) → whole g n r ≡ grow (g r) (whole g n)
@@ -99,10 +100,6 @@ labelled_grow l (Some e) w = by_row e.0 (wholes_by w e.1)
     by_row : (s : Shape) (r : Option (Wholes Shape)) → close (l s) r ≡ option_map (relabel l) (close s r)
     by_row s None = refl
     by_row s (Some ts) = refl
-
-labelled_there : (l : Shape → Shape) (o : Option Entry) → IsSome o → IsSome (labelled l o)
-labelled_there l None h = h
-labelled_there l (Some e) h = refl
 
 IsCopy-labelled : (c d : Collection) → IsAcyclic c → IsAcyclic d → (l : Shape → Shape) (k k' j j' : ItemKind) → item_node c j ≡ labelled l (item_node c k) → item_node d j' ≡ labelled l (item_node d k') → Stands c k → IsCopy c d k k' → IsCopy c d j j'
 IsCopy-labelled c d ha hb l k k' j j' e f stands h =
@@ -204,7 +201,7 @@ module _ (c d : Collection) (m : Copies) (ha : IsAcyclic c) (hb : IsAcyclic d) (
 
 -- ---- entries with the ids of the copies
 
-map-ext : {X Y : Type 0} (f g : X → Y) → ((x : X) → f x ≡ g x) → (xs : List X) → map f xs ≡ map g xs
+pub map-ext : {X Y : Type 0} (f g : X → Y) → ((x : X) → f x ≡ g x) → (xs : List X) → map f xs ≡ map g xs
 map-ext f g h [] = refl
 map-ext f g h (x ∷ xs) = rw (h x, map-ext f g h xs) refl
 
@@ -312,7 +309,7 @@ AreCopies-kept c d e m g n a = record {
   modules = EachCopied-kept c d e module_at m.number m.modules g a.modules;
 }
 
-last_place : {X : Type 0} (xs : List X) (x : X) → slice_get (xs ++ x ∷ []) (length xs) ≡ Some x
+pub last_place : {X : Type 0} (xs : List X) (x : X) → slice_get (xs ++ x ∷ []) (length xs) ≡ Some x
 last_place [] x = refl
 last_place (y ∷ xs) x = last_place xs x
 

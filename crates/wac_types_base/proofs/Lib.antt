@@ -13,3 +13,4 @@ pub mod PairNames
 pub mod Telling
 pub mod Used
 pub mod Visited
+pub mod Made

@@ -110,7 +110,7 @@ among-take x (y ∷ xs) zero m = absurd m
 among-take x (y ∷ xs) (suc i) (inl e) = inl e
 among-take x (y ∷ xs) (suc i) (inr m) = inr (among-take x xs i m)
 
-among-get : {X : Type 0} (xs : List X) (i : ℕ) (x : X) → slice_get xs i ≡ Some x → Among x xs
+pub among-get : {X : Type 0} (xs : List X) (i : ℕ) (x : X) → slice_get xs i ≡ Some x → Among x xs
 among-get [] i x e = absurd (cc e)
 among-get (y ∷ xs) zero x e = inl (sym (cc e))
 among-get (y ∷ xs) (suc i) x e = inr (among-get xs i x e)

@@ -3,7 +3,7 @@ use Rattle.std.proofs.Common.{◌≡◌, ℕ, zero, suc, ◌+◌, ◌<◌, ◌�
 use Rattle.wac_types_base.specs.Entries.{names_of, values_of, with_values}
 use Rattle.wac_types_base.proofs.Looked.{take-one_more}
 
-mapped_next : {X Y : Type 0} (f : X → Y) (xs : List X) (x : X) → map f (xs ++ x ∷ []) ≡ map f xs ++ f x ∷ []
+pub mapped_next : {X Y : Type 0} (f : X → Y) (xs : List X) (x : X) → map f (xs ++ x ∷ []) ≡ map f xs ++ f x ∷ []
 mapped_next f [] x = refl
 mapped_next f (y ∷ xs) x = ap (λ l. f y ∷ l) (mapped_next f xs x)
 

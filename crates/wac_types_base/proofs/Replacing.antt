@@ -80,7 +80,7 @@ guarded-same : {A : Type 0} (b : Bool) (o p : Option A) → (b ≡ true → o �
 guarded-same true o p h = h refl
 guarded-same false o p h = refl
 
-same_number : (a b : ℕ) → (a == b) ≡ true → a ≡ b
+pub same_number : (a b : ℕ) → (a == b) ≡ true → a ≡ b
 same_number a b h = grind (arith, nat_tests)
 
 pub number_same : (a b : ℕ) → a ≡ b → (a == b) ≡ true
@@ -130,7 +130,7 @@ module _ (c : Collection) where
   node_wrapped (ItemKind.Module f) = (λ s. s, labelled_same (item_node c (ItemKind.Module f)))
   node_wrapped (ItemKind.Value v) = value_wrapped v
 
-labelled_there : (l : Shape → Shape) (o : Option Entry) → IsSome o → IsSome (labelled l o)
+pub labelled_there : (l : Shape → Shape) (o : Option Entry) → IsSome o → IsSome (labelled l o)
 labelled_there l None h = h
 labelled_there l (Some e) h = refl
 

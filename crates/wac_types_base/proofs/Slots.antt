@@ -28,7 +28,7 @@ slots-labelled : (l : Shape → Shape) (o : Option Entry) → slots_in (labelled
 slots-labelled l None = refl
 slots-labelled l (Some e) = refl
 
-stands-labelled : (l : Shape → Shape) (o : Option Entry) → IsSome (labelled l o) → IsSome o
+pub stands-labelled : (l : Shape → Shape) (o : Option Entry) → IsSome (labelled l o) → IsSome o
 stands-labelled l None h = h
 stands-labelled l (Some e) h = refl
 

@@ -32,7 +32,7 @@ is_some-slice_get (x ∷ xs) (suc i) = is_some-slice_get xs i ∙ sym (next i (l
     next : (i n : ℕ) → nat_lt (suc i) (suc n) ≡ nat_lt i n
     next i n = grind (arith, nat_tests)
 
-is_some-option_map : {A B : Type 0} (f : A → B) (o : Option A) → is_some (option_map f o) ≡ is_some o
+pub is_some-option_map : {A B : Type 0} (f : A → B) (o : Option A) → is_some (option_map f o) ≡ is_some o
 is_some-option_map f None = refl
 is_some-option_map f (Some x) = refl
 

@@ -20,9 +20,10 @@ use Rattle.wac_types_base.specs.Resolving.{promoted, IsNoAlias}
 use Rattle.wac_types_base.specs.Tree.{tree, tree_of}
 use Rattle.wac_types_base.proofs.GraphLemmas.{value_of, is_there}
 use Rattle.wac_types_base.proofs.Adding.{All-among, labelled-some, guarded-some, option_map-some}
-use Rattle.wac_types_base.proofs.Walking.{child_smaller, slice_get-Among, Among-slice_get}
+use Rattle.wac_types_base.proofs.Walking.{child_smaller, slice_get-Among}
 use Rattle.wac_types_base.proofs.Slots.{entry_at-is, stands_typed_value}
 use Rattle.wac_types_base.proofs.Copying.{unfolding_step, Among-All}
+use Rattle.wac_types_base.proofs.Looked.{among-get}
 
 -- ---- one step
 
@@ -389,7 +390,7 @@ module _ (c : Collection) (a : IsAcyclic c) (v : ValueType) (d : DefinedTypeId) 
 -- what is in a place of an entry whose children stand, and how large it is
 pub place_stands : (c : Collection) → IsAcyclic c → (e : Entry) → HasChildren c e → (i : ℕ) (j : ItemKind) → slice_get e.1 i ≡ Some (Some j) → Stands c j × (size_of c j ≤ row_size c e.1)
 place_stands c a e has i j at =
-    let stands = All-among (SlotStands c) e.1 (Some j) has (Among-slice_get e.1 i (Some j) at) in
+    let stands = All-among (SlotStands c) e.1 (Some j) has (among-get e.1 i (Some j) at) in
     let size = size_stated c a j stands in
     let fits = place_size c e.1 i j at in
     (stands, omega (arith, size, fits))

@@ -14,10 +14,10 @@ use Rattle.wac_types_base.specs.Record.{Collection}
 use Rattle.wac_types_base.specs.Collection.{Slot, SlotStands, HasChildren, Stands, IsAcyclic, item_node, interface_entry, world_entry, items, used}
 use Rattle.wac_types_base.specs.Implicit.{used_interfaces, uses_in, instance_uses, all_uses, implicit_interfaces, identifier_in, named, then_on, by_identifier, shown}
 use Rattle.wac_types_base.proofs.Adding.{All-among, Among-left, Among-right}
-use Rattle.wac_types_base.proofs.Walking.{Among-slice_get}
 use Rattle.wac_types_base.proofs.Loops.{get-place}
 use Rattle.wac_types_base.proofs.Slots.{entry_at-is}
 use Rattle.wac_types_base.proofs.Telling.{child_stands}
+use Rattle.wac_types_base.proofs.Looked.{among-get}
 
 pub drop_next : {X : Type 0} (xs : List X) (i : ℕ) (x : X) → slice_get xs i ≡ Some x → drop i xs ≡ x ∷ drop (i + 1) xs
 drop_next [] i x e = absurd (cc e)
@@ -25,7 +25,7 @@ drop_next (y ∷ xs) zero x e = ap (λ z. z ∷ xs) (cc e)
 drop_next (y ∷ xs) (suc i) x e = let n : suc i + 1 ≡ suc (i + 1) = omega arith in rw n (drop_next xs i x e)
 
 pub among_at : {X : Type 0} (xs : List X) (i : ℕ) (x : X) → i < length xs → x ≡ get_or xs i x → Among x xs
-among_at xs i x h e = Among-slice_get xs i x (get-place xs i x h e)
+among_at xs i x h e = among-get xs i x (get-place xs i x h e)
 
 -- one interface that has an identifier
 pub by_step : (c : Collection) (es : List (Name × ItemKind)) (i : InterfaceId) (is : List InterfaceId) (x : Interface) (n : Name) → slice_get c.interfaces i.index ≡ Some x → x.id ≡ Some n → by_identifier c es (i ∷ is) ≡ by_identifier c (put_entry es n (ItemKind.Instance i)) is

@@ -6,11 +6,7 @@ use Rattle.wac_types_base.specs.Graph.{Among}
 use Rattle.wac_types_base.specs.Collection.{item_node, Stands, IsAcyclic, unfolding_of, slots_in, slots_of, size_in, size_of, depth}
 use Rattle.wac_types_base.specs.Reaching.{Reaches, here, below}
 use Rattle.wac_types_base.proofs.GraphLemmas.{value_of, is_there, node_of, child_within}
-
-pub Among-slice_get : {X : Type 0} (xs : List X) (i : ℕ) (x : X) → slice_get xs i ≡ Some x → Among x xs
-Among-slice_get [] i x e = absurd (cc e)
-Among-slice_get (y ∷ xs) zero x e = inl (cc e)
-Among-slice_get (y ∷ xs) (suc i) x e = inr (Among-slice_get xs i x e)
+use Rattle.wac_types_base.proofs.Looked.{among-get}
 
 pub slice_get-Among : {X : Type 0} (xs : List X) (x : X) → Among x xs → (i : ℕ) × (i < length xs) × (slice_get xs i ≡ Some x)
 slice_get-Among [] x m = absurd m
@@ -36,7 +32,7 @@ module _ (c : Collection) (acyclic : IsAcyclic c) where
       let n = value_of _ stands in
       let t = value_of _ (acyclic k stands) in
       let here = subst (λ l. slice_get l i ≡ Some (Some j)) (ap slots_in n.1) at in
-      let u = child_within (item_node c) (depth c) k t.0 t.1 n.0.0 n.0.1 n.1 j (Among-slice_get n.0.1 i (Some j) here) in
+      let u = child_within (item_node c) (depth c) k t.0 t.1 n.0.0 n.0.1 n.1 j (among-get n.0.1 i (Some j) here) in
       let v = node_of (item_node c) (depth c) j (is_there _ u.0 u.1) in
       (is_there _ (v.0, v.1) v.2, let a = ap size_in u.1 in let b = ap size_in t.1 in omega (arith, a, b, u.2))
 
@@ -51,7 +47,7 @@ module _ (c : Collection) (P : ItemKind → Type 0) where
   reaches_by k stands i j at r =
       let n = value_of _ stands in
       let here = subst (λ l. slice_get l i ≡ Some (Some j)) (ap slots_in n.1) at in
-      below n.1 (Among-slice_get n.0.1 i (Some j) here) r
+      below n.1 (among-get n.0.1 i (Some j) here) r
 
   -- a kind none of whose places leads there does not, unless it is the one
   pub reaches_none : (k : ItemKind) (n : ℕ) → (P k → ⊥) → slice_get (slots_of c k) n ≡ None → ((i : ℕ) (j : ItemKind) → i < n → slice_get (slots_of c k) i ≡ Some (Some j) → Reaches (item_node c) P j → ⊥) → Reaches (item_node c) P k → ⊥

@@ -16,7 +16,6 @@ use std::ops::Index;
 use std::slice::Iter;
 
 /// A collection of types: six lists, under a number that the caller chose. Its ids carry the number.
-#[derive(Drop)]
 pub struct Types {
     number: u64,
     pub(crate) defined_types: Vec<DefinedType>,
@@ -25,6 +24,20 @@ pub struct Types {
     pub(crate) interfaces: Vec<Interface>,
     pub(crate) worlds: Vec<World>,
     pub(crate) modules: Vec<ModuleType>,
+}
+
+impl Drop for Types {
+    fn drop(self) {
+        let Types {
+            number: _,
+            defined_types: _,
+            resources: _,
+            func_types: _,
+            interfaces: _,
+            worlds: _,
+            modules: _,
+        } = self;
+    }
 }
 
 impl Model for Types {

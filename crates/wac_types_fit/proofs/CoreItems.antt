@@ -1,5 +1,6 @@
 -- When one module type fits another.
 use Rattle.std.proofs.Common.{◌≡◌, ℕ, ◌+◌, List, [], ◌∷◌, take, drop, ◌≤◌, length, Option, Some, Bool, true, false, ◌&&◌, refl, sym, ap, subst, ◌∙◌, ◌⊎◌, inl, inr}
+use Rattle.std.proofs.lemmas.Bool.{and_parts}
 use Rattle.std.specs.Prelude.{if◌then◌else◌, ◌==◌, slice_get}
 use Rattle.std.specs.Cmp.Lexicographic.{pointwise}
 use Rattle.std.specs.declared.cmp.Ordering.{Ordering}
@@ -77,14 +78,9 @@ module _ {K V : Type 0} (cmp : K → K → Ordering) (o : IsKeyOrder cmp) where
 
 -- ---- imports by two names
 
-both_true : (a b : Bool) → (a && b) ≡ true → (a ≡ true) × (b ≡ true)
-both_true true true e = (refl, refl)
-both_true true false e = absurd (cc e)
-both_true false b e = absurd (cc e)
-
 pair_same : (a b : Name × Name) → (pointwise ◌==◌ a.0 b.0 && pointwise ◌==◌ a.1 b.1) ≡ true → a ≡ b
 pair_same a b e =
-    let h = both_true (pointwise ◌==◌ a.0 b.0) (pointwise ◌==◌ a.1 b.1) e in
+    let h = and_parts (pointwise ◌==◌ a.0 b.0) (pointwise ◌==◌ a.1 b.1) e in
     joined a b ((bytes_eq-Decides a.0 b.0).0 h.0) ((bytes_eq-Decides a.1 b.1).0 h.1)
 
 same_pair : (a b : Name × Name) → a ≡ b → (pointwise ◌==◌ a.0 b.0 && pointwise ◌==◌ a.1 b.1) ≡ true

@@ -123,7 +123,7 @@ value_flat (component is es) e = absurd (cc e)
 value_flat (core_module is es) e = absurd (cc e)
 
 -- there only equal trees fit
-fits_flat : (t u : Tree) → IsFlatTree t → Fits t u → t ≡ u
+pub fits_flat : (t u : Tree) → IsFlatTree t → Fits t u → t ≡ u
 fits_flat (rigid s r) u f rigid_fits = refl
 fits_flat (handle_own t) u f own_fits = refl
 fits_flat (handle_borrow t) u f borrow_fits = refl

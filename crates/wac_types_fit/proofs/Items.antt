@@ -134,12 +134,12 @@ module _ (c d : Collection) (a : IsAcyclic c) (b : IsAcyclic d) where
 
 -- ---- items are inside
 
-as_slot : (es : List (Name × ItemKind)) (n : Name) (k : ItemKind) → Among (n, k) es → Among (Some k) (items es)
+pub as_slot : (es : List (Name × ItemKind)) (n : Name) (k : ItemKind) → Among (n, k) es → Among (Some k) (items es)
 as_slot [] n k m = absurd m
 as_slot (x ∷ es) n k (inl e) = inl (ap (λ v. Some v.1) e)
 as_slot (x ∷ es) n k (inr m) = inr (as_slot es n k m)
 
-slot_inside : (c : Collection) → IsAcyclic c → (k : ItemKind) (row : List Slot) → Stands c k → slots_of c k ≡ row → (j : ItemKind) → Among (Some j) row → IsInside c j k
+pub slot_inside : (c : Collection) → IsAcyclic c → (k : ItemKind) (row : List Slot) → Stands c k → slots_of c k ≡ row → (j : ItemKind) → Among (Some j) row → IsInside c j k
 slot_inside c acyclic k row stands is j m =
     let p = slice_get-Among row (Some j) m in
     child_smaller c acyclic k stands p.0 j (subst (λ l. slice_get l p.0 ≡ Some (Some j)) (sym is) p.2)

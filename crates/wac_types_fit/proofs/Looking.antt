@@ -31,7 +31,7 @@ pub looked-has : (n : Name) (u : Tree) (xs : Fields) → lookup n xs ≡ Some u 
 looked-has n u no_fields e = absurd (cc e)
 looked-has n u (field m t xs) e = found_is (name_cmp n m) n m t u (lookup n xs) xs refl (looked-has n u xs) e
 
-above : (n m : Name) (t : Tree) (xs : Fields) → IsBelowFields n xs → HasField m t xs → IsBelow name_cmp n m
+pub above : (n m : Name) (t : Tree) (xs : Fields) → IsBelowFields n xs → HasField m t xs → IsBelow name_cmp n m
 above n m t (field k u xs) h at_first = h.0
 above n m t (field k u xs) h (at_later q) = above n m t xs h.1 q
 above n m t no_fields h q = elim q [ ]

@@ -60,12 +60,12 @@ Joins None q r = r ≡ q
 Joins (Some t) None r = r ≡ Some t
 Joins (Some t) (Some u) r = (m : Tree) × (r ≡ Some m) × IsMeet m (t ∷ u ∷ [])
 
-put_both-some : (n : Name) (o : Option Tree) (p : Option Fields) (zs : Fields) → put_both n o p ≡ Some zs → (m : Tree) × (ws : Fields) × (o ≡ Some m) × (p ≡ Some ws) × (put n m ws ≡ zs)
+pub put_both-some : (n : Name) (o : Option Tree) (p : Option Fields) (zs : Fields) → put_both n o p ≡ Some zs → (m : Tree) × (ws : Fields) × (o ≡ Some m) × (p ≡ Some ws) × (put n m ws ≡ zs)
 put_both-some n None p zs e = absurd (cc e)
 put_both-some n (Some m) None zs e = absurd (cc e)
 put_both-some n (Some m) (Some ws) zs e = (m, ws, refl, refl, cc e)
 
-mapped-some : {A B : Type 0} (f : A → B) (o : Option A) (y : B) → option_map f o ≡ Some y → (x : A) × (o ≡ Some x) × (f x ≡ y)
+pub mapped-some : {A B : Type 0} (f : A → B) (o : Option A) (y : B) → option_map f o ≡ Some y → (x : A) × (o ≡ Some x) × (f x ≡ y)
 mapped-some f None y e = absurd (cc e)
 mapped-some f (Some x) y e = (x, refl, cc e)
 

@@ -8,11 +8,12 @@ use Rattle.wac_types_base.specs.declared.item.PrimitiveType.{PrimitiveType}
 use Rattle.wac_types_base.specs.declared.item.ValueType.{ValueType}
 use Rattle.wac_types_base.specs.declared.item.«Type».{«Type» as TypeKind}
 use Rattle.wac_types_base.specs.Record.{Collection}
-use Rattle.wac_types_base.specs.Collection.{Shape, Entry, Stands, IsAcyclic, item_node, entry_at, labelled, primitive, type_of, defined_entry, resource_entry, func_entry, interface_entry, world_entry, module_entry}
+use Rattle.wac_types_base.specs.Collection.{Shape, Entry, Stands, IsAcyclic, item_node, entry_at, primitive, type_of, defined_entry, resource_entry, func_entry, interface_entry, world_entry, module_entry}
 use Rattle.wac_types_fit.specs.Trees.{tree_in, Fit, OneOrApart}
 use Rattle.wac_types_fit.specs.Checking.{OnlyMore, IsTruePair, IsTrueOf, OnlyTrue}
 use Rattle.wac_types_base.specs.Fits.{Fits}
 use Rattle.wac_types_fit.proofs.Unfolded.{tree_step}
+use Rattle.wac_types_base.proofs.Slots.{stands-labelled}
 
 numbered : (b : Bool) (o : Option Entry) → IsSome (if b then o else None) → b ≡ true
 numbered true o h = refl
@@ -20,10 +21,6 @@ numbered false o h = absurd (cc h)
 
 number_is : {E : Type 0} (f : E → Entry) (n : ℕ) (es : List E) (col i : ℕ) → IsSome (entry_at f n es col i) → col ≡ n
 number_is f n es col i h = eqb-true col n (numbered (col == n) (option_map f (slice_get es i)) h)
-
-under : (l : Shape → Shape) (o : Option Entry) → IsSome (labelled l o) → IsSome o
-under l None h = absurd (cc h)
-under l (Some e) h = refl
 
 -- the number of a kind's id
 abbrev number_in : ItemKind → Option ℕ
@@ -57,21 +54,21 @@ Numbered c k (Some n) = n ≡ c.number
 stands_numbered : (c : Collection) (k : ItemKind) → Stands c k → Numbered c k (number_in k)
 unfolding item_node
 stands_numbered c (ItemKind.Ty (TypeKind.Resource r)) h = number_is resource_entry c.number c.resources r.collection r.index h
-stands_numbered c (ItemKind.Ty (TypeKind.Func r)) h = number_is func_entry c.number c.func_types r.collection r.index (under type_of _ h)
-stands_numbered c (ItemKind.Ty (TypeKind.Interface r)) h = number_is interface_entry c.number c.interfaces r.collection r.index (under type_of _ h)
-stands_numbered c (ItemKind.Ty (TypeKind.World r)) h = number_is world_entry c.number c.worlds r.collection r.index (under type_of _ h)
-stands_numbered c (ItemKind.Ty (TypeKind.Module r)) h = number_is module_entry c.number c.modules r.collection r.index (under type_of _ h)
+stands_numbered c (ItemKind.Ty (TypeKind.Func r)) h = number_is func_entry c.number c.func_types r.collection r.index (stands-labelled type_of _ h)
+stands_numbered c (ItemKind.Ty (TypeKind.Interface r)) h = number_is interface_entry c.number c.interfaces r.collection r.index (stands-labelled type_of _ h)
+stands_numbered c (ItemKind.Ty (TypeKind.World r)) h = number_is world_entry c.number c.worlds r.collection r.index (stands-labelled type_of _ h)
+stands_numbered c (ItemKind.Ty (TypeKind.Module r)) h = number_is module_entry c.number c.modules r.collection r.index (stands-labelled type_of _ h)
 stands_numbered c (ItemKind.Ty (TypeKind.Value (ValueType.Primitive p))) h = refl
-stands_numbered c (ItemKind.Ty (TypeKind.Value (ValueType.Borrow r))) h = number_is resource_entry c.number c.resources r.collection r.index (under _ _ (under type_of _ h))
-stands_numbered c (ItemKind.Ty (TypeKind.Value (ValueType.Own r))) h = number_is resource_entry c.number c.resources r.collection r.index (under _ _ (under type_of _ h))
-stands_numbered c (ItemKind.Ty (TypeKind.Value (ValueType.Defined r))) h = number_is defined_entry c.number c.defined_types r.collection r.index (under type_of _ h)
+stands_numbered c (ItemKind.Ty (TypeKind.Value (ValueType.Borrow r))) h = number_is resource_entry c.number c.resources r.collection r.index (stands-labelled _ _ (stands-labelled type_of _ h))
+stands_numbered c (ItemKind.Ty (TypeKind.Value (ValueType.Own r))) h = number_is resource_entry c.number c.resources r.collection r.index (stands-labelled _ _ (stands-labelled type_of _ h))
+stands_numbered c (ItemKind.Ty (TypeKind.Value (ValueType.Defined r))) h = number_is defined_entry c.number c.defined_types r.collection r.index (stands-labelled type_of _ h)
 stands_numbered c (ItemKind.Func r) h = number_is func_entry c.number c.func_types r.collection r.index h
 stands_numbered c (ItemKind.Instance r) h = number_is interface_entry c.number c.interfaces r.collection r.index h
 stands_numbered c (ItemKind.Component r) h = number_is world_entry c.number c.worlds r.collection r.index h
 stands_numbered c (ItemKind.Module r) h = number_is module_entry c.number c.modules r.collection r.index h
 stands_numbered c (ItemKind.Value (ValueType.Primitive p)) h = refl
-stands_numbered c (ItemKind.Value (ValueType.Borrow r)) h = number_is resource_entry c.number c.resources r.collection r.index (under _ _ h)
-stands_numbered c (ItemKind.Value (ValueType.Own r)) h = number_is resource_entry c.number c.resources r.collection r.index (under _ _ h)
+stands_numbered c (ItemKind.Value (ValueType.Borrow r)) h = number_is resource_entry c.number c.resources r.collection r.index (stands-labelled _ _ h)
+stands_numbered c (ItemKind.Value (ValueType.Own r)) h = number_is resource_entry c.number c.resources r.collection r.index (stands-labelled _ _ h)
 stands_numbered c (ItemKind.Value (ValueType.Defined r)) h = number_is defined_entry c.number c.defined_types r.collection r.index h
 
 leaf_tree : (c d : Collection) → IsAcyclic c → IsAcyclic d → (k : ItemKind) (s : Shape) → item_node c k ≡ Some (s, []) → item_node d k ≡ Some (s, []) → tree_in c k ≡ tree_in d k

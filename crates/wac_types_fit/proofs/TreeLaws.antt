@@ -6,7 +6,7 @@ use Rattle.wac_types_base.specs.Entries.{Name}
 use Rattle.wac_types_base.specs.Tree.{Tree, Fields, rigid, instance, component, core_module, handle_own, handle_borrow, type_item, no_fields, field, name_cmp, pair_cmp}
 use Rattle.wac_types_base.specs.Fits.{HasField, at_first, at_later, Fits, FieldsFit, rigid_fits, own_fits, borrow_fits, instance_fits, component_fits, module_fits, type_fits, none_asked, one_asked}
 use Rattle.wac_types_fit.specs.Ordered.{IsBelow, IsBelowKeys, AreAscending, IsBelowFields, InOrder, AllInOrder}
-use Rattle.wac_types_fit.proofs.Looking.{given}
+use Rattle.wac_types_fit.proofs.Looking.{given, above}
 use Rattle.wac_types_fit.proofs.Ordering.{never, IsKeyOrder, name_order, pair_order}
 
 -- ---- reflexive
@@ -104,11 +104,6 @@ module _ {K V : Type 0} (cmp : K → K → Ordering) (o : IsKeyOrder cmp) where
       (behind_first x xs ys (subst (λ z. IsBelowKeys cmp z.0 ys) (sym e) b.0) (λ z m. f z (inr m)))
       (behind_first y ys xs (subst (λ z. IsBelowKeys cmp z.0 xs) e a.0) (λ z m. g z (inr m))) in
       λ i. e i ∷ rest i
-
-above : (n m : Name) (t : Tree) (xs : Fields) → IsBelowFields n xs → HasField m t xs → IsBelow name_cmp n m
-above n m t (field k u xs) h at_first = h.0
-above n m t (field k u xs) h (at_later q) = above n m t xs h.1 q
-above n m t no_fields h q = elim q [ ]
 
 -- an entry that is there, at the front or behind
 front : (n m : Name) (t u : Tree) (xs : Fields) → HasField m u (field n t xs) → ((m ≡ n) × (u ≡ t)) ⊎ HasField m u xs

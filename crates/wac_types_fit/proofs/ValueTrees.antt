@@ -1,5 +1,6 @@
 -- When two values, functions or resources have one tree.
-use Rattle.std.proofs.Common.{◌≡◌, ℕ, zero, suc, ◌<◌, ◌≤◌, List, [], ◌∷◌, ◌++◌, map, length, Option, Some, None, Bool, true, false, ◌&&◌, refl, sym, ap, subst, ◌∙◌, IsTrue, ◌↔◌, arith}
+use Rattle.std.proofs.Common.{◌≡◌, ℕ, zero, suc, ◌<◌, ◌≤◌, List, [], ◌∷◌, ◌++◌, map, length, Option, Some, None, Bool, true, false, refl, sym, ap, subst, ◌∙◌, IsTrue, ◌↔◌, arith}
+use Rattle.std.proofs.lemmas.Bool.{and_parts}
 use Rattle.std.specs.Prelude.{◌==◌, slice_get, String, string_bytes, is_some, not}
 use mathlib.Core.Bool.{beq}
 use Rattle.std.specs.Option.{option_map}
@@ -33,11 +34,6 @@ use Rattle.wac_types_fit.proofs.Unfolded.{row_in, primitive_tree, own_tree, borr
 
 -- ---- names
 
-both_true : (a b : Bool) → (a && b) ≡ true → (a ≡ true) × (b ≡ true)
-both_true true true e = (refl, refl)
-both_true true false e = absurd (cc e)
-both_true false b e = absurd (cc e)
-
 abbrev same_text : {Z : Type 0} → String Z → String Z → Bool
 same_text a b = pointwise ◌==◌ (string_bytes a) (string_bytes b)
 
@@ -46,7 +42,7 @@ names_yes [] [] e = refl
 names_yes [] (y ∷ ys) e = absurd (cc e)
 names_yes (x ∷ xs) [] e = absurd (cc e)
 names_yes (x ∷ xs) (y ∷ ys) e =
-    let h = both_true (same_text x y) (pointwise same_text xs ys) e in
+    let h = and_parts (same_text x y) (pointwise same_text xs ys) e in
     let first = (bytes_eq-Decides (string_bytes x) (string_bytes y)).0 h.0 in
     let rest = names_yes xs ys h.1 in
     λ i. first i ∷ rest i

@@ -10,7 +10,7 @@ use Rattle.wac_types_base.specs.Fits.{Fits}
 use Rattle.wac_types_base.proofs.Adding.{Grows-trans}
 use Rattle.wac_types_base.specs.Entries.{Name}
 use Rattle.wac_types_base.proofs.Loops.{get-place}
-use Rattle.wac_types_base.proofs.Walking.{Among-slice_get, some_place}
+use Rattle.wac_types_base.proofs.Walking.{some_place}
 use Rattle.wac_types_names.specs.Tracks.{lookup_key, AreCompatible}
 use Rattle.wac_types_fit.specs.Meets.{IsMeet, IsPlain, Clash}
 use Rattle.wac_types_fit.specs.Trees.{tree_in}
@@ -24,6 +24,7 @@ use Rattle.wac_types_merge.specs.Steps.{HasClash, LieOutside, IsMerged}
 use Rattle.wac_types_merge.proofs.Grown.{tree_kept, copied_tree}
 use Rattle.wac_types_merge.proofs.Plain.{family_plain, plain_meet}
 use Rattle.wac_types_merge.proofs.Tracks.{greater_before, Among-either, apart_more, apart_set, set_among}
+use Rattle.wac_types_base.proofs.Looked.{among-get}
 
 -- ---- where the track of a name stands
 
@@ -96,7 +97,7 @@ module _ (old new : Imports) (a : Ask) (acyclic : IsAcyclic a.types) (stands : S
 
   module _ (mid : Collection) (j : ItemKind) (copied : IsCopy a.types mid a.kind j) (g : Grows old.types mid) (at : ℕ) (before : Import) (there : slice_get old.kept at ≡ Some before) (track : AreCompatible before.name a.name) (f : Family) (has : HasFamily a f) where
     among : Among before old.kept
-    among = Among-slice_get old.kept at before there
+    among = among-get old.kept at before there
 
     was : tree_in mid before.kind ≡ tree_in old.types before.kind
     was = tree_kept old.types mid g before.kind (sound.stand before among)
@@ -147,7 +148,7 @@ module _ (old new : Imports) (a : Ask) (acyclic : IsAcyclic a.types) (stands : S
       any : (P : Import → Type 0) → ((l : Import) → Among l old.kept → P l) → P after → (l : Import) → Among l new.kept → P l
       any P p q l n = elim (set_among old.kept at before after l there (subst (Among l) kept n)) [
         | inl e ↦ subst P (sym e) q
-        | inr e ↦ p l (Among-slice_get old.kept e.place l e.there)
+        | inr e ↦ p l (among-get old.kept e.place l e.there)
       ]
 
       pub again_sound : AreSound new

@@ -86,7 +86,7 @@ interface_type_apart c a t u s r i is h = kinds_apart c a (ItemKind.Ty t) (ItemK
 
 -- ---- instances
 
-plain_has : (n : Name) (t : Tree) (xs : Fields) → HasField n t xs → ArePlain xs → IsPlain t
+pub plain_has : (n : Name) (t : Tree) (xs : Fields) → HasField n t xs → ArePlain xs → IsPlain t
 plain_has n t (field m u xs) at_first p = p.0
 plain_has n t (field m u xs) (at_later h) p = plain_has n t xs h p.1
 plain_has n t no_fields h p = elim h [ ]

@@ -1,5 +1,5 @@
 -- What the tests of the families rest on.
-use Rattle.std.proofs.Common.{◌≡◌, ℕ, zero, suc, ◌+◌, ◌<◌, ◌≤◌, List, [], ◌∷◌, length, get_or, map, Option, Some, None, IsSome, Bool, true, false, not, IsTrue, ◌↔◌, refl, sym, ap, subst, ◌∙◌, ◌⊎◌, inl, inr, arith, below_more}
+use Rattle.std.proofs.Common.{◌≡◌, ℕ, ◌+◌, ◌<◌, ◌≤◌, List, [], ◌∷◌, length, map, Option, Some, None, IsSome, Bool, true, false, not, IsTrue, ◌↔◌, refl, sym, ap, subst, ◌∙◌, ◌⊎◌, inl, inr, arith, below_more}
 use Rattle.std.specs.Prelude.{slice_get, is_some}
 use Rattle.wac_types_base.specs.declared.item.ItemKind.{ItemKind}
 use Rattle.wac_types_base.specs.declared.item.ValueType.{ValueType}
@@ -15,9 +15,10 @@ use Rattle.wac_types_base.specs.Collection.{Slot, Stands, IsAcyclic, used, items
 use Rattle.wac_types_base.specs.Implicit.{used_interfaces, uses_in, identifier_in}
 use Rattle.wac_types_base.proofs.Adding.{Among-left}
 use Rattle.wac_types_base.proofs.Slots.{slots_interface, stands_borrow, stands_own}
-use Rattle.wac_types_base.proofs.Walking.{Among-slice_get, slice_get-Among, child_smaller}
+use Rattle.wac_types_base.proofs.Walking.{slice_get-Among, child_smaller}
 use Rattle.wac_types_fit.specs.Trees.{IsInside}
 use Rattle.wac_types_merge.specs.Families.{IsUnnamedIn, IsUsedBy, used_directly, used_further}
+use Rattle.wac_types_base.proofs.Looked.{among-get}
 
 pub some_test : {T : Type 0} (o p : Option T) (t : Bool) → t ≡ is_some o → o ≡ p → IsTrue t ↔ IsSome p
 some_test None p t e f = (λ h. absurd (cc (e, h)), λ h. absurd (cc (f, h)))
@@ -39,14 +40,6 @@ module _ {X : Type 0} (xs : List X) (Q : X → Type 0) where
 
   pub all_before : (n : ℕ) → length xs ≤ n → AllBefore xs Q n → (x : X) → Among x xs → Q x
   all_before n le h x m = let p = slice_get-Among xs x m in h p.0 x (omega (arith, le, p.1)) p.2
-
-pub at_index : {X : Type 0} (xs : List X) (i : ℕ) (d : X) → i < length xs → slice_get xs i ≡ Some (get_or xs i d)
-at_index [] i d lt = absurd (omega arith)
-at_index (y ∷ xs) zero d lt = refl
-at_index (y ∷ xs) (suc i) d lt = at_index xs i d (omega arith)
-
-pub among_index : {X : Type 0} (xs : List X) (i : ℕ) (d : X) → i < length xs → Among (get_or xs i d) xs
-among_index xs i d lt = Among-slice_get xs i (get_or xs i d) (at_index xs i d lt)
 
 -- ---- uses
 

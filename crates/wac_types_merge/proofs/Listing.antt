@@ -13,7 +13,7 @@ use Rattle.wac_types_base.specs.Stated.{identifier_of}
 use Rattle.wac_types_base.specs.Tree.{Tree}
 use Rattle.wac_types_base.proofs.Loops.{map-append, map-one_more, take-all}
 use Rattle.wac_types_base.proofs.Adding.{Among-left, Among-right}
-use Rattle.wac_types_base.proofs.Walking.{Among-slice_get, slice_get-Among}
+use Rattle.wac_types_base.proofs.Walking.{slice_get-Among}
 use Rattle.wac_types_names.specs.Tracks.{lookup_key, AreCompatible, IsLater}
 use Rattle.wac_types_names.proofs.TrackLaws.{compatible_itself, compatible_turned, compatible_joined}
 use Rattle.wac_types_fit.specs.Meets.{IsMeet}
@@ -28,9 +28,10 @@ use Rattle.wac_types_merge.specs.Families.{HasMore, IsUnplain, IsPlainItem, IsWi
 use Rattle.wac_types_merge.specs.Imports.{Imports, AreSound, AreApart, IsIdentified, IsGreater}
 use Rattle.wac_types_merge.specs.Merging.{Ask, ask_for, tree_asked, HasFamily, IsBeside, FirstAsked, AskedAgain, IsAsked, IsRefused}
 use Rattle.wac_types_merge.specs.Lists.{AllPlain, AllWit, LieIn, IsImportOf, Merges, Lent, ask_of, asks_of, AsksStand, IsListRefused}
-use Rattle.wac_types_merge.proofs.Families.{at_index}
 use Rattle.wac_types_merge.proofs.Grown.{tree_kept, stated_kept, copied_tree}
 use Rattle.wac_types_merge.proofs.Tracks.{not_later, greater_before, greater_asked, greater_still, greater_than_asked, on_track_with, same_or_not, last_among, Among-either, one_place, Elsewhere, set_among, set_there, other_there}
+use Rattle.wac_types_base.proofs.Looked.{among-get}
+use Rattle.wac_types_base.proofs.Used.{place_or}
 
 -- ---- those of a list
 
@@ -169,7 +170,7 @@ module _ (asks : List Ask) (old new : Imports) (a : Ask) (sound : AreSound old) 
 
   module _ (g : AskedAgain old new a) where
     was_among : Among g.before old.kept
-    was_among = Among-slice_get old.kept g.at g.before g.beside.there
+    was_among = among-get old.kept g.at g.before g.beside.there
 
     to_before : AreCompatible g.after.name g.before.name
     to_before = greater_before g.before.name a.name g.after.name g.beside.track g.name
@@ -204,7 +205,7 @@ module _ (asks : List Ask) (old new : Imports) (a : Ask) (sound : AreSound old) 
     again_each : (m : Import) → Among m (slice_set old.kept g.at g.after) → (on : List Ask) × IsImportOf new.types (asks ++ a ∷ []) m on
     again_each m n = elim (set_among old.kept g.at g.before g.after m g.beside.there n) [
       | inl e ↦ subst (λ (x : Import). (on : List Ask) × IsImportOf new.types (asks ++ a ∷ []) x on) (sym e) (let was = h.each g.before was_among in (was.0 ++ a ∷ [], again_import was.0 was.1))
-      | inr e ↦ not_asked m (Among-slice_get old.kept e.place m e.there) (elsewhere_apart m e)
+      | inr e ↦ not_asked m (among-get old.kept e.place m e.there) (elsewhere_apart m e)
     ]
 
     abbrev Found : Ask → Type 0
@@ -274,14 +275,14 @@ lent_among (y ∷ xs) x (inl e) = inl (ap ask_of e)
 lent_among (y ∷ xs) x (inr m) = inr (lent_among xs x m)
 
 pub lent_stands : (xs : List Lent) (i : ℕ) (x : Lent) → slice_get xs i ≡ Some x → AsksStand (asks_of xs) → Stands (ask_of x).types (ask_of x).kind
-lent_stands xs i x at h = h (ask_of x) (lent_among xs x (Among-slice_get xs i x at))
+lent_stands xs i x at h = h (ask_of x) (lent_among xs x (among-get xs i x at))
 
 -- the parts of an ask, each looked up by itself
 pub same_ask : (xs : List Lent) (i : ℕ) (d e f : Lent) → i < length xs → ask_for (get_or xs i d).0.now (get_or xs i e).1.now (get_or xs i f).2 ≡ ask_of (get_or xs i d)
 same_ask xs i d e f lt =
-    let p = at_index xs i d lt in
-    let q = at_index xs i e lt in
-    let r = at_index xs i f lt in
+    let p = place_or xs i d lt in
+    let q = place_or xs i e lt in
+    let r = place_or xs i f lt in
     let second : get_or xs i e ≡ get_or xs i d = cc (p, q) in
     let third : get_or xs i f ≡ get_or xs i d = cc (p, r) in
     ap (λ (x : Lent). ask_for (get_or xs i d).0.now x.1.now (get_or xs i f).2) second ∙ ap (λ (x : Lent). ask_for (get_or xs i d).0.now (get_or xs i d).1.now x.2) third

@@ -1,5 +1,5 @@
 -- Interfaces that are added.
-use Rattle.std.proofs.Common.{◌≡◌, ℕ, zero, suc, List, [], ◌∷◌, ◌++◌, length, map, Option, Some, None, IsSome, refl, sym, ap, subst, ◌∙◌, inl, inr, ◌⊎◌}
+use Rattle.std.proofs.Common.{◌≡◌, ℕ, zero, suc, List, [], ◌∷◌, ◌++◌, length, map, Some, refl, sym, ap, subst, ◌∙◌, inl, inr, ◌⊎◌}
 use Rattle.std.specs.Prelude.{Result, Ok, Err, OnOk, IfOk, slice_get, is_some, Bool, true, false, if◌then◌else◌}
 use Rattle.wac_types_base.specs.declared.item.«Type».{«Type» as TypeKind}
 use Rattle.wac_types_base.specs.declared.item.ItemKind.{ItemKind}
@@ -9,11 +9,11 @@ use Rattle.wac_types_base.specs.declared.defined.UsedType.{UsedType}
 use Rattle.wac_types_base.specs.Record.{Collection}
 use Rattle.wac_types_base.specs.Graph.{Among}
 use Rattle.wac_types_base.specs.Entries.{Name, value_at}
-use Rattle.wac_types_base.specs.Collection.{Entry, Slot, SlotStands, Stands, IsAcyclic, HasChildren, Grows, Shape, item_node, labelled, type_of, used, items, interface_entry}
+use Rattle.wac_types_base.specs.Collection.{Slot, SlotStands, Stands, IsAcyclic, HasChildren, Grows, item_node, type_of, used, items, interface_entry}
 use Rattle.wac_types_base.specs.Stated.{identifier_of}
 use Rattle.wac_types_base.specs.Tree.{instance, type_item, put}
 use Rattle.wac_types_base.proofs.Adding.{Among-left, Among-right}
-use Rattle.wac_types_base.proofs.Copying.{Among-All}
+use Rattle.wac_types_base.proofs.Copying.{Among-All, last_place}
 use Rattle.wac_types_base.proofs.GraphLemmas.{is_there}
 use Rattle.wac_types_base.proofs.Telling.{stated_step, child_stands}
 use Rattle.wac_types_fit.specs.Meets.{IsMeet}
@@ -24,15 +24,12 @@ use Rattle.wac_types_fit.proofs.Unfolded.{fields_in, instance_tree, interface_no
 use Rattle.wac_types_merge.specs.Interfaces.{new_in, joined, merged_interface, IsAt, IsRenamed, AllStand, UsesStand, MeetIn, AreJoined}
 use Rattle.wac_types_merge.proofs.Grown.{tree_kept}
 use Rattle.wac_types_merge.proofs.Joining.{merged_meet}
-
--- the last of a list with one more
-last_there : {X : Type 0} (xs : List X) (x : X) → slice_get (xs ++ x ∷ []) (length xs) ≡ Some x
-last_there [] x = refl
-last_there (y ∷ xs) x = last_there xs x
+use Rattle.wac_types_base.proofs.Replacing.{labelled_there}
+use Rattle.wac_types_fit.proofs.Items.{as_slot}
 
 pub added_at : (c d : Collection) (x : Interface) (i : InterfaceId) → d ≡ record c { interfaces = c.interfaces ++ x ∷ [] } → i ≡ record { collection = c.number; index = length c.interfaces } → IsAt d i x
 added_at c d x i e is =
-    subst (λ z. IsAt z i x) (sym e) (subst (λ k. IsAt (record c { interfaces = c.interfaces ++ x ∷ [] }) k x) (sym is) (record { at = last_there c.interfaces x; own = refl }))
+    subst (λ z. IsAt z i x) (sym e) (subst (λ k. IsAt (record c { interfaces = c.interfaces ++ x ∷ [] }) k x) (sym is) (record { at = last_place c.interfaces x; own = refl }))
 
 pub at_stands : (c : Collection) (i : InterfaceId) (x : Interface) → IsAt c i x → Stands c (ItemKind.Instance i)
 at_stands c i x h = is_there (item_node c (ItemKind.Instance i)) (interface_entry x) (interface_node c i x h.at h.own)
@@ -78,18 +75,13 @@ used_among [] n u m = absurd m
 used_among (x ∷ us) n u (inl e) = inl (ap (λ v. Some (ItemKind.Instance v.1.interface)) e)
 used_among (x ∷ us) n u (inr m) = inr (used_among us n u m)
 
-pub item_among : (es : List (Name × ItemKind)) (n : Name) (k : ItemKind) → Among (n, k) es → Among (Some k) (items es)
-item_among [] n k m = absurd m
-item_among (x ∷ es) n k (inl e) = inl (ap (λ v. Some v.1) e)
-item_among (x ∷ es) n k (inr m) = inr (item_among es n k m)
-
 -- what an interface that is there holds stands
 module _ (c : Collection) (a : IsAcyclic c) (i : InterfaceId) (x : Interface) (h : IsAt c i x) where
   pub uses_stand : UsesStand c x.uses
   uses_stand n u m = child_stands c a (ItemKind.Instance i) (interface_entry x) (interface_node c i x h.at h.own) (ItemKind.Instance u.interface) (Among-left (Some (ItemKind.Instance u.interface)) (used x.uses) (items x.exports) (used_among x.uses n u m))
 
   pub exports_stand : AllStand c x.exports
-  exports_stand n k m = child_stands c a (ItemKind.Instance i) (interface_entry x) (interface_node c i x h.at h.own) k (Among-right (Some k) (used x.uses) (items x.exports) (item_among x.exports n k m))
+  exports_stand n k m = child_stands c a (ItemKind.Instance i) (interface_entry x) (interface_node c i x h.at h.own) k (Among-right (Some k) (used x.uses) (items x.exports) (as_slot x.exports n k m))
 
 pub uses_kept : (c d : Collection) → Grows c d → (us : List (Name × UsedType)) → UsesStand c us → UsesStand d us
 uses_kept c d g us h n u m = g.stand (ItemKind.Instance u.interface) (h n u m)
@@ -110,13 +102,9 @@ instances_meet c d e a b g h f i j k x y both p q r m = record {
 
 -- ---- types of interfaces
 
-over : (l : Shape → Shape) (o : Option Entry) → IsSome o → IsSome (labelled l o)
-over l None h = absurd (cc h)
-over l (Some e) h = refl
-
 pub typed_stands : (c : Collection) (i : InterfaceId) → Stands c (ItemKind.Instance i) → Stands c (ItemKind.Ty (TypeKind.Interface i))
 unfolding item_node
-typed_stands c i s = over type_of (item_node c (ItemKind.Instance i)) s
+typed_stands c i s = labelled_there type_of (item_node c (ItemKind.Instance i)) s
 
 pub typed_meet : (c d : Collection) → IsAcyclic c → IsAcyclic d → (t u : TypeKind) (i j k : InterfaceId) → t ≡ TypeKind.Interface i → u ≡ TypeKind.Interface j → Stands c (ItemKind.Ty t) → Stands c (ItemKind.Ty u) → MeetIn c (ItemKind.Instance i) (ItemKind.Instance j) d (ItemKind.Instance k) → MeetIn c (ItemKind.Ty t) (ItemKind.Ty u) d (ItemKind.Ty (TypeKind.Interface k))
 typed_meet c d a b t u i j k is js s r h = record {

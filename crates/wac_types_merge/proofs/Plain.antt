@@ -14,7 +14,6 @@ use Rattle.wac_types_base.specs.Collection.{Stands, IsAcyclic, item_node, labell
 use Rattle.wac_types_base.specs.Discrete.{tree_decided}
 use Rattle.wac_types_base.specs.Reaching.{Reaches, here, below}
 use Rattle.wac_types_base.specs.Tree.{Tree, Fields, rigid, instance, component, core_module, handle_own, handle_borrow, type_item, no_fields, field, put, put_at, name_cmp}
-use Rattle.wac_types_base.specs.Fits.{HasField, at_first, at_later}
 use Rattle.wac_types_base.proofs.Adding.{option_map-some, Among-right}
 use Rattle.wac_types_base.proofs.Slots.{entry_at-is, stands_typed_interface}
 use Rattle.wac_types_base.proofs.Standing.{interface_found}
@@ -24,13 +23,13 @@ use Rattle.wac_types_fit.specs.Meets.{IsMeet, IsPlain, ArePlain}
 use Rattle.wac_types_fit.specs.Trees.{tree_in, IsInside}
 use Rattle.wac_types_fit.specs.Checking.{IsFlat}
 use Rattle.wac_types_fit.proofs.Looking.{looked-has}
-use Rattle.wac_types_fit.proofs.Items.{exports_inside}
+use Rattle.wac_types_fit.proofs.Items.{exports_inside, as_slot}
 use Rattle.wac_types_fit.proofs.ItemKinds.{IsFlatTree, flat_is}
-use Rattle.wac_types_fit.proofs.Meeting.{meet_at, put_both, with_instance, with_type, when, meet, meet_fields, meet_sound, meet_complete, meet_unique}
+use Rattle.wac_types_fit.proofs.Meeting.{meet_at, with_instance, with_type, when, meet, meet_fields, meet_sound, meet_complete, meet_unique, put_both-some}
 use Rattle.wac_types_fit.proofs.Unfolded.{fields_in, instance_tree, type_interface, interface_node, interface_size}
 use Rattle.wac_types_merge.specs.declared.family.Family.{Family}
 use Rattle.wac_types_merge.specs.Families.{IsUnplain, IsPlainItem, IsWitExport, IsWitInterface, IsWitItem, IsFamily}
-use Rattle.wac_types_merge.proofs.Placed.{item_among}
+use Rattle.wac_types_merge.proofs.Clashing.{plain_has}
 
 flat_plain : (t : Tree) → IsFlatTree t → IsPlain t
 flat_plain (rigid s r) f = tt
@@ -76,7 +75,7 @@ module _ (c : Collection) (a : IsAcyclic c) where
       subst IsPlain (sym (instance_tree c a i x at own)) (fields_plain c x.exports (λ m j q.
       let inside = exports_inside c a i x s at own m j q in
       let less = inside.1 in
-      r j (omega (arith, lt, less)) inside.0 (p j (Among-right (Some j) (used x.uses) (items x.exports) (item_among x.exports m j q)))))
+      r j (omega (arith, lt, less)) inside.0 (p j (Among-right (Some j) (used x.uses) (items x.exports) (as_slot x.exports m j q)))))
 
   plain_by_size : (n : ℕ) (k : ItemKind) → size_of c k < n → Stands c k → IsPlainItem c k → IsPlain (tree_in c k)
   plain_by_size zero k lt s p = absurd (omega arith)
@@ -139,16 +138,6 @@ when_plain : {P : Type 0} (d : Dec P) (t m : Tree) → when d t ≡ Some m → I
 when_plain (yes p) t m e h = let is : t ≡ m = cc e in subst IsPlain is h
 when_plain (no p) t m e h = absurd (cc e)
 
-both_put : (n : Name) (o : Option Tree) (p : Option Fields) (zs : Fields) → put_both n o p ≡ Some zs → (m : Tree) × (ws : Fields) × (o ≡ Some m) × (p ≡ Some ws) × (put n m ws ≡ zs)
-both_put n None p zs e = absurd (cc e)
-both_put n (Some m) None zs e = absurd (cc e)
-both_put n (Some m) (Some ws) zs e = (m, ws, refl, refl, cc e)
-
-has_plain : (n : Name) (t : Tree) (xs : Fields) → HasField n t xs → ArePlain xs → IsPlain t
-has_plain n t (field m u xs) at_first p = p.0
-has_plain n t (field m u xs) (at_later h) p = has_plain n t xs h p.1
-has_plain n t no_fields h p = elim h [ ]
-
 abbrev KeepsPlain : Tree → Type 0
 KeepsPlain t = (u m : Tree) → IsPlain t → IsPlain u → meet tree_decided t u ≡ Some m → IsPlain m
 
@@ -161,8 +150,8 @@ at_plain t m (Some u) h p q e = h u m p (q u refl) e
 
 more_plain : (n : Name) (t : Tree) (xs : Fields) → KeepsPlain t → KeepPlain xs → KeepPlain (field n t xs)
 more_plain n t xs h r ys zs p q e =
-    let b = both_put n (meet_at (meet tree_decided t) t (lookup n ys)) (meet_fields tree_decided xs ys) zs e in
-    let first = at_plain t b.0 (lookup n ys) h p.0 (λ u is. has_plain n u ys (looked-has n u ys is) q) b.2 in
+    let b = put_both-some n (meet_at (meet tree_decided t) t (lookup n ys)) (meet_fields tree_decided xs ys) zs e in
+    let first = at_plain t b.0 (lookup n ys) h p.0 (λ u is. plain_has n u ys (looked-has n u ys is) q) b.2 in
     subst ArePlain b.4 (put_plain n b.0 b.1 first (r ys b.1 p.1 q b.3))
 
 instance_plain : (xs : Fields) → KeepPlain xs → (u m : Tree) → ArePlain xs → IsPlain u → with_instance (meet_fields tree_decided xs) u ≡ Some m → IsPlain m

@@ -8,13 +8,14 @@ use Rattle.wac_types_base.specs.Graph.{Among}
 use Rattle.wac_types_base.specs.Entries.{Name}
 use Rattle.wac_types_base.proofs.GraphLemmas.{is_there}
 use Rattle.wac_types_base.proofs.Replacing.{slice_get-set_other, slice_get-set_same}
-use Rattle.wac_types_base.proofs.Walking.{Among-slice_get, slice_get-Among, some_place}
+use Rattle.wac_types_base.proofs.Walking.{slice_get-Among, some_place}
 use Rattle.wac_types_names.specs.Tracks.{lookup_key, AreCompatible, ShareTrack, IsOnTrack, IsLater}
 use Rattle.wac_types_names.specs.Versions.{version_cmp}
 use Rattle.wac_types_names.proofs.TrackLaws.{compatible_itself, compatible_turned, compatible_joined}
 use Rattle.wac_types_names.proofs.VersionOrder.{greater_trans, not_above_self}
 use Rattle.wac_types_merge.specs.declared.family.Import.{Import}
 use Rattle.wac_types_merge.specs.Imports.{AreApart, IsGreater}
+use Rattle.wac_types_base.proofs.Looked.{among-get}
 
 -- ---- later names
 
@@ -104,7 +105,7 @@ apart_set (l ∷ ms) zero m x at c a =
     (λ k n d. a.0 k n (compatible_joined l.name x.name k.name (compatible_turned x.name l.name (subst (λ (z : Import). AreCompatible x.name z.name) (sym is) c)) d), a.1)
 apart_set (l ∷ ms) (suc i) m x at c a = (
   (λ k n d. elim (set_member ms i x k n) [
-    | inl e ↦ a.0 m (Among-slice_get ms i m at) (compatible_joined l.name x.name m.name (subst (λ (z : Import). AreCompatible l.name z.name) e d) c)
+    | inl e ↦ a.0 m (among-get ms i m at) (compatible_joined l.name x.name m.name (subst (λ (z : Import). AreCompatible l.name z.name) e d) c)
     | inr p ↦ a.0 k p d
   ]),
   apart_set ms i m x at c a.1,
@@ -114,8 +115,8 @@ apart_set (l ∷ ms) (suc i) m x at c a = (
 pub one_place : (ms : List Import) (i j : ℕ) (m l : Import) → AreApart ms → slice_get ms i ≡ Some m → slice_get ms j ≡ Some l → AreCompatible m.name l.name → i ≡ j
 one_place [] i j m l a e f c = absurd (cc e)
 one_place (x ∷ ms) zero zero m l a e f c = refl
-one_place (x ∷ ms) zero (suc j) m l a e f c = let is : x ≡ m = cc e in absurd (a.0 l (Among-slice_get ms j l f) (subst (λ (z : Import). AreCompatible z.name l.name) (sym is) c))
-one_place (x ∷ ms) (suc i) zero m l a e f c = let is : x ≡ l = cc f in absurd (a.0 m (Among-slice_get ms i m e) (compatible_turned m.name x.name (subst (λ (z : Import). AreCompatible m.name z.name) (sym is) c)))
+one_place (x ∷ ms) zero (suc j) m l a e f c = let is : x ≡ m = cc e in absurd (a.0 l (among-get ms j l f) (subst (λ (z : Import). AreCompatible z.name l.name) (sym is) c))
+one_place (x ∷ ms) (suc i) zero m l a e f c = let is : x ≡ l = cc f in absurd (a.0 m (among-get ms i m e) (compatible_turned m.name x.name (subst (λ (z : Import). AreCompatible m.name z.name) (sym is) c)))
 one_place (x ∷ ms) (suc i) (suc j) m l a e f c = ap suc (one_place ms i j m l a.1 e f c)
 
 -- what stands in a list in which one was set: that one, or another from another place
@@ -142,7 +143,7 @@ set_among ms i m x l at n =
     set_place ms i p.0 x l (some_place ms i m at) p.2
 
 pub set_there : (ms : List Import) (i : ℕ) (m x : Import) → slice_get ms i ≡ Some m → Among x (slice_set ms i x)
-set_there ms i m x at = Among-slice_get (slice_set ms i x) i x (slice_get-set_same ms i x (some_place ms i m at))
+set_there ms i m x at = among-get (slice_set ms i x) i x (slice_get-set_same ms i x (some_place ms i m at))
 
 pub other_there : (ms : List Import) (i : ℕ) (x l : Import) → Elsewhere ms i l → Among l (slice_set ms i x)
-other_there ms i x l h = Among-slice_get (slice_set ms i x) h.place l (slice_get-set_other ms i h.place x h.other ∙ h.there)
+other_there ms i x l h = among-get (slice_set ms i x) h.place l (slice_get-set_other ms i h.place x h.other ∙ h.there)

@@ -100,7 +100,7 @@ one_name m n track p a b =
 
 -- ---- the order of insertion
 
-name_among : {V : Type 0} (es : List (Name × V)) (n : Name) (v : V) → Among (n, v) es → Among n (names_of es)
+pub name_among : {V : Type 0} (es : List (Name × V)) (n : Name) (v : V) → Among (n, v) es → Among n (names_of es)
 name_among [] n v a = a
 name_among (e ∷ es) n v (inl s) = inl (ap (λ x. x.0) s)
 name_among (e ∷ es) n v (inr a) = inr (name_among es n v a)

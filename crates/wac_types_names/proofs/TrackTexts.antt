@@ -121,7 +121,7 @@ one_more m n = elim (cases_lt m n) [
   | inr le ↦ le-ltb m n le ∙ sym (le-ltb (1 + m) (1 + n) (omega arith))
 ]
 
-one_longer : (n : ℕ) → 1 + n ≡ suc n
+pub one_longer : (n : ℕ) → 1 + n ≡ suc n
 one_longer n = omega arith
 
 has_at : (name : Name) → list_any is_at name ≡ nat_lt (position_or_len is_at name) (length name)

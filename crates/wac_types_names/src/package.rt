@@ -15,7 +15,6 @@ use std::marker::Model;
 use wac_types_base::{InterfaceId, ItemKind, NamedMap, TypesMut, WorldId};
 
 /// A package: a component with its name, its version and its world.
-#[derive(Drop)]
 pub struct Package {
     name: String,
     version: Option<Version>,
@@ -23,6 +22,19 @@ pub struct Package {
     ty: WorldId,
     instance_type: InterfaceId,
     definitions: NamedMap<ItemKind>,
+}
+
+impl Drop for Package {
+    fn drop(self) {
+        let Package {
+            name: _,
+            version: _,
+            bytes: _,
+            ty: _,
+            instance_type: _,
+            definitions: _,
+        } = self;
+    }
 }
 
 impl Model for Package {

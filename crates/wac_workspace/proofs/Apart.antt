@@ -1,5 +1,5 @@
 -- Packages that are apart, and one more of them.
-use Rattle.std.proofs.Common.{◌≡◌, ◌≢◌, ℕ, suc, All, arith, List, [], ◌∷◌, ◌++◌, true, false, Bool, refl, sym, ap, ◌∙◌, subst, inl, inr, ◌⊎◌}
+use Rattle.std.proofs.Common.{◌≡◌, ◌≢◌, ℕ, List, [], ◌∷◌, ◌++◌, true, false, Bool, refl, sym, ap, ◌∙◌, subst, inl, inr, ◌⊎◌}
 use Rattle.wac_types_base.specs.Graph.{Among}
 use Rattle.wac_workspace.specs.declared.entries.Entry.{Entry}
 use Rattle.wac_types_names.specs.Keys.{Key}
@@ -42,9 +42,3 @@ apart_output ps p m made origin h key bytes = apart_push ps p h (λ q a. record 
   keys = λ e. key (q, a, sym e ∙ made.key);
   outputs = λ e. (origin, by_origin ps q m.bytes a bytes (sym e ∙ made.bytes));
 })
-
--- what holds of each element holds of one of them
-pub each_of : {X : Type 0} (P : X → Type 0) (xs : List X) (x : X) → All P xs → Among x xs → P x
-each_of P [] x h a = absurd a
-each_of P (y ∷ ys) x h (inl e) = subst P (sym e) (h 0 y (omega arith))
-each_of P (y ∷ ys) x h (inr a) = each_of P ys x (λ k d l. h (suc k) d (omega (arith, l))) a

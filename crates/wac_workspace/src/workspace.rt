@@ -8,11 +8,20 @@ use wac_parser_resolve::PackageRef;
 
 /// Handed components and composed outputs, and the number that the next collection of types will have. Each has its world
 /// in a collection of its own.
-#[derive(Drop)]
 pub struct Workspace {
     pub(crate) alloc: Global,
     pub(crate) next: u64,
     pub(crate) entries: Vec<Entry>,
+}
+
+impl Drop for Workspace {
+    fn drop(self) {
+        let Workspace {
+            alloc: _,
+            next: _,
+            entries: _,
+        } = self;
+    }
 }
 
 impl Model for Workspace {

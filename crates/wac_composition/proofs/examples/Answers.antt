@@ -87,3 +87,15 @@ returns-clause-keeps_identifiers c = refl
 pub returns-clause-drops_identifiers : goal.returns-clause-drops_identifiers
 unfolding read_version version_of version_cmp semver_on_literals
 returns-clause-drops_identifiers c = refl
+
+pub returns-clause-circle_in_order : goal.returns-clause-circle_in_order
+unfolding read_version version_of version_cmp semver_on_literals
+returns-clause-circle_in_order c = refl
+
+pub returns-clause-circle_of_values : goal.returns-clause-circle_of_values
+unfolding read_version version_of version_cmp semver_on_literals
+returns-clause-circle_of_values c = refl
+
+pub returns-clause-circle_with_resource : goal.returns-clause-circle_with_resource
+unfolding read_version version_of version_cmp semver_on_literals
+returns-clause-circle_with_resource c = refl

@@ -2,8 +2,9 @@ use Rattle.std.proofs.Common.{◌≤◌, length, take, subst}
 use Rattle.wac_types_base.specs.Entries.{texts_of}
 use Rattle.wac_graph_plug.specs.Steps.{ExportsAll, exported_none}
 use Rattle.wac_graph_plug.proofs.Growing.{Grown-refl, Grown-trans, HasExport-grown}
-use Rattle.wac_graph_plug.proofs.Calls.{text_index, among_index, exports_next, texts_all}
+use Rattle.wac_graph_plug.proofs.Calls.{text_index, exports_next, texts_all}
 use Rattle.wac_graph_plug.proofs.plugging.export_all.Goals as goal
+use Rattle.wac_types_base.proofs.Looked.{among-get}
 
 pub loop-name-init : goal.loop-name-init
 loop-name-init c = (exported_none, Grown-refl c.args.graph.now)
@@ -12,7 +13,7 @@ pub export_one-requires : goal.export_one-requires
 export_one-requires c =
     let at = text_index c.args.names.now c.loop-name.name-index c.name-item.result c.as_str.result.now c.loop-name-test.true c.name-item.is c.as_str.ensures.value in
     HasExport-grown c.args.graph.now c.loop-name.graph c.loop-name.invariant.1 c.args.socket c.as_str.result.now
-    (c.requires c.as_str.result.now (among_index (texts_of c.args.names.now) c.loop-name.name-index c.as_str.result.now at))
+    (c.requires c.as_str.result.now (among-get (texts_of c.args.names.now) c.loop-name.name-index c.as_str.result.now at))
 
 pub loop-name-preserved : goal.loop-name-preserved
 loop-name-preserved c =

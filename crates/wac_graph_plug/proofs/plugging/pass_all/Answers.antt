@@ -2,8 +2,10 @@ use Rattle.std.proofs.Common.{◌≤◌, length, take, subst}
 use Rattle.std.proofs.lemmas.List.{take_all}
 use Rattle.wac_graph_plug.specs.Steps.{PassesAll, passed_none}
 use Rattle.wac_graph_plug.proofs.Growing.{Grown-refl, Grown-trans, ContainsNode-grown, HasExport-grown}
-use Rattle.wac_graph_plug.proofs.Calls.{at_index, among_index, passes_next}
+use Rattle.wac_graph_plug.proofs.Calls.{passes_next}
 use Rattle.wac_graph_plug.proofs.plugging.pass_all.Goals as goal
+use Rattle.wac_types_base.proofs.Looked.{among-get}
+use Rattle.wac_types_base.proofs.Loops.{get-place}
 
 pub loop-one-init : goal.loop-one-init
 loop-one-init c = (passed_none, Grown-refl c.args.graph.now)
@@ -13,9 +15,9 @@ pass-requires-clause-socket c = ContainsNode-grown c.args.graph.now c.loop-one.g
 
 pub pass-requires-clause-plug : goal.pass-requires-clause-plug
 pass-requires-clause-plug c =
-    let at = at_index c.args.matches.now c.loop-one.one-index c.one-item.result c.loop-one-test.true c.one-item.is in
+    let at = get-place c.args.matches.now c.loop-one.one-index c.one-item.result c.loop-one-test.true c.one-item.is in
     HasExport-grown c.args.graph.now c.loop-one.graph c.loop-one.invariant.1 c.args.plug c.one-item.result.export
-    (c.requires.plug c.one-item.result (among_index c.args.matches.now c.loop-one.one-index c.one-item.result at))
+    (c.requires.plug c.one-item.result (among-get c.args.matches.now c.loop-one.one-index c.one-item.result at))
 
 pub loop-one-preserved : goal.loop-one-preserved
 loop-one-preserved c = (
@@ -28,7 +30,7 @@ returns-in-Err-clause-stopped c =
     record {
       place = c.loop-one.one-index;
       at = c.one-item.result;
-      there = at_index c.args.matches.now c.loop-one.one-index c.one-item.result c.loop-one-test.true c.one-item.is;
+      there = get-place c.args.matches.now c.loop-one.one-index c.one-item.result c.loop-one-test.true c.one-item.is;
       middle = c.loop-one.graph;
       before = c.loop-one.invariant.0;
       stops = c.in-Err.ensures.stopped;

@@ -3,8 +3,10 @@ use Rattle.wac_graph_core.specs.declared.ids.PackageId.{PackageId}
 use Rattle.std.proofs.lemmas.List.{take_all}
 use Rattle.wac_graph_plug.specs.Stops.{PlugsAll}
 use Rattle.wac_graph_plug.proofs.Growing.{Grown-refl, Grown-trans, ContainsNode-grown, ContainsPackage-grown}
-use Rattle.wac_graph_plug.proofs.Calls.{at_index, among_index, own_default, plugs_start, plugs_next}
+use Rattle.wac_graph_plug.proofs.Calls.{own_default, plugs_start, plugs_next}
 use Rattle.wac_graph_plug.proofs.plugging.plug_each.Goals as goal
+use Rattle.wac_types_base.proofs.Looked.{among-get}
+use Rattle.wac_types_base.proofs.Loops.{get-place}
 
 pub loop-plug-init : goal.loop-plug-init
 loop-plug-init c = (plugs_start c.args.graph.now c.args.socket c.args.instance, Grown-refl c.args.graph.now)
@@ -16,8 +18,8 @@ pub plug_one-requires-clause-plug : goal.plug_one-requires-clause-plug
 plug_one-requires-clause-plug c =
     let id : PackageId = get_or c.args.plugs.now c.loop-plug.plug-index (record { place = 0; generation = 0 }) in
     let is : id ≡ get_or c.args.plugs.now c.loop-plug.plug-index id = own_default c.args.plugs.now c.loop-plug.plug-index (record { place = 0; generation = 0 }) id c.loop-plug-test.true in
-    let at = at_index c.args.plugs.now c.loop-plug.plug-index id c.loop-plug-test.true is in
-    ContainsPackage-grown c.args.graph.now c.loop-plug.graph c.loop-plug.invariant.1 id (c.requires.plugs id (among_index c.args.plugs.now c.loop-plug.plug-index id at))
+    let at = get-place c.args.plugs.now c.loop-plug.plug-index id c.loop-plug-test.true is in
+    ContainsPackage-grown c.args.graph.now c.loop-plug.graph c.loop-plug.invariant.1 id (c.requires.plugs id (among-get c.args.plugs.now c.loop-plug.plug-index id at))
 
 pub plug_one-requires-clause-instance : goal.plug_one-requires-clause-instance
 plug_one-requires-clause-instance c = ContainsNode-grown c.args.graph.now c.loop-plug.graph c.loop-plug.invariant.1 c.args.instance c.requires.instance
@@ -26,7 +28,7 @@ pub loop-plug-preserved : goal.loop-plug-preserved
 loop-plug-preserved c =
     let id : PackageId = get_or c.args.plugs.now c.loop-plug.plug-index (record { place = 0; generation = 0 }) in
     let is : id ≡ get_or c.args.plugs.now c.loop-plug.plug-index id = own_default c.args.plugs.now c.loop-plug.plug-index (record { place = 0; generation = 0 }) id c.loop-plug-test.true in
-    let at = at_index c.args.plugs.now c.loop-plug.plug-index id c.loop-plug-test.true is in (
+    let at = get-place c.args.plugs.now c.loop-plug.plug-index id c.loop-plug-test.true is in (
       plugs_next c.args.graph.now c.loop-plug.graph c.plug_one.new.graph c.args.socket c.args.plugs.now c.loop-plug.plug-index id c.args.instance c.loop-plug.happened c.in-Ok.yes c.either-happened.result c.loop-plug-test.true is
           c.loop-plug.invariant.1 c.loop-plug.invariant.0 c.in-Ok.ensures.plugged c.either-happened.ensures,
       Grown-trans c.args.graph.now c.loop-plug.graph c.plug_one.new.graph c.loop-plug.invariant.1 c.plug_one.ensures.grown,
@@ -36,7 +38,7 @@ pub returns-in-Err-clause-stopped : goal.returns-in-Err-clause-stopped
 returns-in-Err-clause-stopped c =
     let id : PackageId = get_or c.args.plugs.now c.loop-plug.plug-index (record { place = 0; generation = 0 }) in
     let is : id ≡ get_or c.args.plugs.now c.loop-plug.plug-index id = own_default c.args.plugs.now c.loop-plug.plug-index (record { place = 0; generation = 0 }) id c.loop-plug-test.true in
-    let at = at_index c.args.plugs.now c.loop-plug.plug-index id c.loop-plug-test.true is in
+    let at = get-place c.args.plugs.now c.loop-plug.plug-index id c.loop-plug-test.true is in
     elim c.in-Err.ensures.stopped [
       | inl m ↦ inl m
       | inr r ↦ inr (record {

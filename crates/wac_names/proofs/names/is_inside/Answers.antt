@@ -1,8 +1,7 @@
 use Rattle.std.proofs.Common.{sym, ◌∙◌}
 use Rattle.std.specs.Prelude.{◌==◌}
-use Rattle.std.proofs.lemmas.Bool.{and_from}
+use Rattle.std.proofs.lemmas.Bool.{and_from, and_parts}
 use Rattle.std.proofs.lemmas.Bool.Decides.{Decides-eqb}
-use Rattle.wac_names.proofs.Parts.{and_parts}
 use Rattle.wac_names.proofs.NameKinds.{inside_decides}
 use Rattle.wac_names.proofs.names.is_inside.Goals as goal
 

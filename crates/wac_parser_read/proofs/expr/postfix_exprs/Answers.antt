@@ -7,10 +7,10 @@ use Rattle.wac_parser_grammar.specs.ValueTypes.{through}
 use Rattle.wac_parser_grammar.specs.Ahead.{sees_any}
 use Rattle.wac_parser_grammar.specs.Rules.{left, read_while}
 use Rattle.wac_parser_grammar.specs.Expressions.{postfix_expr, postfix_first, spanning}
-use Rattle.wac_parser_read.proofs.Behind.{goes_further}
 use Rattle.wac_parser_grammar.proofs.Lists.{begun_some}
 use Rattle.wac_parser_read.proofs.Whiles.{goes_while, While-more, While-ends, While-fails, spanning_more}
 use Rattle.wac_parser_read.proofs.expr.postfix_exprs.Goals as goal
+use Rattle.wac_parser_grammar.proofs.Faithful.{behind_trans}
 
 pub returns-in_err-access-clause-value : goal.returns-in_err-access-clause-value
 returns-in_err-access-clause-value c =
@@ -25,7 +25,7 @@ postfix-preserved c = record {
       (While-more postfix_expr.read (sees_any postfix_first) (read_while postfix_expr.read postfix_first) (goes_while postfix_expr.read postfix_first) (map view_postfix_expr c.postfix.postfix.items) c.postfix.lexer c.postfix_expr.new.lexer c.args.lexer.now (view_postfix_expr c.in_ok-access.access) (length c.postfix.postfix.items)
       c.postfix.invariant.reads (sym c.sees_any.ensures ∙ c.postfix-test.true) c.in_ok-access.ensures.value n);
   room = rw (c.in_ok-push.ensures.items, length-append) (omega (arith, c.postfix.invariant.room, c.in_ok-access.ensures.takes));
-  place = goes_further c.postfix_expr.new.lexer c.postfix.lexer c.args.lexer.now c.postfix_expr.ensures.goes_on c.postfix.invariant.place;
+  place = behind_trans c.postfix_expr.new.lexer c.postfix.lexer c.args.lexer.now c.postfix_expr.ensures.goes_on c.postfix.invariant.place;
   span =
       (let e : map view_postfix_expr c.push.new.self.items ≡ map view_postfix_expr c.postfix.postfix.items ++ view_postfix_expr c.in_ok-access.access ∷ [] =
       rw (c.in_ok-push.ensures.items) (map-append view_postfix_expr c.postfix.postfix.items (c.in_ok-access.access ∷ [])) in

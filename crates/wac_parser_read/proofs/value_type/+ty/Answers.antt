@@ -5,10 +5,11 @@ use Rattle.wac_parser_lexer.specs.declared.token.Token.TheVariants as k
 use Rattle.wac_parser_tree.specs.Views.{view_ty}
 use Rattle.wac_parser_grammar.specs.Rules.{left}
 use Rattle.wac_parser_grammar.specs.ValueTypes.{ty, ty_level, composed_ty, type_first}
-use Rattle.wac_parser_read.proofs.Behind.{goes_further, stays}
+use Rattle.wac_parser_read.proofs.Behind.{stays}
 use Rattle.wac_parser_grammar.proofs.Lists.{deeper, Rests-more, Rests-ends, Rests-begins_not, Rests-fails, Rests-fails_behind, begun_some}
 use Rattle.wac_parser_read.proofs.Types.{too_deep_reads, taken_type, passed_type}
 use Rattle.wac_parser_read.proofs.value_type.+ty.Goals as goal
+use Rattle.wac_parser_grammar.proofs.Faithful.{behind_trans}
 
 pub ty_within-returns-then-levels-eq0-clause-value : goal.ty_within-returns-then-levels-eq0-clause-value
 unfolding ty
@@ -47,7 +48,7 @@ types-types-preserved t c = record {
       (Rests-more (ty c.args.inside).read type_first k.CloseAngle true (map view_ty c.types.types.items) c.types.lexer c.ty_within.new.lexer c.behind.new.lexer c.args.lexer.now (view_ty c.in_ok-ty_within.field-0) (length c.types.types.items)
       c.types.invariant.reads (sym c.sees.ensures ∙ c.types-test.true) c.in_ok-expect_value.ensures.some c.in_ok-ty_within.ensures.value c.in_ok-behind.ensures.value n);
   room = rw (c.in_ok-push.ensures.items, length-append) (omega (arith, c.types.invariant.room, c.in_ok-ty_within.ensures.takes, c.in_ok-behind.ensures.keeps));
-  place = goes_further c.behind.new.lexer c.ty_within.new.lexer c.args.lexer.now c.behind.ensures.goes_on (goes_further c.ty_within.new.lexer c.types.lexer c.args.lexer.now c.ty_within.ensures.goes_on c.types.invariant.place);
+  place = behind_trans c.behind.new.lexer c.ty_within.new.lexer c.args.lexer.now c.behind.ensures.goes_on (behind_trans c.ty_within.new.lexer c.types.lexer c.args.lexer.now c.ty_within.ensures.goes_on c.types.invariant.place);
 }
 
 pub types-returns-in_err-behind-clause-value : goal.types-returns-in_err-behind-clause-value
@@ -63,135 +64,135 @@ types-returns-clause-value t c =
     c.types.invariant.reads (omega (arith, c.types.invariant.room)) (sym c.sees.ensures ∙ c.types-test.false)
 
 pub tuple_ty-returns-in_err-parse_token-clause-goes_on : goal.tuple_ty-returns-in_err-parse_token-clause-goes_on
-tuple_ty-returns-in_err-parse_token-clause-goes_on t c = goes_further _ _ _ c.parse_token-2.ensures.goes_on c.parse_token.ensures.goes_on
+tuple_ty-returns-in_err-parse_token-clause-goes_on t c = behind_trans _ _ _ c.parse_token-2.ensures.goes_on c.parse_token.ensures.goes_on
 
 pub tuple_ty-returns-then-not-sees_any-clause-goes_on : goal.tuple_ty-returns-then-not-sees_any-clause-goes_on
-tuple_ty-returns-then-not-sees_any-clause-goes_on t c = goes_further _ _ _ c.parse_token-2.ensures.goes_on c.parse_token.ensures.goes_on
+tuple_ty-returns-then-not-sees_any-clause-goes_on t c = behind_trans _ _ _ c.parse_token-2.ensures.goes_on c.parse_token.ensures.goes_on
 
 pub tuple_ty-returns-in_err-types-clause-goes_on : goal.tuple_ty-returns-in_err-types-clause-goes_on
 tuple_ty-returns-in_err-types-clause-goes_on t c =
-    goes_further _ _ _ c.types.ensures.goes_on
-    (goes_further _ _ _ c.parse_token-2.ensures.goes_on c.parse_token.ensures.goes_on)
+    behind_trans _ _ _ c.types.ensures.goes_on
+    (behind_trans _ _ _ c.parse_token-2.ensures.goes_on c.parse_token.ensures.goes_on)
 
 pub tuple_ty-returns-in_err-close-clause-goes_on : goal.tuple_ty-returns-in_err-close-clause-goes_on
 tuple_ty-returns-in_err-close-clause-goes_on t c =
-    goes_further _ _ _ c.parse_token-3.ensures.goes_on
-    (goes_further _ _ _ c.types.ensures.goes_on
-    (goes_further _ _ _ c.parse_token-2.ensures.goes_on c.parse_token.ensures.goes_on))
+    behind_trans _ _ _ c.parse_token-3.ensures.goes_on
+    (behind_trans _ _ _ c.types.ensures.goes_on
+    (behind_trans _ _ _ c.parse_token-2.ensures.goes_on c.parse_token.ensures.goes_on))
 
 pub tuple_ty-returns-clause-goes_on : goal.tuple_ty-returns-clause-goes_on
 tuple_ty-returns-clause-goes_on t c =
-    goes_further _ _ _ c.parse_token-3.ensures.goes_on
-    (goes_further _ _ _ c.types.ensures.goes_on
-    (goes_further _ _ _ c.parse_token-2.ensures.goes_on c.parse_token.ensures.goes_on))
+    behind_trans _ _ _ c.parse_token-3.ensures.goes_on
+    (behind_trans _ _ _ c.types.ensures.goes_on
+    (behind_trans _ _ _ c.parse_token-2.ensures.goes_on c.parse_token.ensures.goes_on))
 
 pub list_ty-returns-in_err-parse_token-clause-goes_on : goal.list_ty-returns-in_err-parse_token-clause-goes_on
-list_ty-returns-in_err-parse_token-clause-goes_on t c = goes_further _ _ _ c.parse_token-2.ensures.goes_on c.parse_token.ensures.goes_on
+list_ty-returns-in_err-parse_token-clause-goes_on t c = behind_trans _ _ _ c.parse_token-2.ensures.goes_on c.parse_token.ensures.goes_on
 
 pub list_ty-returns-in_err-ty-clause-goes_on : goal.list_ty-returns-in_err-ty-clause-goes_on
 list_ty-returns-in_err-ty-clause-goes_on t c =
-    goes_further _ _ _ c.ty_within.ensures.goes_on
-    (goes_further _ _ _ c.parse_token-2.ensures.goes_on c.parse_token.ensures.goes_on)
+    behind_trans _ _ _ c.ty_within.ensures.goes_on
+    (behind_trans _ _ _ c.parse_token-2.ensures.goes_on c.parse_token.ensures.goes_on)
 
 pub list_ty-returns-in_err-close-clause-goes_on : goal.list_ty-returns-in_err-close-clause-goes_on
 list_ty-returns-in_err-close-clause-goes_on t c =
-    goes_further _ _ _ c.parse_token-3.ensures.goes_on
-    (goes_further _ _ _ c.ty_within.ensures.goes_on
-    (goes_further _ _ _ c.parse_token-2.ensures.goes_on c.parse_token.ensures.goes_on))
+    behind_trans _ _ _ c.parse_token-3.ensures.goes_on
+    (behind_trans _ _ _ c.ty_within.ensures.goes_on
+    (behind_trans _ _ _ c.parse_token-2.ensures.goes_on c.parse_token.ensures.goes_on))
 
 pub list_ty-returns-in_err-new-clause-goes_on : goal.list_ty-returns-in_err-new-clause-goes_on
 list_ty-returns-in_err-new-clause-goes_on t c =
-    goes_further _ _ _ c.parse_token-3.ensures.goes_on
-    (goes_further _ _ _ c.ty_within.ensures.goes_on
-    (goes_further _ _ _ c.parse_token-2.ensures.goes_on c.parse_token.ensures.goes_on))
+    behind_trans _ _ _ c.parse_token-3.ensures.goes_on
+    (behind_trans _ _ _ c.ty_within.ensures.goes_on
+    (behind_trans _ _ _ c.parse_token-2.ensures.goes_on c.parse_token.ensures.goes_on))
 
 pub list_ty-returns-clause-goes_on : goal.list_ty-returns-clause-goes_on
 list_ty-returns-clause-goes_on t c =
-    goes_further _ _ _ c.parse_token-3.ensures.goes_on
-    (goes_further _ _ _ c.ty_within.ensures.goes_on
-    (goes_further _ _ _ c.parse_token-2.ensures.goes_on c.parse_token.ensures.goes_on))
+    behind_trans _ _ _ c.parse_token-3.ensures.goes_on
+    (behind_trans _ _ _ c.ty_within.ensures.goes_on
+    (behind_trans _ _ _ c.parse_token-2.ensures.goes_on c.parse_token.ensures.goes_on))
 
 pub option_ty-returns-in_err-parse_token-clause-goes_on : goal.option_ty-returns-in_err-parse_token-clause-goes_on
-option_ty-returns-in_err-parse_token-clause-goes_on t c = goes_further _ _ _ c.parse_token-2.ensures.goes_on c.parse_token.ensures.goes_on
+option_ty-returns-in_err-parse_token-clause-goes_on t c = behind_trans _ _ _ c.parse_token-2.ensures.goes_on c.parse_token.ensures.goes_on
 
 pub option_ty-returns-in_err-ty-clause-goes_on : goal.option_ty-returns-in_err-ty-clause-goes_on
 option_ty-returns-in_err-ty-clause-goes_on t c =
-    goes_further _ _ _ c.ty_within.ensures.goes_on
-    (goes_further _ _ _ c.parse_token-2.ensures.goes_on c.parse_token.ensures.goes_on)
+    behind_trans _ _ _ c.ty_within.ensures.goes_on
+    (behind_trans _ _ _ c.parse_token-2.ensures.goes_on c.parse_token.ensures.goes_on)
 
 pub option_ty-returns-in_err-close-clause-goes_on : goal.option_ty-returns-in_err-close-clause-goes_on
 option_ty-returns-in_err-close-clause-goes_on t c =
-    goes_further _ _ _ c.parse_token-3.ensures.goes_on
-    (goes_further _ _ _ c.ty_within.ensures.goes_on
-    (goes_further _ _ _ c.parse_token-2.ensures.goes_on c.parse_token.ensures.goes_on))
+    behind_trans _ _ _ c.parse_token-3.ensures.goes_on
+    (behind_trans _ _ _ c.ty_within.ensures.goes_on
+    (behind_trans _ _ _ c.parse_token-2.ensures.goes_on c.parse_token.ensures.goes_on))
 
 pub option_ty-returns-in_err-new-clause-goes_on : goal.option_ty-returns-in_err-new-clause-goes_on
 option_ty-returns-in_err-new-clause-goes_on t c =
-    goes_further _ _ _ c.parse_token-3.ensures.goes_on
-    (goes_further _ _ _ c.ty_within.ensures.goes_on
-    (goes_further _ _ _ c.parse_token-2.ensures.goes_on c.parse_token.ensures.goes_on))
+    behind_trans _ _ _ c.parse_token-3.ensures.goes_on
+    (behind_trans _ _ _ c.ty_within.ensures.goes_on
+    (behind_trans _ _ _ c.parse_token-2.ensures.goes_on c.parse_token.ensures.goes_on))
 
 pub option_ty-returns-clause-goes_on : goal.option_ty-returns-clause-goes_on
 option_ty-returns-clause-goes_on t c =
-    goes_further _ _ _ c.parse_token-3.ensures.goes_on
-    (goes_further _ _ _ c.ty_within.ensures.goes_on
-    (goes_further _ _ _ c.parse_token-2.ensures.goes_on c.parse_token.ensures.goes_on))
+    behind_trans _ _ _ c.parse_token-3.ensures.goes_on
+    (behind_trans _ _ _ c.ty_within.ensures.goes_on
+    (behind_trans _ _ _ c.parse_token-2.ensures.goes_on c.parse_token.ensures.goes_on))
 
 pub result_ty-returns-in_err-optional-clause-goes_on : goal.result_ty-returns-in_err-optional-clause-goes_on
-result_ty-returns-in_err-optional-clause-goes_on t c = goes_further _ _ _ c.optional.ensures.goes_on c.parse_token.ensures.goes_on
+result_ty-returns-in_err-optional-clause-goes_on t c = behind_trans _ _ _ c.optional.ensures.goes_on c.parse_token.ensures.goes_on
 
 pub result_ty-returns-then-not-branch-clause-goes_on : goal.result_ty-returns-then-not-branch-clause-goes_on
-result_ty-returns-then-not-branch-clause-goes_on t c = goes_further _ _ _ c.optional.ensures.goes_on c.parse_token.ensures.goes_on
+result_ty-returns-then-not-branch-clause-goes_on t c = behind_trans _ _ _ c.optional.ensures.goes_on c.parse_token.ensures.goes_on
 
 pub result_ty-returns-in_err-ok-clause-goes_on : goal.result_ty-returns-in_err-ok-clause-goes_on
 result_ty-returns-in_err-ok-clause-goes_on t c =
-    goes_further _ _ _ c.omitted_or.ensures.goes_on
-    (goes_further _ _ _ c.optional.ensures.goes_on c.parse_token.ensures.goes_on)
+    behind_trans _ _ _ c.omitted_or.ensures.goes_on
+    (behind_trans _ _ _ c.optional.ensures.goes_on c.parse_token.ensures.goes_on)
 
 pub result_ty-returns-in_err-err-clause-goes_on : goal.result_ty-returns-in_err-err-clause-goes_on
 result_ty-returns-in_err-err-clause-goes_on t c =
-    goes_further _ _ _ c.second_part.ensures.goes_on
-    (goes_further _ _ _ c.omitted_or.ensures.goes_on
-    (goes_further _ _ _ c.optional.ensures.goes_on c.parse_token.ensures.goes_on))
+    behind_trans _ _ _ c.second_part.ensures.goes_on
+    (behind_trans _ _ _ c.omitted_or.ensures.goes_on
+    (behind_trans _ _ _ c.optional.ensures.goes_on c.parse_token.ensures.goes_on))
 
 pub result_ty-returns-in_err-close-clause-goes_on : goal.result_ty-returns-in_err-close-clause-goes_on
 result_ty-returns-in_err-close-clause-goes_on t c =
-    goes_further _ _ _ c.parse_token-2.ensures.goes_on
-    (goes_further _ _ _ c.second_part.ensures.goes_on
-    (goes_further _ _ _ c.omitted_or.ensures.goes_on
-    (goes_further _ _ _ c.optional.ensures.goes_on c.parse_token.ensures.goes_on)))
+    behind_trans _ _ _ c.parse_token-2.ensures.goes_on
+    (behind_trans _ _ _ c.second_part.ensures.goes_on
+    (behind_trans _ _ _ c.omitted_or.ensures.goes_on
+    (behind_trans _ _ _ c.optional.ensures.goes_on c.parse_token.ensures.goes_on)))
 
 pub result_ty-returns-clause-goes_on : goal.result_ty-returns-clause-goes_on
 result_ty-returns-clause-goes_on t c =
-    goes_further _ _ _ c.parse_token-2.ensures.goes_on
-    (goes_further _ _ _ c.second_part.ensures.goes_on
-    (goes_further _ _ _ c.omitted_or.ensures.goes_on
-    (goes_further _ _ _ c.optional.ensures.goes_on c.parse_token.ensures.goes_on)))
+    behind_trans _ _ _ c.parse_token-2.ensures.goes_on
+    (behind_trans _ _ _ c.second_part.ensures.goes_on
+    (behind_trans _ _ _ c.omitted_or.ensures.goes_on
+    (behind_trans _ _ _ c.optional.ensures.goes_on c.parse_token.ensures.goes_on)))
 
 pub payload-returns-in_err-ty-clause-goes_on : goal.payload-returns-in_err-ty-clause-goes_on
-payload-returns-in_err-ty-clause-goes_on t c = goes_further _ _ _ c.boxed_ty.ensures.goes_on c.optional.ensures.goes_on
+payload-returns-in_err-ty-clause-goes_on t c = behind_trans _ _ _ c.boxed_ty.ensures.goes_on c.optional.ensures.goes_on
 
 pub payload-returns-in_err-close-clause-goes_on : goal.payload-returns-in_err-close-clause-goes_on
 payload-returns-in_err-close-clause-goes_on t c =
-    goes_further _ _ _ c.parse_token.ensures.goes_on
-    (goes_further _ _ _ c.boxed_ty.ensures.goes_on c.optional.ensures.goes_on)
+    behind_trans _ _ _ c.parse_token.ensures.goes_on
+    (behind_trans _ _ _ c.boxed_ty.ensures.goes_on c.optional.ensures.goes_on)
 
 pub payload-returns-clause-goes_on : goal.payload-returns-clause-goes_on
 payload-returns-clause-goes_on t c =
-    goes_further _ _ _ c.parse_token.ensures.goes_on
-    (goes_further _ _ _ c.boxed_ty.ensures.goes_on c.optional.ensures.goes_on)
+    behind_trans _ _ _ c.parse_token.ensures.goes_on
+    (behind_trans _ _ _ c.boxed_ty.ensures.goes_on c.optional.ensures.goes_on)
 
 pub stream_ty-returns-in_err-ty-clause-goes_on : goal.stream_ty-returns-in_err-ty-clause-goes_on
-stream_ty-returns-in_err-ty-clause-goes_on t c = goes_further _ _ _ c.payload.ensures.goes_on c.parse_token.ensures.goes_on
+stream_ty-returns-in_err-ty-clause-goes_on t c = behind_trans _ _ _ c.payload.ensures.goes_on c.parse_token.ensures.goes_on
 
 pub stream_ty-returns-clause-goes_on : goal.stream_ty-returns-clause-goes_on
-stream_ty-returns-clause-goes_on t c = goes_further _ _ _ c.payload.ensures.goes_on c.parse_token.ensures.goes_on
+stream_ty-returns-clause-goes_on t c = behind_trans _ _ _ c.payload.ensures.goes_on c.parse_token.ensures.goes_on
 
 pub future_ty-returns-in_err-ty-clause-goes_on : goal.future_ty-returns-in_err-ty-clause-goes_on
-future_ty-returns-in_err-ty-clause-goes_on t c = goes_further _ _ _ c.payload.ensures.goes_on c.parse_token.ensures.goes_on
+future_ty-returns-in_err-ty-clause-goes_on t c = behind_trans _ _ _ c.payload.ensures.goes_on c.parse_token.ensures.goes_on
 
 pub future_ty-returns-clause-goes_on : goal.future_ty-returns-clause-goes_on
-future_ty-returns-clause-goes_on t c = goes_further _ _ _ c.payload.ensures.goes_on c.parse_token.ensures.goes_on
+future_ty-returns-clause-goes_on t c = behind_trans _ _ _ c.payload.ensures.goes_on c.parse_token.ensures.goes_on
 
 pub composed_ty-returns-else-sees-8-clause-goes_on : goal.composed_ty-returns-else-sees-8-clause-goes_on
 composed_ty-returns-else-sees-8-clause-goes_on t c = stays _

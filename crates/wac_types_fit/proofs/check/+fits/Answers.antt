@@ -2,7 +2,6 @@ use Rattle.std.proofs.Common.{refl, sym, ap, subst, ◌∙◌, arith}
 use Rattle.wac_types_base.specs.declared.item.ItemKind.{ItemKind}
 use Rattle.wac_types_base.specs.Collection.{Stands}
 use Rattle.wac_types_base.specs.Fits.{Fits}
-use Rattle.wac_types_base.proofs.Walking.{Among-slice_get}
 use Rattle.wac_types_fit.specs.Errors.{steps_of}
 use Rattle.wac_types_fit.specs.Frames.{Disagree}
 use Rattle.wac_types_fit.specs.Trees.{tree_in}
@@ -13,6 +12,7 @@ use Rattle.wac_types_fit.proofs.Items.{exports_inside, world_imports_inside, wor
 use Rattle.wac_types_fit.proofs.Numbered.{remember_true, only_trans, only_more, true_turned, apart_turned}
 use Rattle.wac_types_fit.proofs.Checks.{on_ok, missing_here, differs_here, types_tested, types_fit_as, types_disagree_as, with_trees, func_type_is, func_type_stands, value_type_is, value_type_stands, interface_type_is, interface_type_stands, interface_type_size, world_type_is, world_type_stands, world_type_size, module_type_is, module_type_stands}
 use Rattle.wac_types_fit.proofs.check.+fits.Goals as goal
+use Rattle.wac_types_base.proofs.Looked.{among-get}
 
 pub fits-returns-in-Ok-remember-clause-only : goal.fits-returns-in-Ok-remember-clause-only
 fits-returns-in-Ok-remember-clause-only t c =
@@ -67,7 +67,7 @@ pub items_fit-item_fits-requires : goal.items_fit-item_fits-requires
 items_fit-item_fits-requires t c =
     let n = c.entry.result.0.now in
     let k = c.entry.result.1.now in
-    (omega (arith, c.decreases), (c.requires.given, (c.requires.asked n k (Among-slice_get c.args.asked.now c.loop-index.index (n, k) c.entry.ensures), (c.requires.apart, c.loop-index.invariant.cache))))
+    (omega (arith, c.decreases), (c.requires.given, (c.requires.asked n k (among-get c.args.asked.now c.loop-index.index (n, k) c.entry.ensures), (c.requires.apart, c.loop-index.invariant.cache))))
 
 pub items_fit-returns-in-Err-clause-no : goal.items_fit-returns-in-Err-clause-no
 items_fit-returns-in-Err-clause-no t c ss e =
@@ -76,7 +76,7 @@ items_fit-returns-in-Err-clause-no t c ss e =
     record {
       name = n;
       kind = k;
-      asked = among-value_at c.args.asked.now n k c.len-index-end.ensures.distinct (Among-slice_get c.args.asked.now c.loop-index.index (n, k) c.entry.ensures);
+      asked = among-value_at c.args.asked.now n k c.len-index-end.ensures.distinct (among-get c.args.asked.now c.loop-index.index (n, k) c.entry.ensures);
       disagrees = c.in-Err.ensures.no ss e;
     }
 

@@ -1,9 +1,9 @@
 use Rattle.std.proofs.Common.{◌≤◌, ◌∙◌, ◌∷◌, length, sym, ap, arith}
 use Rattle.wac_types_base.specs.declared.item.ExternKind.{ExternKind}
 use Rattle.wac_types_base.specs.Entries.{value_at}
-use Rattle.wac_types_base.proofs.Walking.{Among-slice_get}
 use Rattle.wac_types_fit.proofs.CoreItems.{has_more, has_all_of}
 use Rattle.wac_types_fit.proofs.core_items.exports_fit.Goals as goal
+use Rattle.wac_types_base.proofs.Looked.{among-get}
 
 pub returns-in-Err-clause-no : goal.returns-in-Err-clause-no
 returns-in-Err-clause-no c ss e =
@@ -14,7 +14,7 @@ returns-in-Err-clause-no c ss e =
     record {
       key = key;
       item = x;
-      asked = Among-slice_get c.args.asked.now c.loop-at.at (key, x) c.entry.ensures;
+      asked = among-get c.args.asked.now c.loop-at.at (key, x) c.entry.ensures;
       lacking = λ h. i.1 (c.get.ensures ∙ h);
       steps = w.2 ∙ ap (λ r. (ExternKind.Export, key) ∷ r) i.0;
     }

@@ -3,12 +3,12 @@ use Rattle.std.specs.Prelude.{string_bytes}
 use Rattle.wac_types_base.specs.declared.item.ExternKind.{ExternKind}
 use Rattle.wac_types_base.specs.Entries.{Name}
 use Rattle.wac_types_base.proofs.PairNames.{pair-place}
-use Rattle.wac_types_base.proofs.Walking.{Among-slice_get}
 use Rattle.wac_types_fit.specs.Frames.{joined_name}
 use Rattle.wac_types_fit.specs.Checking.{import_at}
 use Rattle.wac_types_fit.proofs.Items.{joined}
 use Rattle.wac_types_fit.proofs.CoreItems.{has_more, has_all_of}
 use Rattle.wac_types_fit.proofs.core_items.imports_fit.Goals as goal
+use Rattle.wac_types_base.proofs.Looked.{among-get}
 
 pub returns-in-Err-clause-no : goal.returns-in-Err-clause-no
 returns-in-Err-clause-no c ss e =
@@ -23,7 +23,7 @@ returns-in-Err-clause-no c ss e =
     record {
       key = key;
       item = x;
-      asked = Among-slice_get c.args.asked.now c.loop-at.at (key, x) place;
+      asked = among-get c.args.asked.now c.loop-at.at (key, x) place;
       lacking = λ h. i.1 (c.import_of.ensures ∙ h);
       steps = w.2 ∙ ap (λ r. (ExternKind.Import, joined_name key) ∷ r) i.0;
     }

@@ -1,11 +1,11 @@
 use Rattle.std.proofs.Common.{◌∙◌}
 use Rattle.wac_types_base.specs.declared.item.ExternKind.{ExternKind}
 use Rattle.wac_types_base.specs.Entries.{value_at}
-use Rattle.wac_types_base.proofs.Walking.{Among-slice_get}
 use Rattle.wac_types_fit.specs.Targets.{ExportDiffers, ExportLeads}
 use Rattle.wac_types_fit.specs.TargetSteps.{mismatches}
 use Rattle.wac_types_fit.proofs.Reports.{nothing_differs, export_step}
 use Rattle.wac_types_fit.proofs.targets.check_exports.Goals as goal
+use Rattle.wac_types_base.proofs.Looked.{among-get}
 
 pub loop-at-init : goal.loop-at-init
 loop-at-init c = record {
@@ -15,7 +15,7 @@ loop-at-init c = record {
 
 pub check_export-requires-clause-asked : goal.check_export-requires-clause-asked
 check_export-requires-clause-asked c =
-    c.requires.asked c.entry.result.0.now c.entry.result.1.now (Among-slice_get c.args.exports.now c.loop-at.at (c.entry.result.0.now, c.entry.result.1.now) c.entry.ensures)
+    c.requires.asked c.entry.result.0.now c.entry.result.1.now (among-get c.args.exports.now c.loop-at.at (c.entry.result.0.now, c.entry.result.1.now) c.entry.ensures)
 
 pub loop-at-preserved : goal.loop-at-preserved
 loop-at-preserved c = record {

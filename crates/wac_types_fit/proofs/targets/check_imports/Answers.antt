@@ -1,10 +1,10 @@
 use Rattle.wac_types_base.specs.declared.item.ExternKind.{ExternKind}
 use Rattle.wac_types_base.specs.Implicit.{shown}
-use Rattle.wac_types_base.proofs.Walking.{Among-slice_get}
 use Rattle.wac_types_fit.specs.Targets.{target_import, ImportDiffers, ImportLeads}
 use Rattle.wac_types_fit.specs.TargetSteps.{mismatches}
 use Rattle.wac_types_fit.proofs.Reports.{nothing_differs, import_step}
 use Rattle.wac_types_fit.proofs.targets.check_imports.Goals as goal
+use Rattle.wac_types_base.proofs.Looked.{among-get}
 
 pub loop-at-init : goal.loop-at-init
 loop-at-init c = record {
@@ -14,7 +14,7 @@ loop-at-init c = record {
 
 pub check_import-requires-clause-asked : goal.check_import-requires-clause-asked
 check_import-requires-clause-asked c =
-    c.requires.asked c.entry.result.0.now c.entry.result.1.now (Among-slice_get c.args.imports.now c.loop-at.at (c.entry.result.0.now, c.entry.result.1.now) c.entry.ensures)
+    c.requires.asked c.entry.result.0.now c.entry.result.1.now (among-get c.args.imports.now c.loop-at.at (c.entry.result.0.now, c.entry.result.1.now) c.entry.ensures)
 
 pub loop-at-preserved : goal.loop-at-preserved
 loop-at-preserved c = record {

@@ -1,9 +1,9 @@
 use Rattle.std.proofs.Common.{◌<◌, length, get_or, sym, subst, ◌∙◌, arith}
 use Rattle.wac_types_base.specs.Collection.{Stands}
 use Rattle.wac_types_merge.specs.Merging.{Ask, IsAsked, IsRefused}
-use Rattle.wac_types_merge.proofs.Families.{at_index}
 use Rattle.wac_types_merge.proofs.Listing.{lent_stands, list_refused, next_merged, same_ask}
 use Rattle.wac_types_merge.proofs.aggregator.aggregate_all.Goals as goal
+use Rattle.wac_types_base.proofs.Used.{place_or}
 
 pub with_ask-requires : goal.with_ask-requires
 with_ask-requires c =
@@ -11,7 +11,7 @@ with_ask-requires c =
     let i = c.loop-index.index in
     let within : i < length xs = omega arith in
     let r = c.index-asks-index.result in
-    subst (λ (a : Ask). Stands a.types a.kind) (sym (same_ask xs i r c.index-asks-index-in-loop-index.result c.index-asks-index-in-loop-index-2.result within)) (lent_stands xs i (get_or xs i r) (at_index xs i r within) c.requires)
+    subst (λ (a : Ask). Stands a.types a.kind) (sym (same_ask xs i r c.index-asks-index-in-loop-index.result c.index-asks-index-in-loop-index-2.result within)) (lent_stands xs i (get_or xs i r) (place_or xs i r within) c.requires)
 
 pub returns-in-Err-clause-refused : goal.returns-in-Err-clause-refused
 returns-in-Err-clause-refused c =
@@ -19,7 +19,7 @@ returns-in-Err-clause-refused c =
     let i = c.loop-index.index in
     let within : i < length xs = omega arith in
     let r = c.index-asks-index.result in
-    list_refused xs i (get_or xs i r) c.loop-index.all c.in-Err.fault (at_index xs i r within) c.loop-index.invariant.0
+    list_refused xs i (get_or xs i r) c.loop-index.all c.in-Err.fault (place_or xs i r within) c.loop-index.invariant.0
     (subst (λ (a : Ask). IsRefused c.loop-index.all a c.in-Err.fault) (same_ask xs i r c.index-asks-index-in-loop-index.result c.index-asks-index-in-loop-index-2.result within) c.in-Err.ensures.refused)
 
 pub loop-index-preserved : goal.loop-index-preserved
@@ -28,7 +28,7 @@ loop-index-preserved c =
     let i = c.loop-index.index in
     let within : i < length xs = omega arith in
     let r = c.index-asks-index.result in (
-      next_merged xs i (get_or xs i r) c.loop-index.all c.in-Ok.more (at_index xs i r within) c.with_ask.ensures.sound c.in-Ok.ensures.sound_after c.loop-index.invariant.0
+      next_merged xs i (get_or xs i r) c.loop-index.all c.in-Ok.more (place_or xs i r within) c.with_ask.ensures.sound c.in-Ok.ensures.sound_after c.loop-index.invariant.0
           (subst (λ (a : Ask). IsAsked c.loop-index.all a c.in-Ok.more) (same_ask xs i r c.index-asks-index-in-loop-index.result c.index-asks-index-in-loop-index-2.result within) c.in-Ok.ensures.asked),
       c.in-Ok.ensures.asked.grows.number ∙ c.loop-index.invariant.1,
     )

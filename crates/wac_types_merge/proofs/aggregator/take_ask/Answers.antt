@@ -1,6 +1,5 @@
 use Rattle.std.proofs.Common.{Some, refl, sym, ap, subst, ◌∙◌}
 use Rattle.wac_types_base.specs.Collection.{Stands}
-use Rattle.wac_types_base.proofs.Walking.{Among-slice_get}
 use Rattle.wac_types_names.specs.Tracks.{AreCompatible}
 use Rattle.wac_types_merge.specs.declared.family.Import.{Import}
 use Rattle.wac_types_merge.specs.Imports.{imports_in, import_of}
@@ -10,13 +9,14 @@ use Rattle.wac_types_merge.specs.Steps.{HasClash, LieOutside}
 use Rattle.wac_types_merge.proofs.Keeping.{refused_as}
 use Rattle.wac_types_merge.proofs.Asking.{none_on_track, found_on_track, place_within, same_import, first_asked, first_sound, asked_again, again_sound, no_common, outside}
 use Rattle.wac_types_merge.proofs.aggregator.take_ask.Goals as goal
+use Rattle.wac_types_base.proofs.Looked.{among-get}
 
 pub merged_import-requires-clause-kept : goal.merged_import-requires-clause-kept
 merged_import-requires-clause-kept c =
     let ms = c.args.imports.now.items in
     let p = found_on_track c.as_slice.result.now ms c.args.name.now c.in_ok-place_on.field-0 c.in-Some.at c.as_slice.ensures.value c.in-Some.is c.in_ok-place_on.ensures in
     let is = same_import ms c.in-Some.at p.0 c.index.result.now p.1 c.index.ensures in
-    subst (λ (m : Import). Stands c.copy_item.new.to m.kind) is (c.copy_item.ensures.grows.stand p.0.kind (c.requires.sound.stand p.0 (Among-slice_get ms c.in-Some.at p.0 p.1)))
+    subst (λ (m : Import). Stands c.copy_item.new.to m.kind) is (c.copy_item.ensures.grows.stand p.0.kind (c.requires.sound.stand p.0 (among-get ms c.in-Some.at p.0 p.1)))
 
 pub replace_import-requires : goal.replace_import-requires
 replace_import-requires c =

@@ -5,13 +5,13 @@ use Rattle.wac_types_base.specs.Collection.{Stands}
 use Rattle.wac_types_fit.proofs.Checks.{interface_type_is, interface_type_stands, interface_type_size}
 use Rattle.wac_types_merge.proofs.Clashing.{instance_apart, type_apart, other_apart, other_type_apart, interface_type_apart, instances_clash, typed_clash, clash_at}
 use Rattle.wac_types_base.proofs.Adding.{Grows-refl, Grows-trans}
-use Rattle.wac_types_base.proofs.Walking.{Among-slice_get}
 use Rattle.wac_types_merge.specs.Interfaces.{SlotInside, JoinedIn, OtherClash, AreJoined}
 use Rattle.wac_types_fit.proofs.Items.{exports_inside, among-value_at}
 use Rattle.wac_types_merge.proofs.Grown.{inside_kept, size_kept}
 use Rattle.wac_types_merge.proofs.Joining.{names_joined, joined_stand, joined_before, joined_more, joined_new, found_inside_slot, slot_inside_kept, slot_stands}
 use Rattle.wac_types_merge.proofs.Placed.{at_stands, typed_meet, instances_meet, uses_stand, exports_stand, uses_kept, exports_kept}
 use Rattle.wac_types_merge.proofs.cycle.+merging.Goals as goal
+use Rattle.wac_types_base.proofs.Looked.{among-get}
 
 pub merge-unmerged-requires : goal.merge-unmerged-requires
 merge-unmerged-requires t c =
@@ -143,7 +143,7 @@ merge_items-merge_item-requires t c =
     let g = c.loop-index.invariant.grows in
     let sa = size_kept own c.loop-index.own g c.args.a c.requires.first in
     let sb = size_kept own c.loop-index.own g c.args.b c.requires.second in
-    let m = Among-slice_get c.args.kept.now c.loop-index.index (n, k) c.entry.ensures in
+    let m = among-get c.args.kept.now c.loop-index.index (n, k) c.entry.ensures in
     let o = c.copied-other.result in (
       omega (arith, sa, sb, c.decreases),
       (
@@ -166,7 +166,7 @@ merge_items-loop-index-preserved t c =
     let g = c.loop-index.invariant.grows in
     let o = c.copied-other.result in
     let is = c.copied-other.ensures ∙ c.get.ensures in
-    let inside = c.requires.kept n k (Among-slice_get c.args.kept.now c.loop-index.index (n, k) c.entry.ensures) in
+    let inside = c.requires.kept n k (among-get c.args.kept.now c.loop-index.index (n, k) c.entry.ensures) in
     let other = slot_stands own o c.args.b (found_inside_slot own c.args.b c.args.asked.now c.requires.asked n o (sym is)) in
     let item = joined_before own d k o e c.in-Ok.item g inside.0 other c.in-Ok.ensures.joined in
     record {
@@ -180,7 +180,7 @@ merge_items-returns-in-Err-clause-clash t c ss e =
     let n = c.entry.result.0.now in
     let k = c.entry.result.1.now in
     let own = c.args.own.now in
-    let m = Among-slice_get c.args.kept.now c.loop-index.index (n, k) c.entry.ensures in
+    let m = among-get c.args.kept.now c.loop-index.index (n, k) c.entry.ensures in
     let o = c.copied-other.result in
     let is = c.copied-other.ensures ∙ c.get.ensures in
     clash_at own c.loop-index.own c.args.kept.now c.args.asked.now n k o c.loop-index.invariant.grows (among-value_at c.args.kept.now n k c.len-index-end.ensures.distinct m) is (c.requires.kept n k m).0

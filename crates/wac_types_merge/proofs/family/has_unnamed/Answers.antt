@@ -1,18 +1,20 @@
 use Rattle.std.proofs.Common.{◌<◌, length, get_or, sym, ap, ◌∙◌, refl, arith}
 use Rattle.wac_types_base.specs.Implicit.{identifier_in}
-use Rattle.wac_types_merge.proofs.Families.{IsUnnamed, among_index, at_index, one_before, all_before, unnamed_there, all_named}
+use Rattle.wac_types_merge.proofs.Families.{IsUnnamed, one_before, all_before, unnamed_there, all_named}
 use Rattle.wac_types_merge.proofs.family.has_unnamed.Goals as goal
+use Rattle.wac_types_base.proofs.Copying.{get_or-Among}
+use Rattle.wac_types_base.proofs.Used.{place_or}
 
 pub interface-requires : goal.interface-requires
 interface-requires c =
     let within : c.loop-index.index < length c.args.uses.now = omega arith in
-    c.requires (get_or c.args.uses.now c.loop-index.index c.index-uses-index.result) (among_index c.args.uses.now c.loop-index.index c.index-uses-index.result within)
+    c.requires (get_or c.args.uses.now c.loop-index.index c.index-uses-index.result) (get_or-Among c.args.uses.now c.loop-index.index c.index-uses-index.result within)
 
 pub returns-in-None : goal.returns-in-None
 returns-in-None c =
     let within : c.loop-index.index < length c.args.uses.now = omega arith in
     let u = get_or c.args.uses.now c.loop-index.index c.index-uses-index.result in (
-      λ _. unnamed_there c.args.types.now c.args.uses.now u (among_index c.args.uses.now c.loop-index.index c.index-uses-index.result within)
+      λ _. unnamed_there c.args.types.now c.args.uses.now u (get_or-Among c.args.uses.now c.loop-index.index c.index-uses-index.result within)
           (ap identifier_in c.interface.ensures.entry ∙ c.in-None.is),
       λ _. refl,
     )
@@ -21,7 +23,7 @@ pub loop-index-preserved : goal.loop-index-preserved
 loop-index-preserved c =
     let within : c.loop-index.index < length c.args.uses.now = omega arith in
     let u = get_or c.args.uses.now c.loop-index.index c.index-uses-index.result in
-    one_before c.args.uses.now (λ u. IsUnnamed c.args.types.now u → ⊥) c.loop-index.index u (at_index c.args.uses.now c.loop-index.index c.index-uses-index.result within) c.loop-index.invariant
+    one_before c.args.uses.now (λ u. IsUnnamed c.args.types.now u → ⊥) c.loop-index.index u (place_or c.args.uses.now c.loop-index.index c.index-uses-index.result within) c.loop-index.invariant
     (λ n. absurd (cc (ap identifier_in c.interface.ensures.entry, c.in-Some.is, n)))
 
 pub returns : goal.returns

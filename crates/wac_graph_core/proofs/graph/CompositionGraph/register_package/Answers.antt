@@ -5,10 +5,11 @@ use Rattle.wac_graph_core.specs.declared.package.Place.{Place}
 use Rattle.wac_graph_core.specs.Graph.{Graph, PackageStands}
 use Rattle.wac_graph_core.specs.Packages.{HoldsKey, IsFreePlace, NoKey, Registers, PlacesGrow, held_place}
 use Rattle.wac_graph_core.specs.View.{graph}
-use Rattle.wac_graph_core.proofs.ExportSteps.{got, within_list}
+use Rattle.wac_graph_core.proofs.ExportSteps.{got}
 use Rattle.wac_graph_core.proofs.Registering.{no_key, key_held, free_by, free_step, last_by, last_step, grow_set, grow_last}
 use Rattle.wac_graph_core.proofs.PlaceSteps.{grow_same}
 use Rattle.wac_graph_core.proofs.graph.CompositionGraph.register_package.Goals as goal
+use Rattle.wac_types_base.proofs.Walking.{some_place}
 
 pub returns-in-Some-clause-refused : goal.returns-in-Some-clause-refused
 returns-in-Some-clause-refused c =
@@ -20,7 +21,7 @@ pub index_mut-requires : goal.index_mut-requires
 index_mut-requires c =
     let f = c.in-Some-free_place.ensures in
     let there = subst (λ xs. slice_get xs c.in-Some-free_place.place ≡ Some f.0) c.as_slice-2.ensures.value f.1 in
-    let h : c.in-Some-free_place.place < length c.self.inside.places.items = within_list c.self.inside.places.items c.in-Some-free_place.place f.0 there in
+    let h : c.in-Some-free_place.place < length c.self.inside.places.items = some_place c.self.inside.places.items c.in-Some-free_place.place f.0 there in
     omega (arith, h, c.self.inside.places.ok)
 
 pub invariant_of-self : goal.invariant_of-self

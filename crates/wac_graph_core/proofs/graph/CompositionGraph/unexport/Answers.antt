@@ -4,14 +4,15 @@ use Rattle.wac_graph_core.specs.Graph.{ContainsNode}
 use Rattle.wac_graph_core.specs.Exporting.{IsTold}
 use Rattle.wac_graph_core.specs.View.{graph}
 use Rattle.wac_graph_core.proofs.Calls.{unexported_by}
-use Rattle.wac_graph_core.proofs.ExportSteps.{got, within_list}
+use Rattle.wac_graph_core.proofs.ExportSteps.{got}
 use Rattle.wac_graph_core.proofs.graph.CompositionGraph.unexport.Goals as goal
+use Rattle.wac_types_base.proofs.Walking.{some_place}
 
 pub swap_remove-requires : goal.swap_remove-requires
 swap_remove-requires c =
     let told : IsTold (graph c.self.inside) c.args.node (Some c.in-Some.at) = subst (λ g. IsTold g c.args.node (Some c.in-Some.at)) (sym c.self.view_is) c.in-Some.ensures in
     let place = told.some c.in-Some.at refl in
-    let h : c.in-Some.at < length c.self.inside.exports.items = within_list c.self.inside.exports.items c.in-Some.at (place.0, c.args.node) place.2 in
+    let h : c.in-Some.at < length c.self.inside.exports.items = some_place c.self.inside.exports.items c.in-Some.at (place.0, c.args.node) place.2 in
     omega (arith, h, c.self.inside.exports.ok)
 
 pub set_export-requires : goal.set_export-requires

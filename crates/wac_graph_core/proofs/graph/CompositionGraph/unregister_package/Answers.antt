@@ -8,9 +8,10 @@ use Rattle.wac_graph_core.specs.Removing.{IsClosed, TakesNodes}
 use Rattle.wac_graph_core.specs.Packages.{left_place, PlacesGrow}
 use Rattle.wac_graph_core.specs.View.{graph}
 use Rattle.wac_graph_core.proofs.Removal.{closed_of}
-use Rattle.wac_graph_core.proofs.ExportSteps.{got, within_list}
+use Rattle.wac_graph_core.proofs.ExportSteps.{got}
 use Rattle.wac_graph_core.proofs.Registering.{held_left, given_up_by, unregister_step, stale_step, grow_set, same_places_left}
 use Rattle.wac_graph_core.proofs.graph.CompositionGraph.unregister_package.Goals as goal
+use Rattle.wac_types_base.proofs.Walking.{some_place}
 
 pub remove_nodes-requires : goal.remove_nodes-requires
 remove_nodes-requires c =
@@ -26,7 +27,7 @@ index_mut-requires c =
     let reached = subst (λ es. IsReached Follow.Owned es starts gone) (c.as_slice.ensures.value ∙ ap (λ (g : Graph). g.edges) c.self.view_is) c.in_ok-gone.ensures in
     let taken = subst (λ h. TakesNodes c.args.self.now h gone) (sym c.self-2.view_is) (subst (λ l. TakesNodes c.args.self.now c.remove_nodes.new.self l) c.as_slice-2.ensures.value c.remove_nodes.ensures) in
     let left = held_left c.args.self.now (graph c.self-2.inside) c.args.«package» starts gone are reached taken c.requires in
-    let h : c.args.«package».place < length c.self-2.inside.places.items = within_list c.self-2.inside.places.items c.args.«package».place left.2.place left.2.there in
+    let h : c.args.«package».place < length c.self-2.inside.places.items = some_place c.self-2.inside.places.items c.args.«package».place left.2.place left.2.there in
     omega (arith, h, c.self-2.inside.places.ok)
 
 pub give_up-requires : goal.give_up-requires

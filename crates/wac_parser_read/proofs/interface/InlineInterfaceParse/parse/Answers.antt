@@ -1,8 +1,8 @@
-use Rattle.wac_parser_read.proofs.Behind.{goes_further}
 use Rattle.wac_parser_read.proofs.interface.InlineInterfaceParse.parse.Goals as goal
+use Rattle.wac_parser_grammar.proofs.Faithful.{behind_trans}
 
 pub returns-in_err-items-clause-goes_on : goal.returns-in_err-items-clause-goes_on
-returns-in_err-items-clause-goes_on c = goes_further _ _ _ c.interface_items.ensures.goes_on c.parse_token.ensures.goes_on
+returns-in_err-items-clause-goes_on c = behind_trans _ _ _ c.interface_items.ensures.goes_on c.parse_token.ensures.goes_on
 
 pub returns-clause-goes_on : goal.returns-clause-goes_on
-returns-clause-goes_on c = goes_further _ _ _ c.interface_items.ensures.goes_on c.parse_token.ensures.goes_on
+returns-clause-goes_on c = behind_trans _ _ _ c.interface_items.ensures.goes_on c.parse_token.ensures.goes_on

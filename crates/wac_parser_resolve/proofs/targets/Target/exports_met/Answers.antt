@@ -1,12 +1,12 @@
 use Rattle.std.proofs.Common.{arith}
-use Rattle.wac_types_base.proofs.Walking.{Among-slice_get}
 use Rattle.wac_parser_resolve.specs.Targeting.{IsExportMet}
 use Rattle.wac_parser_resolve.proofs.TargetMet.{below_next, below_all}
 use Rattle.wac_parser_resolve.proofs.targets.Target.exports_met.Goals as goal
+use Rattle.wac_types_base.proofs.Looked.{among-get}
 
 pub export_met-requires : goal.export_met-requires
 export_met-requires c =
-    c.requires c.entry.result.0.now c.entry.result.1.now (Among-slice_get c.args.exports.now c.loop-at.at (c.entry.result.0.now, c.entry.result.1.now) c.entry.ensures)
+    c.requires c.entry.result.0.now c.entry.result.1.now (among-get c.args.exports.now c.loop-at.at (c.entry.result.0.now, c.entry.result.1.now) c.entry.ensures)
 
 pub loop-at-preserved : goal.loop-at-preserved
 loop-at-preserved c =

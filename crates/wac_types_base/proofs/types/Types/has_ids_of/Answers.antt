@@ -5,9 +5,10 @@ use Rattle.wac_types_base.specs.Graph.{Among}
 use Rattle.wac_types_base.specs.Record.{Collection}
 use Rattle.wac_types_base.proofs.Adding.{All-among}
 use Rattle.wac_types_base.proofs.Copying.{Among-All}
-use Rattle.wac_types_base.proofs.Walking.{Among-slice_get, slice_get-Among, some_place, no_place}
+use Rattle.wac_types_base.proofs.Walking.{slice_get-Among, some_place, no_place}
 use Rattle.wac_types_base.proofs.types.Types.has_ids_of.Goals as goal
 use Rattle.wac_types_base.proofs.types.Types.has_ids_of.Goals.{in-Some-place+else-not-has, in_default-place}
+use Rattle.wac_types_base.proofs.Looked.{among-get}
 
 not_both : (b : Bool) → b ≡ false → b ≡ true → ⊥
 not_both true h k = absurd (cc h)
@@ -21,7 +22,7 @@ pub returns-then-not-has : goal.returns-then-not-has
 returns-then-not-has g c =
     let xs = (g.E.Places.entry c.args.entry.now).1 in
     let at = sym c.in-Some.ensures.place ∙ ap Some c.in-Some-place.is in
-    (λ h. absurd (cc h), λ all. absurd (not_both c.has.result c.if-not-has.true (c.has.ensures.1 (All-among (SlotStands c.args.self.now) xs (Some c.in-Some-place.child) all (Among-slice_get xs c.loop-place.at (Some c.in-Some-place.child) at)))))
+    (λ h. absurd (cc h), λ all. absurd (not_both c.has.result c.if-not-has.true (c.has.ensures.1 (All-among (SlotStands c.args.self.now) xs (Some c.in-Some-place.child) all (among-get xs c.loop-place.at (Some c.in-Some-place.child) at)))))
 
 pub loop-place-smaller : goal.loop-place-smaller
 loop-place-smaller g c =

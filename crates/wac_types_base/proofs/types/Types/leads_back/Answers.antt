@@ -2,18 +2,19 @@ use Rattle.std.proofs.Common.{◌≡◌, Some, refl, sym, ap, subst, ◌∙◌, 
 use Rattle.wac_types_base.specs.Collection.{item_node, SlotStands}
 use Rattle.wac_types_base.specs.Reaching.{Reaches, NamesEntry}
 use Rattle.wac_types_base.proofs.Adding.{All-among}
-use Rattle.wac_types_base.proofs.Walking.{Among-slice_get, none_more, none_at_end, some_place}
+use Rattle.wac_types_base.proofs.Walking.{none_more, none_at_end, some_place}
 use Rattle.wac_types_base.proofs.types.Types.leads_back.Goals as goal
 use Rattle.wac_types_base.proofs.types.Types.leads_back.Goals.{in-Some-place+else-reaches, in_default-place}
+use Rattle.wac_types_base.proofs.Looked.{among-get}
 
 pub reaches-requires : goal.reaches-requires
 reaches-requires g c =
     All-among (SlotStands c.args.self.now) (g.E.Places.entry c.args.entry.now).1 (Some c.in-Some-place.child) c.requires
-    (Among-slice_get _ c.loop-place.at _ (sym c.in-Some.ensures.place ∙ ap Some c.in-Some-place.is))
+    (among-get _ c.loop-place.at _ (sym c.in-Some.ensures.place ∙ ap Some c.in-Some-place.is))
 
 pub returns-then-reaches : goal.returns-then-reaches
 returns-then-reaches g c =
-    (λ _. (c.in-Some-place.child, Among-slice_get _ c.loop-place.at _ (sym c.in-Some.ensures.place ∙ ap Some c.in-Some-place.is), c.if-reaches.ensures.0 refl), λ _. refl)
+    (λ _. (c.in-Some-place.child, among-get _ c.loop-place.at _ (sym c.in-Some.ensures.place ∙ ap Some c.in-Some-place.is), c.if-reaches.ensures.0 refl), λ _. refl)
 
 pub loop-place-smaller : goal.loop-place-smaller
 loop-place-smaller g c =
