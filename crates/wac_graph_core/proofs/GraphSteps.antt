@@ -25,7 +25,7 @@ use Rattle.wac_graph_core.proofs.EdgeSteps.{edge_from, edge_to, edge_label, IsAc
 
 -- ---- nothing
 
-no_node : (k : ℕ) (x : NodeData) → map.get (map.empty {X = NodeData} {R = nat_cmp}) k ≡ Some x → ⊥
+pub no_node : (k : ℕ) (x : NodeData) → map.get (map.empty {X = NodeData} {R = nat_cmp}) k ≡ Some x → ⊥
 no_node k x at = absurd (cc (map.get-empty {X = NodeData} nat_cmp k, at))
 
 no_package : (id : PackageId) (p : Packaged) → package_in [] id ≡ Some p → ⊥

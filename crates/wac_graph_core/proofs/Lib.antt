@@ -17,6 +17,7 @@ pub mod Lending
 pub mod Reached
 pub mod Passing
 pub mod Depending
+pub mod Below
 pub mod DefineSteps
 pub mod WiringLaws
 mod Covering

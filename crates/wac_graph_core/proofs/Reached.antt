@@ -45,7 +45,7 @@ kind_of (ItemKind.Value (ValueType.Defined x)) d e = let same : x ≡ d = cc e i
 same_parts : (d e : DefinedTypeId) → d.collection ≡ e.collection → d.index ≡ e.index → d ≡ e
 same_parts d e own index = rw (own, index) refl
 
-same_own : (k : ItemKind) (d e : DefinedTypeId) → defined_in k ≡ Some d → defined_in k ≡ Some e → e ≡ d
+pub same_own : (k : ItemKind) (d e : DefinedTypeId) → defined_in k ≡ Some d → defined_in k ≡ Some e → e ≡ d
 same_own k d e is it = let same : Some e ≡ Some d = sym it ∙ is in cc same
 
 module _ (c : Collection) where

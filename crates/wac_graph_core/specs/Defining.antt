@@ -1,5 +1,5 @@
 -- Definitions of types, and which depends on which.
-use Rattle.std.specs.Prelude.{◌≡◌, ◌≢◌, ◌⊎◌, ℕ, Bool, List, [], ◌∷◌, ◌++◌, Some, None, string_bytes}
+use Rattle.std.specs.Prelude.{◌≡◌, ◌≢◌, ◌<◌, ◌⊎◌, ℕ, Bool, List, [], ◌∷◌, ◌++◌, Some, None, string_bytes}
 use Rattle.std.specs.FinMap as map
 use Rattle.wac_types_base.specs.declared.ids.DefinedTypeId.{DefinedTypeId}
 use Rattle.wac_types_base.specs.declared.ids.ResourceId.{ResourceId}
@@ -106,3 +106,7 @@ pub record DefinesReaching (c : Collection) (wanted : DefinedTypeId) (x : NodeDa
 
 abbrev pub ItemsStand : Collection → NodeMap → Type 0
 ItemsStand c m = (k : ℕ) (x : NodeData) → map.get m k ≡ Some x → Stands c x.item_kind
+
+-- each defined type that a definition reaches has an index below the bound
+abbrev pub ReachBelow : Collection → NodeMap → ℕ → Type 0
+ReachBelow c m bound = (k : ℕ) (x : NodeData) → map.get m k ≡ Some x → x.role ≡ Role.Defined → (d : DefinedTypeId) → Reaches c x.item_kind d → d.index < bound

@@ -1,11 +1,12 @@
 //! Definitions of types.
 
-ghost use Rattle.std.specs.Prelude.{◌≡◌, ◌≢◌, ◌≤◌, ◌+◌, ◌⊎◌, ℕ, true, IfOk, IfErr, OnOk, OnErr, length, vec_len, vec_capacity, string_bytes};
+ghost use Rattle.std.specs.Prelude.{◌≡◌, ◌≢◌, ◌≤◌, ◌+◌, ◌⊎◌, ℕ, [], true, IsTrue, IfOk, IfErr, IfSome, IfNone, OnOk, OnErr, length, vec_len, vec_capacity, string_bytes};
 ghost use Rattle.std.specs.Bool.{Decides};
 ghost use Rattle.wac_types_base.specs.Graph.{Among};
 ghost use Rattle.wac_types_base.specs.Collection.{Stands};
 ghost use Rattle.wac_graph_core.specs.Edges.{AreEdges, dependency_edge, has};
-ghost use Rattle.wac_graph_core.specs.Defining.{IsResource, MayDefine, DefinesType, DefineRefused};
+ghost use Rattle.wac_graph_core.specs.NodeMaps.{IsDefinition, NoDefinition, AreThose};
+ghost use Rattle.wac_graph_core.specs.Defining.{IsResource, IsUserOf, MayDefine, DefinesType, DefineRefused};
 
 use crate::edge::{Edge, Label};
 use crate::edges::Edges;
@@ -13,6 +14,7 @@ use crate::errors::{DefineTypeError, NameError};
 use crate::graph::{CompositionGraph, is_extern_name};
 use crate::ids::NodeId;
 use crate::node::Node;
+use crate::reach::defined_of;
 use std::alloc::AllocError;
 use wac_types_base::{ItemKind, Text, Type};
 
@@ -64,12 +66,45 @@ fn reserve_both(edges: &mut Edges, first: usize, second: usize) -> Result<(), Al
 }
 
 impl CompositionGraph {
+    /// Whether a type is newer than each that a definition reaches.
+    fn is_newer(&self, ty: Type) -> bool
+        ensures undefined { IsTrue result → NoDefinition self.now.nodes (ItemKind.Ty ty) }
+        ensures unused { IsTrue result → AreThose self.now.nodes (IsUserOf self.now.types ty) [] }
+    {
+        match defined_of(ItemKind::Ty(ty)) {
+            Some(id) => id.index >= self.defined_below,
+            None => false,
+        }
+    }
+
+    /// The definition of a type, if there is one.
+    fn find_definition(&self, ty: Type) -> Option<NodeId>
+        ensures found { IfSome result (λ k. IsDefinition self.now.nodes k (ItemKind.Ty ty)) }
+        ensures none { IfNone result (NoDefinition self.now.nodes (ItemKind.Ty ty)) }
+    {
+        if self.is_newer(ty) {
+            return None;
+        }
+        self.nodes.find_definition(ItemKind::Ty(ty))
+    }
+
+    /// The definitions of types that use a type.
+    fn users_of(&self, ty: Type) -> Result<Vec<NodeId>, AllocError>
+        ensures { IfOk result (λ v. AreThose self.now.nodes (IsUserOf self.now.types ty) v.items) }
+    {
+        self.see_sound();
+        if self.is_newer(ty) {
+            return Ok(Vec::new(self.alloc));
+        }
+        self.nodes.users_of(self.alloc, &self.types, ty)
+    }
+
     /// The name as a text, where a type may be defined under it.
     fn definable(&self, name: &str, ty: Type) -> Result<String, DefineTypeError>
         ensures found { IfOk result (λ own. MayDefine self.now name.now ty (string_bytes own)) }
         ensures refused { IfErr result (λ e. DefineRefused self.now name.now ty e) }
     {
-        if let Some(_) = self.nodes.find_definition(ItemKind::Ty(ty)) {
+        if let Some(_) = self.find_definition(ty) {
             return Err(DefineTypeError::TypeAlreadyDefined);
         }
         if is_resource(ty) {
@@ -101,9 +136,10 @@ impl CompositionGraph {
             Err(fault) => return Err(fault),
         };
         self.see_sound();
+        self.types.see_acyclic();
         let told = Text::new(String::from_str(self.alloc, name)?);
         let sources = self.nodes.used_by(self.alloc, &self.types, ty)?;
-        let targets = self.nodes.users_of(self.alloc, &self.types, ty)?;
+        let targets = self.users_of(ty)?;
         reserve_both(&mut self.edges, sources.len(), targets.len())?;
         self.exports.reserve(1)?;
         let node = Node::defined(ty, told);
@@ -112,6 +148,7 @@ impl CompositionGraph {
         depend_on(&mut self.edges, sources.as_slice(), id);
         depended_by(&mut self.edges, id, targets.as_slice());
         self.exports.push_reserved((text, id));
+        self.defined_below = self.types.defined_types().len();
         Ok(id)
     }
 }

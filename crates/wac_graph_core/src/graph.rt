@@ -29,6 +29,8 @@ pub struct CompositionGraph {
     pub(crate) edges: Edges,
     pub(crate) exports: NamedNodes,
     pub(crate) places: Vec<Place>,
+    /// Each defined type that a definition reaches has an index below it.
+    pub(crate) defined_below: usize,
 }
 
 impl Drop for CompositionGraph {
@@ -40,6 +42,7 @@ impl Drop for CompositionGraph {
             edges: _,
             exports: _,
             places: _,
+            defined_below: _,
         } = self;
     }
 }
@@ -82,6 +85,7 @@ impl CompositionGraph {
             edges: Edges::new(alloc),
             exports: NamedNodes::new(alloc),
             places: Vec::new(alloc),
+            defined_below: 0,
         }
     }
 

@@ -59,6 +59,7 @@ impl CompositionGraph {
         ensures err { OnErr result (self.new ≡ self.old) }
         ensures grows { Enlarges self.old self.new }
     {
+        self.types.see_acyclic();
         self.types.add_defined_type(ty)
     }
 
@@ -69,6 +70,7 @@ impl CompositionGraph {
         ensures err { OnErr result (self.new ≡ self.old) }
         ensures grows { Enlarges self.old self.new }
     {
+        self.types.see_acyclic();
         self.types.add_resource(resource)
     }
 
@@ -79,6 +81,7 @@ impl CompositionGraph {
         ensures err { OnErr result (self.new ≡ self.old) }
         ensures grows { Enlarges self.old self.new }
     {
+        self.types.see_acyclic();
         self.types.add_func_type(func)
     }
 
@@ -89,6 +92,7 @@ impl CompositionGraph {
         ensures err { OnErr result (self.new ≡ self.old) }
         ensures grows { Enlarges self.old self.new }
     {
+        self.types.see_acyclic();
         self.types.add_interface(interface)
     }
 
@@ -99,6 +103,7 @@ impl CompositionGraph {
         ensures err { OnErr result (self.new ≡ self.old) }
         ensures grows { Enlarges self.old self.new }
     {
+        self.types.see_acyclic();
         self.types.add_world(world)
     }
 
@@ -108,6 +113,7 @@ impl CompositionGraph {
         ensures err { OnErr result (self.new ≡ self.old) }
         ensures grows { Enlarges self.old self.new }
     {
+        self.types.see_acyclic();
         self.types.add_module_type(ty)
     }
 }
@@ -204,6 +210,7 @@ impl CompositionGraph {
         ensures err { OnErr result (self.new ≡ self.old) }
         ensures grows { Enlarges self.old self.new }
     {
+        self.types.see_acyclic();
         Package::from_world(
             self.alloc,
             name,
@@ -219,7 +226,9 @@ impl CompositionGraph {
         ensures copied { IfOk result (λ i. IsCopy from.now self.new.types (ItemKind.Component id) (ItemKind.Component i)) }
         ensures grows { Enlarges self.old self.new }
     {
-        copy_world(self.alloc, from, id, &mut self.types.adding())
+        let copied = copy_world(self.alloc, from, id, &mut self.types.adding());
+        self.defined_below = self.types.defined_types().len();
+        copied
     }
 }
 

@@ -1,7 +1,4 @@
-use Rattle.std.proofs.Common.{sym, subst}
-use Rattle.wac_types_base.specs.declared.item.ItemKind.{ItemKind}
-use Rattle.wac_graph_core.specs.NodeMaps.{NoDefinition}
-use Rattle.wac_graph_core.specs.Graph.{Graph}
+use Rattle.std.proofs.Common.{sym}
 use Rattle.wac_graph_core.specs.Steps.{IsExternName}
 use Rattle.wac_graph_core.specs.Defining.{IsResource}
 use Rattle.wac_graph_core.proofs.Calls.{refuted}
@@ -9,19 +6,19 @@ use Rattle.wac_graph_core.proofs.graph.CompositionGraph.definable.Goals as goal
 
 pub returns-then-is_resource-clause-refused : goal.returns-then-is_resource-clause-refused
 returns-then-is_resource-clause-refused c =
-    (subst (λ (g : Graph). NoDefinition g.nodes (ItemKind.Ty c.args.ty)) c.self.view_is c.in_default.ensures.none, c.is_resource.ensures.0 c.if-is_resource.true)
+    (c.in_default.ensures.none, c.is_resource.ensures.0 c.if-is_resource.true)
 
 pub returns-then-not-valid-clause-refused : goal.returns-then-not-valid-clause-refused
 returns-then-not-valid-clause-refused c = (
   c.in_ok-own.ensures.ok,
-  (subst (λ (g : Graph). NoDefinition g.nodes (ItemKind.Ty c.args.ty)) c.self.view_is c.in_default.ensures.none, refuted c.is_resource.result (IsResource c.args.ty) c.is_resource.ensures c.if-is_resource.false),
+  (c.in_default.ensures.none, refuted c.is_resource.result (IsResource c.args.ty) c.is_resource.ensures c.if-is_resource.false),
   refuted c.in_ok-valid.valid (IsExternName c.args.name.now) c.in_ok-valid.ensures c.if-not-valid.true,
 )
 
 pub returns-in-Some-get_export-clause-refused : goal.returns-in-Some-get_export-clause-refused
 returns-in-Some-get_export-clause-refused c = (
   c.in_ok-own.ensures.ok,
-  (subst (λ (g : Graph). NoDefinition g.nodes (ItemKind.Ty c.args.ty)) c.self.view_is c.in_default.ensures.none, refuted c.is_resource.result (IsResource c.args.ty) c.is_resource.ensures c.if-is_resource.false),
+  (c.in_default.ensures.none, refuted c.is_resource.result (IsResource c.args.ty) c.is_resource.ensures c.if-is_resource.false),
   c.in_ok-valid.ensures.0 c.if-not-valid.false,
   c.in-Some-get_export.field-0,
   sym c.in-Some-get_export.ensures,
@@ -31,7 +28,7 @@ pub returns-in-None-clause-found : goal.returns-in-None-clause-found
 returns-in-None-clause-found c =
     record {
       named = c.in_ok-own.ensures.ok;
-      definable = (subst (λ (g : Graph). NoDefinition g.nodes (ItemKind.Ty c.args.ty)) c.self.view_is c.in_default.ensures.none, refuted c.is_resource.result (IsResource c.args.ty) c.is_resource.ensures c.if-is_resource.false);
+      definable = (c.in_default.ensures.none, refuted c.is_resource.result (IsResource c.args.ty) c.is_resource.ensures c.if-is_resource.false);
       valid = c.in_ok-valid.ensures.0 c.if-not-valid.false;
       unexported = sym c.in-None.ensures;
     }

@@ -1,22 +1,24 @@
-use Rattle.std.proofs.Common.{◌≡◌, ◌++◌, ◌∷◌, [], ap, sym, ◌∙◌, subst}
+use Rattle.std.proofs.Common.{◌≡◌, ◌++◌, ◌∷◌, [], length, ap, sym, ◌∙◌, subst}
 use Rattle.std.specs.Prelude.{string_bytes}
 use Rattle.std.specs.FinMap as map
 use Rattle.wac_types_base.specs.declared.item.ItemKind.{ItemKind}
 use Rattle.wac_types_base.specs.Collection.{Stands}
 use Rattle.wac_graph_core.specs.Nodes.{defined_node}
+use Rattle.wac_graph_core.specs.NodeMaps.{AreThose}
 use Rattle.wac_graph_core.specs.Edges.{dependency_edge}
 use Rattle.wac_graph_core.specs.Graph.{Graph}
-use Rattle.wac_graph_core.specs.Defining.{MayDefine, DefinesType}
+use Rattle.wac_graph_core.specs.Defining.{MayDefine, DefinesType, IsUserOf, ReachBelow}
 use Rattle.wac_graph_core.specs.View.{graph}
+use Rattle.wac_graph_core.proofs.Below.{ReachBelow-all}
 use Rattle.wac_graph_core.proofs.Depending.{AddsEach}
-use Rattle.wac_graph_core.proofs.DefineSteps.{define_step, defined_by}
+use Rattle.wac_graph_core.proofs.DefineSteps.{define_step, defined_by, items_stand}
 use Rattle.wac_graph_core.proofs.graph.CompositionGraph.define_type.Goals as goal
 
 pub invariant_of-self-2 : goal.invariant_of-self-2
 invariant_of-self-2 c =
     let k = c.in_ok-id.id in
     let used = c.in_ok-sources.ensures in
-    let users = c.in_ok-targets.ensures in
+    let users = subst (λ (g : Graph). AreThose g.nodes (IsUserOf g.types c.args.ty) c.in_ok-targets.targets.items) (sym c.self.view_is) c.in_ok-targets.ensures in
     let first : AddsEach (λ a. dependency_edge a k) c.self.inside.edges.items c.depend_on.new.edges.items c.in_ok-sources.sources.items =
     subst (λ es. AddsEach (λ a. dependency_edge a k) es c.depend_on.new.edges.items c.in_ok-sources.sources.items) c.reserve_both.ensures.same
     (subst (λ l. AddsEach (λ a. dependency_edge a k) c.reserve_both.new.edges.items c.depend_on.new.edges.items l) c.as_slice.ensures.value c.depend_on.ensures.added) in
@@ -27,14 +29,15 @@ invariant_of-self-2 c =
     let exports : c.push_reserved.new.self.items ≡ c.self.inside.exports.items ++ (c.args.name.now, k) ∷ [] =
     c.push_reserved.ensures.items ∙ ap (λ xs. xs ++ (c.new-text.result, k) ∷ []) c.in_ok-reserve.ensures.items ∙ ap (λ m. c.self.inside.exports.items ++ (m, k) ∷ []) (c.new-text.ensures ∙ c.in-Ok.ensures.found.named) in
     let may = subst (λ g. MayDefine g c.args.name.now c.args.ty (string_bytes c.in-Ok.own)) (sym c.self.view_is) c.in-Ok.ensures.found in
-    defined_by (graph c.self.inside) k c.args.ty c.args.name.now c.in_ok-id.ensures.free c.in_ok-sources.sources.items c.in_ok-targets.targets.items used users c.depend_on.new.edges.items c.depended_by.new.edges.items first second
-    c.insert.new.self c.push_reserved.new.self.items (string_bytes c.in-Ok.own) nodes exports may (subst (λ (g : Graph). Stands g.types (ItemKind.Ty c.args.ty)) (sym c.self.view_is) c.requires) c.self.invariant
+    let made = defined_by (graph c.self.inside) k c.args.ty c.args.name.now c.in_ok-id.ensures.free c.in_ok-sources.sources.items c.in_ok-targets.targets.items used users c.depend_on.new.edges.items c.depended_by.new.edges.items first second
+    c.insert.new.self c.push_reserved.new.self.items (string_bytes c.in-Ok.own) nodes exports may (subst (λ (g : Graph). Stands g.types (ItemKind.Ty c.args.ty)) (sym c.self.view_is) c.requires) c.self.invariant.0 in
+    (made, subst (ReachBelow c.self.inside.types c.insert.new.self) (sym (c.len-self-inside.ensures.value ∙ ap length c.defined_types.ensures.rest)) (ReachBelow-all c.self.inside.types c.see_acyclic.ensures c.insert.new.self (items_stand _ made)))
 
 pub returns-clause-defined : goal.returns-clause-defined
 returns-clause-defined c =
     let k = c.in_ok-id.id in
     let used = c.in_ok-sources.ensures in
-    let users = c.in_ok-targets.ensures in
+    let users = subst (λ (g : Graph). AreThose g.nodes (IsUserOf g.types c.args.ty) c.in_ok-targets.targets.items) (sym c.self.view_is) c.in_ok-targets.ensures in
     let first : AddsEach (λ a. dependency_edge a k) c.self.inside.edges.items c.depend_on.new.edges.items c.in_ok-sources.sources.items =
     subst (λ es. AddsEach (λ a. dependency_edge a k) es c.depend_on.new.edges.items c.in_ok-sources.sources.items) c.reserve_both.ensures.same
     (subst (λ l. AddsEach (λ a. dependency_edge a k) c.reserve_both.new.edges.items c.depend_on.new.edges.items l) c.as_slice.ensures.value c.depend_on.ensures.added) in

@@ -1,19 +1,22 @@
 use Rattle.std.proofs.Common.{None, ap, sym, ◌∙◌, subst}
 use Rattle.wac_types_base.specs.Collection.{Stands}
-use Rattle.wac_graph_core.specs.Nodes.{Role, plain_node}
+use Rattle.wac_graph_core.specs.Nodes.{NodeData, Role, plain_node}
 use Rattle.wac_graph_core.specs.Graph.{Graph}
 use Rattle.wac_graph_core.specs.Steps.{Imports, IsExternName}
 use Rattle.wac_graph_core.specs.NodeMaps.{NoImport}
 use Rattle.wac_graph_core.specs.View.{graph}
 use Rattle.wac_graph_core.proofs.GraphSteps.{import_by}
 use Rattle.wac_graph_core.proofs.Calls.{import_step, refuted}
+use Rattle.wac_graph_core.proofs.Below.{ReachBelow-other}
 use Rattle.wac_graph_core.proofs.graph.CompositionGraph.import.Goals as goal
 
 pub invariant_of-self-2 : goal.invariant_of-self-2
-invariant_of-self-2 c =
-    import_by (graph c.self.inside) c.insert.new.self c.in_ok-id.id c.args.name.now c.args.kind c.new-node.result c.in_ok-id.ensures.added
-    (c.new-node.ensures ∙ ap (λ n. plain_node (Role.Imported n) None c.args.kind) c.in_ok-own.ensures.ok)
-    c.in_ok-id.ensures.free (subst (λ (g : Graph). Stands g.types c.args.kind) (sym c.self.view_is) c.requires) c.in_default.ensures.none c.self.invariant
+invariant_of-self-2 c = (
+  import_by (graph c.self.inside) c.insert.new.self c.in_ok-id.id c.args.name.now c.args.kind c.new-node.result c.in_ok-id.ensures.added
+      (c.new-node.ensures ∙ ap (λ n. plain_node (Role.Imported n) None c.args.kind) c.in_ok-own.ensures.ok)
+      c.in_ok-id.ensures.free (subst (λ (g : Graph). Stands g.types c.args.kind) (sym c.self.view_is) c.requires) c.in_default.ensures.none c.self.invariant.0,
+  ReachBelow-other c.self.inside.types c.self.inside.nodes c.insert.new.self c.self.inside.defined_below c.in_ok-id.id c.new-node.result c.in_ok-id.ensures.added (λ role. absurd (cc (ap (λ (x : NodeData). x.role) c.new-node.ensures, role))) c.self.invariant.1,
+)
 
 pub returns-clause-imported : goal.returns-clause-imported
 returns-clause-imported c =

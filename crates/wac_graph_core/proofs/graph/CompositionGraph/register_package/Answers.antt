@@ -34,10 +34,12 @@ invariant_of-self c =
     (subst (λ k. (i : ℕ) (q : Place) → slice_get c.self.inside.places.items i ≡ Some q → HoldsKey q k → ⊥) c.key.ensures
     (subst (λ ps. (i : ℕ) (q : Place) → slice_get ps i ≡ Some q → HoldsKey q (borrowed_key c.key.result) → ⊥) c.as_slice.ensures.value c.in_default.ensures.none)) in
     let id : PackageId = record { place = c.in-Some-free_place.place; generation = c.fill-generation.result } in
-    let free : IsFreePlace c.self.inside.places.items id = record { place = f.0; there = there; free = f.2; now = c.fill-generation.ensures.now ∙ ap (λ (x : Place). x.generation) same } in
-    free_by (graph c.self.inside) c.args.«package» (slice_set c.self.inside.places.items c.in-Some-free_place.place c.fill-generation.new.place) id
-    (ap (slice_set c.self.inside.places.items c.in-Some-free_place.place) (c.fill-generation.ensures.filled ∙ ap (λ n. held_place n c.args.«package») (sym c.fill-generation.ensures.now)))
-    free none (subst (λ (g : Graph). PackageStands g.types c.args.«package») (sym c.self.view_is) c.requires) c.self.invariant
+    let free : IsFreePlace c.self.inside.places.items id = record { place = f.0; there = there; free = f.2; now = c.fill-generation.ensures.now ∙ ap (λ (x : Place). x.generation) same } in (
+      free_by (graph c.self.inside) c.args.«package» (slice_set c.self.inside.places.items c.in-Some-free_place.place c.fill-generation.new.place) id
+          (ap (slice_set c.self.inside.places.items c.in-Some-free_place.place) (c.fill-generation.ensures.filled ∙ ap (λ n. held_place n c.args.«package») (sym c.fill-generation.ensures.now)))
+          free none (subst (λ (g : Graph). PackageStands g.types c.args.«package») (sym c.self.view_is) c.requires) c.self.invariant.0,
+      c.self.invariant.1,
+    )
 
 pub returns-in-Some-free_place-clause-registered : goal.returns-in-Some-free_place-clause-registered
 returns-in-Some-free_place-clause-registered c =
@@ -70,9 +72,11 @@ invariant_of-self-in-None c =
     no_key (graph c.self.inside) (package_key c.args.«package»)
     (subst (λ k. (i : ℕ) (q : Place) → slice_get c.self.inside.places.items i ≡ Some q → HoldsKey q k → ⊥) c.key.ensures
     (subst (λ ps. (i : ℕ) (q : Place) → slice_get ps i ≡ Some q → HoldsKey q (borrowed_key c.key.result) → ⊥) c.as_slice.ensures.value c.in_default.ensures.none)) in
-    let count : c.len-place.result ≡ length c.self.inside.places.items = omega (arith, c.len-place.ensures, c.self.inside.places.ok) in
-    last_by (graph c.self.inside) c.args.«package» c.push.new.self.items (record { place = c.len-place.result; generation = 0 }) c.in_ok-push-in-None.ensures.items (record { place = count; first = refl }) none
-    (subst (λ (g : Graph). PackageStands g.types c.args.«package») (sym c.self.view_is) c.requires) c.self.invariant
+    let count : c.len-place.result ≡ length c.self.inside.places.items = omega (arith, c.len-place.ensures, c.self.inside.places.ok) in (
+      last_by (graph c.self.inside) c.args.«package» c.push.new.self.items (record { place = c.len-place.result; generation = 0 }) c.in_ok-push-in-None.ensures.items (record { place = count; first = refl }) none
+          (subst (λ (g : Graph). PackageStands g.types c.args.«package») (sym c.self.view_is) c.requires) c.self.invariant.0,
+      c.self.invariant.1,
+    )
 
 pub returns-in_ok-push-in-None-clause-registered : goal.returns-in_ok-push-in-None-clause-registered
 returns-in_ok-push-in-None-clause-registered c =

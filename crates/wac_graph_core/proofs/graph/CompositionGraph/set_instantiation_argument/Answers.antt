@@ -17,15 +17,17 @@ pub invariant_of-self-2 : goal.invariant_of-self-2
 invariant_of-self-2 c =
     let g = graph c.self.inside in
     let reached : IsReached Follow.Flow c.self.inside.edges.items (c.args.instantiation ∷ []) c.in_ok-seen.seen.items =
-    c.in_ok-seen.ensures in
-    argument_by g c.add_edge.new.edges.items c.args.argument c.args.instantiation c.args.name.now c.in-Ok.item (argument_edge c.args.argument c.args.instantiation c.new-text.result) c.in_ok-seen.seen.items
-    (subst (λ es. AddsEdge es c.add_edge.new.edges.items (argument_edge c.args.argument c.args.instantiation c.new-text.result)) c.in_ok-reserve.ensures.items c.add_edge.ensures)
-    (ap (argument_edge c.args.argument c.args.instantiation) (c.new-text.ensures ∙ c.in_ok-own.ensures.ok))
-    (subst (λ g. ContainsNode g c.args.argument) (sym c.self.view_is) c.requires.argument)
-    (subst (λ g. ContainsNode g c.args.instantiation) (sym c.self.view_is) c.requires.instantiation)
-    (subst (λ g. IsArgument g c.args.instantiation c.args.name.now c.in-Ok.item) (sym c.self.view_is) c.in-Ok.ensures.found)
-    c.in_default.ensures.none
-    reached (sym (c.is_among.ensures ∙ ap (λ l. has l c.args.argument) c.as_slice.ensures.value) ∙ c.if-is_among.false) c.self.invariant
+    c.in_ok-seen.ensures in (
+      argument_by g c.add_edge.new.edges.items c.args.argument c.args.instantiation c.args.name.now c.in-Ok.item (argument_edge c.args.argument c.args.instantiation c.new-text.result) c.in_ok-seen.seen.items
+          (subst (λ es. AddsEdge es c.add_edge.new.edges.items (argument_edge c.args.argument c.args.instantiation c.new-text.result)) c.in_ok-reserve.ensures.items c.add_edge.ensures)
+          (ap (argument_edge c.args.argument c.args.instantiation) (c.new-text.ensures ∙ c.in_ok-own.ensures.ok))
+          (subst (λ g. ContainsNode g c.args.argument) (sym c.self.view_is) c.requires.argument)
+          (subst (λ g. ContainsNode g c.args.instantiation) (sym c.self.view_is) c.requires.instantiation)
+          (subst (λ g. IsArgument g c.args.instantiation c.args.name.now c.in-Ok.item) (sym c.self.view_is) c.in-Ok.ensures.found)
+          c.in_default.ensures.none
+          reached (sym (c.is_among.ensures ∙ ap (λ l. has l c.args.argument) c.as_slice.ensures.value) ∙ c.if-is_among.false) c.self.invariant.0,
+      c.self.invariant.1,
+    )
 
 pub returns-in-Some-fault-clause-refused : goal.returns-in-Some-fault-clause-refused
 returns-in-Some-fault-clause-refused c =

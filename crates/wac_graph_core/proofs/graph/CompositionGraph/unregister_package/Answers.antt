@@ -39,7 +39,7 @@ give_up-requires c =
     let taken = subst (λ h. TakesNodes c.args.self.now h gone) (sym c.self-2.view_is) (subst (λ l. TakesNodes c.args.self.now c.remove_nodes.new.self l) c.as_slice-2.ensures.value c.remove_nodes.ensures) in
     let left = held_left c.args.self.now (graph c.self-2.inside) c.args.«package» starts gone are reached taken c.requires in
     let same = got c.self-2.inside.places.items c.args.«package».place left.2.place c.index_mut.result.now left.2.there c.index_mut.ensures.value in
-    subst (λ (x : Place). x.generation < 18446744073709551615) (sym same) (c.self-2.invariant.packages.low c.args.«package».place left.2.place left.2.there (subst IsSome (sym left.2.held) refl))
+    subst (λ (x : Place). x.generation < 18446744073709551615) (sym same) (c.self-2.invariant.0.packages.low c.args.«package».place left.2.place left.2.there (subst IsSome (sym left.2.held) refl))
 
 pub invariant_of-self : goal.invariant_of-self
 invariant_of-self c =
@@ -50,9 +50,11 @@ invariant_of-self c =
     let taken = subst (λ h. TakesNodes c.args.self.now h gone) (sym c.self-2.view_is) (subst (λ l. TakesNodes c.args.self.now c.remove_nodes.new.self l) c.as_slice-2.ensures.value c.remove_nodes.ensures) in
     let left = held_left c.args.self.now (graph c.self-2.inside) c.args.«package» starts gone are reached taken c.requires in
     let same = got c.self-2.inside.places.items c.args.«package».place left.2.place c.index_mut.result.now left.2.there c.index_mut.ensures.value in
-    let place = c.give_up.ensures ∙ ap left_place (ap (λ (x : Place). x.generation) same ∙ left.2.now) in
-    given_up_by c.args.self.now (graph c.self-2.inside) c.args.«package» starts gone are reached taken (slice_set c.self-2.inside.places.items c.args.«package».place c.give_up.new.place) left.0 left.1
-    (ap (slice_set c.self-2.inside.places.items c.args.«package».place) place) c.self-2.invariant
+    let place = c.give_up.ensures ∙ ap left_place (ap (λ (x : Place). x.generation) same ∙ left.2.now) in (
+      given_up_by c.args.self.now (graph c.self-2.inside) c.args.«package» starts gone are reached taken (slice_set c.self-2.inside.places.items c.args.«package».place c.give_up.new.place) left.0 left.1
+          (ap (slice_set c.self-2.inside.places.items c.args.«package».place) place) c.self-2.invariant.0,
+      c.self-2.invariant.1,
+    )
 
 pub returns-clause-grow : goal.returns-clause-grow
 returns-clause-grow c =

@@ -7,8 +7,10 @@ use Rattle.wac_graph_core.proofs.Calls.{unset_step}
 use Rattle.wac_graph_core.proofs.graph.CompositionGraph.unset_instantiation_argument.Goals as goal
 
 pub invariant_of-self : goal.invariant_of-self
-invariant_of-self c =
-    IsGraph-unset (graph c.self.inside) c.remove_argument.new.edges.items c.args.argument c.args.instantiation c.args.name.now c.remove_argument.ensures c.self.invariant
+invariant_of-self c = (
+  IsGraph-unset (graph c.self.inside) c.remove_argument.new.edges.items c.args.argument c.args.instantiation c.args.name.now c.remove_argument.ensures c.self.invariant.0,
+  c.self.invariant.1,
+)
 
 pub returns-in-Err-clause-refused : goal.returns-in-Err-clause-refused
 returns-in-Err-clause-refused c = c.in-Err.ensures.lacks
