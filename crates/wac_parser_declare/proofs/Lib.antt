@@ -7,6 +7,9 @@ pub mod Members
 pub mod Named
 pub mod Aliasing
 pub mod InBodies
+pub mod Exports
+pub mod InUses
+pub mod Roots
 pub mod RowWords
 pub mod RefusedRows
 pub mod Standing

@@ -11,3 +11,4 @@ pub mod Holding
 pub mod Payloads
 pub mod Held
 pub mod InBodies
+pub mod InUses

@@ -6,6 +6,7 @@ ghost use Rattle.wac_types_base.specs.declared.item.ItemKind.{ItemKind};
 ghost use Rattle.wac_types_base.specs.Collection.{Stands, Grows};
 ghost use Rattle.wac_parser_declare.specs.Held.{BodyStands};
 ghost use Rattle.wac_parser_declare.specs.Holding.{NamesStand};
+ghost use Rattle.wac_parser_declare.specs.InUses.{Exports};
 
 use crate::bodies::{Body, Holder, add_item};
 use crate::functions::func_type_ref;
@@ -46,6 +47,7 @@ fn export_item<T: PackagedTypes>(
     body: &mut Body,
 ) -> Outcome<()>
     requires body { BodyStands (T.collection types.old) body.old }
+    ensures outcome { Exports holder.entry export.now (T.collection types.old) body.old (T.collection types.new) body.new result }
     ensures body { OnOk result (BodyStands (T.collection types.new) body.new) }
     ensures grows { Grows (T.collection types.old) (T.collection types.new) }
 {

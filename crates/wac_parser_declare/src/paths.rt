@@ -2,10 +2,12 @@
 #![tactic(auto, using(crate::proofs::Standing::paths))]
 
 ghost use Rattle.std.specs.Prelude.{◌≡◌, IfOk, IfSome};
+ghost use Rattle.std.specs.Option.{option_copied};
 ghost use Rattle.wac_types_base.specs.declared.item.ItemKind.{ItemKind};
 ghost use Rattle.wac_types_base.specs.declared.item.«Type».{«Type» as TypeKind};
 ghost use Rattle.wac_types_base.specs.Collection.{Stands, Grows};
 ghost use Rattle.wac_parser_declare.specs.Holding.{NamesStand, ItemsStand};
+ghost use Rattle.wac_parser_declare.specs.InUses.{AreExports, IsExport, IsInterfaceAt, IsInterfaceOf, IsInterfaceType, IsItemNamed, IsRootInterface};
 
 use crate::growing::PackagedTypes;
 use crate::scope::{Binding, Context, meaning};
@@ -15,15 +17,30 @@ use wac_parser_refusals::{Error, Outcome, Refusal, not_interface, not_world, und
 use wac_parser_tree::{Ident, PackagePath, UsePath, WorldRef};
 use wac_types_base::{InterfaceId, ItemKind, NamedMap, Type, Types, WorldId};
 
+/// The exports of a type, where it can have some.
+fn type_exports(types: &Types, ty: Type) -> Option<&NamedMap<ItemKind>>
+    requires { Stands types.now (ItemKind.Ty ty) }
+    ensures exports { AreExports types.now (ItemKind.Ty ty) (option_copied result) }
+    ensures stand { IfSome result (λ es. ItemsStand types.now es.now) }
+{
+    types.see_acyclic();
+    match ty {
+        Type::Interface(id) => Some(&types.interface(id).exports),
+        Type::World(id) => Some(&types.world(id).exports),
+        _other => None,
+    }
+}
+
 /// The exports of an item, where it can have some.
 fn exports_of(types: &Types, kind: ItemKind) -> Option<&NamedMap<ItemKind>>
     requires { Stands types.now kind }
-    ensures { IfSome result (λ es. ItemsStand types.now es.now) }
+    ensures exports { AreExports types.now kind (option_copied result) }
+    ensures stand { IfSome result (λ es. ItemsStand types.now es.now) }
 {
+    types.see_acyclic();
     match kind {
-        ItemKind::Ty(Type::Interface(id)) => Some(&types.interface(id).exports),
+        ItemKind::Ty(ty) => type_exports(types, ty),
         ItemKind::Instance(id) => Some(&types.interface(id).exports),
-        ItemKind::Ty(Type::World(id)) => Some(&types.world(id).exports),
         ItemKind::Component(id) => Some(&types.world(id).exports),
         _other => None,
     }
@@ -32,7 +49,8 @@ fn exports_of(types: &Types, kind: ItemKind) -> Option<&NamedMap<ItemKind>>
 /// An export of an item.
 pub(crate) fn export_of(types: &Types, kind: ItemKind, name: &str) -> Option<ItemKind>
     requires { Stands types.now kind }
-    ensures { IfSome result (Stands types.now) }
+    ensures export { IsExport types.now kind name.now result }
+    ensures stands { IfSome result (Stands types.now) }
 {
     let exports = exports_of(types, kind)?;
     match exports.get(name) {
@@ -84,7 +102,8 @@ fn item_named(
     id: &Ident<'_>,
 ) -> Outcome<ItemKind>
     requires { NamesStand types.now names.now }
-    ensures { IfOk result (Stands types.now) }
+    ensures outcome { IsItemNamed types.now names.now id.now types.now result }
+    ensures stands { IfOk result (Stands types.now) }
 {
     types.see_acyclic();
     let binding = meaning(alloc, names, id)?;
@@ -235,12 +254,27 @@ fn root_item<T: PackagedTypes>(
     id: &Ident<'_>,
 ) -> Outcome<ItemKind>
     requires { NamesStand (T.collection types.old) context.root.now }
+    ensures outcome { IsItemNamed (T.collection types.old) context.entry.root.now id.now (T.collection types.new) result }
     ensures stands { IfOk result (Stands (T.collection types.new)) }
     ensures grows { Grows (T.collection types.old) (T.collection types.new) }
 {
     let collection = types.types();
     collection.see_acyclic();
     item_named(alloc, collection, context.root, id)
+}
+
+/// The interface that an item is the type of.
+fn interface_of(kind: ItemKind) -> Option<InterfaceId>
+    ensures interface { IsInterfaceType kind result }
+    ensures same { IfSome result (λ i. kind ≡ ItemKind.Ty (TypeKind.Interface i)) }
+{
+    let ItemKind::Ty(ty) = kind else {
+        return None;
+    };
+    match ty {
+        Type::Interface(id) => Some(id),
+        _other => None,
+    }
 }
 
 /// An item that is to be an interface.
@@ -251,11 +285,13 @@ fn as_interface(
     path: &Ident<'_>,
 ) -> Outcome<InterfaceId>
     requires { Stands types.now kind }
-    ensures { IfOk result (λ i. Stands types.now (ItemKind.Instance i)) }
+    ensures outcome { IsInterfaceOf types.now kind path.now result }
+    ensures stands { IfOk result (λ i. Stands types.now (ItemKind.Instance i)) }
 {
-    match kind {
-        ItemKind::Ty(Type::Interface(id)) => Ok(id),
-        other => Err(not_interface(alloc, path.string, other.desc(types), path.span)),
+    types.see_acyclic();
+    match interface_of(kind) {
+        Some(id) => Ok(id),
+        None => Err(not_interface(alloc, path.string, kind.desc(types), path.span)),
     }
 }
 
@@ -282,6 +318,7 @@ pub(crate) fn root_interface<T: PackagedTypes>(
     id: &Ident<'_>,
 ) -> Outcome<InterfaceId>
     requires { NamesStand (T.collection types.old) context.root.now }
+    ensures outcome { IsRootInterface (T.collection types.old) context.entry.root.now id.now (T.collection types.new) result }
     ensures stands { IfOk result (λ i. Stands (T.collection types.new) (ItemKind.Instance i)) }
     ensures grows { Grows (T.collection types.old) (T.collection types.new) }
 {
@@ -297,6 +334,7 @@ pub fn interface_at<T: PackagedTypes>(
     types: &mut T,
 ) -> Outcome<InterfaceId>
     requires { NamesStand (T.collection types.old) context.root.now }
+    ensures outcome { IsInterfaceAt path.now (T.collection types.old) context.entry.root.now (T.collection types.new) result }
     ensures stands { IfOk result (λ i. Stands (T.collection types.new) (ItemKind.Instance i)) }
     ensures grows { Grows (T.collection types.old) (T.collection types.new) }
 {

@@ -1,12 +1,15 @@
 //! Types of another interface that a body uses.
 #![tactic(auto, using(crate::proofs::Standing::bodies))]
 
-ghost use Rattle.std.specs.Prelude.{◌≡◌, OnOk, IfOk, IfSome};
+ghost use Rattle.std.specs.Prelude.{◌≡◌, OnOk, IfOk, IfSome, is_none, is_some};
 ghost use Rattle.wac_types_base.specs.declared.item.ItemKind.{ItemKind};
-ghost use Rattle.wac_types_base.specs.Record.{Collection};
 ghost use Rattle.wac_types_base.specs.Collection.{Stands, Grows};
+ghost use Rattle.wac_parser_tree.specs.Views.{view_ident, view_use_item, view_use_path};
+ghost use Rattle.wac_parser_declare.specs.Bodies as stated;
 ghost use Rattle.wac_parser_declare.specs.Held.{BodyStands};
 ghost use Rattle.wac_parser_declare.specs.Holding.{NamesStand};
+ghost use Rattle.wac_parser_declare.specs.InUses.{AreUsed, UsesRoot, IsTypeUsed, IsUsable, IsUseAdded, UseStands};
+ghost use Rattle.wac_parser_declare.specs.Scope as scope;
 
 use crate::bodies::{Body, Holder};
 use crate::functions::add_new;
@@ -27,7 +30,9 @@ struct Used<'a> {
 }
 
 /// The text of a path.
-fn path_text<'a>(path: &UsePath<'a>) -> &'a str {
+fn path_text<'a>(path: &UsePath<'a>) -> &'a str
+    ensures { result.now ≡ scope.path_text (scope.use_path (view_use_path path.now)) }
+{
     match path {
         UsePath::Package(path) => path.string,
         UsePath::Ident(id) => id.string,
@@ -35,7 +40,9 @@ fn path_text<'a>(path: &UsePath<'a>) -> &'a str {
 }
 
 /// The name of a used type here.
-fn local_name<'a>(item: &UseItem<'a>) -> Ident<'a> {
+fn local_name<'a>(item: &UseItem<'a>) -> Ident<'a>
+    ensures { view_ident result ≡ stated.local_name (view_use_item item.now) }
+{
     match item.as_id {
         Some(id) => id,
         None => item.id,
@@ -43,7 +50,9 @@ fn local_name<'a>(item: &UseItem<'a>) -> Ident<'a> {
 }
 
 /// The name there, where it is another.
-fn name_there(item: &UseItem<'_>, alloc: Global) -> Result<Option<Text>, AllocError> {
+fn name_there(item: &UseItem<'_>, alloc: Global) -> Result<Option<Text>, AllocError>
+    ensures { IfOk result (λ n. n ≡ stated.name_there (view_use_item item.now)) }
+{
     match item.as_id {
         Some(_) => Ok(Some(Text::new(String::from_str(alloc, item.id.string)?))),
         None => Ok(None),
@@ -51,7 +60,9 @@ fn name_there(item: &UseItem<'_>, alloc: Global) -> Result<Option<Text>, AllocEr
 }
 
 /// What may help where the name is there already.
-fn help_for(item: &UseItem<'_>) -> Option<&'static str> {
+fn help_for(item: &UseItem<'_>) -> Option<&'static str>
+    ensures { is_some result ≡ is_none (view_use_item item.now).as_id }
+{
     match item.as_id {
         Some(_) => None,
         None => Some(AS_HELP),
@@ -60,11 +71,15 @@ fn help_for(item: &UseItem<'_>) -> Option<&'static str> {
 
 /// The type that an item is, if it can be used.
 fn usable(kind: ItemKind) -> Option<Type>
-    ensures { IfSome result (λ t. kind ≡ ItemKind.Ty t) }
+    ensures usable { IsUsable kind result }
+    ensures same { IfSome result (λ t. kind ≡ ItemKind.Ty t) }
 {
-    match kind {
-        ItemKind::Ty(Type::Resource(id)) => Some(Type::Resource(id)),
-        ItemKind::Ty(Type::Value(ty)) => Some(Type::Value(ty)),
+    let ItemKind::Ty(ty) = kind else {
+        return None;
+    };
+    match ty {
+        Type::Resource(_) => Some(ty),
+        Type::Value(_) => Some(ty),
         _other => None,
     }
 }
@@ -72,8 +87,10 @@ fn usable(kind: ItemKind) -> Option<Type>
 /// The type that is used.
 fn used_type(item: &UseItem<'_>, alloc: Global, types: &Types, from: Used<'_>) -> Outcome<Type>
     requires { Stands types.now (ItemKind.Instance from.interface) }
-    ensures { IfOk result (λ t. Stands types.now (ItemKind.Ty t)) }
+    ensures outcome { IsTypeUsed types.now from.entry item.now result }
+    ensures stands { IfOk result (λ t. Stands types.now (ItemKind.Ty t)) }
 {
+    types.see_acyclic();
     let interface = ItemKind::Instance(from.interface);
     let Some(kind) = export_of(types, interface, item.id.string) else {
         return Err(undefined_type(alloc, item.id.string, from.path, item.id.span));
@@ -99,7 +116,8 @@ fn add_use(
     interface: InterfaceId,
     ty: Type,
 ) -> Outcome<()>
-    ensures { OnOk result ((c : Collection) → BodyStands c body.old → Stands c (ItemKind.Instance interface) → Stands c (ItemKind.Ty ty) → BodyStands c body.new) }
+    ensures outcome { IsUseAdded holder.entry item.now body.old interface ty body.new result }
+    ensures stands { UseStands body.old interface ty body.new result }
 {
     let id = local_name(item);
     if body.items.contains(id.string) || body.uses.contains(id.string) {
@@ -126,8 +144,10 @@ fn use_items(
 ) -> Outcome<()>
     requires interface { Stands types.now (ItemKind.Instance from.interface) }
     requires body { BodyStands types.now body.old }
-    ensures { OnOk result (BodyStands types.now body.new) }
+    ensures outcome { AreUsed holder.entry items.now.items types.now from.entry body.old body.new result }
+    ensures stands { OnOk result (BodyStands types.now body.new) }
 {
+    types.see_acyclic();
     for item in items {
         let ty = used_type(item, alloc, types, from)?;
         add_use(item, alloc, holder, body, from.interface, ty)?;
@@ -146,6 +166,7 @@ pub(crate) fn use_types<T: PackagedTypes>(
 ) -> Outcome<()>
     requires root { NamesStand (T.collection types.old) context.root.now }
     requires body { BodyStands (T.collection types.old) body.old }
+    ensures outcome { UsesRoot holder.entry item.now context.entry.root.now (T.collection types.old) body.old (T.collection types.new) body.new result }
     ensures body { OnOk result (BodyStands (T.collection types.new) body.new) }
     ensures grows { Grows (T.collection types.old) (T.collection types.new) }
 {

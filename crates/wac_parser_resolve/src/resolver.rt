@@ -47,7 +47,7 @@ impl Drop for Said {
 impl Said {
     /// The graph, taken out.
     fn into_graph(self) -> CompositionGraph
-        ensures { result ≡ self.entry.graph }
+        ensures { result ≡ self.graph }
     {
         let Said {
             graph,
