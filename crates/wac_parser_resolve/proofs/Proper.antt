@@ -9,7 +9,7 @@ use Rattle.wac_types_base.specs.Stated.{Stated, places_in, with_names, names, fi
 use Rattle.wac_types_base.specs.Tree.{Tree, Fields, trees, tree, tree_at}
 use Rattle.wac_composition.specs.Classes.{is_instance}
 use Rattle.wac_composition.specs.Sound.{IsStraight, an_instance, no_instance}
-use Rattle.wac_composition.proofs.KeptFits.{row_places}
+use Rattle.wac_types_base.proofs.Made.{row_places}
 use Rattle.wac_composition.proofs.NotWritten.{among_split, among_map}
 use Rattle.wac_parser_resolve.specs.Proper.{NoInstance, NamesNoInstance, Proper, proper}
 use Rattle.wac_types_fit.proofs.Items.{value_at-among}
