@@ -2,10 +2,8 @@
 #![tactic(auto)]
 
 mod declared;
-mod printed;
 mod shown;
 mod teller;
-mod values;
 
 use std::io::{self, Read};
 use std::process::ExitCode;

@@ -1,8 +1,6 @@
 //! What comes of a row: its document is parsed, and what the row asks for is told.
 
 use crate::declared::declared;
-use crate::printed::printed;
-use crate::values::values;
 use anyhow::{Result, bail};
 use std::alloc::{AllocError, Global};
 use wac_parser_lexer::SourceSpan;
@@ -10,23 +8,12 @@ use wac_parser_read::{Error, ParseDocument};
 use wac_parser_tree::Document;
 use wac_rows::{Part, Row, RowTeller};
 
-/// Reads the document of a row. The first part that is known has the source: `declares` with the name of an item, `prints` with
-/// a unit of indentation, `value` with parts `at` behind it, or `reads`.
+/// Reads the document of a row. The first part that is known has the source: `declares` with the name of an item, or `reads`.
 pub(crate) struct Reader;
 
 /// A part's source. It ends before `(end)` where that stands, so that line feeds can end it.
 fn source_of<'a>(part: &Part<'a>) -> &'a str {
     part.text.strip_suffix("(end)").unwrap_or(part.text)
-}
-
-/// The unit of indentation of a name.
-fn unit_named(name: &str) -> Result<&'static str> {
-    match name {
-        "" => Ok("  "),
-        "four blanks" => Ok("    "),
-        "tabs" => Ok("\t"),
-        _ => bail!("no such unit of indentation"),
-    }
 }
 
 /// Where a fault of parsing stands.
@@ -60,10 +47,6 @@ impl RowTeller for Reader {
             let source = source_of(part);
             match part.kind {
                 "declares" => return declared::<Document<'_>>(source, alloc, part.name),
-                "prints" => {
-                    return printed(source, alloc, unit_named(part.name)?);
-                }
-                "value" => return values::<Document<'_>>(source, alloc, &row.parts),
                 "reads" => return Ok(read::<Document<'_>>(source, alloc)?),
                 _ => {}
             }

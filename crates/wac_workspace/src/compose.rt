@@ -229,11 +229,11 @@ fn document_graph(
     Ok(resolution.into_graph())
 }
 
-// A document is owned by one function, which looks at it by a method of a trait without its lifetime: a proof then need
-// not take the whole tree of types apart.
+// A document is looked at and dropped by functions that are generic in its type, without its lifetime: a proof then need not
+// take the whole tree of types apart.
 
 /// Documents that are composed.
-trait ComposeDocument: Sized {
+trait ComposeDocument: Sized + Drop {
     // the package that the directive names
     ghost package_of: { Self → PackageTree };
 
@@ -281,6 +281,33 @@ impl<'s> ComposeDocument for Document<'s> {
     }
 }
 
+/// What a document that is handed over is composed to, by the next three numbers, and the number behind them.
+fn compose_whole<D: ComposeDocument>(
+    document: D,
+    alloc: Global,
+    packages: &Packages<'_>,
+    next: u64,
+    options: EncodeOptions,
+) -> Result<(Output, u64), ComposeError>
+    ensures output { IfOk result (λ r. IsOf next (D.package_of document) r.0) }
+    ensures after { IfOk result (λ r. r.1 ≡ next + 3) }
+    ensures refused { IfErr result (IsUnencoded next) }
+{
+    document.compose(alloc, packages, next, options)
+}
+
+/// The graph of a document that is handed over.
+fn graph_of_whole<D: ComposeDocument>(
+    document: D,
+    alloc: Global,
+    packages: &Packages<'_>,
+) -> Result<CompositionGraph, ComposeError>
+    ensures number { IfOk result (λ g. g.types.number ≡ greatest) }
+    ensures refused { IfErr result IsOfResolving }
+{
+    document.graph(alloc, packages)
+}
+
 /// What a source is composed to, by the next three numbers, over these packages, and the number behind.
 fn compose_source(
     source: &str,
@@ -294,7 +321,7 @@ fn compose_source(
     ensures refused { IfErr result (IsUnmade next source.now) }
 {
     let document: Document<'_> = ParseDocument::parse(alloc, source)?;
-    document.compose(alloc, packages, next, options)
+    compose_whole(document, alloc, packages, next, options)
 }
 
 /// The same over the packages of these entries.
@@ -324,7 +351,7 @@ fn source_graph(
     ensures refused { IfErr result (IsUnresolved source.now) }
 {
     let document: Document<'_> = ParseDocument::parse(alloc, source)?;
-    document.graph(alloc, packages)
+    graph_of_whole(document, alloc, packages)
 }
 
 impl Workspace {
