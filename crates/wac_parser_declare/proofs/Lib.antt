@@ -10,6 +10,7 @@ pub mod InBodies
 pub mod Exports
 pub mod InUses
 pub mod Roots
+pub mod PathSteps
 pub mod RowWords
 pub mod RefusedRows
 pub mod Standing

@@ -12,11 +12,8 @@ use Rattle.wac_parser_tree.specs.Trees as t
 use Rattle.wac_parser_tree.specs.Trees.{Span}
 use Rattle.wac_parser_tree.specs.declared.text.Ident.{Ident}
 use Rattle.wac_parser_tree.specs.declared.interface.InterfaceExport.{InterfaceExport}
-use Rattle.wac_parser_tree.specs.declared.interface.Use.{Use}
 use Rattle.wac_parser_tree.specs.declared.interface.UseItem.{UseItem}
-use Rattle.wac_parser_tree.specs.declared.interface.UsePath.{UsePath}
-use Rattle.wac_parser_tree.specs.declared.interface.UsePath.TheVariants as use_kind
-use Rattle.wac_parser_tree.specs.Views.{view_ident, view_interface_export, view_use, view_use_item}
+use Rattle.wac_parser_tree.specs.Views.{view_ident, view_interface_export, view_use_item}
 use Rattle.wac_parser_refusals.specs.declared.refusal.Refusal.{Refusal}
 use Rattle.wac_parser_refusals.specs.Causes.{Answer, ◌>>=◌, ◌>>◌, each, present, pure, unless_clear, NotInterface, NotInterfaceValueType, UndefinedInterfaceType, UseConflict}
 use Rattle.wac_parser_refusals.specs.Outcomes.{IsOutcome}
@@ -24,7 +21,7 @@ use Rattle.wac_parser_declare.specs.declared.bodies.Body.{Body}
 use Rattle.wac_parser_declare.specs.declared.bodies.Holder.{Holder}
 use Rattle.wac_parser_declare.specs.declared.uses.Used.{Used}
 use Rattle.wac_parser_declare.specs.Bodies as stated
-use Rattle.wac_parser_declare.specs.Bodies.{interface_at, is_interface, is_used, local_name, usable, use_one, use_types, with_use}
+use Rattle.wac_parser_declare.specs.Bodies.{interface_at, is_interface, is_used, local_name, usable, use_one, with_use}
 use Rattle.wac_parser_declare.specs.Functions.{Names}
 use Rattle.wac_parser_declare.specs.Held.{BodyStands, holder_of, stated_body}
 use Rattle.wac_parser_declare.specs.Holding.{Holds, IsType, scope_of}
@@ -109,16 +106,6 @@ IsInterfaceOf c k path r = IsOutcome (AnInterface c) (interface_in path.string.n
 abbrev pub IsRootInterface : Collection → Names → Ident → Collection → Result InterfaceId Refusal → Type 0
 IsRootInterface c names i d r =
     (x : Context) → x.root ≡ scope_of c names → IsOutcome (AnInterface d) (interface_at x (at_root (view_ident i))) r
-
--- the interface of a path that is a name of the root
-abbrev pub IsInterfaceAt : UsePath → Collection → Names → Collection → Result InterfaceId Refusal → Type 0
-IsInterfaceAt p c names d r = (i : Ident) → p ≡ use_kind.Ident i → IsRootInterface c names i d r
-
--- a use whose path is a name of the root
-abbrev pub UsesRoot : Holder → Use → Names → Collection → Body → Collection → Body → Result ⊤ Refusal → Type 0
-UsesRoot h u names c old d new r =
-    (x : Context) (i : Ident) → x.root ≡ scope_of c names → u.path ≡ use_kind.Ident i
-    → IsOutcome (λ b v. IsBody d b new) (use_types x (holder_of h) (stated_body c old) (view_use u)) r
 
 -- ---- interfaces
 

@@ -12,3 +12,4 @@ pub mod Payloads
 pub mod Held
 pub mod InBodies
 pub mod InUses
+pub mod InPaths

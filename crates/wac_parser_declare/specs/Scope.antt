@@ -123,16 +123,19 @@ joined (i ∷ []) = i.0
 joined (i ∷ is) = i.0 ++ (codes "/" ++ joined is)
 
 -- further segments are exports
+abbrev pub own_export : Name → Stated → Segment → Answer Stated
+own_export parent x i = present (value_at (exports_of x) i.0) (PackagePathMissingExport parent (desc x) i.0) i.1
+
 abbrev pub own_path : Name → Stated → List Segment → Answer Stated
 own_path parent x [] = pure x
-own_path parent x (i ∷ is) =
-    present (value_at (exports_of x) i.0) (PackagePathMissingExport parent (desc x) i.0) i.1 >>= λ y. own_path i.0 y is
+own_path parent x (i ∷ is) = own_export parent x i >>= λ y. own_path i.0 y is
+
+abbrev pub foreign_export : Name → Name → Stated → Segment → Answer Stated
+foreign_export p passed x i = present (value_at (exports_of x) i.0) (PackageMissingExport p i.0 (Some (desc x)) passed) i.1
 
 abbrev pub package_path : Name → List Segment → Stated → List Segment → Answer Stated
 package_path p passed x [] = pure x
-package_path p passed x (i ∷ is) =
-    present (value_at (exports_of x) i.0) (PackageMissingExport p i.0 (Some (desc x)) (joined passed)) i.1
-    >>= λ y. package_path p (passed ++ i ∷ []) y is
+package_path p passed x (i ∷ is) = foreign_export p (joined passed) x i >>= λ y. package_path p (passed ++ i ∷ []) y is
 
 -- a segment as a name
 abbrev pub segment_ident : Segment → t.Ident

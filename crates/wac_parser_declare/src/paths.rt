@@ -1,20 +1,24 @@
 //! What paths name.
 #![tactic(auto, using(crate::proofs::Standing::paths))]
 
-ghost use Rattle.std.specs.Prelude.{◌≡◌, IfOk, IfSome};
+ghost use Rattle.std.specs.Prelude.{◌≡◌, IfOk, IfSome, None, option_map};
 ghost use Rattle.std.specs.Option.{option_copied};
 ghost use Rattle.wac_types_base.specs.declared.item.ItemKind.{ItemKind};
 ghost use Rattle.wac_types_base.specs.declared.item.«Type».{«Type» as TypeKind};
+ghost use Rattle.wac_types_base.specs.declared.ids.WorldId.{WorldId as WorldKey};
 ghost use Rattle.wac_types_base.specs.Collection.{Stands, Grows};
+ghost use Rattle.wac_parser_refusals.specs.Causes as fault;
+ghost use Rattle.wac_parser_refusals.specs.Outcomes.{Refuses};
 ghost use Rattle.wac_parser_declare.specs.Holding.{NamesStand, ItemsStand};
-ghost use Rattle.wac_parser_declare.specs.InUses.{AreExports, IsExport, IsInterfaceAt, IsInterfaceOf, IsInterfaceType, IsItemNamed, IsRootInterface};
+ghost use Rattle.wac_parser_declare.specs.InPaths.{IsForeignExport, IsForeignRest, IsInterfaceAt, IsOwnExport, IsOwnPath, IsOwnRest, IsPathInterface, IsPathItem, IsWorldAt, IsWorldIn, IsWorldOf};
+ghost use Rattle.wac_parser_declare.specs.InUses.{AreExports, IsExport, IsInterfaceOf, IsInterfaceType, IsItemNamed, IsRootInterface};
 
 use crate::growing::PackagedTypes;
 use crate::scope::{Binding, Context, meaning};
 use std::alloc::{AllocError, Global};
 use wac_parser_lexer::SourceSpan;
 use wac_parser_refusals::{Error, Outcome, Refusal, not_interface, not_world, undefined_name};
-use wac_parser_tree::{Ident, PackagePath, UsePath, WorldRef};
+use wac_parser_tree::{Ident, PackagePath, SegmentSpans, UsePath, WorldRef};
 use wac_types_base::{InterfaceId, ItemKind, NamedMap, Type, Types, WorldId};
 
 /// The exports of a type, where it can have some.
@@ -59,21 +63,29 @@ pub(crate) fn export_of(types: &Types, kind: ItemKind, name: &str) -> Option<Ite
     }
 }
 
-/// An export that an item of the document's own package lacks.
+/// The refusal of an export that an item of the document's own package lacks.
 fn own_missing(
     alloc: Global,
     parent: &str,
     kind: &'static str,
     export: &str,
     span: SourceSpan,
-) -> Result<Refusal, AllocError> {
+) -> Refusal
+    ensures { Refuses result (fault.PackagePathMissingExport parent.now kind.now export.now) span }
+{
+    let Ok(name) = String::from_str(alloc, parent) else {
+        return Refusal::Memory;
+    };
+    let Ok(export) = String::from_str(alloc, export) else {
+        return Refusal::Memory;
+    };
     let error = Error::PackagePathMissingExport {
-        name: String::from_str(alloc, parent)?,
+        name,
         kind,
-        export: String::from_str(alloc, export)?,
+        export,
         span,
     };
-    Ok(Refusal::named(alloc, error))
+    Refusal::named(alloc, error)
 }
 
 /// The export that a further segment names.
@@ -86,11 +98,13 @@ fn own_step(
     span: SourceSpan,
 ) -> Outcome<ItemKind>
     requires { Stands types.now kind }
-    ensures { IfOk result (Stands types.now) }
+    ensures outcome { IsOwnExport types.now parent.now kind (segment.now, span) result }
+    ensures stands { IfOk result (Stands types.now) }
 {
+    types.see_acyclic();
     match export_of(types, kind, segment) {
         Some(next) => Ok(next),
-        None => Err(own_missing(alloc, parent, kind.desc(types), segment, span)?),
+        None => Err(own_missing(alloc, parent, kind.desc(types), segment, span)),
     }
 }
 
@@ -110,6 +124,27 @@ fn item_named(
     Ok(binding.kind)
 }
 
+/// The item to which the further segments of a path lead, each an export of the item before.
+fn own_rest<'a>(
+    segments: SegmentSpans<'a>,
+    alloc: Global,
+    types: &Types,
+    first: &'a str,
+    kind: ItemKind,
+) -> Outcome<ItemKind>
+    requires { Stands types.now kind }
+    ensures outcome { IsOwnRest types.now first.now kind segments.entry result }
+    ensures stands { IfOk result (Stands types.now) }
+{
+    let mut kind = kind;
+    let mut parent = first;
+    for (segment, span) in segments {
+        kind = own_step(alloc, types, parent, kind, segment, span)?;
+        parent = segment;
+    }
+    Ok(kind)
+}
+
 /// The item that a path of the document's own package names.
 fn own_path(
     path: &PackagePath<'_>,
@@ -118,34 +153,29 @@ fn own_path(
     types: &Types,
 ) -> Outcome<ItemKind>
     requires { NamesStand types.now context.root.now }
-    ensures { IfOk result (Stands types.now) }
+    ensures outcome { IsOwnPath path.now context.entry types.now result }
+    ensures stands { IfOk result (Stands types.now) }
 {
     let mut segments = path.segment_spans();
-    let Some((first, span)) = segments.next() else {
+    let Some((string, span)) = segments.next() else {
         return Err(undefined_name(alloc, path.string, path.span));
     };
-    let id = Ident {
-        string: first,
-        span,
-    };
-    let mut kind = item_named(alloc, types, context.root, &id)?;
-    let mut parent = String::from_str(alloc, first)?;
-    for (segment, span) in segments {
-        kind = own_step(alloc, types, parent.as_str(), kind, segment, span)?;
-        parent = String::from_str(alloc, segment)?;
-    }
-    Ok(kind)
+    let kind = item_named(alloc, types, context.root, &Ident { string, span })?;
+    own_rest(segments, alloc, types, string, kind)
 }
 
 /// A path as a name.
-fn whole_path<'a>(path: &PackagePath<'a>) -> Ident<'a> {
+fn whole_path<'a>(path: &PackagePath<'a>) -> Ident<'a>
+    ensures string { result.string.now ≡ path.now.string.now }
+    ensures span { result.span ≡ path.now.span }
+{
     Ident {
         string: path.string,
         span: path.span,
     }
 }
 
-/// An export that a package lacks, or an item in it.
+/// The refusal of an export that a package lacks, or an item in it.
 fn foreign_missing(
     path: &PackagePath<'_>,
     alloc: Global,
@@ -153,15 +183,26 @@ fn foreign_missing(
     passed: &str,
     export: &str,
     span: SourceSpan,
-) -> Result<Refusal, AllocError> {
+) -> Refusal
+    ensures { Refuses result (fault.PackageMissingExport path.now.name.now export.now (option_map (λ k. k.now) kind.entry) passed.now) span }
+{
+    let Ok(package) = String::from_str(alloc, path.name) else {
+        return Refusal::Memory;
+    };
+    let Ok(export) = String::from_str(alloc, export) else {
+        return Refusal::Memory;
+    };
+    let Ok(path) = String::from_str(alloc, passed) else {
+        return Refusal::Memory;
+    };
     let error = Error::PackageMissingExport {
-        package: String::from_str(alloc, path.name)?,
-        export: String::from_str(alloc, export)?,
+        package,
+        export,
         kind,
-        path: String::from_str(alloc, passed)?,
+        path,
         span,
     };
-    Ok(Refusal::named(alloc, error))
+    Refusal::named(alloc, error)
 }
 
 /// The export that a further segment names.
@@ -175,29 +216,31 @@ fn foreign_step(
     span: SourceSpan,
 ) -> Outcome<ItemKind>
     requires { Stands types.now kind }
-    ensures { IfOk result (Stands types.now) }
+    ensures outcome { IsForeignExport types.now path.now.name.now passed.now kind (segment.now, span) result }
+    ensures stands { IfOk result (Stands types.now) }
 {
+    types.see_acyclic();
     match export_of(types, kind, segment) {
         Some(next) => Ok(next),
-        None => Err(foreign_missing(path, alloc, Some(kind.desc(types)), passed, segment, span)?),
+        None => Err(foreign_missing(path, alloc, Some(kind.desc(types)), passed, segment, span)),
     }
 }
 
-/// The item that the further segments of a path name.
+/// The item to which the further segments of a path lead, each an export of the item before.
 fn foreign_rest(
     path: &PackagePath<'_>,
     alloc: Global,
     types: &Types,
+    segments: SegmentSpans<'_>,
     first: &str,
     kind: ItemKind,
 ) -> Outcome<ItemKind>
     requires { Stands types.now kind }
-    ensures { IfOk result (Stands types.now) }
+    ensures outcome { IsForeignRest types.now path.now.name.now first.now kind segments.entry result }
+    ensures stands { IfOk result (Stands types.now) }
 {
     let mut kind = kind;
     let mut passed = String::from_str(alloc, first)?;
-    let mut segments = path.segment_spans();
-    let _ = segments.next();
     for (segment, span) in segments {
         kind = foreign_step(path, alloc, types, kind, passed.as_str(), segment, span)?;
         passed.push_str("/")?;
@@ -221,8 +264,8 @@ fn foreign_path<T: PackagedTypes>(
         return Err(undefined_name(alloc, path.string, path.span));
     };
     match types.definition(alloc, path, first)? {
-        Some(kind) => foreign_rest(path, alloc, types.types(), first, kind),
-        None => Err(foreign_missing(path, alloc, None, "", first, span)?),
+        Some(kind) => foreign_rest(path, alloc, types.types(), segments, first, kind),
+        None => Err(foreign_missing(path, alloc, None, "", first, span)),
     }
 }
 
@@ -235,6 +278,7 @@ pub fn package_path<T: PackagedTypes>(
     types: &mut T,
 ) -> Outcome<ItemKind>
     requires { NamesStand (T.collection types.old) context.root.now }
+    ensures outcome { IsPathItem path.now context.entry (T.collection types.old) (T.collection types.new) result }
     ensures stands { IfOk result (Stands (T.collection types.new)) }
     ensures grows { Grows (T.collection types.old) (T.collection types.new) }
 {
@@ -303,6 +347,7 @@ pub(crate) fn package_interface<T: PackagedTypes>(
     types: &mut T,
 ) -> Outcome<InterfaceId>
     requires { NamesStand (T.collection types.old) context.root.now }
+    ensures outcome { IsPathInterface path.now context.entry (T.collection types.old) (T.collection types.new) result }
     ensures stands { IfOk result (λ i. Stands (T.collection types.new) (ItemKind.Instance i)) }
     ensures grows { Grows (T.collection types.old) (T.collection types.new) }
 {
@@ -334,7 +379,7 @@ pub fn interface_at<T: PackagedTypes>(
     types: &mut T,
 ) -> Outcome<InterfaceId>
     requires { NamesStand (T.collection types.old) context.root.now }
-    ensures outcome { IsInterfaceAt path.now (T.collection types.old) context.entry.root.now (T.collection types.new) result }
+    ensures outcome { IsInterfaceAt path.now context.entry (T.collection types.old) (T.collection types.new) result }
     ensures stands { IfOk result (λ i. Stands (T.collection types.new) (ItemKind.Instance i)) }
     ensures grows { Grows (T.collection types.old) (T.collection types.new) }
 {
@@ -344,15 +389,39 @@ pub fn interface_at<T: PackagedTypes>(
     }
 }
 
+/// The world that a type is.
+fn world_of_type(ty: Type) -> Option<WorldId>
+    ensures some { IfSome result (λ w. ty ≡ TypeKind.World w) }
+    ensures none { result ≡ None → (w : WorldKey) → ty ≡ TypeKind.World w → ⊥ }
+{
+    match ty {
+        Type::World(id) => Some(id),
+        _other => None,
+    }
+}
+
+/// The world that an item is the type of, or is a component of.
+fn world_of(kind: ItemKind) -> Option<WorldId>
+    ensures some { IfSome result (IsWorldIn kind) }
+    ensures none { result ≡ None → (w : WorldKey) → IsWorldIn kind w → ⊥ }
+{
+    match kind {
+        ItemKind::Ty(ty) => world_of_type(ty),
+        ItemKind::Component(id) => Some(id),
+        _other => None,
+    }
+}
+
 /// An item that is to be a world.
 fn as_world(alloc: Global, types: &Types, kind: ItemKind, path: &Ident<'_>) -> Outcome<WorldId>
     requires { Stands types.now kind }
-    ensures { IfOk result (λ i. Stands types.now (ItemKind.Component i)) }
+    ensures outcome { IsWorldOf types.now kind path.now result }
+    ensures stands { IfOk result (λ i. Stands types.now (ItemKind.Component i)) }
 {
-    match kind {
-        ItemKind::Ty(Type::World(id)) => Ok(id),
-        ItemKind::Component(id) => Ok(id),
-        other => Err(not_world(alloc, path.string, other.desc(types), path.span)),
+    types.see_acyclic();
+    match world_of(kind) {
+        Some(id) => Ok(id),
+        None => Err(not_world(alloc, path.string, kind.desc(types), path.span)),
     }
 }
 
@@ -364,6 +433,7 @@ pub fn world_at<T: PackagedTypes>(
     types: &mut T,
 ) -> Outcome<WorldId>
     requires { NamesStand (T.collection types.old) context.root.now }
+    ensures outcome { IsWorldAt world.now context.entry (T.collection types.old) (T.collection types.new) result }
     ensures stands { IfOk result (λ i. Stands (T.collection types.new) (ItemKind.Component i)) }
     ensures grows { Grows (T.collection types.old) (T.collection types.new) }
 {

@@ -8,7 +8,8 @@ ghost use Rattle.wac_parser_tree.specs.Views.{view_ident, view_use_item, view_us
 ghost use Rattle.wac_parser_declare.specs.Bodies as stated;
 ghost use Rattle.wac_parser_declare.specs.Held.{BodyStands};
 ghost use Rattle.wac_parser_declare.specs.Holding.{NamesStand};
-ghost use Rattle.wac_parser_declare.specs.InUses.{AreUsed, UsesRoot, IsTypeUsed, IsUsable, IsUseAdded, UseStands};
+ghost use Rattle.wac_parser_declare.specs.InPaths.{Uses};
+ghost use Rattle.wac_parser_declare.specs.InUses.{AreUsed, IsTypeUsed, IsUsable, IsUseAdded, UseStands};
 ghost use Rattle.wac_parser_declare.specs.Scope as scope;
 
 use crate::bodies::{Body, Holder};
@@ -166,7 +167,7 @@ pub(crate) fn use_types<T: PackagedTypes>(
 ) -> Outcome<()>
     requires root { NamesStand (T.collection types.old) context.root.now }
     requires body { BodyStands (T.collection types.old) body.old }
-    ensures outcome { UsesRoot holder.entry item.now context.entry.root.now (T.collection types.old) body.old (T.collection types.new) body.new result }
+    ensures outcome { Uses holder.entry item.now context.entry (T.collection types.old) body.old (T.collection types.new) body.new result }
     ensures body { OnOk result (BodyStands (T.collection types.new) body.new) }
     ensures grows { Grows (T.collection types.old) (T.collection types.new) }
 {

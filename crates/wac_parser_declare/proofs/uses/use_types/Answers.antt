@@ -1,9 +1,8 @@
 use Rattle.std.specs.Prelude.{⊤}
-use Rattle.std.proofs.Common.{map, subst, sym}
+use Rattle.std.proofs.Common.{map, subst}
 use Rattle.wac_types_base.specs.Record.{Collection}
 use Rattle.wac_types_base.specs.Entries.{Name}
 use Rattle.wac_types_base.specs.Stated.{Stated}
-use Rattle.wac_parser_tree.specs.declared.interface.UsePath.{UsePath}
 use Rattle.wac_parser_tree.specs.Views.{view_use_item, view_use_path}
 use Rattle.wac_parser_refusals.specs.Causes.{each}
 use Rattle.wac_parser_refusals.specs.Outcomes.{IsHeld, IsOutcome}
@@ -18,7 +17,7 @@ use Rattle.wac_parser_declare.proofs.InBodies.{body-kept}
 use Rattle.wac_parser_declare.proofs.uses.use_types.Goals as goal
 
 pub returns-clause-outcome : goal.returns-clause-outcome
-returns-clause-outcome g c x i root is =
+returns-clause-outcome g c x s here =
     let old = g.T.GrowingTypes.collection c.args.types.now in
     let new = g.T.GrowingTypes.collection c.interface_at.new.types in
     let b = c.args.body.now in
@@ -31,7 +30,7 @@ returns-clause-outcome g c x i root is =
     let k : stated.Body → ⊤ → Type 0 = λ y v. IsBody new y after in
     let f : Stated → stated.Body → Name → Collection → Type 0 = λ from s n d. IsOutcome (λ (y : stated.Body) (v : ⊤). IsBody d y after) (each (use_one h n from) s us) r in
     let found : IsHeld (AnInterface new) (interface_at x p) id =
-    subst (λ (q : UsePath). IsHeld (AnInterface new) (interface_at x (use_path (view_use_path q))) id) (sym is) (c.in_ok-interface.ensures.outcome i is x root) in
+    c.in_ok-interface.ensures.outcome x s here in
     let used : f (stated_interface new id) (stated_body new b) (path_text p) new =
     subst (λ (n : Name). f (stated_interface new id) (stated_body new b) n new) c.path_text.ensures
     (subst (λ (d : Collection). f (stated_interface d id) (stated_body d b) c.path_text.result.now d) c.types.ensures c.use_items.ensures.outcome) in
