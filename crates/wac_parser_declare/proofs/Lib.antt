@@ -11,6 +11,7 @@ pub mod Exports
 pub mod InUses
 pub mod Roots
 pub mod PathSteps
+pub mod Making
 pub mod RowWords
 pub mod RefusedRows
 pub mod Standing

@@ -13,3 +13,4 @@ pub mod Held
 pub mod InBodies
 pub mod InUses
 pub mod InPaths
+pub mod Making

@@ -1,12 +1,13 @@
 //! The interface that a body states.
 #![tactic(auto, using(crate::proofs::Standing::bodies))]
 
-ghost use Rattle.std.specs.Prelude.{◌≡◌, OnOk, IfOk};
+ghost use Rattle.std.specs.Prelude.{◌≡◌, OnOk, IfOk, Some};
 ghost use Rattle.wac_types_base.specs.declared.item.ItemKind.{ItemKind};
 ghost use Rattle.wac_types_base.specs.Collection.{Stands, Grows};
 ghost use Rattle.wac_parser_declare.specs.Held.{BodyStands};
 ghost use Rattle.wac_parser_declare.specs.Holding.{NamesStand};
 ghost use Rattle.wac_parser_declare.specs.InUses.{Exports};
+ghost use Rattle.wac_parser_declare.specs.Making.{IsInterfaceMade, identifier_of};
 
 use crate::bodies::{Body, Holder, add_item};
 use crate::functions::func_type_ref;
@@ -26,7 +27,9 @@ pub(crate) fn identifier(
     alloc: Global,
     own: &PackageName<'_>,
     name: &str,
-) -> Result<Text, AllocError> {
+) -> Result<Text, AllocError>
+    ensures { IfOk result (λ t. t ≡ identifier_of own.now name.now) }
+{
     let mut text = String::from_str(alloc, own.name)?;
     text.push_str("/")?;
     text.push_str(name)?;
@@ -128,9 +131,11 @@ fn add_interface<T: PackagedTypes>(
     body: Body,
 ) -> Result<InterfaceId, AllocError>
     requires { BodyStands (T.collection types.old) body }
+    ensures made { IsInterfaceMade id body (T.collection types.old) (T.collection types.new) result }
     ensures stands { IfOk result (λ i. Stands (T.collection types.new) (ItemKind.Instance i)) }
     ensures grows { Grows (T.collection types.old) (T.collection types.new) }
 {
+    types.types().see_acyclic();
     let Body {
         names: _,
         uses,
@@ -153,6 +158,7 @@ fn add_named<T: PackagedTypes>(
     body: Body,
 ) -> Result<InterfaceId, AllocError>
     requires { BodyStands (T.collection types.old) body }
+    ensures made { IsInterfaceMade (Some (identifier_of own.now name.now)) body (T.collection types.old) (T.collection types.new) result }
     ensures stands { IfOk result (λ i. Stands (T.collection types.new) (ItemKind.Instance i)) }
     ensures grows { Grows (T.collection types.old) (T.collection types.new) }
 {

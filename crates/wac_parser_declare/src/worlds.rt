@@ -1,12 +1,13 @@
 //! The world that a declaration states.
 #![tactic(auto, using(crate::proofs::Standing::bodies))]
 
-ghost use Rattle.std.specs.Prelude.{◌≡◌, OnOk, IfOk};
-ghost use Rattle.wac_types_base.specs.declared.item.ItemKind.{ItemKind};
+ghost use Rattle.std.specs.Prelude.{◌≡◌, OnOk, IfOk, IfSome, None};
+ghost use Rattle.wac_types_base.specs.declared.item.ItemKind.{ItemKind, ItemKind as Item};
 ghost use Rattle.wac_types_base.specs.Record.{Collection};
 ghost use Rattle.wac_types_base.specs.Collection.{Stands, Grows};
 ghost use Rattle.wac_parser_declare.specs.Held.{BodyStands};
 ghost use Rattle.wac_parser_declare.specs.Holding.{NamesStand};
+ghost use Rattle.wac_parser_declare.specs.Making.{IsExtern, IsMeantIn, IsTypeOf, IsWorldMade, identifier_of};
 
 use crate::bodies::{Body, Holder};
 use crate::functions::{add_new, func_type};
@@ -26,15 +27,31 @@ use wac_types_base::{
     ExternKind, InterfaceId, ItemKind, NamedMap, Text, Type, Types, World, WorldId,
 };
 
+/// The instance or the function of which an item is the type.
+fn thing_of(kind: ItemKind) -> Option<ItemKind>
+    ensures some { IfSome result (IsTypeOf kind) }
+    ensures none { result ≡ None → (j : Item) → IsTypeOf kind j → ⊥ }
+{
+    let ItemKind::Ty(ty) = kind else {
+        return None;
+    };
+    match ty {
+        Type::Interface(interface) => Some(ItemKind::Instance(interface)),
+        Type::Func(func) => Some(ItemKind::Func(func)),
+        _other => None,
+    }
+}
+
 /// What a world holds under a name of a function type or an interface.
 fn extern_of(alloc: Global, types: &Types, kind: ItemKind, id: &Ident<'_>) -> Outcome<ItemKind>
     requires { Stands types.now kind }
-    ensures { IfOk result (Stands types.now) }
+    ensures outcome { IsExtern types.now kind id.now result }
+    ensures stands { IfOk result (Stands types.now) }
 {
-    match kind {
-        ItemKind::Ty(Type::Interface(interface)) => Ok(ItemKind::Instance(interface)),
-        ItemKind::Ty(Type::Func(func)) => Ok(ItemKind::Func(func)),
-        other => Err(not_func_or_interface(alloc, id.string, other.desc(types), id.span)),
+    types.see_acyclic();
+    match thing_of(kind) {
+        Some(thing) => Ok(thing),
+        None => Err(not_func_or_interface(alloc, id.string, kind.desc(types), id.span)),
     }
 }
 
@@ -45,7 +62,8 @@ fn body_or_root(
     names: &NamedMap<Binding>,
     id: &Ident<'_>,
 ) -> Outcome<Binding>
-    ensures { (c : Collection) → NamesStand c context.entry.root.now → NamesStand c names.now → IfOk result (λ b. Stands c b.kind) }
+    ensures outcome { IsMeantIn names.now context.entry.root.now id.now result }
+    ensures stands { (c : Collection) → NamesStand c context.entry.root.now → NamesStand c names.now → IfOk result (λ b. Stands c b.kind) }
 {
     match names.get(id.string) {
         Some(binding) => Ok(*binding),
@@ -333,6 +351,7 @@ fn add_world<T: PackagedTypes>(
     body: Body,
 ) -> Result<WorldId, AllocError>
     requires { BodyStands (T.collection types.old) body }
+    ensures made { IsWorldMade (identifier_of own.now name.now) body (T.collection types.old) (T.collection types.new) result }
     ensures stands { IfOk result (λ i. Stands (T.collection types.new) (ItemKind.Component i)) }
     ensures grows { Grows (T.collection types.old) (T.collection types.new) }
 {
