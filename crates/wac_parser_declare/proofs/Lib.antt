@@ -12,6 +12,7 @@ pub mod InUses
 pub mod Roots
 pub mod PathSteps
 pub mod Making
+pub mod InIncludes
 pub mod RowWords
 pub mod RefusedRows
 pub mod Standing

@@ -14,3 +14,4 @@ pub mod InBodies
 pub mod InUses
 pub mod InPaths
 pub mod Making
+pub mod InIncludes

@@ -1,12 +1,16 @@
 //! The items of a world that another world includes.
 #![tactic(auto, using(crate::proofs::Standing::bodies))]
 
-ghost use Rattle.std.specs.Prelude.{◌≡◌, OnOk, IfOk};
+ghost use Rattle.std.specs.Prelude.{◌≡◌, OnOk, IfOk, is_some, option_map};
 ghost use Rattle.wac_types_base.specs.declared.item.ItemKind.{ItemKind};
 ghost use Rattle.wac_types_base.specs.Record.{Collection};
 ghost use Rattle.wac_types_base.specs.Collection.{Stands, Grows};
+ghost use Rattle.wac_parser_tree.specs.Views.{view_ident};
+ghost use Rattle.wac_parser_refusals.specs.Outcomes.{Refuses};
 ghost use Rattle.wac_parser_declare.specs.Held.{BodyStands};
 ghost use Rattle.wac_parser_declare.specs.Holding.{ItemsStand, NamesStand};
+ghost use Rattle.wac_parser_declare.specs.InIncludes.{AreIncluded, AreWithNames, IsIncluded, IsIncludedAt, IsRenaming, IsWithName, conflict_of, path_of, renamings};
+ghost use Rattle.wac_parser_declare.specs.Worlds as stated;
 
 use crate::bodies::Body;
 use crate::functions::add_new;
@@ -21,12 +25,16 @@ use wac_parser_tree::{Ident, WorldInclude, WorldIncludeItem};
 use wac_types_base::{ExternKind, ItemKind, NamedMap, Names, Types, World, WorldId};
 
 /// Whether a name is one of an interface or a package, which is never renamed.
-fn has_colon(name: &str) -> bool {
+fn has_colon(name: &str) -> bool
+    ensures { result ≡ stated.has_colon name.now }
+{
     name.as_bytes().contains(&b':')
 }
 
 /// One more name of a `with` clause, which is new.
-fn add_with_name(item: &WorldIncludeItem<'_>, alloc: Global, found: &mut Names) -> Outcome<()> {
+fn add_with_name(item: &WorldIncludeItem<'_>, alloc: Global, found: &mut Names) -> Outcome<()>
+    ensures outcome { IsWithName item.now found.old found.new result }
+{
     let name = String::from_str(alloc, item.from.string)?;
     if found.insert(name)? {
         Ok(())
@@ -36,7 +44,9 @@ fn add_with_name(item: &WorldIncludeItem<'_>, alloc: Global, found: &mut Names) 
 }
 
 /// Refuses a name that stands twice in a `with` clause.
-fn check_with_names(with: &Vec<WorldIncludeItem<'_>>, alloc: Global) -> Outcome<()> {
+fn check_with_names(with: &Vec<WorldIncludeItem<'_>>, alloc: Global) -> Outcome<()>
+    ensures outcome { AreWithNames with.now.items result }
+{
     let mut found = Names::new(alloc);
     for item in with {
         add_with_name(item, alloc, &mut found)?;
@@ -45,9 +55,11 @@ fn check_with_names(with: &Vec<WorldIncludeItem<'_>>, alloc: Global) -> Outcome<
 }
 
 /// The new name of a name, if it gets one.
-fn renaming<'a>(with: &Vec<WorldIncludeItem<'a>>, name: &str) -> Option<Ident<'a>> {
+fn renaming<'a>(with: &Vec<WorldIncludeItem<'a>>, name: &str) -> Option<Ident<'a>>
+    ensures { IsRenaming with.now.items name.now result }
+{
     for item in with {
-        if item.from.string == name {
+        if name == item.from.string {
             return Some(item.to);
         }
     }
@@ -63,7 +75,9 @@ struct Inclusion<'a> {
 }
 
 /// What may help where an item is there already.
-fn help_for(include: &WorldInclude<'_>) -> Option<&'static str> {
+fn help_for(include: &WorldInclude<'_>) -> Option<&'static str>
+    ensures { is_some result ≡ stated.is_empty (renamings include.now.with.items) }
+{
     if include.with.is_empty() {
         Some(WITH_HELP)
     } else {
@@ -71,21 +85,63 @@ fn help_for(include: &WorldInclude<'_>) -> Option<&'static str> {
     }
 }
 
-/// An item that is there already.
-fn conflict(
-    alloc: Global,
-    inclusion: Inclusion<'_>,
-    id: &Ident<'_>,
-) -> Result<Refusal, AllocError> {
+/// The refusal of an item whose name is there already.
+fn conflict(alloc: Global, inclusion: Inclusion<'_>, id: &Ident<'_>) -> Refusal
+    ensures { Refuses result (conflict_of inclusion.entry id.now) id.now.span }
+{
+    let Ok(name) = String::from_str(alloc, id.string) else {
+        return Refusal::Memory;
+    };
+    let Ok(from) = String::from_str(alloc, inclusion.include.world.name()) else {
+        return Refusal::Memory;
+    };
+    let Ok(to) = String::from_str(alloc, inclusion.to) else {
+        return Refusal::Memory;
+    };
     let error = Error::WorldIncludeConflict {
         kind: inclusion.kind,
-        name: String::from_str(alloc, id.string)?,
-        from: String::from_str(alloc, inclusion.include.world.name())?,
-        to: String::from_str(alloc, inclusion.to)?,
+        name,
+        from,
+        to,
         span: id.span,
         help: help_for(inclusion.include),
     };
-    Ok(Refusal::named(alloc, error))
+    Refusal::named(alloc, error)
+}
+
+/// One more item, where its name is new.
+fn include_at(
+    alloc: Global,
+    inclusion: Inclusion<'_>,
+    stand: &mut NamedMap<ItemKind>,
+    id: &Ident<'_>,
+    item: ItemKind,
+) -> Outcome<()>
+    ensures outcome { IsIncludedAt inclusion.entry stand.old id.now item stand.new result }
+    ensures stand { OnOk result ((c : Collection) → ItemsStand c stand.old → Stands c item → ItemsStand c stand.new) }
+{
+    if add_new(alloc, stand, id.string, item)? {
+        Ok(())
+    } else {
+        Err(conflict(alloc, inclusion, id))
+    }
+}
+
+/// The name of an item: another, if it gets one.
+fn new_name<'a>(
+    inclusion: Inclusion<'a>,
+    name: &'a str,
+    renamed: Option<Ident<'a>>,
+) -> Ident<'a>
+    ensures { view_ident result ≡ stated.or_itself (path_of inclusion.entry) name.now (option_map view_ident renamed.entry) }
+{
+    match renamed {
+        Some(id) => id,
+        None => Ident {
+            string: name,
+            span: inclusion.include.world.span(),
+        },
+    }
 }
 
 /// One more item under its name, or under another.
@@ -97,24 +153,15 @@ fn include_item(
     item: ItemKind,
     renamed: Option<Ident<'_>>,
 ) -> Outcome<()>
-    ensures { OnOk result ((c : Collection) → ItemsStand c stand.old → Stands c item → ItemsStand c stand.new) }
+    ensures outcome { IsIncluded inclusion.entry stand.old (name.now, item) renamed.entry stand.new result }
+    ensures stand { OnOk result ((c : Collection) → ItemsStand c stand.old → Stands c item → ItemsStand c stand.new) }
 {
     if has_colon(name) {
         let _ = add_new(alloc, stand, name, item)?;
         return Ok(());
     }
-    let id = match renamed {
-        Some(id) => id,
-        None => Ident {
-            string: name,
-            span: inclusion.include.world.span(),
-        },
-    };
-    if add_new(alloc, stand, id.string, item)? {
-        Ok(())
-    } else {
-        Err(conflict(alloc, inclusion, &id)?)
-    }
+    let id = new_name(inclusion, name, renamed);
+    include_at(alloc, inclusion, stand, &id, item)
 }
 
 /// The imports of a world, under their new names.
@@ -124,7 +171,8 @@ fn include_imports(
     stand: &mut NamedMap<ItemKind>,
     imports: &NamedMap<ItemKind>,
 ) -> Outcome<()>
-    ensures { OnOk result ((c : Collection) → ItemsStand c stand.old → ItemsStand c imports.now → ItemsStand c stand.new) }
+    ensures outcome { AreIncluded inclusion.entry (renamings inclusion.entry.include.now.with.items) imports.now stand.old stand.new result }
+    ensures stand { OnOk result ((c : Collection) → ItemsStand c stand.old → ItemsStand c imports.now → ItemsStand c stand.new) }
 {
     for at in 0..imports.len() {
         let (name, item) = imports.entry(at);
