@@ -15,7 +15,7 @@ use Rattle.wac_types_base.specs.declared.ids.WorldId.{WorldId}
 use Rattle.wac_types_base.specs.Record.{Collection}
 use Rattle.wac_types_base.specs.Collection.{Entry, IsAcyclic, Shape, Slot, Stands, borrow_of, defined_entry, entry_at, func_entry, interface_entry, item_node, items, labelled, module_entry, own_of, primitive, resource_entry, resource_entry_at, type_of, use_names, used, value_node, world_entry}
 use Rattle.wac_types_base.specs.Entries.{Name, names_of, value_at, with_values}
-use Rattle.wac_types_base.specs.Stated.{Stated, exports_of, only_places, parts_at, row, stated_entry, stated_of, untyped_shape, with_names}
+use Rattle.wac_types_base.specs.Stated.{Stated, exports_of, imports_of, only_places, parts_at, row, stated_entry, stated_of, untyped_shape, with_names}
 use Rattle.wac_types_base.proofs.Adding.{guarded-some, labelled-some, option_map-some}
 use Rattle.wac_types_base.proofs.GraphLemmas.{value_of}
 use Rattle.wac_types_base.proofs.Made.{drop_firsts, exports_are, first_names, only_firsts, row_places}
@@ -54,6 +54,18 @@ module _ (c : Collection) where
       ∙ ap (λ ys. with_names (names_of x.exports) (drop (length (use_names x.uses)) ys)) (row_places os)
       ∙ ap (with_names (names_of x.exports)) (past_uses x.uses (items x.exports)) ∙ named_items x.exports
 
+  named_front : (xs : List (Name × ItemKind)) (ys : List Slot) → with_names (names_of xs) (stated_places (items xs ++ ys)) ≡ with_values (stated_of c) xs
+  named_front [] ys = refl
+  named_front (x ∷ xs) ys = ap (λ zs. (x.0, stated_of c x.1) ∷ zs) (named_front xs ys)
+
+  world_imports : (x : World) → imports_of (stated_entry c (world_entry x)) ≡ with_values (stated_of c) x.imports
+  world_imports x =
+      let os = stated_places (world_entry x).1 in
+      let n : ℕ = length (use_names x.uses) in
+      first_names (names_of x.imports) (drop n (only_places (row os)))
+      ∙ ap (with_names (names_of x.imports)) (drop_firsts n (only_places (row os)) ∙ ap (drop n) (only_firsts (row os) ∙ row_places os) ∙ past_uses x.uses (items x.imports ++ items x.exports))
+      ∙ named_front x.imports (items x.exports)
+
   world_exports : (x : World) → exports_of (stated_entry c (world_entry x)) ≡ with_values (stated_of c) x.exports
   world_exports x =
       let os = stated_places (world_entry x).1 in
@@ -81,6 +93,11 @@ module _ (c : Collection) where
     unfolding item_node
     component_exports i x at own =
         ap exports_of (stated_step c a (ItemKind.Component i) (world_entry x) (entry_at-is world_entry c.number c.worlds i.collection i.index x at own)) ∙ world_exports x
+
+    pub component_imports : (i : WorldId) (x : World) → slice_get c.worlds i.index ≡ Some x → i.collection ≡ c.number → imports_of (stated_of c (ItemKind.Component i)) ≡ with_values (stated_of c) x.imports
+    unfolding item_node
+    component_imports i x at own =
+        ap imports_of (stated_step c a (ItemKind.Component i) (world_entry x) (entry_at-is world_entry c.number c.worlds i.collection i.index x at own)) ∙ world_imports x
 
     pub world_type_exports : (i : WorldId) (x : World) → slice_get c.worlds i.index ≡ Some x → i.collection ≡ c.number → AreExports c (ItemKind.Ty (TypeKind.World i)) (Some x.exports)
     unfolding item_node

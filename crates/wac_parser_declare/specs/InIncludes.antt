@@ -1,11 +1,12 @@
 -- What is answered of an include: names that are given anew, and the items that come with them.
-use Rattle.std.specs.Prelude.{◌≡◌, Bool, cond, List, [], ◌∷◌, ◌++◌, map, Option, Result, option_map, ⊤}
+use Rattle.std.specs.Prelude.{◌≡◌, ◌&&◌, ◌||◌, not, Bool, false, is_some, cond, List, [], ◌∷◌, ◌++◌, map, Option, Result, option_map, ⊤}
 use Rattle.wac_types_base.specs.declared.item.ExternKind.{ExternKind}
 use Rattle.wac_types_base.specs.declared.item.ItemKind.{ItemKind}
 use Rattle.wac_types_base.specs.declared.defined.World.{World}
 use Rattle.wac_types_base.specs.Record.{Collection}
-use Rattle.wac_types_base.specs.Entries.{Name, with_values}
-use Rattle.wac_types_base.specs.Stated.{Stated, stated_of}
+use Rattle.wac_types_base.specs.declared.ids.WorldId.{WorldId}
+use Rattle.wac_types_base.specs.Entries.{Name, value_at, with_values}
+use Rattle.wac_types_base.specs.Stated.{Stated, exports_of, imports_of, stated_of}
 use Rattle.wac_parser_tree.specs.Trees as t
 use Rattle.wac_parser_tree.specs.declared.text.Ident.{Ident}
 use Rattle.wac_parser_tree.specs.declared.world.WorldInclude.{WorldInclude}
@@ -15,9 +16,14 @@ use Rattle.wac_parser_refusals.specs.declared.refusal.Refusal.{Refusal}
 use Rattle.wac_parser_refusals.specs.Causes.{Answer, Fault, WorldIncludeConflict, each, pure}
 use Rattle.wac_parser_refusals.specs.Outcomes.{IsOutcome}
 use Rattle.wac_parser_declare.specs.declared.includes.Inclusion.{Inclusion}
+use Rattle.wac_parser_declare.specs.declared.bodies.Body.{Body}
+use Rattle.wac_parser_declare.specs.declared.scope.Context.{Context as Place}
 use Rattle.wac_parser_declare.specs.Bodies.{Items}
-use Rattle.wac_parser_declare.specs.Scope.{Path, has, path_text, world_path}
-use Rattle.wac_parser_declare.specs.Worlds.{has_colon, include_at, include_one, is_empty, left_for_exports, or_itself, renaming, unmet, with_name}
+use Rattle.wac_parser_declare.specs.Held.{stated_body}
+use Rattle.wac_parser_declare.specs.InBodies.{IsBody}
+use Rattle.wac_parser_declare.specs.InPaths.{IsWorldHere, StandsIn}
+use Rattle.wac_parser_declare.specs.Scope.{Context, Path, has, path_text, world_path}
+use Rattle.wac_parser_declare.specs.Worlds.{has_colon, include_at, include_items, include_one, include_world, is_empty, left_for_exports, or_itself, renaming, unmet, with_name}
 
 -- ---- names that are given anew
 
@@ -33,10 +39,6 @@ AreWithNames ws r = IsOutcome (λ ns u. ⊤) (each with_name [] (renamings ws)) 
 
 abbrev pub IsRenaming : List WorldIncludeItem → Name → Option Ident → Type 0
 IsRenaming ws n i = option_map view_ident i ≡ renaming (renamings ws) n
-
--- each name is one that is met, of an import or of an export
-abbrev pub AreMet : WorldInclude → Stated → Result ⊤ Refusal → Type 0
-AreMet i x r = IsOutcome (λ u v. ⊤) (each (unmet (world_path (view_world_ref i.world)) x) tt (renamings i.with.items)) r
 
 -- ---- items
 
@@ -72,7 +74,50 @@ IsIncluded i old e renamed new r =
     → IsOutcome (AreNow c new) (included i.to.now (path_of i) (helps i) i.kind (with_values (stated_of c) old) (e.0, stated_of c e.1) (option_map view_ident renamed)) r
 
 -- all items of a side, under the names that are left for it
+abbrev pub AreIncludedIn : Collection → Inclusion → List t.WorldIncludeItem → List (Name × ItemKind) → List (Name × ItemKind) → List (Name × ItemKind) → Result ⊤ Refusal → Type 0
+AreIncludedIn c i ws es old new r =
+    IsOutcome (AreNow c new) (each (include_one i.to.now (path_of i) (helps i) ws i.kind) (with_values (stated_of c) old) (with_values (stated_of c) es)) r
+
 abbrev pub AreIncluded : Inclusion → List t.WorldIncludeItem → List (Name × ItemKind) → List (Name × ItemKind) → List (Name × ItemKind) → Result ⊤ Refusal → Type 0
-AreIncluded i ws es old new r =
-    (c : Collection)
-    → IsOutcome (AreNow c new) (each (include_one i.to.now (path_of i) (helps i) ws i.kind) (with_values (stated_of c) old) (with_values (stated_of c) es)) r
+AreIncluded i ws es old new r = (c : Collection) → AreIncludedIn c i ws es old new r
+
+-- ---- exports
+
+-- the imports, the exports that a world states are these
+abbrev pub HasImports : Collection → Stated → World → Type 0
+HasImports c x w = imports_of x ≡ with_values (stated_of c) w.imports
+
+abbrev pub HasExports : Collection → Stated → World → Type 0
+HasExports c x w = exports_of x ≡ with_values (stated_of c) w.exports
+
+-- the new name of an export that no import took
+abbrev pub IsLeft : List WorldIncludeItem → List (Name × ItemKind) → Name → Option Ident → Type 0
+IsLeft ws is n o =
+    (c : Collection) (x : Stated) → imports_of x ≡ with_values (stated_of c) is → has_colon n ≡ false
+    → option_map view_ident o ≡ renaming (left_for_exports x (renamings ws)) n
+
+abbrev pub AreExportsIncluded : Inclusion → World → List (Name × ItemKind) → List (Name × ItemKind) → Result ⊤ Refusal → Type 0
+AreExportsIncluded i w old new r =
+    (c : Collection) (x : Stated) → HasImports c x w → AreIncludedIn c i (left_for_exports x (renamings i.include.now.with.items)) w.exports old new r
+
+-- a name of a `with` clause that an import or an export has
+abbrev pub met_in : World → Name → Bool
+met_in w n = not (has_colon n) && (is_some (value_at w.imports n) || is_some (value_at w.exports n))
+
+abbrev pub AreMet : WorldInclude → World → Result ⊤ Refusal → Type 0
+AreMet i w r =
+    (c : Collection) (x : Stated) → HasImports c x w → HasExports c x w
+    → IsOutcome (λ u v. ⊤) (each (unmet (world_path (view_world_ref i.world)) x) tt (renamings i.with.items)) r
+
+-- ---- a whole include
+
+abbrev pub IncludesItems : WorldInclude → Name → WorldId → Collection → Body → Body → Result ⊤ Refusal → Type 0
+IncludesItems i to w c old new r =
+    IsOutcome (λ b u. IsBody c b new)
+    (include_items to (stated_body c old) (world_path (view_world_ref i.world)) (renamings i.with.items) (stated_of c (ItemKind.Component w))) r
+
+-- of a world at a name of the root, or in the own package
+abbrev pub Includes : WorldInclude → Name → Place → Collection → Body → Collection → Body → Result ⊤ Refusal → Type 0
+Includes i to at c old d new r =
+    (x : Context) → StandsIn x at c → IsWorldHere i.world at.own.now
+    → IsOutcome (λ b u. IsBody d b new) (include_world x to (stated_body c old) (world_path (view_world_ref i.world)) (renamings i.with.items)) r

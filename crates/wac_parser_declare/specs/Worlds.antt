@@ -114,14 +114,19 @@ unmet p x u w =
     unless_clear (has_colon w.from.string || not (has (imports_of x) w.from.string || has (exports_of x) w.from.string))
     (MissingWorldInclude (path_text p) w.from.string) w.from.span
 
-abbrev pub include_world : Context → Name → Body → Path → List t.WorldIncludeItem → Answer Body
-include_world c world b p ws = do
-  each with_name [] ws
-  x ← world_at c p
+-- the items of a world: its imports, its exports, and no name that is left
+abbrev pub include_items : Name → Body → Path → List t.WorldIncludeItem → Stated → Answer Body
+include_items world b p ws x = do
   is ← each (include_one world p (is_empty ws) ws ExternKind.Import) b.items (imports_of x)
   es ← each (include_one world p (is_empty ws) (left_for_exports x ws) ExternKind.Export) b.exports (exports_of x)
   each (unmet p x) tt ws
   pure (record { names = b.names; uses = b.uses; items = is; exports = es })
+
+abbrev pub include_world : Context → Name → Body → Path → List t.WorldIncludeItem → Answer Body
+include_world c world b p ws = do
+  each with_name [] ws
+  x ← world_at c p
+  include_items world b p ws x
 
 -- a world's includes come after its other items
 abbrev pub world_include : Context → Name → Body → t.WorldItem → Answer Body

@@ -9,7 +9,7 @@ ghost use Rattle.wac_parser_tree.specs.Views.{view_ident};
 ghost use Rattle.wac_parser_refusals.specs.Outcomes.{Refuses};
 ghost use Rattle.wac_parser_declare.specs.Held.{BodyStands};
 ghost use Rattle.wac_parser_declare.specs.Holding.{ItemsStand, NamesStand};
-ghost use Rattle.wac_parser_declare.specs.InIncludes.{AreIncluded, AreWithNames, IsIncluded, IsIncludedAt, IsRenaming, IsWithName, conflict_of, path_of, renamings};
+ghost use Rattle.wac_parser_declare.specs.InIncludes.{AreExportsIncluded, AreIncluded, AreMet, AreWithNames, Includes, IncludesItems, IsIncluded, IsIncludedAt, IsLeft, IsRenaming, IsWithName, conflict_of, met_in, path_of, renamings};
 ghost use Rattle.wac_parser_declare.specs.Worlds as stated;
 
 use crate::bodies::Body;
@@ -128,11 +128,7 @@ fn include_at(
 }
 
 /// The name of an item: another, if it gets one.
-fn new_name<'a>(
-    inclusion: Inclusion<'a>,
-    name: &'a str,
-    renamed: Option<Ident<'a>>,
-) -> Ident<'a>
+fn new_name<'a>(inclusion: Inclusion<'a>, name: &'a str, renamed: Option<Ident<'a>>) -> Ident<'a>
     ensures { view_ident result ≡ stated.or_itself (path_of inclusion.entry) name.now (option_map view_ident renamed.entry) }
 {
     match renamed {
@@ -187,7 +183,9 @@ fn export_renaming<'a>(
     with: &Vec<WorldIncludeItem<'a>>,
     imports: &NamedMap<ItemKind>,
     name: &str,
-) -> Option<Ident<'a>> {
+) -> Option<Ident<'a>>
+    ensures { IsLeft with.now.items imports.now name.now result }
+{
     if imports.contains(name) {
         None
     } else {
@@ -202,7 +200,8 @@ fn include_exports(
     stand: &mut NamedMap<ItemKind>,
     world: &World,
 ) -> Outcome<()>
-    ensures { OnOk result ((c : Collection) → ItemsStand c stand.old → ItemsStand c world.now.exports → ItemsStand c stand.new) }
+    ensures outcome { AreExportsIncluded inclusion.entry world.now stand.old stand.new result }
+    ensures stand { OnOk result ((c : Collection) → ItemsStand c stand.old → ItemsStand c world.now.exports → ItemsStand c stand.new) }
 {
     for at in 0..world.exports.len() {
         let (name, item) = world.exports.entry(at);
@@ -213,13 +212,17 @@ fn include_exports(
 }
 
 /// Whether a world has an item that can be renamed so.
-fn is_met(world: &World, id: &Ident<'_>) -> bool {
+fn is_met(world: &World, id: &Ident<'_>) -> bool
+    ensures { result ≡ met_in world.now id.now.string.now }
+{
     !has_colon(id.string)
         && (world.imports.contains(id.string) || world.exports.contains(id.string))
 }
 
 /// Refuses a name of a `with` clause that the world lacks.
-fn check_met(include: &WorldInclude<'_>, alloc: Global, world: &World) -> Outcome<()> {
+fn check_met(include: &WorldInclude<'_>, alloc: Global, world: &World) -> Outcome<()>
+    ensures { AreMet include.now world.now result }
+{
     for item in &include.with {
         if !is_met(world, &item.from) {
             return Err(missing_with_name(
@@ -244,8 +247,10 @@ fn include_items(
 ) -> Outcome<()>
     requires world { Stands types.now (ItemKind.Component world) }
     requires body { BodyStands types.now body.old }
+    ensures outcome { IncludesItems include.now to.now world types.now body.old body.new result }
     ensures body { OnOk result (BodyStands types.now body.new) }
 {
+    types.see_acyclic();
     let world = types.world(world);
     let imports = Inclusion {
         to,
@@ -273,6 +278,7 @@ pub(crate) fn include_world<T: PackagedTypes>(
 ) -> Outcome<()>
     requires root { NamesStand (T.collection types.old) context.root.now }
     requires body { BodyStands (T.collection types.old) body.old }
+    ensures outcome { Includes include.now to.now context.entry (T.collection types.old) body.old (T.collection types.new) body.new result }
     ensures body { OnOk result (BodyStands (T.collection types.new) body.new) }
     ensures grows { Grows (T.collection types.old) (T.collection types.new) }
 {
