@@ -5,14 +5,14 @@ use super::{Custom, ReadError, Reading, Sort};
 use std::alloc::Global;
 
 /// What processed the component.
-#[derive(Debug, Drop)]
+#[derive(Drop)]
 pub struct Processor {
     pub name: String,
     pub version: String,
 }
 
 /// A name for debuggers, of what stands at an index.
-#[derive(Debug, Drop)]
+#[derive(Drop)]
 pub struct DebugName {
     pub sort: Sort,
     pub index: u32,

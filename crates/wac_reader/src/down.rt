@@ -5,7 +5,7 @@ use super::{Import, Item, ReadError, Reading, Root, Source, read};
 use std::alloc::Global;
 
 /// What an instance of the whole is made of.
-#[derive(Clone, Debug, Drop)]
+#[derive(Clone, Drop)]
 pub enum Made {
     /// The handed package of that number.
     Leaf(usize),
@@ -16,7 +16,7 @@ pub enum Made {
 }
 
 /// An instance somewhere in the whole.
-#[derive(Debug, Drop)]
+#[derive(Drop)]
 pub struct Inner {
     pub made: Made,
     pub of: Source,
@@ -25,7 +25,7 @@ pub struct Inner {
 
 /// A component with all that is nested in it. The outermost component's instances are counted first, then those of
 /// each composition in turn. No source goes through a composition: it is followed inside.
-#[derive(Debug, Drop)]
+#[derive(Drop)]
 pub struct WholeReading {
     pub imports: Vec<Import>,
     pub instances: Vec<Inner>,

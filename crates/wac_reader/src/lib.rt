@@ -53,7 +53,7 @@ pub enum Sort {
 }
 
 /// Where a source begins.
-#[derive(Clone, Debug, Drop, PartialEq, Eq)]
+#[derive(Clone, Drop)]
 pub enum Root {
     /// The outer import of that name.
     Import(String),
@@ -66,14 +66,14 @@ pub enum Root {
 }
 
 /// Where something comes from: a root, and the export names by which it is reached from there.
-#[derive(Clone, Debug, Drop, PartialEq, Eq)]
+#[derive(Clone, Drop)]
 pub struct Source {
     pub root: Root,
     pub path: Vec<String>,
 }
 
 /// A name and what goes under it: an export, or an argument.
-#[derive(Clone, Debug, Drop, PartialEq, Eq)]
+#[derive(Clone, Drop)]
 pub struct Item {
     pub name: String,
     pub sort: Sort,
@@ -82,7 +82,7 @@ pub struct Item {
     pub stated: Option<String>,
 }
 
-#[derive(Debug, Drop)]
+#[derive(Drop)]
 pub struct Import {
     pub name: String,
     pub sort: Sort,
@@ -91,20 +91,20 @@ pub struct Import {
 }
 
 /// An instance that is made here: of which component, with which arguments.
-#[derive(Debug, Drop)]
+#[derive(Drop)]
 pub struct Instance {
     pub of: Source,
     pub arguments: Vec<Item>,
 }
 
-#[derive(Debug, Drop)]
+#[derive(Drop)]
 pub struct Custom {
     pub name: String,
     pub contents: Vec<u8>,
 }
 
 /// One level of a component.
-#[derive(Debug, Drop)]
+#[derive(Drop)]
 pub struct Reading {
     pub imports: Vec<Import>,
     pub components: Vec<Vec<u8>>,
@@ -114,7 +114,7 @@ pub struct Reading {
 }
 
 /// What a type's tree is at its top.
-#[derive(Clone, Copy, Debug, Drop, PartialEq, Eq)]
+#[derive(Clone, Copy, Drop, PartialEq, Eq)]
 enum Kind {
     Value,
     Resource,
@@ -127,7 +127,7 @@ enum Kind {
 }
 
 /// An export of a component type or an instance type; its type by number.
-#[derive(Clone, Debug, Drop)]
+#[derive(Clone, Drop)]
 struct Member {
     name: String,
     sort: Sort,
@@ -135,7 +135,7 @@ struct Member {
 }
 
 /// A type: its tree as text, and the exports that an alias can name.
-#[derive(Debug, Drop)]
+#[derive(Drop)]
 struct Node {
     kind: Kind,
     text: String,
@@ -143,7 +143,7 @@ struct Node {
 }
 
 /// What stands at an index: its type by number.
-#[derive(Clone, Debug, Drop)]
+#[derive(Clone, Drop)]
 struct Thing {
     sort: Sort,
     source: Source,
@@ -151,7 +151,7 @@ struct Thing {
 }
 
 /// The component itself, or a component or instance type inside it, with index spaces of its own.
-#[derive(Debug, Drop)]
+#[derive(Drop)]
 struct Scope {
     kind: Kind,
     /// How many declarations are still to be read.
