@@ -109,8 +109,9 @@ impl Cursor<'_> {
     }
 
     fn table(&mut self, alloc: Global) -> Result<String, ReadError> {
+        let is_reference = matches!(self.peek(), Some(0x6f | 0x70));
         let ty = self.core_value()?;
-        if ty != "funcref" && ty != "externref" {
+        if !is_reference {
             return self.fault("a table of no references");
         }
         let limits = self.limits(alloc)?;
