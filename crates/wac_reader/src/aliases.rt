@@ -1,71 +1,82 @@
 //! Aliases: an export of an instance, or what stands in a scope further out.
 
-use super::{Kind, Level, Member, ReadError, Sort, Thing};
+use super::cursor::Cursor;
+use super::entries::member_of;
+use super::{Kind, ReadError, Sort, Source, Spaces, Thing};
+use std::alloc::{AllocError, Global};
 
-impl<'a> Level<'a> {
+impl Spaces {
     /// A sort, then `00` with an instance and a name, or `02` with a count of scopes and an index.
-    pub fn alias_entry(&mut self) -> Result<(), ReadError> {
-        let sort = self.alias_sort()?;
-        match self.cursor.byte()? {
-            0x00 => self.export_alias(sort),
-            0x02 => self.outer_alias(sort),
-            _ => self.fault("no target of an alias before here"),
+    pub fn alias_entry(&mut self, cursor: &mut Cursor<'_>) -> Result<(), ReadError> {
+        let sort = alias_sort(cursor)?;
+        match cursor.byte()? {
+            0x00 => self.export_alias(cursor, sort),
+            0x02 => self.outer_alias(cursor, sort),
+            _ => cursor.fault("no target of an alias before here"),
         }
     }
 
-    /// Beside the sorts of imports, the core type: `00 10`.
-    fn alias_sort(&mut self) -> Result<Sort, ReadError> {
-        let mut ahead = self.cursor;
-        if ahead.byte()? == 0x00 && ahead.byte()? == 0x10 {
-            self.cursor = ahead;
-            return Ok(Sort::CoreType);
-        }
-        self.cursor.sort()
-    }
-
-    fn export_alias(&mut self, sort: Sort) -> Result<(), ReadError> {
-        let index = self.cursor.unsigned()?;
-        let mut source = self.find(Sort::Instance, index)?;
-        let name = self.cursor.name(self.alloc)?;
-        let known = self.member(source.ty, name.as_str())?;
-        let is_unknown = self.kind_of(source.ty) == Kind::Unknown;
-        source.source.path.push(name)?;
+    fn export_alias(&mut self, cursor: &mut Cursor<'_>, sort: Sort) -> Result<(), ReadError> {
+        let instance = self.indexed(cursor, Sort::Instance)?;
+        let name = cursor.label()?;
+        let known = self.member_type(cursor, instance.ty, name, sort)?;
+        let source = export_of(self.alloc, &instance.source, name)?;
         let ty = match known {
-            Some(member) if member.sort == sort => member.ty,
-            Some(_) => return self.fault("an export of another sort"),
-            None if is_unknown => self.unknown(&source)?,
-            None => return self.fault("no export of that name"),
+            Some(ty) => ty,
+            None => self.unknown(&source)?,
         };
-        self.add(sort, source.source, ty)
+        self.add(Thing { sort, source, ty }, cursor)
     }
 
-    fn member(&self, ty: usize, name: &str) -> Result<Option<Member>, ReadError> {
+    /// The type of an instance's export. None where the instance's type is not known.
+    fn member_type(
+        &self,
+        cursor: &Cursor<'_>,
+        ty: usize,
+        name: &str,
+        sort: Sort,
+    ) -> Result<Option<usize>, ReadError> {
         let Some(node) = self.nodes.get(ty) else {
-            return self.fault("no such type");
+            return cursor.fault("no such type");
         };
-        match node
-            .exports
-            .iter()
-            .find(|member| member.name.as_str() == name)
-        {
-            Some(member) => Ok(Some(member.clone()?)),
-            None => Ok(None),
+        match member_of(&node.exports, name) {
+            Some(member) if member.sort == sort => Ok(Some(member.ty)),
+            Some(_) => cursor.fault("an export of another sort"),
+            None if node.kind == Kind::Unknown => Ok(None),
+            None => cursor.fault("no export of that name"),
         }
     }
 
     /// The type of an export of a nested component goes by the export's source.
-    fn unknown(&mut self, thing: &Thing) -> Result<usize, ReadError> {
-        let text = thing.source.text(self.alloc)?;
-        self.node(Kind::Unknown, text, Vec::new(self.alloc))
+    fn unknown(&mut self, source: &Source) -> Result<usize, ReadError> {
+        let text = source.text(self.alloc)?;
+        Ok(self.node(Kind::Unknown, text, Vec::new(self.alloc))?)
     }
 
-    fn outer_alias(&mut self, sort: Sort) -> Result<(), ReadError> {
-        let count = self.cursor.unsigned()?;
-        let index = self.cursor.unsigned()?;
+    fn outer_alias(&mut self, cursor: &mut Cursor<'_>, sort: Sort) -> Result<(), ReadError> {
+        let count = cursor.unsigned()?;
+        let index = cursor.unsigned()?;
         if sort == Sort::Func || sort == Sort::Instance {
-            return self.fault("an outer alias of that sort");
+            return cursor.fault("an outer alias of that sort");
         }
-        let thing = self.find_outside(count, sort, index)?;
-        self.add(sort, thing.source, thing.ty)
+        let thing = self.find_outside(cursor, count, sort, index)?.clone()?;
+        self.add(thing, cursor)
     }
+}
+
+/// Where an instance's export comes from.
+fn export_of(alloc: Global, instance: &Source, name: &str) -> Result<Source, AllocError> {
+    let mut source = instance.clone()?;
+    source.path.push(String::from_str(alloc, name)?)?;
+    Ok(source)
+}
+
+/// Beside the sorts of imports, the core type: `00 10`.
+fn alias_sort(cursor: &mut Cursor<'_>) -> Result<Sort, ReadError> {
+    let mut ahead = *cursor;
+    if ahead.byte()? == 0x00 && ahead.byte()? == 0x10 {
+        *cursor = ahead;
+        return Ok(Sort::CoreType);
+    }
+    cursor.sort()
 }

@@ -1,5 +1,7 @@
 //! Each export's chain, down to handed packages and outer imports.
 
+use super::told::tell_path;
+use super::types::text_if;
 use super::{Inner, Item, Made, ReadError, Root, Source, WholeReading};
 use std::alloc::Global;
 
@@ -42,17 +44,29 @@ fn instance_chain(
     inner: &Inner,
     told: &Vec<Option<String>>,
 ) -> Result<Option<String>, ReadError> {
-    let (of, items) = match &inner.made {
-        Made::Leaf(leaf) => (format!(in alloc; "leaf {leaf}")?, &inner.arguments),
-        Made::Composition(exports) => (String::from_str(alloc, "composition")?, exports),
-        Made::Imported => match chain(alloc, &inner.of, told)? {
-            Some(of) => (of, &inner.arguments),
-            None => return Ok(None),
-        },
+    let Some(of) = made_chain(alloc, inner, told)? else {
+        return Ok(None);
+    };
+    let items = match &inner.made {
+        Made::Composition(exports) => exports,
+        Made::Leaf(_) | Made::Imported => &inner.arguments,
     };
     match chains_of(alloc, items, told)? {
         Some(inside) => Ok(Some(format!(in alloc; "{of}({inside})")?)),
         None => Ok(None),
+    }
+}
+
+/// What an instance is made of.
+fn made_chain(
+    alloc: Global,
+    inner: &Inner,
+    told: &Vec<Option<String>>,
+) -> Result<Option<String>, ReadError> {
+    match &inner.made {
+        Made::Leaf(leaf) => Ok(Some(format!(in alloc; "leaf {leaf}")?)),
+        Made::Composition(_) => Ok(Some(String::from_str(alloc, "composition")?)),
+        Made::Imported => chain(alloc, &inner.of, told),
     }
 }
 
@@ -67,7 +81,7 @@ fn chains_of(
         let Some(source) = chain(alloc, &item.source, told)? else {
             return Ok(None);
         };
-        let comma = if i > 0 { ", " } else { "" };
+        let comma = text_if(i > 0, ", ");
         write!(text, "{comma}{} = {source}", item.name)?;
     }
     Ok(Some(text))
@@ -85,8 +99,6 @@ fn chain(
         Some(Some(instance)) => instance.clone()?,
         _ => return Ok(None),
     };
-    for name in &source.path {
-        write!(text, ".{name}")?;
-    }
+    tell_path(&mut text, &source.path)?;
     Ok(Some(text))
 }

@@ -55,6 +55,11 @@ impl<'a> Cursor<'a> {
         Ok(front)
     }
 
+    /// That the bytes before here are wrong.
+    pub fn fault<T>(&self, what: &'static str) -> Result<T, ReadError> {
+        Err(ReadError::At(self.at, what))
+    }
+
     /// A cursor over the next bytes alone, which are passed over here.
     pub fn part(&mut self, count: u32) -> Result<Cursor<'a>, ReadError> {
         let at = self.at;
@@ -130,19 +135,24 @@ impl<'a> Cursor<'a> {
     }
 
     /// A length, and that many bytes of UTF-8.
-    pub fn name(&mut self, alloc: Global) -> Result<String, ReadError> {
+    pub fn label(&mut self) -> Result<&'a str, ReadError> {
         let count = self.unsigned()?;
         let at = self.at;
         match from_utf8(self.take(count)?) {
-            Ok(text) => Ok(String::from_str(alloc, text)?),
+            Ok(text) => Ok(text),
             Err(_) => Err(ReadError::At(at, "a name that is no UTF-8")),
         }
     }
 
+    /// The same, copied.
+    pub fn name(&mut self, alloc: Global) -> Result<String, ReadError> {
+        Ok(String::from_str(alloc, self.label()?)?)
+    }
+
     /// A name of an import or an export: `00` says that no options follow.
-    pub fn extern_name(&mut self, alloc: Global) -> Result<String, ReadError> {
+    pub fn extern_name(&mut self) -> Result<&'a str, ReadError> {
         self.exactly(0x00, "a name with options")?;
-        self.name(alloc)
+        self.label()
     }
 
     pub fn exactly(&mut self, wanted: u8, what: &'static str) -> Result<(), ReadError> {

@@ -5,14 +5,14 @@ use super::{Custom, ReadError, Reading, Sort};
 use std::alloc::Global;
 
 /// What processed the component.
-#[derive(Debug, Drop)]
+#[derive(Drop)]
 pub struct Processor {
     pub name: String,
     pub version: String,
 }
 
 /// A name for debuggers, of what stands at an index.
-#[derive(Debug, Drop)]
+#[derive(Drop)]
 pub struct DebugName {
     pub sort: Sort,
     pub index: u32,
@@ -29,56 +29,74 @@ impl Reading {
     /// What the section `producers` says: one field, `processed-by`. None without that section.
     pub fn processors(&self, alloc: Global) -> Result<Vec<Processor>, ReadError> {
         let mut processors = Vec::new(alloc);
-        let Some(custom) = self.customs_of("producers") else {
-            return Ok(processors);
-        };
-        let mut cursor = Cursor::new(&custom.contents);
-        cursor.exactly(0x01, "not one field")?;
-        if cursor.name(alloc)?.as_str() != "processed-by" {
-            return Err(ReadError::At(cursor.offset(), "another field before here"));
+        if let Some(custom) = self.customs_of("producers") {
+            let mut cursor = Cursor::new(&custom.contents);
+            push_processors(alloc, &mut cursor, &mut processors)?;
         }
-        for _ in 0..cursor.unsigned()? {
-            let name = cursor.name(alloc)?;
-            let version = cursor.name(alloc)?;
-            processors.push(Processor { name, version })?;
-        }
-        at_end(&cursor)?;
         Ok(processors)
     }
 
     /// What the section `component-name` says, of all sorts. None without that section.
     pub fn debug_names(&self, alloc: Global) -> Result<Vec<DebugName>, ReadError> {
         let mut names = Vec::new(alloc);
-        let Some(custom) = self.customs_of("component-name") else {
-            return Ok(names);
-        };
-        let mut cursor = Cursor::new(&custom.contents);
-        for _ in 0..custom.contents.len() {
-            if cursor.is_empty() {
-                break;
-            }
-            cursor.exactly(0x01, "no names of a sort")?;
-            let size = cursor.unsigned()?;
-            push_names(alloc, cursor.part(size)?, &mut names)?;
+        if let Some(custom) = self.customs_of("component-name") {
+            let mut cursor = Cursor::new(&custom.contents);
+            push_debug_names(alloc, &mut cursor, &mut names)?;
         }
         Ok(names)
     }
 }
 
+fn push_processors(
+    alloc: Global,
+    cursor: &mut Cursor<'_>,
+    processors: &mut Vec<Processor>,
+) -> Result<(), ReadError> {
+    cursor.exactly(0x01, "not one field")?;
+    if cursor.label()? != "processed-by" {
+        return cursor.fault("another field before here");
+    }
+    for _ in 0..cursor.unsigned()? {
+        processors.push(read_processor(alloc, cursor)?)?;
+    }
+    at_end(cursor)
+}
+
+fn read_processor(alloc: Global, cursor: &mut Cursor<'_>) -> Result<Processor, ReadError> {
+    let name = cursor.name(alloc)?;
+    let version = cursor.name(alloc)?;
+    Ok(Processor { name, version })
+}
+
+fn push_debug_names(
+    alloc: Global,
+    cursor: &mut Cursor<'_>,
+    names: &mut Vec<DebugName>,
+) -> Result<(), ReadError> {
+    for _ in 0..cursor.left() {
+        if cursor.is_empty() {
+            break;
+        }
+        cursor.exactly(0x01, "no names of a sort")?;
+        let size = cursor.unsigned()?;
+        push_names(alloc, &mut cursor.part(size)?, names)?;
+    }
+    Ok(())
+}
+
 /// A sort, and the names of its indexes.
 fn push_names(
     alloc: Global,
-    part: Cursor<'_>,
+    cursor: &mut Cursor<'_>,
     names: &mut Vec<DebugName>,
 ) -> Result<(), ReadError> {
-    let mut cursor = part;
     let sort = cursor.sort()?;
     for _ in 0..cursor.unsigned()? {
         let index = cursor.unsigned()?;
         let name = cursor.name(alloc)?;
         names.push(DebugName { sort, index, name })?;
     }
-    at_end(&cursor)
+    at_end(cursor)
 }
 
 fn at_end(cursor: &Cursor<'_>) -> Result<(), ReadError> {

@@ -1,11 +1,11 @@
 //! Reading down: nested compositions are read too, until handed packages and outer imports are left.
 
 use super::entries::item_of;
-use super::{Import, Item, ReadError, Reading, Root, Source, read};
-use std::alloc::Global;
+use super::{Import, Instance, Item, ReadError, Reading, Root, Source, read};
+use std::alloc::{AllocError, Global};
 
 /// What an instance of the whole is made of.
-#[derive(Clone, Debug, Drop)]
+#[derive(Clone, Drop)]
 pub enum Made {
     /// The handed package of that number.
     Leaf(usize),
@@ -16,7 +16,7 @@ pub enum Made {
 }
 
 /// An instance somewhere in the whole.
-#[derive(Debug, Drop)]
+#[derive(Drop)]
 pub struct Inner {
     pub made: Made,
     pub of: Source,
@@ -25,7 +25,7 @@ pub struct Inner {
 
 /// A component with all that is nested in it. The outermost component's instances are counted first, then those of
 /// each composition in turn. No source goes through a composition: it is followed inside.
-#[derive(Debug, Drop)]
+#[derive(Drop)]
 pub struct WholeReading {
     pub imports: Vec<Import>,
     pub instances: Vec<Inner>,
@@ -64,13 +64,8 @@ pub fn read_down(alloc: Global, bytes: &[u8], leaves: &[&[u8]]) -> Result<WholeR
         instances: Vec::new(alloc),
     };
     let exports = whole.enter(&outermost, None)?;
-    for number in 0..MAX_INSTANCES {
-        if number >= whole.instances.len() {
-            return whole.finish(outermost, &exports);
-        }
-        whole.open(number)?;
-    }
-    Err(ReadError::At(0, "too many instances"))
+    whole.open_all()?;
+    whole.finish(outermost.imports, &exports)
 }
 
 impl<'a> Whole<'a> {
@@ -85,14 +80,21 @@ impl<'a> Whole<'a> {
             self.components.push(bytes.clone()?)?;
         }
         for instance in &level.instances {
-            let inner = Inner {
-                made: Made::Imported,
-                of: place.placed(&instance.of)?,
-                arguments: place.placed_all(self.alloc, &instance.arguments)?,
-            };
+            let inner = place.placed_instance(self.alloc, instance)?;
             self.instances.push(inner)?;
         }
         place.placed_all(self.alloc, &level.exports)
+    }
+
+    /// Finds what each instance is made of, those that are entered on the way too.
+    fn open_all(&mut self) -> Result<(), ReadError> {
+        for number in 0..MAX_INSTANCES {
+            if number >= self.instances.len() {
+                return Ok(());
+            }
+            self.open(number)?;
+        }
+        Err(ReadError::At(0, "too many instances"))
     }
 
     /// Finds what an instance is made of, and enters it where that is a composition.
@@ -169,25 +171,26 @@ impl<'a> Whole<'a> {
         }
     }
 
-    fn finish(&self, outermost: Reading, exports: &Vec<Item>) -> Result<WholeReading, ReadError> {
+    fn settle_inner(&self, inner: &Inner) -> Result<Inner, ReadError> {
+        Ok(Inner {
+            made: self.settle_made(&inner.made)?,
+            of: self.settle(&inner.of)?,
+            arguments: self.settle_all(&inner.arguments)?,
+        })
+    }
+
+    fn settle_instances(&self) -> Result<Vec<Inner>, ReadError> {
         let mut instances = Vec::new(self.alloc);
         for inner in &self.instances {
-            instances.push(Inner {
-                made: self.settle_made(&inner.made)?,
-                of: self.settle(&inner.of)?,
-                arguments: self.settle_all(&inner.arguments)?,
-            })?;
+            instances.push(self.settle_inner(inner)?)?;
         }
-        let Reading {
-            imports,
-            components: _,
-            instances: _,
-            exports: _,
-            customs: _,
-        } = outermost;
+        Ok(instances)
+    }
+
+    fn finish(&self, imports: Vec<Import>, exports: &Vec<Item>) -> Result<WholeReading, ReadError> {
         Ok(WholeReading {
             imports,
-            instances,
+            instances: self.settle_instances()?,
             exports: self.settle_all(exports)?,
         })
     }
@@ -208,11 +211,19 @@ impl Place {
                 let Some(item) = item_of(given, name.as_str()) else {
                     return Err(ReadError::At(0, "an import without an argument"));
                 };
-                return extended(&item.source, &source.path);
+                return Ok(extended(&item.source, &source.path)?);
             }
             _ => {}
         }
         Ok(placed)
+    }
+
+    fn placed_instance(&self, alloc: Global, instance: &Instance) -> Result<Inner, ReadError> {
+        Ok(Inner {
+            made: Made::Imported,
+            of: self.placed(&instance.of)?,
+            arguments: self.placed_all(alloc, &instance.arguments)?,
+        })
     }
 
     fn placed_all(&self, alloc: Global, items: &Vec<Item>) -> Result<Vec<Item>, ReadError> {
@@ -234,7 +245,7 @@ fn leaf_of(leaves: &[&[u8]], bytes: &[u8]) -> Option<usize> {
     None
 }
 
-fn extended(source: &Source, path: &[String]) -> Result<Source, ReadError> {
+fn extended(source: &Source, path: &[String]) -> Result<Source, AllocError> {
     let mut longer = source.clone()?;
     for name in path {
         longer.path.push(name.clone()?)?;
@@ -242,8 +253,11 @@ fn extended(source: &Source, path: &[String]) -> Result<Source, ReadError> {
     Ok(longer)
 }
 
-fn with_source(item: &Item, source: Source) -> Result<Item, ReadError> {
-    let mut copy = item.clone()?;
-    copy.source = source;
-    Ok(copy)
+fn with_source(item: &Item, source: Source) -> Result<Item, AllocError> {
+    Ok(Item {
+        name: item.name.clone()?,
+        sort: item.sort,
+        source,
+        stated: item.stated.clone()?,
+    })
 }

@@ -1,206 +1,313 @@
 //! Sections and their entries.
 
+use super::cursor::Cursor;
 use super::names::{is_export_name, is_import_name};
-use super::{Custom, Import, Instance, Item, Kind, Level, Member, ReadError, Root, Sort};
+use super::{
+    Custom, Import, Instance, Item, Kind, Level, Member, ReadError, Root, Sort, Source, Spaces,
+    Thing,
+};
+use std::alloc::AllocError;
 
-impl<'a> Level<'a> {
-    /// The section of that id, to the end of its contents.
-    pub fn section(&mut self, id: u8) -> Result<(), ReadError> {
-        match id {
-            0 => self.custom()?,
-            4 => self.nested()?,
-            3 | 5 | 6 | 7 | 10 | 11 => self.entries(id)?,
-            _ => return self.fault("a section of another id"),
-        }
-        if self.cursor.is_empty() {
-            Ok(())
-        } else {
-            self.fault("bytes after a section's last entry")
-        }
-    }
-
-    fn entries(&mut self, id: u8) -> Result<(), ReadError> {
-        for _ in 0..self.cursor.unsigned()? {
-            self.entry(id)?;
+impl Level {
+    /// All sections that are left.
+    pub fn sections(&mut self, cursor: &mut Cursor<'_>) -> Result<(), ReadError> {
+        for _ in 0..cursor.left() {
+            if cursor.is_empty() {
+                break;
+            }
+            let id = cursor.section_id()?;
+            let size = cursor.unsigned()?;
+            self.section(&mut cursor.part(size)?, id)?;
         }
         Ok(())
     }
 
-    fn entry(&mut self, id: u8) -> Result<(), ReadError> {
+    /// The section of that id, to the end of its contents.
+    fn section(&mut self, cursor: &mut Cursor<'_>, id: u8) -> Result<(), ReadError> {
         match id {
-            3 => self.core_type_entry(),
-            5 => self.instance_entry(),
-            6 => self.alias_entry(),
-            7 => self.type_entry(),
-            10 => self.import_entry(),
-            11 => self.export_entry(),
-            _ => self.fault("a section of another id"),
+            0 => self.custom(cursor)?,
+            4 => self.nested(cursor)?,
+            3 | 5 | 6 | 7 | 10 | 11 => self.entries(cursor, id)?,
+            _ => return cursor.fault("a section of another id"),
+        }
+        if cursor.is_empty() {
+            Ok(())
+        } else {
+            cursor.fault("bytes after a section's last entry")
         }
     }
 
-    fn custom(&mut self) -> Result<(), ReadError> {
-        let name = self.cursor.name(self.alloc)?;
-        let contents = self.cursor.rest().to_vec(self.alloc)?;
+    fn entries(&mut self, cursor: &mut Cursor<'_>, id: u8) -> Result<(), ReadError> {
+        for _ in 0..cursor.unsigned()? {
+            self.entry(cursor, id)?;
+        }
+        Ok(())
+    }
+
+    fn entry(&mut self, cursor: &mut Cursor<'_>, id: u8) -> Result<(), ReadError> {
+        match id {
+            3 => self.spaces.core_type_entry(cursor),
+            5 => self.instance_entry(cursor),
+            6 => self.spaces.alias_entry(cursor),
+            7 => self.spaces.type_entry(cursor),
+            10 => self.import_entry(cursor),
+            11 => self.export_entry(cursor),
+            _ => cursor.fault("a section of another id"),
+        }
+    }
+
+    fn custom(&mut self, cursor: &mut Cursor<'_>) -> Result<(), ReadError> {
+        let name = cursor.name(self.spaces.alloc)?;
+        let contents = cursor.rest().to_vec(self.spaces.alloc)?;
         self.reading.customs.push(Custom { name, contents })?;
         Ok(())
     }
 
-    fn nested(&mut self) -> Result<(), ReadError> {
-        let bytes = self.cursor.rest().to_vec(self.alloc)?;
+    fn nested(&mut self, cursor: &mut Cursor<'_>) -> Result<(), ReadError> {
+        let alloc = self.spaces.alloc;
+        let bytes = cursor.rest().to_vec(alloc)?;
         let number = self.reading.components.len();
         self.reading.components.push(bytes)?;
-        let text = format!(in self.alloc; "component {number}")?;
-        let ty = self.node(Kind::Unknown, text, Vec::new(self.alloc))?;
-        let source = self.source(Root::Component(number));
-        self.add(Sort::Component, source, ty)
+        let text = format!(in alloc; "component {number}")?;
+        let ty = self.spaces.node(Kind::Unknown, text, Vec::new(alloc))?;
+        self.spaces
+            .add_root(cursor, Sort::Component, Root::Component(number), ty)
     }
 
     /// `00`, a component's index, and the arguments.
-    fn instance_entry(&mut self) -> Result<(), ReadError> {
-        self.cursor
-            .exactly(0x00, "an instance that is no component's")?;
-        let index = self.cursor.unsigned()?;
-        let component = self.find(Sort::Component, index)?;
-        let arguments = self.arguments()?;
+    fn instance_entry(&mut self, cursor: &mut Cursor<'_>) -> Result<(), ReadError> {
+        cursor.exactly(0x00, "an instance that is no component's")?;
+        let (instance, ty) = self.spaces.instance(cursor)?;
         let number = self.reading.instances.len();
-        self.reading.instances.push(Instance {
-            of: component.source,
-            arguments,
-        })?;
-        let source = self.source(Root::Instance(number));
-        self.add(Sort::Instance, source, component.ty)
+        self.reading.instances.push(instance)?;
+        self.spaces
+            .add_root(cursor, Sort::Instance, Root::Instance(number), ty)
     }
 
-    fn arguments(&mut self) -> Result<Vec<Item>, ReadError> {
+    fn import_entry(&mut self, cursor: &mut Cursor<'_>) -> Result<(), ReadError> {
+        let name = cursor.extern_name()?;
+        let (sort, ty) = self.spaces.import(cursor, name)?;
+        let import = self.spaces.described_import(cursor, name, sort, ty)?;
+        self.reading.imports.push(import)?;
+        Ok(())
+    }
+
+    fn export_entry(&mut self, cursor: &mut Cursor<'_>) -> Result<(), ReadError> {
+        let item = self.spaces.export(cursor)?;
+        self.reading.exports.push(item)?;
+        Ok(())
+    }
+}
+
+impl Spaces {
+    /// Adds the index of what has no path.
+    fn add_root(
+        &mut self,
+        cursor: &Cursor<'_>,
+        sort: Sort,
+        root: Root,
+        ty: usize,
+    ) -> Result<(), ReadError> {
+        let source = Source::new(self.alloc, root);
+        self.add(Thing { sort, source, ty }, cursor)
+    }
+
+    /// Adds the index of the import of that name.
+    fn add_import(
+        &mut self,
+        cursor: &Cursor<'_>,
+        sort: Sort,
+        name: &str,
+        ty: usize,
+    ) -> Result<(), ReadError> {
+        let root = Root::Import(String::from_str(self.alloc, name)?);
+        self.add_root(cursor, sort, root, ty)
+    }
+
+    /// An instance, and its component's type.
+    fn instance(&self, cursor: &mut Cursor<'_>) -> Result<(Instance, usize), ReadError> {
+        let component = self.indexed(cursor, Sort::Component)?;
+        let arguments = self.arguments(cursor)?;
+        let of = component.source.clone()?;
+        Ok((Instance { of, arguments }, component.ty))
+    }
+
+    fn arguments(&self, cursor: &mut Cursor<'_>) -> Result<Vec<Item>, ReadError> {
         let mut arguments = Vec::new(self.alloc);
-        for _ in 0..self.cursor.unsigned()? {
-            let name = self.cursor.name(self.alloc)?;
-            let sort = self.cursor.sort()?;
-            let index = self.cursor.unsigned()?;
-            if item_of(&arguments, name.as_str()).is_some() {
-                return self.fault("two arguments of one name");
-            }
-            let thing = self.find(sort, index)?;
-            arguments.push(Item {
-                name,
-                sort,
-                source: thing.source,
-                stated: None,
-            })?;
+        for _ in 0..cursor.unsigned()? {
+            let argument = self.argument(cursor, &arguments)?;
+            arguments.push(argument)?;
         }
         Ok(arguments)
     }
 
-    fn import_entry(&mut self) -> Result<(), ReadError> {
-        let name = self.cursor.extern_name(self.alloc)?;
-        let (sort, ty) = self.description(name.as_str())?;
-        let text = self.described(sort, ty)?;
-        self.new_import(name.as_str())?;
-        self.reading.imports.push(Import {
-            name: name.clone()?,
-            sort,
-            ty: text,
-        })?;
-        let source = self.source(Root::Import(name));
-        self.add(sort, source, ty)
+    /// An argument after those.
+    fn argument(&self, cursor: &mut Cursor<'_>, before: &Vec<Item>) -> Result<Item, ReadError> {
+        let name = cursor.label()?;
+        let sort = cursor.sort()?;
+        let index = cursor.unsigned()?;
+        if item_of(before, name).is_some() {
+            return cursor.fault("two arguments of one name");
+        }
+        let thing = self.find(cursor, sort, index)?;
+        Ok(self.item(name, thing)?)
+    }
+
+    /// What stands at an index, under a name.
+    fn item(&self, name: &str, thing: &Thing) -> Result<Item, AllocError> {
+        Ok(Item {
+            name: String::from_str(self.alloc, name)?,
+            sort: thing.sort,
+            source: thing.source.clone()?,
+            stated: None,
+        })
+    }
+
+    /// An import of that name: its sort, and its type by number.
+    fn import(&mut self, cursor: &mut Cursor<'_>, name: &str) -> Result<(Sort, usize), ReadError> {
+        let (sort, ty) = self.description(cursor, name)?;
+        self.new_import(cursor, name)?;
+        self.add_import(cursor, sort, name, ty)?;
+        Ok((sort, ty))
+    }
+
+    fn described_import(
+        &self,
+        cursor: &Cursor<'_>,
+        name: &str,
+        sort: Sort,
+        ty: usize,
+    ) -> Result<Import, ReadError> {
+        let ty = self.described(cursor, sort, ty)?;
+        let name = String::from_str(self.alloc, name)?;
+        Ok(Import { name, sort, ty })
     }
 
     /// An export: a name, what is exported, and `00`, or `01` and what it is said to be.
-    fn export_entry(&mut self) -> Result<(), ReadError> {
-        let name = self.cursor.extern_name(self.alloc)?;
-        let sort = self.cursor.sort()?;
-        let index = self.cursor.unsigned()?;
-        let thing = self.find(sort, index)?;
-        let stated = self.stated(name.as_str(), sort)?;
-        let ty = stated.unwrap_or(thing.ty);
-        self.new_export(name.as_str(), sort, ty)?;
-        let text = match stated {
-            Some(stated) => Some(self.described(sort, stated)?),
-            None => None,
-        };
-        self.reading.exports.push(Item {
-            name,
-            sort,
-            source: thing.source.clone()?,
-            stated: text,
-        })?;
-        self.add(sort, thing.source, ty)
+    fn export(&mut self, cursor: &mut Cursor<'_>) -> Result<Item, ReadError> {
+        let name = cursor.extern_name()?;
+        let sort = cursor.sort()?;
+        let thing = self.indexed(cursor, sort)?.clone()?;
+        self.export_thing(cursor, name, &thing)
     }
 
-    fn stated(&mut self, name: &str, sort: Sort) -> Result<Option<usize>, ReadError> {
-        match self.cursor.byte()? {
+    fn export_thing(
+        &mut self,
+        cursor: &mut Cursor<'_>,
+        name: &str,
+        thing: &Thing,
+    ) -> Result<Item, ReadError> {
+        let stated = self.stated(cursor, name, thing.sort)?;
+        let ty = stated.unwrap_or(thing.ty);
+        self.new_export(cursor, name, thing.sort, ty)?;
+        let source = thing.source.clone()?;
+        let sort = thing.sort;
+        self.add(Thing { sort, source, ty }, cursor)?;
+        self.exported(cursor, name, thing, stated)
+    }
+
+    fn exported(
+        &self,
+        cursor: &Cursor<'_>,
+        name: &str,
+        thing: &Thing,
+        stated: Option<usize>,
+    ) -> Result<Item, ReadError> {
+        let mut item = self.item(name, thing)?;
+        if let Some(ty) = stated {
+            item.stated = Some(self.described(cursor, thing.sort, ty)?);
+        }
+        Ok(item)
+    }
+
+    fn stated(
+        &mut self,
+        cursor: &mut Cursor<'_>,
+        name: &str,
+        sort: Sort,
+    ) -> Result<Option<usize>, ReadError> {
+        match cursor.byte()? {
             0x00 => Ok(None),
             0x01 => {
-                let (stated, ty) = self.description(name)?;
+                let (stated, ty) = self.description(cursor, name)?;
                 if stated != sort {
-                    return self.fault("an export said to be of another sort");
+                    return cursor.fault("an export said to be of another sort");
                 }
                 Ok(Some(ty))
             }
-            _ => self.fault("neither 00 nor 01 before here"),
+            _ => cursor.fault("neither 00 nor 01 before here"),
         }
     }
 
     /// An import of a component type.
-    pub fn declared_import(&mut self) -> Result<(), ReadError> {
-        let name = self.cursor.extern_name(self.alloc)?;
-        let (sort, ty) = self.description(name.as_str())?;
-        let text = self.described(sort, ty)?;
-        self.new_import(name.as_str())?;
-        let Some(inner) = self.scopes.last_mut() else {
-            return self.fault("no scope");
-        };
-        if inner.kind != Kind::Component {
-            return self.fault("an import in an instance type");
+    pub fn declared_import(&mut self, cursor: &mut Cursor<'_>) -> Result<(), ReadError> {
+        let name = cursor.extern_name()?;
+        let (sort, ty) = self.import(cursor, name)?;
+        if let Some(inner) = self.scopes.last() {
+            if inner.kind != Kind::Component {
+                return cursor.fault("an import in an instance type");
+            }
         }
-        write!(inner.text, "import {name}: {text}; ")?;
-        let source = self.source(Root::Import(name));
-        self.add(sort, source, ty)
+        self.declare(cursor, "import", name, sort, ty)
     }
 
     /// An export of a component type or an instance type.
-    pub fn declared_export(&mut self) -> Result<(), ReadError> {
-        let name = self.cursor.extern_name(self.alloc)?;
-        let (sort, ty) = self.description(name.as_str())?;
-        let text = self.described(sort, ty)?;
-        self.new_export(name.as_str(), sort, ty)?;
+    pub fn declared_export(&mut self, cursor: &mut Cursor<'_>) -> Result<(), ReadError> {
+        let name = cursor.extern_name()?;
+        let (sort, ty) = self.description(cursor, name)?;
+        self.new_export(cursor, name, sort, ty)?;
+        self.add_import(cursor, sort, name, ty)?;
+        self.declare(cursor, "export", name, sort, ty)
+    }
+
+    /// Writes a declaration into the innermost scope's text.
+    fn declare(
+        &mut self,
+        cursor: &Cursor<'_>,
+        word: &str,
+        name: &str,
+        sort: Sort,
+        ty: usize,
+    ) -> Result<(), ReadError> {
+        let text = self.described(cursor, sort, ty)?;
         let Some(inner) = self.scopes.last_mut() else {
-            return self.fault("no scope");
+            return cursor.fault("no scope");
         };
-        write!(inner.text, "export {name}: {text}; ")?;
-        let source = self.source(Root::Import(name));
-        self.add(sort, source, ty)
+        write!(inner.text, "{word} {name}: {text}; ")?;
+        Ok(())
     }
 
     /// The name is an import's, and no other import of the innermost scope has it.
-    fn new_import(&mut self, name: &str) -> Result<(), ReadError> {
+    fn new_import(&mut self, cursor: &Cursor<'_>, name: &str) -> Result<(), ReadError> {
         if !is_import_name(name) {
-            return self.fault("no name of an import");
+            return cursor.fault("no name of an import");
         }
         let Some(inner) = self.scopes.last_mut() else {
-            return self.fault("no scope");
+            return cursor.fault("no scope");
         };
         if inner.imports.iter().any(|other| other.as_str() == name) {
-            return self.fault("two imports of one name");
+            return cursor.fault("two imports of one name");
         }
         inner.imports.push(String::from_str(self.alloc, name)?)?;
         Ok(())
     }
 
     /// The name is an export's, and no other export of the innermost scope has it.
-    fn new_export(&mut self, name: &str, sort: Sort, ty: usize) -> Result<(), ReadError> {
+    fn new_export(
+        &mut self,
+        cursor: &Cursor<'_>,
+        name: &str,
+        sort: Sort,
+        ty: usize,
+    ) -> Result<(), ReadError> {
         if !is_export_name(name) {
-            return self.fault("no name of an export");
+            return cursor.fault("no name of an export");
         }
         let Some(inner) = self.scopes.last_mut() else {
-            return self.fault("no scope");
+            return cursor.fault("no scope");
         };
-        if inner
-            .exports
-            .iter()
-            .any(|other| other.name.as_str() == name)
-        {
-            return self.fault("two exports of one name");
+        if member_of(&inner.exports, name).is_some() {
+            return cursor.fault("two exports of one name");
         }
         let name = String::from_str(self.alloc, name)?;
         inner.exports.push(Member { name, sort, ty })?;
@@ -211,4 +318,9 @@ impl<'a> Level<'a> {
 /// What goes under that name.
 pub fn item_of<'i>(items: &'i Vec<Item>, name: &str) -> Option<&'i Item> {
     items.iter().find(|item| item.name.as_str() == name)
+}
+
+/// The export of that name.
+pub fn member_of<'m>(members: &'m Vec<Member>, name: &str) -> Option<&'m Member> {
+    members.iter().find(|member| member.name.as_str() == name)
 }

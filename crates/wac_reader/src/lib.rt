@@ -53,7 +53,7 @@ pub enum Sort {
 }
 
 /// Where a source begins.
-#[derive(Clone, Debug, Drop, PartialEq, Eq)]
+#[derive(Clone, Drop)]
 pub enum Root {
     /// The outer import of that name.
     Import(String),
@@ -66,14 +66,14 @@ pub enum Root {
 }
 
 /// Where something comes from: a root, and the export names by which it is reached from there.
-#[derive(Clone, Debug, Drop, PartialEq, Eq)]
+#[derive(Clone, Drop)]
 pub struct Source {
     pub root: Root,
     pub path: Vec<String>,
 }
 
 /// A name and what goes under it: an export, or an argument.
-#[derive(Clone, Debug, Drop, PartialEq, Eq)]
+#[derive(Clone, Drop)]
 pub struct Item {
     pub name: String,
     pub sort: Sort,
@@ -82,7 +82,7 @@ pub struct Item {
     pub stated: Option<String>,
 }
 
-#[derive(Debug, Drop)]
+#[derive(Drop)]
 pub struct Import {
     pub name: String,
     pub sort: Sort,
@@ -91,20 +91,20 @@ pub struct Import {
 }
 
 /// An instance that is made here: of which component, with which arguments.
-#[derive(Debug, Drop)]
+#[derive(Drop)]
 pub struct Instance {
     pub of: Source,
     pub arguments: Vec<Item>,
 }
 
-#[derive(Debug, Drop)]
+#[derive(Drop)]
 pub struct Custom {
     pub name: String,
     pub contents: Vec<u8>,
 }
 
 /// One level of a component.
-#[derive(Debug, Drop)]
+#[derive(Drop)]
 pub struct Reading {
     pub imports: Vec<Import>,
     pub components: Vec<Vec<u8>>,
@@ -114,7 +114,7 @@ pub struct Reading {
 }
 
 /// What a type's tree is at its top.
-#[derive(Clone, Copy, Debug, Drop, PartialEq, Eq)]
+#[derive(Clone, Copy, Drop, PartialEq, Eq)]
 enum Kind {
     Value,
     Resource,
@@ -127,7 +127,7 @@ enum Kind {
 }
 
 /// An export of a component type or an instance type; its type by number.
-#[derive(Clone, Debug, Drop)]
+#[derive(Drop)]
 struct Member {
     name: String,
     sort: Sort,
@@ -135,7 +135,7 @@ struct Member {
 }
 
 /// A type: its tree as text, and the exports that an alias can name.
-#[derive(Debug, Drop)]
+#[derive(Drop)]
 struct Node {
     kind: Kind,
     text: String,
@@ -143,7 +143,7 @@ struct Node {
 }
 
 /// What stands at an index: its type by number.
-#[derive(Clone, Debug, Drop)]
+#[derive(Clone, Drop)]
 struct Thing {
     sort: Sort,
     source: Source,
@@ -151,7 +151,7 @@ struct Thing {
 }
 
 /// The component itself, or a component or instance type inside it, with index spaces of its own.
-#[derive(Debug, Drop)]
+#[derive(Drop)]
 struct Scope {
     kind: Kind,
     /// How many declarations are still to be read.
@@ -162,39 +162,29 @@ struct Scope {
     exports: Vec<Member>,
 }
 
-/// One level while it is read.
+/// The index spaces and the types of one level while it is read.
 #[derive(Drop)]
-struct Level<'a> {
+struct Spaces {
     alloc: Global,
-    cursor: Cursor<'a>,
     /// The component, and the types inside which the cursor is, outermost first.
     scopes: Vec<Scope>,
     nodes: Vec<Node>,
+}
+
+/// One level while it is read.
+#[derive(Drop)]
+struct Level {
+    spaces: Spaces,
     reading: Reading,
 }
 
 /// Reads one level of a component.
 pub fn read(alloc: Global, bytes: &[u8]) -> Result<Reading, ReadError> {
-    let mut sections = Cursor::new(bytes);
-    sections.preamble()?;
-    let mut level = Level::new(alloc, sections)?;
-    for _ in 0..bytes.len() {
-        if sections.is_empty() {
-            break;
-        }
-        let id = sections.section_id()?;
-        let size = sections.unsigned()?;
-        level.cursor = sections.part(size)?;
-        level.section(id)?;
-    }
-    let Level {
-        alloc: _,
-        cursor: _,
-        scopes: _,
-        nodes: _,
-        reading,
-    } = level;
-    Ok(reading)
+    let mut cursor = Cursor::new(bytes);
+    cursor.preamble()?;
+    let mut level = Level::new(alloc)?;
+    level.sections(&mut cursor)?;
+    Ok(level.reading)
 }
 
 fn new_scope(alloc: Global, kind: Kind, left: u32) -> Scope {
@@ -208,54 +198,79 @@ fn new_scope(alloc: Global, kind: Kind, left: u32) -> Scope {
     }
 }
 
-impl<'a> Level<'a> {
-    fn new(alloc: Global, cursor: Cursor<'a>) -> Result<Self, ReadError> {
-        Ok(Level {
+impl Level {
+    fn new(alloc: Global) -> Result<Self, AllocError> {
+        let spaces = Spaces {
             alloc,
-            cursor,
             scopes: vec![in alloc; new_scope(alloc, Kind::Component, 0)]?,
             nodes: Vec::new(alloc),
-            reading: Reading {
-                imports: Vec::new(alloc),
-                components: Vec::new(alloc),
-                instances: Vec::new(alloc),
-                exports: Vec::new(alloc),
-                customs: Vec::new(alloc),
-            },
-        })
-    }
-
-    fn fault<T>(&self, what: &'static str) -> Result<T, ReadError> {
-        Err(ReadError::At(self.cursor.offset(), what))
-    }
-
-    /// Adds one index to its sort's space in the innermost scope.
-    fn add(&mut self, sort: Sort, source: Source, ty: usize) -> Result<(), ReadError> {
-        let Some(inner) = self.scopes.last_mut() else {
-            return self.fault("no scope");
         };
-        inner.things.push(Thing { sort, source, ty })?;
+        let reading = Reading {
+            imports: Vec::new(alloc),
+            components: Vec::new(alloc),
+            instances: Vec::new(alloc),
+            exports: Vec::new(alloc),
+            customs: Vec::new(alloc),
+        };
+        Ok(Level { spaces, reading })
+    }
+}
+
+impl Source {
+    /// A root, and no path from there.
+    fn new(alloc: Global, root: Root) -> Self {
+        Source {
+            root,
+            path: Vec::new(alloc),
+        }
+    }
+}
+
+impl Spaces {
+    /// Adds one index to its sort's space in the innermost scope.
+    fn add(&mut self, thing: Thing, cursor: &Cursor<'_>) -> Result<(), ReadError> {
+        let Some(inner) = self.scopes.last_mut() else {
+            return cursor.fault("no scope");
+        };
+        inner.things.push(thing)?;
         Ok(())
     }
 
     /// What stands at an index of a sort, in the scope so many scopes further out.
-    fn find_outside(&self, count: u32, sort: Sort, index: u32) -> Result<Thing, ReadError> {
+    fn find_outside(
+        &self,
+        cursor: &Cursor<'_>,
+        count: u32,
+        sort: Sort,
+        index: u32,
+    ) -> Result<&Thing, ReadError> {
         let Some(scope) = self.scopes.iter().rev().nth(count as usize) else {
-            return self.fault("no such scope");
+            return cursor.fault("no such scope");
         };
         let mut of_sort = scope.things.iter().filter(|thing| thing.sort == sort);
         match of_sort.nth(index as usize) {
-            Some(thing) => Ok(thing.clone()?),
-            None => self.fault("index out of range"),
+            Some(thing) => Ok(thing),
+            None => cursor.fault("index out of range"),
         }
     }
 
-    fn find(&self, sort: Sort, index: u32) -> Result<Thing, ReadError> {
-        self.find_outside(0, sort, index)
+    fn find(&self, cursor: &Cursor<'_>, sort: Sort, index: u32) -> Result<&Thing, ReadError> {
+        self.find_outside(cursor, 0, sort, index)
+    }
+
+    /// What stands at the index that is read here.
+    fn indexed(&self, cursor: &mut Cursor<'_>, sort: Sort) -> Result<&Thing, ReadError> {
+        let index = cursor.unsigned()?;
+        self.find(cursor, sort, index)
     }
 
     /// The number of a new type.
-    fn node(&mut self, kind: Kind, text: String, exports: Vec<Member>) -> Result<usize, ReadError> {
+    fn node(
+        &mut self,
+        kind: Kind,
+        text: String,
+        exports: Vec<Member>,
+    ) -> Result<usize, AllocError> {
         let number = self.nodes.len();
         self.nodes.push(Node {
             kind,
@@ -272,21 +287,10 @@ impl<'a> Level<'a> {
         }
     }
 
-    fn text_of(&self, ty: usize) -> Result<String, ReadError> {
+    fn text_of(&self, cursor: &Cursor<'_>, ty: usize) -> Result<&str, ReadError> {
         match self.nodes.get(ty) {
-            Some(node) => Ok(node.text.clone()?),
-            None => self.fault("no such type"),
-        }
-    }
-
-    fn copy(&self, text: &str) -> Result<String, ReadError> {
-        Ok(String::from_str(self.alloc, text)?)
-    }
-
-    fn source(&self, root: Root) -> Source {
-        Source {
-            root,
-            path: Vec::new(self.alloc),
+            Some(node) => Ok(node.text.as_str()),
+            None => cursor.fault("no such type"),
         }
     }
 }

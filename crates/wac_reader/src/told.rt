@@ -1,20 +1,37 @@
 //! A reading as text, a line for each import, instance and export.
 
-use super::{Custom, Import, Item, Made, ReadError, Reading, Root, Source, WholeReading};
-use std::alloc::Global;
+use super::types::text_if;
+use super::{Custom, Import, Inner, Item, Made, ReadError, Reading, Root, Source, WholeReading};
+use std::alloc::{AllocError, Global};
+
+/// Writes `import f`, `#0`, `component 0` or `type list<u8>`.
+pub fn tell_root(text: &mut String, root: &Root) -> Result<(), AllocError> {
+    match root {
+        Root::Import(name) => write!(text, "import {name}"),
+        Root::Instance(number) => write!(text, "#{number}"),
+        Root::Component(number) => write!(text, "component {number}"),
+        Root::Type(tree) => write!(text, "type {tree}"),
+    }
+}
+
+/// Writes the names of a path, as `.f.g`.
+pub fn tell_path(text: &mut String, path: &[String]) -> Result<(), AllocError> {
+    for name in path {
+        write!(text, ".{name}")?;
+    }
+    Ok(())
+}
+
+fn tell_source(text: &mut String, source: &Source) -> Result<(), AllocError> {
+    tell_root(text, &source.root)?;
+    tell_path(text, &source.path)
+}
 
 impl Source {
     /// `import f`, `#0.g` (an instance's export), `component 0`, `type list<u8>`.
     pub fn text(&self, alloc: Global) -> Result<String, ReadError> {
-        let mut text = match &self.root {
-            Root::Import(name) => format!(in alloc; "import {name}")?,
-            Root::Instance(number) => format!(in alloc; "#{number}")?,
-            Root::Component(number) => format!(in alloc; "component {number}")?,
-            Root::Type(tree) => format!(in alloc; "type {tree}")?,
-        };
-        for name in &self.path {
-            write!(text, ".{name}")?;
-        }
+        let mut text = String::new(alloc);
+        tell_source(&mut text, self)?;
         Ok(text)
     }
 }
@@ -23,14 +40,7 @@ impl Reading {
     /// As `import f: func()`, `#0 = component 0 (f = import f)`, `export g = #0.g`, `custom producers`.
     pub fn text(&self, alloc: Global) -> Result<String, ReadError> {
         let mut text = String::new(alloc);
-        tell_imports(&mut text, &self.imports)?;
-        for (number, instance) in self.instances.iter().enumerate() {
-            let of = instance.of.text(alloc)?;
-            write!(text, "#{number} = {of}")?;
-            tell_items(alloc, &mut text, &instance.arguments)?;
-        }
-        tell_exports(alloc, &mut text, &self.exports)?;
-        tell_customs(&mut text, &self.customs)?;
+        tell_reading(&mut text, self)?;
         Ok(text)
     }
 }
@@ -39,43 +49,61 @@ impl WholeReading {
     /// As `import f: func()`, `#0 = leaf 1 (f = import f)`, `#1 = composition (f = #0.g)`, `export g = #0.g`.
     pub fn text(&self, alloc: Global) -> Result<String, ReadError> {
         let mut text = String::new(alloc);
-        tell_imports(&mut text, &self.imports)?;
-        for (number, inner) in self.instances.iter().enumerate() {
-            write!(text, "#{number} = ")?;
-            match &inner.made {
-                Made::Leaf(leaf) => write!(text, "leaf {leaf}")?,
-                Made::Imported => text.push_str(inner.of.text(alloc)?.as_str())?,
-                Made::Composition(_) => text.push_str("composition")?,
-            }
-            tell_items(alloc, &mut text, &inner.arguments)?;
-        }
-        tell_exports(alloc, &mut text, &self.exports)?;
+        tell_whole(&mut text, self)?;
         Ok(text)
     }
 }
 
-fn tell_imports(text: &mut String, imports: &[Import]) -> Result<(), ReadError> {
+fn tell_reading(text: &mut String, reading: &Reading) -> Result<(), AllocError> {
+    tell_imports(text, &reading.imports)?;
+    for (number, instance) in reading.instances.iter().enumerate() {
+        write!(text, "#{number} = ")?;
+        tell_source(text, &instance.of)?;
+        tell_items(text, &instance.arguments)?;
+    }
+    tell_exports(text, &reading.exports)?;
+    tell_customs(text, &reading.customs)
+}
+
+fn tell_whole(text: &mut String, whole: &WholeReading) -> Result<(), AllocError> {
+    tell_imports(text, &whole.imports)?;
+    for (number, inner) in whole.instances.iter().enumerate() {
+        write!(text, "#{number} = ")?;
+        tell_made(text, inner)?;
+        tell_items(text, &inner.arguments)?;
+    }
+    tell_exports(text, &whole.exports)
+}
+
+fn tell_made(text: &mut String, inner: &Inner) -> Result<(), AllocError> {
+    match &inner.made {
+        Made::Leaf(leaf) => write!(text, "leaf {leaf}"),
+        Made::Imported => tell_source(text, &inner.of),
+        Made::Composition(_) => text.push_str("composition"),
+    }
+}
+
+pub fn tell_imports(text: &mut String, imports: &[Import]) -> Result<(), AllocError> {
     for import in imports {
         writeln!(text, "import {}: {}", import.name, import.ty)?;
     }
     Ok(())
 }
 
-fn tell_items(alloc: Global, text: &mut String, items: &[Item]) -> Result<(), ReadError> {
+fn tell_items(text: &mut String, items: &[Item]) -> Result<(), AllocError> {
     text.push_str(" (")?;
     for (i, item) in items.iter().enumerate() {
-        let comma = if i > 0 { ", " } else { "" };
-        let source = item.source.text(alloc)?;
-        write!(text, "{comma}{} = {source}", item.name)?;
+        let comma = text_if(i > 0, ", ");
+        write!(text, "{comma}{} = ", item.name)?;
+        tell_source(text, &item.source)?;
     }
-    text.push_str(")\n")?;
-    Ok(())
+    text.push_str(")\n")
 }
 
-fn tell_exports(alloc: Global, text: &mut String, exports: &[Item]) -> Result<(), ReadError> {
+fn tell_exports(text: &mut String, exports: &[Item]) -> Result<(), AllocError> {
     for export in exports {
-        let source = export.source.text(alloc)?;
-        write!(text, "export {} = {source}", export.name)?;
+        write!(text, "export {} = ", export.name)?;
+        tell_source(text, &export.source)?;
         if let Some(stated) = &export.stated {
             write!(text, " as {stated}")?;
         }
@@ -84,7 +112,7 @@ fn tell_exports(alloc: Global, text: &mut String, exports: &[Item]) -> Result<()
     Ok(())
 }
 
-fn tell_customs(text: &mut String, customs: &[Custom]) -> Result<(), ReadError> {
+fn tell_customs(text: &mut String, customs: &[Custom]) -> Result<(), AllocError> {
     for custom in customs {
         writeln!(text, "custom {}", custom.name)?;
     }

@@ -1,7 +1,8 @@
 //! What is read down, as text: outer imports, the instances of handed components, and exports. Compositions are told by
 //! what they give alone.
 
-use super::{Item, Made, ReadError, Root, Source, WholeReading, read_down};
+use super::told::{tell_imports, tell_path, tell_root};
+use super::{Inner, Item, Made, ReadError, Root, Source, WholeReading, read_down};
 use std::alloc::{AllocError, Global};
 
 /// A handed component.
@@ -17,7 +18,6 @@ const DEPTH: u8 = 8;
 /// The numbers of instances among those that are told; a composition has none.
 #[derive(Drop)]
 struct Told<'a> {
-    alloc: Global,
     whole: &'a WholeReading,
     numbers: Vec<Option<usize>>,
 }
@@ -58,32 +58,31 @@ impl Told<'_> {
         }
     }
 
-    /// `import f`, `#0.g`, `type list<u8>`, or `{ g = #0.g }` for a bundle.
+    /// `import f`, `#0.g`, `type list<u8>`.
+    fn plain(&self, text: &mut String, source: &Source) -> Result<(), AllocError> {
+        match &source.root {
+            Root::Instance(number) => write!(text, "#{}", self.number(*number))?,
+            root => tell_root(text, root)?,
+        }
+        tell_path(text, &source.path)
+    }
+
+    /// The same, or `{ g = #0.g }` for a bundle.
     #[cycle(bundles)]
-    fn source(&self, text: &mut String, source: &Source, depth: u8) -> Result<(), ReadError> {
+    fn source(&self, text: &mut String, source: &Source, depth: u8) -> Result<(), AllocError> {
         if depth > 0 && source.path.is_empty() {
             if let Some(items) = self.exports_of(source) {
                 text.push_str("{ ")?;
                 self.items(text, items, depth - 1)?;
-                text.push_str(" }")?;
-                return Ok(());
+                return text.push_str(" }");
             }
         }
-        match &source.root {
-            Root::Import(name) => write!(text, "import {name}")?,
-            Root::Instance(number) => write!(text, "#{}", self.number(*number))?,
-            Root::Component(number) => write!(text, "component {number}")?,
-            Root::Type(tree) => write!(text, "type {tree}")?,
-        }
-        for name in &source.path {
-            write!(text, ".{name}")?;
-        }
-        Ok(())
+        self.plain(text, source)
     }
 
     /// `a = import f, b = #0.g`.
     #[cycle(bundles)]
-    fn items(&self, text: &mut String, items: &Vec<Item>, depth: u8) -> Result<(), ReadError> {
+    fn items(&self, text: &mut String, items: &Vec<Item>, depth: u8) -> Result<(), AllocError> {
         for (at, item) in items.iter().enumerate() {
             if at > 0 {
                 text.push_str(", ")?;
@@ -97,26 +96,29 @@ impl Told<'_> {
     /// A line for each instance that is no composition, as `#0 = p:p (f = import f)`.
     fn instances(&self, text: &mut String, leaves: &[Leaf]) -> Result<(), ReadError> {
         for (number, inner) in self.whole.instances.iter().enumerate() {
-            let told = self.number(number);
-            match &inner.made {
-                Made::Composition(_) => continue,
-                Made::Leaf(leaf) => match leaves.get(*leaf) {
-                    Some(leaf) => write!(text, "#{told} = {} (", leaf.key)?,
-                    None => return Err(ReadError::At(0, "no such leaf")),
-                },
-                Made::Imported => {
-                    write!(text, "#{told} = ")?;
-                    self.source(text, &inner.of, 0)?;
-                    text.push_str(" (")?;
-                }
+            if !matches!(inner.made, Made::Composition(_)) {
+                write!(text, "#{} = ", self.number(number))?;
+                self.made(text, inner, leaves)?;
+                text.push_str(" (")?;
+                self.items(text, &inner.arguments, DEPTH)?;
+                text.push_str(")\n")?;
             }
-            self.items(text, &inner.arguments, DEPTH)?;
-            text.push_str(")\n")?;
         }
         Ok(())
     }
 
-    fn exports(&self, text: &mut String) -> Result<(), ReadError> {
+    /// A leaf's key, or where an imported component comes from.
+    fn made(&self, text: &mut String, inner: &Inner, leaves: &[Leaf]) -> Result<(), ReadError> {
+        let Made::Leaf(leaf) = &inner.made else {
+            return Ok(self.source(text, &inner.of, 0)?);
+        };
+        match leaves.get(*leaf) {
+            Some(leaf) => Ok(text.push_str(leaf.key.as_str())?),
+            None => Err(ReadError::At(0, "no such leaf")),
+        }
+    }
+
+    fn exports(&self, text: &mut String) -> Result<(), AllocError> {
         for export in &self.whole.exports {
             write!(text, "export {} = ", export.name)?;
             self.source(text, &export.source, DEPTH)?;
@@ -126,6 +128,28 @@ impl Told<'_> {
     }
 }
 
+fn bytes_of(alloc: Global, leaves: &[Leaf]) -> Result<Vec<&[u8]>, AllocError> {
+    let mut bytes: Vec<&[u8]> = Vec::new(alloc);
+    for leaf in leaves {
+        bytes.push(leaf.bytes.as_slice())?;
+    }
+    Ok(bytes)
+}
+
+fn tell_whole(
+    alloc: Global,
+    text: &mut String,
+    whole: &WholeReading,
+    leaves: &[Leaf],
+) -> Result<(), ReadError> {
+    tell_imports(text, &whole.imports)?;
+    let numbers = numbers_of(alloc, whole)?;
+    let told = Told { whole, numbers };
+    told.instances(text, leaves)?;
+    told.exports(text)?;
+    Ok(())
+}
+
 /// Tells the wiring of a component, read down to the leaves.
 pub fn tell(
     alloc: Global,
@@ -133,19 +157,7 @@ pub fn tell(
     bytes: &[u8],
     leaves: &[Leaf],
 ) -> Result<(), ReadError> {
-    let mut handed: Vec<&[u8]> = Vec::new(alloc);
-    for leaf in leaves {
-        handed.push(leaf.bytes.as_slice())?;
-    }
+    let handed = bytes_of(alloc, leaves)?;
     let whole = read_down(alloc, bytes, &handed)?;
-    for import in &whole.imports {
-        writeln!(text, "import {}: {}", import.name, import.ty)?;
-    }
-    let told = Told {
-        alloc,
-        whole: &whole,
-        numbers: numbers_of(alloc, &whole)?,
-    };
-    told.instances(text, leaves)?;
-    told.exports(text)
+    tell_whole(alloc, text, &whole, leaves)
 }
