@@ -13,7 +13,7 @@ use Rattle.wac_parser_tree.specs.Trees.{Span}
 use Rattle.wac_parser_tree.specs.Accessors.{world_ref_name}
 use Rattle.wac_parser_tree.specs.declared.world.WorldIncludeItem.{WorldIncludeItem}
 use Rattle.wac_parser_refusals.specs.declared.refusal.Refusal.{Refusal}
-use Rattle.wac_parser_refusals.specs.Causes.{Answer, ◌>>=◌, ◌>>◌, each, unless_clear, MissingWorldInclude, WorldIncludeConflict}
+use Rattle.wac_parser_refusals.specs.Causes.{Answer, Fault, ◌>>=◌, ◌>>◌, each, unless_clear, MissingWorldInclude, WorldIncludeConflict}
 use Rattle.wac_parser_refusals.specs.Outcomes.{IsHeld, IsOutcome, IsRefusal, Refuses}
 use Rattle.wac_parser_refusals.proofs.Outcomes.{after_outcome, after_refused, memory_refusal, then_refused}
 use Rattle.wac_parser_declare.specs.Bodies as stated
@@ -33,24 +33,26 @@ module _ (c : Collection) where
   abbrev at_now : List (Name × ItemKind) → Items
   at_now es = with_values (stated_of c) es
 
-  has_now : (es : List (Name × ItemKind)) (n : Name) → has (at_now es) n ≡ is_some (value_at es n)
+  pub has_now : (es : List (Name × ItemKind)) (n : Name) → has (at_now es) n ≡ is_some (value_at es n)
   has_now es n = ap is_some (value_at-with_values (stated_of c) es n) ∙ some_mapped (stated_of c) (value_at es n)
 
   -- ---- one item
 
-  module _ (w : Name) (p : Path) (help : Bool) (kind : ExternKind) (old new : List (Name × ItemKind)) (k : ItemKind) where
-    pub put_there : (i : t.Ident) (b : Bool) → AddsNew old i.string k new b → b ≡ true → IsHeld (AreNow c new) (include_at w p help kind (at_now old) (stated_of c k) i) tt
-    put_there i true a is =
-        absent_outcome (has (at_now old) i.string) (WorldIncludeConflict kind i.string (path_text p) w help) i.span (Ok (at_now old ++ (i.string, stated_of c k) ∷ [])) (AreNow c new) (Ok tt) (has_now old i.string ∙ a.0)
+  module _ (f : Fault) (old new : List (Name × ItemKind)) (k : ItemKind) (i : t.Ident) where
+    abbrev one_more : Answer Items
+    one_more = unless_clear (has (at_now old) i.string) f i.span >> Ok (at_now old ++ (i.string, stated_of c k) ∷ [])
+
+    pub put_there : (b : Bool) → AddsNew old i.string k new b → b ≡ true → IsHeld (AreNow c new) one_more tt
+    put_there true a is =
+        absent_outcome (has (at_now old) i.string) f i.span (Ok (at_now old ++ (i.string, stated_of c k) ∷ [])) (AreNow c new) (Ok tt) (has_now old i.string ∙ a.0)
         (ap at_now a.1 ∙ with_values-more (stated_of c) old i.string k)
-    put_there i false a is = absurd (cc is)
+    put_there false a is = absurd (cc is)
 
-    pub there_already : (i : t.Ident) (b : Bool) → AddsNew old i.string k new b → b ≡ false → (e : Refusal) → Refuses e (WorldIncludeConflict kind i.string (path_text p) w help) i.span
-        → IsRefusal (include_at w p help kind (at_now old) (stated_of c k) i) e
-    there_already i true a is e r = absurd (cc is)
-    there_already i false a is e r =
-        there_refused (has (at_now old) i.string) (WorldIncludeConflict kind i.string (path_text p) w help) i.span (Ok (at_now old ++ (i.string, stated_of c k) ∷ [])) e (has_now old i.string ∙ a.0) r
+    pub there_already : (b : Bool) → AddsNew old i.string k new b → b ≡ false → (e : Refusal) → Refuses e f i.span → IsRefusal one_more e
+    there_already true a is e r = absurd (cc is)
+    there_already false a is e r = there_refused (has (at_now old) i.string) f i.span (Ok (at_now old ++ (i.string, stated_of c k) ∷ [])) e (has_now old i.string ∙ a.0) r
 
+  module _ (w : Name) (p : Path) (help : Bool) (kind : ExternKind) (old new : List (Name × ItemKind)) (k : ItemKind) where
     added_once : (n : Name) (b : Bool) → AddsNew old n k new b → at_now new ≡ cond (has (at_now old) n) (at_now old) (at_now old ++ (n, stated_of c k) ∷ [])
     added_once n true a =
         ap at_now a.1 ∙ with_values-more (stated_of c) old n k

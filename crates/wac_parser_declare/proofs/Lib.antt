@@ -1,8 +1,10 @@
 pub mod Added
 pub mod Kept
+pub mod Known
 pub mod Values
 pub mod TypeViews
 pub mod Loops
+pub mod BodyLoops
 pub mod Members
 pub mod Named
 pub mod Aliasing
@@ -13,6 +15,7 @@ pub mod Roots
 pub mod PathSteps
 pub mod Making
 pub mod InIncludes
+pub mod InWorlds
 pub mod RowWords
 pub mod RefusedRows
 pub mod Standing

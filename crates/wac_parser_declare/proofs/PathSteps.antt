@@ -7,18 +7,19 @@ use Rattle.wac_types_base.specs.declared.ids.WorldId.{WorldId}
 use Rattle.wac_types_base.specs.Collection.{IsAcyclic, Stands, item_node}
 use Rattle.wac_types_base.proofs.Slots.{stands_typed_world}
 use Rattle.wac_types_base.proofs.Telling.{item_kind, kind_stated, untyped_stated}
-use Rattle.wac_types_base.specs.Entries.{Name}
+use Rattle.wac_types_base.specs.Entries.{Name, value_at}
 use Rattle.wac_types_base.specs.Stated.{Stated, desc, kind_of, stated_of, untyped}
 use Rattle.wac_parser_tree.specs.Trees as t
 use Rattle.wac_parser_tree.specs.Segments.{GivesSegment, Segment, between_slashes, in_front, placed, segment_spans}
 use Rattle.wac_parser_refusals.specs.declared.refusal.Refusal.{Refusal}
-use Rattle.wac_parser_refusals.specs.Causes.{Answer, ◌>>=◌, NotWorld}
+use Rattle.wac_parser_refusals.specs.Causes.{Answer, Fault, ◌>>=◌, NotWorld, present, pure, refuse}
 use Rattle.wac_parser_refusals.specs.Outcomes.{IsHeld, IsRefusal, Refuses}
-use Rattle.wac_parser_refusals.proofs.Outcomes.{then_refused}
+use Rattle.wac_parser_refusals.proofs.Outcomes.{memory_refusal, then_refused}
 use Rattle.wac_parser_declare.specs.Holding.{Holds}
 use Rattle.wac_parser_declare.specs.InPaths.{AWorld, IsWorldIn}
+use Rattle.wac_parser_declare.specs.Packages.{HoldsIf}
 use Rattle.wac_parser_declare.specs.Worlds.{world_by}
-use Rattle.wac_parser_declare.specs.Scope.{Path, foreign_export, joined, own_export, own_path, package_path, path_span, path_text}
+use Rattle.wac_parser_declare.specs.Scope.{Path, definitions, foreign_export, joined, own_export, own_path, package_path, path_span, path_text}
 
 -- ---- segments
 
@@ -155,3 +156,18 @@ module _ (c : Collection) (a : IsAcyclic c) (p : Path) where
   pub no_world : (k : ItemKind) → Stands c k → ((w : WorldId) → IsWorldIn k w → ⊥) → (e : Refusal) → Refuses e (NotWorld (path_text p) (desc (stated_of c k))) (path_span p)
       → IsRefusal (world_by (kind_of (stated_of c k)) p (stated_of c k)) e
   no_world k s f e r = subst (λ q. IsRefusal (world_by q p (stated_of c k)) e) (sym (kind_stated c a k s)) (no_world_by k f (stated_of c k) e r)
+
+-- ---- definitions of packages
+
+pub defined_refused : {A B : Type 0} (q : Answer Stated) (f : Stated → A) (g : Stated → Answer B) (e : Refusal) → IsRefusal (q >>= λ w. pure (f w)) e → IsRefusal (q >>= g) e
+defined_refused (Ok w) f g e m = memory_refusal (g w) e m
+defined_refused (Err c) f g e m = m
+
+module _ (d : Collection) (n : Name) (f : Fault) (at : t.Span) (rest : Stated → Answer Stated) where
+  pub defined_by : (q : Answer Stated) (k : ItemKind) → IsHeld (HoldsIf d) (q >>= λ w. pure (value_at (definitions w) n)) (Some k) → (q >>= λ w. present (value_at (definitions w) n) f at >>= rest) ≡ rest (stated_of d k)
+  defined_by (Ok w) k h = ap (λ (o : Option Stated). present o f at >>= rest) (sym h.same)
+  defined_by (Err c) k h = absurd h
+
+  pub undefined_by : (q : Answer Stated) → IsHeld (HoldsIf d) (q >>= λ w. pure (value_at (definitions w) n)) None → (q >>= λ w. present (value_at (definitions w) n) f at >>= rest) ≡ refuse f at
+  undefined_by (Ok w) h = ap (λ (o : Option Stated). present o f at >>= rest) (sym h.same)
+  undefined_by (Err c) h = absurd h

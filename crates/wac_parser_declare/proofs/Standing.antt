@@ -30,6 +30,7 @@ use Rattle.wac_parser_declare.specs.declared.bodies.Body.{Body}
 use Rattle.wac_parser_declare.specs.Held.{BodyStands}
 use Rattle.wac_parser_declare.proofs.Kept.{SlotsStand, children, cases_stand, named_values_stand, both_stand, found_stands, names_stay, StandsIf-kept, EachStands-kept, EachStands-more, NamesStand-kept}
 use Rattle.wac_types_base.proofs.GraphLemmas.{is_there}
+use Rattle.wac_parser_declare.proofs.Known.{same_refl, same_trans}
 use Rattle.wac_parser_declare.proofs.Values.{sought, binding_stands, value_stands, maybe_stands}
 use Rattle.wac_parser_declare.proofs.Members.{func_children, new_name}
 use Rattle.wac_types_base.proofs.Replacing.{labelled_there}
@@ -191,7 +192,7 @@ pub meant_stands : (c : Collection) (bs : List (Name × Binding)) (i : t.Ident) 
 meant_stands c bs i (Ok b) s h = binding_stands c bs i b s h
 meant_stands c bs i (Err e) s h = tt
 
-pub ruleset stay = (stands_stay, names_stay, items_stay, uses_stay, body_stays, Grows-trans, Grows-refl, StandsIf-kept)
+pub ruleset stay = (stands_stay, names_stay, items_stay, uses_stay, body_stays, Grows-trans, Grows-refl, same_trans, same_refl, StandsIf-kept)
 
 pub ruleset typed = (typed_func, typed_interface, typed_world, typed_value, owned, lent, stands_typed_func, stands_typed_value, stands_typed_interface, stands_typed_world)
 

@@ -21,7 +21,8 @@ use Rattle.wac_parser_declare.specs.declared.scope.Context.{Context as Place}
 use Rattle.wac_parser_declare.specs.Bodies.{Items}
 use Rattle.wac_parser_declare.specs.Held.{stated_body}
 use Rattle.wac_parser_declare.specs.InBodies.{IsBody}
-use Rattle.wac_parser_declare.specs.InPaths.{IsWorldHere, StandsIn}
+use Rattle.wac_parser_declare.specs.InPaths.{StandsIn}
+use Rattle.wac_parser_declare.specs.Packages.{Known}
 use Rattle.wac_parser_declare.specs.Scope.{Context, Path, has, path_text, world_path}
 use Rattle.wac_parser_declare.specs.Worlds.{has_colon, include_at, include_items, include_one, include_world, is_empty, left_for_exports, or_itself, renaming, unmet, with_name}
 
@@ -116,8 +117,7 @@ IncludesItems i to w c old new r =
     IsOutcome (λ b u. IsBody c b new)
     (include_items to (stated_body c old) (world_path (view_world_ref i.world)) (renamings i.with.items) (stated_of c (ItemKind.Component w))) r
 
--- of a world at a name of the root, or in the own package
-abbrev pub Includes : WorldInclude → Name → Place → Collection → Body → Collection → Body → Result ⊤ Refusal → Type 0
-Includes i to at c old d new r =
-    (x : Context) → StandsIn x at c → IsWorldHere i.world at.own.now
+abbrev pub Includes : WorldInclude → Name → Place → Collection → Known → Body → Collection → Body → Result ⊤ Refusal → Type 0
+Includes i to at c known old d new r =
+    (x : Context) → StandsIn x at c known
     → IsOutcome (λ b u. IsBody d b new) (include_world x to (stated_body c old) (world_path (view_world_ref i.world)) (renamings i.with.items)) r

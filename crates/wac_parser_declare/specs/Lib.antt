@@ -12,6 +12,9 @@ pub mod Payloads
 pub mod Held
 pub mod InBodies
 pub mod InUses
+pub mod Packages
 pub mod InPaths
 pub mod Making
 pub mod InIncludes
+pub mod InInterfaces
+pub mod InWorlds

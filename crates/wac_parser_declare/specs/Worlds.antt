@@ -6,6 +6,7 @@ use Rattle.wac_types_base.specs.Entries.{Name, has_name}
 use Rattle.wac_types_base.specs.Stated.{Stated, Kind, IsFunctionType, IsInterface, IsWorld, IsComponent, kind_of, desc, untyped, as_type, world_of, exports_of, imports_of, identifier_of}
 use Rattle.wac_names.specs.ComponentNames.{has_byte}
 use Rattle.wac_parser_tree.specs.Trees as t
+use Rattle.wac_parser_tree.specs.Trees.{Span}
 use Rattle.wac_parser_declare.specs.Scope.{Scope, Context, Path, in_package, at_root, has, named, at_path, path_text, path_span, world_path, identifier}
 use Rattle.wac_parser_declare.specs.Declarations.{free, type_decl}
 use Rattle.wac_parser_declare.specs.Bodies.{Body, Holder, Items, no_body, use_types, item_type, interface_at}
@@ -30,13 +31,15 @@ abbrev pub with_identifier : Name → Option Name → Answer Name
 with_identifier world (Some i) = pure i
 with_identifier world None = Err (record { fault = TypeCannotBeWritten world; span = None })
 
--- an interface under its identifier
-abbrev pub interface_item : Context → Name → ExternKind → Items → Path → Answer Items
-interface_item c world kind stand p = do
-  x ← interface_at c p
+-- an interface under its identifier, at this place
+abbrev pub interface_added : Name → ExternKind → Items → Span → Stated → Answer Items
+interface_added world kind stand s x = do
   n ← with_identifier world (identifier_of x)
-  unless_clear (has stand n) (DuplicateWorldItem kind n world) (path_span p)
+  unless_clear (has stand n) (DuplicateWorldItem kind n world) s
   pure (stand ++ (n, untyped x) ∷ [])
+
+abbrev pub interface_item : Context → Name → ExternKind → Items → Path → Answer Items
+interface_item c world kind stand p = interface_at c p >>= interface_added world kind stand (path_span p)
 
 -- one more item: a named item's duplicate comes before its type, another's after
 abbrev pub world_item : Context → Scope → Name → ExternKind → Items → t.WorldItemPath → Answer Items
@@ -133,11 +136,11 @@ abbrev pub world_include : Context → Name → Body → t.WorldItem → Answer 
 world_include c w b (t.WorldItem.include i) = include_world c w b (world_path i.world) i.with
 world_include c w b x = pure b
 
+abbrev pub world_body : Context → Name → List t.WorldItem → Answer Body
+world_body c w is = each (world_part c w) no_body is >>= λ b. each (world_include c w) b is
+
 abbrev pub world_decl : Context → t.WorldDecl → Answer Stated
-world_decl c d = do
-  b ← each (world_part c d.id.string) no_body d.items
-  e ← each (world_include c d.id.string) b d.items
-  pure (world_of (Some (identifier c.own d.id.string)) e.uses e.items e.exports)
+world_decl c d = world_body c d.id.string d.items >>= λ b. pure (world_of (Some (identifier c.own d.id.string)) b.uses b.items b.exports)
 
 -- ---- statements
 

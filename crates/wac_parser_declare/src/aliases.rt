@@ -7,6 +7,7 @@ ghost use Rattle.wac_types_base.specs.declared.item.«Type».{«Type» as TypeKi
 ghost use Rattle.wac_types_base.specs.Collection.{Stands, Grows, SlotStands, item_node, func_entry};
 ghost use Rattle.wac_parser_declare.specs.Aliases.{IsAlias, IsAliasAt, IsAliasFunc, IsAliasNamed, IsAliasOfType, IsAliasType, IsAliasValue, IsFuncAlias, IsOwner, IsResourceAlias, IsTypeAlias, IsValueAlias};
 ghost use Rattle.wac_parser_declare.specs.Holding.{NamesStand};
+ghost use Rattle.wac_parser_declare.specs.Packages.{SamePackages};
 
 use crate::functions::func_type;
 use crate::growing::GrowingTypes;
@@ -44,6 +45,7 @@ fn resource_alias<T: GrowingTypes>(
     ensures outcome { IsResourceAlias (T.collection types.old) name.now source (T.collection types.new) result }
     ensures stands { IfOk result (λ t. Stands (T.collection types.new) (ItemKind.Ty t)) }
     ensures grows { Grows (T.collection types.old) (T.collection types.new) }
+    ensures packages { SamePackages (T.packages types.old) (T.packages types.new) }
 {
     types.types().see_acyclic();
     let owner = owner_of(types.types(), source);
@@ -63,6 +65,7 @@ fn value_alias<T: GrowingTypes>(types: &mut T, ty: ValueType) -> Outcome<Type>
     ensures outcome { IsValueAlias (T.collection types.old) ty (T.collection types.new) result }
     ensures stands { IfOk result (λ t. Stands (T.collection types.new) (ItemKind.Ty t)) }
     ensures grows { Grows (T.collection types.old) (T.collection types.new) }
+    ensures packages { SamePackages (T.packages types.old) (T.packages types.new) }
 {
     types.types().see_acyclic();
     let alias = define(types, DefinedType::Alias(ty))?;
@@ -103,6 +106,7 @@ fn func_alias<T: GrowingTypes>(alloc: Global, types: &mut T, func: FuncTypeId) -
     ensures outcome { IsFuncAlias (T.collection types.old) func (T.collection types.new) result }
     ensures stands { IfOk result (λ t. Stands (T.collection types.new) (ItemKind.Ty t)) }
     ensures grows { Grows (T.collection types.old) (T.collection types.new) }
+    ensures packages { SamePackages (T.packages types.old) (T.packages types.new) }
 {
     types.types().see_acyclic();
     let copy = copy_func(alloc, types.types(), func)?;
@@ -132,6 +136,7 @@ fn resource_at<T: GrowingTypes>(
     ensures outcome { IsAliasAt place alias.now source.now resource (T.collection types.old) (T.collection types.new) result }
     ensures stands { IfOk result (λ t. Stands (T.collection types.new) (ItemKind.Ty t)) }
     ensures grows { Grows (T.collection types.old) (T.collection types.new) }
+    ensures packages { SamePackages (T.packages types.old) (T.packages types.new) }
 {
     types.types().see_acyclic();
     match place {
@@ -158,6 +163,7 @@ fn alias_of_type<T: GrowingTypes>(
     ensures outcome { IsAliasOfType place alias.now source.now ty (T.collection types.old) (T.collection types.new) result }
     ensures stands { IfOk result (λ t. Stands (T.collection types.new) (ItemKind.Ty t)) }
     ensures grows { Grows (T.collection types.old) (T.collection types.new) }
+    ensures packages { SamePackages (T.packages types.old) (T.packages types.new) }
 {
     types.types().see_acyclic();
     match ty {
@@ -186,6 +192,7 @@ fn alias_of<T: GrowingTypes>(
     ensures outcome { IsAlias place (T.collection types.old) alias.now source.now kind (T.collection types.new) result }
     ensures stands { IfOk result (λ t. Stands (T.collection types.new) (ItemKind.Ty t)) }
     ensures grows { Grows (T.collection types.old) (T.collection types.new) }
+    ensures packages { SamePackages (T.packages types.old) (T.packages types.new) }
 {
     types.types().see_acyclic();
     match kind {
@@ -213,6 +220,7 @@ fn alias_named<T: GrowingTypes>(
     ensures outcome { IsAliasNamed place (T.collection types.old) names.now alias.now source.now (T.collection types.new) result }
     ensures stands { IfOk result (λ t. Stands (T.collection types.new) (ItemKind.Ty t)) }
     ensures grows { Grows (T.collection types.old) (T.collection types.new) }
+    ensures packages { SamePackages (T.packages types.old) (T.packages types.new) }
 {
     types.types().see_acyclic();
     let binding = meaning(alloc, names, source)?;
@@ -230,6 +238,7 @@ fn alias_value<T: GrowingTypes>(
     ensures outcome { IsAliasValue (T.collection types.old) names.now ty.now (T.collection types.new) result }
     ensures stands { IfOk result (λ t. Stands (T.collection types.new) (ItemKind.Ty t)) }
     ensures grows { Grows (T.collection types.old) (T.collection types.new) }
+    ensures packages { SamePackages (T.packages types.old) (T.packages types.new) }
 {
     let value = value_type(ty, alloc, names, types)?;
     value_alias(types, value)
@@ -248,6 +257,7 @@ fn alias_type<T: GrowingTypes>(
     ensures outcome { IsAliasType place (T.collection types.old) names.now alias.now ty.now (T.collection types.new) result }
     ensures stands { IfOk result (λ t. Stands (T.collection types.new) (ItemKind.Ty t)) }
     ensures grows { Grows (T.collection types.old) (T.collection types.new) }
+    ensures packages { SamePackages (T.packages types.old) (T.packages types.new) }
 {
     match ty {
         ast::Type::Ident(source) => alias_named(alloc, names, types, place, alias, source),
@@ -266,6 +276,7 @@ fn alias_func<T: GrowingTypes>(
     ensures outcome { IsAliasFunc (T.collection types.old) names.now ty.now (T.collection types.new) result }
     ensures stands { IfOk result (λ t. Stands (T.collection types.new) (ItemKind.Ty t)) }
     ensures grows { Grows (T.collection types.old) (T.collection types.new) }
+    ensures packages { SamePackages (T.packages types.old) (T.packages types.new) }
 {
     let func = func_type(ty, alloc, names, types)?;
     Ok(Type::Func(func))
@@ -283,6 +294,7 @@ pub(crate) fn type_alias<T: GrowingTypes>(
     ensures outcome { IsTypeAlias place (T.collection types.old) names.now decl.now (T.collection types.new) result }
     ensures stands { IfOk result (λ t. Stands (T.collection types.new) (ItemKind.Ty t)) }
     ensures grows { Grows (T.collection types.old) (T.collection types.new) }
+    ensures packages { SamePackages (T.packages types.old) (T.packages types.new) }
 {
     match &decl.kind {
         TypeAliasKind::Func(ty) => alias_func(ty, alloc, names, types),

@@ -5,7 +5,8 @@ ghost use Rattle.std.specs.Prelude.{◌≡◌, OnOk};
 ghost use Rattle.wac_types_base.specs.declared.item.ItemKind.{ItemKind};
 ghost use Rattle.wac_types_base.specs.Record.{Collection};
 ghost use Rattle.wac_types_base.specs.Collection.{Stands};
-ghost use Rattle.wac_parser_declare.specs.Held.{BodyStands};
+ghost use Rattle.wac_parser_declare.specs.Bodies.{no_body};
+ghost use Rattle.wac_parser_declare.specs.Held.{BodyStands, stated_body};
 ghost use Rattle.wac_parser_declare.specs.InBodies.{IsItemAdded, IsTypeAdded};
 
 use crate::functions::add_new;
@@ -65,7 +66,8 @@ impl<'a> Holder<'a> {
 impl Body {
     /// Nothing yet.
     pub(crate) fn new(alloc: Global) -> Self
-        ensures { (c : Collection) → BodyStands c result }
+        ensures stands { (c : Collection) → BodyStands c result }
+        ensures nothing { (c : Collection) → stated_body c result ≡ no_body }
     {
         Body {
             names: NamedMap::new(alloc),

@@ -7,6 +7,7 @@ ghost use Rattle.wac_types_base.specs.declared.item.«Type».{«Type» as TypeKi
 ghost use Rattle.wac_types_base.specs.Collection.{Stands, Grows};
 ghost use Rattle.wac_parser_declare.specs.Functions.{AreParams, IsFree, IsFuncNamed, IsFuncOf, IsFuncRef, IsFuncWith, IsParam, IsResultOf, IsScalar};
 ghost use Rattle.wac_parser_declare.specs.Holding.{AddsNew, EachStands, NamesStand, StandsIf, ValueStands, self_params};
+ghost use Rattle.wac_parser_declare.specs.Packages.{SamePackages};
 
 use crate::growing::GrowingTypes;
 use crate::scope::{Binding, meaning};
@@ -77,6 +78,7 @@ fn add_param<T: GrowingTypes>(
     ensures outcome { IsParam kind (T.collection types.old) names.now found.old param.now (T.collection types.new) found.new result }
     ensures found { OnOk result (EachStands (ValueStands (T.collection types.new)) found.new) }
     ensures grows { Grows (T.collection types.old) (T.collection types.new) }
+    ensures packages { SamePackages (T.packages types.old) (T.packages types.new) }
 {
     let ty = value_type(&param.ty, alloc, names, types)?;
     if add_new(alloc, found, param.id.string, ty)? {
@@ -100,6 +102,7 @@ fn add_params<T: GrowingTypes>(
     ensures outcome { AreParams kind (T.collection types.old) names.now found.old params.now.items (T.collection types.new) found.new result }
     ensures found { OnOk result (EachStands (ValueStands (T.collection types.new)) found.new) }
     ensures grows { Grows (T.collection types.old) (T.collection types.new) }
+    ensures packages { SamePackages (T.packages types.old) (T.packages types.new) }
 {
     types.types().see_acyclic();
     for param in params {
@@ -119,6 +122,7 @@ fn scalar_result<T: GrowingTypes>(
     ensures outcome { IsScalar (T.collection types.old) names.now ty.now (T.collection types.new) result }
     ensures stands { IfOk result (StandsIf (T.collection types.new)) }
     ensures grows { Grows (T.collection types.old) (T.collection types.new) }
+    ensures packages { SamePackages (T.packages types.old) (T.packages types.new) }
 {
     let found = value_type(ty, alloc, names, types)?;
     if found.contains_borrow(types.types()) {
@@ -140,6 +144,7 @@ fn result_type<T: GrowingTypes>(
     ensures outcome { IsResultOf (T.collection types.old) names.now given results.now (T.collection types.new) result }
     ensures stands { IfOk result (StandsIf (T.collection types.new)) }
     ensures grows { Grows (T.collection types.old) (T.collection types.new) }
+    ensures packages { SamePackages (T.packages types.old) (T.packages types.new) }
 {
     types.types().see_acyclic();
     match results {
@@ -163,6 +168,7 @@ pub(crate) fn function<T: GrowingTypes>(
     ensures outcome { IsFuncWith signature (T.collection types.old) names.now params.now.items results.now (T.collection types.new) result }
     ensures stands { IfOk result (λ f. Stands (T.collection types.new) (ItemKind.Func f)) }
     ensures grows { Grows (T.collection types.old) (T.collection types.new) }
+    ensures packages { SamePackages (T.packages types.old) (T.packages types.new) }
 {
     types.types().see_acyclic();
     let mut found = first_params(alloc, signature.receiver)?;
@@ -188,6 +194,7 @@ pub fn func_type<T: GrowingTypes>(
     ensures outcome { IsFree (T.collection types.old) names.now ty.now (T.collection types.new) result }
     ensures stands { IfOk result (λ f. Stands (T.collection types.new) (ItemKind.Func f)) }
     ensures grows { Grows (T.collection types.old) (T.collection types.new) }
+    ensures packages { SamePackages (T.packages types.old) (T.packages types.new) }
 {
     let signature = Signature {
         kind: FuncKind::Free,
@@ -251,6 +258,7 @@ pub fn func_type_ref<T: GrowingTypes>(
     ensures outcome { IsFuncRef (T.collection types.old) names.now ty.now (T.collection types.new) result }
     ensures stands { IfOk result (λ f. Stands (T.collection types.new) (ItemKind.Func f)) }
     ensures grows { Grows (T.collection types.old) (T.collection types.new) }
+    ensures packages { SamePackages (T.packages types.old) (T.packages types.new) }
 {
     types.types().see_acyclic();
     match ty {

@@ -10,6 +10,7 @@ ghost use Rattle.wac_parser_refusals.specs.Outcomes.{Refuses};
 ghost use Rattle.wac_parser_declare.specs.Held.{BodyStands};
 ghost use Rattle.wac_parser_declare.specs.Holding.{ItemsStand, NamesStand};
 ghost use Rattle.wac_parser_declare.specs.InIncludes.{AreExportsIncluded, AreIncluded, AreMet, AreWithNames, Includes, IncludesItems, IsIncluded, IsIncludedAt, IsLeft, IsRenaming, IsWithName, conflict_of, met_in, path_of, renamings};
+ghost use Rattle.wac_parser_declare.specs.Packages.{SamePackages};
 ghost use Rattle.wac_parser_declare.specs.Worlds as stated;
 
 use crate::bodies::Body;
@@ -278,9 +279,10 @@ pub(crate) fn include_world<T: PackagedTypes>(
 ) -> Outcome<()>
     requires root { NamesStand (T.collection types.old) context.root.now }
     requires body { BodyStands (T.collection types.old) body.old }
-    ensures outcome { Includes include.now to.now context.entry (T.collection types.old) body.old (T.collection types.new) body.new result }
+    ensures outcome { Includes include.now to.now context.entry (T.collection types.old) (T.packages types.old) body.old (T.collection types.new) body.new result }
     ensures body { OnOk result (BodyStands (T.collection types.new) body.new) }
     ensures grows { Grows (T.collection types.old) (T.collection types.new) }
+    ensures packages { SamePackages (T.packages types.old) (T.packages types.new) }
 {
     types.types().see_acyclic();
     check_with_names(&include.with, alloc)?;

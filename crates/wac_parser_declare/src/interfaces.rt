@@ -1,13 +1,15 @@
 //! The interface that a body states.
 #![tactic(auto, using(crate::proofs::Standing::bodies))]
 
-ghost use Rattle.std.specs.Prelude.{◌≡◌, OnOk, IfOk, Some};
+ghost use Rattle.std.specs.Prelude.{◌≡◌, OnOk, IfOk, Some, option_map};
 ghost use Rattle.wac_types_base.specs.declared.item.ItemKind.{ItemKind};
 ghost use Rattle.wac_types_base.specs.Collection.{Stands, Grows};
 ghost use Rattle.wac_parser_declare.specs.Held.{BodyStands};
 ghost use Rattle.wac_parser_declare.specs.Holding.{NamesStand};
+ghost use Rattle.wac_parser_declare.specs.InInterfaces.{AreInterfaceItems, IsInline, IsInterfaceBody, IsInterfaceDeclared, IsInterfaceItem};
 ghost use Rattle.wac_parser_declare.specs.InUses.{Exports};
 ghost use Rattle.wac_parser_declare.specs.Making.{IsInterfaceMade, identifier_of};
+ghost use Rattle.wac_parser_declare.specs.Packages.{SamePackages};
 
 use crate::bodies::{Body, Holder, add_item};
 use crate::functions::func_type_ref;
@@ -53,6 +55,7 @@ fn export_item<T: PackagedTypes>(
     ensures outcome { Exports holder.entry export.now (T.collection types.old) body.old (T.collection types.new) body.new result }
     ensures body { OnOk result (BodyStands (T.collection types.new) body.new) }
     ensures grows { Grows (T.collection types.old) (T.collection types.new) }
+    ensures packages { SamePackages (T.packages types.old) (T.packages types.new) }
 {
     let func = func_type_ref(&export.ty, alloc, &body.names, types)?;
     add_item(alloc, holder, body, &export.id, ItemKind::Func(func))
@@ -69,8 +72,10 @@ fn interface_item<T: PackagedTypes>(
 ) -> Outcome<()>
     requires root { NamesStand (T.collection types.old) context.root.now }
     requires body { BodyStands (T.collection types.old) body.old }
+    ensures outcome { IsInterfaceItem holder.entry item.now context.entry (T.collection types.old) (T.packages types.old) body.old (T.collection types.new) body.new result }
     ensures body { OnOk result (BodyStands (T.collection types.new) body.new) }
     ensures grows { Grows (T.collection types.old) (T.collection types.new) }
+    ensures packages { SamePackages (T.packages types.old) (T.packages types.new) }
 {
     match item {
         ast::InterfaceItem::Use(item) => use_types(item, alloc, context, types, holder, body),
@@ -90,8 +95,10 @@ fn add_items<T: PackagedTypes>(
 ) -> Outcome<()>
     requires root { NamesStand (T.collection types.old) context.root.now }
     requires body { BodyStands (T.collection types.old) body.old }
+    ensures outcome { AreInterfaceItems holder.entry items.now.items context.entry (T.collection types.old) (T.packages types.old) body.old (T.collection types.new) body.new result }
     ensures body { OnOk result (BodyStands (T.collection types.new) body.new) }
     ensures grows { Grows (T.collection types.old) (T.collection types.new) }
+    ensures packages { SamePackages (T.packages types.old) (T.packages types.new) }
 {
     types.types().see_acyclic();
     for item in items {
@@ -109,8 +116,10 @@ fn interface_items<T: PackagedTypes>(
     name: Option<&str>,
 ) -> Outcome<Body>
     requires root { NamesStand (T.collection types.old) context.root.now }
+    ensures outcome { IsInterfaceBody (option_map (λ n. n.now) name.entry) items.now.items context.entry (T.collection types.old) (T.packages types.old) (T.collection types.new) result }
     ensures body { IfOk result (BodyStands (T.collection types.new)) }
     ensures grows { Grows (T.collection types.old) (T.collection types.new) }
+    ensures packages { SamePackages (T.packages types.old) (T.packages types.new) }
 {
     let mut body = Body::new(alloc);
     add_items(
@@ -134,6 +143,7 @@ fn add_interface<T: PackagedTypes>(
     ensures made { IsInterfaceMade id body (T.collection types.old) (T.collection types.new) result }
     ensures stands { IfOk result (λ i. Stands (T.collection types.new) (ItemKind.Instance i)) }
     ensures grows { Grows (T.collection types.old) (T.collection types.new) }
+    ensures packages { SamePackages (T.packages types.old) (T.packages types.new) }
 {
     types.types().see_acyclic();
     let Body {
@@ -161,6 +171,7 @@ fn add_named<T: PackagedTypes>(
     ensures made { IsInterfaceMade (Some (identifier_of own.now name.now)) body (T.collection types.old) (T.collection types.new) result }
     ensures stands { IfOk result (λ i. Stands (T.collection types.new) (ItemKind.Instance i)) }
     ensures grows { Grows (T.collection types.old) (T.collection types.new) }
+    ensures packages { SamePackages (T.packages types.old) (T.packages types.new) }
 {
     types.types().see_acyclic();
     let id = identifier(alloc, own, name)?;
@@ -175,8 +186,10 @@ pub fn inline_interface<T: PackagedTypes>(
     types: &mut T,
 ) -> Outcome<InterfaceId>
     requires { NamesStand (T.collection types.old) context.root.now }
+    ensures outcome { IsInline interface.now context.entry (T.collection types.old) (T.packages types.old) (T.collection types.new) result }
     ensures stands { IfOk result (λ i. Stands (T.collection types.new) (ItemKind.Instance i)) }
     ensures grows { Grows (T.collection types.old) (T.collection types.new) }
+    ensures packages { SamePackages (T.packages types.old) (T.packages types.new) }
 {
     let body = interface_items(&interface.items, alloc, context, types, None)?;
     let id = add_interface(types, None, body)?;
@@ -191,8 +204,10 @@ pub(crate) fn interface_decl<T: PackagedTypes>(
     types: &mut T,
 ) -> Outcome<InterfaceId>
     requires { NamesStand (T.collection types.old) context.root.now }
+    ensures outcome { IsInterfaceDeclared decl.now context.entry (T.collection types.old) (T.packages types.old) (T.collection types.new) result }
     ensures stands { IfOk result (λ i. Stands (T.collection types.new) (ItemKind.Instance i)) }
     ensures grows { Grows (T.collection types.old) (T.collection types.new) }
+    ensures packages { SamePackages (T.packages types.old) (T.packages types.new) }
 {
     let body = interface_items(&decl.items, alloc, context, types, Some(decl.id.string))?;
     let id = add_named(alloc, context.own, types, decl.id.string, body)?;

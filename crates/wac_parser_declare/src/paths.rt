@@ -10,8 +10,9 @@ ghost use Rattle.wac_types_base.specs.Collection.{Stands, Grows};
 ghost use Rattle.wac_parser_refusals.specs.Causes as fault;
 ghost use Rattle.wac_parser_refusals.specs.Outcomes.{Refuses};
 ghost use Rattle.wac_parser_declare.specs.Holding.{NamesStand, ItemsStand};
-ghost use Rattle.wac_parser_declare.specs.InPaths.{IsForeignExport, IsForeignRest, IsInterfaceAt, IsOwnExport, IsOwnPath, IsOwnRest, IsPathInterface, IsPathItem, IsWorldAt, IsWorldIn, IsWorldOf};
+ghost use Rattle.wac_parser_declare.specs.InPaths.{IsForeignExport, IsForeignPath, IsForeignRest, IsInterfaceAt, IsOwnExport, IsOwnPath, IsOwnRest, IsPathInterface, IsPathItem, IsWorldAt, IsWorldIn, IsWorldOf};
 ghost use Rattle.wac_parser_declare.specs.InUses.{AreExports, IsExport, IsInterfaceOf, IsInterfaceType, IsItemNamed, IsRootInterface};
+ghost use Rattle.wac_parser_declare.specs.Packages.{SamePackages};
 
 use crate::growing::PackagedTypes;
 use crate::scope::{Binding, Context, meaning};
@@ -255,8 +256,10 @@ fn foreign_path<T: PackagedTypes>(
     alloc: Global,
     types: &mut T,
 ) -> Outcome<ItemKind>
+    ensures outcome { IsForeignPath path.now (T.packages types.old) (T.collection types.new) result }
     ensures stands { IfOk result (Stands (T.collection types.new)) }
     ensures grows { Grows (T.collection types.old) (T.collection types.new) }
+    ensures packages { SamePackages (T.packages types.old) (T.packages types.new) }
 {
     types.types().see_acyclic();
     let mut segments = path.segment_spans();
@@ -278,9 +281,10 @@ pub fn package_path<T: PackagedTypes>(
     types: &mut T,
 ) -> Outcome<ItemKind>
     requires { NamesStand (T.collection types.old) context.root.now }
-    ensures outcome { IsPathItem path.now context.entry (T.collection types.old) (T.collection types.new) result }
+    ensures outcome { IsPathItem path.now context.entry (T.collection types.old) (T.packages types.old) (T.collection types.new) result }
     ensures stands { IfOk result (Stands (T.collection types.new)) }
     ensures grows { Grows (T.collection types.old) (T.collection types.new) }
+    ensures packages { SamePackages (T.packages types.old) (T.packages types.new) }
 {
     types.types().see_acyclic();
     if path.name == context.own.name {
@@ -301,6 +305,7 @@ fn root_item<T: PackagedTypes>(
     ensures outcome { IsItemNamed (T.collection types.old) context.entry.root.now id.now (T.collection types.new) result }
     ensures stands { IfOk result (Stands (T.collection types.new)) }
     ensures grows { Grows (T.collection types.old) (T.collection types.new) }
+    ensures packages { SamePackages (T.packages types.old) (T.packages types.new) }
 {
     let collection = types.types();
     collection.see_acyclic();
@@ -347,9 +352,10 @@ pub(crate) fn package_interface<T: PackagedTypes>(
     types: &mut T,
 ) -> Outcome<InterfaceId>
     requires { NamesStand (T.collection types.old) context.root.now }
-    ensures outcome { IsPathInterface path.now context.entry (T.collection types.old) (T.collection types.new) result }
+    ensures outcome { IsPathInterface path.now context.entry (T.collection types.old) (T.packages types.old) (T.collection types.new) result }
     ensures stands { IfOk result (λ i. Stands (T.collection types.new) (ItemKind.Instance i)) }
     ensures grows { Grows (T.collection types.old) (T.collection types.new) }
+    ensures packages { SamePackages (T.packages types.old) (T.packages types.new) }
 {
     let kind = package_path(path, alloc, context, types)?;
     as_interface(alloc, types.types(), kind, &whole_path(path))
@@ -366,6 +372,7 @@ pub(crate) fn root_interface<T: PackagedTypes>(
     ensures outcome { IsRootInterface (T.collection types.old) context.entry.root.now id.now (T.collection types.new) result }
     ensures stands { IfOk result (λ i. Stands (T.collection types.new) (ItemKind.Instance i)) }
     ensures grows { Grows (T.collection types.old) (T.collection types.new) }
+    ensures packages { SamePackages (T.packages types.old) (T.packages types.new) }
 {
     let kind = root_item(alloc, context, types, id)?;
     as_interface(alloc, types.types(), kind, id)
@@ -379,9 +386,10 @@ pub fn interface_at<T: PackagedTypes>(
     types: &mut T,
 ) -> Outcome<InterfaceId>
     requires { NamesStand (T.collection types.old) context.root.now }
-    ensures outcome { IsInterfaceAt path.now context.entry (T.collection types.old) (T.collection types.new) result }
+    ensures outcome { IsInterfaceAt path.now context.entry (T.collection types.old) (T.packages types.old) (T.collection types.new) result }
     ensures stands { IfOk result (λ i. Stands (T.collection types.new) (ItemKind.Instance i)) }
     ensures grows { Grows (T.collection types.old) (T.collection types.new) }
+    ensures packages { SamePackages (T.packages types.old) (T.packages types.new) }
 {
     match path {
         UsePath::Package(path) => package_interface(path, alloc, context, types),
@@ -433,9 +441,10 @@ pub fn world_at<T: PackagedTypes>(
     types: &mut T,
 ) -> Outcome<WorldId>
     requires { NamesStand (T.collection types.old) context.root.now }
-    ensures outcome { IsWorldAt world.now context.entry (T.collection types.old) (T.collection types.new) result }
+    ensures outcome { IsWorldAt world.now context.entry (T.collection types.old) (T.packages types.old) (T.collection types.new) result }
     ensures stands { IfOk result (λ i. Stands (T.collection types.new) (ItemKind.Component i)) }
     ensures grows { Grows (T.collection types.old) (T.collection types.new) }
+    ensures packages { SamePackages (T.packages types.old) (T.packages types.new) }
 {
     let kind = match world {
         WorldRef::Package(path) => package_path(path, alloc, context, types)?,

@@ -12,6 +12,7 @@ ghost use Rattle.wac_parser_declare.specs.Aliases.{stated_resource};
 ghost use Rattle.wac_parser_declare.specs.Bodies as stated;
 ghost use Rattle.wac_parser_declare.specs.Held.{BodyStands};
 ghost use Rattle.wac_parser_declare.specs.InBodies.{Constructs, Declares, FunctionStands, InBody, IsDeclared, IsFunctionAdded, IsMember, IsMethod, Members, TypeStands, is_method, signature_of};
+ghost use Rattle.wac_parser_declare.specs.Packages.{SamePackages};
 
 use crate::aliases::{Place, type_alias};
 use crate::bodies::{Body, Holder, add_type};
@@ -88,6 +89,7 @@ fn add_constructor<T: GrowingTypes>(
     ensures outcome { Constructs owner.entry decl.now (T.collection types.old) body.old (T.collection types.new) body.new result }
     ensures body { OnOk result (BodyStands (T.collection types.new) body.new) }
     ensures grows { Grows (T.collection types.old) (T.collection types.new) }
+    ensures packages { SamePackages (T.packages types.old) (T.packages types.new) }
 {
     types.types().see_acyclic();
     let name = constructor_name(alloc, owner.name)?;
@@ -153,6 +155,7 @@ fn add_method<T: GrowingTypes>(
     ensures outcome { IsMethod owner.entry decl.now (T.collection types.old) body.old (T.collection types.new) body.new result }
     ensures body { OnOk result (BodyStands (T.collection types.new) body.new) }
     ensures grows { Grows (T.collection types.old) (T.collection types.new) }
+    ensures packages { SamePackages (T.packages types.old) (T.packages types.new) }
 {
     types.types().see_acyclic();
     if has_method(alloc, &body.items, owner.name, decl.id.string)? {
@@ -185,6 +188,7 @@ fn resource_method<T: GrowingTypes>(
     ensures outcome { IsMember owner.entry method.now (T.collection types.old) body.old (T.collection types.new) body.new result }
     ensures body { OnOk result (BodyStands (T.collection types.new) body.new) }
     ensures grows { Grows (T.collection types.old) (T.collection types.new) }
+    ensures packages { SamePackages (T.packages types.old) (T.packages types.new) }
 {
     match method {
         ast::ResourceMethod::Constructor(decl) => add_constructor(decl, alloc, types, owner, body),
@@ -205,6 +209,7 @@ fn resource_methods<T: GrowingTypes>(
     ensures outcome { Members owner.entry methods.now (T.collection types.old) body.old (T.collection types.new) body.new result }
     ensures body { OnOk result (BodyStands (T.collection types.new) body.new) }
     ensures grows { Grows (T.collection types.old) (T.collection types.new) }
+    ensures packages { SamePackages (T.packages types.old) (T.packages types.new) }
 {
     types.types().see_acyclic();
     for method in methods {
@@ -222,6 +227,7 @@ fn new_resource<T: GrowingTypes>(
     ensures stated { IfOk result (λ r. stated_resource (T.collection types.new) r ≡ leaf (resource name.now)) }
     ensures stands { IfOk result (λ r. Stands (T.collection types.new) (ItemKind.Ty (TypeKind.Resource r))) }
     ensures grows { Grows (T.collection types.old) (T.collection types.new) }
+    ensures packages { SamePackages (T.packages types.old) (T.packages types.new) }
 {
     types.types().see_acyclic();
     let resource = Resource {
@@ -243,6 +249,7 @@ fn resource_decl<T: GrowingTypes>(
     ensures outcome { Declares holder.entry decl.now (T.collection types.old) body.old (T.collection types.new) body.new result }
     ensures body { OnOk result (BodyStands (T.collection types.new) body.new) }
     ensures grows { Grows (T.collection types.old) (T.collection types.new) }
+    ensures packages { SamePackages (T.packages types.old) (T.packages types.new) }
 {
     let id = new_resource(alloc, types, decl.id.string)?;
     add_type(alloc, holder, body, &decl.id, Type::Resource(id))?;
@@ -280,6 +287,7 @@ pub(crate) fn item_type<T: GrowingTypes>(
     ensures outcome { InBody holder.entry decl.now (T.collection types.old) body.old (T.collection types.new) body.new result }
     ensures body { OnOk result (BodyStands (T.collection types.new) body.new) }
     ensures grows { Grows (T.collection types.old) (T.collection types.new) }
+    ensures packages { SamePackages (T.packages types.old) (T.packages types.new) }
 {
     match decl {
         ast::ItemTypeDecl::Resource(decl) => resource_decl(decl, alloc, types, holder, body),

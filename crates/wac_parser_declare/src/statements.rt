@@ -5,6 +5,8 @@ ghost use Rattle.std.specs.Prelude.{◌≡◌, IfOk};
 ghost use Rattle.wac_types_base.specs.declared.item.ItemKind.{ItemKind};
 ghost use Rattle.wac_types_base.specs.Collection.{Stands, Grows};
 ghost use Rattle.wac_parser_declare.specs.Holding.{NamesStand};
+ghost use Rattle.wac_parser_declare.specs.InWorlds.{IsTypeStatement};
+ghost use Rattle.wac_parser_declare.specs.Packages.{SamePackages};
 
 use crate::growing::PackagedTypes;
 use crate::interfaces::interface_decl;
@@ -24,8 +26,10 @@ pub fn type_statement<T: PackagedTypes>(
     types: &mut T,
 ) -> Outcome<Type>
     requires { NamesStand (T.collection types.old) context.root.now }
+    ensures outcome { IsTypeStatement statement.now context.entry (T.collection types.old) (T.packages types.old) (T.collection types.new) result }
     ensures stands { IfOk result (λ t. Stands (T.collection types.new) (ItemKind.Ty t)) }
     ensures grows { Grows (T.collection types.old) (T.collection types.new) }
+    ensures packages { SamePackages (T.packages types.old) (T.packages types.new) }
 {
     match statement {
         TypeStatement::Interface(decl) => {

@@ -6,6 +6,7 @@ ghost use Rattle.wac_types_base.specs.declared.item.ItemKind.{ItemKind};
 ghost use Rattle.wac_types_base.specs.Collection.{Stands, Grows};
 ghost use Rattle.wac_parser_declare.specs.Aliases.{IsTypeDecl};
 ghost use Rattle.wac_parser_declare.specs.Holding.{EachStands, NamesStand, StandsIf, ValueStands};
+ghost use Rattle.wac_parser_declare.specs.Packages.{SamePackages};
 ghost use Rattle.wac_parser_declare.specs.TypeDeclarations.{AreCasesOf, AreEnumCasesOf, AreFieldsOf, AreFlags, AreFlagsOf, IsCase, IsEnum, IsEnumCase, IsField, IsFlag, IsPayload, IsRecord, IsVariant};
 
 use crate::aliases::{Place, type_alias};
@@ -31,6 +32,7 @@ fn case_type<T: GrowingTypes>(
     ensures outcome { IsPayload (T.collection types.old) names.now ty.now (T.collection types.new) result }
     ensures stands { IfOk result (StandsIf (T.collection types.new)) }
     ensures grows { Grows (T.collection types.old) (T.collection types.new) }
+    ensures packages { SamePackages (T.packages types.old) (T.packages types.new) }
 {
     types.types().see_acyclic();
     match ty {
@@ -56,6 +58,7 @@ fn add_case<T: GrowingTypes>(
     ensures outcome { IsCase variant.now (T.collection types.old) names.now found.old case.now (T.collection types.new) found.new result }
     ensures found { OnOk result (EachStands (StandsIf (T.collection types.new)) found.new) }
     ensures grows { Grows (T.collection types.old) (T.collection types.new) }
+    ensures packages { SamePackages (T.packages types.old) (T.packages types.new) }
 {
     let ty = case_type(&case.ty, alloc, names, types)?;
     if add_new(alloc, found, case.id.string, ty)? {
@@ -76,6 +79,7 @@ fn cases<T: GrowingTypes>(
     ensures outcome { AreCasesOf (T.collection types.old) names.now decl.now (T.collection types.new) result }
     ensures stand { IfOk result (EachStands (StandsIf (T.collection types.new))) }
     ensures grows { Grows (T.collection types.old) (T.collection types.new) }
+    ensures packages { SamePackages (T.packages types.old) (T.packages types.new) }
 {
     types.types().see_acyclic();
     let mut found = NamedMap::new(alloc);
@@ -96,6 +100,7 @@ pub(crate) fn variant_decl<T: GrowingTypes>(
     ensures outcome { IsVariant (T.collection types.old) names.now decl.now (T.collection types.new) result }
     ensures stands { IfOk result (λ t. Stands (T.collection types.new) (ItemKind.Ty t)) }
     ensures grows { Grows (T.collection types.old) (T.collection types.new) }
+    ensures packages { SamePackages (T.packages types.old) (T.packages types.new) }
 {
     let cases = cases(decl, alloc, names, types)?;
     let ty = define(types, DefinedType::Variant(Variant { cases }))?;
@@ -116,6 +121,7 @@ fn add_field<T: GrowingTypes>(
     ensures outcome { IsField record_name.now (T.collection types.old) names.now found.old field.now (T.collection types.new) found.new result }
     ensures found { OnOk result (EachStands (ValueStands (T.collection types.new)) found.new) }
     ensures grows { Grows (T.collection types.old) (T.collection types.new) }
+    ensures packages { SamePackages (T.packages types.old) (T.packages types.new) }
 {
     let ty = value_type(&field.ty, alloc, names, types)?;
     if add_new(alloc, found, field.id.string, ty)? {
@@ -136,6 +142,7 @@ fn fields<T: GrowingTypes>(
     ensures outcome { AreFieldsOf (T.collection types.old) names.now decl.now (T.collection types.new) result }
     ensures stand { IfOk result (EachStands (ValueStands (T.collection types.new))) }
     ensures grows { Grows (T.collection types.old) (T.collection types.new) }
+    ensures packages { SamePackages (T.packages types.old) (T.packages types.new) }
 {
     types.types().see_acyclic();
     let mut found = NamedMap::new(alloc);
@@ -156,6 +163,7 @@ pub(crate) fn record_decl<T: GrowingTypes>(
     ensures outcome { IsRecord (T.collection types.old) names.now decl.now (T.collection types.new) result }
     ensures stands { IfOk result (λ t. Stands (T.collection types.new) (ItemKind.Ty t)) }
     ensures grows { Grows (T.collection types.old) (T.collection types.new) }
+    ensures packages { SamePackages (T.packages types.old) (T.packages types.new) }
 {
     let fields = fields(decl, alloc, names, types)?;
     let ty = define(types, DefinedType::Record(Record { fields }))?;
@@ -194,6 +202,7 @@ pub(crate) fn flags_decl<T: GrowingTypes>(
     ensures outcome { AreFlags decl.now (T.collection types.new) result }
     ensures stands { IfOk result (λ t. Stands (T.collection types.new) (ItemKind.Ty t)) }
     ensures grows { Grows (T.collection types.old) (T.collection types.new) }
+    ensures packages { SamePackages (T.packages types.old) (T.packages types.new) }
 {
     types.types().see_acyclic();
     let flags = flags(decl, alloc)?;
@@ -238,6 +247,7 @@ pub(crate) fn enum_decl<T: GrowingTypes>(
     ensures outcome { IsEnum decl.now (T.collection types.new) result }
     ensures stands { IfOk result (λ t. Stands (T.collection types.new) (ItemKind.Ty t)) }
     ensures grows { Grows (T.collection types.old) (T.collection types.new) }
+    ensures packages { SamePackages (T.packages types.old) (T.packages types.new) }
 {
     types.types().see_acyclic();
     let cases = enum_cases(decl, alloc)?;
@@ -256,6 +266,7 @@ pub(crate) fn type_decl<T: GrowingTypes>(
     ensures outcome { IsTypeDecl (T.collection types.old) names.now decl.now (T.collection types.new) result }
     ensures stands { IfOk result (λ t. Stands (T.collection types.new) (ItemKind.Ty t)) }
     ensures grows { Grows (T.collection types.old) (T.collection types.new) }
+    ensures packages { SamePackages (T.packages types.old) (T.packages types.new) }
 {
     match decl {
         ast::TypeDecl::Variant(decl) => variant_decl(decl, alloc, names, types),

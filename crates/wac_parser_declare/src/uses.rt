@@ -10,6 +10,7 @@ ghost use Rattle.wac_parser_declare.specs.Held.{BodyStands};
 ghost use Rattle.wac_parser_declare.specs.Holding.{NamesStand};
 ghost use Rattle.wac_parser_declare.specs.InPaths.{Uses};
 ghost use Rattle.wac_parser_declare.specs.InUses.{AreUsed, IsTypeUsed, IsUsable, IsUseAdded, UseStands};
+ghost use Rattle.wac_parser_declare.specs.Packages.{SamePackages};
 ghost use Rattle.wac_parser_declare.specs.Scope as scope;
 
 use crate::bodies::{Body, Holder};
@@ -167,9 +168,10 @@ pub(crate) fn use_types<T: PackagedTypes>(
 ) -> Outcome<()>
     requires root { NamesStand (T.collection types.old) context.root.now }
     requires body { BodyStands (T.collection types.old) body.old }
-    ensures outcome { Uses holder.entry item.now context.entry (T.collection types.old) body.old (T.collection types.new) body.new result }
+    ensures outcome { Uses holder.entry item.now context.entry (T.collection types.old) (T.packages types.old) body.old (T.collection types.new) body.new result }
     ensures body { OnOk result (BodyStands (T.collection types.new) body.new) }
     ensures grows { Grows (T.collection types.old) (T.collection types.new) }
+    ensures packages { SamePackages (T.packages types.old) (T.packages types.new) }
 {
     let interface = interface_at(&item.path, alloc, context, types)?;
     let from = Used {

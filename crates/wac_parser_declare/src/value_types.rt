@@ -8,6 +8,7 @@ ghost use Rattle.wac_types_base.specs.Collection.{Stands, Grows, HasChildren, it
 ghost use Rattle.wac_types_base.specs.Stated.{stated_of, kind_of};
 ghost use Rattle.wac_parser_tree.specs.Trees as t;
 ghost use Rattle.wac_parser_tree.specs.Views.{view_ident, view_ty, view_boxed_ty};
+ghost use Rattle.wac_parser_declare.specs.Packages.{SamePackages};
 ghost use Rattle.wac_parser_declare.specs.ValueTypes as stated;
 ghost use Rattle.wac_parser_refusals.specs.Outcomes.{IsOutcome};
 ghost use Rattle.wac_parser_declare.specs.Holding.{IsValue, IsValueIf, AreValues, NamesStand, StandsIf, scope_of, stated_if};
@@ -109,6 +110,7 @@ pub(crate) fn define<T: GrowingTypes>(
     requires { HasChildren (T.collection types.old) (defined_entry ty) }
     ensures node { IfOk result (λ v. item_node (T.collection types.new) (ItemKind.Value v) ≡ Some (defined_entry ty)) }
     ensures grows { Grows (T.collection types.old) (T.collection types.new) }
+    ensures packages { SamePackages (T.packages types.old) (T.packages types.new) }
 {
     let id = types.add_defined_type(ty)?;
     Ok(ValueType::Defined(id))
@@ -118,6 +120,7 @@ pub(crate) fn define<T: GrowingTypes>(
 fn primitive<T: GrowingTypes>(types: &mut T, ty: PrimitiveType) -> Outcome<ValueType>
     ensures outcome { IsOutcome (IsValue (T.collection types.new)) (stated.primitive ty) result }
     ensures grows { Grows (T.collection types.old) (T.collection types.new) }
+    ensures packages { SamePackages (T.packages types.old) (T.packages types.new) }
 {
     types.types().see_acyclic();
     Ok(ValueType::Primitive(ty))
@@ -134,6 +137,7 @@ pub fn value_type<T: GrowingTypes>(
     requires { NamesStand (T.collection types.old) names.now }
     ensures outcome { IsOutcome (IsValue (T.collection types.new)) (stated.value (scope_of (T.collection types.old) names.now) (view_ty ty.now)) result }
     ensures grows { Grows (T.collection types.old) (T.collection types.new) }
+    ensures packages { SamePackages (T.packages types.old) (T.packages types.new) }
 {
     match ty {
         ast::Type::U8(_) => primitive(types, PrimitiveType::U8),
@@ -174,6 +178,7 @@ fn value_at<T: GrowingTypes>(
     requires { NamesStand (T.collection types.old) names.now }
     ensures outcome { IsOutcome (IsValue (T.collection types.new)) (stated.value_named (scope_of (T.collection types.old) names.now) (view_ident id.now)) result }
     ensures grows { Grows (T.collection types.old) (T.collection types.new) }
+    ensures packages { SamePackages (T.packages types.old) (T.packages types.new) }
 {
     let collection = types.types();
     collection.see_acyclic();
@@ -190,6 +195,7 @@ fn borrow_at<T: GrowingTypes>(
     requires { NamesStand (T.collection types.old) names.now }
     ensures outcome { IsOutcome (IsValue (T.collection types.new)) (stated.borrow_named (scope_of (T.collection types.old) names.now) (view_ident id.now)) result }
     ensures grows { Grows (T.collection types.old) (T.collection types.new) }
+    ensures packages { SamePackages (T.packages types.old) (T.packages types.new) }
 {
     let collection = types.types();
     collection.see_acyclic();
@@ -206,6 +212,7 @@ fn list_type<T: GrowingTypes>(
     requires { NamesStand (T.collection types.old) names.now }
     ensures outcome { IsOutcome (IsValue (T.collection types.new)) (stated.of_one s.list (stated.value (scope_of (T.collection types.old) names.now) (view_ty element.now))) result }
     ensures grows { Grows (T.collection types.old) (T.collection types.new) }
+    ensures packages { SamePackages (T.packages types.old) (T.packages types.new) }
 {
     let element = value_type(element, alloc, names, types)?;
     let list = define(types, DefinedType::List(element))?;
@@ -222,6 +229,7 @@ fn option_type<T: GrowingTypes>(
     requires { NamesStand (T.collection types.old) names.now }
     ensures outcome { IsOutcome (IsValue (T.collection types.new)) (stated.of_one s.option (stated.value (scope_of (T.collection types.old) names.now) (view_ty payload.now))) result }
     ensures grows { Grows (T.collection types.old) (T.collection types.new) }
+    ensures packages { SamePackages (T.packages types.old) (T.packages types.new) }
 {
     let payload = value_type(payload, alloc, names, types)?;
     let option = define(types, DefinedType::Option(payload))?;
@@ -238,6 +246,7 @@ fn maybe_type<T: GrowingTypes>(
     requires { NamesStand (T.collection types.old) names.now }
     ensures outcome { IsOutcome (IsValueIf (T.collection types.new)) (stated.maybe_value (scope_of (T.collection types.old) names.now) (boxed_payload ty.now)) result }
     ensures grows { Grows (T.collection types.old) (T.collection types.new) }
+    ensures packages { SamePackages (T.packages types.old) (T.packages types.new) }
     ensures stands { IfOk result (StandsIf (T.collection types.new)) }
     ensures names { NamesStand (T.collection types.new) names.now }
 {
@@ -261,6 +270,7 @@ fn stream_type<T: GrowingTypes>(
     requires { NamesStand (T.collection types.old) names.now }
     ensures outcome { IsOutcome (IsValue (T.collection types.new)) (stated.of_maybe s.stream (stated.maybe_value (scope_of (T.collection types.old) names.now) (boxed_payload payload.now))) result }
     ensures grows { Grows (T.collection types.old) (T.collection types.new) }
+    ensures packages { SamePackages (T.packages types.old) (T.packages types.new) }
 {
     let payload = maybe_type(payload, alloc, names, types)?;
     let stream = define(types, DefinedType::Stream(payload))?;
@@ -277,6 +287,7 @@ fn future_type<T: GrowingTypes>(
     requires { NamesStand (T.collection types.old) names.now }
     ensures outcome { IsOutcome (IsValue (T.collection types.new)) (stated.of_maybe s.future (stated.maybe_value (scope_of (T.collection types.old) names.now) (boxed_payload payload.now))) result }
     ensures grows { Grows (T.collection types.old) (T.collection types.new) }
+    ensures packages { SamePackages (T.packages types.old) (T.packages types.new) }
 {
     let payload = maybe_type(payload, alloc, names, types)?;
     let future = define(types, DefinedType::Future(payload))?;
@@ -296,6 +307,7 @@ fn result_type<T: GrowingTypes>(
     requires ok { StandsIf (T.collection types.old) ok }
     ensures outcome { IsOutcome (IsValue (T.collection types.new)) (stated.of_two s.result (pure (stated_if (T.collection types.old) ok)) (stated.maybe_value (scope_of (T.collection types.old) names.now) (boxed_payload err.now))) result }
     ensures grows { Grows (T.collection types.old) (T.collection types.new) }
+    ensures packages { SamePackages (T.packages types.old) (T.packages types.new) }
 {
     let err = maybe_type(err, alloc, names, types)?;
     let result = define(types, DefinedType::Result { ok, err })?;
@@ -313,6 +325,7 @@ fn member_types<T: GrowingTypes>(
     requires { NamesStand (T.collection types.old) names.now }
     ensures outcome { IsOutcome (AreValues (T.collection types.new)) (stated.values (scope_of (T.collection types.old) names.now) [] (t.tys (map view_ty members.now.items))) result }
     ensures grows { Grows (T.collection types.old) (T.collection types.new) }
+    ensures packages { SamePackages (T.packages types.old) (T.packages types.new) }
 {
     types.types().see_acyclic();
     let mut found = Items::new(alloc);
@@ -333,6 +346,7 @@ fn tuple_type<T: GrowingTypes>(
     requires { NamesStand (T.collection types.old) names.now }
     ensures outcome { IsOutcome (IsValue (T.collection types.new)) (stated.of_all s.tuple (stated.values (scope_of (T.collection types.old) names.now) [] (t.tys (map view_ty members.now.items)))) result }
     ensures grows { Grows (T.collection types.old) (T.collection types.new) }
+    ensures packages { SamePackages (T.packages types.old) (T.packages types.new) }
 {
     let found = member_types(members, alloc, names, types)?;
     let tuple = define(types, DefinedType::Tuple(found))?;

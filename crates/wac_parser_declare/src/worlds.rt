@@ -5,9 +5,12 @@ ghost use Rattle.std.specs.Prelude.{◌≡◌, OnOk, IfOk, IfSome, None};
 ghost use Rattle.wac_types_base.specs.declared.item.ItemKind.{ItemKind, ItemKind as Item};
 ghost use Rattle.wac_types_base.specs.Record.{Collection};
 ghost use Rattle.wac_types_base.specs.Collection.{Stands, Grows};
-ghost use Rattle.wac_parser_declare.specs.Held.{BodyStands};
-ghost use Rattle.wac_parser_declare.specs.Holding.{NamesStand};
+ghost use Rattle.wac_parser_declare.specs.Held.{BodyStands, stated_body};
+ghost use Rattle.wac_parser_declare.specs.Holding.{ItemsStand, NamesStand};
+ghost use Rattle.wac_parser_declare.specs.InWorlds.{AddsExtern, AddsInterface, AreIncludes, AreParts, IsExternType, IsInclude, IsNamedItem, IsOneMore, IsPart, IsWorldBody, IsWorldDeclared, IsWorldItem, items_on};
 ghost use Rattle.wac_parser_declare.specs.Making.{IsExtern, IsMeantIn, IsTypeOf, IsWorldMade, identifier_of};
+ghost use Rattle.wac_parser_declare.specs.Packages.{SamePackages};
+ghost use Rattle.wac_parser_declare.specs.Scope.{has};
 
 use crate::bodies::{Body, Holder};
 use crate::functions::{add_new, func_type};
@@ -81,8 +84,10 @@ fn extern_type<T: PackagedTypes>(
 ) -> Outcome<ItemKind>
     requires root { NamesStand (T.collection types.old) context.root.now }
     requires names { NamesStand (T.collection types.old) names.now }
+    ensures outcome { IsExternType ty.now context.entry names.now (T.collection types.old) (T.packages types.old) (T.collection types.new) result }
     ensures stands { IfOk result (Stands (T.collection types.new)) }
     ensures grows { Grows (T.collection types.old) (T.collection types.new) }
+    ensures packages { SamePackages (T.packages types.old) (T.packages types.new) }
 {
     types.types().see_acyclic();
     match ty {
@@ -102,7 +107,9 @@ fn extern_type<T: PackagedTypes>(
 }
 
 /// Whether a name stands among the imports, or among the exports.
-fn stands_there(body: &Body, kind: ExternKind, name: &str) -> bool {
+fn stands_there(body: &Body, kind: ExternKind, name: &str) -> bool
+    ensures { (c : Collection) → result ≡ has (items_on kind (stated_body c body.now)) name.now }
+{
     match kind {
         ExternKind::Import => body.items.contains(name),
         ExternKind::Export => body.exports.contains(name),
@@ -118,18 +125,31 @@ struct Slot<'a> {
     span: SourceSpan,
 }
 
-/// Adds an import or an export, where its name is new.
-fn add_extern(alloc: Global, body: &mut Body, slot: Slot<'_>, item: ItemKind) -> Outcome<()>
-    ensures { OnOk result ((c : Collection) → BodyStands c body.old → Stands c item → BodyStands c body.new) }
+/// One more item of a side, where its name is new.
+fn add_on(
+    alloc: Global,
+    stand: &mut NamedMap<ItemKind>,
+    slot: Slot<'_>,
+    item: ItemKind,
+) -> Outcome<()>
+    ensures outcome { IsOneMore slot.entry stand.old item stand.new result }
+    ensures stand { OnOk result ((c : Collection) → ItemsStand c stand.old → Stands c item → ItemsStand c stand.new) }
 {
-    let is_new = match slot.kind {
-        ExternKind::Import => add_new(alloc, &mut body.items, slot.name, item)?,
-        ExternKind::Export => add_new(alloc, &mut body.exports, slot.name, item)?,
-    };
-    if is_new {
+    if add_new(alloc, stand, slot.name, item)? {
         Ok(())
     } else {
         Err(duplicate_world_item(alloc, slot.kind, slot.name, slot.world, slot.span))
+    }
+}
+
+/// Adds an import or an export, where its name is new.
+fn add_extern(alloc: Global, body: &mut Body, slot: Slot<'_>, item: ItemKind) -> Outcome<()>
+    ensures outcome { AddsExtern slot.entry body.old item body.new result }
+    ensures body { OnOk result ((c : Collection) → BodyStands c body.old → Stands c item → BodyStands c body.new) }
+{
+    match slot.kind {
+        ExternKind::Import => add_on(alloc, &mut body.items, slot, item),
+        ExternKind::Export => add_on(alloc, &mut body.exports, slot, item),
     }
 }
 
@@ -144,8 +164,10 @@ fn named_item<T: PackagedTypes>(
 ) -> Outcome<()>
     requires root { NamesStand (T.collection types.old) context.root.now }
     requires body { BodyStands (T.collection types.old) body.old }
+    ensures outcome { IsNamedItem ty.now slot.entry context.entry (T.collection types.old) (T.packages types.old) body.old (T.collection types.new) body.new result }
     ensures body { OnOk result (BodyStands (T.collection types.new) body.new) }
     ensures grows { Grows (T.collection types.old) (T.collection types.new) }
+    ensures packages { SamePackages (T.packages types.old) (T.packages types.new) }
 {
     types.types().see_acyclic();
     if stands_there(body, slot.kind, slot.name) {
@@ -166,6 +188,7 @@ fn add_interface(
 ) -> Outcome<()>
     requires interface { Stands types.now (ItemKind.Instance interface) }
     requires body { BodyStands types.now body.old }
+    ensures outcome { AddsInterface owner.entry types.now interface span body.old body.new result }
     ensures body { OnOk result (BodyStands types.now body.new) }
 {
     let Some(id) = &types.interface(interface).id else {
@@ -198,8 +221,10 @@ fn world_item<T: PackagedTypes>(
 ) -> Outcome<()>
     requires root { NamesStand (T.collection types.old) context.root.now }
     requires body { BodyStands (T.collection types.old) body.old }
+    ensures outcome { IsWorldItem path.now owner.entry context.entry (T.collection types.old) (T.packages types.old) body.old (T.collection types.new) body.new result }
     ensures body { OnOk result (BodyStands (T.collection types.new) body.new) }
     ensures grows { Grows (T.collection types.old) (T.collection types.new) }
+    ensures packages { SamePackages (T.packages types.old) (T.packages types.new) }
 {
     match path {
         ast::WorldItemPath::Named(item) => {
@@ -233,8 +258,10 @@ fn world_part<T: PackagedTypes>(
 ) -> Outcome<()>
     requires root { NamesStand (T.collection types.old) context.root.now }
     requires body { BodyStands (T.collection types.old) body.old }
+    ensures outcome { IsPart item.now world.now context.entry (T.collection types.old) (T.packages types.old) body.old (T.collection types.new) body.new result }
     ensures body { OnOk result (BodyStands (T.collection types.new) body.new) }
     ensures grows { Grows (T.collection types.old) (T.collection types.new) }
+    ensures packages { SamePackages (T.packages types.old) (T.packages types.new) }
 {
     types.types().see_acyclic();
     let holder = Holder::World(world);
@@ -270,8 +297,10 @@ fn world_include<T: PackagedTypes>(
 ) -> Outcome<()>
     requires root { NamesStand (T.collection types.old) context.root.now }
     requires body { BodyStands (T.collection types.old) body.old }
+    ensures outcome { IsInclude item.now world.now context.entry (T.collection types.old) (T.packages types.old) body.old (T.collection types.new) body.new result }
     ensures body { OnOk result (BodyStands (T.collection types.new) body.new) }
     ensures grows { Grows (T.collection types.old) (T.collection types.new) }
+    ensures packages { SamePackages (T.packages types.old) (T.packages types.new) }
 {
     types.types().see_acyclic();
     match item {
@@ -293,8 +322,10 @@ fn add_items<T: PackagedTypes>(
 ) -> Outcome<()>
     requires root { NamesStand (T.collection types.old) context.root.now }
     requires body { BodyStands (T.collection types.old) body.old }
+    ensures outcome { AreParts parts.now.items world.now context.entry (T.collection types.old) (T.packages types.old) body.old (T.collection types.new) body.new result }
     ensures body { OnOk result (BodyStands (T.collection types.new) body.new) }
     ensures grows { Grows (T.collection types.old) (T.collection types.new) }
+    ensures packages { SamePackages (T.packages types.old) (T.packages types.new) }
 {
     types.types().see_acyclic();
     for part in parts {
@@ -314,8 +345,10 @@ fn add_includes<T: PackagedTypes>(
 ) -> Outcome<()>
     requires root { NamesStand (T.collection types.old) context.root.now }
     requires body { BodyStands (T.collection types.old) body.old }
+    ensures outcome { AreIncludes parts.now.items world.now context.entry (T.collection types.old) (T.packages types.old) body.old (T.collection types.new) body.new result }
     ensures body { OnOk result (BodyStands (T.collection types.new) body.new) }
     ensures grows { Grows (T.collection types.old) (T.collection types.new) }
+    ensures packages { SamePackages (T.packages types.old) (T.packages types.new) }
 {
     types.types().see_acyclic();
     for part in parts {
@@ -333,8 +366,10 @@ fn body_of<T: PackagedTypes>(
     world: &str,
 ) -> Outcome<Body>
     requires { NamesStand (T.collection types.old) context.root.now }
+    ensures outcome { IsWorldBody parts.now.items world.now context.entry (T.collection types.old) (T.packages types.old) (T.collection types.new) result }
     ensures body { IfOk result (BodyStands (T.collection types.new)) }
     ensures grows { Grows (T.collection types.old) (T.collection types.new) }
+    ensures packages { SamePackages (T.packages types.old) (T.packages types.new) }
 {
     let mut body = Body::new(alloc);
     add_items(parts, alloc, context, types, world, &mut body)?;
@@ -354,6 +389,7 @@ fn add_world<T: PackagedTypes>(
     ensures made { IsWorldMade (identifier_of own.now name.now) body (T.collection types.old) (T.collection types.new) result }
     ensures stands { IfOk result (λ i. Stands (T.collection types.new) (ItemKind.Component i)) }
     ensures grows { Grows (T.collection types.old) (T.collection types.new) }
+    ensures packages { SamePackages (T.packages types.old) (T.packages types.new) }
 {
     types.types().see_acyclic();
     let id = identifier(alloc, own, name)?;
@@ -379,8 +415,10 @@ pub(crate) fn world_decl<T: PackagedTypes>(
     types: &mut T,
 ) -> Outcome<WorldId>
     requires { NamesStand (T.collection types.old) context.root.now }
+    ensures outcome { IsWorldDeclared decl.now context.entry (T.collection types.old) (T.packages types.old) (T.collection types.new) result }
     ensures stands { IfOk result (λ i. Stands (T.collection types.new) (ItemKind.Component i)) }
     ensures grows { Grows (T.collection types.old) (T.collection types.new) }
+    ensures packages { SamePackages (T.packages types.old) (T.packages types.new) }
 {
     let body = body_of(&decl.items, alloc, context, types, decl.id.string)?;
     let id = add_world(alloc, context.own, types, decl.id.string, body)?;

@@ -12,6 +12,7 @@ use Rattle.wac_parser_declare.specs.Scope.{Scope}
 use Rattle.wac_parser_declare.specs.Declarations.{param}
 use Rattle.wac_parser_declare.specs.Holding.{AreNamedValues, scope_of, stated_value}
 use Rattle.wac_parser_declare.proofs.Kept.{scope-kept}
+use Rattle.wac_parser_declare.proofs.Known.{same_trans}
 use Rattle.wac_parser_declare.proofs.Loops.{each_next, each_refused_whole, each_ends}
 use Rattle.wac_parser_declare.proofs.Members.{refused_over}
 use Rattle.wac_parser_declare.proofs.functions.add_params.Goals as goal
@@ -45,6 +46,7 @@ loop-param-preserved g c =
     let n = each_next (param c.args.kind ns) view_named_type items c.loop-param.param-index (λ (xs : List (Name × Stated)) (u : ⊤). AreNamedValues new xs c.add_param.new.found) found c.param-item.result tt c.loop-param-test.true here in
     record {
       grows = Grows-trans _ _ _ c.loop-param.invariant.grows c.in_ok-add_param.ensures.grows;
+      packages = same_trans _ _ _ c.loop-param.invariant.packages c.in_ok-add_param.ensures.packages;
       stand = c.in_ok-add_param.ensures.found;
       rest = c.loop-param.invariant.rest ∙ n.2 ∙ ap (λ (xs : List (Name × Stated)). each (param c.args.kind ns) xs (map view_named_type (drop (c.loop-param.param-index + 1) items))) (sym n.1.same);
     }

@@ -5,12 +5,14 @@ use Rattle.wac_parser_tree.specs.Views.{view_named_type}
 use Rattle.wac_parser_refusals.specs.Causes.{each}
 use Rattle.wac_parser_declare.specs.Declarations.{param}
 use Rattle.wac_parser_declare.specs.Holding.{EachStands, ValueStands, scope_of, stated_value}
+use Rattle.wac_parser_declare.specs.Packages.{SamePackages}
 use Rattle.wac_parser_declare.proofs.functions.add_params.Given as goal
 
 -- what is left over what was found gives the same as all
 abbrev pub invariant-loop-param : goal.invariant-loop-param
 invariant-loop-param g l = record {
   grows : Grows (g.T.GrowingTypes.collection l.initial.types) (g.T.GrowingTypes.collection l.types);
+  packages : SamePackages (g.T.GrowingTypes.packages l.initial.types) (g.T.GrowingTypes.packages l.types);
   stand : EachStands (ValueStands (g.T.GrowingTypes.collection l.types)) l.found;
   rest : each (param l.kind (scope_of (g.T.GrowingTypes.collection l.initial.types) l.names)) (with_values (stated_value (g.T.GrowingTypes.collection l.initial.types)) l.initial.found) (map view_named_type l.params.items)
       ≡ each (param l.kind (scope_of (g.T.GrowingTypes.collection l.initial.types) l.names)) (with_values (stated_value (g.T.GrowingTypes.collection l.types)) l.found) (map view_named_type (drop l.param-index l.param-items));

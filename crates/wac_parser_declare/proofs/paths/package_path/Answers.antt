@@ -12,10 +12,10 @@ use Rattle.wac_parser_declare.specs.Scope.{definitions, from_definitions, from_r
 use Rattle.wac_parser_declare.proofs.paths.package_path.Goals as goal
 
 pub returns-then-eq-clause-outcome : goal.returns-then-eq-clause-outcome
-returns-then-eq-clause-outcome g c x s own =
+returns-then-eq-clause-outcome g c x s =
     let d = g.T.GrowingTypes.collection c.args.types.now in
     let p = view_package_path c.args.path.now in
     let r = c.own_path.result in
     let answered : IsOwnPath c.args.path.now c.args.context d r = subst (λ (e : Collection). IsOwnPath c.args.path.now c.args.context e r) c.types-then-eq.ensures c.own_path.ensures.outcome in
     subst (λ (b : Bool). IsOutcome (Holds d) (cond b (from_root x (segment_spans p)) (world_of_package x.packages (p.name, p.version) (package_name_span p) >>= λ w. from_definitions p (definitions w) (segment_spans p))) r)
-    (sym (ap (λ (o : t.PackageName). pointwise ◌==◌ p.name o.name) s.own ∙ own)) (answered x s.root)
+    (sym (ap (λ (o : t.PackageName). pointwise ◌==◌ p.name o.name) s.own ∙ (sym c.eq.ensures ∙ c.if-eq.true))) (answered x s.root)

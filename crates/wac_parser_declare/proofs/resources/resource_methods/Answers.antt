@@ -15,6 +15,7 @@ use Rattle.wac_parser_declare.specs.Bodies.{resource_method}
 use Rattle.wac_parser_declare.specs.Held.{stated_body}
 use Rattle.wac_parser_declare.specs.InBodies.{IsBody}
 use Rattle.wac_parser_declare.proofs.Kept.{stated-kept}
+use Rattle.wac_parser_declare.proofs.Known.{same_trans}
 use Rattle.wac_parser_declare.proofs.Loops.{each_next, each_refused_whole, each_ends}
 use Rattle.wac_parser_declare.proofs.Members.{refused_over}
 use Rattle.wac_parser_declare.proofs.resources.resource_methods.Goals as goal
@@ -36,6 +37,7 @@ loop-method-preserved g c =
     let next = each_next (resource_method n x) view_resource_method items c.loop-method.method-index k found c.method-item.result tt c.loop-method-test.true here in
     record {
       grows = Grows-trans _ _ _ c.loop-method.invariant.grows c.in_ok-resource_method.ensures.grows;
+      packages = same_trans _ _ _ c.loop-method.invariant.packages c.in_ok-resource_method.ensures.packages;
       body = c.in_ok-resource_method.ensures.body;
       rest = c.loop-method.invariant.rest ∙ next.2 ∙ ap (λ (y : stated.Body). each (resource_method n x) y (map view_resource_method (drop (c.loop-method.method-index + 1) items))) (sym next.1);
     }

@@ -12,6 +12,7 @@ use Rattle.wac_parser_declare.specs.Scope.{Scope}
 use Rattle.wac_parser_declare.specs.Declarations.{case_of}
 use Rattle.wac_parser_declare.specs.Holding.{AreCases, scope_of, stated_if}
 use Rattle.wac_parser_declare.proofs.Kept.{scope-kept}
+use Rattle.wac_parser_declare.proofs.Known.{same_trans}
 use Rattle.wac_parser_declare.proofs.Loops.{each_next, each_refused_whole, each_ends}
 use Rattle.wac_parser_declare.proofs.Members.{refused_over}
 use Rattle.wac_parser_declare.proofs.type_decls.cases.Goals as goal
@@ -47,6 +48,7 @@ loop-case-preserved g c =
     let n = each_next (case_of name ns) view_variant_case items c.loop-case.case-index (λ (xs : List (Name × Option Stated)) (u : ⊤). AreCases new xs c.add_case.new.found) found c.case-item.result tt c.loop-case-test.true here in
     record {
       grows = Grows-trans _ _ _ c.loop-case.invariant.grows c.in_ok-add_case.ensures.grows;
+      packages = same_trans _ _ _ c.loop-case.invariant.packages c.in_ok-add_case.ensures.packages;
       stand = c.in_ok-add_case.ensures.found;
       rest = c.loop-case.invariant.rest ∙ n.2 ∙ ap (λ (xs : List (Name × Option Stated)). each (case_of name ns) xs (map view_variant_case (drop (c.loop-case.case-index + 1) items))) (sym n.1.same);
     }

@@ -12,6 +12,7 @@ use Rattle.wac_parser_declare.specs.Scope.{Scope}
 use Rattle.wac_parser_declare.specs.Declarations.{field_of}
 use Rattle.wac_parser_declare.specs.Holding.{AreNamedValues, scope_of, stated_value}
 use Rattle.wac_parser_declare.proofs.Kept.{scope-kept}
+use Rattle.wac_parser_declare.proofs.Known.{same_trans}
 use Rattle.wac_parser_declare.proofs.Loops.{each_next, each_refused_whole, each_ends}
 use Rattle.wac_parser_declare.proofs.Members.{refused_over}
 use Rattle.wac_parser_declare.proofs.type_decls.fields.Goals as goal
@@ -47,6 +48,7 @@ loop-field-preserved g c =
     let n = each_next (field_of name ns) view_field items c.loop-field.field-index (λ (xs : List (Name × Stated)) (u : ⊤). AreNamedValues new xs c.add_field.new.found) found c.field-item.result tt c.loop-field-test.true here in
     record {
       grows = Grows-trans _ _ _ c.loop-field.invariant.grows c.in_ok-add_field.ensures.grows;
+      packages = same_trans _ _ _ c.loop-field.invariant.packages c.in_ok-add_field.ensures.packages;
       stand = c.in_ok-add_field.ensures.found;
       rest = c.loop-field.invariant.rest ∙ n.2 ∙ ap (λ (xs : List (Name × Stated)). each (field_of name ns) xs (map view_field (drop (c.loop-field.field-index + 1) items))) (sym n.1.same);
     }

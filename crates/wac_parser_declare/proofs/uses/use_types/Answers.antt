@@ -17,7 +17,7 @@ use Rattle.wac_parser_declare.proofs.InBodies.{body-kept}
 use Rattle.wac_parser_declare.proofs.uses.use_types.Goals as goal
 
 pub returns-clause-outcome : goal.returns-clause-outcome
-returns-clause-outcome g c x s here =
+returns-clause-outcome g c x s =
     let old = g.T.GrowingTypes.collection c.args.types.now in
     let new = g.T.GrowingTypes.collection c.interface_at.new.types in
     let b = c.args.body.now in
@@ -30,7 +30,7 @@ returns-clause-outcome g c x s here =
     let k : stated.Body → ⊤ → Type 0 = λ y v. IsBody new y after in
     let f : Stated → stated.Body → Name → Collection → Type 0 = λ from s n d. IsOutcome (λ (y : stated.Body) (v : ⊤). IsBody d y after) (each (use_one h n from) s us) r in
     let found : IsHeld (AnInterface new) (interface_at x p) id =
-    c.in_ok-interface.ensures.outcome x s here in
+    c.in_ok-interface.ensures.outcome x s in
     let used : f (stated_interface new id) (stated_body new b) (path_text p) new =
     subst (λ (n : Name). f (stated_interface new id) (stated_body new b) n new) c.path_text.ensures
     (subst (λ (d : Collection). f (stated_interface d id) (stated_body d b) c.path_text.result.now d) c.types.ensures c.use_items.ensures.outcome) in

@@ -17,6 +17,7 @@ use Rattle.wac_parser_refusals.specs.Outcomes.{IsHeld, IsOutcome}
 use Rattle.wac_parser_declare.specs.Holding.{IsValue, IsValueIf, AreValues, scope_of, stated_if}
 use Rattle.wac_parser_refusals.proofs.Outcomes.{refused_outcome, memory_outcome}
 use Rattle.wac_parser_declare.proofs.Kept.{children, option_stands, scope-kept, NamesStand-kept, StandsIf-kept, AreValues-kept, AreValues-more}
+use Rattle.wac_parser_declare.proofs.Known.{same_refl, same_trans}
 use Rattle.wac_parser_declare.proofs.Loops.{members_next, members_refused_whole, members_end}
 use Rattle.wac_parser_declare.proofs.Values.{value_stands, maybe_stands, all_stand, one_held, maybe_held, two_held, all_held, some_held, one_refused, maybe_refused, all_refused, first_refused, second_refused, joined}
 use Rattle.wac_parser_declare.proofs.Members.{given_held}
@@ -162,6 +163,7 @@ maybe_type-returns-in_ok-found-in-Some-clause-stands g t c =
 pub member_types-loop-member-init : goal.member_types-loop-member-init
 member_types-loop-member-init g t c = record {
   grows = Grows-refl (g.T.GrowingTypes.collection c.args.types.now) (subst IsAcyclic c.types.ensures c.see_acyclic.ensures);
+  packages = same_refl _;
   names = c.requires;
   os = [];
   held = subst (λ (vs : List ValueType). AreValues (g.T.GrowingTypes.collection c.args.types.now) [] vs) (sym c.new-found.ensures) (record { stand = tt; same = refl });
@@ -267,6 +269,7 @@ member_types-loop-member-preserved g t c =
     let n = members_next (scope_of (g.T.GrowingTypes.collection c.args.types.now) c.args.names.now) view_ty c.deref-member-items.result.now c.loop-member.member-index (g.T.GrowingTypes.collection c.value_type.new.types) c.loop-member.invariant.os c.member-item.result c.in_ok-ty.ty c.loop-member-test.true held in
     record {
       grows = Grows-trans _ _ _ c.loop-member.invariant.grows c.in_ok-ty.ensures.grows;
+      packages = same_trans _ _ _ c.loop-member.invariant.packages c.in_ok-ty.ensures.packages;
       names = NamesStand-kept (g.T.GrowingTypes.collection c.loop-member.types) (g.T.GrowingTypes.collection c.value_type.new.types) c.in_ok-ty.ensures.grows c.args.names.now c.loop-member.invariant.names;
       os = c.loop-member.invariant.os ++ Some n.0 ∷ [];
       held = subst (λ (vs : List ValueType). AreValues (g.T.GrowingTypes.collection c.value_type.new.types) (c.loop-member.invariant.os ++ Some n.0 ∷ []) vs) (sym c.in_ok-push.ensures.ok)
