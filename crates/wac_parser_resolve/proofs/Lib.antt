@@ -7,6 +7,8 @@ pub mod Fresh
 pub mod SoundGraph
 pub mod TargetMet
 pub mod Keeping
+pub mod Knowing
+pub mod Defined
 pub mod Refused
 pub mod Documents
 pub mod Proper

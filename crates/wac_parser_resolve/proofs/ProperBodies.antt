@@ -18,7 +18,7 @@ use Rattle.wac_parser_declare.specs.Declarations.{function, func_ref, variant_de
 use Rattle.wac_parser_declare.specs.Bodies.{Items, Body, no_body, Holder, usable, local_name, with_use, is_used, use_one, is_interface, interface_at, use_types, with_item, add_type, method_name, constructor_name, method_kind, self_of, add_constructor, has_method, add_method, resource_method, resource_decl, added, item_type}
 use Rattle.wac_parser_declare.specs.Interfaces.{export_item, exporting, interface_body, inline_interface, interface_decl}
 use Rattle.wac_parser_declare.specs.Interfaces as i
-use Rattle.wac_parser_declare.specs.Worlds.{extern_by, extern_type, with_identifier, interface_item, world_item, importing, with_imports, with_exports, world_part, world_by, world_at, with_name, renaming, has_colon, or_itself, include_at, include_one, is_empty, left_for_exports, unmet, include_world, world_include, world_decl, type_statement}
+use Rattle.wac_parser_declare.specs.Worlds.{extern_by, extern_type, with_identifier, interface_item, world_item, importing, with_imports, with_exports, world_part, world_by, world_at, with_name, renaming, has_colon, or_itself, include_at, include_one, is_empty, left_for_exports, unmet, include_world, world_body, world_include, world_decl, type_statement}
 use Rattle.wac_parser_resolve.specs.Denoting.{or_else}
 use Rattle.wac_parser_resolve.specs.Proper.{Proper, AreProper}
 use Rattle.wac_parser_resolve.proofs.Answers.{err_ok, ok_of, then_ok, ok_is, each_keeps}
@@ -362,11 +362,11 @@ world_include_proper g w b c (t.WorldItem.export x) h k e = subst BodyProper (ok
 
 world_decl_proper : (g : Context) (d : t.WorldDecl) (y : Stated) → ContextProper g → Ok y ≡ world_decl g d → Proper y
 world_decl_proper g d y h e =
-    let a = ok_of (each (world_part g d.id.string) no_body d.items) _ y e in
-    let b = ok_of (each (world_include g d.id.string) a.0 d.items) _ y a.2 in
-    let parts = each_keeps (world_part g d.id.string) BodyProper (λ f c x k q. world_part_proper g d.id.string f c x h k q) no_body a.0 d.items nothing_proper (sym a.1) in
-    let all = each_keeps (world_include g d.id.string) BodyProper (λ f c x k q. world_include_proper g d.id.string f c x h k q) a.0 b.0 d.items parts (sym b.1) in
-    subst Proper (sym (ok_is y (world_of (Some (identifier g.own d.id.string)) b.0.uses b.0.items b.0.exports) b.2)) (world_proper (Some (identifier g.own d.id.string)) b.0.uses b.0.items b.0.exports all.uses all.items all.exports)
+    let a = ok_of (world_body g d.id.string d.items) _ y e in
+    let p = ok_of (each (world_part g d.id.string) no_body d.items) _ a.0 (sym a.1) in
+    let parts = each_keeps (world_part g d.id.string) BodyProper (λ f c x k q. world_part_proper g d.id.string f c x h k q) no_body p.0 d.items nothing_proper (sym p.1) in
+    let all = each_keeps (world_include g d.id.string) BodyProper (λ f c x k q. world_include_proper g d.id.string f c x h k q) p.0 a.0 d.items parts p.2 in
+    subst Proper (sym (ok_is y (world_of (Some (identifier g.own d.id.string)) a.0.uses a.0.items a.0.exports) a.2)) (world_proper (Some (identifier g.own d.id.string)) a.0.uses a.0.items a.0.exports all.uses all.items all.exports)
 
 -- ---- statements
 

@@ -16,4 +16,5 @@ pub mod Resolved
 pub mod Passing
 pub mod Giving
 pub mod Keeping
+pub mod Knowing
 pub mod Proper

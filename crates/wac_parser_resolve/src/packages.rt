@@ -1,23 +1,36 @@
 //! A graph with the packages that its document may name.
-#![tactic(auto, using(crate::proofs::Keeping::keeping))]
+#![tactic(auto, using(crate::proofs::Knowing::knowing))]
 
-ghost use Rattle.std.specs.Prelude.{◌≡◌, IfOk, IfSome};
-ghost use Rattle.wac_types_base.specs.declared.item.ItemKind.{ItemKind};
+ghost use Rattle.std.specs.Prelude.{◌≡◌, IfOk, IfSome, None, OnErr, OnOk, Some, option_map};
+ghost use Rattle.std.specs.Bool.{Decides};
+ghost use Rattle.wac_names.specs.declared.names.NameKind.TheVariants as kind;
+ghost use Rattle.wac_types_base.specs.declared.item.ItemKind.{ItemKind as Item};
+ghost use Rattle.wac_types_base.specs.declared.item.«Type».{«Type» as TypeKind};
+ghost use Rattle.wac_types_base.specs.declared.ids.WorldId.{WorldId as WorldKey};
 ghost use Rattle.wac_types_base.specs.Collection.{Stands};
+ghost use Rattle.wac_types_base.specs.Entries.{AreDistinct, names_of};
+ghost use Rattle.wac_types_base.specs.Stated.{stated_of};
+ghost use Rattle.wac_types_names.specs.Keys.{package_key};
 ghost use Rattle.wac_graph_core.specs.Graph.{ContainsPackage, PackageStands};
+ghost use Rattle.wac_graph_core.specs.Packages.{NoKey, Registers};
+ghost use Rattle.wac_graph_core.specs.Types.{Enlarges};
+ghost use Rattle.wac_parser_declare.specs.Packages.{SamePackages};
+ghost use Rattle.wac_parser_declare.specs.Scope as scope;
 ghost use Rattle.wac_parser_resolve.specs.Keeping.{Keeps};
+ghost use Rattle.wac_parser_resolve.specs.Knowing.{Gets, IsDefinedBy, IsDefinedIn, IsOnlyExport, IsPackage, IsPackageOf, IsTypeOf, handed_under, key_of, known_in, known_of, stated_handed};
 
 use indexmap::IndexMap;
 use semver::Version;
 use std::alloc::{AllocError, Global};
-use wac_graph_core::{CompositionGraph, PackageId};
+use wac_graph_core::{CompositionGraph, PackageId, RegisterPackageError};
+use wac_names::{NameKind, component_name};
 use wac_parser_declare::{GrowingTypes, PackagedTypes};
 use wac_parser_lexer::SourceSpan;
 use wac_parser_refusals::{Outcome, Refusal, unknown_package};
 use wac_parser_tree::PackagePath;
 use wac_types_base::{
-    DefinedType, DefinedTypeId, FuncType, FuncTypeId, Interface, InterfaceId, ItemKind, Resource,
-    ResourceId, Type, Types, World, WorldId,
+    DefinedType, DefinedTypeId, FuncType, FuncTypeId, Interface, InterfaceId, ItemKind, NamedMap,
+    Resource, ResourceId, Type, Types, World, WorldId,
 };
 use wac_types_names::{BorrowedPackageKey, Package};
 
@@ -43,29 +56,38 @@ pub struct GraphTypes<'a> {
 }
 
 impl GrowingTypes for GraphTypes<'_> {
+    ghost use Rattle.wac_parser_resolve.specs.Knowing.{known_in};
+
     ghost collection = { λ g. g.graph.types };
+
+    ghost packages = { known_in };
 
     fn types(&self) -> &Types {
         self.graph.types()
     }
 
     fn add_defined_type(&mut self, ty: DefinedType) -> Result<DefinedTypeId, AllocError> {
+        self.graph.see_sound();
         self.graph.types_mut().add_defined_type(ty)
     }
 
     fn add_resource(&mut self, resource: Resource) -> Result<ResourceId, AllocError> {
+        self.graph.see_sound();
         self.graph.types_mut().add_resource(resource)
     }
 
     fn add_func_type(&mut self, func: FuncType) -> Result<FuncTypeId, AllocError> {
+        self.graph.see_sound();
         self.graph.types_mut().add_func_type(func)
     }
 
     fn add_interface(&mut self, interface: Interface) -> Result<InterfaceId, AllocError> {
+        self.graph.see_sound();
         self.graph.types_mut().add_interface(interface)
     }
 
     fn add_world(&mut self, world: World) -> Result<WorldId, AllocError> {
+        self.graph.see_sound();
         self.graph.types_mut().add_world(world)
     }
 }
@@ -76,9 +98,10 @@ fn copy_world(
     types: &Types,
     world: WorldId,
 ) -> Result<WorldId, AllocError>
-    requires { Stands types.now (ItemKind.Component world) }
-    ensures stands { IfOk result (λ i. Stands graph.new.types (ItemKind.Component i)) }
-    ensures keeps { Keeps graph.old graph.new }
+    requires { Stands types.now (Item.Component world) }
+    ensures copied { IfOk result (λ i. stated_of graph.new.types (Item.Component i) ≡ stated_of types.now (Item.Component world)) }
+    ensures stands { IfOk result (λ i. Stands graph.new.types (Item.Component i)) }
+    ensures enlarges { Enlarges graph.old graph.new }
 {
     graph.types_mut().copy_world(types, world)
 }
@@ -91,52 +114,160 @@ fn make_package(
     bytes: Vec<u8>,
     world: WorldId,
 ) -> Result<Package, AllocError>
-    requires { Stands graph.old.types (ItemKind.Component world) }
+    requires { Stands graph.old.types (Item.Component world) }
+    ensures key { IfOk result (λ p. package_key p ≡ (key_of name.now version.entry)) }
+    ensures world { IfOk result (λ p. p.ty ≡ world) }
     ensures stands { IfOk result (PackageStands graph.new.types) }
-    ensures keeps { Keeps graph.old graph.new }
+    ensures enlarges { Enlarges graph.old graph.new }
 {
     graph.types_mut().add_package(name, version, bytes, world)
 }
 
-/// Registers a package.
-fn add_package(graph: &mut CompositionGraph, package: Package) -> Outcome<PackageId>
-    requires { PackageStands graph.old.types «package» }
-    ensures stands { IfOk result (ContainsPackage graph.new) }
-    ensures keeps { Keeps graph.old graph.new }
+/// Registers a package, where none has its key.
+fn add_package(graph: &mut CompositionGraph, package: Package) -> Result<PackageId, AllocError>
+    requires stands { PackageStands graph.old.types «package» }
+    requires none { NoKey graph.old (package_key «package») }
+    ensures registered { IfOk result (λ id. Registers graph.old graph.new «package» id) }
+    ensures kept { OnErr result (graph.new ≡ graph.old) }
 {
-    graph.types().see_acyclic();
     match graph.register_package(package) {
         Ok(id) => Ok(id),
-        Err(_) => Err(Refusal::Memory),
+        Err(RegisterPackageError::Memory) => Err(AllocError),
+        Err(RegisterPackageError::PackageAlreadyRegistered { .. }) => unreachable!(),
     }
 }
 
-/// Registers a copy of a package whose world stands in its collection.
+/// Registers a copy of a package whose world stands in its collection, where none has this name and version.
 fn register(
     alloc: Global,
     graph: &mut CompositionGraph,
     name: &str,
     version: Option<&Version>,
     handed: PackageRef<'_>,
-) -> Outcome<PackageId>
-    requires { Stands handed.types.now (ItemKind.Component handed.«package».now.ty) }
-    ensures stands { IfOk result (ContainsPackage graph.new) }
+) -> Result<PackageId, AllocError>
+    requires stands { Stands handed.types.now (Item.Component handed.«package».now.ty) }
+    requires none { NoKey graph.old (key_of name.now version) }
+    ensures registered { IfOk result (IsPackage graph.new (key_of name.now version.entry) (stated_handed handed.entry)) }
+    ensures gets { OnOk result (Gets graph.old graph.new (key_of name.now version.entry) (stated_handed handed.entry)) }
+    ensures same { OnErr result (SamePackages (known_of graph.old) (known_of graph.new)) }
     ensures keeps { Keeps graph.old graph.new }
 {
+    graph.see_sound();
     let world = copy_world(graph, handed.types, handed.package.ty())?;
     let bytes = Vec::from_slice(alloc, handed.package.bytes())?;
+    graph.see_sound();
     let package = make_package(graph, name, version, bytes, world)?;
     add_package(graph, package)
+}
+
+/// Tells that no name of a map stands twice.
+fn see_distinct(map: &NamedMap<ItemKind>)
+    ensures { AreDistinct (names_of map.now) }
+{
+    let _ = map.len();
+}
+
+/// Whether a name is one of an interface.
+fn is_interface(name: Option<NameKind>) -> bool
+    ensures { Decides result (name ≡ Some kind.Interface) }
+{
+    matches!(name, Some(NameKind::Interface))
+}
+
+/// Whether a text is the name of an interface.
+fn is_interface_name(alloc: Global, text: &str) -> Result<bool, AllocError>
+    ensures { IfOk result (λ b. b ≡ scope.is_interface_name text.now) }
+{
+    Ok(is_interface(component_name(alloc, text)?))
+}
+
+/// The type of an instance or a component.
+fn type_of(item: ItemKind) -> Option<ItemKind>
+    ensures { IsTypeOf item result }
+{
+    match item {
+        ItemKind::Instance(id) => Some(ItemKind::Ty(Type::Interface(id))),
+        ItemKind::Component(id) => Some(ItemKind::Ty(Type::World(id))),
+        _other => None,
+    }
+}
+
+/// The world that an item is the type of.
+fn world_type(item: ItemKind) -> Option<WorldId>
+    ensures some { IfSome result (λ w. item ≡ Item.Ty (TypeKind.World w)) }
+    ensures none { result ≡ None → (w : WorldKey) → item ≡ Item.Ty (TypeKind.World w) → ⊥ }
+{
+    let ItemKind::Ty(ty) = item else {
+        return None;
+    };
+    match ty {
+        Type::World(id) => Some(id),
+        _other => None,
+    }
+}
+
+/// What the one export of a world means, under the name of an interface: the type of an instance or a component.
+fn only_export(alloc: Global, types: &Types, world: WorldId) -> Result<Option<ItemKind>, AllocError>
+    requires { Stands types.now (Item.Component world) }
+    ensures { IfOk result (IsOnlyExport types.now world) }
+{
+    types.see_acyclic();
+    let exports = &types.world(world).exports;
+    if exports.len() != 1 {
+        return Ok(None);
+    }
+    let (name, item) = exports.entry(0);
+    if is_interface_name(alloc, name)? {
+        Ok(type_of(*item))
+    } else {
+        Ok(None)
+    }
+}
+
+/// What an export defines, if it does.
+fn definition_of(
+    alloc: Global,
+    types: &Types,
+    item: ItemKind,
+) -> Result<Option<ItemKind>, AllocError>
+    requires { Stands types.now item }
+    ensures { IfOk result (IsDefinedBy types.now item) }
+{
+    types.see_acyclic();
+    match world_type(item) {
+        Some(id) => only_export(alloc, types, id),
+        None => Ok(None),
+    }
+}
+
+/// What a world defines under a name, if it does.
+fn definition_in(
+    alloc: Global,
+    types: &Types,
+    world: WorldId,
+    name: &str,
+) -> Result<Option<ItemKind>, AllocError>
+    requires { Stands types.now (Item.Component world) }
+    ensures { IfOk result (IsDefinedIn types.now world name.now) }
+{
+    types.see_acyclic();
+    let exports = &types.world(world).exports;
+    see_distinct(exports);
+    match exports.get(name) {
+        Some(item) => definition_of(alloc, types, *item),
+        None => Ok(None),
+    }
 }
 
 impl<'a> GraphTypes<'a> {
     /// The package that is handed in under a key, where its world stands.
     fn handed(&self, name: &str, version: Option<&Version>) -> Option<PackageRef<'a>>
-        ensures { IfSome result (λ p. Stands p.types.now (ItemKind.Component p.«package».now.ty)) }
+        ensures world { option_map stated_handed result ≡ handed_under self.now (key_of name.now version.entry) }
+        ensures stands { IfSome result (λ p. Stands p.types.now (Item.Component p.«package».now.ty)) }
     {
         let key = BorrowedPackageKey::from_name_and_version(name, version);
         let found = *self.packages.get(&key)?;
-        if found.types.contains(Type::World(found.package.ty())) {
+        if found.types.has(ItemKind::Component(found.package.ty())) {
             Some(found)
         } else {
             None
@@ -152,15 +283,18 @@ impl<'a> GraphTypes<'a> {
         version: Option<&Version>,
         span: SourceSpan,
     ) -> Outcome<PackageId>
+        ensures outcome { IsPackageOf self.old (key_of name.now version.entry) span self.new.graph result }
         ensures stands { IfOk result (ContainsPackage self.new.graph) }
         ensures keeps { Keeps self.old.graph self.new.graph }
+        ensures packages { SamePackages (known_in self.old) (known_in self.new) }
     {
+        self.graph.see_sound();
         self.graph.types().see_acyclic();
         if let Some((id, _)) = self.graph.get_package_by_name(name, version) {
             return Ok(id);
         }
         match self.handed(name, version) {
-            Some(handed) => register(alloc, &mut self.graph, name, version, handed),
+            Some(handed) => Ok(register(alloc, &mut self.graph, name, version, handed)?),
             None => Err(unknown_package(alloc, name, span)),
         }
     }
@@ -175,9 +309,9 @@ impl PackagedTypes for GraphTypes<'_> {
     ) -> Outcome<Option<ItemKind>> {
         let span = path.package_name_span();
         let id = self.package(alloc, path.name, path.version.as_ref(), span)?;
-        match self.graph[id].definitions().get(name) {
-            Some(kind) if self.graph.types().has(*kind) => Ok(Some(*kind)),
-            _ => Ok(None),
-        }
+        self.graph.see_sound();
+        let world = self.graph[id].ty();
+        let found = definition_in(alloc, self.graph.types(), world, name)?;
+        Ok(found)
     }
 }

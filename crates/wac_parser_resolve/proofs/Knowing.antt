@@ -1,0 +1,285 @@
+-- What is known of packages, while a collection grows and packages are registered.
+use Rattle.std.proofs.Common.{◌≡◌, ◌==◌, ℕ, zero, suc, Bool, true, false, ◌&&◌, cond, List, [], ◌∷◌, ◌++◌, length, Option, Some, None, Result, Ok, Err, IfOk, OnErr, OnOk, slice_get, slice_set, refl, sym, ap, subst, ◌∙◌}
+use Rattle.std.specs.Option.{option_or}
+use Rattle.std.specs.Cmp.Lexicographic.{pointwise, bytes_decides}
+use Rattle.std.proofs.lemmas.Bool.{and_from, and_parts}
+use Rattle.std.proofs.lemmas.Bool.Decides.{Decides-eqb}
+use Rattle.semver.specs.Parse.{Parts}
+use Rattle.wac_types_base.specs.declared.item.ItemKind.{ItemKind}
+use Rattle.wac_types_base.specs.declared.ids.WorldId.{WorldId}
+use Rattle.wac_types_base.specs.Record.{Collection}
+use Rattle.wac_types_base.specs.Collection.{Grows, Stands}
+use Rattle.wac_types_base.specs.Stated.{Stated, stated_of}
+use Rattle.wac_types_names.specs.Packaged.{Packaged}
+use Rattle.wac_types_names.specs.Keys.{Key, package_key}
+use Rattle.wac_graph_core.specs.declared.ids.PackageId.{PackageId}
+use Rattle.wac_graph_core.specs.declared.package.Place.{Place}
+use Rattle.wac_graph_core.specs.Graph.{Graph, IsGraph, PackageStands, package_in, package_of}
+use Rattle.wac_graph_core.specs.Packages.{NoKey, PutsPlace, put_last, put_free, Registers, held_place}
+use Rattle.wac_graph_core.specs.Types.{Enlarges}
+use Rattle.wac_graph_core.proofs.PlaceSteps.{Held, held_in, in_held}
+use Rattle.wac_parser_tree.specs.Trees.{Span}
+use Rattle.wac_parser_refusals.specs.declared.refusal.Refusal.{Refusal}
+use Rattle.wac_parser_refusals.specs.Causes.{Fault, present}
+use Rattle.wac_parser_refusals.specs.Outcomes.{IsHeld, IsRefusal, Refuses}
+use Rattle.wac_parser_declare.specs.Packages.{SamePackages}
+use Rattle.wac_parser_declare.specs.Scope.{is_key, same_version}
+use Rattle.wac_parser_declare.proofs.Kept.{stated-kept}
+use Rattle.wac_parser_resolve.specs.declared.packages.GraphTypes.{GraphTypes}
+use Rattle.wac_parser_resolve.specs.Knowing.{Gets, IsPackage, handed_under, held_under, known_in, known_of, world_in}
+use Rattle.wac_parser_resolve.proofs.Keeping.{keeping, put_there}
+
+-- ---- keys
+
+version_same : (v w : Option Parts) → same_version v w ≡ true → v ≡ w
+version_same None None e = refl
+version_same None (Some w) e = absurd (cc e)
+version_same (Some v) None e = absurd (cc e)
+version_same (Some v) (Some w) e =
+    let a = and_parts (v.0 == w.0) _ e in
+    let b = and_parts (v.1 == w.1) _ a.1 in
+    let c = and_parts (v.2 == w.2) _ b.1 in
+    let d = and_parts (pointwise ◌==◌ v.3 w.3) _ c.1 in
+    let major : v.0 ≡ w.0 = (Decides-eqb v.0 w.0).0 a.0 in
+    let minor : v.1 ≡ w.1 = (Decides-eqb v.1 w.1).0 b.0 in
+    let patch : v.2 ≡ w.2 = (Decides-eqb v.2 w.2).0 c.0 in
+    let pre : v.3 ≡ w.3 = (bytes_decides v.3 w.3).0 d.0 in
+    let build : v.4 ≡ w.4 = (bytes_decides v.4 w.4).0 d.1 in
+    λ j. Some (major j, minor j, patch j, pre j, build j)
+
+pub key_same : (a b : Key) → is_key a b ≡ true → a ≡ b
+key_same a b e =
+    let p = and_parts (pointwise ◌==◌ a.0 b.0) _ e in
+    let names : a.0 ≡ b.0 = (bytes_decides a.0 b.0).0 p.0 in
+    let versions : a.1 ≡ b.1 = version_same a.1 b.1 p.1 in
+    λ j. (names j, versions j)
+
+bytes_same : (xs : List ℕ) → pointwise ◌==◌ xs xs ≡ true
+bytes_same xs = (bytes_decides xs xs).1 refl
+
+number_same : (n : ℕ) → (n == n) ≡ true
+number_same n = (Decides-eqb n n).1 refl
+
+version_refl : (v : Option Parts) → same_version v v ≡ true
+version_refl None = refl
+version_refl (Some v) =
+    and_from (v.0 == v.0) _ (number_same v.0) (and_from (v.1 == v.1) _ (number_same v.1)
+    (and_from (v.2 == v.2) _ (number_same v.2) (and_from (pointwise ◌==◌ v.3 v.3) _ (bytes_same v.3) (bytes_same v.4))))
+
+pub key_refl : (a : Key) → is_key a a ≡ true
+key_refl a = and_from (pointwise ◌==◌ a.0 a.0) _ (bytes_same a.0) (version_refl a.1)
+
+-- ---- places
+
+-- a place holds a package of the key, with this world
+pub record IsFound (c : Collection) (k : Key) (ps : List Place) (w : Stated) : Type 0 where
+  pub at : ℕ
+  pub place : Place
+  pub there : slice_get ps at ≡ Some place
+  pub held : Packaged
+  pub is : place.held ≡ Some held
+  pub key : is_key k (package_key held) ≡ true
+  pub world : stated_of c (ItemKind.Component held.ty) ≡ w
+
+module _ (c : Collection) (k : Key) where
+  further : (p : Place) (ps : List Place) (w : Stated) → IsFound c k ps w → IsFound c k (p ∷ ps) w
+  further p ps w f = record { at = suc f.at; place = f.place; there = f.there; held = f.held; is = f.is; key = f.key; world = f.world }
+
+  keyed_found : (p : Place) (ps : List Place) (w : Stated) → (world_in c ps k ≡ Some w → IsFound c k ps w) → (q : Packaged) (b : Bool) → p.held ≡ Some q → is_key k (package_key q) ≡ b
+      → option_or (cond b (Some (stated_of c (ItemKind.Component q.ty))) None) (world_in c ps k) ≡ Some w → IsFound c k (p ∷ ps) w
+  keyed_found p ps w rest q true is key e = let same : stated_of c (ItemKind.Component q.ty) ≡ w = cc e in record { at = zero; place = p; there = refl; held = q; is = is; key = key; world = same }
+  keyed_found p ps w rest q false is key e = further p ps w (rest e)
+
+  held_found : (p : Place) (ps : List Place) (w : Stated) → (world_in c ps k ≡ Some w → IsFound c k ps w) → (o : Option Packaged) → p.held ≡ o → option_or (held_under c k o) (world_in c ps k) ≡ Some w → IsFound c k (p ∷ ps) w
+  held_found p ps w rest None is e = further p ps w (rest e)
+  held_found p ps w rest (Some q) is e = keyed_found p ps w rest q (is_key k (package_key q)) is refl e
+
+  pub world_found : (ps : List Place) (w : Stated) → world_in c ps k ≡ Some w → IsFound c k ps w
+  world_found [] w e = absurd (cc e)
+  world_found (p ∷ ps) w e = held_found p ps w (world_found ps w) p.held refl e
+
+  neither : (o p : Option Stated) → option_or o p ≡ None → p ≡ None
+  neither None p e = e
+  neither (Some w) p e = absurd (cc e)
+
+  pub no_world : (ps : List Place) (i : ℕ) (p : Place) (q : Packaged) → world_in c ps k ≡ None → slice_get ps i ≡ Some p → p.held ≡ Some q → is_key k (package_key q) ≡ true → ⊥
+  no_world [] i p q e at is key = cc at
+  no_world (x ∷ ps) zero p q e at is key =
+      let same : x ≡ p = cc at in
+      let held : x.held ≡ Some q = ap (λ (y : Place). y.held) same ∙ is in
+      let chosen : option_or (cond true (Some (stated_of c (ItemKind.Component q.ty))) None) (world_in c ps k) ≡ None =
+      subst (λ (b : Bool). option_or (cond b (Some (stated_of c (ItemKind.Component q.ty))) None) (world_in c ps k) ≡ None) key
+      (subst (λ (o : Option Packaged). option_or (held_under c k o) (world_in c ps k) ≡ None) held e) in
+      cc chosen
+  no_world (x ∷ ps) (suc i) p q e at is key = no_world ps i p q (neither (held_under c k x.held) (world_in c ps k) e) at is key
+
+  -- one more package, in the last place or in an empty one
+  pub world_last : (ps : List Place) (p : Place) → world_in c (ps ++ p ∷ []) k ≡ option_or (world_in c ps k) (held_under c k p.held)
+  world_last [] p = none_behind (held_under c k p.held)
+    where
+      none_behind : (o : Option Stated) → option_or o None ≡ o
+      none_behind None = refl
+      none_behind (Some w) = refl
+  world_last (x ∷ ps) p = ap (option_or (held_under c k x.held)) (world_last ps p) ∙ grouped (held_under c k x.held)
+    where
+      grouped : (o : Option Stated) → option_or o (option_or (world_in c ps k) (held_under c k p.held)) ≡ option_or (option_or o (world_in c ps k)) (held_under c k p.held)
+      grouped None = refl
+      grouped (Some w) = refl
+
+  pub world_set_other : (ps : List Place) (i : ℕ) (x p : Place) → slice_get ps i ≡ Some x → x.held ≡ None → held_under c k p.held ≡ None → world_in c (slice_set ps i p) k ≡ world_in c ps k
+  world_set_other [] i x p at empty none = absurd (cc at)
+  world_set_other (y ∷ ps) zero x p at empty none =
+      let same : y ≡ x = cc at in
+      ap (λ (o : Option Stated). option_or o (world_in c ps k)) none ∙ sym (ap (λ (o : Option Packaged). option_or (held_under c k o) (world_in c ps k)) (ap (λ (z : Place). z.held) same ∙ empty))
+  world_set_other (y ∷ ps) (suc i) x p at empty none = ap (option_or (held_under c k y.held)) (world_set_other ps i x p at empty none)
+
+  pub world_set : (ps : List Place) (i : ℕ) (x p : Place) (w : Stated) → slice_get ps i ≡ Some x → world_in c ps k ≡ None → held_under c k p.held ≡ Some w → world_in c (slice_set ps i p) k ≡ Some w
+  world_set [] i x p w at none some = absurd (cc at)
+  world_set (y ∷ ps) zero x p w at none some = ap (λ (o : Option Stated). option_or o (world_in c ps k)) some
+  world_set (y ∷ ps) (suc i) x p w at none some = passed (held_under c k y.held) none (world_set ps i x p w at (neither (held_under c k y.held) (world_in c ps k) none) some)
+    where
+      passed : (o : Option Stated) → option_or o (world_in c ps k) ≡ None → world_in c (slice_set ps i p) k ≡ Some w → option_or o (world_in c (slice_set ps i p) k) ≡ Some w
+      passed None h rest = rest
+      passed (Some v) h rest = absurd (cc h)
+
+-- the same places over a collection that grew
+pub world_kept : (c d : Collection) → Grows c d → (ps : List Place) → ((i : ℕ) (p : Place) (q : Packaged) → slice_get ps i ≡ Some p → p.held ≡ Some q → Stands c (ItemKind.Component q.ty)) → (k : Key) → world_in d ps k ≡ world_in c ps k
+world_kept c d g [] s k = refl
+world_kept c d g (p ∷ ps) s k =
+    ap (λ (o : Option Stated). option_or o (world_in d ps k)) (here p.held refl) ∙ ap (option_or (held_under c k p.held)) (world_kept c d g ps (λ i x q at is. s (suc i) x q at is) k)
+  where
+    here : (o : Option Packaged) → p.held ≡ o → held_under d k o ≡ held_under c k o
+    here None is = refl
+    here (Some q) is = ap (λ (t : Stated). cond (is_key k (package_key q)) (Some t) None) (stated-kept c d g (ItemKind.Component q.ty) (s zero p q refl is))
+
+-- ---- graphs
+
+-- what a place holds, under its id
+abbrev pub id_at : ℕ → Place → PackageId
+id_at i p = record { place = i; generation = p.generation }
+
+pub package_at : (ps : List Place) (i : ℕ) (p : Place) (q : Packaged) → slice_get ps i ≡ Some p → p.held ≡ Some q → package_in ps (id_at i p) ≡ Some q
+package_at ps i p q at is = in_held ps (id_at i p) q (record { place = p; there = at; now = refl; held = is })
+
+pub held_worlds : (g : Graph) → IsGraph g → (i : ℕ) (p : Place) (q : Packaged) → slice_get g.places i ≡ Some p → p.held ≡ Some q → Stands g.types (ItemKind.Component q.ty)
+held_worlds g s i p q at is = (s.packages.stand (id_at i p) q (package_at g.places i p q at is)).world
+
+pub known_enlarged : (g h : Graph) → IsGraph g → Enlarges g h → SamePackages (known_of g) (known_of h)
+known_enlarged g h s e = record {
+  same = λ k. ap (λ (ps : List Place). world_in h.types ps k) (ap (λ (x : Graph). x.places) e.same) ∙ world_kept g.types h.types e.grows g.places (held_worlds g s) k;
+}
+
+-- the package of an id is the one that is known of its key
+pub known_package : (g : Graph) → IsGraph g → (id : PackageId) (p : Packaged) (k : Key) → package_of g id ≡ Some p → package_key p ≡ k → known_of g k ≡ Some (stated_of g.types (ItemKind.Component p.ty))
+known_package g s id p k at key = found (known_of g k) refl
+  where
+    h : Held g.places id p
+    h = held_in g.places id p at
+
+    keyed : is_key k (package_key p) ≡ true
+    keyed = subst (λ (x : Key). is_key x (package_key p) ≡ true) key (key_refl (package_key p))
+
+    found : (o : Option Stated) → known_of g k ≡ o → o ≡ Some (stated_of g.types (ItemKind.Component p.ty))
+    found None is = absurd (no_world g.types k g.places id.place h.place p is h.there h.held keyed)
+    found (Some w) is =
+        let f = world_found g.types k g.places w is in
+        let there = package_at g.places f.at f.place f.held f.there f.is in
+        let one : id_at f.at f.place ≡ id = s.packages.once (id_at f.at f.place) id f.held p there at (sym (key_same k (package_key f.held) f.key) ∙ sym key) in
+        let same : Some f.held ≡ Some p = sym there ∙ ap (package_in g.places) one ∙ at in
+        let held : f.held ≡ p = cc same in
+        ap Some (sym f.world ∙ ap (λ (q : Packaged). stated_of g.types (ItemKind.Component q.ty)) held)
+
+-- a key that no package has
+pub unknown_key : (g : Graph) (k : Key) → NoKey g k → known_of g k ≡ None
+unknown_key g k none = found (known_of g k) refl
+  where
+    found : (o : Option Stated) → known_of g k ≡ o → o ≡ None
+    found None is = refl
+    found (Some w) is =
+        let f = world_found g.types k g.places w is in
+        absurd (none (id_at f.at f.place) f.held (package_at g.places f.at f.place f.held f.there f.is) (sym (key_same k (package_key f.held) f.key)))
+
+-- a package that is registered
+pub known_registered : (g h : Graph) (p : Packaged) (id : PackageId) → Registers g h p id → Gets g h (package_key p) (stated_of h.types (ItemKind.Component p.ty))
+known_registered g h p id r =
+    let types : h.types ≡ g.types = ap (λ (x : Graph). x.types) r.made in
+    let own : held_under g.types (package_key p) (Some p) ≡ Some (stated_of g.types (ItemKind.Component p.ty)) =
+    ap (λ (b : Bool). cond b (Some (stated_of g.types (ItemKind.Component p.ty))) None) (key_refl (package_key p)) in
+    record {
+      own = subst (λ (c : Collection). world_in c h.places (package_key p) ≡ Some (stated_of c (ItemKind.Component p.ty))) (sym types)
+          (put_own h.places r.put (unknown_key g (package_key p) r.none) own);
+      others = λ k apart. ap (λ (c : Collection). world_in c h.places k) types
+          ∙ put_other h.places r.put k (ap (λ (b : Bool). cond b (Some (stated_of g.types (ItemKind.Component p.ty))) None) apart);
+    }
+  where
+    put_own : (qs : List Place) → PutsPlace g.places id p qs → world_in g.types g.places (package_key p) ≡ None → held_under g.types (package_key p) (Some p) ≡ Some (stated_of g.types (ItemKind.Component p.ty))
+        → world_in g.types qs (package_key p) ≡ Some (stated_of g.types (ItemKind.Component p.ty))
+    put_own qs (put_last n) none own =
+        world_last g.types (package_key p) g.places (held_place 0 p) ∙ ap (λ (o : Option Stated). option_or o (held_under g.types (package_key p) (Some p))) none ∙ own
+    put_own qs (put_free f) none own = world_set g.types (package_key p) g.places id.place f.place (held_place id.generation p) (stated_of g.types (ItemKind.Component p.ty)) f.there none own
+
+    put_other : (qs : List Place) → PutsPlace g.places id p qs → (k : Key) → held_under g.types k (Some p) ≡ None → world_in g.types qs k ≡ world_in g.types g.places k
+    put_other qs (put_last n) k none =
+        world_last g.types k g.places (held_place 0 p) ∙ ap (option_or (world_in g.types g.places k)) none ∙ none_behind (world_in g.types g.places k)
+      where
+        none_behind : (o : Option Stated) → option_or o None ≡ o
+        none_behind None = refl
+        none_behind (Some w) = refl
+    put_other qs (put_free f) k none = world_set_other g.types k g.places id.place f.place (held_place id.generation p) f.there f.free.empty none
+
+-- what a graph and the packages handed in know, over a collection that grew
+pub known_grown : (g : GraphTypes) (h : Graph) → IsGraph g.graph → Enlarges g.graph h → SamePackages (known_in g) (known_in (record { graph = h; packages = g.packages }))
+known_grown g h s e = record { same = λ k. ap (λ (o : Option Stated). option_or o (handed_under g k)) ((known_enlarged g.graph h s e).same k) }
+
+-- ---- a package of a key
+
+pub ok_gives : {T E P : Type 0} {Q : T → Type 0} (r : Result T E) → IfOk r Q → ((x : T) → Q x → P) → OnOk r P
+ok_gives (Ok x) q f = f x q
+ok_gives (Err e) q f = tt
+
+pub err_gives : {T E P Q : Type 0} (r : Result T E) → OnErr r Q → (Q → P) → OnErr r P
+err_gives (Ok x) q f = tt
+err_gives (Err e) q f = f q
+
+module _ (g h i j : Graph) (p : Packaged) (world : WorldId) (k : Key) (w : Stated) (s : IsGraph g) (t : IsGraph h) (first : Enlarges g h) (then : Enlarges h i) (stands : Stands h.types (ItemKind.Component world))
+    (copied : stated_of h.types (ItemKind.Component world) ≡ w) (of : p.ty ≡ world) (keyed : package_key p ≡ k) (id : PackageId) (reg : Registers i j p id) where
+  types_same : j.types ≡ i.types
+  types_same = ap (λ (x : Graph). x.types) reg.made
+
+  world_is : stated_of j.types (ItemKind.Component p.ty) ≡ w
+  world_is =
+      ap (λ (c : Collection). stated_of c (ItemKind.Component p.ty)) types_same ∙ ap (λ (x : WorldId). stated_of i.types (ItemKind.Component x)) of
+      ∙ stated-kept h.types i.types then.grows (ItemKind.Component world) stands ∙ copied
+
+  pub package_registered : IsPackage j k w id
+  package_registered = record { held = p; there = put_there i.places j.places id p reg.put; key = keyed; world = world_is }
+
+  pub gets_registered : Gets g j k w
+  gets_registered =
+      let got = known_registered i j p id reg in
+      let one = known_enlarged g h s first in
+      let two = known_enlarged h i t then in
+      record {
+        own = ap (known_of j) (sym keyed) ∙ got.own ∙ ap Some world_is;
+        others = λ l apart. got.others l (ap (is_key l) keyed ∙ apart) ∙ two.same l ∙ one.same l;
+      }
+
+-- packages are known as before where a package that was handed in was registered
+pub known_more : (g : GraphTypes) (h : Graph) (k : Key) (w : Stated) → Gets g.graph h k w → known_of g.graph k ≡ None → handed_under g k ≡ Some w → SamePackages (known_in g) (known_in (record { graph = h; packages = g.packages }))
+known_more g h k w gets none handed = record { same = λ l. tested l (is_key l k) refl }
+  where
+    tested : (l : Key) (b : Bool) → is_key l k ≡ b → option_or (known_of h l) (handed_under g l) ≡ option_or (known_of g.graph l) (handed_under g l)
+    tested l false apart = ap (λ (o : Option Stated). option_or o (handed_under g l)) (gets.others l apart)
+    tested l true same =
+        let now : option_or (known_of h k) (handed_under g k) ≡ Some w = ap (λ (o : Option Stated). option_or o (handed_under g k)) gets.own in
+        let before : option_or (known_of g.graph k) (handed_under g k) ≡ Some w = ap (λ (o : Option Stated). option_or o (handed_under g k)) none ∙ handed in
+        subst (λ (x : Key). option_or (known_of h x) (handed_under g x) ≡ option_or (known_of g.graph x) (handed_under g x)) (sym (key_same l k same)) (now ∙ sym before)
+
+module _ (f : Fault) (s : Span) where
+  pub known_held : {B : Type 0} (h : Stated → B → Type 0) (o : Option Stated) (w : Stated) (b : B) → o ≡ Some w → h w b → IsHeld h (present o f s) b
+  known_held h o w b is x = subst (λ (p : Option Stated). IsHeld h (present p f s) b) (sym is) x
+
+  pub unknown_refused : (o : Option Stated) (e : Refusal) → o ≡ None → Refuses e f s → IsRefusal (present o f s) e
+  unknown_refused o e is r = subst (λ (p : Option Stated). IsRefusal (present p f s) e) (sym is) r
+
+pub ruleset knowing = (keeping, known_grown, known_enlarged)

@@ -1,0 +1,97 @@
+-- What is known of packages: those of a graph, then those that are handed in.
+use Rattle.std.specs.Prelude.{◌≡◌, Bool, false, is_some, cond, List, [], ◌∷◌, Option, Some, None, option_map, Result}
+use Rattle.std.specs.Option.{option_and_then, option_copied, option_or}
+use Rattle.std.specs.Borrow.{Bor}
+use Rattle.semver.specs.declared.Version.{Version}
+use Rattle.semver.specs.Identifiers.{parts_of}
+use Rattle.indexmap.specs.IndexMap.{get_by}
+use Rattle.wac_types_base.specs.declared.item.ItemKind.{ItemKind}
+use Rattle.wac_types_base.specs.declared.item.«Type».{«Type» as TypeKind}
+use Rattle.wac_types_base.specs.declared.ids.WorldId.{WorldId}
+use Rattle.wac_types_base.specs.Record.{Collection}
+use Rattle.wac_types_base.specs.Entries.{Name, value_at}
+use Rattle.wac_types_base.specs.Collection.{item_node}
+use Rattle.wac_types_base.specs.Stated.{Stated, exports_of, kind_of, stated_of}
+use Rattle.wac_types_names.specs.Packaged.{Packaged}
+use Rattle.wac_types_names.specs.Keys.{Key, borrowed_key, package_key}
+use Rattle.wac_graph_core.specs.declared.ids.PackageId.{PackageId}
+use Rattle.wac_graph_core.specs.declared.package.Place.{Place}
+use Rattle.wac_graph_core.specs.Graph.{Graph, package_of}
+use Rattle.wac_parser_refusals.specs.declared.refusal.Refusal.{Refusal}
+use Rattle.wac_parser_refusals.specs.Causes.{UnknownPackage, present}
+use Rattle.wac_parser_refusals.specs.Outcomes.{IsOutcome}
+use Rattle.wac_parser_tree.specs.Trees.{Span}
+use Rattle.wac_parser_declare.specs.Packages.{HoldsIf, Known}
+use Rattle.wac_parser_declare.specs.Scope.{definition_by, definitions, is_key, only_export}
+use Rattle.wac_parser_resolve.specs.declared.packages.GraphTypes.{GraphTypes}
+use Rattle.wac_parser_resolve.specs.declared.packages.PackageRef.{PackageRef}
+
+-- the key of a name and a version that are lent
+abbrev pub key_of : Name → Option (Bor Version) → Key
+key_of n v = (n, option_map parts_of (option_copied v))
+
+-- ---- the packages of a graph
+
+-- the world of a package that has the key
+abbrev pub held_under : Collection → Key → Option Packaged → Option Stated
+held_under c k None = None
+held_under c k (Some p) = cond (is_key k (package_key p)) (Some (stated_of c (ItemKind.Component p.ty))) None
+
+abbrev pub world_in : Collection → List Place → Known
+world_in c [] k = None
+world_in c (p ∷ ps) k = option_or (held_under c k p.held) (world_in c ps k)
+
+abbrev pub known_of : Graph → Known
+known_of g = world_in g.types g.places
+
+-- the package of this key has this world, each other the one that it had
+pub record Gets (old new : Graph) (key : Key) (w : Stated) : Type 0 where
+  pub own : known_of new key ≡ Some w
+  pub others : (k : Key) → is_key k key ≡ false → known_of new k ≡ known_of old k
+
+-- the package of an id has this key and this world
+pub record IsPackage (g : Graph) (k : Key) (w : Stated) (id : PackageId) : Type 0 where
+  pub held : Packaged
+  pub there : package_of g id ≡ Some held
+  pub key : package_key held ≡ k
+  pub world : stated_of g.types (ItemKind.Component held.ty) ≡ w
+
+-- ---- those that are handed in
+
+abbrev pub stated_handed : PackageRef → Stated
+stated_handed p = stated_of p.types.now (ItemKind.Component p.«package».now.ty)
+
+-- the world, where it stands in its collection
+abbrev pub handed_world : PackageRef → Option Stated
+handed_world p = cond (is_some (item_node p.types.now (ItemKind.Component p.«package».now.ty))) (Some (stated_handed p)) None
+
+abbrev pub handed_under : GraphTypes → Known
+handed_under g k = option_and_then handed_world (get_by (λ key. is_key k (borrowed_key key)) g.packages.now)
+
+-- the graph's come first
+abbrev pub known_in : GraphTypes → Known
+known_in g k = option_or (known_of g.graph k) (handed_under g k)
+
+-- the package of a key, or the refusal of one that nobody knows
+abbrev pub IsPackageOf : GraphTypes → Key → Span → Graph → Result PackageId Refusal → Type 0
+IsPackageOf g key s new r = IsOutcome (IsPackage new key) (present (known_in g key) (UnknownPackage key.0) s) r
+
+-- ---- definitions
+
+-- the type of an instance or a component
+abbrev pub IsTypeOf : ItemKind → Option ItemKind → Type 0
+IsTypeOf (ItemKind.Instance i) o = o ≡ Some (ItemKind.Ty (TypeKind.Interface i))
+IsTypeOf (ItemKind.Component w) o = o ≡ Some (ItemKind.Ty (TypeKind.World w))
+IsTypeOf k o = o ≡ None
+
+-- what the one export of a world means
+abbrev pub IsOnlyExport : Collection → WorldId → Option ItemKind → Type 0
+IsOnlyExport c w o = HoldsIf c (only_export (exports_of (stated_of c (ItemKind.Ty (TypeKind.World w))))) o
+
+-- what an export defines, if it does
+abbrev pub IsDefinedBy : Collection → ItemKind → Option ItemKind → Type 0
+IsDefinedBy c k o = HoldsIf c (definition_by (kind_of (stated_of c k)) (stated_of c k)) o
+
+-- what a world defines under a name
+abbrev pub IsDefinedIn : Collection → WorldId → Name → Option ItemKind → Type 0
+IsDefinedIn c w n o = HoldsIf c (value_at (definitions (stated_of c (ItemKind.Component w))) n) o
