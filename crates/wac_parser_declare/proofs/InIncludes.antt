@@ -1,5 +1,5 @@
 -- Includes: one item under its name, all items in order, names that are left for exports.
-use Rattle.std.proofs.Common.{◌≡◌, ◌==◌, ℕ, zero, suc, ◌+◌, Bool, true, false, not, ◌&&◌, ◌||◌, cond, List, [], ◌∷◌, ◌++◌, map, drop, Option, Some, None, is_some, option_map, slice_get, Result, Ok, Err, refl, sym, ap, subst, ◌∙◌, arith}
+use Rattle.std.proofs.Common.{◌≡◌, ◌==◌, ℕ, zero, suc, ◌+◌, Bool, true, false, not, ◌&&◌, ◌||◌, cond, List, [], ◌∷◌, ◌++◌, drop, Option, Some, None, is_some, option_map, slice_get, Result, Ok, Err, refl, sym, ap, subst, ◌∙◌, arith}
 use Rattle.std.specs.Prelude.{⊤}
 use Rattle.std.specs.Cmp.Lexicographic.{bytes_decides, pointwise}
 use Rattle.wac_types_base.specs.declared.item.ExternKind.{ExternKind}
@@ -13,7 +13,7 @@ use Rattle.wac_parser_tree.specs.Trees.{Span}
 use Rattle.wac_parser_tree.specs.Accessors.{world_ref_name}
 use Rattle.wac_parser_tree.specs.declared.world.WorldIncludeItem.{WorldIncludeItem}
 use Rattle.wac_parser_refusals.specs.declared.refusal.Refusal.{Refusal}
-use Rattle.wac_parser_refusals.specs.Causes.{Answer, Fault, ◌>>=◌, ◌>>◌, each, unless_clear, MissingWorldInclude, WorldIncludeConflict}
+use Rattle.wac_parser_refusals.specs.Causes.{Answer, Fault, ◌>>=◌, ◌>>◌, each, unless_clear, MissingWorldInclude}
 use Rattle.wac_parser_refusals.specs.Outcomes.{IsHeld, IsOutcome, IsRefusal, Refuses}
 use Rattle.wac_parser_refusals.proofs.Outcomes.{after_outcome, after_refused, memory_refusal, then_refused}
 use Rattle.wac_parser_declare.specs.Bodies as stated

@@ -1,6 +1,6 @@
 -- Items of a world: sides, items under a name, interfaces under their identifiers.
 use Rattle.std.specs.Prelude.{⊤}
-use Rattle.std.proofs.Common.{◌≡◌, Bool, true, List, [], ◌∷◌, ◌++◌, Option, Some, None, slice_get, Result, Ok, Err, refl, sym, ap, subst, ◌∙◌}
+use Rattle.std.proofs.Common.{◌≡◌, List, [], ◌∷◌, ◌++◌, Option, Some, None, slice_get, Result, Ok, Err, refl, sym, ap, subst}
 use Rattle.wac_types_base.specs.declared.item.ExternKind.{ExternKind}
 use Rattle.wac_types_base.specs.declared.item.ItemKind.{ItemKind}
 use Rattle.wac_types_base.specs.declared.item.«Type».{«Type» as TypeKind}
@@ -19,7 +19,6 @@ use Rattle.wac_parser_refusals.specs.declared.refusal.Refusal.{Refusal}
 use Rattle.wac_parser_refusals.specs.Causes.{Answer, Cause, ◌>>=◌, ◌>>◌, DuplicateWorldItem, TypeCannotBeWritten, pure, unless_clear}
 use Rattle.wac_parser_refusals.specs.Views.{Names, cause_in}
 use Rattle.wac_parser_refusals.specs.Outcomes.{IsHeld, IsOutcome, IsRefusal, Tells}
-use Rattle.wac_parser_refusals.proofs.Outcomes.{memory_refusal}
 use Rattle.wac_parser_declare.specs.declared.bodies.Body.{Body}
 use Rattle.wac_parser_declare.specs.Bodies as stated
 use Rattle.wac_parser_declare.specs.Bodies.{Items}

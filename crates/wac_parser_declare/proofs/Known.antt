@@ -1,5 +1,5 @@
 -- What is known of packages stays, and so does where a document stands.
-use Rattle.std.proofs.Common.{◌≡◌, refl, sym, ◌∙◌}
+use Rattle.std.proofs.Common.{refl, sym, ◌∙◌}
 use Rattle.wac_types_base.specs.Record.{Collection}
 use Rattle.wac_types_base.specs.Collection.{Grows}
 use Rattle.wac_parser_declare.specs.declared.scope.Context.{Context as Place}

@@ -17,7 +17,7 @@ use Rattle.wac_types_base.proofs.Telling.{item_kind, kind_stated, untyped_stated
 use Rattle.wac_parser_tree.specs.Trees as t
 use Rattle.wac_parser_tree.specs.Trees.{Span}
 use Rattle.wac_parser_refusals.specs.declared.refusal.Refusal.{Refusal}
-use Rattle.wac_parser_refusals.specs.Causes.{Fault, NotFuncOrInterface, UndefinedName, present}
+use Rattle.wac_parser_refusals.specs.Causes.{NotFuncOrInterface, UndefinedName, present}
 use Rattle.wac_parser_refusals.specs.Outcomes.{IsHeld, IsOutcome, IsRefusal, Refuses}
 use Rattle.wac_parser_declare.specs.declared.bodies.Body.{Body}
 use Rattle.wac_parser_declare.specs.declared.scope.Binding.{Binding}

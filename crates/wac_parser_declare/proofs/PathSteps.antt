@@ -1,5 +1,5 @@
 -- Paths: segment by segment, and what packages define.
-use Rattle.std.proofs.Common.{◌≡◌, ℕ, ◌+◌, ◌==◌, if◌then◌else◌, Bool, true, false, List, [], ◌∷◌, ◌++◌, Option, Some, None, option_map, codes, Result, Ok, Err, IfSome, inl, inr, refl, sym, ap, subst, ◌∙◌}
+use Rattle.std.proofs.Common.{◌≡◌, ℕ, ◌==◌, if◌then◌else◌, Bool, true, false, List, [], ◌∷◌, ◌++◌, Option, Some, None, codes, Ok, Err, IfSome, inl, inr, refl, sym, ap, subst, ◌∙◌}
 use Rattle.wac_types_base.specs.declared.item.ItemKind.{ItemKind}
 use Rattle.wac_types_base.specs.Record.{Collection}
 use Rattle.wac_types_base.specs.declared.item.«Type».{«Type» as TypeKind}
@@ -8,7 +8,7 @@ use Rattle.wac_types_base.specs.Collection.{IsAcyclic, Stands, item_node}
 use Rattle.wac_types_base.proofs.Slots.{stands_typed_world}
 use Rattle.wac_types_base.proofs.Telling.{item_kind, kind_stated, untyped_stated}
 use Rattle.wac_types_base.specs.Entries.{Name, value_at}
-use Rattle.wac_types_base.specs.Stated.{Stated, desc, kind_of, stated_of, untyped}
+use Rattle.wac_types_base.specs.Stated.{Stated, desc, kind_of, stated_of}
 use Rattle.wac_parser_tree.specs.Trees as t
 use Rattle.wac_parser_tree.specs.Segments.{GivesSegment, Segment, between_slashes, in_front, placed, segment_spans}
 use Rattle.wac_parser_refusals.specs.declared.refusal.Refusal.{Refusal}

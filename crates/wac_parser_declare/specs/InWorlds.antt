@@ -1,5 +1,5 @@
 -- What is answered of the items of a world, and of a world as a whole.
-use Rattle.std.specs.Prelude.{◌≡◌, ◌∷◌, ◌++◌, [], List, map, Result, ⊤}
+use Rattle.std.specs.Prelude.{◌∷◌, ◌++◌, [], List, map, Result, ⊤}
 use Rattle.wac_types_base.specs.declared.item.ExternKind.{ExternKind}
 use Rattle.wac_types_base.specs.declared.item.ItemKind.{ItemKind}
 use Rattle.wac_types_base.specs.declared.item.«Type».{«Type» as TypeKind}

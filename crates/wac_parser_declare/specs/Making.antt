@@ -1,5 +1,5 @@
 -- What is answered of the interface and of the world that are made of a body, and of the items that a world names.
-use Rattle.std.specs.Prelude.{◌≡◌, ◌++◌, Bool, List, Option, Result, Some, IfOk}
+use Rattle.std.specs.Prelude.{◌≡◌, ◌++◌, Option, Result, Some, IfOk}
 use Rattle.std.specs.declared.alloc.AllocError.{AllocError}
 use Rattle.wac_types_base.specs.declared.item.ItemKind.{ItemKind}
 use Rattle.wac_types_base.specs.declared.item.«Type».{«Type» as TypeKind}

@@ -1,5 +1,5 @@
 -- What is known of packages, and what a package defines.
-use Rattle.std.specs.Prelude.{◌≡◌, List, Option, Some, None, option_map, Result}
+use Rattle.std.specs.Prelude.{◌≡◌, Option, option_map, Result}
 use Rattle.wac_types_base.specs.declared.item.ItemKind.{ItemKind}
 use Rattle.wac_types_base.specs.Record.{Collection}
 use Rattle.wac_types_base.specs.Collection.{SlotStands}

@@ -1,13 +1,13 @@
 -- An instance that is new can be given arguments: it is an instance of a package, and nothing leads out of it.
-use Rattle.std.proofs.Common.{◌≡◌, ◌≢◌, ◌⊎◌, ℕ, Bool, true, false, ◌==◌, cond, List, [], ◌∷◌, ◌++◌, Option, Some, None, IsSome, refl, sym, ap, subst, ◌∙◌, inl, inr}
+use Rattle.std.proofs.Common.{◌≡◌, ◌≢◌, ℕ, Bool, true, false, ◌==◌, cond, List, [], ◌∷◌, Some, None, IsSome, refl, sym, ap, subst, ◌∙◌, inl, inr}
 use Rattle.wac_types_base.specs.declared.item.ItemKind.{ItemKind}
 use Rattle.wac_types_base.specs.Entries.{Name}
 use Rattle.wac_types_base.specs.Graph.{Among}
 use Rattle.wac_graph_core.specs.declared.ids.PackageId.{PackageId}
 use Rattle.wac_graph_core.specs.declared.edge.Edge.{Edge}
 use Rattle.wac_graph_core.specs.declared.edge.Follow.{Follow}
-use Rattle.wac_graph_core.specs.Nodes.{NodeData, Role, plain_node}
-use Rattle.wac_graph_core.specs.Edges.{argument_edge, Reaches, at_start, along, has}
+use Rattle.wac_graph_core.specs.Nodes.{Role, plain_node}
+use Rattle.wac_graph_core.specs.Edges.{Reaches, at_start, along}
 use Rattle.wac_graph_core.specs.Graph.{Graph, node_at, ContainsNode, package_of, package_made, instantiated, IsGraph}
 use Rattle.wac_graph_core.specs.declared.errors.InstantiationArgumentError.{InstantiationArgumentError}
 use Rattle.wac_graph_core.specs.Refusals.{ArgumentRefused}

@@ -1,5 +1,5 @@
 -- What stays when a graph grows.
-use Rattle.std.proofs.Common.{◌≡◌, ◌≢◌, ◌⊎◌, ℕ, List, [], ◌∷◌, ◌++◌, Option, Some, None, IsSome, refl, sym, ap, subst, ◌∙◌, inl, inr}
+use Rattle.std.proofs.Common.{◌≡◌, ◌⊎◌, ℕ, Some, None, IsSome, refl, sym, ap, subst, ◌∙◌, inl, inr}
 use Rattle.std.specs.FinMap as map
 use Rattle.wac_types_base.specs.declared.item.ItemKind.{ItemKind}
 use Rattle.wac_types_base.specs.declared.item.«Type».{«Type» as TypeKind}
@@ -11,12 +11,11 @@ use Rattle.wac_types_base.specs.Graph.{Among}
 use Rattle.wac_types_base.specs.Collection.{Stands}
 use Rattle.wac_types_names.specs.Packaged.{Packaged}
 use Rattle.wac_graph_core.specs.declared.ids.PackageId.{PackageId}
-use Rattle.wac_graph_core.specs.declared.edge.Edge.{Edge}
 use Rattle.wac_graph_core.specs.Nodes.{NodeData, Role, plain_node, defined_node}
 use Rattle.wac_graph_core.specs.NodeMaps.{NodeMap, IsImport}
 use Rattle.wac_graph_core.specs.Edges.{alias_edge, HasAlias}
-use Rattle.wac_graph_core.specs.Graph.{Graph, node_at, ContainsNode, package_in, package_of, ContainsPackage, IsGraph}
-use Rattle.wac_graph_core.specs.Steps.{Imports, Instantiates, Aliases, SetsArgument, with_node, with_edges}
+use Rattle.wac_graph_core.specs.Graph.{Graph, node_at, ContainsNode, package_in, package_of, IsGraph}
+use Rattle.wac_graph_core.specs.Steps.{Imports, Instantiates, Aliases, SetsArgument}
 use Rattle.wac_graph_core.specs.Defining.{DefinesType}
 use Rattle.wac_graph_core.specs.Exporting.{Exports, Names}
 use Rattle.wac_graph_core.proofs.NodeMap.{get-insert_same, get-insert_other}

@@ -1,5 +1,5 @@
 -- What is known of packages, while a collection grows and packages are registered.
-use Rattle.std.proofs.Common.{◌≡◌, ◌==◌, ℕ, zero, suc, Bool, true, false, ◌&&◌, cond, List, [], ◌∷◌, ◌++◌, length, Option, Some, None, Result, Ok, Err, IfOk, OnErr, OnOk, slice_get, slice_set, refl, sym, ap, subst, ◌∙◌}
+use Rattle.std.proofs.Common.{◌≡◌, ◌==◌, ℕ, zero, suc, Bool, true, false, cond, List, [], ◌∷◌, ◌++◌, Option, Some, None, Result, Ok, Err, IfOk, OnErr, OnOk, slice_get, slice_set, refl, sym, ap, subst, ◌∙◌}
 use Rattle.std.specs.Option.{option_or}
 use Rattle.std.specs.Cmp.Lexicographic.{pointwise, bytes_decides}
 use Rattle.std.proofs.lemmas.Bool.{and_from, and_parts}
@@ -14,7 +14,7 @@ use Rattle.wac_types_names.specs.Packaged.{Packaged}
 use Rattle.wac_types_names.specs.Keys.{Key, package_key}
 use Rattle.wac_graph_core.specs.declared.ids.PackageId.{PackageId}
 use Rattle.wac_graph_core.specs.declared.package.Place.{Place}
-use Rattle.wac_graph_core.specs.Graph.{Graph, IsGraph, PackageStands, package_in, package_of}
+use Rattle.wac_graph_core.specs.Graph.{Graph, IsGraph, package_in, package_of}
 use Rattle.wac_graph_core.specs.Packages.{NoKey, PutsPlace, put_last, put_free, Registers, held_place}
 use Rattle.wac_graph_core.specs.Types.{Enlarges}
 use Rattle.wac_graph_core.proofs.PlaceSteps.{Held, held_in, in_held}

@@ -1,5 +1,5 @@
 -- What stands, while a document is resolved.
-use Rattle.std.proofs.Common.{◌≡◌, ◌≢◌, ℕ, List, [], ◌∷◌, ◌++◌, Option, Some, None, IsSome, Bool, true, false, if◌then◌else◌, ◌==◌, refl, sym, ap, subst, ◌∙◌, inl, inr}
+use Rattle.std.proofs.Common.{◌≡◌, ℕ, List, [], ◌∷◌, ◌++◌, Option, Some, None, IsSome, Bool, true, false, if◌then◌else◌, ◌==◌, refl, sym, subst, inl, inr}
 use Rattle.std.specs.Cmp.Lexicographic.{pointwise}
 use Rattle.std.specs.FinMap as map
 use Rattle.wac_types_base.specs.declared.item.ItemKind.{ItemKind}
@@ -9,9 +9,9 @@ use Rattle.wac_types_base.specs.Collection.{Stands, Grows}
 use Rattle.wac_types_names.specs.Packaged.{Packaged}
 use Rattle.wac_graph_core.specs.declared.ids.PackageId.{PackageId}
 use Rattle.wac_graph_core.specs.NodeMaps.{IsImport}
-use Rattle.wac_graph_core.specs.Graph.{Graph, node_at, ContainsNode, package_of, ContainsPackage}
+use Rattle.wac_graph_core.specs.Graph.{Graph, ContainsNode, package_of, ContainsPackage}
 use Rattle.wac_parser_declare.specs.declared.scope.Binding.{Binding}
-use Rattle.wac_parser_declare.specs.Holding.{EachStands, BindingStands, NamesStand}
+use Rattle.wac_parser_declare.specs.Holding.{NamesStand}
 use Rattle.wac_parser_resolve.specs.Keeping.{Keeps}
 use Rattle.wac_parser_resolve.specs.declared.arguments.Given.{Given}
 use Rattle.wac_parser_resolve.specs.Later.{Later, Inner, SameNumber}

@@ -1,5 +1,5 @@
 -- What is known of packages: those of a graph, then those that are handed in.
-use Rattle.std.specs.Prelude.{◌≡◌, Bool, false, is_some, cond, List, [], ◌∷◌, Option, Some, None, option_map, Result}
+use Rattle.std.specs.Prelude.{◌≡◌, false, is_some, cond, List, [], ◌∷◌, Option, Some, None, option_map, Result}
 use Rattle.std.specs.Option.{option_and_then, option_copied, option_or}
 use Rattle.std.specs.Borrow.{Bor}
 use Rattle.semver.specs.declared.Version.{Version}

@@ -1,9 +1,8 @@
 use Rattle.std.specs.Prelude.{⊤}
-use Rattle.std.proofs.Common.{◌+◌, ap, drop, get_or, map, sym, subst, ◌∙◌}
+use Rattle.std.proofs.Common.{get_or, sym, subst, ◌∙◌}
 use Rattle.wac_parser_tree.specs.Views.{view_world_include_item, view_world_ref}
-use Rattle.wac_parser_refusals.specs.Causes.{Answer, each}
+use Rattle.wac_parser_refusals.specs.Causes.{Answer}
 use Rattle.wac_parser_refusals.specs.Outcomes.{IsRefusal}
-use Rattle.wac_parser_declare.specs.InIncludes.{renamings}
 use Rattle.wac_parser_declare.specs.Scope.{path_text, world_path}
 use Rattle.wac_parser_declare.specs.Worlds.{unmet}
 use Rattle.wac_parser_declare.proofs.InIncludes.{met_clear, met_under, name_is, unmet_refused}

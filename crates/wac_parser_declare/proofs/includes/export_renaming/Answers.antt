@@ -1,5 +1,4 @@
 use Rattle.std.proofs.Common.{sym, ◌∙◌}
-use Rattle.wac_types_base.specs.declared.defined.World.{World}
 use Rattle.wac_parser_declare.proofs.InIncludes.{left_free_of, left_taken_of}
 use Rattle.wac_parser_declare.proofs.includes.export_renaming.Goals as goal
 

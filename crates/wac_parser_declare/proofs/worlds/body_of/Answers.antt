@@ -1,4 +1,3 @@
-use Rattle.std.specs.Prelude.{⊤}
 use Rattle.std.proofs.Common.{map, subst}
 use Rattle.wac_parser_tree.specs.Views.{view_world_item}
 use Rattle.wac_parser_refusals.specs.Causes.{Answer, each}
