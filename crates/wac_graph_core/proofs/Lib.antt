@@ -23,3 +23,5 @@ pub mod WiringLaws
 mod Covering
 mod Leading
 mod Naming
+mod TypeSets
+mod Noting

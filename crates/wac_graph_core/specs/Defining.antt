@@ -1,5 +1,5 @@
 -- Definitions of types, and which depends on which.
-use Rattle.std.specs.Prelude.{◌≡◌, ◌≢◌, ◌<◌, ◌⊎◌, ℕ, Bool, List, [], ◌∷◌, ◌++◌, Some, None, string_bytes}
+use Rattle.std.specs.Prelude.{◌≡◌, ◌≢◌, ◌<◌, ◌⊎◌, ℕ, List, [], ◌∷◌, ◌++◌, Some, None, string_bytes}
 use Rattle.std.specs.FinMap as map
 use Rattle.wac_types_base.specs.declared.ids.DefinedTypeId.{DefinedTypeId}
 use Rattle.wac_types_base.specs.declared.ids.ResourceId.{ResourceId}
@@ -89,13 +89,17 @@ pub record IsUserOf (c : Collection) (t : TypeKind) (x : NodeData) : Type 0 wher
   pub uses : UsesType c target t
 
 -- a definition of a marked type
-pub record DefinesMarked (marks : List Bool) (x : NodeData) : Type 0 where
+pub record DefinesMarked (marks : List TypeKind) (x : NodeData) : Type 0 where
   pub source : TypeKind
   pub id : DefinedTypeId
   pub role : x.role ≡ Role.Defined
   pub type : x.item_kind ≡ ItemKind.Ty source
   pub is : defined_in (ItemKind.Ty source) ≡ Some id
   pub marked : Marked marks id
+
+-- no node is a definition of a marked type
+abbrev pub NoneMarked : List TypeKind → NodeMap → Type 0
+NoneMarked marks m = (k : ℕ) (x : NodeData) → map.get m k ≡ Some x → DefinesMarked marks x → ⊥
 
 -- a definition of a type that reaches this one
 pub record DefinesReaching (c : Collection) (wanted : DefinedTypeId) (x : NodeData) : Type 0 where

@@ -20,3 +20,6 @@ pub mod Ends
 pub mod EdgesView
 pub mod Named
 pub mod NamedView
+pub mod TypeSets
+pub mod Noted
+pub mod NotedView

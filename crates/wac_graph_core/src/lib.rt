@@ -16,11 +16,13 @@ pub mod laws;
 mod named;
 pub mod node;
 mod nodes;
+mod noted;
 mod package;
 mod reach;
 mod registry;
 mod remove;
 mod spans;
+mod type_set;
 pub mod types_mut;
 mod wiring;
 

@@ -1,22 +1,23 @@
 //! The nodes under their indexes, seen as a finite map.
 
-ghost use Rattle.std.specs.Prelude.{◌≡◌, ◌≢◌, None, Some, IfOk, OnOk, OnErr, IfSome, IfNone, IsTrue, ◌↔◌, IsSome, not, length};
+ghost use Rattle.std.specs.Prelude.{◌≡◌, ◌≢◌, None, Some, IfOk, OnOk, OnErr, IfSome, IfNone, IsTrue, ◌↔◌, IsSome, true, not};
 ghost use Rattle.std.specs.Option.{option_copied};
 ghost use Rattle.std.specs.Ordering.{nat_cmp};
 ghost use Rattle.std.specs.FinMap as map;
 ghost use Rattle.slab.specs.Slab.{entries};
 ghost use Rattle.std.specs.Bool.{Decides};
-ghost use Rattle.wac_types_base.specs.declared.item.«Type».{«Type» as TypeKind};
 ghost use Rattle.wac_types_base.specs.Collection.{Stands};
 ghost use Rattle.wac_graph_core.specs.Edges.{has};
 ghost use Rattle.wac_graph_core.specs.Nodes.{NodeData, Role};
 ghost use Rattle.wac_graph_core.specs.NodeMaps.{IsImport, NoImport, IsDefinition, NoDefinition, AreThose, AreInstances, AddsIf};
-ghost use Rattle.wac_graph_core.specs.Defining.{IsUsedBy, IsUserOf, ItemsStand, DefinesMarked, DefinesReaching};
+ghost use Rattle.wac_graph_core.specs.Defining.{IsUsedBy, IsUserOf, ItemsStand, DefinesMarked, NoneMarked, DefinesReaching};
 ghost use Rattle.wac_graph_core.specs.Reaching.{IsWithout};
 
 use crate::ids::{NodeId, PackageId};
 use crate::node::Node;
-use crate::reach::{defined_of, is_marked, mark_reached, no_marks, reaches};
+use crate::noted::{Noted, defined_type, none_noted, with_node};
+use crate::reach::{defined_of, is_marked, mark_reached, reaches};
+use crate::type_set::TypeSet;
 use slab::{Iter, Slab};
 use std::alloc::{AllocError, Global};
 use std::marker::Model;
@@ -27,6 +28,8 @@ use wac_types_base::{DefinedTypeId, ItemKind, Text, Type, Types};
 #[derive(Drop)]
 pub struct Nodes {
     slab: Slab<Node>,
+    /// None where memory was wanting: then each node is looked at.
+    noted: Option<Noted>,
 }
 
 impl Model for Nodes {
@@ -43,6 +46,10 @@ impl Model for Nodes {
     ghost coded = { map.code coded_ℕ node.the_row.coded };
 
     ghost view = { λ s. map.from_entries (entries s.slab) };
+
+    ghost use Rattle.wac_graph_core.specs.NotedView.{AreNoted};
+
+    ghost invariant = { AreNoted };
 }
 
 impl Nodes {
@@ -52,6 +59,7 @@ impl Nodes {
     {
         Nodes {
             slab: Slab::new(alloc),
+            noted: Some(none_noted(alloc)),
         }
     }
 
@@ -68,6 +76,8 @@ impl Nodes {
         ensures added { IfOk result (λ id. self.new ≡ map.insert self.old id node) }
         ensures err { OnErr result (self.new ≡ self.old) }
     {
+        let noted = self.noted.take();
+        self.noted = with_node(noted, &node);
         let key = self.slab.insert(node)?;
         Ok(NodeId::new(key))
     }
@@ -111,11 +121,24 @@ impl Nodes {
         }
     }
 
+    /// Whether it is known that no import has this name.
+    fn lacks_import(&self, name: &str) -> bool
+        ensures { result ≡ true → NoImport self.now name.now }
+    {
+        match &self.noted {
+            Some(noted) => !noted.imports.contains(name),
+            None => false,
+        }
+    }
+
     /// The import of a name, if there is one.
     pub(crate) fn find_import(&self, name: &str) -> Option<NodeId>
         ensures found { IfSome result (λ k. IsImport self.now k name.now) }
         ensures none { IfNone result (NoImport self.now name.now) }
     {
+        if self.lacks_import(name) {
+            return None;
+        }
         for (key, node) in self.slab.iter() {
             if is_import(node, name) {
                 return Some(NodeId::new(key));
@@ -135,11 +158,24 @@ impl Nodes {
         Ok(found)
     }
 
+    /// Whether it is known that no marked type has a definition.
+    fn lacks_marked(&self, marks: &TypeSet) -> bool
+        ensures { result ≡ true → NoneMarked marks.now self.now }
+    {
+        match &self.noted {
+            Some(noted) => marks.is_disjoint(&noted.types),
+            None => false,
+        }
+    }
+
     /// The definitions of marked types.
-    fn marked(&self, alloc: Global, marks: &[bool]) -> Result<Vec<NodeId>, AllocError>
+    fn marked(&self, alloc: Global, marks: &TypeSet) -> Result<Vec<NodeId>, AllocError>
         ensures { IfOk result (λ v. AreThose self.now (DefinesMarked marks.now) v.items) }
     {
         let mut found = Vec::new(alloc);
+        if self.lacks_marked(marks) {
+            return Ok(found);
+        }
         for (key, node) in self.slab.iter() {
             gather_marked(&mut found, node, NodeId::new(key), marks)?;
         }
@@ -153,12 +189,11 @@ impl Nodes {
         types: &Types,
         ty: Type,
     ) -> Result<Vec<NodeId>, AllocError>
-        requires ty { Stands types.now (ItemKind.Ty ty) }
-        requires items { ItemsStand types.now self.now }
+        requires { Stands types.now (ItemKind.Ty ty) }
         ensures { IfOk result (λ v. AreThose self.now (IsUsedBy types.now ty) v.items) }
     {
-        let mut marks = no_marks(alloc, types)?;
-        mark_reached(types, ItemKind::Ty(ty), &mut marks);
+        let mut marks = TypeSet::new(alloc);
+        mark_reached(types, ItemKind::Ty(ty), &mut marks)?;
         self.marked(alloc, &marks)
     }
 
@@ -172,7 +207,7 @@ impl Nodes {
         requires { ItemsStand types.now self.now }
         ensures { IfOk result (λ v. AreThose self.now (DefinesReaching types.now wanted) v.items) }
     {
-        let mut without = no_marks(alloc, types)?;
+        let mut without = TypeSet::new(alloc);
         let mut found = Vec::new(alloc);
         for (key, node) in self.slab.iter() {
             gather_reaching(
@@ -210,13 +245,26 @@ impl Nodes {
         self.slab.iter()
     }
 
-    /// The definition of a type, if there is one.
-    pub(crate) fn find_definition(&self, item: ItemKind) -> Option<NodeId>
-        ensures found { IfSome result (λ k. IsDefinition self.now k item) }
-        ensures none { IfNone result (NoDefinition self.now item) }
+    /// Whether it is known that a type has no definition.
+    fn lacks_definition(&self, ty: Type) -> bool
+        ensures { result ≡ true → NoDefinition self.now (ItemKind.Ty ty) }
     {
+        match &self.noted {
+            Some(noted) => !noted.types.contains(ty),
+            None => false,
+        }
+    }
+
+    /// The definition of a type, if there is one.
+    pub(crate) fn find_definition(&self, ty: Type) -> Option<NodeId>
+        ensures found { IfSome result (λ k. IsDefinition self.now k (ItemKind.Ty ty)) }
+        ensures none { IfNone result (NoDefinition self.now (ItemKind.Ty ty)) }
+    {
+        if self.lacks_definition(ty) {
+            return None;
+        }
         for (key, node) in self.slab.iter() {
-            if is_definition(node, item) {
+            if is_definition(node, ItemKind::Ty(ty)) {
                 return Some(NodeId::new(key));
             }
         }
@@ -261,19 +309,8 @@ fn is_definition(node: &Node, item: ItemKind) -> bool
     node.is_definition() && is_same(node.item_kind(), item)
 }
 
-/// The type that a node defines.
-fn defined_type(node: &Node) -> Option<Type>
-    ensures some { IfSome result (λ t. (node.now.role ≡ Role.Defined) × (node.now.item_kind ≡ ItemKind.Ty t)) }
-    ensures none { IfNone result ((t : TypeKind) → node.now.role ≡ Role.Defined → node.now.item_kind ≡ ItemKind.Ty t → ⊥) }
-{
-    match node.item_kind() {
-        ItemKind::Ty(ty) => { if node.is_definition() { Some(ty) } else { None } }
-        _ => None,
-    }
-}
-
 /// Whether a node is the definition of a marked type.
-fn defines_marked(node: &Node, marks: &[bool]) -> bool
+fn defines_marked(node: &Node, marks: &TypeSet) -> bool
     ensures { Decides result (DefinesMarked marks.now node.now) }
 {
     match defined_type(node) {
@@ -287,18 +324,16 @@ fn defines_reaching(
     node: &Node,
     types: &Types,
     wanted: DefinedTypeId,
-    without: &mut Vec<bool>,
-) -> bool
+    without: &mut TypeSet,
+) -> Result<bool, AllocError>
     requires stands { Stands types.now node.now.item_kind }
-    requires length { length without.old.items ≡ length types.now.defined_types }
-    requires without { IsWithout types.now wanted without.old.items }
-    ensures length { length without.new.items ≡ length types.now.defined_types }
-    ensures without { IsWithout types.now wanted without.new.items }
-    ensures answer { Decides result (DefinesReaching types.now wanted node.now) }
+    requires without { IsWithout types.now wanted without.old }
+    ensures without { OnOk result (IsWithout types.now wanted without.new) }
+    ensures answer { IfOk result (λ yes. Decides yes (DefinesReaching types.now wanted node.now)) }
 {
     match defined_type(node) {
         Some(own) => reaches(types, ItemKind::Ty(own), wanted, without),
-        None => false,
+        None => Ok(false),
     }
 }
 
@@ -307,7 +342,7 @@ fn gather_marked(
     found: &mut Vec<NodeId>,
     node: &Node,
     id: NodeId,
-    marks: &[bool],
+    marks: &TypeSet,
 ) -> Result<(), AllocError>
     ensures { OnOk result (AddsIf (DefinesMarked marks.now node.now) found.old.items found.new.items id) }
 {
@@ -324,16 +359,14 @@ fn gather_reaching(
     id: NodeId,
     types: &Types,
     wanted: DefinedTypeId,
-    without: &mut Vec<bool>,
+    without: &mut TypeSet,
 ) -> Result<(), AllocError>
     requires stands { Stands types.now node.now.item_kind }
-    requires length { length without.old.items ≡ length types.now.defined_types }
-    requires without { IsWithout types.now wanted without.old.items }
-    ensures length { length without.new.items ≡ length types.now.defined_types }
-    ensures without { IsWithout types.now wanted without.new.items }
+    requires without { IsWithout types.now wanted without.old }
+    ensures without { OnOk result (IsWithout types.now wanted without.new) }
     ensures adds { OnOk result (AddsIf (DefinesReaching types.now wanted node.now) found.old.items found.new.items id) }
 {
-    if defines_reaching(node, types, wanted, without) {
+    if defines_reaching(node, types, wanted, without)? {
         found.push(id)?;
     }
     Ok(())

@@ -42,6 +42,9 @@ loop-key-preserved c =
       ],
     )
 
+pub returns-then-lacks_marked : goal.returns-then-lacks_marked
+returns-then-lacks_marked c = λ k. (λ h. absurd (none_in c.new-found.result.items k c.new-found.ensures.items h), λ r. absurd (c.lacks_marked.ensures c.if-lacks_marked.true k r.0 r.1 r.2))
+
 pub returns : goal.returns
 returns c = λ k. (
   c.loop-key.invariant.4 k,
