@@ -25,3 +25,4 @@ mod Leading
 mod Naming
 mod TypeSets
 mod Noting
+mod Importing

@@ -23,3 +23,4 @@ pub mod NamedView
 pub mod TypeSets
 pub mod Noted
 pub mod NotedView
+pub mod Imports

@@ -10,6 +10,7 @@ pub mod errors;
 mod export;
 pub mod graph;
 pub mod ids;
+pub mod imports;
 mod index;
 pub mod iter;
 pub mod laws;
@@ -32,6 +33,7 @@ pub use errors::{
 };
 pub use graph::CompositionGraph;
 pub use ids::{NodeId, PackageId};
+pub use imports::ImportIter;
 pub use iter::{ArgumentIter, NodeIdIter, NodeIter, PackageIter};
 pub use node::{Node, NodeKind};
 pub use types_mut::TypesMut;
