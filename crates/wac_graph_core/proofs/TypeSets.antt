@@ -1,10 +1,11 @@
--- Sets of types, by their keys.
-use Rattle.std.proofs.Common.{rules, ◌≡◌, ◌⊎◌, ◌↔◌, ◌||◌, [], ◌∷◌, List, IsTrue, Bool, true, false, cond, inl, inr, sym, ap, refl, ◌∙◌}
+-- Sets of types, by their keys, and nodes of types.
+use Rattle.std.proofs.Common.{rules, ◌≡◌, ◌⊎◌, ◌↔◌, ◌||◌, [], ◌∷◌, ℕ, Option, List, IsTrue, ◌≢◌, Bool, true, false, cond, inl, inr, sym, ap, refl, ◌∙◌}
 use Rattle.std.specs.List.{list_any}
 use Rattle.wac_types_base.specs.declared.item.«Type».{«Type» as TypeKind}
 use Rattle.wac_types_base.specs.contracts.item.TypePartialEq.TheImpl.{eq-value}
 use Rattle.wac_types_base.specs.Graph.{Among}
 use Rattle.wac_graph_core.specs.TypeSets.{AddsType}
+use Rattle.wac_graph_core.specs.TypeMaps.{node_of, Maps}
 
 same_type : (a b : TypeKind) → IsTrue (eq-value.it a b) ↔ (a ≡ b)
 same_type a b = search rules
@@ -32,3 +33,22 @@ module _ (t : TypeKind) (old new : List TypeKind) (updates : (q : TypeKind) → 
           | inr same ↦ absurd (cc (e, (same_type t q).1 (sym same)))
         ],
       )
+
+-- ---- nodes of types
+
+pub type_cases : (a b : TypeKind) → (a ≡ b) ⊎ (a ≢ b)
+type_cases a b = by (eq-value.it a b) refl
+  where
+    by : (r : Bool) → eq-value.it a b ≡ r → (a ≡ b) ⊎ (a ≢ b)
+    by true e = inl ((same_type a b).0 e)
+    by false e = inr (λ same. absurd (cc (e, (same_type a b).1 same)))
+
+other_type : (a b : TypeKind) → b ≢ a → eq-value.it a b ≡ false
+other_type a b other = by (eq-value.it a b) refl
+  where
+    by : (r : Bool) → eq-value.it a b ≡ r → r ≡ false
+    by true e = absurd (other (sym ((same_type a b).0 e)))
+    by false e = refl
+
+pub maps : (t : TypeKind) (o : Option ℕ) (old new : List (TypeKind × ℕ)) → node_of new t ≡ o → ((q : TypeKind) → eq-value.it t q ≡ false → node_of new q ≡ node_of old q) → Maps old t o new
+maps t o old new own others = record { own = own; others = λ u other. others u (other_type t u other) }

@@ -97,10 +97,6 @@ pub record DefinesMarked (marks : List TypeKind) (x : NodeData) : Type 0 where
   pub is : defined_in (ItemKind.Ty source) ≡ Some id
   pub marked : Marked marks id
 
--- no node is a definition of a marked type
-abbrev pub NoneMarked : List TypeKind → NodeMap → Type 0
-NoneMarked marks m = (k : ℕ) (x : NodeData) → map.get m k ≡ Some x → DefinesMarked marks x → ⊥
-
 -- a definition of a type that reaches this one
 pub record DefinesReaching (c : Collection) (wanted : DefinedTypeId) (x : NodeData) : Type 0 where
   pub target : TypeKind

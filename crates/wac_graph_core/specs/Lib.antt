@@ -21,6 +21,7 @@ pub mod EdgesView
 pub mod Named
 pub mod NamedView
 pub mod TypeSets
+pub mod TypeMaps
 pub mod Noted
 pub mod NotedView
 pub mod Imports

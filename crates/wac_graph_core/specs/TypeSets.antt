@@ -6,7 +6,3 @@ use Rattle.wac_types_base.specs.Graph.{Among}
 -- exactly this type more
 abbrev pub AddsType : List TypeKind → List TypeKind → TypeKind → Type 0
 AddsType old new t = (u : TypeKind) → Among u new ↔ (Among u old ⊎ (u ≡ t))
-
--- no type is in both
-abbrev pub AreApart : List TypeKind → List TypeKind → Type 0
-AreApart xs ys = (t : TypeKind) → Among t xs → Among t ys → ⊥

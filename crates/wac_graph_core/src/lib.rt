@@ -23,6 +23,7 @@ mod reach;
 mod registry;
 mod remove;
 mod spans;
+mod type_map;
 mod type_set;
 pub mod types_mut;
 mod wiring;

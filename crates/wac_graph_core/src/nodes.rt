@@ -10,13 +10,15 @@ ghost use Rattle.wac_types_base.specs.Collection.{Stands};
 ghost use Rattle.wac_graph_core.specs.Edges.{has};
 ghost use Rattle.wac_graph_core.specs.Nodes.{NodeData, Role};
 ghost use Rattle.wac_graph_core.specs.NodeMaps.{IsImport, NoImport, IsDefinition, NoDefinition, AreThose, AreInstances, AddsIf};
-ghost use Rattle.wac_graph_core.specs.Defining.{IsUsedBy, IsUserOf, ItemsStand, DefinesMarked, NoneMarked, DefinesReaching};
+ghost use Rattle.wac_graph_core.specs.Defining.{IsUsedBy, IsUserOf, ItemsStand, DefinesMarked, DefinesReaching};
+ghost use Rattle.wac_graph_core.specs.Noted.{KnowsTypes, TellsDefinition, AddsDefinition};
 ghost use Rattle.wac_graph_core.specs.Reaching.{IsWithout};
 
 use crate::ids::{NodeId, PackageId};
 use crate::node::Node;
-use crate::noted::{Noted, defined_type, none_noted, with_node};
+use crate::noted::{Noted, defined_type, none_noted, with_node, without_node};
 use crate::reach::{defined_of, is_marked, mark_reached, reaches};
+use crate::type_map::TypeMap;
 use crate::type_set::TypeSet;
 use slab::{Iter, Slab};
 use std::alloc::{AllocError, Global};
@@ -76,8 +78,9 @@ impl Nodes {
         ensures added { IfOk result (λ id. self.new ≡ map.insert self.old id node) }
         ensures err { OnErr result (self.new ≡ self.old) }
     {
+        let next = NodeId::new(self.slab.vacant_key());
         let noted = self.noted.take();
-        self.noted = with_node(noted, &node);
+        self.noted = with_node(noted, &node, next);
         let key = self.slab.insert(node)?;
         Ok(NodeId::new(key))
     }
@@ -87,7 +90,10 @@ impl Nodes {
         ensures value { result ≡ map.get self.old id }
         ensures removed { self.new ≡ map.remove self.old id }
     {
-        self.slab.try_remove(id.index())
+        let node = self.slab.try_remove(id.index())?;
+        let noted = self.noted.take();
+        self.noted = without_node(noted, &node);
+        Some(node)
     }
 
     /// Gives a node a name.
@@ -158,28 +164,60 @@ impl Nodes {
         Ok(found)
     }
 
-    /// Whether it is known that no marked type has a definition.
-    fn lacks_marked(&self, marks: &TypeSet) -> bool
-        ensures { result ≡ true → NoneMarked marks.now self.now }
+    /// Adds the definition of a type, where it is a defined type that has one.
+    fn gather_definition(
+        &self,
+        found: &mut Vec<NodeId>,
+        types: &TypeMap,
+        ty: Type,
+    ) -> Result<(), AllocError>
+        requires { KnowsTypes types.now self.now }
+        ensures { OnOk result (AddsDefinition self.now ty found.old.items found.new.items) }
     {
-        match &self.noted {
-            Some(noted) => marks.is_disjoint(&noted.types),
-            None => false,
+        if let Some(_) = defined_of(ItemKind::Ty(ty)) {
+            if let Some(id) = self.look_up_definition(types, ty) {
+                found.push(id)?;
+            }
         }
+        Ok(())
+    }
+
+    /// The definitions of marked types, each found by its type.
+    fn look_up_marked(
+        &self,
+        alloc: Global,
+        types: &TypeMap,
+        marks: &[Type],
+    ) -> Result<Vec<NodeId>, AllocError>
+        requires { KnowsTypes types.now self.now }
+        ensures { IfOk result (λ v. AreThose self.now (DefinesMarked marks.now) v.items) }
+    {
+        let mut found = Vec::new(alloc);
+        for ty in marks {
+            self.gather_definition(&mut found, types, *ty)?;
+        }
+        Ok(found)
+    }
+
+    /// The definitions of marked types, looked for among all nodes.
+    fn search_marked(&self, alloc: Global, marks: &TypeSet) -> Result<Vec<NodeId>, AllocError>
+        ensures { IfOk result (λ v. AreThose self.now (DefinesMarked marks.now) v.items) }
+    {
+        let mut found = Vec::new(alloc);
+        for (key, node) in self.slab.iter() {
+            gather_marked(&mut found, node, NodeId::new(key), marks)?;
+        }
+        Ok(found)
     }
 
     /// The definitions of marked types.
     fn marked(&self, alloc: Global, marks: &TypeSet) -> Result<Vec<NodeId>, AllocError>
         ensures { IfOk result (λ v. AreThose self.now (DefinesMarked marks.now) v.items) }
     {
-        let mut found = Vec::new(alloc);
-        if self.lacks_marked(marks) {
-            return Ok(found);
+        match &self.noted {
+            Some(noted) => self.look_up_marked(alloc, &noted.types, marks.as_slice()),
+            None => self.search_marked(alloc, marks),
         }
-        for (key, node) in self.slab.iter() {
-            gather_marked(&mut found, node, NodeId::new(key), marks)?;
-        }
-        Ok(found)
     }
 
     /// The definitions of what a type uses.
@@ -245,14 +283,36 @@ impl Nodes {
         self.slab.iter()
     }
 
-    /// Whether it is known that a type has no definition.
-    fn lacks_definition(&self, ty: Type) -> bool
-        ensures { result ≡ true → NoDefinition self.now (ItemKind.Ty ty) }
+    /// The definition of a type, found by the type.
+    fn look_up_definition(&self, types: &TypeMap, ty: Type) -> Option<NodeId>
+        requires { KnowsTypes types.now self.now }
+        ensures found { IfSome result (λ k. IsDefinition self.now k (ItemKind.Ty ty)) }
+        ensures told { TellsDefinition self.now ty result }
     {
-        match &self.noted {
-            Some(noted) => !noted.types.contains(ty),
-            None => false,
+        let id = types.get(ty)?;
+        match self.get(id) {
+            Some(node) => {
+                if is_definition(node, ItemKind::Ty(ty)) {
+                    Some(id)
+                } else {
+                    None
+                }
+            }
+            None => None,
         }
+    }
+
+    /// The definition of a type, looked for among all nodes.
+    fn search_definition(&self, ty: Type) -> Option<NodeId>
+        ensures found { IfSome result (λ k. IsDefinition self.now k (ItemKind.Ty ty)) }
+        ensures none { IfNone result (NoDefinition self.now (ItemKind.Ty ty)) }
+    {
+        for (key, node) in self.slab.iter() {
+            if is_definition(node, ItemKind::Ty(ty)) {
+                return Some(NodeId::new(key));
+            }
+        }
+        None
     }
 
     /// The definition of a type, if there is one.
@@ -260,15 +320,10 @@ impl Nodes {
         ensures found { IfSome result (λ k. IsDefinition self.now k (ItemKind.Ty ty)) }
         ensures none { IfNone result (NoDefinition self.now (ItemKind.Ty ty)) }
     {
-        if self.lacks_definition(ty) {
-            return None;
+        match &self.noted {
+            Some(noted) => self.look_up_definition(&noted.types, ty),
+            None => self.search_definition(ty),
         }
-        for (key, node) in self.slab.iter() {
-            if is_definition(node, ItemKind::Ty(ty)) {
-                return Some(NodeId::new(key));
-            }
-        }
-        None
     }
 }
 

@@ -1,29 +1,29 @@
 //! What is known of nodes by one look.
 
-ghost use Rattle.std.specs.Prelude.{◌≡◌, None, Some, IfSome, IfNone, OnOk};
+ghost use Rattle.std.specs.Prelude.{◌≡◌, None, Some, true, IfSome, IfNone, OnOk};
 ghost use Rattle.wac_types_base.specs.declared.item.ItemKind.{ItemKind};
 ghost use Rattle.wac_types_base.specs.declared.item.«Type».{«Type» as TypeKind};
 ghost use Rattle.wac_graph_core.specs.Nodes.{Role};
-ghost use Rattle.wac_graph_core.specs.NodeMaps.{NodeMap};
-ghost use Rattle.wac_graph_core.specs.Noted.{NotesImport, NotesType, IsNodeNoted};
+ghost use Rattle.wac_graph_core.specs.Noted.{NotesImport, NotesType, IsNodeNoted, IsNodeForgotten};
 
+use crate::ids::NodeId;
 use crate::node::{Node, NodeKind};
-use crate::type_set::TypeSet;
+use crate::type_map::TypeMap;
 use std::alloc::{AllocError, Global};
 use wac_types_base::{ItemKind, Names, Type};
 
-/// The names of all imports and the types of all definitions, maybe with some of nodes that were taken away.
+/// The names of all imports, maybe with some that were taken away, and all definitions by their types.
 #[derive(Drop)]
 pub struct Noted {
     pub imports: Names,
-    pub types: TypeSet,
+    pub types: TypeMap,
 }
 
 /// What is known of no nodes.
 pub(crate) fn none_noted(alloc: Global) -> Noted {
     Noted {
         imports: Names::new(alloc),
-        types: TypeSet::new(alloc),
+        types: TypeMap::new(alloc),
     }
 }
 
@@ -48,26 +48,42 @@ fn note_import(names: &mut Names, node: &Node) -> Result<(), AllocError>
     Ok(())
 }
 
-/// Adds the type of a definition.
-fn note_type(types: &mut TypeSet, node: &Node) -> Result<(), AllocError>
-    ensures { OnOk result (NotesType types.old node.now types.new) }
+/// Notes a definition by its type, where there is memory for it and no other one is noted.
+fn note_type(types: &mut TypeMap, node: &Node, id: NodeId) -> bool
+    ensures { result ≡ true → NotesType types.old node.now id types.new }
 {
-    if let Some(ty) = defined_type(node) {
-        types.insert(ty)?;
+    match defined_type(node) {
+        Some(ty) => {
+            if types.get(ty).is_some() {
+                return false;
+            }
+            types.insert(ty, id).is_ok()
+        }
+        None => true,
     }
-    Ok(())
 }
 
-/// What is known with one more node, where there is memory for it.
-pub(crate) fn with_node(noted: Option<Noted>, node: &Node) -> Option<Noted>
-    ensures { IsNodeNoted noted node.now result }
+/// What is known with one more node, if anything.
+pub(crate) fn with_node(noted: Option<Noted>, node: &Node, id: NodeId) -> Option<Noted>
+    ensures { IsNodeNoted noted node.now id result }
 {
     let mut noted = noted?;
     if note_import(&mut noted.imports, node).is_err() {
         return None;
     }
-    if note_type(&mut noted.types, node).is_err() {
+    if !note_type(&mut noted.types, node, id) {
         return None;
+    }
+    Some(noted)
+}
+
+/// What is known with one node less, if anything.
+pub(crate) fn without_node(noted: Option<Noted>, node: &Node) -> Option<Noted>
+    ensures { IsNodeForgotten noted node.now result }
+{
+    let mut noted = noted?;
+    if let Some(ty) = defined_type(node) {
+        noted.types.remove(ty);
     }
     Some(noted)
 }

@@ -1,8 +1,8 @@
 //! Sets of types.
 
-ghost use Rattle.std.specs.Prelude.{◌≡◌, ◌↔◌, [], true, IsTrue, OnOk};
+ghost use Rattle.std.specs.Prelude.{◌≡◌, ◌↔◌, [], IsTrue, OnOk};
 ghost use Rattle.wac_types_base.specs.Graph.{Among};
-ghost use Rattle.wac_graph_core.specs.TypeSets.{AddsType, AreApart};
+ghost use Rattle.wac_graph_core.specs.TypeSets.{AddsType};
 
 use indexmap::IndexSet;
 use std::alloc::{AllocError, Global};
@@ -49,10 +49,10 @@ impl TypeSet {
         Ok(())
     }
 
-    /// Whether no type is in both.
-    pub(crate) fn is_disjoint(&self, other: &Self) -> bool
-        ensures { result ≡ true → AreApart self.now other.now }
+    /// The types, in the order in which they came.
+    pub(crate) fn as_slice(&self) -> &[Type]
+        ensures { result.now ≡ self.now }
     {
-        self.set.is_disjoint(&other.set)
+        self.set.as_slice()
     }
 }

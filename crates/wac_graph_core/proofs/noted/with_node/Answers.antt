@@ -8,5 +8,5 @@ pub returns : goal.returns
 returns c =
     let now : Noted = record { imports = c.note_import.new.names; types = c.note_type.new.types } in
     let names = unfailed c.note_import.result _ c.note_import.ensures c.if-is_err.ensures.value in
-    let types = unfailed c.note_type.result _ c.note_type.ensures c.if-is_err-2.ensures.value in
-    subst (λ o. IsNodeNoted o c.args.node.now (Some now)) (sym c.in_ok-noted.was) (both_noted c.in_ok-noted.noted now c.args.node.now names types)
+    let types = c.note_type.ensures c.if-not-note_type.false in
+    subst (λ o. IsNodeNoted o c.args.node.now c.args.id (Some now)) (sym c.in_ok-noted.was) (both_noted c.in_ok-noted.noted now c.args.node.now c.args.id names types)

@@ -2,7 +2,7 @@ use Rattle.std.proofs.Common.{◌≡◌, ℕ, Some, Contains}
 use Rattle.wac_graph_core.specs.Nodes.{NodeData, Role}
 use Rattle.std.specs.FinMap as map
 use Rattle.wac_types_base.specs.declared.item.ItemKind.{ItemKind}
-use Rattle.wac_graph_core.proofs.nodes.Nodes.find_definition.Given as goal
+use Rattle.wac_graph_core.proofs.nodes.Nodes.search_definition.Given as goal
 
 -- each definition of the type is among the entries that are left, and each entry left is one of the map
 abbrev pub invariant-loop-key : goal.invariant-loop-key
