@@ -23,3 +23,6 @@ pub mod WiringLaws
 mod Covering
 mod Leading
 mod Naming
+mod TypeSets
+mod Noting
+mod Importing

@@ -22,11 +22,11 @@ still_there : (ns : List Name) (m n : Name) → has_name ns n ≡ true → has_n
 still_there [] m n h = absurd (cc (h))
 still_there (l ∷ ns) m n h = or_kept (pointwise ◌==◌ n l) (has_name ns n) (has_name (ns ++ m ∷ []) n) (still_there ns m n) h
 
-put_there : (b : Bool) (ns : List Name) (m : Name) → has_name ns m ≡ b → has_name (cond b ns (ns ++ m ∷ [])) m ≡ true
+pub put_there : (b : Bool) (ns : List Name) (m : Name) → has_name ns m ≡ b → has_name (cond b ns (ns ++ m ∷ [])) m ≡ true
 put_there true ns m is = is
 put_there false ns m is = last_there ns m
 
-put_kept : (b : Bool) (ns : List Name) (m n : Name) → has_name ns n ≡ true → has_name (cond b ns (ns ++ m ∷ [])) n ≡ true
+pub put_kept : (b : Bool) (ns : List Name) (m n : Name) → has_name ns n ≡ true → has_name (cond b ns (ns ++ m ∷ [])) n ≡ true
 put_kept true ns m n h = h
 put_kept false ns m n h = still_there ns m n h
 

@@ -1,9 +1,5 @@
 -- What a kind reaches, place by place, and marks that grow.
-use Rattle.std.proofs.Common.{◌≡◌, ◌≢◌, ℕ, ◌+◌, Bool, true, false, List, [], drop, Option, Some, None, length, refl, sym, ap, subst, ◌∙◌, inl, inr, ◌⊎◌, slice_get, arith}
-use Rattle.std.specs.FinMap as map
-use Rattle.std.specs.Prelude.{replicate}
-use Rattle.std.proofs.lemmas.Option.{slice_get_within, get_or_from_slice_get}
-use Rattle.std.proofs.lemmas.List.{get_or-replicate, length-replicate}
+use Rattle.std.proofs.Common.{◌≡◌, ◌≢◌, ℕ, ◌+◌, List, [], drop, Option, Some, None, refl, sym, ap, subst, ◌∙◌, inl, inr, ◌⊎◌, slice_get}
 use Rattle.wac_types_base.specs.declared.ids.DefinedTypeId.{DefinedTypeId}
 use Rattle.wac_types_base.specs.declared.item.ItemKind.{ItemKind}
 use Rattle.wac_types_base.specs.declared.item.ValueType.{ValueType}
@@ -17,8 +13,9 @@ use Rattle.wac_types_base.proofs.Visited.{drop_past}
 use Rattle.wac_types_base.proofs.Standing.{Found, defined_found, typed_value_stands}
 use Rattle.wac_graph_core.specs.Nodes.{NodeData}
 use Rattle.wac_graph_core.specs.NodeMaps.{NodeMap, AreThose}
-use Rattle.wac_graph_core.specs.Defining.{IsUsedBy, IsUserOf, ItemsStand, DefinesMarked, DefinesReaching}
+use Rattle.wac_graph_core.specs.Defining.{IsUsedBy, IsUserOf, DefinesMarked, DefinesReaching}
 use Rattle.wac_graph_core.proofs.Gathering.{none_in}
+use Rattle.wac_graph_core.specs.TypeSets.{AddsType}
 use Rattle.wac_graph_core.specs.Reaching.{Reaches, reaches_own, reaches_below, Marked, IsMarked, IsClosed, Gathers, Marks, MarkedOwn, IsWithout}
 
 -- ---- a defined type has two kinds, and both reach the same
@@ -42,8 +39,9 @@ kind_of (ItemKind.Value (ValueType.Borrow r)) d e = absurd (cc e)
 kind_of (ItemKind.Value (ValueType.Own r)) d e = absurd (cc e)
 kind_of (ItemKind.Value (ValueType.Defined x)) d e = let same : x ≡ d = cc e in inl (ap (λ y. ItemKind.Value (ValueType.Defined y)) same)
 
-same_parts : (d e : DefinedTypeId) → d.collection ≡ e.collection → d.index ≡ e.index → d ≡ e
-same_parts d e own index = rw (own, index) refl
+-- the type of a kind that is one
+pub own_type : (t : TypeKind) (d : DefinedTypeId) → defined_in (ItemKind.Ty t) ≡ Some d → t ≡ TypeKind.Value (ValueType.Defined d)
+own_type t d e = elim (kind_of (ItemKind.Ty t) d e) [ inl is ↦ absurd (cc is) | inr is ↦ cc is ]
 
 pub same_own : (k : ItemKind) (d e : DefinedTypeId) → defined_in k ≡ Some d → defined_in k ≡ Some e → e ≡ d
 same_own k d e is it = let same : Some e ≡ Some d = sym it ∙ is in cc same
@@ -73,11 +71,6 @@ module _ (c : Collection) where
     | inr is ↦ defined_found c d (untyped (ValueType.Defined d) (subst (Stands c) is s))
   ]
 
-  pub same_id : (k j : ItemKind) (d e : DefinedTypeId) → Stands c k → defined_in k ≡ Some d → Stands c j → defined_in j ≡ Some e → d.index ≡ e.index → d ≡ e
-  same_id k j d e s is t it same =
-      let own : d.collection ≡ e.collection = (stands_within k d s is).own ∙ sym (stands_within j e t it).own in
-      same_parts d e own same
-
   pub same_reached : (k j : ItemKind) (d x : DefinedTypeId) → defined_in k ≡ Some d → defined_in j ≡ Some d → Reaches c k x → Reaches c j x
   same_reached k j d x is it (reaches_own own) = reaches_own (it ∙ sym is ∙ own)
   same_reached k j d x is it (reaches_below {j = child} m r) = reaches_below (subst (λ l. Among (Some child) l) (below_defined k d is ∙ sym (below_defined j d it)) m) r
@@ -103,28 +96,25 @@ module _ (c : Collection) where
 
   -- ---- what is reached is marked, or among what is left
 
-  module _ (k : ItemKind) (old : List Bool) where
-    pub record Gathered (at : ℕ) (now : List Bool) : Type 0 where
-      pub length_is : length now ≡ length c.defined_types
+  module _ (k : ItemKind) (old : List TypeKind) where
+    pub record Gathered (at : ℕ) (now : List TypeKind) : Type 0 where
       pub closed : IsClosed c now
       pub left : AreLeft k at
       pub kept : (d : DefinedTypeId) → Marked old d → Marked now d
       pub reached : (j : ItemKind) (d : DefinedTypeId) → Among (Some j) (below c k) → Reaches c j d → Marked now d ⊎ Among (Some j) (drop at (slots_of c k))
-      pub only : (j : ItemKind) (d : DefinedTypeId) → defined_in j ≡ Some d → IsMarked c now j → Marked old d ⊎ Reaches c k d
+      pub only : (d : DefinedTypeId) → Marked now d → Marked old d ⊎ Reaches c k d
 
-    pub gathered_first : length old ≡ length c.defined_types → IsClosed c old → Gathered (skipped c k) old
-    gathered_first n closed = record {
-      length_is = n;
+    pub gathered_first : IsClosed c old → Gathered (skipped c k) old
+    gathered_first closed = record {
       closed = closed;
       left = λ x m. m;
       kept = λ d m. m;
       reached = λ j d m r. inr m;
-      only = λ j d is m. inl (subst (Marked old) (same_own j d m.id is m.is) m.marked);
+      only = λ d m. inl m;
     }
 
-    pub gathered_hole : (at : ℕ) (now : List Bool) → slice_get (slots_of c k) at ≡ Some None → Gathered at now → Gathered (at + 1) now
+    pub gathered_hole : (at : ℕ) (now : List TypeKind) → slice_get (slots_of c k) at ≡ Some None → Gathered at now → Gathered (at + 1) now
     gathered_hole at now is g = record {
-      length_is = g.length_is;
       closed = g.closed;
       left = left_next k at None is g.left;
       kept = g.kept;
@@ -135,9 +125,8 @@ module _ (c : Collection) where
       only = g.only;
     }
 
-    pub gathered_next : (at : ℕ) (child : ItemKind) (now new : List Bool) → slice_get (slots_of c k) at ≡ Some (Some child) → length new ≡ length c.defined_types → IsClosed c new → Gathers c child now new → Gathered at now → Gathered (at + 1) new
-    gathered_next at child now new is n closed more g = record {
-      length_is = n;
+    pub gathered_next : (at : ℕ) (child : ItemKind) (now new : List TypeKind) → slice_get (slots_of c k) at ≡ Some (Some child) → IsClosed c new → Gathers c child now new → Gathered at now → Gathered (at + 1) new
+    gathered_next at child now new is closed more g = record {
       closed = closed;
       left = left_next k at (Some child) is g.left;
       kept = λ d m. more.kept d (g.kept d m);
@@ -148,75 +137,57 @@ module _ (c : Collection) where
           | inr rest ↦ inr rest
         ]
       ];
-      only = λ j d own m. elim (more.only j d own m) [
-        | inl before ↦ g.only j d own (record { id = d; is = own; stands = m.stands; marked = before })
-        | inr r ↦ inr (reaches_below (left_here k at (Some child) is g.left) r)
-      ];
+      only = λ d m. elim (more.only d m) [ inl before ↦ g.only d before | inr r ↦ inr (reaches_below (left_here k at (Some child) is g.left) r) ];
     }
 
     -- at the end its own mark is set
-    module _ (at : ℕ) (now new : List Bool) (stands : Stands c k) (past : slice_get (slots_of c k) at ≡ None) (g : Gathered at now) (own : Marks (defined_in k) now new) where
-      own_within : (d : DefinedTypeId) → defined_in k ≡ Some d → Marked new d
-      own_within d is = own.marked d is (let f = stands_within k d stands is in omega (arith, f.within, g.length_is))
-
+    module _ (at : ℕ) (now new : List TypeKind) (past : slice_get (slots_of c k) at ≡ None) (g : Gathered at now) (own : Marks (defined_in k) now new) where
       reached_all : (d : DefinedTypeId) → Reaches c k d → Marked new d
-      reached_all d (reaches_own is) = own_within d is
+      reached_all d (reaches_own is) = own.marked d is
       reached_all d (reaches_below {j = j} m r) = elim (g.reached j d m r) [ inl there ↦ own.kept d there | inr left ↦ absurd (none_left k at (Some j) past left) ]
 
       pub gathers_all : Gathers c k old new
       gathers_all = record {
         kept = λ d m. own.kept d (g.kept d m);
         reached = reached_all;
-        only = λ j d is m. elim (own.only d (subst (Marked new) (same_own j d m.id is m.is) m.marked)) [
-          | inl before ↦ g.only j d is (record { id = d; is = is; stands = m.stands; marked = before })
-          | inr mine ↦ inr (reaches_own (mine.1 ∙ ap Some (same_id k j mine.0 d stands mine.1 m.stands is mine.2)))
-        ];
+        only = λ d m. elim (own.only d m) [ inl before ↦ g.only d before | inr mine ↦ inr (reaches_own mine) ];
       }
 
       pub closed_all : IsClosed c new
       closed_all j d m r = elim (own.only m.id m.marked) [
-        | inl before ↦ own.kept d (g.closed j d (record { id = m.id; is = m.is; stands = m.stands; marked = before }) r)
-        | inr mine ↦
-            let same = same_id k j mine.0 m.id stands mine.1 m.stands m.is mine.2 in
-            reached_all d (same_reached j k m.id d m.is (mine.1 ∙ ap Some same) r)
+        | inl before ↦ own.kept d (g.closed j d (record { id = m.id; is = m.is; marked = before }) r)
+        | inr mine ↦ reached_all d (same_reached j k m.id d m.is mine r)
       ]
 
   -- a kind that is marked
-  pub own_marked : (k : ItemKind) (o : Option DefinedTypeId) (marks : List Bool) → Stands c k → o ≡ defined_in k → MarkedOwn marks o → IsMarked c marks k
-  own_marked k None marks s is m = absurd m
-  own_marked k (Some d) marks s is m = record { id = d; is = sym is; stands = s; marked = m }
+  pub own_marked : (k : ItemKind) (o : Option DefinedTypeId) (marks : List TypeKind) → o ≡ defined_in k → MarkedOwn marks o → IsMarked marks k
+  own_marked k None marks is m = absurd m
+  own_marked k (Some d) marks is m = record { id = d; is = sym is; marked = m }
 
   -- reaches nothing more
-  pub marked_gathers : (k : ItemKind) (marks : List Bool) → IsMarked c marks k → IsClosed c marks → Gathers c k marks marks
-  marked_gathers k marks m closed = record {
-    kept = λ e x. x;
-    reached = λ e r. closed k e m r;
-    only = λ j e own x. inl (subst (Marked marks) (same_own j e x.id own x.is) x.marked);
-  }
+  pub marked_gathers : (k : ItemKind) (marks : List TypeKind) → IsMarked marks k → IsClosed c marks → Gathers c k marks marks
+  marked_gathers k marks m closed = record { kept = λ e x. x; reached = λ e r. closed k e m r; only = λ e x. inl x }
 
   -- ---- one that is looked for is not found, or among what is left
 
   module _ (k : ItemKind) (wanted : DefinedTypeId) where
-    pub record Sought (at : ℕ) (now : List Bool) : Type 0 where
-      pub length_is : length now ≡ length c.defined_types
+    pub record Sought (at : ℕ) (now : List TypeKind) : Type 0 where
       pub without : IsWithout c wanted now
       pub left : AreLeft k at
       pub none : (j : ItemKind) → Among (Some j) (below c k) → Reaches c j wanted → Among (Some j) (drop at (slots_of c k))
 
-    pub sought_first : (now : List Bool) → length now ≡ length c.defined_types → IsWithout c wanted now → Sought (skipped c k) now
-    sought_first now n without = record { length_is = n; without = without; left = λ x m. m; none = λ j m r. m }
+    pub sought_first : (now : List TypeKind) → IsWithout c wanted now → Sought (skipped c k) now
+    sought_first now without = record { without = without; left = λ x m. m; none = λ j m r. m }
 
-    pub sought_hole : (at : ℕ) (now : List Bool) → slice_get (slots_of c k) at ≡ Some None → Sought at now → Sought (at + 1) now
+    pub sought_hole : (at : ℕ) (now : List TypeKind) → slice_get (slots_of c k) at ≡ Some None → Sought at now → Sought (at + 1) now
     sought_hole at now is s = record {
-      length_is = s.length_is;
       without = s.without;
       left = left_next k at None is s.left;
       none = λ j m r. elim (left_parts k at None (Some j) is (s.none j m r)) [ inl same ↦ absurd (cc same) | inr rest ↦ rest ];
     }
 
-    pub sought_next : (at : ℕ) (child : ItemKind) (now new : List Bool) → slice_get (slots_of c k) at ≡ Some (Some child) → length new ≡ length c.defined_types → IsWithout c wanted new → (Reaches c child wanted → ⊥) → Sought at now → Sought (at + 1) new
-    sought_next at child now new is n without not s = record {
-      length_is = n;
+    pub sought_next : (at : ℕ) (child : ItemKind) (now new : List TypeKind) → slice_get (slots_of c k) at ≡ Some (Some child) → IsWithout c wanted new → (Reaches c child wanted → ⊥) → Sought at now → Sought (at + 1) new
+    sought_next at child now new is without not s = record {
       without = without;
       left = left_next k at (Some child) is s.left;
       none = λ j m r. elim (left_parts k at (Some child) (Some j) is (s.none j m r)) [
@@ -225,59 +196,55 @@ module _ (c : Collection) where
       ];
     }
 
-    pub found_below : (at : ℕ) (child : ItemKind) (now : List Bool) → slice_get (slots_of c k) at ≡ Some (Some child) → Sought at now → Reaches c child wanted → Reaches c k wanted
+    pub found_below : (at : ℕ) (child : ItemKind) (now : List TypeKind) → slice_get (slots_of c k) at ≡ Some (Some child) → Sought at now → Reaches c child wanted → Reaches c k wanted
     found_below at child now is s r = reaches_below (left_here k at (Some child) is s.left) r
 
-    module _ (at : ℕ) (now new : List Bool) (stands : Stands c k) (other : defined_in k ≢ Some wanted) (past : slice_get (slots_of c k) at ≡ None) (s : Sought at now) (own : Marks (defined_in k) now new) where
+    module _ (at : ℕ) (now new : List TypeKind) (other : defined_in k ≢ Some wanted) (past : slice_get (slots_of c k) at ≡ None) (s : Sought at now) (own : Marks (defined_in k) now new) where
       pub not_reached : Reaches c k wanted → ⊥
       not_reached (reaches_own is) = other is
       not_reached (reaches_below {j = j} m r) = none_left k at (Some j) past (s.none j m r)
 
       pub without_all : IsWithout c wanted new
       without_all j m r = elim (own.only m.id m.marked) [
-        | inl before ↦ s.without j (record { id = m.id; is = m.is; stands = m.stands; marked = before }) r
-        | inr mine ↦
-            let same = same_id k j mine.0 m.id stands mine.1 m.stands m.is mine.2 in
-            not_reached (same_reached j k m.id wanted m.is (mine.1 ∙ ap Some same) r)
+        | inl before ↦ s.without j (record { id = m.id; is = m.is; marked = before }) r
+        | inr mine ↦ not_reached (same_reached j k m.id wanted m.is mine r)
       ]
 
--- ---- no mark yet
+-- ---- single marks
 
-no_mark : (n i : ℕ) → slice_get (replicate n false) i ≡ Some true → ⊥
-no_mark n i m =
-    let within = slice_get_within (replicate n false) i true m in
-    let same = get_or_from_slice_get (replicate n false) i true false m in
-    absurd (cc (same, get_or-replicate n i false false (omega (arith, within, length-replicate n false))))
+pub marks_own : (d : DefinedTypeId) (old new : List TypeKind) → AddsType old new (TypeKind.Value (ValueType.Defined d)) → Marks (Some d) old new
+marks_own d old new added = record {
+  kept = λ e m. (added (TypeKind.Value (ValueType.Defined e))).1 (inl m);
+  marked = λ e is. (added (TypeKind.Value (ValueType.Defined e))).1 (inr (ap (λ x. TypeKind.Value (ValueType.Defined x)) (cc is)));
+  only = λ e m. elim ((added (TypeKind.Value (ValueType.Defined e))).0 m) [ inl before ↦ inl before | inr same ↦ inr (cc same) ];
+}
 
-pub unmarked_length : (n : ℕ) (marks : List Bool) → marks ≡ replicate n false → length marks ≡ n
-unmarked_length n marks is = ap (λ (l : List Bool). length l) is ∙ length-replicate n false
+-- no mark yet
+pub unmarked : (marks : List TypeKind) (d : DefinedTypeId) → marks ≡ [] → Marked marks d → ⊥
+unmarked marks d none m = subst (λ (l : List TypeKind). Marked l d) none m
 
-pub unmarked : (n : ℕ) (marks : List Bool) (d : DefinedTypeId) → marks ≡ replicate n false → Marked marks d → ⊥
-unmarked n marks d is m = no_mark n d.index (subst (λ (l : List Bool). slice_get l d.index ≡ Some true) is m)
+pub unmarked_without : (c : Collection) (wanted : DefinedTypeId) (marks : List TypeKind) → marks ≡ [] → IsWithout c wanted marks
+unmarked_without c wanted marks none k m r = unmarked marks m.id none m.marked
 
-pub unmarked_without : (c : Collection) (wanted : DefinedTypeId) (n : ℕ) (marks : List Bool) → marks ≡ replicate n false → IsWithout c wanted marks
-unmarked_without c wanted n marks is k m r = unmarked n marks m.id is m.marked
-
-pub unmarked_closed : (c : Collection) (n : ℕ) (marks : List Bool) → marks ≡ replicate n false → IsClosed c marks
-unmarked_closed c n marks is k d m r = absurd (unmarked n marks m.id is m.marked)
+pub unmarked_closed : (c : Collection) (marks : List TypeKind) → marks ≡ [] → IsClosed c marks
+unmarked_closed c marks none k d m r = absurd (unmarked marks m.id none m.marked)
 
 -- ---- definitions of what is reached
 
 module _ (c : Collection) (m : NodeMap) (ty : TypeKind) where
-  pub used_those : (n : ℕ) (old marks : List Bool) (found : List ℕ) → old ≡ replicate n false → ItemsStand c m → Gathers c (ItemKind.Ty ty) old marks → AreThose m (DefinesMarked marks) found → AreThose m (IsUsedBy c ty) found
-  used_those n old marks found is items g those k = (
-    λ h. let r = (those k).0 h in (r.0, r.1, used k r.0 r.1 r.2),
+  pub used_those : (old marks : List TypeKind) (found : List ℕ) → old ≡ [] → Gathers c (ItemKind.Ty ty) old marks → AreThose m (DefinesMarked marks) found → AreThose m (IsUsedBy c ty) found
+  used_those old marks found none g those k = (
+    λ h. let r = (those k).0 h in (r.0, r.1, used r.0 r.2),
     λ r. (those k).1 (r.0, r.1, record { source = r.2.source; id = r.2.uses.id; role = r.2.role; type = r.2.type; is = r.2.uses.is; marked = g.reached r.2.uses.id r.2.uses.reached }),
   )
     where
-      used : (k : ℕ) (x : NodeData) → map.get m k ≡ Some x → DefinesMarked marks x → IsUsedBy c ty x
-      used k x at d =
-          let stands = subst (Stands c) d.type (items k x at) in
-          let reached : Reaches c (ItemKind.Ty ty) d.id = elim (g.only (ItemKind.Ty d.source) d.id d.is (record { id = d.id; is = d.is; stands = stands; marked = d.marked })) [
-            | inl before ↦ absurd (unmarked n old d.id is before)
-            | inr r ↦ r
-          ] in
-          record { source = d.source; role = d.role; type = d.type; uses = record { id = d.id; is = d.is; reached = reached } }
+      used : (x : NodeData) → DefinesMarked marks x → IsUsedBy c ty x
+      used x d = record {
+        source = d.source;
+        role = d.role;
+        type = d.type;
+        uses = record { id = d.id; is = d.is; reached = elim (g.only d.id d.marked) [ inl before ↦ absurd (unmarked old d.id none before) | inr r ↦ r ] };
+      }
 
   pub users_those : (wanted : DefinedTypeId) (found : List ℕ) → Some wanted ≡ defined_in (ItemKind.Ty ty) → AreThose m (DefinesReaching c wanted) found → AreThose m (IsUserOf c ty) found
   users_those wanted found is those k = (

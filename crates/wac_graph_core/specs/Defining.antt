@@ -1,5 +1,5 @@
 -- Definitions of types, and which depends on which.
-use Rattle.std.specs.Prelude.{◌≡◌, ◌≢◌, ◌<◌, ◌⊎◌, ℕ, Bool, List, [], ◌∷◌, ◌++◌, Some, None, string_bytes}
+use Rattle.std.specs.Prelude.{◌≡◌, ◌≢◌, ◌<◌, ◌⊎◌, ℕ, List, [], ◌∷◌, ◌++◌, Some, None, string_bytes}
 use Rattle.std.specs.FinMap as map
 use Rattle.wac_types_base.specs.declared.ids.DefinedTypeId.{DefinedTypeId}
 use Rattle.wac_types_base.specs.declared.ids.ResourceId.{ResourceId}
@@ -89,7 +89,7 @@ pub record IsUserOf (c : Collection) (t : TypeKind) (x : NodeData) : Type 0 wher
   pub uses : UsesType c target t
 
 -- a definition of a marked type
-pub record DefinesMarked (marks : List Bool) (x : NodeData) : Type 0 where
+pub record DefinesMarked (marks : List TypeKind) (x : NodeData) : Type 0 where
   pub source : TypeKind
   pub id : DefinedTypeId
   pub role : x.role ≡ Role.Defined

@@ -20,3 +20,8 @@ pub mod Ends
 pub mod EdgesView
 pub mod Named
 pub mod NamedView
+pub mod TypeSets
+pub mod TypeMaps
+pub mod Noted
+pub mod NotedView
+pub mod Imports

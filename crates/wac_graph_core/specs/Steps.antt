@@ -1,5 +1,5 @@
 -- What each call does to a graph. Edges are read as a set.
-use Rattle.std.specs.Prelude.{◌≡◌, ◌≢◌, ◌⊎◌, ℕ, List, [], ◌∷◌, Some, None}
+use Rattle.std.specs.Prelude.{◌≡◌, ◌≢◌, ◌⊎◌, ◌↔◌, ◌<◌, ℕ, List, [], ◌∷◌, Some, None}
 use Rattle.std.specs.FinMap as map
 use Rattle.wac_types_base.specs.declared.item.ItemKind.{ItemKind}
 use Rattle.wac_types_base.specs.Entries.{Name}
@@ -14,7 +14,7 @@ use Rattle.wac_graph_core.specs.declared.edge.Follow.{Follow}
 use Rattle.wac_graph_core.specs.Nodes.{NodeData, Role, plain_node}
 use Rattle.wac_graph_core.specs.NodeMaps.{NoImport}
 use Rattle.wac_graph_core.specs.Edges.{AreEdges, HasAlias, HasArgument, alias_edge, argument_edge, Reaches}
-use Rattle.wac_graph_core.specs.Graph.{Graph, node_at, package_of, IsExport, IsArgument, IsOfKind}
+use Rattle.wac_graph_core.specs.Graph.{Graph, node_at, ContainsNode, package_of, IsExport, IsArgument, IsOfKind}
 
 -- the text is the name of an import or an export
 abbrev pub IsExternName : Name → Type 0
@@ -31,6 +31,10 @@ abbrev pub AddsEdge : List Edge → List Edge → Edge → Type 0
 AddsEdge old new e = AreEdges new (λ d. Among d old ⊎ (d ≡ e))
 
 -- ---- nodes
+
+-- the indexes below the number have nodes, and no others
+abbrev pub AreFirst : Graph → ℕ → Type 0
+AreFirst g m = (k : ℕ) → ContainsNode g k ↔ (k < m)
 
 -- an import of this name
 pub record Imports (old new : Graph) (n : Name) (kind : ItemKind) (k : ℕ) : Type 0 where

@@ -85,7 +85,7 @@ impl CompositionGraph {
         if self.is_newer(ty) {
             return None;
         }
-        self.nodes.find_definition(ItemKind::Ty(ty))
+        self.nodes.find_definition(ty)
     }
 
     /// The definitions of types that use a type.

@@ -1,13 +1,13 @@
 //! Laws over the definitions alone: each is the contract of a function without a body.
 
-ghost use Rattle.std.specs.Prelude.{◌≡◌, ℕ, List};
+ghost use Rattle.std.specs.Prelude.{◌≡◌, ◌<◌, ℕ, List, None};
 ghost use Rattle.wac_types_base.specs.declared.item.ItemKind.{ItemKind};
 ghost use Rattle.wac_types_base.specs.Entries.{Name};
 ghost use Rattle.wac_types_base.specs.Graph.{Among};
 ghost use Rattle.wac_graph_core.specs.declared.ids.PackageId.{PackageId as PackageName};
 ghost use Rattle.wac_graph_core.specs.Edges.{AreEdges};
-ghost use Rattle.wac_graph_core.specs.Graph.{Graph, IsGraph, ContainsPackage};
-ghost use Rattle.wac_graph_core.specs.Steps.{Aliases, AddsArgument, UnsetsArgument, with_edges};
+ghost use Rattle.wac_graph_core.specs.Graph.{Graph, IsGraph, node_at, ContainsNode, ContainsPackage};
+ghost use Rattle.wac_graph_core.specs.Steps.{AreFirst, Aliases, AddsArgument, UnsetsArgument, with_edges};
 ghost use Rattle.wac_graph_core.specs.Packages.{PlacesGrow, IsStale};
 
 /// An alias made twice is one node.
@@ -23,4 +23,9 @@ pub fn unset_after_set()
 /// The id of an unregistered package never stands again while no generation is lowered.
 pub fn stale_ids_stay_stale()
     ensures { (g h : Graph) (id : PackageName) → PlacesGrow g.places h.places → IsStale g id → IsStale h id × (ContainsPackage h id → ⊥) }
+{}
+
+/// Where the indexes below a number have nodes and no others, the id of a new node is above all of them.
+pub fn new_ids_are_above()
+    ensures { (g : Graph) (m j k : ℕ) → AreFirst g m → ContainsNode g j → node_at g k ≡ None → j < k }
 {}

@@ -1,22 +1,25 @@
 //! The nodes under their indexes, seen as a finite map.
 
-ghost use Rattle.std.specs.Prelude.{◌≡◌, ◌≢◌, None, Some, IfOk, OnOk, OnErr, IfSome, IfNone, IsTrue, ◌↔◌, IsSome, not, length};
+ghost use Rattle.std.specs.Prelude.{◌≡◌, ◌≢◌, None, Some, IfOk, OnOk, OnErr, IfSome, IfNone, IsTrue, ◌↔◌, IsSome, true, not};
 ghost use Rattle.std.specs.Option.{option_copied};
 ghost use Rattle.std.specs.Ordering.{nat_cmp};
 ghost use Rattle.std.specs.FinMap as map;
 ghost use Rattle.slab.specs.Slab.{entries};
 ghost use Rattle.std.specs.Bool.{Decides};
-ghost use Rattle.wac_types_base.specs.declared.item.«Type».{«Type» as TypeKind};
 ghost use Rattle.wac_types_base.specs.Collection.{Stands};
 ghost use Rattle.wac_graph_core.specs.Edges.{has};
 ghost use Rattle.wac_graph_core.specs.Nodes.{NodeData, Role};
 ghost use Rattle.wac_graph_core.specs.NodeMaps.{IsImport, NoImport, IsDefinition, NoDefinition, AreThose, AreInstances, AddsIf};
 ghost use Rattle.wac_graph_core.specs.Defining.{IsUsedBy, IsUserOf, ItemsStand, DefinesMarked, DefinesReaching};
+ghost use Rattle.wac_graph_core.specs.Noted.{KnowsTypes, TellsDefinition, AddsDefinition};
 ghost use Rattle.wac_graph_core.specs.Reaching.{IsWithout};
 
 use crate::ids::{NodeId, PackageId};
 use crate::node::Node;
-use crate::reach::{defined_of, is_marked, mark_reached, no_marks, reaches};
+use crate::noted::{Noted, defined_type, none_noted, with_node, without_node};
+use crate::reach::{defined_of, is_marked, mark_reached, reaches};
+use crate::type_map::TypeMap;
+use crate::type_set::TypeSet;
 use slab::{Iter, Slab};
 use std::alloc::{AllocError, Global};
 use std::marker::Model;
@@ -27,6 +30,8 @@ use wac_types_base::{DefinedTypeId, ItemKind, Text, Type, Types};
 #[derive(Drop)]
 pub struct Nodes {
     slab: Slab<Node>,
+    /// None where memory was wanting: then each node is looked at.
+    noted: Option<Noted>,
 }
 
 impl Model for Nodes {
@@ -43,6 +48,10 @@ impl Model for Nodes {
     ghost coded = { map.code coded_ℕ node.the_row.coded };
 
     ghost view = { λ s. map.from_entries (entries s.slab) };
+
+    ghost use Rattle.wac_graph_core.specs.NotedView.{AreNoted};
+
+    ghost invariant = { AreNoted };
 }
 
 impl Nodes {
@@ -52,6 +61,7 @@ impl Nodes {
     {
         Nodes {
             slab: Slab::new(alloc),
+            noted: Some(none_noted(alloc)),
         }
     }
 
@@ -68,6 +78,9 @@ impl Nodes {
         ensures added { IfOk result (λ id. self.new ≡ map.insert self.old id node) }
         ensures err { OnErr result (self.new ≡ self.old) }
     {
+        let next = NodeId::new(self.slab.vacant_key());
+        let noted = self.noted.take();
+        self.noted = with_node(noted, &node, next);
         let key = self.slab.insert(node)?;
         Ok(NodeId::new(key))
     }
@@ -77,7 +90,10 @@ impl Nodes {
         ensures value { result ≡ map.get self.old id }
         ensures removed { self.new ≡ map.remove self.old id }
     {
-        self.slab.try_remove(id.index())
+        let node = self.slab.try_remove(id.index())?;
+        let noted = self.noted.take();
+        self.noted = without_node(noted, &node);
+        Some(node)
     }
 
     /// Gives a node a name.
@@ -111,11 +127,24 @@ impl Nodes {
         }
     }
 
+    /// Whether it is known that no import has this name.
+    fn lacks_import(&self, name: &str) -> bool
+        ensures { result ≡ true → NoImport self.now name.now }
+    {
+        match &self.noted {
+            Some(noted) => !noted.imports.contains(name),
+            None => false,
+        }
+    }
+
     /// The import of a name, if there is one.
     pub(crate) fn find_import(&self, name: &str) -> Option<NodeId>
         ensures found { IfSome result (λ k. IsImport self.now k name.now) }
         ensures none { IfNone result (NoImport self.now name.now) }
     {
+        if self.lacks_import(name) {
+            return None;
+        }
         for (key, node) in self.slab.iter() {
             if is_import(node, name) {
                 return Some(NodeId::new(key));
@@ -135,8 +164,43 @@ impl Nodes {
         Ok(found)
     }
 
-    /// The definitions of marked types.
-    fn marked(&self, alloc: Global, marks: &[bool]) -> Result<Vec<NodeId>, AllocError>
+    /// Adds the definition of a type, where it is a defined type that has one.
+    fn gather_definition(
+        &self,
+        found: &mut Vec<NodeId>,
+        types: &TypeMap,
+        ty: Type,
+    ) -> Result<(), AllocError>
+        requires { KnowsTypes types.now self.now }
+        ensures { OnOk result (AddsDefinition self.now ty found.old.items found.new.items) }
+    {
+        if let Some(_) = defined_of(ItemKind::Ty(ty)) {
+            if let Some(id) = self.look_up_definition(types, ty) {
+                found.push(id)?;
+            }
+        }
+        Ok(())
+    }
+
+    /// The definitions of marked types, each found by its type.
+    fn look_up_marked(
+        &self,
+        alloc: Global,
+        types: &TypeMap,
+        marks: &[Type],
+    ) -> Result<Vec<NodeId>, AllocError>
+        requires { KnowsTypes types.now self.now }
+        ensures { IfOk result (λ v. AreThose self.now (DefinesMarked marks.now) v.items) }
+    {
+        let mut found = Vec::new(alloc);
+        for ty in marks {
+            self.gather_definition(&mut found, types, *ty)?;
+        }
+        Ok(found)
+    }
+
+    /// The definitions of marked types, looked for among all nodes.
+    fn search_marked(&self, alloc: Global, marks: &TypeSet) -> Result<Vec<NodeId>, AllocError>
         ensures { IfOk result (λ v. AreThose self.now (DefinesMarked marks.now) v.items) }
     {
         let mut found = Vec::new(alloc);
@@ -146,6 +210,16 @@ impl Nodes {
         Ok(found)
     }
 
+    /// The definitions of marked types.
+    fn marked(&self, alloc: Global, marks: &TypeSet) -> Result<Vec<NodeId>, AllocError>
+        ensures { IfOk result (λ v. AreThose self.now (DefinesMarked marks.now) v.items) }
+    {
+        match &self.noted {
+            Some(noted) => self.look_up_marked(alloc, &noted.types, marks.as_slice()),
+            None => self.search_marked(alloc, marks),
+        }
+    }
+
     /// The definitions of what a type uses.
     pub(crate) fn used_by(
         &self,
@@ -153,12 +227,11 @@ impl Nodes {
         types: &Types,
         ty: Type,
     ) -> Result<Vec<NodeId>, AllocError>
-        requires ty { Stands types.now (ItemKind.Ty ty) }
-        requires items { ItemsStand types.now self.now }
+        requires { Stands types.now (ItemKind.Ty ty) }
         ensures { IfOk result (λ v. AreThose self.now (IsUsedBy types.now ty) v.items) }
     {
-        let mut marks = no_marks(alloc, types)?;
-        mark_reached(types, ItemKind::Ty(ty), &mut marks);
+        let mut marks = TypeSet::new(alloc);
+        mark_reached(types, ItemKind::Ty(ty), &mut marks)?;
         self.marked(alloc, &marks)
     }
 
@@ -172,7 +245,7 @@ impl Nodes {
         requires { ItemsStand types.now self.now }
         ensures { IfOk result (λ v. AreThose self.now (DefinesReaching types.now wanted) v.items) }
     {
-        let mut without = no_marks(alloc, types)?;
+        let mut without = TypeSet::new(alloc);
         let mut found = Vec::new(alloc);
         for (key, node) in self.slab.iter() {
             gather_reaching(
@@ -210,17 +283,47 @@ impl Nodes {
         self.slab.iter()
     }
 
-    /// The definition of a type, if there is one.
-    pub(crate) fn find_definition(&self, item: ItemKind) -> Option<NodeId>
-        ensures found { IfSome result (λ k. IsDefinition self.now k item) }
-        ensures none { IfNone result (NoDefinition self.now item) }
+    /// The definition of a type, found by the type.
+    fn look_up_definition(&self, types: &TypeMap, ty: Type) -> Option<NodeId>
+        requires { KnowsTypes types.now self.now }
+        ensures found { IfSome result (λ k. IsDefinition self.now k (ItemKind.Ty ty)) }
+        ensures told { TellsDefinition self.now ty result }
+    {
+        let id = types.get(ty)?;
+        match self.get(id) {
+            Some(node) => {
+                if is_definition(node, ItemKind::Ty(ty)) {
+                    Some(id)
+                } else {
+                    None
+                }
+            }
+            None => None,
+        }
+    }
+
+    /// The definition of a type, looked for among all nodes.
+    fn search_definition(&self, ty: Type) -> Option<NodeId>
+        ensures found { IfSome result (λ k. IsDefinition self.now k (ItemKind.Ty ty)) }
+        ensures none { IfNone result (NoDefinition self.now (ItemKind.Ty ty)) }
     {
         for (key, node) in self.slab.iter() {
-            if is_definition(node, item) {
+            if is_definition(node, ItemKind::Ty(ty)) {
                 return Some(NodeId::new(key));
             }
         }
         None
+    }
+
+    /// The definition of a type, if there is one.
+    pub(crate) fn find_definition(&self, ty: Type) -> Option<NodeId>
+        ensures found { IfSome result (λ k. IsDefinition self.now k (ItemKind.Ty ty)) }
+        ensures none { IfNone result (NoDefinition self.now (ItemKind.Ty ty)) }
+    {
+        match &self.noted {
+            Some(noted) => self.look_up_definition(&noted.types, ty),
+            None => self.search_definition(ty),
+        }
     }
 }
 
@@ -261,19 +364,8 @@ fn is_definition(node: &Node, item: ItemKind) -> bool
     node.is_definition() && is_same(node.item_kind(), item)
 }
 
-/// The type that a node defines.
-fn defined_type(node: &Node) -> Option<Type>
-    ensures some { IfSome result (λ t. (node.now.role ≡ Role.Defined) × (node.now.item_kind ≡ ItemKind.Ty t)) }
-    ensures none { IfNone result ((t : TypeKind) → node.now.role ≡ Role.Defined → node.now.item_kind ≡ ItemKind.Ty t → ⊥) }
-{
-    match node.item_kind() {
-        ItemKind::Ty(ty) => { if node.is_definition() { Some(ty) } else { None } }
-        _ => None,
-    }
-}
-
 /// Whether a node is the definition of a marked type.
-fn defines_marked(node: &Node, marks: &[bool]) -> bool
+fn defines_marked(node: &Node, marks: &TypeSet) -> bool
     ensures { Decides result (DefinesMarked marks.now node.now) }
 {
     match defined_type(node) {
@@ -287,18 +379,16 @@ fn defines_reaching(
     node: &Node,
     types: &Types,
     wanted: DefinedTypeId,
-    without: &mut Vec<bool>,
-) -> bool
+    without: &mut TypeSet,
+) -> Result<bool, AllocError>
     requires stands { Stands types.now node.now.item_kind }
-    requires length { length without.old.items ≡ length types.now.defined_types }
-    requires without { IsWithout types.now wanted without.old.items }
-    ensures length { length without.new.items ≡ length types.now.defined_types }
-    ensures without { IsWithout types.now wanted without.new.items }
-    ensures answer { Decides result (DefinesReaching types.now wanted node.now) }
+    requires without { IsWithout types.now wanted without.old }
+    ensures without { OnOk result (IsWithout types.now wanted without.new) }
+    ensures answer { IfOk result (λ yes. Decides yes (DefinesReaching types.now wanted node.now)) }
 {
     match defined_type(node) {
         Some(own) => reaches(types, ItemKind::Ty(own), wanted, without),
-        None => false,
+        None => Ok(false),
     }
 }
 
@@ -307,7 +397,7 @@ fn gather_marked(
     found: &mut Vec<NodeId>,
     node: &Node,
     id: NodeId,
-    marks: &[bool],
+    marks: &TypeSet,
 ) -> Result<(), AllocError>
     ensures { OnOk result (AddsIf (DefinesMarked marks.now node.now) found.old.items found.new.items id) }
 {
@@ -324,16 +414,14 @@ fn gather_reaching(
     id: NodeId,
     types: &Types,
     wanted: DefinedTypeId,
-    without: &mut Vec<bool>,
+    without: &mut TypeSet,
 ) -> Result<(), AllocError>
     requires stands { Stands types.now node.now.item_kind }
-    requires length { length without.old.items ≡ length types.now.defined_types }
-    requires without { IsWithout types.now wanted without.old.items }
-    ensures length { length without.new.items ≡ length types.now.defined_types }
-    ensures without { IsWithout types.now wanted without.new.items }
+    requires without { IsWithout types.now wanted without.old }
+    ensures without { OnOk result (IsWithout types.now wanted without.new) }
     ensures adds { OnOk result (AddsIf (DefinesReaching types.now wanted node.now) found.old.items found.new.items id) }
 {
-    if defines_reaching(node, types, wanted, without) {
+    if defines_reaching(node, types, wanted, without)? {
         found.push(id)?;
     }
     Ok(())

@@ -7,7 +7,7 @@ abbrev pub decreases-mark_reached : goal.decreases-mark_reached
 decreases-mark_reached l = size_of l.types.now l.kind
 
 abbrev pub invariant-loop-place : goal.invariant-loop-place
-invariant-loop-place l = Gathered l.types l.kind l.initial.marks.items l.at l.marks.items
+invariant-loop-place l = Gathered l.types l.kind l.initial.marks l.at l.marks
 
 abbrev pub decreases-loop-place : goal.decreases-loop-place
 decreases-loop-place l = length (slots_of l.types l.kind) - l.at

@@ -34,3 +34,6 @@ loop-key-preserved c =
       ],
       λ key x there. c.loop-key.invariant.3 key x (rw at (Contains-cons _ _ _ there)),
     )
+
+pub returns-then-lacks_import-clause-none : goal.returns-then-lacks_import-clause-none
+returns-then-lacks_import-clause-none c = c.lacks_import.ensures c.if-lacks_import.true

@@ -5,7 +5,7 @@ use Rattle.wac_graph_core.specs.Defining.{DefinesReaching}
 use Rattle.wac_graph_core.specs.NodeMaps.{AddsIf}
 use Rattle.wac_graph_core.specs.Edges.{has}
 use Rattle.wac_graph_core.proofs.NodeMap.{get-shown}
-use Rattle.wac_graph_core.proofs.Reached.{unmarked_length, unmarked_without}
+use Rattle.wac_graph_core.proofs.Reached.{unmarked_without}
 use Rattle.wac_graph_core.proofs.Gathering.{nothing_left, none_in, gathered_kept, gathered_there, gathered_only}
 use Rattle.wac_graph_core.proofs.nodes.Nodes.reaching.Goals as goal
 
@@ -17,8 +17,7 @@ loop-key-init c =
       λ key x found of. inr (rw left ((Contains-entries c.self.inside.slab key x).1 (sym (get-shown c.self.inside.slab key) ∙ ap (λ m. map.get m key) c.self.view_is ∙ found))),
       λ key x there. ap (λ m. map.get m key) (sym c.self.view_is) ∙ get-shown c.self.inside.slab key ∙ (Contains-entries c.self.inside.slab key x).0 (rw left at there),
       λ key h. absurd (none_in c.new-found.result.items key c.new-found.ensures.items h),
-      unmarked_length _ _ c.in_ok-without.ensures,
-      unmarked_without _ _ _ _ c.in_ok-without.ensures,
+      unmarked_without _ _ _ c.new-without.ensures,
     )
 
 pub loop-key-preserved : goal.loop-key-preserved
@@ -43,7 +42,6 @@ loop-key-preserved c =
         | inl old ↦ c.loop-key.invariant.4 key old
         | inr r ↦ (c.in-Some.node.now, ap (map.get c.args.self.now) (sym r.1) ∙ first, r.0)
       ],
-      c.in_ok-gather_reaching.ensures.length,
       c.in_ok-gather_reaching.ensures.without,
     )
 
@@ -52,8 +50,7 @@ gather_reaching-requires c =
     let at = c.in-Some.ensures.steps in
     record {
       stands = c.requires c.in-Some.key c.in-Some.node.now (c.loop-key.invariant.3 c.in-Some.key c.in-Some.node.now (rw at (0, omega arith, refl)));
-      length = c.loop-key.invariant.5;
-      without = c.loop-key.invariant.6;
+      without = c.loop-key.invariant.5;
     }
 
 pub returns : goal.returns

@@ -1,4 +1,4 @@
-use Rattle.std.proofs.Common.{◌≡◌, ◌⊎◌, ℕ, Some, true, Contains, length}
+use Rattle.std.proofs.Common.{◌≡◌, ◌⊎◌, ℕ, Some, true, Contains}
 use Rattle.std.specs.FinMap as map
 use Rattle.wac_graph_core.specs.Nodes.{NodeData}
 use Rattle.wac_graph_core.specs.Defining.{DefinesReaching}
@@ -14,5 +14,4 @@ invariant-loop-key l =
     ((key : ℕ) (x : NodeData) → map.get l.self key ≡ Some x → DefinesReaching l.types l.wanted x → (has l.found.items key ≡ true) ⊎ Contains l.key-iterator (key, x)) ×
     ((key : ℕ) (x : NodeData) → Contains l.key-iterator (key, x) → map.get l.self key ≡ Some x) ×
     ((key : ℕ) → has l.found.items key ≡ true → (x : NodeData) × (map.get l.self key ≡ Some x) × DefinesReaching l.types l.wanted x) ×
-    (length l.without.items ≡ length l.types.defined_types) ×
-    IsWithout l.types l.wanted l.without.items
+    IsWithout l.types l.wanted l.without

@@ -3,7 +3,7 @@ use Rattle.std.specs.FinMap as map
 use Rattle.wac_graph_core.specs.Nodes.{NodeData}
 use Rattle.wac_graph_core.specs.Defining.{DefinesMarked}
 use Rattle.wac_graph_core.specs.Edges.{has}
-use Rattle.wac_graph_core.proofs.nodes.Nodes.marked.Given as goal
+use Rattle.wac_graph_core.proofs.nodes.Nodes.search_marked.Given as goal
 
 -- each such definition is in the list, or among the entries that are left; each entry left is one of the map; the list has such definitions alone
 abbrev pub invariant-loop-key : goal.invariant-loop-key
