@@ -27,6 +27,7 @@ pub use Rattle.wac_graph_core.specs.Removing
 pub use Rattle.wac_graph_core.specs.Packages
 pub use Rattle.wac_graph_core.specs.GraphWiring
 pub use Rattle.wac_graph_core.specs.Listing
+pub use Rattle.wac_graph_core.specs.Imports
 pub use Rattle.wac_graph_core.specs.Defining
 pub use Rattle.wac_graph_plug.specs.Plugging
 pub use Rattle.wac_graph_plug.specs.Wired
