@@ -23,7 +23,6 @@ pub(crate) enum Asking {
 }
 
 /// What is asked under a name.
-#[derive(Drop)]
 pub(crate) struct Ask {
     pub asking: Asking,
     /// The node that asks; of a used interface the one whose type uses it.
@@ -32,8 +31,18 @@ pub(crate) struct Ask {
     pub item: ItemKind,
 }
 
+impl Drop for Ask {
+    fn drop(self) {
+        let Ask {
+            asking: _,
+            by: _,
+            name: _,
+            item: _,
+        } = self;
+    }
+}
+
 /// A definition, by the name that it was defined under.
-#[derive(Drop)]
 pub(crate) struct Definition {
     pub node: NodeId,
     pub name: Text,
@@ -43,14 +52,35 @@ pub(crate) struct Definition {
     pub copy: Option<ItemKind>,
 }
 
+impl Drop for Definition {
+    fn drop(self) {
+        let Definition {
+            node: _,
+            name: _,
+            ty: _,
+            copy: _,
+        } = self;
+    }
+}
+
 /// What a graph asks and defines, in a collection of its own.
-#[derive(Drop)]
 pub(crate) struct Asked {
     pub types: Types,
     pub asks: Vec<Ask>,
     /// The worlds of packages, each once, in the order of their instances.
     pub packages: IndexMap<PackageId, WorldId>,
     pub definitions: Vec<Definition>,
+}
+
+impl Drop for Asked {
+    fn drop(self) {
+        let Asked {
+            types: _,
+            asks: _,
+            packages: _,
+            definitions: _,
+        } = self;
+    }
 }
 
 fn owned(alloc: Global, text: &str) -> Result<Text, AllocError> {
@@ -218,10 +248,15 @@ fn first_exports(
 }
 
 /// The asks of used interfaces, each interface once.
-#[derive(Drop)]
 struct UseAsks {
     asks: Vec<Ask>,
     seen: IndexSet<InterfaceId>,
+}
+
+impl Drop for UseAsks {
+    fn drop(self) {
+        let UseAsks { asks: _, seen: _ } = self;
+    }
 }
 
 /// The interfaces that a definition uses which is written as it is: those of its item, or else those of its world.
@@ -377,7 +412,8 @@ fn ask_uses_of_definitions(
 
 impl UseAsks {
     fn into_asks(self) -> Vec<Ask> {
-        self.asks
+        let UseAsks { asks, seen: _ } = self;
+        asks
     }
 }
 

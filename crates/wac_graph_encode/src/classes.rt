@@ -10,11 +10,20 @@ use wac_types_base::{ItemKind, NamedMap, Types};
 use wac_types_names::alternate_lookup_key;
 
 /// An asked name: its track with its version, and the identifier of the instance that is asked under it.
-#[derive(Drop)]
 struct Named<'a> {
     name: &'a str,
     track: Option<(&'a str, Version)>,
     identifier: Option<&'a str>,
+}
+
+impl Drop for Named<'_> {
+    fn drop(self) {
+        let Named {
+            name: _,
+            track: _,
+            identifier: _,
+        } = self;
+    }
 }
 
 /// The identifier of an instance that is asked under the name of an interface.
@@ -54,12 +63,20 @@ impl Named<'_> {
 }
 
 /// The classes of asks, each called by the place of its first ask.
-#[derive(Drop)]
 pub(crate) struct Classes {
     /// Of each ask.
     pub labels: Vec<usize>,
     /// By the class, the ask that spells it.
     pub spellings: Vec<usize>,
+}
+
+impl Drop for Classes {
+    fn drop(self) {
+        let Classes {
+            labels: _,
+            spellings: _,
+        } = self;
+    }
 }
 
 /// The place that is kept there, or that place itself.
@@ -112,11 +129,20 @@ fn join_by(
 }
 
 /// The first asks of names, tracks and identifiers.
-#[derive(Drop)]
 struct Firsts {
     by_name: NamedMap<usize>,
     by_track: NamedMap<usize>,
     by_identifier: NamedMap<usize>,
+}
+
+impl Drop for Firsts {
+    fn drop(self) {
+        let Firsts {
+            by_name: _,
+            by_track: _,
+            by_identifier: _,
+        } = self;
+    }
 }
 
 impl Firsts {

@@ -11,10 +11,15 @@ use wac_types_base::{
 };
 
 /// What became of the value types so far, by their ids: a copy in the other collection, or none where a resource is in it.
-#[derive(Drop)]
 pub(crate) struct Copies {
     alloc: Global,
     done: IndexMap<DefinedTypeId, Option<DefinedTypeId>>,
+}
+
+impl Drop for Copies {
+    fn drop(self) {
+        let Copies { alloc: _, done: _ } = self;
+    }
 }
 
 impl Copies {

@@ -11,12 +11,22 @@ use wac_types_base::{DefinedTypeId, InterfaceId, ItemKind, NamedMap, Names, Type
 
 /// Used items under the names that they have here, the root names of resources, and which value types were tested
 /// here: whether they fail.
-#[derive(Drop)]
 pub(crate) struct Holder {
     alloc: Global,
     used: NamedMap<ItemKind>,
     roots: Names,
     tested: IndexMap<DefinedTypeId, bool>,
+}
+
+impl Drop for Holder {
+    fn drop(self) {
+        let Holder {
+            alloc: _,
+            used: _,
+            roots: _,
+            tested: _,
+        } = self;
+    }
 }
 
 /// Whether one item has the tree of another.

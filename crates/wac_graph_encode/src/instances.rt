@@ -12,13 +12,23 @@ use wac_graph_scopes::parts::{import_at, import_count};
 use wac_types_base::{ItemKind, NamedMap};
 
 /// The entries so far, and what stands for nodes.
-#[derive(Drop)]
 pub(crate) struct Wired<'a> {
     alloc: Global,
     graph: &'a CompositionGraph,
     /// What stands for outer imports, by the names under which they are asked for.
     outers: NamedMap<SortIndex>,
     pub root: Root,
+}
+
+impl Drop for Wired<'_> {
+    fn drop(self) {
+        let Wired {
+            alloc: _,
+            graph: _,
+            outers: _,
+            root: _,
+        } = self;
+    }
 }
 
 fn sort_of(kind: ItemKind) -> Option<Sort> {

@@ -22,7 +22,6 @@ struct Kept {
 }
 
 /// The outer imports of a composition.
-#[derive(Drop)]
 pub(crate) struct Outers {
     /// They are this world's imports, in asking order.
     pub world: WorldId,
@@ -30,13 +29,32 @@ pub(crate) struct Outers {
     pub called: Vec<Called>,
 }
 
+impl Drop for Outers {
+    fn drop(self) {
+        let Outers {
+            world: _,
+            called: _,
+        } = self;
+    }
+}
+
 /// What is kept of the classes, by the places of their first asks, and which interfaces use one without identifier.
-#[derive(Drop)]
 struct Merging<'a> {
     alloc: Global,
     asks: &'a [Ask],
     kept: IndexMap<usize, Kept>,
     unnamed: Unnamed,
+}
+
+impl Drop for Merging<'_> {
+    fn drop(self) {
+        let Merging {
+            alloc: _,
+            asks: _,
+            kept: _,
+            unnamed: _,
+        } = self;
+    }
 }
 
 /// What is kept of two asked items.
@@ -176,7 +194,13 @@ impl<'a> Merging<'a> {
     }
 
     fn into_kept(self) -> IndexMap<usize, Kept> {
-        self.kept
+        let Merging {
+            alloc: _,
+            asks: _,
+            kept,
+            unnamed: _,
+        } = self;
+        kept
     }
 }
 

@@ -25,7 +25,6 @@ pub(crate) struct Counts {
 }
 
 /// The entries before any instance, and what stands at their indexes.
-#[derive(Drop)]
 pub(crate) struct Root {
     pub entries: Vec<Entry>,
     pub counts: Counts,
@@ -35,6 +34,18 @@ pub(crate) struct Root {
     pub nodes: IndexMap<NodeId, SortIndex>,
     /// The components that are packages.
     pub packages: IndexMap<PackageId, u32>,
+}
+
+impl Drop for Root {
+    fn drop(self) {
+        let Root {
+            entries: _,
+            counts: _,
+            imports: _,
+            nodes: _,
+            packages: _,
+        } = self;
+    }
 }
 
 /// The number after this one.

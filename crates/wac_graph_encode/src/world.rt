@@ -18,10 +18,18 @@ use wac_types_base::copy::copy_item;
 use wac_types_base::{ItemKind, NamedMap, Types, World, WorldId};
 
 /// The types of outer imports, by the names under which they are asked for, and the written types of definitions.
-#[derive(Drop)]
 struct Typed {
     outers: NamedMap<ItemKind>,
     definitions: IndexMap<NodeId, ItemKind>,
+}
+
+impl Drop for Typed {
+    fn drop(self) {
+        let Typed {
+            outers: _,
+            definitions: _,
+        } = self;
+    }
 }
 
 /// The types of outer imports, by the names under which they are asked for.
@@ -77,10 +85,15 @@ fn export_of(types: &Types, kind: ItemKind, name: &str) -> Option<ItemKind> {
 }
 
 /// What an alias is an alias of at last, and the export names from there, the last one first.
-#[derive(Drop)]
 struct Path<'a> {
     node: NodeId,
     names: Vec<&'a str>,
+}
+
+impl Drop for Path<'_> {
+    fn drop(self) {
+        let Path { node: _, names: _ } = self;
+    }
 }
 
 fn path_of<'a>(

@@ -222,7 +222,6 @@ fn gives_used(test: Test<'_>, import: ItemKind, used: Use<'_>) -> Result<bool, A
 }
 
 /// A component type whose items use interfaces.
-#[derive(Drop)]
 struct Giver {
     /// If there is one.
     world: Option<WorldId>,
@@ -230,6 +229,16 @@ struct Giver {
     seen: IndexSet<InterfaceId>,
     /// Those whose types do not fail.
     fine: IndexSet<InterfaceId>,
+}
+
+impl Drop for Giver {
+    fn drop(self) {
+        let Giver {
+            world: _,
+            seen: _,
+            fine: _,
+        } = self;
+    }
 }
 
 impl Giver {
