@@ -1,5 +1,6 @@
 //! What stands directly in an interface, in a component type or at the root.
 
+use crate::maps::insert_under;
 use indexmap::IndexMap;
 use std::alloc::{AllocError, Global};
 use wac_graph_scopes::fits_in;
@@ -76,8 +77,7 @@ impl Holder {
     /// Adds the item that is used, and the root of a resource.
     fn add_use(&mut self, types: &Types, used: Use<'_>) -> Result<(), AllocError> {
         if let Some(kind) = export_named(types, used.interface, used.there) {
-            let name = String::from_str(self.alloc, used.name)?;
-            let _ = self.used.insert(name, kind)?;
+            insert_under(self.alloc, &mut self.used, used.name, kind)?;
             if let ItemKind::Ty(Type::Resource(id)) = kind {
                 self.add_root(root_name(types, id))?;
             }

@@ -1,6 +1,7 @@
 //! The instances, aliases and exports of a composition, as entries.
 
 use crate::errors::Refusal;
+use crate::maps::insert_under;
 use crate::nodes::{arguments_of, import_name, kind_of, node_at, package_of, world_at};
 use crate::root::{Counts, Root, next_index};
 use indexmap::{IndexMap, IndexSet};
@@ -9,7 +10,7 @@ use wac_graph_bytes::{Alias, Entry, Export, IndexName, NamedIndex, Sort, SortNam
 use wac_graph_core::{CompositionGraph, NodeId, PackageId};
 use wac_graph_scopes::imports::{Called, SortIndex};
 use wac_graph_scopes::parts::{import_at, import_count};
-use wac_types_base::{ItemKind, NamedMap};
+use wac_types_base::{ItemKind, NamedMap, WorldId};
 
 /// The entries so far, and what stands for nodes.
 pub(crate) struct Wired<'a> {
@@ -79,10 +80,60 @@ fn add_outers(
 ) -> Result<(), AllocError> {
     for one in called {
         if let Some(Some(place)) = imports.get(one.at) {
-            let name = String::from_str(alloc, one.name.as_str())?;
-            let _ = outers.insert(name, *place)?;
+            insert_under(alloc, outers, one.name.as_str(), *place)?;
         }
     }
+    Ok(())
+}
+
+/// Adds the nodes that one needs: its arguments, or what it is an alias of.
+fn push_sources(
+    graph: &CompositionGraph,
+    node: NodeId,
+    bound: &IndexMap<String, NodeId>,
+    sources: &mut Vec<NodeId>,
+) -> Result<(), AllocError> {
+    for argument in bound.values() {
+        sources.push(*argument)?;
+    }
+    if package_of(graph, node).is_none() {
+        if let Some((source, _)) = graph.get_alias_source(node) {
+            sources.push(source)?;
+        }
+    }
+    Ok(())
+}
+
+/// Adds an argument.
+fn push_argument(
+    alloc: Global,
+    arguments: &mut Vec<NamedIndex>,
+    name: &str,
+    place: SortIndex,
+) -> Result<(), AllocError> {
+    let name = String::from_str(alloc, name)?;
+    arguments.push(NamedIndex {
+        name,
+        sort: place.sort,
+        index: place.index,
+    })?;
+    Ok(())
+}
+
+/// Adds an export.
+fn push_export(
+    alloc: Global,
+    entries: &mut Vec<Entry>,
+    name: &str,
+    place: SortIndex,
+) -> Result<(), AllocError> {
+    let name = String::from_str(alloc, name)?;
+    entries.push(Entry::Export(Export {
+        name,
+        sort: place.sort,
+        index: place.index,
+        stated: None,
+    }))?;
     Ok(())
 }
 
@@ -111,19 +162,27 @@ impl<'a> Wired<'a> {
         Ok(SortIndex { sort, index })
     }
 
-    /// Writes an alias, where its source stands.
-    fn alias(&mut self, node: NodeId) -> Result<Option<SortIndex>, Refusal> {
+    /// The sort of an alias, the index of its source and its name there, where its source stands.
+    fn alias_of(&self, node: NodeId) -> Option<(Sort, u32, &'a str)> {
         let Some((source, name)) = self.graph.get_alias_source(node) else {
-            return Ok(None);
+            return None;
         };
         let Some(place) = self.node(source) else {
-            return Ok(None);
+            return None;
         };
         let Some(sort) = sort_at(self.graph, node) else {
+            return None;
+        };
+        Some((sort, place.index, name))
+    }
+
+    /// Writes an alias, where its source stands.
+    fn alias(&mut self, node: NodeId) -> Result<Option<SortIndex>, Refusal> {
+        let Some((sort, index, name)) = self.alias_of(node) else {
             return Ok(None);
         };
         let name = String::from_str(self.alloc, name)?;
-        let entry = Entry::Alias(Alias::Export(sort, place.index, name));
+        let entry = Entry::Alias(Alias::Export(sort, index, name));
         Ok(Some(self.add(entry, sort)?))
     }
 
@@ -135,30 +194,50 @@ impl<'a> Wired<'a> {
         }
     }
 
+    /// Adds the arguments of an instance of that world. Whether all stand.
+    fn push_arguments(
+        &self,
+        world: WorldId,
+        bound: &IndexMap<String, NodeId>,
+        arguments: &mut Vec<NamedIndex>,
+    ) -> Result<bool, AllocError> {
+        let types = self.graph.types();
+        for at in 0..import_count(types, world) {
+            if let Some(import) = import_at(types, world, at) {
+                match self.argument(bound, import.name) {
+                    Some(place) => push_argument(self.alloc, arguments, import.name, place)?,
+                    None => return Ok(false),
+                }
+            }
+        }
+        Ok(true)
+    }
+
     /// The arguments of an instance, where all stand.
     fn arguments(
         &self,
         id: PackageId,
         bound: &IndexMap<String, NodeId>,
-    ) -> Result<Option<Vec<NamedIndex>>, Refusal> {
-        let mut arguments = Vec::new(self.alloc);
+    ) -> Result<Option<Vec<NamedIndex>>, AllocError> {
         let Some(world) = world_at(self.graph, id) else {
             return Ok(None);
         };
-        let types = self.graph.types();
-        for at in 0..import_count(types, world) {
-            if let Some(import) = import_at(types, world, at) {
-                let Some(place) = self.argument(bound, import.name) else {
-                    return Ok(None);
-                };
-                arguments.push(NamedIndex {
-                    name: String::from_str(self.alloc, import.name)?,
-                    sort: place.sort,
-                    index: place.index,
-                })?;
-            }
+        let mut arguments = Vec::new(self.alloc);
+        let all_stand = self.push_arguments(world, bound, &mut arguments)?;
+        if all_stand {
+            Ok(Some(arguments))
+        } else {
+            Ok(None)
         }
-        Ok(Some(arguments))
+    }
+
+    /// Writes an instance of that component.
+    fn add_instance(
+        &mut self,
+        component: u32,
+        arguments: Vec<NamedIndex>,
+    ) -> Result<SortIndex, Refusal> {
+        self.add(Entry::Instantiate(component, arguments), Sort::Instance)
     }
 
     /// Writes an instance, where its arguments stand.
@@ -167,14 +246,13 @@ impl<'a> Wired<'a> {
         id: PackageId,
         bound: &IndexMap<String, NodeId>,
     ) -> Result<Option<SortIndex>, Refusal> {
-        let Some(arguments) = self.arguments(id, bound)? else {
-            return Ok(None);
-        };
         let Some(component) = self.root.packages.get(&id).copied() else {
             return Ok(None);
         };
-        let entry = Entry::Instantiate(component, arguments);
-        Ok(Some(self.add(entry, Sort::Instance)?))
+        match self.arguments(id, bound)? {
+            Some(arguments) => Ok(Some(self.add_instance(component, arguments)?)),
+            None => Ok(None),
+        }
     }
 
     /// Writes a node, where all stands that it needs.
@@ -199,14 +277,7 @@ impl<'a> Wired<'a> {
         bound: &IndexMap<String, NodeId>,
     ) -> Result<Vec<NodeId>, AllocError> {
         let mut sources = Vec::new(self.alloc);
-        for argument in bound.values() {
-            sources.push(*argument)?;
-        }
-        if package_of(self.graph, node).is_none() {
-            if let Some((source, _)) = self.graph.get_alias_source(node) {
-                sources.push(source)?;
-            }
-        }
+        push_sources(self.graph, node, bound, &mut sources)?;
         Ok(sources)
     }
 
@@ -218,8 +289,19 @@ impl<'a> Wired<'a> {
             return Ok(());
         }
         let bound = arguments_of(self.alloc, self.graph, node)?;
-        self.write_sources(node, &bound, depth - 1)?;
-        self.write_itself(node, &bound)
+        self.write_bound(node, &bound, depth - 1)
+    }
+
+    /// Writes a node behind those that it needs.
+    #[cycle(nodes)]
+    fn write_bound(
+        &mut self,
+        node: NodeId,
+        bound: &IndexMap<String, NodeId>,
+        depth: usize,
+    ) -> Result<(), Refusal> {
+        self.write_sources(node, bound, depth)?;
+        self.write_itself(node, bound)
     }
 
     /// Writes the nodes that one needs.
@@ -231,8 +313,14 @@ impl<'a> Wired<'a> {
         depth: usize,
     ) -> Result<(), Refusal> {
         let sources = self.sources_of(node, bound)?;
-        for source in &sources {
-            self.write_node(*source, depth)?;
+        self.write_each(&sources, depth)
+    }
+
+    /// Writes nodes behind those that they need.
+    #[cycle(nodes)]
+    fn write_each(&mut self, nodes: &[NodeId], depth: usize) -> Result<(), Refusal> {
+        for node in nodes {
+            self.write_node(*node, depth)?;
         }
         Ok(())
     }
@@ -266,13 +354,7 @@ impl<'a> Wired<'a> {
     fn write_exports(&mut self) -> Result<(), Refusal> {
         for (name, node) in self.graph.exports() {
             if let Some(place) = self.node(*node) {
-                let name = String::from_str(self.alloc, name.as_str())?;
-                self.root.entries.push(Entry::Export(Export {
-                    name,
-                    sort: place.sort,
-                    index: place.index,
-                    stated: None,
-                }))?;
+                push_export(self.alloc, &mut self.root.entries, name.as_str(), place)?;
             }
         }
         Ok(())
@@ -294,16 +376,35 @@ impl<'a> Wired<'a> {
         Ok(())
     }
 
-    /// The names of the nodes of a sort, one for each index.
-    fn names_of(&self, sort: Sort) -> Result<Vec<IndexName>, AllocError> {
-        let mut names = Vec::new(self.alloc);
-        let mut named = IndexSet::new(self.alloc);
+    /// Adds the names of the nodes of a sort, one for each index that is not named yet.
+    fn push_unnamed(
+        &self,
+        sort: Sort,
+        names: &mut Vec<IndexName>,
+        named: &mut IndexSet<u32>,
+    ) -> Result<(), AllocError> {
         for (node, place) in self.root.nodes.iter() {
             if place.sort == sort && !named.contains(&place.index) {
-                self.push_name(&mut names, &mut named, *node, place.index)?;
+                self.push_name(names, named, *node, place.index)?;
             }
         }
-        Ok(names)
+        Ok(())
+    }
+
+    /// Adds the names of the nodes of a sort, one for each index.
+    fn push_names(&self, sort: Sort, names: &mut Vec<IndexName>) -> Result<(), AllocError> {
+        let mut named = IndexSet::new(self.alloc);
+        self.push_unnamed(sort, names, &mut named)
+    }
+
+    /// Adds the names of the nodes of a sort, where there are any.
+    fn push_sort(&self, sort: Sort, all: &mut Vec<SortNames>) -> Result<(), AllocError> {
+        let mut names = Vec::new(self.alloc);
+        self.push_names(sort, &mut names)?;
+        if !names.is_empty() {
+            all.push(SortNames { sort, names })?;
+        }
+        Ok(())
     }
 
     /// The names of nodes, for debuggers.
@@ -316,10 +417,7 @@ impl<'a> Wired<'a> {
             Sort::Instance,
             Sort::Module,
         ] {
-            let names = self.names_of(sort)?;
-            if !names.is_empty() {
-                all.push(SortNames { sort, names })?;
-            }
+            self.push_sort(sort, &mut all)?;
         }
         Ok(all)
     }

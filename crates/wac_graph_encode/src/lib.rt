@@ -11,6 +11,7 @@ pub mod errors;
 mod holder;
 mod instances;
 mod laws;
+mod maps;
 mod modules;
 mod nodes;
 pub mod options;

@@ -66,6 +66,23 @@ pub(crate) fn world_at(graph: &CompositionGraph, id: PackageId) -> Option<WorldI
     }
 }
 
+/// Adds what is passed to an instance, by the names of the arguments.
+fn add_arguments(
+    alloc: Global,
+    graph: &CompositionGraph,
+    id: NodeId,
+    arguments: &mut IndexMap<String, NodeId>,
+) -> Result<(), AllocError> {
+    if !graph.contains_node(id) {
+        return Ok(());
+    }
+    for (name, argument) in graph.get_instantiation_arguments(id) {
+        let name = String::from_str(alloc, name)?;
+        let _ = arguments.insert(name, argument)?;
+    }
+    Ok(())
+}
+
 /// What is passed to an instance, by the names of the arguments.
 pub(crate) fn arguments_of(
     alloc: Global,
@@ -73,10 +90,6 @@ pub(crate) fn arguments_of(
     id: NodeId,
 ) -> Result<IndexMap<String, NodeId>, AllocError> {
     let mut arguments = IndexMap::new(alloc);
-    if graph.contains_node(id) {
-        for (name, argument) in graph.get_instantiation_arguments(id) {
-            let _ = arguments.insert(String::from_str(alloc, name)?, argument)?;
-        }
-    }
+    add_arguments(alloc, graph, id, &mut arguments)?;
     Ok(arguments)
 }

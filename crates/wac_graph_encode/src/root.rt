@@ -11,6 +11,7 @@ use wac_graph_bytes::{Declaration, Description, Entry, Sort};
 use wac_graph_core::{CompositionGraph, NodeId, PackageId};
 use wac_graph_scopes::imports::{ImportScope, Importing, SortIndex};
 use wac_graph_scopes::items::ItemScope;
+use wac_graph_scopes::order::ImportOrder;
 use wac_graph_scopes::parts::{Item, import_at};
 use wac_types_base::{ItemKind, Types, WorldId};
 
@@ -90,12 +91,22 @@ fn write_in_order(
     Ok(())
 }
 
+/// Writes the outer imports in an order.
+fn write_ordered(
+    alloc: Global,
+    all: Importing<'_>,
+    scope: &mut ImportScope,
+    order: &ImportOrder,
+) -> Result<(), Refusal> {
+    write_in_order(alloc, all, scope, &order.sources)?;
+    write_in_order(alloc, all, scope, &order.others)
+}
+
 /// Writes the outer imports.
 fn write_outers(alloc: Global, all: Importing<'_>, scope: &mut ImportScope) -> Result<(), Refusal> {
     scope.begin(alloc, all)?;
     let order = scope.order(alloc, all)?;
-    write_in_order(alloc, all, scope, &order.sources)?;
-    write_in_order(alloc, all, scope, &order.others)
+    write_ordered(alloc, all, scope, &order)
 }
 
 /// Writes the type of an item that stands at the root.
@@ -133,6 +144,23 @@ fn write_definition(
     }
 }
 
+/// Writes a definition, and adds what stands for it.
+fn add_definition(
+    graph: &CompositionGraph,
+    scope: &mut ImportScope,
+    all: Importing<'_>,
+    definition: &Definition,
+    nodes: &mut IndexMap<NodeId, SortIndex>,
+) -> Result<(), Refusal> {
+    let alloc = graph.alloc();
+    let description = write_definition(alloc, scope, all, graph.types(), definition)?;
+    if let Description::Equal(index) = description {
+        let sort = Sort::Ty;
+        let _ = nodes.insert(definition.node, SortIndex { sort, index })?;
+    }
+    Ok(())
+}
+
 /// Writes the definitions, and adds what stands for them. Types of the graph's collection are written, and no longer of
 /// the asked one.
 fn write_definitions(
@@ -142,14 +170,9 @@ fn write_definitions(
     definitions: &[Definition],
     nodes: &mut IndexMap<NodeId, SortIndex>,
 ) -> Result<(), Refusal> {
-    let alloc = graph.alloc();
-    scope.scope.types.forget(alloc);
+    scope.scope.types.forget(graph.alloc());
     for definition in definitions {
-        let description = write_definition(alloc, scope, all, graph.types(), definition)?;
-        if let Description::Equal(index) = description {
-            let sort = Sort::Ty;
-            let _ = nodes.insert(definition.node, SortIndex { sort, index })?;
-        }
+        add_definition(graph, scope, all, definition, nodes)?;
     }
     Ok(())
 }
@@ -168,21 +191,24 @@ fn import_item(
     }
 }
 
-/// Imports a package of that world.
+/// Imports a package of that world, and adds its index.
 fn import_package(
-    alloc: Global,
     graph: &CompositionGraph,
     scope: &mut ImportScope,
     all: Importing<'_>,
     id: PackageId,
     world: WorldId,
-) -> Result<u32, Refusal> {
+    packages: &mut IndexMap<PackageId, u32>,
+) -> Result<(), Refusal> {
+    let alloc = graph.alloc();
     let name = dependency_name(alloc, graph, id)?;
     let item = Item {
         name: name.as_str(),
         kind: ItemKind::Component(world),
     };
-    import_item(alloc, scope, all, item)
+    let index = import_item(alloc, scope, all, item)?;
+    let _ = packages.insert(id, index)?;
+    Ok(())
 }
 
 /// Imports the packages, and adds their indexes.
@@ -194,8 +220,7 @@ fn import_packages(
     packages: &mut IndexMap<PackageId, u32>,
 ) -> Result<(), Refusal> {
     for (id, world) in asked.packages.iter() {
-        let index = import_package(graph.alloc(), graph, scope, all, *id, *world)?;
-        let _ = packages.insert(*id, index)?;
+        import_package(graph, scope, all, *id, *world, packages)?;
     }
     Ok(())
 }
@@ -297,37 +322,56 @@ fn take_scope(alloc: Global, scope: &mut ImportScope, root: &mut Root) -> Result
     add_entries(&mut root.entries, scope.scope.take_declarations(alloc))
 }
 
-/// Writes the types and the imports of a composition in a scope, and takes them with its packages.
-fn write_in(
-    graph: &CompositionGraph,
-    asked: &Asked,
-    all: Importing<'_>,
-    definitions: &[Definition],
-    options: &EncodeOptions,
+/// What is written at the root, and how.
+#[derive(Clone, Copy)]
+pub(crate) struct Writing<'a> {
+    pub graph: &'a CompositionGraph,
+    pub asked: &'a Asked,
+    /// The outer imports.
+    pub all: Importing<'a>,
+    /// In the form in which they are written.
+    pub definitions: &'a [Definition],
+    pub options: &'a EncodeOptions,
+}
+
+/// Imports or nests the packages, and takes what is written in a scope.
+fn write_packages(
+    writing: Writing<'_>,
     scope: &mut ImportScope,
     root: &mut Root,
 ) -> Result<(), Refusal> {
-    let alloc = graph.alloc();
-    write_outers(alloc, all, scope)?;
-    write_definitions(graph, scope, all, definitions, &mut root.nodes)?;
-    if options.define_components {
-        take_scope(alloc, scope, root)?;
-        return nest_packages(alloc, graph, asked, root);
+    let Writing {
+        graph,
+        asked,
+        all,
+        ..
+    } = writing;
+    if writing.options.define_components {
+        take_scope(graph.alloc(), scope, root)?;
+        return nest_packages(graph.alloc(), graph, asked, root);
     }
     import_packages(graph, scope, all, asked, &mut root.packages)?;
-    take_scope(alloc, scope, root)?;
+    take_scope(graph.alloc(), scope, root)?;
     Ok(())
 }
 
+/// Writes the types and the imports of a composition in a scope, and takes them with its packages.
+fn write_in(writing: Writing<'_>, scope: &mut ImportScope, root: &mut Root) -> Result<(), Refusal> {
+    let Writing {
+        graph,
+        all,
+        definitions,
+        ..
+    } = writing;
+    write_outers(graph.alloc(), all, scope)?;
+    write_definitions(graph, scope, all, definitions, &mut root.nodes)?;
+    write_packages(writing, scope, root)
+}
+
 /// Writes the types, the imports and the packages of a composition.
-pub(crate) fn write_root(
-    graph: &CompositionGraph,
-    asked: &Asked,
-    all: Importing<'_>,
-    definitions: &[Definition],
-    options: &EncodeOptions,
-    root: &mut Root,
-) -> Result<(), Refusal> {
-    let mut scope = ImportScope::new(graph.alloc());
-    write_in(graph, asked, all, definitions, options, &mut scope, root)
+pub(crate) fn write_root(writing: Writing<'_>, root: &mut Root) -> Result<(), Refusal> {
+    let mut scope = ImportScope::new(writing.graph.alloc());
+    let written = write_in(writing, &mut scope, root);
+    drop(scope);
+    written
 }
