@@ -1,6 +1,6 @@
 //! What a graph asks from outside, in order.
 
-use crate::nodes::{arguments_of, import_name, kind_of, node_at, package_of, world_at};
+use crate::nodes::{Arguments, import_name, kind_of, node_at, package_of, world_at};
 use indexmap::{IndexMap, IndexSet};
 use std::alloc::{AllocError, Global};
 use wac_graph_core::{CompositionGraph, NodeId, NodeKind, PackageId};
@@ -162,11 +162,11 @@ impl Asked {
         alloc: Global,
         node: NodeId,
         world: WorldId,
-        bound: &IndexMap<String, NodeId>,
+        bound: &Arguments,
     ) -> Result<(), AllocError> {
         for at in 0..import_count(&self.types, world) {
             if let Some(import) = import_at(&self.types, world, at) {
-                if !bound.contains_key(import.name) {
+                if bound.get(import.name).is_none() {
                     let asks = &mut self.asks;
                     push_ask(alloc, asks, Asking::ToFill, node, import.kind, import.name)?;
                 }
@@ -188,7 +188,7 @@ impl Asked {
         let Some(world) = self.copied_world(alloc, graph, package)? else {
             return Ok(());
         };
-        let bound = arguments_of(alloc, graph, node)?;
+        let bound = Arguments::of(alloc, graph, node)?;
         self.ask_unbound(alloc, node, world, &bound)
     }
 

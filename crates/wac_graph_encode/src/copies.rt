@@ -6,6 +6,12 @@ use wac_types_base::{
     Interface, InterfaceId, ItemKind, NamedMap, Text, Types, UsedType, World, WorldId,
 };
 
+/// The value, if what was to be added to it was added; it is dropped here alone.
+pub(crate) fn filled<T: Drop>(value: T, added: Result<(), AllocError>) -> Result<T, AllocError> {
+    added?;
+    Ok(value)
+}
+
 /// The same text again, if there is one.
 pub(crate) fn copy_text(text: &Option<Text>) -> Result<Option<Text>, AllocError> {
     match text {

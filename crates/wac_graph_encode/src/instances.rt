@@ -1,12 +1,13 @@
 //! The instances, aliases and exports of a composition, as entries.
 
 use crate::errors::Refusal;
+use crate::labels::names_of_nodes;
 use crate::maps::insert_under;
-use crate::nodes::{arguments_of, import_name, kind_of, node_at, package_of, world_at};
+use crate::nodes::{Arguments, import_name, kind_of, package_of, world_at};
 use crate::root::{Counts, Root, next_index};
-use indexmap::{IndexMap, IndexSet};
+use indexmap::IndexMap;
 use std::alloc::{AllocError, Global};
-use wac_graph_bytes::{Alias, Entry, Export, IndexName, NamedIndex, Sort, SortNames};
+use wac_graph_bytes::{Alias, Entry, Export, NamedIndex, Sort, SortNames};
 use wac_graph_core::{CompositionGraph, NodeId, PackageId};
 use wac_graph_scopes::imports::{Called, SortIndex};
 use wac_graph_scopes::parts::{import_at, import_count};
@@ -90,10 +91,10 @@ fn add_outers(
 fn push_sources(
     graph: &CompositionGraph,
     node: NodeId,
-    bound: &IndexMap<String, NodeId>,
+    bound: &Arguments,
     sources: &mut Vec<NodeId>,
 ) -> Result<(), AllocError> {
-    for argument in bound.values() {
+    for argument in bound.nodes() {
         sources.push(*argument)?;
     }
     if package_of(graph, node).is_none() {
@@ -134,6 +135,20 @@ fn push_export(
         index: place.index,
         stated: None,
     }))?;
+    Ok(())
+}
+
+/// Adds the exports of nodes that stand.
+fn push_exports(
+    graph: &CompositionGraph,
+    nodes: &IndexMap<NodeId, SortIndex>,
+    entries: &mut Vec<Entry>,
+) -> Result<(), AllocError> {
+    for (name, node) in graph.exports() {
+        if let Some(place) = nodes.get(node) {
+            push_export(graph.alloc(), entries, name.as_str(), *place)?;
+        }
+    }
     Ok(())
 }
 
@@ -187,9 +202,9 @@ impl<'a> Wired<'a> {
     }
 
     /// What is passed to an instance under a name.
-    fn argument(&self, bound: &IndexMap<String, NodeId>, name: &str) -> Option<SortIndex> {
+    fn argument(&self, bound: &Arguments, name: &str) -> Option<SortIndex> {
         match bound.get(name) {
-            Some(argument) => self.node(*argument),
+            Some(argument) => self.node(argument),
             None => self.outers.get(name).copied(),
         }
     }
@@ -198,7 +213,7 @@ impl<'a> Wired<'a> {
     fn push_arguments(
         &self,
         world: WorldId,
-        bound: &IndexMap<String, NodeId>,
+        bound: &Arguments,
         arguments: &mut Vec<NamedIndex>,
     ) -> Result<bool, AllocError> {
         let types = self.graph.types();
@@ -217,7 +232,7 @@ impl<'a> Wired<'a> {
     fn arguments(
         &self,
         id: PackageId,
-        bound: &IndexMap<String, NodeId>,
+        bound: &Arguments,
     ) -> Result<Option<Vec<NamedIndex>>, AllocError> {
         let Some(world) = world_at(self.graph, id) else {
             return Ok(None);
@@ -241,11 +256,7 @@ impl<'a> Wired<'a> {
     }
 
     /// Writes an instance, where its arguments stand.
-    fn instance(
-        &mut self,
-        id: PackageId,
-        bound: &IndexMap<String, NodeId>,
-    ) -> Result<Option<SortIndex>, Refusal> {
+    fn instance(&mut self, id: PackageId, bound: &Arguments) -> Result<Option<SortIndex>, Refusal> {
         let Some(component) = self.root.packages.get(&id).copied() else {
             return Ok(None);
         };
@@ -256,11 +267,7 @@ impl<'a> Wired<'a> {
     }
 
     /// Writes a node, where all stands that it needs.
-    fn written(
-        &mut self,
-        node: NodeId,
-        bound: &IndexMap<String, NodeId>,
-    ) -> Result<Option<SortIndex>, Refusal> {
+    fn written(&mut self, node: NodeId, bound: &Arguments) -> Result<Option<SortIndex>, Refusal> {
         if let Some(name) = import_name(self.graph, node) {
             return Ok(self.outers.get(name).copied());
         }
@@ -271,11 +278,7 @@ impl<'a> Wired<'a> {
     }
 
     /// The nodes that one needs: its arguments, or what it is an alias of.
-    fn sources_of(
-        &self,
-        node: NodeId,
-        bound: &IndexMap<String, NodeId>,
-    ) -> Result<Vec<NodeId>, AllocError> {
+    fn sources_of(&self, node: NodeId, bound: &Arguments) -> Result<Vec<NodeId>, AllocError> {
         let mut sources = Vec::new(self.alloc);
         push_sources(self.graph, node, bound, &mut sources)?;
         Ok(sources)
@@ -288,7 +291,7 @@ impl<'a> Wired<'a> {
         if depth == 0 || self.node(node).is_some() {
             return Ok(());
         }
-        let bound = arguments_of(self.alloc, self.graph, node)?;
+        let bound = Arguments::of(self.alloc, self.graph, node)?;
         self.write_bound(node, &bound, depth - 1)
     }
 
@@ -297,7 +300,7 @@ impl<'a> Wired<'a> {
     fn write_bound(
         &mut self,
         node: NodeId,
-        bound: &IndexMap<String, NodeId>,
+        bound: &Arguments,
         depth: usize,
     ) -> Result<(), Refusal> {
         self.write_sources(node, bound, depth)?;
@@ -309,7 +312,7 @@ impl<'a> Wired<'a> {
     fn write_sources(
         &mut self,
         node: NodeId,
-        bound: &IndexMap<String, NodeId>,
+        bound: &Arguments,
         depth: usize,
     ) -> Result<(), Refusal> {
         let sources = self.sources_of(node, bound)?;
@@ -326,11 +329,7 @@ impl<'a> Wired<'a> {
     }
 
     /// Writes a node where those that it needs stand.
-    fn write_itself(
-        &mut self,
-        node: NodeId,
-        bound: &IndexMap<String, NodeId>,
-    ) -> Result<(), Refusal> {
+    fn write_itself(&mut self, node: NodeId, bound: &Arguments) -> Result<(), Refusal> {
         match self.written(node, bound)? {
             Some(place) => {
                 let _ = self.root.nodes.insert(node, place)?;
@@ -350,92 +349,12 @@ impl<'a> Wired<'a> {
         Ok(())
     }
 
-    /// Writes the exports.
-    fn write_exports(&mut self) -> Result<(), Refusal> {
-        for (name, node) in self.graph.exports() {
-            if let Some(place) = self.node(*node) {
-                push_export(self.alloc, &mut self.root.entries, name.as_str(), place)?;
-            }
-        }
-        Ok(())
-    }
-
-    /// Adds the name of a node that has an index.
-    fn push_name(
-        &self,
-        names: &mut Vec<IndexName>,
-        named: &mut IndexSet<u32>,
-        node: NodeId,
-        index: u32,
-    ) -> Result<(), AllocError> {
-        if let Some(name) = name_of(self.graph, node) {
-            let _ = named.insert(index)?;
-            let name = String::from_str(self.alloc, name)?;
-            names.push(IndexName { index, name })?;
-        }
-        Ok(())
-    }
-
-    /// Adds the names of the nodes of a sort, one for each index that is not named yet.
-    fn push_unnamed(
-        &self,
-        sort: Sort,
-        names: &mut Vec<IndexName>,
-        named: &mut IndexSet<u32>,
-    ) -> Result<(), AllocError> {
-        for (node, place) in self.root.nodes.iter() {
-            if place.sort == sort && !named.contains(&place.index) {
-                self.push_name(names, named, *node, place.index)?;
-            }
-        }
-        Ok(())
-    }
-
-    /// Adds the names of the nodes of a sort, one for each index.
-    fn push_names(&self, sort: Sort, names: &mut Vec<IndexName>) -> Result<(), AllocError> {
-        let mut named = IndexSet::new(self.alloc);
-        self.push_unnamed(sort, names, &mut named)
-    }
-
-    /// Adds the names of the nodes of a sort, where there are any.
-    fn push_sort(&self, sort: Sort, all: &mut Vec<SortNames>) -> Result<(), AllocError> {
-        let mut names = Vec::new(self.alloc);
-        self.push_names(sort, &mut names)?;
-        if !names.is_empty() {
-            all.push(SortNames { sort, names })?;
-        }
-        Ok(())
-    }
-
-    /// The names of nodes, for debuggers.
-    fn debug_names(&self) -> Result<Vec<SortNames>, AllocError> {
-        let mut all = Vec::new(self.alloc);
-        for sort in [
-            Sort::Func,
-            Sort::Ty,
-            Sort::Component,
-            Sort::Instance,
-            Sort::Module,
-        ] {
-            self.push_sort(sort, &mut all)?;
-        }
-        Ok(all)
-    }
-
     /// Writes all that stands behind the root's types and imports; the names of nodes.
     pub(crate) fn write_all(&mut self, called: &[Called]) -> Result<Vec<SortNames>, Refusal> {
         add_outers(self.alloc, called, &self.root.imports, &mut self.outers)?;
         self.write_nodes()?;
-        self.write_exports()?;
-        let names = self.debug_names()?;
+        push_exports(self.graph, &self.root.nodes, &mut self.root.entries)?;
+        let names = names_of_nodes(self.graph, &self.root.nodes)?;
         Ok(names)
-    }
-}
-
-/// The name of a node.
-fn name_of(graph: &CompositionGraph, node: NodeId) -> Option<&str> {
-    match node_at(graph, node) {
-        Some(node) => node.name(),
-        None => None,
     }
 }

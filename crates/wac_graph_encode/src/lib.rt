@@ -10,6 +10,7 @@ pub mod encode;
 pub mod errors;
 mod holder;
 mod instances;
+mod labels;
 mod laws;
 mod maps;
 mod modules;

@@ -2,7 +2,7 @@
 
 use crate::asks::{Ask, Asked, Asking};
 use crate::classes::{Classes, classes_of, has_track};
-use crate::copies::{add_world, bare_world};
+use crate::copies::{add_world, bare_world, filled};
 use crate::errors::Refusal;
 use crate::maps::insert_under;
 use crate::unnamed::Unnamed;
@@ -338,8 +338,8 @@ fn world_kept(
 ) -> Result<World, AllocError> {
     let mut world = bare_world(alloc, None);
     let imports = &mut world.imports;
-    add_imports(alloc, &mut asked.types, &asked.asks, classes, kept, imports)?;
-    Ok(world)
+    let added = add_imports(alloc, &mut asked.types, &asked.asks, classes, kept, imports);
+    filled(world, added)
 }
 
 /// The world of the outer imports.

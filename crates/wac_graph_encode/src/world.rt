@@ -5,7 +5,7 @@ ghost use Rattle.wac_types_base.specs.declared.item.ItemKind.{ItemKind};
 ghost use Rattle.wac_types_base.specs.Collection.{Stands, Grows};
 
 use crate::asks::{Asked, Definition};
-use crate::copies::{add_world, bare_world};
+use crate::copies::{add_world, bare_world, filled};
 use crate::copying::Copies;
 use crate::maps::insert_under;
 use crate::nodes::{import_name, kind_of};
@@ -275,8 +275,8 @@ fn world_of_parts(
     definitions: &[Definition],
 ) -> Result<World, AllocError> {
     let mut world = bare_world(graph.alloc(), None);
-    add_parts(graph, types, outers, definitions, &mut world)?;
-    Ok(world)
+    let added = add_parts(graph, types, outers, definitions, &mut world);
+    filled(world, added)
 }
 
 /// The world of a composition, beside what is asked.

@@ -2,7 +2,7 @@
 
 use crate::copies::{
     add_interface, add_world, bare_interface, bare_world, copy_items, copy_text, copy_use,
-    copy_uses,
+    copy_uses, filled,
 };
 use crate::maps::insert_under;
 use indexmap::{IndexMap, IndexSet};
@@ -136,8 +136,8 @@ fn used_by_world(
     id: WorldId,
 ) -> Result<IndexSet<InterfaceId>, AllocError> {
     let mut found = IndexSet::new(alloc);
-    add_used_by_world(types, id, &mut found)?;
-    Ok(found)
+    let added = add_used_by_world(types, id, &mut found);
+    filled(found, added)
 }
 
 // ---- component types
@@ -171,8 +171,8 @@ fn add_types_only(
 fn with_types_only(alloc: Global, interface: &Interface) -> Result<Interface, AllocError> {
     let id = copy_text(&interface.id)?;
     let mut only = bare_interface(alloc, id);
-    add_types_only(alloc, interface, &mut only)?;
-    Ok(only)
+    let added = add_types_only(alloc, interface, &mut only);
+    filled(only, added)
 }
 
 /// The interface of an id with its type exports only.
@@ -290,8 +290,8 @@ fn world_importing(
     name: Option<Text>,
 ) -> Result<World, AllocError> {
     let mut world = bare_world(alloc, name);
-    add_importing(alloc, types, id, &mut world)?;
-    Ok(world)
+    let added = add_importing(alloc, types, id, &mut world);
+    filled(world, added)
 }
 
 /// The world as a component type.
@@ -537,8 +537,8 @@ fn interface_of_found(
 ) -> Result<Interface, AllocError> {
     let id = copy_text(&interface.id)?;
     let mut all = bare_interface(alloc, id);
-    add_found_of_interface(alloc, done, interface, &mut all)?;
-    Ok(all)
+    let added = add_found_of_interface(alloc, done, interface, &mut all);
+    filled(all, added)
 }
 
 /// What becomes of an interface.
@@ -585,8 +585,8 @@ fn world_of_found(
 ) -> Result<World, AllocError> {
     let id = copy_text(&world.id)?;
     let mut all = bare_world(alloc, id);
-    add_found_of_world(alloc, form, done, world, &mut all)?;
-    Ok(all)
+    let added = add_found_of_world(alloc, form, done, world, &mut all);
+    filled(all, added)
 }
 
 /// What becomes of a world in that form.
