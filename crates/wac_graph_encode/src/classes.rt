@@ -44,10 +44,12 @@ fn identifier_asked<'a>(
 
 fn name_asked<'a>(alloc: Global, types: &'a Types, ask: &'a Ask) -> Result<Named<'a>, AllocError> {
     let name = ask.name.as_str();
+    let identifier = identifier_asked(alloc, types, ask)?;
+    let track = alternate_lookup_key(alloc, name)?;
     Ok(Named {
         name,
-        track: alternate_lookup_key(alloc, name)?,
-        identifier: identifier_asked(alloc, types, ask)?,
+        track,
+        identifier,
     })
 }
 

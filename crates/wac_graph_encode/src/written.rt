@@ -638,8 +638,23 @@ fn parts_of(
     kind: ItemKind,
 ) -> Result<IndexSet<ItemKind>, AllocError> {
     let mut parts = IndexSet::new(alloc);
-    add_parts(types, kind, &mut parts)?;
-    Ok(parts)
+    let added = add_parts(types, kind, &mut parts);
+    filled(parts, added)
+}
+
+/// Adds what becomes of parts.
+fn form_each(
+    alloc: Global,
+    types: &mut Types,
+    form: Form,
+    parts: &IndexSet<ItemKind>,
+    done: &mut Changes,
+) -> Result<(), AllocError> {
+    for part in parts.iter() {
+        let after = form_part(alloc, types, form, done, *part)?;
+        let _ = done.insert(*part, after)?;
+    }
+    Ok(())
 }
 
 /// What became of parts.
@@ -650,11 +665,22 @@ fn form_parts(
     parts: &IndexSet<ItemKind>,
 ) -> Result<Changes, AllocError> {
     let mut done = IndexMap::new(alloc);
-    for part in parts.iter() {
-        let after = form_part(alloc, types, form, &done, *part)?;
-        let _ = done.insert(*part, after)?;
-    }
-    Ok(done)
+    let added = form_each(alloc, types, form, parts, &mut done);
+    filled(done, added)
+}
+
+/// The item, with each world among its parts in that form.
+fn formed_by(
+    alloc: Global,
+    types: &mut Types,
+    form: Form,
+    parts: &IndexSet<ItemKind>,
+    kind: ItemKind,
+) -> Result<ItemKind, AllocError> {
+    let done = form_parts(alloc, types, form, parts)?;
+    let item = found_item(&done, kind);
+    drop(done);
+    Ok(item)
 }
 
 /// The item, with each world in it in that form.
@@ -665,31 +691,18 @@ pub(crate) fn formed(
     kind: ItemKind,
 ) -> Result<ItemKind, AllocError> {
     let parts = parts_of(alloc, types, kind)?;
-    let done = form_parts(alloc, types, form, &parts)?;
-    Ok(found_item(&done, kind))
+    let item = formed_by(alloc, types, form, &parts, kind);
+    drop(parts);
+    item
 }
 
 // ---- definitions
 
 /// A world with that one export.
-fn world_exporting(alloc: Global, name: String, item: ItemKind) -> Result<World, AllocError> {
+fn world_exporting(alloc: Global, name: &str, item: ItemKind) -> Result<World, AllocError> {
     let mut world = bare_world(alloc, None);
-    let _ = world.exports.insert(name, item)?;
-    Ok(world)
-}
-
-/// A component type with that one export.
-fn wrapped(
-    alloc: Global,
-    types: &mut Types,
-    name: String,
-    item: ItemKind,
-) -> Result<Option<WorldId>, AllocError> {
-    let world = world_exporting(alloc, name, item)?;
-    match add_world(types, world)? {
-        Some(id) => Ok(Some(importing(alloc, types, id)?)),
-        None => Ok(None),
-    }
+    let added = insert_under(alloc, &mut world.exports, name, item);
+    filled(world, added)
 }
 
 /// The identifier of a definition of an interface or a world, and what it is the type of.
@@ -710,15 +723,40 @@ fn wrapped_item(types: &Types, kind: ItemKind) -> Option<(&str, ItemKind)> {
     }
 }
 
-/// The same with a name of its own.
-fn wrapped_name(
-    alloc: Global,
-    types: &Types,
-    kind: ItemKind,
-) -> Result<Option<(String, ItemKind)>, AllocError> {
+/// A component type of that one export, for a definition of an interface or a world with identifier.
+fn wrapping(alloc: Global, types: &Types, kind: ItemKind) -> Result<Option<World>, AllocError> {
     match wrapped_item(types, kind) {
-        Some((name, item)) => Ok(Some((String::from_str(alloc, name)?, item))),
+        Some((name, item)) => {
+            let world = world_exporting(alloc, name, item)?;
+            Ok(Some(world))
+        }
         None => Ok(None),
+    }
+}
+
+/// Adds a world as a component type, if all that it names stands.
+fn add_component(
+    alloc: Global,
+    types: &mut Types,
+    world: World,
+) -> Result<Option<WorldId>, AllocError> {
+    match add_world(types, world)? {
+        Some(id) => {
+            let id = importing(alloc, types, id)?;
+            Ok(Some(id))
+        }
+        None => Ok(None),
+    }
+}
+
+/// An interface or a world with identifier inside a component type, and any other item itself.
+fn wrapped(alloc: Global, types: &mut Types, kind: ItemKind) -> Result<ItemKind, AllocError> {
+    let Some(world) = wrapping(alloc, types, kind)? else {
+        return Ok(kind);
+    };
+    match add_component(alloc, types, world)? {
+        Some(id) => Ok(ItemKind::Ty(Type::World(id))),
+        None => Ok(kind),
     }
 }
 
@@ -729,11 +767,5 @@ pub(crate) fn written_definition(
     kind: ItemKind,
 ) -> Result<ItemKind, AllocError> {
     let kind = formed(alloc, types, Form::Importing, kind)?;
-    match wrapped_name(alloc, types, kind)? {
-        Some((name, item)) => match wrapped(alloc, types, name, item)? {
-            Some(id) => Ok(ItemKind::Ty(Type::World(id))),
-            None => Ok(kind),
-        },
-        None => Ok(kind),
-    }
+    wrapped(alloc, types, kind)
 }
