@@ -85,7 +85,7 @@ fn bytes_of(
     };
     let writing = Writing {
         graph,
-        asked,
+        worlds: &asked.packages,
         all,
         definitions,
         options,

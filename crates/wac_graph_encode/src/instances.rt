@@ -4,14 +4,14 @@ use crate::errors::Refusal;
 use crate::labels::names_of_nodes;
 use crate::maps::insert_under;
 use crate::nodes::{Arguments, import_name, kind_of, package_of, world_at};
-use crate::root::{Counts, Root, next_index};
+use crate::root::{Root, push_entry};
 use indexmap::IndexMap;
 use std::alloc::{AllocError, Global};
-use wac_graph_bytes::{Alias, Entry, Export, NamedIndex, Sort, SortNames};
+use wac_graph_bytes::{Entry, Export, NamedIndex, Sort, SortNames};
 use wac_graph_core::{CompositionGraph, NodeId, PackageId};
 use wac_graph_scopes::imports::{Called, SortIndex};
 use wac_graph_scopes::parts::{import_at, import_count};
-use wac_types_base::{ItemKind, NamedMap, WorldId};
+use wac_types_base::{ItemKind, NamedMap, Types, WorldId};
 
 /// The entries so far, and what stands for nodes.
 pub(crate) struct Wired<'a> {
@@ -49,26 +49,6 @@ fn sort_at(graph: &CompositionGraph, node: NodeId) -> Option<Sort> {
     match kind_of(graph, node) {
         Some(kind) => sort_of(kind),
         None => None,
-    }
-}
-
-fn count_of(counts: &Counts, sort: Sort) -> u32 {
-    match sort {
-        Sort::Func => counts.funcs,
-        Sort::Ty => counts.types,
-        Sort::Component => counts.components,
-        Sort::Instance => counts.instances,
-        Sort::Module => counts.modules,
-    }
-}
-
-fn set_count(counts: &mut Counts, sort: Sort, next: u32) {
-    match sort {
-        Sort::Func => counts.funcs = next,
-        Sort::Ty => counts.types = next,
-        Sort::Component => counts.components = next,
-        Sort::Instance => counts.instances = next,
-        Sort::Module => counts.modules = next,
     }
 }
 
@@ -121,6 +101,58 @@ fn push_argument(
     Ok(())
 }
 
+/// What stands for nodes and for outer imports.
+#[derive(Clone, Copy)]
+struct Standing<'a> {
+    nodes: &'a IndexMap<NodeId, SortIndex>,
+    outers: &'a NamedMap<SortIndex>,
+}
+
+/// What is passed to an instance under a name.
+fn argument(standing: Standing<'_>, bound: &Arguments, name: &str) -> Option<SortIndex> {
+    match bound.get(name) {
+        Some(argument) => standing.nodes.get(&argument).copied(),
+        None => standing.outers.get(name).copied(),
+    }
+}
+
+/// Adds the arguments of an instance of that world. Whether all stand.
+fn push_arguments(
+    alloc: Global,
+    types: &Types,
+    world: WorldId,
+    standing: Standing<'_>,
+    bound: &Arguments,
+    arguments: &mut Vec<NamedIndex>,
+) -> Result<bool, AllocError> {
+    for at in 0..import_count(types, world) {
+        if let Some(import) = import_at(types, world, at) {
+            match argument(standing, bound, import.name) {
+                Some(place) => push_argument(alloc, arguments, import.name, place)?,
+                None => return Ok(false),
+            }
+        }
+    }
+    Ok(true)
+}
+
+/// The arguments of an instance of that world, where all stand.
+fn arguments_in(
+    alloc: Global,
+    types: &Types,
+    world: WorldId,
+    standing: Standing<'_>,
+    bound: &Arguments,
+) -> Result<Option<Vec<NamedIndex>>, AllocError> {
+    let mut arguments = Vec::new(alloc);
+    let all_stand = push_arguments(alloc, types, world, standing, bound, &mut arguments)?;
+    if all_stand {
+        Ok(Some(arguments))
+    } else {
+        Ok(None)
+    }
+}
+
 /// Adds an export.
 fn push_export(
     alloc: Global,
@@ -129,13 +161,13 @@ fn push_export(
     place: SortIndex,
 ) -> Result<(), AllocError> {
     let name = String::from_str(alloc, name)?;
-    entries.push(Entry::Export(Export {
+    let export = Export {
         name,
         sort: place.sort,
         index: place.index,
         stated: None,
-    }))?;
-    Ok(())
+    };
+    push_entry(entries, Entry::Export(export))
 }
 
 /// Adds the exports of nodes that stand.
@@ -168,15 +200,6 @@ impl<'a> Wired<'a> {
         self.root.nodes.get(&node).copied()
     }
 
-    /// Adds an entry that adds one thing of a sort.
-    fn add(&mut self, entry: Entry, sort: Sort) -> Result<SortIndex, Refusal> {
-        self.root.entries.push(entry)?;
-        let index = count_of(&self.root.counts, sort);
-        let next = next_index(index)?;
-        set_count(&mut self.root.counts, sort, next);
-        Ok(SortIndex { sort, index })
-    }
-
     /// The sort of an alias, the index of its source and its name there, where its source stands.
     fn alias_of(&self, node: NodeId) -> Option<(Sort, u32, &'a str)> {
         let Some((source, name)) = self.graph.get_alias_source(node) else {
@@ -196,36 +219,8 @@ impl<'a> Wired<'a> {
         let Some((sort, index, name)) = self.alias_of(node) else {
             return Ok(None);
         };
-        let name = String::from_str(self.alloc, name)?;
-        let entry = Entry::Alias(Alias::Export(sort, index, name));
-        Ok(Some(self.add(entry, sort)?))
-    }
-
-    /// What is passed to an instance under a name.
-    fn argument(&self, bound: &Arguments, name: &str) -> Option<SortIndex> {
-        match bound.get(name) {
-            Some(argument) => self.node(argument),
-            None => self.outers.get(name).copied(),
-        }
-    }
-
-    /// Adds the arguments of an instance of that world. Whether all stand.
-    fn push_arguments(
-        &self,
-        world: WorldId,
-        bound: &Arguments,
-        arguments: &mut Vec<NamedIndex>,
-    ) -> Result<bool, AllocError> {
-        let types = self.graph.types();
-        for at in 0..import_count(types, world) {
-            if let Some(import) = import_at(types, world, at) {
-                match self.argument(bound, import.name) {
-                    Some(place) => push_argument(self.alloc, arguments, import.name, place)?,
-                    None => return Ok(false),
-                }
-            }
-        }
-        Ok(true)
+        let place = self.root.add_alias(self.alloc, sort, index, name)?;
+        Ok(Some(place))
     }
 
     /// The arguments of an instance, where all stand.
@@ -234,25 +229,16 @@ impl<'a> Wired<'a> {
         id: PackageId,
         bound: &Arguments,
     ) -> Result<Option<Vec<NamedIndex>>, AllocError> {
-        let Some(world) = world_at(self.graph, id) else {
-            return Ok(None);
-        };
-        let mut arguments = Vec::new(self.alloc);
-        let all_stand = self.push_arguments(world, bound, &mut arguments)?;
-        if all_stand {
-            Ok(Some(arguments))
-        } else {
-            Ok(None)
+        match world_at(self.graph, id) {
+            Some(world) => {
+                let standing = Standing {
+                    nodes: &self.root.nodes,
+                    outers: &self.outers,
+                };
+                arguments_in(self.alloc, self.graph.types(), world, standing, bound)
+            }
+            None => Ok(None),
         }
-    }
-
-    /// Writes an instance of that component.
-    fn add_instance(
-        &mut self,
-        component: u32,
-        arguments: Vec<NamedIndex>,
-    ) -> Result<SortIndex, Refusal> {
-        self.add(Entry::Instantiate(component, arguments), Sort::Instance)
     }
 
     /// Writes an instance, where its arguments stand.
@@ -261,7 +247,10 @@ impl<'a> Wired<'a> {
             return Ok(None);
         };
         match self.arguments(id, bound)? {
-            Some(arguments) => Ok(Some(self.add_instance(component, arguments)?)),
+            Some(arguments) => {
+                let place = self.root.add_instance(component, arguments)?;
+                Ok(Some(place))
+            }
             None => Ok(None),
         }
     }

@@ -1,13 +1,13 @@
 //! The types and the imports of a composition, as entries.
 
-use crate::asks::{Asked, Definition};
+use crate::asks::Definition;
 use crate::conflicts::dependency_name;
 use crate::errors::{Refusal, not_written};
 use crate::nodes::package_at;
 use crate::options::EncodeOptions;
 use indexmap::IndexMap;
 use std::alloc::{AllocError, Global};
-use wac_graph_bytes::{Declaration, Description, Entry, Sort};
+use wac_graph_bytes::{Alias, Declaration, Description, Entry, NamedIndex, Sort};
 use wac_graph_core::{CompositionGraph, NodeId, PackageId};
 use wac_graph_scopes::imports::{ImportScope, Importing, SortIndex};
 use wac_graph_scopes::items::ItemScope;
@@ -57,6 +57,12 @@ pub(crate) fn next_index(index: u32) -> Result<u32, Refusal> {
     }
 }
 
+/// Adds an entry.
+pub(crate) fn push_entry(entries: &mut Vec<Entry>, entry: Entry) -> Result<(), AllocError> {
+    entries.push(entry)?;
+    Ok(())
+}
+
 /// The name of the outer import at a place.
 fn name_at<'a>(all: Importing<'a>, at: usize) -> &'a str {
     match import_at(all.types, all.world, at) {
@@ -78,35 +84,24 @@ fn write_outer(
     }
 }
 
-/// Writes the outer imports at places.
-fn write_in_order(
-    alloc: Global,
-    all: Importing<'_>,
-    scope: &mut ImportScope,
-    order: &[usize],
-) -> Result<(), Refusal> {
-    for at in order {
-        write_outer(alloc, all, scope, *at)?;
-    }
-    Ok(())
-}
-
 /// Writes the outer imports in an order.
-fn write_ordered(
+fn write_in_order(
     alloc: Global,
     all: Importing<'_>,
     scope: &mut ImportScope,
     order: &ImportOrder,
 ) -> Result<(), Refusal> {
-    write_in_order(alloc, all, scope, &order.sources)?;
-    write_in_order(alloc, all, scope, &order.others)
+    for at in order.sources.iter().chain(&order.others) {
+        write_outer(alloc, all, scope, *at)?;
+    }
+    Ok(())
 }
 
 /// Writes the outer imports.
 fn write_outers(alloc: Global, all: Importing<'_>, scope: &mut ImportScope) -> Result<(), Refusal> {
     scope.begin(alloc, all)?;
     let order = scope.order(alloc, all)?;
-    write_ordered(alloc, all, scope, &order)
+    write_in_order(alloc, all, scope, &order)
 }
 
 /// Writes the type of an item that stands at the root.
@@ -216,10 +211,10 @@ fn import_packages(
     graph: &CompositionGraph,
     scope: &mut ImportScope,
     all: Importing<'_>,
-    asked: &Asked,
+    worlds: &IndexMap<PackageId, WorldId>,
     packages: &mut IndexMap<PackageId, u32>,
 ) -> Result<(), Refusal> {
-    for (id, world) in asked.packages.iter() {
+    for (id, world) in worlds.iter() {
         import_package(graph, scope, all, *id, *world, packages)?;
     }
     Ok(())
@@ -242,45 +237,49 @@ fn entry_of(declaration: Declaration) -> Option<Entry> {
 fn add_entries(entries: &mut Vec<Entry>, declarations: Vec<Declaration>) -> Result<(), AllocError> {
     for declaration in declarations {
         if let Some(entry) = entry_of(declaration) {
-            entries.push(entry)?;
+            push_entry(entries, entry)?;
         }
     }
     Ok(())
 }
 
 /// The bytes of a package.
-fn bytes_of(alloc: Global, graph: &CompositionGraph, id: PackageId) -> Result<Vec<u8>, AllocError> {
-    let mut bytes = Vec::new(alloc);
-    if let Some(package) = package_at(graph, id) {
-        bytes.extend_from_slice(package.bytes())?;
+fn bytes_at(graph: &CompositionGraph, id: PackageId) -> &[u8] {
+    match package_at(graph, id) {
+        Some(package) => package.bytes(),
+        None => &[],
     }
-    Ok(bytes)
 }
 
-/// Nests a package behind what is written.
+/// Adds the bytes of a component.
+fn push_nested(alloc: Global, entries: &mut Vec<Entry>, bytes: &[u8]) -> Result<(), AllocError> {
+    let mut copy = Vec::new(alloc);
+    copy.extend_from_slice(bytes)?;
+    push_entry(entries, Entry::Nested(copy))
+}
+
+/// Nests a package of those bytes behind what is written.
 fn nest_package(
     alloc: Global,
-    graph: &CompositionGraph,
     root: &mut Root,
     id: PackageId,
+    bytes: &[u8],
 ) -> Result<(), Refusal> {
     let index = root.counts.components;
     root.counts.components = next_index(index)?;
-    let bytes = bytes_of(alloc, graph, id)?;
-    root.entries.push(Entry::Nested(bytes))?;
+    push_nested(alloc, &mut root.entries, bytes)?;
     let _ = root.packages.insert(id, index)?;
     Ok(())
 }
 
 /// Nests the packages behind what is written.
 fn nest_packages(
-    alloc: Global,
     graph: &CompositionGraph,
-    asked: &Asked,
+    worlds: &IndexMap<PackageId, WorldId>,
     root: &mut Root,
 ) -> Result<(), Refusal> {
-    for id in asked.packages.keys() {
-        nest_package(alloc, graph, root, *id)?;
+    for id in worlds.keys() {
+        nest_package(graph.alloc(), root, *id, bytes_at(graph, *id))?;
     }
     Ok(())
 }
@@ -315,6 +314,64 @@ impl Root {
     }
 }
 
+fn count_of(counts: &Counts, sort: Sort) -> u32 {
+    match sort {
+        Sort::Func => counts.funcs,
+        Sort::Ty => counts.types,
+        Sort::Component => counts.components,
+        Sort::Instance => counts.instances,
+        Sort::Module => counts.modules,
+    }
+}
+
+fn set_count(counts: &mut Counts, sort: Sort, next: u32) {
+    match sort {
+        Sort::Func => counts.funcs = next,
+        Sort::Ty => counts.types = next,
+        Sort::Component => counts.components = next,
+        Sort::Instance => counts.instances = next,
+        Sort::Module => counts.modules = next,
+    }
+}
+
+/// The index of one more thing of a sort.
+fn count_one(counts: &mut Counts, sort: Sort) -> Result<u32, Refusal> {
+    let index = count_of(counts, sort);
+    let next = next_index(index)?;
+    set_count(counts, sort, next);
+    Ok(index)
+}
+
+impl Root {
+    /// Adds an entry that adds one thing of a sort.
+    fn add(&mut self, entry: Entry, sort: Sort) -> Result<SortIndex, Refusal> {
+        push_entry(&mut self.entries, entry)?;
+        let index = count_one(&mut self.counts, sort)?;
+        Ok(SortIndex { sort, index })
+    }
+
+    /// Adds an alias of an export of an instance.
+    pub(crate) fn add_alias(
+        &mut self,
+        alloc: Global,
+        sort: Sort,
+        instance: u32,
+        name: &str,
+    ) -> Result<SortIndex, Refusal> {
+        let name = String::from_str(alloc, name)?;
+        self.add(Entry::Alias(Alias::Export(sort, instance, name)), sort)
+    }
+
+    /// Adds an instance of a component.
+    pub(crate) fn add_instance(
+        &mut self,
+        component: u32,
+        arguments: Vec<NamedIndex>,
+    ) -> Result<SortIndex, Refusal> {
+        self.add(Entry::Instantiate(component, arguments), Sort::Instance)
+    }
+}
+
 /// Takes what is written in a scope.
 fn take_scope(alloc: Global, scope: &mut ImportScope, root: &mut Root) -> Result<(), AllocError> {
     root.counts = counts_of(&scope.scope);
@@ -326,7 +383,8 @@ fn take_scope(alloc: Global, scope: &mut ImportScope, root: &mut Root) -> Result
 #[derive(Clone, Copy)]
 pub(crate) struct Writing<'a> {
     pub graph: &'a CompositionGraph,
-    pub asked: &'a Asked,
+    /// Of the packages that are imported or nested.
+    pub worlds: &'a IndexMap<PackageId, WorldId>,
     /// The outer imports.
     pub all: Importing<'a>,
     /// In the form in which they are written.
@@ -340,18 +398,15 @@ fn write_packages(
     scope: &mut ImportScope,
     root: &mut Root,
 ) -> Result<(), Refusal> {
-    let Writing {
-        graph,
-        asked,
-        all,
-        ..
-    } = writing;
-    if writing.options.define_components {
-        take_scope(graph.alloc(), scope, root)?;
-        return nest_packages(graph.alloc(), graph, asked, root);
+    let graph = writing.graph;
+    let worlds = writing.worlds;
+    if !writing.options.define_components {
+        import_packages(graph, scope, writing.all, worlds, &mut root.packages)?;
     }
-    import_packages(graph, scope, all, asked, &mut root.packages)?;
     take_scope(graph.alloc(), scope, root)?;
+    if writing.options.define_components {
+        nest_packages(graph, worlds, root)?;
+    }
     Ok(())
 }
 
