@@ -1,6 +1,6 @@
 //! What a graph asks from outside, in order.
 
-use crate::nodes::{arguments_of, import_name, kind_of, node_at, package_of, world_at};
+use crate::nodes::{Arguments, import_name, kind_of, node_at, package_of, world_at};
 use indexmap::{IndexMap, IndexSet};
 use std::alloc::{AllocError, Global};
 use wac_graph_core::{CompositionGraph, NodeId, NodeKind, PackageId};
@@ -23,7 +23,6 @@ pub(crate) enum Asking {
 }
 
 /// What is asked under a name.
-#[derive(Drop)]
 pub(crate) struct Ask {
     pub asking: Asking,
     /// The node that asks; of a used interface the one whose type uses it.
@@ -32,8 +31,18 @@ pub(crate) struct Ask {
     pub item: ItemKind,
 }
 
+impl Drop for Ask {
+    fn drop(self) {
+        let Ask {
+            asking: _,
+            by: _,
+            name: _,
+            item: _,
+        } = self;
+    }
+}
+
 /// A definition, by the name that it was defined under.
-#[derive(Drop)]
 pub(crate) struct Definition {
     pub node: NodeId,
     pub name: Text,
@@ -43,8 +52,18 @@ pub(crate) struct Definition {
     pub copy: Option<ItemKind>,
 }
 
+impl Drop for Definition {
+    fn drop(self) {
+        let Definition {
+            node: _,
+            name: _,
+            ty: _,
+            copy: _,
+        } = self;
+    }
+}
+
 /// What a graph asks and defines, in a collection of its own.
-#[derive(Drop)]
 pub(crate) struct Asked {
     pub types: Types,
     pub asks: Vec<Ask>,
@@ -53,8 +72,38 @@ pub(crate) struct Asked {
     pub definitions: Vec<Definition>,
 }
 
+impl Drop for Asked {
+    fn drop(self) {
+        let Asked {
+            types: _,
+            asks: _,
+            packages: _,
+            definitions: _,
+        } = self;
+    }
+}
+
 fn owned(alloc: Global, text: &str) -> Result<Text, AllocError> {
     Ok(Text::new(String::from_str(alloc, text)?))
+}
+
+/// Adds an ask under a name.
+fn push_ask(
+    alloc: Global,
+    asks: &mut Vec<Ask>,
+    asking: Asking,
+    by: NodeId,
+    item: ItemKind,
+    name: &str,
+) -> Result<(), AllocError> {
+    let name = owned(alloc, name)?;
+    asks.push(Ask {
+        asking,
+        by,
+        name,
+        item,
+    })?;
+    Ok(())
 }
 
 impl Asked {
@@ -80,15 +129,8 @@ impl Asked {
         let Some(kind) = kind_of(graph, node) else {
             return Ok(());
         };
-        let name = owned(alloc, name)?;
         let item = copy_item(alloc, graph.types(), kind, &mut self.types)?;
-        self.asks.push(Ask {
-            asking: Asking::ByName,
-            by: node,
-            name,
-            item,
-        })?;
-        Ok(())
+        push_ask(alloc, &mut self.asks, Asking::ByName, node, item, name)
     }
 
     /// The world of a package in this collection, if it stands.
@@ -120,17 +162,13 @@ impl Asked {
         alloc: Global,
         node: NodeId,
         world: WorldId,
-        bound: &IndexMap<String, NodeId>,
+        bound: &Arguments,
     ) -> Result<(), AllocError> {
         for at in 0..import_count(&self.types, world) {
             if let Some(import) = import_at(&self.types, world, at) {
-                if !bound.contains_key(import.name) {
-                    self.asks.push(Ask {
-                        asking: Asking::ToFill,
-                        by: node,
-                        name: owned(alloc, import.name)?,
-                        item: import.kind,
-                    })?;
+                if bound.get(import.name).is_none() {
+                    let asks = &mut self.asks;
+                    push_ask(alloc, asks, Asking::ToFill, node, import.kind, import.name)?;
                 }
             }
         }
@@ -150,7 +188,7 @@ impl Asked {
         let Some(world) = self.copied_world(alloc, graph, package)? else {
             return Ok(());
         };
-        let bound = arguments_of(alloc, graph, node)?;
+        let bound = Arguments::of(alloc, graph, node)?;
         self.ask_unbound(alloc, node, world, &bound)
     }
 
@@ -183,8 +221,8 @@ impl Asked {
         name: &str,
     ) -> Result<(), AllocError> {
         if let Some(ItemKind::Ty(ty)) = kind_of(graph, node) {
-            let name = owned(alloc, name)?;
             let copy = self.copied_type(alloc, graph, ty)?;
+            let name = owned(alloc, name)?;
             self.definitions.push(Definition {
                 node,
                 name,
@@ -203,25 +241,30 @@ fn is_definition(graph: &CompositionGraph, id: NodeId) -> bool {
     }
 }
 
-/// The first name that each node is exported under.
-fn first_exports(
-    alloc: Global,
+/// Adds the first name that each node is exported under.
+fn add_first_exports(
     graph: &CompositionGraph,
-) -> Result<IndexMap<NodeId, Text>, AllocError> {
-    let mut names = IndexMap::new(alloc);
+    names: &mut IndexMap<NodeId, Text>,
+) -> Result<(), AllocError> {
     for (name, node) in graph.exports() {
         if !names.contains_key(node) {
-            let _ = names.insert(*node, name.copy()?)?;
+            let name = name.copy()?;
+            let _ = names.insert(*node, name)?;
         }
     }
-    Ok(names)
+    Ok(())
 }
 
 /// The asks of used interfaces, each interface once.
-#[derive(Drop)]
 struct UseAsks {
     asks: Vec<Ask>,
     seen: IndexSet<InterfaceId>,
+}
+
+impl Drop for UseAsks {
+    fn drop(self) {
+        let UseAsks { asks: _, seen: _ } = self;
+    }
 }
 
 /// The interfaces that a definition uses which is written as it is: those of its item, or else those of its world.
@@ -255,12 +298,8 @@ fn add_use(
         return Ok(false);
     }
     if let Some(name) = identifier(types, id) {
-        all.asks.push(Ask {
-            asking: Asking::ToUse,
-            by,
-            name: owned(alloc, name)?,
-            item: ItemKind::Instance(id),
-        })?;
+        let item = ItemKind::Instance(id);
+        push_ask(alloc, &mut all.asks, Asking::ToUse, by, item, name)?;
     }
     Ok(true)
 }
@@ -375,9 +414,16 @@ fn ask_uses_of_definitions(
     Ok(())
 }
 
+/// Adds the interfaces that asked items and definitions use.
+fn ask_all_uses(alloc: Global, asked: &Asked, all: &mut UseAsks) -> Result<(), AllocError> {
+    ask_uses_of_asks(alloc, asked, all)?;
+    ask_uses_of_definitions(alloc, asked, all)
+}
+
 impl UseAsks {
     fn into_asks(self) -> Vec<Ask> {
-        self.asks
+        let UseAsks { asks, seen: _ } = self;
+        asks
     }
 }
 
@@ -387,9 +433,31 @@ fn uses_asked(alloc: Global, asked: &Asked) -> Result<Vec<Ask>, AllocError> {
         asks: Vec::new(alloc),
         seen: IndexSet::new(alloc),
     };
-    ask_uses_of_asks(alloc, asked, &mut all)?;
-    ask_uses_of_definitions(alloc, asked, &mut all)?;
+    ask_all_uses(alloc, asked, &mut all)?;
     Ok(all.into_asks())
+}
+
+/// The name of a node, if it has one.
+fn name_among(names: &IndexMap<NodeId, Text>, node: NodeId) -> &str {
+    match names.get(&node) {
+        Some(name) => name.as_str(),
+        None => "",
+    }
+}
+
+/// Adds the definitions, each under its name.
+fn define_all(
+    alloc: Global,
+    graph: &CompositionGraph,
+    names: &IndexMap<NodeId, Text>,
+    asked: &mut Asked,
+) -> Result<(), AllocError> {
+    for node in graph.node_ids() {
+        if is_definition(graph, node) {
+            asked.define(alloc, graph, node, name_among(names, node))?;
+        }
+    }
+    Ok(())
 }
 
 /// Adds the definitions, each under the first name that leads to it.
@@ -398,17 +466,9 @@ fn ask_definitions(
     graph: &CompositionGraph,
     asked: &mut Asked,
 ) -> Result<(), AllocError> {
-    let names = first_exports(alloc, graph)?;
-    for node in graph.node_ids() {
-        if is_definition(graph, node) {
-            let name = match names.get(&node) {
-                Some(name) => name.as_str(),
-                None => "",
-            };
-            asked.define(alloc, graph, node, name)?;
-        }
-    }
-    Ok(())
+    let mut names = IndexMap::new(alloc);
+    add_first_exports(graph, &mut names)?;
+    define_all(alloc, graph, &names, asked)
 }
 
 /// Adds what the imports of a graph ask.

@@ -1,6 +1,7 @@
 //! Which asks are one outer import, and how it is spelled.
 
 use crate::asks::Ask;
+use crate::maps::insert_under;
 use semver::Version;
 use std::alloc::{AllocError, Global};
 use std::cmp::Ordering;
@@ -10,11 +11,20 @@ use wac_types_base::{ItemKind, NamedMap, Types};
 use wac_types_names::alternate_lookup_key;
 
 /// An asked name: its track with its version, and the identifier of the instance that is asked under it.
-#[derive(Drop)]
 struct Named<'a> {
     name: &'a str,
     track: Option<(&'a str, Version)>,
     identifier: Option<&'a str>,
+}
+
+impl Drop for Named<'_> {
+    fn drop(self) {
+        let Named {
+            name: _,
+            track: _,
+            identifier: _,
+        } = self;
+    }
 }
 
 /// The identifier of an instance that is asked under the name of an interface.
@@ -34,10 +44,12 @@ fn identifier_asked<'a>(
 
 fn name_asked<'a>(alloc: Global, types: &'a Types, ask: &'a Ask) -> Result<Named<'a>, AllocError> {
     let name = ask.name.as_str();
+    let identifier = identifier_asked(alloc, types, ask)?;
+    let track = alternate_lookup_key(alloc, name)?;
     Ok(Named {
         name,
-        track: alternate_lookup_key(alloc, name)?,
-        identifier: identifier_asked(alloc, types, ask)?,
+        track,
+        identifier,
     })
 }
 
@@ -54,12 +66,20 @@ impl Named<'_> {
 }
 
 /// The classes of asks, each called by the place of its first ask.
-#[derive(Drop)]
 pub(crate) struct Classes {
     /// Of each ask.
     pub labels: Vec<usize>,
     /// By the class, the ask that spells it.
     pub spellings: Vec<usize>,
+}
+
+impl Drop for Classes {
+    fn drop(self) {
+        let Classes {
+            labels: _,
+            spellings: _,
+        } = self;
+    }
 }
 
 /// The place that is kept there, or that place itself.
@@ -107,16 +127,24 @@ fn join_by(
         join(labels, *first, at);
         return Ok(());
     }
-    let _ = firsts.insert(String::from_str(alloc, word)?, at)?;
-    Ok(())
+    insert_under(alloc, firsts, word, at)
 }
 
 /// The first asks of names, tracks and identifiers.
-#[derive(Drop)]
 struct Firsts {
     by_name: NamedMap<usize>,
     by_track: NamedMap<usize>,
     by_identifier: NamedMap<usize>,
+}
+
+impl Drop for Firsts {
+    fn drop(self) {
+        let Firsts {
+            by_name: _,
+            by_track: _,
+            by_identifier: _,
+        } = self;
+    }
 }
 
 impl Firsts {
@@ -148,14 +176,27 @@ fn join_ask(
     Ok(())
 }
 
-/// The asks, each joined with those before it.
-fn labels_joined(alloc: Global, names: &[Named<'_>]) -> Result<Vec<usize>, AllocError> {
-    let mut firsts = Firsts::new(alloc);
-    let mut labels = Vec::new(alloc);
+/// Joins each ask with those before it.
+fn join_asks(
+    alloc: Global,
+    names: &[Named<'_>],
+    firsts: &mut Firsts,
+    labels: &mut Vec<usize>,
+) -> Result<(), AllocError> {
     for (at, name) in names.iter().enumerate() {
-        join_ask(alloc, name, &mut firsts, &mut labels, at)?;
+        join_ask(alloc, name, firsts, labels, at)?;
     }
-    Ok(labels)
+    Ok(())
+}
+
+/// Adds the asks, each joined with those before it.
+fn push_labels(
+    alloc: Global,
+    names: &[Named<'_>],
+    labels: &mut Vec<usize>,
+) -> Result<(), AllocError> {
+    let mut firsts = Firsts::new(alloc);
+    join_asks(alloc, names, &mut firsts, labels)
 }
 
 /// Makes each label the first ask of its class.
@@ -170,9 +211,34 @@ fn settle(labels: &mut Vec<usize>) {
 
 /// The classes: asks of one name, one track or one identifier are joined.
 fn labels_of(alloc: Global, names: &[Named<'_>]) -> Result<Vec<usize>, AllocError> {
-    let mut labels = labels_joined(alloc, names)?;
+    let mut labels = Vec::new(alloc);
+    push_labels(alloc, names, &mut labels)?;
     settle(&mut labels);
     Ok(labels)
+}
+
+/// The ask that spells a class, if this one is later on the track of the one that spells it so far.
+fn respell(names: &[Named<'_>], best: &mut Vec<usize>, class: usize, name: &Named<'_>, at: usize) {
+    if let Some(other) = names.get(place_at(best, class)) {
+        if name.is_later(other) {
+            if let Some(place) = best.get_mut(class) {
+                *place = at;
+            }
+        }
+    }
+}
+
+/// Adds of each class the ask of greatest version on the track of its first ask.
+fn push_spellings(
+    names: &[Named<'_>],
+    labels: &[usize],
+    best: &mut Vec<usize>,
+) -> Result<(), AllocError> {
+    for (at, name) in names.iter().enumerate() {
+        best.push(at)?;
+        respell(names, best, place_at(labels, at), name, at);
+    }
+    Ok(())
 }
 
 /// Of each class the ask of greatest version on the track of its first ask.
@@ -182,31 +248,28 @@ fn spellings_of(
     labels: &[usize],
 ) -> Result<Vec<usize>, AllocError> {
     let mut best = Vec::new(alloc);
-    for (at, name) in names.iter().enumerate() {
-        best.push(at)?;
-        let class = place_at(labels, at);
-        if let Some(other) = names.get(place_at(&best, class)) {
-            if name.is_later(other) {
-                if let Some(place) = best.get_mut(class) {
-                    *place = at;
-                }
-            }
-        }
-    }
+    push_spellings(names, labels, &mut best)?;
     Ok(best)
 }
 
-/// The asked names.
-fn names_asked<'a>(
+/// Adds the asked names.
+fn push_names<'a>(
     alloc: Global,
     types: &'a Types,
     asks: &'a [Ask],
-) -> Result<Vec<Named<'a>>, AllocError> {
-    let mut names = Vec::new(alloc);
+    names: &mut Vec<Named<'a>>,
+) -> Result<(), AllocError> {
     for ask in asks {
         names.push(name_asked(alloc, types, ask)?)?;
     }
-    Ok(names)
+    Ok(())
+}
+
+/// The classes of asked names.
+fn classes_of_names(alloc: Global, names: &[Named<'_>]) -> Result<Classes, AllocError> {
+    let labels = labels_of(alloc, names)?;
+    let spellings = spellings_of(alloc, names, &labels)?;
+    Ok(Classes { labels, spellings })
 }
 
 /// The classes of asks.
@@ -215,10 +278,9 @@ pub(crate) fn classes_of(
     types: &Types,
     asks: &[Ask],
 ) -> Result<Classes, AllocError> {
-    let names = names_asked(alloc, types, asks)?;
-    let labels = labels_of(alloc, &names)?;
-    let spellings = spellings_of(alloc, &names, &labels)?;
-    Ok(Classes { labels, spellings })
+    let mut names = Vec::new(alloc);
+    push_names(alloc, types, asks, &mut names)?;
+    classes_of_names(alloc, &names)
 }
 
 /// Whether a name is on a track.

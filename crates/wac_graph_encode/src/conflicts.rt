@@ -3,6 +3,7 @@
 use crate::asks::{Ask, Asked, Asking, Definition};
 use crate::errors::{Refusal, ValidationFault};
 use crate::holder::Holder;
+use crate::maps::insert_under;
 use crate::nodes::{kind_of, package_at, package_of};
 use crate::options::EncodeOptions;
 use crate::outers::Outers;
@@ -17,16 +18,18 @@ use wac_types_names::{Package, PackageKey};
 
 // ---- an import that is asked by its name and by an instance
 
-/// The imports, by their names.
-fn imports_named(alloc: Global, asks: &[Ask]) -> Result<NamedMap<NodeId>, AllocError> {
-    let mut imports = NamedMap::new(alloc);
+/// Adds the imports, by their names.
+fn add_imports(
+    alloc: Global,
+    asks: &[Ask],
+    imports: &mut NamedMap<NodeId>,
+) -> Result<(), AllocError> {
     for ask in asks {
         if ask.asking == Asking::ByName {
-            let name = String::from_str(alloc, ask.name.as_str())?;
-            let _ = imports.insert(name, ask.by)?;
+            insert_under(alloc, imports, ask.name.as_str(), ask.by)?;
         }
     }
-    Ok(imports)
+    Ok(())
 }
 
 /// The package of an instance.
@@ -67,19 +70,30 @@ fn check_ask(
     }
 }
 
+/// No ask of an instance has exactly the name of an import.
+fn check_asks(
+    alloc: Global,
+    graph: &CompositionGraph,
+    imports: &NamedMap<NodeId>,
+    asks: &[Ask],
+) -> Result<(), Refusal> {
+    for ask in asks {
+        if ask.asking == Asking::ToFill {
+            check_ask(alloc, graph, imports, ask)?;
+        }
+    }
+    Ok(())
+}
+
 /// No instance fills an import that has exactly the name of an import of the graph.
 pub(crate) fn check_implicit(
     alloc: Global,
     graph: &CompositionGraph,
     asks: &[Ask],
 ) -> Result<(), Refusal> {
-    let imports = imports_named(alloc, asks)?;
-    for ask in asks {
-        if ask.asking == Asking::ToFill {
-            check_ask(alloc, graph, &imports, ask)?;
-        }
-    }
-    Ok(())
+    let mut imports = NamedMap::new(alloc);
+    add_imports(alloc, asks, &mut imports)?;
+    check_asks(alloc, graph, &imports, asks)
 }
 
 // ---- types that cannot be written
@@ -251,6 +265,26 @@ fn push_version(
     Ok(())
 }
 
+/// Adds the name under which a package is imported to its beginning.
+fn push_package(alloc: Global, name: &mut String, package: &Package) -> Result<(), AllocError> {
+    name.push_str(package.name())?;
+    push_version(alloc, name, package.version())
+}
+
+/// Adds the name under which a package is imported to its beginning, and ends it.
+fn push_dependency(
+    alloc: Global,
+    name: &mut String,
+    graph: &CompositionGraph,
+    id: PackageId,
+) -> Result<(), AllocError> {
+    if let Some(package) = package_at(graph, id) {
+        push_package(alloc, name, package)?;
+    }
+    name.push_str(">")?;
+    Ok(())
+}
+
 /// The name under which a package is imported in place of being nested.
 pub(crate) fn dependency_name(
     alloc: Global,
@@ -258,11 +292,7 @@ pub(crate) fn dependency_name(
     id: PackageId,
 ) -> Result<String, AllocError> {
     let mut name = String::from_str(alloc, "unlocked-dep=<")?;
-    if let Some(package) = package_at(graph, id) {
-        name.push_str(package.name())?;
-        push_version(alloc, &mut name, package.version())?;
-    }
-    name.push_str(">")?;
+    push_dependency(alloc, &mut name, graph, id)?;
     Ok(name)
 }
 
@@ -292,18 +322,35 @@ fn twin_before(
 }
 
 /// The first name that is too like an earlier one, behind that one.
+fn twins_among(
+    alloc: Global,
+    validate: bool,
+    firsts: &mut NamedMap<usize>,
+    names: &[Text],
+) -> Result<Option<(usize, usize)>, AllocError> {
+    for (at, name) in names.iter().enumerate() {
+        if let Some(first) = twin_before(alloc, validate, firsts, name.as_str(), at)? {
+            return Ok(Some((first, at)));
+        }
+    }
+    Ok(None)
+}
+
+/// The first name of all that is too like an earlier one, behind that one.
 fn find_twins(
     alloc: Global,
     validate: bool,
     names: &[Text],
 ) -> Result<Option<(usize, usize)>, AllocError> {
     let mut firsts = NamedMap::new(alloc);
-    for (at, name) in names.iter().enumerate() {
-        if let Some(first) = twin_before(alloc, validate, &mut firsts, name.as_str(), at)? {
-            return Ok(Some((first, at)));
-        }
-    }
-    Ok(None)
+    twins_among(alloc, validate, &mut firsts, names)
+}
+
+/// Copies of two names.
+fn copy_both(alloc: Global, first: &Text, second: &Text) -> Result<(String, String), AllocError> {
+    let first = String::from_str(alloc, first.as_str())?;
+    let second = String::from_str(alloc, second.as_str())?;
+    Ok((first, second))
 }
 
 /// Copies of two of the names.
@@ -312,16 +359,20 @@ fn twins_of(
     validate: bool,
     names: &[Text],
 ) -> Result<Option<(String, String)>, AllocError> {
-    match find_twins(alloc, validate, names)? {
-        None => Ok(None),
-        Some((first, second)) => match (names.get(first), names.get(second)) {
-            (Some(first), Some(second)) => Ok(Some((
-                String::from_str(alloc, first.as_str())?,
-                String::from_str(alloc, second.as_str())?,
-            ))),
-            _ => Ok(None),
-        },
+    let Some((first, second)) = find_twins(alloc, validate, names)? else {
+        return Ok(None);
+    };
+    match (names.get(first), names.get(second)) {
+        (Some(first), Some(second)) => Ok(Some(copy_both(alloc, first, second)?)),
+        _ => Ok(None),
     }
+}
+
+/// Adds a name again.
+fn push_copy(alloc: Global, names: &mut Vec<Text>, name: &str) -> Result<(), AllocError> {
+    let name = String::from_str(alloc, name)?;
+    names.push(Text::new(name))?;
+    Ok(())
 }
 
 /// Adds the names of the outer imports.
@@ -333,8 +384,7 @@ fn push_outer_names(
 ) -> Result<(), AllocError> {
     for at in 0..import_count(&asked.types, outers.world) {
         if let Some(import) = import_at(&asked.types, outers.world, at) {
-            let name = String::from_str(alloc, import.name)?;
-            names.push(Text::new(name))?;
+            push_copy(alloc, names, import.name)?;
         }
     }
     Ok(())
@@ -354,28 +404,65 @@ fn push_package_names(
     Ok(())
 }
 
-/// The names of all that is imported.
-fn import_names(
+/// Adds the names of all that is imported.
+fn push_import_names(
+    alloc: Global,
+    names: &mut Vec<Text>,
+    graph: &CompositionGraph,
+    asked: &Asked,
+    outers: &Outers,
+    options: &EncodeOptions,
+) -> Result<(), AllocError> {
+    push_outer_names(alloc, names, asked, outers)?;
+    if !options.define_components {
+        push_package_names(alloc, names, graph, asked)?;
+    }
+    Ok(())
+}
+
+fn push_export_names(
+    alloc: Global,
+    names: &mut Vec<Text>,
+    graph: &CompositionGraph,
+) -> Result<(), AllocError> {
+    for (name, _) in graph.exports() {
+        push_copy(alloc, names, name.as_str())?;
+    }
+    Ok(())
+}
+
+/// No two imports have names that are too alike.
+fn check_import_names(
     alloc: Global,
     graph: &CompositionGraph,
     asked: &Asked,
     outers: &Outers,
     options: &EncodeOptions,
-) -> Result<Vec<Text>, AllocError> {
+) -> Result<(), Refusal> {
     let mut names = Vec::new(alloc);
-    push_outer_names(alloc, &mut names, asked, outers)?;
-    if !options.define_components {
-        push_package_names(alloc, &mut names, graph, asked)?;
+    push_import_names(alloc, &mut names, graph, asked, outers, options)?;
+    match twins_of(alloc, options.validate, &names)? {
+        Some((a, b)) => Err(Refusal::ValidationFailure {
+            source: ValidationFault::ImportNames(a, b),
+        }),
+        None => Ok(()),
     }
-    Ok(names)
 }
 
-fn export_names(alloc: Global, graph: &CompositionGraph) -> Result<Vec<Text>, AllocError> {
+/// No two exports have names that are too alike.
+fn check_export_names(
+    alloc: Global,
+    graph: &CompositionGraph,
+    options: &EncodeOptions,
+) -> Result<(), Refusal> {
     let mut names = Vec::new(alloc);
-    for (name, _) in graph.exports() {
-        names.push(name.copy()?)?;
+    push_export_names(alloc, &mut names, graph)?;
+    match twins_of(alloc, options.validate, &names)? {
+        Some((a, b)) => Err(Refusal::ValidationFailure {
+            source: ValidationFault::ExportNames(a, b),
+        }),
+        None => Ok(()),
     }
-    Ok(names)
 }
 
 /// No two imports, and no two exports, have names that are too alike.
@@ -386,15 +473,6 @@ pub(crate) fn check_names(
     outers: &Outers,
     options: &EncodeOptions,
 ) -> Result<(), Refusal> {
-    let imports = import_names(alloc, graph, asked, outers, options)?;
-    if let Some((a, b)) = twins_of(alloc, options.validate, &imports)? {
-        let source = ValidationFault::ImportNames(a, b);
-        return Err(Refusal::ValidationFailure { source });
-    }
-    let exports = export_names(alloc, graph)?;
-    if let Some((a, b)) = twins_of(alloc, options.validate, &exports)? {
-        let source = ValidationFault::ExportNames(a, b);
-        return Err(Refusal::ValidationFailure { source });
-    }
-    Ok(())
+    check_import_names(alloc, graph, asked, outers, options)?;
+    check_export_names(alloc, graph, options)
 }

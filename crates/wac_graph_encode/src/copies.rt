@@ -1,9 +1,16 @@
 //! Copies of the parts of interfaces and worlds.
 
+use crate::maps::insert_under;
 use std::alloc::{AllocError, Global};
 use wac_types_base::{
     Interface, InterfaceId, ItemKind, NamedMap, Text, Types, UsedType, World, WorldId,
 };
+
+/// The value, if what was to be added to it was added; it is dropped here alone.
+pub(crate) fn filled<T: Drop>(value: T, added: Result<(), AllocError>) -> Result<T, AllocError> {
+    added?;
+    Ok(value)
+}
 
 /// The same text again, if there is one.
 pub(crate) fn copy_text(text: &Option<Text>) -> Result<Option<Text>, AllocError> {
@@ -16,60 +23,56 @@ pub(crate) fn copy_text(text: &Option<Text>) -> Result<Option<Text>, AllocError>
     }
 }
 
-/// The same items again.
-fn copy_items(alloc: Global, items: &NamedMap<ItemKind>) -> Result<NamedMap<ItemKind>, AllocError> {
-    let mut copy = NamedMap::new(alloc);
+/// Adds the same items.
+pub(crate) fn copy_items(
+    alloc: Global,
+    items: &NamedMap<ItemKind>,
+    copy: &mut NamedMap<ItemKind>,
+) -> Result<(), AllocError> {
     for at in 0..items.len() {
         let (name, kind) = items.entry(at);
-        let _ = copy.insert(String::from_str(alloc, name)?, *kind)?;
+        insert_under(alloc, copy, name, *kind)?;
     }
-    Ok(copy)
+    Ok(())
 }
 
-/// The same use again.
-fn copy_use(used: &UsedType) -> Result<UsedType, AllocError> {
+/// The same use again, of that interface.
+pub(crate) fn copy_use(used: &UsedType, interface: InterfaceId) -> Result<UsedType, AllocError> {
     let name = copy_text(&used.name)?;
-    Ok(UsedType {
-        interface: used.interface,
-        name,
-    })
+    Ok(UsedType { interface, name })
 }
 
-/// The same uses again.
+/// Adds the same uses.
 pub(crate) fn copy_uses(
     alloc: Global,
     uses: &NamedMap<UsedType>,
-) -> Result<NamedMap<UsedType>, AllocError> {
-    let mut copy = NamedMap::new(alloc);
+    copy: &mut NamedMap<UsedType>,
+) -> Result<(), AllocError> {
     for at in 0..uses.len() {
         let (name, used) = uses.entry(at);
-        let name = String::from_str(alloc, name)?;
-        let _ = copy.insert(name, copy_use(used)?)?;
+        let again = copy_use(used, used.interface)?;
+        insert_under(alloc, copy, name, again)?;
     }
-    Ok(copy)
+    Ok(())
 }
 
-/// The same world again.
-fn copy_world(alloc: Global, world: &World) -> Result<World, AllocError> {
-    Ok(World {
-        id: copy_text(&world.id)?,
-        uses: copy_uses(alloc, &world.uses)?,
-        imports: copy_items(alloc, &world.imports)?,
-        exports: copy_items(alloc, &world.exports)?,
-    })
+/// An interface of that identifier, in which nothing stands.
+pub(crate) fn bare_interface(alloc: Global, id: Option<Text>) -> Interface {
+    Interface {
+        id,
+        uses: NamedMap::new(alloc),
+        exports: NamedMap::new(alloc),
+    }
 }
 
-/// The world of an id again, if it stands.
-pub(crate) fn world_at(
-    alloc: Global,
-    types: &Types,
-    id: WorldId,
-) -> Result<Option<World>, AllocError> {
-    if !types.has(ItemKind::Component(id)) {
-        return Ok(None);
+/// A world of that identifier, in which nothing stands.
+pub(crate) fn bare_world(alloc: Global, id: Option<Text>) -> World {
+    World {
+        id,
+        uses: NamedMap::new(alloc),
+        imports: NamedMap::new(alloc),
+        exports: NamedMap::new(alloc),
     }
-    let copy = copy_world(alloc, types.world(id))?;
-    Ok(Some(copy))
 }
 
 /// Adds an interface, if all that it names stands.
@@ -78,6 +81,7 @@ pub(crate) fn add_interface(
     interface: Interface,
 ) -> Result<Option<InterfaceId>, AllocError> {
     if !types.has_ids_of(&interface) {
+        drop(interface);
         return Ok(None);
     }
     let id = types.add_interface(interface)?;
@@ -87,6 +91,7 @@ pub(crate) fn add_interface(
 /// Adds a world, if all that it names stands.
 pub(crate) fn add_world(types: &mut Types, world: World) -> Result<Option<WorldId>, AllocError> {
     if !types.has_ids_of(&world) {
+        drop(world);
         return Ok(None);
     }
     let id = types.add_world(world)?;

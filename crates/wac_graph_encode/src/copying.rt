@@ -2,6 +2,7 @@
 
 ghost use Rattle.wac_types_base.specs.Collection.{Stands};
 
+use crate::maps::insert_under;
 use indexmap::IndexMap;
 use std::alloc::{AllocError, Global};
 use wac_types_base::copy::copy_item;
@@ -11,10 +12,34 @@ use wac_types_base::{
 };
 
 /// What became of the value types so far, by their ids: a copy in the other collection, or none where a resource is in it.
-#[derive(Drop)]
 pub(crate) struct Copies {
     alloc: Global,
     done: IndexMap<DefinedTypeId, Option<DefinedTypeId>>,
+}
+
+impl Drop for Copies {
+    fn drop(self) {
+        let Copies { alloc: _, done: _ } = self;
+    }
+}
+
+/// Adds the same names.
+fn add_names(alloc: Global, names: &Names, copy: &mut Names) -> Result<(), AllocError> {
+    for name in names.as_slice() {
+        let name = String::from_str(alloc, name.as_str())?;
+        let _ = copy.insert(name)?;
+    }
+    Ok(())
+}
+
+/// Adds a defined type, if all that it names stands.
+fn add_entry(to: &mut Types, entry: DefinedType) -> Result<Option<DefinedTypeId>, AllocError> {
+    if !to.has_ids_of(&entry) {
+        drop(entry);
+        return Ok(None);
+    }
+    let copy = to.add_defined_type(entry)?;
+    Ok(Some(copy))
 }
 
 impl Copies {
@@ -44,37 +69,62 @@ impl Copies {
         }
     }
 
-    fn tuple(&self, items: &Items<ValueType>) -> Result<DefinedType, AllocError> {
-        let mut copy = Items::new(self.alloc);
+    fn add_items(
+        &self,
+        items: &Items<ValueType>,
+        copy: &mut Items<ValueType>,
+    ) -> Result<(), AllocError> {
         for ty in items.as_slice() {
             copy.push(self.value(*ty))?;
         }
+        Ok(())
+    }
+
+    fn add_fields(
+        &self,
+        fields: &NamedMap<ValueType>,
+        copy: &mut NamedMap<ValueType>,
+    ) -> Result<(), AllocError> {
+        for at in 0..fields.len() {
+            let (name, ty) = fields.entry(at);
+            insert_under(self.alloc, copy, name, self.value(*ty))?;
+        }
+        Ok(())
+    }
+
+    fn add_cases(
+        &self,
+        cases: &NamedMap<Option<ValueType>>,
+        copy: &mut NamedMap<Option<ValueType>>,
+    ) -> Result<(), AllocError> {
+        for at in 0..cases.len() {
+            let (name, ty) = cases.entry(at);
+            insert_under(self.alloc, copy, name, self.option(*ty))?;
+        }
+        Ok(())
+    }
+
+    fn tuple(&self, items: &Items<ValueType>) -> Result<DefinedType, AllocError> {
+        let mut copy = Items::new(self.alloc);
+        self.add_items(items, &mut copy)?;
         Ok(DefinedType::Tuple(copy))
     }
 
     fn record(&self, fields: &NamedMap<ValueType>) -> Result<DefinedType, AllocError> {
         let mut copy = NamedMap::new(self.alloc);
-        for at in 0..fields.len() {
-            let (name, ty) = fields.entry(at);
-            let _ = copy.insert(String::from_str(self.alloc, name)?, self.value(*ty))?;
-        }
+        self.add_fields(fields, &mut copy)?;
         Ok(DefinedType::Record(Record { fields: copy }))
     }
 
     fn variant(&self, cases: &NamedMap<Option<ValueType>>) -> Result<DefinedType, AllocError> {
         let mut copy = NamedMap::new(self.alloc);
-        for at in 0..cases.len() {
-            let (name, ty) = cases.entry(at);
-            let _ = copy.insert(String::from_str(self.alloc, name)?, self.option(*ty))?;
-        }
+        self.add_cases(cases, &mut copy)?;
         Ok(DefinedType::Variant(Variant { cases: copy }))
     }
 
     fn names(&self, names: &Names) -> Result<Names, AllocError> {
         let mut copy = Names::new(self.alloc);
-        for name in names.as_slice() {
-            let _ = copy.insert(String::from_str(self.alloc, name.as_str())?)?;
-        }
+        add_names(self.alloc, names, &mut copy)?;
         Ok(copy)
     }
 
@@ -112,11 +162,7 @@ impl Copies {
             return Ok(None);
         }
         let entry = self.entry(from.defined_type(id))?;
-        if !to.has_ids_of(&entry) {
-            return Ok(None);
-        }
-        let copy = to.add_defined_type(entry)?;
-        Ok(Some(copy))
+        add_entry(to, entry)
     }
 
     /// Copies a defined type behind its parts, where no resource is in it. Whether it is copied.

@@ -11,7 +11,7 @@ use crate::errors::{EncodeError, Refusal, error_of};
 use crate::instances::Wired;
 use crate::options::{EncodeOptions, Encoded};
 use crate::outers::{Outers, outers_of};
-use crate::root::write_root;
+use crate::root::{Writing, write_root};
 use crate::world::composed_world;
 use crate::written::written_definition;
 use std::alloc::{AllocError, Global};
@@ -63,23 +63,11 @@ fn bytes_of_entries(
 }
 
 /// The bytes of a composition, where nothing of it is written yet.
-fn bytes_wired(
-    graph: &CompositionGraph,
-    asked: &Asked,
-    outers: &Outers,
-    definitions: &[Definition],
-    options: &EncodeOptions,
-    wired: &mut Wired<'_>,
-) -> Result<Vec<u8>, Refusal> {
-    let called = outers.called.as_slice();
-    let all = Importing {
-        types: &asked.types,
-        world: outers.world,
-        called,
-    };
-    write_root(graph, asked, all, definitions, options, &mut wired.root)?;
-    let names = wired.write_all(called)?;
-    bytes_of_entries(graph.alloc(), &wired.root.entries, &names, options)
+fn bytes_wired(writing: Writing<'_>, wired: &mut Wired<'_>) -> Result<Vec<u8>, Refusal> {
+    write_root(writing, &mut wired.root)?;
+    let names = wired.write_all(writing.all.called)?;
+    let alloc = writing.graph.alloc();
+    bytes_of_entries(alloc, &wired.root.entries, &names, writing.options)
 }
 
 /// The bytes of a composition.
@@ -90,8 +78,20 @@ fn bytes_of(
     definitions: &[Definition],
     options: &EncodeOptions,
 ) -> Result<Vec<u8>, Refusal> {
+    let all = Importing {
+        types: &asked.types,
+        world: outers.world,
+        called: outers.called.as_slice(),
+    };
+    let writing = Writing {
+        graph,
+        worlds: &asked.packages,
+        all,
+        definitions,
+        options,
+    };
     let mut wired = Wired::new(graph.alloc(), graph);
-    bytes_wired(graph, asked, outers, definitions, options, &mut wired)
+    bytes_wired(writing, &mut wired)
 }
 
 /// The world of a composition, in a collection of this number.

@@ -3,6 +3,7 @@
 ghost use Rattle.wac_graph_encode.specs.Acyclic.{IsNoCycle};
 
 use std::alloc::{AllocError, AllocFailed, Global};
+use std::fmt;
 use thiserror::Error;
 use wac_graph_bytes::SizeError;
 use wac_graph_core::NodeId;
@@ -20,46 +21,97 @@ pub enum ValidationFault {
 }
 
 /// Why a graph is not encoded.
-#[derive(Debug, Drop, Error)]
+#[derive(Debug, Drop)]
 pub enum EncodeError {
     /// Never answered, since no graph has a cycle.
-    #[error("the graph contains a cycle at node {node}")]
     GraphContainsCycle {
         node: NodeId,
     },
-    #[error("import `{name}` of package `{package}` has the name of an import of the graph")]
     ImplicitImportConflict {
         import: NodeId,
         instantiation: NodeId,
         package: PackageKey,
         name: String,
     },
-    #[error("import `{name}` does not merge with an earlier import")]
     ExplicitImportConflict {
         name: String,
         first: NodeId,
         second: NodeId,
     },
-    #[error("import `{import}` does not merge with an earlier import: {source}")]
     ImportTypeMergeConflict {
         import: String,
         first: NodeId,
         second: NodeId,
         source: AggregateError,
     },
-    #[error("a type of `{name}` cannot be written")]
     TypeCannotBeWritten {
         name: String,
     },
-    #[error("the component is too large")]
     TooLarge,
-    #[error("the encoding of the graph failed validation: {source}")]
     ValidationFailure {
         source: ValidationFault,
     },
-    #[error("out of memory")]
     Memory,
 }
+
+/// Writes that an import of a package has the name of an import of the graph.
+fn write_implicit<W: fmt::Write>(
+    f: &mut fmt::Formatter<W>,
+    name: &str,
+    package: &PackageKey,
+) -> fmt::Result {
+    write!(
+        f,
+        "import `{name}` of package `{package}` has the name of an import of the graph"
+    )
+}
+
+/// Writes that an import does not merge.
+fn write_explicit<W: fmt::Write>(f: &mut fmt::Formatter<W>, name: &str) -> fmt::Result {
+    write!(f, "import `{name}` does not merge with an earlier import")
+}
+
+/// Writes why an import does not merge.
+fn write_merge<W: fmt::Write>(
+    f: &mut fmt::Formatter<W>,
+    import: &str,
+    source: &AggregateError,
+) -> fmt::Result {
+    write!(
+        f,
+        "import `{import}` does not merge with an earlier import: {source}"
+    )
+}
+
+/// Writes under which name a type cannot be written.
+fn write_unwritable<W: fmt::Write>(f: &mut fmt::Formatter<W>, name: &str) -> fmt::Result {
+    write!(f, "a type of `{name}` cannot be written")
+}
+
+impl fmt::Display for EncodeError {
+    fn fmt<W: fmt::Write>(&self, f: &mut fmt::Formatter<W>) -> fmt::Result {
+        match self {
+            EncodeError::GraphContainsCycle { node } => {
+                write!(f, "the graph contains a cycle at node {node}")
+            }
+            EncodeError::ImplicitImportConflict { package, name, .. } => {
+                write_implicit(f, name.as_str(), package)
+            }
+            EncodeError::ExplicitImportConflict { name, .. } => write_explicit(f, name.as_str()),
+            EncodeError::ImportTypeMergeConflict { import, source, .. } => {
+                write_merge(f, import.as_str(), source)
+            }
+            EncodeError::TypeCannotBeWritten { name } => write_unwritable(f, name.as_str()),
+            EncodeError::TooLarge => f.write_str("the component is too large"),
+            EncodeError::ValidationFailure { source } => {
+                write!(f, "the encoding of the graph failed validation: {source}")
+            }
+            EncodeError::Memory => f.write_str("out of memory"),
+        }
+    }
+}
+
+impl std::error::Error for EncodeError {}
 
 /// Why a graph is not encoded, but for cycles: no graph has one.
 #[derive(Drop)]

@@ -1,5 +1,6 @@
 //! What stands directly in an interface, in a component type or at the root.
 
+use crate::maps::insert_under;
 use indexmap::IndexMap;
 use std::alloc::{AllocError, Global};
 use wac_graph_scopes::fits_in;
@@ -11,12 +12,22 @@ use wac_types_base::{DefinedTypeId, InterfaceId, ItemKind, NamedMap, Names, Type
 
 /// Used items under the names that they have here, the root names of resources, and which value types were tested
 /// here: whether they fail.
-#[derive(Drop)]
 pub(crate) struct Holder {
     alloc: Global,
     used: NamedMap<ItemKind>,
     roots: Names,
     tested: IndexMap<DefinedTypeId, bool>,
+}
+
+impl Drop for Holder {
+    fn drop(self) {
+        let Holder {
+            alloc: _,
+            used: _,
+            roots: _,
+            tested: _,
+        } = self;
+    }
 }
 
 /// Whether one item has the tree of another.
@@ -66,8 +77,7 @@ impl Holder {
     /// Adds the item that is used, and the root of a resource.
     fn add_use(&mut self, types: &Types, used: Use<'_>) -> Result<(), AllocError> {
         if let Some(kind) = export_named(types, used.interface, used.there) {
-            let name = String::from_str(self.alloc, used.name)?;
-            let _ = self.used.insert(name, kind)?;
+            insert_under(self.alloc, &mut self.used, used.name, kind)?;
             if let ItemKind::Ty(Type::Resource(id)) = kind {
                 self.add_root(root_name(types, id))?;
             }

@@ -1,24 +1,36 @@
 //! The instances, aliases and exports of a composition, as entries.
 
 use crate::errors::Refusal;
-use crate::nodes::{arguments_of, import_name, kind_of, node_at, package_of, world_at};
-use crate::root::{Counts, Root, next_index};
-use indexmap::{IndexMap, IndexSet};
+use crate::labels::names_of_nodes;
+use crate::maps::insert_under;
+use crate::nodes::{Arguments, import_name, kind_of, package_of, world_at};
+use crate::root::{Root, push_entry};
+use indexmap::IndexMap;
 use std::alloc::{AllocError, Global};
-use wac_graph_bytes::{Alias, Entry, Export, IndexName, NamedIndex, Sort, SortNames};
+use wac_graph_bytes::{Entry, Export, NamedIndex, Sort, SortNames};
 use wac_graph_core::{CompositionGraph, NodeId, PackageId};
 use wac_graph_scopes::imports::{Called, SortIndex};
 use wac_graph_scopes::parts::{import_at, import_count};
-use wac_types_base::{ItemKind, NamedMap};
+use wac_types_base::{ItemKind, NamedMap, Types, WorldId};
 
 /// The entries so far, and what stands for nodes.
-#[derive(Drop)]
 pub(crate) struct Wired<'a> {
     alloc: Global,
     graph: &'a CompositionGraph,
     /// What stands for outer imports, by the names under which they are asked for.
     outers: NamedMap<SortIndex>,
     pub root: Root,
+}
+
+impl Drop for Wired<'_> {
+    fn drop(self) {
+        let Wired {
+            alloc: _,
+            graph: _,
+            outers: _,
+            root: _,
+        } = self;
+    }
 }
 
 fn sort_of(kind: ItemKind) -> Option<Sort> {
@@ -40,26 +52,6 @@ fn sort_at(graph: &CompositionGraph, node: NodeId) -> Option<Sort> {
     }
 }
 
-fn count_of(counts: &Counts, sort: Sort) -> u32 {
-    match sort {
-        Sort::Func => counts.funcs,
-        Sort::Ty => counts.types,
-        Sort::Component => counts.components,
-        Sort::Instance => counts.instances,
-        Sort::Module => counts.modules,
-    }
-}
-
-fn set_count(counts: &mut Counts, sort: Sort, next: u32) {
-    match sort {
-        Sort::Func => counts.funcs = next,
-        Sort::Ty => counts.types = next,
-        Sort::Component => counts.components = next,
-        Sort::Instance => counts.instances = next,
-        Sort::Module => counts.modules = next,
-    }
-}
-
 /// Adds what stands for the outer imports, by the names under which they are asked for.
 fn add_outers(
     alloc: Global,
@@ -69,8 +61,124 @@ fn add_outers(
 ) -> Result<(), AllocError> {
     for one in called {
         if let Some(Some(place)) = imports.get(one.at) {
-            let name = String::from_str(alloc, one.name.as_str())?;
-            let _ = outers.insert(name, *place)?;
+            insert_under(alloc, outers, one.name.as_str(), *place)?;
+        }
+    }
+    Ok(())
+}
+
+/// Adds the nodes that one needs: its arguments, or what it is an alias of.
+fn push_sources(
+    graph: &CompositionGraph,
+    node: NodeId,
+    bound: &Arguments,
+    sources: &mut Vec<NodeId>,
+) -> Result<(), AllocError> {
+    for argument in bound.nodes() {
+        sources.push(*argument)?;
+    }
+    if package_of(graph, node).is_none() {
+        if let Some((source, _)) = graph.get_alias_source(node) {
+            sources.push(source)?;
+        }
+    }
+    Ok(())
+}
+
+/// Adds an argument.
+fn push_argument(
+    alloc: Global,
+    arguments: &mut Vec<NamedIndex>,
+    name: &str,
+    place: SortIndex,
+) -> Result<(), AllocError> {
+    let name = String::from_str(alloc, name)?;
+    arguments.push(NamedIndex {
+        name,
+        sort: place.sort,
+        index: place.index,
+    })?;
+    Ok(())
+}
+
+/// What stands for nodes and for outer imports.
+#[derive(Clone, Copy)]
+struct Standing<'a> {
+    nodes: &'a IndexMap<NodeId, SortIndex>,
+    outers: &'a NamedMap<SortIndex>,
+}
+
+/// What is passed to an instance under a name.
+fn argument(standing: Standing<'_>, bound: &Arguments, name: &str) -> Option<SortIndex> {
+    match bound.get(name) {
+        Some(argument) => standing.nodes.get(&argument).copied(),
+        None => standing.outers.get(name).copied(),
+    }
+}
+
+/// Adds the arguments of an instance of that world. Whether all stand.
+fn push_arguments(
+    alloc: Global,
+    types: &Types,
+    world: WorldId,
+    standing: Standing<'_>,
+    bound: &Arguments,
+    arguments: &mut Vec<NamedIndex>,
+) -> Result<bool, AllocError> {
+    for at in 0..import_count(types, world) {
+        if let Some(import) = import_at(types, world, at) {
+            match argument(standing, bound, import.name) {
+                Some(place) => push_argument(alloc, arguments, import.name, place)?,
+                None => return Ok(false),
+            }
+        }
+    }
+    Ok(true)
+}
+
+/// The arguments of an instance of that world, where all stand.
+fn arguments_in(
+    alloc: Global,
+    types: &Types,
+    world: WorldId,
+    standing: Standing<'_>,
+    bound: &Arguments,
+) -> Result<Option<Vec<NamedIndex>>, AllocError> {
+    let mut arguments = Vec::new(alloc);
+    let all_stand = push_arguments(alloc, types, world, standing, bound, &mut arguments)?;
+    if all_stand {
+        Ok(Some(arguments))
+    } else {
+        Ok(None)
+    }
+}
+
+/// Adds an export.
+fn push_export(
+    alloc: Global,
+    entries: &mut Vec<Entry>,
+    name: &str,
+    place: SortIndex,
+) -> Result<(), AllocError> {
+    let name = String::from_str(alloc, name)?;
+    let export = Export {
+        name,
+        sort: place.sort,
+        index: place.index,
+        stated: None,
+    };
+    push_entry(entries, Entry::Export(export))
+}
+
+/// Adds the exports of nodes that stand.
+fn push_exports(
+    graph: &CompositionGraph,
+    nodes: &IndexMap<NodeId, SortIndex>,
+    entries: &mut Vec<Entry>,
+) -> Result<(), AllocError> {
+    for (name, node) in graph.exports() {
+        if let Some(place) = nodes.get(node) {
+            push_export(graph.alloc(), entries, name.as_str(), *place)?;
         }
     }
     Ok(())
@@ -92,87 +200,63 @@ impl<'a> Wired<'a> {
         self.root.nodes.get(&node).copied()
     }
 
-    /// Adds an entry that adds one thing of a sort.
-    fn add(&mut self, entry: Entry, sort: Sort) -> Result<SortIndex, Refusal> {
-        self.root.entries.push(entry)?;
-        let index = count_of(&self.root.counts, sort);
-        let next = next_index(index)?;
-        set_count(&mut self.root.counts, sort, next);
-        Ok(SortIndex { sort, index })
+    /// The sort of an alias, the index of its source and its name there, where its source stands.
+    fn alias_of(&self, node: NodeId) -> Option<(Sort, u32, &'a str)> {
+        let Some((source, name)) = self.graph.get_alias_source(node) else {
+            return None;
+        };
+        let Some(place) = self.node(source) else {
+            return None;
+        };
+        let Some(sort) = sort_at(self.graph, node) else {
+            return None;
+        };
+        Some((sort, place.index, name))
     }
 
     /// Writes an alias, where its source stands.
     fn alias(&mut self, node: NodeId) -> Result<Option<SortIndex>, Refusal> {
-        let Some((source, name)) = self.graph.get_alias_source(node) else {
+        let Some((sort, index, name)) = self.alias_of(node) else {
             return Ok(None);
         };
-        let Some(place) = self.node(source) else {
-            return Ok(None);
-        };
-        let Some(sort) = sort_at(self.graph, node) else {
-            return Ok(None);
-        };
-        let name = String::from_str(self.alloc, name)?;
-        let entry = Entry::Alias(Alias::Export(sort, place.index, name));
-        Ok(Some(self.add(entry, sort)?))
-    }
-
-    /// What is passed to an instance under a name.
-    fn argument(&self, bound: &IndexMap<String, NodeId>, name: &str) -> Option<SortIndex> {
-        match bound.get(name) {
-            Some(argument) => self.node(*argument),
-            None => self.outers.get(name).copied(),
-        }
+        let place = self.root.add_alias(self.alloc, sort, index, name)?;
+        Ok(Some(place))
     }
 
     /// The arguments of an instance, where all stand.
     fn arguments(
         &self,
         id: PackageId,
-        bound: &IndexMap<String, NodeId>,
-    ) -> Result<Option<Vec<NamedIndex>>, Refusal> {
-        let mut arguments = Vec::new(self.alloc);
-        let Some(world) = world_at(self.graph, id) else {
-            return Ok(None);
-        };
-        let types = self.graph.types();
-        for at in 0..import_count(types, world) {
-            if let Some(import) = import_at(types, world, at) {
-                let Some(place) = self.argument(bound, import.name) else {
-                    return Ok(None);
+        bound: &Arguments,
+    ) -> Result<Option<Vec<NamedIndex>>, AllocError> {
+        match world_at(self.graph, id) {
+            Some(world) => {
+                let standing = Standing {
+                    nodes: &self.root.nodes,
+                    outers: &self.outers,
                 };
-                arguments.push(NamedIndex {
-                    name: String::from_str(self.alloc, import.name)?,
-                    sort: place.sort,
-                    index: place.index,
-                })?;
+                arguments_in(self.alloc, self.graph.types(), world, standing, bound)
             }
+            None => Ok(None),
         }
-        Ok(Some(arguments))
     }
 
     /// Writes an instance, where its arguments stand.
-    fn instance(
-        &mut self,
-        id: PackageId,
-        bound: &IndexMap<String, NodeId>,
-    ) -> Result<Option<SortIndex>, Refusal> {
-        let Some(arguments) = self.arguments(id, bound)? else {
-            return Ok(None);
-        };
+    fn instance(&mut self, id: PackageId, bound: &Arguments) -> Result<Option<SortIndex>, Refusal> {
         let Some(component) = self.root.packages.get(&id).copied() else {
             return Ok(None);
         };
-        let entry = Entry::Instantiate(component, arguments);
-        Ok(Some(self.add(entry, Sort::Instance)?))
+        match self.arguments(id, bound)? {
+            Some(arguments) => {
+                let place = self.root.add_instance(component, arguments)?;
+                Ok(Some(place))
+            }
+            None => Ok(None),
+        }
     }
 
     /// Writes a node, where all stands that it needs.
-    fn written(
-        &mut self,
-        node: NodeId,
-        bound: &IndexMap<String, NodeId>,
-    ) -> Result<Option<SortIndex>, Refusal> {
+    fn written(&mut self, node: NodeId, bound: &Arguments) -> Result<Option<SortIndex>, Refusal> {
         if let Some(name) = import_name(self.graph, node) {
             return Ok(self.outers.get(name).copied());
         }
@@ -183,20 +267,9 @@ impl<'a> Wired<'a> {
     }
 
     /// The nodes that one needs: its arguments, or what it is an alias of.
-    fn sources_of(
-        &self,
-        node: NodeId,
-        bound: &IndexMap<String, NodeId>,
-    ) -> Result<Vec<NodeId>, AllocError> {
+    fn sources_of(&self, node: NodeId, bound: &Arguments) -> Result<Vec<NodeId>, AllocError> {
         let mut sources = Vec::new(self.alloc);
-        for argument in bound.values() {
-            sources.push(*argument)?;
-        }
-        if package_of(self.graph, node).is_none() {
-            if let Some((source, _)) = self.graph.get_alias_source(node) {
-                sources.push(source)?;
-            }
-        }
+        push_sources(self.graph, node, bound, &mut sources)?;
         Ok(sources)
     }
 
@@ -207,9 +280,20 @@ impl<'a> Wired<'a> {
         if depth == 0 || self.node(node).is_some() {
             return Ok(());
         }
-        let bound = arguments_of(self.alloc, self.graph, node)?;
-        self.write_sources(node, &bound, depth - 1)?;
-        self.write_itself(node, &bound)
+        let bound = Arguments::of(self.alloc, self.graph, node)?;
+        self.write_bound(node, &bound, depth - 1)
+    }
+
+    /// Writes a node behind those that it needs.
+    #[cycle(nodes)]
+    fn write_bound(
+        &mut self,
+        node: NodeId,
+        bound: &Arguments,
+        depth: usize,
+    ) -> Result<(), Refusal> {
+        self.write_sources(node, bound, depth)?;
+        self.write_itself(node, bound)
     }
 
     /// Writes the nodes that one needs.
@@ -217,22 +301,24 @@ impl<'a> Wired<'a> {
     fn write_sources(
         &mut self,
         node: NodeId,
-        bound: &IndexMap<String, NodeId>,
+        bound: &Arguments,
         depth: usize,
     ) -> Result<(), Refusal> {
         let sources = self.sources_of(node, bound)?;
-        for source in &sources {
-            self.write_node(*source, depth)?;
+        self.write_each(&sources, depth)
+    }
+
+    /// Writes nodes behind those that they need.
+    #[cycle(nodes)]
+    fn write_each(&mut self, nodes: &[NodeId], depth: usize) -> Result<(), Refusal> {
+        for node in nodes {
+            self.write_node(*node, depth)?;
         }
         Ok(())
     }
 
     /// Writes a node where those that it needs stand.
-    fn write_itself(
-        &mut self,
-        node: NodeId,
-        bound: &IndexMap<String, NodeId>,
-    ) -> Result<(), Refusal> {
+    fn write_itself(&mut self, node: NodeId, bound: &Arguments) -> Result<(), Refusal> {
         match self.written(node, bound)? {
             Some(place) => {
                 let _ = self.root.nodes.insert(node, place)?;
@@ -252,82 +338,12 @@ impl<'a> Wired<'a> {
         Ok(())
     }
 
-    /// Writes the exports.
-    fn write_exports(&mut self) -> Result<(), Refusal> {
-        for (name, node) in self.graph.exports() {
-            if let Some(place) = self.node(*node) {
-                let name = String::from_str(self.alloc, name.as_str())?;
-                self.root.entries.push(Entry::Export(Export {
-                    name,
-                    sort: place.sort,
-                    index: place.index,
-                    stated: None,
-                }))?;
-            }
-        }
-        Ok(())
-    }
-
-    /// Adds the name of a node that has an index.
-    fn push_name(
-        &self,
-        names: &mut Vec<IndexName>,
-        named: &mut IndexSet<u32>,
-        node: NodeId,
-        index: u32,
-    ) -> Result<(), AllocError> {
-        if let Some(name) = name_of(self.graph, node) {
-            let _ = named.insert(index)?;
-            let name = String::from_str(self.alloc, name)?;
-            names.push(IndexName { index, name })?;
-        }
-        Ok(())
-    }
-
-    /// The names of the nodes of a sort, one for each index.
-    fn names_of(&self, sort: Sort) -> Result<Vec<IndexName>, AllocError> {
-        let mut names = Vec::new(self.alloc);
-        let mut named = IndexSet::new(self.alloc);
-        for (node, place) in self.root.nodes.iter() {
-            if place.sort == sort && !named.contains(&place.index) {
-                self.push_name(&mut names, &mut named, *node, place.index)?;
-            }
-        }
-        Ok(names)
-    }
-
-    /// The names of nodes, for debuggers.
-    fn debug_names(&self) -> Result<Vec<SortNames>, AllocError> {
-        let mut all = Vec::new(self.alloc);
-        for sort in [
-            Sort::Func,
-            Sort::Ty,
-            Sort::Component,
-            Sort::Instance,
-            Sort::Module,
-        ] {
-            let names = self.names_of(sort)?;
-            if !names.is_empty() {
-                all.push(SortNames { sort, names })?;
-            }
-        }
-        Ok(all)
-    }
-
     /// Writes all that stands behind the root's types and imports; the names of nodes.
     pub(crate) fn write_all(&mut self, called: &[Called]) -> Result<Vec<SortNames>, Refusal> {
         add_outers(self.alloc, called, &self.root.imports, &mut self.outers)?;
         self.write_nodes()?;
-        self.write_exports()?;
-        let names = self.debug_names()?;
+        push_exports(self.graph, &self.root.nodes, &mut self.root.entries)?;
+        let names = names_of_nodes(self.graph, &self.root.nodes)?;
         Ok(names)
-    }
-}
-
-/// The name of a node.
-fn name_of(graph: &CompositionGraph, node: NodeId) -> Option<&str> {
-    match node_at(graph, node) {
-        Some(node) => node.name(),
-        None => None,
     }
 }

@@ -4,10 +4,10 @@ ghost use Rattle.std.specs.Prelude.{◌≡◌, Some, IfSome};
 ghost use Rattle.wac_types_base.specs.declared.item.ItemKind.{ItemKind};
 ghost use Rattle.wac_types_base.specs.Collection.{Stands};
 
-use indexmap::IndexMap;
+use crate::maps::insert_under;
 use std::alloc::{AllocError, Global};
 use wac_graph_core::{CompositionGraph, Node, NodeId, PackageId};
-use wac_types_base::{ItemKind, WorldId};
+use wac_types_base::{ItemKind, NamedMap, WorldId};
 use wac_types_names::Package;
 
 pub(crate) fn node_at(graph: &CompositionGraph, id: NodeId) -> Option<&Node> {
@@ -67,16 +67,53 @@ pub(crate) fn world_at(graph: &CompositionGraph, id: PackageId) -> Option<WorldI
 }
 
 /// What is passed to an instance, by the names of the arguments.
-pub(crate) fn arguments_of(
+pub(crate) struct Arguments {
+    by_name: NamedMap<NodeId>,
+}
+
+impl Drop for Arguments {
+    fn drop(self) {
+        let Arguments { by_name: _ } = self;
+    }
+}
+
+/// Adds what is passed to an instance, by the names of the arguments.
+fn add_arguments(
     alloc: Global,
     graph: &CompositionGraph,
     id: NodeId,
-) -> Result<IndexMap<String, NodeId>, AllocError> {
-    let mut arguments = IndexMap::new(alloc);
-    if graph.contains_node(id) {
-        for (name, argument) in graph.get_instantiation_arguments(id) {
-            let _ = arguments.insert(String::from_str(alloc, name)?, argument)?;
-        }
+    by_name: &mut NamedMap<NodeId>,
+) -> Result<(), AllocError> {
+    if !graph.contains_node(id) {
+        return Ok(());
     }
-    Ok(arguments)
+    for (name, argument) in graph.get_instantiation_arguments(id) {
+        insert_under(alloc, by_name, name, argument)?;
+    }
+    Ok(())
+}
+
+impl Arguments {
+    /// What is passed to an instance.
+    pub(crate) fn of(
+        alloc: Global,
+        graph: &CompositionGraph,
+        id: NodeId,
+    ) -> Result<Self, AllocError> {
+        let mut arguments = Arguments {
+            by_name: NamedMap::new(alloc),
+        };
+        add_arguments(alloc, graph, id, &mut arguments.by_name)?;
+        Ok(arguments)
+    }
+
+    /// What is passed under a name.
+    pub(crate) fn get(&self, name: &str) -> Option<NodeId> {
+        self.by_name.get(name).copied()
+    }
+
+    /// All that is passed.
+    pub(crate) fn nodes(&self) -> &[NodeId] {
+        self.by_name.values()
+    }
 }

@@ -2,14 +2,15 @@
 
 use crate::asks::{Ask, Asked, Asking};
 use crate::classes::{Classes, classes_of, has_track};
-use crate::copies::add_world;
+use crate::copies::{add_world, bare_world, filled};
 use crate::errors::Refusal;
+use crate::maps::insert_under;
 use crate::unnamed::Unnamed;
 use indexmap::IndexMap;
 use std::alloc::{AllocError, Global};
 use wac_graph_core::NodeId;
 use wac_graph_scopes::imports::Called;
-use wac_types_base::{ItemKind, NamedMap, Types, World, WorldId};
+use wac_types_base::{ItemKind, NamedMap, Text, Types, World, WorldId};
 use wac_types_merge::{AggregateError, Family, family_of, joint_family, kept_of, spelled};
 
 /// What is kept of a class.
@@ -22,7 +23,6 @@ struct Kept {
 }
 
 /// The outer imports of a composition.
-#[derive(Drop)]
 pub(crate) struct Outers {
     /// They are this world's imports, in asking order.
     pub world: WorldId,
@@ -30,13 +30,32 @@ pub(crate) struct Outers {
     pub called: Vec<Called>,
 }
 
+impl Drop for Outers {
+    fn drop(self) {
+        let Outers {
+            world: _,
+            called: _,
+        } = self;
+    }
+}
+
 /// What is kept of the classes, by the places of their first asks, and which interfaces use one without identifier.
-#[derive(Drop)]
 struct Merging<'a> {
     alloc: Global,
     asks: &'a [Ask],
     kept: IndexMap<usize, Kept>,
     unnamed: Unnamed,
+}
+
+impl Drop for Merging<'_> {
+    fn drop(self) {
+        let Merging {
+            alloc: _,
+            asks: _,
+            kept: _,
+            unnamed: _,
+        } = self;
+    }
 }
 
 /// What is kept of two asked items.
@@ -82,6 +101,14 @@ fn merge_fault(alloc: Global, ask: &Ask, first: NodeId, source: AggregateError) 
 /// Whether the second asks the same under the same name.
 fn is_again(first: &Ask, ask: &Ask) -> bool {
     first.item == ask.item && first.name.is(ask.name.as_str())
+}
+
+/// The first ask of a class, or that ask itself.
+fn first_of<'a>(asks: &'a [Ask], class: usize, ask: &'a Ask) -> &'a Ask {
+    match asks.get(class) {
+        Some(first) => first,
+        None => ask,
+    }
 }
 
 impl<'a> Merging<'a> {
@@ -149,20 +176,28 @@ impl<'a> Merging<'a> {
         self.merge(types, before, first, ask)
     }
 
-    /// Takes an ask into what is kept of its class.
-    fn take(&mut self, types: &mut Types, ask: &Ask, class: usize) -> Result<(), Refusal> {
-        let first = match self.asks.get(class) {
-            Some(first) => first,
-            None => ask,
-        };
-        let after = match self.kept.get(&class).copied() {
-            Some(before) => self.kept_after(types, before, first, ask)?,
-            None => Kept {
+    /// What is kept of a class after one more ask.
+    fn kept_with(
+        &mut self,
+        types: &mut Types,
+        first: &Ask,
+        ask: &Ask,
+        class: usize,
+    ) -> Result<Kept, Refusal> {
+        match self.kept.get(&class).copied() {
+            Some(before) => self.kept_after(types, before, first, ask),
+            None => Ok(Kept {
                 count: 1,
                 item: ask.item,
                 family: None,
-            },
-        };
+            }),
+        }
+    }
+
+    /// Takes an ask into what is kept of its class.
+    fn take(&mut self, types: &mut Types, ask: &Ask, class: usize) -> Result<(), Refusal> {
+        let first = first_of(self.asks, class, ask);
+        let after = self.kept_with(types, first, ask, class)?;
         let _ = self.kept.insert(class, after)?;
         Ok(())
     }
@@ -176,7 +211,13 @@ impl<'a> Merging<'a> {
     }
 
     fn into_kept(self) -> IndexMap<usize, Kept> {
-        self.kept
+        let Merging {
+            alloc: _,
+            asks: _,
+            kept,
+            unnamed: _,
+        } = self;
+        kept
     }
 }
 
@@ -226,6 +267,28 @@ fn spelling_of<'a>(asks: &'a [Ask], classes: &Classes, class: usize) -> &'a str 
     }
 }
 
+/// Adds a name that is asked, with the place of its import.
+fn push_called(called: &mut Vec<Called>, name: &Text, at: usize) -> Result<(), AllocError> {
+    let name = name.copy()?;
+    called.push(Called { name, at })?;
+    Ok(())
+}
+
+/// Adds the names that are asked, each with the place of its import.
+fn push_names_called(
+    asks: &[Ask],
+    classes: &Classes,
+    kept: &IndexMap<usize, Kept>,
+    called: &mut Vec<Called>,
+) -> Result<(), AllocError> {
+    for (ask, class) in asks.iter().zip(&classes.labels) {
+        if let Some(at) = kept.get_index_of(class) {
+            push_called(called, &ask.name, at)?;
+        }
+    }
+    Ok(())
+}
+
 /// The names that are asked, each with the place of its import.
 fn names_called(
     alloc: Global,
@@ -234,12 +297,7 @@ fn names_called(
     kept: &IndexMap<usize, Kept>,
 ) -> Result<Vec<Called>, AllocError> {
     let mut called = Vec::new(alloc);
-    for (ask, class) in asks.iter().zip(&classes.labels) {
-        if let Some(at) = kept.get_index_of(class) {
-            let name = ask.name.copy()?;
-            called.push(Called { name, at })?;
-        }
-    }
+    push_names_called(asks, classes, kept, &mut called)?;
     Ok(called)
 }
 
@@ -252,38 +310,46 @@ fn add_import(
     imports: &mut NamedMap<ItemKind>,
 ) -> Result<(), AllocError> {
     let item = identified(alloc, types, kept, spelling)?;
-    let name = String::from_str(alloc, spelling)?;
-    let _ = imports.insert(name, item)?;
+    insert_under(alloc, imports, spelling, item)
+}
+
+/// Adds the outer imports.
+fn add_imports(
+    alloc: Global,
+    types: &mut Types,
+    asks: &[Ask],
+    classes: &Classes,
+    kept: &IndexMap<usize, Kept>,
+    imports: &mut NamedMap<ItemKind>,
+) -> Result<(), AllocError> {
+    for (class, one) in kept.iter() {
+        let spelling = spelling_of(asks, classes, *class);
+        add_import(alloc, types, *one, spelling, imports)?;
+    }
     Ok(())
 }
 
 /// The outer imports, as the imports of a world.
-fn imports_kept(
+fn world_kept(
     alloc: Global,
     asked: &mut Asked,
     classes: &Classes,
     kept: &IndexMap<usize, Kept>,
-) -> Result<NamedMap<ItemKind>, AllocError> {
-    let mut imports = NamedMap::new(alloc);
-    for (class, one) in kept.iter() {
-        let spelling = spelling_of(&asked.asks, classes, *class);
-        add_import(alloc, &mut asked.types, *one, spelling, &mut imports)?;
-    }
-    Ok(imports)
+) -> Result<World, AllocError> {
+    let mut world = bare_world(alloc, None);
+    let imports = &mut world.imports;
+    let added = add_imports(alloc, &mut asked.types, &asked.asks, classes, kept, imports);
+    filled(world, added)
 }
 
-/// A world with the outer imports.
-fn add_outer_world(
+/// The world of the outer imports.
+fn outer_world(
     alloc: Global,
     asked: &mut Asked,
-    imports: NamedMap<ItemKind>,
+    classes: &Classes,
+    kept: &IndexMap<usize, Kept>,
 ) -> Result<WorldId, Refusal> {
-    let world = World {
-        id: None,
-        uses: NamedMap::new(alloc),
-        imports,
-        exports: NamedMap::new(alloc),
-    };
+    let world = world_kept(alloc, asked, classes, kept)?;
     match add_world(&mut asked.types, world)? {
         Some(world) => Ok(world),
         None => Err(Refusal::TooLarge),
@@ -297,15 +363,23 @@ fn outers_kept(
     classes: &Classes,
     kept: &IndexMap<usize, Kept>,
 ) -> Result<Outers, Refusal> {
-    let imports = imports_kept(alloc, asked, classes, kept)?;
-    let world = add_outer_world(alloc, asked, imports)?;
+    let world = outer_world(alloc, asked, classes, kept)?;
     let called = names_called(alloc, &asked.asks, classes, kept)?;
     Ok(Outers { world, called })
+}
+
+/// The outer imports of classes of asks.
+fn outers_of_classes(
+    alloc: Global,
+    asked: &mut Asked,
+    classes: &Classes,
+) -> Result<Outers, Refusal> {
+    let kept = kept_of_all(alloc, &mut asked.types, &asked.asks, classes)?;
+    outers_kept(alloc, asked, classes, &kept)
 }
 
 /// The outer imports of what is asked.
 pub(crate) fn outers_of(alloc: Global, asked: &mut Asked) -> Result<Outers, Refusal> {
     let classes = classes_of(alloc, &asked.types, &asked.asks)?;
-    let kept = kept_of_all(alloc, &mut asked.types, &asked.asks, &classes)?;
-    outers_kept(alloc, asked, &classes, &kept)
+    outers_of_classes(alloc, asked, &classes)
 }

@@ -1,16 +1,17 @@
 //! The types and the imports of a composition, as entries.
 
-use crate::asks::{Asked, Definition};
+use crate::asks::Definition;
 use crate::conflicts::dependency_name;
 use crate::errors::{Refusal, not_written};
 use crate::nodes::package_at;
 use crate::options::EncodeOptions;
 use indexmap::IndexMap;
 use std::alloc::{AllocError, Global};
-use wac_graph_bytes::{Declaration, Description, Entry, Sort};
+use wac_graph_bytes::{Alias, Declaration, Description, Entry, NamedIndex, Sort};
 use wac_graph_core::{CompositionGraph, NodeId, PackageId};
 use wac_graph_scopes::imports::{ImportScope, Importing, SortIndex};
 use wac_graph_scopes::items::ItemScope;
+use wac_graph_scopes::order::ImportOrder;
 use wac_graph_scopes::parts::{Item, import_at};
 use wac_types_base::{ItemKind, Types, WorldId};
 
@@ -25,7 +26,6 @@ pub(crate) struct Counts {
 }
 
 /// The entries before any instance, and what stands at their indexes.
-#[derive(Drop)]
 pub(crate) struct Root {
     pub entries: Vec<Entry>,
     pub counts: Counts,
@@ -37,12 +37,30 @@ pub(crate) struct Root {
     pub packages: IndexMap<PackageId, u32>,
 }
 
+impl Drop for Root {
+    fn drop(self) {
+        let Root {
+            entries: _,
+            counts: _,
+            imports: _,
+            nodes: _,
+            packages: _,
+        } = self;
+    }
+}
+
 /// The number after this one.
 pub(crate) fn next_index(index: u32) -> Result<u32, Refusal> {
     match index.checked_add(1) {
         Some(next) => Ok(next),
         None => Err(Refusal::TooLarge),
     }
+}
+
+/// Adds an entry.
+pub(crate) fn push_entry(entries: &mut Vec<Entry>, entry: Entry) -> Result<(), AllocError> {
+    entries.push(entry)?;
+    Ok(())
 }
 
 /// The name of the outer import at a place.
@@ -66,14 +84,14 @@ fn write_outer(
     }
 }
 
-/// Writes the outer imports at places.
+/// Writes the outer imports in an order.
 fn write_in_order(
     alloc: Global,
     all: Importing<'_>,
     scope: &mut ImportScope,
-    order: &[usize],
+    order: &ImportOrder,
 ) -> Result<(), Refusal> {
-    for at in order {
+    for at in order.sources.iter().chain(&order.others) {
         write_outer(alloc, all, scope, *at)?;
     }
     Ok(())
@@ -83,8 +101,7 @@ fn write_in_order(
 fn write_outers(alloc: Global, all: Importing<'_>, scope: &mut ImportScope) -> Result<(), Refusal> {
     scope.begin(alloc, all)?;
     let order = scope.order(alloc, all)?;
-    write_in_order(alloc, all, scope, &order.sources)?;
-    write_in_order(alloc, all, scope, &order.others)
+    write_in_order(alloc, all, scope, &order)
 }
 
 /// Writes the type of an item that stands at the root.
@@ -122,6 +139,23 @@ fn write_definition(
     }
 }
 
+/// Writes a definition, and adds what stands for it.
+fn add_definition(
+    graph: &CompositionGraph,
+    scope: &mut ImportScope,
+    all: Importing<'_>,
+    definition: &Definition,
+    nodes: &mut IndexMap<NodeId, SortIndex>,
+) -> Result<(), Refusal> {
+    let alloc = graph.alloc();
+    let description = write_definition(alloc, scope, all, graph.types(), definition)?;
+    if let Description::Equal(index) = description {
+        let sort = Sort::Ty;
+        let _ = nodes.insert(definition.node, SortIndex { sort, index })?;
+    }
+    Ok(())
+}
+
 /// Writes the definitions, and adds what stands for them. Types of the graph's collection are written, and no longer of
 /// the asked one.
 fn write_definitions(
@@ -131,14 +165,9 @@ fn write_definitions(
     definitions: &[Definition],
     nodes: &mut IndexMap<NodeId, SortIndex>,
 ) -> Result<(), Refusal> {
-    let alloc = graph.alloc();
-    scope.scope.types.forget(alloc);
+    scope.scope.types.forget(graph.alloc());
     for definition in definitions {
-        let description = write_definition(alloc, scope, all, graph.types(), definition)?;
-        if let Description::Equal(index) = description {
-            let sort = Sort::Ty;
-            let _ = nodes.insert(definition.node, SortIndex { sort, index })?;
-        }
+        add_definition(graph, scope, all, definition, nodes)?;
     }
     Ok(())
 }
@@ -157,21 +186,24 @@ fn import_item(
     }
 }
 
-/// Imports a package of that world.
+/// Imports a package of that world, and adds its index.
 fn import_package(
-    alloc: Global,
     graph: &CompositionGraph,
     scope: &mut ImportScope,
     all: Importing<'_>,
     id: PackageId,
     world: WorldId,
-) -> Result<u32, Refusal> {
+    packages: &mut IndexMap<PackageId, u32>,
+) -> Result<(), Refusal> {
+    let alloc = graph.alloc();
     let name = dependency_name(alloc, graph, id)?;
     let item = Item {
         name: name.as_str(),
         kind: ItemKind::Component(world),
     };
-    import_item(alloc, scope, all, item)
+    let index = import_item(alloc, scope, all, item)?;
+    let _ = packages.insert(id, index)?;
+    Ok(())
 }
 
 /// Imports the packages, and adds their indexes.
@@ -179,12 +211,11 @@ fn import_packages(
     graph: &CompositionGraph,
     scope: &mut ImportScope,
     all: Importing<'_>,
-    asked: &Asked,
+    worlds: &IndexMap<PackageId, WorldId>,
     packages: &mut IndexMap<PackageId, u32>,
 ) -> Result<(), Refusal> {
-    for (id, world) in asked.packages.iter() {
-        let index = import_package(graph.alloc(), graph, scope, all, *id, *world)?;
-        let _ = packages.insert(*id, index)?;
+    for (id, world) in worlds.iter() {
+        import_package(graph, scope, all, *id, *world, packages)?;
     }
     Ok(())
 }
@@ -206,45 +237,49 @@ fn entry_of(declaration: Declaration) -> Option<Entry> {
 fn add_entries(entries: &mut Vec<Entry>, declarations: Vec<Declaration>) -> Result<(), AllocError> {
     for declaration in declarations {
         if let Some(entry) = entry_of(declaration) {
-            entries.push(entry)?;
+            push_entry(entries, entry)?;
         }
     }
     Ok(())
 }
 
 /// The bytes of a package.
-fn bytes_of(alloc: Global, graph: &CompositionGraph, id: PackageId) -> Result<Vec<u8>, AllocError> {
-    let mut bytes = Vec::new(alloc);
-    if let Some(package) = package_at(graph, id) {
-        bytes.extend_from_slice(package.bytes())?;
+fn bytes_at(graph: &CompositionGraph, id: PackageId) -> &[u8] {
+    match package_at(graph, id) {
+        Some(package) => package.bytes(),
+        None => &[],
     }
-    Ok(bytes)
 }
 
-/// Nests a package behind what is written.
+/// Adds the bytes of a component.
+fn push_nested(alloc: Global, entries: &mut Vec<Entry>, bytes: &[u8]) -> Result<(), AllocError> {
+    let mut copy = Vec::new(alloc);
+    copy.extend_from_slice(bytes)?;
+    push_entry(entries, Entry::Nested(copy))
+}
+
+/// Nests a package of those bytes behind what is written.
 fn nest_package(
     alloc: Global,
-    graph: &CompositionGraph,
     root: &mut Root,
     id: PackageId,
+    bytes: &[u8],
 ) -> Result<(), Refusal> {
     let index = root.counts.components;
     root.counts.components = next_index(index)?;
-    let bytes = bytes_of(alloc, graph, id)?;
-    root.entries.push(Entry::Nested(bytes))?;
+    push_nested(alloc, &mut root.entries, bytes)?;
     let _ = root.packages.insert(id, index)?;
     Ok(())
 }
 
 /// Nests the packages behind what is written.
 fn nest_packages(
-    alloc: Global,
     graph: &CompositionGraph,
-    asked: &Asked,
+    worlds: &IndexMap<PackageId, WorldId>,
     root: &mut Root,
 ) -> Result<(), Refusal> {
-    for id in asked.packages.keys() {
-        nest_package(alloc, graph, root, *id)?;
+    for id in worlds.keys() {
+        nest_package(graph.alloc(), root, *id, bytes_at(graph, *id))?;
     }
     Ok(())
 }
@@ -279,6 +314,64 @@ impl Root {
     }
 }
 
+fn count_of(counts: &Counts, sort: Sort) -> u32 {
+    match sort {
+        Sort::Func => counts.funcs,
+        Sort::Ty => counts.types,
+        Sort::Component => counts.components,
+        Sort::Instance => counts.instances,
+        Sort::Module => counts.modules,
+    }
+}
+
+fn set_count(counts: &mut Counts, sort: Sort, next: u32) {
+    match sort {
+        Sort::Func => counts.funcs = next,
+        Sort::Ty => counts.types = next,
+        Sort::Component => counts.components = next,
+        Sort::Instance => counts.instances = next,
+        Sort::Module => counts.modules = next,
+    }
+}
+
+/// The index of one more thing of a sort.
+fn count_one(counts: &mut Counts, sort: Sort) -> Result<u32, Refusal> {
+    let index = count_of(counts, sort);
+    let next = next_index(index)?;
+    set_count(counts, sort, next);
+    Ok(index)
+}
+
+impl Root {
+    /// Adds an entry that adds one thing of a sort.
+    fn add(&mut self, entry: Entry, sort: Sort) -> Result<SortIndex, Refusal> {
+        push_entry(&mut self.entries, entry)?;
+        let index = count_one(&mut self.counts, sort)?;
+        Ok(SortIndex { sort, index })
+    }
+
+    /// Adds an alias of an export of an instance.
+    pub(crate) fn add_alias(
+        &mut self,
+        alloc: Global,
+        sort: Sort,
+        instance: u32,
+        name: &str,
+    ) -> Result<SortIndex, Refusal> {
+        let name = String::from_str(alloc, name)?;
+        self.add(Entry::Alias(Alias::Export(sort, instance, name)), sort)
+    }
+
+    /// Adds an instance of a component.
+    pub(crate) fn add_instance(
+        &mut self,
+        component: u32,
+        arguments: Vec<NamedIndex>,
+    ) -> Result<SortIndex, Refusal> {
+        self.add(Entry::Instantiate(component, arguments), Sort::Instance)
+    }
+}
+
 /// Takes what is written in a scope.
 fn take_scope(alloc: Global, scope: &mut ImportScope, root: &mut Root) -> Result<(), AllocError> {
     root.counts = counts_of(&scope.scope);
@@ -286,37 +379,54 @@ fn take_scope(alloc: Global, scope: &mut ImportScope, root: &mut Root) -> Result
     add_entries(&mut root.entries, scope.scope.take_declarations(alloc))
 }
 
-/// Writes the types and the imports of a composition in a scope, and takes them with its packages.
-fn write_in(
-    graph: &CompositionGraph,
-    asked: &Asked,
-    all: Importing<'_>,
-    definitions: &[Definition],
-    options: &EncodeOptions,
+/// What is written at the root, and how.
+#[derive(Clone, Copy)]
+pub(crate) struct Writing<'a> {
+    pub graph: &'a CompositionGraph,
+    /// Of the packages that are imported or nested.
+    pub worlds: &'a IndexMap<PackageId, WorldId>,
+    /// The outer imports.
+    pub all: Importing<'a>,
+    /// In the form in which they are written.
+    pub definitions: &'a [Definition],
+    pub options: &'a EncodeOptions,
+}
+
+/// Imports or nests the packages, and takes what is written in a scope.
+fn write_packages(
+    writing: Writing<'_>,
     scope: &mut ImportScope,
     root: &mut Root,
 ) -> Result<(), Refusal> {
-    let alloc = graph.alloc();
-    write_outers(alloc, all, scope)?;
-    write_definitions(graph, scope, all, definitions, &mut root.nodes)?;
-    if options.define_components {
-        take_scope(alloc, scope, root)?;
-        return nest_packages(alloc, graph, asked, root);
+    let graph = writing.graph;
+    let worlds = writing.worlds;
+    if !writing.options.define_components {
+        import_packages(graph, scope, writing.all, worlds, &mut root.packages)?;
     }
-    import_packages(graph, scope, all, asked, &mut root.packages)?;
-    take_scope(alloc, scope, root)?;
+    take_scope(graph.alloc(), scope, root)?;
+    if writing.options.define_components {
+        nest_packages(graph, worlds, root)?;
+    }
     Ok(())
 }
 
+/// Writes the types and the imports of a composition in a scope, and takes them with its packages.
+fn write_in(writing: Writing<'_>, scope: &mut ImportScope, root: &mut Root) -> Result<(), Refusal> {
+    let Writing {
+        graph,
+        all,
+        definitions,
+        ..
+    } = writing;
+    write_outers(graph.alloc(), all, scope)?;
+    write_definitions(graph, scope, all, definitions, &mut root.nodes)?;
+    write_packages(writing, scope, root)
+}
+
 /// Writes the types, the imports and the packages of a composition.
-pub(crate) fn write_root(
-    graph: &CompositionGraph,
-    asked: &Asked,
-    all: Importing<'_>,
-    definitions: &[Definition],
-    options: &EncodeOptions,
-    root: &mut Root,
-) -> Result<(), Refusal> {
-    let mut scope = ImportScope::new(graph.alloc());
-    write_in(graph, asked, all, definitions, options, &mut scope, root)
+pub(crate) fn write_root(writing: Writing<'_>, root: &mut Root) -> Result<(), Refusal> {
+    let mut scope = ImportScope::new(writing.graph.alloc());
+    let written = write_in(writing, &mut scope, root);
+    drop(scope);
+    written
 }

@@ -6,9 +6,14 @@ use wac_graph_scopes::parts::{identifier, use_at, use_count, world_use_at, world
 use wac_types_base::{InterfaceId, Types, WorldId};
 
 /// Of interfaces, whether one without identifier is reached from them by uses: each is looked at once.
-#[derive(Drop)]
 pub(crate) struct Unnamed {
     found: IndexMap<InterfaceId, bool>,
+}
+
+impl Drop for Unnamed {
+    fn drop(self) {
+        let Unnamed { found: _ } = self;
+    }
 }
 
 impl Unnamed {

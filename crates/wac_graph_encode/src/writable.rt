@@ -172,6 +172,15 @@ fn item_fails(test: Test<'_>, holder: &mut Holder, item: Item<'_>) -> Result<boo
     simple_fails(test, holder, item)
 }
 
+/// Whether an item fails, in what holds it, that no use gives.
+#[cycle(items)]
+fn ungiven_fails(test: Test<'_>, holder: &mut Holder, item: Item<'_>) -> Result<bool, AllocError> {
+    if holder.gives(test.alloc, test.types, item)? {
+        return Ok(false);
+    }
+    item_fails(test, holder, item)
+}
+
 /// Whether an export of an interface fails that no use gives.
 #[cycle(items)]
 fn exports_fail(
@@ -182,10 +191,7 @@ fn exports_fail(
 ) -> Result<bool, AllocError> {
     for at in 0..export_count(test.types, id) {
         if let Some(item) = export_at(test.types, id, at) {
-            if is_tested(which, item.kind)
-                && !holder.gives(test.alloc, test.types, item)?
-                && item_fails(test, holder, item)?
-            {
+            if is_tested(which, item.kind) && ungiven_fails(test, holder, item)? {
                 return Ok(true);
             }
         }
@@ -222,7 +228,6 @@ fn gives_used(test: Test<'_>, import: ItemKind, used: Use<'_>) -> Result<bool, A
 }
 
 /// A component type whose items use interfaces.
-#[derive(Drop)]
 struct Giver {
     /// If there is one.
     world: Option<WorldId>,
@@ -230,6 +235,16 @@ struct Giver {
     seen: IndexSet<InterfaceId>,
     /// Those whose types do not fail.
     fine: IndexSet<InterfaceId>,
+}
+
+impl Drop for Giver {
+    fn drop(self) {
+        let Giver {
+            world: _,
+            seen: _,
+            fine: _,
+        } = self;
+    }
 }
 
 impl Giver {
@@ -272,11 +287,21 @@ fn types_fail(test: Test<'_>, giver: &mut Giver, id: InterfaceId) -> Result<bool
 /// Whether a use fails that a component type's imports do not give: in an outer import each; else where the used
 /// interface has types that fail. So that a name with another item adds nothing.
 #[cycle(items)]
+fn use_itself_fails(test: Test<'_>, giver: &mut Giver, used: Use<'_>) -> Result<bool, AllocError> {
+    let Some(name) = identifier(test.types, used.interface) else {
+        return Ok(false);
+    };
+    if giver.gives(test, used, name)? {
+        return Ok(false);
+    }
+    types_fail(test, giver, used.interface)
+}
+
+/// The same of a use, and of the uses of its interface, which are looked at once.
+#[cycle(items)]
 fn use_fails(test: Test<'_>, giver: &mut Giver, used: Use<'_>) -> Result<bool, AllocError> {
-    if let Some(name) = identifier(test.types, used.interface) {
-        if !giver.gives(test, used, name)? && types_fail(test, giver, used.interface)? {
-            return Ok(true);
-        }
+    if use_itself_fails(test, giver, used)? {
+        return Ok(true);
     }
     let is_new = giver.seen.insert(used.interface)?;
     if is_new {
@@ -370,7 +395,7 @@ fn uses_of_exports_fail(
 fn imports_fail(test: Test<'_>, holder: &mut Holder, id: WorldId) -> Result<bool, AllocError> {
     for at in 0..import_count(test.types, id) {
         if let Some(item) = import_at(test.types, id, at) {
-            if !holder.gives(test.alloc, test.types, item)? && item_fails(test, holder, item)? {
+            if ungiven_fails(test, holder, item)? {
                 return Ok(true);
             }
         }

@@ -1,14 +1,19 @@
 //! The forms in which worlds are written, and in which they are handed out.
 
-use crate::copies::{add_interface, add_world, copy_text, copy_uses, world_at};
+use crate::copies::{
+    add_interface, add_world, bare_interface, bare_world, copy_items, copy_text, copy_use,
+    copy_uses, filled,
+};
+use crate::maps::insert_under;
 use indexmap::{IndexMap, IndexSet};
 use std::alloc::{AllocError, Global};
 use wac_graph_scopes::parts::{
-    export_at, export_count, identifier, import_at, import_count, interface_of, use_at, use_count,
-    world_export_at, world_export_count, world_identifier, world_of, world_use_at, world_use_count,
+    export_at, export_count, identifier, import_at, import_count, import_named, interface_of,
+    use_at, use_count, world_export_at, world_export_count, world_identifier, world_of,
+    world_use_at, world_use_count,
 };
 use wac_types_base::{
-    Interface, InterfaceId, ItemKind, NamedMap, Type, Types, UsedType, World, WorldId,
+    Interface, InterfaceId, ItemKind, NamedMap, Text, Type, Types, UsedType, World, WorldId,
 };
 
 /// A form of worlds.
@@ -113,6 +118,17 @@ fn add_exports_below(
     Ok(())
 }
 
+/// Adds the interfaces that a world and its items use.
+fn add_used_by_world(
+    types: &Types,
+    id: WorldId,
+    found: &mut IndexSet<InterfaceId>,
+) -> Result<(), AllocError> {
+    add_world_uses(types, id, found)?;
+    add_imports_below(types, id, found)?;
+    add_exports_below(types, id, found)
+}
+
 /// The interfaces that a world and its items use, each behind those that it uses itself.
 fn used_by_world(
     alloc: Global,
@@ -120,36 +136,43 @@ fn used_by_world(
     id: WorldId,
 ) -> Result<IndexSet<InterfaceId>, AllocError> {
     let mut found = IndexSet::new(alloc);
-    add_world_uses(types, id, &mut found)?;
-    add_imports_below(types, id, &mut found)?;
-    add_exports_below(types, id, &mut found)?;
-    Ok(found)
+    let added = add_used_by_world(types, id, &mut found);
+    filled(found, added)
 }
 
 // ---- component types
 
-/// The exports that are types.
-fn type_items(
+/// Adds the exports that are types.
+fn add_type_items(
     alloc: Global,
     exports: &NamedMap<ItemKind>,
-) -> Result<NamedMap<ItemKind>, AllocError> {
-    let mut kept = NamedMap::new(alloc);
+    kept: &mut NamedMap<ItemKind>,
+) -> Result<(), AllocError> {
     for at in 0..exports.len() {
         let (name, kind) = exports.entry(at);
         if matches!(kind, ItemKind::Ty(_)) {
-            let _ = kept.insert(String::from_str(alloc, name)?, *kind)?;
+            insert_under(alloc, kept, name, *kind)?;
         }
     }
-    Ok(kept)
+    Ok(())
+}
+
+/// Adds the uses of an interface, and its type exports.
+fn add_types_only(
+    alloc: Global,
+    interface: &Interface,
+    only: &mut Interface,
+) -> Result<(), AllocError> {
+    copy_uses(alloc, &interface.uses, &mut only.uses)?;
+    add_type_items(alloc, &interface.exports, &mut only.exports)
 }
 
 /// An interface with its type exports only.
 fn with_types_only(alloc: Global, interface: &Interface) -> Result<Interface, AllocError> {
-    Ok(Interface {
-        id: copy_text(&interface.id)?,
-        uses: copy_uses(alloc, &interface.uses)?,
-        exports: type_items(alloc, &interface.exports)?,
-    })
+    let id = copy_text(&interface.id)?;
+    let mut only = bare_interface(alloc, id);
+    let added = add_types_only(alloc, interface, &mut only);
+    filled(only, added)
 }
 
 /// The interface of an id with its type exports only.
@@ -165,85 +188,120 @@ fn types_only(
     add_interface(types, interface)
 }
 
-/// Adds an import of a used interface, unless its name is there.
-fn add_missing(
+/// The name of a used interface that is not among the imports of a world, nor among those that are added to them.
+fn missing_name<'a>(
+    types: &'a Types,
+    world: WorldId,
+    imports: &NamedMap<ItemKind>,
+    used: InterfaceId,
+) -> Option<&'a str> {
+    match identifier(types, used) {
+        Some(name) => {
+            if import_named(types, world, name).is_some() || imports.contains(name) {
+                None
+            } else {
+                Some(name)
+            }
+        }
+        None => None,
+    }
+}
+
+/// Adds an import of a used interface under a name.
+fn add_used_import(
     alloc: Global,
     types: &mut Types,
-    id: InterfaceId,
-    own: &NamedMap<ItemKind>,
+    used: InterfaceId,
+    name: String,
     imports: &mut NamedMap<ItemKind>,
 ) -> Result<(), AllocError> {
-    let name = match identifier(types, id) {
-        Some(name) => String::from_str(alloc, name)?,
-        None => return Ok(()),
-    };
-    if own.contains(name.as_str()) || imports.contains(name.as_str()) {
-        return Ok(());
-    }
-    if let Some(import) = types_only(alloc, types, id)? {
+    if let Some(import) = types_only(alloc, types, used)? {
         let _ = imports.insert(name, ItemKind::Instance(import))?;
     }
     Ok(())
 }
 
-/// Adds imports of used interfaces, unless their names are there.
-fn add_all_missing(
+/// Adds an import of a used interface, unless its name is there.
+fn add_missing(
     alloc: Global,
     types: &mut Types,
+    world: WorldId,
+    used: InterfaceId,
+    imports: &mut NamedMap<ItemKind>,
+) -> Result<(), AllocError> {
+    let Some(name) = missing_name(types, world, imports, used) else {
+        return Ok(());
+    };
+    let name = String::from_str(alloc, name)?;
+    add_used_import(alloc, types, used, name, imports)
+}
+
+/// Adds imports of used interfaces, unless their names are there.
+fn add_each_missing(
+    alloc: Global,
+    types: &mut Types,
+    world: WorldId,
     used: &IndexSet<InterfaceId>,
-    own: &NamedMap<ItemKind>,
     imports: &mut NamedMap<ItemKind>,
 ) -> Result<(), AllocError> {
     for interface in used.iter() {
-        add_missing(alloc, types, *interface, own, imports)?;
+        add_missing(alloc, types, world, *interface, imports)?;
     }
     Ok(())
 }
 
-/// Adds imports behind others.
-fn add_own(
+/// Adds imports of the interfaces that a world uses, unless their names are there.
+fn add_all_missing(
     alloc: Global,
-    own: &NamedMap<ItemKind>,
+    types: &mut Types,
+    world: WorldId,
     imports: &mut NamedMap<ItemKind>,
 ) -> Result<(), AllocError> {
-    for at in 0..own.len() {
-        let (name, kind) = own.entry(at);
-        let _ = imports.insert(String::from_str(alloc, name)?, *kind)?;
-    }
-    Ok(())
+    let used = used_by_world(alloc, types, world)?;
+    add_each_missing(alloc, types, world, &used, imports)
 }
 
-/// The imports of a component type: the interfaces that it uses and does not import, and its own imports.
-fn with_missing(
+/// Adds the uses, the imports and the exports of a world.
+fn add_items_of_world(alloc: Global, world: &World, copy: &mut World) -> Result<(), AllocError> {
+    copy_uses(alloc, &world.uses, &mut copy.uses)?;
+    copy_items(alloc, &world.imports, &mut copy.imports)?;
+    copy_items(alloc, &world.exports, &mut copy.exports)
+}
+
+/// Adds what a component type has: the interfaces that the world of an id uses and does not import, and its own items.
+fn add_importing(
     alloc: Global,
     types: &mut Types,
     id: WorldId,
-    own: &NamedMap<ItemKind>,
-) -> Result<NamedMap<ItemKind>, AllocError> {
-    let used = used_by_world(alloc, types, id)?;
-    let mut imports = NamedMap::new(alloc);
-    add_all_missing(alloc, types, &used, own, &mut imports)?;
-    add_own(alloc, own, &mut imports)?;
-    Ok(imports)
+    copy: &mut World,
+) -> Result<(), AllocError> {
+    add_all_missing(alloc, types, id, &mut copy.imports)?;
+    if types.has(ItemKind::Component(id)) {
+        add_items_of_world(alloc, types.world(id), copy)?;
+    }
+    Ok(())
 }
 
-/// A world with those imports in place of its own.
-fn with_imports(world: World, imports: NamedMap<ItemKind>) -> World {
-    World {
-        id: world.id,
-        uses: world.uses,
-        imports,
-        exports: world.exports,
-    }
+/// The world of an id, with imports of the interfaces that it uses.
+fn world_importing(
+    alloc: Global,
+    types: &mut Types,
+    id: WorldId,
+    name: Option<Text>,
+) -> Result<World, AllocError> {
+    let mut world = bare_world(alloc, name);
+    let added = add_importing(alloc, types, id, &mut world);
+    filled(world, added)
 }
 
 /// The world as a component type.
 fn importing(alloc: Global, types: &mut Types, id: WorldId) -> Result<WorldId, AllocError> {
-    let Some(world) = world_at(alloc, types, id)? else {
+    if !types.has(ItemKind::Component(id)) {
         return Ok(id);
-    };
-    let imports = with_missing(alloc, types, id, &world.imports)?;
-    let new = add_world(types, with_imports(world, imports))?;
+    }
+    let name = copy_text(&types.world(id).id)?;
+    let world = world_importing(alloc, types, id, name)?;
+    let new = add_world(types, world)?;
     Ok(new.unwrap_or(id))
 }
 
@@ -412,40 +470,33 @@ fn found_item(done: &Changes, kind: ItemKind) -> ItemKind {
     }
 }
 
-fn found_items(
+/// Adds what became of items.
+fn add_found_items(
     alloc: Global,
     done: &Changes,
     items: &NamedMap<ItemKind>,
-) -> Result<NamedMap<ItemKind>, AllocError> {
-    let mut all = NamedMap::new(alloc);
+    all: &mut NamedMap<ItemKind>,
+) -> Result<(), AllocError> {
     for at in 0..items.len() {
         let (name, kind) = items.entry(at);
-        let _ = all.insert(String::from_str(alloc, name)?, found_item(done, *kind))?;
+        insert_under(alloc, all, name, found_item(done, *kind))?;
     }
-    Ok(all)
+    Ok(())
 }
 
-/// A use of what became of its interface.
-fn found_use(done: &Changes, used: &UsedType) -> Result<UsedType, AllocError> {
-    let name = copy_text(&used.name)?;
-    Ok(UsedType {
-        interface: found_interface(done, used.interface),
-        name,
-    })
-}
-
-fn found_uses(
+/// Adds uses of what became of their interfaces.
+fn add_found_uses(
     alloc: Global,
     done: &Changes,
     uses: &NamedMap<UsedType>,
-) -> Result<NamedMap<UsedType>, AllocError> {
-    let mut all = NamedMap::new(alloc);
+    all: &mut NamedMap<UsedType>,
+) -> Result<(), AllocError> {
     for at in 0..uses.len() {
         let (name, used) = uses.entry(at);
-        let name = String::from_str(alloc, name)?;
-        let _ = all.insert(name, found_use(done, used)?)?;
+        let after = copy_use(used, found_interface(done, used.interface))?;
+        insert_under(alloc, all, name, after)?;
     }
-    Ok(all)
+    Ok(())
 }
 
 /// Whether nothing became of these items.
@@ -467,17 +518,27 @@ fn uses_kept(done: &Changes, uses: &NamedMap<UsedType>) -> bool {
     true
 }
 
+/// Adds what became of the parts of an interface.
+fn add_found_of_interface(
+    alloc: Global,
+    done: &Changes,
+    interface: &Interface,
+    all: &mut Interface,
+) -> Result<(), AllocError> {
+    add_found_items(alloc, done, &interface.exports, &mut all.exports)?;
+    add_found_uses(alloc, done, &interface.uses, &mut all.uses)
+}
+
 /// An interface of what its parts became.
 fn interface_of_found(
     alloc: Global,
     done: &Changes,
     interface: &Interface,
 ) -> Result<Interface, AllocError> {
-    Ok(Interface {
-        id: copy_text(&interface.id)?,
-        exports: found_items(alloc, done, &interface.exports)?,
-        uses: found_uses(alloc, done, &interface.uses)?,
-    })
+    let id = copy_text(&interface.id)?;
+    let mut all = bare_interface(alloc, id);
+    let added = add_found_of_interface(alloc, done, interface, &mut all);
+    filled(all, added)
 }
 
 /// What becomes of an interface.
@@ -499,16 +560,19 @@ fn form_interface(
     Ok(new.unwrap_or(id))
 }
 
-/// The uses of a world in a form.
-fn uses_in(
+/// Adds what became of the parts of a world; in a form without uses none of those.
+fn add_found_of_world(
     alloc: Global,
     form: Form,
     done: &Changes,
-    uses: &NamedMap<UsedType>,
-) -> Result<NamedMap<UsedType>, AllocError> {
+    world: &World,
+    all: &mut World,
+) -> Result<(), AllocError> {
+    add_found_items(alloc, done, &world.imports, &mut all.imports)?;
+    add_found_items(alloc, done, &world.exports, &mut all.exports)?;
     match form {
-        Form::Importing => found_uses(alloc, done, uses),
-        Form::WithoutUses => Ok(NamedMap::new(alloc)),
+        Form::Importing => add_found_uses(alloc, done, &world.uses, &mut all.uses),
+        Form::WithoutUses => Ok(()),
     }
 }
 
@@ -519,12 +583,10 @@ fn world_of_found(
     done: &Changes,
     world: &World,
 ) -> Result<World, AllocError> {
-    Ok(World {
-        id: copy_text(&world.id)?,
-        imports: found_items(alloc, done, &world.imports)?,
-        exports: found_items(alloc, done, &world.exports)?,
-        uses: uses_in(alloc, form, done, &world.uses)?,
-    })
+    let id = copy_text(&world.id)?;
+    let mut all = bare_world(alloc, id);
+    let added = add_found_of_world(alloc, form, done, world, &mut all);
+    filled(all, added)
 }
 
 /// What becomes of a world in that form.
@@ -576,8 +638,23 @@ fn parts_of(
     kind: ItemKind,
 ) -> Result<IndexSet<ItemKind>, AllocError> {
     let mut parts = IndexSet::new(alloc);
-    add_parts(types, kind, &mut parts)?;
-    Ok(parts)
+    let added = add_parts(types, kind, &mut parts);
+    filled(parts, added)
+}
+
+/// Adds what becomes of parts.
+fn form_each(
+    alloc: Global,
+    types: &mut Types,
+    form: Form,
+    parts: &IndexSet<ItemKind>,
+    done: &mut Changes,
+) -> Result<(), AllocError> {
+    for part in parts.iter() {
+        let after = form_part(alloc, types, form, done, *part)?;
+        let _ = done.insert(*part, after)?;
+    }
+    Ok(())
 }
 
 /// What became of parts.
@@ -588,11 +665,22 @@ fn form_parts(
     parts: &IndexSet<ItemKind>,
 ) -> Result<Changes, AllocError> {
     let mut done = IndexMap::new(alloc);
-    for part in parts.iter() {
-        let after = form_part(alloc, types, form, &done, *part)?;
-        let _ = done.insert(*part, after)?;
-    }
-    Ok(done)
+    let added = form_each(alloc, types, form, parts, &mut done);
+    filled(done, added)
+}
+
+/// The item, with each world among its parts in that form.
+fn formed_by(
+    alloc: Global,
+    types: &mut Types,
+    form: Form,
+    parts: &IndexSet<ItemKind>,
+    kind: ItemKind,
+) -> Result<ItemKind, AllocError> {
+    let done = form_parts(alloc, types, form, parts)?;
+    let item = found_item(&done, kind);
+    drop(done);
+    Ok(item)
 }
 
 /// The item, with each world in it in that form.
@@ -603,31 +691,18 @@ pub(crate) fn formed(
     kind: ItemKind,
 ) -> Result<ItemKind, AllocError> {
     let parts = parts_of(alloc, types, kind)?;
-    let done = form_parts(alloc, types, form, &parts)?;
-    Ok(found_item(&done, kind))
+    let item = formed_by(alloc, types, form, &parts, kind);
+    drop(parts);
+    item
 }
 
 // ---- definitions
 
-/// A component type with that one export.
-fn wrapped(
-    alloc: Global,
-    types: &mut Types,
-    name: String,
-    item: ItemKind,
-) -> Result<Option<WorldId>, AllocError> {
-    let mut exports = NamedMap::new(alloc);
-    let _ = exports.insert(name, item)?;
-    let world = World {
-        id: None,
-        uses: NamedMap::new(alloc),
-        imports: NamedMap::new(alloc),
-        exports,
-    };
-    match add_world(types, world)? {
-        Some(id) => Ok(Some(importing(alloc, types, id)?)),
-        None => Ok(None),
-    }
+/// A world with that one export.
+fn world_exporting(alloc: Global, name: &str, item: ItemKind) -> Result<World, AllocError> {
+    let mut world = bare_world(alloc, None);
+    let added = insert_under(alloc, &mut world.exports, name, item);
+    filled(world, added)
 }
 
 /// The identifier of a definition of an interface or a world, and what it is the type of.
@@ -648,15 +723,40 @@ fn wrapped_item(types: &Types, kind: ItemKind) -> Option<(&str, ItemKind)> {
     }
 }
 
-/// The same with a name of its own.
-fn wrapped_name(
-    alloc: Global,
-    types: &Types,
-    kind: ItemKind,
-) -> Result<Option<(String, ItemKind)>, AllocError> {
+/// A component type of that one export, for a definition of an interface or a world with identifier.
+fn wrapping(alloc: Global, types: &Types, kind: ItemKind) -> Result<Option<World>, AllocError> {
     match wrapped_item(types, kind) {
-        Some((name, item)) => Ok(Some((String::from_str(alloc, name)?, item))),
+        Some((name, item)) => {
+            let world = world_exporting(alloc, name, item)?;
+            Ok(Some(world))
+        }
         None => Ok(None),
+    }
+}
+
+/// Adds a world as a component type, if all that it names stands.
+fn add_component(
+    alloc: Global,
+    types: &mut Types,
+    world: World,
+) -> Result<Option<WorldId>, AllocError> {
+    match add_world(types, world)? {
+        Some(id) => {
+            let id = importing(alloc, types, id)?;
+            Ok(Some(id))
+        }
+        None => Ok(None),
+    }
+}
+
+/// An interface or a world with identifier inside a component type, and any other item itself.
+fn wrapped(alloc: Global, types: &mut Types, kind: ItemKind) -> Result<ItemKind, AllocError> {
+    let Some(world) = wrapping(alloc, types, kind)? else {
+        return Ok(kind);
+    };
+    match add_component(alloc, types, world)? {
+        Some(id) => Ok(ItemKind::Ty(Type::World(id))),
+        None => Ok(kind),
     }
 }
 
@@ -667,11 +767,5 @@ pub(crate) fn written_definition(
     kind: ItemKind,
 ) -> Result<ItemKind, AllocError> {
     let kind = formed(alloc, types, Form::Importing, kind)?;
-    match wrapped_name(alloc, types, kind)? {
-        Some((name, item)) => match wrapped(alloc, types, name, item)? {
-            Some(id) => Ok(ItemKind::Ty(Type::World(id))),
-            None => Ok(kind),
-        },
-        None => Ok(kind),
-    }
+    wrapped(alloc, types, kind)
 }

@@ -31,7 +31,7 @@ abbrev pub decreases-world_exports_fail : goal.decreases-world_exports_fail
 decreases-world_exports_fail l = 16 * size_of l.test.types.now (ItemKind.Component l.id) + 5
 
 abbrev pub decreases-use_fails : goal.decreases-use_fails
-decreases-use_fails l = 16 * size_of l.test.types.now (ItemKind.Instance l.used.interface) + 9
+decreases-use_fails l = 16 * size_of l.test.types.now (ItemKind.Instance l.used.interface) + 10
 
 abbrev pub decreases-types_fail : goal.decreases-types_fail
 decreases-types_fail l = 16 * size_of l.test.types.now (ItemKind.Instance l.id) + 8
@@ -53,3 +53,9 @@ decreases-uses_of_world_fail l = 16 * size_of l.test.types.now (ItemKind.Compone
 
 abbrev pub decreases-items_of_world_fail : goal.decreases-items_of_world_fail
 decreases-items_of_world_fail l = 16 * size_of l.test.types.now (ItemKind.Component l.id) + 7
+
+abbrev pub decreases-ungiven_fails : goal.decreases-ungiven_fails
+decreases-ungiven_fails l = 16 * size_of l.test.types.now l.item.kind + 10
+
+abbrev pub decreases-use_itself_fails : goal.decreases-use_itself_fails
+decreases-use_itself_fails l = 16 * size_of l.test.types.now (ItemKind.Instance l.used.interface) + 9
