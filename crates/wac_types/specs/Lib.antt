@@ -9,6 +9,7 @@ pub use Rattle.wac_types_base.specs.Stated
 pub use Rattle.wac_types_base.specs.Discrete
 pub use Rattle.wac_types_base.specs.Reaching
 pub use Rattle.wac_types_base.specs.View
+pub use Rattle.wac_types_base.specs.Renaming
 pub use Rattle.wac_types_base.specs.Copies
 pub use Rattle.wac_types_base.specs.Resolving
 pub use Rattle.wac_types_base.specs.Implicit
@@ -30,12 +31,14 @@ pub use Rattle.wac_types_fit.specs.Frames
 pub use Rattle.wac_types_fit.specs.Checking
 pub use Rattle.wac_types_fit.specs.Errors
 pub use Rattle.wac_types_fit.specs.Directions
+pub use Rattle.wac_types_fit.specs.Words
 pub use Rattle.wac_types_fit.specs.Targets
 pub use Rattle.wac_types_fit.specs.Meets
 pub use Rattle.wac_types_merge.specs.Families
 pub use Rattle.wac_types_merge.specs.Interfaces
 pub use Rattle.wac_types_merge.specs.Errors as MergeErrors
 pub use Rattle.wac_types_merge.specs.Imports
+pub use Rattle.wac_types_merge.specs.United
 pub use Rattle.wac_types_merge.specs.Merging
 pub use Rattle.wac_types_merge.specs.Lists
 pub use Rattle.wac_types_merge.specs.Seen

@@ -13,7 +13,9 @@ pub use wac_types_fit::{
     TargetValidationResult, meets_of_plain_trees, new_cache, order_on_trees, refusals_are_true,
     validate_target,
 };
-pub use wac_types_merge::{AggregateError, Family, Import, TypeAggregator, aggregate_all};
+pub use wac_types_merge::{
+    AggregateError, Family, Import, TypeAggregator, aggregate_all, asks_merge_in_turn,
+};
 pub use wac_types_names::{
     BorrowedKey, BorrowedPackageKey, NameMap, NameMapError, NameMapIntern, NameMapNoIntern,
     Package, PackageKey, alternate_lookup_key, are_semver_compatible, compatible_names,

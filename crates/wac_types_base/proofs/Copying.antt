@@ -29,13 +29,13 @@ use Rattle.wac_types_base.specs.Record.{Collection}
 use Rattle.wac_types_base.specs.Graph.{Whole, Wholes, node, skip, wholes_by, close, grow, whole, Among}
 use Rattle.wac_types_base.specs.Collection.{Shape, Entry, Slot, SlotStands, HasChildren, item_node, labelled, Stands, depth, IsAcyclic, unfolding_of, Grows, defined_entry, resource_entry, func_entry, interface_entry, world_entry, module_entry, value_slot, option_slot, slots_in, slots_of, primitive, type_of, own_of, borrow_of, use_names, used, items}
 use Rattle.wac_types_base.specs.Copying.{IsCopy, SlotsCopied, none_copied, hole_copied, place_copied}
-use Rattle.wac_types_base.specs.Copies.{copy_or, defined_id, resource_id, func_id, interface_id, world_id, module_id, value_copy, option_copy, type_copy, kind_copy, Knows, defined_copy, resource_copy, func_copy, used_copy, interface_copy, world_copy, defined_at, resource_at, func_at, interface_at, world_at, module_at, EachCopied, AreCopies, HasNone, KnowsPlaces}
+use Rattle.wac_types_base.specs.Copies.{copy_or, copied_ids, defined_id, resource_id, func_id, interface_id, world_id, module_id, value_copy, option_copy, type_copy, kind_copy, Knows, defined_copy, resource_copy, func_copy, used_copy, interface_copy, world_copy, defined_at, resource_at, func_at, interface_at, world_at, module_at, EachCopied, AreCopies, HasNone, KnowsPlaces}
 use Rattle.wac_types_base.proofs.GraphLemmas.{value_of, is_there, no_depth, grow-extends, whole-extends}
 use Rattle.wac_types_base.proofs.Walking.{child_smaller, slice_get-Among}
 use Rattle.wac_types_base.proofs.Standing.{defined_found, resource_found, func_found, interface_found, world_found, module_found}
 use Rattle.wac_types_base.proofs.Slots.{entry_at-is, stands_borrow, stands_own, stands_typed_func, stands_typed_value, stands_typed_interface, stands_typed_world, stands_typed_module, slots_borrow, slots_own, slots_typed_func, slots_typed_value, slots_typed_interface, slots_typed_world, slots_typed_module}
-use Rattle.wac_types_base.proofs.Loops.{map-map, map-append, names-with_values, values-with_values}
 use Rattle.wac_types_base.proofs.Replacing.{labelled_there}
+use Rattle.wac_types_base.proofs.Renamed.{defined_entry_renamed, resource_entry_renamed, func_entry_renamed, interface_entry_renamed, world_entry_renamed, module_entry_renamed}
 
 -- at the full depth the unfolding of a node is its label over the unfoldings of its children
 unfold_step : {R S : Type 0} (g : R → Option (S × List (Option R))) (n : ℕ) (r : R) → IsSome (whole g n r) → whole g n r ≡ grow (g r) (whole g n)
@@ -121,37 +121,37 @@ module _ (c d : Collection) (m : Copies) (ha : IsAcyclic c) (hb : IsAcyclic d) (
   defined_copied : (i : DefinedTypeId) → Stands c (ItemKind.Value (ValueType.Defined i)) → IsSome (get nat_eq m.defined_types i.index) → IsCopy c d (ItemKind.Value (ValueType.Defined i)) (ItemKind.Value (ValueType.Defined (defined_id m i)))
   defined_copied i stands h =
       let j = value_of _ h in
-      subst (λ k. IsCopy c d (ItemKind.Value (ValueType.Defined i)) k) (sym (ap (λ o. ItemKind.Value (ValueType.Defined (copy_or (λ n. record { collection = m.number; index = n }) o i))) j.1))
+      subst (λ k. IsCopy c d (ItemKind.Value (ValueType.Defined i)) k) (sym (ap (λ o. ItemKind.Value (ValueType.Defined (record { collection = m.number; index = copy_or o i.index }))) j.1))
       (in_table c d defined_at m.number m.defined_types a.defined_types i.collection i.index j.0 (defined_found c i stands).own j.1 stands)
 
   resource_copied : (i : ResourceId) → Stands c (ItemKind.Ty (TypeKind.Resource i)) → IsSome (get nat_eq m.resources i.index) → IsCopy c d (ItemKind.Ty (TypeKind.Resource i)) (ItemKind.Ty (TypeKind.Resource (resource_id m i)))
   resource_copied i stands h =
       let j = value_of _ h in
-      subst (λ k. IsCopy c d (ItemKind.Ty (TypeKind.Resource i)) k) (sym (ap (λ o. ItemKind.Ty (TypeKind.Resource (copy_or (λ n. record { collection = m.number; index = n }) o i))) j.1))
+      subst (λ k. IsCopy c d (ItemKind.Ty (TypeKind.Resource i)) k) (sym (ap (λ o. ItemKind.Ty (TypeKind.Resource (record { collection = m.number; index = copy_or o i.index }))) j.1))
       (in_table c d resource_at m.number m.resources a.resources i.collection i.index j.0 (resource_found c i stands).own j.1 stands)
 
   func_copied : (i : FuncTypeId) → Stands c (ItemKind.Func i) → IsSome (get nat_eq m.func_types i.index) → IsCopy c d (ItemKind.Func i) (ItemKind.Func (func_id m i))
   func_copied i stands h =
       let j = value_of _ h in
-      subst (λ k. IsCopy c d (ItemKind.Func i) k) (sym (ap (λ o. ItemKind.Func (copy_or (λ n. record { collection = m.number; index = n }) o i)) j.1))
+      subst (λ k. IsCopy c d (ItemKind.Func i) k) (sym (ap (λ o. ItemKind.Func (record { collection = m.number; index = copy_or o i.index })) j.1))
       (in_table c d func_at m.number m.func_types a.func_types i.collection i.index j.0 (func_found c i stands).own j.1 stands)
 
   interface_copied : (i : InterfaceId) → Stands c (ItemKind.Instance i) → IsSome (get nat_eq m.interfaces i.index) → IsCopy c d (ItemKind.Instance i) (ItemKind.Instance (interface_id m i))
   interface_copied i stands h =
       let j = value_of _ h in
-      subst (λ k. IsCopy c d (ItemKind.Instance i) k) (sym (ap (λ o. ItemKind.Instance (copy_or (λ n. record { collection = m.number; index = n }) o i)) j.1))
+      subst (λ k. IsCopy c d (ItemKind.Instance i) k) (sym (ap (λ o. ItemKind.Instance (record { collection = m.number; index = copy_or o i.index })) j.1))
       (in_table c d interface_at m.number m.interfaces a.interfaces i.collection i.index j.0 (interface_found c i stands).own j.1 stands)
 
   world_copied : (i : WorldId) → Stands c (ItemKind.Component i) → IsSome (get nat_eq m.worlds i.index) → IsCopy c d (ItemKind.Component i) (ItemKind.Component (world_id m i))
   world_copied i stands h =
       let j = value_of _ h in
-      subst (λ k. IsCopy c d (ItemKind.Component i) k) (sym (ap (λ o. ItemKind.Component (copy_or (λ n. record { collection = m.number; index = n }) o i)) j.1))
+      subst (λ k. IsCopy c d (ItemKind.Component i) k) (sym (ap (λ o. ItemKind.Component (record { collection = m.number; index = copy_or o i.index })) j.1))
       (in_table c d world_at m.number m.worlds a.worlds i.collection i.index j.0 (world_found c i stands).own j.1 stands)
 
   module_copied : (i : ModuleTypeId) → Stands c (ItemKind.Module i) → IsSome (get nat_eq m.modules i.index) → IsCopy c d (ItemKind.Module i) (ItemKind.Module (module_id m i))
   module_copied i stands h =
       let j = value_of _ h in
-      subst (λ k. IsCopy c d (ItemKind.Module i) k) (sym (ap (λ o. ItemKind.Module (copy_or (λ n. record { collection = m.number; index = n }) o i)) j.1))
+      subst (λ k. IsCopy c d (ItemKind.Module i) k) (sym (ap (λ o. ItemKind.Module (record { collection = m.number; index = copy_or o i.index })) j.1))
       (in_table c d module_at m.number m.modules a.modules i.collection i.index j.0 (module_found c i stands).own j.1 stands)
 
   value_copied : (v : ValueType) → Stands c (ItemKind.Value v) → Knows m (ItemKind.Value v) → IsCopy c d (ItemKind.Value v) (ItemKind.Value (value_copy m v))
@@ -198,79 +198,6 @@ module _ (c d : Collection) (m : Copies) (ha : IsAcyclic c) (hb : IsAcyclic d) (
   pub entry_copied : (g : Collection) → Grows d g → (k k' : ItemKind) (e f : Entry) → item_node c k ≡ Some e → KnowsPlaces c m k → f ≡ (e.0, map (option_map (kind_copy m)) e.1) → item_node g k' ≡ Some f → IsCopy c g k k'
   entry_copied g grows k k' e f is h same at =
       copied c g ha grows.acyclic k k' e.0 e.1 (map (option_map (kind_copy m)) e.1) is (at ∙ ap Some same) (SlotsCopied-kept c d g grows (places_copied k e is h))
-
--- ---- entries with the ids of the copies
-
-pub map-ext : {X Y : Type 0} (f g : X → Y) → ((x : X) → f x ≡ g x) → (xs : List X) → map f xs ≡ map g xs
-map-ext f g h [] = refl
-map-ext f g h (x ∷ xs) = rw (h x, map-ext f g h xs) refl
-
-abbrev made : Shape → List Slot → Entry
-made s xs = (s, xs)
-
-row_is : (s : Shape) (xs ys : List Slot) → xs ≡ ys → made s xs ≡ made s ys
-row_is s xs ys e = ap (made s) e
-
-module _ (m : Copies) where
-  option_slot_copy : (o : Option ValueType) → option_slot (option_copy m o) ≡ option_map (kind_copy m) (option_slot o)
-  option_slot_copy None = refl
-  option_slot_copy (Some v) = refl
-
-  -- a function of the values, before and after
-  through : {N T : Type 0} (f : T → T) (s : T → Slot) (xs : List (N × T)) → ((x : T) → s (f x) ≡ option_map (kind_copy m) (s x)) → map s (values_of (with_values f xs)) ≡ map (option_map (kind_copy m)) (map s (values_of xs))
-  through f s xs h =
-      ap (map s) (values-with_values f xs) ∙ map-map s f (values_of xs) ∙ map-ext (λ x. s (f x)) (λ x. option_map (kind_copy m) (s x)) h (values_of xs) ∙ sym (map-map (option_map (kind_copy m)) s (values_of xs))
-
-  use_names_copy : (us : List (Name × UsedType)) → use_names (with_values (used_copy m) us) ≡ use_names us
-  use_names_copy [] = refl
-  use_names_copy (u ∷ us) = ap (λ l. (u.0, u.1.name) ∷ l) (use_names_copy us)
-
-  used_places : (us : List (Name × UsedType)) → used (with_values (used_copy m) us) ≡ map (option_map (kind_copy m)) (used us)
-  used_places us = through (used_copy m) (λ u. Some (ItemKind.Instance u.interface)) us (λ u. refl)
-
-  items_copy : (xs : List (Name × ItemKind)) → items (with_values (kind_copy m) xs) ≡ map (option_map (kind_copy m)) (items xs)
-  items_copy xs = through (kind_copy m) Some xs (λ k. refl)
-
-  pub defined_entry_copy : (x : DefinedType) → defined_entry (defined_copy m x) ≡ ((defined_entry x).0, map (option_map (kind_copy m)) (defined_entry x).1)
-  defined_entry_copy (DefinedType.Tuple ts) = row_is _ _ _ (map-map value_slot (value_copy m) ts ∙ sym (map-map (option_map (kind_copy m)) value_slot ts))
-  defined_entry_copy (DefinedType.List t) = refl
-  defined_entry_copy (DefinedType.FixedSizeList t n) = refl
-  defined_entry_copy (DefinedType.Option t) = refl
-  defined_entry_copy (DefinedType.Result ok err) = rw (option_slot_copy ok, option_slot_copy err) refl
-  defined_entry_copy (DefinedType.Variant v) = rw (names-with_values (option_copy m) v.cases, through (option_copy m) option_slot v.cases option_slot_copy) refl
-  defined_entry_copy (DefinedType.Record r) = rw (names-with_values (value_copy m) r.fields, through (value_copy m) value_slot r.fields (λ v. refl)) refl
-  defined_entry_copy (DefinedType.Flags f) = refl
-  defined_entry_copy (DefinedType.Enum e) = refl
-  defined_entry_copy (DefinedType.Alias t) = refl
-  defined_entry_copy (DefinedType.Stream o) = rw (option_slot_copy o) refl
-  defined_entry_copy (DefinedType.Future o) = rw (option_slot_copy o) refl
-
-  pub resource_entry_copy : (x : Resource) → resource_entry (resource_copy m x) ≡ ((resource_entry x).0, map (option_map (kind_copy m)) (resource_entry x).1)
-  resource_entry_copy x = by_alias x.name x.alias
-    where
-      owned : (n : Name) (s : ResourceId) (o : Option InterfaceId) → resource_entry (resource_copy m (record { name = n; alias = Some (record { owner = o; source = s }) })) ≡ ((resource_entry (record { name = n; alias = Some (record { owner = o; source = s }) })).0, map (option_map (kind_copy m)) (resource_entry (record { name = n; alias = Some (record { owner = o; source = s }) })).1)
-      owned n s None = refl
-      owned n s (Some o) = refl
-
-      by_alias : (n : Name) (a : Option ResourceAlias) → resource_entry (resource_copy m (record { name = n; alias = a })) ≡ ((resource_entry (record { name = n; alias = a })).0, map (option_map (kind_copy m)) (resource_entry (record { name = n; alias = a })).1)
-      by_alias n None = refl
-      by_alias n (Some a) = owned n a.source a.owner
-
-  pub func_entry_copy : (x : FuncType) → func_entry (func_copy m x) ≡ ((func_entry x).0, map (option_map (kind_copy m)) (func_entry x).1)
-  func_entry_copy x = rw (names-with_values (value_copy m) x.params, through (value_copy m) value_slot x.params (λ v. refl), option_slot_copy x.result)
-      (row_is _ _ _ (sym (map-append (option_map (kind_copy m)) (map value_slot (values_of x.params)) (option_slot x.result ∷ []))))
-
-  pub interface_entry_copy : (x : Interface) → interface_entry (interface_copy m x) ≡ ((interface_entry x).0, map (option_map (kind_copy m)) (interface_entry x).1)
-  interface_entry_copy x = rw (use_names_copy x.uses, names-with_values (kind_copy m) x.exports, used_places x.uses, items_copy x.exports)
-      (row_is _ _ _ (sym (map-append (option_map (kind_copy m)) (used x.uses) (items x.exports))))
-
-  pub world_entry_copy : (x : World) → world_entry (world_copy m x) ≡ ((world_entry x).0, map (option_map (kind_copy m)) (world_entry x).1)
-  world_entry_copy x = rw (use_names_copy x.uses, names-with_values (kind_copy m) x.imports, names-with_values (kind_copy m) x.exports, used_places x.uses, items_copy x.imports, items_copy x.exports)
-      (row_is _ _ _ (ap (λ l. map (option_map (kind_copy m)) (used x.uses) ++ l) (sym (map-append (option_map (kind_copy m)) (items x.imports) (items x.exports)))
-      ∙ sym (map-append (option_map (kind_copy m)) (used x.uses) (items x.imports ++ items x.exports))))
-
-  pub module_entry_copy : (x : ModuleType) → module_entry x ≡ ((module_entry x).0, map (option_map (kind_copy m)) (module_entry x).1)
-  module_entry_copy x = refl
 
 -- ---- tables
 
@@ -333,7 +260,7 @@ module _ (c d e : Collection) (m : Copies) (ha : IsAcyclic c) (hb : IsAcyclic d)
   defined_node = entry_at-is defined_entry c.number c.defined_types i.collection i.index x at own
 
   defined_mapped : defined_entry y ≡ ((defined_entry x).0, map (option_map (kind_copy m)) (defined_entry x).1)
-  defined_mapped = ap defined_entry same ∙ defined_entry_copy m x
+  defined_mapped = ap defined_entry same ∙ defined_entry_renamed (copied_ids m) x
 
   pub defined_children : HasChildren d (defined_entry y)
   defined_children = children_stand c d m ha hb a (ItemKind.Value (ValueType.Defined i)) (defined_entry x) (defined_entry y) defined_node places defined_mapped
@@ -384,7 +311,7 @@ module _ (c d e : Collection) (m : Copies) (ha : IsAcyclic c) (hb : IsAcyclic d)
   resource_node = entry_at-is resource_entry c.number c.resources i.collection i.index x at own
 
   resource_mapped : resource_entry y ≡ ((resource_entry x).0, map (option_map (kind_copy m)) (resource_entry x).1)
-  resource_mapped = ap resource_entry same ∙ resource_entry_copy m x
+  resource_mapped = ap resource_entry same ∙ resource_entry_renamed (copied_ids m) x
 
   pub resource_children : HasChildren d (resource_entry y)
   resource_children = children_stand c d m ha hb a (ItemKind.Ty (TypeKind.Resource i)) (resource_entry x) (resource_entry y) resource_node places resource_mapped
@@ -435,7 +362,7 @@ module _ (c d e : Collection) (m : Copies) (ha : IsAcyclic c) (hb : IsAcyclic d)
   func_node = entry_at-is func_entry c.number c.func_types i.collection i.index x at own
 
   func_mapped : func_entry y ≡ ((func_entry x).0, map (option_map (kind_copy m)) (func_entry x).1)
-  func_mapped = ap func_entry same ∙ func_entry_copy m x
+  func_mapped = ap func_entry same ∙ func_entry_renamed (copied_ids m) x
 
   pub func_children : HasChildren d (func_entry y)
   func_children = children_stand c d m ha hb a (ItemKind.Func i) (func_entry x) (func_entry y) func_node places func_mapped
@@ -486,7 +413,7 @@ module _ (c d e : Collection) (m : Copies) (ha : IsAcyclic c) (hb : IsAcyclic d)
   interface_node = entry_at-is interface_entry c.number c.interfaces i.collection i.index x at own
 
   interface_mapped : interface_entry y ≡ ((interface_entry x).0, map (option_map (kind_copy m)) (interface_entry x).1)
-  interface_mapped = ap interface_entry same ∙ interface_entry_copy m x
+  interface_mapped = ap interface_entry same ∙ interface_entry_renamed (copied_ids m) x
 
   pub interface_children : HasChildren d (interface_entry y)
   interface_children = children_stand c d m ha hb a (ItemKind.Instance i) (interface_entry x) (interface_entry y) interface_node places interface_mapped
@@ -537,7 +464,7 @@ module _ (c d e : Collection) (m : Copies) (ha : IsAcyclic c) (hb : IsAcyclic d)
   world_node = entry_at-is world_entry c.number c.worlds i.collection i.index x at own
 
   world_mapped : world_entry y ≡ ((world_entry x).0, map (option_map (kind_copy m)) (world_entry x).1)
-  world_mapped = ap world_entry same ∙ world_entry_copy m x
+  world_mapped = ap world_entry same ∙ world_entry_renamed (copied_ids m) x
 
   pub world_children : HasChildren d (world_entry y)
   world_children = children_stand c d m ha hb a (ItemKind.Component i) (world_entry x) (world_entry y) world_node places world_mapped
@@ -588,7 +515,7 @@ module _ (c d e : Collection) (m : Copies) (ha : IsAcyclic c) (hb : IsAcyclic d)
   module_node = entry_at-is module_entry c.number c.modules i.collection i.index x at own
 
   module_mapped : module_entry y ≡ ((module_entry x).0, map (option_map (kind_copy m)) (module_entry x).1)
-  module_mapped = ap module_entry same ∙ module_entry_copy m x
+  module_mapped = ap module_entry same ∙ module_entry_renamed (copied_ids m) x
 
   pub module_children : HasChildren d (module_entry y)
   module_children = children_stand c d m ha hb a (ItemKind.Module i) (module_entry x) (module_entry y) module_node places module_mapped

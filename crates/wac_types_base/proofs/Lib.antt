@@ -8,9 +8,11 @@ pub mod Walking
 pub mod Replacing
 pub mod Slots
 pub mod Examples
+pub mod Renamed
 pub mod Copying
 pub mod PairNames
 pub mod Telling
 pub mod Used
 pub mod Visited
 pub mod Made
+pub mod Stating

@@ -1,5 +1,5 @@
 -- What has been copied into another collection, and entries with the ids of the copies.
-use Rattle.std.specs.Prelude.{◌≡◌, ℕ, map, Option, Some, None, IsSome, nat_eq, option_map}
+use Rattle.std.specs.Prelude.{◌≡◌, ℕ, Option, Some, None, IsSome, nat_eq}
 use Rattle.std.specs.HashMap.{HashMap, get, IsEmpty}
 use Rattle.wac_types_base.specs.declared.copies.Copies.{Copies}
 use Rattle.wac_types_base.specs.declared.ids.DefinedTypeId.{DefinedTypeId}
@@ -18,59 +18,57 @@ use Rattle.wac_types_base.specs.declared.defined.UsedType.{UsedType}
 use Rattle.wac_types_base.specs.declared.defined.FuncType.{FuncType}
 use Rattle.wac_types_base.specs.declared.defined.Interface.{Interface}
 use Rattle.wac_types_base.specs.declared.defined.World.{World}
-use Rattle.wac_types_base.specs.Entries.{with_values}
 use Rattle.wac_types_base.specs.Graph.{Among}
 use Rattle.wac_types_base.specs.Record.{Collection}
 use Rattle.wac_types_base.specs.Collection.{Stands, slots_of}
 use Rattle.wac_types_base.specs.Copying.{IsCopy}
+use Rattle.wac_types_base.specs.Renaming.{Renaming, value_renamed, option_renamed, type_renamed, kind_renamed, defined_renamed, alias_renamed, resource_renamed, func_renamed, used_renamed, interface_renamed, world_renamed}
 
--- the copy of an index, by what is made of it, and else the id itself
-abbrev pub copy_or : {I : Type 0} → (ℕ → I) → Option ℕ → I → I
-copy_or f None i = i
-copy_or f (Some n) i = f n
+-- the index of the copy, and of what has none its own
+abbrev pub copy_or : Option ℕ → ℕ → ℕ
+copy_or None i = i
+copy_or (Some n) i = n
+
+-- each id becomes that of its copy
+abbrev pub copied_ids : Copies → Renaming
+copied_ids m = record {
+  defined_type = λ i. record { collection = m.number; index = copy_or (get nat_eq m.defined_types i.index) i.index };
+  resource = λ i. record { collection = m.number; index = copy_or (get nat_eq m.resources i.index) i.index };
+  func_type = λ i. record { collection = m.number; index = copy_or (get nat_eq m.func_types i.index) i.index };
+  interface = λ i. record { collection = m.number; index = copy_or (get nat_eq m.interfaces i.index) i.index };
+  world = λ i. record { collection = m.number; index = copy_or (get nat_eq m.worlds i.index) i.index };
+  module_type = λ i. record { collection = m.number; index = copy_or (get nat_eq m.modules i.index) i.index };
+}
 
 abbrev pub defined_id : Copies → DefinedTypeId → DefinedTypeId
-defined_id m i = copy_or (λ n. record { collection = m.number; index = n }) (get nat_eq m.defined_types i.index) i
+defined_id m i = (copied_ids m).defined_type i
 
 abbrev pub resource_id : Copies → ResourceId → ResourceId
-resource_id m i = copy_or (λ n. record { collection = m.number; index = n }) (get nat_eq m.resources i.index) i
+resource_id m i = (copied_ids m).resource i
 
 abbrev pub func_id : Copies → FuncTypeId → FuncTypeId
-func_id m i = copy_or (λ n. record { collection = m.number; index = n }) (get nat_eq m.func_types i.index) i
+func_id m i = (copied_ids m).func_type i
 
 abbrev pub interface_id : Copies → InterfaceId → InterfaceId
-interface_id m i = copy_or (λ n. record { collection = m.number; index = n }) (get nat_eq m.interfaces i.index) i
+interface_id m i = (copied_ids m).interface i
 
 abbrev pub world_id : Copies → WorldId → WorldId
-world_id m i = copy_or (λ n. record { collection = m.number; index = n }) (get nat_eq m.worlds i.index) i
+world_id m i = (copied_ids m).world i
 
 abbrev pub module_id : Copies → ModuleTypeId → ModuleTypeId
-module_id m i = copy_or (λ n. record { collection = m.number; index = n }) (get nat_eq m.modules i.index) i
+module_id m i = (copied_ids m).module_type i
 
 abbrev pub value_copy : Copies → ValueType → ValueType
-value_copy m (ValueType.Primitive p) = ValueType.Primitive p
-value_copy m (ValueType.Borrow r) = ValueType.Borrow (resource_id m r)
-value_copy m (ValueType.Own r) = ValueType.Own (resource_id m r)
-value_copy m (ValueType.Defined d) = ValueType.Defined (defined_id m d)
+value_copy m = value_renamed (copied_ids m)
 
 abbrev pub option_copy : Copies → Option ValueType → Option ValueType
-option_copy m o = option_map (value_copy m) o
+option_copy m = option_renamed (copied_ids m)
 
 abbrev pub type_copy : Copies → TypeKind → TypeKind
-type_copy m (TypeKind.Resource r) = TypeKind.Resource (resource_id m r)
-type_copy m (TypeKind.Func f) = TypeKind.Func (func_id m f)
-type_copy m (TypeKind.Value v) = TypeKind.Value (value_copy m v)
-type_copy m (TypeKind.Interface i) = TypeKind.Interface (interface_id m i)
-type_copy m (TypeKind.World w) = TypeKind.World (world_id m w)
-type_copy m (TypeKind.Module n) = TypeKind.Module (module_id m n)
+type_copy m = type_renamed (copied_ids m)
 
 abbrev pub kind_copy : Copies → ItemKind → ItemKind
-kind_copy m (ItemKind.Ty t) = ItemKind.Ty (type_copy m t)
-kind_copy m (ItemKind.Func f) = ItemKind.Func (func_id m f)
-kind_copy m (ItemKind.Instance i) = ItemKind.Instance (interface_id m i)
-kind_copy m (ItemKind.Component w) = ItemKind.Component (world_id m w)
-kind_copy m (ItemKind.Module n) = ItemKind.Module (module_id m n)
-kind_copy m (ItemKind.Value v) = ItemKind.Value (value_copy m v)
+kind_copy m = kind_renamed (copied_ids m)
 
 -- the index of the copy of what a kind names; a primitive type needs none
 abbrev pub value_known : Copies → ValueType → Option ℕ
@@ -101,36 +99,25 @@ Knows m k = IsSome (known m k)
 -- ---- entries with the ids of the copies
 
 abbrev pub defined_copy : Copies → DefinedType → DefinedType
-defined_copy m (DefinedType.Tuple ts) = DefinedType.Tuple (map (value_copy m) ts)
-defined_copy m (DefinedType.List t) = DefinedType.List (value_copy m t)
-defined_copy m (DefinedType.FixedSizeList t n) = DefinedType.FixedSizeList (value_copy m t) n
-defined_copy m (DefinedType.Option t) = DefinedType.Option (value_copy m t)
-defined_copy m (DefinedType.Result ok err) = DefinedType.Result (option_copy m ok) (option_copy m err)
-defined_copy m (DefinedType.Variant v) = DefinedType.Variant (record { cases = with_values (option_copy m) v.cases })
-defined_copy m (DefinedType.Record r) = DefinedType.Record (record { fields = with_values (value_copy m) r.fields })
-defined_copy m (DefinedType.Flags f) = DefinedType.Flags f
-defined_copy m (DefinedType.Enum e) = DefinedType.Enum e
-defined_copy m (DefinedType.Alias t) = DefinedType.Alias (value_copy m t)
-defined_copy m (DefinedType.Stream o) = DefinedType.Stream (option_copy m o)
-defined_copy m (DefinedType.Future o) = DefinedType.Future (option_copy m o)
+defined_copy m = defined_renamed (copied_ids m)
 
 abbrev pub alias_copy : Copies → ResourceAlias → ResourceAlias
-alias_copy m a = record { owner = option_map (interface_id m) a.owner; source = resource_id m a.source }
+alias_copy m = alias_renamed (copied_ids m)
 
 abbrev pub resource_copy : Copies → Resource → Resource
-resource_copy m r = record { name = r.name; alias = option_map (alias_copy m) r.alias }
+resource_copy m = resource_renamed (copied_ids m)
 
 abbrev pub func_copy : Copies → FuncType → FuncType
-func_copy m f = record { params = with_values (value_copy m) f.params; result = option_copy m f.result; is_async = f.is_async }
+func_copy m = func_renamed (copied_ids m)
 
 abbrev pub used_copy : Copies → UsedType → UsedType
-used_copy m u = record { interface = interface_id m u.interface; name = u.name }
+used_copy m = used_renamed (copied_ids m)
 
 abbrev pub interface_copy : Copies → Interface → Interface
-interface_copy m i = record { id = i.id; uses = with_values (used_copy m) i.uses; exports = with_values (kind_copy m) i.exports }
+interface_copy m = interface_renamed (copied_ids m)
 
 abbrev pub world_copy : Copies → World → World
-world_copy m w = record { id = w.id; uses = with_values (used_copy m) w.uses; imports = with_values (kind_copy m) w.imports; exports = with_values (kind_copy m) w.exports }
+world_copy m = world_renamed (copied_ids m)
 
 -- ---- what is true of them
 

@@ -9,6 +9,7 @@ pub mod Stated
 pub mod Discrete
 pub mod Reaching
 pub mod View
+pub mod Renaming
 pub mod Copies
 pub mod Resolving
 pub mod Implicit

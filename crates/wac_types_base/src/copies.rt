@@ -1,7 +1,8 @@
 //! What has been copied into another collection.
 
 ghost use Rattle.std.specs.Prelude.{◌≡◌, nat_eq, IsTrue, ◌↔◌, is_some};
-ghost use Rattle.wac_types_base.specs.Copies.{defined_id, resource_id, func_id, interface_id, world_id, module_id, value_copy, type_copy, kind_copy, option_copy, known, HasNone};
+ghost use Rattle.std.specs.HashMap.{get};
+ghost use Rattle.wac_types_base.specs.Copies.{copy_or, defined_id, resource_id, func_id, interface_id, world_id, module_id, value_copy, type_copy, kind_copy, option_copy, known, HasNone};
 
 use crate::ids::{DefinedTypeId, FuncTypeId, InterfaceId, ModuleTypeId, ResourceId, WorldId};
 use crate::item::{ItemKind, Type, ValueType};
@@ -20,7 +21,16 @@ pub(crate) struct Copies {
     pub(crate) modules: HashMap<usize, usize>,
 }
 
-// An id that has no copy stays as it is.
+/// The index of the copy. An index that has no copy stays as it is.
+fn copy_of(copies: &HashMap<usize, usize>, index: usize) -> usize
+    ensures { result ≡ copy_or (get nat_eq copies.now index) index }
+{
+    match copies.get(&index) {
+        None => index,
+        Some(copy) => *copy,
+    }
+}
+
 impl Copies {
     /// No copies yet, into a collection of this number.
     pub(crate) fn new(alloc: Global, number: u64) -> Self
@@ -41,72 +51,54 @@ impl Copies {
     fn defined_type(&self, id: DefinedTypeId) -> DefinedTypeId
         ensures { result ≡ defined_id self.now id }
     {
-        match self.defined_types.get(&id.index) {
-            None => id,
-            Some(index) => DefinedTypeId {
-                collection: self.number,
-                index: *index,
-            },
+        DefinedTypeId {
+            collection: self.number,
+            index: copy_of(&self.defined_types, id.index),
         }
     }
 
     pub(crate) fn resource(&self, id: ResourceId) -> ResourceId
         ensures { result ≡ resource_id self.now id }
     {
-        match self.resources.get(&id.index) {
-            None => id,
-            Some(index) => ResourceId {
-                collection: self.number,
-                index: *index,
-            },
+        ResourceId {
+            collection: self.number,
+            index: copy_of(&self.resources, id.index),
         }
     }
 
     fn func_type(&self, id: FuncTypeId) -> FuncTypeId
         ensures { result ≡ func_id self.now id }
     {
-        match self.func_types.get(&id.index) {
-            None => id,
-            Some(index) => FuncTypeId {
-                collection: self.number,
-                index: *index,
-            },
+        FuncTypeId {
+            collection: self.number,
+            index: copy_of(&self.func_types, id.index),
         }
     }
 
     pub(crate) fn interface(&self, id: InterfaceId) -> InterfaceId
         ensures { result ≡ interface_id self.now id }
     {
-        match self.interfaces.get(&id.index) {
-            None => id,
-            Some(index) => InterfaceId {
-                collection: self.number,
-                index: *index,
-            },
+        InterfaceId {
+            collection: self.number,
+            index: copy_of(&self.interfaces, id.index),
         }
     }
 
     pub(crate) fn world(&self, id: WorldId) -> WorldId
         ensures { result ≡ world_id self.now id }
     {
-        match self.worlds.get(&id.index) {
-            None => id,
-            Some(index) => WorldId {
-                collection: self.number,
-                index: *index,
-            },
+        WorldId {
+            collection: self.number,
+            index: copy_of(&self.worlds, id.index),
         }
     }
 
     fn module_type(&self, id: ModuleTypeId) -> ModuleTypeId
         ensures { result ≡ module_id self.now id }
     {
-        match self.modules.get(&id.index) {
-            None => id,
-            Some(index) => ModuleTypeId {
-                collection: self.number,
-                index: *index,
-            },
+        ModuleTypeId {
+            collection: self.number,
+            index: copy_of(&self.modules, id.index),
         }
     }
 

@@ -11,6 +11,7 @@ pub mod ids;
 pub mod implicit;
 pub mod item;
 mod remap;
+pub mod renumber;
 pub mod replace;
 pub mod resolve;
 pub mod types;

@@ -1,6 +1,6 @@
 //! Entries written again with the ids of the copies.
 
-ghost use Rattle.std.specs.Prelude.{◌≡◌, IfOk, option_map};
+ghost use Rattle.std.specs.Prelude.{◌≡◌, IfOk, option_map, map};
 ghost use Rattle.wac_types_base.specs.Copies.{alias_copy};
 
 use crate::containers::{Items, NamedMap, Names, Text};
@@ -79,18 +79,29 @@ impl Remap for UsedType {
     }
 }
 
+/// Each of them written again.
+pub(crate) fn remap_all<T: Remap>(
+    alloc: Global,
+    items: &[T],
+    copies: &Copies,
+) -> Result<Vec<T>, AllocError>
+    ensures { IfOk result (λ r. r.items ≡ map (T.remapped copies.now) items.now) }
+{
+    let mut copy = Vec::new(alloc);
+    for item in items {
+        let item = item.remap(alloc, copies)?;
+        copy.push(item)?;
+    }
+    Ok(copy)
+}
+
 impl<T: Remap> Remap for Items<T> {
     ghost use Rattle.std.specs.Prelude.{map};
 
     ghost remapped = { λ m xs. map (T.remapped m) xs };
 
     fn remap(&self, alloc: Global, copies: &Copies) -> Result<Self, AllocError> {
-        let mut copy = Items::new(alloc);
-        for item in self.as_slice() {
-            let item = item.remap(alloc, copies)?;
-            copy.push(item)?;
-        }
-        Ok(copy)
+        Ok(Items::from_vec(remap_all(alloc, self.as_slice(), copies)?))
     }
 }
 
@@ -205,9 +216,10 @@ impl Remap for World {
     ghost remapped = { world_copy };
 
     fn remap(&self, alloc: Global, copies: &Copies) -> Result<Self, AllocError> {
+        let uses = self.uses.remap(alloc, copies)?;
         Ok(World {
             id: copy_text(&self.id)?,
-            uses: self.uses.remap(alloc, copies)?,
+            uses,
             imports: self.imports.remap(alloc, copies)?,
             exports: self.exports.remap(alloc, copies)?,
         })

@@ -17,7 +17,7 @@ use std::slice::Iter;
 
 /// A collection of types: six lists, under a number that the caller chose. Its ids carry the number.
 pub struct Types {
-    number: u64,
+    pub(crate) number: u64,
     pub(crate) defined_types: Vec<DefinedType>,
     pub(crate) resources: Vec<Resource>,
     pub(crate) func_types: Vec<FuncType>,

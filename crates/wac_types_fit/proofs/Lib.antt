@@ -11,3 +11,4 @@ pub mod CoreItems
 pub mod Checks
 pub mod Reports
 pub mod Meeting
+mod Worded

@@ -5,6 +5,7 @@ pub mod Frames
 pub mod Checking
 pub mod Errors
 pub mod Directions
+pub mod Words
 pub mod Targets
 pub mod TargetSteps
 pub mod Meets

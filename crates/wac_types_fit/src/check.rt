@@ -5,7 +5,8 @@ ghost use Rattle.wac_types_base.specs.declared.item.ItemKind.{ItemKind};
 ghost use Rattle.wac_types_base.specs.declared.item.«Type».{«Type» as TypeKind};
 ghost use Rattle.wac_types_base.specs.Collection.{Stands};
 ghost use Rattle.wac_types_fit.specs.Frames.{Step, Disagree};
-ghost use Rattle.wac_types_fit.specs.Errors.{IfMismatch};
+ghost use Rattle.wac_types_fit.specs.Errors.{IfMismatch, IfSaid};
+ghost use Rattle.wac_types_fit.specs.Words.{Called, ItemsCalled, InstanceCalled, WorldCalled, NamedCalled, AreCalled};
 ghost use Rattle.wac_types_fit.specs.Trees.{tree_in, Fit, SameTree, OneOrApart, IsInside};
 ghost use Rattle.wac_types_fit.specs.Checking.{HasPair, IsTrueOf, OnlyTrue, AreInside, GivesName, GivesAll, NameDisagrees, ItemsDisagree, IsFlat};
 
@@ -30,6 +31,7 @@ fn differ(
     requires apart { Disagree [] (tree_in at.now a) (tree_in bt.now b) }
     ensures yes { OnOk result (Fit at.now a bt.now b) }
     ensures no { IfMismatch result (λ ss. Disagree ss (tree_in at.now a) (tree_in bt.now b)) }
+    ensures words { IfSaid result (λ ss e f. AreCalled turned (Called at.now a ss) (Called bt.now b ss) e f) }
 {
     Err(mismatch(alloc, turned, Some(a.desc(at)), Some(b.desc(bt))))
 }
@@ -50,6 +52,7 @@ fn alike(
     requires tested { IsTrue same ↔ SameTree at.now a bt.now b }
     ensures yes { OnOk result (Fit at.now a bt.now b) }
     ensures no { IfMismatch result (λ ss. Disagree ss (tree_in at.now a) (tree_in bt.now b)) }
+    ensures words { IfSaid result (λ ss e f. AreCalled turned (Called at.now a ss) (Called bt.now b ss) e f) }
 {
     at.see_acyclic();
     if same {
@@ -76,6 +79,7 @@ pub(crate) fn fits(
     requires cache { IsTrueOf at.now bt.now cache.old.keys }
     ensures yes { OnOk result (Fit at.now a bt.now b) }
     ensures no { IfMismatch result (λ ss. Disagree ss (tree_in at.now a) (tree_in bt.now b)) }
+    ensures words { IfSaid result (λ ss e f. AreCalled turned (Called at.now a ss) (Called bt.now b ss) e f) }
     ensures remembered { OnOk result (HasPair cache.new.keys a b) }
     ensures only { OnlyTrue at.now bt.now cache.old.keys cache.new.keys }
     ensures cache { IsTrueOf at.now bt.now cache.new.keys }
@@ -111,6 +115,7 @@ fn unfolded(
     requires cache { IsTrueOf at.now bt.now cache.old.keys }
     ensures yes { OnOk result (Fit at.now a bt.now b) }
     ensures no { IfMismatch result (λ ss. Disagree ss (tree_in at.now a) (tree_in bt.now b)) }
+    ensures words { IfSaid result (λ ss e f. AreCalled turned (Called at.now a ss) (Called bt.now b ss) e f) }
     ensures only { OnlyTrue at.now bt.now cache.old.keys cache.new.keys }
     ensures cache { IsTrueOf at.now bt.now cache.new.keys }
 {
@@ -161,6 +166,7 @@ fn types_fit(
     requires cache { IsTrueOf at.now bt.now cache.old.keys }
     ensures yes { OnOk result (Fit at.now (ItemKind.Ty a) bt.now (ItemKind.Ty b)) }
     ensures no { IfMismatch result (λ ss. Disagree ss (tree_in at.now (ItemKind.Ty a)) (tree_in bt.now (ItemKind.Ty b))) }
+    ensures words { IfSaid result (λ ss e f. AreCalled turned (Called at.now (ItemKind.Ty a) ss) (Called bt.now (ItemKind.Ty b) ss) e f) }
     ensures only { OnlyTrue at.now bt.now cache.old.keys cache.new.keys }
     ensures cache { IsTrueOf at.now bt.now cache.new.keys }
 {
@@ -221,6 +227,7 @@ fn instances_fit(
     requires cache { IsTrueOf at.now bt.now cache.old.keys }
     ensures yes { OnOk result (Fit at.now (ItemKind.Instance a) bt.now (ItemKind.Instance b)) }
     ensures no { IfMismatch result (λ ss. Disagree ss (tree_in at.now (ItemKind.Instance a)) (tree_in bt.now (ItemKind.Instance b))) }
+    ensures words { IfSaid result (λ ss e f. AreCalled turned (InstanceCalled at.now a ss) (InstanceCalled bt.now b ss) e f) }
     ensures only { OnlyTrue at.now bt.now cache.old.keys cache.new.keys }
     ensures cache { IsTrueOf at.now bt.now cache.new.keys }
 {
@@ -257,6 +264,7 @@ fn worlds_fit(
     requires cache { IsTrueOf at.now bt.now cache.old.keys }
     ensures yes { OnOk result (Fit at.now (ItemKind.Component a) bt.now (ItemKind.Component b)) }
     ensures no { IfMismatch result (λ ss. Disagree ss (tree_in at.now (ItemKind.Component a)) (tree_in bt.now (ItemKind.Component b))) }
+    ensures words { IfSaid result (λ ss e f. AreCalled turned (WorldCalled at.now a ss) (WorldCalled bt.now b ss) e f) }
     ensures only { OnlyTrue at.now bt.now cache.old.keys cache.new.keys }
     ensures cache { IsTrueOf at.now bt.now cache.new.keys }
 {
@@ -310,6 +318,7 @@ fn items_fit(
     requires cache { IsTrueOf at.now bt.now cache.old.keys }
     ensures yes { OnOk result (GivesAll at.now given.now bt.now asked.now) }
     ensures no { IfMismatch result (ItemsDisagree side at.now given.now bt.now asked.now) }
+    ensures words { IfSaid result (λ ss e f. AreCalled turned (ItemsCalled at.now side given.now ss) (ItemsCalled bt.now side asked.now ss) e f) }
     ensures only { OnlyTrue at.now bt.now cache.old.keys cache.new.keys }
     ensures cache { IsTrueOf at.now bt.now cache.new.keys }
 {
@@ -344,6 +353,7 @@ fn item_fits(
     requires cache { IsTrueOf at.now bt.now cache.old.keys }
     ensures yes { OnOk result (GivesName at.now given.now bt.now name.now kind) }
     ensures no { IfMismatch result (NameDisagrees side at.now given.now bt.now name.now kind) }
+    ensures words { IfSaid result (λ ss e f. AreCalled turned (ItemsCalled at.now side given.now ss) (NamedCalled bt.now side name.now kind ss) e f) }
     ensures only { OnlyTrue at.now bt.now cache.old.keys cache.new.keys }
     ensures cache { IsTrueOf at.now bt.now cache.new.keys }
 {

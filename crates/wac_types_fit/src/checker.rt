@@ -3,7 +3,8 @@
 ghost use Rattle.std.specs.Prelude.{◌≡◌, OnOk, ◌<◌, ◌+◌, ◌-◌, ◌^◌};
 ghost use Rattle.wac_types_base.specs.Collection.{Stands};
 ghost use Rattle.wac_types_fit.specs.Frames.{Disagree};
-ghost use Rattle.wac_types_fit.specs.Errors.{IfMismatch};
+ghost use Rattle.wac_types_fit.specs.Errors.{IfMismatch, IfSaid};
+ghost use Rattle.wac_types_fit.specs.Words.{Called, CalledUnder};
 ghost use Rattle.wac_types_fit.specs.Trees.{tree_in, Fit, OneOrApart};
 ghost use Rattle.wac_types_fit.specs.Checking.{HasPair, IsTrueOf, OnlyTrue};
 ghost use Rattle.wac_types_fit.specs.Directions.{direction_of};
@@ -99,6 +100,7 @@ impl<'a> SubtypeChecker<'a> {
         ensures yes { OnOk result (Fit at.now a bt.now b) }
         ensures no { IfMismatch result (λ ss. Fit at.now a bt.now b → ⊥) }
         ensures frames { IfMismatch result (λ ss. Disagree ss (tree_in at.now a) (tree_in bt.now b)) }
+        ensures words { IfSaid result (λ ss e f. CalledUnder (direction_of self.old.directions) (Called at.now a ss) (Called bt.now b ss) e f) }
         ensures remembered { OnOk result (HasPair self.new.cache.now.keys a b) }
         ensures only { OnlyTrue at.now bt.now self.old.cache.now.keys self.new.cache.now.keys }
         ensures cache { IsTrueOf at.now bt.now self.new.cache.now.keys }

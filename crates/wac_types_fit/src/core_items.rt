@@ -1,6 +1,6 @@
 //! Whether one module type fits another.
 
-ghost use Rattle.std.specs.Prelude.{◌≡◌, IsTrue, ◌↔◌, OnOk, IfOk, Some, None, Option, List, [], ◌∷◌, string_bytes, ◌==◌, ◌&&◌};
+ghost use Rattle.std.specs.Prelude.{◌≡◌, ◌⊎◌, IsTrue, ◌↔◌, OnOk, IfOk, Some, None, Option, List, [], ◌∷◌, string_bytes, option_map, ◌==◌, ◌&&◌};
 ghost use Rattle.std.specs.Cmp.Lexicographic.{pointwise};
 ghost use Rattle.std.specs.Option.{option_copied};
 ghost use Rattle.wac_types_base.specs.declared.core_types.CoreExtern.{CoreExtern};
@@ -8,7 +8,8 @@ ghost use Rattle.wac_types_base.specs.declared.item.ExternKind.{ExternKind};
 ghost use Rattle.wac_types_base.specs.Entries.{Name, AreDistinct, names_of, value_at};
 ghost use Rattle.wac_types_base.specs.Fits.{Fits};
 ghost use Rattle.wac_types_fit.specs.Frames.{Step, Disagree, joined_name};
-ghost use Rattle.wac_types_fit.specs.Errors.{IfMismatch, steps_of};
+ghost use Rattle.wac_types_fit.specs.Errors.{IfMismatch, steps_of, said, IfSaid, SaysBehind};
+ghost use Rattle.wac_types_fit.specs.Words.{core_word, ImportCalled, ExportCalled, CoreCalled, AreCalled, in_turn};
 ghost use Rattle.wac_types_fit.specs.Checking.{HasAll, LacksOne, module_tree, import_at, IsTable, IsMemory, IsGlobal};
 
 use crate::errors::{SubtypeError, behind, mismatch, within};
@@ -217,7 +218,9 @@ fn same_items(a: &CoreExtern, b: &CoreExtern) -> bool
 }
 
 /// What a core item is called.
-fn item_desc(item: &CoreExtern) -> &'static str {
+fn item_desc(item: &CoreExtern) -> &'static str
+    ensures { result.now ≡ core_word item.now }
+{
     match item {
         CoreExtern::Func(_) => "core function",
         CoreExtern::Table { .. } => "core table",
@@ -236,6 +239,7 @@ fn item_fits(
 ) -> Result<(), SubtypeError>
     ensures yes { OnOk result (option_copied given.entry ≡ Some asked.now) }
     ensures no { IfMismatch result (λ ss. (ss ≡ []) × (option_copied given.entry ≡ Some asked.now → ⊥)) }
+    ensures words { said result ≡ None ⊎ (said result ≡ Some ([], in_turn turned (Some (core_word asked.now)) (option_map core_word (option_copied given.entry)))) }
 {
     match given {
         None => Err(mismatch(alloc, turned, None, Some(item_desc(asked)))),
@@ -287,7 +291,8 @@ fn join_names(alloc: Global, from: &str, name: &str) -> Result<String, AllocErro
 
 /// The fault, behind an import of these names.
 fn behind_import(alloc: Global, from: &str, name: &str, fault: SubtypeError) -> SubtypeError
-    ensures { (ss : List Step) → steps_of result ≡ Some ss → (rest : List Step) × (steps_of fault ≡ Some rest) × (ss ≡ (ExternKind.Import, joined_name (from.now, name.now)) ∷ rest) }
+    ensures steps { (ss : List Step) → steps_of result ≡ Some ss → (rest : List Step) × (steps_of fault ≡ Some rest) × (ss ≡ (ExternKind.Import, joined_name (from.now, name.now)) ∷ rest) }
+    ensures words { SaysBehind result (ExternKind.Import, joined_name (from.now, name.now)) fault }
 {
     match join_names(alloc, from, name) {
         Err(_) => SubtypeError::Memory,
@@ -304,6 +309,7 @@ fn imports_fit(
 ) -> Result<(), SubtypeError>
     ensures yes { OnOk result (HasAll import_at given.now asked.now) }
     ensures no { IfMismatch result (LacksOne import_at ExternKind.Import joined_name given.now asked.now) }
+    ensures words { IfSaid result (λ ss e f. AreCalled turned (ImportCalled given.now ss) (ImportCalled asked.now ss) e f) }
 {
     for at in 0..asked.len() {
         let names = &asked.names()[at];
@@ -327,6 +333,7 @@ fn exports_fit(
 ) -> Result<(), SubtypeError>
     ensures yes { OnOk result (HasAll value_at given.now asked.now) }
     ensures no { IfMismatch result (LacksOne value_at ExternKind.Export (λ n. n) given.now asked.now) }
+    ensures words { IfSaid result (λ ss e f. AreCalled turned (ExportCalled given.now ss) (ExportCalled asked.now ss) e f) }
 {
     for at in 0..asked.len() {
         let (name, item) = asked.entry(at);
@@ -356,6 +363,7 @@ pub(crate) fn modules_fit(
 ) -> Result<(), SubtypeError>
     ensures yes { OnOk result (Fits (module_tree given.now) (module_tree asked.now)) }
     ensures no { IfMismatch result (λ ss. Disagree ss (module_tree given.now) (module_tree asked.now)) }
+    ensures words { IfSaid result (λ ss e f. AreCalled turned (CoreCalled given.now ss) (CoreCalled asked.now ss) e f) }
 {
     see_distinct(given);
     see_distinct(asked);

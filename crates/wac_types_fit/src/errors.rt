@@ -1,8 +1,9 @@
 //! Why something does not fit.
 
-ghost use Rattle.std.specs.Prelude.{◌≡◌, [], ◌∷◌, List, Some, string_bytes};
+ghost use Rattle.std.specs.Prelude.{◌≡◌, [], ◌∷◌, List, Some, string_bytes, option_copied};
 ghost use Rattle.wac_types_fit.specs.Frames.{Step};
-ghost use Rattle.wac_types_fit.specs.Errors.{steps_of};
+ghost use Rattle.wac_types_fit.specs.Errors.{steps_of, words_of, SaysBehind};
+ghost use Rattle.wac_types_fit.specs.Words.{in_turn};
 
 use std::alloc::Global;
 use std::error::Error;
@@ -29,7 +30,8 @@ pub(crate) fn mismatch(
     given: Option<&'static str>,
     asked: Option<&'static str>,
 ) -> SubtypeError
-    ensures { steps_of result ≡ Some [] }
+    ensures steps { steps_of result ≡ Some [] }
+    ensures words { words_of result ≡ Some ([], in_turn turned (option_copied asked.entry) (option_copied given.entry)) }
 {
     let (expected, found) = if turned {
         (given, asked)
@@ -45,7 +47,8 @@ pub(crate) fn mismatch(
 
 /// The fault, one frame further out.
 pub(crate) fn behind(kind: ExternKind, name: String, fault: SubtypeError) -> SubtypeError
-    ensures { (ss : List Step) → steps_of result ≡ Some ss → (rest : List Step) × (steps_of fault ≡ Some rest) × (ss ≡ (kind, string_bytes name) ∷ rest) }
+    ensures steps { (ss : List Step) → steps_of result ≡ Some ss → (rest : List Step) × (steps_of fault ≡ Some rest) × (ss ≡ (kind, string_bytes name) ∷ rest) }
+    ensures words { SaysBehind result (kind, string_bytes name) fault }
 {
     match fault {
         SubtypeError::Memory => SubtypeError::Memory,
@@ -66,7 +69,8 @@ pub(crate) fn behind(kind: ExternKind, name: String, fault: SubtypeError) -> Sub
 
 /// The fault, behind an item of this name.
 pub fn within(alloc: Global, kind: ExternKind, name: &str, fault: SubtypeError) -> SubtypeError
-    ensures { (ss : List Step) → steps_of result ≡ Some ss → (rest : List Step) × (steps_of fault ≡ Some rest) × (ss ≡ (kind, name.now) ∷ rest) }
+    ensures steps { (ss : List Step) → steps_of result ≡ Some ss → (rest : List Step) × (steps_of fault ≡ Some rest) × (ss ≡ (kind, name.now) ∷ rest) }
+    ensures words { SaysBehind result (kind, name.now) fault }
 {
     match String::from_str(alloc, name) {
         Err(_) => SubtypeError::Memory,

@@ -1,5 +1,5 @@
 -- One ask: what it adds or changes, and why it is refused.
-use Rattle.std.proofs.Common.{◌≡◌, ℕ, ◌<◌, length, List, [], ◌∷◌, ◌++◌, Option, Some, None, IsSome, refl, sym, ap, subst, ◌∙◌, ◌⊎◌, inl, inr}
+use Rattle.std.proofs.Common.{◌≡◌, ℕ, ◌<◌, length, List, [], ◌∷◌, ◌++◌, Option, Some, None, refl, sym, ap, subst, ◌∙◌, inl, inr}
 use Rattle.std.specs.Prelude.{slice_get, slice_set, slice_index_or}
 use Rattle.wac_types_base.specs.declared.item.ItemKind.{ItemKind}
 use Rattle.wac_types_base.specs.Record.{Collection}
@@ -7,19 +7,21 @@ use Rattle.wac_types_base.specs.Graph.{Among}
 use Rattle.wac_types_base.specs.Collection.{Stands, IsAcyclic, Grows}
 use Rattle.wac_types_base.specs.Copying.{IsCopy}
 use Rattle.wac_types_base.specs.Fits.{Fits}
+use Rattle.wac_types_base.specs.Stated.{Stated, stated_in, stated_of}
 use Rattle.wac_types_base.proofs.Adding.{Grows-trans}
 use Rattle.wac_types_base.specs.Entries.{Name}
 use Rattle.wac_types_base.proofs.Loops.{get-place}
 use Rattle.wac_types_base.proofs.Walking.{some_place}
-use Rattle.wac_types_names.specs.Tracks.{lookup_key, AreCompatible}
+use Rattle.wac_types_names.specs.Tracks.{AreCompatible}
 use Rattle.wac_types_fit.specs.Meets.{IsMeet, IsPlain, Clash}
 use Rattle.wac_types_fit.specs.Trees.{tree_in}
 use Rattle.wac_types_fit.proofs.Ordering.{named_in_order}
 use Rattle.wac_types_merge.specs.declared.family.Family.{Family}
 use Rattle.wac_types_merge.specs.declared.family.Import.{Import}
 use Rattle.wac_types_merge.specs.Families.{UsesUnnamed, joint}
-use Rattle.wac_types_merge.specs.Imports.{Imports, IsPlace, AreSound, AreApart, IsMergeable, NeitherFits}
-use Rattle.wac_types_merge.specs.Merging.{Ask, tree_asked, HasFamily, IsBeside, FirstAsked, AskedAgain, IsAsked, HaveNoCommon, AreOutside}
+use Rattle.wac_types_merge.specs.United.{KeepsUnited}
+use Rattle.wac_types_merge.specs.Imports.{Imports, IsPlace, AreSound, AreApart, IsMergeable, KeepsNarrower}
+use Rattle.wac_types_merge.specs.Merging.{Ask, tree_asked, HasFamily, IsAsked, HaveNoCommon, AreOutside}
 use Rattle.wac_types_merge.specs.Steps.{HasClash, LieOutside, IsMerged}
 use Rattle.wac_types_merge.proofs.Grown.{tree_kept, copied_tree}
 use Rattle.wac_types_merge.proofs.Plain.{family_plain, plain_meet}
@@ -112,11 +114,17 @@ module _ (old new : Imports) (a : Ask) (acyclic : IsAcyclic a.types) (stands : S
       meet_here : IsMeet (tree_in new.types after.kind) (tree_in old.types before.kind ∷ tree_asked a ∷ [])
       meet_here = subst (λ t. IsMeet (tree_in new.types after.kind) (t ∷ tree_asked a ∷ [])) was (subst (λ u. IsMeet (tree_in new.types after.kind) (tree_in mid before.kind ∷ u ∷ [])) is_asked m.kept.meet)
 
-      one_fits : after.family ≡ Family.Neither → Fits (tree_in old.types before.kind) (tree_asked a) ⊎ Fits (tree_asked a) (tree_in old.types before.kind)
-      one_fits e = elim (m.narrower e) [
-        | inl h ↦ inl (subst (λ t. Fits t (tree_asked a)) was (subst (λ u. Fits (tree_in mid before.kind) u) is_asked h))
-        | inr h ↦ inr (subst (λ t. Fits (tree_asked a) t) was (subst (λ u. Fits u (tree_in mid before.kind)) is_asked h))
-      ]
+      narrower_kept : after.family ≡ Family.Neither → KeepsNarrower (stated_of old.types before.kind) (stated_of a.types a.kind) a.name after.name (stated_of new.types after.kind)
+      narrower_kept e =
+          let P : Stated → Stated → Type 0 = λ x y. KeepsNarrower x y a.name after.name (stated_of new.types after.kind) in
+          subst (λ x. P x (stated_of a.types a.kind)) (ap stated_in (g.keep before.kind (sound.stand before among)))
+          (subst (λ y. P (stated_of mid before.kind) y) (ap stated_in copied.same) (m.narrower e))
+
+      united_kept : (after.family ≡ Family.Neither → ⊥) → KeepsUnited (stated_of old.types before.kind) (stated_of a.types a.kind) a.name after.name (stated_of new.types after.kind)
+      united_kept e =
+          let P : Stated → Stated → Type 0 = λ x y. KeepsUnited x y a.name after.name (stated_of new.types after.kind) in
+          subst (λ x. P x (stated_of a.types a.kind)) (ap stated_in (g.keep before.kind (sound.stand before among)))
+          (subst (λ y. P (stated_of mid before.kind) y) (ap stated_in copied.same) (m.united e))
 
       pub asked_again : (UsesUnnamed a.types a.kind → ⊥) → IsAsked old a new
       asked_again named = record {
@@ -132,7 +140,8 @@ module _ (old new : Imports) (a : Ask) (acyclic : IsAcyclic a.types) (stands : S
           has = has;
           family = m.family;
           meet = meet_here;
-          narrower = one_fits;
+          united = united_kept;
+          narrower = narrower_kept;
           identified = m.identified;
         });
         grows = Grows-trans old.types mid new.types g h;

@@ -1,5 +1,5 @@
 -- When no tree fits two items.
-use Rattle.std.proofs.Common.{◌≡◌, List, [], ◌∷◌, Option, Some, None, refl, sym, ap, subst, ◌∙◌}
+use Rattle.std.proofs.Common.{◌≡◌, List, Option, Some, None, refl, sym, ap, subst, ◌∙◌}
 use Rattle.std.specs.Option.{option_map}
 use Rattle.std.specs.Prelude.{Result, Ok, Err, ⊤}
 use Rattle.wac_types_base.specs.declared.item.«Type».{«Type» as TypeKind}
@@ -10,17 +10,17 @@ use Rattle.wac_types_base.specs.Record.{Collection}
 use Rattle.wac_types_base.specs.Entries.{Name, value_at}
 use Rattle.wac_types_base.specs.Collection.{Stands, SlotStands, IsAcyclic, Grows}
 use Rattle.wac_types_base.specs.Tree.{Tree, Fields, rigid, instance, component, core_module, handle_own, handle_borrow, type_item, no_fields, field}
-use Rattle.wac_types_base.specs.Fits.{HasField, at_first, at_later, Fits, rigid_fits, own_fits, borrow_fits, instance_fits, component_fits, module_fits, type_fits}
+use Rattle.wac_types_base.specs.Fits.{HasField, at_first, at_later, Fits, rigid_fits, own_fits, borrow_fits, instance_fits, type_fits}
 use Rattle.wac_types_base.proofs.Standing.{world_found, module_found}
 use Rattle.wac_types_base.proofs.Slots.{stands_typed_world, stands_typed_module}
 use Rattle.wac_types_base.proofs.Telling.{item_kind}
 use Rattle.wac_types_fit.specs.declared.errors.SubtypeError.{SubtypeError}
 use Rattle.wac_types_fit.specs.Errors.{IfMismatch}
 use Rattle.wac_types_merge.specs.Errors.{IfClash}
-use Rattle.wac_types_fit.specs.Ordered.{InOrder, AllInOrder}
+use Rattle.wac_types_fit.specs.Ordered.{InOrder}
 use Rattle.wac_types_fit.specs.Lookups.{lookup}
-use Rattle.wac_types_fit.specs.Meets.{IsMeet, IsPlain, ArePlain, Clash}
-use Rattle.wac_types_fit.specs.Trees.{tree_in, Fit}
+use Rattle.wac_types_fit.specs.Meets.{IsPlain, ArePlain, Clash}
+use Rattle.wac_types_fit.specs.Trees.{tree_in}
 use Rattle.wac_types_fit.specs.Checking.{IsFlat}
 use Rattle.wac_types_fit.proofs.Looking.{looked-has, has-looked, in_order-at, given}
 use Rattle.wac_types_fit.proofs.Items.{looked_in}

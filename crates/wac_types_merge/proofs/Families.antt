@@ -1,5 +1,5 @@
 -- What the tests of the families rest on.
-use Rattle.std.proofs.Common.{◌≡◌, ℕ, ◌+◌, ◌<◌, ◌≤◌, List, [], ◌∷◌, length, map, Option, Some, None, IsSome, Bool, true, false, not, IsTrue, ◌↔◌, refl, sym, ap, subst, ◌∙◌, ◌⊎◌, inl, inr, arith, below_more}
+use Rattle.std.proofs.Common.{◌≡◌, ℕ, ◌+◌, ◌<◌, ◌≤◌, List, [], ◌∷◌, ◌++◌, length, map, Option, Some, None, IsSome, Bool, IsTrue, ◌↔◌, refl, sym, ap, subst, ◌⊎◌, inl, inr, arith, below_more}
 use Rattle.std.specs.Prelude.{slice_get, is_some}
 use Rattle.wac_types_base.specs.declared.item.ItemKind.{ItemKind}
 use Rattle.wac_types_base.specs.declared.item.ValueType.{ValueType}
@@ -8,17 +8,18 @@ use Rattle.wac_types_base.specs.declared.ids.ResourceId.{ResourceId}
 use Rattle.wac_types_base.specs.declared.ids.InterfaceId.{InterfaceId}
 use Rattle.wac_types_base.specs.declared.defined.UsedType.{UsedType}
 use Rattle.wac_types_base.specs.declared.defined.Interface.{Interface}
+use Rattle.wac_types_base.specs.declared.ids.WorldId.{WorldId}
+use Rattle.wac_types_base.specs.declared.defined.World.{World}
 use Rattle.wac_types_base.specs.Record.{Collection}
 use Rattle.wac_types_base.specs.Graph.{Among}
 use Rattle.wac_types_base.specs.Entries.{values_of}
-use Rattle.wac_types_base.specs.Collection.{Slot, Stands, IsAcyclic, used, items, interface_entry}
+use Rattle.wac_types_base.specs.Collection.{Stands, IsAcyclic, used, items, interface_entry, world_entry}
 use Rattle.wac_types_base.specs.Implicit.{used_interfaces, uses_in, identifier_in}
 use Rattle.wac_types_base.proofs.Adding.{Among-left}
-use Rattle.wac_types_base.proofs.Slots.{slots_interface, stands_borrow, stands_own}
+use Rattle.wac_types_base.proofs.Slots.{slots_interface, slots_world, stands_borrow, stands_own}
 use Rattle.wac_types_base.proofs.Walking.{slice_get-Among, child_smaller}
 use Rattle.wac_types_fit.specs.Trees.{IsInside}
 use Rattle.wac_types_merge.specs.Families.{IsUnnamedIn, IsUsedBy, used_directly, used_further}
-use Rattle.wac_types_base.proofs.Looked.{among-get}
 
 pub some_test : {T : Type 0} (o p : Option T) (t : Bool) → t ≡ is_some o → o ≡ p → IsTrue t ↔ IsSome p
 some_test None p t e f = (λ h. absurd (cc (e, h)), λ h. absurd (cc (f, h)))
@@ -60,6 +61,13 @@ use_inside c a i x s at own u m =
     let here = Among-left slot (used x.uses) (items x.exports) (map_among (λ (v : UsedType). Some (ItemKind.Instance v.interface)) (values_of x.uses) u m) in
     let p = slice_get-Among (interface_entry x).1 slot here in
     child_smaller c a (ItemKind.Instance i) s p.0 (ItemKind.Instance u.interface) (subst (λ l. slice_get l p.0 ≡ Some slot) (sym (slots_interface c i x at own)) p.2)
+
+pub world_use_inside : (c : Collection) → IsAcyclic c → (i : WorldId) (x : World) → Stands c (ItemKind.Component i) → slice_get c.worlds i.index ≡ Some x → i.collection ≡ c.number → (u : UsedType) → Among u (values_of x.uses) → IsInside c (ItemKind.Instance u.interface) (ItemKind.Component i)
+world_use_inside c a i x s at own u m =
+    let slot = Some (ItemKind.Instance u.interface) in
+    let here = Among-left slot (used x.uses) (items x.imports ++ items x.exports) (map_among (λ (v : UsedType). Some (ItemKind.Instance v.interface)) (values_of x.uses) u m) in
+    let p = slice_get-Among (world_entry x).1 slot here in
+    child_smaller c a (ItemKind.Component i) s p.0 (ItemKind.Instance u.interface) (subst (λ l. slice_get l p.0 ≡ Some slot) (sym (slots_world c i x at own)) p.2)
 
 -- the interface of a use has no identifier
 abbrev pub IsUnnamed : Collection → UsedType → Type 0

@@ -1,5 +1,5 @@
 -- What stands keeps its tree and its size while a collection grows.
-use Rattle.std.proofs.Common.{◌≡◌, ◌<◌, Option, Some, None, refl, sym, ap, subst, ◌∙◌, arith}
+use Rattle.std.proofs.Common.{◌≡◌, Option, Some, None, refl, ap, arith}
 use Rattle.std.specs.Option.{option_map}
 use Rattle.wac_types_base.specs.declared.item.ItemKind.{ItemKind}
 use Rattle.wac_types_base.specs.Record.{Collection}
@@ -7,7 +7,7 @@ use Rattle.wac_types_base.specs.Collection.{Stands, SlotStands, Grows, size_in, 
 use Rattle.wac_types_base.specs.Copying.{IsCopy}
 use Rattle.wac_types_base.specs.Stated.{stated_in, stated_of}
 use Rattle.wac_types_base.specs.Tree.{tree}
-use Rattle.wac_types_fit.specs.Trees.{tree_in, Fit, IsInside}
+use Rattle.wac_types_fit.specs.Trees.{tree_in, IsInside}
 
 module _ (c d : Collection) (g : Grows c d) where
   pub tree_kept : (k : ItemKind) → Stands c k → tree_in d k ≡ tree_in c k

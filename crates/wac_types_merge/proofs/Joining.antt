@@ -10,7 +10,7 @@ use Rattle.wac_types_base.specs.Record.{Collection}
 use Rattle.wac_types_base.specs.Graph.{Among}
 use Rattle.wac_types_base.specs.Entries.{Name, names_of, value_at, IsNew, AreDistinct}
 use Rattle.wac_types_base.specs.Collection.{Stands, SlotStands, Grows}
-use Rattle.wac_types_base.specs.Tree.{Tree, instance}
+use Rattle.wac_types_base.specs.Tree.{instance}
 use Rattle.wac_types_base.proofs.Looked.{take-one_more, distinct-before}
 use Rattle.wac_types_base.proofs.Loops.{map-append, map-take, map-get}
 use Rattle.wac_types_fit.specs.Lookups.{lookup}
@@ -20,7 +20,7 @@ use Rattle.wac_types_fit.specs.Checking.{AreInside}
 use Rattle.wac_types_fit.proofs.Items.{looked_in, ordered_in, value_at-among, differs}
 use Rattle.wac_types_fit.proofs.Meeting.{Joins, fields_meet}
 use Rattle.wac_types_fit.proofs.Unfolded.{fields_in}
-use Rattle.wac_types_merge.specs.Interfaces.{if_new, new_in, AllStand, SlotInside, MeetIn, JoinedIn, AreJoined}
+use Rattle.wac_types_merge.specs.Interfaces.{if_new, new_in, AllStand, SlotInside, JoinedIn, AreJoined}
 use Rattle.wac_types_merge.proofs.Grown.{tree_kept, slot_kept, inside_kept}
 
 -- ---- look-ups

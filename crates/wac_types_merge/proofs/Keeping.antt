@@ -1,10 +1,12 @@
 -- What is kept of two items, and the refusals.
 use Rattle.std.proofs.Common.{◌≡◌, List, [], ◌∷◌, Some, IsSome, refl, sym, ap, subst, ◌∙◌, inl, inr}
-use Rattle.std.specs.Prelude.{Result, Ok, Err, OnOk, IfOk, IfErr}
+use Rattle.std.specs.Prelude.{Result, Ok, Err, IfOk, IfErr, is_some}
 use Rattle.wac_types_base.specs.declared.item.ItemKind.{ItemKind}
 use Rattle.wac_types_base.specs.Record.{Collection}
 use Rattle.wac_types_base.specs.Entries.{Name}
-use Rattle.wac_types_base.specs.Collection.{Stands}
+use Rattle.wac_types_base.specs.Collection.{Stands, Grows}
+use Rattle.wac_types_base.specs.Stated.{Stated, stated_in, stated_of}
+use Rattle.wac_types_names.specs.Tracks.{lookup_key}
 use Rattle.wac_types_base.specs.Tree.{Tree}
 use Rattle.wac_types_base.specs.Fits.{Fits}
 use Rattle.wac_types_base.proofs.GraphLemmas.{value_of}
@@ -13,7 +15,7 @@ use Rattle.wac_types_fit.specs.Frames.{Step}
 use Rattle.wac_types_fit.specs.Errors.{steps_of}
 use Rattle.wac_types_fit.specs.Ordered.{InOrder}
 use Rattle.wac_types_fit.specs.Meets.{IsMeet}
-use Rattle.wac_types_fit.specs.Trees.{tree_in, Fit}
+use Rattle.wac_types_fit.specs.Trees.{tree_in}
 use Rattle.wac_types_fit.proofs.Meeting.{meet_narrower}
 use Rattle.wac_types_fit.proofs.Ordering.{named_in_order}
 use Rattle.wac_types_fit.proofs.TreeLaws.{Fits-refl}
@@ -22,7 +24,8 @@ use Rattle.wac_types_merge.specs.declared.family.Family.{Family}
 use Rattle.wac_types_merge.specs.declared.family.Import.{Import}
 use Rattle.wac_types_merge.specs.Families.{joint}
 use Rattle.wac_types_merge.specs.Errors.{Refuses}
-use Rattle.wac_types_merge.specs.Imports.{IsGreater, IsNarrower, OneFits, NeitherFits}
+use Rattle.wac_types_merge.specs.United.{UnitesIn}
+use Rattle.wac_types_merge.specs.Imports.{IsGreater, IsNarrower, NeitherFits, spelled_if, KeepsNarrower}
 use Rattle.wac_types_merge.specs.Interfaces.{MeetIn, ClashIn}
 use Rattle.wac_types_merge.specs.Steps.{HasClash, LieOutside, IsMerged, IsSpelledImport}
 
@@ -56,20 +59,28 @@ pub if_err : {T E : Type 0} (r : Result T E) (P Q : E → Type 0) → IfErr r P 
 if_err (Ok x) P Q h f = tt
 if_err (Err e) P Q h f = f e h
 
-pub one_fits : (c : Collection) (a b k : ItemKind) → IsNarrower c a b k → OneFits c a b
-one_fits c a b k (inl h) = inl h.0
-one_fits c a b k (inr h) = inr h.1
-
-pub if_narrower : {E : Type 0} (r : Result ItemKind E) (c : Collection) (a b : ItemKind) → IfOk r (IsNarrower c a b) → (P : Type 0) → OnOk r (P → OneFits c a b)
-if_narrower (Ok k) c a b h P = λ p. one_fits c a b k h
-if_narrower (Err e) c a b h P = tt
+-- the narrower of two, by its stated type in a larger collection
+pub keeps_narrower : (c mid : Collection) (a b k : ItemKind) (name spelling : Name) (t : Stated) → Grows c mid → Stands c a → Stands c b → IsNarrower c a b k → t ≡ spelled_if (is_some (lookup_key name)) spelling (stated_of mid k) → KeepsNarrower (stated_of c a) (stated_of c b) name spelling t
+unfolding tree_in
+keeps_narrower c mid a b k name spelling t g s r (inl h) e = record {
+  narrower = stated_of c a;
+  is = inl (h.0, refl);
+  spelled = e ∙ ap (λ j. spelled_if (is_some (lookup_key name)) spelling (stated_of mid j)) h.1 ∙ ap (λ o. spelled_if (is_some (lookup_key name)) spelling (stated_in o)) (g.keep a s);
+}
+keeps_narrower c mid a b k name spelling t g s r (inr h) e = record {
+  narrower = stated_of c b;
+  is = inr (h.0, h.1, refl);
+  spelled = e ∙ ap (λ j. spelled_if (is_some (lookup_key name)) spelling (stated_of mid j)) h.2 ∙ ap (λ o. spelled_if (is_some (lookup_key name)) spelling (stated_in o)) (g.keep b r);
+}
 
 -- the import of a track after one more ask
-pub spelled_merged : (c mid d : Collection) (before : Import) (name old : Name) (asked : ItemKind) (f both : Family) (kept : ItemKind) (m : Import) → old ≡ before.name → both ≡ joint before.family f → MeetIn c before.kind asked mid kept → (both ≡ Family.Neither → OneFits c before.kind asked) → IsSpelledImport mid old name kept both d m → IsMerged c before name asked f d m
-spelled_merged c mid d before name old asked f both kept m e is k n h = record {
+pub spelled_merged : (c mid d : Collection) (before : Import) (name old : Name) (asked : ItemKind) (f both : Family) (kept : ItemKind) (m : Import) → old ≡ before.name → both ≡ joint before.family f → Grows c mid → Stands c before.kind → Stands c asked → MeetIn c before.kind asked mid kept
+    → ((both ≡ Family.Neither → ⊥) → UnitesIn c before.kind asked mid kept) → (both ≡ Family.Neither → IsNarrower c before.kind asked kept) → IsSpelledImport mid old name kept both d m → IsMerged c before name asked f d m
+spelled_merged c mid d before name old asked f both kept m e is g s r k w n h = record {
   kept = record { stands = h.stands; meet = subst (λ t. IsMeet t (tree_in c before.kind ∷ tree_in c asked ∷ [])) (sym h.tree) k.meet };
   greater = subst (λ z. IsGreater z name m.name) e h.greater;
   family = h.family ∙ is;
-  narrower = λ q. n (sym h.family ∙ q);
+  united = λ q. record { united = stated_of mid kept; is = w (λ e. q (h.family ∙ e)); spelled = h.stated };
+  narrower = λ q. keeps_narrower c mid before.kind asked kept name m.name (stated_of d m.kind) g s r (n (sym h.family ∙ q)) h.stated;
   identified = h.identified;
 }

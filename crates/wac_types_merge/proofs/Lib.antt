@@ -8,3 +8,5 @@ pub mod Keeping
 pub mod Tracks
 pub mod Listing
 pub mod Asking
+pub mod Renaming
+pub mod Uniting

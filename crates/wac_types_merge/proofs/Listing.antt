@@ -1,5 +1,5 @@
 -- After each accepted ask, each track has one import: the meet of its asks, under the greatest name.
-use Rattle.std.proofs.Common.{◌≡◌, ℕ, zero, suc, ◌+◌, ◌<◌, ◌≤◌, take, drop, get_or, List, [], ◌∷◌, ◌++◌, map, length, Option, Some, None, IsSome, refl, sym, ap, subst, ◌∙◌, ◌⊎◌, inl, inr, arith, length-append}
+use Rattle.std.proofs.Common.{◌≡◌, ℕ, zero, suc, ◌+◌, ◌<◌, ◌≤◌, take, drop, get_or, List, [], ◌∷◌, ◌++◌, map, length, Option, Some, None, IsSome, refl, sym, ap, subst, ◌∙◌, ◌⊎◌, inl, inr, arith}
 use Rattle.std.specs.Prelude.{slice_get, slice_set}
 use Rattle.wac_types_base.specs.declared.item.ItemKind.{ItemKind}
 use Rattle.wac_types_base.specs.declared.ids.InterfaceId.{InterfaceId}
@@ -7,15 +7,14 @@ use Rattle.wac_types_base.specs.declared.defined.Interface.{Interface}
 use Rattle.wac_types_base.specs.Record.{Collection}
 use Rattle.wac_types_base.specs.Graph.{Among}
 use Rattle.wac_types_base.specs.Entries.{Name}
-use Rattle.wac_types_base.specs.Collection.{Stands, Grows, item_node}
+use Rattle.wac_types_base.specs.Collection.{Stands, Grows}
 use Rattle.wac_types_base.specs.Reaching.{here}
 use Rattle.wac_types_base.specs.Stated.{identifier_of}
-use Rattle.wac_types_base.specs.Tree.{Tree}
 use Rattle.wac_types_base.proofs.Loops.{map-append, map-one_more, take-all}
-use Rattle.wac_types_base.proofs.Adding.{Among-left, Among-right}
+use Rattle.wac_types_base.proofs.Adding.{Among-left}
 use Rattle.wac_types_base.proofs.Walking.{slice_get-Among}
-use Rattle.wac_types_names.specs.Tracks.{lookup_key, AreCompatible, IsLater}
-use Rattle.wac_types_names.proofs.TrackLaws.{compatible_itself, compatible_turned, compatible_joined}
+use Rattle.wac_types_names.specs.Tracks.{AreCompatible, IsLater}
+use Rattle.wac_types_names.proofs.TrackLaws.{compatible_turned, compatible_joined}
 use Rattle.wac_types_fit.specs.Meets.{IsMeet}
 use Rattle.wac_types_fit.specs.Targets.{AreThose, none_left, first_is, first_is_not}
 use Rattle.wac_types_fit.specs.Trees.{tree_in}
@@ -25,9 +24,9 @@ use Rattle.wac_types_merge.specs.declared.errors.AggregateError.{AggregateError}
 use Rattle.wac_types_merge.specs.declared.family.Family.{Family}
 use Rattle.wac_types_merge.specs.declared.family.Import.{Import}
 use Rattle.wac_types_merge.specs.Families.{HasMore, IsUnplain, IsPlainItem, IsWitInterface, IsWitItem, joint}
-use Rattle.wac_types_merge.specs.Imports.{Imports, AreSound, AreApart, IsIdentified, IsGreater}
-use Rattle.wac_types_merge.specs.Merging.{Ask, ask_for, tree_asked, HasFamily, IsBeside, FirstAsked, AskedAgain, IsAsked, IsRefused}
-use Rattle.wac_types_merge.specs.Lists.{AllPlain, AllWit, LieIn, IsImportOf, Merges, Lent, ask_of, asks_of, AsksStand, IsListRefused}
+use Rattle.wac_types_merge.specs.Imports.{Imports, AreSound, AreApart, IsIdentified}
+use Rattle.wac_types_merge.specs.Merging.{Ask, ask_for, tree_asked, HasFamily, FirstAsked, AskedAgain, IsAsked, IsRefused}
+use Rattle.wac_types_merge.specs.Lists.{AllPlain, AllWit, LieIn, IsImportOf, Merges, none_yet, AreAsked, one_more_asked, Lent, ask_of, asks_of, AsksStand, IsListRefused}
 use Rattle.wac_types_merge.proofs.Grown.{tree_kept, stated_kept, copied_tree}
 use Rattle.wac_types_merge.proofs.Tracks.{not_later, greater_before, greater_asked, greater_still, greater_than_asked, on_track_with, same_or_not, last_among, Among-either, one_place, Elsewhere, set_among, set_there, other_there}
 use Rattle.wac_types_base.proofs.Looked.{among-get}
@@ -251,13 +250,14 @@ split_list [] i x e = absurd (cc e)
 split_list (y ∷ xs) zero x e = ap (λ z. z ∷ xs) (cc e)
 split_list (y ∷ xs) (suc i) x e = let n : suc i + 1 ≡ suc (i + 1) = omega arith in rw n (ap (λ l. y ∷ l) (split_list xs i x e))
 
-pub list_refused : (xs : List Lent) (i : ℕ) (x : Lent) (g : Imports) (e : AggregateError) → slice_get xs i ≡ Some x → Merges (asks_of (take i xs)) g → IsRefused g (ask_of x) e → IsListRefused (asks_of xs) e
-list_refused xs i x g e at h r = record {
+pub list_refused : (n : ℕ) (xs : List Lent) (i : ℕ) (x : Lent) (g : Imports) (e : AggregateError) → slice_get xs i ≡ Some x → AreAsked (none_yet n) (asks_of (take i xs)) g → Merges (asks_of (take i xs)) g → IsRefused g (ask_of x) e → IsListRefused n (asks_of xs) e
+list_refused n xs i x g e at asked h r = record {
   before = asks_of (take i xs);
   ask = ask_of x;
   rest = asks_of (drop (i + 1) xs);
   is = ap asks_of (split_list xs i x at) ∙ map-append ask_of (take i xs) (x ∷ drop (i + 1) xs);
   so_far = g;
+  asked = asked;
   merged = h;
   refused = r;
 }
@@ -265,6 +265,13 @@ list_refused xs i x g e at h r = record {
 pub next_merged : (xs : List Lent) (i : ℕ) (x : Lent) (old new : Imports) → slice_get xs i ≡ Some x → AreSound old → AreSound new → Merges (asks_of (take i xs)) old → IsAsked old (ask_of x) new → Merges (asks_of (take (i + 1) xs)) new
 next_merged xs i x old new at s t h is =
     subst (λ l. Merges l new) (sym (map-one_more ask_of xs i x at)) (asked_merges (asks_of (take i xs)) old new (ask_of x) s h is.grows t is)
+
+pub next_asked : (n : ℕ) (xs : List Lent) (i : ℕ) (x : Lent) (old new : Imports) → slice_get xs i ≡ Some x → AreAsked (none_yet n) (asks_of (take i xs)) old → IsAsked old (ask_of x) new → AreAsked (none_yet n) (asks_of (take (i + 1) xs)) new
+next_asked n xs i x old new at h is =
+    subst (λ l. AreAsked (none_yet n) l new) (sym (map-one_more ask_of xs i x at)) (one_more_asked (asks_of (take i xs)) (ask_of x) old new h is)
+
+pub all_asked : (n : ℕ) (xs : List Lent) (i : ℕ) (g : Imports) → length xs ≤ i → AreAsked (none_yet n) (asks_of (take i xs)) g → AreAsked (none_yet n) (asks_of xs) g
+all_asked n xs i g le h = subst (λ l. AreAsked (none_yet n) (asks_of l) g) (take-all xs i le) h
 
 pub all_merged : (xs : List Lent) (i : ℕ) (g : Imports) → length xs ≤ i → Merges (asks_of (take i xs)) g → Merges (asks_of xs) g
 all_merged xs i g le h = subst (λ l. Merges (asks_of l) g) (take-all xs i le) h

@@ -1,5 +1,5 @@
 -- Interfaces that are added.
-use Rattle.std.proofs.Common.{◌≡◌, ℕ, zero, suc, List, [], ◌∷◌, ◌++◌, length, map, Some, refl, sym, ap, subst, ◌∙◌, inl, inr, ◌⊎◌}
+use Rattle.std.proofs.Common.{◌≡◌, List, [], ◌∷◌, ◌++◌, length, map, Some, None, refl, sym, ap, subst, ◌∙◌, inl, inr, ◌⊎◌}
 use Rattle.std.specs.Prelude.{Result, Ok, Err, OnOk, IfOk, slice_get, is_some, Bool, true, false, if◌then◌else◌}
 use Rattle.wac_types_base.specs.declared.item.«Type».{«Type» as TypeKind}
 use Rattle.wac_types_base.specs.declared.item.ItemKind.{ItemKind}
@@ -7,12 +7,13 @@ use Rattle.wac_types_base.specs.declared.ids.InterfaceId.{InterfaceId}
 use Rattle.wac_types_base.specs.declared.defined.Interface.{Interface}
 use Rattle.wac_types_base.specs.declared.defined.UsedType.{UsedType}
 use Rattle.wac_types_base.specs.Record.{Collection}
-use Rattle.wac_types_base.specs.Graph.{Among}
+use Rattle.wac_types_base.specs.Graph.{Among, node}
+use Rattle.std.specs.Option.{option_map}
 use Rattle.wac_types_base.specs.Entries.{Name, value_at}
-use Rattle.wac_types_base.specs.Collection.{Slot, SlotStands, Stands, IsAcyclic, HasChildren, Grows, item_node, type_of, used, items, interface_entry}
-use Rattle.wac_types_base.specs.Stated.{identifier_of}
+use Rattle.wac_types_base.specs.Collection.{Entry, Slot, SlotStands, Stands, IsAcyclic, HasChildren, Grows, item_node, type_of, used, items, interface_entry}
+use Rattle.wac_types_base.specs.Stated.{row, stated_in, stated_of, stated_entry, identifier_of}
 use Rattle.wac_types_base.specs.Tree.{instance, type_item, put}
-use Rattle.wac_types_base.proofs.Adding.{Among-left, Among-right}
+use Rattle.wac_types_base.proofs.Adding.{All-among, Among-left, Among-right}
 use Rattle.wac_types_base.proofs.Copying.{Among-All, last_place}
 use Rattle.wac_types_base.proofs.GraphLemmas.{is_there}
 use Rattle.wac_types_base.proofs.Telling.{stated_step, child_stands}
@@ -21,7 +22,7 @@ use Rattle.wac_types_fit.specs.Trees.{tree_in}
 use Rattle.wac_types_fit.proofs.Checks.{interface_type_is}
 use Rattle.wac_types_fit.proofs.Meeting.{types_meet}
 use Rattle.wac_types_fit.proofs.Unfolded.{fields_in, instance_tree, interface_node}
-use Rattle.wac_types_merge.specs.Interfaces.{new_in, joined, merged_interface, IsAt, IsRenamed, AllStand, UsesStand, MeetIn, AreJoined}
+use Rattle.wac_types_merge.specs.Interfaces.{new_in, merged_interface, IsAt, renamed, IsRenamed, AllStand, UsesStand, MeetIn, AreJoined}
 use Rattle.wac_types_merge.proofs.Grown.{tree_kept}
 use Rattle.wac_types_merge.proofs.Joining.{merged_meet}
 use Rattle.wac_types_base.proofs.Replacing.{labelled_there}
@@ -124,11 +125,29 @@ all_fields_kept c d g (e ∷ es) s = ap (λ t. put e.0 t (fields_in d es)) (tree
 fields_kept : (c d : Collection) → Grows c d → (es : List (Name × ItemKind)) → AllStand c es → instance (fields_in d es) ≡ instance (fields_in c es)
 fields_kept c d g es s = ap instance (all_fields_kept c d g es s)
 
-pub renamed_is : (c d : Collection) → IsAcyclic c → IsAcyclic d → Grows c d → (i j : InterfaceId) (x y : Interface) (n : Name) → IsAt c i x → IsAt d j y → y.exports ≡ x.exports → y.id ≡ Some n → IsRenamed c i d j n
-renamed_is c d a b g i j x y n p q e is = record {
+-- what stands in places has its stated types still
+places_kept : (c d : Collection) → Grows c d → (xs : List Slot) → ((s : Slot) → Among s xs → SlotStands c s) → map (option_map (stated_of d)) xs ≡ map (option_map (stated_of c)) xs
+places_kept c d g [] h = refl
+places_kept c d g (None ∷ xs) h = ap (λ l. None ∷ l) (places_kept c d g xs (λ s m. h s (inr m)))
+places_kept c d g (Some k ∷ xs) h =
+    ap (λ t. Some (stated_in t) ∷ map (option_map (stated_of d)) xs) (g.keep k (h (Some k) (inl refl)))
+    ∙ ap (λ l. Some (stated_of c k) ∷ l) (places_kept c d g xs (λ s m. h s (inr m)))
+
+entry_kept : (c d : Collection) → Grows c d → (e : Entry) → HasChildren c e → stated_entry d e ≡ stated_entry c e
+entry_kept c d g e h = ap (λ os. node e.0 (row os)) (places_kept c d g e.1 (λ s m. All-among (SlotStands c) e.1 s h m))
+
+same_interface : (x y : Interface) (n : Name) → y.uses ≡ x.uses → y.exports ≡ x.exports → y.id ≡ Some n → y ≡ record { id = Some n; uses = x.uses; exports = x.exports }
+same_interface x y n u e is =
+    ap (λ v. record { id = v; uses = y.uses; exports = y.exports }) is ∙ ap (λ v. record { id = Some n; uses = v; exports = y.exports }) u ∙ ap (λ v. record { id = Some n; uses = x.uses; exports = v }) e
+
+pub renamed_is : (c d : Collection) → IsAcyclic c → IsAcyclic d → Grows c d → (i j : InterfaceId) (x y : Interface) (n : Name) → IsAt c i x → IsAt d j y → y.uses ≡ x.uses → y.exports ≡ x.exports → y.id ≡ Some n → HasChildren c (interface_entry y) → IsRenamed c i d j n
+renamed_is c d a b g i j x y n p q u e is children = record {
   stands = at_stands d j y q;
   tree = instance_tree d b j y q.at q.own ∙ ap (λ l. instance (fields_in d l)) e ∙ fields_kept c d g x.exports (exports_stand c a i x p) ∙ sym (instance_tree c a i x p.at p.own);
   identifier = ap identifier_of (stated_step d b (ItemKind.Instance j) (interface_entry y) (interface_node d j y q.at q.own)) ∙ is;
+  stated = stated_step d b (ItemKind.Instance j) (interface_entry y) (interface_node d j y q.at q.own) ∙ entry_kept c d g (interface_entry y) children
+      ∙ ap (λ (z : Interface). stated_entry c (interface_entry z)) (same_interface x y n u e is)
+      ∙ ap (renamed n) (sym (stated_step c a (ItemKind.Instance i) (interface_entry x) (interface_node c i x p.at p.own)));
 }
 
 -- ---- what adding answers
@@ -146,8 +165,8 @@ renamed_children c a i x y at own u e =
     let here : IsAt c i x = record { at = at; own = own } in
     all_children c y (subst (UsesStand c) (sym u) (uses_stand c a i x here)) (subst (AllStand c) (sym e) (exports_stand c a i x here))
 
-pub all_renamed : {E : Type 0} (r : Result InterfaceId E) (c d : Collection) → IsAcyclic c → Grows c d → (i : InterfaceId) (x y : Interface) (n : Name) → slice_get c.interfaces i.index ≡ Some x → i.collection ≡ c.number → y.exports ≡ x.exports → y.id ≡ Some n
+pub all_renamed : {E : Type 0} (r : Result InterfaceId E) (c d : Collection) → IsAcyclic c → Grows c d → (i : InterfaceId) (x y : Interface) (n : Name) → slice_get c.interfaces i.index ≡ Some x → i.collection ≡ c.number → y.uses ≡ x.uses → y.exports ≡ x.exports → y.id ≡ Some n
     → OnOk r (d ≡ record c { interfaces = c.interfaces ++ y ∷ [] }) → IfOk r (λ j. j ≡ record { collection = c.number; index = length c.interfaces }) → IfOk r (λ j. IsRenamed c i d j n)
-all_renamed (Ok j) c d a g i x y n at own e is added id =
-    renamed_is c d a g.acyclic g i j x y n (record { at = at; own = own }) (added_at c d y j added id) e is
-all_renamed (Err f) c d a g i x y n at own e is added id = tt
+all_renamed (Ok j) c d a g i x y n at own u e is added id =
+    renamed_is c d a g.acyclic g i j x y n (record { at = at; own = own }) (added_at c d y j added id) u e is (renamed_children c a i x y at own u e)
+all_renamed (Err f) c d a g i x y n at own u e is added id = tt

@@ -1,7 +1,6 @@
 -- What the families have in common: their trees are plain, and so are the meets of plain trees.
-use Rattle.std.proofs.Common.{◌≡◌, ℕ, zero, suc, ◌<◌, List, [], ◌∷◌, ◌++◌, Option, Some, None, refl, sym, ap, subst, ◌∙◌, inl, inr, arith}
+use Rattle.std.proofs.Common.{◌≡◌, ℕ, zero, suc, ◌<◌, List, [], ◌∷◌, Option, Some, None, refl, sym, ap, subst, inl, inr, arith}
 use Rattle.std.specs.Prelude.{slice_get}
-use Rattle.std.specs.Option.{option_map}
 use Rattle.std.specs.declared.cmp.Ordering.{Ordering}
 use Rattle.wac_types_base.specs.declared.item.«Type».{«Type» as TypeKind}
 use Rattle.wac_types_base.specs.declared.item.ItemKind.{ItemKind}
@@ -12,7 +11,7 @@ use Rattle.wac_types_base.specs.Graph.{Among}
 use Rattle.wac_types_base.specs.Entries.{Name, values_of}
 use Rattle.wac_types_base.specs.Collection.{Stands, IsAcyclic, item_node, labelled, type_of, used, items, size_of, interface_entry}
 use Rattle.wac_types_base.specs.Discrete.{tree_decided}
-use Rattle.wac_types_base.specs.Reaching.{Reaches, here, below}
+use Rattle.wac_types_base.specs.Reaching.{here, below}
 use Rattle.wac_types_base.specs.Tree.{Tree, Fields, rigid, instance, component, core_module, handle_own, handle_borrow, type_item, no_fields, field, put, put_at, name_cmp}
 use Rattle.wac_types_base.proofs.Adding.{option_map-some, Among-right}
 use Rattle.wac_types_base.proofs.Slots.{entry_at-is, stands_typed_interface}
@@ -20,7 +19,7 @@ use Rattle.wac_types_base.proofs.Standing.{interface_found}
 use Rattle.wac_types_fit.specs.Ordered.{InOrder}
 use Rattle.wac_types_fit.specs.Lookups.{lookup}
 use Rattle.wac_types_fit.specs.Meets.{IsMeet, IsPlain, ArePlain}
-use Rattle.wac_types_fit.specs.Trees.{tree_in, IsInside}
+use Rattle.wac_types_fit.specs.Trees.{tree_in}
 use Rattle.wac_types_fit.specs.Checking.{IsFlat}
 use Rattle.wac_types_fit.proofs.Looking.{looked-has}
 use Rattle.wac_types_fit.proofs.Items.{exports_inside, as_slot}
@@ -28,7 +27,7 @@ use Rattle.wac_types_fit.proofs.ItemKinds.{IsFlatTree, flat_is}
 use Rattle.wac_types_fit.proofs.Meeting.{meet_at, with_instance, with_type, when, meet, meet_fields, meet_sound, meet_complete, meet_unique, put_both-some}
 use Rattle.wac_types_fit.proofs.Unfolded.{fields_in, instance_tree, type_interface, interface_node, interface_size}
 use Rattle.wac_types_merge.specs.declared.family.Family.{Family}
-use Rattle.wac_types_merge.specs.Families.{IsUnplain, IsPlainItem, IsWitExport, IsWitInterface, IsWitItem, IsFamily}
+use Rattle.wac_types_merge.specs.Families.{IsPlainItem, IsWitExport, IsWitInterface, IsWitItem, IsFamily}
 use Rattle.wac_types_merge.proofs.Clashing.{plain_has}
 
 flat_plain : (t : Tree) → IsFlatTree t → IsPlain t

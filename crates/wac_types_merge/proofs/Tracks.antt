@@ -1,15 +1,14 @@
 -- Names on tracks, and the imports that stand on them.
-use Rattle.std.proofs.Common.{◌≡◌, ℕ, zero, suc, ◌<◌, List, [], ◌∷◌, ◌++◌, length, Option, Some, None, IsSome, Bool, true, false, refl, sym, ap, subst, ◌∙◌, ◌⊎◌, inl, inr, arith}
-use Rattle.std.specs.Prelude.{◌==◌, slice_get, slice_set}
+use Rattle.std.proofs.Common.{◌≡◌, ℕ, zero, suc, ◌<◌, List, [], ◌∷◌, ◌++◌, length, Some, IsSome, refl, sym, ap, subst, ◌∙◌, ◌⊎◌, inl, inr}
+use Rattle.std.specs.Prelude.{slice_get, slice_set}
 use Rattle.std.specs.declared.cmp.Ordering.TheVariants as order
-use Rattle.std.proofs.lemmas.Bool.{eqb-true}
 use Rattle.semver.specs.Parse.{Parts}
 use Rattle.wac_types_base.specs.Graph.{Among}
 use Rattle.wac_types_base.specs.Entries.{Name}
 use Rattle.wac_types_base.proofs.GraphLemmas.{is_there}
 use Rattle.wac_types_base.proofs.Replacing.{slice_get-set_other, slice_get-set_same}
 use Rattle.wac_types_base.proofs.Walking.{slice_get-Among, some_place}
-use Rattle.wac_types_names.specs.Tracks.{lookup_key, AreCompatible, ShareTrack, IsOnTrack, IsLater}
+use Rattle.wac_types_names.specs.Tracks.{lookup_key, AreCompatible, IsOnTrack, IsLater}
 use Rattle.wac_types_names.specs.Versions.{version_cmp}
 use Rattle.wac_types_names.proofs.TrackLaws.{compatible_itself, compatible_turned, compatible_joined}
 use Rattle.wac_types_names.proofs.VersionOrder.{greater_trans, not_above_self}

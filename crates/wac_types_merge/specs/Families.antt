@@ -1,5 +1,5 @@
 -- The two families of asks of which the greatest common tree is kept.
-use Rattle.std.specs.Prelude.{◌≡◌, ◌<◌, ◌⊎◌, ⊤, List, [], ◌∷◌, map, length, Option, Some, None, IsSome, slice_get}
+use Rattle.std.specs.Prelude.{◌≡◌, ◌<◌, ◌⊎◌, List, [], length, Option, Some, None, IsSome, slice_get}
 use Rattle.wac_types_base.specs.declared.item.ValueType.{ValueType}
 use Rattle.wac_types_base.specs.declared.item.«Type».{«Type» as TypeKind}
 use Rattle.wac_types_base.specs.declared.item.ItemKind.{ItemKind}
@@ -7,6 +7,7 @@ use Rattle.wac_types_base.specs.declared.defined.Resource.{Resource}
 use Rattle.wac_types_base.specs.declared.defined.ResourceAlias.{ResourceAlias}
 use Rattle.wac_types_base.specs.declared.defined.UsedType.{UsedType}
 use Rattle.wac_types_base.specs.declared.defined.Interface.{Interface}
+use Rattle.wac_types_base.specs.declared.defined.World.{World}
 use Rattle.wac_types_base.specs.declared.ids.InterfaceId.{InterfaceId}
 use Rattle.wac_types_base.specs.Record.{Collection}
 use Rattle.wac_types_base.specs.Entries.{Name, values_of}
@@ -24,11 +25,22 @@ uses_of (Some x) = values_of x.uses
 abbrev pub IsUnnamedIn : Collection → List UsedType → Type 0
 IsUnnamedIn c us = (i : InterfaceId) × Among i (used_interfaces us) × (identifier_in (slice_get c.interfaces i.index) ≡ None)
 
+abbrev pub uses_of_world : Option World → List UsedType
+uses_of_world None = []
+uses_of_world (Some x) = values_of x.uses
+
+abbrev pub uses_at_type : Collection → TypeKind → List UsedType
+uses_at_type c (TypeKind.Interface i) = uses_of (slice_get c.interfaces i.index)
+uses_at_type c (TypeKind.World w) = uses_of_world (slice_get c.worlds w.index)
+uses_at_type c t = []
+
 abbrev pub uses_at : Collection → ItemKind → List UsedType
 uses_at c (ItemKind.Instance i) = uses_of (slice_get c.interfaces i.index)
+uses_at c (ItemKind.Component w) = uses_of_world (slice_get c.worlds w.index)
+uses_at c (ItemKind.Ty t) = uses_at_type c t
 uses_at c k = []
 
--- an instance that uses an interface without identifier
+-- an instance or a component, or the type of one, that uses an interface without identifier
 abbrev pub UsesUnnamed : Collection → ItemKind → Type 0
 UsesUnnamed c k = IsUnnamedIn c (uses_at c k)
 

@@ -1,11 +1,14 @@
 -- What an aggregator holds: an import for each track.
-use Rattle.std.specs.Prelude.{◌≡◌, ◌⊎◌, ℕ, Bool, IsTrue, List, [], ◌∷◌, Option, Some, None, IsSome, slice_get}
+use Rattle.std.specs.Prelude.{◌≡◌, ◌⊎◌, ℕ, Bool, true, false, IsTrue, List, [], ◌∷◌, Option, Some, None, is_some, slice_get}
 use Rattle.wac_types_base.specs.declared.item.ItemKind.{ItemKind}
 use Rattle.wac_types_base.specs.Record.{Collection}
 use Rattle.wac_types_base.specs.Graph.{Among}
 use Rattle.wac_types_base.specs.Entries.{Name}
 use Rattle.wac_types_base.specs.Collection.{Stands}
-use Rattle.wac_types_base.specs.Stated.{stated_of, identifier_of}
+use Rattle.wac_types_base.specs.Stated.{Stated, stated_of, identifier_of}
+use Rattle.wac_types_base.specs.Tree.{tree}
+use Rattle.wac_types_base.specs.Fits.{Fits}
+use Rattle.wac_types_merge.specs.Interfaces.{renamed}
 use Rattle.wac_types_names.specs.Tracks.{lookup_key, AreCompatible, IsLater}
 use Rattle.wac_types_fit.specs.Trees.{tree_in, Fit}
 use Rattle.wac_types_fit.specs.Meets.{IsPlain}
@@ -60,20 +63,34 @@ IsIdentified c k n = Unit {0}
 abbrev pub IsNarrower : Collection → ItemKind → ItemKind → ItemKind → Type 0
 IsNarrower c a b k = (Fit c a c b × (k ≡ a)) ⊎ ((Fit c a c b → ⊥) × Fit c b c a × (k ≡ b))
 
-abbrev pub OneFits : Collection → ItemKind → ItemKind → Type 0
-OneFits c a b = Fit c a c b ⊎ Fit c b c a
-
 abbrev pub NeitherFits : Collection → ItemKind → ItemKind → Type 0
 NeitherFits c a b = (Fit c a c b → ⊥) × (Fit c b c a → ⊥)
+
+-- a stated type under this identifier, where that is asked for
+abbrev pub spelled_if : Bool → Name → Stated → Stated
+spelled_if true n t = renamed n t
+spelled_if false n t = t
 
 -- k of d is j of c with its tree, and of an instance the name is the identifier
 pub record IsSpelled (c : Collection) (j : ItemKind) (d : Collection) (n : Name) (k : ItemKind) : Type 0 where
   pub stands : Stands d k
   pub tree : tree_in d k ≡ tree_in c j
   pub identified : IsIdentified d k n
+  pub stated : stated_of d k ≡ renamed n (stated_of c j)
 
 -- the same, where that is asked for
 pub record IsSpelledIf (c : Collection) (j : ItemKind) (d : Collection) (n : Name) (asked : Bool) (k : ItemKind) : Type 0 where
   pub stands : Stands d k
   pub tree : tree_in d k ≡ tree_in c j
   pub identified : IsTrue asked → IsIdentified d k n
+  pub stated : stated_of d k ≡ spelled_if asked n (stated_of c j)
+
+-- of two stated types the narrower, of two that fit each other the first
+abbrev pub IsNarrowerOf : Stated → Stated → Stated → Type 0
+IsNarrowerOf a b t = (Fits (tree a) (tree b) × (t ≡ a)) ⊎ ((Fits (tree a) (tree b) → ⊥) × Fits (tree b) (tree a) × (t ≡ b))
+
+-- k is the narrower of two; where the name asked is on a track, an instance under this spelling as its identifier
+pub record KeepsNarrower (a b : Stated) (name spelling : Name) (k : Stated) : Type 0 where
+  pub narrower : Stated
+  pub is : IsNarrowerOf a b narrower
+  pub spelled : k ≡ spelled_if (is_some (lookup_key name)) spelling narrower

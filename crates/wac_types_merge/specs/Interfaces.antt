@@ -7,8 +7,9 @@ use Rattle.wac_types_base.specs.declared.ids.InterfaceId.{InterfaceId}
 use Rattle.wac_types_base.specs.Record.{Collection}
 use Rattle.wac_types_base.specs.Graph.{Among}
 use Rattle.wac_types_base.specs.Entries.{Name, value_at}
-use Rattle.wac_types_base.specs.Collection.{Stands}
-use Rattle.wac_types_base.specs.Stated.{stated_of, identifier_of}
+use Rattle.wac_types_base.specs.Collection.{Shape, interface, Stands}
+use Rattle.wac_types_base.specs.Graph.{node}
+use Rattle.wac_types_base.specs.Stated.{Stated, stated_of, identifier_of}
 use Rattle.wac_types_fit.specs.Trees.{tree_in, Fit, IsInside}
 use Rattle.wac_types_fit.specs.Meets.{IsMeet, IsPlain, Clash}
 
@@ -34,11 +35,21 @@ pub record IsAt (c : Collection) (i : InterfaceId) (x : Interface) : Type 0 wher
   pub at : slice_get c.interfaces i.index ≡ Some x
   pub own : i.collection ≡ c.number
 
--- j of d is i of c again, under another identifier: the same tree
+-- a label with another identifier, where it is that of an instance
+abbrev pub renamed_shape : Name → Shape → Shape
+renamed_shape n (interface i us es) = interface (Some n) us es
+renamed_shape n s = s
+
+-- the same stated type, an instance with this identifier
+abbrev pub renamed : Name → Stated → Stated
+renamed n (node s ts) = node (renamed_shape n s) ts
+
+-- j of d is i of c again, under another identifier: the same tree, uses, owners and order
 pub record IsRenamed (c : Collection) (i : InterfaceId) (d : Collection) (j : InterfaceId) (n : Name) : Type 0 where
   pub stands : Stands d (ItemKind.Instance j)
   pub tree : tree_in d (ItemKind.Instance j) ≡ tree_in c (ItemKind.Instance i)
   pub identifier : identifier_of (stated_of d (ItemKind.Instance j)) ≡ Some n
+  pub stated : stated_of d (ItemKind.Instance j) ≡ renamed n (stated_of c (ItemKind.Instance i))
 
 abbrev pub AllStand : Collection → List (Name × ItemKind) → Type 0
 AllStand c es = (n : Name) (k : ItemKind) → Among (n, k) es → Stands c k

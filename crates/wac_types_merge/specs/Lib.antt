@@ -2,6 +2,7 @@ pub mod Families
 pub mod Interfaces
 pub mod Errors
 pub mod Imports
+pub mod United
 pub mod Merging
 pub mod Lists
 pub mod Seen

@@ -5,7 +5,7 @@ use Rattle.wac_types_base.specs.declared.item.ItemKind.{ItemKind}
 use Rattle.wac_types_base.specs.Record.{Collection}
 use Rattle.wac_types_base.specs.Graph.{Among}
 use Rattle.wac_types_base.specs.Entries.{Name}
-use Rattle.wac_types_base.specs.Collection.{Stands}
+use Rattle.wac_types_base.specs.Collection.{Stands, empty}
 use Rattle.wac_types_names.specs.Tracks.{lookup_key, AreCompatible, IsLater}
 use Rattle.wac_types_fit.specs.Trees.{tree_in}
 use Rattle.wac_types_fit.specs.Meets.{IsMeet}
@@ -14,8 +14,8 @@ use Rattle.wac_types_merge.specs.declared.errors.AggregateError.{AggregateError}
 use Rattle.wac_types_merge.specs.declared.family.Family.{Family}
 use Rattle.wac_types_merge.specs.declared.family.Import.{Import}
 use Rattle.wac_types_merge.specs.Families.{IsPlainItem, IsWitItem}
-use Rattle.wac_types_merge.specs.Imports.{Imports, AreApart, IsIdentified}
-use Rattle.wac_types_merge.specs.Merging.{Ask, ask_for, tree_asked, IsRefused}
+use Rattle.wac_types_merge.specs.Imports.{Imports, AreApart, IsIdentified, imports_in}
+use Rattle.wac_types_merge.specs.Merging.{Ask, ask_for, tree_asked, IsAsked, IsRefused}
 
 abbrev pub AllPlain : List Ask → Type 0
 AllPlain on = (a : Ask) → Among a on → IsPlainItem a.types a.kind
@@ -46,6 +46,15 @@ pub record Merges (asks : List Ask) (g : Imports) : Type 0 where
   pub none_lost : (a : Ask) → Among a asks → (m : Import) × Among m g.kept × AreCompatible m.name a.name
   pub apart : AreApart g.kept
 
+-- an aggregator of this number with no imports
+abbrev pub none_yet : ℕ → Imports
+none_yet n = imports_in (empty n) []
+
+-- each of the asks is accepted by what those before it left
+pub data AreAsked (old : Imports) : List Ask → Imports → Type 0 where
+  none_asked : AreAsked old [] old
+  one_more_asked : (asks : List Ask) (a : Ask) (g h : Imports) → AreAsked old asks g → IsAsked g a h → AreAsked old (asks ++ a ∷ []) h
+
 -- an ask of a caller
 abbrev pub Lent : Type 0
 Lent = Bor Name × Bor Collection × ItemKind
@@ -59,12 +68,13 @@ asks_of xs = map ask_of xs
 abbrev pub AsksStand : List Ask → Type 0
 AsksStand asks = (a : Ask) → Among a asks → Stands a.types a.kind
 
--- an ask is refused, by what those before it merge to
-pub record IsListRefused (asks : List Ask) (e : AggregateError) : Type 0 where
+-- an ask is refused by what those before it left, which is what they merge to
+pub record IsListRefused (number : ℕ) (asks : List Ask) (e : AggregateError) : Type 0 where
   pub before : List Ask
   pub ask : Ask
   pub rest : List Ask
   pub is : asks ≡ before ++ ask ∷ rest
   pub so_far : Imports
+  pub asked : AreAsked (none_yet number) before so_far
   pub merged : Merges before so_far
   pub refused : IsRefused so_far ask e

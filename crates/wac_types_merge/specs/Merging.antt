@@ -1,10 +1,11 @@
 -- What one ask does to an aggregator, and when it is refused.
-use Rattle.std.specs.Prelude.{◌≡◌, ◌≢◌, ◌⊎◌, ℕ, List, [], ◌∷◌, ◌++◌, Option, Some, None, IsSome, slice_get, slice_set}
+use Rattle.std.specs.Prelude.{◌≡◌, ◌≢◌, ◌⊎◌, ℕ, List, [], ◌∷◌, ◌++◌, Some, IsSome, slice_get, slice_set}
 use Rattle.wac_types_base.specs.declared.item.ItemKind.{ItemKind}
 use Rattle.wac_types_base.specs.Record.{Collection}
 use Rattle.wac_types_base.specs.Graph.{Among}
 use Rattle.wac_types_base.specs.Entries.{Name}
 use Rattle.wac_types_base.specs.Collection.{Grows}
+use Rattle.wac_types_base.specs.Stated.{stated_of}
 use Rattle.wac_types_base.specs.Copying.{IsCopy}
 use Rattle.wac_types_base.specs.Tree.{Tree}
 use Rattle.wac_types_base.specs.Fits.{Fits}
@@ -16,7 +17,8 @@ use Rattle.wac_types_merge.specs.declared.family.Family.{Family}
 use Rattle.wac_types_merge.specs.declared.family.Import.{Import}
 use Rattle.wac_types_merge.specs.Families.{IsFamily, UsesUnnamed, joint}
 use Rattle.wac_types_merge.specs.Errors.{Refuses}
-use Rattle.wac_types_merge.specs.Imports.{Imports, IsGreater, IsIdentified}
+use Rattle.wac_types_merge.specs.United.{KeepsUnited}
+use Rattle.wac_types_merge.specs.Imports.{Imports, IsGreater, IsIdentified, KeepsNarrower}
 
 -- an ask: a name, and an item of a collection
 pub record Ask : Type 0 where
@@ -60,8 +62,10 @@ pub record AskedAgain (old new : Imports) (a : Ask) : Type 0 where
   pub has : HasFamily a own_family
   pub family : after.family ≡ joint before.family own_family
   pub meet : IsMeet (tree_in new.types after.kind) (tree_in old.types before.kind ∷ tree_asked a ∷ [])
-  -- in no one family, one of the two fits the other
-  pub narrower : after.family ≡ Family.Neither → Fits (tree_in old.types before.kind) (tree_asked a) ⊎ Fits (tree_asked a) (tree_in old.types before.kind)
+  -- in one family, what merging makes of the two
+  pub united : (after.family ≡ Family.Neither → ⊥) → KeepsUnited (stated_of old.types before.kind) (stated_of a.types a.kind) a.name after.name (stated_of new.types after.kind)
+  -- in no one family, the narrower of the two
+  pub narrower : after.family ≡ Family.Neither → KeepsNarrower (stated_of old.types before.kind) (stated_of a.types a.kind) a.name after.name (stated_of new.types after.kind)
   pub identified : IsSome (lookup_key a.name) → IsIdentified new.types after.kind after.name
 
 -- what an accepted ask does; the other imports keep their trees

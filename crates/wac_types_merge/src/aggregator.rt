@@ -6,7 +6,7 @@ ghost use Rattle.std.specs.Iterator.Adapters.{IterYieldsInOrder};
 ghost use Rattle.wac_types_base.specs.Collection.{Stands, empty};
 ghost use Rattle.wac_types_merge.specs.Imports.{AreSound, IsCanonical, import_of, imports_in};
 ghost use Rattle.wac_types_merge.specs.Merging.{ask_for, IsAsked, IsRefused};
-ghost use Rattle.wac_types_merge.specs.Lists.{Merges, asks_of, AsksStand, IsListRefused};
+ghost use Rattle.wac_types_merge.specs.Lists.{Merges, AreAsked, none_yet, asks_of, AsksStand, IsListRefused};
 
 use crate::errors::AggregateError;
 use crate::family::{Family, Import, family_of, uses_unnamed};
@@ -89,6 +89,8 @@ impl TypeAggregator {
     ) -> Result<Self, AggregateError>
         requires { Stands types.now kind }
         ensures asked { IfOk result (IsAsked self (ask_for name.now types.now kind)) }
+        ensures sound { AreSound self }
+        ensures sound_after { IfOk result AreSound }
         ensures refused { IfErr result (IsRefused self (ask_for name.now types.now kind)) }
         ensures cache { checker.new.cache.now ≡ checker.old.cache.now }
         ensures directions { checker.new.directions ≡ checker.old.directions }
@@ -195,9 +197,10 @@ pub fn aggregate_all(
     asks: &[(&str, &Types, ItemKind)],
 ) -> Result<TypeAggregator, AggregateError>
     requires { AsksStand (asks_of asks.now) }
+    ensures asked { IfOk result (AreAsked (none_yet number) (asks_of asks.now)) }
     ensures merged { IfOk result (Merges (asks_of asks.now)) }
     ensures number { IfOk result (λ g. g.types.number ≡ number) }
-    ensures refused { IfErr result (IsListRefused (asks_of asks.now)) }
+    ensures refused { IfErr result (IsListRefused number (asks_of asks.now)) }
 {
     let mut all = TypeAggregator::new(alloc, number);
     for index in 0..asks.len() {

@@ -7,6 +7,8 @@ ghost use Rattle.wac_types_base.specs.Collection.{Stands, Grows};
 ghost use Rattle.wac_types_fit.specs.Trees.{IsInside};
 ghost use Rattle.wac_types_fit.specs.Checking.{AreInside};
 ghost use Rattle.wac_types_merge.specs.Errors.{IfClash};
+ghost use Rattle.wac_types_base.specs.declared.defined.Interface.{Interface as InterfaceData};
+ghost use Rattle.wac_types_merge.specs.United.{UnitesIn, OtherUnites, ItemsUnite, InterfacesUnite};
 ghost use Rattle.wac_types_merge.specs.Interfaces.{IsAt, MeetIn, ClashIn, ClashUnlessFit, JoinedIn, OtherClash, SlotInside, AreJoined, ItemsClash};
 
 use crate::exports::{add_joined, copy_interface};
@@ -21,6 +23,7 @@ fn unmerged(alloc: Global, own: &Types, a: ItemKind, b: ItemKind) -> Result<Item
     requires kept { Stands own.now a }
     requires asked { Stands own.now b }
     requires apart { ClashUnlessFit own.now a b }
+    ensures first { IfOk result (λ k. k ≡ a) }
     ensures met { IfOk result (MeetIn own.now a b own.now) }
     ensures clash { IfClash result (ClashIn own.now a b) }
 {
@@ -41,6 +44,7 @@ pub(crate) fn merge(
     requires kept { Stands own.old a }
     requires asked { Stands own.old b }
     ensures met { IfOk result (MeetIn own.old a b own.new) }
+    ensures united { IfOk result (UnitesIn own.old a b own.new) }
     ensures clash { IfClash result (ClashIn own.old a b) }
     ensures grows { Grows own.old own.new }
 {
@@ -67,6 +71,7 @@ fn merge_types(alloc: Global, own: &mut Types, a: Type, b: Type) -> Result<ItemK
     requires kept { Stands own.old (ItemKind.Ty a) }
     requires asked { Stands own.old (ItemKind.Ty b) }
     ensures met { IfOk result (MeetIn own.old (ItemKind.Ty a) (ItemKind.Ty b) own.new) }
+    ensures united { IfOk result (UnitesIn own.old (ItemKind.Ty a) (ItemKind.Ty b) own.new) }
     ensures clash { IfClash result (ClashIn own.old (ItemKind.Ty a) (ItemKind.Ty b)) }
     ensures grows { Grows own.old own.new }
 {
@@ -94,6 +99,7 @@ fn merge_instances(
     requires kept { Stands own.old (ItemKind.Instance a) }
     requires asked { Stands own.old (ItemKind.Instance b) }
     ensures met { IfOk result (λ i. MeetIn own.old (ItemKind.Instance a) (ItemKind.Instance b) own.new (ItemKind.Instance i)) }
+    ensures united { IfOk result (λ i. (x y : InterfaceData) → IsAt own.old a x → IsAt own.old b y → InterfacesUnite own.old x y own.new i) }
     ensures clash { IfClash result (ClashIn own.old (ItemKind.Instance a) (ItemKind.Instance b)) }
     ensures grows { Grows own.old own.new }
 {
@@ -120,6 +126,7 @@ fn merge_copies(
     requires kept { IsAt own.old a first.now }
     requires asked { IsAt own.old b second.now }
     ensures met { IfOk result (λ i. MeetIn own.old (ItemKind.Instance a) (ItemKind.Instance b) own.new (ItemKind.Instance i)) }
+    ensures united { IfOk result (InterfacesUnite own.old first.now second.now own.new) }
     ensures clash { IfClash result (ClashIn own.old (ItemKind.Instance a) (ItemKind.Instance b)) }
     ensures grows { Grows own.old own.new }
 {
@@ -169,6 +176,7 @@ fn merge_items(
     requires kept { AreInside own.old a kept.now }
     requires asked { AreInside own.old b asked.now }
     ensures joined { IfOk result (AreJoined own.old asked.now own.new kept.now) }
+    ensures united { IfOk result (ItemsUnite own.old asked.now own.new kept.now) }
     ensures clash { IfClash result (ItemsClash own.old kept.now asked.now) }
     ensures grows { Grows own.old own.new }
 {
@@ -202,6 +210,7 @@ fn merge_item(
     requires kept { IsInside own.old kind a }
     requires asked { SlotInside own.old other b }
     ensures joined { IfOk result (JoinedIn own.old kind other own.new) }
+    ensures united { IfOk result (OtherUnites own.old kind other own.new) }
     ensures clash { IfClash result (OtherClash own.old kind other) }
     ensures grows { Grows own.old own.new }
 {

@@ -209,10 +209,12 @@ pub(crate) fn rename_interface(
 {
     own.see_acyclic();
     let interface = own.interface(id);
-    let interface = Interface {
-        id: Some(Text::new(String::from_str(alloc, name)?)),
-        uses: copy_uses(alloc, &interface.uses)?,
-        exports: copy_exports(alloc, &interface.exports)?,
-    };
-    own.add_interface(interface)
+    let name = Text::new(String::from_str(alloc, name)?);
+    let uses = copy_uses(alloc, &interface.uses)?;
+    let exports = copy_exports(alloc, &interface.exports)?;
+    own.add_interface(Interface {
+        id: Some(name),
+        uses,
+        exports,
+    })
 }

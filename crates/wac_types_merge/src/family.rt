@@ -1,16 +1,16 @@
 //! The families of asks of which the greatest common tree is kept.
 
-ghost use Rattle.std.specs.Prelude.{◌≡◌, ◌↔◌, IsTrue, Some};
+ghost use Rattle.std.specs.Prelude.{◌≡◌, ◌↔◌, IsTrue, Some, slice_get};
 ghost use Rattle.wac_types_base.specs.declared.item.ItemKind.{ItemKind};
 ghost use Rattle.wac_types_base.specs.declared.defined.UsedType.{UsedType};
 ghost use Rattle.wac_types_base.specs.Graph.{Among};
 ghost use Rattle.wac_types_base.specs.Collection.{Stands, item_node};
 ghost use Rattle.wac_types_base.specs.Reaching.{Reaches};
-ghost use Rattle.wac_types_merge.specs.Families.{UsesUnnamed, IsUnnamedIn, HasMore, owner_in, value_owner, type_owner, owner, IsUnplainType, IsUnplain, IsUsedBy, IsWitExport, IsForeign, AreWitExports, IsWitItem, IsFamily, joint};
+ghost use Rattle.wac_types_merge.specs.Families.{UsesUnnamed, IsUnnamedIn, uses_of, uses_of_world, uses_at_type, HasMore, owner_in, value_owner, type_owner, owner, IsUnplainType, IsUnplain, IsUsedBy, IsWitExport, IsForeign, AreWitExports, IsWitItem, IsFamily, joint};
 
 use wac_types_base::replace::is_same;
 use wac_types_base::{
-    Interface, InterfaceId, ItemKind, Resource, Text, Type, Types, UsedType, ValueType,
+    Interface, InterfaceId, ItemKind, Resource, Text, Type, Types, UsedType, ValueType, WorldId,
 };
 
 /// The family in which all asks on a track lie.
@@ -64,13 +64,43 @@ fn has_unnamed(types: &Types, uses: &[UsedType]) -> bool
     false
 }
 
-/// Whether an instance uses an interface without identifier.
+/// Whether an interface uses one without identifier.
+fn interface_uses_unnamed(types: &Types, id: InterfaceId) -> bool
+    requires { Stands types.now (ItemKind.Instance id) }
+    ensures { IsTrue result ↔ IsUnnamedIn types.now (uses_of (slice_get types.now.interfaces id.index)) }
+{
+    has_unnamed(types, types.interface(id).uses.values())
+}
+
+/// Whether a world uses an interface without identifier.
+fn world_uses_unnamed(types: &Types, id: WorldId) -> bool
+    requires { Stands types.now (ItemKind.Component id) }
+    ensures { IsTrue result ↔ IsUnnamedIn types.now (uses_of_world (slice_get types.now.worlds id.index)) }
+{
+    has_unnamed(types, types.world(id).uses.values())
+}
+
+/// Whether an interface or a world, as a type, uses an interface without identifier.
+fn type_uses_unnamed(types: &Types, ty: Type) -> bool
+    requires { Stands types.now (ItemKind.Ty ty) }
+    ensures { IsTrue result ↔ IsUnnamedIn types.now (uses_at_type types.now ty) }
+{
+    match ty {
+        Type::Interface(id) => interface_uses_unnamed(types, id),
+        Type::World(id) => world_uses_unnamed(types, id),
+        _ => false,
+    }
+}
+
+/// Whether an instance or a component, or the type of one, uses an interface without identifier.
 pub(crate) fn uses_unnamed(types: &Types, kind: ItemKind) -> bool
     requires { Stands types.now kind }
     ensures { IsTrue result ↔ UsesUnnamed types.now kind }
 {
     match kind {
-        ItemKind::Instance(id) => has_unnamed(types, types.interface(id).uses.values()),
+        ItemKind::Instance(id) => interface_uses_unnamed(types, id),
+        ItemKind::Component(id) => world_uses_unnamed(types, id),
+        ItemKind::Ty(ty) => type_uses_unnamed(types, ty),
         _ => false,
     }
 }

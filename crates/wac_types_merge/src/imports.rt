@@ -1,6 +1,6 @@
 //! The imports of an aggregator, each on a track of its own.
 
-ghost use Rattle.std.specs.Prelude.{◌≡◌, ◌↔◌, ◌++◌, ◌∷◌, [], IsTrue, IsSome, IfOk, IfErr, OnOk, Some, slice_get, option_map};
+ghost use Rattle.std.specs.Prelude.{◌≡◌, ◌↔◌, ◌++◌, ◌∷◌, [], IsTrue, is_some, IfOk, IfErr, OnOk, Some, slice_get, option_map};
 ghost use Rattle.semver.specs.Identifiers.{parts_of};
 ghost use Rattle.wac_types_base.specs.declared.item.ItemKind.{ItemKind};
 ghost use Rattle.wac_types_base.specs.Collection.{Stands, Grows};
@@ -9,7 +9,8 @@ ghost use Rattle.wac_types_names.specs.Versions.{version_cmp};
 ghost use Rattle.wac_types_merge.specs.Errors.{Refuses};
 ghost use Rattle.wac_types_merge.specs.Families.{joint};
 ghost use Rattle.wac_types_merge.specs.Interfaces.{MeetIn};
-ghost use Rattle.wac_types_merge.specs.Imports.{IsPlace, IsGreater, IsSpelled, IsSpelledIf, OneFits};
+ghost use Rattle.wac_types_merge.specs.United.{UnitesIn};
+ghost use Rattle.wac_types_merge.specs.Imports.{IsPlace, IsGreater, IsSpelled, IsSpelledIf, IsNarrower};
 ghost use Rattle.wac_types_merge.specs.Steps.{HasClash, LieOutside, IsMerged, IsSpelledImport};
 
 use crate::cycle::merge;
@@ -75,7 +76,7 @@ fn greater<'a>(alloc: Global, kept: &'a str, name: &'a str) -> Result<&'a str, A
 
 /// Whether a name is on a track.
 fn is_on_track(alloc: Global, name: &str) -> Result<bool, AllocError>
-    ensures { IfOk result (λ r. IsTrue r ↔ IsSome (lookup_key name.now)) }
+    ensures { IfOk result (λ r. r ≡ is_some (lookup_key name.now)) }
 {
     let key = alternate_lookup_key(alloc, name)?;
     Ok(key.is_some())
@@ -113,7 +114,8 @@ pub fn kept_of(
     requires kept { Stands own.old kept }
     requires asked { Stands own.old asked }
     ensures kept { IfOk result (MeetIn own.old kept asked own.new) }
-    ensures narrower { OnOk result (family ≡ Family.Neither → OneFits own.old kept asked) }
+    ensures united { IfOk result (λ k. (family ≡ Family.Neither → ⊥) → UnitesIn own.old kept asked own.new k) }
+    ensures narrower { IfOk result (λ k. family ≡ Family.Neither → IsNarrower own.old kept asked k) }
     ensures refused { IfErr result (λ e. Refuses e (HasClash own.old family kept asked) (LieOutside own.old family kept asked) ⊥) }
     ensures grows { Grows own.old own.new }
 {

@@ -7,9 +7,11 @@ pub mod errors;
 mod exports;
 pub mod family;
 mod imports;
+pub mod laws;
 mod narrower;
 
 pub use aggregator::{TypeAggregator, aggregate_all};
 pub use errors::AggregateError;
 pub use family::{Family, Import, family_of, joint_family};
 pub use imports::{kept_of, spelled};
+pub use laws::asks_merge_in_turn;

@@ -198,6 +198,21 @@ fn copies_keep_the_tree(rt: HostRuntime) -> Result<(), Fail> {
     Ok(())
 }
 
+#[test]
+fn a_collection_copied_as_another_keeps_its_indexes(rt: HostRuntime) -> Result<(), Fail> {
+    let alloc = rt.alloc();
+    let mut types = Types::new(alloc, 1);
+    let (w, _) = world_of_one(&rt, alloc, &mut types)?;
+    let other = types.copy_as(alloc, 2)?;
+    let copy = w.under(2);
+    assert_eq!(rt; other.number(), 2);
+    assert_eq!(rt; copy.index, w.index);
+    assert!(rt; !other.has(ItemKind::Component(w)));
+    assert!(rt; other.has(ItemKind::Component(copy)));
+    assert!(rt; exports_one(&other, other.world(copy)));
+    Ok(())
+}
+
 /// A world that uses a type of an interface under this identifier.
 fn world_of_a_use(
     rt: &impl Abort,

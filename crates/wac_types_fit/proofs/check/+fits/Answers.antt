@@ -1,8 +1,7 @@
-use Rattle.std.proofs.Common.{refl, sym, ap, subst, ◌∙◌, arith}
+use Rattle.std.proofs.Common.{[], Some, None, refl, sym, ap, subst, ◌∙◌, inl, inr, arith}
 use Rattle.wac_types_base.specs.declared.item.ItemKind.{ItemKind}
 use Rattle.wac_types_base.specs.Collection.{Stands}
 use Rattle.wac_types_base.specs.Fits.{Fits}
-use Rattle.wac_types_fit.specs.Errors.{steps_of}
 use Rattle.wac_types_fit.specs.Frames.{Disagree}
 use Rattle.wac_types_fit.specs.Trees.{tree_in}
 use Rattle.wac_types_fit.specs.Checking.{module_tree}
@@ -11,6 +10,9 @@ use Rattle.wac_types_fit.proofs.ItemKinds.{other_type, other_func, other_instanc
 use Rattle.wac_types_fit.proofs.Items.{exports_inside, world_imports_inside, world_exports_inside, found_inside, instance_gives, instance_misses, component_gives, exports_miss, imports_miss, among-value_at, gives_more}
 use Rattle.wac_types_fit.proofs.Numbered.{remember_true, only_trans, only_more, true_turned, apart_turned}
 use Rattle.wac_types_fit.proofs.Checks.{on_ok, missing_here, differs_here, types_tested, types_fit_as, types_disagree_as, with_trees, func_type_is, func_type_stands, value_type_is, value_type_stands, interface_type_is, interface_type_stands, interface_type_size, world_type_is, world_type_stands, world_type_size, module_type_is, module_type_stands}
+use Rattle.wac_types_fit.proofs.Worded.{called_as, called_turned, missing_called, item_called_in, named_called, instance_called, interface_called, component_called, world_called, module_called, module_type_called}
+use Rattle.wac_types_fit.specs.Errors.{steps_of, words_of}
+use Rattle.wac_types_fit.specs.Words.{in_turn, Called, ItemsCalled, NamedCalled, InstanceCalled, WorldCalled, CoreCalled}
 use Rattle.wac_types_fit.proofs.check.+fits.Goals as goal
 use Rattle.wac_types_base.proofs.Looked.{among-get}
 
@@ -55,12 +57,12 @@ item_fits-fits-requires t c =
 
 pub item_fits-returns-in-None-clause-no : goal.item_fits-returns-in-None-clause-no
 item_fits-returns-in-None-clause-no t c ss e =
-    let w = c.within.ensures ss e in
-    missing_here c.args.side c.args.at.now c.args.given.now c.args.bt.now c.args.name.now c.args.kind (steps_of c.mismatch-fault.result) ss w.0 (sym c.in-None.ensures) c.mismatch-fault.ensures w.1 w.2
+    let w = c.within.ensures.steps ss e in
+    missing_here c.args.side c.args.at.now c.args.given.now c.args.bt.now c.args.name.now c.args.kind (steps_of c.mismatch-fault.result) ss w.0 (sym c.in-None.ensures) c.mismatch-fault.ensures.steps w.1 w.2
 
 pub item_fits-returns-in-Err-clause-no : goal.item_fits-returns-in-Err-clause-no
 item_fits-returns-in-Err-clause-no t c ss e =
-    let w = c.within-in-Err.ensures ss e in
+    let w = c.within-in-Err.ensures.steps ss e in
     differs_here c.args.side c.args.at.now c.args.given.now c.args.bt.now c.args.name.now c.args.kind c.in-Some.found.now ss w.0 (sym c.in-Some.ensures) (c.in-Err.ensures.no w.0 w.1) w.2
 
 pub items_fit-item_fits-requires : goal.items_fit-item_fits-requires
@@ -273,3 +275,72 @@ worlds_fit-returns-in-Ok-clause-yes t c = on_ok c.items_fit-in-Ok.result _ _ c.i
 
 pub worlds_fit-returns-in-Ok-clause-no : goal.worlds_fit-returns-in-Ok-clause-no
 worlds_fit-returns-in-Ok-clause-no t c ss e = exports_miss c.args.at.now c.args.bt.now c.world-given.ensures.acyclic c.world-asked.ensures.acyclic c.args.a c.args.b c.world-given.result.now c.world-asked.result.now c.world-given.ensures.entry c.world-given.ensures.own c.world-asked.ensures.entry c.world-asked.ensures.own ss (c.items_fit-in-Ok.ensures.no ss e)
+
+-- ---- how the two items are called
+
+pub item_fits-returns-in-None-clause-words : goal.item_fits-returns-in-None-clause-words
+item_fits-returns-in-None-clause-words t c ss e f said =
+    let w = c.within.ensures.words ss e f said in
+    missing_called c.args.turned c.args.side c.args.at.now c.args.given.now c.args.bt.now c.args.name.now c.args.kind (words_of c.mismatch-fault.result) ss w.0 e f (sym c.in-None.ensures)
+    (c.mismatch-fault.ensures.words ∙ ap (λ d. Some ([], in_turn c.args.turned (Some d) None)) c.desc.ensures) w.1 w.2
+
+pub item_fits-returns-in-Err-clause-words : goal.item_fits-returns-in-Err-clause-words
+item_fits-returns-in-Err-clause-words t c ss e f said =
+    let w = c.within-in-Err.ensures.words ss e f said in
+    item_called_in c.args.turned c.args.side c.args.at.now c.args.given.now c.args.bt.now c.args.name.now c.args.kind c.in-Some.found.now ss w.0 e f (sym c.in-Some.ensures) (c.in-Err.ensures.words w.0 e f w.1) w.2
+
+pub items_fit-returns-in-Err-clause-words : goal.items_fit-returns-in-Err-clause-words
+items_fit-returns-in-Err-clause-words t c ss e f said =
+    let n = c.entry.result.0.now in
+    let k = c.entry.result.1.now in
+    let at = among-value_at c.args.asked.now n k c.len-index-end.ensures.distinct (among-get c.args.asked.now c.loop-index.index (n, k) c.entry.ensures) in
+    called_as c.args.turned (ItemsCalled c.args.at.now c.args.side c.args.given.now ss) (ItemsCalled c.args.at.now c.args.side c.args.given.now ss) (NamedCalled c.args.bt.now c.args.side n k ss) (ItemsCalled c.args.bt.now c.args.side c.args.asked.now ss) e f
+    (λ w x. x) (λ w x. named_called c.args.bt.now c.args.side c.args.asked.now n k ss w at x) (c.in-Err.ensures.words ss e f said)
+
+pub instances_fit-returns-clause-words : goal.instances_fit-returns-clause-words
+instances_fit-returns-clause-words t c ss e f said =
+    called_as c.args.turned _ (InstanceCalled c.args.at.now c.args.a ss) _ (InstanceCalled c.args.bt.now c.args.b ss) e f
+    (λ w x. (c.interface-given.result.now, c.interface-given.ensures.entry, x)) (λ w x. (c.interface-asked.result.now, c.interface-asked.ensures.entry, x)) (c.items_fit.ensures.words ss e f said)
+
+pub worlds_fit-returns-in-Err-clause-words : goal.worlds_fit-returns-in-Err-clause-words
+worlds_fit-returns-in-Err-clause-words t c ss e f said =
+    called_as c.args.turned _ (WorldCalled c.args.at.now c.args.a ss) _ (WorldCalled c.args.bt.now c.args.b ss) e f
+    (λ w x. (c.world-given.result.now, c.world-given.ensures.entry, inl x)) (λ w x. (c.world-asked.result.now, c.world-asked.ensures.entry, inl x))
+    (called_turned c.args.turned _ _ e f (c.in-Err.ensures.words ss e f said))
+
+pub worlds_fit-returns-in-Ok-clause-words : goal.worlds_fit-returns-in-Ok-clause-words
+worlds_fit-returns-in-Ok-clause-words t c ss e f said =
+    called_as c.args.turned _ (WorldCalled c.args.at.now c.args.a ss) _ (WorldCalled c.args.bt.now c.args.b ss) e f
+    (λ w x. (c.world-given.result.now, c.world-given.ensures.entry, inr x)) (λ w x. (c.world-asked.result.now, c.world-asked.ensures.entry, inr x)) (c.items_fit-in-Ok.ensures.words ss e f said)
+
+pub types_fit-returns-in-Interface-b-clause-words : goal.types_fit-returns-in-Interface-b-clause-words
+types_fit-returns-in-Interface-b-clause-words t c ss e f said =
+    called_as c.args.turned (InstanceCalled c.args.at.now c.in-Interface.i ss) (Called c.args.at.now (ItemKind.Ty c.args.a) ss) (InstanceCalled c.args.bt.now c.in-Interface-b.j ss) (Called c.args.bt.now (ItemKind.Ty c.args.b) ss) e f
+    (λ w x. interface_called c.args.at.now ss w c.args.a c.in-Interface.i c.in-Interface.is x) (λ w x. interface_called c.args.bt.now ss w c.args.b c.in-Interface-b.j c.in-Interface-b.is x) (c.instances_fit.ensures.words ss e f said)
+
+pub types_fit-returns-in-World-b-clause-words : goal.types_fit-returns-in-World-b-clause-words
+types_fit-returns-in-World-b-clause-words t c ss e f said =
+    called_as c.args.turned (WorldCalled c.args.at.now c.in-World.i ss) (Called c.args.at.now (ItemKind.Ty c.args.a) ss) (WorldCalled c.args.bt.now c.in-World-b.j ss) (Called c.args.bt.now (ItemKind.Ty c.args.b) ss) e f
+    (λ w x. world_called c.args.at.now ss w c.args.a c.in-World.i c.in-World.is x) (λ w x. world_called c.args.bt.now ss w c.args.b c.in-World-b.j c.in-World-b.is x) (c.worlds_fit.ensures.words ss e f said)
+
+pub types_fit-returns-in-Module-b-clause-words : goal.types_fit-returns-in-Module-b-clause-words
+types_fit-returns-in-Module-b-clause-words t c ss e f said =
+    called_as c.args.turned (CoreCalled c.module_type.result.now ss) (Called c.args.at.now (ItemKind.Ty c.args.a) ss) (CoreCalled c.module_type-in-Module-b.result.now ss) (Called c.args.bt.now (ItemKind.Ty c.args.b) ss) e f
+    (λ w x. module_type_called c.args.at.now ss w c.args.a c.in-Module.i c.module_type.result.now c.in-Module.is c.module_type.ensures.entry x)
+    (λ w x. module_type_called c.args.bt.now ss w c.args.b c.in-Module-b.j c.module_type-in-Module-b.result.now c.in-Module-b.is c.module_type-in-Module-b.ensures.entry x) (c.modules_fit.ensures.words ss e f said)
+
+pub unfolded-returns-in-Instance-b-clause-words : goal.unfolded-returns-in-Instance-b-clause-words
+unfolded-returns-in-Instance-b-clause-words t c ss e f said =
+    called_as c.args.turned (InstanceCalled c.args.at.now c.in-Instance.i ss) (Called c.args.at.now c.args.a ss) (InstanceCalled c.args.bt.now c.in-Instance-b.j ss) (Called c.args.bt.now c.args.b ss) e f
+    (λ w x. instance_called c.args.at.now ss w c.args.a c.in-Instance.i c.in-Instance.is x) (λ w x. instance_called c.args.bt.now ss w c.args.b c.in-Instance-b.j c.in-Instance-b.is x) (c.instances_fit.ensures.words ss e f said)
+
+pub unfolded-returns-in-Component-b-clause-words : goal.unfolded-returns-in-Component-b-clause-words
+unfolded-returns-in-Component-b-clause-words t c ss e f said =
+    called_as c.args.turned (WorldCalled c.args.at.now c.in-Component.i ss) (Called c.args.at.now c.args.a ss) (WorldCalled c.args.bt.now c.in-Component-b.j ss) (Called c.args.bt.now c.args.b ss) e f
+    (λ w x. component_called c.args.at.now ss w c.args.a c.in-Component.i c.in-Component.is x) (λ w x. component_called c.args.bt.now ss w c.args.b c.in-Component-b.j c.in-Component-b.is x) (c.worlds_fit.ensures.words ss e f said)
+
+pub unfolded-returns-in-Module-b-clause-words : goal.unfolded-returns-in-Module-b-clause-words
+unfolded-returns-in-Module-b-clause-words t c ss e f said =
+    called_as c.args.turned (CoreCalled c.module_type.result.now ss) (Called c.args.at.now c.args.a ss) (CoreCalled c.module_type-in-Module-b.result.now ss) (Called c.args.bt.now c.args.b ss) e f
+    (λ w x. module_called c.args.at.now ss w c.args.a c.in-Module.i c.module_type.result.now c.in-Module.is c.module_type.ensures.entry x)
+    (λ w x. module_called c.args.bt.now ss w c.args.b c.in-Module-b.j c.module_type-in-Module-b.result.now c.in-Module-b.is c.module_type-in-Module-b.ensures.entry x) (c.modules_fit.ensures.words ss e f said)

@@ -1,4 +1,4 @@
-use Rattle.std.proofs.Common.{Some, refl, sym, ap, subst, ◌∙◌}
+use Rattle.std.proofs.Common.{Some, refl, ap, subst, ◌∙◌}
 use Rattle.wac_types_base.specs.Collection.{Stands}
 use Rattle.wac_types_names.specs.Tracks.{AreCompatible}
 use Rattle.wac_types_merge.specs.declared.family.Import.{Import}

@@ -1,4 +1,4 @@
-use Rattle.std.proofs.Common.{Some, [], refl, sym, ap, subst, ◌∙◌, arith}
+use Rattle.std.proofs.Common.{Some, [], take, refl, sym, ap, subst, ◌∙◌, arith}
 use Rattle.wac_types_base.specs.declared.item.«Type».{«Type» as TypeKind}
 use Rattle.wac_types_base.specs.declared.item.ItemKind.{ItemKind}
 use Rattle.wac_types_base.specs.Collection.{Stands}
@@ -10,6 +10,9 @@ use Rattle.wac_types_fit.proofs.Items.{exports_inside, among-value_at}
 use Rattle.wac_types_merge.proofs.Grown.{inside_kept, size_kept}
 use Rattle.wac_types_merge.proofs.Joining.{names_joined, joined_stand, joined_before, joined_more, joined_new, found_inside_slot, slot_inside_kept, slot_stands}
 use Rattle.wac_types_merge.proofs.Placed.{at_stands, typed_meet, instances_meet, uses_stand, exports_stand, uses_kept, exports_kept}
+use Rattle.wac_types_merge.specs.United.{OtherUnites, ItemsUnite, none_united}
+use Rattle.wac_types_merge.proofs.Uniting.{other_before, united_more, united_kept, both_instances, both_types, first_other, instance_other, type_other_than, typed_and_other, first_unites, same_type, no_instance}
+use Rattle.wac_types_merge.proofs.Keeping.{if_ok}
 use Rattle.wac_types_merge.proofs.cycle.+merging.Goals as goal
 use Rattle.wac_types_base.proofs.Looked.{among-get}
 
@@ -104,7 +107,7 @@ merge_copies-returns-in-Err-clause-clash t c ss e =
 
 pub merge_item-returns-in-Err-clause-clash : goal.merge_item-returns-in-Err-clause-clash
 merge_item-returns-in-Err-clause-clash t c ss e =
-    let w = c.within.ensures ss e in
+    let w = c.within.ensures.steps ss e in
     subst (OtherClash c.args.own.now c.args.kind) (sym c.in-Some.is) (c.in-Err.ensures.clash w.0 w.1)
 
 pub merge_item-returns-in-Ok-clause-joined : goal.merge_item-returns-in-Ok-clause-joined
@@ -132,6 +135,7 @@ merge_copies-returns-in-Ok-add_joined-clause-met t c =
 pub merge_items-loop-index-init : goal.merge_items-loop-index-init
 merge_items-loop-index-init t c = record {
   joined = subst (AreJoined c.args.own.now c.args.asked.now c.args.own.now []) (sym c.new-both.ensures) tt;
+  united = subst (ItemsUnite c.args.own.now c.args.asked.now c.args.own.now []) (sym c.new-both.ensures) none_united;
   grows = Grows-refl c.args.own.now c.see_acyclic.ensures;
 }
 
@@ -172,6 +176,9 @@ merge_items-loop-index-preserved t c =
     record {
       joined = joined_more own c.args.asked.now d e c.args.kept.now c.loop-index.both c.push_item.new.items c.loop-index.index n k c.in-Ok.item c.entry.ensures c.merge_item.ensures.grows c.loop-index.invariant.joined
           (subst (λ p. JoinedIn own k p e c.in-Ok.item) is item) c.in-Ok-push_item.ensures.ok;
+      united = united_more own c.args.asked.now d e c.args.kept.now c.loop-index.both c.push_item.new.items c.loop-index.index n k c.in-Ok.item c.entry.ensures c.merge_item.ensures.grows
+          (joined_stand own c.args.asked.now d (take c.loop-index.index c.args.kept.now) c.loop-index.both c.loop-index.invariant.joined) c.loop-index.invariant.united
+          (subst (λ p. OtherUnites own k p e c.in-Ok.item) is (other_before own d k o e c.in-Ok.item g inside.0 other c.in-Ok.ensures.united)) c.in-Ok-push_item.ensures.ok;
       grows = Grows-trans own d e g c.merge_item.ensures.grows;
     }
 
@@ -196,3 +203,46 @@ merge_item-merge-requires t c =
     let less = r.0.1 in
     let more = other.1 in
     (omega (arith, c.requires.1.0, less, more), (r.0.0, other.0))
+
+-- ---- the stated type of what is made
+
+pub merge-returns-in-Ok-clause-united : goal.merge-returns-in-Ok-clause-united
+merge-returns-in-Ok-clause-united t c =
+    both_instances c.args.own.now c.merge_instances.new.own c.see_acyclic.ensures c.in-Ok.ensures.grows.acyclic c.in-Ok.ensures.grows c.args.a c.args.b c.in-Instance.i c.in-Instance-b.j c.in-Ok.id c.in-Instance.is c.in-Instance-b.is c.requires.kept c.requires.asked c.in-Ok.ensures.united
+
+pub merge-returns-in_default-b-clause-united : goal.merge-returns-in_default-b-clause-united
+merge-returns-in_default-b-clause-united t c =
+    if_ok c.unmerged.result _ _ c.unmerged.ensures.first (λ k e. first_unites c.args.own.now c.see_acyclic.ensures c.args.a c.args.b k
+    (instance_other c.args.own.now c.see_acyclic.ensures c.args.a c.args.b c.in-Instance.i c.in-Instance.is c.requires.kept c.requires.asked c.in_default-b.not-Instance) (e ∙ sym c.in-Instance.is))
+
+pub merge-returns-in_default-b-2-clause-united : goal.merge-returns-in_default-b-2-clause-united
+merge-returns-in_default-b-2-clause-united t c =
+    if_ok c.unmerged-in_default-b-2.result _ _ c.unmerged-in_default-b-2.ensures.first (λ k e. first_unites c.args.own.now c.see_acyclic.ensures c.args.a c.args.b k
+    (typed_and_other c.args.own.now c.see_acyclic.ensures c.args.a c.args.b c.in-Ty.x c.in-Ty.is c.requires.kept c.requires.asked c.in_default-b-2.not-Ty) (e ∙ sym c.in-Ty.is))
+
+pub merge-returns-in_default-clause-united : goal.merge-returns-in_default-clause-united
+merge-returns-in_default-clause-united t c =
+    if_ok c.unmerged-in_default.result _ _ c.unmerged-in_default.ensures.first (λ k e. first_unites c.args.own.now c.see_acyclic.ensures c.args.a c.args.b k
+    (first_other c.args.own.now c.see_acyclic.ensures c.args.a c.args.b c.requires.kept c.in_default.not-Instance (λ i. c.in_default.not-Ty (TypeKind.Interface i))) e)
+
+pub merge_types-returns-in-Ok-clause-united : goal.merge_types-returns-in-Ok-clause-united
+merge_types-returns-in-Ok-clause-united t c =
+    both_types c.args.own.now c.merge_instances.new.own c.see_acyclic.ensures c.in-Ok.ensures.grows.acyclic c.in-Ok.ensures.grows c.args.a c.args.b c.in-Interface.i c.in-Interface-b.j c.in-Ok.id c.in-Interface.is c.in-Interface-b.is c.requires.kept c.requires.asked c.in-Ok.ensures.united
+
+pub merge_types-returns-in_default-b-clause-united : goal.merge_types-returns-in_default-b-clause-united
+merge_types-returns-in_default-b-clause-united t c =
+    if_ok c.unmerged.result _ _ c.unmerged.ensures.first (λ k e. first_unites c.args.own.now c.see_acyclic.ensures (ItemKind.Ty c.args.a) (ItemKind.Ty c.args.b) k
+    (type_other_than c.args.own.now c.see_acyclic.ensures (ItemKind.Ty c.args.a) (ItemKind.Ty c.args.b) c.in-Interface.i (ap ItemKind.Ty c.in-Interface.is) c.requires.kept c.requires.asked (λ j is. c.in_default-b.not-Interface j (same_type c.args.b (TypeKind.Interface j) is))) (e ∙ ap ItemKind.Ty (sym c.in-Interface.is)))
+
+pub merge_types-returns-in_default-clause-united : goal.merge_types-returns-in_default-clause-united
+merge_types-returns-in_default-clause-united t c =
+    if_ok c.unmerged-in_default.result _ _ c.unmerged-in_default.ensures.first (λ k e. first_unites c.args.own.now c.see_acyclic.ensures (ItemKind.Ty c.args.a) (ItemKind.Ty c.args.b) k
+    (first_other c.args.own.now c.see_acyclic.ensures (ItemKind.Ty c.args.a) (ItemKind.Ty c.args.b) c.requires.kept (no_instance c.args.a) (λ i is. c.in_default.not-Interface i (same_type c.args.a (TypeKind.Interface i) is))) e)
+
+pub merge_copies-returns-in-Ok-add_joined-clause-united : goal.merge_copies-returns-in-Ok-add_joined-clause-united
+merge_copies-returns-in-Ok-add_joined-clause-united t c = record {
+  both = c.in-Ok.both;
+  at = c.in-Ok-add_joined.ensures.added;
+  united = united_kept c.args.own.now c.args.second.now.exports c.merge_items.new.own c.add_joined.new.own c.args.first.now.exports c.in-Ok.both c.add_joined.ensures.grows
+      (joined_stand c.args.own.now c.args.second.now.exports c.merge_items.new.own c.args.first.now.exports c.in-Ok.both c.in-Ok.ensures.joined) c.in-Ok.ensures.united;
+}

@@ -2,6 +2,7 @@ use Rattle.std.proofs.Common.{◌+◌, ◌*◌, take}
 use Rattle.wac_types_base.specs.declared.item.ItemKind.{ItemKind}
 use Rattle.wac_types_base.specs.Collection.{Grows, size_of}
 use Rattle.wac_types_merge.specs.Interfaces.{AreJoined}
+use Rattle.wac_types_merge.specs.United.{ItemsUnite}
 use Rattle.wac_types_merge.proofs.cycle.+merging.Given as goal
 
 abbrev pub decreases-merge : goal.decreases-merge
@@ -26,5 +27,6 @@ decreases-merge_item l = 8 * (size_of l.own.now l.a + size_of l.own.now l.b)
 abbrev pub invariant-merge_items-loop-index : goal.invariant-merge_items-loop-index
 invariant-merge_items-loop-index l = record {
   joined : AreJoined l.fn.own l.asked l.own (take l.index l.kept) l.both;
+  united : ItemsUnite l.fn.own l.asked l.own (take l.index l.kept) l.both;
   grows : Grows l.fn.own l.own;
 }
