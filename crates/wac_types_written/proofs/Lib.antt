@@ -1,0 +1,13 @@
+pub mod Firsts
+pub mod Parts
+pub mod Shapes
+pub mod Depending
+pub mod Ids
+pub mod Growing
+pub mod Loops
+pub mod Found
+pub mod Walking
+pub mod Stepping
+pub mod Typing
+pub mod Adding
+pub mod Forming

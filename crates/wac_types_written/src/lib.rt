@@ -1,0 +1,11 @@
+//! The forms in which definitions are written: an interface or a world with identifier inside a component type, each world in
+//! it as a component type, which imports what its items use.
+#![tactic(auto)]
+
+mod components;
+mod forms;
+mod items;
+mod maps;
+mod uses;
+
+pub use items::{written, written_definition};
