@@ -21,7 +21,7 @@ use Rattle.wac_composition.specs.Asks.{ToFill, Ask, explicit_ask, filled_asks, n
 use Rattle.wac_composition.specs.Classes.{is_instance, spelling}
 use Rattle.wac_composition.specs.OuterImports.{outer_imports}
 use Rattle.wac_composition.specs.Conflicts.{first_cause}
-use Rattle.wac_composition.specs.Written.{is_type, found_in, without_at, written_definition}
+use Rattle.wac_types_written.specs.Written.{is_type, found_in, without_at, written_definition}
 use Rattle.wac_composition.specs.Worlds.{then_in, final_type, source_of, exported_type, world_exports, used_world, composed_world}
 use Rattle.wac_composition.specs.Wired.{source_for, argument_source, instantiation, export_source, composed_wiring}
 use Rattle.wac_composition.specs.Sound.{fields_of, maps_of, IsStraight, an_instance, no_instance, HasType, of_import, of_instance, of_export, of_definition, given_as, IsBefore, IsSound, IsMade, IsWired}

@@ -13,7 +13,7 @@ use Rattle.wac_types_base.specs.Collection.{Shape, primitive, tuple, list, fixed
 use Rattle.wac_types_base.specs.Stated.{Stated, folded, folded_row, places_of, with_names, Kind, IsFunction, IsInstance, IsComponent, IsModule, IsValue, IsResource, IsFunctionType, IsValueType, IsInterface, IsWorld, IsModuleType, shape_of, shape_kind, kind_of, untyped, Used, uses_from, Parts, parts_at, only_places, first_parts, uses_of, imports_of, exports_of, identifier_of, root_name}
 use Rattle.wac_types_base.specs.Tree.{tree}
 use Rattle.wac_composition.specs.Tests.{same_tree}
-use Rattle.wac_composition.specs.Written.{is_type}
+use Rattle.wac_types_written.specs.Written.{is_type}
 use Rattle.wac_composition.specs.Writable.{Holder, is_resource, is_fresh, root_of, is_given, stated_at, value_fails, Test, Needed, Found, some_unnamed, Item, plain, some_fails, used_of, interface_fails, type_items, needed_from, below_use, below_items, all_needed, stands_as, is_given_by, use_fails, with_roots, holder, world_holder, world_fails, any_value, simple, found_interface, found_at, unwritable, item_in, writable_module}
 use Rattle.wac_composition.specs.NotWritten.{IsGiven, HasRoot, Dangles, has_items, Needs, a_use, under_use, under_item, IsImported, type_exports, component_holder, CannotBeWritten, a_value, core_items, module_as_type, renamed, an_alias, a_function, a_function_type, a_value_type, an_instance, an_interface, a_component, a_world, ItemsFail, unnamed, an_item, ComponentFails, unnamed_use, not_imported, not_added, an_import, an_export}
 use Rattle.wac_composition.proofs.Closures.{filter_among}

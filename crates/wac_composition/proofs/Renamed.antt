@@ -17,7 +17,7 @@ use Rattle.wac_composition.specs.OuterImports.{with_new, asked_in, outer_of, out
 use Rattle.wac_composition.specs.Circles.{as_written}
 use Rattle.wac_composition.specs.Conflicts.{Cause, Unwritable, ImportNames, ExportNames, or_else, first_found, dependency_name, same_key, each_once, dependencies_of, implicit_with, implicit_by, circle_cause, implicit_conflict, merge_cause, merge_fails, those_in, merge_conflict, cause_at, placed, unwritable_cause, first_cause, twins, alike, import_names, name_cause}
 use Rattle.wac_composition.specs.Writable.{outer_unwritable, definition_unwritable, package_unwritable, alias_unwritable}
-use Rattle.wac_composition.specs.Written.{without_uses}
+use Rattle.wac_types_written.specs.Written.{without_uses}
 use Rattle.wac_composition.specs.Worlds.{then_in, final_type, source_of, world_exports, composed_world}
 use Rattle.wac_composition.specs.Renaming.{origin_renamed, placed_renamed, ask_renamed, cause_renamed, made_renamed, renamed, KeepsMeaning}
 

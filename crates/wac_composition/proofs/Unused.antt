@@ -6,7 +6,7 @@ use Rattle.wac_types_base.specs.Graph.{Wholes, node, no_more, more, hole}
 use Rattle.wac_types_base.specs.Collection.{Shape, world, type_of}
 use Rattle.wac_types_base.specs.Stated.{Stated, row, folded_row, places_in, with_names, names, filled, first_parts, parts_at, world_of}
 use Rattle.wac_types_base.specs.Tree.{Row, component, type_item, put, fields, past, tree_at, tree, trees}
-use Rattle.wac_composition.specs.Written.{found_in, world_without, without_at, without_uses}
+use Rattle.wac_types_written.specs.Written.{found_in, world_without, without_at, without_uses}
 use Rattle.wac_composition.specs.Sound.{fields_of}
 use Rattle.wac_composition.proofs.KeptFits.{folded_firsts, fields_behind, row_again}
 use Rattle.wac_types_base.proofs.Made.{firsts}

@@ -6,7 +6,7 @@ use Rattle.wac_types_base.specs.Entries.{Name, value_at, names_of, has_name}
 use Rattle.wac_types_base.specs.Collection.{Shape, interface, world, type_of}
 use Rattle.wac_types_base.specs.Stated.{Stated, folded, Parts, parts_at, Used, as_type, interface_of, identifier_of}
 use Rattle.wac_composition.specs.Writable.{stated_at}
-use Rattle.wac_composition.specs.Written.{found_in, over_found}
+use Rattle.wac_types_written.specs.Written.{found_in, over_found}
 
 -- ---- the interfaces that an item uses, in it and in its items
 

@@ -7,7 +7,6 @@ pub mod Merging
 pub mod Regular
 pub mod OuterImports
 pub mod Again
-pub mod Written
 pub mod Writable
 pub mod NotWritten
 pub mod Circles

@@ -11,7 +11,7 @@ use Rattle.wac_nesting.specs.Given.{World, IsDefinition, IsBound, IsTrueWorld}
 use Rattle.wac_composition.specs.Composition.{Origin, imported, projected, defined, Placed, Made, Composition}
 use Rattle.wac_composition.specs.Asks.{Ask, asks_of}
 use Rattle.wac_composition.specs.Classes.{is_instance}
-use Rattle.wac_composition.specs.Written.{is_type, written_definition}
+use Rattle.wac_types_written.specs.Written.{is_type, written_definition}
 use Rattle.wac_composition.specs.Worlds.{composed_world}
 use Rattle.wac_composition.specs.Wired.{composed_wiring}
 

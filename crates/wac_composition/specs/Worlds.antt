@@ -8,7 +8,7 @@ use Rattle.wac_composition.specs.Composition.{Origin, imported, instance, projec
 use Rattle.wac_composition.specs.Asks.{Ask, asks_of}
 use Rattle.wac_composition.specs.Classes.{spelling}
 use Rattle.wac_composition.specs.OuterImports.{outer_imports}
-use Rattle.wac_composition.specs.Written.{written_definition, without_uses}
+use Rattle.wac_types_written.specs.Written.{written_definition, without_uses}
 
 abbrev pub then_in : Option Stated → Name → Option Stated
 then_in None n = None

@@ -13,7 +13,7 @@ use Rattle.wac_types_base.specs.Stated.{Stated, Kind, IsValue, IsValueType, IsRe
 use Rattle.wac_types_base.specs.Tree.{tree}
 use Rattle.wac_composition.specs.Tests.{same_tree}
 use Rattle.wac_composition.specs.Merging.{reached}
-use Rattle.wac_composition.specs.Written.{is_type}
+use Rattle.wac_types_written.specs.Written.{is_type}
 
 -- ---- core items: references to functions and to outside alone, no shared table or global, no own page size
 

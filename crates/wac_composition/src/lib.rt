@@ -28,7 +28,7 @@ ghost use Rattle.wac_composition.specs.Again.{Asked_again, Asking_twice};
 ghost use Rattle.wac_composition.specs.Renaming.{KeepsMeaning};
 ghost use Rattle.wac_composition.specs.Sound.{IsSound, IsWired};
 ghost use Rattle.wac_composition.specs.Worlds.{composed_world, used_world, source_of};
-ghost use Rattle.wac_composition.specs.Written.{without_uses};
+ghost use Rattle.wac_types_written.specs.Written.{without_uses};
 ghost use Rattle.wac_composition.specs.NotWritten.{Test_of_writing};
 ghost use Rattle.wac_composition.specs.Examples.{plain_func, named_instance, passing, older, newer, wider, using_types, types, one_instance, two_versions, clashing_versions, clashing_imports, one_identifier, used_interface, asked_twice, alike_names, nameless_resource, asked_value, twice_made, byte_list, defined_twice, lacks_used, given_another, given_renamed, values_in_circle, resource_in_circle, holding};
 ghost use Rattle.wac_composition.specs.Outlines.{agrees};

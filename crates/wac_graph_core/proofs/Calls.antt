@@ -13,7 +13,7 @@ use Rattle.wac_graph_core.specs.declared.edge.Follow.{Follow}
 use Rattle.wac_graph_core.specs.Nodes.{NodeData, Role, plain_node}
 use Rattle.wac_graph_core.specs.NodeMaps.{NodeMap, NoImport}
 use Rattle.wac_graph_core.specs.Edges.{alias_edge, argument_edge, HasAlias, HasArgument, AreEdges, Reaches, IsReached, has, Stays}
-use Rattle.wac_graph_core.specs.Graph.{Graph, node_at, ContainsNode, package_of, package_if, package_made, instantiated, PackageStands, IsExport, IsArgument, IsGraph}
+use Rattle.wac_graph_core.specs.Graph.{Graph, node_at, ContainsNode, package_of, IsExport, IsArgument, IsGraph}
 use Rattle.wac_graph_core.specs.Steps.{IsExternName, AddsEdge, Imports, Instantiates, Aliases, NodeFits, SetsArgument, UnsetsArgument}
 use Rattle.wac_graph_core.specs.Exporting.{IsExportName, Exports, IsTold, Unexports, Names, place_of}
 use Rattle.wac_graph_core.specs.Removing.{TakesNodes}
@@ -34,18 +34,6 @@ refuted b P d is p = differ b (d.1 p) is
   where
     differ : (b : Bool) → b ≡ true → b ≡ false → ⊥
     differ b p q = absurd (cc (p, q))
-
--- the package of an instance stands
-pub instantiated_stands : (g : Graph) (k : ℕ) (p : Packaged) → IsGraph g → instantiated g k ≡ Some p → PackageStands g.types p
-instantiated_stands g k p is at = by_node (node_at g k) at
-  where
-    by_package : (o : Option PackageId) → package_if g o ≡ Some p → PackageStands g.types p
-    by_package None h = absurd (cc (h))
-    by_package (Some id) h = is.packages.stand id p h
-
-    by_node : (o : Option NodeData) → package_made g o ≡ Some p → PackageStands g.types p
-    by_node None h = absurd (cc (h))
-    by_node (Some x) h = by_package x.of h
 
 module _ (g : Graph) where
   pub import_step : (ns : NodeMap) (k : ℕ) (name : Name) (kind : ItemKind) (n : NodeData) → ns ≡ map.insert g.nodes k n → n ≡ plain_node (Role.Imported name) None kind → NoImport g.nodes name → IsExternName name → node_at g k ≡ None

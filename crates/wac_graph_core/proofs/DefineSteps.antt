@@ -20,7 +20,7 @@ use Rattle.wac_graph_core.proofs.NodeMap.{get-insert_same}
 use Rattle.wac_graph_core.proofs.Found.{Among-front, Among-end}
 use Rattle.wac_graph_core.proofs.NodeSteps.{kept_at, new_at, each_node, AreOnce-insert, IsAbove-fresh, some_there}
 use Rattle.wac_graph_core.proofs.EdgeSteps.{edge_from, edge_to, edge_label, IsAcyclic-by, AreKeyed-by}
-use Rattle.wac_graph_core.proofs.GraphSteps.{AreWired-by, same_places}
+use Rattle.wac_graph_core.proofs.GraphSteps.{AreWired-by, same_places, same_stated}
 use Rattle.wac_graph_core.proofs.ExportSteps.{not_among, distinct_last}
 use Rattle.wac_types_fit.proofs.Items.{Among-last}
 
@@ -54,6 +54,7 @@ module _ (g : Graph) (es : List Edge) (k : ℕ) (t : TypeKind) (name : Name) (fr
         from = subst (λ j. IsSome (map.get (map.insert g.nodes k (defined_node t name)) j)) (sym (edge_from same)) from;
         to = subst (λ j. IsSome (map.get (map.insert g.nodes k (defined_node t name)) j)) (sym (edge_to same)) to;
         alias = λ n l. absurd (no_alias_label n (sym l ∙ edge_label same));
+        export = λ n l. absurd (no_alias_label n (sym l ∙ edge_label same));
         argument = λ n l. absurd (no_argument_label n (sym l ∙ edge_label same));
       }
 
@@ -84,14 +85,13 @@ module _ (g : Graph) (es : List Edge) (k : ℕ) (t : TypeKind) (name : Name) (fr
         once = AreOnce-insert g.nodes k (defined_node t name) (λ x r. absurd (cc (r))) (λ r. none) is.once;
         acyclic = IsAcyclic-by g.edges es old_followed is.acyclic;
         keyed = AreKeyed-by g.edges es (λ i j n at. old_followed (alias_edge i j n) at refl) (λ i a n at. old_followed (argument_edge a i n) at refl) is.keyed;
-        wired = AreWired-by g defined_graph (IsAbove-fresh g.nodes k (defined_node t name) free) (same_places g.nodes g.places)
+        wired = AreWired-by g defined_graph (IsAbove-fresh g.nodes k (defined_node t name) free) (same_places g.nodes g.places) (same_stated g.types) is
             (λ e at. elim (only e at) [ inl old ↦ inl old | inr r ↦ inr (dependency_stands e r.0 r.1 r.2 r.3 r.4) ])
             (λ i j n at. keeps (alias_edge i j n) at)
             (λ j x at role. elim (new_at g.nodes k (defined_node t name) j x at) [
               | inl p ↦ absurd (cc (ap (λ (y : NodeData). y.role) p.1, role))
               | inr q ↦ inl (record { node = x; there = q.1; role = refl; of = refl; item = refl })
-            ])
-            is.wired;
+            ]);
         exported = defined_exports is.exported;
         packages = is.packages;
       }

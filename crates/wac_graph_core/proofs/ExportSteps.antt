@@ -17,7 +17,7 @@ use Rattle.wac_graph_core.specs.Exporting.{place_of}
 use Rattle.wac_graph_core.proofs.NodeMap.{get-insert_same}
 use Rattle.wac_graph_core.proofs.Found.{same_name, Among-front, Among-end}
 use Rattle.wac_graph_core.proofs.NodeSteps.{new_at, each_node, AreOnce-below, IsBelow-written, IsAbove-written, some_there}
-use Rattle.wac_graph_core.proofs.GraphSteps.{AreWired-by, NodeStands-kept, same_places}
+use Rattle.wac_graph_core.proofs.GraphSteps.{AreWired-by, NodeStands-kept, same_places, same_stated}
 use Rattle.wac_types_fit.proofs.Items.{Among-last}
 
 -- ---- names
@@ -201,10 +201,9 @@ IsGraph-written g k n o xs at role of item exports is =
       once = AreOnce-below g.nodes (map.insert g.nodes k n) (IsBelow-written g.nodes k n o at role of item) is.once;
       acyclic = is.acyclic;
       keyed = is.keyed;
-      wired = AreWired-by g (record g { nodes = map.insert g.nodes k n; exports = xs }) (IsAbove-written g.nodes k n o at role of item) (same_places g.nodes g.places)
+      wired = AreWired-by g (record g { nodes = map.insert g.nodes k n; exports = xs }) (IsAbove-written g.nodes k n o at role of item) (same_places g.nodes g.places) (same_stated g.types) is
           (λ e at. inl at) (λ i j m at. at)
-          (λ j x here role'. inl (IsBelow-written g.nodes k n o at role of item j x here))
-          is.wired;
+          (λ j x here role'. inl (IsBelow-written g.nodes k n o at role of item j x here));
       exported = exports;
       packages = is.packages;
     }

@@ -5,8 +5,11 @@ use Rattle.std.specs.FinMap as map
 use Rattle.wac_types_base.specs.declared.item.ItemKind.{ItemKind}
 use Rattle.wac_types_base.specs.Record.{Collection}
 use Rattle.wac_types_base.specs.Collection.{Stands, Grows}
-use Rattle.wac_types_base.specs.Stated.{stated_in, stated_of, instance_type}
-use Rattle.wac_types_base.specs.Entries.{Name}
+use Rattle.wac_types_base.specs.Stated.{stated_in, stated_of, instance_type, imports_of, exports_of}
+use Rattle.wac_types_base.specs.Tree.{tree}
+use Rattle.wac_types_base.specs.Fits.{Fits}
+use Rattle.wac_types_fit.specs.Trees.{tree_in}
+use Rattle.wac_types_base.specs.Entries.{Name, value_at}
 use Rattle.wac_types_base.specs.Graph.{Among}
 use Rattle.wac_types_names.specs.Packaged.{Packaged}
 use Rattle.wac_graph_core.specs.declared.ids.PackageId.{PackageId}
@@ -17,10 +20,10 @@ use Rattle.wac_graph_core.specs.declared.package.Place.{Place}
 use Rattle.wac_graph_core.specs.Nodes.{NodeData, Role, plain_node}
 use Rattle.wac_graph_core.specs.NodeMaps.{NodeMap, NoImport, NoDefinition}
 use Rattle.wac_graph_core.specs.Edges.{alias_edge, argument_edge, HasAlias, HasArgument, AreEdges, has, IsReached}
-use Rattle.wac_graph_core.specs.Graph.{Graph, with_types, node_at, ContainsNode, package_in, package_of, package_if, package_made, instantiated, PackageStands, NodeStands, EdgeStands, AreWired, AreExports, IsGraph, IsArgument}
-use Rattle.wac_graph_core.specs.Steps.{with_node, with_edges, AddsEdge}
+use Rattle.wac_graph_core.specs.Graph.{passed, passed_as, Graph, with_types, node_at, ContainsNode, package_in, package_of, package_if, package_made, instantiated, PackageStands, NodeStands, GivesExport, FillsImport, EdgeStands, AreWired, AreExports, IsGraph, IsStatedExport, IsStatedImport}
+use Rattle.wac_graph_core.specs.Steps.{with_node, with_edges, AddsEdge, NodeFits}
 use Rattle.wac_graph_core.proofs.NodeMap.{get-insert_same}
-use Rattle.wac_graph_core.proofs.NodeSteps.{new_at, each_node, AreOnce-insert, SameBut, IsAbove, IsAbove-fresh, IsAbove-same, some_there}
+use Rattle.wac_graph_core.proofs.NodeSteps.{kept_at, new_at, each_node, AreOnce-insert, SameBut, IsAbove, IsAbove-fresh, IsAbove-same, some_there}
 use Rattle.wac_graph_core.proofs.EdgeSteps.{edge_from, edge_to, edge_label, IsAcyclic-by, IsAcyclic-leaf, IsAcyclic-between, AreKeyed-sub, AreKeyed-alias, AreKeyed-argument}
 
 -- ---- nothing
@@ -53,26 +56,78 @@ empty_graph c ns es xs ps a b d e =
 
 -- ---- what stands after a step
 
--- the packages of the nodes stand still
+-- the packages of the nodes are still those
 abbrev pub KeepsUsed : NodeMap → List Place → List Place → Type 0
-KeepsUsed m ps qs = (k : ℕ) (x : NodeData) (id : PackageId) → map.get m k ≡ Some x → x.of ≡ Some id → IsSome (package_in ps id) → IsSome (package_in qs id)
+KeepsUsed m ps qs = (k : ℕ) (x : NodeData) (id : PackageId) → map.get m k ≡ Some x → x.of ≡ Some id → IsSome (package_in ps id) → package_in qs id ≡ package_in ps id
 
 pub same_places : (m : NodeMap) (ps : List Place) → KeepsUsed m ps ps
-same_places m ps k x id at of there = there
+same_places m ps k x id at of there = refl
 
-module _ (g h : Graph) (above : IsAbove g.nodes h.nodes) (keeps : KeepsUsed g.nodes g.places h.places) where
-  package_kept : (k : ℕ) (x : NodeData) → node_at g k ≡ Some x → (o p : Option PackageId) → x.of ≡ o → p ≡ o → IsSome (package_if g o) → IsSome (package_if h p)
+-- what stands has its stated type still
+abbrev pub KeepsStated : Collection → Collection → Type 0
+KeepsStated c d = (k : ItemKind) → Stands c k → stated_of d k ≡ stated_of c k
+
+pub same_stated : (c : Collection) → KeepsStated c c
+same_stated c k stands = refl
+
+-- the package of an instance stands
+pub instantiated_stands : (g : Graph) (k : ℕ) (p : Packaged) → IsGraph g → instantiated g k ≡ Some p → PackageStands g.types p
+instantiated_stands g k p is at = by_node (node_at g k) at
+  where
+    by_package : (o : Option PackageId) → package_if g o ≡ Some p → PackageStands g.types p
+    by_package None h = absurd (cc (h))
+    by_package (Some id) h = is.packages.stand id p h
+
+    by_node : (o : Option NodeData) → package_made g o ≡ Some p → PackageStands g.types p
+    by_node None h = absurd (cc (h))
+    by_node (Some x) h = by_package x.of h
+
+module _ (g h : Graph) (above : IsAbove g.nodes h.nodes) (keeps : KeepsUsed g.nodes g.places h.places) (stated : KeepsStated g.types h.types) (is : IsGraph g) where
+  package_kept : (k : ℕ) (x : NodeData) → node_at g k ≡ Some x → (o p : Option PackageId) → x.of ≡ o → p ≡ o → IsSome (package_if g o) → package_if h p ≡ package_if g o
   package_kept k x at None p of e there = absurd (cc (there))
-  package_kept k x at (Some id) p of e there = subst (λ p. IsSome (package_if h p)) (sym e) (keeps k x id at of there)
+  package_kept k x at (Some id) p of e there = ap (package_if h) e ∙ keeps k x id at of there
 
-  made_kept : (k : ℕ) (o : Option NodeData) → node_at g k ≡ o → IsSome (package_made g o) → IsSome (instantiated h k)
+  made_kept : (k : ℕ) (o : Option NodeData) → node_at g k ≡ o → IsSome (package_made g o) → instantiated h k ≡ package_made g o
   made_kept k None e there = absurd (cc (there))
   made_kept k (Some x) e there =
       let s = above k x e in
-      subst (λ o. IsSome (package_made h o)) (sym s.there) (package_kept k x e x.of s.node.of refl s.of there)
+      ap (package_made h) s.there ∙ package_kept k x e x.of s.node.of refl s.of there
 
-  pub instantiated_kept : (k : ℕ) → IsSome (instantiated g k) → IsSome (instantiated h k)
-  instantiated_kept k there = made_kept k (node_at g k) refl there
+  pub instantiated_kept : (k : ℕ) (p : Packaged) → instantiated g k ≡ Some p → instantiated h k ≡ Some p
+  instantiated_kept k p at = made_kept k (node_at g k) refl (subst IsSome (sym at) refl) ∙ at
+
+  -- a node's item has its stated type still
+  stated_item : (k : ℕ) (x : NodeData) (at : node_at g k ≡ Some x) → stated_of h.types (above k x at).node.item_kind ≡ stated_of g.types x.item_kind
+  stated_item k x at = ap (stated_of h.types) (above k x at).item ∙ stated x.item_kind (is.nodes k x at).item
+
+  GivesExport-kept : (i : ℕ) (n : Name) (k : ℕ) → GivesExport g i n k → GivesExport h i n k
+  GivesExport-kept i n k s =
+      let x = above i s.instance s.instance_at in
+      let y = above k s.alias s.alias_at in
+      record {
+        instance = x.node;
+        instance_at = x.there;
+        alias = y.node;
+        alias_at = y.there;
+        export = ap (λ t. value_at (exports_of t) n) (stated_item i s.instance s.instance_at) ∙ s.export ∙ ap Some (sym (stated_item k s.alias s.alias_at));
+      }
+
+  passed_still : (k : ℕ) (x : NodeData) (at : node_at g k ≡ Some x) → passed h.types (above k x at).node ≡ passed g.types x
+  passed_still k x at = ap (λ r. passed_as r (stated_of h.types (above k x at).node.item_kind)) (above k x at).role ∙ ap (passed_as x.role) (stated_item k x at)
+
+  FillsImport-kept : (a i : ℕ) (n : Name) → FillsImport g a i n → FillsImport h a i n
+  unfolding tree_in
+  FillsImport-kept a i n s =
+      let x = above a s.argument s.argument_at in
+      record {
+        argument = x.node;
+        argument_at = x.there;
+        of = s.of;
+        is = instantiated_kept i s.of s.is;
+        asked = s.asked;
+        import = ap (λ t. value_at (imports_of t) n) (stated (ItemKind.Component s.of.ty) (instantiated_stands g i s.of is s.is).world) ∙ s.import;
+        fits = subst (λ t. Fits (tree t) (tree s.asked)) (sym (passed_still a s.argument s.argument_at)) s.fits;
+      }
 
   pub EdgeStands-kept : (e : Edge) → EdgeStands g e → EdgeStands h e
   EdgeStands-kept e s =
@@ -80,19 +135,20 @@ module _ (g h : Graph) (above : IsAbove g.nodes h.nodes) (keeps : KeepsUsed g.no
         from = some_there g.nodes h.nodes e.from above s.from;
         to = some_there g.nodes h.nodes e.to above s.to;
         alias = λ n l. let x = s.alias n l in let y = above e.to x.0 x.1 in (y.node, y.there, y.role ∙ x.2);
-        argument = λ n l. instantiated_kept e.to (s.argument n l);
+        export = λ n l. GivesExport-kept e.from n e.to (s.export n l);
+        argument = λ n l. FillsImport-kept e.from e.to n (s.argument n l);
       }
 
   abbrev pub Sourced : ℕ → Type 0
   Sourced k = (i : ℕ) × (n : Name) × HasAlias h.edges i n k
 
   pub AreWired-by : ((e : Edge) → Among e h.edges → Among e g.edges ⊎ EdgeStands h e) → ((i k : ℕ) (n : Name) → HasAlias g.edges i n k → HasAlias h.edges i n k)
-      → ((k : ℕ) (x : NodeData) → node_at h k ≡ Some x → x.role ≡ Role.Aliased → SameBut g.nodes k x ⊎ Sourced k) → AreWired g → AreWired h
-  AreWired-by back forth from is =
+      → ((k : ℕ) (x : NodeData) → node_at h k ≡ Some x → x.role ≡ Role.Aliased → SameBut g.nodes k x ⊎ Sourced k) → AreWired h
+  AreWired-by back forth from =
       record {
-        edges = λ e at. elim (back e at) [ inl old ↦ EdgeStands-kept e (is.edges e old) | inr new ↦ new ];
+        edges = λ e at. elim (back e at) [ inl old ↦ EdgeStands-kept e (is.wired.edges e old) | inr new ↦ new ];
         sources = λ k x at role. elim (from k x at role) [
-          | inl s ↦ let r = is.sources k s.node s.there (s.role ∙ role) in (r.0, r.1, forth r.0 k r.1 r.2)
+          | inl s ↦ let r = is.wired.sources k s.node s.there (s.role ∙ role) in (r.0, r.1, forth r.0 k r.1 r.2)
           | inr s ↦ s
         ];
       }
@@ -129,13 +185,12 @@ IsGraph-new_node g k n free stands no_alias no_import no_definition none is =
       once = AreOnce-insert g.nodes k n no_import no_definition is.once;
       acyclic = is.acyclic;
       keyed = is.keyed;
-      wired = AreWired-by g (with_node g k n) (IsAbove-fresh g.nodes k n free) (same_places g.nodes g.places)
+      wired = AreWired-by g (with_node g k n) (IsAbove-fresh g.nodes k n free) (same_places g.nodes g.places) (same_stated g.types) is
           (λ e at. inl at) (λ i j m at. at)
           (λ j x at role. elim (new_at g.nodes k n j x at) [
             | inl p ↦ absurd (no_alias (ap (λ (y : NodeData). y.role) p.1 ∙ role))
             | inr q ↦ inl (record { node = x; there = q.1; role = refl; of = refl; item = refl })
-          ])
-          is.wired;
+          ]);
       exported = AreExports-fresh g.nodes k n g.exports free none is.exported;
       packages = is.packages;
     }
@@ -148,21 +203,38 @@ module _ (g : Graph) (es : List Edge) (i k : ℕ) (n : Name) (item : ItemKind) (
   alias_there : map.get (map.insert g.nodes k (plain_node Role.Aliased None item)) k ≡ Some (plain_node Role.Aliased None item)
   alias_there = get-insert_same g.nodes k (plain_node Role.Aliased None item)
 
-  new_stands : ContainsNode g i → (e : Edge) → e ≡ alias_edge i k n → EdgeStands (with_edges (with_node g k (plain_node Role.Aliased None item)) es) e
-  new_stands there e same =
+  abbrev aliased : Graph
+  aliased = with_edges (with_node g k (plain_node Role.Aliased None item)) es
+
+  gives_export : IsStatedExport g i n item → GivesExport aliased i n k
+  gives_export s = record {
+    instance = s.node;
+    instance_at = kept_at g.nodes k (plain_node Role.Aliased None item) i s.node free s.there;
+    alias = plain_node Role.Aliased None item;
+    alias_at = alias_there;
+    export = s.kind;
+  }
+
+  new_stands : IsStatedExport g i n item → (e : Edge) → e ≡ alias_edge i k n → EdgeStands aliased e
+  new_stands s e same =
       record {
         from = subst (λ j. IsSome (map.get (map.insert g.nodes k (plain_node Role.Aliased None item)) j)) (sym (edge_from same))
-            (some_there g.nodes (map.insert g.nodes k (plain_node Role.Aliased None item)) i (IsAbove-fresh g.nodes k (plain_node Role.Aliased None item) free) there);
+            (some_there g.nodes (map.insert g.nodes k (plain_node Role.Aliased None item)) i (IsAbove-fresh g.nodes k (plain_node Role.Aliased None item) free) (subst IsSome (sym s.there) refl));
         to = subst (λ j. IsSome (map.get (map.insert g.nodes k (plain_node Role.Aliased None item)) j)) (sym (edge_to same)) (subst IsSome (sym alias_there) refl);
         alias = λ m l. (plain_node Role.Aliased None item, ap (map.get (map.insert g.nodes k (plain_node Role.Aliased None item))) (edge_to same) ∙ alias_there, refl);
+        export = λ m l. subst (λ (d : Edge). GivesExport aliased d.from m d.to) (sym same) (subst (λ m. GivesExport aliased i m k) (same_label m (sym (edge_label same) ∙ l)) (gives_export s));
         argument = λ m l. absurd (other_label m (sym l ∙ edge_label same));
       }
     where
       other_label : (m : Name) → Label.Argument m ≡ Label.Alias n → ⊥
       other_label m h = absurd (cc)
 
-  pub IsGraph-alias : ContainsNode g i → Stands g.types item → ((j : ℕ) → HasAlias g.edges i n j → ⊥) → IsGraph g → IsGraph (with_edges (with_node g k (plain_node Role.Aliased None item)) es)
-  IsGraph-alias there stands none is =
+      same_label : (m : Name) → Label.Alias n ≡ Label.Alias m → n ≡ m
+      same_label m h = cc
+
+  pub IsGraph-alias : IsStatedExport g i n item → Stands g.types item → ((j : ℕ) → HasAlias g.edges i n j → ⊥) → IsGraph g → IsGraph (with_edges (with_node g k (plain_node Role.Aliased None item)) es)
+  IsGraph-alias given stands none is =
+      let there : ContainsNode g i = subst IsSome (sym given.there) refl in
       record {
         nodes = each_node (NodeStands g.types g.places) g.nodes k (plain_node Role.Aliased None item)
             (record { item = stands; of = λ id e. absurd (cc (e)); made = λ r. absurd (cc (r)); only = λ id e. absurd (cc (e)) }) is.nodes;
@@ -170,32 +242,43 @@ module _ (g : Graph) (es : List Edge) (i k : ℕ) (n : Name) (item : ItemKind) (
         acyclic = IsAcyclic-leaf g.edges es (alias_edge i k n) adds
             (λ d at. (none_here d.from (is.wired.edges d at).from, none_here d.to (is.wired.edges d at).to)) (none_here i there) is.acyclic;
         keyed = AreKeyed-alias g.edges es i k n adds none (λ j m at. absurd (none_here k (is.wired.edges (alias_edge j k m) at).to refl)) is.keyed;
-        wired = AreWired-by g (with_edges (with_node g k (plain_node Role.Aliased None item)) es) (IsAbove-fresh g.nodes k (plain_node Role.Aliased None item) free) (same_places g.nodes g.places)
-            (λ e at. elim ((adds e).0 at) [ inl old ↦ inl old | inr same ↦ inr (new_stands there e same) ])
+        wired = AreWired-by g (with_edges (with_node g k (plain_node Role.Aliased None item)) es) (IsAbove-fresh g.nodes k (plain_node Role.Aliased None item) free) (same_places g.nodes g.places) (same_stated g.types) is
+            (λ e at. elim ((adds e).0 at) [ inl old ↦ inl old | inr same ↦ inr (new_stands given e same) ])
             (λ j l m at. (adds (alias_edge j l m)).1 (inl at))
             (λ j x at role. elim (new_at g.nodes k (plain_node Role.Aliased None item) j x at) [
               | inl p ↦ inr (i, n, subst (λ j. HasAlias es i n j) (sym p.0) ((adds (alias_edge i k n)).1 (inr refl)))
               | inr q ↦ inl (record { node = x; there = q.1; role = refl; of = refl; item = refl })
-            ])
-            is.wired;
+            ]);
         exported = AreExports-fresh g.nodes k (plain_node Role.Aliased None item) g.exports free refl is.exported;
         packages = is.packages;
       }
 
+-- an item that fits an import that is asked
+fills_import : (g : Graph) (a i : ℕ) (n : Name) (item : ItemKind) → IsStatedImport g i n item → NodeFits g a item → FillsImport g a i n
+unfolding tree_in
+fills_import g a i n item asked fits = record {
+  argument = fits.node;
+  argument_at = fits.there;
+  of = asked.of;
+  is = asked.is;
+  asked = stated_of g.types item;
+  import = asked.import;
+  fits = fits.fits;
+}
+
 -- an argument is passed
-pub IsGraph-argument : (g : Graph) (es : List Edge) (a i : ℕ) (n : Name) (seen : List ℕ) → AddsEdge g.edges es (argument_edge a i n) → ContainsNode g a → ContainsNode g i → IsSome (instantiated g i)
+pub IsGraph-argument : (g : Graph) (es : List Edge) (a i : ℕ) (n : Name) (seen : List ℕ) → AddsEdge g.edges es (argument_edge a i n) → ContainsNode g a → ContainsNode g i → FillsImport g a i n
     → ((b : ℕ) → HasArgument g.edges i n b → ⊥) → IsReached Follow.Flow g.edges (i ∷ []) seen → has seen a ≡ false → IsGraph g → IsGraph (with_edges g es)
-IsGraph-argument g es a i n seen adds given there made none reached away is =
+IsGraph-argument g es a i n seen adds given there fills none reached away is =
     record {
       nodes = is.nodes;
       once = is.once;
       acyclic = IsAcyclic-between g.edges es (argument_edge a i n) seen adds reached away is.acyclic;
       keyed = AreKeyed-argument g.edges es a i n adds none is.keyed;
-      wired = AreWired-by g (with_edges g es) (IsAbove-same g.nodes) (same_places g.nodes g.places)
+      wired = AreWired-by g (with_edges g es) (IsAbove-same g.nodes) (same_places g.nodes g.places) (same_stated g.types) is
           (λ e at. elim ((adds e).0 at) [ inl old ↦ inl old | inr same ↦ inr (stands e same) ])
           (λ j l m at. (adds (alias_edge j l m)).1 (inl at))
-          (λ j x at role. inl (record { node = x; there = at; role = refl; of = refl; item = refl }))
-          is.wired;
+          (λ j x at role. inl (record { node = x; there = at; role = refl; of = refl; item = refl }));
       exported = is.exported;
       packages = is.packages;
     }
@@ -203,13 +286,20 @@ IsGraph-argument g es a i n seen adds given there made none reached away is =
     other_label : (m : Name) → Label.Alias m ≡ Label.Argument n → ⊥
     other_label m h = absurd (cc)
 
+    same_label : (m : Name) → Label.Argument n ≡ Label.Argument m → n ≡ m
+    same_label m h = cc
+
+    fills_there : FillsImport (with_edges g es) a i n
+    fills_there = FillsImport-kept g (with_edges g es) (IsAbove-same g.nodes) (same_places g.nodes g.places) (same_stated g.types) is a i n fills
+
     stands : (e : Edge) → e ≡ argument_edge a i n → EdgeStands (with_edges g es) e
     stands e same =
         record {
           from = subst (λ j. IsSome (map.get g.nodes j)) (sym (edge_from same)) given;
           to = subst (λ j. IsSome (map.get g.nodes j)) (sym (edge_to same)) there;
           alias = λ m l. absurd (other_label m (sym l ∙ edge_label same));
-          argument = λ m l. subst (λ j. IsSome (instantiated g j)) (sym (edge_to same)) made;
+          export = λ m l. absurd (other_label m (sym l ∙ edge_label same));
+          argument = λ m l. subst (λ (d : Edge). FillsImport (with_edges g es) d.from d.to m) (sym same) (subst (λ m. FillsImport (with_edges g es) a i m) (same_label m (sym (edge_label same) ∙ l)) fills_there);
         }
 
 -- edges are dropped that are no aliases
@@ -220,10 +310,9 @@ IsGraph-fewer g es sub aliases is =
       once = is.once;
       acyclic = IsAcyclic-by g.edges es (λ d at f. sub d at) is.acyclic;
       keyed = AreKeyed-sub g.edges es sub is.keyed;
-      wired = AreWired-by g (with_edges g es) (IsAbove-same g.nodes) (same_places g.nodes g.places)
+      wired = AreWired-by g (with_edges g es) (IsAbove-same g.nodes) (same_places g.nodes g.places) (same_stated g.types) is
           (λ e at. inl (sub e at)) aliases
-          (λ j x at role. inl (record { node = x; there = at; role = refl; of = refl; item = refl }))
-          is.wired;
+          (λ j x at role. inl (record { node = x; there = at; role = refl; of = refl; item = refl }));
       exported = is.exported;
       packages = is.packages;
     }
@@ -261,10 +350,9 @@ IsGraph-grown g c grows is =
       once = is.once;
       acyclic = is.acyclic;
       keyed = is.keyed;
-      wired = AreWired-by g (record g { types = c }) (IsAbove-same g.nodes) (same_places g.nodes g.places)
+      wired = AreWired-by g (record g { types = c }) (IsAbove-same g.nodes) (same_places g.nodes g.places) (λ k. stated_kept g.types c k grows) is
           (λ e at. inl at) (λ i j m at. at)
-          (λ j x at role. inl (record { node = x; there = at; role = refl; of = refl; item = refl }))
-          is.wired;
+          (λ j x at role. inl (record { node = x; there = at; role = refl; of = refl; item = refl }));
       exported = is.exported;
       packages = record {
         stand = λ id p at. PackageStands-grown g.types c p grows (is.packages.stand id p at);
@@ -305,12 +393,12 @@ instance_by g ns k id p n added node free at is =
     IsGraph-nodes g ns (map.insert g.nodes k (plain_node Role.Instance (Some id) (ItemKind.Instance p.instance_type))) (added ∙ ap (map.insert g.nodes k) node) (IsGraph-instance g k id p free at is)
 
 pub alias_by : (g : Graph) (ns : NodeMap) (es : List Edge) (i k : ℕ) (n : Name) (item : ItemKind) (x : NodeData) (e : Edge) → ns ≡ map.insert g.nodes k x → x ≡ plain_node Role.Aliased None item → AddsEdge g.edges es e → e ≡ alias_edge i k n → node_at g k ≡ None
-    → ContainsNode g i → Stands g.types item → ((j : ℕ) → HasAlias g.edges i n j → ⊥) → IsGraph g → IsGraph (record g { nodes = ns; edges = es })
-alias_by g ns es i k n item x e added node adds edge free there stands none is =
+    → IsStatedExport g i n item → Stands g.types item → ((j : ℕ) → HasAlias g.edges i n j → ⊥) → IsGraph g → IsGraph (record g { nodes = ns; edges = es })
+alias_by g ns es i k n item x e added node adds edge free given stands none is =
     subst (λ ns. IsGraph (record g { nodes = ns; edges = es })) (sym (added ∙ ap (map.insert g.nodes k) node))
-    (IsGraph-alias g es i k n item free (subst (AddsEdge g.edges es) edge adds) there stands none is)
+    (IsGraph-alias g es i k n item free (subst (AddsEdge g.edges es) edge adds) given stands none is)
 
-pub argument_by : (g : Graph) (es : List Edge) (a i : ℕ) (n : Name) (item : ItemKind) (e : Edge) (seen : List ℕ) → AddsEdge g.edges es e → e ≡ argument_edge a i n → ContainsNode g a → ContainsNode g i → IsArgument g i n item
+pub argument_by : (g : Graph) (es : List Edge) (a i : ℕ) (n : Name) (item : ItemKind) (e : Edge) (seen : List ℕ) → AddsEdge g.edges es e → e ≡ argument_edge a i n → ContainsNode g i → IsStatedImport g i n item → NodeFits g a item
     → ((b : ℕ) → HasArgument g.edges i n b → ⊥) → IsReached Follow.Flow g.edges (i ∷ []) seen → has seen a ≡ false → IsGraph g → IsGraph (record g { edges = es })
-argument_by g es a i n item e seen adds edge given there argument none reached away is =
-    IsGraph-argument g es a i n seen (subst (AddsEdge g.edges es) edge adds) given there (subst IsSome (sym argument.is) refl) none reached away is
+argument_by g es a i n item e seen adds edge there asked fits none reached away is =
+    IsGraph-argument g es a i n seen (subst (AddsEdge g.edges es) edge adds) (subst IsSome (sym fits.there) refl) there (fills_import g a i n item asked fits) none reached away is

@@ -26,3 +26,4 @@ mod Naming
 mod TypeSets
 mod Noting
 mod Importing
+pub mod Passed

@@ -11,7 +11,7 @@ use Rattle.wac_graph_core.specs.Graph.{Graph, node_at, held_at, package_in, pack
 use Rattle.wac_graph_core.specs.Packages.{NoKey, IsNewPlace, IsFreePlace, held_place, left_place, PlacesGrow, IsStale}
 use Rattle.wac_graph_core.proofs.Found.{eq_same, eq_false}
 use Rattle.wac_graph_core.proofs.NodeSteps.{IsAbove-same}
-use Rattle.wac_graph_core.proofs.GraphSteps.{KeepsUsed, AreWired-by, NodeStands-kept}
+use Rattle.wac_graph_core.proofs.GraphSteps.{KeepsUsed, same_stated, AreWired-by, NodeStands-kept}
 use Rattle.wac_types_base.proofs.Replacing.{same_number}
 
 -- ---- lists
@@ -99,7 +99,7 @@ module _ (c : Collection) (ps qs : List Place) (p : Packaged) (new : PackageId)
   ArePlaces-put low stands is = record { stand = put_stands stands is; low = low; once = put_once is }
 
 abbrev kept_held : List Place → List Place → Type 0
-kept_held ps qs = (id : PackageId) → IsSome (package_in ps id) → IsSome (package_in qs id)
+kept_held ps qs = (id : PackageId) → IsSome (package_in ps id) → package_in qs id ≡ package_in ps id
 
 pub some_value : (o : Option Packaged) → IsSome o → (p : Packaged) × (o ≡ Some p)
 some_value None h = absurd (cc (h))
@@ -109,14 +109,13 @@ some_value (Some p) h = (p, refl)
 pub IsGraph-places : (g : Graph) (qs : List Place) → KeepsUsed g.nodes g.places qs → ArePlaces g.types qs → IsGraph g → IsGraph (record g { places = qs })
 IsGraph-places g qs keeps places is =
     record {
-      nodes = λ k n at. NodeStands-kept g.types g.types g.places qs n n (λ j s. s) (λ id of there. keeps k n id at of there) refl refl refl (is.nodes k n at);
+      nodes = λ k n at. NodeStands-kept g.types g.types g.places qs n n (λ j s. s) (λ id of there. subst IsSome (sym (keeps k n id at of there)) there) refl refl refl (is.nodes k n at);
       once = is.once;
       acyclic = is.acyclic;
       keyed = is.keyed;
-      wired = AreWired-by g (record g { places = qs }) (IsAbove-same g.nodes) keeps
+      wired = AreWired-by g (record g { places = qs }) (IsAbove-same g.nodes) keeps (same_stated g.types) is
           (λ e at. inl at) (λ i j m at. at)
-          (λ j x at role. inl (record { node = x; there = at; role = refl; of = refl; item = refl }))
-          is.wired;
+          (λ j x at role. inl (record { node = x; there = at; role = refl; of = refl; item = refl }));
       exported = is.exported;
       packages = places;
     }
@@ -128,7 +127,7 @@ module _ (c : Collection) (ps : List Place) (p : Packaged) (id : PackageId) (new
   last_kept j there =
       let v = some_value (package_in ps j) there in
       let h = held_in ps j v.0 v.1 in
-      subst IsSome (sym (in_held (ps ++ held_place 0 p ∷ []) j v.0 (record { place = h.place; there = get_before ps (held_place 0 p) j.place h.place h.there; now = h.now; held = h.held }))) refl
+      in_held (ps ++ held_place 0 p ∷ []) j v.0 (record { place = h.place; there = get_before ps (held_place 0 p) j.place h.place h.there; now = h.now; held = h.held }) ∙ sym v.1
 
   last_cases : (j : PackageId) (q : Packaged) → package_in (ps ++ held_place 0 p ∷ []) j ≡ Some q → (package_in ps j ≡ Some q) ⊎ ((j ≡ id) × (p ≡ q))
   last_cases j q at =
@@ -160,8 +159,8 @@ module _ (c : Collection) (ps : List Place) (p : Packaged) (id : PackageId) (fre
       let same : Some h.place ≡ Some free.place = sym h.there ∙ ap (slice_get ps) e ∙ free.there in
       let place : h.place ≡ free.place = cc in
       absurd (cc (h.held, ap (λ (x : Place). x.held) place, free.free.empty)) in
-      subst IsSome (sym (in_held (slice_set ps id.place (held_place id.generation p)) j v.0
-      (record { place = h.place; there = get_set_other ps id.place j.place (held_place id.generation p) apart ∙ h.there; now = h.now; held = h.held }))) refl
+      in_held (slice_set ps id.place (held_place id.generation p)) j v.0
+      (record { place = h.place; there = get_set_other ps id.place j.place (held_place id.generation p) apart ∙ h.there; now = h.now; held = h.held }) ∙ sym v.1
 
   free_cases : (j : PackageId) (q : Packaged) → package_in (slice_set ps id.place (held_place id.generation p)) j ≡ Some q → (package_in ps j ≡ Some q) ⊎ ((j ≡ id) × (p ≡ q))
   free_cases j q at =
@@ -205,7 +204,7 @@ module _ (c : Collection) (ps : List Place) (id : PackageId) (p : Packaged) (h :
       ]
 
   -- another package stands still
-  left_kept : (j : PackageId) → j ≢ id → IsSome (package_in ps j) → IsSome (package_in (slice_set ps id.place (left_place id.generation)) j)
+  left_kept : (j : PackageId) → j ≢ id → IsSome (package_in ps j) → package_in (slice_set ps id.place (left_place id.generation)) j ≡ package_in ps j
   left_kept j ne there =
       let v = some_value (package_in ps j) there in
       let k = held_in ps j v.0 v.1 in
@@ -213,8 +212,8 @@ module _ (c : Collection) (ps : List Place) (id : PackageId) (p : Packaged) (h :
       let same : Some k.place ≡ Some h.place = sym k.there ∙ ap (slice_get ps) e ∙ h.there in
       let place : k.place ≡ h.place = cc in
       ne (same_id j id e (sym k.now ∙ ap (λ (x : Place). x.generation) place ∙ h.now)) in
-      subst IsSome (sym (in_held (slice_set ps id.place (left_place id.generation)) j v.0
-      (record { place = k.place; there = get_set_other ps id.place j.place (left_place id.generation) apart ∙ k.there; now = k.now; held = k.held }))) refl
+      in_held (slice_set ps id.place (left_place id.generation)) j v.0
+      (record { place = k.place; there = get_set_other ps id.place j.place (left_place id.generation) apart ∙ k.there; now = k.now; held = k.held }) ∙ sym v.1
 
   ArePlaces-left : ArePlaces c ps → ArePlaces c (slice_set ps id.place (left_place id.generation))
   ArePlaces-left is =

@@ -103,16 +103,16 @@ left g es gone = record g {
 }
 
 module _ (g : Graph) (es : List Edge) (gone : List ℕ) where
-  by_package : (o : Option PackageId) → IsSome (package_if g o) → IsSome (package_if (left g es gone) o)
-  by_package None there = there
-  by_package (Some id) there = there
+  by_package : (o : Option PackageId) → package_if (left g es gone) o ≡ package_if g o
+  by_package None = refl
+  by_package (Some id) = refl
 
-  by_node : (o : Option NodeData) → IsSome (package_made g o) → IsSome (package_made (left g es gone) o)
-  by_node None there = there
-  by_node (Some x) there = by_package x.of there
+  by_node : (o : Option NodeData) → package_made (left g es gone) o ≡ package_made g o
+  by_node None = refl
+  by_node (Some x) = by_package x.of
 
-  still_made : (k : ℕ) → has gone k ≡ false → IsSome (instantiated g k) → IsSome (instantiated (left g es gone) k)
-  still_made k out made = subst (λ o. IsSome (package_made (left g es gone) o)) (sym (stays_at g.nodes gone k out)) (by_node (node_at g k) made)
+  still_made : (k : ℕ) → has gone k ≡ false → instantiated (left g es gone) k ≡ instantiated g k
+  still_made k out = ap (package_made (left g es gone)) (stays_at g.nodes gone k out) ∙ by_node (node_at g k)
 
   stands_left : (e : Edge) → has gone e.from ≡ false → has gone e.to ≡ false → EdgeStands g e → EdgeStands (left g es gone) e
   stands_left e from to s =
@@ -120,7 +120,26 @@ module _ (g : Graph) (es : List Edge) (gone : List ℕ) where
         from = subst IsSome (sym (stays_at g.nodes gone e.from from)) s.from;
         to = subst IsSome (sym (stays_at g.nodes gone e.to to)) s.to;
         alias = λ n l. let x = s.alias n l in (x.0, stays_at g.nodes gone e.to to ∙ x.1, x.2);
-        argument = λ n l. still_made e.to to (s.argument n l);
+        export = λ n l.
+            let x = s.export n l in
+            record {
+              instance = x.instance;
+              instance_at = stays_at g.nodes gone e.from from ∙ x.instance_at;
+              alias = x.alias;
+              alias_at = stays_at g.nodes gone e.to to ∙ x.alias_at;
+              export = x.export;
+            };
+        argument = λ n l.
+            let x = s.argument n l in
+            record {
+              argument = x.argument;
+              argument_at = stays_at g.nodes gone e.from from ∙ x.argument_at;
+              of = x.of;
+              is = still_made e.to to ∙ x.is;
+              asked = x.asked;
+              import = x.import;
+              fits = x.fits;
+            };
       }
 
   not_gone : (b c : Bool) → (b ≡ true → c ≡ true) → c ≡ false → b ≡ false

@@ -7,7 +7,10 @@ use Rattle.wac_types_base.specs.declared.defined.Interface.{Interface}
 use Rattle.wac_types_base.specs.declared.defined.World.{World}
 use Rattle.wac_types_base.specs.Record.{Collection}
 use Rattle.wac_types_base.specs.Collection.{Stands}
-use Rattle.wac_types_base.specs.Stated.{stated_of, instance_type}
+use Rattle.wac_types_base.specs.Stated.{Stated, stated_of, instance_type, imports_of, exports_of}
+use Rattle.wac_types_base.specs.Tree.{tree}
+use Rattle.wac_types_base.specs.Fits.{Fits}
+use Rattle.wac_types_written.specs.Written.{written_definition}
 use Rattle.wac_types_base.specs.Entries.{Name, value_at, names_of, AreDistinct}
 use Rattle.wac_types_base.specs.Graph.{Among}
 use Rattle.wac_types_names.specs.Packaged.{Packaged}
@@ -114,6 +117,16 @@ pub record IsArgument (g : Graph) (i : ℕ) (n : Name) (item : ItemKind) : Type 
   pub is : instantiated g i ≡ Some of
   pub import : item_import g.types of.ty n ≡ Some item
 
+-- the node's item has this export, with the stated type of this kind
+abbrev pub IsStatedExport : Graph → ℕ → Name → ItemKind → Type 0
+IsStatedExport g k n item = IsOfKind g k (λ x. value_at (exports_of (stated_of g.types x)) n ≡ Some (stated_of g.types item))
+
+-- the node is an instance of a package that has this import, with the stated type of this kind
+pub record IsStatedImport (g : Graph) (i : ℕ) (n : Name) (item : ItemKind) : Type 0 where
+  pub of : Packaged
+  pub is : instantiated g i ≡ Some of
+  pub import : value_at (imports_of (stated_of g.types (ItemKind.Component of.ty))) n ≡ Some (stated_of g.types item)
+
 -- ---- what holds of each graph
 
 -- a node's item stands, and its package where it is an instance of one
@@ -123,12 +136,39 @@ pub record NodeStands (c : Collection) (ps : List Place) (n : NodeData) : Type 0
   pub made : n.role ≡ Role.Instance → IsSome n.of
   pub only : (id : PackageId) → n.of ≡ Some id → n.role ≡ Role.Instance
 
--- its ends stand, an alias edge leads to an alias, and an argument edge to an instance of a package
+-- the export of this name of the one node's item is the other's, by their stated types
+pub record GivesExport (g : Graph) (i : ℕ) (n : Name) (k : ℕ) : Type 0 where
+  pub instance : NodeData
+  pub instance_at : node_at g i ≡ Some instance
+  pub alias : NodeData
+  pub alias_at : node_at g k ≡ Some alias
+  pub export : value_at (exports_of (stated_of g.types instance.item_kind)) n ≡ Some (stated_of g.types alias.item_kind)
+
+-- the stated type by which what is passed is compared: of a definition the form in which it is written
+abbrev pub passed_as : Role → Stated → Stated
+passed_as Role.Defined t = written_definition t
+passed_as r t = t
+
+abbrev pub passed : Collection → NodeData → Stated
+passed c x = passed_as x.role (stated_of c x.item_kind)
+
+-- the node is an instance of a package that has this import, and the argument, as it is passed, fits that
+pub record FillsImport (g : Graph) (a i : ℕ) (n : Name) : Type 0 where
+  pub argument : NodeData
+  pub argument_at : node_at g a ≡ Some argument
+  pub of : Packaged
+  pub is : instantiated g i ≡ Some of
+  pub asked : Stated
+  pub import : value_at (imports_of (stated_of g.types (ItemKind.Component of.ty))) n ≡ Some asked
+  pub fits : Fits (tree (passed g.types argument)) (tree asked)
+
+-- its ends stand, an alias edge leads to an alias whose item is that export, and what an argument edge passes fits
 pub record EdgeStands (g : Graph) (e : Edge) : Type 0 where
   pub from : ContainsNode g e.from
   pub to : ContainsNode g e.to
   pub alias : (n : Name) → e.label ≡ Label.Alias n → (x : NodeData) × (node_at g e.to ≡ Some x) × (x.role ≡ Role.Aliased)
-  pub argument : (n : Name) → e.label ≡ Label.Argument n → IsSome (instantiated g e.to)
+  pub export : (n : Name) → e.label ≡ Label.Alias n → GivesExport g e.from n e.to
+  pub argument : (n : Name) → e.label ≡ Label.Argument n → FillsImport g e.from e.to n
 
 -- edges stand, and each alias is one of an export of an instance
 pub record AreWired (g : Graph) : Type 0 where

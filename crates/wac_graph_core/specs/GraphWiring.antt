@@ -25,6 +25,7 @@ module _ (spell : Name → Name) (written : ItemKind → Tree) (g : Graph) where
 
   -- an instance of the package, with its imports bound
   pub record IsInstance (k : ℕ) (p : Packaged) (x : Instantiation ℕ) : Type 0 where
+    -- the package as it is where components are defined; encoding says how the tag is written where they are imported
     pub tag : x.tag ≡ OfBytes p.bytes
     pub bound : (n : Name) (item : ItemKind) → item_import g.types p.ty n ≡ Some item → Binds k n (x.args n)
     pub no_other : (n : Name) → item_import g.types p.ty n ≡ None → x.args n ≡ Absent

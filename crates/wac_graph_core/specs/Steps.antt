@@ -5,7 +5,9 @@ use Rattle.wac_types_base.specs.declared.item.ItemKind.{ItemKind}
 use Rattle.wac_types_base.specs.Entries.{Name}
 use Rattle.wac_types_base.specs.Graph.{Among}
 use Rattle.wac_types_names.specs.Packaged.{Packaged}
-use Rattle.wac_types_fit.specs.Trees.{Fit}
+use Rattle.wac_types_base.specs.Tree.{tree}
+use Rattle.wac_types_base.specs.Fits.{Fits}
+use Rattle.wac_types_fit.specs.Trees.{tree_in}
 use Rattle.wac_names.specs.ComponentNames.{IsName}
 use Rattle.wac_names.specs.declared.names.NameKind.{NameKind}
 use Rattle.wac_graph_core.specs.declared.ids.PackageId.{PackageId}
@@ -14,7 +16,7 @@ use Rattle.wac_graph_core.specs.declared.edge.Follow.{Follow}
 use Rattle.wac_graph_core.specs.Nodes.{NodeData, Role, plain_node}
 use Rattle.wac_graph_core.specs.NodeMaps.{NoImport}
 use Rattle.wac_graph_core.specs.Edges.{AreEdges, HasAlias, HasArgument, alias_edge, argument_edge, Reaches}
-use Rattle.wac_graph_core.specs.Graph.{Graph, node_at, ContainsNode, package_of, IsExport, IsArgument, IsOfKind}
+use Rattle.wac_graph_core.specs.Graph.{Graph, node_at, ContainsNode, package_of, IsExport, IsArgument, passed}
 
 -- the text is the name of an import or an export
 abbrev pub IsExternName : Name → Type 0
@@ -69,9 +71,11 @@ Aliases old new i n k = AliasesAgain old new i n k ⊎ AliasesAnew old new i n k
 
 -- ---- arguments
 
--- the node's item fits
-abbrev pub NodeFits : Graph → ℕ → ItemKind → Type 0
-NodeFits g a item = IsOfKind g a (λ x. Fit g.types x g.types item)
+-- the node, as it is passed, fits
+pub record NodeFits (g : Graph) (a : ℕ) (item : ItemKind) : Type 0 where
+  pub node : NodeData
+  pub there : node_at g a ≡ Some node
+  pub fits : Fits (tree (passed g.types node)) (tree_in g.types item)
 
 -- the same argument stands, and nothing is changed
 pub record KeepsArgument (old new : Graph) (i : ℕ) (n : Name) (a : ℕ) : Type 0 where

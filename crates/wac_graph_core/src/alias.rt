@@ -4,7 +4,7 @@ ghost use Rattle.std.specs.Prelude.{◌≡◌, ℕ, IfOk, IfErr, IfSome, IfNone,
 ghost use Rattle.wac_types_base.specs.Collection.{Stands};
 ghost use Rattle.wac_types_base.specs.Entries.{Name};
 ghost use Rattle.wac_graph_core.specs.Edges.{HasAlias};
-ghost use Rattle.wac_graph_core.specs.Graph.{ContainsNode, IsExport};
+ghost use Rattle.wac_graph_core.specs.Graph.{ContainsNode, IsExport, IsStatedExport};
 ghost use Rattle.wac_graph_core.specs.Steps.{Aliases};
 ghost use Rattle.wac_graph_core.specs.Refusals.{AliasRefused};
 
@@ -20,6 +20,7 @@ impl CompositionGraph {
     fn export_item(&self, instance: NodeId, export: &str) -> Result<ItemKind, AliasError>
         requires { ContainsNode self.now instance }
         ensures found { IfOk result (λ item. IsExport self.now instance export.now item) }
+        ensures stated { IfOk result (λ item. IsStatedExport self.now instance export.now item) }
         ensures stands { IfOk result (λ item. Stands self.now.types item) }
         ensures refused { IfErr result (λ e. AliasRefused self.now instance export.now e) }
     {

@@ -1,12 +1,12 @@
 //! Arguments of instantiations.
 
-ghost use Rattle.std.specs.Prelude.{◌≡◌, ℕ, Some, IfOk, IfErr, OnOk, OnErr, MatchOption};
+ghost use Rattle.std.specs.Prelude.{◌≡◌, ◌≢◌, ℕ, Some, IfOk, IfErr, OnOk, OnErr, MatchOption};
 ghost use Rattle.std.specs.Option.{option_copied};
 ghost use Rattle.wac_types_base.specs.Collection.{Stands};
-ghost use Rattle.wac_types_fit.specs.Trees.{Fit};
-ghost use Rattle.wac_graph_core.specs.Graph.{ContainsNode, IsArgument, instantiated};
-ghost use Rattle.wac_graph_core.specs.Steps.{SetsArgument, UnsetsArgument};
-ghost use Rattle.wac_graph_core.specs.Refusals.{ArgumentRefused, LacksImport, Mismatches};
+ghost use Rattle.wac_types_fit.specs.Trees.{Fit, OneOrApart};
+ghost use Rattle.wac_graph_core.specs.Graph.{ContainsNode, IsArgument, IsStatedImport, instantiated};
+ghost use Rattle.wac_graph_core.specs.Steps.{NodeFits, SetsArgument, UnsetsArgument};
+ghost use Rattle.wac_graph_core.specs.Refusals.{ArgumentRefused, LacksImport, Mismatches, NodeMismatches, WrittenFits, WrittenMismatches};
 
 use crate::edge::{
     Edge, Follow, Label, add_edge, find_argument, is_among, reached_from, remove_argument,
@@ -15,24 +15,28 @@ use crate::errors::InstantiationArgumentError;
 use crate::graph::CompositionGraph;
 use crate::ids::NodeId;
 use std::alloc::{AllocError, Global};
+use wac_types_base::copy::copy_item;
 use wac_types_base::{ItemKind, Text, Types};
 use wac_types_fit::{SubtypeChecker, SubtypeError, new_cache};
 use wac_types_names::Package;
+use wac_types_written::written_definition;
 
 /// Why one kind may not be given where another is asked, if it may not.
-pub(crate) fn mismatch(
+fn mismatch(
     alloc: Global,
-    types: &Types,
+    given_types: &Types,
     given: ItemKind,
+    types: &Types,
     asked: ItemKind,
 ) -> Result<Option<SubtypeError>, AllocError>
-    requires given { Stands types.now given }
+    requires given { Stands given_types.now given }
     requires asked { Stands types.now asked }
-    ensures { IfOk result (λ o. MatchOption o (Fit types.now given types.now asked) (λ fault. Mismatches types.now given asked fault)) }
+    requires apart { OneOrApart given_types.now types.now }
+    ensures { IfOk result (λ o. MatchOption o (Fit given_types.now given types.now asked) (Mismatches given_types.now given types.now asked)) }
 {
     let mut cache = new_cache(alloc);
     let mut checker = SubtypeChecker::new(alloc, &mut cache);
-    match checker.is_subtype(given, types, asked, types) {
+    match checker.is_subtype(given, given_types, asked, types) {
         Ok(()) => Ok(None),
         Err(SubtypeError::Memory) => Err(AllocError),
         Err(
@@ -47,6 +51,33 @@ pub(crate) fn mismatch(
             found,
         })),
     }
+}
+
+/// Another number than that.
+fn another(number: u64) -> u64
+    ensures { result ≢ number }
+{
+    if number == 0 { 1 } else { 0 }
+}
+
+/// The same, of what a definition of the one is written as.
+fn written_mismatch(
+    alloc: Global,
+    types: &Types,
+    given: ItemKind,
+    asked: ItemKind,
+) -> Result<Option<SubtypeError>, AllocError>
+    requires given { Stands types.now given }
+    requires asked { Stands types.now asked }
+    ensures { IfOk result (λ o. MatchOption o (WrittenFits types.now given asked) (WrittenMismatches types.now given asked)) }
+{
+    types.see_acyclic();
+    let mut own = Types::new(alloc, another(types.number()));
+    let copy = copy_item(alloc, types, given, &mut own)?;
+    own.see_acyclic();
+    let form = written_definition(alloc, &mut own, copy)?;
+    let fault = mismatch(alloc, &own, form, types, asked)?;
+    Ok(fault)
 }
 
 impl CompositionGraph {
@@ -69,6 +100,7 @@ impl CompositionGraph {
     ) -> Result<ItemKind, InstantiationArgumentError>
         requires { ContainsNode self.now instantiation }
         ensures found { IfOk result (λ item. IsArgument self.now instantiation name.now item) }
+        ensures asked { IfOk result (λ item. IsStatedImport self.now instantiation name.now item) }
         ensures stands { IfOk result (λ item. Stands self.now.types item) }
         ensures refused { (a : ℕ) → IfErr result (λ e. ArgumentRefused self.now instantiation name.now a e) }
         ensures lacks { IfErr result (λ e. LacksImport self.now instantiation name.now e) }
@@ -90,6 +122,27 @@ impl CompositionGraph {
                 package: String::from_str(self.alloc, package.name())?,
             }),
         }
+    }
+
+    /// Why a node may not be passed where that is asked, if it may not: a definition is compared as it is written.
+    fn node_mismatch(
+        &self,
+        node: NodeId,
+        asked: ItemKind,
+    ) -> Result<Option<SubtypeError>, AllocError>
+        requires node { ContainsNode self.now node }
+        requires asked { Stands self.now.types asked }
+        ensures { IfOk result (λ o. MatchOption o (NodeFits self.now node asked) (NodeMismatches self.now node asked)) }
+    {
+        self.see_sound();
+        let given = self.node(node);
+        let item = given.item_kind();
+        if given.is_definition() {
+            let fault = written_mismatch(self.alloc, &self.types, item, asked)?;
+            return Ok(fault);
+        }
+        let fault = mismatch(self.alloc, &self.types, item, &self.types, asked)?;
+        Ok(fault)
     }
 
     /// Passes a node to an instantiation.
@@ -119,9 +172,7 @@ impl CompositionGraph {
                 name: own,
             });
         }
-        self.see_sound();
-        let given = self.node(argument).item_kind();
-        let fault = mismatch(self.alloc, &self.types, given, item)?;
+        let fault = self.node_mismatch(argument, item)?;
         match fault {
             None => {}
             Some(source) => {

@@ -2,11 +2,13 @@
 //! `func NAME params P=V ..`, `record NAME fields F=V ..`, `type NAME V` (another name of a value type),
 //! `resource NAME TEXT of RESOURCE in INTERFACE`, `interface NAME as TEXT uses R=I .. exports E=ITEM ..`,
 //! `world NAME as TEXT uses R=I .. imports I=ITEM .. exports E=ITEM ..`, `value NAME V` (the item of a value),
-//! `module NAME HEAP` and `memories NAME imports M::N=PAGES exports N=PAGES ..` (the type of a module of memories).
+//! `typed NAME ITEM` (the type of an interface, a world or a function), `module NAME HEAP` and
+//! `memories NAME imports M::N=PAGES exports N=PAGES ..` (the type of a module of memories).
 
 use crate::modules::{memories_of, module_of};
 use crate::words::{
-    item_named, pairs_behind, resource_named, value_named, word_at, word_behind, words_of,
+    item_named, pairs_behind, resource_named, type_named, value_named, word_at, word_behind,
+    words_of,
 };
 use anyhow::{Result, bail, ensure};
 use std::alloc::Global;
@@ -177,7 +179,7 @@ fn add_module(graph: &mut CompositionGraph, words: &[&str]) -> Result<ItemKind> 
     Ok(ItemKind::Module(graph.types_mut().add_module_type(module)?))
 }
 
-/// Adds a value type, or the item of a value.
+/// Adds a value type, or gives the item of a value or the type of an item.
 fn add_value(
     graph: &mut CompositionGraph,
     items: &NamedMap<ItemKind>,
@@ -193,6 +195,7 @@ fn add_value(
             let of = value_named(items, word_at(words, 2))?;
             add_defined(graph, DefinedType::Alias(of))
         }
+        "typed" => Ok(ItemKind::Ty(type_named(items, word_at(words, 2))?)),
         "value" => Ok(ItemKind::Value(value_named(items, word_at(words, 2))?)),
         _ => bail!("no such line of types"),
     }

@@ -1,7 +1,7 @@
 use Rattle.std.proofs.Common.{ap, sym, ◌∙◌, subst}
 use Rattle.wac_types_base.specs.Collection.{Stands}
 use Rattle.wac_graph_core.specs.Edges.{alias_edge}
-use Rattle.wac_graph_core.specs.Graph.{Graph, ContainsNode, IsExport}
+use Rattle.wac_graph_core.specs.Graph.{Graph, IsExport, IsStatedExport}
 use Rattle.wac_graph_core.specs.Steps.{AddsEdge, Aliases}
 use Rattle.wac_graph_core.specs.View.{graph}
 use Rattle.wac_graph_core.proofs.GraphSteps.{alias_by}
@@ -17,7 +17,7 @@ invariant_of-self-2 c = (
       (subst (λ es. AddsEdge es c.add_edge.new.edges.items (alias_edge c.args.instance c.in_ok-id.id c.new-name.result)) c.in_ok-reserve.ensures.items c.add_edge.ensures)
       (ap (alias_edge c.args.instance c.in_ok-id.id) (c.new-name.ensures ∙ c.in_ok-from_str.ensures.ok))
       c.in_ok-id.ensures.free
-      (subst (λ g. ContainsNode g c.args.instance) (sym c.self.view_is) c.requires)
+      (subst (λ g. IsStatedExport g c.args.instance c.args.export.now c.in_ok-item.item) (sym c.self.view_is) c.in_ok-item.ensures.stated)
       (subst (λ (g : Graph). Stands g.types c.in_ok-item.item) (sym c.self.view_is) c.in_ok-item.ensures.stands)
       c.in_default.ensures.none
       c.self.invariant.0,

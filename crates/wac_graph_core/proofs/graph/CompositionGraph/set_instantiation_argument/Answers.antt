@@ -1,10 +1,9 @@
 use Rattle.std.proofs.Common.{ℕ, MatchOption, ap, sym, ◌∙◌, refl, subst, ◌∷◌, []}
-use Rattle.wac_types_fit.specs.Trees.{Fit}
 use Rattle.wac_graph_core.specs.declared.edge.Follow.{Follow}
 use Rattle.wac_graph_core.specs.Edges.{has, IsReached, argument_edge, HasArgument}
-use Rattle.wac_graph_core.specs.Graph.{Graph, ContainsNode, IsArgument, node_at}
+use Rattle.wac_graph_core.specs.Graph.{Graph, ContainsNode, IsArgument, IsStatedImport}
 use Rattle.wac_graph_core.specs.Steps.{AddsEdge, SetsArgument, NodeFits}
-use Rattle.wac_graph_core.specs.Refusals.{Mismatches, IsOpen}
+use Rattle.wac_graph_core.specs.Refusals.{NodeMismatches, IsOpen}
 use Rattle.wac_graph_core.specs.View.{graph}
 use Rattle.wac_graph_core.proofs.GraphSteps.{argument_by}
 use Rattle.wac_graph_core.proofs.Calls.{set_step, not_reached}
@@ -16,15 +15,17 @@ returns-in-Err-clause-refused c = c.in-Err.ensures.refused c.args.argument
 pub invariant_of-self-2 : goal.invariant_of-self-2
 invariant_of-self-2 c =
     let g = graph c.self.inside in
+    let fits : NodeFits g c.args.argument c.in-Ok.item =
+    subst (λ (g : Graph). NodeFits g c.args.argument c.in-Ok.item) (sym c.self.view_is)
+    (subst (λ o. MatchOption o (NodeFits c.args.self.now c.args.argument c.in-Ok.item) (NodeMismatches c.args.self.now c.args.argument c.in-Ok.item)) c.in-None.is c.in_ok-fault.ensures) in
     let reached : IsReached Follow.Flow c.self.inside.edges.items (c.args.instantiation ∷ []) c.in_ok-seen.seen.items =
     c.in_ok-seen.ensures in (
       argument_by g c.add_edge.new.edges.items c.args.argument c.args.instantiation c.args.name.now c.in-Ok.item (argument_edge c.args.argument c.args.instantiation c.new-text.result) c.in_ok-seen.seen.items
           (subst (λ es. AddsEdge es c.add_edge.new.edges.items (argument_edge c.args.argument c.args.instantiation c.new-text.result)) c.in_ok-reserve.ensures.items c.add_edge.ensures)
           (ap (argument_edge c.args.argument c.args.instantiation) (c.new-text.ensures ∙ c.in_ok-own.ensures.ok))
-          (subst (λ g. ContainsNode g c.args.argument) (sym c.self.view_is) c.requires.argument)
           (subst (λ g. ContainsNode g c.args.instantiation) (sym c.self.view_is) c.requires.instantiation)
-          (subst (λ g. IsArgument g c.args.instantiation c.args.name.now c.in-Ok.item) (sym c.self.view_is) c.in-Ok.ensures.found)
-          c.in_default.ensures.none
+          (subst (λ g. IsStatedImport g c.args.instantiation c.args.name.now c.in-Ok.item) (sym c.self.view_is) c.in-Ok.ensures.asked)
+          fits c.in_default.ensures.none
           reached (sym (c.is_among.ensures ∙ ap (λ l. has l c.args.argument) c.as_slice.ensures.value) ∙ c.if-is_among.false) c.self.invariant.0,
       c.self.invariant.1,
     )
@@ -32,47 +33,33 @@ invariant_of-self-2 c =
 pub returns-in-Some-fault-clause-refused : goal.returns-in-Some-fault-clause-refused
 returns-in-Some-fault-clause-refused c =
     let none = subst (λ es. (b : ℕ) → HasArgument es c.args.instantiation c.args.name.now b → ⊥) (ap (λ (g : Graph). g.edges) c.self.view_is) c.in_default.ensures.none in
-    let differs : Mismatches c.self.inside.types c.item_kind-given.result c.in-Ok.item c.in-Some-fault.source =
-    subst (λ o. MatchOption o (Fit c.self.inside.types c.item_kind-given.result c.self.inside.types c.in-Ok.item) (λ x. Mismatches c.self.inside.types c.item_kind-given.result c.in-Ok.item x)) c.in-Some-fault.is c.in_ok-fault.ensures in
+    let differs : NodeMismatches c.args.self.now c.args.argument c.in-Ok.item c.in-Some-fault.source =
+    subst (λ o. MatchOption o (NodeFits c.args.self.now c.args.argument c.in-Ok.item) (NodeMismatches c.args.self.now c.args.argument c.in-Ok.item)) c.in-Some-fault.is c.in_ok-fault.ensures in
     let free : IsOpen c.args.self.now c.args.instantiation c.args.name.now c.in-Ok.item = record { is = c.in-Ok.ensures.found; none = none } in (
       c.in_ok-own.ensures.ok,
       c.in-Ok.item,
       free,
-      record {
-        node = c.node.result.now;
-        there = c.node.ensures;
-        kind = subst (λ (g : Graph). Mismatches g.types c.node.result.now.item_kind c.in-Ok.item c.in-Some-fault.source) c.self.view_is
-            (subst (λ k. Mismatches c.self.inside.types k c.in-Ok.item c.in-Some-fault.source) c.item_kind-given.ensures differs);
-      },
+      differs,
     )
 
 pub returns-then-is_among-clause-refused : goal.returns-then-is_among-clause-refused
 returns-then-is_among-clause-refused c =
     let none = subst (λ es. (b : ℕ) → HasArgument es c.args.instantiation c.args.name.now b → ⊥) (ap (λ (g : Graph). g.edges) c.self.view_is) c.in_default.ensures.none in
-    let fit : Fit c.self.inside.types c.item_kind-given.result c.self.inside.types c.in-Ok.item =
-    subst (λ o. MatchOption o (Fit c.self.inside.types c.item_kind-given.result c.self.inside.types c.in-Ok.item) (λ x. Mismatches c.self.inside.types c.item_kind-given.result c.in-Ok.item x)) c.in-None.is c.in_ok-fault.ensures in
     let reached : IsReached Follow.Flow c.args.self.now.edges (c.args.instantiation ∷ []) c.in_ok-seen.seen.items =
     subst (λ es. IsReached Follow.Flow es (c.args.instantiation ∷ []) c.in_ok-seen.seen.items) (ap (λ (g : Graph). g.edges) c.self.view_is) c.in_ok-seen.ensures in
     let free : IsOpen c.args.self.now c.args.instantiation c.args.name.now c.in-Ok.item = record { is = c.in-Ok.ensures.found; none = none } in
-    let fits : NodeFits c.args.self.now c.args.argument c.in-Ok.item = record {
-      node = c.node.result.now;
-      there = c.node.ensures;
-      kind = subst (λ (g : Graph). Fit g.types c.node.result.now.item_kind g.types c.in-Ok.item) c.self.view_is (subst (λ k. Fit c.self.inside.types k c.self.inside.types c.in-Ok.item) c.item_kind-given.ensures fit);
-    } in
+    let fits : NodeFits c.args.self.now c.args.argument c.in-Ok.item =
+    subst (λ o. MatchOption o (NodeFits c.args.self.now c.args.argument c.in-Ok.item) (NodeMismatches c.args.self.now c.args.argument c.in-Ok.item)) c.in-None.is c.in_ok-fault.ensures in
     (refl, c.in-Ok.item, free, fits, reached.sound c.args.argument (sym (c.is_among.ensures ∙ ap (λ l. has l c.args.argument) c.as_slice.ensures.value) ∙ c.if-is_among.true))
 
 pub returns-clause-set : goal.returns-clause-set
 returns-clause-set c =
     let none = c.in_default.ensures.none in
-    let fit : Fit c.self.inside.types c.item_kind-given.result c.self.inside.types c.in-Ok.item =
-    subst (λ o. MatchOption o (Fit c.self.inside.types c.item_kind-given.result c.self.inside.types c.in-Ok.item) (λ x. Mismatches c.self.inside.types c.item_kind-given.result c.in-Ok.item x)) c.in-None.is c.in_ok-fault.ensures in
     let reached : IsReached Follow.Flow c.self.inside.edges.items (c.args.instantiation ∷ []) c.in_ok-seen.seen.items =
     c.in_ok-seen.ensures in
-    let fits : NodeFits (graph c.self.inside) c.args.argument c.in-Ok.item = record {
-      node = c.node.result.now;
-      there = ap (λ g. node_at g c.args.argument) c.self.view_is ∙ c.node.ensures;
-      kind = subst (λ k. Fit c.self.inside.types k c.self.inside.types c.in-Ok.item) c.item_kind-given.ensures fit;
-    } in
+    let fits : NodeFits (graph c.self.inside) c.args.argument c.in-Ok.item =
+    subst (λ (g : Graph). NodeFits g c.args.argument c.in-Ok.item) (sym c.self.view_is)
+    (subst (λ o. MatchOption o (NodeFits c.args.self.now c.args.argument c.in-Ok.item) (NodeMismatches c.args.self.now c.args.argument c.in-Ok.item)) c.in-None.is c.in_ok-fault.ensures) in
     subst (λ g. SetsArgument g (record (graph c.self.inside) { edges = c.add_edge.new.edges.items }) c.args.instantiation c.args.name.now c.args.argument) c.self.view_is
     (set_step (graph c.self.inside) c.add_edge.new.edges.items c.args.argument c.args.instantiation c.args.name.now c.in-Ok.item (argument_edge c.args.argument c.args.instantiation c.new-text.result)
     (subst (λ es. AddsEdge es c.add_edge.new.edges.items (argument_edge c.args.argument c.args.instantiation c.new-text.result)) c.in_ok-reserve.ensures.items c.add_edge.ensures)
