@@ -27,7 +27,7 @@ use Rattle.wac_graph_core.specs.Walking.{is_argument, first_argument, first_sour
 use Rattle.wac_graph_core.specs.Graph.{Graph, IsGraph, node_at, package_if, package_made, instantiated, item_import, imported_in}
 use Rattle.wac_graph_core.specs.GraphWiring as w
 use Rattle.wac_graph_core.proofs.Found.{argument_found, no_argument, source_found, no_source}
-use Rattle.wac_graph_core.proofs.Stating.{imports_stated}
+use Rattle.wac_types_base.proofs.Stating.{imports_stated}
 use Rattle.wac_composition.specs.Composition.{Origin, Made}
 use Rattle.wac_composition.specs.Asks.{asks_of}
 use Rattle.wac_composition.specs.Classes.{spelling}

@@ -20,7 +20,7 @@ use Rattle.wac_graph_core.specs.GraphWiring.{IsWiring}
 use Rattle.wac_composition.specs.Asks.{asks_of}
 use Rattle.wac_composition.specs.Classes.{spelling}
 use Rattle.wac_composition.specs.OuterImports.{outer_imports}
-use Rattle.wac_composition.specs.Written.{written_definition}
+use Rattle.wac_types_written.specs.Written.{written_definition}
 use Rattle.wac_composition.specs.Conflicts.{Cause, first_cause, name_cause, dependency_name}
 use Rattle.wac_composition.specs.Worlds.{composed_world}
 use Rattle.wac_composition.specs.Outlines.{IsSketched}

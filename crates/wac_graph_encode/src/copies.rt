@@ -1,6 +1,5 @@
 //! Copies of the parts of interfaces and worlds.
 
-use crate::maps::insert_under;
 use std::alloc::{AllocError, Global};
 use wac_types_base::{
     Interface, InterfaceId, ItemKind, NamedMap, Text, Types, UsedType, World, WorldId,
@@ -23,37 +22,10 @@ pub(crate) fn copy_text(text: &Option<Text>) -> Result<Option<Text>, AllocError>
     }
 }
 
-/// Adds the same items.
-pub(crate) fn copy_items(
-    alloc: Global,
-    items: &NamedMap<ItemKind>,
-    copy: &mut NamedMap<ItemKind>,
-) -> Result<(), AllocError> {
-    for at in 0..items.len() {
-        let (name, kind) = items.entry(at);
-        insert_under(alloc, copy, name, *kind)?;
-    }
-    Ok(())
-}
-
 /// The same use again, of that interface.
 pub(crate) fn copy_use(used: &UsedType, interface: InterfaceId) -> Result<UsedType, AllocError> {
     let name = copy_text(&used.name)?;
     Ok(UsedType { interface, name })
-}
-
-/// Adds the same uses.
-pub(crate) fn copy_uses(
-    alloc: Global,
-    uses: &NamedMap<UsedType>,
-    copy: &mut NamedMap<UsedType>,
-) -> Result<(), AllocError> {
-    for at in 0..uses.len() {
-        let (name, used) = uses.entry(at);
-        let again = copy_use(used, used.interface)?;
-        insert_under(alloc, copy, name, again)?;
-    }
-    Ok(())
 }
 
 /// An interface of that identifier, in which nothing stands.

@@ -13,12 +13,25 @@ use crate::options::{EncodeOptions, Encoded};
 use crate::outers::{Outers, outers_of};
 use crate::root::{Writing, write_root};
 use crate::world::composed_world;
-use crate::written::written_definition;
 use std::alloc::{AllocError, Global};
 use wac_graph_bytes::{Entry, SortNames, push_component};
 use wac_graph_core::CompositionGraph;
 use wac_graph_scopes::imports::Importing;
-use wac_types_base::{Types, WorldId};
+use wac_types_base::{ItemKind, Types, WorldId};
+use wac_types_written::written_definition;
+
+/// The form in which the type of a definition is written.
+fn written_form(
+    alloc: Global,
+    types: &mut Types,
+    kind: ItemKind,
+) -> Result<Option<ItemKind>, AllocError> {
+    if !types.has(kind) {
+        return Ok(None);
+    }
+    let form = written_definition(alloc, types, kind)?;
+    Ok(Some(form))
+}
 
 /// A definition in the form in which it is written.
 fn written_again(
@@ -27,7 +40,7 @@ fn written_again(
     definition: &Definition,
 ) -> Result<Definition, AllocError> {
     let copy = match definition.copy {
-        Some(kind) => Some(written_definition(alloc, types, kind)?),
+        Some(kind) => written_form(alloc, types, kind)?,
         None => None,
     };
     let name = definition.name.copy()?;

@@ -19,9 +19,9 @@ pub mod options;
 mod outers;
 mod root;
 mod unnamed;
+mod without_uses;
 mod world;
 mod writable;
-mod written;
 
 pub use encode::EncodeGraph;
 pub use errors::{EncodeError, ValidationFault};

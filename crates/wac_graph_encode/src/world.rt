@@ -10,7 +10,7 @@ use crate::copying::Copies;
 use crate::maps::insert_under;
 use crate::nodes::{import_name, kind_of};
 use crate::outers::Outers;
-use crate::written::{Form, formed};
+use crate::without_uses::without_uses;
 use indexmap::IndexMap;
 use std::alloc::{AllocError, Global};
 use wac_graph_core::{CompositionGraph, NodeId};
@@ -329,7 +329,7 @@ pub(crate) fn composed_world(
     to.see_acyclic();
     let world = own_world(graph, asked, outers, definitions)?;
     let kind = ItemKind::Component(world);
-    match formed(alloc, &mut asked.types, Form::WithoutUses, kind)? {
+    match without_uses(alloc, &mut asked.types, kind)? {
         ItemKind::Component(world) => copied(alloc, &asked.types, world, to),
         _ => Ok(None),
     }

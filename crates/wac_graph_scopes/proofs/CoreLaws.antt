@@ -1,19 +1,19 @@
 -- One more declaration of a core module type.
-use Rattle.std.proofs.Common.{◌≡◌, ℕ, ◌+◌, ◌≤◌, ◌<◌, List, [], ◌∷◌, ◌++◌, length, map, take, Option, Some, true, slice_get, refl, sym, ap, ◌∙◌, subst, arith, append_assoc, string_bytes, Vec, Global}
-use Rattle.std.specs.Prelude.{String, ◌&&◌}
+use Rattle.std.proofs.Common.{◌≡◌, ℕ, ◌+◌, List, [], ◌∷◌, ◌++◌, length, map, take, Option, Some, slice_get, sym, ap, ◌∙◌, subst, arith, append_assoc, string_bytes, Vec, Global}
+use Rattle.std.specs.Prelude.{String}
 use Rattle.std.proofs.lemmas.Bool.{and_from}
-use Rattle.std.proofs.lemmas.List.{length_push, map_push, append-nil, take_all}
+use Rattle.std.proofs.lemmas.List.{length_push, map_push, append-nil}
 use Rattle.wac_types_base.specs.declared.core_types.CoreExtern.{CoreExtern}
 use Rattle.wac_types_base.specs.declared.core_types.CoreFuncType.{CoreFuncType}
 use Rattle.wac_types_base.specs.Entries.{Name, names_of, AreDistinct}
-use Rattle.wac_types_base.specs.Tree.{Tree, core_module, ascending, pair_cmp, name_cmp}
+use Rattle.wac_types_base.specs.Tree.{core_module, ascending, pair_cmp, name_cmp}
 use Rattle.wac_types_base.proofs.Looked.{take-one_more}
 use Rattle.wac_graph_bytes.specs.declared.module.CoreDeclaration.{CoreDeclaration as CodeCore}
 use Rattle.wac_graph_bytes.specs.declared.module.CoreDeclaration.TheVariants.{Import, Signature, Export}
 use Rattle.wac_graph_bytes.specs.declared.module.CoreDescription.{CoreDescription}
 use Rattle.wac_graph_bytes.specs.declared.module.CoreValue.{CoreValue}
 use Rattle.wac_graph_bytes.specs.Entries.{CoreDeclaration, CoreImport, CoreSignature, CoreExport}
-use Rattle.wac_graph_bytes.specs.Typing.{◌>>=◌, core_type, core_item, signature, same_pair, are_distinct, distinct_names, some_if, module_by, module_with, module_tree}
+use Rattle.wac_graph_bytes.specs.Typing.{◌>>=◌, core_type, core_item, signature, same_pair, some_if, module_by, module_with, module_tree}
 use Rattle.wac_graph_bytes.specs.Views.{core_view, module_view}
 use Rattle.wac_graph_bytes.proofs.Distinct.{distinct_by, same_pair_decides, distinct_decides}
 use Rattle.wac_graph_scopes.specs.declared.core_items.ModuleScope.{ModuleScope}

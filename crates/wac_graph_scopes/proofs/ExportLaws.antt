@@ -63,5 +63,6 @@ module _ (w : Worlds) (c : Collection) (outer : List Scope) (i : Inside) where
       let m = Item (string_bytes n) sort.Ty (item_of t) in
       record {
         exported = export_added n (desc.Equal k) (sort.Ty, item_of t) s u h (ap (λ (o : Option Tree). o >>= λ y. Some (sort.Ty, item_of y)) at) ds (omega (arith, ts, h.types, length_push i.here.types m)) ks rs;
+        others = record { funcs = refl; components = refl; instances = refl; modules = refl; cores = refl };
         index = ap (λ (o : Option Meaning). o >>= type_tree w) (get_last i.here.types m s.types h.types) ∙ type_in_item t;
       }

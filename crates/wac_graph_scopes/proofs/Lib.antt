@@ -8,3 +8,12 @@ pub mod ExportLaws
 pub mod InsideLaws
 pub mod KnownLaws
 pub mod CoreLaws
+pub mod CoreRefusals
+pub mod RefusedLaws
+pub mod FieldLaws
+pub mod ItemLaws
+pub mod PartLaws
+pub mod UsedLaws
+pub mod OrderLaws
+pub mod WritingLaws
+pub mod ImportLaws

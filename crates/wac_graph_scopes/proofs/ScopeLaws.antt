@@ -1,8 +1,9 @@
 -- One more declaration of a scope of written types, and what stands on.
 use Rattle.std.proofs.Common.{◌≡◌, ℕ, ◌+◌, Bool, true, false, List, [], ◌∷◌, ◌++◌, length, Option, Some, None, refl, sym, ap, ◌∙◌, subst, arith, inl, inr, if◌then◌else◌}
-use Rattle.std.specs.Prelude.{slice_get, IfSome, ◌==◌, ◌&&◌, ◌⊎◌}
-use Rattle.std.proofs.lemmas.Bool.Decides.{Decides-eqb}
-use Rattle.wac_types_base.specs.Entries.{Name, value_at}
+use Rattle.std.specs.Prelude.{slice_get, ◌==◌, ◌⊎◌}
+use Rattle.std.specs.Cmp.Lexicographic.{pointwise}
+use Rattle.std.proofs.lemmas.Slice.Eq.{bytes_eq-Decides}
+use Rattle.wac_types_base.specs.Entries.{Name, value_at, put_entry}
 use Rattle.std.proofs.lemmas.List.{length_push}
 use Rattle.wac_types_base.specs.declared.ids.DefinedTypeId.{DefinedTypeId}
 use Rattle.wac_types_base.specs.declared.item.ValueType.{ValueType}
@@ -25,7 +26,7 @@ use Rattle.wac_graph_bytes.proofs.Steps.{bind_some, kept_one, cores_kept, get_la
 use Rattle.wac_graph_bytes.proofs.Extending.{one_more}
 use Rattle.wac_graph_scopes.specs.declared.scope.KnownType.{KnownType}
 use Rattle.wac_graph_scopes.specs.declared.scope.TypeScope.{TypeScope}
-use Rattle.wac_graph_scopes.specs.Scopes.{Extends, IsKnown, IsResource, IsScope, Goes, AnswersType, PlaceReads, PlacesRead}
+use Rattle.wac_graph_scopes.specs.Scopes.{Extends, OnlyTypes, IsKnown, IsResource, IsScope, Goes, AnswersType, PlaceReads, PlacesRead}
 use Rattle.wac_types_fit.proofs.Items.{Among-last}
 
 -- ---- what stands on
@@ -40,6 +41,18 @@ pub Extends-one : (s : Sort) (m : Meaning) (h : Scope) → Extends h (with_one s
 Extends-one s m h = record {
   indexes = λ t k n e. kept_one t s m n h k e;
   cores = λ k t e. ap (λ (xs : List Tree). slice_get xs k) (cores_kept s m h) ∙ e;
+}
+
+pub OnlyTypes-refl : (h : Scope) → OnlyTypes h h
+OnlyTypes-refl h = record { funcs = refl; components = refl; instances = refl; modules = refl; cores = refl }
+
+pub OnlyTypes-trans : (g h k : Scope) → OnlyTypes g h → OnlyTypes h k → OnlyTypes g k
+OnlyTypes-trans g h k a b = record {
+  funcs = b.funcs ∙ a.funcs;
+  components = b.components ∙ a.components;
+  instances = b.instances ∙ a.instances;
+  modules = b.modules ∙ a.modules;
+  cores = b.cores ∙ a.cores;
 }
 
 found_kept : (h j : Scope) (outer : List Scope) (k : ℕ) (m : Meaning) → Extends h j → found (h ∷ outer) sort.Ty k ≡ Some m → found (j ∷ outer) sort.Ty k ≡ Some m
@@ -85,12 +98,13 @@ resource_kept w h j outer n k x e = record { reads = type_kept w h j outer k _ x
 
 module _ (w : Worlds) (c : Collection) (outer : List Scope) where
   pub Goes-refl : (i : Inside) (s : TypeScope) → IsScope w c outer i s → Goes w c outer i i s
-  Goes-refl i s h = record { stands = h; extends = Extends-refl i.here; imports = refl; exports = refl }
+  Goes-refl i s h = record { stands = h; extends = Extends-refl i.here; others = OnlyTypes-refl i.here; imports = refl; exports = refl }
 
   pub Goes-trans : (i j k : Inside) (s u : TypeScope) → Goes w c outer i j s → Goes w c outer j k u → Goes w c outer i k u
   Goes-trans i j k s u a b = record {
     stands = b.stands;
     extends = Extends-trans i.here j.here k.here a.extends b.extends;
+    others = OnlyTypes-trans i.here j.here k.here a.others b.others;
     imports = b.imports ∙ a.imports;
     exports = b.exports ∙ a.exports;
   }
@@ -109,6 +123,7 @@ module _ (w : Worlds) (c : Collection) (outer : List Scope) where
           resources = λ n k a. resource_kept w i.here (with_one sort.Ty m i.here) outer n k x (h.resources n k (subst (λ (l : List (Name × ℕ)). value_at l n ≡ Some k) rs a));
         };
         extends = x;
+        others = record { funcs = refl; components = refl; instances = refl; modules = refl; cores = refl };
         imports = refl;
         exports = refl;
       }
@@ -180,4 +195,52 @@ scope_same w c outer i s u h ds t ks rs = record {
   types = t ∙ h.types;
   known = λ x a. h.known x (subst (λ (l : List KnownType). Among x l) ks a);
   resources = λ n k a. h.resources n k (subst (λ (l : List (Name × ℕ)). value_at l n ≡ Some k) rs a);
+}
+
+-- ---- one more declaration of any kind
+
+pub scope_at : (w : Worlds) (c : Collection) (outer : List Scope) (i j : Inside) (s u : TypeScope) (d : Declaration) → IsScope w c outer i s → declared w outer i (before d End) ≡ Some j → Extends i.here j.here
+    → u.declarations.items ≡ s.declarations.items ++ d ∷ [] → u.types ≡ length j.here.types → u.known.items ≡ s.known.items → u.resources ≡ s.resources → IsScope w c outer j u
+scope_at w c outer i j s u d h one x ds ts ks rs = record {
+  reads = ap (λ (l : List Declaration). declared w outer nothing_inside (declarations_of l)) ds ∙ one_more w outer nothing_inside i j s.declarations.items d h.reads one;
+  types = ts;
+  known = λ k a. known_kept w c i.here j.here outer k x (h.known k (subst (λ (l : List KnownType). Among k l) ks a));
+  resources = λ n k a. resource_kept w i.here j.here outer n k x (h.resources n k (subst (λ (l : List (Name × ℕ)). value_at l n ≡ Some k) rs a));
+}
+
+abbrev Either : {T : Type 0} → List (Name × T) → Name → Name → T → T → Type 0
+Either es n m v k = (value_at es m ≡ Some k) ⊎ ((m ≡ n) × (k ≡ v))
+
+put_in_none : {T : Type 0} (n m : Name) (v k : T) (t : Bool) → pointwise ◌==◌ m n ≡ t → (if t then Some v else None) ≡ Some k → Either [] n m v k
+put_in_none n m v k true q e = inr ((bytes_eq-Decides m n).0 q, sym (cc e))
+put_in_none n m v k false q e = absurd (cc e)
+
+put_in_more : {T : Type 0} (x : Name × T) (es : List (Name × T)) (n m : Name) (v k : T) (b t : Bool) → pointwise ◌==◌ n x.0 ≡ b → pointwise ◌==◌ m x.0 ≡ t
+    → (value_at (put_entry es n v) m ≡ Some k → Either es n m v k) → (if t then Some (if b then v else x.1) else value_at (if b then es else put_entry es n v) m) ≡ Some k
+    → Either (x ∷ es) n m v k
+put_in_more x es n m v k true true p q f e = inr ((bytes_eq-Decides m x.0).0 q ∙ sym ((bytes_eq-Decides n x.0).0 p), sym (cc e))
+put_in_more x es n m v k true false p q f e = inl (subst (λ (z : Bool). (if z then Some x.1 else value_at es m) ≡ Some k) (sym q) e)
+put_in_more x es n m v k false true p q f e = inl (subst (λ (z : Bool). (if z then Some x.1 else value_at es m) ≡ Some k) (sym q) e)
+put_in_more x es n m v k false false p q f e = elim (f e) [ inl a ↦ inl (subst (λ (z : Bool). (if z then Some x.1 else value_at es m) ≡ Some k) (sym q) a) | inr b ↦ inr b ]
+
+put_value : {T : Type 0} (x : Name × T) (es : List (Name × T)) (n m : Name) (v : T) (b : Bool) → value_at (if b then (x.0, v) ∷ es else x ∷ put_entry es n v) m ≡ (if pointwise ◌==◌ m x.0 then Some (if b then v else x.1) else value_at (if b then es else put_entry es n v) m)
+put_value x es n m v true = refl
+put_value x es n m v false = refl
+
+-- what is under a name was there, or is what was put there
+put_either : {T : Type 0} (es : List (Name × T)) (n m : Name) (v k : T) → value_at (put_entry es n v) m ≡ Some k → Either es n m v k
+put_either [] n m v k e = put_in_none n m v k (pointwise ◌==◌ m n) refl e
+put_either (x ∷ es) n m v k e = put_in_more x es n m v k (pointwise ◌==◌ n x.0) (pointwise ◌==◌ m x.0) refl refl (put_either es n m v k) (sym (put_value x es n m v (pointwise ◌==◌ n x.0)) ∙ e)
+
+-- the name has an index, beside the others
+pub scope_has_resource : (w : Worlds) (c : Collection) (outer : List Scope) (i : Inside) (s u : TypeScope) (n : Name) (k : ℕ) → IsScope w c outer i s → IsResource w (i.here ∷ outer) n k
+    → u.declarations.items ≡ s.declarations.items → u.types ≡ s.types → u.known.items ≡ s.known.items → u.resources ≡ put_entry s.resources n k → IsScope w c outer i u
+scope_has_resource w c outer i s u n k h r ds t ks rs = record {
+  reads = ap (λ (l : List Declaration). declared w outer nothing_inside (declarations_of l)) ds ∙ h.reads;
+  types = t ∙ h.types;
+  known = λ x a. h.known x (subst (λ (l : List KnownType). Among x l) ks a);
+  resources = λ m j a. elim (put_either s.resources n m k j (subst (λ (l : List (Name × ℕ)). value_at l m ≡ Some j) rs a)) [
+    | inl e ↦ h.resources m j e
+    | inr p ↦ record { reads = ap (type_at w (i.here ∷ outer)) p.1 ∙ r.reads ∙ ap (λ (x : Name). Some (rigid (resource x) end)) (sym p.0) }
+  ];
 }

@@ -97,7 +97,7 @@ module _ (w : Worlds) (c : Collection) (outer : List Scope) (i : Inside) where
       → AnswersValue w c outer i t u (Index k)
   value_remembered t s u k a remembers = record {
     after = a.after;
-    goes = record { stands = remembers a.after a.goes.stands a.value; extends = a.goes.extends; imports = a.goes.imports; exports = a.goes.exports };
+    goes = record { stands = remembers a.after a.goes.stands a.value; extends = a.goes.extends; others = a.goes.others; imports = a.goes.imports; exports = a.goes.exports };
     value = a.value;
   }
 

@@ -1,5 +1,11 @@
 pub mod Forms
 pub mod Scopes
 pub mod Faults
+pub mod Refusals
 pub mod CoreItems
+pub mod ItemRefusals
 pub mod Roots
+pub mod Parts
+pub mod Items
+pub mod Orders
+pub mod Imports

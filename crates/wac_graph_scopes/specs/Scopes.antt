@@ -27,6 +27,14 @@ pub record Extends (old new : Scope) : Type 0 where
   pub indexes : (s : Sort) (k : ℕ) (m : Meaning) → slice_get (space s old) k ≡ Some m → slice_get (space s new) k ≡ Some m
   pub cores : (k : ℕ) (t : Tree) → slice_get old.cores k ≡ Some t → slice_get new.cores k ≡ Some t
 
+-- of the other sorts there stands the same
+pub record OnlyTypes (old new : Scope) : Type 0 where
+  pub funcs : new.funcs ≡ old.funcs
+  pub components : new.components ≡ old.components
+  pub instances : new.instances ≡ old.instances
+  pub modules : new.modules ≡ old.modules
+  pub cores : new.cores ≡ old.cores
+
 -- the index of a type that is remembered stands for the type of its id
 pub record IsKnown (w : Worlds) (ss : List Scope) (c : Collection) (k : KnownType) : Type 0 where
   pub reads : value_of w ss (Index k.index) ≡ Some (tree_in c (ItemKind.Value (ValueType.Defined k.id)))
@@ -58,10 +66,11 @@ StandsFor w ss c id k = value_of w ss (Index k) ≡ Some (tree_in c (ItemKind.Va
 abbrev pub FindsType : Collection → TypeScope → DefinedTypeId → Option ℕ → Type 0
 FindsType c s id o = (w : Worlds) (outer : List Scope) (i : Inside) → IsScope w c outer i s → IfSome o (StandsFor w (i.here ∷ outer) c id)
 
--- The scope stands again, extended; nothing is imported and nothing exported.
+-- The scope stands again, extended with types alone; nothing is imported and nothing exported.
 pub record Goes (w : Worlds) (c : Collection) (outer : List Scope) (i after : Inside) (s : TypeScope) : Type 0 where
   pub stands : IsScope w c outer after s
   pub extends : Extends i.here after.here
+  pub others : OnlyTypes i.here after.here
   pub imports : after.imports ≡ i.imports
   pub exports : after.exports ≡ i.exports
 
@@ -113,12 +122,16 @@ pub record Exports (w : Worlds) (c : Collection) (outer : List Scope) (i : Insid
 -- And the export's own index stands for the type.
 pub record ExportsType (w : Worlds) (c : Collection) (outer : List Scope) (i : Inside) (n : Name) (t : Tree) (s : TypeScope) (k : ℕ) : Type 0 where
   pub exported : Exports w c outer i n (item_of t) s
+  pub others : OnlyTypes i.here exported.after.here
   pub index : type_at w (exported.after.here ∷ outer) k ≡ Some t
 
 -- ---- whatever scope of the collection it was, this is answered
 
 abbrev pub WritesValue : {E : Type 0} → Collection → Tree → TypeScope → TypeScope → Result Written E → Type 0
 WritesValue c t old new r = (w : Worlds) (outer : List Scope) (i : Inside) → IsScope w c outer i old → IfOk r (λ b. AnswersValue w c outer i t new b)
+
+abbrev pub WritesDefined : {E : Type 0} → Collection → DefinedTypeId → TypeScope → TypeScope → Result Written E → Type 0
+WritesDefined c id old new r = WritesValue c (tree_in c (ItemKind.Value (ValueType.Defined id))) old new r
 
 abbrev pub WritesType : {E : Type 0} → Collection → Tree → TypeScope → TypeScope → Result ℕ E → Type 0
 WritesType c t old new r = (w : Worlds) (outer : List Scope) (i : Inside) → IsScope w c outer i old → IfOk r (λ k. AnswersType w c outer i t new k)
@@ -160,3 +173,12 @@ FindsKnown s o = (w : Worlds) (c : Collection) (outer : List Scope) (i : Inside)
 
 abbrev pub KnowsResource : TypeScope → Name → Option ℕ → Type 0
 KnowsResource s n o = (w : Worlds) (c : Collection) (outer : List Scope) (i : Inside) → IsScope w c outer i s → IfSome o (λ k. type_at w (i.here ∷ outer) k ≡ Some (rigid (resource n) end))
+
+abbrev pub RemembersOne : {U E : Type 0} → Collection → DefinedTypeId → ℕ → TypeScope → TypeScope → Result U E → Type 0
+RemembersOne c id k old new r = (w : Worlds) (outer : List Scope) (i : Inside) → IsScope w c outer i old → StandsFor w (i.here ∷ outer) c id k → IfOk r (λ _. IsScope w c outer i new)
+
+abbrev pub NotesResource : {U E : Type 0} → Name → ℕ → TypeScope → TypeScope → Result U E → Type 0
+NotesResource n k old new r = (w : Worlds) (c : Collection) (outer : List Scope) (i : Inside) → IsScope w c outer i old → IsResource w (i.here ∷ outer) n k → IfOk r (λ _. IsScope w c outer i new)
+
+abbrev pub NotesValue : {U E : Type 0} → Collection → ValueType → ℕ → TypeScope → TypeScope → Result U E → Type 0
+NotesValue c v k old new r = (w : Worlds) (outer : List Scope) (i : Inside) → IsScope w c outer i old → type_at w (i.here ∷ outer) k ≡ Some (tree_in c (ItemKind.Value v)) → IfOk r (λ _. IsScope w c outer i new)

@@ -1,11 +1,14 @@
 //! Core module types.
 
-ghost use Rattle.std.specs.Prelude.{◌≡◌, ◌∷◌, [], Some, IfOk, map, slice_get, ◌<◌, length, string_bytes};
+ghost use Rattle.std.specs.Prelude.{◌≡◌, ◌∷◌, [], ◌+◌, ◌≤◌, length, Some, IfOk, IfErr, map};
 ghost use Rattle.wac_types_base.specs.declared.core_types.CoreExtern.TheVariants as extern;
+ghost use Rattle.wac_graph_bytes.specs.declared.module.CoreReference.{CoreReference};
 ghost use Rattle.wac_graph_bytes.specs.Typing.{core_reference_type, core_type, module_tree};
 ghost use Rattle.wac_graph_bytes.specs.Views.{module_view};
-ghost use Rattle.wac_graph_scopes.specs.CoreItems.{AddsSignature, IsItem, DescribesCore, AddsCores};
-ghost use Rattle.wac_types_base.specs.Entries.{names_of, AreDistinct};
+ghost use Rattle.wac_graph_scopes.specs.declared.fault.WriteError.{WriteError};
+ghost use Rattle.wac_graph_scopes.specs.CoreItems.{IsUnspoken, CoreFails, OneFails, ModuleFails, TypesRefused, PlainRefused, CoresRefused, ModuleRefused, IsPlainItem};
+ghost use Rattle.wac_graph_scopes.specs.CoreItems.{AddsSignature, IsItem, DescribesCore, AddsCores, AddsImport};
+ghost use Rattle.wac_types_base.specs.Entries.{names_of, values_of, AreDistinct};
 ghost use Rattle.wac_types_fit.specs.Checking.{module_tree as tree_of_module};
 
 use crate::fault::WriteError;
@@ -26,7 +29,8 @@ pub(crate) struct ModuleScope {
 }
 
 fn reference_of(ty: CoreRefType) -> Result<CoreReference, WriteError>
-    ensures { IfOk result (λ r. core_reference_type r ≡ ty) }
+    ensures written { IfOk result (λ r. core_reference_type r ≡ ty) }
+    ensures refused { IfErr result (λ e. (e ≡ WriteError.Unwritable) × ((r : CoreReference) → core_reference_type r ≡ ty → ⊥)) }
 {
     match core_reference(ty) {
         Some(reference) => Ok(reference),
@@ -35,7 +39,8 @@ fn reference_of(ty: CoreRefType) -> Result<CoreReference, WriteError>
 }
 
 fn value_of(ty: CoreType) -> Result<CoreValue, WriteError>
-    ensures { IfOk result (λ v. core_type v ≡ ty) }
+    ensures written { IfOk result (λ v. core_type v ≡ ty) }
+    ensures refused { IfErr result (λ e. (e ≡ WriteError.Unwritable) × IsUnspoken ty) }
 {
     match core_value(ty) {
         Some(value) => Ok(value),
@@ -44,7 +49,8 @@ fn value_of(ty: CoreType) -> Result<CoreValue, WriteError>
 }
 
 fn values_of(alloc: Global, types: &[CoreType]) -> Result<Vec<CoreValue>, WriteError>
-    ensures { IfOk result (λ v. map core_type v.items ≡ types.now) }
+    ensures written { IfOk result (λ v. map core_type v.items ≡ types.now) }
+    ensures refused { IfErr result (TypesRefused types.now) }
 {
     let mut all = Vec::new(alloc);
     for ty in types {
@@ -59,7 +65,8 @@ fn table_of(
     limits: Limits,
     shared: bool,
 ) -> Result<CoreDescription, WriteError>
-    ensures { IfOk result (λ d. IsItem d (extern.Table element limits.minimum limits.maximum limits.wide shared)) }
+    ensures written { IfOk result (λ d. IsItem d (extern.Table element limits.minimum limits.maximum limits.wide shared)) }
+    ensures refused { IfErr result (PlainRefused (extern.Table element limits.minimum limits.maximum limits.wide shared)) }
 {
     if shared {
         return Err(WriteError::Unwritable);
@@ -74,7 +81,8 @@ fn memory_of(
     shared: bool,
     page_size: Option<u32>,
 ) -> Result<CoreDescription, WriteError>
-    ensures { IfOk result (λ d. IsItem d (extern.Memory limits.wide shared limits.minimum limits.maximum page_size)) }
+    ensures written { IfOk result (λ d. IsItem d (extern.Memory limits.wide shared limits.minimum limits.maximum page_size)) }
+    ensures refused { IfErr result (PlainRefused (extern.Memory limits.wide shared limits.minimum limits.maximum page_size)) }
 {
     match page_size {
         Some(_) => Err(WriteError::Unwritable),
@@ -84,7 +92,8 @@ fn memory_of(
 
 /// The type of a global, which is not shared.
 fn global_of(ty: CoreType, mutable: bool, shared: bool) -> Result<CoreDescription, WriteError>
-    ensures { IfOk result (λ d. IsItem d (extern.Global ty mutable shared)) }
+    ensures written { IfOk result (λ d. IsItem d (extern.Global ty mutable shared)) }
+    ensures refused { IfErr result (PlainRefused (extern.Global ty mutable shared)) }
 {
     if shared {
         return Err(WriteError::Unwritable);
@@ -95,7 +104,9 @@ fn global_of(ty: CoreType, mutable: bool, shared: bool) -> Result<CoreDescriptio
 
 /// What an item of a module is that needs no signature.
 fn describe_plain(item: &CoreExtern) -> Result<CoreDescription, WriteError>
-    ensures { IfOk result (λ d. IsItem d item.now) }
+    requires { IsPlainItem item.now }
+    ensures written { IfOk result (λ d. IsItem d item.now) }
+    ensures refused { IfErr result (PlainRefused item.now) }
 {
     match item {
         CoreExtern::Table {
@@ -138,7 +149,10 @@ fn describe_plain(item: &CoreExtern) -> Result<CoreDescription, WriteError>
 impl ModuleScope {
     /// The index of a function's signature.
     fn signature(&mut self, alloc: Global, func: &CoreFuncType) -> Result<u32, WriteError>
-        ensures { IfOk result (λ k. AddsSignature self.old self.new func.now k) }
+        ensures written { IfOk result (λ k. AddsSignature self.old self.new func.now k) }
+        ensures spoken { IfOk result (λ _. CoreFails (extern.Func func.now) → ⊥) }
+        ensures refused { IfErr result (CoresRefused (extern.Func func.now ∷ []) self.old.signatures) }
+        ensures count { self.new.signatures ≤ self.old.signatures + 1 }
     {
         let params = values_of(alloc, func.params.as_slice())?;
         let results = values_of(alloc, func.results.as_slice())?;
@@ -152,7 +166,10 @@ impl ModuleScope {
 
     /// What an item of a module is.
     fn describe(&mut self, alloc: Global, item: &CoreExtern) -> Result<CoreDescription, WriteError>
-        ensures { IfOk result (λ d. DescribesCore self.old self.new item.now d) }
+        ensures written { IfOk result (λ d. DescribesCore self.old self.new item.now d) }
+        ensures spoken { IfOk result (λ _. CoreFails item.now → ⊥) }
+        ensures refused { IfErr result (CoresRefused (item.now ∷ []) self.old.signatures) }
+        ensures count { self.new.signatures ≤ self.old.signatures + 1 }
     {
         match item {
             CoreExtern::Func(func) => {
@@ -173,7 +190,10 @@ impl ModuleScope {
         names: &(String, String),
         item: &CoreExtern,
     ) -> Result<(), WriteError>
-        ensures { IfOk result (λ _. AddsCores self.old self.new (((string_bytes names.now.0, string_bytes names.now.1), item.now) ∷ []) []) }
+        ensures written { IfOk result (λ _. AddsImport self.old self.new names.now item.now) }
+        ensures spoken { IfOk result (λ _. CoreFails item.now → ⊥) }
+        ensures refused { IfErr result (CoresRefused (item.now ∷ []) self.old.signatures) }
+        ensures count { self.new.signatures ≤ self.old.signatures + 1 }
     {
         let description = self.describe(alloc, item)?;
         let module = String::from_str(alloc, names.0.as_str())?;
@@ -184,7 +204,10 @@ impl ModuleScope {
     }
 
     fn export(&mut self, alloc: Global, name: &str, item: &CoreExtern) -> Result<(), WriteError>
-        ensures { IfOk result (λ _. AddsCores self.old self.new [] ((name.now, item.now) ∷ [])) }
+        ensures written { IfOk result (λ _. AddsCores self.old self.new [] ((name.now, item.now) ∷ [])) }
+        ensures spoken { IfOk result (λ _. CoreFails item.now → ⊥) }
+        ensures refused { IfErr result (CoresRefused (item.now ∷ []) self.old.signatures) }
+        ensures count { self.new.signatures ≤ self.old.signatures + 1 }
     {
         let description = self.describe(alloc, item)?;
         let name = String::from_str(alloc, name)?;
@@ -196,6 +219,9 @@ impl ModuleScope {
     fn import_all(&mut self, alloc: Global, imports: &CoreImports) -> Result<(), WriteError>
         ensures adds { IfOk result (λ _. AddsCores self.old self.new imports.now []) }
         ensures distinct { AreDistinct (names_of imports.now) }
+        ensures spoken { IfOk result (λ _. OneFails (values_of imports.now) → ⊥) }
+        ensures refused { IfErr result (CoresRefused (values_of imports.now) self.old.signatures) }
+        ensures count { self.new.signatures ≤ self.old.signatures + length imports.now }
     {
         for at in 0..imports.len() {
             let item = &imports.values()[at];
@@ -211,6 +237,9 @@ impl ModuleScope {
     ) -> Result<(), WriteError>
         ensures adds { IfOk result (λ _. AddsCores self.old self.new [] exports.now) }
         ensures distinct { AreDistinct (names_of exports.now) }
+        ensures spoken { IfOk result (λ _. OneFails (values_of exports.now) → ⊥) }
+        ensures refused { IfErr result (CoresRefused (values_of exports.now) self.old.signatures) }
+        ensures count { self.new.signatures ≤ self.old.signatures + length exports.now }
     {
         for at in 0..exports.len() {
             let (name, item) = exports.entry(at);
@@ -225,7 +254,9 @@ pub(crate) fn module_declarations(
     alloc: Global,
     module: &ModuleType,
 ) -> Result<Vec<CoreDeclaration>, WriteError>
-    ensures { IfOk result (λ v. module_tree (module_view v.items) ≡ Some (tree_of_module «module».now)) }
+    ensures written { IfOk result (λ v. module_tree (module_view v.items) ≡ Some (tree_of_module «module».now)) }
+    ensures spoken { IfOk result (λ _. ModuleFails «module».now → ⊥) }
+    ensures refused { IfErr result (ModuleRefused «module».now) }
 {
     let mut scope = ModuleScope {
         declarations: Vec::new(alloc),

@@ -1,16 +1,31 @@
 //! Imports of a component type, or of the root, with the interfaces that they use.
 
-ghost use Rattle.std.specs.Prelude.{IfSome};
+ghost use Rattle.std.specs.Prelude.{◌≡◌, List, [], Some, true, false, length, slice_get, slice_set, IfSome, IfNone, IfOk, IfErr, OnOk};
+ghost use Rattle.wac_types_base.specs.declared.ids.WorldId.{WorldId};
 ghost use Rattle.wac_types_base.specs.declared.item.ItemKind.{ItemKind};
+ghost use Rattle.wac_types_base.specs.Record.{Collection};
+ghost use Rattle.wac_types_base.specs.Entries.{names_of, has_name, AreDistinct};
+ghost use Rattle.wac_types_base.specs.Collection.{Stands};
 ghost use Rattle.wac_types_fit.specs.Trees.{IsInside};
+ghost use Rattle.wac_graph_bytes.specs.declared.value.Sort.TheVariants.{Instance};
+ghost use Rattle.wac_graph_bytes.specs.Counting.{description_sort};
+ghost use Rattle.wac_graph_bytes.specs.Typing.{Worlds, Scope, nothing_inside};
+ghost use Rattle.wac_graph_scopes.specs.Parts.{IsUsedKind, IsFresh};
+ghost use Rattle.wac_graph_scopes.specs.Items.{IsItemScope, HasNameAt};
+ghost use Rattle.wac_graph_scopes.specs.Orders.{IsOrder, SourcesFirst};
+ghost use Rattle.wac_graph_scopes.specs.ItemRefusals.{RefusedType, RefusedItem};
+ghost use Rattle.wac_graph_scopes.specs.Imports.{all_imports, all_exports, NoneWritten, IsInstanceImport, IsPlaced, GivesTaken, FindsSource, AddsUsed, AliasesUse, KeepsWorld, DescribesImport, DescribesThere, MayDescribe};
+ghost use Rattle.wac_graph_scopes.specs.Imports.{ImportsDescribed, ImportsAt, WritesImport, WritesInOrder, KeepsExporting, ExportsAt, ExportsAll, ExportsThere, WritesBetween, WritesBeforeOthers, BeginsWorld, MakesComponent};
 
 use crate::fault::WriteError;
-use crate::items::{Around, ItemScope, describe, export_item, export_resource, find_used};
+use crate::items::{
+    Around, ItemScope, add_name, describe, export_item, export_resource, exports_taken, find_used,
+};
 use crate::order::{ImportOrder, order_of};
 use crate::parts::{
-    Item, Use, export_at, export_count, export_named, identifier, import_at, import_count,
-    interface_of, is_fresh, taken, use_at, use_count, world_export_at, world_export_count,
-    world_use_at, world_use_count, world_use_named,
+    Item, Use, export_at, export_count, identifier, import_at, import_count, interface_of,
+    is_fresh, taken, use_at, use_count, world_export_at, world_export_count, world_use_at,
+    world_use_count, world_use_named,
 };
 use crate::used::{UsedIndex, UsedTypes};
 use crate::value::{define_apart, fits_in};
@@ -37,9 +52,9 @@ pub struct Called {
 #[derive(Drop)]
 pub struct ImportScope {
     pub scope: ItemScope,
-    used: UsedTypes,
+    pub used: UsedTypes,
     /// What is written of the imports, in their order.
-    places: Vec<Option<SortIndex>>,
+    pub places: Vec<Option<SortIndex>>,
     /// Where the imports stand, by the names under which they are asked for.
     found: NamedMap<usize>,
 }
@@ -53,7 +68,9 @@ pub struct Importing<'a> {
 }
 
 /// What sort an item so described is of.
-pub fn sort_of(description: Description) -> Sort {
+pub fn sort_of(description: Description) -> Sort
+    ensures { result ≡ description_sort description }
+{
     match description {
         Description::Module(_) => Sort::Module,
         Description::Func(_) => Sort::Func,
@@ -104,15 +121,20 @@ fn add_called(
 }
 
 /// Adds places at which no import is written yet.
-fn add_empty(count: usize, places: &mut Vec<Option<SortIndex>>) -> Result<(), AllocError> {
-    for _ in 0..count {
+fn add_empty(count: usize, places: &mut Vec<Option<SortIndex>>) -> Result<(), AllocError>
+    requires { places.old.items ≡ [] }
+    ensures { OnOk result (NoneWritten places.new.items) }
+{
+    for _at in 0..count {
         places.push(None)?;
     }
     Ok(())
 }
 
 /// The interface of the instance that is imported at a place.
-fn instance_at(all: Importing<'_>, at: usize) -> Option<InterfaceId> {
+fn instance_at(all: Importing<'_>, at: usize) -> Option<InterfaceId>
+    ensures { IfSome result (λ id. IsInstanceImport (all_imports all.entry) at id) }
+{
     match import_at(all.types, all.world, at) {
         Some(import) => match import.kind {
             ItemKind::Instance(id) => Some(id),
@@ -129,36 +151,52 @@ fn gives(
     at: usize,
     name: &str,
     item: ItemKind,
-) -> Result<bool, WriteError> {
-    let Some(id) = instance_at(all, at) else {
-        return Ok(false);
-    };
-    match export_named(all.types, id, name) {
-        Some(own) => fits_in(alloc, all.types, own, item),
+) -> Result<bool, WriteError>
+    ensures { GivesTaken all.entry at name.now item result }
+{
+    match instance_at(all, at) {
+        Some(id) => exports_taken(alloc, all.types, id, name, item),
         None => Ok(false),
     }
 }
 
 /// The index of the instance at a place.
-fn instance_index(places: &[Option<SortIndex>], at: usize) -> Option<u32> {
+fn instance_index(places: &[Option<SortIndex>], at: usize) -> Option<u32>
+    ensures { IfSome result (IsPlaced places.now at) }
+{
     match places.get(at) {
-        Some(place) => match place {
-            Some(place) => {
-                if place.sort == Sort::Instance {
-                    Some(place.index)
-                } else {
-                    None
-                }
-            }
-            None => None,
-        },
+        Some(place) => index_of_instance(*place),
         None => None,
+    }
+}
+
+/// The index of what is written, if it is an instance.
+fn index_of_instance(place: Option<SortIndex>) -> Option<u32>
+    ensures { IfSome result (λ k. place ≡ Some (record { sort = Instance; index = k })) }
+{
+    match place {
+        Some(place) => index_if_instance(place.sort, place.index),
+        None => None,
+    }
+}
+
+/// The index, if the sort is that of instances.
+fn index_if_instance(sort: Sort, index: u32) -> Option<u32>
+    ensures { IfSome result (λ k. (sort ≡ Instance) × (k ≡ index)) }
+{
+    match sort {
+        Sort::Instance => Some(index),
+        _ => None,
     }
 }
 
 impl ImportScope {
     /// No world is begun.
-    pub fn new(alloc: Global) -> Self {
+    pub fn new(alloc: Global) -> Self
+        ensures scope { (w : Worlds) (c : Collection) (outer : List Scope) → IsItemScope w c outer nothing_inside result.scope }
+        ensures used { result.used.all.items ≡ [] }
+        ensures places { result.places.items ≡ [] }
+    {
         ImportScope {
             scope: ItemScope::new(alloc),
             used: UsedTypes::new(alloc),
@@ -169,9 +207,14 @@ impl ImportScope {
 
     /// Begins a world: nothing is written of its imports, which are found under the names under which they are asked
     /// for, and under their own.
-    pub fn begin(&mut self, alloc: Global, all: Importing<'_>) -> Result<(), AllocError> {
+    pub fn begin(&mut self, alloc: Global, all: Importing<'_>) -> Result<(), AllocError>
+        ensures scope { self.new.scope ≡ self.old.scope }
+        ensures used { self.new.used ≡ self.old.used }
+        ensures places { OnOk result (NoneWritten self.new.places.items) }
+    {
         add_called(alloc, all, &mut self.found)?;
         add_places(alloc, all, &mut self.found)?;
+        self.places = Vec::new(alloc);
         add_empty(import_count(all.types, all.world), &mut self.places)
     }
 
@@ -182,7 +225,11 @@ impl ImportScope {
     }
 
     /// Where the imports of the world stand, in the order in which they are written.
-    pub fn order(&self, alloc: Global, all: Importing<'_>) -> Result<ImportOrder, AllocError> {
+    pub fn order(&self, alloc: Global, all: Importing<'_>) -> Result<ImportOrder, AllocError>
+        ensures order { IfOk result (λ o. IsOrder (length (all_imports all.entry)) o.sources.items o.others.items) }
+        ensures sources { IfOk result (λ o. SourcesFirst all.entry o.sources.items) }
+        ensures distinct { AreDistinct (names_of (all_imports all.entry)) }
+    {
         order_of(alloc, all, &self.found)
     }
 
@@ -194,15 +241,37 @@ impl ImportScope {
         identifier: &str,
         name: &str,
         item: ItemKind,
-    ) -> Result<Option<u32>, WriteError> {
+    ) -> Result<Option<u32>, WriteError>
+        ensures { FindsSource all.entry name.now item self.now result }
+    {
+        all.types.see_acyclic();
         let Some(at) = self.found.get(identifier) else {
             return Ok(None);
         };
-        let Some(instance) = instance_index(&self.places, *at) else {
+        let Some(instance) = instance_index(self.places.as_slice(), *at) else {
             return Ok(None);
         };
         let given = gives(alloc, all, *at, name, item)?;
         if given { Ok(Some(instance)) } else { Ok(None) }
+    }
+
+    /// Makes an alias of an import's export, which is a used type.
+    fn add_used(
+        &mut self,
+        alloc: Global,
+        identifier: &str,
+        name: &str,
+        instance: u32,
+        item: ItemKind,
+        types: &Types,
+    ) -> Result<u32, WriteError>
+        ensures { (world : WorldId) → AddsUsed types.now world instance name.now item self.old self.new result }
+    {
+        types.see_acyclic();
+        let index = self.scope.add_alias(alloc, instance, name)?;
+        self.used
+            .insert(identifier, name, UsedIndex { item, index })?;
+        Ok(index)
     }
 
     /// The index of a used type: an alias of the import's export, which is of that type.
@@ -211,23 +280,36 @@ impl ImportScope {
         alloc: Global,
         all: Importing<'_>,
         used: Use<'_>,
-    ) -> Result<Option<u32>, WriteError> {
+        item: ItemKind,
+    ) -> Result<Option<u32>, WriteError>
+        ensures { AliasesUse all.entry item self.old self.new result }
+    {
         let Some(identifier) = identifier(all.types, used.interface) else {
             return Err(WriteError::Unwritable);
         };
-        let Some(item) = taken(all.types, used) else {
-            return Ok(None);
-        };
-        let name = used.there;
-        let found = find_used(alloc, all.types, &self.used, identifier, name, item)?;
-        if found.is_some() {
-            return Ok(found);
+        let found = find_used(alloc, all.types, &self.used, identifier, used.there, item)?;
+        match found {
+            Some(index) => Ok(Some(index)),
+            None => self.alias_new(alloc, all, identifier, used.there, item),
         }
-        match self.source_of(alloc, all, identifier, name, item)? {
+    }
+
+    /// The same of one that has no alias yet.
+    fn alias_new(
+        &mut self,
+        alloc: Global,
+        all: Importing<'_>,
+        identifier: &str,
+        name: &str,
+        item: ItemKind,
+    ) -> Result<Option<u32>, WriteError>
+        ensures { AliasesUse all.entry item self.old self.new result }
+    {
+        let source = self.source_of(alloc, all, identifier, name, item)?;
+        match source {
             Some(instance) => {
-                let index = self.scope.add_alias(alloc, instance, name)?;
-                self.used
-                    .insert(identifier, name, UsedIndex { item, index })?;
+                let types = all.types;
+                let index = self.add_used(alloc, identifier, name, instance, item, types)?;
                 Ok(Some(index))
             }
             None => Ok(None),
@@ -235,19 +317,57 @@ impl ImportScope {
     }
 
     /// Makes an alias of a used type, which then stands for it unless something does.
-    fn alias_noted(
+    pub(crate) fn alias_noted(
         &mut self,
         alloc: Global,
         all: Importing<'_>,
         used: Use<'_>,
-    ) -> Result<(), WriteError> {
-        let Some(item) = taken(all.types, used) else {
-            return Ok(());
-        };
-        match self.alias_of(alloc, all, used)? {
+    ) -> Result<(), WriteError>
+        ensures { KeepsWorld all.entry self.old self.new result }
+    {
+        match taken(all.types, used) {
+            Some(item) => self.alias_taken(alloc, all, used, item),
+            None => Ok(()),
+        }
+    }
+
+    /// The same of the type that is taken.
+    fn alias_taken(
+        &mut self,
+        alloc: Global,
+        all: Importing<'_>,
+        used: Use<'_>,
+        item: ItemKind,
+    ) -> Result<(), WriteError>
+        requires stands { Stands all.types.now item }
+        requires kind { IsUsedKind item }
+        ensures { KeepsWorld all.entry self.old self.new result }
+    {
+        let found = self.alias_of(alloc, all, used, item)?;
+        match found {
             Some(index) => self.scope.note(alloc, all.types, item, index),
             None => Ok(()),
         }
+    }
+
+    /// Makes an alias of the type that an interface uses at a place.
+    fn alias_use_at(
+        &mut self,
+        alloc: Global,
+        all: Importing<'_>,
+        id: InterfaceId,
+        at: usize,
+    ) -> Result<(), WriteError>
+        ensures { KeepsWorld all.entry self.old self.new result }
+    {
+        let Some(used) = use_at(all.types, id, at) else {
+            return Ok(());
+        };
+        let Some(item) = taken(all.types, used) else {
+            return Ok(());
+        };
+        let _ = self.alias_of(alloc, all, used, item)?;
+        Ok(())
     }
 
     /// Makes aliases of the types that an interface uses.
@@ -256,32 +376,63 @@ impl ImportScope {
         alloc: Global,
         all: Importing<'_>,
         id: InterfaceId,
-    ) -> Result<(), WriteError> {
+    ) -> Result<(), WriteError>
+        ensures { KeepsWorld all.entry self.old self.new result }
+    {
         for at in 0..use_count(all.types, id) {
-            if let Some(used) = use_at(all.types, id, at) {
-                let _ = self.alias_of(alloc, all, used)?;
-            }
+            self.alias_use_at(alloc, all, id, at)?;
         }
         Ok(())
     }
 
     /// Makes aliases of all types that an item uses.
+    #[cycle(preparing)]
     pub fn prepare(
         &mut self,
         alloc: Global,
         all: Importing<'_>,
         kind: ItemKind,
-    ) -> Result<(), WriteError> {
-        let Some(id) = interface_of(all.types, kind) else {
-            return Ok(());
-        };
+    ) -> Result<(), WriteError>
+        ensures { KeepsWorld all.entry self.old self.new result }
+    {
+        match interface_of(all.types, kind) {
+            Some(id) => self.prepare_interface(alloc, all, id),
+            None => Ok(()),
+        }
+    }
+
+    /// Makes aliases of all types that an interface and its exports use.
+    #[cycle(preparing)]
+    fn prepare_interface(
+        &mut self,
+        alloc: Global,
+        all: Importing<'_>,
+        id: InterfaceId,
+    ) -> Result<(), WriteError>
+        ensures { KeepsWorld all.entry self.old self.new result }
+    {
         self.alias_uses(alloc, all, id)?;
         for at in 0..export_count(all.types, id) {
-            if let Some(item) = export_at(all.types, id, at) {
-                self.prepare(alloc, all, item.kind)?;
-            }
+            self.prepare_export(alloc, all, id, at)?;
         }
         Ok(())
+    }
+
+    /// Makes aliases of all types that the export at a place uses.
+    #[cycle(preparing)]
+    fn prepare_export(
+        &mut self,
+        alloc: Global,
+        all: Importing<'_>,
+        id: InterfaceId,
+        at: usize,
+    ) -> Result<(), WriteError>
+        ensures { KeepsWorld all.entry self.old self.new result }
+    {
+        match export_at(all.types, id, at) {
+            Some(item) => self.prepare(alloc, all, item.kind),
+            None => Ok(()),
+        }
     }
 
     /// What a type is that the world uses, where it is imported.
@@ -290,17 +441,38 @@ impl ImportScope {
         alloc: Global,
         all: Importing<'_>,
         import: Item<'_>,
-    ) -> Result<Option<Description>, WriteError> {
+    ) -> Result<Option<Description>, WriteError>
+        ensures { MayDescribe all.entry import.entry self.old self.new result }
+    {
         let Some(used) = world_use_named(all.types, all.world, import.name) else {
             return Ok(None);
         };
-        let Some(item) = taken(all.types, used) else {
-            return Ok(None);
-        };
-        if !fits_in(alloc, all.types, item, import.kind)? {
+        match taken(all.types, used) {
+            Some(item) => self.describe_taken(alloc, all, used, item, import),
+            None => Ok(None),
+        }
+    }
+
+    /// The same of the type that is taken.
+    fn describe_taken(
+        &mut self,
+        alloc: Global,
+        all: Importing<'_>,
+        used: Use<'_>,
+        item: ItemKind,
+        import: Item<'_>,
+    ) -> Result<Option<Description>, WriteError>
+        requires stands { Stands all.types.now item }
+        requires kind { IsUsedKind item }
+        ensures { MayDescribe all.entry import.entry self.old self.new result }
+    {
+        all.types.see_acyclic();
+        let fits = fits_in(alloc, all.types, item, import.kind)?;
+        if !fits {
             return Ok(None);
         }
-        match self.alias_of(alloc, all, used)? {
+        let found = self.alias_of(alloc, all, used, item)?;
+        match found {
             Some(index) => Ok(Some(Description::Equal(index))),
             None => Ok(None),
         }
@@ -313,7 +485,10 @@ impl ImportScope {
         alloc: Global,
         types: &Types,
         kind: ItemKind,
-    ) -> Result<Description, WriteError> {
+    ) -> Result<Description, WriteError>
+        ensures describes { DescribesThere types.now kind self.old self.new result }
+        ensures refused { Stands types.now kind → IfErr result (RefusedItem types.now kind self.new.scope) }
+    {
         let around = Around {
             used: &self.used,
             depth: 0,
@@ -327,7 +502,11 @@ impl ImportScope {
         alloc: Global,
         types: &Types,
         ty: Type,
-    ) -> Result<Description, WriteError> {
+    ) -> Result<Description, WriteError>
+        ensures describes { DescribesThere types.now (ItemKind.Ty ty) self.old self.new result }
+        ensures refused { Stands types.now (ItemKind.Ty ty) → IfErr result (RefusedType types.now ty self.new.scope) }
+    {
+        types.see_acyclic();
         match ty {
             Type::Value(ty) => {
                 let index = define_apart(alloc, &mut self.scope.types, types, ty)?;
@@ -343,11 +522,25 @@ impl ImportScope {
         alloc: Global,
         all: Importing<'_>,
         import: Item<'_>,
-    ) -> Result<Option<Description>, WriteError> {
+    ) -> Result<Option<Description>, WriteError>
+        ensures { MayDescribe all.entry import.entry self.old self.new result }
+    {
         let used = self.describe_used(alloc, all, import)?;
-        if used.is_some() {
-            return Ok(used);
+        match used {
+            Some(description) => Ok(Some(description)),
+            None => self.describe_fresh(alloc, all, import),
         }
+    }
+
+    /// The same of one that no use gives.
+    fn describe_fresh(
+        &mut self,
+        alloc: Global,
+        all: Importing<'_>,
+        import: Item<'_>,
+    ) -> Result<Option<Description>, WriteError>
+        ensures { MayDescribe all.entry import.entry self.old self.new result }
+    {
         if is_fresh(all.types, import) {
             return Ok(Some(Description::Resource));
         }
@@ -362,8 +555,11 @@ impl ImportScope {
         alloc: Global,
         all: Importing<'_>,
         import: Item<'_>,
-    ) -> Result<Description, WriteError> {
-        match self.describe_plainly(alloc, all, import)? {
+    ) -> Result<Description, WriteError>
+        ensures { DescribesImport all.entry import.entry self.old self.new result }
+    {
+        let plainly = self.describe_plainly(alloc, all, import)?;
+        match plainly {
             Some(description) => Ok(description),
             None => self.describe(alloc, all.types, import.kind),
         }
@@ -376,7 +572,11 @@ impl ImportScope {
         types: &Types,
         import: Item<'_>,
         description: Description,
-    ) -> Result<SortIndex, WriteError> {
+    ) -> Result<SortIndex, WriteError>
+        ensures imports { ImportsDescribed types.now import.entry description self.old.scope self.new.scope result }
+        ensures used { self.new.used ≡ self.old.used }
+        ensures places { self.new.places ≡ self.old.places }
+    {
         let text = String::from_str(alloc, import.name)?;
         let declaration = Declaration::Import(text, description);
         let index = self.scope.add_item(declaration, description)?;
@@ -388,22 +588,28 @@ impl ImportScope {
     }
 
     /// Says what is written of the import at a place.
-    fn set_place(&mut self, at: usize, place: SortIndex) {
-        if let Some(own) = self.places.get_mut(at) {
-            *own = Some(place);
+    fn set_place(&mut self, at: usize, place: SortIndex)
+        ensures places { self.new.places.items ≡ slice_set self.old.places.items at (Some place) }
+        ensures scope { self.new.scope ≡ self.old.scope }
+        ensures used { self.new.used ≡ self.old.used }
+    {
+        if at < self.places.len() {
+            self.places[at] = Some(place);
         }
     }
 
     /// Writes the import at a place that is so described.
-    fn import_at(
+    fn import_placed(
         &mut self,
         alloc: Global,
-        types: &Types,
+        all: Importing<'_>,
         import: Item<'_>,
         description: Description,
         at: usize,
-    ) -> Result<(), WriteError> {
-        let place = self.import(alloc, types, import, description)?;
+    ) -> Result<(), WriteError>
+        ensures { ImportsAt all.entry import.entry description at self.old self.new result }
+    {
+        let place = self.import(alloc, all.types, import, description)?;
         self.set_place(at, place);
         Ok(())
     }
@@ -415,11 +621,17 @@ impl ImportScope {
         alloc: Global,
         all: Importing<'_>,
         at: usize,
-    ) -> Result<(), WriteError> {
+    ) -> Result<(), WriteError>
+        ensures { WritesImport all.entry at self.old self.new result }
+    {
+        let count = import_count(all.types, all.world);
+        if at >= count {
+            return Ok(());
+        }
         match import_at(all.types, all.world, at) {
             Some(import) => {
                 let description = self.describe_import(alloc, all, import)?;
-                self.import_at(alloc, all.types, import, description, at)
+                self.import_placed(alloc, all, import, description, at)
             }
             None => Ok(()),
         }
@@ -427,12 +639,14 @@ impl ImportScope {
 
     /// Writes an export of a component type.
     #[cycle(types)]
-    fn export(
+    pub(crate) fn export(
         &mut self,
         alloc: Global,
         all: Importing<'_>,
         item: Item<'_>,
-    ) -> Result<(), WriteError> {
+    ) -> Result<(), WriteError>
+        ensures { ExportsThere all.entry item.entry self.old self.new result }
+    {
         self.prepare(alloc, all, item.kind)?;
         let around = Around {
             used: &self.used,
@@ -440,165 +654,4 @@ impl ImportScope {
         };
         export_item(alloc, &mut self.scope, all.types, around, item)
     }
-}
-
-/// Writes the imports at places of a world.
-#[cycle(types)]
-fn write_imports(
-    alloc: Global,
-    all: Importing<'_>,
-    scope: &mut ImportScope,
-    order: &[usize],
-) -> Result<(), WriteError> {
-    for at in order {
-        scope.write_import(alloc, all, *at)?;
-    }
-    Ok(())
-}
-
-/// Makes the types stand that a world uses and has no items of.
-fn alias_world_uses(
-    alloc: Global,
-    all: Importing<'_>,
-    scope: &mut ImportScope,
-) -> Result<(), WriteError> {
-    for at in 0..world_use_count(all.types, all.world) {
-        if let Some(used) = world_use_at(all.types, all.world, at) {
-            scope.alias_noted(alloc, all, used)?;
-        }
-    }
-    Ok(())
-}
-
-/// Exports a resource of a world under its own name, if it does not stand yet, and adds its name.
-fn export_new_resource(
-    alloc: Global,
-    all: Importing<'_>,
-    scope: &mut ItemScope,
-    item: Item<'_>,
-    exported: &mut Names,
-) -> Result<(), WriteError> {
-    if is_fresh(all.types, item) && scope.types.resource(item.name).is_none() {
-        export_resource(alloc, scope, all.types, item)?;
-        let _ = exported.insert(String::from_str(alloc, item.name)?)?;
-    }
-    Ok(())
-}
-
-/// Exports the resources of a world under their own names that do not stand yet; their names.
-fn export_new_resources(
-    alloc: Global,
-    all: Importing<'_>,
-    scope: &mut ItemScope,
-) -> Result<Names, WriteError> {
-    let mut exported = Names::new(alloc);
-    for at in 0..world_export_count(all.types, all.world) {
-        if let Some(item) = world_export_at(all.types, all.world, at) {
-            export_new_resource(alloc, all, scope, item, &mut exported)?;
-        }
-    }
-    Ok(exported)
-}
-
-/// Exports the other resources of a world under their own names.
-fn export_resources(
-    alloc: Global,
-    all: Importing<'_>,
-    scope: &mut ItemScope,
-    exported: &Names,
-) -> Result<(), WriteError> {
-    for at in 0..world_export_count(all.types, all.world) {
-        if let Some(item) = world_export_at(all.types, all.world, at) {
-            if is_fresh(all.types, item) && !exported.contains(item.name) {
-                export_resource(alloc, scope, all.types, item)?;
-            }
-        }
-    }
-    Ok(())
-}
-
-/// The world's export at a place, if it is no resource under its own name.
-fn other_at<'a>(all: Importing<'a>, at: usize) -> Option<Item<'a>>
-    ensures { IfSome result (λ x. IsInside all.entry.types.now x.kind (ItemKind.Component all.entry.world)) }
-{
-    match world_export_at(all.types, all.world, at) {
-        Some(item) => {
-            if is_fresh(all.types, item) {
-                None
-            } else {
-                Some(item)
-            }
-        }
-        None => None,
-    }
-}
-
-/// Exports the other items of a world.
-#[cycle(types)]
-fn export_others(
-    alloc: Global,
-    all: Importing<'_>,
-    scope: &mut ImportScope,
-) -> Result<(), WriteError> {
-    for at in 0..world_export_count(all.types, all.world) {
-        if let Some(item) = other_at(all, at) {
-            scope.export(alloc, all, item)?;
-        }
-    }
-    Ok(())
-}
-
-/// Makes the types stand that a world uses, and exports the resources that do not stand yet; their names.
-fn write_between(
-    alloc: Global,
-    all: Importing<'_>,
-    scope: &mut ImportScope,
-) -> Result<Names, WriteError> {
-    alias_world_uses(alloc, all, scope)?;
-    export_new_resources(alloc, all, &mut scope.scope)
-}
-
-/// Writes the imports of a world, and exports its resources. A resource that is only exported stands before what is
-/// imported and needs it.
-#[cycle(types)]
-fn write_before_others(
-    alloc: Global,
-    all: Importing<'_>,
-    scope: &mut ImportScope,
-    order: &ImportOrder,
-) -> Result<(), WriteError> {
-    write_imports(alloc, all, scope, &order.sources)?;
-    let exported = write_between(alloc, all, scope)?;
-    write_imports(alloc, all, scope, &order.others)?;
-    export_resources(alloc, all, &mut scope.scope, &exported)
-}
-
-/// Writes a component type; its declarations.
-#[cycle(types)]
-fn write_component(
-    alloc: Global,
-    all: Importing<'_>,
-    scope: &mut ImportScope,
-) -> Result<Vec<Declaration>, WriteError> {
-    scope.begin(alloc, all)?;
-    let order = scope.order(alloc, all)?;
-    write_before_others(alloc, all, scope, &order)?;
-    export_others(alloc, all, scope)?;
-    Ok(scope.scope.take_declarations(alloc))
-}
-
-/// The declarations of a component type.
-#[cycle(types)]
-pub(crate) fn component_type(
-    alloc: Global,
-    types: &Types,
-    id: WorldId,
-) -> Result<Vec<Declaration>, WriteError> {
-    let all = Importing {
-        types,
-        world: id,
-        called: &[],
-    };
-    let mut scope = ImportScope::new(alloc);
-    write_component(alloc, all, &mut scope)
 }

@@ -1,20 +1,34 @@
 //! Items in a scope of written types, and the types of instances.
 
-ghost use Rattle.std.specs.Prelude.{IfSome};
+ghost use Rattle.std.specs.Prelude.{◌≡◌, ◌+◌, List, IfSome, IfNone, IfOk, IfErr, OnOk, Some, false, true, slice_get};
 ghost use Rattle.wac_types_base.specs.declared.item.ItemKind.{ItemKind};
-ghost use Rattle.wac_types_fit.specs.Trees.{IsInside};
+ghost use Rattle.wac_types_base.specs.declared.item.«Type».{«Type» as TypeKind};
+ghost use Rattle.wac_types_base.specs.declared.item.ValueType.{ValueType};
+ghost use Rattle.wac_types_base.specs.Record.{Collection};
+ghost use Rattle.wac_types_base.specs.Entries.{Name, names_of, has_name, put_name, AreDistinct};
+ghost use Rattle.wac_types_base.specs.Collection.{Stands};
+ghost use Rattle.wac_types_fit.specs.Trees.{IsInside, tree_in};
+ghost use Rattle.wac_graph_bytes.specs.Typing.{Worlds, Scope, nothing_inside};
+ghost use Rattle.wac_graph_scopes.specs.Parts.{exports_of, uses_of, IsUsedKind, IsFresh};
+ghost use Rattle.wac_graph_scopes.specs.declared.fault.WriteError.{WriteError};
+ghost use Rattle.wac_graph_scopes.specs.Scopes.{FindsResource};
+ghost use Rattle.wac_graph_scopes.specs.Refusals.{IsUnnamed, RefusedThere};
+ghost use Rattle.wac_graph_scopes.specs.ItemRefusals.{CoresFull, RefusedModule, RefusedType, RefusedItem};
+ghost use Rattle.wac_graph_scopes.specs.Items.{IsItemScope, AddsType, AddsCore, count_of, with_count, AddsItem, AliasesOuter, AliasesExport, described_as, Notes};
+ghost use Rattle.wac_graph_scopes.specs.Items.{FindsUsed, AliasesUsed, ExportsTaken, HasNameAt, ExportsUsed, TakesUse, TakesNamed, TakesAt, BeginsInstance, KeepsWriting, ExportsDescribed, ExportsFresh};
+ghost use Rattle.wac_graph_scopes.specs.Items.{StatesType, StatesTypeItem, StatesModule, DescribesSimply, StatesItem, StatesClosed, DescribesItem, ExportsOne, WritesOtherAt, WritesOthers, WritesInstance, MakesInstance};
 
 use crate::core_items::module_declarations;
 use crate::fault::WriteError;
-use crate::imports::component_type;
 use crate::parts::{
     Item, Use, export_at, export_count, export_named, identifier, interface_of, is_fresh,
     root_name, taken, use_at, use_count, world_of,
 };
 use crate::scope::{TypeScope, next_of};
 use crate::used::UsedTypes;
-use crate::value::{define_value, fits_in, note_named, push_func};
-use std::alloc::Global;
+use crate::value::{define_value, fits_in, note_resource, note_value, push_func};
+use crate::worlds::component_type;
+use std::alloc::{AllocError, Global};
 use std::mem;
 use wac_graph_bytes::{Alias, Declaration, Description, Sort};
 use wac_types_base::{
@@ -42,7 +56,10 @@ pub struct Around<'a> {
 
 impl<'a> Around<'a> {
     /// The same, one scope deeper.
-    fn deeper(self) -> Result<Around<'a>, WriteError> {
+    fn deeper(self) -> Result<Around<'a>, WriteError>
+        ensures used { IfOk result (λ a. a.used.now ≡ self.entry.used.now) }
+        ensures depth { IfOk result (λ a. a.depth ≡ self.entry.depth + 1) }
+    {
         let depth = next_of(self.depth)?;
         Ok(Around {
             used: self.used,
@@ -53,7 +70,9 @@ impl<'a> Around<'a> {
 
 impl ItemScope {
     /// Nothing stands there yet.
-    pub fn new(alloc: Global) -> Self {
+    pub fn new(alloc: Global) -> Self
+        ensures { (w : Worlds) (c : Collection) (outer : List Scope) → IsItemScope w c outer nothing_inside result }
+    {
         ItemScope {
             types: TypeScope::new(alloc),
             cores: 0,
@@ -65,24 +84,33 @@ impl ItemScope {
     }
 
     /// What is declared, which is taken from here.
-    pub fn take_declarations(&mut self, alloc: Global) -> Vec<Declaration> {
+    pub fn take_declarations(&mut self, alloc: Global) -> Vec<Declaration>
+        ensures { result.items ≡ self.old.types.declarations.items }
+    {
         let none = Vec::new(alloc);
         mem::replace(&mut self.types.declarations, none)
     }
 
     /// Adds a declaration of a type.
-    fn add_type(&mut self, declaration: Declaration) -> Result<u32, WriteError> {
+    fn add_type(&mut self, declaration: Declaration) -> Result<u32, WriteError>
+        ensures { AddsType declaration self.old self.new result }
+    {
         self.types.declarations.push(declaration)?;
         let index = self.types.types;
-        self.types.types = next_of(index)?;
+        let next = next_of(index)?;
+        self.types.types = next;
         Ok(index)
     }
 
     /// Adds a core module type.
-    fn add_core(&mut self, declaration: Declaration) -> Result<u32, WriteError> {
+    fn add_core(&mut self, declaration: Declaration) -> Result<u32, WriteError>
+        ensures adds { AddsCore declaration self.old self.new result }
+        ensures refused { IfErr result (CoresFull self.new) }
+    {
         self.types.declarations.push(declaration)?;
         let index = self.cores;
-        self.cores = next_of(index)?;
+        let next = next_of(index)?;
+        self.cores = next;
         Ok(index)
     }
 
@@ -91,7 +119,9 @@ impl ItemScope {
         &mut self,
         declaration: Declaration,
         description: Description,
-    ) -> Result<u32, WriteError> {
+    ) -> Result<u32, WriteError>
+        ensures { AddsItem declaration description self.old self.new result }
+    {
         self.types.declarations.push(declaration)?;
         let index = self.count_of(description);
         let next = next_of(index)?;
@@ -100,7 +130,9 @@ impl ItemScope {
     }
 
     /// How many items of that sort stand here.
-    fn count_of(&self, description: Description) -> u32 {
+    fn count_of(&self, description: Description) -> u32
+        ensures { result ≡ count_of description self.now }
+    {
         match description {
             Description::Module(_) => self.modules,
             Description::Func(_) => self.funcs,
@@ -111,7 +143,9 @@ impl ItemScope {
         }
     }
 
-    fn set_count(&mut self, description: Description, next: u32) {
+    fn set_count(&mut self, description: Description, next: u32)
+        ensures { self.new ≡ with_count description next self.old }
+    {
         match description {
             Description::Module(_) => self.modules = next,
             Description::Func(_) => self.funcs = next,
@@ -123,7 +157,9 @@ impl ItemScope {
     }
 
     /// Adds an alias of a type that stands so many scopes further out.
-    fn add_outer(&mut self, depth: u32, index: u32) -> Result<u32, WriteError> {
+    fn add_outer(&mut self, depth: u32, index: u32) -> Result<u32, WriteError>
+        ensures { AliasesOuter depth index self.old self.new result }
+    {
         self.add_type(Declaration::Alias(Alias::Outer(Sort::Ty, depth, index)))
     }
 
@@ -133,7 +169,9 @@ impl ItemScope {
         alloc: Global,
         instance: u32,
         name: &str,
-    ) -> Result<u32, WriteError> {
+    ) -> Result<u32, WriteError>
+        ensures { AliasesExport instance name.now self.old self.new result }
+    {
         let name = String::from_str(alloc, name)?;
         self.add_type(Declaration::Alias(Alias::Export(Sort::Ty, instance, name)))
     }
@@ -145,34 +183,36 @@ impl ItemScope {
         types: &Types,
         kind: ItemKind,
         index: u32,
-    ) -> Result<(), WriteError> {
+    ) -> Result<(), WriteError>
+        ensures { Notes types.now kind index self.old self.new result }
+    {
+        types.see_acyclic();
         match kind {
-            ItemKind::Ty(Type::Resource(id)) => {
-                self.note_resource(alloc, root_name(types, id), index)
-            }
-            ItemKind::Ty(Type::Value(ty)) => self.note_value(types, ty, index),
+            ItemKind::Ty(ty) => self.note_type(alloc, types, ty, index),
             _ => Ok(()),
         }
     }
 
-    fn note_resource(&mut self, alloc: Global, name: &str, index: u32) -> Result<(), WriteError> {
-        if self.types.resource(name).is_none() {
-            let name = String::from_str(alloc, name)?;
-            self.types.add_resource(name, index)?;
+    fn note_type(
+        &mut self,
+        alloc: Global,
+        types: &Types,
+        ty: Type,
+        index: u32,
+    ) -> Result<(), WriteError>
+        ensures { Notes types.now (ItemKind.Ty ty) index self.old self.new result }
+    {
+        types.see_acyclic();
+        match ty {
+            Type::Resource(id) => note_resource(
+                alloc,
+                &mut self.types,
+                root_name(types, id),
+                index,
+            ),
+            Type::Value(ty) => note_value(&mut self.types, types, ty, index),
+            _ => Ok(()),
         }
-        Ok(())
-    }
-
-    fn note_value(&mut self, types: &Types, ty: ValueType, index: u32) -> Result<(), WriteError> {
-        if !types.has(ItemKind::Value(ty)) {
-            return Ok(());
-        }
-        if let ValueType::Defined(id) = types.resolve_value_type(ty) {
-            if self.types.known(id).is_none() {
-                note_named(&mut self.types, types, id, index)?;
-            }
-        }
-        Ok(())
     }
 }
 
@@ -184,7 +224,10 @@ pub(crate) fn find_used(
     identifier: &str,
     name: &str,
     item: ItemKind,
-) -> Result<Option<u32>, WriteError> {
+) -> Result<Option<u32>, WriteError>
+    ensures { FindsUsed types.now all.now.all.items item result }
+{
+    types.see_acyclic();
     match all.get(identifier, name) {
         Some(used) => {
             let fits = fits_in(alloc, types, used.item, item)?;
@@ -195,13 +238,16 @@ pub(crate) fn find_used(
 }
 
 /// Whether an export is the type that is taken.
-fn exports_taken(
+pub(crate) fn exports_taken(
     alloc: Global,
     types: &Types,
     id: InterfaceId,
     name: &str,
     item: ItemKind,
-) -> Result<bool, WriteError> {
+) -> Result<bool, WriteError>
+    ensures { ExportsTaken types.now id name.now item result }
+{
+    types.see_acyclic();
     match export_named(types, id, name) {
         Some(own) => fits_in(alloc, types, own, item),
         None => Ok(false),
@@ -216,11 +262,14 @@ fn alias_around(
     around: Around<'_>,
     used: Use<'_>,
     item: ItemKind,
-) -> Result<Option<u32>, WriteError> {
+) -> Result<Option<u32>, WriteError>
+    ensures { AliasesUsed types.now around.entry item scope.old scope.new result }
+{
     let Some(identifier) = identifier(types, used.interface) else {
         return Err(WriteError::Unwritable);
     };
-    match find_used(alloc, types, around.used, identifier, used.there, item)? {
+    let found = find_used(alloc, types, around.used, identifier, used.there, item)?;
+    match found {
         Some(index) => {
             let alias = scope.add_outer(around.depth, index)?;
             Ok(Some(alias))
@@ -238,8 +287,11 @@ fn export_used(
     used: Use<'_>,
     item: ItemKind,
     alias: u32,
-) -> Result<bool, WriteError> {
-    if !exports_taken(alloc, types, id, used.name, item)? {
+) -> Result<bool, WriteError>
+    ensures { ExportsUsed types.now id used.entry item alias scope.old scope.new result }
+{
+    let is_taken = exports_taken(alloc, types, id, used.name, item)?;
+    if !is_taken {
         scope.note(alloc, types, item, alias)?;
         return Ok(false);
     }
@@ -257,14 +309,26 @@ fn take_use(
     around: Around<'_>,
     id: InterfaceId,
     used: Use<'_>,
-) -> Result<bool, WriteError> {
+) -> Result<bool, WriteError>
+    ensures { TakesUse types.now around.entry id used.entry scope.old scope.new result }
+{
     let Some(item) = taken(types, used) else {
         return Ok(false);
     };
-    match alias_around(alloc, scope, types, around, used, item)? {
+    let found = alias_around(alloc, scope, types, around, used, item)?;
+    match found {
         Some(alias) => export_used(alloc, scope, types, id, used, item, alias),
         None => Ok(false),
     }
+}
+
+/// Adds a name.
+pub(crate) fn add_name(alloc: Global, names: &mut Names, name: &str) -> Result<(), AllocError>
+    ensures { OnOk result (names.new ≡ put_name names.old name.now) }
+{
+    let name = String::from_str(alloc, name)?;
+    let _ = names.insert(name)?;
+    Ok(())
 }
 
 /// Writes the used type at a place, and adds its name if it is exported.
@@ -276,13 +340,34 @@ fn take_use_at(
     id: InterfaceId,
     at: usize,
     given: &mut Names,
-) -> Result<(), WriteError> {
-    if let Some(used) = use_at(types, id, at) {
-        if take_use(alloc, scope, types, around, id, used)? {
-            let _ = given.insert(String::from_str(alloc, used.name)?)?;
-        }
+) -> Result<(), WriteError>
+    requires { AreDistinct (names_of (uses_of types.now id)) }
+    ensures { TakesAt types.now around.entry id at scope.old given.old scope.new given.new result }
+{
+    match use_at(types, id, at) {
+        Some(used) => take_named(alloc, scope, types, around, id, used, given),
+        None => Ok(()),
     }
-    Ok(())
+}
+
+/// Writes a used type, and adds its name if it is exported.
+fn take_named(
+    alloc: Global,
+    scope: &mut ItemScope,
+    types: &Types,
+    around: Around<'_>,
+    id: InterfaceId,
+    used: Use<'_>,
+    given: &mut Names,
+) -> Result<(), WriteError>
+    ensures { TakesNamed types.now around.entry id used.entry scope.old given.old scope.new given.new result }
+{
+    let is_exported = take_use(alloc, scope, types, around, id, used)?;
+    if is_exported {
+        Ok(add_name(alloc, given, used.name)?)
+    } else {
+        Ok(())
+    }
 }
 
 /// Writes the used types of an interface; the names of those that it exports.
@@ -292,9 +377,12 @@ fn take_uses(
     types: &Types,
     around: Around<'_>,
     id: InterfaceId,
-) -> Result<Names, WriteError> {
+) -> Result<Names, WriteError>
+    ensures { BeginsInstance types.now around.entry id scope.old scope.new result }
+{
     let mut given = Names::new(alloc);
-    for at in 0..use_count(types, id) {
+    let count = use_count(types, id);
+    for at in 0..count {
         take_use_at(alloc, scope, types, around, id, at, &mut given)?;
     }
     Ok(given)
@@ -307,7 +395,9 @@ fn export_described(
     types: &Types,
     item: Item<'_>,
     description: Description,
-) -> Result<(), WriteError> {
+) -> Result<(), WriteError>
+    ensures { ExportsDescribed types.now item.entry description scope.old scope.new result }
+{
     let text = String::from_str(alloc, item.name)?;
     let declaration = Declaration::Export(text, description);
     let index = scope.add_item(declaration, description)?;
@@ -320,7 +410,9 @@ pub(crate) fn export_resource(
     scope: &mut ItemScope,
     types: &Types,
     item: Item<'_>,
-) -> Result<(), WriteError> {
+) -> Result<(), WriteError>
+    ensures { ExportsFresh types.now item.entry scope.old scope.new result }
+{
     export_described(alloc, scope, types, item, Description::Resource)
 }
 
@@ -332,36 +424,79 @@ pub(crate) fn export_item(
     types: &Types,
     around: Around<'_>,
     item: Item<'_>,
-) -> Result<(), WriteError> {
+) -> Result<(), WriteError>
+    ensures { ExportsOne types.now around.entry item.entry scope.old scope.new result }
+{
     let description = describe(alloc, scope, types, around, item.kind)?;
     export_described(alloc, scope, types, item, description)
 }
 
-/// Exports the resources of an interface that no use gives.
+/// The export at a place, if it is a resource under its own name that is not written yet.
+fn fresh_at<'a>(types: &'a Types, id: InterfaceId, given: &Names, at: usize) -> Option<Item<'a>>
+    ensures entry { IfSome result (λ x. slice_get (exports_of types.now id) at ≡ Some (x.name.now, x.kind)) }
+    ensures fresh { IfSome result (λ x. IsFresh types.now x.name.now x.kind) }
+    ensures new { IfSome result (λ x. has_name given.now x.name.now ≡ false) }
+{
+    match other_at(types, id, given, at) {
+        Some(item) => {
+            if is_fresh(types, item) {
+                Some(item)
+            } else {
+                None
+            }
+        }
+        None => None,
+    }
+}
+
+/// Exports such a resource, and adds its name.
+fn export_fresh_at(
+    alloc: Global,
+    scope: &mut ItemScope,
+    types: &Types,
+    id: InterfaceId,
+    at: usize,
+    given: &mut Names,
+) -> Result<(), WriteError>
+    requires { AreDistinct (names_of (exports_of types.now id)) }
+    ensures { KeepsWriting types.now id scope.old given.old scope.new given.new result }
+{
+    match fresh_at(types, id, given, at) {
+        Some(item) => {
+            export_resource(alloc, scope, types, item)?;
+            Ok(add_name(alloc, given, item.name)?)
+        }
+        None => Ok(()),
+    }
+}
+
+/// Exports the resources of an interface that no use gives, and adds their names.
 fn export_resources(
     alloc: Global,
     scope: &mut ItemScope,
     types: &Types,
     id: InterfaceId,
-    given: &Names,
-) -> Result<(), WriteError> {
-    for at in 0..export_count(types, id) {
-        if let Some(item) = export_at(types, id, at) {
-            if is_fresh(types, item) && !given.contains(item.name) {
-                export_resource(alloc, scope, types, item)?;
-            }
-        }
+    given: &mut Names,
+) -> Result<(), WriteError>
+    ensures { KeepsWriting types.now id scope.old given.old scope.new given.new result }
+{
+    let count = export_count(types, id);
+    for at in 0..count {
+        export_fresh_at(alloc, scope, types, id, at, given)?;
     }
     Ok(())
 }
 
-/// The export at a place, if it is no resource under its own name and no use gives it.
+/// The export at a place, if it is not written yet.
 fn other_at<'a>(types: &'a Types, id: InterfaceId, given: &Names, at: usize) -> Option<Item<'a>>
-    ensures { IfSome result (λ x. IsInside types.now x.kind (ItemKind.Instance id)) }
+    ensures inside { IfSome result (λ x. IsInside types.now x.kind (ItemKind.Instance id)) }
+    ensures entry { IfSome result (λ x. slice_get (exports_of types.now id) at ≡ Some (x.name.now, x.kind)) }
+    ensures new { IfSome result (λ x. has_name given.now x.name.now ≡ false) }
+    ensures none { IfNone result (HasNameAt (names_of (exports_of types.now id)) at given.now) }
 {
     match export_at(types, id, at) {
         Some(item) => {
-            if is_fresh(types, item) || given.contains(item.name) {
+            if given.contains(item.name) {
                 None
             } else {
                 Some(item)
@@ -371,7 +506,30 @@ fn other_at<'a>(types: &'a Types, id: InterfaceId, given: &Names, at: usize) -> 
     }
 }
 
-/// Exports the other items of an interface that no use gives.
+/// Exports the item at a place of an interface that is not written yet, and adds its name.
+#[cycle(types)]
+fn export_other_at(
+    alloc: Global,
+    scope: &mut ItemScope,
+    types: &Types,
+    around: Around<'_>,
+    id: InterfaceId,
+    at: usize,
+    given: &mut Names,
+) -> Result<(), WriteError>
+    requires { AreDistinct (names_of (exports_of types.now id)) }
+    ensures { WritesOtherAt types.now around.entry id at scope.old given.old scope.new given.new result }
+{
+    match other_at(types, id, given, at) {
+        Some(item) => {
+            export_item(alloc, scope, types, around, item)?;
+            Ok(add_name(alloc, given, item.name)?)
+        }
+        None => Ok(()),
+    }
+}
+
+/// Exports the items of an interface that are not written yet, and adds their names.
 #[cycle(types)]
 fn export_others(
     alloc: Global,
@@ -379,26 +537,29 @@ fn export_others(
     types: &Types,
     around: Around<'_>,
     id: InterfaceId,
-    given: &Names,
-) -> Result<(), WriteError> {
-    for at in 0..export_count(types, id) {
-        if let Some(item) = other_at(types, id, given, at) {
-            export_item(alloc, scope, types, around, item)?;
-        }
+    given: &mut Names,
+) -> Result<(), WriteError>
+    ensures { WritesOthers types.now around.entry id scope.old given.old scope.new given.new result }
+{
+    let count = export_count(types, id);
+    for at in 0..count {
+        export_other_at(alloc, scope, types, around, id, at, given)?;
     }
     Ok(())
 }
 
-/// Writes what stands first in an instance type: used types and resources. The names that uses give.
+/// Writes what stands first in an instance type: used types and resources. The names of what is exported.
 fn begin_instance(
     alloc: Global,
     scope: &mut ItemScope,
     types: &Types,
     around: Around<'_>,
     id: InterfaceId,
-) -> Result<Names, WriteError> {
-    let given = take_uses(alloc, scope, types, around, id)?;
-    export_resources(alloc, scope, types, id, &given)?;
+) -> Result<Names, WriteError>
+    ensures { BeginsInstance types.now around.entry id scope.old scope.new result }
+{
+    let mut given = take_uses(alloc, scope, types, around, id)?;
+    export_resources(alloc, scope, types, id, &mut given)?;
     Ok(given)
 }
 
@@ -410,9 +571,12 @@ fn write_instance(
     types: &Types,
     around: Around<'_>,
     id: InterfaceId,
-) -> Result<Vec<Declaration>, WriteError> {
-    let given = begin_instance(alloc, scope, types, around, id)?;
-    export_others(alloc, scope, types, around, id, &given)?;
+) -> Result<Vec<Declaration>, WriteError>
+    ensures { WritesInstance types.now around.entry id scope.old result }
+{
+    types.see_acyclic();
+    let mut given = begin_instance(alloc, scope, types, around, id)?;
+    export_others(alloc, scope, types, around, id, &mut given)?;
     Ok(scope.take_declarations(alloc))
 }
 
@@ -423,7 +587,9 @@ fn instance_type(
     types: &Types,
     around: Around<'_>,
     id: InterfaceId,
-) -> Result<Vec<Declaration>, WriteError> {
+) -> Result<Vec<Declaration>, WriteError>
+    ensures { MakesInstance types.now around.entry id result }
+{
     let mut scope = ItemScope::new(alloc);
     write_instance(alloc, &mut scope, types, around, id)
 }
@@ -436,7 +602,9 @@ fn push_instance_type(
     types: &Types,
     around: Around<'_>,
     id: InterfaceId,
-) -> Result<u32, WriteError> {
+) -> Result<u32, WriteError>
+    ensures { StatesItem types.now around.entry (ItemKind.Instance id) scope.old scope.new result }
+{
     let inner = around.deeper()?;
     let declarations = instance_type(alloc, types, inner, id)?;
     scope.add_type(Declaration::InstanceType(declarations))
@@ -449,7 +617,9 @@ fn push_component_type(
     scope: &mut ItemScope,
     types: &Types,
     id: WorldId,
-) -> Result<u32, WriteError> {
+) -> Result<u32, WriteError>
+    ensures { StatesClosed types.now (ItemKind.Component id) scope.old scope.new result }
+{
     let declarations = component_type(alloc, types, id)?;
     scope.add_type(Declaration::ComponentType(declarations))
 }
@@ -460,7 +630,10 @@ fn push_module_type(
     scope: &mut ItemScope,
     types: &Types,
     id: ModuleTypeId,
-) -> Result<u32, WriteError> {
+) -> Result<u32, WriteError>
+    ensures states { StatesModule types.now id scope.old scope.new result }
+    ensures refused { Stands types.now (ItemKind.Module id) → IfErr result (RefusedModule types.now id scope.new) }
+{
     if !types.has(ItemKind::Module(id)) {
         return Err(WriteError::Unwritable);
     }
@@ -469,7 +642,11 @@ fn push_module_type(
 }
 
 /// The index of a resource that stands here.
-fn resource_index(scope: &ItemScope, types: &Types, id: ResourceId) -> Result<u32, WriteError> {
+fn resource_index(scope: &ItemScope, types: &Types, id: ResourceId) -> Result<u32, WriteError>
+    requires { Stands types.now (ItemKind.Ty (TypeKind.Resource id)) }
+    ensures finds { FindsResource types.now (tree_in types.now (ItemKind.Ty (TypeKind.Resource id))) scope.now.types result }
+    ensures refused { IfErr result (λ e. (e ≡ WriteError.Unwritable) × IsUnnamed types.now scope.now.types.resources id) }
+{
     match scope.types.resource(root_name(types, id)) {
         Some(index) => Ok(index),
         None => Err(WriteError::Unwritable),
@@ -482,7 +659,10 @@ fn push_func_type(
     scope: &mut ItemScope,
     types: &Types,
     id: FuncTypeId,
-) -> Result<u32, WriteError> {
+) -> Result<u32, WriteError>
+    ensures states { StatesType types.now (ItemKind.Func id) scope.old scope.new result }
+    ensures refused { RefusedThere types.now (ItemKind.Func id) scope.new.types result }
+{
     if !types.has(ItemKind::Func(id)) {
         return Err(WriteError::Unwritable);
     }
@@ -495,13 +675,31 @@ fn push_type(
     scope: &mut ItemScope,
     types: &Types,
     ty: Type,
-) -> Result<u32, WriteError> {
+) -> Result<u32, WriteError>
+    requires { Stands types.now (ItemKind.Ty ty) }
+    ensures states { StatesTypeItem types.now ty scope.old scope.new result }
+    ensures refused { IfErr result (RefusedType types.now ty scope.new) }
+{
+    types.see_acyclic();
     match ty {
         Type::Resource(id) => resource_index(scope, types, id),
         Type::Func(id) => push_func_type(alloc, scope, types, id),
-        Type::Value(ty) => define_value(alloc, &mut scope.types, types, ty),
+        Type::Value(ty) => push_value_type(alloc, scope, types, ty),
         _ => Err(WriteError::Unwritable),
     }
+}
+
+/// The index of a value type, which is written.
+fn push_value_type(
+    alloc: Global,
+    scope: &mut ItemScope,
+    types: &Types,
+    ty: ValueType,
+) -> Result<u32, WriteError>
+    ensures states { StatesType types.now (ItemKind.Value ty) scope.old scope.new result }
+    ensures refused { RefusedThere types.now (ItemKind.Value ty) scope.new.types result }
+{
+    define_value(alloc, &mut scope.types, types, ty)
 }
 
 /// What such an item is, or a function or a module; its type is written.
@@ -510,7 +708,12 @@ fn describe_simple(
     scope: &mut ItemScope,
     types: &Types,
     kind: ItemKind,
-) -> Result<Description, WriteError> {
+) -> Result<Description, WriteError>
+    requires { Stands types.now kind }
+    ensures describes { DescribesSimply types.now kind scope.old scope.new result }
+    ensures refused { IfErr result (RefusedItem types.now kind scope.new) }
+{
+    types.see_acyclic();
     match kind {
         ItemKind::Ty(ty) => {
             let index = push_type(alloc, scope, types, ty)?;
@@ -529,7 +732,9 @@ fn describe_simple(
 }
 
 /// What a thing of the type at an index is, or that type itself.
-fn described(kind: ItemKind, index: u32) -> Description {
+fn described(kind: ItemKind, index: u32) -> Description
+    ensures { result ≡ described_as kind index }
+{
     match kind {
         ItemKind::Instance(_) => Description::Instance(index),
         ItemKind::Component(_) => Description::Component(index),
@@ -545,7 +750,14 @@ pub(crate) fn describe(
     types: &Types,
     around: Around<'_>,
     kind: ItemKind,
-) -> Result<Description, WriteError> {
+) -> Result<Description, WriteError>
+    ensures describes { DescribesItem types.now around.entry kind scope.old scope.new result }
+    ensures refused { Stands types.now kind → IfErr result (RefusedItem types.now kind scope.new) }
+{
+    if !types.has(kind) {
+        return Err(WriteError::Unwritable);
+    }
+    types.see_acyclic();
     if let Some(id) = interface_of(types, kind) {
         let index = push_instance_type(alloc, scope, types, around, id)?;
         return Ok(described(kind, index));

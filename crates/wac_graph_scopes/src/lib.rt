@@ -14,6 +14,7 @@ pub mod prints;
 pub mod scope;
 pub mod used;
 mod value;
+mod worlds;
 
 pub use laws::types_at_the_root;
 pub use value::fits_in;

@@ -1,6 +1,11 @@
 //! The order in which the imports of a world are written.
 
+ghost use Rattle.std.specs.Prelude.{◌≡◌, ◌↔◌, ◌<◌, ℕ, [], true, false, Some, length, slice_get, IfOk, OnOk, IsTrue};
 ghost use Rattle.wac_types_base.specs.declared.item.ItemKind.{ItemKind};
+ghost use Rattle.wac_types_base.specs.Entries.{names_of, AreDistinct};
+ghost use Rattle.wac_types_base.specs.Collection.{Stands};
+ghost use Rattle.wac_graph_scopes.specs.Imports.{all_imports};
+ghost use Rattle.wac_graph_scopes.specs.Orders.{IsOrder, IsBegun, Puts, Marks, Leaves, IsDone, AreDone, IsSource, IsEarly, IsTurnAt, AreTurns, EarlyFirst, SourcesFirst};
 
 use crate::imports::Importing;
 use crate::parts::{
@@ -30,12 +35,16 @@ struct Order<'a> {
     alloc: Global,
     all: Importing<'a>,
     found: &'a NamedMap<usize>,
+    /// When it is the turn of each import.
+    turns: Vec<Turn>,
     /// Of each import, whether it has a place in the order, or those that it uses are being put there.
     begun: Vec<bool>,
     order: Vec<usize>,
 }
 
-fn turn_of(all: Importing<'_>, import: Item<'_>) -> Turn {
+fn turn_of(all: Importing<'_>, import: Item<'_>) -> Turn
+    ensures { Stands all.entry.types.now import.entry.kind → IsSource import.entry.kind → IsEarly result }
+{
     if world_use_named(all.types, all.world, import.name).is_some() {
         return Turn::Interfaces;
     }
@@ -101,34 +110,85 @@ fn add_needs(
     Ok(())
 }
 
+/// Whether two turns are one.
+fn same_turn(a: Turn, b: Turn) -> bool
+    ensures { IsTrue result ↔ (a ≡ b) }
+{
+    a == b
+}
+
+/// When it is the turn of each import.
+fn turns_of(alloc: Global, all: Importing<'_>) -> Result<Vec<Turn>, AllocError>
+    ensures len { IfOk result (λ v. length v.items ≡ length (all_imports all.entry)) }
+    ensures turns { IfOk result (λ v. AreTurns all.entry v.items) }
+    ensures distinct { AreDistinct (names_of (all_imports all.entry)) }
+{
+    let mut turns = Vec::new(alloc);
+    for at in 0..import_count(all.types, all.world) {
+        turns.push(turn_at(all, at))?;
+    }
+    Ok(turns)
+}
+
+/// When it is the turn of the import at a place.
+fn turn_at(all: Importing<'_>, at: usize) -> Turn
+    ensures { IsTurnAt all.entry at result }
+{
+    match import_at(all.types, all.world, at) {
+        Some(import) => turn_of(all, import),
+        None => Turn::Others,
+    }
+}
+
+/// So many imports, of which none is begun.
+fn none_begun(alloc: Global, count: usize) -> Result<Vec<bool>, AllocError>
+    ensures len { IfOk result (λ v. length v.items ≡ count) }
+    ensures none { IfOk result (λ v. (k : ℕ) → IsBegun v.items k → ⊥) }
+{
+    let mut begun = Vec::new(alloc);
+    for _at in 0..count {
+        begun.push(false)?;
+    }
+    Ok(begun)
+}
+
 impl<'a> Order<'a> {
     fn new(
         alloc: Global,
         all: Importing<'a>,
         found: &'a NamedMap<usize>,
-    ) -> Result<Self, AllocError> {
-        let mut begun = Vec::new(alloc);
-        for _ in 0..import_count(all.types, all.world) {
-            begun.push(false)?;
-        }
+    ) -> Result<Self, AllocError>
+        ensures distinct { AreDistinct (names_of (all_imports all.entry)) }
+        ensures turns { IfOk result (λ o. length o.turns.items ≡ length (all_imports all.entry)) }
+        ensures early { IfOk result (λ o. AreTurns all.entry o.turns.items) }
+        ensures len { IfOk result (λ o. length o.begun.items ≡ length o.turns.items) }
+        ensures none { IfOk result (λ o. (k : ℕ) → IsBegun o.begun.items k → ⊥) }
+        ensures order { IfOk result (λ o. o.order.items ≡ []) }
+    {
+        let turns = turns_of(alloc, all)?;
+        let begun = none_begun(alloc, turns.len())?;
         Ok(Order {
             alloc,
             all,
             found,
+            turns,
             begun,
             order: Vec::new(alloc),
         })
     }
 
     /// Whether it is begun only now.
-    fn begin(&mut self, at: usize) -> bool {
-        match self.begun.get_mut(at) {
-            Some(begun) => {
-                let is_new = !*begun;
-                *begun = true;
-                is_new
-            }
-            None => false,
+    fn begin(&mut self, at: usize) -> bool
+        ensures begun { result ≡ true → Marks self.old.begun.items self.new.begun.items at }
+        ensures not { result ≡ false → Leaves self.old.begun.items self.new.begun.items at }
+        ensures order { self.new.order.items ≡ self.old.order.items }
+        ensures turns { self.new.turns.items ≡ self.old.turns.items }
+    {
+        if at < self.begun.len() && !self.begun[at] {
+            self.begun[at] = true;
+            true
+        } else {
+            false
         }
     }
 
@@ -147,33 +207,77 @@ impl<'a> Order<'a> {
 
     /// Puts the import at a place behind those that it uses. No path of uses is longer than there are imports, so
     /// the depth that is left lasts.
-    fn put(&mut self, at: usize, depth: usize) -> Result<(), AllocError> {
+    #[cycle(putting)]
+    fn put(&mut self, at: usize, depth: usize) -> Result<(), AllocError>
+        ensures puts { OnOk result (Puts self.old.begun.items self.new.begun.items self.old.order.items self.new.order.items) }
+        ensures begun { OnOk result (0 < depth → at < length self.old.begun.items → IsBegun self.new.begun.items at) }
+        ensures turns { self.new.turns.items ≡ self.old.turns.items }
+    {
         if depth == 0 || !self.begin(at) {
             return Ok(());
         }
-        let needs = self.needs_of(at)?;
-        for need in &needs {
-            self.put(*need, depth - 1)?;
-        }
+        self.put_needs(at, depth - 1)?;
         self.order.push(at)?;
         Ok(())
     }
 
+    /// Puts those that an import uses.
+    #[cycle(putting)]
+    fn put_needs(&mut self, at: usize, depth: usize) -> Result<(), AllocError>
+        ensures puts { OnOk result (Puts self.old.begun.items self.new.begun.items self.old.order.items self.new.order.items) }
+        ensures turns { self.new.turns.items ≡ self.old.turns.items }
+    {
+        let needs = self.needs_of(at)?;
+        for need in &needs {
+            self.put(*need, depth)?;
+        }
+        Ok(())
+    }
+
+    /// Whether it is the turn of the import at a place.
+    fn is_turn(&self, at: usize, turn: Turn) -> bool
+        ensures { slice_get self.now.turns.items at ≡ Some turn → IsTrue result }
+    {
+        match self.turns.get(at) {
+            Some(own) => same_turn(*own, turn),
+            None => false,
+        }
+    }
+
+    /// Puts the import at a place, if it is its turn.
+    fn put_at(&mut self, turn: Turn, at: usize) -> Result<(), AllocError>
+        ensures puts { OnOk result (Puts self.old.begun.items self.new.begun.items self.old.order.items self.new.order.items) }
+        ensures begun { OnOk result (IsDone self.old.turns.items turn self.old.begun.items self.new.begun.items at) }
+        ensures turns { self.new.turns.items ≡ self.old.turns.items }
+    {
+        if self.is_turn(at, turn) {
+            let count = self.begun.len();
+            self.put(at, count)
+        } else {
+            Ok(())
+        }
+    }
+
     /// Puts those in order whose turn it is.
-    fn put_all(&mut self, turn: Turn) -> Result<(), AllocError> {
-        let count = self.begun.len();
-        for at in 0..count {
-            if let Some(import) = import_at(self.all.types, self.all.world, at) {
-                if turn_of(self.all, import) == turn {
-                    self.put(at, count)?;
-                }
-            }
+    fn put_all(&mut self, turn: Turn) -> Result<(), AllocError>
+        ensures puts { OnOk result (Puts self.old.begun.items self.new.begun.items self.old.order.items self.new.order.items) }
+        ensures begun { OnOk result (AreDone self.old.turns.items turn self.old.begun.items self.new.begun.items) }
+        ensures turns { self.new.turns.items ≡ self.old.turns.items }
+    {
+        for at in 0..self.begun.len() {
+            self.put_at(turn, at)?;
         }
         Ok(())
     }
 
     /// Puts those in order whose turn is the first or the second; they alone are handed out.
-    fn put_both(&mut self, first: Turn, second: Turn) -> Result<Vec<usize>, AllocError> {
+    fn put_both(&mut self, first: Turn, second: Turn) -> Result<Vec<usize>, AllocError>
+        ensures puts { IfOk result (λ v. Puts self.old.begun.items self.new.begun.items self.old.order.items v.items) }
+        ensures first { OnOk result (AreDone self.old.turns.items first self.old.begun.items self.new.begun.items) }
+        ensures second { OnOk result (AreDone self.old.turns.items second self.old.begun.items self.new.begun.items) }
+        ensures turns { self.new.turns.items ≡ self.old.turns.items }
+        ensures none { OnOk result (self.new.order.items ≡ []) }
+    {
         self.put_all(first)?;
         self.put_all(second)?;
         let next = Vec::new(self.alloc);
@@ -192,7 +296,13 @@ pub struct ImportOrder {
 }
 
 /// Puts all in order: sources, and then the others.
-fn put_sources_and_others(order: &mut Order<'_>) -> Result<ImportOrder, AllocError> {
+fn put_sources_and_others(order: &mut Order<'_>) -> Result<ImportOrder, AllocError>
+    requires len { length order.old.begun.items ≡ length order.old.turns.items }
+    requires none { (k : ℕ) → IsBegun order.old.begun.items k → ⊥ }
+    requires empty { order.old.order.items ≡ [] }
+    ensures order { IfOk result (λ o. IsOrder (length order.old.turns.items) o.sources.items o.others.items) }
+    ensures early { IfOk result (λ o. EarlyFirst order.old.turns.items o.sources.items) }
+{
     let sources = order.put_both(Turn::Fresh, Turn::Interfaces)?;
     let others = order.put_both(Turn::Types, Turn::Others)?;
     Ok(ImportOrder { sources, others })
@@ -203,7 +313,11 @@ pub(crate) fn order_of<'a>(
     alloc: Global,
     all: Importing<'a>,
     found: &'a NamedMap<usize>,
-) -> Result<ImportOrder, AllocError> {
+) -> Result<ImportOrder, AllocError>
+    ensures order { IfOk result (λ o. IsOrder (length (all_imports all.entry)) o.sources.items o.others.items) }
+    ensures sources { IfOk result (λ o. SourcesFirst all.entry o.sources.items) }
+    ensures distinct { AreDistinct (names_of (all_imports all.entry)) }
+{
     let mut order = Order::new(alloc, all, found)?;
     put_sources_and_others(&mut order)
 }

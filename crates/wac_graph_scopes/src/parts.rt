@@ -1,9 +1,14 @@
 //! The parts of interfaces and worlds, one by one. What does not stand has none.
 
-ghost use Rattle.std.specs.Prelude.{◌≡◌, IfSome};
+ghost use Rattle.std.specs.Prelude.{◌≡◌, ◌≤◌, ◌↔◌, IfSome, IfNone, Some, IsTrue, length, slice_get};
+ghost use Rattle.wac_types_base.specs.declared.ids.InterfaceId.{InterfaceId};
 ghost use Rattle.wac_types_base.specs.declared.item.ItemKind.{ItemKind};
-ghost use Rattle.wac_types_base.specs.Collection.{size_of};
-ghost use Rattle.wac_types_fit.specs.Trees.{IsInside};
+ghost use Rattle.wac_types_base.specs.declared.item.«Type».{«Type» as TypeKind};
+ghost use Rattle.wac_types_base.specs.Entries.{names_of, value_at, AreDistinct};
+ghost use Rattle.wac_types_base.specs.Collection.{Stands, size_of, resource};
+ghost use Rattle.wac_types_base.specs.Tree.{rigid, end};
+ghost use Rattle.wac_types_fit.specs.Trees.{IsInside, tree_in};
+ghost use Rattle.wac_graph_scopes.specs.Parts.{exports_of, uses_of, imports_of, world_exports_of, IsUsedKind, IsOfInterface, IsOfWorld, IsFresh, IsRootName};
 
 use wac_types_base::{InterfaceId, ItemKind, ResourceId, Type, Types, UsedType, WorldId};
 
@@ -23,7 +28,8 @@ pub struct Item<'a> {
 }
 
 fn use_of<'a>(name: &'a str, used: &'a UsedType) -> Use<'a>
-    ensures { result.interface ≡ used.now.interface }
+    ensures interface { result.interface ≡ used.now.interface }
+    ensures name { result.name.now ≡ name.now }
 {
     let there = match &used.name {
         Some(there) => there.as_str(),
@@ -40,7 +46,10 @@ fn use_of<'a>(name: &'a str, used: &'a UsedType) -> Use<'a>
 
 /// The interface of an instance, or that is a type.
 pub fn interface_of(types: &Types, kind: ItemKind) -> Option<InterfaceId>
-    ensures { IfSome result (λ i. size_of types.now (ItemKind.Instance i) ≡ size_of types.now kind) }
+    ensures size { IfSome result (λ i. size_of types.now (ItemKind.Instance i) ≡ size_of types.now kind) }
+    ensures kind { IfSome result (IsOfInterface kind) }
+    ensures stands { IfSome result (λ _. Stands types.now kind) }
+    ensures none { IfNone result (Stands types.now kind → (i : InterfaceId) → IsOfInterface kind i → ⊥) }
 {
     if !types.has(kind) {
         return None;
@@ -58,7 +67,9 @@ pub fn interface_of(types: &Types, kind: ItemKind) -> Option<InterfaceId>
 
 /// The world of a component, or that is a type.
 pub fn world_of(types: &Types, kind: ItemKind) -> Option<WorldId>
-    ensures { IfSome result (λ w. size_of types.now (ItemKind.Component w) ≡ size_of types.now kind) }
+    ensures size { IfSome result (λ w. size_of types.now (ItemKind.Component w) ≡ size_of types.now kind) }
+    ensures kind { IfSome result (IsOfWorld kind) }
+    ensures stands { IfSome result (λ _. Stands types.now kind) }
 {
     if !types.has(kind) {
         return None;
@@ -75,7 +86,10 @@ pub fn world_of(types: &Types, kind: ItemKind) -> Option<WorldId>
 }
 
 /// The name of the resource at the end of the aliases.
-pub fn root_name(types: &Types, id: ResourceId) -> &str {
+pub fn root_name(types: &Types, id: ResourceId) -> &str
+    ensures { IsRootName types.now id result.now }
+{
+    types.see_acyclic();
     if types.has(ItemKind::Ty(Type::Resource(id))) {
         types.resource(types.resolve_resource(id)).name.as_str()
     } else {
@@ -95,7 +109,10 @@ pub fn identifier(types: &Types, id: InterfaceId) -> Option<&str> {
     }
 }
 
-pub fn use_count(types: &Types, id: InterfaceId) -> usize {
+pub fn use_count(types: &Types, id: InterfaceId) -> usize
+    ensures len { result ≡ length (uses_of types.now id) }
+    ensures distinct { AreDistinct (names_of (uses_of types.now id)) }
+{
     if types.has(ItemKind::Instance(id)) {
         types.interface(id).uses.len()
     } else {
@@ -105,7 +122,8 @@ pub fn use_count(types: &Types, id: InterfaceId) -> usize {
 
 /// The use at a place.
 pub fn use_at(types: &Types, id: InterfaceId, at: usize) -> Option<Use<'_>>
-    ensures { IfSome result (λ u. IsInside types.now (ItemKind.Instance u.interface) (ItemKind.Instance id)) }
+    ensures inside { IfSome result (λ u. IsInside types.now (ItemKind.Instance u.interface) (ItemKind.Instance id)) }
+    ensures name { IfSome result (λ u. slice_get (names_of (uses_of types.now id)) at ≡ Some u.name.now) }
 {
     if !types.has(ItemKind::Instance(id)) {
         return None;
@@ -119,7 +137,10 @@ pub fn use_at(types: &Types, id: InterfaceId, at: usize) -> Option<Use<'_>>
     }
 }
 
-pub fn export_count(types: &Types, id: InterfaceId) -> usize {
+pub fn export_count(types: &Types, id: InterfaceId) -> usize
+    ensures len { result ≡ length (exports_of types.now id) }
+    ensures distinct { AreDistinct (names_of (exports_of types.now id)) }
+{
     if types.has(ItemKind::Instance(id)) {
         types.interface(id).exports.len()
     } else {
@@ -129,7 +150,9 @@ pub fn export_count(types: &Types, id: InterfaceId) -> usize {
 
 /// The export at a place.
 pub fn export_at(types: &Types, id: InterfaceId, at: usize) -> Option<Item<'_>>
-    ensures { IfSome result (λ x. IsInside types.now x.kind (ItemKind.Instance id)) }
+    ensures inside { IfSome result (λ x. IsInside types.now x.kind (ItemKind.Instance id)) }
+    ensures entry { IfSome result (λ x. slice_get (exports_of types.now id) at ≡ Some (x.name.now, x.kind)) }
+    ensures none { IfNone result (length (exports_of types.now id) ≤ at) }
 {
     if !types.has(ItemKind::Instance(id)) {
         return None;
@@ -144,11 +167,18 @@ pub fn export_at(types: &Types, id: InterfaceId, at: usize) -> Option<Item<'_>>
 }
 
 /// The export of a name.
-pub fn export_named(types: &Types, id: InterfaceId, name: &str) -> Option<ItemKind> {
-    if types.has(ItemKind::Instance(id)) {
-        types.interface(id).exports.get(name).copied()
-    } else {
-        None
+pub fn export_named(types: &Types, id: InterfaceId, name: &str) -> Option<ItemKind>
+    ensures value { result ≡ value_at (exports_of types.now id) name.now }
+    ensures stands { IfSome result (Stands types.now) }
+{
+    types.see_acyclic();
+    if !types.has(ItemKind::Instance(id)) {
+        return None;
+    }
+    let interface = types.interface(id);
+    match interface.exports.get(name) {
+        Some(kind) => Some(*kind),
+        None => None,
     }
 }
 
@@ -174,7 +204,7 @@ pub fn world_use_count(types: &Types, id: WorldId) -> usize {
 
 /// The world's use at a place.
 pub fn world_use_at(types: &Types, id: WorldId, at: usize) -> Option<Use<'_>>
-    ensures { IfSome result (λ u. IsInside types.now (ItemKind.Instance u.interface) (ItemKind.Component id)) }
+    ensures inside { IfSome result (λ u. IsInside types.now (ItemKind.Instance u.interface) (ItemKind.Component id)) }
 {
     if !types.has(ItemKind::Component(id)) {
         return None;
@@ -199,7 +229,10 @@ pub fn world_use_named<'a>(types: &'a Types, id: WorldId, name: &'a str) -> Opti
     }
 }
 
-pub fn import_count(types: &Types, id: WorldId) -> usize {
+pub fn import_count(types: &Types, id: WorldId) -> usize
+    ensures len { result ≡ length (imports_of types.now id) }
+    ensures distinct { AreDistinct (names_of (imports_of types.now id)) }
+{
     if types.has(ItemKind::Component(id)) {
         types.world(id).imports.len()
     } else {
@@ -209,7 +242,9 @@ pub fn import_count(types: &Types, id: WorldId) -> usize {
 
 /// The import at a place.
 pub fn import_at(types: &Types, id: WorldId, at: usize) -> Option<Item<'_>>
-    ensures { IfSome result (λ x. IsInside types.now x.kind (ItemKind.Component id)) }
+    ensures inside { IfSome result (λ x. IsInside types.now x.kind (ItemKind.Component id)) }
+    ensures entry { IfSome result (λ x. slice_get (imports_of types.now id) at ≡ Some (x.name.now, x.kind)) }
+    ensures none { IfNone result (length (imports_of types.now id) ≤ at) }
 {
     if !types.has(ItemKind::Component(id)) {
         return None;
@@ -232,7 +267,10 @@ pub fn import_named(types: &Types, id: WorldId, name: &str) -> Option<ItemKind> 
     }
 }
 
-pub fn world_export_count(types: &Types, id: WorldId) -> usize {
+pub fn world_export_count(types: &Types, id: WorldId) -> usize
+    ensures len { result ≡ length (world_exports_of types.now id) }
+    ensures distinct { AreDistinct (names_of (world_exports_of types.now id)) }
+{
     if types.has(ItemKind::Component(id)) {
         types.world(id).exports.len()
     } else {
@@ -242,7 +280,9 @@ pub fn world_export_count(types: &Types, id: WorldId) -> usize {
 
 /// The world's export at a place.
 pub fn world_export_at(types: &Types, id: WorldId, at: usize) -> Option<Item<'_>>
-    ensures { IfSome result (λ x. IsInside types.now x.kind (ItemKind.Component id)) }
+    ensures inside { IfSome result (λ x. IsInside types.now x.kind (ItemKind.Component id)) }
+    ensures entry { IfSome result (λ x. slice_get (world_exports_of types.now id) at ≡ Some (x.name.now, x.kind)) }
+    ensures none { IfNone result (length (world_exports_of types.now id) ≤ at) }
 {
     if !types.has(ItemKind::Component(id)) {
         return None;
@@ -259,7 +299,9 @@ pub fn world_export_at(types: &Types, id: WorldId, at: usize) -> Option<Item<'_>
 // ---- uses
 
 /// Whether the item is a resource or a value type.
-fn is_used_kind(kind: ItemKind) -> bool {
+fn is_used_kind(kind: ItemKind) -> bool
+    ensures { IsTrue result ↔ IsUsedKind kind }
+{
     match kind {
         ItemKind::Ty(ty) => matches!(ty, Type::Resource(_) | Type::Value(_)),
         _ => false,
@@ -267,7 +309,10 @@ fn is_used_kind(kind: ItemKind) -> bool {
 }
 
 /// The resource or the value type that a use takes.
-pub fn taken(types: &Types, used: Use<'_>) -> Option<ItemKind> {
+pub fn taken(types: &Types, used: Use<'_>) -> Option<ItemKind>
+    ensures stands { IfSome result (Stands types.now) }
+    ensures kind { IfSome result IsUsedKind }
+{
     match export_named(types, used.interface, used.there) {
         Some(kind) => { if is_used_kind(kind) { Some(kind) } else { None } }
         None => None,
@@ -275,10 +320,12 @@ pub fn taken(types: &Types, used: Use<'_>) -> Option<ItemKind> {
 }
 
 /// Whether the item is a resource under its own name.
-pub fn is_fresh(types: &Types, item: Item<'_>) -> bool {
+pub fn is_fresh(types: &Types, item: Item<'_>) -> bool
+    ensures { IsTrue result → IsFresh types.now item.entry.name.now item.entry.kind }
+{
     match item.kind {
         ItemKind::Ty(ty) => match ty {
-            Type::Resource(id) => root_name(types, id) == item.name,
+            Type::Resource(id) => types.has(item.kind) && root_name(types, id) == item.name,
             _ => false,
         },
         _ => false,

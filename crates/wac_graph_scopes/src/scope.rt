@@ -1,10 +1,11 @@
 //! A scope of written types.
 
-ghost use Rattle.std.specs.Prelude.{◌≡◌, ◌+◌, ◌↔◌, List, IfOk, IfErr, IsTrue, Err, string_bytes};
+ghost use Rattle.std.specs.Prelude.{◌≡◌, ◌+◌, ◌↔◌, List, IfOk, IfErr, OnErr, IsTrue, Err, string_bytes};
 ghost use Rattle.wac_types_base.specs.Record.{Collection};
+ghost use Rattle.wac_types_base.specs.Entries.{value_at};
 ghost use Rattle.wac_graph_bytes.specs.declared.fault.SizeError.TheVariants.{TooLarge};
 ghost use Rattle.wac_graph_bytes.specs.Typing.{Worlds, Scope, nothing_inside};
-ghost use Rattle.wac_graph_scopes.specs.Scopes.{IsScope, Forgets, FindsType, Defines, ExportsFunction, ExportsNewType, Remembers, FindsKnown, KnowsResource};
+ghost use Rattle.wac_graph_scopes.specs.Scopes.{IsScope, Forgets, FindsType, Defines, ExportsFunction, ExportsNewType, Remembers, FindsKnown, KnowsResource, NotesResource};
 
 use crate::prints::Prints;
 use indexmap::IndexMap;
@@ -86,6 +87,8 @@ impl TypeScope {
     pub fn define(&mut self, ty: DefinedType) -> Result<u32, SizeError>
         ensures stands { Defines ty self.old self.new result }
         ensures full { result ≡ Err TooLarge → self.old.types ≡ 4294967295 }
+        ensures kept { OnErr result (self.new.types ≡ self.old.types) }
+        ensures resources { self.new.resources ≡ self.old.resources }
     {
         let index = self.types;
         let next = next_of(index)?;
@@ -118,7 +121,8 @@ impl TypeScope {
 
     /// Remembers the index of a type; in place of an earlier one of that id.
     pub fn remember(&mut self, id: DefinedTypeId, index: u32) -> Result<(), AllocError>
-        ensures { Remembers id index self.old self.new result }
+        ensures known { Remembers id index self.old self.new result }
+        ensures resources { self.new.resources ≡ self.old.resources }
     {
         let at = self.known.len();
         self.places.by_id.insert(id, at)?;
@@ -135,7 +139,9 @@ impl TypeScope {
     }
 
     /// Remembers the index of a resource.
-    pub fn add_resource(&mut self, name: String, index: u32) -> Result<(), AllocError> {
+    pub fn add_resource(&mut self, name: String, index: u32) -> Result<(), AllocError>
+        ensures { NotesResource (string_bytes name) index self.old self.new result }
+    {
         let _ = self.resources.insert(name, index)?;
         Ok(())
     }
@@ -178,7 +184,8 @@ impl TypeScope {
 
     /// The index of a resource that stands here.
     pub fn resource(&self, name: &str) -> Option<u32>
-        ensures { KnowsResource self.now name.now result }
+        ensures reads { KnowsResource self.now name.now result }
+        ensures found { result ≡ value_at self.now.resources name.now }
     {
         match self.resources.get(name) {
             Some(index) => Some(*index),

@@ -1,5 +1,8 @@
 //! Types of interfaces that stand in a scope.
 
+ghost use Rattle.std.specs.Prelude.{◌≡◌, ◌++◌, ◌∷◌, [], IfSome, OnOk};
+ghost use Rattle.wac_types_base.specs.Graph.{Among};
+
 use indexmap::IndexMap;
 use std::alloc::{AllocError, Global};
 use wac_types_base::ItemKind;
@@ -15,25 +18,85 @@ pub struct UsedIndex {
 #[derive(Drop)]
 pub struct UsedTypes {
     alloc: Global,
-    found: IndexMap<String, IndexMap<String, UsedIndex>>,
+    pub all: Vec<UsedIndex>,
+    /// Where each of them stands among all.
+    found: IndexMap<String, IndexMap<String, usize>>,
+}
+
+/// The place under these names.
+fn place_in(
+    found: &IndexMap<String, IndexMap<String, usize>>,
+    identifier: &str,
+    name: &str,
+) -> Option<usize> {
+    match found.get(identifier) {
+        Some(names) => match names.get(name) {
+            Some(at) => Some(*at),
+            None => None,
+        },
+        None => None,
+    }
+}
+
+/// Adds a place under these names.
+fn add_place(
+    alloc: Global,
+    found: &mut IndexMap<String, IndexMap<String, usize>>,
+    identifier: &str,
+    name: &str,
+    at: usize,
+) -> Result<(), AllocError> {
+    let name = String::from_str(alloc, name)?;
+    match found.get_mut(identifier) {
+        Some(names) => {
+            let _ = names.insert(name, at)?;
+            Ok(())
+        }
+        None => add_first(alloc, found, identifier, name, at),
+    }
+}
+
+/// Adds the first place under an identifier.
+fn add_first(
+    alloc: Global,
+    found: &mut IndexMap<String, IndexMap<String, usize>>,
+    identifier: &str,
+    name: String,
+    at: usize,
+) -> Result<(), AllocError> {
+    let mut names = IndexMap::new(alloc);
+    let _ = names.insert(name, at)?;
+    let identifier = String::from_str(alloc, identifier)?;
+    let _ = found.insert(identifier, names)?;
+    Ok(())
 }
 
 impl UsedTypes {
     /// None stands there.
-    pub fn new(alloc: Global) -> Self {
-        UsedTypes {
-            alloc,
-            found: IndexMap::new(alloc),
-        }
+    pub fn new(alloc: Global) -> Self
+        ensures { result.all.items ≡ [] }
+    {
+        let all = Vec::new(alloc);
+        let found = IndexMap::new(alloc);
+        UsedTypes { alloc, all, found }
     }
 
     /// The type of that name of the interface with that identifier.
-    pub fn get(&self, identifier: &str, name: &str) -> Option<UsedIndex> {
-        match self.found.get(identifier) {
-            Some(names) => match names.get(name) {
-                Some(used) => Some(*used),
-                None => None,
-            },
+    pub fn get(&self, identifier: &str, name: &str) -> Option<UsedIndex>
+        ensures { IfSome result (λ u. Among u self.now.all.items) }
+    {
+        match place_in(&self.found, identifier, name) {
+            Some(at) => self.used_at(at),
+            None => None,
+        }
+    }
+
+    /// The type at a place among all.
+    fn used_at(&self, at: usize) -> Option<UsedIndex>
+        ensures { IfSome result (λ u. Among u self.now.all.items) }
+    {
+        match self.all.get(at) {
+            Some(used) => Some(*used),
             None => None,
         }
     }
@@ -44,28 +107,12 @@ impl UsedTypes {
         identifier: &str,
         name: &str,
         used: UsedIndex,
-    ) -> Result<(), AllocError> {
-        let name = String::from_str(self.alloc, name)?;
-        match self.found.get_mut(identifier) {
-            Some(names) => {
-                let _ = names.insert(name, used)?;
-                Ok(())
-            }
-            None => self.insert_first(identifier, name, used),
-        }
-    }
-
-    /// Adds the first type of an interface.
-    fn insert_first(
-        &mut self,
-        identifier: &str,
-        name: String,
-        used: UsedIndex,
-    ) -> Result<(), AllocError> {
-        let mut names = IndexMap::new(self.alloc);
-        let _ = names.insert(name, used)?;
-        let identifier = String::from_str(self.alloc, identifier)?;
-        let _ = self.found.insert(identifier, names)?;
+    ) -> Result<(), AllocError>
+        ensures { OnOk result (self.new.all.items ≡ self.old.all.items ++ used ∷ []) }
+    {
+        let at = self.all.len();
+        add_place(self.alloc, &mut self.found, identifier, name, at)?;
+        self.all.push(used)?;
         Ok(())
     }
 }

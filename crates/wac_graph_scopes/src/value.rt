@@ -1,6 +1,6 @@
 //! Types of values and functions in a scope of written types.
 
-ghost use Rattle.std.specs.Prelude.{◌≡◌, IfOk, true};
+ghost use Rattle.std.specs.Prelude.{◌≡◌, IfOk, IfErr, true};
 ghost use Rattle.wac_types_base.specs.declared.item.ItemKind.{ItemKind};
 ghost use Rattle.wac_types_base.specs.declared.item.ValueType.{ValueType};
 ghost use Rattle.wac_types_base.specs.declared.item.«Type».{«Type» as TypeKind};
@@ -10,7 +10,9 @@ ghost use Rattle.wac_types_base.specs.Resolving.{IsNoAlias};
 ghost use Rattle.wac_types_base.specs.Tree.{rigid, end};
 ghost use Rattle.wac_types_fit.specs.Trees.{tree_in, Fit};
 ghost use Rattle.wac_types_fit.specs.Checking.{value_in, HoldsValues, ValueStands, value_tree, place_trees};
-ghost use Rattle.wac_graph_scopes.specs.Scopes.{KeepsScope, FindsType, WritesValue, WritesType, WritesPlaces, WritesPlace, WritesEntry, FindsResource};
+ghost use Rattle.wac_graph_scopes.specs.declared.fault.WriteError.{WriteError};
+ghost use Rattle.wac_graph_scopes.specs.Refusals.{IsUnnamed, Refused, RefusedPlace, RefusedThere};
+ghost use Rattle.wac_graph_scopes.specs.Scopes.{KeepsScope, FindsType, WritesValue, WritesDefined, WritesType, WritesPlaces, WritesPlace, WritesEntry, RemembersOne, NotesResource, NotesValue, FindsResource};
 
 use crate::entry::{entry_of, func_entry_of};
 use crate::fault::WriteError;
@@ -26,6 +28,8 @@ fn resource_of(scope: &TypeScope, types: &Types, id: ResourceId) -> Result<u32, 
     requires { Stands types.now (ItemKind.Ty (TypeKind.Resource id)) }
     ensures reads { FindsResource types.now (tree_in types.now (ItemKind.Ty (TypeKind.Resource id))) scope.now result }
     ensures root { (n : Name) × (tree_in types.now (ItemKind.Ty (TypeKind.Resource id)) ≡ rigid (resource n) end) }
+    ensures unnamed { IfErr result (λ _. IsUnnamed types.now scope.now.resources id) }
+    ensures refused { IfErr result (λ e. e ≡ WriteError.Unwritable) }
 {
     let root = types.resource(types.resolve_resource(id));
     match scope.resource(root.name.as_str()) {
@@ -36,7 +40,9 @@ fn resource_of(scope: &TypeScope, types: &Types, id: ResourceId) -> Result<u32, 
 
 fn push_own(scope: &mut TypeScope, types: &Types, id: ResourceId) -> Result<Written, WriteError>
     requires { Stands types.now (ItemKind.Value (ValueType.Own id)) }
-    ensures { WritesValue types.now (tree_in types.now (ItemKind.Value (ValueType.Own id))) scope.old scope.new result }
+    ensures writes { WritesValue types.now (tree_in types.now (ItemKind.Value (ValueType.Own id))) scope.old scope.new result }
+    ensures refused { IfErr result (Refused types.now (ItemKind.Value (ValueType.Own id)) scope.new) }
+    ensures resources { scope.new.resources ≡ scope.old.resources }
 {
     types.see_acyclic();
     let resource = resource_of(scope, types, id)?;
@@ -46,7 +52,9 @@ fn push_own(scope: &mut TypeScope, types: &Types, id: ResourceId) -> Result<Writ
 
 fn push_borrow(scope: &mut TypeScope, types: &Types, id: ResourceId) -> Result<Written, WriteError>
     requires { Stands types.now (ItemKind.Value (ValueType.Borrow id)) }
-    ensures { WritesValue types.now (tree_in types.now (ItemKind.Value (ValueType.Borrow id))) scope.old scope.new result }
+    ensures writes { WritesValue types.now (tree_in types.now (ItemKind.Value (ValueType.Borrow id))) scope.old scope.new result }
+    ensures refused { IfErr result (Refused types.now (ItemKind.Value (ValueType.Borrow id)) scope.new) }
+    ensures resources { scope.new.resources ≡ scope.old.resources }
 {
     types.see_acyclic();
     let resource = resource_of(scope, types, id)?;
@@ -73,7 +81,9 @@ pub(crate) fn push_value(
     ty: ValueType,
 ) -> Result<Written, WriteError>
     requires { Stands types.now (ItemKind.Value ty) }
-    ensures { WritesValue types.now (tree_in types.now (ItemKind.Value ty)) scope.old scope.new result }
+    ensures writes { WritesValue types.now (tree_in types.now (ItemKind.Value ty)) scope.old scope.new result }
+    ensures refused { IfErr result (Refused types.now (ItemKind.Value ty) scope.new) }
+    ensures resources { scope.new.resources ≡ scope.old.resources }
 {
     types.see_acyclic();
     let end = types.resolve_value_type(ty);
@@ -90,7 +100,9 @@ fn push_resolved(
 ) -> Result<Written, WriteError>
     requires stands { Stands types.now (ItemKind.Value ty) }
     requires no_alias { IsNoAlias types.now ty }
-    ensures { WritesValue types.now (tree_in types.now (ItemKind.Value ty)) scope.old scope.new result }
+    ensures writes { WritesValue types.now (tree_in types.now (ItemKind.Value ty)) scope.old scope.new result }
+    ensures refused { IfErr result (Refused types.now (ItemKind.Value ty) scope.new) }
+    ensures resources { scope.new.resources ≡ scope.old.resources }
 {
     types.see_acyclic();
     match ty {
@@ -105,6 +117,7 @@ fn push_resolved(
 pub fn fits_in(alloc: Global, types: &Types, a: ItemKind, b: ItemKind) -> Result<bool, WriteError>
     ensures fits { IfOk result (λ yes. yes ≡ true → Fit types.now a types.now b) }
     ensures stands { IfOk result (λ yes. yes ≡ true → Stands types.now a) }
+    ensures refused { IfErr result (λ e. e ≡ WriteError.Memory) }
 {
     if !types.has(a) || !types.has(b) {
         return Ok(false);
@@ -128,7 +141,9 @@ fn place_of(
     id: DefinedTypeId,
 ) -> Result<Option<usize>, WriteError>
     requires { Stands types.now (ItemKind.Value (ValueType.Defined id)) }
-    ensures { KeepsScope types.now scope.old scope.new }
+    ensures keeps { KeepsScope types.now scope.old scope.new }
+    ensures refused { IfErr result (λ e. e ≡ WriteError.Memory) }
+    ensures resources { scope.new.resources ≡ scope.old.resources }
 {
     if scope.places.by_print.is_empty() {
         return Ok(None);
@@ -147,6 +162,8 @@ fn equal_index(
     requires { Stands types.now (ItemKind.Value (ValueType.Defined id)) }
     ensures keeps { KeepsScope types.now scope.old scope.new }
     ensures reads { IfOk result (λ o. FindsType types.now scope.old id o) }
+    ensures refused { IfErr result (λ e. e ≡ WriteError.Memory) }
+    ensures resources { scope.new.resources ≡ scope.old.resources }
 {
     types.see_acyclic();
     let Some(at) = place_of(scope, types, id)? else {
@@ -175,6 +192,8 @@ fn known_index(
     requires { Stands types.now (ItemKind.Value (ValueType.Defined id)) }
     ensures keeps { KeepsScope types.now scope.old scope.new }
     ensures reads { IfOk result (λ o. FindsType types.now scope.old id o) }
+    ensures refused { IfErr result (λ e. e ≡ WriteError.Memory) }
+    ensures resources { scope.new.resources ≡ scope.old.resources }
 {
     match scope.known(id) {
         Some(index) => Ok(Some(index)),
@@ -183,13 +202,14 @@ fn known_index(
 }
 
 /// Remembers the index of a type that has a name here.
-pub(crate) fn note_named(
+fn note_named(
     scope: &mut TypeScope,
     types: &Types,
     id: DefinedTypeId,
     index: u32,
 ) -> Result<(), WriteError>
     requires { Stands types.now (ItemKind.Value (ValueType.Defined id)) }
+    ensures { RemembersOne types.now id index scope.old scope.new result }
 {
     let print = scope.places.prints.of(types, ValueType::Defined(id))?;
     if !scope.places.by_print.contains_key(&print) {
@@ -200,22 +220,96 @@ pub(crate) fn note_named(
     Ok(())
 }
 
+/// Remembers the index of a resource, unless one stands under its name.
+pub(crate) fn note_resource(
+    alloc: Global,
+    scope: &mut TypeScope,
+    name: &str,
+    index: u32,
+) -> Result<(), WriteError>
+    ensures { NotesResource name.now index scope.old scope.new result }
+{
+    match scope.resource(name) {
+        Some(_) => Ok(()),
+        None => {
+            let name = String::from_str(alloc, name)?;
+            Ok(scope.add_resource(name, index)?)
+        }
+    }
+}
+
+/// Remembers the index of a value type, unless one is remembered.
+pub(crate) fn note_value(
+    scope: &mut TypeScope,
+    types: &Types,
+    ty: ValueType,
+    index: u32,
+) -> Result<(), WriteError>
+    ensures { NotesValue types.now ty index scope.old scope.new result }
+{
+    if !types.has(ItemKind::Value(ty)) {
+        return Ok(());
+    }
+    types.see_acyclic();
+    match types.resolve_value_type(ty) {
+        ValueType::Defined(id) => note_defined(scope, types, id, index),
+        _ => Ok(()),
+    }
+}
+
+/// The same of a defined type that is no alias.
+fn note_defined(
+    scope: &mut TypeScope,
+    types: &Types,
+    id: DefinedTypeId,
+    index: u32,
+) -> Result<(), WriteError>
+    requires { Stands types.now (ItemKind.Value (ValueType.Defined id)) }
+    ensures { RemembersOne types.now id index scope.old scope.new result }
+{
+    match scope.known(id) {
+        Some(_) => Ok(()),
+        None => note_named(scope, types, id, index),
+    }
+}
+
 /// The index of a type entry that is a value type. A defined type that is not written yet is not remembered.
 pub(crate) fn define_value(
     alloc: Global,
     scope: &mut TypeScope,
     types: &Types,
     ty: ValueType,
-) -> Result<u32, WriteError> {
+) -> Result<u32, WriteError>
+    ensures writes { WritesType types.now (tree_in types.now (ItemKind.Value ty)) scope.old scope.new result }
+    ensures refused { RefusedThere types.now (ItemKind.Value ty) scope.new result }
+    ensures resources { scope.new.resources ≡ scope.old.resources }
+{
     if !types.has(ItemKind::Value(ty)) {
         return Err(WriteError::Unwritable);
     }
+    types.see_acyclic();
     match types.resolve_value_type(ty) {
         ValueType::Defined(id) => define_once(alloc, scope, types, id),
-        end => match push_value(alloc, scope, types, end)? {
-            Written::Index(index) => Ok(index),
-            Written::Primitive(p) => Ok(scope.define(TypeEntry::Primitive(p))?),
-        },
+        end => define_plain(alloc, scope, types, end),
+    }
+}
+
+/// The index of a type entry that is a value type, written as any other.
+fn define_plain(
+    alloc: Global,
+    scope: &mut TypeScope,
+    types: &Types,
+    ty: ValueType,
+) -> Result<u32, WriteError>
+    requires { Stands types.now (ItemKind.Value ty) }
+    ensures writes { WritesType types.now (tree_in types.now (ItemKind.Value ty)) scope.old scope.new result }
+    ensures refused { IfErr result (Refused types.now (ItemKind.Value ty) scope.new) }
+    ensures resources { scope.new.resources ≡ scope.old.resources }
+{
+    types.see_acyclic();
+    match push_value(alloc, scope, types, ty)? {
+        Written::Index(index) => Ok(index),
+        Written::Primitive(p) => Ok(scope.define(TypeEntry::Primitive(p))?),
     }
 }
 
@@ -225,11 +319,13 @@ fn define_once(
     scope: &mut TypeScope,
     types: &Types,
     id: DefinedTypeId,
-) -> Result<u32, WriteError> {
-    let kind = ItemKind::Value(ValueType::Defined(id));
-    if !types.has(kind) {
-        return Err(WriteError::Unwritable);
-    }
+) -> Result<u32, WriteError>
+    requires stands { Stands types.now (ItemKind.Value (ValueType.Defined id)) }
+    requires no_alias { IsNoAlias types.now (ValueType.Defined id) }
+    ensures writes { WritesType types.now (tree_in types.now (ItemKind.Value (ValueType.Defined id))) scope.old scope.new result }
+    ensures refused { IfErr result (Refused types.now (ItemKind.Value (ValueType.Defined id)) scope.new) }
+    ensures resources { scope.new.resources ≡ scope.old.resources }
+{
     match known_index(alloc, scope, types, id)? {
         Some(index) => Ok(index),
         None => define_entry(alloc, scope, types, id),
@@ -242,13 +338,19 @@ pub(crate) fn define_apart(
     scope: &mut TypeScope,
     types: &Types,
     ty: ValueType,
-) -> Result<u32, WriteError> {
+) -> Result<u32, WriteError>
+    ensures stands { IfOk result (λ _. Stands types.now (ItemKind.Value ty)) }
+    ensures writes { WritesType types.now (tree_in types.now (ItemKind.Value ty)) scope.old scope.new result }
+    ensures refused { RefusedThere types.now (ItemKind.Value ty) scope.new result }
+    ensures resources { scope.new.resources ≡ scope.old.resources }
+{
     if !types.has(ItemKind::Value(ty)) {
         return Err(WriteError::Unwritable);
     }
+    types.see_acyclic();
     match types.resolve_value_type(ty) {
         ValueType::Defined(id) => define_anew(alloc, scope, types, id),
-        end => define_value(alloc, scope, types, end),
+        end => define_plain(alloc, scope, types, end),
     }
 }
 
@@ -258,11 +360,13 @@ fn define_anew(
     scope: &mut TypeScope,
     types: &Types,
     id: DefinedTypeId,
-) -> Result<u32, WriteError> {
-    let kind = ItemKind::Value(ValueType::Defined(id));
-    if !types.has(kind) {
-        return Err(WriteError::Unwritable);
-    }
+) -> Result<u32, WriteError>
+    requires stands { Stands types.now (ItemKind.Value (ValueType.Defined id)) }
+    requires no_alias { IsNoAlias types.now (ValueType.Defined id) }
+    ensures writes { WritesType types.now (tree_in types.now (ItemKind.Value (ValueType.Defined id))) scope.old scope.new result }
+    ensures refused { IfErr result (Refused types.now (ItemKind.Value (ValueType.Defined id)) scope.new) }
+    ensures resources { scope.new.resources ≡ scope.old.resources }
+{
     let index = define_entry(alloc, scope, types, id)?;
     scope.remember(id, index)?;
     Ok(index)
@@ -278,7 +382,9 @@ fn push_defined(
 ) -> Result<Written, WriteError>
     requires stands { Stands types.now (ItemKind.Value (ValueType.Defined id)) }
     requires no_alias { IsNoAlias types.now (ValueType.Defined id) }
-    ensures { WritesValue types.now (tree_in types.now (ItemKind.Value (ValueType.Defined id))) scope.old scope.new result }
+    ensures writes { WritesDefined types.now id scope.old scope.new result }
+    ensures refused { IfErr result (Refused types.now (ItemKind.Value (ValueType.Defined id)) scope.new) }
+    ensures resources { scope.new.resources ≡ scope.old.resources }
 {
     let known = known_index(alloc, scope, types, id)?;
     if let Some(index) = known {
@@ -298,7 +404,9 @@ fn define_entry(
     id: DefinedTypeId,
 ) -> Result<u32, WriteError>
     requires { Stands types.now (ItemKind.Value (ValueType.Defined id)) }
-    ensures { WritesEntry types.now id scope.old scope.new result }
+    ensures writes { WritesEntry types.now id scope.old scope.new result }
+    ensures refused { IfErr result (Refused types.now (ItemKind.Value (ValueType.Defined id)) scope.new) }
+    ensures resources { scope.new.resources ≡ scope.old.resources }
 {
     types.see_acyclic();
     let ty = types.defined_type(id);
@@ -317,7 +425,9 @@ fn push_places(
 ) -> Result<Vec<Option<Written>>, WriteError>
     requires stands { Stands types.now kind }
     requires values { HoldsValues types.now kind }
-    ensures { WritesPlaces types.now (place_trees types.now kind) scope.old scope.new result }
+    ensures writes { WritesPlaces types.now (place_trees types.now kind) scope.old scope.new result }
+    ensures refused { IfErr result (Refused types.now kind scope.new) }
+    ensures resources { scope.new.resources ≡ scope.old.resources }
 {
     types.see_acyclic();
     let mut written = Vec::new(alloc);
@@ -339,7 +449,9 @@ fn push_place(
     place: Option<ValueType>,
 ) -> Result<Option<Written>, WriteError>
     requires { ValueStands types.now place }
-    ensures { WritesPlace types.now (value_tree types.now place) scope.old scope.new result }
+    ensures writes { WritesPlace types.now (value_tree types.now place) scope.old scope.new result }
+    ensures refused { IfErr result (RefusedPlace types.now place scope.new) }
+    ensures resources { scope.new.resources ≡ scope.old.resources }
 {
     match place {
         None => Ok(None),
@@ -358,7 +470,9 @@ pub(crate) fn push_func(
     id: FuncTypeId,
 ) -> Result<u32, WriteError>
     requires { Stands types.now (ItemKind.Func id) }
-    ensures { WritesType types.now (tree_in types.now (ItemKind.Func id)) scope.old scope.new result }
+    ensures writes { WritesType types.now (tree_in types.now (ItemKind.Func id)) scope.old scope.new result }
+    ensures refused { IfErr result (Refused types.now (ItemKind.Func id) scope.new) }
+    ensures resources { scope.new.resources ≡ scope.old.resources }
 {
     types.see_acyclic();
     let ty = types.func_type(id);

@@ -1,6 +1,12 @@
-use Rattle.std.proofs.Common.{◌+◌, ◌*◌}
+use Rattle.std.proofs.Common.{◌+◌, ◌*◌, ℕ, List, ◌++◌, take}
 use Rattle.wac_types_base.specs.declared.item.ItemKind.{ItemKind}
-use Rattle.wac_types_base.specs.Collection.{size_of}
+use Rattle.wac_types_base.specs.Graph.{Among}
+use Rattle.wac_types_base.specs.Entries.{Name, names_of, AreDistinct}
+use Rattle.wac_types_base.specs.Collection.{Stands, size_of}
+use Rattle.wac_graph_scopes.specs.Parts.{imports_of}
+use Rattle.wac_graph_scopes.specs.Imports.{IsNewAt, names_at, WritesWorld, ExportsWritten}
+use Rattle.wac_graph_bytes.specs.Typing.{Worlds, Scope}
+use Rattle.wac_graph_scopes.specs.Items.{AreAround, WritesSome, ItemsWritten}
 use Rattle.wac_graph_scopes.proofs.+types.Given as goal
 
 abbrev pub decreases-imports::ImportScope::describe : goal.decreases-imports::ImportScope::describe
@@ -15,26 +21,36 @@ decreases-imports::ImportScope::export l = 16 * size_of l.all.types.now l.item.k
 abbrev pub decreases-imports::ImportScope::write_import : goal.decreases-imports::ImportScope::write_import
 decreases-imports::ImportScope::write_import l = 16 * size_of l.all.types.now (ItemKind.Component l.all.world) + 0
 
-abbrev pub decreases-imports::component_type : goal.decreases-imports::component_type
-decreases-imports::component_type l = 16 * size_of l.types.now (ItemKind.Component l.id) + 4
+abbrev pub decreases-worlds::component_type : goal.decreases-worlds::component_type
+decreases-worlds::component_type l = 16 * size_of l.types.now (ItemKind.Component l.id) + 4
 
-abbrev pub decreases-imports::write_before_others : goal.decreases-imports::write_before_others
-decreases-imports::write_before_others l = 16 * size_of l.all.types.now (ItemKind.Component l.all.world) + 2
+abbrev pub decreases-worlds::write_before_others : goal.decreases-worlds::write_before_others
+decreases-worlds::write_before_others l = 16 * size_of l.all.types.now (ItemKind.Component l.all.world) + 2
 
-abbrev pub decreases-imports::write_component : goal.decreases-imports::write_component
-decreases-imports::write_component l = 16 * size_of l.all.types.now (ItemKind.Component l.all.world) + 3
+abbrev pub decreases-worlds::write_component : goal.decreases-worlds::write_component
+decreases-worlds::write_component l = 16 * size_of l.all.types.now (ItemKind.Component l.all.world) + 3
 
-abbrev pub decreases-imports::export_others : goal.decreases-imports::export_others
-decreases-imports::export_others l = 16 * size_of l.all.types.now (ItemKind.Component l.all.world) + 1
+abbrev pub decreases-worlds::export_other_at : goal.decreases-worlds::export_other_at
+decreases-worlds::export_other_at l = 16 * size_of l.all.types.now (ItemKind.Component l.all.world) + 0
 
-abbrev pub decreases-imports::write_imports : goal.decreases-imports::write_imports
-decreases-imports::write_imports l = 16 * size_of l.all.types.now (ItemKind.Component l.all.world) + 1
+abbrev pub decreases-worlds::export_others : goal.decreases-worlds::export_others
+decreases-worlds::export_others l = 16 * size_of l.all.types.now (ItemKind.Component l.all.world) + 1
+
+abbrev pub decreases-worlds::write_imports : goal.decreases-worlds::write_imports
+decreases-worlds::write_imports l = 16 * size_of l.all.types.now (ItemKind.Component l.all.world) + 1
 
 abbrev pub decreases-items::describe : goal.decreases-items::describe
 decreases-items::describe l = 16 * size_of l.types.now l.kind + 6
 
 abbrev pub decreases-items::export_item : goal.decreases-items::export_item
 decreases-items::export_item l = 16 * size_of l.types.now l.item.kind + 7
+
+abbrev pub decreases-items::export_other_at : goal.decreases-items::export_other_at
+decreases-items::export_other_at l = 16 * size_of l.types.now (ItemKind.Instance l.id) + 0
+
+abbrev pub invariant-items::export_others-loop-at : goal.invariant-items::export_others-loop-at
+invariant-items::export_others-loop-at l = Stands l.types (ItemKind.Instance l.id) → (w : Worlds) (outer : List Scope) → AreAround w l.types outer l.around.depth l.around.used.now.all.items
+    → WritesSome w l.types outer l.id l.fn.scope l.fn.given → ItemsWritten w l.types outer l.id l.at l.scope l.given
 
 abbrev pub decreases-items::export_others : goal.decreases-items::export_others
 decreases-items::export_others l = 16 * size_of l.types.now (ItemKind.Instance l.id) + 1
@@ -50,3 +66,12 @@ decreases-items::push_component_type l = 16 * size_of l.types.now (ItemKind.Comp
 
 abbrev pub decreases-items::push_instance_type : goal.decreases-items::push_instance_type
 decreases-items::push_instance_type l = 16 * size_of l.types.now (ItemKind.Instance l.id) + 4
+
+-- the imports before this one are written
+abbrev pub invariant-worlds::write_imports-loop-at : goal.invariant-worlds::write_imports-loop-at
+invariant-worlds::write_imports-loop-at l = (w : Worlds) (outer : List Scope) (imported exported : List Name) → AreDistinct (names_of (imports_of l.all.types.now l.all.world)) → AreDistinct l.order → ((k : ℕ) → Among k l.order → IsNewAt (names_of (imports_of l.all.types.now l.all.world)) k imported)
+    → WritesWorld w l.all.types.now outer l.all.world l.fn.scope imported exported
+    → WritesWorld w l.all.types.now outer l.all.world l.scope (imported ++ names_at (names_of (imports_of l.all.types.now l.all.world)) (take l.at-index l.order)) exported
+
+abbrev pub invariant-worlds::export_others-loop-at : goal.invariant-worlds::export_others-loop-at
+invariant-worlds::export_others-loop-at l = (w : Worlds) (outer : List Scope) (imported : List Name) → WritesWorld w l.all.types.now outer l.all.world l.fn.scope imported l.fn.exported → ExportsWritten w l.all.types.now outer l.all.world l.at l.scope imported l.exported

@@ -1,5 +1,6 @@
 use Rattle.std.proofs.Common.{◌≡◌, ◌∷◌, ◌+◌, ◌<◌, Some, take, refl, sym, ap, subst, ◌∙◌, arith}
 use Rattle.std.specs.Prelude.{IfSome}
+use Rattle.std.proofs.lemmas.Result.{err_from_is_err_and}
 use Rattle.wac_types_base.specs.declared.item.ItemKind.{ItemKind}
 use Rattle.wac_types_base.specs.declared.item.ValueType.{ValueType}
 use Rattle.wac_types_base.specs.Collection.{Stands, size_of, slots_of}
@@ -15,6 +16,7 @@ use Rattle.wac_graph_scopes.specs.Forms.{entry_of}
 use Rattle.wac_graph_scopes.specs.Scopes.{AnswersPlaces}
 use Rattle.wac_graph_scopes.proofs.ValueLaws.{value_of_tree, value_there, value_written, value_remembered, places_none, places_next, trees_next, trees_all}
 use Rattle.wac_graph_scopes.proofs.HandleLaws.{if_ok_map, take_zero, place_none, place_some}
+use Rattle.wac_graph_scopes.proofs.RefusedLaws.{if_err_map, alias_refused, place_refused}
 use Rattle.wac_graph_scopes.proofs.value.+values.Goals as goal
 
 pub push_value-push_resolved-requires : goal.push_value-push_resolved-requires
@@ -22,12 +24,12 @@ push_value-push_resolved-requires t c =
     let smaller = end_smaller c.args.types.now c.see_acyclic.ensures c.args.ty c.resolve_value_type-end.result c.resolve_value_type-end.ensures.resolved c.requires in
     (omega (arith, smaller, c.decreases), (c.resolve_value_type-end.ensures.stands, end_no_alias c.args.types.now c.see_acyclic.ensures c.resolve_value_type-end.ensures.resolved))
 
-pub push_value-returns : goal.push_value-returns
-push_value-returns t c w outer i h =
+pub push_value-returns-clause-writes : goal.push_value-returns-clause-writes
+push_value-returns-clause-writes t c w outer i h =
     let types = c.args.types.now in
     let v = c.resolve_value_type-end.result in
     let same = same_tree types c.see_acyclic.ensures (ItemKind.Value v) (ItemKind.Value c.args.ty) c.resolve_value_type-end.ensures.stands c.requires c.resolve_value_type-end.ensures.tree in
-    if_ok_map c.push_resolved.result (λ b a. value_of_tree w types outer i (tree_in types (ItemKind.Value v)) (tree_in types (ItemKind.Value c.args.ty)) c.push_resolved.new.scope b same a) (c.push_resolved.ensures w outer i h)
+    if_ok_map c.push_resolved.result (λ b a. value_of_tree w types outer i (tree_in types (ItemKind.Value v)) (tree_in types (ItemKind.Value c.args.ty)) c.push_resolved.new.scope b same a) (c.push_resolved.ensures.writes w outer i h)
 
 pub push_resolved-push_own-requires : goal.push_resolved-push_own-requires
 push_resolved-push_own-requires t c = subst (λ v. Stands c.args.types.now (ItemKind.Value v)) c.in-Own.is c.requires.stands
@@ -41,52 +43,52 @@ push_resolved-push_defined-requires t c =
     let s = ap (λ v. size_of types (ItemKind.Value v)) c.in-Defined.is in
     (omega (arith, s, c.decreases), (subst (λ v. Stands types (ItemKind.Value v)) c.in-Defined.is c.requires.stands, subst (λ v. IsNoAlias types v) c.in-Defined.is c.requires.no_alias))
 
-pub push_resolved-returns-in-Primitive : goal.push_resolved-returns-in-Primitive
-push_resolved-returns-in-Primitive t c w outer i h =
+pub push_resolved-returns-in-Primitive-clause-writes : goal.push_resolved-returns-in-Primitive-clause-writes
+push_resolved-returns-in-Primitive-clause-writes t c w outer i h =
     let types = c.args.types.now in
     let p = c.in-Primitive.p in
     value_there w types outer i (tree_in types (ItemKind.Value c.args.ty)) c.args.scope.now (Primitive p) h
     (ap Some (sym (ap (λ v. tree_in types (ItemKind.Value v)) c.in-Primitive.is ∙ primitive_tree types c.see_acyclic.ensures p)))
 
-pub push_resolved-returns-in-Own : goal.push_resolved-returns-in-Own
-push_resolved-returns-in-Own t c w outer i h =
+pub push_resolved-returns-in-Own-clause-writes : goal.push_resolved-returns-in-Own-clause-writes
+push_resolved-returns-in-Own-clause-writes t c w outer i h =
     let types = c.args.types.now in
-    if_ok_map c.push_own.result (λ b a. value_of_tree w types outer i (tree_in types (ItemKind.Value (ValueType.Own c.in-Own.id))) (tree_in types (ItemKind.Value c.args.ty)) c.push_own.new.scope b (ap (λ v. tree_in types (ItemKind.Value v)) (sym c.in-Own.is)) a) (c.push_own.ensures w outer i h)
+    if_ok_map c.push_own.result (λ b a. value_of_tree w types outer i (tree_in types (ItemKind.Value (ValueType.Own c.in-Own.id))) (tree_in types (ItemKind.Value c.args.ty)) c.push_own.new.scope b (ap (λ v. tree_in types (ItemKind.Value v)) (sym c.in-Own.is)) a) (c.push_own.ensures.writes w outer i h)
 
-pub push_resolved-returns-in-Borrow : goal.push_resolved-returns-in-Borrow
-push_resolved-returns-in-Borrow t c w outer i h =
+pub push_resolved-returns-in-Borrow-clause-writes : goal.push_resolved-returns-in-Borrow-clause-writes
+push_resolved-returns-in-Borrow-clause-writes t c w outer i h =
     let types = c.args.types.now in
-    if_ok_map c.push_borrow.result (λ b a. value_of_tree w types outer i (tree_in types (ItemKind.Value (ValueType.Borrow c.in-Borrow.id))) (tree_in types (ItemKind.Value c.args.ty)) c.push_borrow.new.scope b (ap (λ v. tree_in types (ItemKind.Value v)) (sym c.in-Borrow.is)) a) (c.push_borrow.ensures w outer i h)
+    if_ok_map c.push_borrow.result (λ b a. value_of_tree w types outer i (tree_in types (ItemKind.Value (ValueType.Borrow c.in-Borrow.id))) (tree_in types (ItemKind.Value c.args.ty)) c.push_borrow.new.scope b (ap (λ v. tree_in types (ItemKind.Value v)) (sym c.in-Borrow.is)) a) (c.push_borrow.ensures.writes w outer i h)
 
-pub push_resolved-returns-in-Defined : goal.push_resolved-returns-in-Defined
-push_resolved-returns-in-Defined t c w outer i h =
+pub push_resolved-returns-in-Defined-clause-writes : goal.push_resolved-returns-in-Defined-clause-writes
+push_resolved-returns-in-Defined-clause-writes t c w outer i h =
     let types = c.args.types.now in
-    if_ok_map c.push_defined.result (λ b a. value_of_tree w types outer i (tree_in types (ItemKind.Value (ValueType.Defined c.in-Defined.id))) (tree_in types (ItemKind.Value c.args.ty)) c.push_defined.new.scope b (ap (λ v. tree_in types (ItemKind.Value v)) (sym c.in-Defined.is)) a) (c.push_defined.ensures w outer i h)
+    if_ok_map c.push_defined.result (λ b a. value_of_tree w types outer i (tree_in types (ItemKind.Value (ValueType.Defined c.in-Defined.id))) (tree_in types (ItemKind.Value c.args.ty)) c.push_defined.new.scope b (ap (λ v. tree_in types (ItemKind.Value v)) (sym c.in-Defined.is)) a) (c.push_defined.ensures.writes w outer i h)
 
 pub push_defined-define_entry-requires : goal.push_defined-define_entry-requires
 push_defined-define_entry-requires t c = (omega (arith, c.decreases), c.requires.stands)
 
-pub push_defined-returns-in-Some : goal.push_defined-returns-in-Some
-push_defined-returns-in-Some t c w outer i h =
+pub push_defined-returns-in-Some-clause-writes : goal.push_defined-returns-in-Some-clause-writes
+push_defined-returns-in-Some-clause-writes t c w outer i h =
     let types = c.args.types.now in
     value_there w types outer i (tree_in types (ItemKind.Value (ValueType.Defined c.args.id))) c.known_index.new.scope (Index c.in-Some.index) (c.known_index.ensures.keeps w outer i h)
     (subst (λ o. IfSome o (λ k. value_of w (i.here ∷ outer) (Index k) ≡ Some (tree_in types (ItemKind.Value (ValueType.Defined c.args.id))))) c.in-Some.is (c.in_ok-known.ensures.reads w outer i h))
 
-pub push_defined-returns : goal.push_defined-returns
-push_defined-returns t c w outer i h =
+pub push_defined-returns-clause-writes : goal.push_defined-returns-clause-writes
+push_defined-returns-clause-writes t c w outer i h =
     let types = c.args.types.now in
     value_remembered w types outer i (tree_in types (ItemKind.Value (ValueType.Defined c.args.id))) c.define_entry.new.scope c.remember.new.self c.in_ok-index.index
-    (c.in_ok-index.ensures w outer i c.requires.no_alias (c.known_index.ensures.keeps w outer i h)) (λ j hs e. c.in_ok-remember.ensures w types outer j hs e)
+    (c.in_ok-index.ensures.writes w outer i c.requires.no_alias (c.known_index.ensures.keeps w outer i h)) (λ j hs e. c.in_ok-remember.ensures.known w types outer j hs e)
 
 pub define_entry-push_places-requires : goal.define_entry-push_places-requires
 define_entry-push_places-requires t c =
     (omega (arith, c.decreases), (c.requires, defined_holds c.args.types.now (ValueType.Defined c.args.id) c.args.id c.defined_type-ty.result.now refl c.defined_type-ty.ensures.entry c.defined_type-ty.ensures.own))
 
-pub define_entry-returns : goal.define_entry-returns
-define_entry-returns t c w outer i no_alias h =
+pub define_entry-returns-clause-writes : goal.define_entry-returns-clause-writes
+define_entry-returns-clause-writes t c w outer i no_alias h =
     let types = c.args.types.now in
     value_written w types outer i c.see_acyclic.ensures c.args.id c.defined_type-ty.result.now c.push_places.new.scope c.define.new.self c.in_ok-places.places.items c.in_ok-entry.entry c.in_ok-define.field-0
-    no_alias c.defined_type-ty.ensures.entry c.defined_type-ty.ensures.own (c.in_ok-places.ensures w outer i h)
+    no_alias c.defined_type-ty.ensures.entry c.defined_type-ty.ensures.own (c.in_ok-places.ensures.writes w outer i h)
     (c.in_ok-entry.ensures ∙ ap (entry_of c.defined_type-ty.result.now) c.as_slice.ensures.value)
     (λ j x hs e. c.in_ok-define.ensures.stands w types outer j x hs e)
 
@@ -98,7 +100,7 @@ push_places-push_place-requires t c =
     (omega (arith, s.1, c.decreases), s.0)
 
 pub push_places-loop-place-init : goal.push_places-loop-place-init
-push_places-loop-place-init t c w outer i h = places_none w c.args.types.now outer i (take 0 (place_trees c.args.types.now c.args.kind)) c.args.scope.now _ h (take_zero (place_trees c.args.types.now c.args.kind)) c.new-written.ensures.items
+push_places-loop-place-init t c = record { resources = refl; written = λ w outer i h. places_none w c.args.types.now outer i (take 0 (place_trees c.args.types.now c.args.kind)) c.args.scope.now _ h (take_zero (place_trees c.args.types.now c.args.kind)) c.new-written.ensures.items }
 
 pub push_places-loop-place-smaller : goal.push_places-loop-place-smaller
 push_places-loop-place-smaller t c =
@@ -106,26 +108,40 @@ push_places-loop-place-smaller t c =
     omega (arith, lt)
 
 pub push_places-loop-place-preserved : goal.push_places-loop-place-preserved
-push_places-loop-place-preserved t c w outer i h =
-    let types = c.args.types.now in
-    let trees = place_trees types c.args.kind in
-    let a = c.loop-place.invariant w outer i h in
-    places_next w types outer i (take c.loop-place.at trees) (take (c.loop-place.at + 1) trees) (value_tree types c.value_of.result) c.loop-place.scope c.push_place.new.scope c.loop-place.written.items c.push.new.self.items c.in_ok-value.value
-    a (c.in_ok-value.ensures w outer a.after a.goes.stands)
-    (trees_next types c.args.kind c.loop-place.at c.in-Some.place c.value_of.result c.requires.values c.value_of.ensures (sym c.in-Some.ensures.place)) c.in_ok-push.ensures.items
+push_places-loop-place-preserved t c = record {
+  resources = c.in_ok-value.ensures.resources ∙ c.loop-place.invariant.resources;
+  written = λ w outer i h.
+      let types = c.args.types.now in
+      let trees = place_trees types c.args.kind in
+      let a = c.loop-place.invariant.written w outer i h in
+      places_next w types outer i (take c.loop-place.at trees) (take (c.loop-place.at + 1) trees) (value_tree types c.value_of.result) c.loop-place.scope c.push_place.new.scope c.loop-place.written.items c.push.new.self.items c.in_ok-value.value
+      a (c.in_ok-value.ensures.writes w outer a.after a.goes.stands)
+      (trees_next types c.args.kind c.loop-place.at c.in-Some.place c.value_of.result c.requires.values c.value_of.ensures (sym c.in-Some.ensures.place)) c.in_ok-push.ensures.items;
+}
 
-pub push_places-returns : goal.push_places-returns
-push_places-returns t c w outer i h =
+pub push_places-returns-clause-writes : goal.push_places-returns-clause-writes
+push_places-returns-clause-writes t c w outer i h =
     let types = c.args.types.now in
-    subst (λ l. AnswersPlaces w types outer i l c.loop-place.scope c.loop-place.written.items) (trees_all types c.args.kind c.loop-place.at (sym c.place.ensures.place ∙ c.in_default.is)) (c.loop-place.invariant w outer i h)
+    subst (λ l. AnswersPlaces w types outer i l c.loop-place.scope c.loop-place.written.items) (trees_all types c.args.kind c.loop-place.at (sym c.place.ensures.place ∙ c.in_default.is)) (c.loop-place.invariant.written w outer i h)
 
 pub push_place-push_value-requires : goal.push_place-push_value-requires
 push_place-push_value-requires t c =
     let s = ap (place_size c.args.types.now) c.in-Some.is in
     (omega (arith, s, c.decreases), subst (λ v. ValueStands c.args.types.now v) c.in-Some.is c.requires)
 
-pub push_place-returns-in-None : goal.push_place-returns-in-None
-push_place-returns-in-None t c w outer i h = place_none w c.args.types.now outer i c.args.scope.now c.args.place h c.in-None.is
+pub push_place-returns-in-None-clause-writes : goal.push_place-returns-in-None-clause-writes
+push_place-returns-in-None-clause-writes t c w outer i h = place_none w c.args.types.now outer i c.args.scope.now c.args.place h c.in-None.is
 
-pub push_place-returns-in_ok-value-in-Some : goal.push_place-returns-in_ok-value-in-Some
-push_place-returns-in_ok-value-in-Some t c w outer i h = place_some w c.args.types.now outer i c.push_value.new.scope c.args.place c.in-Some.ty c.in_ok-value-in-Some.value c.in-Some.is (c.in_ok-value-in-Some.ensures w outer i h)
+pub push_place-returns-in_ok-value-in-Some-clause-writes : goal.push_place-returns-in_ok-value-in-Some-clause-writes
+push_place-returns-in_ok-value-in-Some-clause-writes t c w outer i h = place_some w c.args.types.now outer i c.push_value.new.scope c.args.place c.in-Some.ty c.in_ok-value-in-Some.value c.in-Some.is (c.in_ok-value-in-Some.ensures.writes w outer i h)
+
+pub push_value-returns-clause-refused : goal.push_value-returns-clause-refused
+push_value-returns-clause-refused t c =
+    if_err_map c.push_resolved.result (λ e h. alias_refused c.args.types.now c.see_acyclic.ensures c.args.ty c.resolve_value_type-end.result c.resolve_value_type-end.ensures.resolved c.requires c.push_resolved.new.scope e h) c.push_resolved.ensures.refused
+
+pub push_places-returns-in_err-value-clause-refused : goal.push_places-returns-in_err-value-clause-refused
+push_places-returns-in_err-value-clause-refused t c =
+    let types = c.args.types.now in
+    let p = err_from_is_err_and c.from_residual.result c.from_residual.ensures.1 in
+    rw (p.1, p.2)
+    (place_refused types c.args.kind c.loop-place.at c.in-Some.place c.value_of.result c.push_place.new.scope c.in_err-value.field-0.0 c.requires.values (sym c.in-Some.ensures.place) c.value_of.ensures c.in_err-value.ensures.refused)

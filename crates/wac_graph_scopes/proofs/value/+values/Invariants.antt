@@ -1,4 +1,4 @@
-use Rattle.std.proofs.Common.{◌+◌, ◌-◌, ◌*◌, List, length, take}
+use Rattle.std.proofs.Common.{◌≡◌, ◌+◌, ◌-◌, ◌*◌, List, length, take}
 use Rattle.wac_types_base.specs.declared.item.ItemKind.{ItemKind}
 use Rattle.wac_types_base.specs.declared.item.ValueType.{ValueType}
 use Rattle.wac_types_base.specs.Collection.{size_of, slots_of}
@@ -28,7 +28,10 @@ decreases-push_place l = 8 * place_size l.types.now l.place + 5
 
 -- the value types of the places before this one are written
 abbrev pub invariant-push_places-loop-place : goal.invariant-push_places-loop-place
-invariant-push_places-loop-place l = (w : Worlds) (outer : List Scope) (i : Inside) → IsScope w l.types outer i l.fn.scope → AnswersPlaces w l.types outer i (take l.at (place_trees l.types l.kind)) l.scope l.written.items
+invariant-push_places-loop-place l = record {
+  resources : l.scope.resources ≡ l.fn.scope.resources;
+  written : (w : Worlds) (outer : List Scope) (i : Inside) → IsScope w l.types outer i l.fn.scope → AnswersPlaces w l.types outer i (take l.at (place_trees l.types l.kind)) l.scope l.written.items;
+}
 
 abbrev pub decreases-push_places-loop-place : goal.decreases-push_places-loop-place
 decreases-push_places-loop-place l = length (slots_of l.types l.kind) - l.at

@@ -7,6 +7,6 @@ use Rattle.wac_graph_scopes.proofs.value.equal_index.Goals as goal
 pub returns-then-equal-clause-reads : goal.returns-then-equal-clause-reads
 returns-then-equal-clause-reads c w outer i h =
     let types = c.args.types.now in
-    let known = c.in-Some-known_at.ensures w types outer i (c.place_of.ensures w outer i h) in
+    let known = c.in-Some-known_at.ensures w types outer i (c.place_of.ensures.keeps w outer i h) in
     known.reads
     ∙ ap Some (value_equal types c.see_acyclic.ensures c.in-Some-known_at.other.id (ItemKind.Value (ValueType.Defined c.args.id)) (c.in_ok-equal.ensures.stands c.if-equal.true) (c.in_ok-equal.ensures.fits c.if-equal.true))

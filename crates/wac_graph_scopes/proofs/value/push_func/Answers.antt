@@ -7,9 +7,9 @@ use Rattle.wac_graph_scopes.proofs.value.push_func.Goals as goal
 pub push_places-requires-clause-values : goal.push_places-requires-clause-values
 push_places-requires-clause-values c = func_holds c.args.types.now c.args.id c.func_type-ty.result.now c.func_type-ty.ensures.entry c.func_type-ty.ensures.own
 
-pub returns : goal.returns
-returns c w outer i h =
+pub returns-clause-writes : goal.returns-clause-writes
+returns-clause-writes c w outer i h =
     let types = c.args.types.now in
     func_written w types outer i c.see_acyclic.ensures c.args.id c.func_type-ty.result.now c.push_places.new.scope c.define.new.self c.in_ok-places.places.items c.in_ok-entry.entry c.in_ok-index.index
-    c.func_type-ty.ensures.entry c.func_type-ty.ensures.own (c.in_ok-places.ensures w outer i h) (c.in_ok-entry.ensures ∙ ap (func_entry_of c.func_type-ty.result.now) c.as_slice.ensures.value)
+    c.func_type-ty.ensures.entry c.func_type-ty.ensures.own (c.in_ok-places.ensures.writes w outer i h) (c.in_ok-entry.ensures ∙ ap (func_entry_of c.func_type-ty.result.now) c.as_slice.ensures.value)
     (λ j x hs e. c.in_ok-index.ensures.stands w types outer j x hs e)

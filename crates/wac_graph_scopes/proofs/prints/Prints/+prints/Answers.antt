@@ -1,6 +1,6 @@
-use Rattle.std.proofs.Common.{Some, sym, ap, subst, ◌∙◌, arith}
+use Rattle.std.proofs.Common.{Some, sym, ap, ◌∙◌, arith}
 use Rattle.wac_types_base.specs.declared.item.ItemKind.{ItemKind}
-use Rattle.wac_types_base.specs.Collection.{Stands, size_of, slots_of}
+use Rattle.wac_types_base.specs.Collection.{slots_of}
 use Rattle.wac_types_base.proofs.Slots.{stands_own, stands_borrow}
 use Rattle.wac_types_base.proofs.Walking.{child_smaller, some_place}
 use Rattle.wac_types_fit.proofs.Unfolded.{end_smaller}

@@ -1,0 +1,260 @@
+use Rattle.std.proofs.Common.{◌≡◌, ◌∷◌, [], ◌++◌, ◌≤◌, List, ℕ, length, take, refl, sym, ap, ◌∙◌, subst, arith, inl, inr}
+use Rattle.wac_types_base.specs.declared.item.ItemKind.{ItemKind}
+use Rattle.wac_types_base.specs.Graph.{Among}
+use Rattle.wac_types_base.specs.Entries.{Name, names_of, put_name}
+use Rattle.wac_types_base.proofs.Standing.{interface_found}
+use Rattle.wac_types_fit.specs.Trees.{tree_in}
+use Rattle.wac_graph_bytes.specs.declared.value.Description.{Description}
+use Rattle.wac_graph_bytes.specs.Typing.{Known}
+use Rattle.wac_graph_bytes.specs.Views.{declarations_of}
+use Rattle.wac_graph_scopes.specs.declared.used.UsedTypes.{UsedTypes}
+use Rattle.wac_graph_scopes.specs.Parts.{exports_of}
+use Rattle.wac_graph_scopes.specs.Items.{Describes, ItemsWritten, StatesInstance}
+use Rattle.wac_graph_scopes.proofs.HandleLaws.{if_ok_map}
+use Rattle.wac_graph_scopes.proofs.PartLaws.{exports_there, name_at}
+use Rattle.wac_graph_scopes.proofs.ItemLaws.{used_deeper, export_follows}
+use Rattle.wac_graph_scopes.proofs.WritingLaws.{writes_none, writes_more, states_instance, instance_described, interface_stands, instance_reads, component_reads, type_given, take_or, all_taken, put_there, put_keeps, not_among, among_has, value_here}
+use Rattle.std.proofs.Common.{get_or}
+use Rattle.std.proofs.lemmas.List.{take_all}
+use Rattle.std.proofs.lemmas.Option.{slice_get-get_or}
+use Rattle.wac_types_base.proofs.Looked.{put_name-new}
+use Rattle.wac_graph_scopes.specs.Orders.{IsOrder}
+use Rattle.wac_graph_scopes.specs.Parts.{imports_of, world_exports_of}
+use Rattle.wac_graph_scopes.specs.Imports.{WritesWorld, MayDescribeIn, ExportsWritten, names_at}
+use Rattle.wac_graph_scopes.specs.Items.{StatesComponent}
+use Rattle.wac_graph_scopes.proofs.OrderLaws.{distinct-left, distinct-right}
+use Rattle.wac_graph_scopes.proofs.ImportLaws.{world_describes, world_exports, no_name_at, name_added, next_new, next_names, all_named, others_new, ordered_names, states_component, component_described, world_stands}
+use Rattle.std.proofs.lemmas.Result.{err_from_is_err_and}
+use Rattle.wac_graph_scopes.proofs.RefusedLaws.{interface_unsaid, world_unsaid}
+use Rattle.wac_graph_scopes.proofs.+types.Goals as goal
+
+pub items::push_instance_type-returns : goal.items::push_instance_type-returns
+items::push_instance_type-returns m c stands w outer i h are =
+    let types = c.args.types.now in
+    let t = tree_in types (ItemKind.Instance c.args.id) in
+    let inner = c.in_ok-inner.inner in
+    let deep = used_deeper w types (i.here ∷ outer) c.args.around.depth inner.depth c.args.around.used.now.all.items inner.used.now.all.items c.in_ok-inner.ensures.depth (ap (λ (u : UsedTypes). u.all.items) c.in_ok-inner.ensures.used) are in
+    let reads = c.in_ok-declarations.ensures stands w (i.here ∷ outer) deep in
+    if_ok_map c.add_type.result (λ k a. type_given w types outer i t c.add_type.new.self k a) (c.add_type.ensures w types outer i (Known t) h (instance_reads w outer i c.in_ok-declarations.declarations t reads))
+
+pub items::instance_type-returns : goal.items::instance_type-returns
+items::instance_type-returns m c stands w outer around =
+    let types = c.args.types.now in
+    c.write_instance.ensures stands w outer around (writes_none w types outer c.args.id c.new-scope.result (c.new-scope.ensures w types outer))
+
+pub items::write_instance-returns : goal.items::write_instance-returns
+items::write_instance-returns m c stands w outer around k =
+    let types = c.args.types.now in
+    let id = c.args.id in
+    let es = exports_of types id in
+    let o = c.in_ok-export_others.ensures stands w outer around (c.in_ok-given.ensures w outer around k) in
+    let x = interface_found types id stands in
+    let all = λ (n : Name) (a : Among n (names_of es)). o.all_before n (all_taken es n a) in
+    subst (λ ds. StatesInstance w outer (tree_in types (ItemKind.Instance id)) (declarations_of ds)) (sym c.take_declarations.ensures)
+    (states_instance w types c.see_acyclic.ensures outer id x.value c.export_others.new.scope c.export_others.new.given x.at x.own (exports_there types id x.value x.at x.own) o.writing all)
+
+pub items::export_others-returns : goal.items::export_others-returns
+items::export_others-returns m c stands w outer around k =
+    let types = c.args.types.now in
+    let end : c.loop-at.at ≡ length (exports_of types c.args.id) = omega (arith, c.loop-at-test.false, c.export_count-count.ensures.len) in
+    subst (λ (n : ℕ). ItemsWritten w types outer c.args.id n c.loop-at.scope c.loop-at.given) end (c.loop-at.invariant stands w outer around k)
+
+pub items::export_other_at-returns-in_ok-add_name-in-Some : goal.items::export_other_at-returns-in_ok-add_name-in-Some
+items::export_other_at-returns-in_ok-add_name-in-Some m c stands w outer around o =
+    let types = c.args.types.now in
+    let es = exports_of types c.args.id in
+    let item = c.in-Some.item in
+    let n = item.name.now in
+    let given = c.args.given.now in
+    let k = o.writing in
+    let entry = c.in-Some.ensures.entry in
+    let e = c.in_ok-export_item-in-Some.ensures c.in-Some.ensures.inside.0 w outer k.inside k.stands (around k.inside.here) in
+    let more = c.in_ok-add_name-in-Some.ensures in
+    let here = name_at es c.args.at n item.kind entry in
+    record {
+      writing = writes_more w types outer [] es [] given c.args.scope.now c.export_item.new.scope k n (tree_in types item.kind) c.add_name.new.names
+          (item.kind, value_here es c.args.at n item.kind c.requires entry, refl) e (not_among given n c.in-Some.ensures.new) more;
+      all_before = λ p a. elim (take_or p (names_of es) c.args.at a) [
+        | inl old ↦ subst (λ (l : List Name). Among p l) (sym more) (put_keeps given n p (o.all_before p old))
+        | inr at ↦ let same : n ≡ p = cc (here, at) in subst (λ (l : List Name). Among p l) (sym more) (subst (λ (x : Name). Among x (put_name given n)) same (put_there given n))
+      ];
+    }
+
+pub items::export_other_at-returns-in-None : goal.items::export_other_at-returns-in-None
+items::export_other_at-returns-in-None m c stands w outer around o = record {
+  writing = o.writing;
+  all_before = λ p a. elim (take_or p (names_of (exports_of c.args.types.now c.args.id)) c.args.at a) [ inl old ↦ o.all_before p old | inr at ↦ among_has c.args.given.now p (c.in-None.ensures.none p at) ];
+}
+
+pub items::export_item-returns : goal.items::export_item-returns
+items::export_item-returns m c stands w outer i h are =
+    let types = c.args.types.now in
+    let n = c.args.item.name.now in
+    let d = c.in_ok-description.ensures.describes w outer i h are in
+    if_ok_map c.export_described.result (λ u e. export_follows w types outer i d.after n (tree_in types c.args.item.kind) c.describe.new.scope c.export_described.new.scope d.goes e)
+    (c.export_described.ensures w outer d.after d.goes.stands stands d.sorted (d.reads n))
+
+pub items::describe-returns-in-Some-clause-describes : goal.items::describe-returns-in-Some-clause-describes
+items::describe-returns-in-Some-clause-describes m c w outer i h are =
+    let types = c.args.types.now in
+    let id = c.in-Some.id in
+    let is = c.in-Some.ensures.kind in
+    let stands = c.in-Some.ensures.stands in
+    let a = c.in_ok-index.ensures (interface_stands types c.args.kind id is stands) w outer i h are in
+    subst (λ (d : Description). Describes w types outer i c.args.kind c.push_instance_type.new.scope d) (sym c.described.ensures)
+    (instance_described types c.see_acyclic.ensures w outer i c.args.kind id c.push_instance_type.new.scope c.in_ok-index.index is stands a)
+
+pub items::describe-returns-in-Some-world_of-clause-describes : goal.items::describe-returns-in-Some-world_of-clause-describes
+items::describe-returns-in-Some-world_of-clause-describes m c w outer i h are =
+    let types = c.args.types.now in
+    let id = c.in-Some-world_of.id in
+    let is = c.in-Some-world_of.ensures.kind in
+    let stands = c.in-Some-world_of.ensures.stands in
+    let a = c.in_ok-index-2.ensures (world_stands types c.args.kind id is stands) w outer i h in
+    subst (λ (d : Description). Describes w types outer i c.args.kind c.push_component_type.new.scope d) (sym c.described-in-Some-world_of.ensures)
+    (component_described types c.see_acyclic.ensures w outer i c.args.kind id c.push_component_type.new.scope c.in_ok-index-2.index is stands a)
+
+pub items::push_component_type-returns : goal.items::push_component_type-returns
+items::push_component_type-returns m c stands w outer i h =
+    let types = c.args.types.now in
+    let t = tree_in types (ItemKind.Component c.args.id) in
+    let reads = c.in_ok-declarations.ensures stands w (i.here ∷ outer) in
+    if_ok_map c.add_type.result (λ k a. type_given w types outer i t c.add_type.new.self k a) (c.add_type.ensures w types outer i (Known t) h (component_reads w outer i c.in_ok-declarations.declarations t reads))
+
+-- ---- imports
+
+pub imports::ImportScope::describe-returns-clause-describes : goal.imports::ImportScope::describe-returns-clause-describes
+imports::ImportScope::describe-returns-clause-describes m c world n w outer imported exported h =
+    let types = c.args.types.now in
+    if_ok_map c.describe.result (λ d a. world_describes w types outer world imported exported c.args.self.now c.describe.new.scope h n c.args.kind d a)
+    (c.describe.ensures.describes w outer h.writing.inside h.writing.stands h.used)
+
+pub imports::ImportScope::describe_import-returns-in-Some : goal.imports::ImportScope::describe_import-returns-in-Some
+imports::ImportScope::describe_import-returns-in-Some m c w outer imported exported h =
+    subst (MayDescribeIn w c.args.all.types.now outer c.args.all.world c.args.import.name.now c.args.import.kind c.describe_plainly.new.self imported exported) c.in-Some.is (c.in_ok-plainly.ensures w outer imported exported h)
+
+pub imports::ImportScope::describe_import-returns-in-None : goal.imports::ImportScope::describe_import-returns-in-None
+imports::ImportScope::describe_import-returns-in-None m c w outer imported exported h =
+    c.describe.ensures.describes c.args.all.world c.args.import.name.now w outer imported exported
+    (subst (MayDescribeIn w c.args.all.types.now outer c.args.all.world c.args.import.name.now c.args.import.kind c.describe_plainly.new.self imported exported) c.in-None.is (c.in_ok-plainly.ensures w outer imported exported h))
+
+pub imports::ImportScope::write_import-returns-then-at-count : goal.imports::ImportScope::write_import-returns-then-at-count
+imports::ImportScope::write_import-returns-then-at-count m c w outer imported exported h new =
+    let types = c.args.all.types.now in
+    let world = c.args.all.world in
+    let is = imports_of types world in
+    let past : length is ≤ c.args.at = omega (arith, c.if-at-count.true, c.import_count-count.ensures.len) in
+    subst (λ (l : List Name). WritesWorld w types outer world c.args.self.now l exported) (sym (no_name_at is c.args.at imported past)) h
+
+pub imports::ImportScope::write_import-returns-in_ok-description-in-Some : goal.imports::ImportScope::write_import-returns-in_ok-description-in-Some
+imports::ImportScope::write_import-returns-in_ok-description-in-Some m c w outer imported exported h new =
+    let types = c.args.all.types.now in
+    let world = c.args.all.world in
+    let is = imports_of types world in
+    let import = c.in-Some.import in
+    let n = import.name.now in
+    let entry = c.in-Some.ensures.entry in
+    let d = c.in_ok-description-in-Some.ensures w outer imported exported h in
+    if_ok_map c.import_placed.result (λ u a. subst (λ (l : List Name). WritesWorld w types outer world c.import_placed.new.self l exported) (name_added is c.args.at n import.kind imported entry) a)
+    (c.import_placed.ensures w outer imported exported c.import_count-count.ensures.distinct c.in-Some.ensures.inside.0 entry (new n (name_at is c.args.at n import.kind entry)) d)
+
+pub imports::ImportScope::export-returns : goal.imports::ImportScope::export-returns
+imports::ImportScope::export-returns m c w outer imported exported stands is new h =
+    let types = c.args.all.types.now in
+    let world = c.args.all.world in
+    let n = c.args.item.name.now in
+    let k = c.in_ok-prepare.ensures w outer imported exported h in
+    let i = k.writing.inside in
+    if_ok_map c.export_item.result (λ u e. world_exports w types outer world imported exported c.prepare.new.self c.export_item.new.scope k n (tree_in types c.args.item.kind) (exported ++ n ∷ []) is e new (sym (put_name-new exported n new)))
+    (c.export_item.ensures stands w outer i k.writing.stands k.used)
+
+pub worlds::write_imports-loop-at-preserved : goal.worlds::write_imports-loop-at-preserved
+worlds::write_imports-loop-at-preserved m c w outer imported exported dn d new h =
+    let types = c.args.all.types.now in
+    let world = c.args.all.world in
+    let ns = names_of (imports_of types world) in
+    let order = c.args.order.now in
+    let i = c.loop-at.at-index in
+    let k = get_or order i 0 in
+    let at = slice_get-get_or order i 0 c.loop-at-test.true in
+    let a = c.loop-at.invariant w outer imported exported dn d new h in
+    let b = c.in_ok-write_import.ensures w outer (imported ++ names_at ns (take i order)) exported a (next_new ns order imported i k dn d new at) in
+    subst (λ (l : List Name). WritesWorld w types outer world c.write_import.new.self l exported) (next_names ns order imported i k at) b
+
+pub worlds::write_imports-returns : goal.worlds::write_imports-returns
+worlds::write_imports-returns m c w outer imported exported dn d new h =
+    let types = c.args.all.types.now in
+    let world = c.args.all.world in
+    let order = c.args.order.now in
+    let le : length order ≤ c.loop-at.at-index = omega (arith, c.loop-at-test.false) in
+    subst (λ (ks : List ℕ). WritesWorld w types outer world c.loop-at.scope (imported ++ names_at (names_of (imports_of types world)) ks) exported) (take_all c.loop-at.at-index order le) (c.loop-at.invariant w outer imported exported dn d new h)
+
+pub worlds::export_other_at-returns-in_ok-add_name-in-Some : goal.worlds::export_other_at-returns-in_ok-add_name-in-Some
+worlds::export_other_at-returns-in_ok-add_name-in-Some m c w outer imported o =
+    let types = c.args.all.types.now in
+    let world = c.args.all.world in
+    let es = world_exports_of types world in
+    let item = c.in-Some.item in
+    let n = item.name.now in
+    let given = c.args.exported.now in
+    let entry = c.in-Some.ensures.entry in
+    let fresh = not_among given n c.in-Some.ensures.new in
+    let e = c.in_ok-export-in-Some.ensures w outer imported given c.in-Some.ensures.inside.0 (item.kind, value_here es c.args.at n item.kind c.requires entry, refl) fresh o.goes in
+    let more = c.in_ok-add_name-in-Some.ensures in
+    let here = name_at es c.args.at n item.kind entry in
+    record {
+      goes = subst (λ (l : List Name). WritesWorld w types outer world c.export.new.self imported l) (sym (more ∙ put_name-new given n fresh)) e;
+      all_before = λ p a. elim (take_or p (names_of es) c.args.at a) [
+        | inl old ↦ subst (λ (l : List Name). Among p l) (sym more) (put_keeps given n p (o.all_before p old))
+        | inr at ↦ let same : n ≡ p = cc (here, at) in subst (λ (l : List Name). Among p l) (sym more) (subst (λ (x : Name). Among x (put_name given n)) same (put_there given n))
+      ];
+    }
+
+pub worlds::export_other_at-returns-in-None : goal.worlds::export_other_at-returns-in-None
+worlds::export_other_at-returns-in-None m c w outer imported o = record {
+  goes = o.goes;
+  all_before = λ p a. elim (take_or p (names_of (world_exports_of c.args.all.types.now c.args.all.world)) c.args.at a) [ inl old ↦ o.all_before p old | inr at ↦ among_has c.args.exported.now p (c.in-None.ensures.none p at) ];
+}
+
+pub worlds::export_others-returns : goal.worlds::export_others-returns
+worlds::export_others-returns m c w outer imported h =
+    let types = c.args.all.types.now in
+    let end : c.loop-at.at ≡ length (world_exports_of types c.args.all.world) = omega (arith, c.loop-at-test.false, c.world_export_count-count.ensures.len) in
+    subst (λ (n : ℕ). ExportsWritten w types outer c.args.all.world n c.loop-at.scope imported c.loop-at.exported) end (c.loop-at.invariant w outer imported h)
+
+pub worlds::write_before_others-returns : goal.worlds::write_before_others-returns
+worlds::write_before_others-returns m c w outer h =
+    let types = c.args.all.types.now in
+    let ns = names_of (imports_of types c.args.all.world) in
+    let sources = c.as_slice.result.now in
+    let others = c.as_slice-2.result.now in
+    let dn = c.in_ok-order.ensures.distinct in
+    let given = ordered_names (imports_of types c.args.all.world) c.in_ok-order.order.sources.items c.in_ok-order.order.others.items c.in_ok-order.ensures.order in
+    let half = subst (λ (l : List ℕ). IsOrder (length ns) l c.in_ok-order.order.others.items) (sym c.as_slice.ensures.value) given in
+    let o : IsOrder (length ns) sources others = subst (λ (l : List ℕ). IsOrder (length ns) sources l) (sym c.as_slice-2.ensures.value) half in
+    let one = [] ++ names_at ns sources in
+    let a = c.in_ok-write_imports.ensures w outer [] [] dn (distinct-left sources others o.distinct) (λ k x n at y. y) h in
+    let b = c.in_ok-exported.ensures w outer one a in
+    let d = c.in_ok-write_imports-2.ensures w outer one c.in_ok-exported.exported dn (distinct-right sources others o.distinct) (others_new ns sources others o dn) b in
+    let e = c.in_ok-export_resources.ensures w outer (one ++ names_at ns others) d in
+    (one ++ names_at ns others, e, all_named ns sources others o)
+
+pub worlds::write_component-returns : goal.worlds::write_component-returns
+worlds::write_component-returns m c stands w outer =
+    let types = c.args.all.types.now in
+    let world = c.args.all.world in
+    let b = c.in_ok-exported.ensures w outer (c.requires w types outer world) in
+    let o = c.in_ok-export_others.ensures w outer b.0 b.1 in
+    let all = λ (n : Name) (x : Among n (names_of (world_exports_of types world))). o.all_before n (all_taken (world_exports_of types world) n x) in
+    subst (λ ds. StatesComponent w outer (tree_in types (ItemKind.Component world)) (declarations_of ds)) (sym c.take_declarations.ensures)
+    (states_component w types c.see_acyclic.ensures outer world c.export_others.new.scope b.0 c.export_others.new.exported stands o.goes b.2 all)
+
+pub items::describe-returns-in_err-index-clause-refused : goal.items::describe-returns-in_err-index-clause-refused
+items::describe-returns-in_err-index-clause-refused m c stands =
+    let p = err_from_is_err_and c.from_residual.result c.from_residual.ensures.1 in
+    rw (p.1, p.2) (interface_unsaid c.args.types.now c.args.kind c.in-Some.id c.push_instance_type.new.scope c.in_err-index.field-0.0 c.in-Some.ensures.kind)
+
+pub items::describe-returns-in_err-index-2-clause-refused : goal.items::describe-returns-in_err-index-2-clause-refused
+items::describe-returns-in_err-index-2-clause-refused m c stands =
+    let p = err_from_is_err_and c.from_residual-in_err-index-2.result c.from_residual-in_err-index-2.ensures.1 in
+    rw (p.1, p.2) (world_unsaid c.args.types.now c.args.kind c.in-Some-world_of.id c.push_component_type.new.scope c.in_err-index-2.field-0.0 c.in-Some-world_of.ensures.kind)

@@ -1,0 +1,20 @@
+use Rattle.std.proofs.Common.{◌∷◌, subst}
+use Rattle.wac_types_fit.specs.Trees.{tree_in}
+use Rattle.wac_graph_scopes.specs.Imports.{HasAlias}
+use Rattle.wac_graph_scopes.proofs.HandleLaws.{if_ok_map}
+use Rattle.wac_graph_scopes.proofs.UsedLaws.{notable}
+use Rattle.wac_graph_scopes.proofs.ImportLaws.{world_noted}
+use Rattle.wac_graph_scopes.proofs.imports.ImportScope.alias_taken.Goals as goal
+
+pub returns-in-Some : goal.returns-in-Some
+returns-in-Some c w outer imported exported h =
+    let types = c.args.all.types.now in
+    let item = c.args.item in
+    let mid = c.alias_of.new.self in
+    let a = subst (HasAlias w types outer c.args.all.world mid imported exported (tree_in types item)) c.in-Some.is (c.in_ok-found.ensures c.requires.stands c.requires.kind w outer imported exported h) in
+    let i = a.goes.writing.inside in
+    if_ok_map c.note.result (λ u s. world_noted w types outer c.args.all.world imported exported mid c.note.new.self a.goes s)
+    (c.note.ensures w outer i a.goes.writing.stands (notable w types (i.here ∷ outer) item c.in-Some.index c.requires.stands a.index))
+
+pub returns-in-None : goal.returns-in-None
+returns-in-None c w outer imported exported h = (c.in_ok-found.ensures c.requires.stands c.requires.kind w outer imported exported h).goes

@@ -1,0 +1,5 @@
+use Rattle.wac_graph_scopes.specs.Imports.{NoneWritten}
+use Rattle.wac_graph_scopes.proofs.imports.add_empty.Given as goal
+
+abbrev pub invariant-loop-at : goal.invariant-loop-at
+invariant-loop-at l = NoneWritten l.places.items

@@ -1,0 +1,23 @@
+use Rattle.std.proofs.Common.{[], inl, subst}
+use Rattle.wac_graph_scopes.specs.Parts.{exports_of}
+use Rattle.wac_graph_scopes.specs.Items.{MayExport}
+use Rattle.wac_graph_scopes.proofs.WritingLaws.{writes_on, writes_more, grows_by}
+use Rattle.wac_graph_scopes.proofs.items.take_named.Goals as goal
+
+pub returns-in_ok-add_name : goal.returns-in_ok-add_name
+returns-in_ok-add_name c w outer around k fresh =
+    let types = c.args.types.now in
+    let es = exports_of types c.args.id in
+    let n = c.args.used.name.now in
+    let a = subst (MayExport w types outer k.inside es n c.take_use.new.scope) c.if-is_exported.true (c.in_ok-is_exported.ensures w outer k.inside k.stands (around k.inside.here)) in (
+      writes_more w types outer [] es [] c.args.given.now c.args.scope.now c.take_use.new.scope k n a.0 c.add_name.new.names a.1 a.2 fresh c.in_ok-add_name.ensures,
+      grows_by n c.args.given.now c.add_name.new.names fresh c.in_ok-add_name.ensures,
+    )
+
+pub returns-else-is_exported : goal.returns-else-is_exported
+returns-else-is_exported c w outer around k fresh =
+    let types = c.args.types.now in
+    let es = exports_of types c.args.id in
+    let n = c.args.used.name.now in
+    let a = subst (MayExport w types outer k.inside es n c.take_use.new.scope) c.if-is_exported.false (c.in_ok-is_exported.ensures w outer k.inside k.stands (around k.inside.here)) in
+    (writes_on w types outer [] es [] c.args.given.now c.args.scope.now c.take_use.new.scope k a.0 a.1, λ m among. inl among)

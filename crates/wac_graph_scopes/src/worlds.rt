@@ -1,0 +1,270 @@
+//! Component types, by the worlds that they are of.
+
+ghost use Rattle.std.specs.Prelude.{◌≡◌, Some, true, false, slice_get, IfSome, IfNone, IfOk};
+ghost use Rattle.wac_types_base.specs.declared.item.ItemKind.{ItemKind};
+ghost use Rattle.wac_types_base.specs.Entries.{names_of, has_name, AreDistinct};
+ghost use Rattle.wac_types_fit.specs.Trees.{IsInside};
+ghost use Rattle.wac_graph_scopes.specs.Parts.{IsFresh};
+ghost use Rattle.wac_graph_scopes.specs.Items.{HasNameAt};
+ghost use Rattle.wac_graph_scopes.specs.Imports.{all_exports, KeepsWorld, WritesInOrder, KeepsExporting, ExportsAt, ExportsAll};
+ghost use Rattle.wac_graph_scopes.specs.Imports.{WritesBetween, WritesBeforeOthers, BeginsWorld, MakesComponent};
+
+use crate::fault::WriteError;
+use crate::imports::{ImportScope, Importing};
+use crate::items::{ItemScope, add_name, export_resource};
+use crate::parts::{
+    Item, is_fresh, world_export_at, world_export_count, world_use_at, world_use_count,
+};
+use std::alloc::{AllocError, Global};
+use wac_graph_bytes::Declaration;
+use wac_types_base::{Names, Types, WorldId};
+
+/// Writes the imports at places of a world.
+#[cycle(types)]
+fn write_imports(
+    alloc: Global,
+    all: Importing<'_>,
+    scope: &mut ImportScope,
+    order: &[usize],
+) -> Result<(), WriteError>
+    ensures { WritesInOrder all.entry order.now scope.old scope.new result }
+{
+    for at in order {
+        scope.write_import(alloc, all, *at)?;
+    }
+    Ok(())
+}
+
+/// Makes the type stand that a world uses at a place.
+fn alias_world_use_at(
+    alloc: Global,
+    all: Importing<'_>,
+    scope: &mut ImportScope,
+    at: usize,
+) -> Result<(), WriteError>
+    ensures { KeepsWorld all.entry scope.old scope.new result }
+{
+    match world_use_at(all.types, all.world, at) {
+        Some(used) => scope.alias_noted(alloc, all, used),
+        None => Ok(()),
+    }
+}
+
+/// Makes the types stand that a world uses and has no items of.
+fn alias_world_uses(
+    alloc: Global,
+    all: Importing<'_>,
+    scope: &mut ImportScope,
+) -> Result<(), WriteError>
+    ensures { KeepsWorld all.entry scope.old scope.new result }
+{
+    for at in 0..world_use_count(all.types, all.world) {
+        alias_world_use_at(alloc, all, scope, at)?;
+    }
+    Ok(())
+}
+
+/// The world's export at a place, if it is not written yet.
+fn other_at<'a>(all: Importing<'a>, exported: &Names, at: usize) -> Option<Item<'a>>
+    ensures inside { IfSome result (λ x. IsInside all.entry.types.now x.kind (ItemKind.Component all.entry.world)) }
+    ensures entry { IfSome result (λ x. slice_get (all_exports all.entry) at ≡ Some (x.name.now, x.kind)) }
+    ensures new { IfSome result (λ x. has_name exported.now x.name.now ≡ false) }
+    ensures none { IfNone result (HasNameAt (names_of (all_exports all.entry)) at exported.now) }
+{
+    match world_export_at(all.types, all.world, at) {
+        Some(item) => {
+            if exported.contains(item.name) {
+                None
+            } else {
+                Some(item)
+            }
+        }
+        None => None,
+    }
+}
+
+/// Such an export, if it is a resource under its own name; perhaps only one whose name does not stand.
+fn fresh_at<'a>(
+    all: Importing<'a>,
+    scope: &ItemScope,
+    exported: &Names,
+    at: usize,
+    only_new: bool,
+) -> Option<Item<'a>>
+    ensures entry { IfSome result (λ x. slice_get (all_exports all.entry) at ≡ Some (x.name.now, x.kind)) }
+    ensures fresh { IfSome result (λ x. IsFresh all.entry.types.now x.name.now x.kind) }
+    ensures new { IfSome result (λ x. has_name exported.now x.name.now ≡ false) }
+{
+    match other_at(all, exported, at) {
+        Some(item) => fresh_if(all.types, scope, item, only_new),
+        None => None,
+    }
+}
+
+/// The item, if it is a resource under its own name; perhaps only if the name does not stand.
+fn fresh_if<'a>(
+    types: &Types,
+    scope: &ItemScope,
+    item: Item<'a>,
+    only_new: bool,
+) -> Option<Item<'a>>
+    ensures same { IfSome result (λ x. x ≡ item.entry) }
+    ensures fresh { IfSome result (λ x. IsFresh types.now x.name.now x.kind) }
+{
+    if !is_fresh(types, item) || (only_new && scope.types.resource(item.name).is_some()) {
+        None
+    } else {
+        Some(item)
+    }
+}
+
+/// Exports the resource at a place under its own name, if it is one and not written yet, and adds its name.
+fn export_fresh_at(
+    alloc: Global,
+    all: Importing<'_>,
+    scope: &mut ImportScope,
+    at: usize,
+    only_new: bool,
+    exported: &mut Names,
+) -> Result<(), WriteError>
+    requires { AreDistinct (names_of (all_exports all)) }
+    ensures { KeepsExporting all.entry scope.old exported.old scope.new exported.new result }
+{
+    match fresh_at(all, &scope.scope, exported, at, only_new) {
+        Some(item) => {
+            export_resource(alloc, &mut scope.scope, all.types, item)?;
+            Ok(add_name(alloc, exported, item.name)?)
+        }
+        None => Ok(()),
+    }
+}
+
+/// Exports the resources of a world under their own names, perhaps only those whose names do not stand yet.
+fn export_resources(
+    alloc: Global,
+    all: Importing<'_>,
+    scope: &mut ImportScope,
+    only_new: bool,
+    exported: &mut Names,
+) -> Result<(), WriteError>
+    ensures { KeepsExporting all.entry scope.old exported.old scope.new exported.new result }
+{
+    let count = world_export_count(all.types, all.world);
+    for at in 0..count {
+        export_fresh_at(alloc, all, scope, at, only_new, exported)?;
+    }
+    Ok(())
+}
+
+/// Exports the item at a place of a world that is not written yet, and adds its name.
+#[cycle(types)]
+fn export_other_at(
+    alloc: Global,
+    all: Importing<'_>,
+    scope: &mut ImportScope,
+    at: usize,
+    exported: &mut Names,
+) -> Result<(), WriteError>
+    requires { AreDistinct (names_of (all_exports all)) }
+    ensures { ExportsAt all.entry at scope.old exported.old scope.new exported.new result }
+{
+    match other_at(all, exported, at) {
+        Some(item) => {
+            scope.export(alloc, all, item)?;
+            Ok(add_name(alloc, exported, item.name)?)
+        }
+        None => Ok(()),
+    }
+}
+
+/// Exports the items of a world that are not written yet.
+#[cycle(types)]
+fn export_others(
+    alloc: Global,
+    all: Importing<'_>,
+    scope: &mut ImportScope,
+    exported: &mut Names,
+) -> Result<(), WriteError>
+    ensures { ExportsAll all.entry scope.old exported.old scope.new exported.new result }
+{
+    let count = world_export_count(all.types, all.world);
+    for at in 0..count {
+        export_other_at(alloc, all, scope, at, exported)?;
+    }
+    Ok(())
+}
+
+/// Makes the types stand that a world uses, and exports the resources that do not stand yet; their names.
+fn write_between(
+    alloc: Global,
+    all: Importing<'_>,
+    scope: &mut ImportScope,
+) -> Result<Names, WriteError>
+    ensures { WritesBetween all.entry scope.old scope.new result }
+{
+    let mut exported = Names::new(alloc);
+    alias_world_uses(alloc, all, scope)?;
+    export_resources(alloc, all, scope, true, &mut exported)?;
+    Ok(exported)
+}
+
+/// Writes the imports of a world, and exports its resources. A resource that is only exported stands before what is
+/// imported and needs it. The names of what is exported.
+#[cycle(types)]
+fn write_before_others(
+    alloc: Global,
+    all: Importing<'_>,
+    scope: &mut ImportScope,
+) -> Result<Names, WriteError>
+    ensures { WritesBeforeOthers all.entry scope.old scope.new result }
+{
+    let order = scope.order(alloc, all)?;
+    write_imports(alloc, all, scope, order.sources.as_slice())?;
+    let mut exported = write_between(alloc, all, scope)?;
+    write_imports(alloc, all, scope, order.others.as_slice())?;
+    export_resources(alloc, all, scope, false, &mut exported)?;
+    Ok(exported)
+}
+
+/// Writes a component type; its declarations.
+#[cycle(types)]
+fn write_component(
+    alloc: Global,
+    all: Importing<'_>,
+    scope: &mut ImportScope,
+) -> Result<Vec<Declaration>, WriteError>
+    requires { BeginsWorld scope.old }
+    ensures { MakesComponent all.entry.types.now all.entry.world result }
+{
+    all.types.see_acyclic();
+    let mut exported = write_before_others(alloc, all, scope)?;
+    export_others(alloc, all, scope, &mut exported)?;
+    Ok(scope.scope.take_declarations(alloc))
+}
+
+/// The scope of a world that is begun.
+fn begun(alloc: Global, all: Importing<'_>) -> Result<ImportScope, AllocError>
+    ensures { IfOk result BeginsWorld }
+{
+    let mut scope = ImportScope::new(alloc);
+    scope.begin(alloc, all)?;
+    Ok(scope)
+}
+
+/// The declarations of a component type.
+#[cycle(types)]
+pub(crate) fn component_type(
+    alloc: Global,
+    types: &Types,
+    id: WorldId,
+) -> Result<Vec<Declaration>, WriteError>
+    ensures { MakesComponent types.now id result }
+{
+    let all = Importing {
+        types,
+        world: id,
+        called: &[],
+    };
+    let mut scope = begun(alloc, all)?;
+    write_component(alloc, all, &mut scope)
+}
