@@ -10,7 +10,7 @@ use Rattle.wac_types_names.specs.Keys.{Key}
 use Rattle.wac_composition.specs.Composition as c
 use Rattle.wac_composition.specs.Composition.{Composition}
 use Rattle.wac_composition.specs.Tests.{fits}
-use Rattle.wac_composition.specs.Written.{written_definition}
+use Rattle.wac_types_written.specs.Written.{written_definition}
 use Rattle.wac_composition.specs.Sound.{HasType, of_import, of_instance, of_export, of_definition, given_as, IsBefore, IsGiven, IsSound, IsWired}
 use Rattle.wac_composition.proofs.FitBack.{fits_decides}
 use Rattle.wac_composition.proofs.Bound.{wired}

@@ -1,16 +1,17 @@
 -- What stays when a graph grows.
-use Rattle.std.proofs.Common.{◌≡◌, ◌⊎◌, ℕ, Some, None, IsSome, refl, sym, ap, subst, ◌∙◌, inl, inr}
+use Rattle.std.proofs.Common.{◌≡◌, ◌⊎◌, ℕ, List, [], ◌∷◌, ◌++◌, Some, None, IsSome, refl, sym, ap, subst, ◌∙◌, inl, inr}
 use Rattle.std.specs.FinMap as map
 use Rattle.wac_types_base.specs.declared.item.ItemKind.{ItemKind}
 use Rattle.wac_types_base.specs.declared.item.«Type».{«Type» as TypeKind}
 use Rattle.wac_types_base.specs.declared.ids.WorldId.{WorldId}
 use Rattle.wac_types_base.proofs.Slots.{stands_typed_world}
 use Rattle.wac_types_base.specs.Record.{Collection}
-use Rattle.wac_types_base.specs.Entries.{Name}
+use Rattle.wac_types_base.specs.Entries.{Name, value_at}
 use Rattle.wac_types_base.specs.Graph.{Among}
-use Rattle.wac_types_base.specs.Collection.{Stands}
+use Rattle.wac_types_base.specs.Collection.{Stands, unfolding_of}
 use Rattle.wac_types_names.specs.Packaged.{Packaged}
 use Rattle.wac_graph_core.specs.declared.ids.PackageId.{PackageId}
+use Rattle.wac_graph_core.specs.declared.edge.Edge.{Edge}
 use Rattle.wac_graph_core.specs.Nodes.{NodeData, Role, plain_node, defined_node}
 use Rattle.wac_graph_core.specs.NodeMaps.{NodeMap, IsImport}
 use Rattle.wac_graph_core.specs.Edges.{alias_edge, HasAlias}
@@ -21,18 +22,64 @@ use Rattle.wac_graph_core.specs.Exporting.{Exports, Names}
 use Rattle.wac_graph_core.proofs.NodeMap.{get-insert_same, get-insert_other}
 use Rattle.std.proofs.lemmas.Bool.{cases_eq}
 use Rattle.wac_graph_core.proofs.NodeSteps.{IsAbove, IsAbove-fresh, IsAbove-written, IsAbove-same, some_there}
-use Rattle.wac_parser_resolve.specs.Later.{Later, Inner}
+use Rattle.wac_composition.proofs.KeptFits.{value_append}
+use Rattle.wac_parser_resolve.specs.Later.{Later, Inner, IsAsItWas, IsWithin, Stays}
 
-pub Later-nodes : (g h : Graph) → h.types ≡ g.types → h.places ≡ g.places → IsAbove g.nodes h.nodes → Later g h
-Later-nodes g h types places above = record {
+-- edges and exports are kept
+pub record Adds (g h : Graph) : Type 0 where
+  pub edges : (e : Edge) → Among e g.edges → Among e h.edges
+  pub exported : (n : Name) (k : ℕ) → value_at g.exports n ≡ Some k → value_at h.exports n ≡ Some k
+
+adds : (g h : Graph) → ((e : Edge) → Among e g.edges → Among e h.edges) → h.exports ≡ g.exports → Adds g h
+adds g h edges exports = record { edges = edges; exported = λ n k e. ap (λ (xs : List (Name × ℕ)). value_at xs n) exports ∙ e }
+
+adds_none : (g h : Graph) → h.edges ≡ g.edges → h.exports ≡ g.exports → Adds g h
+adds_none g h edges exports = adds g h (λ e m. subst (Among e) (sym edges) m) exports
+
+adds_export : (g h : Graph) (x : Name × ℕ) → ((e : Edge) → Among e g.edges → Among e h.edges) → h.exports ≡ g.exports ++ x ∷ [] → Adds g h
+adds_export g h x edges exports = record {
+  edges = edges;
+  exported = λ n k e. ap (λ (xs : List (Name × ℕ)). value_at xs n) exports ∙ value_append g.exports (x ∷ []) n k e;
+}
+
+-- what stays, and that it stays
+pub as_it_was : (g h : Graph) → Stays g h → IsAsItWas g h
+unfolding Stays
+as_it_was g h s = s
+
+pub it_stays : (g h : Graph) → IsAsItWas g h → Stays g h
+unfolding Stays
+it_stays g h s = s
+
+pub Later-nodes : (g h : Graph) → h.types ≡ g.types → h.places ≡ g.places → IsAbove g.nodes h.nodes → Adds g h → Later g h
+Later-nodes g h types places above add = record {
   number = ap (λ (c : Collection). c.number) types;
   kinds = λ k s. subst (λ c. Stands c k) (sym types) s;
   nodes = λ k s. some_there g.nodes h.nodes k above s;
   packages = λ id s. subst (λ ps. IsSome (package_in ps id)) (sym places) s;
+  stays = it_stays g h (record {
+    trees = λ k s. ap (λ c. unfolding_of c k) types;
+    still = λ k x e. let a = above k x e in record { node = a.node; there = a.there; role = a.role; of = a.of; item = a.item };
+    edges = add.edges;
+    exported = add.exported;
+    held = λ id p e. ap (λ ps. package_in ps id) places ∙ e;
+  });
 }
 
 pub Later-refl : (g : Graph) → Later g g
-Later-refl g = record { number = refl; kinds = λ k s. s; nodes = λ k s. s; packages = λ id s. s }
+Later-refl g = record {
+  number = refl;
+  kinds = λ k s. s;
+  nodes = λ k s. s;
+  packages = λ id s. s;
+  stays = it_stays g g (record {
+    trees = λ k s. refl;
+    still = λ k x e. record { node = x; there = e; role = refl; of = refl; item = refl };
+    edges = λ e m. m;
+    exported = λ n k e. e;
+    held = λ id p e. e;
+  });
+}
 
 pub Later-same : (g h : Graph) → h ≡ g → Later g h
 Later-same g h same = subst (Later g) (sym same) (Later-refl g)
@@ -43,6 +90,19 @@ Later-trans f g h a b = record {
   kinds = λ k s. b.kinds k (a.kinds k s);
   nodes = λ k s. b.nodes k (a.nodes k s);
   packages = λ id s. b.packages id (a.packages id s);
+  stays =
+      let x = as_it_was f g a.stays in
+      let y = as_it_was g h b.stays in
+      it_stays f h (record {
+        trees = λ k s. y.trees k (a.kinds k s) ∙ x.trees k s;
+        still = λ k n e.
+            let p = x.still k n e in
+            let q = y.still k p.node p.there in
+            record { node = q.node; there = q.there; role = q.role ∙ p.role; of = q.of ∙ p.of; item = q.item ∙ p.item };
+        edges = λ e m. y.edges e (x.edges e m);
+        exported = λ n k e. y.exported n k (x.exported n k e);
+        held = λ id p e. y.held id p (x.held id p e);
+      });
 }
 
 -- ---- what expressions do
@@ -73,32 +133,37 @@ import_back m l k x is here j n i = elim (cases_eq j k) [
 
 -- ---- single calls
 
-fresh : (g h : Graph) (k : ℕ) (n : NodeData) → node_at g k ≡ None → h.types ≡ g.types → h.places ≡ g.places → h.nodes ≡ map.insert g.nodes k n → Later g h
-fresh g h k n free types places nodes = Later-nodes g h types places (subst (IsAbove g.nodes) (sym nodes) (IsAbove-fresh g.nodes k n free))
+fresh : (g h : Graph) (k : ℕ) (n : NodeData) → node_at g k ≡ None → h.types ≡ g.types → h.places ≡ g.places → h.nodes ≡ map.insert g.nodes k n → Adds g h → Later g h
+fresh g h k n free types places nodes add = Later-nodes g h types places (subst (IsAbove g.nodes) (sym nodes) (IsAbove-fresh g.nodes k n free)) add
 
 pub Later-import : (g h : Graph) (n : Name) (kind : ItemKind) (k : ℕ) → Imports g h n kind k → Later g h
 Later-import g h n kind k s =
     fresh g h k (plain_node (Role.Imported n) None kind) s.free (ap (λ (x : Graph). x.types) s.made) (ap (λ (x : Graph). x.places) s.made) (ap (λ (x : Graph). x.nodes) s.made)
+    (adds_none g h (ap (λ (x : Graph). x.edges) s.made) (ap (λ (x : Graph). x.exports) s.made))
 
 pub Later-instance : (g h : Graph) (id : PackageId) (k : ℕ) → Instantiates g h id k → Later g h
 Later-instance g h id k s =
     fresh g h k (plain_node Role.Instance (Some id) (ItemKind.Instance s.of.instance_type)) s.free (ap (λ (x : Graph). x.types) s.made) (ap (λ (x : Graph). x.places) s.made) (ap (λ (x : Graph). x.nodes) s.made)
+    (adds_none g h (ap (λ (x : Graph). x.edges) s.made) (ap (λ (x : Graph). x.exports) s.made))
 
 pub Later-alias : (g h : Graph) (i : ℕ) (n : Name) (k : ℕ) → Aliases g h i n k → Later g h
 Later-alias g h i n k (inl again) = Later-same g h again.same
 Later-alias g h i n k (inr s) =
     fresh g h k (plain_node Role.Aliased None s.item) s.free (ap (λ (x : Graph). x.types) s.made) (ap (λ (x : Graph). x.places) s.made) (ap (λ (x : Graph). x.nodes) s.made)
+    (adds g h (λ e m. (s.edges e).1 (inl m)) (ap (λ (x : Graph). x.exports) s.made))
 
 pub Later-set : (g h : Graph) (i : ℕ) (n : Name) (a : ℕ) → SetsArgument g h i n a → Later g h
 Later-set g h i n a s = elim s.step [
   | inl keep ↦ Later-same g h keep.same
   | inr add ↦ Later-nodes g h (ap (λ (x : Graph). x.types) add.made) (ap (λ (x : Graph). x.places) add.made)
       (subst (IsAbove g.nodes) (sym (ap (λ (x : Graph). x.nodes) add.made)) (IsAbove-same g.nodes))
+      (adds g h (λ e m. (add.edges e).1 (inl m)) (ap (λ (x : Graph). x.exports) add.made))
 ]
 
 pub Later-define : (g h : Graph) (n : Name) (t : TypeKind) (k : ℕ) → DefinesType g h n t k → Later g h
 Later-define g h n t k s =
     fresh g h k (defined_node t n) s.free (ap (λ (x : Graph). x.types) s.made) (ap (λ (x : Graph). x.places) s.made) (ap (λ (x : Graph). x.nodes) s.made)
+    (adds_export g h (n, k) (λ e m. (s.edges e).1 (inl m)) (ap (λ (x : Graph). x.exports) s.made))
 
 inner_fresh : (g h : Graph) (k : ℕ) (x : NodeData) → Later g h → h.nodes ≡ map.insert g.nodes k x → ((n : Name) → x.role ≡ Role.Imported n → ⊥) → h.exports ≡ g.exports → Inner g h
 inner_fresh g h k x later nodes other exports =
@@ -129,16 +194,18 @@ Inner-set g h i n a s = elim s.step [
   }
 ]
 
-written : (g h : Graph) (k : ℕ) (n o : NodeData) → node_at g k ≡ Some o → o.role ≡ n.role → o.of ≡ n.of → o.item_kind ≡ n.item_kind → h.types ≡ g.types → h.places ≡ g.places → h.nodes ≡ map.insert g.nodes k n → Later g h
-written g h k n o at role of item types places nodes = Later-nodes g h types places (subst (IsAbove g.nodes) (sym nodes) (IsAbove-written g.nodes k n o at role of item))
+written : (g h : Graph) (k : ℕ) (n o : NodeData) → node_at g k ≡ Some o → o.role ≡ n.role → o.of ≡ n.of → o.item_kind ≡ n.item_kind → h.types ≡ g.types → h.places ≡ g.places → h.nodes ≡ map.insert g.nodes k n → Adds g h → Later g h
+written g h k n o at role of item types places nodes add = Later-nodes g h types places (subst (IsAbove g.nodes) (sym nodes) (IsAbove-written g.nodes k n o at role of item)) add
 
 pub Later-export : (g h : Graph) (k : ℕ) (n : Name) → Exports g h k n → Later g h
 Later-export g h k n s =
     written g h k (record s.node { export = Some n }) s.node s.there refl refl refl (ap (λ (x : Graph). x.types) s.made) (ap (λ (x : Graph). x.places) s.made) (ap (λ (x : Graph). x.nodes) s.made)
+    (adds_export g h (n, k) (λ e m. subst (Among e) (sym (ap (λ (x : Graph). x.edges) s.made)) m) (ap (λ (x : Graph). x.exports) s.made))
 
 pub Later-names : (g h : Graph) (k : ℕ) (n : Name) → Names g h k n → Later g h
 Later-names g h k n s =
     written g h k (record s.node { name = Some n }) s.node s.there refl refl refl (ap (λ (x : Graph). x.types) s.made) (ap (λ (x : Graph). x.places) s.made) (ap (λ (x : Graph). x.nodes) s.made)
+    (adds_none g h (ap (λ (x : Graph). x.edges) s.made) (ap (λ (x : Graph). x.exports) s.made))
 
 pub Inner-names : (g h : Graph) (k : ℕ) (n : Name) → Names g h k n → Inner g h
 Inner-names g h k n s =
@@ -148,6 +215,24 @@ Inner-names g h k n s =
       imports = import_back g.nodes h.nodes k x (ap (λ (y : Graph). y.nodes) s.made) (λ m e. record { node = s.node; there = s.there; role = e });
       exports = ap (λ (y : Graph). y.exports) s.made;
     }
+
+-- ---- nodes and edges alone
+
+pub within_refl : (g : Graph) → IsWithin g g
+within_refl g = record { types = refl; places = refl }
+
+pub within_same : (g h : Graph) → h ≡ g → IsWithin g h
+within_same g h same = subst (IsWithin g) (sym same) (within_refl g)
+
+pub within_trans : (f g h : Graph) → IsWithin f g → IsWithin g h → IsWithin f h
+within_trans f g h a b = record { types = b.types ∙ a.types; places = b.places ∙ a.places }
+
+pub within_alias : (g h : Graph) (i : ℕ) (n : Name) (k : ℕ) → Aliases g h i n k → IsWithin g h
+within_alias g h i n k (inl again) = within_same g h again.same
+within_alias g h i n k (inr s) = record { types = ap (λ (x : Graph). x.types) s.made; places = ap (λ (x : Graph). x.places) s.made }
+
+pub within_instance : (g h : Graph) (id : PackageId) (k : ℕ) → Instantiates g h id k → IsWithin g h
+within_instance g h id k s = record { types = ap (λ (x : Graph). x.types) s.made; places = ap (λ (x : Graph). x.places) s.made }
 
 -- ---- what is made stands
 
@@ -178,7 +263,7 @@ item_stands g k n is at = (is.nodes k n at).item
 pub package_stands : (g : Graph) (id : PackageId) (p : Packaged) → IsGraph g → package_of g id ≡ Some p → Stands g.types (ItemKind.Component p.ty)
 package_stands g id p is at = (is.packages.stand id p at).world
 
-pub ruleset calling = (Later-same, Later-import, Later-define, Later-export, Inner-same, Inner-instance, Inner-set, Inner-names, import_there, instance_there, definition_there)
+pub ruleset calling = (within_same, within_instance, Later-same, Later-import, Later-define, Later-export, Inner-same, Inner-instance, Inner-set, Inner-names, import_there, instance_there, definition_there)
 
 pub ruleset standing = (item_stands, package_stands)
 

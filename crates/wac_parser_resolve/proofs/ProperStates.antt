@@ -15,17 +15,18 @@ use Rattle.wac_composition.specs.Composition as c
 use Rattle.wac_composition.specs.Composition.{Placed, Composition}
 use Rattle.wac_composition.specs.Asks.{Ask, asks_of}
 use Rattle.wac_composition.specs.Sound.{IsStraight}
-use Rattle.wac_composition.specs.Written.{is_type, written_at, written, written_by, written_definition}
+use Rattle.wac_types_written.specs.Written.{is_type, written_at, written, written_by, written_definition}
 use Rattle.wac_composition.proofs.NotWritten.{among_map}
 use Rattle.wac_parser_tree.specs.Trees as t
 use Rattle.wac_parser_tree.specs.Trees.{Span}
 use Rattle.wac_parser_refusals.specs.declared.error.InstanceOperation.{InstanceOperation}
-use Rattle.wac_parser_refusals.specs.Causes.{pure, unless_clear, present, each, InvalidExternName, ExportRequiresAs, FillArgumentNotLast}
+use Rattle.wac_parser_refusals.specs.Causes.{Answer, pure, unless_clear, present, each, InvalidExternName, ExportRequiresAs, FillArgumentNotLast}
 use Rattle.wac_parser_declare.specs.Scope.{Meant, bind}
 use Rattle.wac_parser_declare.specs.Worlds.{type_statement}
 use Rattle.wac_parser_declare.proofs.Kept.{value_at-with_values}
-use Rattle.wac_parser_resolve.specs.Ascribing.{Origin, imported, defined, Denoted, Made, Import, Bound, State, start, meant_by, root_scope, context, denoted_by, bound, is_projection, same_origin, speak_of, speak_of_all}
-use Rattle.wac_parser_resolve.specs.Denoting.{Given, needs_instance, export_named, accesses, denoted_in, add_given, inferred_name, argument_name, argument_span, spread_one, spreads_of, argument_fits, complete, is_filled, is_last, with_made, finished, new_package, primary_span, denote, primary, nested, new_instance, arguments, one_argument, named_argument}
+use Rattle.wac_parser_resolve.specs.Ascribing.{Origin, imported, defined, Denoted, Made, Import, Bound, State, start, meant_by, root_scope, context, denoted_by, bound, is_projection, same_origin, speak_of}
+use Rattle.wac_parser_tree.specs.Accessors.{argument_name_span as argument_span, postfix_expr_span as postfix_span, primary_expr_span as primary_span}
+use Rattle.wac_parser_resolve.specs.Denoting.{Given, needs_instance, export_named, access_by, spoken as spoken_of, access, accesses, add_given, inferred_name, argument_name, left_names, spread_given, spread_all, spread_one, spreads_of, argument_fits, complete, is_filled, is_last, with_made, finished, new_package, denote, primary, nested, new_instance, arguments, one_argument, named_argument}
 use Rattle.wac_parser_resolve.specs.Saying.{asked, import_name, import_called, not_imported, is_extern_name, is_exportable, no_definition, new_export, export_name, written_name, with_import, import_statement, not_exported, with_definition, declaration, declared_id, export_as, exported, export_one, export_left, expr_span, statement, statements}
 use Rattle.wac_parser_resolve.specs.Ascribed.{Asker, numbered, placed_import, placed_definition, composition}
 use Rattle.wac_parser_resolve.specs.Proper.{Proper, AreProper}
@@ -51,9 +52,28 @@ spoken g d f = go (not (is_projection d.origin) || list_any (λ (e : Denoted). s
     go true = f
     go false = record { imports = f.imports; definitions = f.definitions }
 
-all_spoken : (g : State) (ds : List Denoted) → Formed g → Formed (speak_of_all g ds)
-all_spoken g [] f = f
-all_spoken g (d ∷ ds) f = all_spoken (speak_of g d) ds (spoken g d f)
+said_formed : (g : State) (q : Answer Denoted) (r : State × Denoted) → Formed g → Ok r ≡ spoken_of g q → Formed r.0
+said_formed g q r f e = let a = ok_of q _ r e in subst (λ (p : State × Denoted). Formed p.0) (sym (ok_is r (speak_of g a.0, a.0) a.2)) (spoken g a.0 f)
+
+accesses_formed : (s : Span) (g : State) (d : Denoted) (xs : List t.PostfixExpr) (r : State × Denoted) → Formed g → Ok r ≡ accesses s g d xs → Formed r.0
+accesses_formed s g d [] r f e = subst (λ (q : State × Denoted). Formed q.0) (sym (ok_is r (g, d) e)) f
+accesses_formed s g d (x ∷ xs) r f e =
+    let a = ok_of (access s g d x) _ r e in
+    accesses_formed (postfix_span x) a.0.0 a.0.1 xs r (said_formed g (access_by d x) a.0 f (then_ok (needs_instance d InstanceOperation.Access s) _ a.0 (sym a.1))) a.2
+
+one_spread : (s : Span) (d : Denoted) (q r : State × List Given) (n : Name) → Formed q.0 → spread_given s d q n ≡ Ok r → Formed r.0
+one_spread s d q r n f e =
+    let a = ok_of (spoken_of q.0 (export_named d n s)) _ r (sym e) in
+    subst (λ (p : State × List Given). Formed p.0) (sym (ok_is r (a.0.0, q.1 ++ record { name = n; denoted = a.0.1; span = s } ∷ []) a.2)) (said_formed q.0 (export_named d n s) a.0 f (sym a.1))
+
+all_spread : (s : Span) (d : Denoted) (q r : State × List Given) (ns : List Name) → Formed q.0 → Ok r ≡ spread_all s d q ns → Formed r.0
+all_spread s d q r [] f e = absurd (err_ok _ r e)
+all_spread s d q r (n ∷ ns) f e = each_keeps (spread_given s d) (λ (p : State × List Given). Formed p.0) (one_spread s d) q r (n ∷ ns) f e
+
+spread_formed : (ns : List Name) (q r : State × List Given) (i : t.Ident) → Formed q.0 → spread_one ns q i ≡ Ok r → Formed r.0
+spread_formed ns q r i f e =
+    let a = ok_of (denoted_by q.0 i) _ r (sym e) in
+    all_spread i.span a.0 q r (left_names q.1 ns a.0.item) f (then_ok (needs_instance a.0 InstanceOperation.Spread i.span) _ r a.2)
 
 finished_formed : (g : State) (p : t.PackageName) (w : Stated) (gs : List Given) (b : Bool) (r : State × Denoted) → Formed g → Ok r ≡ finished g p w gs b → Formed r.0
 finished_formed g p w gs b r f e =
@@ -66,8 +86,7 @@ mutual
   denote_formed : (g : State) (x : t.Expr) (r : State × Denoted) → Formed g → Ok r ≡ denote g x → Formed r.0
   denote_formed g (t.expr s p xs) r f e =
       let a = ok_of (primary g p) _ r e in
-      let b = ok_of (accesses (primary_span p) a.0.1 xs) _ r a.2 in
-      subst (λ (q : State × Denoted). Formed q.0) (sym (ok_is r (speak_of a.0.0 b.0, b.0) b.2)) (spoken a.0.0 b.0 (primary_formed g p a.0 f (sym a.1)))
+      accesses_formed (primary_span p) a.0.0 a.0.1 xs r (primary_formed g p a.0 f (sym a.1)) a.2
 
   primary_formed : (g : State) (x : t.PrimaryExpr) (r : State × Denoted) → Formed g → Ok r ≡ primary g x → Formed r.0
   primary_formed g (t.PrimaryExpr.ident i) r f e = let a = ok_of (denoted_by g i) _ r e in subst (λ (q : State × Denoted). Formed q.0) (sym (ok_is r (g, a.0) a.2)) f
@@ -82,8 +101,8 @@ mutual
       let a = ok_of (new_package g p) _ r e in
       let ns = names_of (imports_of a.0) in
       let b = ok_of (arguments g ns [] xs) _ r a.2 in
-      let d = ok_of (each (spread_one b.0.0 ns) b.0.1 (spreads_of xs)) _ r b.2 in
-      finished_formed (speak_of_all b.0.0 (denoted_in d.0)) p a.0 d.0 (is_filled xs) r (all_spoken b.0.0 (denoted_in d.0) (arguments_formed g ns [] xs b.0 f (sym b.1))) d.2
+      let d = ok_of (each (spread_one ns) b.0 (spreads_of xs)) _ r b.2 in
+      finished_formed d.0.0 p a.0 d.0.1 (is_filled xs) r (each_keeps (spread_one ns) (λ (q : State × List Given). Formed q.0) (spread_formed ns) b.0 d.0 (spreads_of xs) (arguments_formed g ns [] xs b.0 f (sym b.1)) (sym d.1)) d.2
 
   arguments_formed : (g : State) (ns : List Name) (gs : List Given) (xs : t.Arguments) (r : State × List Given) → Formed g → Ok r ≡ arguments g ns gs xs → Formed r.0
   arguments_formed g ns gs t.no_arguments r f e = subst (λ (q : State × List Given). Formed q.0) (sym (ok_is r (g, gs) e)) f

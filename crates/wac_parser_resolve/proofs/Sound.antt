@@ -18,8 +18,9 @@ use Rattle.wac_parser_refusals.specs.declared.error.InstanceOperation.{InstanceO
 use Rattle.wac_parser_refusals.specs.Causes.{Answer, Fault, ◌>>◌, pure, unless_clear, present, each, UndefinedName, UnknownPackage, MissingComponentImport, MismatchedInstantiationArg, FillArgumentNotLast, DuplicateInstantiationArg, InvalidExternName, ExportRequiresAs, NotAnInstance}
 use Rattle.wac_parser_declare.specs.Scope.{world_under, bind}
 use Rattle.wac_parser_declare.specs.Worlds.{type_statement}
-use Rattle.wac_parser_resolve.specs.Ascribing.{Origin, imported, instance, projected, defined, Denoted, Made, Import, Bound, State, start, root_scope, context, denoted_by, bound, projection, is_projection, same_origin, speak_of, speak_of_all}
-use Rattle.wac_parser_resolve.specs.Denoting.{Given, given_names, needs_instance, export_by, export_named, access_by, postfix_span, accesses, denoted_in, add_given, inferred_name, argument_name, argument_span, left_names, spread_given, spread_all, spread_one, spreads_of, compared_by, argument_fits, complete, is_filled, is_last, with_made, finished, new_package, primary_span, denote, primary, nested, new_instance, arguments, one_argument, named_argument}
+use Rattle.wac_parser_resolve.specs.Ascribing.{Origin, imported, instance, projected, defined, Denoted, Made, Import, Bound, State, start, root_scope, context, denoted_by, bound, projection, is_projection, same_origin, speak_of}
+use Rattle.wac_parser_tree.specs.Accessors.{argument_name_span as argument_span, postfix_expr_span as postfix_span, primary_expr_span as primary_span}
+use Rattle.wac_parser_resolve.specs.Denoting.{Given, given_names, needs_instance, export_by, export_named, access_by, spoken, access, accesses, add_given, inferred_name, argument_name, left_names, spread_given, spread_all, spread_one, spreads_of, compared_by, argument_fits, complete, is_filled, is_last, with_made, finished, new_package, denote, primary, nested, new_instance, arguments, one_argument, named_argument}
 use Rattle.wac_parser_resolve.specs.Matching.{matched}
 use Rattle.wac_parser_resolve.specs.Saying.{asked, import_name, import_called, not_imported, is_extern_name, with_import, import_statement, not_exported, with_definition, declaration, declared_id, no_definition, new_export, is_exportable, exported, export_name, export_one, export_left, export_as, written_name, expr_span, statement, statements}
 use Rattle.wac_parser_resolve.proofs.Answers.{err_ok, ok_of, then_ok, ok_is, each_keeps}
@@ -139,13 +140,6 @@ access_has : (g : State) (d : Denoted) (p : t.PostfixExpr) (e : Denoted) → Has
 access_has g d (t.PostfixExpr.access a) e h k q = named_has g d (matched a.id.string (names_of (exports_of d.item))) a.span e h k q
 access_has g d (t.PostfixExpr.named_access a) e h k q = named_has g d a.string.value a.span e h k q
 
-accesses_has : (g : State) (s : Span) (d : Denoted) (xs : List t.PostfixExpr) (e : Denoted) → HasThat g d → Ok e ≡ accesses s d xs → HasThat g e
-accesses_has g s d [] e h q = subst (HasThat g) (sym (ok_is e d q)) h
-accesses_has g s d (x ∷ xs) e h q =
-    let r = then_ok (needs_instance d InstanceOperation.Access s) _ e q in
-    let a = ok_of (access_by d x) _ e r in
-    accesses_has g (postfix_span x) a.0 xs e (access_has g d x a.0 h (is_one d InstanceOperation.Access s _ e q) (sym a.1)) a.2
-
 -- ---- what is spoken of changes nothing else
 
 record IsSame (g h : State) : Type 0 where
@@ -205,14 +199,6 @@ module _ (ps : Packages) where
   comes_spoken : (g h : State) (d : Denoted) → Comes g h → Comes g (speak_of h d)
   comes_spoken g h d c = record { sound = speak_sound h d c.sound; grows = grows_then g h (speak_of h d) c.grows (speak_grows h d) }
 
-  comes_spoken_all : (g h : State) (ds : List Denoted) → Comes g h → Comes g (speak_of_all h ds)
-  comes_spoken_all g h [] c = c
-  comes_spoken_all g h (d ∷ ds) c = comes_spoken_all g (speak_of h d) ds (comes_spoken g h d c)
-
-  spoken_grows : (h : State) (ds : List Denoted) → Grows h (speak_of_all h ds)
-  spoken_grows h [] = grows_here h
-  spoken_grows h (d ∷ ds) = grows_then h (speak_of h d) (speak_of_all (speak_of h d) ds) (speak_grows h d) (spoken_grows (speak_of h d) ds)
-
   -- and something that is there
   pub record Denotes (g : State) (r : State × Denoted) : Type 0 where
     pub comes : Comes g r.0
@@ -231,22 +217,48 @@ module _ (ps : Packages) where
       go None q r = absurd (none-some _ r)
       go (Some b) q r = subst (HasThat g) (same_Some _ _ r) (s.root i.string b q)
 
-  -- ---- spreads
+  -- ---- accesses and spreads
 
-  spread_one_more : (g : State) (s : Span) (d : Denoted) → HasThat g d → is_instance (kind_of d.item) ≡ true → (gs hs : List Given) (n : Name) → AllThere g gs → spread_given s d gs n ≡ Ok hs → AllThere g hs
-  spread_one_more g s d b k gs hs n h e =
-      let a = ok_of (export_named d n s) _ hs (sym e) in
-      subst (AllThere g) (sym (ok_is hs (gs ++ record { name = n; denoted = a.0; span = s } ∷ []) a.2)) (all_last g gs (record { name = n; denoted = a.0; span = s }) h (named_has g d n s a.0 b k (sym a.1)))
+  -- an export that is spoken of
+  spoken_denotes : (g h : State) (d : Denoted) → Comes g h → HasThat h d → Denotes g (speak_of h d, d)
+  spoken_denotes g h d c b = record { comes = comes_spoken g h d c; has = has_more h (speak_of h d) (speak_grows h d) d.origin d.item b }
 
-  spread_there : (g : State) (s : Span) (d : Denoted) → HasThat g d → is_instance (kind_of d.item) ≡ true → (gs hs : List Given) (ns : List Name) → AllThere g gs → Ok hs ≡ spread_all s d gs ns → AllThere g hs
-  spread_there g s d b k gs hs [] h e = absurd (err_ok _ hs e)
-  spread_there g s d b k gs hs (n ∷ ns) h e = each_keeps (spread_given s d) (AllThere g) (spread_one_more g s d b k) gs hs (n ∷ ns) h e
+  said_denotes : (g h : State) (q : Answer Denoted) (r : State × Denoted) → Comes g h → ((e : Denoted) → Ok e ≡ q → HasThat h e) → Ok r ≡ spoken h q → Denotes g r
+  said_denotes g h q r c f e =
+      let a = ok_of q _ r e in subst (Denotes g) (sym (ok_is r (speak_of h a.0, a.0) a.2)) (spoken_denotes g h a.0 c (f a.0 (sym a.1)))
 
-  spread_name_there : (g : State) (ns : List Name) (gs hs : List Given) (i : t.Ident) → Sound ps g → AllThere g gs → spread_one g ns gs i ≡ Ok hs → AllThere g hs
-  spread_name_there g ns gs hs i s h e =
-      let a = ok_of (denoted_by g i) _ hs (sym e) in
-      let r = then_ok (needs_instance a.0 InstanceOperation.Spread i.span) _ hs a.2 in
-      spread_there g i.span a.0 (denoted_has g i a.0 s (sym a.1)) (is_one a.0 InstanceOperation.Spread i.span _ hs a.2) gs hs (left_names gs ns a.0.item) h r
+  access_denotes : (s : Span) (g : State) (d : Denoted) (x : t.PostfixExpr) (r : State × Denoted) → Sound ps g → HasThat g d → Ok r ≡ access s g d x → Denotes g r
+  access_denotes s g d x r h b q =
+      said_denotes g g (access_by d x) r (comes_here g h) (λ e w. access_has g d x e b (is_one d InstanceOperation.Access s _ r q) w)
+      (then_ok (needs_instance d InstanceOperation.Access s) _ r q)
+
+  accesses_denotes : (s : Span) (g : State) (d : Denoted) (xs : List t.PostfixExpr) (r : State × Denoted) → Sound ps g → HasThat g d → Ok r ≡ accesses s g d xs → Denotes g r
+  accesses_denotes s g d [] r h b q = subst (Denotes g) (sym (ok_is r (g, d) q)) (record { comes = comes_here g h; has = b })
+  accesses_denotes s g d (x ∷ xs) r h b q =
+      let u = ok_of (access s g d x) _ r q in
+      let one = access_denotes s g d x u.0 h b (sym u.1) in
+      let rest = accesses_denotes (postfix_span x) u.0.0 u.0.1 xs r one.comes.sound one.has u.2 in
+      record { comes = comes_then g u.0.0 r.0 one.comes rest.comes; has = rest.has }
+
+  spread_one_more : (g : State) (s : Span) (d : Denoted) → HasThat g d → is_instance (kind_of d.item) ≡ true → (q r : State × List Given) (n : Name) → GivesAll g q → spread_given s d q n ≡ Ok r → GivesAll g r
+  spread_one_more g s d b k q r n h e =
+      let u = ok_of (spoken q.0 (export_named d n s)) _ r (sym e) in
+      let one = said_denotes q.0 q.0 (export_named d n s) u.0 (comes_here q.0 h.comes.sound)
+      (λ x w. named_has q.0 d n s x (has_more g q.0 h.comes.grows d.origin d.item b) k w) (sym u.1) in
+      let last : Given = record { name = n; denoted = u.0.1; span = s } in
+      subst (GivesAll g) (sym (ok_is r (u.0.0, q.1 ++ last ∷ []) u.2))
+      (record { comes = comes_then g q.0 u.0.0 h.comes one.comes; there = all_last u.0.0 q.1 last (all_more q.0 u.0.0 q.1 one.comes.grows h.there) one.has })
+
+  spread_there : (g : State) (s : Span) (d : Denoted) → HasThat g d → is_instance (kind_of d.item) ≡ true → (q r : State × List Given) (ns : List Name) → GivesAll g q → Ok r ≡ spread_all s d q ns → GivesAll g r
+  spread_there g s d b k q r [] h e = absurd (err_ok _ r e)
+  spread_there g s d b k q r (n ∷ ns) h e = each_keeps (spread_given s d) (GivesAll g) (spread_one_more g s d b k) q r (n ∷ ns) h e
+
+  spread_name_there : (g : State) (ns : List Name) (q r : State × List Given) (i : t.Ident) → GivesAll g q → spread_one ns q i ≡ Ok r → GivesAll g r
+  spread_name_there g ns q r i h e =
+      let a = ok_of (denoted_by q.0 i) _ r (sym e) in
+      let x = then_ok (needs_instance a.0 InstanceOperation.Spread i.span) _ r a.2 in
+      let rest = spread_there q.0 i.span a.0 (denoted_has q.0 i a.0 h.comes.sound (sym a.1)) (is_one a.0 InstanceOperation.Spread i.span _ r a.2) q r (left_names q.1 ns a.0.item) (record { comes = comes_here q.0 h.comes.sound; there = h.there }) x in
+      record { comes = comes_then g q.0 r.0 h.comes rest.comes; there = rest.there }
 
   -- ---- the instance
 
@@ -318,11 +330,8 @@ module _ (ps : Packages) where
     denote_sound g (t.expr s p xs) r h e =
         let a = ok_of (primary g p) _ r e in
         let d = primary_sound g p a.0 h (sym a.1) in
-        let b = ok_of (accesses (primary_span p) a.0.1 xs) _ r a.2 in
-        subst (Denotes g) (sym (ok_is r (speak_of a.0.0 b.0, b.0) b.2)) (record {
-          comes = comes_spoken g a.0.0 b.0 d.comes;
-          has = has_more a.0.0 (speak_of a.0.0 b.0) (speak_grows a.0.0 b.0) b.0.origin b.0.item (accesses_has a.0.0 (primary_span p) a.0.1 xs b.0 d.has (sym b.1));
-        })
+        let b = accesses_denotes (primary_span p) a.0.0 a.0.1 xs r d.comes.sound d.has a.2 in
+        record { comes = comes_then g a.0.0 r.0 d.comes b.comes; has = b.has }
 
     primary_sound : (g : State) (x : t.PrimaryExpr) (r : State × Denoted) → Sound ps g → Ok r ≡ primary g x → Denotes g r
     primary_sound g (t.PrimaryExpr.ident i) r h e =
@@ -339,14 +348,10 @@ module _ (ps : Packages) where
         let a = ok_of (new_package g p) _ r e in
         let ns = names_of (imports_of a.0) in
         let b = ok_of (arguments g ns [] xs) _ r a.2 in
-        let c = ok_of (each (spread_one b.0.0 ns) b.0.1 (spreads_of xs)) _ r b.2 in
-        let given = arguments_sound g ns [] xs b.0 h tt (sym b.1) in
-        let all = each_keeps (spread_one b.0.0 ns) (AllThere b.0.0) (λ gs hs i k q. spread_name_there b.0.0 ns gs hs i given.comes.sound k q) b.0.1 c.0 (spreads_of xs) given.there (sym c.1) in
-        let spoken = speak_of_all b.0.0 (denoted_in c.0) in
-        let comes = comes_spoken_all g b.0.0 (denoted_in c.0) given.comes in
-        let there = all_more b.0.0 spoken c.0 (spoken_grows b.0.0 (denoted_in c.0)) all in
-        let done = finished_denotes spoken p a.0 c.0 (is_filled xs) r comes.sound there (known_package g p a.0 h (sym a.1)) c.2 in
-        record { comes = comes_then g spoken r.0 comes done.comes; has = done.has }
+        let c = ok_of (each (spread_one ns) b.0 (spreads_of xs)) _ r b.2 in
+        let all = each_keeps (spread_one ns) (GivesAll g) (spread_name_there g ns) b.0 c.0 (spreads_of xs) (arguments_sound g ns [] xs b.0 h tt (sym b.1)) (sym c.1) in
+        let done = finished_denotes c.0.0 p a.0 c.0.1 (is_filled xs) r all.comes.sound all.there (known_package g p a.0 h (sym a.1)) c.2 in
+        record { comes = comes_then g c.0.0 r.0 all.comes done.comes; has = done.has }
 
     arguments_sound : (g : State) (ns : List Name) (gs : List Given) (xs : t.Arguments) (r : State × List Given) → Sound ps g → AllThere g gs → Ok r ≡ arguments g ns gs xs → GivesAll g r
     arguments_sound g ns gs t.no_arguments r h b e = subst (GivesAll g) (sym (ok_is r (g, gs) e)) (record { comes = comes_here g h; there = b })

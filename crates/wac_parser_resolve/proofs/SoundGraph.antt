@@ -1,10 +1,11 @@
 -- What stands, while a document is resolved.
-use Rattle.std.proofs.Common.{◌≡◌, ℕ, List, [], ◌∷◌, ◌++◌, Option, Some, None, IsSome, Bool, true, false, if◌then◌else◌, ◌==◌, refl, sym, subst, inl, inr}
+use Rattle.std.proofs.Common.{◌≡◌, ℕ, List, [], ◌∷◌, ◌++◌, Option, Some, None, IsSome, Bool, true, false, if◌then◌else◌, ◌==◌, refl, sym, ap, subst, ◌∙◌, inl, inr}
 use Rattle.std.specs.Cmp.Lexicographic.{pointwise}
 use Rattle.std.specs.FinMap as map
 use Rattle.wac_types_base.specs.declared.item.ItemKind.{ItemKind}
 use Rattle.wac_types_base.specs.Record.{Collection}
 use Rattle.wac_types_base.specs.Entries.{Name, value_at}
+use Rattle.wac_types_base.specs.Graph.{Among}
 use Rattle.wac_types_base.specs.Collection.{Stands, Grows}
 use Rattle.wac_types_names.specs.Packaged.{Packaged}
 use Rattle.wac_graph_core.specs.declared.ids.PackageId.{PackageId}
@@ -16,7 +17,7 @@ use Rattle.wac_parser_resolve.specs.Keeping.{Keeps}
 use Rattle.wac_parser_resolve.specs.declared.arguments.Given.{Given}
 use Rattle.wac_parser_resolve.specs.Later.{Later, Inner, SameNumber}
 use Rattle.wac_parser_resolve.specs.Standing.{AreThere, IsSound}
-use Rattle.wac_parser_resolve.proofs.Growing.{Later-refl, Later-same, Later-trans, Inner-refl, Inner-same, Inner-trans}
+use Rattle.wac_parser_resolve.proofs.Growing.{it_stays, Later-refl, Later-same, Later-trans, Inner-refl, Inner-same, Inner-trans, within_refl, within_trans}
 use Rattle.wac_types_fit.proofs.Items.{Among-last}
 
 -- ---- names of the root
@@ -94,6 +95,13 @@ keeps_inner g h keeps = record {
     number = keeps.types.number;
     kinds = λ k s. keeps.types.stand k s;
     nodes = λ k s. subst (λ m. IsSome (map.get m k)) (sym keeps.nodes) s;
+    stays = it_stays g h (record {
+      trees = keeps.types.keep;
+      still = λ k x e. record { node = x; there = ap (λ m. map.get m k) keeps.nodes ∙ e; role = refl; of = refl; item = refl };
+      edges = λ e m. subst (Among e) (sym keeps.edges) m;
+      exported = λ n k e. ap (λ (xs : List (Name × ℕ)). value_at xs n) keeps.exports ∙ e;
+      held = keeps.packages;
+    });
     packages = λ id s. package_by g h id (keeps.packages id) (package_of g id) refl s;
   };
   imports = λ k n i. subst (λ m. IsImport m k n) keeps.nodes i;
@@ -122,7 +130,7 @@ there_more g xs x there here = record {
 pub there_with : (g : Graph) (xs ys : List Given) (x : Given) → ys ≡ xs ++ x ∷ [] → AreThere g xs → ContainsNode g x.node → AreThere g ys
 there_with g xs ys x is there here = subst (AreThere g) (sym is) (there_more g xs x there here)
 
-pub ruleset inside = (Inner-refl, Inner-trans, node_inner, kind_inner, package_inner, keeps_inner, there_inner, there_none, there_with)
+pub ruleset inside = (Inner-refl, Inner-trans, within_refl, within_trans, node_inner, kind_inner, package_inner, keeps_inner, there_inner, there_none, there_with)
 
 pub ruleset growing = (Later-refl, Later-trans, inner_later, node_later, node_inner, kind_later, kind_inner, sound_later, sound_inner, sound_grows, sound_none, number_later, number_inner, number_grows)
 

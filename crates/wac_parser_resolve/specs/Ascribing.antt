@@ -108,7 +108,3 @@ abbrev pub speak_of : State → Denoted → State
 speak_of g d =
     if not (is_projection d.origin) || list_any (λ (e : Denoted). same_origin e.origin d.origin) g.aliases then g
     else record g { aliases = g.aliases ++ d ∷ [] }
-
-abbrev pub speak_of_all : State → List Denoted → State
-speak_of_all g [] = g
-speak_of_all g (d ∷ ds) = speak_of_all (speak_of g d) ds

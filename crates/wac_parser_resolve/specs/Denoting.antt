@@ -5,18 +5,22 @@ use Rattle.wac_types_base.specs.Stated.{Stated, Kind, IsInstance, kind_of, desc,
 use Rattle.wac_types_names.specs.Keys.{Key}
 use Rattle.wac_composition.specs.Tests.{fits}
 use Rattle.wac_composition.specs.Classes.{is_instance}
-use Rattle.wac_composition.specs.Written.{written_definition}
+use Rattle.wac_types_written.specs.Written.{written_definition}
 use Rattle.wac_parser_tree.specs.Trees as t
 use Rattle.wac_parser_tree.specs.Trees.{Span}
+use Rattle.wac_parser_tree.specs.Accessors.{argument_name_span as argument_span, postfix_expr_span as postfix_span, primary_expr_span as primary_span}
 use Rattle.wac_parser_refusals.specs.declared.error.InstanceOperation.{InstanceOperation}
 use Rattle.wac_parser_refusals.specs.Causes.{Answer, ◌>>=◌, ◌>>◌, pure, refuse, unless_clear, present, each, UnknownPackage, NotAnInstance, MissingInstanceExport, MissingComponentImport, MismatchedInstantiationArg, DuplicateInstantiationArg, MissingInstantiationArg, FillArgumentNotLast, SpreadInstantiationNoMatch}
 use Rattle.wac_parser_declare.specs.Scope.{world_of_package}
 use Rattle.wac_parser_resolve.specs.Matching.{matched}
-use Rattle.wac_parser_resolve.specs.Ascribing.{Origin, instance, defined, Denoted, Made, State, denoted_by, projection, own_name, speak_of, speak_of_all}
+use Rattle.wac_parser_resolve.specs.Ascribing.{Origin, instance, defined, Denoted, Made, State, denoted_by, projection, own_name, speak_of}
 
 -- an operation asks for an instance
+abbrev pub asks_instance : Stated → InstanceOperation → Span → Answer ⊤
+asks_instance x o s = unless_clear (not (is_instance (kind_of x))) (NotAnInstance (desc x) o) s
+
 abbrev pub needs_instance : Denoted → InstanceOperation → Span → Answer ⊤
-needs_instance d o s = unless_clear (not (is_instance (kind_of d.item))) (NotAnInstance (desc d.item) o) s
+needs_instance d o s = asks_instance d.item o s
 
 -- ---- accesses
 
@@ -32,14 +36,18 @@ abbrev pub access_by : Denoted → t.PostfixExpr → Answer Denoted
 access_by d (t.PostfixExpr.access a) = export_named d (matched a.id.string (names_of (exports_of d.item))) a.span
 access_by d (t.PostfixExpr.named_access a) = export_named d a.string.value a.span
 
-abbrev pub postfix_span : t.PostfixExpr → Span
-postfix_span (t.PostfixExpr.access a) = a.span
-postfix_span (t.PostfixExpr.named_access a) = a.span
+-- what was said, and a thing that is spoken of
+abbrev pub spoken : State → Answer Denoted → Answer (State × Denoted)
+spoken g q = q >>= λ d. pure (speak_of g d, d)
 
--- one behind the other; a refusal stands at what is no instance
-abbrev pub accesses : Span → Denoted → List t.PostfixExpr → Answer Denoted
-accesses before d [] = pure d
-accesses before d (p ∷ ps) = needs_instance d InstanceOperation.Access before >> (access_by d p >>= λ e. accesses (postfix_span p) e ps)
+-- a refusal stands at what is no instance
+abbrev pub access : Span → State → Denoted → t.PostfixExpr → Answer (State × Denoted)
+access before g d p = needs_instance d InstanceOperation.Access before >> spoken g (access_by d p)
+
+-- one behind the other
+abbrev pub accesses : Span → State → Denoted → List t.PostfixExpr → Answer (State × Denoted)
+accesses before g d [] = pure (g, d)
+accesses before g d (p ∷ ps) = access before g d p >>= λ r. accesses (postfix_span p) r.0 r.1 ps
 
 -- ---- arguments
 
@@ -51,9 +59,6 @@ pub record Given : Type 0 where
 
 abbrev pub given_names : List Given → List Name
 given_names gs = map (λ (g : Given). g.name) gs
-
-abbrev pub denoted_in : List Given → List Denoted
-denoted_in gs = map (λ (g : Given). g.denoted) gs
 
 abbrev pub add_given : List Given → Given → Answer (List Given)
 add_given gs g = unless_clear (has_name (given_names gs) g.name) (DuplicateInstantiationArg g.name) g.span >> pure (gs ++ g ∷ [])
@@ -80,28 +85,25 @@ abbrev pub argument_name : List Name → t.InstantiationArgumentName → Name
 argument_name ns (t.InstantiationArgumentName.ident i) = matched i.string ns
 argument_name ns (t.InstantiationArgumentName.string x) = x.value
 
-abbrev pub argument_span : t.InstantiationArgumentName → Span
-argument_span (t.InstantiationArgumentName.ident i) = i.span
-argument_span (t.InstantiationArgumentName.string x) = x.span
-
 -- ---- spreads
 
 -- the imports not yet named that the instance exports exactly
 abbrev pub left_names : List Given → List Name → Stated → List Name
 left_names gs ns x = filter (λ n. not (has_name (given_names gs) n) && is_some (value_at (exports_of x) n)) ns
 
-abbrev pub spread_given : Span → Denoted → List Given → Name → Answer (List Given)
-spread_given s d gs n = export_named d n s >>= λ e. pure (gs ++ record { name = n; denoted = e; span = s } ∷ [])
+-- what was said, and what is given: one more, which is spoken of
+abbrev pub spread_given : Span → Denoted → State × List Given → Name → Answer (State × List Given)
+spread_given s d r n = spoken r.0 (export_named d n s) >>= λ q. pure (q.0, r.1 ++ record { name = n; denoted = q.1; span = s } ∷ [])
 
-abbrev pub spread_all : Span → Denoted → List Given → List Name → Answer (List Given)
-spread_all s d gs [] = refuse SpreadInstantiationNoMatch s
-spread_all s d gs (n ∷ ns) = each (spread_given s d) gs (n ∷ ns)
+abbrev pub spread_all : Span → Denoted → State × List Given → List Name → Answer (State × List Given)
+spread_all s d r [] = refuse SpreadInstantiationNoMatch s
+spread_all s d r (n ∷ ns) = each (spread_given s d) r (n ∷ ns)
 
-abbrev pub spread_one : State → List Name → List Given → t.Ident → Answer (List Given)
-spread_one g ns gs i = do
-  d ← denoted_by g i
+abbrev pub spread_one : List Name → State × List Given → t.Ident → Answer (State × List Given)
+spread_one ns r i = do
+  d ← denoted_by r.0 i
   needs_instance d InstanceOperation.Spread i.span
-  spread_all i.span d gs (left_names gs ns d.item)
+  spread_all i.span d r (left_names r.1 ns d.item)
 
 abbrev pub spreads_of : t.Arguments → List t.Ident
 spreads_of t.no_arguments = []
@@ -155,14 +157,9 @@ new_package g p = unless_clear (bytes_eq p.name g.own.name) (UnknownPackage p.na
 
 -- ---- expressions
 
-abbrev pub primary_span : t.PrimaryExpr → Span
-primary_span (t.PrimaryExpr.new (t.new_expr s p as_)) = s
-primary_span (t.PrimaryExpr.nested (t.nested_expr s e)) = s
-primary_span (t.PrimaryExpr.ident i) = i.span
-
 abbrev mutual
   pub denote : State → t.Expr → Answer (State × Denoted)
-  denote g (t.expr s p ps) = primary g p >>= λ r. accesses (primary_span p) r.1 ps >>= λ d. pure (speak_of r.0 d, d)
+  denote g (t.expr s p ps) = primary g p >>= λ r. accesses (primary_span p) r.0 r.1 ps
 
   pub primary : State → t.PrimaryExpr → Answer (State × Denoted)
   primary g (t.PrimaryExpr.ident i) = denoted_by g i >>= λ d. pure (g, d)
@@ -176,8 +173,8 @@ abbrev mutual
   new_instance g (t.new_expr s p as_) = do
     w ← new_package g p
     r ← arguments g (names_of (imports_of w)) [] as_
-    gs ← each (spread_one r.0 (names_of (imports_of w))) r.1 (spreads_of as_)
-    finished (speak_of_all r.0 (denoted_in gs)) p w gs (is_filled as_)
+    q ← each (spread_one (names_of (imports_of w))) r (spreads_of as_)
+    finished q.0 p w q.1 (is_filled as_)
 
   -- the arguments that are no spreads
   pub arguments : State → List Name → List Given → t.Arguments → Answer (State × List Given)

@@ -18,3 +18,6 @@ pub mod Giving
 pub mod Keeping
 pub mod Knowing
 pub mod Proper
+pub mod Holding
+pub mod InExpressions
+pub mod InArguments

@@ -1,11 +1,21 @@
 //! The arguments of an instantiation.
 #![tactic(auto, using(crate::proofs::SoundGraph::inside))]
 
-ghost use Rattle.std.specs.Prelude.{◌≡◌, ◌∷◌, ◌++◌, [], IfOk, OnOk};
+ghost use Rattle.std.specs.Prelude.{◌≡◌, ◌∷◌, ◌++◌, [], IfOk, OnOk, filter, find, map, not};
+ghost use Rattle.std.specs.Option.{option_copied};
 ghost use Rattle.wac_types_base.specs.declared.item.ItemKind.{ItemKind};
 ghost use Rattle.wac_types_base.specs.Collection.{Stands};
+ghost use Rattle.wac_types_base.specs.Entries.{AreDistinct, has_name, names_of, texts_of};
 ghost use Rattle.wac_graph_core.specs.Graph.{ContainsNode};
-ghost use Rattle.wac_parser_resolve.specs.Later.{Inner};
+ghost use Rattle.wac_parser_tree.specs.Trees as t;
+ghost use Rattle.wac_parser_tree.specs.Views.{view_instantiation_argument};
+ghost use Rattle.wac_parser_refusals.specs.Causes.{MissingInstantiationArg};
+ghost use Rattle.wac_parser_refusals.specs.Outcomes.{Refuses};
+ghost use Rattle.wac_parser_resolve.specs.Denoting as stated;
+ghost use Rattle.wac_parser_resolve.specs.Denoting.{if_among};
+ghost use Rattle.wac_parser_resolve.specs.Holding.{names_given};
+ghost use Rattle.wac_parser_resolve.specs.InArguments.{AreSpreads, GivesExports, GivesOne, InfersName, IsArgumentName, IsComplete, IsExportGiven, IsInferredGiven, IsSpreadOf, Spreads, TakesSpread, is_left_by, names_left};
+ghost use Rattle.wac_parser_resolve.specs.Later.{Inner, IsWithin};
 ghost use Rattle.wac_parser_resolve.specs.Standing.{AreApart, AreThere, IsFresh};
 
 use crate::board::{identifier_of, instance_of, own_name};
@@ -28,9 +38,11 @@ pub(crate) struct Given {
 }
 
 /// Whether something is given for a name.
-fn is_given(given: &Vec<Given>, name: &str) -> bool {
+fn is_given(given: &Vec<Given>, name: &str) -> bool
+    ensures { result ≡ has_name (names_given given.now.items) name.now }
+{
     for one in given {
-        if one.name.as_str() == name {
+        if name == one.name.as_str() {
             return true;
         }
     }
@@ -39,7 +51,8 @@ fn is_given(given: &Vec<Given>, name: &str) -> bool {
 
 /// One more argument, whose name is new.
 pub(crate) fn give(alloc: Global, given: &mut Vec<Given>, one: Given) -> Outcome<()>
-    ensures { OnOk result (given.new.items ≡ given.old.items ++ one ∷ []) }
+    ensures ok { OnOk result (given.new.items ≡ given.old.items ++ one ∷ []) }
+    ensures outcome { GivesOne given.old.items one given.new.items result }
 {
     if is_given(given, one.name.as_str()) {
         let fault = Error::DuplicateInstantiationArg {
@@ -57,7 +70,9 @@ pub(crate) fn argument_name(
     name: &InstantiationArgumentName<'_>,
     alloc: Global,
     imports: &NamedMap<ItemKind>,
-) -> Result<String, AllocError> {
+) -> Result<String, AllocError>
+    ensures { IfOk result (IsArgumentName name.now (names_of imports.now)) }
+{
     match name {
         InstantiationArgumentName::Ident(id) => String::from_str(
             alloc,
@@ -68,7 +83,9 @@ pub(crate) fn argument_name(
 }
 
 /// A name, where an import has it.
-fn if_import<'a>(imports: &NamedMap<ItemKind>, name: Option<&'a str>) -> Option<&'a str> {
+fn if_import<'a>(imports: &NamedMap<ItemKind>, name: Option<&'a str>) -> Option<&'a str>
+    ensures { option_copied result ≡ if_among (names_of imports.now) (option_copied name.entry) }
+{
     match name {
         Some(name) => {
             if imports.contains(name) {
@@ -90,7 +107,10 @@ fn inferred_name<'a>(
     id: &'a str,
 ) -> &'a str
     requires { ContainsNode graph.now node }
+    ensures { InfersName graph.now node id.now (names_of imports.now) result.now }
 {
+    graph.see_sound();
+    graph.types().see_acyclic();
     match if_import(imports, identifier_of(graph, node)) {
         Some(name) => name,
         None => match if_import(imports, own_name(graph, node)) {
@@ -108,7 +128,8 @@ pub(crate) fn inferred(
     id: &Ident<'_>,
 ) -> Outcome<Given>
     requires { Stands graph.now.types (ItemKind.Component world) }
-    ensures { IfOk result (λ one. ContainsNode graph.now one.node) }
+    ensures stands { IfOk result (λ one. ContainsNode graph.now one.node) }
+    ensures outcome { IsInferredGiven id.now graph.now root.entry.nodes.now world result }
 {
     let node = root.node(graph, id)?;
     let imports = &graph.types().world(world).imports;
@@ -121,7 +142,9 @@ pub(crate) fn inferred(
 }
 
 /// Whether an instance is to be asked for an import: nothing is given for it, and the instance exports exactly it.
-fn is_left(given: &Vec<Given>, exports: &NamedMap<ItemKind>, name: &str) -> bool {
+fn is_left(given: &Vec<Given>, exports: &NamedMap<ItemKind>, name: &str) -> bool
+    ensures { result ≡ is_left_by given.now.items exports.now name.now }
+{
     !is_given(given, name) && exports.contains(name)
 }
 
@@ -131,7 +154,9 @@ fn left_names(
     given: &Vec<Given>,
     imports: &[String],
     exports: &NamedMap<ItemKind>,
-) -> Result<Vec<String>, AllocError> {
+) -> Result<Vec<String>, AllocError>
+    ensures { IfOk result (λ names. texts_of names.items ≡ filter (is_left_by given.now.items exports.now) (texts_of imports.now)) }
+{
     let mut names = Vec::new(alloc);
     for name in imports {
         if is_left(given, exports, name.as_str()) {
@@ -154,6 +179,8 @@ fn give_exports(
     requires given { AreThere graph.old given.old.items }
     ensures given { OnOk result (AreThere graph.new given.new.items) }
     ensures inner { Inner graph.old graph.new }
+    ensures within { IsWithin graph.old graph.new }
+    ensures outcome { GivesExports (texts_of names.now.items) graph.old node span given.old.items graph.new given.new.items result }
 {
     for name in names {
         let one = given_export(alloc, graph, node, span, name.as_str())?;
@@ -173,6 +200,8 @@ fn given_export(
     requires { ContainsNode graph.old node }
     ensures node { IfOk result (λ one. ContainsNode graph.new one.node) }
     ensures inner { Inner graph.old graph.new }
+    ensures within { IsWithin graph.old graph.new }
+    ensures outcome { IsExportGiven name.now graph.old node span graph.new result }
 {
     let access = Access {
         operation: InstanceOperation::Spread,
@@ -197,9 +226,17 @@ fn spread_names(
 ) -> Result<Vec<String>, AllocError>
     requires world { Stands types.now (ItemKind.Component world) }
     requires interface { Stands types.now (ItemKind.Instance interface) }
+    ensures names { IfOk result (λ names. texts_of names.items ≡ names_left given.now.items types.now world interface) }
+    ensures distinct { IfOk result (λ names. AreDistinct (texts_of names.items)) }
 {
-    let imports = types.world(world).imports.names();
-    left_names(alloc, given, imports, &types.interface(interface).exports)
+    let imports = &types.world(world).imports;
+    let _ = imports.len();
+    left_names(
+        alloc,
+        given,
+        imports.names(),
+        &types.interface(interface).exports,
+    )
 }
 
 /// Gives each import for which nothing is given and that the instance exports.
@@ -214,7 +251,10 @@ fn spread(
     requires given { AreThere graph.old given.old.items }
     ensures given { OnOk result (AreThere graph.new given.new.items) }
     ensures inner { Inner graph.old graph.new }
+    ensures within { IsWithin graph.old graph.new }
+    ensures outcome { Spreads id.now graph.old root.entry.nodes.now world given.old.items graph.new given.new.items result }
 {
+    graph.types().see_acyclic();
     let node = root.node(graph, id)?;
     let interface = instance_of(graph, node, InstanceOperation::Spread, id.span)?;
     let names = spread_names(root.alloc, graph.types(), world, interface, given)?;
@@ -226,10 +266,35 @@ fn spread(
 }
 
 /// The ident of a spread argument.
-fn spread_id<'a>(argument: &InstantiationArgument<'a>) -> Option<Ident<'a>> {
+fn spread_id<'a>(argument: &InstantiationArgument<'a>) -> Option<Ident<'a>>
+    ensures { IsSpreadOf (view_instantiation_argument argument.now) result }
+{
     match argument {
         InstantiationArgument::Spread(id) => Some(*id),
-        _other => None,
+        InstantiationArgument::Inferred(_) => None,
+        InstantiationArgument::Named(_) => None,
+        InstantiationArgument::Fill(_) => None,
+    }
+}
+
+/// An argument, where it is a spread.
+fn take_spread(
+    argument: &InstantiationArgument<'_>,
+    root: Root<'_, '_>,
+    graph: &mut CompositionGraph,
+    world: WorldId,
+    given: &mut Vec<Given>,
+) -> Outcome<()>
+    requires world { Stands graph.old.types (ItemKind.Component world) }
+    requires given { AreThere graph.old given.old.items }
+    ensures given { OnOk result (AreThere graph.new given.new.items) }
+    ensures inner { Inner graph.old graph.new }
+    ensures within { IsWithin graph.old graph.new }
+    ensures outcome { TakesSpread argument.now graph.old root.entry.nodes.now world given.old.items graph.new given.new.items result }
+{
+    match spread_id(argument) {
+        Some(id) => spread(root, graph, world, &id, given),
+        None => Ok(()),
     }
 }
 
@@ -245,11 +310,11 @@ pub(crate) fn spreads(
     requires given { AreThere graph.old given.old.items }
     ensures given { OnOk result (AreThere graph.new given.new.items) }
     ensures inner { Inner graph.old graph.new }
+    ensures within { IsWithin graph.old graph.new }
+    ensures outcome { AreSpreads arguments.now.items graph.old root.entry.nodes.now world given.old.items graph.new given.new.items result }
 {
     for argument in arguments {
-        if let Some(id) = spread_id(argument) {
-            spread(root, graph, world, &id, given)?;
-        }
+        take_spread(argument, root, graph, world, given)?;
     }
     Ok(())
 }
@@ -272,10 +337,24 @@ pub(crate) fn pass_all(
     Ok(())
 }
 
+/// Whether an argument is `...`.
+fn is_fill(argument: &InstantiationArgument<'_>) -> bool
+    ensures { result ≡ stated.is_filled (t.argument (view_instantiation_argument argument.now) t.no_arguments) }
+{
+    match argument {
+        InstantiationArgument::Fill(_) => true,
+        InstantiationArgument::Inferred(_) => false,
+        InstantiationArgument::Spread(_) => false,
+        InstantiationArgument::Named(_) => false,
+    }
+}
+
 /// Whether the arguments are filled up by imports.
-pub(crate) fn is_filled(arguments: &Vec<InstantiationArgument<'_>>) -> bool {
+pub(crate) fn is_filled(arguments: &Vec<InstantiationArgument<'_>>) -> bool
+    ensures { result ≡ stated.is_filled (t.arguments (map view_instantiation_argument arguments.now.items)) }
+{
     for argument in arguments {
-        if matches!(argument, InstantiationArgument::Fill(_)) {
+        if is_fill(argument) {
             return true;
         }
     }
@@ -283,7 +362,9 @@ pub(crate) fn is_filled(arguments: &Vec<InstantiationArgument<'_>>) -> bool {
 }
 
 /// The first import for which nothing is given.
-fn first_missing<'a>(imports: &'a [String], given: &Vec<Given>) -> Option<&'a str> {
+fn first_missing<'a>(imports: &'a [String], given: &Vec<Given>) -> Option<&'a str>
+    ensures { option_copied result ≡ find (λ n. not (has_name (names_given given.now.items) n)) (texts_of imports.now) }
+{
     for name in imports {
         if !is_given(given, name.as_str()) {
             return Some(name.as_str());
@@ -293,7 +374,9 @@ fn first_missing<'a>(imports: &'a [String], given: &Vec<Given>) -> Option<&'a st
 }
 
 /// A refusal of an instance for which an argument of a name is missing.
-fn missing_argument(alloc: Global, name: &str, package: &PackageName<'_>) -> Refusal {
+fn missing_argument(alloc: Global, name: &str, package: &PackageName<'_>) -> Refusal
+    ensures { Refuses result (MissingInstantiationArg name.now «package».now.string.now) «package».now.span }
+{
     let Ok(name) = String::from_str(alloc, name) else {
         return Refusal::Memory;
     };
@@ -317,6 +400,7 @@ pub(crate) fn complete(
     given: &Vec<Given>,
 ) -> Outcome<()>
     requires { Stands types.now (ItemKind.Component world) }
+    ensures { IsComplete «package».now types.now world given.now.items result }
 {
     match first_missing(types.world(world).imports.names(), given) {
         None => Ok(()),

@@ -7,6 +7,11 @@ ghost use Rattle.wac_types_base.specs.declared.item.ItemKind.{ItemKind};
 ghost use Rattle.wac_types_base.specs.Collection.{Stands};
 ghost use Rattle.wac_types_names.specs.Packaged.{Packaged};
 ghost use Rattle.wac_graph_core.specs.Graph.{ContainsNode, ContainsPackage, IsOfKind, package_of};
+ghost use Rattle.wac_types_base.specs.Stated.{Stated, desc};
+ghost use Rattle.wac_parser_refusals.specs.Causes.{NotAnInstance};
+ghost use Rattle.wac_parser_refusals.specs.Outcomes.{Refuses};
+ghost use Rattle.wac_parser_resolve.specs.Holding.{HasItem};
+ghost use Rattle.wac_parser_resolve.specs.InExpressions.{IsInstanceFor};
 ghost use Rattle.wac_parser_resolve.specs.Told.{TellsOwnName, identifier};
 
 use crate::packages::GraphTypes;
@@ -37,6 +42,7 @@ pub(crate) fn item_of(graph: &CompositionGraph, node: NodeId) -> ItemKind
 /// How the item of a node is called.
 pub(crate) fn word_of(graph: &CompositionGraph, node: NodeId) -> &'static str
     requires { ContainsNode graph.now node }
+    ensures { (t : Stated) → HasItem graph.now node t → result.now ≡ desc t }
 {
     item_of(graph, node).desc(graph.types())
 }
@@ -49,6 +55,7 @@ pub(crate) fn not_an_instance(
     span: SourceSpan,
 ) -> Refusal
     requires { ContainsNode graph.now node }
+    ensures { (t : Stated) → HasItem graph.now node t → Refuses result (NotAnInstance (desc t) operation) span }
 {
     let fault = Error::NotAnInstance {
         kind: word_of(graph, node),
@@ -66,8 +73,10 @@ pub(crate) fn instance_of(
     span: SourceSpan,
 ) -> Outcome<InterfaceId>
     requires { ContainsNode graph.now node }
-    ensures { IfOk result (λ id. Stands graph.now.types (ItemKind.Instance id)) }
+    ensures stands { IfOk result (λ id. Stands graph.now.types (ItemKind.Instance id)) }
+    ensures outcome { IsInstanceFor graph.now node operation span result }
 {
+    graph.types().see_acyclic();
     match item_of(graph, node) {
         ItemKind::Instance(id) => Ok(id),
         _other => Err(not_an_instance(graph, node, operation, span)),

@@ -5,7 +5,8 @@ ghost use Rattle.std.specs.Prelude.{◌≡◌, ◌≢◌, None, IfOk, OnOk};
 ghost use Rattle.wac_types_base.specs.declared.item.ItemKind.{ItemKind};
 ghost use Rattle.wac_types_base.specs.Collection.{Stands};
 ghost use Rattle.wac_graph_core.specs.Graph.{ContainsNode, ContainsPackage, node_at};
-ghost use Rattle.wac_parser_resolve.specs.Later.{Inner, Later};
+ghost use Rattle.wac_parser_resolve.specs.InExpressions.{IsProjection, IsUnaliased};
+ghost use Rattle.wac_parser_resolve.specs.Later.{Inner, IsWithin, Later};
 ghost use Rattle.wac_parser_resolve.specs.Standing.{IsFresh};
 
 use crate::board::not_an_instance;
@@ -26,9 +27,12 @@ pub(crate) struct Access {
     pub(crate) access: SourceSpan,
 }
 
+/// Why there is no such export, as the document's fault.
 fn alias_fault(graph: &CompositionGraph, node: NodeId, access: Access, fault: AliasError) -> Refusal
     requires { ContainsNode graph.now node }
+    ensures { IsUnaliased graph.now node access fault result }
 {
+    graph.types().see_acyclic();
     match fault {
         AliasError::NodeIsNotAnInstance { .. } => {
             not_an_instance(graph, node, access.operation, access.instance)
@@ -54,7 +58,11 @@ pub(crate) fn alias(
     requires { ContainsNode graph.old node }
     ensures alias { IfOk result (λ k. ContainsNode graph.new k) }
     ensures inner { Inner graph.old graph.new }
+    ensures within { IsWithin graph.old graph.new }
+    ensures outcome { IsProjection graph.old node name.now access graph.new result }
 {
+    graph.types().see_acyclic();
+    graph.see_sound();
     match graph.alias_instance_export(node, name) {
         Ok(alias) => {
             graph.see_sound();

@@ -5,7 +5,8 @@ ghost use Rattle.std.specs.Prelude.{◌≡◌, ◌≢◌, IfOk, OnOk};
 ghost use Rattle.wac_types_base.specs.declared.item.ItemKind.{ItemKind};
 ghost use Rattle.wac_types_base.specs.Collection.{Stands};
 ghost use Rattle.wac_graph_core.specs.Graph.{ContainsNode, ContainsPackage};
-ghost use Rattle.wac_parser_resolve.specs.Later.{Inner};
+ghost use Rattle.wac_parser_resolve.specs.InExpressions.{AreAccesses, IsAccess, IsMeantFor};
+ghost use Rattle.wac_parser_resolve.specs.Later.{Inner, IsWithin};
 ghost use Rattle.wac_parser_resolve.specs.Passing.{IsLater};
 ghost use Rattle.wac_parser_resolve.specs.Standing.{AreThere};
 
@@ -35,6 +36,7 @@ fn export_meant(
     name: &str,
 ) -> Outcome<String>
     requires { ContainsNode graph.now node }
+    ensures { IsMeantFor graph.now node name.now before result }
 {
     let id = instance_of(graph, node, InstanceOperation::Access, before)?;
     let exports = &graph.types().interface(id).exports;
@@ -52,6 +54,8 @@ fn access(
     requires { ContainsNode graph.old node }
     ensures node { IfOk result (λ k. ContainsNode graph.new k) }
     ensures inner { Inner graph.old graph.new }
+    ensures within { IsWithin graph.old graph.new }
+    ensures outcome { IsAccess one.now graph.old node before graph.new result }
 {
     let access = Access {
         operation: InstanceOperation::Access,
@@ -78,6 +82,8 @@ fn accesses(
     requires { ContainsNode graph.old first }
     ensures node { IfOk result (λ k. ContainsNode graph.new k) }
     ensures inner { Inner graph.old graph.new }
+    ensures within { IsWithin graph.old graph.new }
+    ensures outcome { AreAccesses list.now.items graph.old first before graph.new result }
 {
     let mut node = first;
     let mut span = before;

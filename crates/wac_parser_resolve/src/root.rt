@@ -1,7 +1,9 @@
 //! What expressions stand on.
+#![tactic(auto)]
 
 ghost use Rattle.std.specs.Prelude.{IfOk};
 ghost use Rattle.wac_graph_core.specs.Graph.{ContainsNode};
+ghost use Rattle.wac_parser_resolve.specs.InExpressions.{IsRootNode};
 
 use std::alloc::Global;
 use wac_graph_core::{CompositionGraph, NodeId};
@@ -22,7 +24,8 @@ pub(crate) struct Root<'o, 'n> {
 impl<'o, 'n> Root<'o, 'n> {
     /// The node that a name stands for.
     pub(crate) fn node(self, graph: &CompositionGraph, id: &Ident<'_>) -> Outcome<NodeId>
-        ensures { IfOk result (λ node. ContainsNode graph.now node) }
+        ensures stands { IfOk result (λ node. ContainsNode graph.now node) }
+        ensures outcome { IsRootNode id.now graph.now self.entry.nodes.now result }
     {
         match self.nodes.get(id.string) {
             Some(node) => {
