@@ -25,7 +25,7 @@ use Rattle.wac_graph_core.specs.Steps.{Instantiates, Aliases}
 use Rattle.wac_graph_core.specs.Exporting.{Exports}
 use Rattle.wac_graph_core.proofs.NodeMap.{get-insert_same, get-insert_other}
 use Rattle.wac_graph_core.proofs.EdgeSteps.{edge_label}
-use Rattle.wac_graph_core.proofs.Stating.{imports_stated}
+use Rattle.wac_types_base.proofs.Stating.{imports_stated, value_with}
 use Rattle.wac_graph_core.proofs.WiringLaws.{once, binds_once, value_among}
 use Rattle.wac_graph_plug.specs.declared.matching.Match.{Match}
 use Rattle.wac_graph_plug.specs.Plugging.{AreMatches}
@@ -33,7 +33,6 @@ use Rattle.wac_graph_plug.specs.Steps.{Grown, ExportsOne, ExportsAll, exported_n
 use Rattle.wac_graph_plug.specs.Stops.{part_in, part_of, world_of, worlds_of, Plugs, socket_exports, IsPlugged}
 use Rattle.wac_graph_plug.specs.Wired.{Part, export_for, or_later, bound_from, if_there, bound_source, socket_instance, plug_instance, plug_at, instance_at, plugged}
 use Rattle.wac_graph_plug.proofs.Near.{value_named, value_none}
-use Rattle.wac_graph_plug.proofs.Gathered.{value_with}
 use Rattle.wac_graph_plug.proofs.Growing.{Grown-refl, Grown-trans, Grown-alias, Grown-instance, Grown-export, Grown-exports, same_package, same_world, worlds_same}
 use Rattle.wac_graph_plug.proofs.State.{Bound, imports_of_all, State, end_of, no_argument}
 use Rattle.wac_graph_plug.proofs.Causes.{Grown-each, first_state, all_distinct, each_state}

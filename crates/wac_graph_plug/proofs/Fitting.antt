@@ -17,10 +17,11 @@ use Rattle.wac_types_base.proofs.Standing.{interface_found, world_found}
 use Rattle.wac_types_names.specs.Packaged.{Packaged}
 use Rattle.wac_types_fit.specs.Trees.{Fit, tree_in}
 use Rattle.wac_graph_core.specs.Graph.{PackageStands, exported_in, imported_in, item_export, item_import}
-use Rattle.wac_graph_core.proofs.Stating.{imports_stated, exports_stated, instance_exports_stated, instance_type_exports}
+use Rattle.wac_types_base.proofs.Stating.{imports_stated, exports_stated, instance_exports_stated, value_with}
+use Rattle.wac_graph_core.proofs.Stating.{instance_type_exports}
 use Rattle.wac_graph_plug.specs.declared.matching.Match.{Match}
 use Rattle.wac_graph_plug.specs.Plugging.{Matches, AreMatchesOf, no_exports, matched, passed}
-use Rattle.wac_graph_plug.proofs.Gathered.{value_with, names_with}
+use Rattle.wac_graph_plug.proofs.Gathered.{names_with}
 use Rattle.wac_types_names.proofs.TrackLaws.{name_among}
 use Rattle.wac_types_fit.proofs.Items.{among-value_at}
 

@@ -1,9 +1,8 @@
 -- The matches of a plug, export by export.
-use Rattle.std.proofs.Common.{◌≡◌, ◌⊎◌, ℕ, ◌+◌, ◌<◌, ◌≤◌, Bool, true, false, ◌==◌, cond, List, [], ◌∷◌, ◌++◌, length, map, take, Option, Some, None, slice_get, refl, sym, ap, subst, ◌∙◌, inl, inr}
+use Rattle.std.proofs.Common.{◌≡◌, ◌⊎◌, ℕ, ◌+◌, ◌<◌, ◌≤◌, List, [], ◌∷◌, ◌++◌, length, map, take, Option, Some, None, slice_get, refl, sym, ap, subst, ◌∙◌, inl, inr}
 use Rattle.std.proofs.lemmas.Option.{same_Some}
 use Rattle.std.proofs.lemmas.List.{take_all, map-append}
 use Rattle.std.specs.Option.{option_map}
-use Rattle.std.specs.Cmp.Lexicographic.{pointwise}
 use Rattle.wac_types_base.specs.declared.item.ItemKind.{ItemKind}
 use Rattle.wac_types_base.specs.Record.{Collection}
 use Rattle.wac_types_base.specs.Entries.{Name, names_of, value_at, with_values}
@@ -12,6 +11,7 @@ use Rattle.wac_types_base.specs.Tree.{tree}
 use Rattle.wac_types_base.specs.Fits.{Fits}
 use Rattle.wac_types_base.proofs.Looked.{take-one_more}
 use Rattle.wac_types_fit.specs.Trees.{Fit, tree_in}
+use Rattle.wac_types_base.proofs.Stating.{value_with}
 use Rattle.wac_graph_plug.specs.declared.matching.Match.{Match}
 use Rattle.wac_graph_plug.specs.Plugging.{Finds, Matches, AreMatchesOf, no_exports, matched, passed}
 use Rattle.wac_graph_plug.specs.Lookups.{IsMatchOf, with_match}
@@ -22,14 +22,6 @@ use Rattle.wac_graph_plug.proofs.Near.{finds_once}
 pub names_with : {T U : Type 0} (f : T → U) (xs : List (Name × T)) → names_of (with_values f xs) ≡ names_of xs
 names_with f [] = refl
 names_with f (x ∷ xs) = ap (λ ns. x.0 ∷ ns) (names_with f xs)
-
-pub value_with : {T U : Type 0} (f : T → U) (xs : List (Name × T)) (n : Name) → value_at (with_values f xs) n ≡ option_map f (value_at xs n)
-value_with f [] n = refl
-value_with f (x ∷ xs) n = by_test (pointwise ◌==◌ n x.0) (value_with f xs n)
-  where
-    by_test : (b : Bool) → value_at (with_values f xs) n ≡ option_map f (value_at xs n) → cond b (Some (f x.1)) (value_at (with_values f xs) n) ≡ option_map f (cond b (Some x.1) (value_at xs n))
-    by_test true later = refl
-    by_test false later = later
 
 -- ---- one export
 

@@ -7,16 +7,20 @@ use Rattle.wac_types_base.specs.Record.{Collection}
 use Rattle.wac_types_base.specs.Entries.{Name}
 use Rattle.wac_types_base.specs.Graph.{Among}
 use Rattle.wac_types_names.specs.Packaged.{Packaged}
-use Rattle.wac_types_fit.specs.Trees.{Fit}
+use Rattle.wac_types_base.specs.Stated.{stated_of}
+use Rattle.wac_types_base.specs.Tree.{tree}
+use Rattle.wac_types_base.specs.Fits.{Fits}
+use Rattle.wac_types_fit.specs.declared.errors.SubtypeError.{SubtypeError}
+use Rattle.wac_types_fit.specs.Trees.{Fit, tree_in}
 use Rattle.wac_graph_core.specs.declared.edge.Edge.{Edge}
 use Rattle.wac_graph_core.specs.declared.edge.Label.{Label}
 use Rattle.wac_graph_core.specs.declared.edge.Follow.{Follow}
 use Rattle.wac_graph_core.specs.declared.errors.InstantiationArgumentError.{InstantiationArgumentError}
 use Rattle.wac_graph_core.specs.Nodes.{NodeData, Role, plain_node}
 use Rattle.wac_graph_core.specs.Edges.{alias_edge, argument_edge, HasAlias, HasArgument, Reaches, at_start, along, follows, has}
-use Rattle.wac_graph_core.specs.Graph.{Graph, node_at, instantiated, item_export, item_import, IsArgument, IsOfKind, IsExport}
+use Rattle.wac_graph_core.specs.Graph.{Graph, node_at, passed, passed_as, instantiated, item_export, item_import, IsArgument, IsOfKind, IsExport}
 use Rattle.wac_graph_core.specs.Steps.{Aliases, AliasesAnew}
-use Rattle.wac_graph_core.specs.Refusals.{ArgumentRefused, Mismatches, LacksArgument, IsOpen}
+use Rattle.wac_graph_core.specs.Refusals.{ArgumentRefused, NodeMismatches, LacksArgument, IsOpen}
 use Rattle.wac_graph_core.proofs.NodeMap.{get-insert_same}
 use Rattle.wac_graph_core.proofs.Found.{same_edge}
 use Rattle.wac_graph_plug.specs.declared.matching.Match.{Match}
@@ -90,6 +94,15 @@ module _ (s p : ℕ) (sp pp : Packaged) (apart : p ≢ s) (g h : Graph) (done : 
       subst (λ c. Fit c x.item_kind c item) (sym types)
       (subst (λ i. Fit g.types i g.types item) (sym kind) (subst (λ i. Fit g.types fits.given g.types i) (sym (asked_is item a)) fits.fits))
 
+  -- it is no definition, so it is compared as it is
+  compared : (x : NodeData) → node_at h k ≡ Some x → passed h.types x ≡ stated_of h.types x.item_kind
+  compared x at = ap (λ r. passed_as r (stated_of h.types x.item_kind)) (ap (λ (y : NodeData). y.role) (same_Some _ _ (sym at ∙ node_here)))
+
+  differs : (item : ItemKind) (fault : SubtypeError) → IsArgument h s m.import item → NodeMismatches h k item fault → ⊥
+  unfolding tree_in
+  differs item fault a r =
+      r.mismatch.differ.differ (subst (λ t. Fits (tree t) (tree_in h.types item)) (sym (r.mismatch.is ∙ compared r.node r.there)) (it_fits item r.node a r.there))
+
   -- the import has got an argument before
   pub is_conflict : (f : InstantiationArgumentError) → f ≢ InstantiationArgumentError.Memory → ArgumentRefused h s m.import k f → IsPassedTwice f m.import × Among m.import (imports_of_all done)
   is_conflict (InstantiationArgumentError.NodeIsNotAnInstantiation j) some r = absurd (cc (r.1, after.socket))
@@ -97,6 +110,6 @@ module _ (s p : ℕ) (sp pp : Packaged) (apart : p ≢ s) (g h : Graph) (done : 
   is_conflict (InstantiationArgumentError.ArgumentAlreadyPassed j t) some r =
       let b = after.bound m.import r.4 r.5 in
       (r.1, subst (λ n. Among n (imports_of_all done)) b.2 (among_mapped (λ (b : Bound). b.import) done b.0 b.1))
-  is_conflict (InstantiationArgumentError.ArgumentTypeMismatch t fault) some r = absurd (r.3.kind.differ (it_fits r.1 r.3.node r.2.is r.3.there))
+  is_conflict (InstantiationArgumentError.ArgumentTypeMismatch t fault) some r = absurd (differs r.1 fault r.2.is r.3)
   is_conflict (InstantiationArgumentError.WouldFormCycle j) some r = absurd (apart_from_new g h s sp done st k made.free (only_start h.edges s after.quiet after.loose r.4))
   is_conflict InstantiationArgumentError.Memory some r = absurd (some refl)

@@ -6,7 +6,7 @@ use Rattle.wac_types_names.proofs.Copied.{export_stands}
 use Rattle.wac_graph_plug.specs.Plugging.{AreMatchesOf, no_exports}
 use Rattle.wac_graph_core.proofs.Items.{import_stands}
 use Rattle.wac_graph_plug.proofs.Gathered.{next_gathered, all_matched, names_with}
-use Rattle.wac_graph_core.proofs.Stating.{imports_stated, exports_stated}
+use Rattle.wac_types_base.proofs.Stating.{imports_stated, exports_stated}
 use Rattle.wac_graph_plug.proofs.matching.matches_of.Goals as goal
 
 pub loop-at-init : goal.loop-at-init

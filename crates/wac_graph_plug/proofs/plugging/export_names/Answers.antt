@@ -2,7 +2,7 @@ use Rattle.std.proofs.Common.{◌≡◌, ap, sym, ◌∙◌, subst}
 use Rattle.wac_types_base.specs.declared.item.ItemKind.{ItemKind}
 use Rattle.wac_types_base.specs.Entries.{names_of, texts_of, AreDistinct}
 use Rattle.wac_types_base.specs.Stated.{stated_of, exports_of}
-use Rattle.wac_graph_core.proofs.Stating.{exports_stated}
+use Rattle.wac_types_base.proofs.Stating.{exports_stated}
 use Rattle.wac_graph_plug.proofs.Gathered.{names_with}
 use Rattle.wac_graph_plug.proofs.plugging.export_names.Goals as goal
 
