@@ -7,5 +7,5 @@ use Rattle.wac_graph_core.proofs.argument.written_mismatch.Goals as goal
 pub returns : goal.returns
 returns c =
     told_of c.written_definition.new.types c.in_ok-form.form (written_definition (stated_of c.args.types.now c.args.given)) c.args.types.now c.args.asked
-        (c.in_ok-form.ensures.written.states ∙ ap (λ u. written_definition (stated_in u)) c.in_ok-copy.ensures.copied.same)
-        c.in_ok-fault.fault c.in_ok-fault.ensures
+    (c.in_ok-form.ensures.written.states ∙ ap (λ u. written_definition (stated_in u)) c.in_ok-copy.ensures.copied.same)
+    c.in_ok-fault.fault c.in_ok-fault.ensures
