@@ -152,7 +152,54 @@ fn place_of(
     Ok(scope.places.by_print.get(&print).copied())
 }
 
-/// The index of a type with a name that is written and equal.
+/// The index of the type at a place in the list of those that are known, if it is equal.
+fn equal_at(
+    alloc: Global,
+    scope: &TypeScope,
+    types: &Types,
+    id: DefinedTypeId,
+    at: usize,
+) -> Result<Option<u32>, WriteError>
+    requires { Stands types.now (ItemKind.Value (ValueType.Defined id)) }
+    ensures reads { IfOk result (λ o. FindsType types.now scope.now id o) }
+    ensures refused { IfErr result (λ e. e ≡ WriteError.Memory) }
+{
+    types.see_acyclic();
+    let Some(other) = scope.known_at(at) else {
+        return Ok(None);
+    };
+    let own = ItemKind::Value(ValueType::Defined(other.id));
+    let kind = ItemKind::Value(ValueType::Defined(id));
+    let equal = fits_in(alloc, types, own, kind)?;
+    if equal {
+        Ok(Some(other.index))
+    } else {
+        Ok(None)
+    }
+}
+
+/// The index of the first type that is known and equal.
+fn equal_among(
+    alloc: Global,
+    scope: &TypeScope,
+    types: &Types,
+    id: DefinedTypeId,
+) -> Result<Option<u32>, WriteError>
+    requires { Stands types.now (ItemKind.Value (ValueType.Defined id)) }
+    ensures reads { IfOk result (λ o. FindsType types.now scope.now id o) }
+    ensures refused { IfErr result (λ e. e ≡ WriteError.Memory) }
+{
+    for at in 0..scope.known.len() {
+        let found = equal_at(alloc, scope, types, id, at)?;
+        if found.is_some() {
+            return Ok(found);
+        }
+    }
+    Ok(None)
+}
+
+/// The index of a type that is written and equal: the first of its number with a name, else any, since types that differ
+/// can have one number.
 fn equal_index(
     alloc: Global,
     scope: &mut TypeScope,
@@ -165,21 +212,15 @@ fn equal_index(
     ensures refused { IfErr result (λ e. e ≡ WriteError.Memory) }
     ensures resources { scope.new.resources ≡ scope.old.resources }
 {
-    types.see_acyclic();
     let Some(at) = place_of(scope, types, id)? else {
         return Ok(None);
     };
-    let Some(other) = scope.known_at(at) else {
-        return Ok(None);
-    };
-    let own = ItemKind::Value(ValueType::Defined(other.id));
-    let kind = ItemKind::Value(ValueType::Defined(id));
-    let equal = fits_in(alloc, types, own, kind)?;
-    if equal {
-        Ok(Some(other.index))
-    } else {
-        Ok(None)
+    let found = equal_at(alloc, scope, types, id, at)?;
+    if found.is_some() {
+        return Ok(found);
     }
+    let found = equal_among(alloc, scope, types, id)?;
+    Ok(found)
 }
 
 /// The index of a type that is written already, or of one with a name that is equal.
