@@ -10,10 +10,10 @@ use Rattle.wac_parser_declare.specs.Scope.{Context}
 use Rattle.wac_parser_declare.proofs.Kept.{scope-kept}
 
 pub same_refl : (f : Known) → SamePackages f f
-same_refl f = record { same = λ k. refl }
+same_refl f = record { same = λ k. refl; rest = λ k. refl }
 
 pub same_trans : (f g h : Known) → SamePackages f g → SamePackages g h → SamePackages f h
-same_trans f g h p q = record { same = λ k. q.same k ∙ p.same k }
+same_trans f g h p q = record { same = λ k. q.same k ∙ p.same k; rest = λ k. q.rest k ∙ p.rest k }
 
 -- a document stands where it stood while its collection grows
 pub stands_in_stays : (x : Context) (at : Place) (c d : Collection) (f g : Known) → Grows c d → SamePackages f g → NamesStand c at.root.now → StandsIn x at c f → StandsIn x at d g

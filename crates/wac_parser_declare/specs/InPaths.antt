@@ -54,7 +54,7 @@ IsForeignRest c p first k is r = (i : Segment) → i.0 ≡ first → IsOutcome (
 pub record StandsIn (x : Context) (at : Place) (c : Collection) (known : Known) : Type 0 where
   pub own : x.own ≡ view_package_name at.own.now
   pub root : x.root ≡ scope_of c at.root.now
-  pub packages : (k : Key) → world_under x.packages k ≡ known k
+  pub packages : (k : Key) → world_under x.packages k ≡ known.worlds k
 
 abbrev pub IsOwnPath : PackagePath → Place → Collection → Result ItemKind Refusal → Type 0
 IsOwnPath p at c r = (x : Context) → x.root ≡ scope_of c at.root.now → IsOutcome (Holds c) (from_root x (segment_spans (view_package_path p))) r

@@ -2,6 +2,7 @@
 #![tactic(auto, using(crate::proofs::Added::added))]
 
 ghost use Rattle.std.specs.Prelude.{◌≡◌, IfOk, None, Some};
+ghost use Rattle.std.specs.Coded.{coded_ℕ};
 ghost use Rattle.wac_types_base.specs.declared.item.ItemKind.{ItemKind};
 ghost use Rattle.wac_types_base.specs.declared.item.ValueType.{ValueType};
 ghost use Rattle.wac_types_base.specs.declared.item.«Type».{«Type» as TypeKind};
@@ -82,7 +83,7 @@ pub trait PackagedTypes: GrowingTypes {
 impl GrowingTypes for Types {
     ghost collection = { λ c. c };
 
-    ghost packages = { λ c k. None };
+    ghost packages = { λ c. record { worlds = λ k. None; rest = λ k. coded_ℕ.code 0 } };
 
     fn types(&self) -> &Types {
         self

@@ -1,5 +1,7 @@
 -- What is known of packages, while a collection grows and packages are registered.
-use Rattle.std.proofs.Common.{◌≡◌, ◌==◌, ℕ, zero, suc, Bool, true, false, cond, List, [], ◌∷◌, ◌++◌, Option, Some, None, Result, Ok, Err, IfOk, OnErr, OnOk, slice_get, slice_set, refl, sym, ap, subst, ◌∙◌}
+use Rattle.std.proofs.Common.{◌≡◌, ◌==◌, ℕ, zero, suc, Bool, true, false, cond, List, [], ◌∷◌, ◌++◌, Option, Some, None, IsSome, Result, Ok, Err, IfOk, OnErr, OnOk, slice_get, slice_set, refl, sym, ap, subst, ◌∙◌}
+use Rattle.std.specs.Coded.{coded_option, coded×}
+use Rattle.std.specs.FinMap as map
 use Rattle.std.specs.Option.{option_or}
 use Rattle.std.specs.Cmp.Lexicographic.{pointwise, bytes_decides}
 use Rattle.std.proofs.lemmas.Bool.{and_from, and_parts}
@@ -8,13 +10,20 @@ use Rattle.semver.specs.Parse.{Parts}
 use Rattle.wac_types_base.specs.declared.item.ItemKind.{ItemKind}
 use Rattle.wac_types_base.specs.declared.ids.WorldId.{WorldId}
 use Rattle.wac_types_base.specs.Record.{Collection}
-use Rattle.wac_types_base.specs.Collection.{Grows, Stands}
+use Rattle.wac_types_base.specs.Collection.{Grows, Stands, empty}
+use Rattle.wac_types_base.specs.Entries.{Name}
+use Rattle.wac_types_base.proofs.GraphLemmas.{value_of}
 use Rattle.wac_types_base.specs.Stated.{Stated, stated_of}
 use Rattle.wac_types_names.specs.Packaged.{Packaged}
+use Rattle.wac_types_names.specs.contracts.package.Package as package_row
 use Rattle.wac_types_names.specs.Keys.{Key, package_key}
 use Rattle.wac_graph_core.specs.declared.ids.PackageId.{PackageId}
 use Rattle.wac_graph_core.specs.declared.package.Place.{Place}
-use Rattle.wac_graph_core.specs.Graph.{Graph, IsGraph, package_in, package_of}
+use Rattle.wac_graph_core.specs.declared.edge.Edge.{Edge}
+use Rattle.wac_graph_core.specs.contracts.graph.CompositionGraph as graph_row
+use Rattle.wac_graph_core.specs.Nodes.{NodeData}
+use Rattle.wac_graph_core.specs.NodeMaps.{NodeMap}
+use Rattle.wac_graph_core.specs.Graph.{Graph, IsGraph, instantiated, node_at, package_if, package_in, package_made, package_of}
 use Rattle.wac_graph_core.specs.Packages.{NoKey, PutsPlace, put_last, put_free, Registers, held_place}
 use Rattle.wac_graph_core.specs.Types.{Enlarges}
 use Rattle.wac_graph_core.proofs.PlaceSteps.{Held, held_in, in_held}
@@ -26,8 +35,9 @@ use Rattle.wac_parser_declare.specs.Packages.{SamePackages}
 use Rattle.wac_parser_declare.specs.Scope.{is_key, same_version}
 use Rattle.wac_parser_declare.proofs.Kept.{stated-kept}
 use Rattle.wac_parser_resolve.specs.declared.packages.GraphTypes.{GraphTypes}
-use Rattle.wac_parser_resolve.specs.Knowing.{Gets, IsPackage, handed_under, held_under, known_in, known_of, world_in}
-use Rattle.wac_parser_resolve.proofs.Keeping.{keeping, put_there}
+use Rattle.wac_parser_resolve.specs.Knowing.{Gets, IsPackage, SameWorlds, all_known, beside, handed_under, held_under, known_of, wiring_of, world_in}
+use Rattle.wac_parser_resolve.specs.Keeping.{Keeps}
+use Rattle.wac_parser_resolve.proofs.Keeping.{Keeps-enlarged, keeping, put_there}
 
 -- ---- keys
 
@@ -164,7 +174,7 @@ package_at ps i p q at is = in_held ps (id_at i p) q (record { place = p; there 
 pub held_worlds : (g : Graph) → IsGraph g → (i : ℕ) (p : Place) (q : Packaged) → slice_get g.places i ≡ Some p → p.held ≡ Some q → Stands g.types (ItemKind.Component q.ty)
 held_worlds g s i p q at is = (s.packages.stand (id_at i p) q (package_at g.places i p q at is)).world
 
-pub known_enlarged : (g h : Graph) → IsGraph g → Enlarges g h → SamePackages (known_of g) (known_of h)
+pub known_enlarged : (g h : Graph) → IsGraph g → Enlarges g h → SameWorlds (known_of g) (known_of h)
 known_enlarged g h s e = record {
   same = λ k. ap (λ (ps : List Place). world_in h.types ps k) (ap (λ (x : Graph). x.places) e.same) ∙ world_kept g.types h.types e.grows g.places (held_worlds g s) k;
 }
@@ -227,9 +237,64 @@ known_registered g h p id r =
         none_behind (Some w) = refl
     put_other qs (put_free f) k none = world_set_other g.types k g.places id.place f.place (held_place id.generation p) f.there f.free.empty none
 
+-- ---- what is beside types and packages
+
+pair_same : {A B : Type 0} {a c : A} {b d : B} → a ≡ c → b ≡ d → ◌≡◌ {A = A × B} (a, b) (c, d)
+pair_same p q = cc (p, q)
+
+module _ (g h : Graph) (s : IsGraph g) (keeps : Keeps g h) where
+  package_same : (x : NodeData) (o : Option PackageId) → x.of ≡ o → ((id : PackageId) → x.of ≡ Some id → IsSome (package_of g id)) → package_if h o ≡ package_if g o
+  package_same x None of is = refl
+  package_same x (Some id) of is = let p = value_of (package_of g id) (is id of) in keeps.packages id p.0 p.1 ∙ sym p.1
+
+  made_same : (k : ℕ) (o : Option NodeData) → node_at g k ≡ o → package_made h o ≡ package_made g o
+  made_same k None at = refl
+  made_same k (Some x) at = package_same x x.of refl (s.nodes k x at).of
+
+  wiring_same : wiring_of h ≡ wiring_of g
+  wiring_same =
+      ap (λ (p : NodeMap × (List Edge × List (Name × ℕ))). record { types = empty 0; nodes = p.0; edges = p.1.0; exports = p.1.1; places = [] })
+      (pair_same keeps.nodes (pair_same keeps.edges keeps.exports))
+
+  pub instances_kept : (k : ℕ) → instantiated h k ≡ instantiated g k
+  instances_kept k = ap (λ m. package_made h (map.get m k)) keeps.nodes ∙ made_same k (node_at g k) refl
+
+  pub beside_kept : (k : ℕ) → beside h k ≡ beside g k
+  beside_kept k = ap (coded× graph_row.the_row.coded (coded_option package_row.the_row.coded)).code (pair_same wiring_same (instances_kept k))
+
+-- and back
+module _ (g h : Graph) (same : (k : ℕ) → beside h k ≡ beside g k) where
+  both_back : (k : ℕ) → ◌≡◌ {A = Graph × Option Packaged} (wiring_of h, instantiated h k) (wiring_of g, instantiated g k)
+  both_back k = (coded× graph_row.the_row.coded (coded_option package_row.the_row.coded)).inj (wiring_of h, instantiated h k) (wiring_of g, instantiated g k) (same k)
+
+  wiring_back : wiring_of h ≡ wiring_of g
+  wiring_back = ap (λ (p : Graph × Option Packaged). p.0) (both_back 0)
+
+  pub nodes_back : h.nodes ≡ g.nodes
+  nodes_back = ap (λ (x : Graph). x.nodes) wiring_back
+
+  pub edges_back : h.edges ≡ g.edges
+  edges_back = ap (λ (x : Graph). x.edges) wiring_back
+
+  pub exports_back : h.exports ≡ g.exports
+  exports_back = ap (λ (x : Graph). x.exports) wiring_back
+
+  pub instances_back : (k : ℕ) → instantiated h k ≡ instantiated g k
+  instances_back k = ap (λ (p : Graph × Option Packaged). p.1) (both_back k)
+
 -- what a graph and the packages handed in know, over a collection that grew
-pub known_grown : (g : GraphTypes) (h : Graph) → IsGraph g.graph → Enlarges g.graph h → SamePackages (known_in g) (known_in (record { graph = h; packages = g.packages }))
-known_grown g h s e = record { same = λ k. ap (λ (o : Option Stated). option_or o (handed_under g k)) ((known_enlarged g.graph h s e).same k) }
+pub known_grown : (g : GraphTypes) (h : Graph) → IsGraph g.graph → Enlarges g.graph h → SamePackages (all_known g) (all_known (record { graph = h; packages = g.packages }))
+known_grown g h s e = record {
+  same = λ k. ap (λ (o : Option Stated). option_or o (handed_under g k)) ((known_enlarged g.graph h s e).same k);
+  rest = beside_kept g.graph h s (Keeps-enlarged g.graph h e);
+}
+
+-- where no package is new
+pub known_same : (g : GraphTypes) (h : Graph) → IsGraph g.graph → Keeps g.graph h → SameWorlds (known_of g.graph) (known_of h) → SamePackages (all_known g) (all_known (record { graph = h; packages = g.packages }))
+known_same g h s keeps same = record { same = λ k. ap (λ (o : Option Stated). option_or o (handed_under g k)) (same.same k); rest = beside_kept g.graph h s keeps }
+
+pub worlds_trans : (f g h : Key → Option Stated) → SameWorlds f g → SameWorlds g h → SameWorlds f h
+worlds_trans f g h p q = record { same = λ k. q.same k ∙ p.same k }
 
 -- ---- a package of a key
 
@@ -265,8 +330,9 @@ module _ (g h i j : Graph) (p : Packaged) (world : WorldId) (k : Key) (w : State
       }
 
 -- packages are known as before where a package that was handed in was registered
-pub known_more : (g : GraphTypes) (h : Graph) (k : Key) (w : Stated) → Gets g.graph h k w → known_of g.graph k ≡ None → handed_under g k ≡ Some w → SamePackages (known_in g) (known_in (record { graph = h; packages = g.packages }))
-known_more g h k w gets none handed = record { same = λ l. tested l (is_key l k) refl }
+pub known_more : (g : GraphTypes) (h : Graph) (k : Key) (w : Stated) → IsGraph g.graph → Keeps g.graph h → Gets g.graph h k w → known_of g.graph k ≡ None → handed_under g k ≡ Some w
+    → SamePackages (all_known g) (all_known (record { graph = h; packages = g.packages }))
+known_more g h k w s keeps gets none handed = record { same = λ l. tested l (is_key l k) refl; rest = beside_kept g.graph h s keeps }
   where
     tested : (l : Key) (b : Bool) → is_key l k ≡ b → option_or (known_of h l) (handed_under g l) ≡ option_or (known_of g.graph l) (handed_under g l)
     tested l false apart = ap (λ (o : Option Stated). option_or o (handed_under g l)) (gets.others l apart)

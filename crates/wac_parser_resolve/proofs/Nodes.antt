@@ -16,15 +16,11 @@ use Rattle.wac_graph_core.specs.Graph.{Graph, IsGraph, IsOfKind, instantiated, i
 use Rattle.wac_parser_declare.specs.Holding.{Holds}
 use Rattle.wac_parser_resolve.specs.Ascribing.{Origin, imported, instance, projected, defined, Denoted, Bound, same_origin}
 use Rattle.wac_parser_resolve.specs.Holding.{AreNamed, Denotes, HasItem, IsDefinition, IsExported, IsNamed, IsNode}
-use Rattle.wac_parser_resolve.specs.Later.{Later}
+use Rattle.wac_parser_resolve.specs.Later.{IsMore, Later}
 use Rattle.wac_parser_resolve.proofs.Growing.{as_it_was}
 use Rattle.wac_parser_resolve.proofs.Turns.{turn_map, one_place}
 
 -- ---- what is denoted stays
-
--- each instance keeps its number
-abbrev pub IsMore : List ℕ → List ℕ → Type 0
-IsMore ms ns = (i k : ℕ) → slice_get ms i ≡ Some k → slice_get ns i ≡ Some k
 
 module _ (g h : Graph) (l : Later g h) where
   pub kind_stays : (k : ℕ) (P : ItemKind → Type 0) → IsOfKind g k P → IsOfKind h k P
@@ -58,7 +54,7 @@ module _ (g h : Graph) (l : Later g h) where
   definition_stays : (k : ℕ) (n : Name) → IsDefinition g k n → IsDefinition h k n
   definition_stays k n a =
       let s = (as_it_was g h l.stays).still k a.node a.there in
-      record { node = s.node; there = s.there; role = s.role ∙ a.role; type = a.type; item = s.item ∙ a.item; named = (as_it_was g h l.stays).exported n k a.named }
+      record { node = s.node; there = s.there; role = s.role ∙ a.role; type = a.type; item = s.item ∙ a.item; named = (as_it_was g h l.stays).exported n k a.named; first = (as_it_was g h l.stays).first k n a.first }
 
   module _ (ms ns : List ℕ) (more : IsMore ms ns) where
     pub node_stays : (o : Origin) (k : ℕ) → IsNode g ms o k → IsNode h ns o k

@@ -209,7 +209,7 @@ module _ (ps : Packages) (packages : AreProper ps) where
         bound_formed (with_definition g i x) i (record { origin = defined i.string x; item = x }) h (record {
           imports = f.imports;
           definitions = each_more (λ (y : Name × Stated). IsDeclared y.1) g.definitions (i.string, x) f.definitions d;
-        }) (then_ok (not_exported g (value_at g.exports i.string) i) _ h e)
+        }) (then_ok (not_exported g (value_at g.exports i.string) i) _ h (then_ok (unless_clear (not (is_extern_name i.string)) (InvalidExternName i.string ExternKind.Export) i.span) _ h e))
 
     statement_formed : (h : State) (x : t.Statement) → statement g x ≡ Ok h → Formed h
     statement_formed h (t.Statement.import x) e = import_formed x h (sym e)

@@ -409,7 +409,7 @@ module _ (ps : Packages) where
       bound_sound k i (record { origin = defined i.string x; item = x }) h (renamed_sound g k w refl refl
       (λ n v q. has_more g k w v.denoted.origin v.denoted.item (s.root n v q))
       (each_more (λ (x : Name × Bound). HasThat k x.1.denoted) g.exports (i.string, one) (λ x m. has_more g k w x.1.denoted.origin x.1.denoted.item (s.exports x m)) new) s)
-      new (then_ok (not_exported g (value_at g.exports i.string) i) _ h e)
+      new (then_ok (not_exported g (value_at g.exports i.string) i) _ h (then_ok (unless_clear (not (is_extern_name i.string)) (InvalidExternName i.string ExternKind.Export) i.span) _ h e))
 
   exported_sound : (d : Denoted) (b : Bool) (g : State) (n : t.Ident) (h : State) → Sound ps g → HasThat g d → Ok h ≡ exported d b g n → Comes g h
   exported_sound d b g n h s has e =

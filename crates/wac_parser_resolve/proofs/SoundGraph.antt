@@ -9,13 +9,13 @@ use Rattle.wac_types_base.specs.Graph.{Among}
 use Rattle.wac_types_base.specs.Collection.{Stands, Grows}
 use Rattle.wac_types_names.specs.Packaged.{Packaged}
 use Rattle.wac_graph_core.specs.declared.ids.PackageId.{PackageId}
-use Rattle.wac_graph_core.specs.NodeMaps.{IsImport}
+use Rattle.wac_graph_core.specs.NodeMaps.{IsDefinition, IsImport}
 use Rattle.wac_graph_core.specs.Graph.{Graph, ContainsNode, package_of, ContainsPackage}
 use Rattle.wac_parser_declare.specs.declared.scope.Binding.{Binding}
 use Rattle.wac_parser_declare.specs.Holding.{NamesStand}
 use Rattle.wac_parser_resolve.specs.Keeping.{Keeps}
 use Rattle.wac_parser_resolve.specs.declared.arguments.Given.{Given}
-use Rattle.wac_parser_resolve.specs.Later.{Later, Inner, SameNumber}
+use Rattle.wac_parser_resolve.specs.Later.{Later, Inner, SameNumber, first_name}
 use Rattle.wac_parser_resolve.specs.Standing.{AreThere, IsSound}
 use Rattle.wac_parser_resolve.proofs.Growing.{it_stays, Later-refl, Later-same, Later-trans, Inner-refl, Inner-same, Inner-trans, within_refl, within_trans}
 use Rattle.wac_types_fit.proofs.Items.{Among-last}
@@ -100,11 +100,13 @@ keeps_inner g h keeps = record {
       still = λ k x e. record { node = x; there = ap (λ m. map.get m k) keeps.nodes ∙ e; role = refl; of = refl; item = refl };
       edges = λ e m. subst (Among e) (sym keeps.edges) m;
       exported = λ n k e. ap (λ (xs : List (Name × ℕ)). value_at xs n) keeps.exports ∙ e;
+      first = λ k n e. ap (λ (xs : List (Name × ℕ)). first_name xs k) keeps.exports ∙ e;
       held = keeps.packages;
     });
     packages = λ id s. package_by g h id (keeps.packages id) (package_of g id) refl s;
   };
   imports = λ k n i. subst (λ m. IsImport m k n) keeps.nodes i;
+  definitions = λ k i d. subst (λ m. IsDefinition m k i) keeps.nodes d;
   exports = keeps.exports;
 }
 

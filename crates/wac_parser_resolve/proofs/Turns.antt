@@ -83,3 +83,20 @@ module _ {A : Type 0} where
 pub names_more : {N T : Type 0} (xs : List (N × T)) (x : N × T) → names_of (xs ++ x ∷ []) ≡ names_of xs ++ x.0 ∷ []
 names_more [] x = refl
 names_more (y ∷ xs) x = ap (λ ns. y.0 ∷ ns) (names_more xs x)
+
+module _ {A B : Type 0} where
+  -- the last of both lists
+  pub turn_last : (R : A → B → Type 0) (xs : List A) (ys : List B) (x : A) (y : B) → InTurn R (xs ++ x ∷ []) (ys ++ y ∷ []) → InTurn R xs ys × R x y
+  turn_last R [] [] x y t = (tt, t.0)
+  turn_last R [] (b ∷ []) x y t = absurd t.1
+  turn_last R [] (b ∷ c ∷ ys) x y t = absurd t.1
+  turn_last R (a ∷ []) [] x y t = absurd t.1
+  turn_last R (a ∷ c ∷ xs) [] x y t = absurd t.1
+  turn_last R (a ∷ xs) (b ∷ ys) x y t = let n = turn_last R xs ys x y t.1 in ((t.0, n.0), n.1)
+
+  -- what holds of those in the second list
+  pub turn_within : (R S : A → B → Type 0) (xs : List A) (ys : List B) → ((a : A) (b : B) → Among b ys → R a b → S a b) → InTurn R xs ys → InTurn S xs ys
+  turn_within R S [] [] f t = tt
+  turn_within R S [] (y ∷ ys) f t = absurd t
+  turn_within R S (x ∷ xs) [] f t = absurd t
+  turn_within R S (x ∷ xs) (y ∷ ys) f t = (f x y (inl refl) t.0, turn_within R S xs ys (λ a b m r. f a b (inr m) r) t.1)

@@ -18,6 +18,7 @@ use Rattle.wac_parser_resolve.specs.declared.arguments.Given.{Given}
 use Rattle.wac_parser_resolve.specs.Ascribing.{Origin, imported, instance, projected, defined, Denoted, Made, Bound, State}
 use Rattle.wac_parser_resolve.specs.Denoting as stated
 use Rattle.wac_parser_resolve.specs.Denoting.{given_names}
+use Rattle.wac_parser_resolve.specs.Later.{first_name}
 
 -- each of the first list with the one of the second in its place, and no others
 abbrev pub InTurn : {A B : Type 0} → (A → B → Type 0) → List A → List B → Type 0
@@ -32,7 +33,7 @@ InTurn R (x ∷ xs) [] = ⊥
 abbrev pub HasItem : Graph → ℕ → Stated → Type 0
 HasItem g k t = IsOfKind g k (Holds g.types t)
 
--- the definition of this name
+-- the definition of this name, under which it is exported first
 pub record IsDefinition (g : Graph) (k : ℕ) (n : Name) : Type 0 where
   pub node : NodeData
   pub there : node_at g k ≡ Some node
@@ -40,6 +41,7 @@ pub record IsDefinition (g : Graph) (k : ℕ) (n : Name) : Type 0 where
   pub type : TypeKind
   pub item : node.item_kind ≡ ItemKind.Ty type
   pub named : value_at g.exports n ≡ Some k
+  pub first : first_name g.exports k ≡ Some n
 
 -- the node is what the origin says, where the instances that a document makes are these, in order
 abbrev pub IsNode : Graph → List ℕ → Origin → ℕ → Type 0

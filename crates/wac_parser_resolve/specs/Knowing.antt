@@ -1,22 +1,27 @@
 -- What is known of packages: those of a graph, then those that are handed in.
-use Rattle.std.specs.Prelude.{◌≡◌, false, is_some, cond, List, [], ◌∷◌, Option, Some, None, option_map, Result}
+use base.Stored.{Gv}
+use Rattle.std.specs.Prelude.{◌≡◌, ℕ, false, is_some, cond, List, [], ◌∷◌, Option, Some, None, option_map, Result}
 use Rattle.std.specs.Option.{option_and_then, option_copied, option_or}
 use Rattle.std.specs.Borrow.{Bor}
+use Rattle.std.specs.Coded.{coded_option, coded×}
 use Rattle.semver.specs.declared.Version.{Version}
 use Rattle.semver.specs.Identifiers.{parts_of}
-use Rattle.indexmap.specs.IndexMap.{get_by}
+use Rattle.indexmap.specs.IndexMap.{IndexMap, get_by}
 use Rattle.wac_types_base.specs.declared.item.ItemKind.{ItemKind}
 use Rattle.wac_types_base.specs.declared.item.«Type».{«Type» as TypeKind}
 use Rattle.wac_types_base.specs.declared.ids.WorldId.{WorldId}
 use Rattle.wac_types_base.specs.Record.{Collection}
 use Rattle.wac_types_base.specs.Entries.{Name, value_at}
-use Rattle.wac_types_base.specs.Collection.{item_node}
+use Rattle.wac_types_base.specs.Collection.{empty, item_node}
 use Rattle.wac_types_base.specs.Stated.{Stated, exports_of, kind_of, stated_of}
+use Rattle.wac_types_names.specs.declared.package.BorrowedPackageKey.{BorrowedPackageKey}
 use Rattle.wac_types_names.specs.Packaged.{Packaged}
+use Rattle.wac_types_names.specs.contracts.package.Package as package_row
 use Rattle.wac_types_names.specs.Keys.{Key, borrowed_key, package_key}
 use Rattle.wac_graph_core.specs.declared.ids.PackageId.{PackageId}
 use Rattle.wac_graph_core.specs.declared.package.Place.{Place}
-use Rattle.wac_graph_core.specs.Graph.{Graph, package_of}
+use Rattle.wac_graph_core.specs.Graph.{Graph, instantiated, package_of}
+use Rattle.wac_graph_core.specs.contracts.graph.CompositionGraph as graph_row
 use Rattle.wac_parser_refusals.specs.declared.refusal.Refusal.{Refusal}
 use Rattle.wac_parser_refusals.specs.Causes.{UnknownPackage, present}
 use Rattle.wac_parser_refusals.specs.Outcomes.{IsOutcome}
@@ -37,11 +42,11 @@ abbrev pub held_under : Collection → Key → Option Packaged → Option Stated
 held_under c k None = None
 held_under c k (Some p) = cond (is_key k (package_key p)) (Some (stated_of c (ItemKind.Component p.ty))) None
 
-abbrev pub world_in : Collection → List Place → Known
+abbrev pub world_in : Collection → List Place → Key → Option Stated
 world_in c [] k = None
 world_in c (p ∷ ps) k = option_or (held_under c k p.held) (world_in c ps k)
 
-abbrev pub known_of : Graph → Known
+abbrev pub known_of : Graph → Key → Option Stated
 known_of g = world_in g.types g.places
 
 -- the package of this key has this world, each other the one that it had
@@ -65,12 +70,44 @@ stated_handed p = stated_of p.types.now (ItemKind.Component p.«package».now.ty
 abbrev pub handed_world : PackageRef → Option Stated
 handed_world p = cond (is_some (item_node p.types.now (ItemKind.Component p.«package».now.ty))) (Some (stated_handed p)) None
 
-abbrev pub handed_under : GraphTypes → Known
+abbrev pub handed_under : GraphTypes → Key → Option Stated
 handed_under g k = option_and_then handed_world (get_by (λ key. is_key k (borrowed_key key)) g.packages.now)
 
+abbrev pub with_handed : Option Stated → Key → List (Key × Stated) → List (Key × Stated)
+with_handed None k ps = ps
+with_handed (Some w) k ps = (k, w) ∷ ps
+
+abbrev pub handed_entries : List (BorrowedPackageKey × PackageRef) → List (Key × Stated)
+handed_entries [] = []
+handed_entries (e ∷ es) = with_handed (handed_world e.1) (borrowed_key e.0) (handed_entries es)
+
+-- each with its world, in order
+abbrev pub handed_list : {S : Type 0} → IndexMap BorrowedPackageKey PackageRef S → List (Key × Stated)
+handed_list m = handed_entries m.entries
+
 -- the graph's come first
-abbrev pub known_in : GraphTypes → Known
+abbrev pub known_in : GraphTypes → Key → Option Stated
 known_in g k = option_or (known_of g.graph k) (handed_under g k)
+
+-- ---- what is beside them
+
+-- a graph's nodes, edges and exports
+abbrev pub wiring_of : Graph → Graph
+wiring_of g = record { types = empty 0; nodes = g.nodes; edges = g.edges; exports = g.exports; places = [] }
+
+-- these, and the package that a node is an instance of, as a ghost value
+abbrev pub beside : Graph → ℕ → Gv
+beside g k = (coded× graph_row.the_row.coded (coded_option package_row.the_row.coded)).code (wiring_of g, instantiated g k)
+
+-- what is known of packages, and all else that the graph holds
+abbrev pub all_known : GraphTypes → Known
+all_known g = record { worlds = known_in g; rest = beside g.graph }
+
+-- the package of each key has the world that it had
+pub record SameWorlds (f g : Key → Option Stated) : Type 0 where
+  pub same : (k : Key) → g k ≡ f k
+
+-- ---- one package
 
 -- the package of a key, or the refusal of one that nobody knows
 abbrev pub IsPackageOf : GraphTypes → Key → Span → Graph → Result PackageId Refusal → Type 0

@@ -21,3 +21,9 @@ pub mod Proper
 pub mod Holding
 pub mod InExpressions
 pub mod InArguments
+pub mod Said
+pub mod InInstances
+pub mod InExports
+pub mod InDocuments
+pub mod InTargets
+pub mod InStatements

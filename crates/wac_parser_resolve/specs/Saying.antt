@@ -114,9 +114,12 @@ with_definition g i x = record g {
   exports = g.exports ++ (i.string, record { denoted = record { origin = defined i.string x; item = x }; span = i.span }) ∷ [];
 }
 
+-- a name that the grammar reads is one of an export; others are refused
 abbrev pub declaration : State → t.Ident → Stated → Answer State
-declaration g i x = not_exported g (value_at g.exports i.string) i
-    >> bound (with_definition g i x) i (record { origin = defined i.string x; item = x })
+declaration g i x = do
+  unless_clear (not (is_extern_name i.string)) (InvalidExternName i.string ExternKind.Export) i.span
+  not_exported g (value_at g.exports i.string) i
+  bound (with_definition g i x) i (record { origin = defined i.string x; item = x })
 
 abbrev pub type_id : t.TypeDecl → t.Ident
 type_id (t.TypeDecl.variant d) = d.id

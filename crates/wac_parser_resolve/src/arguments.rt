@@ -15,6 +15,7 @@ ghost use Rattle.wac_parser_resolve.specs.Denoting as stated;
 ghost use Rattle.wac_parser_resolve.specs.Denoting.{if_among};
 ghost use Rattle.wac_parser_resolve.specs.Holding.{names_given};
 ghost use Rattle.wac_parser_resolve.specs.InArguments.{AreSpreads, GivesExports, GivesOne, InfersName, IsArgumentName, IsComplete, IsExportGiven, IsInferredGiven, IsSpreadOf, Spreads, TakesSpread, is_left_by, names_left};
+ghost use Rattle.wac_parser_resolve.specs.InInstances.{PassesAll};
 ghost use Rattle.wac_parser_resolve.specs.Later.{Inner, IsWithin};
 ghost use Rattle.wac_parser_resolve.specs.Standing.{AreApart, AreThere, IsFresh};
 
@@ -330,9 +331,11 @@ pub(crate) fn pass_all(
     requires given { AreThere graph.old given.now.items }
     requires apart { AreApart given.now.items instance }
     ensures inner { Inner graph.old graph.new }
+    ensures within { IsWithin graph.old graph.new }
+    ensures outcome { PassesAll graph.old instance given.now.items graph.new result }
 {
     for one in given {
-        pass(graph, instance, one.name.as_str(), one.node, one.span)?;
+        pass(graph, instance, one)?;
     }
     Ok(())
 }

@@ -1,14 +1,22 @@
 //! Calls of the graph, and the faults of a document that their refusals are.
 #![tactic(auto, using(crate::proofs::Growing::calling))]
 
-ghost use Rattle.std.specs.Prelude.{◌≡◌, ◌≢◌, None, IfOk, OnOk};
+ghost use Rattle.std.specs.Prelude.{◌≡◌, ◌≢◌, None, IfErr, IfOk, OnErr, OnOk, string_bytes};
 ghost use Rattle.wac_types_base.specs.declared.item.ItemKind.{ItemKind};
 ghost use Rattle.wac_types_base.specs.Collection.{Stands};
-ghost use Rattle.wac_graph_core.specs.Graph.{ContainsNode, ContainsPackage, node_at};
+ghost use Rattle.wac_graph_core.specs.Defining.{DefineRefused, DefinesType};
+ghost use Rattle.wac_graph_core.specs.Exporting.{ExportRefused, Exports};
+ghost use Rattle.wac_graph_core.specs.Graph.{ContainsNode, ContainsPackage, IsGraph, node_at};
+ghost use Rattle.wac_graph_core.specs.Refusals.{ImportRefused};
+ghost use Rattle.wac_graph_core.specs.Steps.{Imports};
+ghost use Rattle.wac_parser_refusals.specs.Causes.{MissingComponentImport};
+ghost use Rattle.wac_parser_refusals.specs.Outcomes.{Refuses};
 ghost use Rattle.wac_parser_resolve.specs.InExpressions.{IsProjection, IsUnaliased};
-ghost use Rattle.wac_parser_resolve.specs.Later.{Inner, IsWithin, Later};
+ghost use Rattle.wac_parser_resolve.specs.InInstances.{Instantiated, Passes};
+ghost use Rattle.wac_parser_resolve.specs.Later.{AddsNone, Inner, IsWithin, Later};
 ghost use Rattle.wac_parser_resolve.specs.Standing.{IsFresh};
 
+use crate::arguments::Given;
 use crate::board::not_an_instance;
 use std::alloc::{AllocError, Global};
 use wac_graph_core::{
@@ -78,7 +86,9 @@ pub(crate) fn instantiate(graph: &mut CompositionGraph, id: PackageId) -> Result
     ensures free { IfOk result (λ k. node_at graph.old k ≡ None) }
     ensures fresh { IfOk result (λ k. IsFresh graph.new k) }
     ensures instance { IfOk result (λ k. ContainsNode graph.new k) }
+    ensures made { IfOk result (λ k. Instantiated graph.old id graph.new k) }
     ensures inner { Inner graph.old graph.new }
+    ensures within { IsWithin graph.old graph.new }
 {
     graph.see_sound();
     match graph.instantiate(id) {
@@ -88,7 +98,9 @@ pub(crate) fn instantiate(graph: &mut CompositionGraph, id: PackageId) -> Result
 }
 
 /// A refusal of an argument that a package has no import for.
-fn no_import(alloc: Global, package: String, import: String, span: SourceSpan) -> Refusal {
+fn no_import(alloc: Global, package: String, import: String, span: SourceSpan) -> Refusal
+    ensures { Refuses result (MissingComponentImport (string_bytes «package») (string_bytes import)) span }
+{
     let fault = Error::MissingComponentImport {
         package,
         import,
@@ -97,22 +109,21 @@ fn no_import(alloc: Global, package: String, import: String, span: SourceSpan) -
     Refusal::named(alloc, fault)
 }
 
-/// Passes a node to an instance that is new, where nothing else is passed under the name.
-pub(crate) fn pass(
-    graph: &mut CompositionGraph,
-    instance: NodeId,
-    name: &str,
-    node: NodeId,
-    span: SourceSpan,
-) -> Outcome<()>
+/// Passes what is given to an instance that is new, where nothing else is passed under its name.
+pub(crate) fn pass(graph: &mut CompositionGraph, instance: NodeId, one: &Given) -> Outcome<()>
     requires instance { ContainsNode graph.old instance }
-    requires node { ContainsNode graph.old node }
+    requires node { ContainsNode graph.old one.now.node }
     requires fresh { IsFresh graph.old instance }
-    requires apart { node ≢ instance }
+    requires apart { one.now.node ≢ instance }
     ensures fresh { OnOk result (IsFresh graph.new instance) }
     ensures inner { Inner graph.old graph.new }
+    ensures within { IsWithin graph.old graph.new }
+    ensures outcome { Passes graph.old instance one.now graph.new result }
 {
-    match graph.set_instantiation_argument(instance, name, node) {
+    graph.types().see_acyclic();
+    graph.see_sound();
+    let span = one.span;
+    match graph.set_instantiation_argument(instance, one.name.as_str(), one.node) {
         Ok(()) => Ok(()),
         Err(InstantiationArgumentError::NodeIsNotAnInstantiation { .. }) => unreachable!(),
         Err(InstantiationArgumentError::WouldFormCycle { .. }) => unreachable!(),
@@ -140,7 +151,12 @@ pub(crate) fn import(
     requires { Stands graph.old.types kind }
     ensures import { IfOk result (λ k. ContainsNode graph.new k) }
     ensures later { Later graph.old graph.new }
+    ensures imported { IfOk result (λ k. Imports graph.old graph.new name.now kind k) }
+    ensures refused { IfErr result (λ e. ImportRefused graph.old name.now e) }
+    ensures kept { OnErr result (graph.new ≡ graph.old) }
+    ensures before { IsGraph graph.old }
 {
+    graph.see_sound();
     match graph.import(name, kind) {
         Ok(node) => Ok(node),
         Err(fault) => Err(fault),
@@ -155,7 +171,12 @@ pub(crate) fn export(
 ) -> Result<(), ExportError>
     requires { ContainsNode graph.old node }
     ensures later { Later graph.old graph.new }
+    ensures exported { OnOk result (Exports graph.old graph.new node name.now) }
+    ensures refused { IfErr result (λ e. ExportRefused graph.old name.now e) }
+    ensures kept { OnErr result (graph.new ≡ graph.old) }
+    ensures before { IsGraph graph.old }
 {
+    graph.see_sound();
     match graph.export(node, name) {
         Ok(()) => Ok(()),
         Err(fault) => Err(fault),
@@ -171,7 +192,12 @@ pub(crate) fn define(
     requires { Stands graph.old.types (ItemKind.Ty ty) }
     ensures definition { IfOk result (λ k. ContainsNode graph.new k) }
     ensures later { Later graph.old graph.new }
+    ensures defined { IfOk result (λ k. DefinesType graph.old graph.new name.now ty k) }
+    ensures refused { IfErr result (λ e. DefineRefused graph.old name.now ty e) }
+    ensures kept { OnErr result (graph.new ≡ graph.old) }
+    ensures before { IsGraph graph.old }
 {
+    graph.see_sound();
     match graph.define_type(name, ty) {
         Ok(node) => Ok(node),
         Err(fault) => Err(fault),
@@ -186,6 +212,8 @@ pub(crate) fn name_once(
 ) -> Result<(), AllocError>
     requires { ContainsNode graph.old node }
     ensures inner { Inner graph.old graph.new }
+    ensures none { AddsNone graph.old graph.new }
+    ensures within { IsWithin graph.old graph.new }
 {
     if graph[node].name().is_some() {
         return Ok(());

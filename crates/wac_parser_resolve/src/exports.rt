@@ -1,12 +1,21 @@
 //! Exports of a document.
 #![tactic(auto, using(crate::proofs::SoundGraph::growing))]
 
-ghost use Rattle.std.specs.Prelude.{OnOk, IfSome};
+ghost use Rattle.std.specs.Prelude.{◌≡◌, IfOk, IfSome, OnOk, is_some};
+ghost use Rattle.std.specs.Bool.{Decides};
 ghost use Rattle.std.specs.Option.{option_copied};
 ghost use Rattle.wac_types_base.specs.declared.item.ItemKind.{ItemKind};
 ghost use Rattle.wac_types_base.specs.Collection.{Stands};
+ghost use Rattle.wac_types_base.specs.Entries.{texts_of};
 ghost use Rattle.wac_graph_core.specs.Graph.{ContainsNode};
+ghost use Rattle.wac_parser_tree.specs.Trees as t;
+ghost use Rattle.wac_parser_tree.specs.Views.{view_export_options};
+ghost use Rattle.wac_parser_refusals.specs.Causes.{ExportConflict};
+ghost use Rattle.wac_parser_refusals.specs.Outcomes.{Refuses};
+ghost use Rattle.wac_parser_refusals.specs.Views.{cause_of};
+ghost use Rattle.wac_parser_resolve.specs.InExports.{FindsDefinition, IsDefined, IsExport, SaysOf, SaysOfInstance, export_cause, export_each, export_with, left_of};
 ghost use Rattle.wac_parser_resolve.specs.Later.{Later, SameNumber};
+ghost use Rattle.wac_parser_resolve.specs.Saying as stated;
 ghost use Rattle.wac_parser_resolve.specs.Standing.{IsSound};
 ghost use Rattle.wac_parser_resolve.specs.Told.{IsInferred};
 
@@ -31,13 +40,16 @@ struct ExportName<'n> {
 }
 
 /// The help, where another name may do.
-pub(crate) fn help(is_helped: bool) -> Option<&'static str> {
+pub(crate) fn help(is_helped: bool) -> Option<&'static str>
+    ensures { is_some result ≡ is_helped }
+{
     if is_helped { Some(AS_HELP) } else { None }
 }
 
 /// Whether a node is a definition.
 fn is_definition(graph: &CompositionGraph, node: NodeId) -> bool
     requires { ContainsNode graph.now node }
+    ensures { Decides result (IsDefined graph.now node) }
 {
     matches!(graph[node].kind(), NodeKind::Definition)
 }
@@ -56,8 +68,10 @@ fn definition_of(
     nodes: &NamedMap<NodeId>,
     name: &str,
 ) -> Option<Definition>
-    ensures { IfSome result (λ d. ContainsNode graph.now d.node) }
+    ensures stands { IfSome result (λ d. ContainsNode graph.now d.node) }
+    ensures found { FindsDefinition graph.now names.now nodes.now name.now result }
 {
+    graph.see_sound();
     let node = *nodes.get(name)?;
     let span = names.get(name)?.span;
     if !graph.contains_node(node) {
@@ -76,7 +90,9 @@ fn export_conflict(
     word: &'static str,
     definition: SourceSpan,
     name: ExportName<'_>,
-) -> Refusal {
+) -> Refusal
+    ensures { Refuses result (ExportConflict name.entry.text.now word.now definition name.entry.is_helped) name.entry.span }
+{
     let Ok(text) = String::from_str(alloc, name.text) else {
         return Refusal::Memory;
     };
@@ -90,7 +106,10 @@ fn export_conflict(
     Refusal::named(alloc, fault)
 }
 
-fn export_fault(spans: &Spans, name: ExportName<'_>, fault: ExportError) -> Error {
+/// A refusal of the graph, with the place of the earlier export.
+fn export_fault(spans: &Spans, name: ExportName<'_>, fault: ExportError) -> Error
+    ensures { cause_of result ≡ export_cause spans.now.noted.items name.entry fault }
+{
     match fault {
         ExportError::ExportAlreadyExists { name: text, node } => Error::DuplicateExternName {
             name: text,
@@ -128,6 +147,7 @@ fn unexported(
     interface: InterfaceId,
 ) -> Result<Vec<String>, AllocError>
     requires { Stands graph.now.types (ItemKind.Instance interface) }
+    ensures { IfOk result (λ names. texts_of names.items ≡ left_of graph.now interface) }
 {
     let mut names = Vec::new(alloc);
     for name in graph.types().interface(interface).exports.names() {
@@ -145,6 +165,8 @@ impl<'p> State<'p> {
         requires sound { IsSound self.old.board.types.graph self.old.names }
         ensures sound { OnOk result (IsSound self.new.board.types.graph self.new.names) }
         ensures later { Later self.old.board.types.graph self.new.board.types.graph }
+        ensures instances { self.new.board.instances.noted.items ≡ self.old.board.instances.noted.items }
+        ensures outcome { IsExport self.old node name.entry self.new result }
     {
         let graph = &mut self.board.types.graph;
         if let Some(other) = definition_of(graph, &self.names, &self.nodes, name.text) {
@@ -166,8 +188,12 @@ impl<'p> State<'p> {
         requires sound { IsSound self.old.board.types.graph self.old.names }
         ensures sound { OnOk result (IsSound self.new.board.types.graph self.new.names) }
         ensures number { SameNumber self.old.board.types.graph self.new.board.types.graph }
+        ensures outcome { SaysOf (export_with t.ExportOptions.none span) self.old node self.new result }
     {
-        let name = match inferred_name(&self.board.types.graph, node) {
+        let graph = &self.board.types.graph;
+        graph.see_sound();
+        graph.types().see_acyclic();
+        let name = match inferred_name(graph, node) {
             Some(name) => String::from_str(alloc, name)?,
             None => return Err(Refusal::named(alloc, Error::ExportRequiresAs { span })),
         };
@@ -185,6 +211,8 @@ impl<'p> State<'p> {
         requires sound { IsSound self.old.board.types.graph self.old.names }
         ensures sound { OnOk result (IsSound self.new.board.types.graph self.new.names) }
         ensures later { Later self.old.board.types.graph self.new.board.types.graph }
+        ensures instances { self.new.board.instances.noted.items ≡ self.old.board.instances.noted.items }
+        ensures outcome { SaysOfInstance (λ s d. stated.export_one access.access d s text.now) self.old node self.new result }
     {
         let one = alias(&mut self.board.types.graph, node, text, access)?;
         let name = ExportName {
@@ -207,6 +235,7 @@ impl<'p> State<'p> {
         requires sound { IsSound self.old.board.types.graph self.old.names }
         ensures sound { OnOk result (IsSound self.new.board.types.graph self.new.names) }
         ensures number { SameNumber self.old.board.types.graph self.new.board.types.graph }
+        ensures outcome { SaysOfInstance (export_each (texts_of names.now.items) access.access) self.old node self.new result }
     {
         for name in names {
             self.export_one(alloc, node, access, name.as_str())?;
@@ -226,8 +255,10 @@ impl<'p> State<'p> {
         requires sound { IsSound self.old.board.types.graph self.old.names }
         ensures sound { OnOk result (IsSound self.new.board.types.graph self.new.names) }
         ensures number { SameNumber self.old.board.types.graph self.new.board.types.graph }
+        ensures outcome { SaysOf (export_with (t.ExportOptions.spread dots) span) self.old node self.new result }
     {
         let graph = &self.board.types.graph;
+        graph.types().see_acyclic();
         let interface = instance_of(graph, node, InstanceOperation::Spread, span)?;
         let names = unexported(alloc, graph, interface)?;
         if names.is_empty() {
@@ -254,6 +285,7 @@ pub(crate) fn export_as(
     requires sound { IsSound state.old.board.types.graph state.old.names }
     ensures sound { OnOk result (IsSound state.new.board.types.graph state.new.names) }
     ensures number { SameNumber state.old.board.types.graph state.new.board.types.graph }
+    ensures outcome { SaysOf (export_with (view_export_options options.now) span) state.old node state.new result }
 {
     match options {
         ExportOptions::None => state.export_inferred(alloc, node, span),

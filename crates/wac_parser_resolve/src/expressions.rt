@@ -5,8 +5,10 @@ ghost use Rattle.std.specs.Prelude.{◌≡◌, ◌≢◌, IfOk, OnOk};
 ghost use Rattle.wac_types_base.specs.declared.item.ItemKind.{ItemKind};
 ghost use Rattle.wac_types_base.specs.Collection.{Stands};
 ghost use Rattle.wac_graph_core.specs.Graph.{ContainsNode, ContainsPackage};
+ghost use Rattle.wac_parser_resolve.specs.declared.root.Root.{Root};
 ghost use Rattle.wac_parser_resolve.specs.InExpressions.{AreAccesses, IsAccess, IsMeantFor};
-ghost use Rattle.wac_parser_resolve.specs.Later.{Inner, IsWithin};
+ghost use Rattle.wac_parser_resolve.specs.InInstances.{IsExpression, IsFinished, IsNamedGiven, IsNewInstance, IsNewPackage, IsPrimary, IsWhole, TakesArgument, TakesArguments, instances_of};
+ghost use Rattle.wac_parser_resolve.specs.Later.{Inner, IsMore, IsWithin};
 ghost use Rattle.wac_parser_resolve.specs.Passing.{IsLater};
 ghost use Rattle.wac_parser_resolve.specs.Standing.{AreThere};
 
@@ -25,7 +27,7 @@ use wac_parser_tree::{
     Expr, Ident, InstantiationArgument, NamedInstantiationArgument, NewExpr, PackageName,
     PostfixExpr, PrimaryExpr,
 };
-use wac_types_base::WorldId;
+use wac_types_base::{Types, WorldId};
 
 /// The export that a name means.
 fn export_meant(
@@ -103,7 +105,10 @@ fn new_package(
     ensures id { IfOk result (λ id. ContainsPackage board.new.types.graph id) }
     ensures own { OnOk result (name.now.name.now ≢ root.entry.own.now) }
     ensures inner { Inner board.old.types.graph board.new.types.graph }
+    ensures noted { board.new.instances ≡ board.old.instances }
+    ensures outcome { IsNewPackage name.now root.entry board.old board.new result }
 {
+    board.types.graph.see_sound();
     if name.name == root.own {
         return Err(unknown_package(root.alloc, name.name, name.span));
     }
@@ -111,6 +116,23 @@ fn new_package(
         .types
         .package(root.alloc, name.name, name.version.as_ref(), name.span)?;
     Ok(id)
+}
+
+/// Refuses where nothing is given for an import of the world, unless the rest is filled up.
+fn complete_or_filled(
+    new: &NewExpr<'_>,
+    alloc: Global,
+    types: &Types,
+    world: WorldId,
+    given: &Vec<Given>,
+) -> Outcome<()>
+    requires { Stands types.now (ItemKind.Component world) }
+    ensures { IsWhole new.now types.now world given.now.items result }
+{
+    if is_filled(&new.arguments) {
+        return Ok(());
+    }
+    complete(&new.package, alloc, types, world, given)
 }
 
 /// The instance that the arguments make.
@@ -125,20 +147,14 @@ fn finish(
     requires given { AreThere board.old.types.graph given.items }
     ensures node { IfOk result (λ k. ContainsNode board.new.types.graph k) }
     ensures inner { Inner board.old.types.graph board.new.types.graph }
+    ensures more { OnOk result (IsMore (instances_of board.old) (instances_of board.new)) }
+    ensures outcome { (root : Root) → IsFinished new.now root board.old id given.items board.new result }
 {
     let world = world_of(&board.types.graph, id);
     let instance = instantiate(&mut board.types.graph, id)?;
     board.instances.note(instance, new.package.span)?;
     pass_all(&mut board.types.graph, instance, &given)?;
-    if !is_filled(&new.arguments) {
-        complete(
-            &new.package,
-            alloc,
-            board.types.graph.types(),
-            world,
-            &given,
-        )?;
-    }
+    complete_or_filled(new, alloc, board.types.graph.types(), world, &given)?;
     Ok(instance)
 }
 
@@ -151,6 +167,8 @@ pub(crate) fn expression(
 ) -> Outcome<NodeId>
     ensures node { IfOk result (λ k. ContainsNode board.new.types.graph k) }
     ensures inner { Inner board.old.types.graph board.new.types.graph }
+    ensures more { OnOk result (IsMore (instances_of board.old) (instances_of board.new)) }
+    ensures outcome { IsExpression expr.now root.entry board.old board.new result }
 {
     let first = primary(&expr.primary, root, board)?;
     accesses(
@@ -167,6 +185,8 @@ pub(crate) fn expression(
 fn primary(expr: &PrimaryExpr<'_>, root: Root<'_, '_>, board: &mut Board<'_>) -> Outcome<NodeId>
     ensures node { IfOk result (λ k. ContainsNode board.new.types.graph k) }
     ensures inner { Inner board.old.types.graph board.new.types.graph }
+    ensures more { OnOk result (IsMore (instances_of board.old) (instances_of board.new)) }
+    ensures outcome { IsPrimary expr.now root.entry board.old board.new result }
 {
     match expr {
         PrimaryExpr::New(new) => instance(new, root, board),
@@ -180,6 +200,8 @@ fn primary(expr: &PrimaryExpr<'_>, root: Root<'_, '_>, board: &mut Board<'_>) ->
 fn instance(new: &NewExpr<'_>, root: Root<'_, '_>, board: &mut Board<'_>) -> Outcome<NodeId>
     ensures node { IfOk result (λ k. ContainsNode board.new.types.graph k) }
     ensures inner { Inner board.old.types.graph board.new.types.graph }
+    ensures more { OnOk result (IsMore (instances_of board.old) (instances_of board.new)) }
+    ensures outcome { IsNewInstance new.now root.entry board.old board.new result }
 {
     let id = new_package(&new.package, root, board)?;
     let world = world_of(&board.types.graph, id);
@@ -208,10 +230,12 @@ fn arguments(
     requires given { AreThere board.old.types.graph given.old.items }
     ensures given { OnOk result (AreThere board.new.types.graph given.new.items) }
     ensures inner { Inner board.old.types.graph board.new.types.graph }
+    ensures more { OnOk result (IsMore (instances_of board.old) (instances_of board.new)) }
+    ensures outcome { TakesArguments list.now.items root.entry board.old world given.old.items board.new given.new.items result }
 {
     let mut seen: usize = 0;
     for one in list {
-        seen = seen.saturating_add(1);
+        seen += 1;
         argument(one, root, board, world, seen == list.len(), given)?;
     }
     Ok(())
@@ -232,6 +256,8 @@ fn argument(
     ensures given { OnOk result (AreThere board.new.types.graph given.new.items) }
     ensures later { OnOk result (IsLater one.now → given.new.items ≡ given.old.items) }
     ensures inner { Inner board.old.types.graph board.new.types.graph }
+    ensures more { OnOk result (IsMore (instances_of board.old) (instances_of board.new)) }
+    ensures outcome { TakesArgument one.now root.entry board.old world is_last given.old.items board.new given.new.items result }
 {
     match one {
         InstantiationArgument::Inferred(id) => {
@@ -265,11 +291,14 @@ fn named(
     requires { Stands board.old.types.graph.types (ItemKind.Component world) }
     ensures node { IfOk result (λ one. ContainsNode board.new.types.graph one.node) }
     ensures inner { Inner board.old.types.graph board.new.types.graph }
+    ensures more { OnOk result (IsMore (instances_of board.old) (instances_of board.new)) }
+    ensures outcome { IsNamedGiven one.now root.entry board.old world board.new result }
 {
     let node = expression(&one.expr, root, board)?;
     let imports = &board.types.graph.types().world(world).imports;
+    let name = argument_name(&one.name, root.alloc, imports)?;
     Ok(Given {
-        name: argument_name(&one.name, root.alloc, imports)?,
+        name,
         node,
         span: one.name.span(),
     })

@@ -17,7 +17,7 @@ ghost use Rattle.wac_graph_core.specs.Types.{Enlarges};
 ghost use Rattle.wac_parser_declare.specs.Packages.{SamePackages};
 ghost use Rattle.wac_parser_declare.specs.Scope as scope;
 ghost use Rattle.wac_parser_resolve.specs.Keeping.{Keeps};
-ghost use Rattle.wac_parser_resolve.specs.Knowing.{Gets, IsDefinedBy, IsDefinedIn, IsOnlyExport, IsPackage, IsPackageOf, IsTypeOf, handed_under, key_of, known_in, known_of, stated_handed};
+ghost use Rattle.wac_parser_resolve.specs.Knowing.{Gets, IsDefinedBy, IsDefinedIn, IsOnlyExport, IsPackage, IsPackageOf, IsTypeOf, SameWorlds, all_known, handed_under, key_of, known_of, stated_handed};
 
 use indexmap::IndexMap;
 use semver::Version;
@@ -56,11 +56,11 @@ pub struct GraphTypes<'a> {
 }
 
 impl GrowingTypes for GraphTypes<'_> {
-    ghost use Rattle.wac_parser_resolve.specs.Knowing.{known_in};
+    ghost use Rattle.wac_parser_resolve.specs.Knowing.{all_known};
 
     ghost collection = { λ g. g.graph.types };
 
-    ghost packages = { known_in };
+    ghost packages = { all_known };
 
     fn types(&self) -> &Types {
         self.graph.types()
@@ -149,7 +149,7 @@ fn register(
     requires none { NoKey graph.old (key_of name.now version) }
     ensures registered { IfOk result (IsPackage graph.new (key_of name.now version.entry) (stated_handed handed.entry)) }
     ensures gets { OnOk result (Gets graph.old graph.new (key_of name.now version.entry) (stated_handed handed.entry)) }
-    ensures same { OnErr result (SamePackages (known_of graph.old) (known_of graph.new)) }
+    ensures same { OnErr result (SameWorlds (known_of graph.old) (known_of graph.new)) }
     ensures keeps { Keeps graph.old graph.new }
 {
     graph.see_sound();
@@ -286,7 +286,7 @@ impl<'a> GraphTypes<'a> {
         ensures outcome { IsPackageOf self.old (key_of name.now version.entry) span self.new.graph result }
         ensures stands { IfOk result (ContainsPackage self.new.graph) }
         ensures keeps { Keeps self.old.graph self.new.graph }
-        ensures packages { SamePackages (known_in self.old) (known_in self.new) }
+        ensures packages { SamePackages (all_known self.old) (all_known self.new) }
     {
         self.graph.see_sound();
         self.graph.types().see_acyclic();

@@ -1,13 +1,18 @@
 //! Documents and what they are resolved to.
 #![tactic(auto, using(crate::proofs::SoundGraph::growing))]
 
-ghost use Rattle.std.specs.Prelude.{◌≡◌, IfOk, IfSome, Some};
+ghost use Rattle.std.specs.Prelude.{◌≡◌, IfOk, IfSome, OnOk, Some};
 ghost use Rattle.wac_types_base.specs.declared.item.ItemKind.{ItemKind};
 ghost use Rattle.wac_types_base.specs.Collection.{Stands};
+ghost use Rattle.wac_parser_tree.specs.Trees as t;
+ghost use Rattle.wac_parser_tree.specs.Views.{view_document};
+ghost use Rattle.wac_parser_resolve.specs.InDocuments.{IsResolved, IsSaidOf};
+ghost use Rattle.wac_parser_resolve.specs.InStatements.{StaysSaid};
+ghost use Rattle.wac_parser_resolve.specs.InTargets.{AreNotedAll, AreStanding, HasSaid, IsDocumentSaid, IsTargetOf, IsTargetWorld, MayBeTarget, StateMeets, world_in, world_in_type};
 ghost use Rattle.wac_parser_resolve.specs.Later.{SameNumber};
 ghost use Rattle.wac_parser_resolve.specs.Resolved.{asked_of, document_of, graph_of, graph_said, target_of, target_said};
 ghost use Rattle.wac_parser_resolve.specs.Standing.{IsSound};
-ghost use Rattle.wac_parser_resolve.specs.Targeting.{IsTarget};
+ghost use Rattle.wac_parser_resolve.specs.Targeting.{IsMet, IsTarget};
 
 use crate::board::Board;
 use crate::packages::{GraphTypes, Packages};
@@ -116,7 +121,8 @@ impl<'d, D> Resolved<'d, D> {
 /// The world that a type is.
 fn world_type(ty: Type, types: &Types) -> Option<WorldId>
     requires { Stands types.now (ItemKind.Ty ty) }
-    ensures { IfSome result (λ id. Stands types.now (ItemKind.Component id)) }
+    ensures stands { IfSome result (λ id. Stands types.now (ItemKind.Component id)) }
+    ensures is { result ≡ world_in_type ty }
 {
     let _ = types;
     match ty {
@@ -128,7 +134,8 @@ fn world_type(ty: Type, types: &Types) -> Option<WorldId>
 /// The world that an item is the type of.
 fn world_item(kind: ItemKind, types: &Types) -> Option<WorldId>
     requires { Stands types.now kind }
-    ensures { IfSome result (λ id. Stands types.now (ItemKind.Component id)) }
+    ensures stands { IfSome result (λ id. Stands types.now (ItemKind.Component id)) }
+    ensures is { result ≡ world_in kind }
 {
     match kind {
         ItemKind::Ty(ty) => world_type(ty, types),
@@ -146,13 +153,39 @@ fn target_world(
     requires { IsSound state.old.board.types.graph state.old.names }
     ensures world { IfOk result (λ id. Stands state.new.board.types.graph.types (ItemKind.Component id)) }
     ensures number { SameNumber state.old.board.types.graph state.new.board.types.graph }
+    ensures said { StaysSaid state.old state.new }
+    ensures outcome { IsTargetWorld path.now directive.now.«package» state.old state.new result }
 {
     let kind = item_at(path, &directive.package, state, alloc)?;
     let types = state.board.types.graph.types();
+    types.see_acyclic();
     match world_item(kind, types) {
         Some(id) => Ok(id),
         None => Err(not_world(alloc, path.string, kind.desc(types), path.span)),
     }
+}
+
+/// Tests what was said so far against the directive's world.
+fn state_met(
+    path: &PackagePath<'_>,
+    state: &State<'_>,
+    world: WorldId,
+    alloc: Global,
+) -> Outcome<()>
+    requires world { Stands state.now.board.types.graph.types (ItemKind.Component world) }
+    requires noted { AreStanding state.now }
+    ensures ok { OnOk result (AreNotedAll state.now → IsMet state.now.board.types.graph world) }
+    ensures outcome { StateMeets path.now state.now world result }
+{
+    target_met(
+        alloc,
+        &state.board.types.graph,
+        &state.imports,
+        &state.board.instances,
+        &state.exports,
+        path,
+        world,
+    )
 }
 
 /// The directive's world, which what was said so far has to meet.
@@ -162,19 +195,15 @@ fn target(
     state: &mut State<'_>,
     alloc: Global,
 ) -> Outcome<WorldId>
-    requires { IsSound state.old.board.types.graph state.old.names }
+    requires sound { IsSound state.old.board.types.graph state.old.names }
+    requires said { HasSaid directive.now.«package» state.old }
     ensures world { IfOk result (λ id. IsTarget state.new.board.types.graph (Some id)) }
     ensures number { SameNumber state.old.board.types.graph state.new.board.types.graph }
+    ensures said { StaysSaid state.old state.new }
+    ensures outcome { IsTargetOf path.now directive.now.«package» state.old state.new result }
 {
     let world = target_world(path, directive, state, alloc)?;
-    target_met(
-        alloc,
-        &state.board.types.graph,
-        &state.imports,
-        &state.exports,
-        path,
-        world,
-    )?;
+    state_met(path, state, world, alloc)?;
     Ok(world)
 }
 
@@ -184,9 +213,12 @@ fn maybe_target(
     state: &mut State<'_>,
     alloc: Global,
 ) -> Outcome<Option<WorldId>>
-    requires { IsSound state.old.board.types.graph state.old.names }
+    requires sound { IsSound state.old.board.types.graph state.old.names }
+    requires said { HasSaid directive.now.«package» state.old }
     ensures world { IfOk result (λ world. IsTarget state.new.board.types.graph world) }
     ensures number { SameNumber state.old.board.types.graph state.new.board.types.graph }
+    ensures said { StaysSaid state.old state.new }
+    ensures outcome { MayBeTarget directive.now state.old state.new result }
 {
     match &directive.targets {
         Some(path) => Ok(Some(target(path, directive, state, alloc)?)),
@@ -227,9 +259,11 @@ fn say_document(
     state: &mut State<'_>,
     alloc: Global,
 ) -> Outcome<Option<WorldId>>
-    requires { IsSound state.old.board.types.graph state.old.names }
+    requires sound { IsSound state.old.board.types.graph state.old.names }
+    requires said { HasSaid document.now.directive.«package» state.old }
     ensures world { IfOk result (λ world. IsTarget state.new.board.types.graph world) }
     ensures number { SameNumber state.old.board.types.graph state.new.board.types.graph }
+    ensures outcome { IsDocumentSaid document.now state.old state.new result }
 {
     let directive = &document.directive;
     say_statements(&document.statements, &directive.package, &mut *state, alloc)?;
@@ -245,6 +279,7 @@ fn said_of(
 ) -> Outcome<Said>
     ensures number { IfOk result (λ said. said.graph.types.number ≡ number) }
     ensures target { IfOk result (λ said. IsTarget said.graph said.target) }
+    ensures outcome { IsSaidOf document.now «packages».now result }
 {
     let mut state = State::new(alloc, &*packages, number);
     let target = say_document(document, &mut state, alloc)?;
@@ -284,6 +319,7 @@ impl<'d, 's> AstResolver<'d, 's> {
         ensures document { IfOk result (λ r. document_of r ≡ asked_of self.entry) }
         ensures number { IfOk result (λ r. (graph_of r).types.number ≡ number) }
         ensures target { IfOk result (λ r. IsTarget (graph_of r) (target_of r)) }
+        ensures outcome { IsResolved graph_of target_of (view_document (asked_of self.entry)) «packages».now result }
     {
         let AstResolver { document } = self;
         match said_of(document, alloc, &*packages, number) {
@@ -295,10 +331,13 @@ impl<'d, 's> AstResolver<'d, 's> {
 
 /// Documents that can be resolved.
 pub trait ResolveDocument: Sized {
+    ghost stated: { Self → t.Document };
+
     /// What the document says over these packages, in a graph whose collection has this number.
     fn say(&self, alloc: Global, packages: &Packages<'_>, number: u64) -> ResolutionResult<Said>
         ensures number { IfOk result (λ said. (graph_said said).types.number ≡ number) }
-        ensures target { IfOk result (λ said. IsTarget (graph_said said) (target_said said)) };
+        ensures target { IfOk result (λ said. IsTarget (graph_said said) (target_said said)) }
+        ensures outcome { IsResolved graph_said target_said (stated self.now) «packages».now result };
 
     /// What the document is resolved to, over these packages, in a graph whose collection has this number.
     final fn resolve<'d>(
@@ -310,6 +349,7 @@ pub trait ResolveDocument: Sized {
         ensures document { IfOk result (λ r. document_of r ≡ self.now) }
         ensures number { IfOk result (λ r. (graph_of r).types.number ≡ number) }
         ensures target { IfOk result (λ r. IsTarget (graph_of r) (target_of r)) }
+        ensures outcome { IsResolved graph_of target_of (stated self.now) «packages».now result }
     {
         match self.say(alloc, &*packages, number) {
             Ok(said) => Ok(with_document(self, said)),
@@ -319,6 +359,10 @@ pub trait ResolveDocument: Sized {
 }
 
 impl<'s> ResolveDocument for Document<'s> {
+    ghost use Rattle.wac_parser_tree.specs.Views.{view_document};
+
+    ghost stated = { view_document };
+
     fn say(&self, alloc: Global, packages: &Packages<'_>, number: u64) -> ResolutionResult<Said> {
         match said_of(self, alloc, &*packages, number) {
             Ok(said) => Ok(said),

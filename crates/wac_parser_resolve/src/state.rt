@@ -3,6 +3,8 @@
 
 ghost use Rattle.std.specs.Prelude.{◌≡◌, OnOk};
 ghost use Rattle.wac_graph_core.specs.Graph.{ContainsNode};
+ghost use Rattle.wac_parser_resolve.specs.InDocuments.{Starts};
+ghost use Rattle.wac_parser_resolve.specs.InStatements.{IsBinding};
 ghost use Rattle.wac_parser_resolve.specs.Later.{SameNumber};
 ghost use Rattle.wac_parser_resolve.specs.Standing.{IsSound};
 
@@ -34,7 +36,9 @@ impl<'p> State<'p> {
     pub(crate) fn new(alloc: Global, packages: &'p Packages<'p>, number: u64) -> Self
         ensures sound { IsSound result.board.types.graph result.names }
         ensures number { result.board.types.graph.types.number ≡ number }
+        ensures starts { Starts «packages».now result }
     {
+        let _ = packages.len();
         State {
             board: Board {
                 types: GraphTypes {
@@ -57,6 +61,7 @@ impl<'p> State<'p> {
         requires sound { IsSound self.old.board.types.graph self.old.names }
         ensures sound { OnOk result (IsSound self.new.board.types.graph self.new.names) }
         ensures number { SameNumber self.old.board.types.graph self.new.board.types.graph }
+        ensures outcome { IsBinding id.now node self.old self.new result }
     {
         let kind = item_of(&self.board.types.graph, node);
         bind(alloc, &mut self.names, id, kind)?;

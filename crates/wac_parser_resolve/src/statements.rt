@@ -1,12 +1,18 @@
 //! Statements of a document.
 #![tactic(auto, using(crate::proofs::SoundGraph::growing))]
 
-ghost use Rattle.std.specs.Prelude.{IfOk, OnOk};
+ghost use Rattle.std.specs.Option.{option_copied};
+ghost use Rattle.std.specs.Prelude.{◌≡◌, IfOk, OnOk, unwrap_or};
 ghost use Rattle.wac_types_base.specs.declared.item.ItemKind.{ItemKind};
 ghost use Rattle.wac_types_base.specs.Collection.{Stands};
 ghost use Rattle.wac_graph_core.specs.Graph.{ContainsNode};
 ghost use Rattle.wac_parser_declare.specs.Holding.{NamesStand};
+ghost use Rattle.wac_parser_refusals.specs.Views.{cause_of};
+ghost use Rattle.wac_parser_tree.specs.Trees as t;
+ghost use Rattle.wac_parser_tree.specs.Views.{view_export_statement, view_ident, view_import_statement, view_let_statement, view_statement, view_type_statement};
+ghost use Rattle.wac_parser_resolve.specs.InStatements.{AddsImport, AreStatements, IsAskedFor, IsDefinitionNamed, IsFuncSaid, IsImportName, IsImportNamed, IsInterfaceSaid, IsItemAt, IsItemNamed, IsStatement, IsText, IsTypeSaid, StaysSaid, definition_cause, identifier_of, import_cause};
 ghost use Rattle.wac_parser_resolve.specs.Later.{SameNumber};
+ghost use Rattle.wac_parser_resolve.specs.Saying.{declared_id};
 ghost use Rattle.wac_parser_resolve.specs.Standing.{IsSound};
 
 use crate::calls::{define, import};
@@ -38,7 +44,9 @@ struct ImportName {
 /// The identifier of an instance or a component.
 fn identifier(types: &Types, kind: ItemKind) -> Option<&Text>
     requires { Stands types.now kind }
+    ensures { option_copied result ≡ identifier_of types.now kind }
 {
+    types.see_acyclic();
     match kind {
         ItemKind::Instance(id) => types.interface(id).id.as_ref(),
         ItemKind::Component(id) => types.world(id).id.as_ref(),
@@ -49,6 +57,7 @@ fn identifier(types: &Types, kind: ItemKind) -> Option<&Text>
 /// The name that an item tells; else this one.
 fn told_name<'a>(types: &'a Types, kind: ItemKind, other: &'a str) -> &'a str
     requires { Stands types.now kind }
+    ensures { result.now ≡ unwrap_or (identifier_of types.now kind) other.now }
 {
     match identifier(types, kind) {
         Some(id) => id.as_str(),
@@ -56,7 +65,9 @@ fn told_name<'a>(types: &'a Types, kind: ItemKind, other: &'a str) -> &'a str
     }
 }
 
-fn import_fault(spans: &Spans, span: SourceSpan, is_helped: bool, fault: ImportError) -> Error {
+fn import_fault(spans: &Spans, span: SourceSpan, is_helped: bool, fault: ImportError) -> Error
+    ensures { cause_of result ≡ import_cause spans.now.noted.items span is_helped fault }
+{
     match fault {
         ImportError::ImportAlreadyExists { name, node } => Error::DuplicateExternName {
             name,
@@ -76,7 +87,9 @@ fn import_fault(spans: &Spans, span: SourceSpan, is_helped: bool, fault: ImportE
 }
 
 /// The identifier that a statement declares.
-fn declared_id<'a>(statement: &TypeStatement<'a>) -> Ident<'a> {
+fn declared_id<'a>(statement: &TypeStatement<'a>) -> Ident<'a>
+    ensures { view_ident result ≡ declared_id (view_type_statement statement.now) }
+{
     match statement {
         TypeStatement::Interface(interface) => interface.id,
         TypeStatement::World(world) => world.id,
@@ -92,13 +105,24 @@ fn item_named(
     alloc: Global,
 ) -> Outcome<ItemKind>
     requires { NamesStand types.now names.now }
-    ensures { IfOk result (λ kind. Stands types.now kind) }
+    ensures stands { IfOk result (λ kind. Stands types.now kind) }
+    ensures outcome { IsItemNamed id.now types.now names.now result }
 {
     let _ = types;
     match names.get(id.string) {
         Some(binding) => Ok(binding.kind),
         None => Err(undefined_name(alloc, id.string, id.span)),
     }
+}
+
+/// A name of its own text.
+fn own_name(alloc: Global, text: &str, span: SourceSpan) -> Outcome<ImportName>
+    ensures { IsText text.now span result }
+{
+    Ok(ImportName {
+        text: String::from_str(alloc, text)?,
+        span,
+    })
 }
 
 /// The name of an import: by `as`, else the path, else the identifier of what an ident names, else its ident.
@@ -109,22 +133,19 @@ fn import_name(
     alloc: Global,
 ) -> Outcome<ImportName>
     requires { NamesStand types.now names.now }
+    ensures { IsImportName statement.now types.now names.now result }
 {
     let id = &statement.id;
-    let (text, span) = match (&statement.name, &statement.ty) {
-        (Some(name), _) => (name.as_str(), name.span()),
-        (None, ImportType::Package(path)) => (path.string, path.span),
-        (None, ImportType::Func(_)) => (id.string, id.span),
-        (None, ImportType::Interface(_)) => (id.string, id.span),
+    match (&statement.name, &statement.ty) {
+        (Some(name), _) => own_name(alloc, name.as_str(), name.span()),
+        (None, ImportType::Package(path)) => own_name(alloc, path.string, path.span),
+        (None, ImportType::Func(_)) => own_name(alloc, id.string, id.span),
+        (None, ImportType::Interface(_)) => own_name(alloc, id.string, id.span),
         (None, ImportType::Ident(ty)) => {
             let kind = item_named(ty, names, types, alloc)?;
-            (told_name(types, kind, id.string), id.span)
+            own_name(alloc, told_name(types, kind, id.string), id.span)
         }
-    };
-    Ok(ImportName {
-        text: String::from_str(alloc, text)?,
-        span,
-    })
+    }
 }
 
 /// The item that a path names.
@@ -138,6 +159,8 @@ pub(crate) fn item_at(
     ensures kind { IfOk result (λ kind. Stands state.new.board.types.graph.types kind) }
     ensures sound { IsSound state.new.board.types.graph state.new.names }
     ensures number { SameNumber state.old.board.types.graph state.new.board.types.graph }
+    ensures said { StaysSaid state.old state.new }
+    ensures outcome { IsItemAt path.now own.now state.old state.new result }
 {
     let context = Context {
         own,
@@ -158,6 +181,8 @@ fn written_interface(
     ensures kind { IfOk result (λ kind. Stands state.new.board.types.graph.types kind) }
     ensures sound { IsSound state.new.board.types.graph state.new.names }
     ensures number { SameNumber state.old.board.types.graph state.new.board.types.graph }
+    ensures said { StaysSaid state.old state.new }
+    ensures outcome { IsInterfaceSaid interface.now own.now state.old state.new result }
 {
     let context = Context {
         own,
@@ -173,6 +198,8 @@ fn written_func(ty: &FuncType<'_>, state: &mut State<'_>, alloc: Global) -> Outc
     ensures kind { IfOk result (λ kind. Stands state.new.board.types.graph.types kind) }
     ensures sound { IsSound state.new.board.types.graph state.new.names }
     ensures number { SameNumber state.old.board.types.graph state.new.board.types.graph }
+    ensures said { StaysSaid state.old state.new }
+    ensures outcome { IsFuncSaid ty.now state.old state.new result }
 {
     let id = func_type(ty, alloc, &state.names, &mut state.board.types)?;
     Ok(ItemKind::Func(id))
@@ -189,6 +216,8 @@ fn asked(
     ensures kind { IfOk result (λ kind. Stands state.new.board.types.graph.types kind) }
     ensures sound { IsSound state.new.board.types.graph state.new.names }
     ensures number { SameNumber state.old.board.types.graph state.new.board.types.graph }
+    ensures said { StaysSaid state.old state.new }
+    ensures outcome { IsAskedFor ty.now own.now state.old state.new result }
 {
     match ty {
         ImportType::Package(path) => item_at(path, own, state, alloc),
@@ -212,6 +241,7 @@ fn named_import(
     requires sound { IsSound state.old.board.types.graph state.old.names }
     ensures sound { OnOk result (IsSound state.new.board.types.graph state.new.names) }
     ensures number { SameNumber state.old.board.types.graph state.new.board.types.graph }
+    ensures outcome { IsImportNamed id.now node span state.old state.new result }
 {
     state.imports.note(node, span)?;
     state.ids.note(node, id.span)?;
@@ -231,6 +261,7 @@ fn add_import(
     requires sound { IsSound state.old.board.types.graph state.old.names }
     ensures sound { OnOk result (IsSound state.new.board.types.graph state.new.names) }
     ensures number { SameNumber state.old.board.types.graph state.new.board.types.graph }
+    ensures outcome { AddsImport statement.now name.now span kind state.old state.new result }
 {
     match import(&mut state.board.types.graph, name, kind) {
         Ok(node) => named_import(&statement.id, state, alloc, node, span),
@@ -252,11 +283,14 @@ fn import_statement(
     requires { IsSound state.old.board.types.graph state.old.names }
     ensures sound { OnOk result (IsSound state.new.board.types.graph state.new.names) }
     ensures number { SameNumber state.old.board.types.graph state.new.board.types.graph }
+    ensures outcome { IsStatement (t.Statement.import (view_import_statement statement.now)) own.now state.old state.new result }
 {
     let types = state.board.types.graph.types();
     let name = import_name(statement, &state.names, types, alloc)?;
-    let kind = asked(&statement.ty, own, state, alloc)?.promote();
-    add_import(statement, state, alloc, name.text.as_str(), name.span, kind)
+    let item = asked(&statement.ty, own, state, alloc)?;
+    state.board.types.graph.types().see_acyclic();
+    let text = name.text.as_str();
+    add_import(statement, state, alloc, text, name.span, item.promote())
 }
 
 // What is declared is new and no resource: the other refusals never come.
@@ -265,7 +299,9 @@ fn definition_fault(
     graph: &CompositionGraph,
     exports: &Spans,
     fault: DefineTypeError,
-) -> Error {
+) -> Error
+    ensures { cause_of result ≡ definition_cause graph.now exports.now.noted.items (view_ident id.now) fault }
+{
     match fault {
         DefineTypeError::ExportConflict { name } => {
             let export = match graph.get_export(id.string) {
@@ -301,6 +337,8 @@ fn declared(
     ensures ty { IfOk result (λ ty. Stands state.new.board.types.graph.types (ItemKind.Ty ty)) }
     ensures sound { IsSound state.new.board.types.graph state.new.names }
     ensures number { SameNumber state.old.board.types.graph state.new.board.types.graph }
+    ensures said { StaysSaid state.old state.new }
+    ensures outcome { IsTypeSaid statement.now own.now state.old state.new result }
 {
     let context = Context {
         own,
@@ -321,6 +359,7 @@ fn named_definition(
     requires sound { IsSound state.old.board.types.graph state.old.names }
     ensures sound { OnOk result (IsSound state.new.board.types.graph state.new.names) }
     ensures number { SameNumber state.old.board.types.graph state.new.board.types.graph }
+    ensures outcome { IsDefinitionNamed id.now node state.old state.new result }
 {
     state.exports.note(node, id.span)?;
     state.ids.note(node, id.span)?;
@@ -337,6 +376,7 @@ fn declaration(
     requires { IsSound state.old.board.types.graph state.old.names }
     ensures sound { OnOk result (IsSound state.new.board.types.graph state.new.names) }
     ensures number { SameNumber state.old.board.types.graph state.new.board.types.graph }
+    ensures outcome { IsStatement (t.Statement.ty (view_type_statement statement.now)) own.now state.old state.new result }
 {
     let ty = declared(statement, own, state, alloc)?;
     let id = declared_id(statement);
@@ -360,6 +400,7 @@ fn let_statement(
     requires { IsSound state.old.board.types.graph state.old.names }
     ensures sound { OnOk result (IsSound state.new.board.types.graph state.new.names) }
     ensures number { SameNumber state.old.board.types.graph state.new.board.types.graph }
+    ensures outcome { IsStatement (t.Statement.let_ (view_let_statement statement.now)) own.now state.old state.new result }
 {
     let root = Root {
         alloc,
@@ -380,6 +421,7 @@ fn export_statement(
     requires { IsSound state.old.board.types.graph state.old.names }
     ensures sound { OnOk result (IsSound state.new.board.types.graph state.new.names) }
     ensures number { SameNumber state.old.board.types.graph state.new.board.types.graph }
+    ensures outcome { IsStatement (t.Statement.export (view_export_statement statement.now)) own.now state.old state.new result }
 {
     let root = Root {
         alloc,
@@ -387,6 +429,7 @@ fn export_statement(
         nodes: &state.nodes,
     };
     let node = expression(&statement.expr, root, &mut state.board)?;
+    state.board.types.graph.see_sound();
     export_as(&statement.options, state, alloc, node, statement.expr.span)
 }
 
@@ -400,6 +443,7 @@ fn say_statement(
     requires { IsSound state.old.board.types.graph state.old.names }
     ensures sound { OnOk result (IsSound state.new.board.types.graph state.new.names) }
     ensures number { SameNumber state.old.board.types.graph state.new.board.types.graph }
+    ensures outcome { IsStatement (view_statement statement.now) own.now state.old state.new result }
 {
     match statement {
         Statement::Import(statement) => import_statement(statement, own, state, alloc),
@@ -419,6 +463,7 @@ pub(crate) fn say_statements(
     requires { IsSound state.old.board.types.graph state.old.names }
     ensures sound { OnOk result (IsSound state.new.board.types.graph state.new.names) }
     ensures number { SameNumber state.old.board.types.graph state.new.board.types.graph }
+    ensures outcome { AreStatements statements.now.items own.now state.old state.new result }
 {
     for statement in statements {
         say_statement(statement, own, &mut *state, alloc)?;

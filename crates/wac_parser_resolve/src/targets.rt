@@ -1,14 +1,17 @@
 //! The target world of a document, by the types that its statements ask.
 
-ghost use Rattle.std.specs.Prelude.{◌≡◌, ℕ, true, IfOk, IfNone, IfSome, IsOk, OnOk};
+ghost use Rattle.std.specs.Prelude.{◌≡◌, IfOk, IfSome, OnOk};
 ghost use Rattle.wac_types_base.specs.declared.item.ItemKind.{ItemKind};
 ghost use Rattle.wac_types_base.specs.Collection.{Stands};
 ghost use Rattle.wac_types_base.specs.Entries.{value_at};
 ghost use Rattle.wac_types_fit.specs.Trees.{Fit};
 ghost use Rattle.wac_types_fit.specs.TargetSteps.{AllStand, GivesStanding};
 ghost use Rattle.wac_graph_core.specs.Graph.{ContainsNode};
+ghost use Rattle.wac_parser_refusals.specs.Outcomes.{Refuses};
+ghost use Rattle.wac_parser_refusals.specs.Views.{Names};
 ghost use Rattle.wac_parser_resolve.specs.Giving.{given_by};
-ghost use Rattle.wac_parser_resolve.specs.Targeting.{AreExportsMet, AreFilledMet, IsExportMet, IsFilledMet, IsImportMet, IsInstanceMet, IsMet, IsPassed, IsStatementMet};
+ghost use Rattle.wac_parser_resolve.specs.InTargets.{AreAllNoted, AreExportsTested, AreFilledTested, AreInstancesMet, AreInstancesTested, AreNotedMet, AreStatementsMet, AreStatementsTested, IsAnswerOf, IsExportTested, IsFaultOf, IsFilledTested, IsFitTested, IsImportTested, IsInstanceTested, IsStatementTested, IsTargetMet, MeetsTarget, StandNoted, is_passed_in, lacks_export, lacks_import, mismatched_at, tells_mismatch};
+ghost use Rattle.wac_parser_resolve.specs.Targeting.{AreExportsMet, AreFilledMet, IsExportMet, IsFilledMet, IsImportMet, IsInstanceMet, IsMet, IsStatementMet};
 
 use crate::board::{item_of, world_of};
 use crate::spans::Spans;
@@ -23,10 +26,9 @@ use wac_types_fit::{SubtypeChecker, SubtypeError, new_cache};
 
 /// A target: its path, and what it gives under the names of imports.
 #[derive(Clone, Copy)]
-struct Target<'p, 'i, 't> {
+struct Target<'p, 's, 'i, 't> {
     alloc: Global,
-    path: &'p str,
-    span: SourceSpan,
+    path: &'p PackagePath<'s>,
     implicit: &'i IndexMap<&'t str, ItemKind>,
     imports: &'t NamedMap<ItemKind>,
 }
@@ -49,7 +51,7 @@ struct Place<'n> {
 
 /// The mismatch that a check answers; none where it says yes.
 fn mismatch_of(checked: Result<(), SubtypeError>) -> Result<Option<SubtypeError>, AllocError>
-    ensures { IfOk result (λ o. IfNone o (IsOk checked)) }
+    ensures { IfOk result (IsAnswerOf checked) }
 {
     match checked {
         Ok(()) => Ok(None),
@@ -68,7 +70,7 @@ fn mismatch(
 ) -> Result<Option<SubtypeError>, AllocError>
     requires given { Stands types.now given }
     requires asked { Stands types.now asked }
-    ensures { IfOk result (λ o. IfNone o (Fit types.now given types.now asked)) }
+    ensures { IfOk result (tells_mismatch types.now given asked) }
 {
     let mut cache = new_cache(alloc);
     let mut checker = SubtypeChecker::new(alloc, &mut cache);
@@ -82,43 +84,52 @@ fn mismatch(
 /// Whether something is passed to an instance under a name.
 fn is_passed(graph: &CompositionGraph, instance: NodeId, name: &str) -> bool
     requires { ContainsNode graph.now instance }
-    ensures { result ≡ true → IsPassed graph.now instance name.now }
+    ensures { result ≡ is_passed_in graph.now instance name.now }
 {
     for (own, _) in graph.get_instantiation_arguments(instance) {
-        if own == name {
+        if name == own {
             return true;
         }
     }
     false
 }
 
-impl<'p, 'i, 't> Target<'p, 'i, 't> {
-    fn not_in_target(&self, asked: Asked<'_>) -> Result<Refusal, AllocError> {
+impl<'p, 's, 'i, 't> Target<'p, 's, 'i, 't> {
+    /// A refusal of an import that the target does not give.
+    fn not_in_target(&self, asked: Asked<'_>) -> Result<Refusal, AllocError>
+        ensures { IfOk result (λ e. Names e (lacks_import self.now asked.entry)) }
+    {
         let fault = Error::ImportNotInTarget {
             name: String::from_str(self.alloc, asked.name)?,
-            world: String::from_str(self.alloc, self.path)?,
+            world: String::from_str(self.alloc, self.path.string)?,
             span: asked.span,
         };
         Ok(Refusal::named(self.alloc, fault))
     }
 
-    fn mismatched(&self, place: Place<'_>, source: SubtypeError) -> Result<Refusal, AllocError> {
+    /// A refusal of what does not fit.
+    fn mismatched(&self, place: Place<'_>, source: SubtypeError) -> Result<Refusal, AllocError>
+        ensures { IfOk result (λ e. Names e (mismatched_at self.now place.entry)) }
+    {
         let fault = Error::TargetMismatch {
             kind: place.kind,
             name: String::from_str(self.alloc, place.name)?,
-            world: String::from_str(self.alloc, self.path)?,
+            world: String::from_str(self.alloc, self.path.string)?,
             span: place.span,
             source,
         };
         Ok(Refusal::named(self.alloc, fault))
     }
 
-    fn missing_export(&self, name: &str, kind: &'static str) -> Result<Refusal, AllocError> {
+    /// A refusal of an export of the target that is not exported.
+    fn missing_export(&self, name: &str, kind: &'static str) -> Result<Refusal, AllocError>
+        ensures { IfOk result (λ e. Refuses e (lacks_export self.now name.now kind.now) self.now.path.now.span) }
+    {
         let fault = Error::MissingTargetExport {
             name: String::from_str(self.alloc, name)?,
             kind,
-            world: String::from_str(self.alloc, self.path)?,
-            span: self.span,
+            world: String::from_str(self.alloc, self.path.string)?,
+            span: self.path.span,
         };
         Ok(Refusal::named(self.alloc, fault))
     }
@@ -137,7 +148,8 @@ impl<'p, 'i, 't> Target<'p, 'i, 't> {
     fn fits(&self, types: &Types, given: ItemKind, asked: ItemKind, place: Place<'_>) -> Outcome<()>
         requires given { Stands types.now given }
         requires asked { Stands types.now asked }
-        ensures { OnOk result (Fit types.now given types.now asked) }
+        ensures ok { OnOk result (Fit types.now given types.now asked) }
+        ensures outcome { IsFitTested self.now types.now given asked place.entry result }
     {
         let is_turned = matches!(place.kind, ExternKind::Import);
         match mismatch(self.alloc, types, given, asked, is_turned)? {
@@ -150,13 +162,15 @@ impl<'p, 'i, 't> Target<'p, 'i, 't> {
     fn import_met(&self, types: &Types, asked: Asked<'_>) -> Outcome<()>
         requires given { GivesStanding types.now (given_by self.now) }
         requires asked { Stands types.now asked.kind }
-        ensures { OnOk result (IsImportMet types.now (given_by self.now) asked.entry.name.now asked.entry.kind) }
+        ensures ok { OnOk result (IsImportMet types.now (given_by self.now) asked.entry.name.now asked.entry.kind) }
+        ensures outcome { IsImportTested self.now types.now asked.entry result }
     {
         let place = Place {
             kind: ExternKind::Import,
             name: asked.name,
             span: asked.span,
         };
+        types.see_acyclic();
         match self.given(asked.name) {
             Some(given) => self.fits(types, given.promote(), asked.kind, place),
             None => Err(self.not_in_target(asked)?),
@@ -164,17 +178,18 @@ impl<'p, 'i, 't> Target<'p, 'i, 't> {
     }
 
     /// An import that a statement asks.
-    fn explicit_met(&self, graph: &CompositionGraph, spans: &Spans, node: NodeId) -> Outcome<()>
+    fn explicit_met(&self, graph: &CompositionGraph, node: NodeId, span: SourceSpan) -> Outcome<()>
         requires given { GivesStanding graph.now.types (given_by self.now) }
         requires node { ContainsNode graph.now node }
-        ensures { OnOk result (IsStatementMet graph.now (given_by self.now) node) }
+        ensures ok { OnOk result (IsStatementMet graph.now (given_by self.now) node) }
+        ensures outcome { IsStatementTested self.now graph.now node span result }
     {
         match graph.get_import_name(node) {
             Some(name) => {
                 let asked = Asked {
                     name,
                     kind: item_of(graph, node),
-                    span: spans.of(node),
+                    span: Some(span),
                 };
                 self.import_met(graph.types(), asked)
             }
@@ -193,7 +208,8 @@ impl<'p, 'i, 't> Target<'p, 'i, 't> {
         requires given { GivesStanding graph.now.types (given_by self.now) }
         requires instance { ContainsNode graph.now instance }
         requires kind { Stands graph.now.types kind }
-        ensures { OnOk result (IsFilledMet graph.now (given_by self.now) instance name.now kind) }
+        ensures ok { OnOk result (IsFilledMet graph.now (given_by self.now) instance name.now kind) }
+        ensures outcome { IsFilledTested self.now graph.now instance name.now kind result }
     {
         if is_passed(graph, instance, name) {
             return Ok(());
@@ -216,7 +232,8 @@ impl<'p, 'i, 't> Target<'p, 'i, 't> {
         requires given { GivesStanding graph.now.types (given_by self.now) }
         requires instance { ContainsNode graph.now instance }
         requires imports { AllStand graph.now.types imports.now }
-        ensures { OnOk result (AreFilledMet graph.now (given_by self.now) instance imports.now) }
+        ensures ok { OnOk result (AreFilledMet graph.now (given_by self.now) instance imports.now) }
+        ensures outcome { AreFilledTested self.now graph.now instance imports.now result }
     {
         for at in 0..imports.len() {
             let (name, kind) = imports.entry(at);
@@ -230,7 +247,8 @@ impl<'p, 'i, 't> Target<'p, 'i, 't> {
     fn instance_met(&self, graph: &CompositionGraph, node: NodeId) -> Outcome<()>
         requires given { GivesStanding graph.now.types (given_by self.now) }
         requires node { ContainsNode graph.now node }
-        ensures { OnOk result (IsInstanceMet graph.now (given_by self.now) node) }
+        ensures ok { OnOk result (IsInstanceMet graph.now (given_by self.now) node) }
+        ensures outcome { IsInstanceTested self.now graph.now node result }
     {
         graph.see_sound();
         match graph[node].package() {
@@ -243,24 +261,28 @@ impl<'p, 'i, 't> Target<'p, 'i, 't> {
         }
     }
 
-    /// The imports of all statements.
-    fn statements_met(&self, graph: &CompositionGraph, spans: &Spans) -> Outcome<()>
-        requires { GivesStanding graph.now.types (given_by self.now) }
-        ensures { OnOk result ((k : ℕ) → IsStatementMet graph.now (given_by self.now) k) }
+    /// The imports of statements, which are noted with the places of their names, in order.
+    fn statements_met(&self, graph: &CompositionGraph, imports: &Spans) -> Outcome<()>
+        requires given { GivesStanding graph.now.types (given_by self.now) }
+        requires imports { StandNoted graph.now imports.now.noted.items }
+        ensures ok { OnOk result (AreStatementsMet graph.now (given_by self.now) imports.now.noted.items) }
+        ensures outcome { AreStatementsTested self.now graph.now imports.now.noted.items result }
     {
-        for node in graph.node_ids() {
-            self.explicit_met(graph, spans, node)?;
+        for (node, span) in imports.entries() {
+            self.explicit_met(graph, *node, *span)?;
         }
         Ok(())
     }
 
-    /// The imports of all instances.
-    fn instances_met(&self, graph: &CompositionGraph) -> Outcome<()>
-        requires { GivesStanding graph.now.types (given_by self.now) }
-        ensures { OnOk result ((k : ℕ) → IsInstanceMet graph.now (given_by self.now) k) }
+    /// The imports of instances, which are noted, in order.
+    fn instances_met(&self, graph: &CompositionGraph, instances: &Spans) -> Outcome<()>
+        requires given { GivesStanding graph.now.types (given_by self.now) }
+        requires instances { StandNoted graph.now instances.now.noted.items }
+        ensures ok { OnOk result (AreInstancesMet graph.now (given_by self.now) instances.now.noted.items) }
+        ensures outcome { AreInstancesTested self.now graph.now instances.now.noted.items result }
     {
-        for node in graph.node_ids() {
-            self.instance_met(graph, node)?;
+        for (node, _) in instances.entries() {
+            self.instance_met(graph, *node)?;
         }
         Ok(())
     }
@@ -274,9 +296,11 @@ impl<'p, 'i, 't> Target<'p, 'i, 't> {
         kind: ItemKind,
     ) -> Outcome<()>
         requires { Stands graph.now.types kind }
-        ensures { OnOk result (IsExportMet graph.now name.now kind) }
+        ensures ok { OnOk result (IsExportMet graph.now name.now kind) }
+        ensures outcome { IsExportTested self.now graph.now spans.now.noted.items name.now kind result }
     {
         let types = graph.types();
+        types.see_acyclic();
         match exported(graph, name) {
             Some(node) => {
                 let place = Place {
@@ -298,13 +322,37 @@ impl<'p, 'i, 't> Target<'p, 'i, 't> {
         exports: &NamedMap<ItemKind>,
     ) -> Outcome<()>
         requires { AllStand graph.now.types exports.now }
-        ensures { OnOk result (AreExportsMet graph.now exports.now) }
+        ensures ok { OnOk result (AreExportsMet graph.now exports.now) }
+        ensures outcome { AreExportsTested self.now graph.now spans.now.noted.items exports.now result }
     {
         for at in 0..exports.len() {
             let (name, kind) = exports.entry(at);
             self.export_met(graph, spans, name, *kind)?;
         }
         Ok(())
+    }
+
+    /// The imports of statements, then those of instances, then the exports of the target.
+    fn met(
+        &self,
+        graph: &CompositionGraph,
+        imports: &Spans,
+        instances: &Spans,
+        spans: &Spans,
+        exports: &NamedMap<ItemKind>,
+    ) -> Outcome<()>
+        requires given { GivesStanding graph.now.types (given_by self.now) }
+        requires imports { StandNoted graph.now imports.now.noted.items }
+        requires instances { StandNoted graph.now instances.now.noted.items }
+        requires exports { AllStand graph.now.types exports.now }
+        ensures ok { OnOk result (AreNotedMet graph.now (given_by self.now) imports.now.noted.items instances.now.noted.items exports.now) }
+        ensures outcome { MeetsTarget self.now graph.now imports.now.noted.items instances.now.noted.items spans.now.noted.items exports.now result }
+    {
+        graph.see_sound();
+        graph.types().see_acyclic();
+        self.statements_met(graph, imports)?;
+        self.instances_met(graph, instances)?;
+        self.exports_met(graph, spans, exports)
     }
 }
 
@@ -318,25 +366,31 @@ fn exported(graph: &CompositionGraph, name: &str) -> Option<NodeId>
 }
 
 /// Why the implicit interfaces of a target are not to be had.
-fn implicit_fault(alloc: Global, path: &PackagePath<'_>, fault: TargetError) -> Refusal {
+fn implicit_fault(alloc: Global, path: &PackagePath<'_>, fault: TargetError) -> Refusal
+    ensures { IsFaultOf path.now fault result }
+{
     match fault {
         TargetError::Memory => Refusal::Memory,
         TargetError::UsedWithoutIdentifier => unwritable(alloc, path.string, None),
     }
 }
 
-/// Tests a document's graph against its target: first the imports, then the exports. `imports` and `exports` tell where
-/// these are named.
+/// Tests a document's graph against its target: first the imports of statements, then those of instances, then the exports.
+/// `imports`, `instances` and `exports` tell where these are named, in the order in which they were said.
 pub(crate) fn target_met(
     alloc: Global,
     graph: &CompositionGraph,
     imports: &Spans,
+    instances: &Spans,
     exports: &Spans,
     path: &PackagePath<'_>,
     world: WorldId,
 ) -> Outcome<()>
-    requires { Stands graph.now.types (ItemKind.Component world) }
-    ensures { OnOk result (IsMet graph.now world) }
+    requires world { Stands graph.now.types (ItemKind.Component world) }
+    requires imports { StandNoted graph.now imports.now.noted.items }
+    requires instances { StandNoted graph.now instances.now.noted.items }
+    ensures ok { OnOk result (AreAllNoted graph.now imports.now.noted.items instances.now.noted.items → IsMet graph.now world) }
+    ensures outcome { IsTargetMet path.now graph.now imports.now.noted.items instances.now.noted.items exports.now.noted.items world result }
 {
     let types = graph.types();
     let wanted = types.world(world);
@@ -345,14 +399,11 @@ pub(crate) fn target_met(
         Ok(implicit) => {
             let target = Target {
                 alloc,
-                path: path.string,
-                span: path.span,
+                path,
                 implicit: &implicit,
                 imports: &wanted.imports,
             };
-            target.statements_met(graph, imports)?;
-            target.instances_met(graph)?;
-            target.exports_met(graph, exports, &wanted.exports)
+            target.met(graph, imports, instances, exports, &wanted.exports)
         }
     }
 }

@@ -58,3 +58,6 @@ returns-clause-outcome c noted names q d says dn kind left =
     let inv = c.loop-name.invariant.rest noted names q d says dn kind left in
     subst (λ (r : Answer (State × List stated.Given)). IsHeld (λ (p : State × List stated.Given) (u : ⊤). SaysGiven c.loop-name.graph noted names c.loop-name.given.items p) r tt)
     (sym (inv.2 ∙ spread_ends c.args.span d c.deref-name-items.result.now c.loop-name.name-index inv.0 (omega (arith, c.loop-name-test.false)))) inv.1.0
+
+pub returns-in_err-one-clause-inner : goal.returns-in_err-one-clause-inner
+returns-in_err-one-clause-inner c = Inner-trans c.args.graph.now c.loop-name.graph c.given_export.new.graph c.loop-name.invariant.inner c.in_err-one.ensures.inner

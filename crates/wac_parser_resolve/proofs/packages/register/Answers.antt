@@ -4,11 +4,9 @@ use Rattle.wac_types_base.specs.declared.item.ItemKind.{ItemKind}
 use Rattle.wac_types_base.specs.declared.ids.WorldId.{WorldId}
 use Rattle.wac_types_base.specs.Stated.{stated_of}
 use Rattle.wac_graph_core.specs.Graph.{Graph}
-use Rattle.wac_parser_declare.specs.Packages.{SamePackages}
-use Rattle.wac_parser_declare.proofs.Known.{same_trans}
-use Rattle.wac_parser_resolve.specs.Knowing.{key_of, known_of, stated_handed}
+use Rattle.wac_parser_resolve.specs.Knowing.{SameWorlds, key_of, known_of, stated_handed}
 use Rattle.wac_parser_resolve.proofs.Keeping.{Keeps-by, Keeps-enlarged, Keeps-trans}
-use Rattle.wac_parser_resolve.proofs.Knowing.{err_gives, gets_registered, known_enlarged, ok_gives, package_registered}
+use Rattle.wac_parser_resolve.proofs.Knowing.{err_gives, gets_registered, known_enlarged, ok_gives, package_registered, worlds_trans}
 use Rattle.wac_parser_resolve.proofs.packages.register.Goals as goal
 
 pub returns-clause-registered : goal.returns-clause-registered
@@ -31,8 +29,8 @@ returns-clause-gets c =
 pub returns-clause-same : goal.returns-clause-same
 returns-clause-same c =
     err_gives c.add_package.result c.add_package.ensures.kept
-    (λ kept. subst (λ (g : Graph). SamePackages (known_of c.args.graph.now) (known_of g)) (sym kept)
-    (same_trans _ _ _ (known_enlarged c.args.graph.now c.copy_world.new.graph c.see_sound.ensures c.in_ok-world.ensures.enlarges)
+    (λ kept. subst (λ (g : Graph). SameWorlds (known_of c.args.graph.now) (known_of g)) (sym kept)
+    (worlds_trans _ _ _ (known_enlarged c.args.graph.now c.copy_world.new.graph c.see_sound.ensures c.in_ok-world.ensures.enlarges)
     (known_enlarged c.copy_world.new.graph c.make_package.new.graph c.see_sound-2.ensures c.in_ok-package.ensures.enlarges)))
 
 pub returns-clause-keeps : goal.returns-clause-keeps

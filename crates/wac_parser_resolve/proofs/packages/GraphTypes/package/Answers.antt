@@ -4,7 +4,7 @@ use Rattle.wac_types_base.specs.declared.item.ItemKind.{ItemKind}
 use Rattle.wac_types_base.specs.Stated.{stated_of}
 use Rattle.wac_parser_refusals.specs.Causes.{UnknownPackage}
 use Rattle.wac_parser_resolve.specs.Knowing.{IsPackage, handed_under, key_of, known_in, stated_handed}
-use Rattle.wac_parser_resolve.proofs.Knowing.{known_held, known_more, known_package, unknown_key, unknown_refused}
+use Rattle.wac_parser_resolve.proofs.Knowing.{known_held, known_more, known_package, known_same, unknown_key, unknown_refused}
 use Rattle.wac_parser_resolve.proofs.packages.GraphTypes.package.Goals as goal
 
 pub returns-in-Some-clause-outcome : goal.returns-in-Some-clause-outcome
@@ -28,7 +28,12 @@ pub returns-in_ok-register-in-Some-handed-clause-packages : goal.returns-in_ok-r
 returns-in_ok-register-in-Some-handed-clause-packages c =
     let g = c.args.self.now in
     let k = key_of c.args.name.now c.args.version in
-    known_more g c.register.new.graph k (stated_handed c.in-Some-handed.handed) c.in_ok-register-in-Some-handed.ensures.gets (unknown_key g.graph k c.in_default.ensures.none) (sym c.in-Some-handed.ensures.world)
+    known_more g c.register.new.graph k (stated_handed c.in-Some-handed.handed) c.see_sound.ensures c.in_ok-register-in-Some-handed.ensures.keeps c.in_ok-register-in-Some-handed.ensures.gets (unknown_key g.graph k c.in_default.ensures.none) (sym c.in-Some-handed.ensures.world)
+
+pub returns-in_err-register-in-Some-handed-clause-packages : goal.returns-in_err-register-in-Some-handed-clause-packages
+returns-in_err-register-in-Some-handed-clause-packages c =
+    let e = c.in_err-register-in-Some-handed.ensures in
+    known_same c.args.self.now c.register.new.graph c.see_sound.ensures e.keeps e.same
 
 pub returns-in-None-clause-outcome : goal.returns-in-None-clause-outcome
 returns-in-None-clause-outcome c =

@@ -1,5 +1,8 @@
-use Rattle.std.proofs.Common.{arith}
+use Rattle.std.proofs.Common.{arith, refl}
+use Rattle.wac_parser_refusals.proofs.Outcomes.{refused_outcome}
+use Rattle.wac_parser_resolve.specs.InTargets.{all_pass, export_test}
 use Rattle.wac_parser_resolve.specs.Targeting.{IsExportMet}
+use Rattle.wac_parser_resolve.proofs.Meeting.{Passed, all_passed, next_passes, next_refused}
 use Rattle.wac_parser_resolve.proofs.TargetMet.{below_next, below_all}
 use Rattle.wac_parser_resolve.proofs.targets.Target.exports_met.Goals as goal
 use Rattle.wac_types_base.proofs.Looked.{among-get}
@@ -8,10 +11,28 @@ pub export_met-requires : goal.export_met-requires
 export_met-requires c =
     c.requires c.entry.result.0.now c.entry.result.1.now (among-get c.args.exports.now c.loop-at.at (c.entry.result.0.now, c.entry.result.1.now) c.entry.ensures)
 
-pub loop-at-preserved : goal.loop-at-preserved
-loop-at-preserved c =
-    below_next (IsExportMet c.args.graph.now) c.args.exports.now c.loop-at.at c.entry.result.0.now c.entry.result.1.now c.entry.ensures c.loop-at.invariant c.in_ok-export_met.ensures
+pub loop-at-init : goal.loop-at-init
+loop-at-init c = record { below = λ i h. absurd (omega (arith, h)); rest = refl }
 
-pub returns : goal.returns
-returns c =
-    below_all (IsExportMet c.args.graph.now) c.args.exports.now c.loop-at.at (omega (arith, c.len-at-end.ensures.len, c.loop-at-test.false)) c.loop-at.invariant
+pub loop-at-preserved : goal.loop-at-preserved
+loop-at-preserved c = record {
+  below = below_next (IsExportMet c.args.graph.now)
+      c.args.exports.now c.loop-at.at c.entry.result.0.now c.entry.result.1.now c.entry.ensures c.loop-at.invariant.below c.in_ok-export_met.ensures.ok;
+  rest = next_passes (export_test c.args.self.now c.args.graph.now c.args.spans.now.noted.items) c.args.exports.now c.loop-at.at (c.entry.result.0.now, c.entry.result.1.now) c.entry.ensures c.loop-at.invariant.rest
+      c.in_ok-export_met.ensures.outcome;
+}
+
+pub returns-in_err-export_met-clause-outcome : goal.returns-in_err-export_met-clause-outcome
+returns-in_err-export_met-clause-outcome c =
+    refused_outcome Passed (all_pass (export_test c.args.self.now c.args.graph.now c.args.spans.now.noted.items) c.args.exports.now) _ _ c.from_residual.ensures.1
+    (next_refused (export_test c.args.self.now c.args.graph.now c.args.spans.now.noted.items) c.args.exports.now c.loop-at.at (c.entry.result.0.now, c.entry.result.1.now) c.entry.ensures c.loop-at.invariant.rest
+    c.in_err-export_met.field-0.0 c.in_err-export_met.ensures.outcome)
+
+pub returns-clause-ok : goal.returns-clause-ok
+returns-clause-ok c =
+    below_all (IsExportMet c.args.graph.now)
+    c.args.exports.now c.loop-at.at (omega (arith, c.len-at-end.ensures.len, c.loop-at-test.false)) c.loop-at.invariant.below
+
+pub returns-clause-outcome : goal.returns-clause-outcome
+returns-clause-outcome c =
+    all_passed (export_test c.args.self.now c.args.graph.now c.args.spans.now.noted.items) c.args.exports.now c.loop-at.at (omega (arith, c.len-at-end.ensures.len, c.loop-at-test.false)) c.loop-at.invariant.rest

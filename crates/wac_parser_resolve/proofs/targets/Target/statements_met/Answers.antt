@@ -1,17 +1,52 @@
-use Rattle.std.proofs.Common.{◌≡◌}
-use Rattle.std.specs.FinMap as map
+use Rattle.std.proofs.Common.{ℕ, List, arith, refl, inl, subst, ◌∙◌}
+use Rattle.wac_types_base.specs.Entries.{names_of}
+use Rattle.wac_types_base.specs.Graph.{Among}
+use Rattle.wac_types_base.proofs.Loops.{get-place}
+use Rattle.wac_parser_lexer.specs.declared.span.SourceSpan.{SourceSpan as Span}
+use Rattle.wac_parser_refusals.specs.Outcomes.{IsHeld}
+use Rattle.wac_parser_refusals.proofs.Outcomes.{refused_outcome}
 use Rattle.wac_parser_resolve.specs.Giving.{given_by}
+use Rattle.wac_parser_resolve.specs.InTargets.{IsTold, AreStatementsMet, all_pass, statement_test}
 use Rattle.wac_parser_resolve.specs.Targeting.{IsStatementMet}
-use Rattle.wac_parser_resolve.proofs.TargetMet.{left_first, left_next}
+use Rattle.wac_parser_resolve.proofs.Meeting.{Passed, all_passed, come_next, next_passes, next_refused, none_to_come, noted_among}
 use Rattle.wac_parser_resolve.proofs.targets.Target.statements_met.Goals as goal
 
 pub loop-node-init : goal.loop-node-init
-loop-node-init c =
-    let is : c.into_iter-node-iterator.result ≡ map.keys c.args.graph.now.nodes = cc (c.into_iter-node-iterator.ensures.into_iter_gives, c.node_ids-node-items.ensures) in
-    left_first c.args.graph.now (IsStatementMet c.args.graph.now (given_by c.args.self.now))
-    c.into_iter-node-iterator.result is
+loop-node-init c = record { come = λ k m. inl m; rest = refl }
+
+pub explicit_met-requires-clause-node : goal.explicit_met-requires-clause-node
+explicit_met-requires-clause-node c =
+    let xs = c.deref-node-items.result.now in
+    let at = get-place xs c.loop-node.node-index c.loop-node-item.result c.loop-node-test.true c.loop-node-item.is in
+    c.requires.imports c.loop-node-item.result.0
+    (subst (λ (es : List (ℕ × Span)). Among c.loop-node-item.result.0 (names_of es)) (c.deref-node-items.ensures.value ∙ c.entries.ensures.entries)
+    (noted_among xs c.loop-node.node-index c.loop-node-item.result.0 c.loop-node-item.result.1 at))
 
 pub loop-node-preserved : goal.loop-node-preserved
 loop-node-preserved c =
-    left_next c.args.graph.now (IsStatementMet c.args.graph.now (given_by c.args.self.now))
-    c.loop-node.node-iterator c.next.new.self c.in-Some.node c.in-Some.ensures.steps c.loop-node.invariant c.in_ok-explicit_met.ensures
+    let xs = c.deref-node-items.result.now in
+    let x = c.loop-node-item.result in
+    let at = get-place xs c.loop-node.node-index x c.loop-node-test.true c.loop-node-item.is in
+    record {
+      come = come_next (IsStatementMet c.args.graph.now (given_by c.args.self.now)) xs c.loop-node.node-index x.0 x.1 at c.loop-node.invariant.come c.in_ok-explicit_met.ensures.ok;
+      rest = next_passes (statement_test c.args.self.now c.args.graph.now) xs c.loop-node.node-index x at c.loop-node.invariant.rest c.in_ok-explicit_met.ensures.outcome;
+    }
+
+pub returns-in_err-explicit_met-clause-outcome : goal.returns-in_err-explicit_met-clause-outcome
+returns-in_err-explicit_met-clause-outcome c =
+    let xs = c.deref-node-items.result.now in
+    let x = c.loop-node-item.result in
+    let at = get-place xs c.loop-node.node-index x c.loop-node-test.true c.loop-node-item.is in
+    subst (λ (es : List (ℕ × Span)). IsTold (all_pass (statement_test c.args.self.now c.args.graph.now) es) c.from_residual.result) (c.deref-node-items.ensures.value ∙ c.entries.ensures.entries)
+    (refused_outcome Passed (all_pass (statement_test c.args.self.now c.args.graph.now) xs) _ _ c.from_residual.ensures.1
+    (next_refused (statement_test c.args.self.now c.args.graph.now) xs c.loop-node.node-index x at c.loop-node.invariant.rest c.in_err-explicit_met.field-0.0 c.in_err-explicit_met.ensures.outcome))
+
+pub returns-clause-ok : goal.returns-clause-ok
+returns-clause-ok c =
+    subst (AreStatementsMet c.args.graph.now (given_by c.args.self.now)) (c.deref-node-items.ensures.value ∙ c.entries.ensures.entries)
+    (none_to_come (IsStatementMet c.args.graph.now (given_by c.args.self.now)) c.deref-node-items.result.now c.loop-node.node-index (omega (arith, c.loop-node-test.false)) c.loop-node.invariant.come)
+
+pub returns-clause-outcome : goal.returns-clause-outcome
+returns-clause-outcome c =
+    subst (λ (es : List (ℕ × Span)). IsHeld Passed (all_pass (statement_test c.args.self.now c.args.graph.now) es) tt) (c.deref-node-items.ensures.value ∙ c.entries.ensures.entries)
+    (all_passed (statement_test c.args.self.now c.args.graph.now) c.deref-node-items.result.now c.loop-node.node-index (omega (arith, c.loop-node-test.false)) c.loop-node.invariant.rest)

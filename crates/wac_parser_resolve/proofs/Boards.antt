@@ -1,0 +1,156 @@
+-- What expressions stand on, while the graph grows.
+use Rattle.std.proofs.Common.{◌≡◌, ℕ, suc, List, [], ◌∷◌, ◌++◌, length, Bool, true, false, Option, Some, None, IsSome, Result, Ok, Err, refl, sym, ap, subst, ◌∙◌}
+use Rattle.std.specs.Prelude.{⊤, find, not, slice_get}
+use Rattle.wac_types_base.specs.declared.item.ItemKind.{ItemKind}
+use Rattle.wac_types_base.specs.declared.ids.WorldId.{WorldId}
+use Rattle.wac_types_base.specs.Record.{Collection}
+use Rattle.wac_types_base.specs.Collection.{Stands}
+use Rattle.wac_types_base.specs.Entries.{Name, has_name, names_of}
+use Rattle.wac_types_base.specs.Stated.{Stated, imports_of, instance_type, stated_of}
+use Rattle.wac_types_names.specs.Keys.{Key}
+use Rattle.wac_graph_core.specs.declared.package.Place.{Place}
+use Rattle.wac_graph_core.specs.declared.ids.PackageId.{PackageId}
+use Rattle.wac_graph_core.specs.Graph.{Graph, IsGraph}
+use Rattle.wac_parser_tree.specs.Trees as t
+use Rattle.wac_parser_tree.specs.Trees.{Span}
+use Rattle.wac_parser_refusals.specs.declared.refusal.Refusal.{Refusal}
+use Rattle.wac_parser_refusals.specs.Causes.{Answer, Fault, ◌>>◌, present, pure, unless_clear}
+use Rattle.wac_parser_refusals.specs.Outcomes.{IsHeld, IsOutcome, IsRefusal, Refuses}
+use Rattle.wac_parser_refusals.proofs.Outcomes.{memory_refusal}
+use Rattle.wac_parser_declare.specs.Packages.{SamePackages}
+use Rattle.wac_parser_declare.specs.Scope.{world_under}
+use Rattle.wac_parser_resolve.specs.declared.board.Board.{Board}
+use Rattle.wac_parser_resolve.specs.declared.packages.GraphTypes.{GraphTypes}
+use Rattle.wac_parser_resolve.specs.declared.root.Root.{Root}
+use Rattle.wac_parser_resolve.specs.Ascribing.{Made, State}
+use Rattle.wac_parser_resolve.specs.Denoting as stated
+use Rattle.wac_parser_resolve.specs.Denoting.{none_missing, with_made}
+use Rattle.wac_parser_resolve.specs.Holding.{HasItem, InTurn, IsMade, Says}
+use Rattle.wac_parser_resolve.specs.InArguments.{imported_by}
+use Rattle.wac_parser_resolve.specs.InInstances.{Denoting, IsOn, SaysMade, instances_of, makes}
+use Rattle.wac_parser_resolve.specs.Keeping.{Keeps}
+use Rattle.wac_parser_resolve.specs.Knowing.{all_known, handed_under, known_in, world_in}
+use Rattle.wac_parser_resolve.specs.Later.{IsWithin, Later}
+use Rattle.wac_parser_resolve.proofs.Alike.{Alike}
+use Rattle.wac_parser_resolve.proofs.Nodes.{holds_stays}
+use Rattle.wac_parser_resolve.proofs.Numbers.{slice_last}
+use Rattle.wac_parser_resolve.proofs.SoundGraph.{keeps_inner}
+use Rattle.wac_parser_resolve.proofs.Staying.{keeps_none, says_stay}
+use Rattle.wac_parser_resolve.proofs.Turns.{names_more, turn_last}
+
+-- ---- packages
+
+known_there : (c d : Collection) (ps qs : List Place) → d ≡ c → qs ≡ ps → (k : Key) → world_in d qs k ≡ world_in c ps k
+known_there c d ps qs p q k = cc (p, q)
+
+pub known_within : (g h : GraphTypes) → IsWithin g.graph h.graph → h.packages ≡ g.packages → (k : Key) → known_in h k ≡ known_in g k
+known_within g h within same k =
+    let own = known_there g.graph.types h.graph.types g.graph.places h.graph.places within.types within.places k in
+    let handed : handed_under h k ≡ handed_under g k = handed_by same in
+    cc (own, handed)
+  where
+    handed_by : h.packages ≡ g.packages → handed_under h k ≡ handed_under g k
+    handed_by e = ap (λ p. handed_under (record { graph = g.graph; packages = p }) k) e
+
+-- ---- boards
+
+module _ (root : Root) (b c : Board) where
+  -- where packages come in
+  pub on_keeps : IsGraph b.types.graph → Keeps b.types.graph c.types.graph → SamePackages (all_known b.types) (all_known c.types) → c.instances ≡ b.instances → (s : State) → IsOn root b s → IsOn root c s
+  on_keeps is keeps same noted s on = record {
+    says = subst (λ xs. Says c.types.graph xs.noted.items root.nodes.now s) (sym noted)
+        (says_stay b.types.graph c.types.graph (keeps_inner b.types.graph c.types.graph keeps).later (keeps_none b.types.graph c.types.graph is keeps) b.instances.noted.items root.nodes.now s on.says);
+    known = λ k. same.same k ∙ on.known k;
+    own = on.own;
+  }
+
+  -- where nodes and edges alone are new, by what is said then
+  pub on_within : IsWithin b.types.graph c.types.graph → c.types.packages ≡ b.types.packages → (s q : State) → IsOn root b s → Alike s q → Says c.types.graph c.instances.noted.items root.nodes.now q → IsOn root c q
+  on_within within same s q on alike says = record {
+    says = says;
+    known = λ k. known_within b.types c.types within same k ∙ on.known k ∙ ap (λ ps. world_under ps k) (sym alike.packages);
+    own = ap (λ (p : t.PackageName). p.name) alike.own ∙ on.own;
+  }
+
+-- ---- a new instance
+
+turn_length : {A B : Type 0} (R : A → B → Type 0) (xs : List A) (ys : List B) → InTurn R xs ys → length ys ≡ length xs
+turn_length R [] [] t = refl
+turn_length R [] (y ∷ ys) t = absurd t
+turn_length R (x ∷ xs) [] t = absurd t
+turn_length R (x ∷ xs) (y ∷ ys) t = ap suc (turn_length R xs ys t.1)
+
+names_length : {V : Type 0} (xs : List (ℕ × V)) → length (names_of xs) ≡ length xs
+names_length [] = refl
+names_length (x ∷ xs) = ap suc (names_length xs)
+
+module _ (root : Root) (b c : Board) (within : IsWithin b.types.graph c.types.graph) (same : c.types.packages ≡ b.types.packages) (i : ℕ) (s : State) (m : Made) (on : IsOn root b s)
+    (noted : c.instances.noted.items ≡ b.instances.noted.items ++ (i, m.span) ∷ []) (says : SaysMade c.types.graph b.instances.noted.items i root.nodes.now s m) where
+  said : Says c.types.graph c.instances.noted.items root.nodes.now (makes s m)
+  said = subst (λ xs. Says c.types.graph xs root.nodes.now (makes s m)) (sym noted) says
+
+  in_last : IsMade c.types.graph (names_of (b.instances.noted.items ++ (i, m.span) ∷ [])) m (i, m.span)
+  in_last = (turn_last (IsMade c.types.graph (names_of (b.instances.noted.items ++ (i, m.span) ∷ []))) s.made b.instances.noted.items m (i, m.span) says.made).1
+
+  number : slice_get (instances_of c) (length s.made) ≡ Some i
+  number =
+      let long : length (names_of b.instances.noted.items) ≡ length s.made = names_length b.instances.noted.items ∙ turn_length _ s.made b.instances.noted.items on.says.made in
+      ap (λ xs. slice_get (names_of xs) (length s.made)) noted ∙ ap (λ xs. slice_get xs (length s.made)) (names_more b.instances.noted.items (i, m.span))
+      ∙ ap (slice_get (names_of b.instances.noted.items ++ i ∷ [])) (sym long) ∙ slice_last (names_of b.instances.noted.items) i
+
+  pub made_on_board : HasItem c.types.graph i (instance_type m.world) → Denoting root c (with_made s m) i
+  made_on_board item = record {
+    on = on_within root b c within same s (makes s m) on (record { own = refl; packages = refl; root = refl; imports = refl; definitions = refl; exports = refl }) said;
+    denotes = record { node = (number, subst IsSome (sym in_last.is) refl); item = item };
+  }
+
+-- ---- the imports of a world
+
+pub imports_later : (g h : Graph) → Later g h → (w : WorldId) → Stands g.types (ItemKind.Component w) → imported_by h.types w ≡ imported_by g.types w
+imports_later g h l w stands =
+    let same = holds_stays g h l (stated_of g.types (ItemKind.Component w)) (ItemKind.Component w) (record { stands = stands; same = refl }) in
+    ap (λ (t : Stated). names_of (imports_of t)) same.same
+
+-- ---- the package of a `new`
+
+module _ {K : Stated → PackageId → Type 0} (H : Stated → PackageId → Type 0) (f : Fault) (at : Span) (step : (w : Stated) (id : PackageId) → H w id → K w id) where
+  package_by : (o : Option Stated) (r : Result PackageId Refusal) → IsOutcome H (present o f at) r → IsOutcome K (present o f at) r
+  package_by (Some w) (Ok id) h = step w id h
+  package_by (Some w) (Err e) h = h
+  package_by None (Ok id) h = absurd h
+  package_by None (Err e) h = h
+
+  -- it is not the document's own, and known under its key
+  pub package_outcome : (b : Bool) (o p : Option Stated) (r : Result PackageId Refusal) → b ≡ false → o ≡ p → IsOutcome H (present o f at) r → IsOutcome K (unless_clear b f at >> present p f at) r
+  package_outcome true o p r e s h = absurd (cc e)
+  package_outcome false o p r e s h = subst (λ (x : Option Stated). IsOutcome K (present x f at) r) s (package_by o r h)
+
+pub own_refused : {A : Type 0} (f : Fault) (at : Span) (q : Answer A) (b : Bool) (e : Refusal) → b ≡ true → Refuses e f at → IsRefusal (unless_clear b f at >> q) e
+own_refused f at q true e is r = r
+own_refused f at q false e is r = absurd (cc is)
+
+-- ---- the end of a new instance
+
+pub completed : (b : Bool) (p : t.PackageName) (gs : List stated.Given) (ns : List Name) (r : Result ⊤ Refusal) → b ≡ false → IsOutcome (λ (u v : ⊤). Unit {0}) (none_missing p (find (λ n. not (has_name (stated.given_names gs) n)) ns)) r
+    → IsOutcome (λ (u v : ⊤). Unit {0}) (stated.complete b p gs ns) r
+completed true p gs ns r e h = absurd (cc e)
+completed false p gs ns r e h = h
+
+pub filled_held : (b : Bool) (p : t.PackageName) (gs : List stated.Given) (ns : List Name) → b ≡ true → IsHeld (λ (u v : ⊤). Unit {0}) (stated.complete b p gs ns) (tt {0})
+filled_held true p gs ns e = tt
+filled_held false p gs ns e = absurd (cc e)
+
+module _ {A B : Type 0} where
+  pub finished_held : (H : A → B → Type 0) (q r : Answer ⊤) (a : A) (b : B) → q ≡ Ok tt → r ≡ Ok tt → H a b → IsHeld H (q >> (r >> pure a)) b
+  finished_held H (Ok u) (Ok v) a b e f h = h
+  finished_held H (Ok u) (Err c) a b e f h = absurd (cc f)
+  finished_held H (Err c) r a b e f h = absurd (cc e)
+
+module _ {A : Type 0} where
+  pub first_refused : (q : Answer ⊤) (r : Answer A) (e : Refusal) → IsRefusal q e → IsRefusal (q >> r) e
+  first_refused (Ok u) r e m = memory_refusal r e m
+  first_refused (Err c) r e m = m
+
+  pub second_refused : (q r : Answer ⊤) (s : Answer A) (e : Refusal) → q ≡ Ok tt → IsRefusal r e → IsRefusal (q >> (r >> s)) e
+  second_refused (Ok u) r s e f m = first_refused r s e m
+  second_refused (Err c) r s e f m = absurd (cc f)

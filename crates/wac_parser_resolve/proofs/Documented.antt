@@ -1,0 +1,43 @@
+-- What a document has said, as callers see it.
+use Rattle.std.proofs.Common.{◌≡◌, Option, Ok, Err, sym, subst}
+use Rattle.wac_types_base.specs.declared.ids.WorldId.{WorldId}
+use Rattle.wac_types_base.specs.Stated.{Stated}
+use Rattle.wac_graph_core.specs.Graph.{Graph}
+use Rattle.wac_parser_tree.specs.Trees as t
+use Rattle.wac_parser_refusals.specs.declared.error.Error.{Error}
+use Rattle.wac_parser_refusals.specs.declared.refusal.Refusal.{Refusal}
+use Rattle.wac_parser_refusals.specs.Causes.{Answer, Cause}
+use Rattle.wac_parser_refusals.specs.Outcomes.{IsHeld, IsMemory, IsRefusal, Tells}
+use Rattle.wac_parser_refusals.specs.Views.{cause_in, cause_of}
+use Rattle.wac_parser_resolve.specs.declared.state.State.{State as Held}
+use Rattle.wac_parser_resolve.specs.Ascribing.{State}
+use Rattle.wac_parser_resolve.specs.InDocuments.{IsBuilt, IsErrorOf}
+use Rattle.wac_parser_resolve.specs.InTargets.{HoldsTarget}
+use Rattle.wac_parser_resolve.specs.Said.{IsSaid}
+
+pub built : (p : t.PackageName) (b : Held) (s : State) → IsSaid p b s → IsBuilt b.board.types.graph s
+built p b s said = record {
+  instances = b.board.instances.noted.items;
+  names = b.nodes;
+  says = said.board.says;
+  imported = b.imports.noted.items;
+  ids = b.ids.noted.items;
+  imports = said.imports;
+  definitions = said.definitions;
+  exported = b.exports.noted.items;
+  exports = said.exports;
+}
+
+-- what is held, of another thing that tells the same
+pub held_told : {A B C : Type 0} (H : A → B → Type 0) (K : A → C → Type 0) (q : Answer A) (b : B) (c : C) → ((a : A) → H a b → K a c) → IsHeld H q b → IsHeld K q c
+held_told H K (Ok a) b c f h = f a h
+held_told H K (Err e) b c f h = absurd h
+
+pub error_told : {A : Type 0} (q : Answer A) (e : Refusal) (f : Error) → cause_of f ≡ cause_in e → IsRefusal q e → IsErrorOf q f
+error_told (Ok a) e f same h = subst (λ (o : Option Cause). IsMemory o) (sym same) h
+error_told (Err c) e f same h = subst (λ (o : Option Cause). Tells o c) (sym same) h
+
+-- with the graph and the target by other names
+pub holds_as : (g h : Graph) (w v : Option WorldId) (q : State × Option Stated) → h ≡ g → v ≡ w → IsBuilt g q.0 × HoldsTarget g.types q.1 w → IsBuilt h q.0 × HoldsTarget h.types q.1 v
+holds_as g h w v q same target x =
+    subst (λ (i : Graph). IsBuilt i q.0 × HoldsTarget i.types q.1 v) (sym same) (subst (λ (u : Option WorldId). IsBuilt g q.0 × HoldsTarget g.types q.1 u) (sym target) x)

@@ -1,0 +1,64 @@
+-- What is answered of a whole document: what it says and targets, over the packages that are handed in, or its first cause.
+use Rattle.std.specs.Prelude.{ℕ, List, Option, Result, Ok, Err}
+use Rattle.indexmap.specs.IndexMap.{IndexMap}
+use Rattle.wac_types_base.specs.declared.ids.WorldId.{WorldId}
+use Rattle.wac_types_base.specs.Entries.{Name, names_of}
+use Rattle.wac_types_base.specs.Stated.{Stated}
+use Rattle.wac_types_names.specs.declared.package.BorrowedPackageKey.{BorrowedPackageKey}
+use Rattle.wac_graph_core.specs.Graph.{Graph}
+use Rattle.wac_parser_tree.specs.Trees as t
+use Rattle.wac_parser_tree.specs.Trees.{Span}
+use Rattle.wac_parser_tree.specs.declared.document.Document.{Document}
+use Rattle.wac_parser_tree.specs.Views.{view_document}
+use Rattle.wac_parser_refusals.specs.declared.error.Error.{Error}
+use Rattle.wac_parser_refusals.specs.declared.refusal.Refusal.{Refusal}
+use Rattle.wac_parser_refusals.specs.Causes.{Answer}
+use Rattle.wac_parser_refusals.specs.Outcomes.{IsHeld, IsMemory, IsOutcome, Tells}
+use Rattle.wac_parser_refusals.specs.Views.{cause_of}
+use Rattle.wac_parser_resolve.specs.declared.packages.PackageRef.{PackageRef}
+use Rattle.wac_parser_resolve.specs.declared.resolver.Said.{Said}
+use Rattle.wac_parser_resolve.specs.declared.state.State.{State as Held}
+use Rattle.wac_parser_resolve.specs.Ascribing.{State, start}
+use Rattle.wac_parser_resolve.specs.Holding.{Says}
+use Rattle.wac_parser_resolve.specs.InTargets.{HoldsTarget}
+use Rattle.wac_parser_resolve.specs.Knowing.{handed_list}
+use Rattle.wac_parser_resolve.specs.Meeting.{resolved}
+use Rattle.wac_parser_resolve.specs.Said.{AreAsked, AreDeclared, AreExported, IsSaid}
+
+-- ---- the code's state
+
+-- nothing is said yet, in any document over these packages
+abbrev pub Starts : {S : Type 0} → IndexMap BorrowedPackageKey PackageRef S → Held → Type 0
+Starts m b = (d : t.Document) → IsSaid d.directive.«package» b (start d (handed_list m))
+
+-- ---- what callers see
+
+-- the graph holds what is said: instances with the places of their packages, the nodes of the root's names, imports with the places of their names and identifiers,
+-- definitions, and exports with the places of their names
+pub record IsBuilt (g : Graph) (s : State) : Type 0 where
+  pub instances : List (ℕ × Span)
+  pub names : List (Name × ℕ)
+  pub says : Says g instances names s
+  pub imported : List (ℕ × Span)
+  pub ids : List (ℕ × Span)
+  pub imports : AreAsked g imported ids s.imports
+  pub definitions : AreDeclared g s.definitions
+  pub exported : List (ℕ × Span)
+  pub exports : AreExported g (names_of instances) exported s.exports
+
+-- the error names the cause; want of memory may always be answered
+abbrev pub IsErrorOf : {A : Type 0} → Answer A → Error → Type 0
+IsErrorOf (Ok a) e = IsMemory (cause_of e)
+IsErrorOf (Err c) e = Tells (cause_of e) c
+
+abbrev pub IsAnswer : {A B : Type 0} → (A → B → Type 0) → Answer A → Result B Error → Type 0
+IsAnswer holds q (Ok b) = IsHeld holds q b
+IsAnswer holds q (Err e) = IsErrorOf q e
+
+-- what a document is resolved to: a graph that holds what it says, with the world that it targets; or its first cause
+abbrev pub IsResolved : {B S : Type 0} → (B → Graph) → (B → Option WorldId) → t.Document → IndexMap BorrowedPackageKey PackageRef S → Result B Error → Type 0
+IsResolved graph target d m r = IsAnswer (λ (q : State × Option Stated) b. IsBuilt (graph b) q.0 × HoldsTarget (graph b).types q.1 (target b)) (resolved d (handed_list m)) r
+
+-- the same without the document
+abbrev pub IsSaidOf : {S : Type 0} → Document → IndexMap BorrowedPackageKey PackageRef S → Result Said Refusal → Type 0
+IsSaidOf d m r = IsOutcome (λ (q : State × Option Stated) (said : Said). IsBuilt said.graph q.0 × HoldsTarget said.graph.types q.1 said.target) (resolved (view_document d) (handed_list m)) r

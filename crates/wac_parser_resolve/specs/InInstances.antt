@@ -1,0 +1,142 @@
+-- What is answered of expressions and of new instances, for each state that the code's board holds.
+use Rattle.std.specs.Prelude.{◌≡◌, ℕ, Bool, false, List, [], ◌∷◌, ◌++◌, map, ⊤, Result}
+use Rattle.wac_types_base.specs.declared.ids.WorldId.{WorldId}
+use Rattle.wac_types_base.specs.Record.{Collection}
+use Rattle.wac_types_base.specs.Entries.{Name, has_name, names_of}
+use Rattle.wac_types_base.specs.Stated.{Stated, instance_type}
+use Rattle.wac_types_names.specs.Keys.{Key}
+use Rattle.wac_graph_core.specs.declared.ids.PackageId.{PackageId}
+use Rattle.wac_graph_core.specs.Graph.{Graph}
+use Rattle.wac_parser_tree.specs.Trees as t
+use Rattle.wac_parser_tree.specs.Trees.{Span}
+use Rattle.wac_parser_tree.specs.Accessors.{argument_name_span as argument_span}
+use Rattle.wac_parser_tree.specs.declared.expr.Expr.{Expr}
+use Rattle.wac_parser_tree.specs.declared.expr.PrimaryExpr.{PrimaryExpr}
+use Rattle.wac_parser_tree.specs.declared.expr.NewExpr.{NewExpr}
+use Rattle.wac_parser_tree.specs.declared.expr.InstantiationArgument.{InstantiationArgument}
+use Rattle.wac_parser_tree.specs.declared.expr.NamedInstantiationArgument.{NamedInstantiationArgument}
+use Rattle.wac_parser_tree.specs.declared.import.PackageName.{PackageName}
+use Rattle.wac_parser_tree.specs.Views.{view_expr, view_primary_expr, view_new_expr, view_instantiation_argument, view_named_instantiation_argument, view_package_name}
+use Rattle.wac_parser_refusals.specs.declared.refusal.Refusal.{Refusal}
+use Rattle.wac_parser_refusals.specs.Causes.{Answer, ◌>>=◌, each, pure}
+use Rattle.wac_parser_refusals.specs.Outcomes.{IsOutcome}
+use Rattle.wac_parser_resolve.specs.declared.arguments.Given.{Given}
+use Rattle.wac_parser_resolve.specs.declared.board.Board.{Board}
+use Rattle.wac_parser_resolve.specs.declared.root.Root.{Root}
+use Rattle.wac_parser_resolve.specs.Ascribing.{Denoted, Made, State}
+use Rattle.wac_parser_resolve.specs.Denoting as stated
+use Rattle.wac_parser_resolve.specs.Denoting.{argument_fits, denote, finished}
+use Rattle.wac_parser_resolve.specs.Holding.{AreGiven, HasItem, IsGiven, Says, names_given}
+use Rattle.wac_parser_resolve.specs.InArguments.{imported_by}
+use Rattle.wac_parser_resolve.specs.Knowing.{IsPackage}
+use Rattle.wac_parser_resolve.specs.Said.{IsDenoted, IsOnBoard}
+
+-- the nodes of the instances that were made
+abbrev pub instances_of : Board → List ℕ
+instances_of b = names_of b.instances.noted.items
+
+-- what expressions stand on, in a document with these names
+abbrev pub IsOn : Root → Board → State → Type 0
+IsOn root b s = IsOnBoard root.own.now root.nodes.now b s
+
+-- what an expression denotes
+abbrev pub Denoting : Root → Board → State × Denoted → ℕ → Type 0
+Denoting root b q k = IsDenoted root.own.now root.nodes.now b q k
+
+abbrev pub IsExpression : Expr → Root → Board → Board → Result ℕ Refusal → Type 0
+IsExpression e root b c r = (s : State) → IsOn root b s → IsOutcome (Denoting root c) (denote s (view_expr e)) r
+
+abbrev pub IsPrimary : PrimaryExpr → Root → Board → Board → Result ℕ Refusal → Type 0
+IsPrimary e root b c r = (s : State) → IsOn root b s → IsOutcome (Denoting root c) (stated.primary s (view_primary_expr e)) r
+
+-- ---- the package
+
+abbrev pub key_of : t.PackageName → Key
+key_of p = (p.name, p.version)
+
+-- the package of the name that a `new` says
+abbrev pub IsNewPackage : PackageName → Root → Board → Board → Result PackageId Refusal → Type 0
+IsNewPackage p root b c r = (s : State) → IsOn root b s
+    → IsOutcome (λ w id. IsOn root c s × IsPackage c.types.graph (key_of (view_package_name p)) w id) (stated.new_package s (view_package_name p)) r
+
+-- ---- arguments
+
+-- what was said, and what is given so far
+pub record HasGiven (root : Root) (b : Board) (xs : List Given) (q : State × List stated.Given) : Type 0 where
+  pub on : IsOn root b q.0
+  pub given : AreGiven b.types.graph (instances_of b) q.1 xs
+
+-- an argument with its name
+abbrev pub named_given : State → List Name → t.NamedInstantiationArgument → Answer (State × stated.Given)
+named_given g ns (t.named_argument n e) =
+    denote g e >>= λ r. pure (r.0, record { name = stated.argument_name ns n; denoted = r.1; span = argument_span n })
+
+-- what was said, and one that is given
+pub record IsOneGiven (root : Root) (b : Board) (q : State × stated.Given) (one : Given) : Type 0 where
+  pub on : IsOn root b q.0
+  pub given : IsGiven b.types.graph (instances_of b) q.1 one
+
+abbrev pub IsNamedGiven : NamedInstantiationArgument → Root → Board → WorldId → Board → Result Given Refusal → Type 0
+IsNamedGiven a root b w c r = (s : State) → IsOn root b s
+    → IsOutcome (IsOneGiven root c) (named_given s (imported_by b.types.graph.types w) (view_named_instantiation_argument a)) r
+
+-- `last`: whether the argument is the last one
+abbrev pub TakesArgument : InstantiationArgument → Root → Board → WorldId → (last : Bool) → List Given → Board → List Given → Result ⊤ Refusal → Type 0
+TakesArgument a root b w last xs c ys r = (q : State × List stated.Given) → HasGiven root b xs q
+    → IsOutcome (λ p u. HasGiven root c ys p) (stated.one_argument q.0 (imported_by b.types.graph.types w) q.1 (view_instantiation_argument a) last) r
+
+abbrev pub TakesArguments : List InstantiationArgument → Root → Board → WorldId → List Given → Board → List Given → Result ⊤ Refusal → Type 0
+TakesArguments as_ root b w xs c ys r = (q : State × List stated.Given) → HasGiven root b xs q
+    → IsOutcome (λ p u. HasGiven root c ys p) (stated.arguments q.0 (imported_by b.types.graph.types w) q.1 (t.arguments (map view_instantiation_argument as_))) r
+
+-- ---- passing them
+
+-- one instance more
+abbrev pub makes : State → Made → State
+makes s m = record s { made = s.made ++ m ∷ [] }
+
+-- the instance that was made last, with what is passed to it
+abbrev pub SaysMade : Graph → List (ℕ × Span) → ℕ → List (Name × ℕ) → State → Made → Type 0
+SaysMade g noted i names s m = Says g (noted ++ (i, m.span) ∷ []) names (makes s m)
+
+abbrev pub with_argument : Made → stated.Given → Made
+with_argument m a = record m { arguments = m.arguments ++ (a.name, a.denoted) ∷ [] }
+
+abbrev pub with_arguments : Made → List stated.Given → Made
+with_arguments m gs = record m { arguments = map (λ (a : stated.Given). (a.name, a.denoted)) gs }
+
+-- nothing is passed to an instance yet
+abbrev pub bare : Key → Stated → Span → Made
+bare k w at = record { key = k; world = w; arguments = []; span = at }
+
+-- one argument is passed
+abbrev pub Passes : Graph → ℕ → Given → Graph → Result ⊤ Refusal → Type 0
+Passes g i one h r = (noted : List (ℕ × Span)) (names : List (Name × ℕ)) (s : State) (m : Made) (a : stated.Given) → SaysMade g noted i names s m
+    → IsGiven g (names_of (noted ++ (i, m.span) ∷ [])) a one → has_name (names_of m.arguments) a.name ≡ false
+    → IsOutcome (λ u v. SaysMade h noted i names s (with_argument m a)) (argument_fits m.key m.world tt a) r
+
+-- all that is given is passed
+abbrev pub PassesAll : Graph → ℕ → List Given → Graph → Result ⊤ Refusal → Type 0
+PassesAll g i xs h r = (noted : List (ℕ × Span)) (names : List (Name × ℕ)) (s : State) (k : Key) (w : Stated) (at : Span) (gs : List stated.Given)
+    → SaysMade g noted i names s (bare k w at) → AreGiven g (names_of (noted ++ (i, at) ∷ [])) gs xs
+    → IsOutcome (λ u v. SaysMade h noted i names s (with_arguments (bare k w at) gs)) (each (argument_fits k w) tt gs) r
+
+-- an instance of the package is made
+abbrev pub Instantiated : Graph → PackageId → Graph → ℕ → Type 0
+Instantiated g id h i = (noted : List (ℕ × Span)) (names : List (Name × ℕ)) (s : State) (k : Key) (w : Stated) (at : Span) → Says g noted names s → IsPackage g k w id
+    → SaysMade h noted i names s (bare k w at) × HasItem h i (instance_type w)
+
+-- ---- the instance
+
+-- each import needs an argument, unless the rest is filled up
+abbrev pub IsWhole : NewExpr → Collection → WorldId → List Given → Result ⊤ Refusal → Type 0
+IsWhole n c w xs r = (gs : List stated.Given) → names_given xs ≡ stated.given_names gs
+    → IsOutcome (λ u v. Unit {0}) (stated.complete (stated.is_filled (t.arguments (map view_instantiation_argument n.arguments.items))) (view_package_name n.«package») gs (imported_by c w)) r
+
+abbrev pub IsFinished : NewExpr → Root → Board → PackageId → List Given → Board → Result ℕ Refusal → Type 0
+IsFinished n root b id xs c r = (s : State) (w : Stated) (gs : List stated.Given) → IsOn root b s → IsPackage b.types.graph (key_of (view_package_name n.«package»)) w id
+    → AreGiven b.types.graph (instances_of b) gs xs
+    → IsOutcome (Denoting root c) (finished s (view_package_name n.«package») w gs (stated.is_filled (t.arguments (map view_instantiation_argument n.arguments.items)))) r
+
+abbrev pub IsNewInstance : NewExpr → Root → Board → Board → Result ℕ Refusal → Type 0
+IsNewInstance n root b c r = (s : State) → IsOn root b s → IsOutcome (Denoting root c) (stated.new_instance s (view_new_expr n)) r
