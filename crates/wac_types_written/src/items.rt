@@ -10,7 +10,7 @@ ghost use Rattle.wac_types_written.specs.Written as form;
 
 use crate::components::add_component_type;
 use crate::forms::Forms;
-use crate::maps::{copy_items, copy_text, copy_uses, use_of};
+use crate::maps::{copy_interface, copy_text, copy_world, use_of};
 use std::alloc::{AllocError, Global};
 use wac_types_base::{
     Interface, InterfaceId, ItemKind, NamedMap, Text, Type, Types, UsedType, WorldId,
@@ -80,11 +80,10 @@ fn new_interface(
     ensures grows { Grows types.old types.new }
 {
     types.see_acyclic();
-    let name = copy_text(&types.interface(id).id)?;
-    let own_uses = copy_uses(alloc, &types.interface(id).uses)?;
-    let own_exports = copy_items(alloc, &types.interface(id).exports)?;
-    let uses = form_uses(types, alloc, &own_uses, forms)?;
-    let exports = form_items(types, alloc, &own_exports, forms)?;
+    let own = copy_interface(alloc, types.interface(id))?;
+    let uses = form_uses(types, alloc, &own.uses, forms)?;
+    let exports = form_items(types, alloc, &own.exports, forms)?;
+    let name = copy_text(&own.id)?;
     types.see_acyclic();
     let form = types.add_interface(Interface {
         id: name,
@@ -132,13 +131,11 @@ fn new_world(
     ensures grows { Grows types.old types.new }
 {
     types.see_acyclic();
-    let name = copy_text(&types.world(id).id)?;
-    let own_uses = copy_uses(alloc, &types.world(id).uses)?;
-    let own_imports = copy_items(alloc, &types.world(id).imports)?;
-    let own_exports = copy_items(alloc, &types.world(id).exports)?;
-    let uses = form_uses(types, alloc, &own_uses, forms)?;
-    let imports = form_items(types, alloc, &own_imports, forms)?;
-    let exports = form_items(types, alloc, &own_exports, forms)?;
+    let own = copy_world(alloc, types.world(id))?;
+    let uses = form_uses(types, alloc, &own.uses, forms)?;
+    let imports = form_items(types, alloc, &own.imports, forms)?;
+    let exports = form_items(types, alloc, &own.exports, forms)?;
+    let name = copy_text(&own.id)?;
     let form = add_component_type(types, alloc, name, &uses, &imports, exports)?;
     Ok(form)
 }

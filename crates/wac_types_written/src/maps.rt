@@ -5,7 +5,7 @@ ghost use Rattle.wac_types_base.specs.Entries.{IsNew};
 ghost use Rattle.wac_types_written.specs.Forms.{is_type_item, type_items};
 
 use std::alloc::{AllocError, Global};
-use wac_types_base::{InterfaceId, ItemKind, NamedMap, Text, UsedType};
+use wac_types_base::{Interface, InterfaceId, ItemKind, NamedMap, Text, UsedType, World};
 
 /// The same text again, if there is one.
 pub(crate) fn copy_text(text: &Option<Text>) -> Result<Option<Text>, AllocError>
@@ -59,6 +59,29 @@ pub(crate) fn copy_uses(
         copy.push(String::from_str(alloc, name)?, used)?;
     }
     Ok(copy)
+}
+
+/// The same interface again.
+pub(crate) fn copy_interface(alloc: Global, interface: &Interface) -> Result<Interface, AllocError>
+    ensures { IfOk result (λ i. i ≡ interface.now) }
+{
+    Ok(Interface {
+        id: copy_text(&interface.id)?,
+        uses: copy_uses(alloc, &interface.uses)?,
+        exports: copy_items(alloc, &interface.exports)?,
+    })
+}
+
+/// The same world again.
+pub(crate) fn copy_world(alloc: Global, world: &World) -> Result<World, AllocError>
+    ensures { IfOk result (λ w. w ≡ world.now) }
+{
+    Ok(World {
+        id: copy_text(&world.id)?,
+        uses: copy_uses(alloc, &world.uses)?,
+        imports: copy_items(alloc, &world.imports)?,
+        exports: copy_items(alloc, &world.exports)?,
+    })
 }
 
 /// Whether an item is a type.

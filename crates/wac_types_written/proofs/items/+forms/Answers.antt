@@ -23,9 +23,6 @@ use Rattle.wac_types_written.proofs.Ids.{interface_children, interface_exports_s
 use Rattle.wac_types_written.proofs.Stepping.{item_size, parts_size, use_size}
 use Rattle.wac_types_written.proofs.items.+forms.Goals as goal
 
-some_same : {A : Type 0} {x y : A} → Some x ≡ Some y → x ≡ y
-some_same e = cc e
-
 pub form_interface-returns-in-Some-clause-grows : goal.form_interface-returns-in-Some-clause-grows
 form_interface-returns-in-Some-clause-grows t c = Grows-refl c.args.types.now c.see_acyclic.ensures
 
@@ -177,47 +174,35 @@ form_uses-returns-clause-written t c =
     let whole : length c.args.uses.now ≤ c.loop-at.at = omega (arith, c.loop-at-test.false, c.len-at-end.ensures.len) in
     subst (λ l. UsesWritten c.loop-at.types l c.loop-at.all) (take-all c.args.uses.now c.loop-at.at whole) c.loop-at.invariant.written
 
-pub new_interface-returns-in_err-name-clause-grows : goal.new_interface-returns-in_err-name-clause-grows
-new_interface-returns-in_err-name-clause-grows t c = Grows-refl c.args.types.now c.see_acyclic.ensures
+pub new_interface-returns-in_err-own-clause-grows : goal.new_interface-returns-in_err-own-clause-grows
+new_interface-returns-in_err-own-clause-grows t c = Grows-refl c.args.types.now c.see_acyclic.ensures
 
-pub new_interface-returns-in_err-own_uses-clause-grows : goal.new_interface-returns-in_err-own_uses-clause-grows
-new_interface-returns-in_err-own_uses-clause-grows t c = Grows-refl c.args.types.now c.see_acyclic.ensures
-
-pub new_interface-returns-in_err-own_exports-clause-grows : goal.new_interface-returns-in_err-own_exports-clause-grows
-new_interface-returns-in_err-own_exports-clause-grows t c = Grows-refl c.args.types.now c.see_acyclic.ensures
-
-pub new_world-returns-in_err-name-clause-grows : goal.new_world-returns-in_err-name-clause-grows
-new_world-returns-in_err-name-clause-grows t c = Grows-refl c.args.types.now c.see_acyclic.ensures
-
-pub new_world-returns-in_err-own_uses-clause-grows : goal.new_world-returns-in_err-own_uses-clause-grows
-new_world-returns-in_err-own_uses-clause-grows t c = Grows-refl c.args.types.now c.see_acyclic.ensures
-
-pub new_world-returns-in_err-own_imports-clause-grows : goal.new_world-returns-in_err-own_imports-clause-grows
-new_world-returns-in_err-own_imports-clause-grows t c = Grows-refl c.args.types.now c.see_acyclic.ensures
-
-pub new_world-returns-in_err-own_exports-clause-grows : goal.new_world-returns-in_err-own_exports-clause-grows
-new_world-returns-in_err-own_exports-clause-grows t c = Grows-refl c.args.types.now c.see_acyclic.ensures
+pub new_world-returns-in_err-own-clause-grows : goal.new_world-returns-in_err-own-clause-grows
+new_world-returns-in_err-own-clause-grows t c = Grows-refl c.args.types.now c.see_acyclic.ensures
 
 pub new_interface-form_uses-requires : goal.new_interface-form_uses-requires
 new_interface-form_uses-requires t c =
     let types = c.args.types.now in
-    let i = c.interface-2.ensures in
-    let x = c.interface-2.result.now in
+    let i = c.interface.ensures in
+    let x = c.interface.result.now in
     let s = parts_size types i.acyclic c.args.id x i.entry i.own in
-    let e = ap (λ us. row_size types (used us)) c.in_ok-own_uses.ensures in
-    (omega (arith, s, e, c.decreases), (subst (UsesStand types) (sym c.in_ok-own_uses.ensures) (interface_uses_stand types i.acyclic c.args.id x i.entry i.own), c.requires.forms))
+    let e = ap (λ us. row_size types (used us)) (ap (λ (y : Interface). y.uses) c.in_ok-own.ensures) in
+    (omega (arith, s, e, c.decreases), (subst (UsesStand types) (sym (ap (λ (y : Interface). y.uses) c.in_ok-own.ensures)) (interface_uses_stand types i.acyclic c.args.id x i.entry i.own), c.requires.forms))
 
 pub new_interface-form_items-requires : goal.new_interface-form_items-requires
 new_interface-form_items-requires t c =
     let types = c.args.types.now in
-    let i = c.interface-3.ensures in
-    let x = c.interface-3.result.now in
+    let i = c.interface.ensures in
+    let x = c.interface.result.now in
     let g = c.in_ok-uses.ensures.grows in
     let s = parts_size types i.acyclic c.args.id x i.entry i.own in
-    let stand : ItemsStand types c.in_ok-own_exports.own_exports = subst (ItemsStand types) (sym c.in_ok-own_exports.ensures) (interface_exports_stand types i.acyclic c.args.id x i.entry i.own) in
-    let e = ap (λ xs. row_size types (items xs)) c.in_ok-own_exports.ensures in
-    let k = items_size_kept types c.form_uses.new.types g c.in_ok-own_exports.own_exports stand in
-    (omega (arith, s, e, k, c.decreases), (items_stand_kept types c.form_uses.new.types g c.in_ok-own_exports.own_exports stand, c.in_ok-uses.ensures.forms))
+    let stand : ItemsStand types c.in_ok-own.own.exports = subst (ItemsStand types) (sym (ap (λ (y : Interface). y.exports) c.in_ok-own.ensures)) (interface_exports_stand types i.acyclic c.args.id x i.entry i.own) in
+    let e = ap (λ xs. row_size types (items xs)) (ap (λ (y : Interface). y.exports) c.in_ok-own.ensures) in
+    let k = items_size_kept types c.form_uses.new.types g c.in_ok-own.own.exports stand in
+    (omega (arith, s, e, k, c.decreases), (items_stand_kept types c.form_uses.new.types g c.in_ok-own.own.exports stand, c.in_ok-uses.ensures.forms))
+
+pub new_interface-returns-in_err-name-clause-grows : goal.new_interface-returns-in_err-name-clause-grows
+new_interface-returns-in_err-name-clause-grows t c = Grows-trans c.args.types.now c.form_uses.new.types c.form_items.new.types c.in_ok-uses.ensures.grows c.in_ok-exports.ensures.grows
 
 pub new_interface-add_interface-requires : goal.new_interface-add_interface-requires
 new_interface-add_interface-requires t c =
@@ -236,18 +221,14 @@ new_interface-returns-clause-written t c =
     let types = c.args.types.now in
     let i = c.interface.ensures in
     let x = c.interface.result.now in
-    let i2 = c.interface-2.ensures in
-    let i3 = c.interface-3.ensures in
-    let same2 : c.interface-2.result.now ≡ x = some_same (sym i2.entry ∙ i.entry) in
-    let same3 : c.interface-3.result.now ≡ x = some_same (sym i3.entry ∙ i.entry) in
     let e = c.in_ok-form.ensures in
     interface_added c.form_items.new.types c.add_interface.new.self e.grows (record { id = c.in_ok-name.name; uses = c.in_ok-uses.uses; exports = c.in_ok-exports.exports }) c.in_ok-form.form
     (written (stated_of types (ItemKind.Instance c.args.id))) e.added e.id
     (interface_formed types i.acyclic c.form_uses.new.types c.form_items.new.types c.add_interface.new.self c.in_ok-uses.ensures.grows c.in_ok-exports.ensures.grows e.grows c.args.id x i.entry i.own
-    c.in_ok-name.name c.in_ok-own_uses.own_uses c.in_ok-uses.uses c.in_ok-own_exports.own_exports c.in_ok-exports.exports c.in_ok-name.ensures
-    (c.in_ok-own_uses.ensures ∙ ap (λ (x : Interface). x.uses) same2) (c.in_ok-own_exports.ensures ∙ ap (λ (x : Interface). x.exports) same3)
-    (subst (UsesStand types) (sym c.in_ok-own_uses.ensures) (interface_uses_stand types i2.acyclic c.args.id c.interface-2.result.now i2.entry i2.own))
-    (subst (ItemsStand types) (sym c.in_ok-own_exports.ensures) (interface_exports_stand types i3.acyclic c.args.id c.interface-3.result.now i3.entry i3.own))
+    c.in_ok-name.name c.in_ok-own.own.uses c.in_ok-uses.uses c.in_ok-own.own.exports c.in_ok-exports.exports (c.in_ok-name.ensures ∙ ap (λ (y : Interface). y.id) c.in_ok-own.ensures)
+    ((ap (λ (y : Interface). y.uses) c.in_ok-own.ensures)) ((ap (λ (y : Interface). y.exports) c.in_ok-own.ensures))
+    (subst (UsesStand types) (sym (ap (λ (y : Interface). y.uses) c.in_ok-own.ensures)) (interface_uses_stand types i.acyclic c.args.id c.interface.result.now i.entry i.own))
+    (subst (ItemsStand types) (sym (ap (λ (y : Interface). y.exports) c.in_ok-own.ensures)) (interface_exports_stand types i.acyclic c.args.id c.interface.result.now i.entry i.own))
     c.in_ok-uses.ensures.written c.in_ok-exports.ensures.written)
 
 pub new_interface-returns-clause-forms : goal.new_interface-returns-clause-forms
@@ -260,35 +241,35 @@ new_interface-returns-clause-grows t c =
 pub new_world-form_uses-requires : goal.new_world-form_uses-requires
 new_world-form_uses-requires t c =
     let types = c.args.types.now in
-    let i = c.world-2.ensures in
-    let x = c.world-2.result.now in
+    let i = c.world.ensures in
+    let x = c.world.result.now in
     let s = world_parts_size types i.acyclic c.args.id x i.entry i.own in
-    let e = ap (λ us. row_size types (used us)) c.in_ok-own_uses.ensures in
-    (omega (arith, s, e, c.decreases), (subst (UsesStand types) (sym c.in_ok-own_uses.ensures) (world_uses_stand types i.acyclic c.args.id x i.entry i.own), c.requires.forms))
+    let e = ap (λ us. row_size types (used us)) (ap (λ (y : World). y.uses) c.in_ok-own.ensures) in
+    (omega (arith, s, e, c.decreases), (subst (UsesStand types) (sym (ap (λ (y : World). y.uses) c.in_ok-own.ensures)) (world_uses_stand types i.acyclic c.args.id x i.entry i.own), c.requires.forms))
 
 pub new_world-form_items-requires : goal.new_world-form_items-requires
 new_world-form_items-requires t c =
     let types = c.args.types.now in
-    let i = c.world-3.ensures in
-    let x = c.world-3.result.now in
+    let i = c.world.ensures in
+    let x = c.world.result.now in
     let g = c.in_ok-uses.ensures.grows in
     let s = world_parts_size types i.acyclic c.args.id x i.entry i.own in
-    let stand : ItemsStand types c.in_ok-own_imports.own_imports = subst (ItemsStand types) (sym c.in_ok-own_imports.ensures) (world_imports_stand types i.acyclic c.args.id x i.entry i.own) in
-    let e = ap (λ xs. row_size types (items xs)) c.in_ok-own_imports.ensures in
-    let k = items_size_kept types c.form_uses.new.types g c.in_ok-own_imports.own_imports stand in
-    (omega (arith, s, e, k, c.decreases), (items_stand_kept types c.form_uses.new.types g c.in_ok-own_imports.own_imports stand, c.in_ok-uses.ensures.forms))
+    let stand : ItemsStand types c.in_ok-own.own.imports = subst (ItemsStand types) (sym (ap (λ (y : World). y.imports) c.in_ok-own.ensures)) (world_imports_stand types i.acyclic c.args.id x i.entry i.own) in
+    let e = ap (λ xs. row_size types (items xs)) (ap (λ (y : World). y.imports) c.in_ok-own.ensures) in
+    let k = items_size_kept types c.form_uses.new.types g c.in_ok-own.own.imports stand in
+    (omega (arith, s, e, k, c.decreases), (items_stand_kept types c.form_uses.new.types g c.in_ok-own.own.imports stand, c.in_ok-uses.ensures.forms))
 
 pub new_world-form_items-requires-2 : goal.new_world-form_items-requires-2
 new_world-form_items-requires-2 t c =
     let types = c.args.types.now in
-    let i = c.world-4.ensures in
-    let x = c.world-4.result.now in
+    let i = c.world.ensures in
+    let x = c.world.result.now in
     let g = Grows-trans types c.form_uses.new.types c.form_items.new.types c.in_ok-uses.ensures.grows c.in_ok-imports.ensures.grows in
     let s = world_parts_size types i.acyclic c.args.id x i.entry i.own in
-    let stand : ItemsStand types c.in_ok-own_exports.own_exports = subst (ItemsStand types) (sym c.in_ok-own_exports.ensures) (world_exports_stand types i.acyclic c.args.id x i.entry i.own) in
-    let e = ap (λ xs. row_size types (items xs)) c.in_ok-own_exports.ensures in
-    let k = items_size_kept types c.form_items.new.types g c.in_ok-own_exports.own_exports stand in
-    (omega (arith, s, e, k, c.decreases), (items_stand_kept types c.form_items.new.types g c.in_ok-own_exports.own_exports stand, c.in_ok-imports.ensures.forms))
+    let stand : ItemsStand types c.in_ok-own.own.exports = subst (ItemsStand types) (sym (ap (λ (y : World). y.exports) c.in_ok-own.ensures)) (world_exports_stand types i.acyclic c.args.id x i.entry i.own) in
+    let e = ap (λ xs. row_size types (items xs)) (ap (λ (y : World). y.exports) c.in_ok-own.ensures) in
+    let k = items_size_kept types c.form_items.new.types g c.in_ok-own.own.exports stand in
+    (omega (arith, s, e, k, c.decreases), (items_stand_kept types c.form_items.new.types g c.in_ok-own.own.exports stand, c.in_ok-imports.ensures.forms))
 
 pub new_world-add_component_type-requires-clause-uses : goal.new_world-add_component_type-requires-clause-uses
 new_world-add_component_type-requires-clause-uses t c = uses_stand_kept c.form_uses.new.types c.form_items-2.new.types (Grows-trans c.form_uses.new.types c.form_items.new.types c.form_items-2.new.types c.in_ok-imports.ensures.grows c.in_ok-exports.ensures.grows) c.in_ok-uses.uses c.in_ok-uses.ensures.written.stand
@@ -306,6 +287,10 @@ pub new_world-returns-in_err-exports-clause-grows : goal.new_world-returns-in_er
 new_world-returns-in_err-exports-clause-grows t c =
     Grows-trans c.args.types.now c.form_uses.new.types c.form_items-2.new.types c.in_ok-uses.ensures.grows (Grows-trans c.form_uses.new.types c.form_items.new.types c.form_items-2.new.types c.in_ok-imports.ensures.grows c.in_err-exports.ensures.grows)
 
+pub new_world-returns-in_err-name-clause-grows : goal.new_world-returns-in_err-name-clause-grows
+new_world-returns-in_err-name-clause-grows t c =
+    Grows-trans c.args.types.now c.form_uses.new.types c.form_items-2.new.types c.in_ok-uses.ensures.grows (Grows-trans c.form_uses.new.types c.form_items.new.types c.form_items-2.new.types c.in_ok-imports.ensures.grows c.in_ok-exports.ensures.grows)
+
 pub new_world-returns-in_err-form-clause-grows : goal.new_world-returns-in_err-form-clause-grows
 new_world-returns-in_err-form-clause-grows t c =
     Grows-trans c.args.types.now c.form_uses.new.types c.add_component_type.new.types c.in_ok-uses.ensures.grows
@@ -317,19 +302,13 @@ new_world-returns-clause-written t c =
     let types = c.args.types.now in
     let i = c.world.ensures in
     let x = c.world.result.now in
-    let i2 = c.world-2.ensures in
-    let i3 = c.world-3.ensures in
-    let i4 = c.world-4.ensures in
-    let same2 : c.world-2.result.now ≡ x = some_same (sym i2.entry ∙ i.entry) in
-    let same3 : c.world-3.result.now ≡ x = some_same (sym i3.entry ∙ i.entry) in
-    let same4 : c.world-4.result.now ≡ x = some_same (sym i4.entry ∙ i.entry) in
     subst (λ y. IsOf c.add_component_type.new.types y (ItemKind.Component c.in_ok-form.form))
     (world_formed types i.acyclic c.form_uses.new.types c.form_items.new.types c.form_items-2.new.types c.add_component_type.new.types c.in_ok-uses.ensures.grows c.in_ok-imports.ensures.grows c.in_ok-exports.ensures.grows c.args.id x i.entry i.own
-    c.in_ok-name.name c.in_ok-own_uses.own_uses c.in_ok-uses.uses c.in_ok-own_imports.own_imports c.in_ok-imports.imports c.in_ok-own_exports.own_exports c.in_ok-exports.exports c.in_ok-name.ensures
-    (c.in_ok-own_uses.ensures ∙ ap (λ (x : World). x.uses) same2) (c.in_ok-own_imports.ensures ∙ ap (λ (x : World). x.imports) same3) (c.in_ok-own_exports.ensures ∙ ap (λ (x : World). x.exports) same4)
-    (subst (UsesStand types) (sym c.in_ok-own_uses.ensures) (world_uses_stand types i2.acyclic c.args.id c.world-2.result.now i2.entry i2.own))
-    (subst (ItemsStand types) (sym c.in_ok-own_imports.ensures) (world_imports_stand types i3.acyclic c.args.id c.world-3.result.now i3.entry i3.own))
-    (subst (ItemsStand types) (sym c.in_ok-own_exports.ensures) (world_exports_stand types i4.acyclic c.args.id c.world-4.result.now i4.entry i4.own))
+    c.in_ok-name.name c.in_ok-own.own.uses c.in_ok-uses.uses c.in_ok-own.own.imports c.in_ok-imports.imports c.in_ok-own.own.exports c.in_ok-exports.exports (c.in_ok-name.ensures ∙ ap (λ (y : World). y.id) c.in_ok-own.ensures)
+    ((ap (λ (y : World). y.uses) c.in_ok-own.ensures)) ((ap (λ (y : World). y.imports) c.in_ok-own.ensures)) ((ap (λ (y : World). y.exports) c.in_ok-own.ensures))
+    (subst (UsesStand types) (sym (ap (λ (y : World). y.uses) c.in_ok-own.ensures)) (world_uses_stand types i.acyclic c.args.id c.world.result.now i.entry i.own))
+    (subst (ItemsStand types) (sym (ap (λ (y : World). y.imports) c.in_ok-own.ensures)) (world_imports_stand types i.acyclic c.args.id c.world.result.now i.entry i.own))
+    (subst (ItemsStand types) (sym (ap (λ (y : World). y.exports) c.in_ok-own.ensures)) (world_exports_stand types i.acyclic c.args.id c.world.result.now i.entry i.own))
     c.in_ok-uses.ensures.written c.in_ok-imports.ensures.written c.in_ok-exports.ensures.written)
     c.in_ok-form.ensures.world
 
