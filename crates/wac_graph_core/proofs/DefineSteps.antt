@@ -81,7 +81,7 @@ module _ (g : Graph) (es : List Edge) (k : ℕ) (t : TypeKind) (name : Name) (fr
   IsGraph-defined stands none is =
       record {
         nodes = each_node (NodeStands g.types g.places) g.nodes k (defined_node t name)
-            (record { item = stands; of = λ id e. absurd (cc (e)); made = λ r. absurd (cc (r)); only = λ id e. absurd (cc (e)) }) is.nodes;
+            (record { item = stands; of = λ id e. absurd (cc (e)); made = λ r. absurd (cc (r)); only = λ id e. absurd (cc (e)); instance = λ id p e at. absurd (cc (e)) }) is.nodes;
         once = AreOnce-insert g.nodes k (defined_node t name) (λ x r. absurd (cc (r))) (λ r. none) is.once;
         acyclic = IsAcyclic-by g.edges es old_followed is.acyclic;
         keyed = AreKeyed-by g.edges es (λ i j n at. old_followed (alias_edge i j n) at refl) (λ i a n at. old_followed (argument_edge a i n) at refl) is.keyed;

@@ -197,7 +197,7 @@ pub IsGraph-written : (g : Graph) (k : ℕ) (n o : NodeData) (xs : List (Name ×
     → IsGraph (record g { nodes = map.insert g.nodes k n; exports = xs })
 IsGraph-written g k n o xs at role of item exports is =
     record {
-      nodes = each_node (NodeStands g.types g.places) g.nodes k n (NodeStands-kept g.types g.types g.places g.places o n (λ j s. s) (λ id e there. there) role of item (is.nodes k o at)) is.nodes;
+      nodes = each_node (NodeStands g.types g.places) g.nodes k n (NodeStands-kept g.types g.types g.places g.places o n (λ j s. s) (λ id e there. refl) role of item (is.nodes k o at)) is.nodes;
       once = AreOnce-below g.nodes (map.insert g.nodes k n) (IsBelow-written g.nodes k n o at role of item) is.once;
       acyclic = is.acyclic;
       keyed = is.keyed;

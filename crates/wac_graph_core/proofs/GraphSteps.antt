@@ -20,7 +20,7 @@ use Rattle.wac_graph_core.specs.declared.package.Place.{Place}
 use Rattle.wac_graph_core.specs.Nodes.{NodeData, Role, plain_node}
 use Rattle.wac_graph_core.specs.NodeMaps.{NodeMap, NoImport, NoDefinition}
 use Rattle.wac_graph_core.specs.Edges.{alias_edge, argument_edge, HasAlias, HasArgument, AreEdges, has, IsReached}
-use Rattle.wac_graph_core.specs.Graph.{passed, passed_as, Graph, with_types, node_at, ContainsNode, package_in, package_of, package_if, package_made, instantiated, PackageStands, NodeStands, GivesExport, FillsImport, EdgeStands, AreWired, AreExports, IsGraph, IsStatedExport, IsStatedImport}
+use Rattle.wac_graph_core.specs.Graph.{passed, passed_as, Graph, with_types, node_at, ContainsNode, package_in, package_of, package_if, package_made, instantiated, PackageStands, NodeStands, GivesExport, FillsImport, EdgeStands, AreWired, AreExports, IsGraph, IsStatedExport, IsStatedImport, is_instance}
 use Rattle.wac_graph_core.specs.Steps.{with_node, with_edges, AddsEdge, NodeFits}
 use Rattle.wac_graph_core.proofs.NodeMap.{get-insert_same}
 use Rattle.wac_graph_core.proofs.NodeSteps.{kept_at, new_at, each_node, AreOnce-insert, SameBut, IsAbove, IsAbove-fresh, IsAbove-same, some_there}
@@ -107,6 +107,7 @@ module _ (g h : Graph) (above : IsAbove g.nodes h.nodes) (keeps : KeepsUsed g.no
       record {
         instance = x.node;
         instance_at = x.there;
+        one = ap is_instance x.item ∙ s.one;
         alias = y.node;
         alias_at = y.there;
         export = ap (λ t. value_at (exports_of t) n) (stated_item i s.instance s.instance_at) ∙ s.export ∙ ap Some (sym (stated_item k s.alias s.alias_at));
@@ -153,14 +154,15 @@ module _ (g h : Graph) (above : IsAbove g.nodes h.nodes) (keeps : KeepsUsed g.no
         ];
       }
 
-pub NodeStands-kept : (c d : Collection) (ps qs : List Place) (x y : NodeData) → ((k : ItemKind) → Stands c k → Stands d k) → ((id : PackageId) → x.of ≡ Some id → IsSome (package_in ps id) → IsSome (package_in qs id))
+pub NodeStands-kept : (c d : Collection) (ps qs : List Place) (x y : NodeData) → ((k : ItemKind) → Stands c k → Stands d k) → ((id : PackageId) → x.of ≡ Some id → IsSome (package_in ps id) → package_in qs id ≡ package_in ps id)
     → x.role ≡ y.role → x.of ≡ y.of → x.item_kind ≡ y.item_kind → NodeStands c ps x → NodeStands d qs y
 NodeStands-kept c d ps qs x y stand keeps role of item is =
     record {
       item = subst (Stands d) item (stand x.item_kind is.item);
-      of = λ id e. keeps id (of ∙ e) (is.of id (of ∙ e));
+      of = λ id e. subst IsSome (sym (keeps id (of ∙ e) (is.of id (of ∙ e)))) (is.of id (of ∙ e));
       made = λ r. subst IsSome of (is.made (role ∙ r));
       only = λ id e. sym role ∙ is.only id (of ∙ e);
+      instance = λ id p e at. sym item ∙ is.instance id p (of ∙ e) (sym (keeps id (of ∙ e) (is.of id (of ∙ e))) ∙ at);
     }
 
 pub AreExports-fresh : (m : NodeMap) (k : ℕ) (n : NodeData) (xs : List (Name × ℕ)) → map.get m k ≡ None → n.export ≡ None → AreExports m xs → AreExports (map.insert m k n) xs
@@ -210,9 +212,10 @@ module _ (g : Graph) (es : List Edge) (i k : ℕ) (n : Name) (item : ItemKind) (
   gives_export s = record {
     instance = s.node;
     instance_at = kept_at g.nodes k (plain_node Role.Aliased None item) i s.node free s.there;
+    one = s.kind.0;
     alias = plain_node Role.Aliased None item;
     alias_at = alias_there;
-    export = s.kind;
+    export = s.kind.1;
   }
 
   new_stands : IsStatedExport g i n item → (e : Edge) → e ≡ alias_edge i k n → EdgeStands aliased e
@@ -237,7 +240,7 @@ module _ (g : Graph) (es : List Edge) (i k : ℕ) (n : Name) (item : ItemKind) (
       let there : ContainsNode g i = subst IsSome (sym given.there) refl in
       record {
         nodes = each_node (NodeStands g.types g.places) g.nodes k (plain_node Role.Aliased None item)
-            (record { item = stands; of = λ id e. absurd (cc (e)); made = λ r. absurd (cc (r)); only = λ id e. absurd (cc (e)) }) is.nodes;
+            (record { item = stands; of = λ id e. absurd (cc (e)); made = λ r. absurd (cc (r)); only = λ id e. absurd (cc (e)); instance = λ id p e at. absurd (cc (e)) }) is.nodes;
         once = AreOnce-insert g.nodes k (plain_node Role.Aliased None item) (λ x r. absurd (cc (r))) (λ r. absurd (cc (r))) is.once;
         acyclic = IsAcyclic-leaf g.edges es (alias_edge i k n) adds
             (λ d at. (none_here d.from (is.wired.edges d at).from, none_here d.to (is.wired.edges d at).to)) (none_here i there) is.acyclic;
@@ -346,7 +349,7 @@ PackageStands-grown c d p grows is =
 pub IsGraph-grown : (g : Graph) (c : Collection) → Grows g.types c → IsGraph g → IsGraph (record g { types = c })
 IsGraph-grown g c grows is =
     record {
-      nodes = λ k n at. NodeStands-kept g.types c g.places g.places n n grows.stand (λ id of there. there) refl refl refl (is.nodes k n at);
+      nodes = λ k n at. NodeStands-kept g.types c g.places g.places n n grows.stand (λ id of there. refl) refl refl refl (is.nodes k n at);
       once = is.once;
       acyclic = is.acyclic;
       keyed = is.keyed;
@@ -367,7 +370,7 @@ IsGraph-grown g c grows is =
 pub IsGraph-import : (g : Graph) (k : ℕ) (name : Name) (kind : ItemKind) → node_at g k ≡ None → Stands g.types kind → NoImport g.nodes name → IsGraph g → IsGraph (with_node g k (plain_node (Role.Imported name) None kind))
 IsGraph-import g k name kind free stands none is =
     IsGraph-new_node g k (plain_node (Role.Imported name) None kind) free
-    (record { item = stands; of = λ id e. absurd (cc (e)); made = λ r. absurd (cc (r)); only = λ id e. absurd (cc (e)) })
+    (record { item = stands; of = λ id e. absurd (cc (e)); made = λ r. absurd (cc (r)); only = λ id e. absurd (cc (e)); instance = λ id p e at. absurd (cc (e)) })
     (λ r. absurd (cc (r))) (λ x r. subst (NoImport g.nodes) (same_import x r) none) (λ r. absurd (cc (r))) refl is
   where
     same_import : (x : Name) → Role.Imported name ≡ Role.Imported x → name ≡ x
@@ -377,11 +380,17 @@ IsGraph-import g k name kind free stands none is =
 pub IsGraph-instance : (g : Graph) (k : ℕ) (id : PackageId) (p : Packaged) → node_at g k ≡ None → package_of g id ≡ Some p → IsGraph g → IsGraph (with_node g k (plain_node Role.Instance (Some id) (ItemKind.Instance p.instance_type)))
 IsGraph-instance g k id p free at is =
     IsGraph-new_node g k (plain_node Role.Instance (Some id) (ItemKind.Instance p.instance_type)) free
-    (record { item = (is.packages.stand id p at).instance; of = λ j e. subst (λ j. IsSome (package_in g.places j)) (same_package j e) (subst IsSome (sym at) refl); made = λ r. refl; only = λ j e. refl })
+    (record { item = (is.packages.stand id p at).instance; of = λ j e. subst (λ j. IsSome (package_in g.places j)) (same_package j e) (subst IsSome (sym at) refl); made = λ r. refl; only = λ j e. refl; instance = same_instance })
     (λ r. absurd (cc (r))) (λ x r. absurd (cc (r))) (λ r. absurd (cc (r))) refl is
   where
     same_package : (j : PackageId) → Some id ≡ Some j → id ≡ j
     same_package j e = cc
+
+    same_instance : (j : PackageId) (q : Packaged) → Some id ≡ Some j → package_in g.places j ≡ Some q → ItemKind.Instance p.instance_type ≡ ItemKind.Instance q.instance_type
+    same_instance j q e there =
+        let same : Some p ≡ Some q = sym at ∙ ap (package_in g.places) (same_package j e) ∙ there in
+        let one : p ≡ q = cc same in
+        ap (λ (r : Packaged). ItemKind.Instance r.instance_type) one
 
 -- the same, with the node known by an equation
 pub import_by : (g : Graph) (ns : NodeMap) (k : ℕ) (name : Name) (kind : ItemKind) (n : NodeData) → ns ≡ map.insert g.nodes k n → n ≡ plain_node (Role.Imported name) None kind → node_at g k ≡ None → Stands g.types kind → NoImport g.nodes name → IsGraph g → IsGraph (record g { nodes = ns })

@@ -109,7 +109,7 @@ some_value (Some p) h = (p, refl)
 pub IsGraph-places : (g : Graph) (qs : List Place) → KeepsUsed g.nodes g.places qs → ArePlaces g.types qs → IsGraph g → IsGraph (record g { places = qs })
 IsGraph-places g qs keeps places is =
     record {
-      nodes = λ k n at. NodeStands-kept g.types g.types g.places qs n n (λ j s. s) (λ id of there. subst IsSome (sym (keeps k n id at of there)) there) refl refl refl (is.nodes k n at);
+      nodes = λ k n at. NodeStands-kept g.types g.types g.places qs n n (λ j s. s) (λ id of there. keeps k n id at of there) refl refl refl (is.nodes k n at);
       once = is.once;
       acyclic = is.acyclic;
       keyed = is.keyed;

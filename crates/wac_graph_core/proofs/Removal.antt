@@ -125,6 +125,7 @@ module _ (g : Graph) (es : List Edge) (gone : List ℕ) where
             record {
               instance = x.instance;
               instance_at = stays_at g.nodes gone e.from from ∙ x.instance_at;
+              one = x.one;
               alias = x.alias;
               alias_at = stays_at g.nodes gone e.to to ∙ x.alias_at;
               export = x.export;

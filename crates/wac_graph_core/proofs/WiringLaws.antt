@@ -146,6 +146,18 @@ module _ (spell : Name → Name) (written : ItemKind → Tree) (g : Graph) (soun
     no_other = λ n e. ap (λ o. asked o (binding k n).0) e;
   }
 
+  same_arg : (k : ℕ) (p : Packaged) (x y : Instantiation ℕ) → w.IsInstance spell written g k p x → w.IsInstance spell written g k p y
+      → (n : Name) (o : Option ItemKind) → item_import g.types p.ty n ≡ o → x.args n ≡ y.args n
+  same_arg k p x y a b n None e = a.no_other n e ∙ sym (b.no_other n e)
+  same_arg k p x y a b n (Some item) e = binds_once k n (x.args n) (y.args n) (a.bound n item e) (b.bound n item e)
+
+  -- a package has one instance at a node
+  pub same_instance : (k : ℕ) (p : Packaged) (x y : Instantiation ℕ) → w.IsInstance spell written g k p x → w.IsInstance spell written g k p y → x ≡ y
+  same_instance k p x y a b = λ i. record {
+    tag = (a.tag ∙ sym b.tag) i;
+    args = λ n. same_arg k p x y a b n (item_import g.types p.ty n) refl i;
+  }
+
   export_stands : (n : Name) (k : ℕ) → value_at g.exports n ≡ Some k → ContainsNode g k
   export_stands n k e = sound.exported.stand n k (value_among g.exports n k e)
 
@@ -182,17 +194,6 @@ module _ (spell : Name → Name) (written : ItemKind → Tree) (g : Graph) (soun
     )
 
     module _ (V W : Wiring ℕ) (v : w.IsWiring spell written g outers V) (q : w.IsWiring spell written g outers W) where
-      same_arg : (k : ℕ) (p : Packaged) (x y : Instantiation ℕ) → w.IsInstance spell written g k p x → w.IsInstance spell written g k p y
-          → (n : Name) (o : Option ItemKind) → item_import g.types p.ty n ≡ o → x.args n ≡ y.args n
-      same_arg k p x y a b n None e = a.no_other n e ∙ sym (b.no_other n e)
-      same_arg k p x y a b n (Some item) e = binds_once k n (x.args n) (y.args n) (a.bound n item e) (b.bound n item e)
-
-      same_instance : (k : ℕ) (p : Packaged) (x y : Instantiation ℕ) → w.IsInstance spell written g k p x → w.IsInstance spell written g k p y → x ≡ y
-      same_instance k p x y a b = λ i. record {
-        tag = (a.tag ∙ sym b.tag) i;
-        args = λ n. same_arg k p x y a b n (item_import g.types p.ty n) refl i;
-      }
-
       same_at : (k : ℕ) (o : Option Packaged) → instantiated g k ≡ o → V.at k ≡ W.at k
       same_at k None e = v.no_other k e ∙ sym (q.no_other k e)
       same_at k (Some p) e =

@@ -117,9 +117,9 @@ pub record IsArgument (g : Graph) (i : ℕ) (n : Name) (item : ItemKind) : Type 
   pub is : instantiated g i ≡ Some of
   pub import : item_import g.types of.ty n ≡ Some item
 
--- the node's item has this export, with the stated type of this kind
+-- the node is an instance with this export, of the stated type of this kind
 abbrev pub IsStatedExport : Graph → ℕ → Name → ItemKind → Type 0
-IsStatedExport g k n item = IsOfKind g k (λ x. value_at (exports_of (stated_of g.types x)) n ≡ Some (stated_of g.types item))
+IsStatedExport g k n item = IsOfKind g k (λ x. (is_instance x ≡ true) × (value_at (exports_of (stated_of g.types x)) n ≡ Some (stated_of g.types item)))
 
 -- the node is an instance of a package that has this import, with the stated type of this kind
 pub record IsStatedImport (g : Graph) (i : ℕ) (n : Name) (item : ItemKind) : Type 0 where
@@ -129,17 +129,19 @@ pub record IsStatedImport (g : Graph) (i : ℕ) (n : Name) (item : ItemKind) : T
 
 -- ---- what holds of each graph
 
--- a node's item stands, and its package where it is an instance of one
+-- a node's item stands, and its package where it is an instance of one: then its item is of the interface of the package's instances
 pub record NodeStands (c : Collection) (ps : List Place) (n : NodeData) : Type 0 where
   pub item : Stands c n.item_kind
   pub of : (id : PackageId) → n.of ≡ Some id → IsSome (package_in ps id)
   pub made : n.role ≡ Role.Instance → IsSome n.of
   pub only : (id : PackageId) → n.of ≡ Some id → n.role ≡ Role.Instance
+  pub instance : (id : PackageId) (p : Packaged) → n.of ≡ Some id → package_in ps id ≡ Some p → n.item_kind ≡ ItemKind.Instance p.instance_type
 
--- the export of this name of the one node's item is the other's, by their stated types
+-- the one node is an instance, and its export of this name is the other's item, by their stated types
 pub record GivesExport (g : Graph) (i : ℕ) (n : Name) (k : ℕ) : Type 0 where
   pub instance : NodeData
   pub instance_at : node_at g i ≡ Some instance
+  pub one : is_instance instance.item_kind ≡ true
   pub alias : NodeData
   pub alias_at : node_at g k ≡ Some alias
   pub export : value_at (exports_of (stated_of g.types instance.item_kind)) n ≡ Some (stated_of g.types alias.item_kind)

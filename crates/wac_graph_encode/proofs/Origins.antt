@@ -89,7 +89,7 @@ module _ (p q : Edge → Bool) (wider : (e : Edge) → p e ≡ true → q e ≡ 
 
 -- ---- lists and maps
 
-find_among : (es : List (ℕ × NodeData)) (k : ℕ) (x : NodeData) → find nat_cmp k es ≡ Some x → Among (k, x) es
+pub find_among : (es : List (ℕ × NodeData)) (k : ℕ) (x : NodeData) → find nat_cmp k es ≡ Some x → Among (k, x) es
 find_among [] k x e = absurd (none-some _ e)
 find_among (d ∷ es) k x e = go (find_among es k x) (eq_by_cmp nat_cmp k d.0) refl e
   where
@@ -97,7 +97,7 @@ find_among (d ∷ es) k x e = go (find_among es k x) (eq_by_cmp nat_cmp k d.0) r
     go rest true q r = let same : k ≡ d.0 = same_number k d.0 (sym (unsigned_tied k d.0) ∙ q) in inl (λ i. (same i, sym (same_Some _ _ r) i))
     go rest false q r = inr (rest r)
 
-node_among : (g : Graph) (k : ℕ) (x : NodeData) → node_at g k ≡ Some x → Among (k, x) (nodes_of g)
+pub node_among : (g : Graph) (k : ℕ) (x : NodeData) → node_at g k ≡ Some x → Among (k, x) (nodes_of g)
 node_among g k x e = find_among (nodes_of g) k x (sym (finite.get-entries g.nodes k) ∙ e)
 
 among_mapped : {X Y : Type 0} (f : X → Option Y) (xs : List X) (x : X) (y : Y) → Among x xs → f x ≡ Some y → Among y (filter_map f xs)
@@ -120,7 +120,7 @@ names_turn m n = go (pointwise ◌==◌ m n) refl (pointwise ◌==◌ n m) refl
     go false p true q = absurd (true≢false (sym ((bytes_decides m n).1 (sym ((bytes_decides n m).0 q))) ∙ p))
 
 -- what is passed under a name
-passed_as : (es : List Edge) (k : ℕ) (n : Name) → value_at (arguments_to es k) n ≡ first_argument es k n
+pub passed_as : (es : List Edge) (k : ℕ) (n : Name) → value_at (arguments_to es k) n ≡ first_argument es k n
 passed_as [] k n = refl
 passed_as (e ∷ es) k n = go (passed_as es k n) (e.to == k) e.label
   where
@@ -133,7 +133,7 @@ passed_as (e ∷ es) k n = go (passed_as es k n) (e.to == k) e.label
     go h true Label.Dependency = h
     go h false l = h
 
-value_mapped : {X Y : Type 0} (f : X → Y) (xs : List (Name × X)) (n : Name) → value_at (map (λ x. (x.0, f x.1)) xs) n ≡ option_map f (value_at xs n)
+pub value_mapped : {X Y : Type 0} (f : X → Y) (xs : List (Name × X)) (n : Name) → value_at (map (λ x. (x.0, f x.1)) xs) n ≡ option_map f (value_at xs n)
 value_mapped f [] n = refl
 value_mapped f (x ∷ xs) n = go (value_mapped f xs n) (pointwise ◌==◌ n x.0)
   where
@@ -207,7 +207,7 @@ module _ (g : Graph) (sound : IsGraph g) (finite_types : IsFinite g.types) where
 
   -- ---- instances
 
-  abbrev made_of : ℕ → Packaged → Made ℕ ℕ
+  abbrev pub made_of : ℕ → Packaged → Made ℕ ℕ
   made_of k p = record {
     by = k;
     number = k;
@@ -223,7 +223,7 @@ module _ (g : Graph) (sound : IsGraph g) (finite_types : IsFinite g.types) where
       by_node None q h = absurd (none-some _ h)
       by_node (Some x) q h = among_mapped (λ e. made_with g e.0 (package_if g e.1.of)) (nodes_of g) (k, x) (made_of k p) (node_among g k x q) (ap (made_with g k) h)
 
-  package_stands : (k : ℕ) (p : Packaged) → instantiated g k ≡ Some p → (id : PackageId) × (package_if g (Some id) ≡ Some p)
+  pub package_stands : (k : ℕ) (p : Packaged) → instantiated g k ≡ Some p → (id : PackageId) × (package_if g (Some id) ≡ Some p)
   package_stands k p e = by_node (node_at g k) e
     where
       by_id : (o : Option PackageId) → package_if g o ≡ Some p → (id : PackageId) × (package_if g (Some id) ≡ Some p)
@@ -241,7 +241,7 @@ module _ (g : Graph) (sound : IsGraph g) (finite_types : IsFinite g.types) where
       ap (λ l. value_at l n) (imports_stated g.types finite_types p.ty v.value v.at v.own) ∙ value_mapped (stated_of g.types) v.value.imports n
       ∙ ap (λ o. option_map (stated_of g.types) (imported_in o n)) (sym v.at)
 
-  argument_is : (k : ℕ) (n : Name) → value_at (map (λ a. (a.0, origin_of g a.1)) (arguments_to g.edges k)) n ≡ option_map (origin_of g) (first_argument g.edges k n)
+  pub argument_is : (k : ℕ) (n : Name) → value_at (map (λ a. (a.0, origin_of g a.1)) (arguments_to g.edges k)) n ≡ option_map (origin_of g) (first_argument g.edges k n)
   argument_is k n = value_mapped (origin_of g) (arguments_to g.edges k) n ∙ ap (option_map (origin_of g)) (passed_as g.edges k n)
 
   bound_is : (k : ℕ) (n : Name) (s : Source ℕ) → w.Binds spell (written_tree g) g k n s → s ≡ source_for (λ key. OfBytes []) (composition_of g) (option_map (origin_of g) (first_argument g.edges k n)) n

@@ -2,3 +2,14 @@ pub mod Acyclic
 pub mod Graphs
 pub mod Encoding
 pub mod Composed
+pub mod AsksIn
+pub mod Joining
+pub mod Words
+pub mod Classed
+pub mod Named
+pub mod Reads
+pub mod Asked
+pub mod AskedNodes
+pub mod AskedUses
+pub mod Standing
+pub mod Writing

@@ -1,13 +1,28 @@
 //! What a graph asks from outside, in order.
 
+ghost use Rattle.std.specs.Prelude.{◌≡◌, ◌+◌, ◌∷◌, ◌++◌, [], true, OnOk, IfOk};
+ghost use Rattle.wac_types_base.specs.declared.item.ItemKind.{ItemKind};
+ghost use Rattle.wac_types_base.specs.Collection.{Stands, Grows, size_of, empty};
+ghost use Rattle.wac_types_base.specs.Stated.{stated_of};
+ghost use Rattle.wac_graph_core.specs.Graph.{node_at};
+ghost use Rattle.wac_graph_scopes.specs.Parts.{imports_of};
+ghost use Rattle.wac_composition.specs.Asks.{used_by, used_by_definition, asked_for};
+ghost use Rattle.wac_graph_encode.specs.Graphs.{first_export};
+ghost use Rattle.wac_graph_encode.specs.Reads.{is_definition};
+ghost use Rattle.wac_graph_encode.specs.AsksIn.{asks_in};
+ghost use Rattle.wac_graph_encode.specs.Asked.{package_ids, HasCopy, IsHeld, Adds, IsAsked};
+ghost use Rattle.wac_graph_encode.specs.AskedNodes.{held_ask, unbound_asks, imports_ask, instances_ask, types_defined};
+ghost use Rattle.wac_graph_encode.specs.AskedNodes.{import_asks, instance_asks, instance_ids, definitions_at, CopiesWorld, AddsNodes};
+ghost use Rattle.wac_graph_encode.specs.AskedNodes.{NamesFirst, AreFirstNames, name_in};
+ghost use Rattle.wac_graph_encode.specs.AskedUses.{NotesUse, AskedBelow, AllSeenAsked, AddsUses, AreUses};
+ghost use Rattle.wac_graph_encode.specs.AskedUses.{with_used, used_directly, used_by_world, used_by_exports};
+ghost use Rattle.wac_graph_encode.specs.AskedUses.{ItemsStand, CopiesStand, uses_of_asks, uses_of_copies};
+
 use crate::nodes::{Arguments, import_name, kind_of, node_at, package_of, world_at};
 use indexmap::{IndexMap, IndexSet};
 use std::alloc::{AllocError, Global};
 use wac_graph_core::{CompositionGraph, NodeId, NodeKind, PackageId};
-use wac_graph_scopes::parts::{
-    export_at, export_count, identifier, import_at, import_count, interface_of, use_at, use_count,
-    world_identifier, world_use_at, world_use_count,
-};
+use wac_graph_scopes::parts::{import_at, import_count, interface_of};
 use wac_types_base::copy::copy_item;
 use wac_types_base::{InterfaceId, ItemKind, Text, Type, Types, WorldId};
 
@@ -83,7 +98,9 @@ impl Drop for Asked {
     }
 }
 
-fn owned(alloc: Global, text: &str) -> Result<Text, AllocError> {
+fn owned(alloc: Global, text: &str) -> Result<Text, AllocError>
+    ensures { IfOk result (λ t. t ≡ text.now) }
+{
     Ok(Text::new(String::from_str(alloc, text)?))
 }
 
@@ -95,7 +112,9 @@ fn push_ask(
     by: NodeId,
     item: ItemKind,
     name: &str,
-) -> Result<(), AllocError> {
+) -> Result<(), AllocError>
+    ensures { OnOk result (asks.new.items ≡ asks.old.items ++ held_ask asking by name.now item ∷ []) }
+{
     let name = owned(alloc, name)?;
     asks.push(Ask {
         asking,
@@ -106,8 +125,55 @@ fn push_ask(
     Ok(())
 }
 
+/// Adds what an instance asks of the imports of a world: those that are not bound.
+fn push_unbound(
+    alloc: Global,
+    types: &Types,
+    asks: &mut Vec<Ask>,
+    node: NodeId,
+    world: WorldId,
+    bound: &Arguments,
+) -> Result<(), AllocError>
+    ensures { OnOk result (asks.new.items ≡ asks.old.items ++ unbound_asks node bound.now (imports_of types.now world)) }
+{
+    for at in 0..import_count(types, world) {
+        if let Some(import) = import_at(types, world, at) {
+            if bound.get(import.name).is_none() {
+                push_ask(alloc, asks, Asking::ToFill, node, import.kind, import.name)?;
+            }
+        }
+    }
+    Ok(())
+}
+
+/// The copy of a type that is an interface or a world.
+fn copied_type(
+    alloc: Global,
+    graph: &CompositionGraph,
+    ty: Type,
+    to: &mut Types,
+) -> Result<Option<ItemKind>, AllocError>
+    requires { Stands graph.now.types (ItemKind.Ty ty) }
+    ensures copy { IfOk result (HasCopy graph.now.types to.new ty) }
+    ensures grows { OnOk result (Grows to.old to.new) }
+{
+    to.see_acyclic();
+    match ty {
+        Type::Interface(_) | Type::World(_) => {
+            let copy = copy_item(alloc, graph.types(), ItemKind::Ty(ty), to)?;
+            Ok(Some(copy))
+        }
+        _ => Ok(None),
+    }
+}
+
 impl Asked {
-    fn new(alloc: Global, number: u64) -> Self {
+    fn new(alloc: Global, number: u64) -> Self
+        ensures types { result.types ≡ empty number }
+        ensures asks { result.asks.items ≡ [] }
+        ensures packages { result.packages.entries ≡ [] }
+        ensures definitions { result.definitions.items ≡ [] }
+    {
         Asked {
             types: Types::new(alloc, number),
             asks: Vec::new(alloc),
@@ -122,7 +188,10 @@ impl Asked {
         alloc: Global,
         graph: &CompositionGraph,
         node: NodeId,
-    ) -> Result<(), AllocError> {
+    ) -> Result<(), AllocError>
+        requires { IsHeld graph.now self.old }
+        ensures { OnOk result (Adds graph.now self.old self.new (import_asks graph.now node) [] []) }
+    {
         let Some(name) = import_name(graph, node) else {
             return Ok(());
         };
@@ -139,10 +208,14 @@ impl Asked {
         alloc: Global,
         graph: &CompositionGraph,
         id: PackageId,
-    ) -> Result<Option<WorldId>, AllocError> {
-        if let Some(world) = self.packages.get(&id) {
-            return Ok(Some(*world));
+    ) -> Result<Option<WorldId>, AllocError>
+        requires { IsHeld graph.now self.old }
+        ensures { IfOk result (CopiesWorld graph.now self.old self.new id) }
+    {
+        if let Some(world) = self.packages.get(&id).copied() {
+            return Ok(Some(world));
         }
+        graph.types().see_acyclic();
         let Some(world) = world_at(graph, id) else {
             return Ok(None);
         };
@@ -156,32 +229,18 @@ impl Asked {
         }
     }
 
-    /// Adds what an instance asks of the imports of a world: those that are not bound.
-    fn ask_unbound(
-        &mut self,
-        alloc: Global,
-        node: NodeId,
-        world: WorldId,
-        bound: &Arguments,
-    ) -> Result<(), AllocError> {
-        for at in 0..import_count(&self.types, world) {
-            if let Some(import) = import_at(&self.types, world, at) {
-                if bound.get(import.name).is_none() {
-                    let asks = &mut self.asks;
-                    push_ask(alloc, asks, Asking::ToFill, node, import.kind, import.name)?;
-                }
-            }
-        }
-        Ok(())
-    }
-
     /// Adds what an instance asks: its package's imports for which it has no argument.
     fn ask_instance(
         &mut self,
         alloc: Global,
         graph: &CompositionGraph,
         node: NodeId,
-    ) -> Result<(), AllocError> {
+    ) -> Result<(), AllocError>
+        requires { IsHeld graph.now self.old }
+        ensures { OnOk result (Adds graph.now self.old self.new (instance_asks graph.now node) (instance_ids graph.now node) []) }
+    {
+        graph.see_sound();
+        graph.types().see_acyclic();
         let Some(package) = package_of(graph, node) else {
             return Ok(());
         };
@@ -189,27 +248,7 @@ impl Asked {
             return Ok(());
         };
         let bound = Arguments::of(alloc, graph, node)?;
-        self.ask_unbound(alloc, node, world, &bound)
-    }
-
-    /// The copy of a type that is an interface or a world.
-    fn copied_type(
-        &mut self,
-        alloc: Global,
-        graph: &CompositionGraph,
-        ty: Type,
-    ) -> Result<Option<ItemKind>, AllocError> {
-        let kind = ItemKind::Ty(ty);
-        if !graph.types().has(kind) {
-            return Ok(None);
-        }
-        match ty {
-            Type::Interface(_) | Type::World(_) => {
-                let copy = copy_item(alloc, graph.types(), kind, &mut self.types)?;
-                Ok(Some(copy))
-            }
-            _ => Ok(None),
-        }
+        push_unbound(alloc, &self.types, &mut self.asks, node, world, &bound)
     }
 
     /// Adds a definition under a name.
@@ -219,38 +258,66 @@ impl Asked {
         graph: &CompositionGraph,
         node: NodeId,
         name: &str,
-    ) -> Result<(), AllocError> {
-        if let Some(ItemKind::Ty(ty)) = kind_of(graph, node) {
-            let copy = self.copied_type(alloc, graph, ty)?;
-            let name = owned(alloc, name)?;
-            self.definitions.push(Definition {
-                node,
-                name,
-                ty,
-                copy,
-            })?;
-        }
+    ) -> Result<(), AllocError>
+        requires held { IsHeld graph.now self.old }
+        requires defined { is_definition (node_at graph.now node) ≡ true }
+        requires name { name.now ≡ first_export graph.now.exports node }
+        ensures { OnOk result (Adds graph.now self.old self.new [] [] (definitions_at graph.now node)) }
+    {
+        graph.types().see_acyclic();
+        let Some(kind) = kind_of(graph, node) else {
+            return Ok(());
+        };
+        let ItemKind::Ty(ty) = kind else {
+            return Ok(());
+        };
+        let copy = copied_type(alloc, graph, ty, &mut self.types)?;
+        let name = owned(alloc, name)?;
+        self.definitions.push(Definition {
+            node,
+            name,
+            ty,
+            copy,
+        })?;
         Ok(())
     }
 }
 
-fn is_definition(graph: &CompositionGraph, id: NodeId) -> bool {
+fn is_definition(graph: &CompositionGraph, id: NodeId) -> bool
+    ensures { result ≡ is_definition (node_at graph.now id) }
+{
     match node_at(graph, id) {
         Some(node) => matches!(node.kind(), NodeKind::Definition),
         None => false,
     }
 }
 
+/// Gives a node a name, if it has none.
+fn name_first(
+    names: &mut IndexMap<NodeId, Text>,
+    node: NodeId,
+    name: &Text,
+) -> Result<(), AllocError>
+    ensures { OnOk result (NamesFirst names.old.entries names.new.entries node name.now) }
+{
+    if names.contains_key(&node) {
+        return Ok(());
+    }
+    let name = name.copy()?;
+    let _ = names.insert(node, name)?;
+    Ok(())
+}
+
 /// Adds the first name that each node is exported under.
 fn add_first_exports(
     graph: &CompositionGraph,
     names: &mut IndexMap<NodeId, Text>,
-) -> Result<(), AllocError> {
+) -> Result<(), AllocError>
+    requires { names.old.entries ≡ [] }
+    ensures { OnOk result (AreFirstNames graph.now names.new.entries) }
+{
     for (name, node) in graph.exports() {
-        if !names.contains_key(node) {
-            let name = name.copy()?;
-            let _ = names.insert(*node, name)?;
-        }
+        name_first(names, *node, name)?;
     }
     Ok(())
 }
@@ -267,24 +334,6 @@ impl Drop for UseAsks {
     }
 }
 
-/// The interfaces that a definition uses which is written as it is: those of its item, or else those of its world.
-fn used_definition(types: &Types, kind: ItemKind) -> (Option<ItemKind>, Option<WorldId>) {
-    match kind {
-        ItemKind::Ty(ty) => match ty {
-            Type::Interface(id) => match identifier(types, id) {
-                None => (Some(kind), None),
-                Some(_) => (None, None),
-            },
-            Type::World(id) => match world_identifier(types, id) {
-                None => (None, Some(id)),
-                Some(_) => (None, None),
-            },
-            _ => (None, None),
-        },
-        _ => (None, None),
-    }
-}
-
 /// Adds a used interface, if it is not there. Whether it was added.
 fn add_use(
     alloc: Global,
@@ -292,14 +341,17 @@ fn add_use(
     all: &mut UseAsks,
     by: NodeId,
     id: InterfaceId,
-) -> Result<bool, AllocError> {
+) -> Result<bool, AllocError>
+    requires { Stands types.now (ItemKind.Instance id) }
+    ensures { IfOk result (NotesUse types.now all.old all.new by id) }
+{
     let is_new = all.seen.insert(id)?;
     if !is_new {
         return Ok(false);
     }
-    if let Some(name) = identifier(types, id) {
+    if let Some(name) = &types.interface(id).id {
         let item = ItemKind::Instance(id);
-        push_ask(alloc, &mut all.asks, Asking::ToUse, by, item, name)?;
+        push_ask(alloc, &mut all.asks, Asking::ToUse, by, item, name.as_str())?;
     }
     Ok(true)
 }
@@ -312,12 +364,16 @@ fn ask_use(
     all: &mut UseAsks,
     by: NodeId,
     id: InterfaceId,
-) -> Result<(), AllocError> {
+) -> Result<(), AllocError>
+    requires stands { Stands types.now (ItemKind.Instance id) }
+    requires below { AskedBelow types.now all.old (size_of types.now (ItemKind.Instance id) + 1) }
+    ensures { OnOk result (AddsUses types.now all.old all.new (asked_for by (with_used types.now id))) }
+{
     let is_new = add_use(alloc, types, all, by, id)?;
-    if is_new {
-        ask_uses(alloc, types, all, by, ItemKind::Instance(id))?;
+    if !is_new {
+        return Ok(());
     }
-    Ok(())
+    ask_uses(alloc, types, all, by, ItemKind::Instance(id))
 }
 
 /// Adds the interfaces that an interface uses itself.
@@ -328,11 +384,34 @@ fn ask_direct(
     all: &mut UseAsks,
     by: NodeId,
     id: InterfaceId,
-) -> Result<(), AllocError> {
-    for at in 0..use_count(types, id) {
-        if let Some(used) = use_at(types, id, at) {
-            ask_use(alloc, types, all, by, used.interface)?;
-        }
+) -> Result<(), AllocError>
+    requires stands { Stands types.now (ItemKind.Instance id) }
+    requires below { AskedBelow types.now all.old (size_of types.now (ItemKind.Instance id)) }
+    ensures { OnOk result (AddsUses types.now all.old all.new (asked_for by (used_directly types.now id))) }
+{
+    let uses = types.interface(id).uses.values();
+    for used in uses {
+        ask_use(alloc, types, all, by, used.interface)?;
+    }
+    Ok(())
+}
+
+/// Adds the interfaces that the items of an interface use.
+#[cycle(uses)]
+fn ask_exports(
+    alloc: Global,
+    types: &Types,
+    all: &mut UseAsks,
+    by: NodeId,
+    id: InterfaceId,
+) -> Result<(), AllocError>
+    requires stands { Stands types.now (ItemKind.Instance id) }
+    requires below { AskedBelow types.now all.old (size_of types.now (ItemKind.Instance id)) }
+    ensures { OnOk result (AddsUses types.now all.old all.new (asked_for by (used_by_exports types.now id))) }
+{
+    let items = types.interface(id).exports.values();
+    for item in items {
+        ask_uses(alloc, types, all, by, *item)?;
     }
     Ok(())
 }
@@ -345,17 +424,17 @@ fn ask_uses(
     all: &mut UseAsks,
     by: NodeId,
     kind: ItemKind,
-) -> Result<(), AllocError> {
+) -> Result<(), AllocError>
+    requires stands { Stands types.now kind }
+    requires below { AskedBelow types.now all.old (size_of types.now kind) }
+    ensures { OnOk result (AddsUses types.now all.old all.new (asked_for by (used_by (stated_of types.now kind)))) }
+{
+    types.see_acyclic();
     let Some(id) = interface_of(types, kind) else {
         return Ok(());
     };
     ask_direct(alloc, types, all, by, id)?;
-    for at in 0..export_count(types, id) {
-        if let Some(item) = export_at(types, id, at) {
-            ask_uses(alloc, types, all, by, item.kind)?;
-        }
-    }
-    Ok(())
+    ask_exports(alloc, types, all, by, id)
 }
 
 /// Adds the interfaces that a world uses itself, each before those that it uses.
@@ -365,39 +444,64 @@ fn ask_world(
     all: &mut UseAsks,
     by: NodeId,
     id: WorldId,
-) -> Result<(), AllocError> {
-    for at in 0..world_use_count(types, id) {
-        if let Some(used) = world_use_at(types, id, at) {
-            ask_use(alloc, types, all, by, used.interface)?;
-        }
+) -> Result<(), AllocError>
+    requires stands { Stands types.now (ItemKind.Component id) }
+    requires seen { AllSeenAsked types.now all.old }
+    ensures { OnOk result (AddsUses types.now all.old all.new (asked_for by (used_by_world types.now id))) }
+{
+    let uses = types.world(id).uses.values();
+    for used in uses {
+        ask_use(alloc, types, all, by, used.interface)?;
     }
     Ok(())
 }
 
-/// Adds the interfaces that a definition uses which is written as it is.
+/// Adds the interfaces that a definition uses which is written as it is: one without identifier.
 fn ask_definition(
     alloc: Global,
     types: &Types,
     all: &mut UseAsks,
-    definition: &Definition,
-) -> Result<(), AllocError> {
-    let Some(copy) = definition.copy else {
+    by: NodeId,
+    copy: ItemKind,
+) -> Result<(), AllocError>
+    requires stands { Stands types.now copy }
+    requires seen { AllSeenAsked types.now all.old }
+    ensures { OnOk result (AddsUses types.now all.old all.new (asked_for by (used_by_definition (stated_of types.now copy)))) }
+{
+    types.see_acyclic();
+    let ItemKind::Ty(ty) = copy else {
         return Ok(());
     };
-    let (item, world) = used_definition(types, copy);
-    if let Some(item) = item {
-        ask_uses(alloc, types, all, definition.node, item)?;
+    match ty {
+        Type::Interface(id) => {
+            if types.interface(id).id.is_some() {
+                return Ok(());
+            }
+            ask_uses(alloc, types, all, by, copy)
+        }
+        Type::World(id) => {
+            if types.world(id).id.is_some() {
+                return Ok(());
+            }
+            ask_world(alloc, types, all, by, id)
+        }
+        _ => Ok(()),
     }
-    if let Some(world) = world {
-        ask_world(alloc, types, all, definition.node, world)?;
-    }
-    Ok(())
 }
 
 /// Adds the interfaces that asked items use.
-fn ask_uses_of_asks(alloc: Global, asked: &Asked, all: &mut UseAsks) -> Result<(), AllocError> {
-    for ask in &asked.asks {
-        ask_uses(alloc, &asked.types, all, ask.by, ask.item)?;
+fn ask_uses_of_asks(
+    alloc: Global,
+    types: &Types,
+    asks: &[Ask],
+    all: &mut UseAsks,
+) -> Result<(), AllocError>
+    requires stand { ItemsStand types.now asks.now }
+    requires seen { AllSeenAsked types.now all.old }
+    ensures { OnOk result (AddsUses types.now all.old all.new (uses_of_asks (asks_in types.now asks.now))) }
+{
+    for ask in asks {
+        ask_uses(alloc, types, all, ask.by, ask.item)?;
     }
     Ok(())
 }
@@ -405,44 +509,72 @@ fn ask_uses_of_asks(alloc: Global, asked: &Asked, all: &mut UseAsks) -> Result<(
 /// Adds the interfaces that definitions use which are written as they are.
 fn ask_uses_of_definitions(
     alloc: Global,
-    asked: &Asked,
+    types: &Types,
+    definitions: &[Definition],
     all: &mut UseAsks,
-) -> Result<(), AllocError> {
-    for definition in &asked.definitions {
-        ask_definition(alloc, &asked.types, all, definition)?;
+) -> Result<(), AllocError>
+    requires stand { CopiesStand types.now definitions.now }
+    requires seen { AllSeenAsked types.now all.old }
+    ensures { OnOk result (AddsUses types.now all.old all.new (uses_of_copies types.now definitions.now)) }
+{
+    for definition in definitions {
+        if let Some(copy) = definition.copy {
+            ask_definition(alloc, types, all, definition.node, copy)?;
+        }
     }
     Ok(())
 }
 
-/// Adds the interfaces that asked items and definitions use.
-fn ask_all_uses(alloc: Global, asked: &Asked, all: &mut UseAsks) -> Result<(), AllocError> {
-    ask_uses_of_asks(alloc, asked, all)?;
-    ask_uses_of_definitions(alloc, asked, all)
-}
-
 impl UseAsks {
-    fn into_asks(self) -> Vec<Ask> {
+    fn into_asks(self) -> Vec<Ask>
+        ensures { result ≡ self.asks }
+    {
         let UseAsks { asks, seen: _ } = self;
         asks
     }
 }
 
 /// The asks of used interfaces, by those that use them.
-fn uses_asked(alloc: Global, asked: &Asked) -> Result<Vec<Ask>, AllocError> {
+fn uses_asked(alloc: Global, asked: &Asked) -> Result<Vec<Ask>, AllocError>
+    requires items { ItemsStand asked.now.types asked.now.asks.items }
+    requires copies { CopiesStand asked.now.types asked.now.definitions.items }
+    ensures { IfOk result (λ uses. AreUses asked.now uses.items) }
+{
     let mut all = UseAsks {
         asks: Vec::new(alloc),
         seen: IndexSet::new(alloc),
     };
-    ask_all_uses(alloc, asked, &mut all)?;
+    ask_uses_of_asks(alloc, &asked.types, &asked.asks, &mut all)?;
+    ask_uses_of_definitions(alloc, &asked.types, &asked.definitions, &mut all)?;
     Ok(all.into_asks())
 }
 
 /// The name of a node, if it has one.
-fn name_among(names: &IndexMap<NodeId, Text>, node: NodeId) -> &str {
+fn name_among(names: &IndexMap<NodeId, Text>, node: NodeId) -> &str
+    ensures { result.now ≡ name_in names.now.entries node }
+{
     match names.get(&node) {
         Some(name) => name.as_str(),
         None => "",
     }
+}
+
+/// Adds a node that is a definition, under its name.
+fn define_node(
+    alloc: Global,
+    graph: &CompositionGraph,
+    names: &IndexMap<NodeId, Text>,
+    asked: &mut Asked,
+    node: NodeId,
+) -> Result<(), AllocError>
+    requires names { AreFirstNames graph.now names.now.entries }
+    requires held { IsHeld graph.now asked.old }
+    ensures { OnOk result (Adds graph.now asked.old asked.new [] [] (definitions_at graph.now node)) }
+{
+    if !is_definition(graph, node) {
+        return Ok(());
+    }
+    asked.define(alloc, graph, node, name_among(names, node))
 }
 
 /// Adds the definitions, each under its name.
@@ -451,11 +583,13 @@ fn define_all(
     graph: &CompositionGraph,
     names: &IndexMap<NodeId, Text>,
     asked: &mut Asked,
-) -> Result<(), AllocError> {
+) -> Result<(), AllocError>
+    requires names { AreFirstNames graph.now names.now.entries }
+    requires held { IsHeld graph.now asked.old }
+    ensures { OnOk result (Adds graph.now asked.old asked.new [] [] (types_defined graph.now)) }
+{
     for node in graph.node_ids() {
-        if is_definition(graph, node) {
-            asked.define(alloc, graph, node, name_among(names, node))?;
-        }
+        define_node(alloc, graph, names, asked, node)?;
     }
     Ok(())
 }
@@ -465,18 +599,20 @@ fn ask_definitions(
     alloc: Global,
     graph: &CompositionGraph,
     asked: &mut Asked,
-) -> Result<(), AllocError> {
+) -> Result<(), AllocError>
+    requires { IsHeld graph.now asked.old }
+    ensures { OnOk result (Adds graph.now asked.old asked.new [] [] (types_defined graph.now)) }
+{
     let mut names = IndexMap::new(alloc);
     add_first_exports(graph, &mut names)?;
     define_all(alloc, graph, &names, asked)
 }
 
 /// Adds what the imports of a graph ask.
-fn ask_imports(
-    alloc: Global,
-    graph: &CompositionGraph,
-    asked: &mut Asked,
-) -> Result<(), AllocError> {
+fn ask_imports(alloc: Global, graph: &CompositionGraph, asked: &mut Asked) -> Result<(), AllocError>
+    requires { IsHeld graph.now asked.old }
+    ensures { OnOk result (Adds graph.now asked.old asked.new (imports_ask graph.now) [] []) }
+{
     for node in graph.node_ids() {
         asked.ask_import(alloc, graph, node)?;
     }
@@ -488,7 +624,10 @@ fn ask_instances(
     alloc: Global,
     graph: &CompositionGraph,
     asked: &mut Asked,
-) -> Result<(), AllocError> {
+) -> Result<(), AllocError>
+    requires { IsHeld graph.now asked.old }
+    ensures { OnOk result (Adds graph.now asked.old asked.new (instances_ask graph.now) (package_ids graph.now) []) }
+{
     for node in graph.node_ids() {
         asked.ask_instance(alloc, graph, node)?;
     }
@@ -496,20 +635,23 @@ fn ask_instances(
 }
 
 /// Adds asks behind the others.
-fn add_asks(asked: &mut Asked, asks: Vec<Ask>) -> Result<(), AllocError> {
+fn add_asks(all: &mut Vec<Ask>, asks: Vec<Ask>) -> Result<(), AllocError>
+    ensures { OnOk result (all.new.items ≡ all.old.items ++ asks.items) }
+{
     for ask in asks {
-        asked.asks.push(ask)?;
+        all.push(ask)?;
     }
     Ok(())
 }
 
-/// Adds all that a graph asks and defines.
-fn ask_all(alloc: Global, graph: &CompositionGraph, asked: &mut Asked) -> Result<(), AllocError> {
+/// Adds all that a graph asks and defines, but for the uses.
+fn ask_named(alloc: Global, graph: &CompositionGraph, asked: &mut Asked) -> Result<(), AllocError>
+    requires { IsHeld graph.now asked.old }
+    ensures { OnOk result (AddsNodes graph.now asked.old asked.new) }
+{
     ask_imports(alloc, graph, asked)?;
     ask_instances(alloc, graph, asked)?;
-    ask_definitions(alloc, graph, asked)?;
-    let uses = uses_asked(alloc, asked)?;
-    add_asks(asked, uses)
+    ask_definitions(alloc, graph, asked)
 }
 
 /// What a graph asks: by its imports, by its instances, and for what these and its definitions use.
@@ -517,8 +659,15 @@ pub(crate) fn asked_by(
     alloc: Global,
     graph: &CompositionGraph,
     number: u64,
-) -> Result<Asked, AllocError> {
+) -> Result<Asked, AllocError>
+    ensures { IfOk result (IsAsked graph.now) }
+{
+    graph.see_sound();
+    graph.types().see_acyclic();
     let mut asked = Asked::new(alloc, number);
-    ask_all(alloc, graph, &mut asked)?;
+    asked.types.see_acyclic();
+    ask_named(alloc, graph, &mut asked)?;
+    let uses = uses_asked(alloc, &asked)?;
+    add_asks(&mut asked.asks, uses)?;
     Ok(asked)
 }

@@ -1,6 +1,6 @@
 //! The bytes and the world of a composition graph.
 
-ghost use Rattle.std.specs.Prelude.{◌≡◌, IfOk, IfErr};
+ghost use Rattle.std.specs.Prelude.{◌≡◌, [], IfOk, IfErr};
 ghost use Rattle.wac_types_base.specs.declared.item.ItemKind.{ItemKind};
 ghost use Rattle.wac_types_base.specs.Collection.{Stands};
 ghost use Rattle.wac_graph_encode.specs.Acyclic.{IsNoCycle};
@@ -76,7 +76,9 @@ fn bytes_of_entries(
 }
 
 /// The bytes of a composition, where nothing of it is written yet.
-fn bytes_wired(writing: Writing<'_>, wired: &mut Wired<'_>) -> Result<Vec<u8>, Refusal> {
+fn bytes_wired(writing: Writing<'_>, wired: &mut Wired<'_>) -> Result<Vec<u8>, Refusal>
+    requires { wired.old.outers ≡ [] }
+{
     write_root(writing, &mut wired.root)?;
     let names = wired.write_all(writing.all.called)?;
     let alloc = writing.graph.alloc();

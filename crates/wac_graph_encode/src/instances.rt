@@ -1,5 +1,15 @@
 //! The instances, aliases and exports of a composition, as entries.
 
+ghost use Rattle.std.specs.Prelude.{◌≡◌, ◌<◌, ◌++◌, ℕ, [], ◌∷◌, Some, true, IfOk, IfSome, IfNone, OnOk};
+ghost use Rattle.wac_types_base.specs.Entries.{AreDistinct, names_of};
+ghost use Rattle.wac_types_base.specs.Graph.{Among};
+ghost use Rattle.wac_graph_bytes.specs.Views.{arguments_view};
+ghost use Rattle.wac_graph_core.specs.Graph.{IsOfKind};
+ghost use Rattle.wac_graph_scopes.specs.Parts.{imports_of};
+ghost use Rattle.wac_graph_encode.specs.Reads.{AreArguments};
+ghost use Rattle.wac_graph_encode.specs.Standing.{sort_of};
+ghost use Rattle.wac_graph_encode.specs.Writing.{Finishes, AddsCalled, AddsEntry, AddsExport, AddsExports, AddsGiven, AddsNeeded, AddsOnly, AllStand, AreCalled, AreGivenUnder, Below, GivesUnder, IsAliasAt, IsSameRoot, KeepsNodes, KeepsWritten, PassesAll, UpTo, UpToOne, WritesInstance, WritesNode, exported_as, noted};
+
 use crate::errors::Refusal;
 use crate::labels::names_of_nodes;
 use crate::maps::insert_under;
@@ -33,7 +43,9 @@ impl Drop for Wired<'_> {
     }
 }
 
-fn sort_of(kind: ItemKind) -> Option<Sort> {
+fn sort_of(kind: ItemKind) -> Option<Sort>
+    ensures { result ≡ sort_of kind }
+{
     match kind {
         ItemKind::Ty(_) => Some(Sort::Ty),
         ItemKind::Func(_) => Some(Sort::Func),
@@ -45,10 +57,30 @@ fn sort_of(kind: ItemKind) -> Option<Sort> {
 }
 
 /// What sort a node is of.
-fn sort_at(graph: &CompositionGraph, node: NodeId) -> Option<Sort> {
+fn sort_at(graph: &CompositionGraph, node: NodeId) -> Option<Sort>
+    ensures { IfSome result (λ s. IsOfKind graph.now node (λ x. sort_of x ≡ Some s)) }
+{
     match kind_of(graph, node) {
         Some(kind) => sort_of(kind),
         None => None,
+    }
+}
+
+/// Adds what is written of an outer import, under the name by which it is asked for.
+fn add_outer(
+    alloc: Global,
+    one: &Called,
+    imports: &[Option<SortIndex>],
+    outers: &mut NamedMap<SortIndex>,
+) -> Result<(), AllocError>
+    ensures { OnOk result (AddsCalled one.now imports.now outers.old outers.new) }
+{
+    let Some(written) = imports.get(one.at) else {
+        return Ok(());
+    };
+    match *written {
+        Some(place) => insert_under(alloc, outers, one.name.as_str(), place),
+        None => Ok(()),
     }
 }
 
@@ -58,13 +90,36 @@ fn add_outers(
     called: &[Called],
     imports: &[Option<SortIndex>],
     outers: &mut NamedMap<SortIndex>,
-) -> Result<(), AllocError> {
+) -> Result<(), AllocError>
+    requires { outers.old ≡ [] }
+    ensures { OnOk result (AreCalled called.now imports.now outers.new) }
+{
     for one in called {
-        if let Some(Some(place)) = imports.get(one.at) {
-            insert_under(alloc, outers, one.name.as_str(), *place)?;
-        }
+        add_outer(alloc, one, imports, outers)?;
     }
     Ok(())
+}
+
+/// Adds a node.
+fn push_node(nodes: &mut Vec<NodeId>, node: NodeId) -> Result<(), AllocError>
+    ensures { OnOk result (nodes.new.items ≡ nodes.old.items ++ node ∷ []) }
+{
+    nodes.push(node)?;
+    Ok(())
+}
+
+/// Adds what a node is an alias of, if it is one.
+fn push_alias_source(
+    graph: &CompositionGraph,
+    node: NodeId,
+    sources: &mut Vec<NodeId>,
+) -> Result<(), AllocError>
+    ensures { OnOk result (AddsNeeded graph.now node sources.old.items sources.new.items) }
+{
+    match graph.get_alias_source(node) {
+        Some(found) => push_node(sources, found.0),
+        None => Ok(()),
+    }
 }
 
 /// Adds the nodes that one needs: its arguments, or what it is an alias of.
@@ -73,16 +128,14 @@ fn push_sources(
     node: NodeId,
     bound: &Arguments,
     sources: &mut Vec<NodeId>,
-) -> Result<(), AllocError> {
+) -> Result<(), AllocError>
+    requires { AreArguments graph.now node bound.now }
+    ensures { OnOk result (AddsNeeded graph.now node sources.old.items sources.new.items) }
+{
     for argument in bound.nodes() {
-        sources.push(*argument)?;
+        push_node(sources, *argument)?;
     }
-    if package_of(graph, node).is_none() {
-        if let Some((source, _)) = graph.get_alias_source(node) {
-            sources.push(source)?;
-        }
-    }
-    Ok(())
+    push_alias_source(graph, node, sources)
 }
 
 /// Adds an argument.
@@ -91,7 +144,9 @@ fn push_argument(
     arguments: &mut Vec<NamedIndex>,
     name: &str,
     place: SortIndex,
-) -> Result<(), AllocError> {
+) -> Result<(), AllocError>
+    ensures { OnOk result (arguments_view arguments.new.items ≡ arguments_view arguments.old.items ++ (name.now, place.sort, place.index) ∷ []) }
+{
     let name = String::from_str(alloc, name)?;
     arguments.push(NamedIndex {
         name,
@@ -109,10 +164,31 @@ struct Standing<'a> {
 }
 
 /// What is passed to an instance under a name.
-fn argument(standing: Standing<'_>, bound: &Arguments, name: &str) -> Option<SortIndex> {
+fn argument(standing: Standing<'_>, bound: &Arguments, name: &str) -> Option<SortIndex>
+    ensures { IfSome result (GivesUnder standing.entry bound.now name.now) }
+{
     match bound.get(name) {
         Some(argument) => standing.nodes.get(&argument).copied(),
         None => standing.outers.get(name).copied(),
+    }
+}
+
+/// Adds what is passed to an instance under a name, where it stands. Whether it does.
+fn push_given(
+    alloc: Global,
+    standing: Standing<'_>,
+    bound: &Arguments,
+    name: &str,
+    arguments: &mut Vec<NamedIndex>,
+) -> Result<bool, AllocError>
+    ensures { IfOk result (λ yes. yes ≡ true → AddsGiven standing.entry bound.now name.now arguments.old.items arguments.new.items) }
+{
+    match argument(standing, bound, name) {
+        Some(place) => {
+            push_argument(alloc, arguments, name, place)?;
+            Ok(true)
+        }
+        None => Ok(false),
     }
 }
 
@@ -124,12 +200,16 @@ fn push_arguments(
     standing: Standing<'_>,
     bound: &Arguments,
     arguments: &mut Vec<NamedIndex>,
-) -> Result<bool, AllocError> {
+) -> Result<bool, AllocError>
+    requires { arguments.old.items ≡ [] }
+    ensures given { IfOk result (λ yes. yes ≡ true → AreGivenUnder standing.entry bound.now (names_of (imports_of types.now world)) (arguments_view arguments.new.items)) }
+    ensures distinct { AreDistinct (names_of (imports_of types.now world)) }
+{
     for at in 0..import_count(types, world) {
         if let Some(import) = import_at(types, world, at) {
-            match argument(standing, bound, import.name) {
-                Some(place) => push_argument(alloc, arguments, import.name, place)?,
-                None => return Ok(false),
+            let stands = push_given(alloc, standing, bound, import.name, arguments)?;
+            if !stands {
+                return Ok(false);
             }
         }
     }
@@ -143,7 +223,10 @@ fn arguments_in(
     world: WorldId,
     standing: Standing<'_>,
     bound: &Arguments,
-) -> Result<Option<Vec<NamedIndex>>, AllocError> {
+) -> Result<Option<Vec<NamedIndex>>, AllocError>
+    ensures given { IfOk result (λ o. IfSome o (λ v. AreGivenUnder standing.entry bound.now (names_of (imports_of types.now world)) (arguments_view v.items))) }
+    ensures distinct { AreDistinct (names_of (imports_of types.now world)) }
+{
     let mut arguments = Vec::new(alloc);
     let all_stand = push_arguments(alloc, types, world, standing, bound, &mut arguments)?;
     if all_stand {
@@ -159,7 +242,9 @@ fn push_export(
     entries: &mut Vec<Entry>,
     name: &str,
     place: SortIndex,
-) -> Result<(), AllocError> {
+) -> Result<(), AllocError>
+    ensures { OnOk result (AddsEntry entries.old.items entries.new.items (exported_as name.now place)) }
+{
     let name = String::from_str(alloc, name)?;
     let export = Export {
         name,
@@ -170,23 +255,45 @@ fn push_export(
     push_entry(entries, Entry::Export(export))
 }
 
-/// Adds the exports of nodes that stand.
+/// Adds the export of a node that stands.
+fn export_node(
+    alloc: Global,
+    nodes: &IndexMap<NodeId, SortIndex>,
+    name: &str,
+    node: NodeId,
+    entries: &mut Vec<Entry>,
+) -> Result<(), AllocError>
+    requires { Among node (names_of nodes.now.entries) }
+    ensures { OnOk result (AddsExport nodes.now.entries (name.now, node) entries.old.items entries.new.items) }
+{
+    match nodes.get(&node) {
+        Some(place) => push_export(alloc, entries, name, *place),
+        None => unreachable!(),
+    }
+}
+
+/// Adds the exports of a graph, all of whose nodes stand.
 fn push_exports(
     graph: &CompositionGraph,
     nodes: &IndexMap<NodeId, SortIndex>,
     entries: &mut Vec<Entry>,
-) -> Result<(), AllocError> {
+) -> Result<(), AllocError>
+    requires { AllStand graph.now nodes.now.entries }
+    ensures { OnOk result (AddsExports nodes.now.entries graph.now.exports entries.old.items entries.new.items) }
+{
+    graph.see_sound();
     for (name, node) in graph.exports() {
-        if let Some(place) = nodes.get(node) {
-            push_export(graph.alloc(), entries, name.as_str(), *place)?;
-        }
+        export_node(graph.alloc(), nodes, name.as_str(), *node, entries)?;
     }
     Ok(())
 }
 
 impl<'a> Wired<'a> {
     /// Nothing is written yet.
-    pub(crate) fn new(alloc: Global, graph: &'a CompositionGraph) -> Self {
+    pub(crate) fn new(alloc: Global, graph: &'a CompositionGraph) -> Self
+        ensures graph { result.graph.now ≡ graph.now }
+        ensures outers { result.outers ≡ [] }
+    {
         Wired {
             alloc,
             graph,
@@ -196,26 +303,37 @@ impl<'a> Wired<'a> {
     }
 
     /// What stands for a node, if anything does yet.
-    fn node(&self, node: NodeId) -> Option<SortIndex> {
+    fn node(&self, node: NodeId) -> Option<SortIndex>
+        ensures found { IfSome result (λ p. Among (node, p) (noted self.now)) }
+        ensures none { IfNone result (Among node (names_of (noted self.now)) → ⊥) }
+    {
         self.root.nodes.get(&node).copied()
     }
 
     /// The sort of an alias, the index of its source and its name there, where its source stands.
-    fn alias_of(&self, node: NodeId) -> Option<(Sort, u32, &'a str)> {
-        let Some((source, name)) = self.graph.get_alias_source(node) else {
+    fn alias_of(&self, node: NodeId) -> Option<(Sort, u32, &'a str)>
+        ensures { IfSome result (λ x. IsAliasAt self.now node x.0 x.1 x.2.now) }
+    {
+        let Some(found) = self.graph.get_alias_source(node) else {
             return None;
         };
-        let Some(place) = self.node(source) else {
+        let Some(place) = self.node(found.0) else {
             return None;
         };
         let Some(sort) = sort_at(self.graph, node) else {
             return None;
         };
-        Some((sort, place.index, name))
+        Some((sort, place.index, found.1))
     }
 
     /// Writes an alias, where its source stands.
-    fn alias(&mut self, node: NodeId) -> Result<Option<SortIndex>, Refusal> {
+    fn alias(&mut self, node: NodeId) -> Result<Option<SortIndex>, Refusal>
+        ensures writes { WritesNode node self.old self.new result }
+        ensures same { OnOk result (IsSameRoot self.old self.new) }
+        ensures nodes { OnOk result (self.new.root.nodes ≡ self.old.root.nodes) }
+    {
+        self.graph.see_sound();
+        self.graph.types().see_acyclic();
         let Some((sort, index, name)) = self.alias_of(node) else {
             return Ok(None);
         };
@@ -228,7 +346,9 @@ impl<'a> Wired<'a> {
         &self,
         id: PackageId,
         bound: &Arguments,
-    ) -> Result<Option<Vec<NamedIndex>>, AllocError> {
+    ) -> Result<Option<Vec<NamedIndex>>, AllocError>
+        ensures { IfOk result (λ o. IfSome o (λ v. PassesAll self.now id bound.now (arguments_view v.items))) }
+    {
         match world_at(self.graph, id) {
             Some(world) => {
                 let standing = Standing {
@@ -242,7 +362,13 @@ impl<'a> Wired<'a> {
     }
 
     /// Writes an instance, where its arguments stand.
-    fn instance(&mut self, id: PackageId, bound: &Arguments) -> Result<Option<SortIndex>, Refusal> {
+    fn instance(&mut self, id: PackageId, bound: &Arguments) -> Result<Option<SortIndex>, Refusal>
+        ensures writes { WritesInstance id bound.now self.old self.new result }
+        ensures same { OnOk result (IsSameRoot self.old self.new) }
+        ensures nodes { OnOk result (self.new.root.nodes ≡ self.old.root.nodes) }
+    {
+        self.graph.see_sound();
+        self.graph.types().see_acyclic();
         let Some(component) = self.root.packages.get(&id).copied() else {
             return Ok(None);
         };
@@ -256,7 +382,13 @@ impl<'a> Wired<'a> {
     }
 
     /// Writes a node, where all stands that it needs.
-    fn written(&mut self, node: NodeId, bound: &Arguments) -> Result<Option<SortIndex>, Refusal> {
+    fn written(&mut self, node: NodeId, bound: &Arguments) -> Result<Option<SortIndex>, Refusal>
+        requires { AreArguments self.old.graph.now node bound.now }
+        ensures writes { WritesNode node self.old self.new result }
+        ensures same { OnOk result (IsSameRoot self.old self.new) }
+        ensures nodes { OnOk result (self.new.root.nodes ≡ self.old.root.nodes) }
+    {
+        self.graph.see_sound();
         if let Some(name) = import_name(self.graph, node) {
             return Ok(self.outers.get(name).copied());
         }
@@ -267,7 +399,10 @@ impl<'a> Wired<'a> {
     }
 
     /// The nodes that one needs: its arguments, or what it is an alias of.
-    fn sources_of(&self, node: NodeId, bound: &Arguments) -> Result<Vec<NodeId>, AllocError> {
+    fn sources_of(&self, node: NodeId, bound: &Arguments) -> Result<Vec<NodeId>, AllocError>
+        requires { AreArguments self.now.graph.now node bound.now }
+        ensures { IfOk result (λ v. AddsNeeded self.now.graph.now node [] v.items) }
+    {
         let mut sources = Vec::new(self.alloc);
         push_sources(self.graph, node, bound, &mut sources)?;
         Ok(sources)
@@ -276,7 +411,12 @@ impl<'a> Wired<'a> {
     /// Writes a node behind those that it needs, unless it stands. No path of nodes is longer than there are nodes,
     /// since none needs itself, so the depth that is left lasts.
     #[cycle(nodes)]
-    fn write_node(&mut self, node: NodeId, depth: usize) -> Result<(), Refusal> {
+    fn write_node(&mut self, node: NodeId, depth: usize) -> Result<(), Refusal>
+        ensures writes { KeepsWritten self.old self.new result }
+        ensures keeps { OnOk result (KeepsNodes self.old self.new) }
+        ensures only { OnOk result (AddsOnly (UpTo node) self.old self.new) }
+        ensures stands { 0 < depth → OnOk result (Among node (names_of (noted self.new))) }
+    {
         if depth == 0 || self.node(node).is_some() {
             return Ok(());
         }
@@ -286,12 +426,15 @@ impl<'a> Wired<'a> {
 
     /// Writes a node behind those that it needs.
     #[cycle(nodes)]
-    fn write_bound(
-        &mut self,
-        node: NodeId,
-        bound: &Arguments,
-        depth: usize,
-    ) -> Result<(), Refusal> {
+    fn write_bound(&mut self, node: NodeId, bound: &Arguments, depth: usize) -> Result<(), Refusal>
+        requires bound { AreArguments self.old.graph.now node bound.now }
+        requires new { Among node (names_of (noted self.old)) → ⊥ }
+        ensures writes { KeepsWritten self.old self.new result }
+        ensures keeps { OnOk result (KeepsNodes self.old self.new) }
+        ensures only { OnOk result (AddsOnly (UpTo node) self.old self.new) }
+        ensures stands { OnOk result (Among node (names_of (noted self.new))) }
+    {
+        self.graph.see_sound();
         self.write_sources(node, bound, depth)?;
         self.write_itself(node, bound)
     }
@@ -303,14 +446,23 @@ impl<'a> Wired<'a> {
         node: NodeId,
         bound: &Arguments,
         depth: usize,
-    ) -> Result<(), Refusal> {
+    ) -> Result<(), Refusal>
+        requires { AreArguments self.old.graph.now node bound.now }
+        ensures writes { KeepsWritten self.old self.new result }
+        ensures keeps { OnOk result (KeepsNodes self.old self.new) }
+        ensures only { OnOk result (AddsOnly (Below node) self.old self.new) }
+    {
         let sources = self.sources_of(node, bound)?;
         self.write_each(&sources, depth)
     }
 
     /// Writes nodes behind those that they need.
     #[cycle(nodes)]
-    fn write_each(&mut self, nodes: &[NodeId], depth: usize) -> Result<(), Refusal> {
+    fn write_each(&mut self, nodes: &[NodeId], depth: usize) -> Result<(), Refusal>
+        ensures writes { KeepsWritten self.old self.new result }
+        ensures keeps { OnOk result (KeepsNodes self.old self.new) }
+        ensures only { OnOk result (AddsOnly (UpToOne nodes.now) self.old self.new) }
+    {
         for node in nodes {
             self.write_node(*node, depth)?;
         }
@@ -318,7 +470,14 @@ impl<'a> Wired<'a> {
     }
 
     /// Writes a node where those that it needs stand.
-    fn write_itself(&mut self, node: NodeId, bound: &Arguments) -> Result<(), Refusal> {
+    fn write_itself(&mut self, node: NodeId, bound: &Arguments) -> Result<(), Refusal>
+        requires bound { AreArguments self.old.graph.now node bound.now }
+        requires new { Among node (names_of (noted self.old)) → ⊥ }
+        ensures writes { KeepsWritten self.old self.new result }
+        ensures keeps { OnOk result (KeepsNodes self.old self.new) }
+        ensures only { OnOk result (AddsOnly (λ rank k. k ≡ node) self.old self.new) }
+        ensures stands { OnOk result (Among node (names_of (noted self.new))) }
+    {
         match self.written(node, bound)? {
             Some(place) => {
                 let _ = self.root.nodes.insert(node, place)?;
@@ -330,16 +489,24 @@ impl<'a> Wired<'a> {
     }
 
     /// Writes all nodes, each behind those that it needs.
-    fn write_nodes(&mut self) -> Result<(), Refusal> {
-        let count = self.graph.node_ids().count();
+    fn write_nodes(&mut self) -> Result<(), Refusal>
+        ensures writes { KeepsWritten self.old self.new result }
+        ensures keeps { OnOk result (KeepsNodes self.old self.new) }
+        ensures all { OnOk result (AllStand self.new.graph.now (noted self.new)) }
+    {
+        let depth = self.graph.node_ids().count().saturating_add(1);
         for node in self.graph.node_ids() {
-            self.write_node(node, count)?;
+            self.write_node(node, depth)?;
         }
         Ok(())
     }
 
     /// Writes all that stands behind the root's types and imports; the names of nodes.
-    pub(crate) fn write_all(&mut self, called: &[Called]) -> Result<Vec<SortNames>, Refusal> {
+    pub(crate) fn write_all(&mut self, called: &[Called]) -> Result<Vec<SortNames>, Refusal>
+        requires { self.old.outers ≡ [] }
+        ensures { Finishes called.now self.old self.new result }
+    {
+        self.graph.see_sound();
         add_outers(self.alloc, called, &self.root.imports, &mut self.outers)?;
         self.write_nodes()?;
         push_exports(self.graph, &self.root.nodes, &mut self.root.entries)?;

@@ -25,6 +25,9 @@ mod writable;
 
 pub use encode::EncodeGraph;
 pub use errors::{EncodeError, ValidationFault};
-pub use laws::{first_name_of_a_definition, graphs_are_composed};
+pub use laws::{
+    asks_once_are_all_asks, finished_entries_are_wired, first_name_of_a_definition,
+    graphs_are_composed,
+};
 pub use options::{EncodeOptions, Encoded};
 pub use wac_graph_bytes::Processor;

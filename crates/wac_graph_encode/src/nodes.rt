@@ -1,16 +1,23 @@
 //! Nodes and packages of a graph, where they stand.
 
-ghost use Rattle.std.specs.Prelude.{◌≡◌, Some, IfSome};
+ghost use Rattle.std.specs.Prelude.{◌≡◌, [], OnOk, IfOk, Some, IfSome, option_map};
+ghost use Rattle.std.specs.Option.{option_copied};
 ghost use Rattle.wac_types_base.specs.declared.item.ItemKind.{ItemKind};
 ghost use Rattle.wac_types_base.specs.Collection.{Stands};
+ghost use Rattle.wac_types_base.specs.Entries.{AreDistinct, names_of, value_at, values_of};
+ghost use Rattle.wac_graph_core.specs.Graph.{node_at, package_of};
+ghost use Rattle.wac_graph_encode.specs.Reads.{import_name_of, package_id_of, AreArguments};
 
 use crate::maps::insert_under;
 use std::alloc::{AllocError, Global};
+use std::marker::Model;
 use wac_graph_core::{CompositionGraph, Node, NodeId, PackageId};
 use wac_types_base::{ItemKind, NamedMap, WorldId};
 use wac_types_names::Package;
 
-pub(crate) fn node_at(graph: &CompositionGraph, id: NodeId) -> Option<&Node> {
+pub(crate) fn node_at(graph: &CompositionGraph, id: NodeId) -> Option<&Node>
+    ensures { option_copied result ≡ node_at graph.now id }
+{
     if graph.contains_node(id) {
         Some(&graph[id])
     } else {
@@ -20,7 +27,8 @@ pub(crate) fn node_at(graph: &CompositionGraph, id: NodeId) -> Option<&Node> {
 
 /// What a node is.
 pub(crate) fn kind_of(graph: &CompositionGraph, id: NodeId) -> Option<ItemKind>
-    ensures { IfSome result (Stands graph.now.types) }
+    ensures kind { result ≡ option_map (λ x. x.item_kind) (node_at graph.now id) }
+    ensures stands { IfSome result (Stands graph.now.types) }
 {
     if graph.contains_node(id) {
         graph.see_sound();
@@ -31,7 +39,9 @@ pub(crate) fn kind_of(graph: &CompositionGraph, id: NodeId) -> Option<ItemKind>
 }
 
 /// The name of a node that is an import.
-pub(crate) fn import_name(graph: &CompositionGraph, id: NodeId) -> Option<&str> {
+pub(crate) fn import_name(graph: &CompositionGraph, id: NodeId) -> Option<&str>
+    ensures { option_copied result ≡ import_name_of (node_at graph.now id) }
+{
     match node_at(graph, id) {
         Some(node) => node.import_name(),
         None => None,
@@ -39,14 +49,18 @@ pub(crate) fn import_name(graph: &CompositionGraph, id: NodeId) -> Option<&str> 
 }
 
 /// The package of a node that is an instance.
-pub(crate) fn package_of(graph: &CompositionGraph, id: NodeId) -> Option<PackageId> {
+pub(crate) fn package_of(graph: &CompositionGraph, id: NodeId) -> Option<PackageId>
+    ensures { result ≡ package_id_of (node_at graph.now id) }
+{
     match node_at(graph, id) {
         Some(node) => node.package(),
         None => None,
     }
 }
 
-pub(crate) fn package_at(graph: &CompositionGraph, id: PackageId) -> Option<&Package> {
+pub(crate) fn package_at(graph: &CompositionGraph, id: PackageId) -> Option<&Package>
+    ensures { option_copied result ≡ package_of graph.now id }
+{
     if graph.contains_package(id) {
         Some(&graph[id])
     } else {
@@ -56,7 +70,8 @@ pub(crate) fn package_at(graph: &CompositionGraph, id: PackageId) -> Option<&Pac
 
 /// The world of a package.
 pub(crate) fn world_at(graph: &CompositionGraph, id: PackageId) -> Option<WorldId>
-    ensures { IfSome result (λ w. Stands graph.now.types (ItemKind.Component w)) }
+    ensures world { result ≡ option_map (λ p. p.ty) (package_of graph.now id) }
+    ensures stands { IfSome result (λ w. Stands graph.now.types (ItemKind.Component w)) }
 {
     if graph.contains_package(id) {
         graph.see_sound();
@@ -77,13 +92,26 @@ impl Drop for Arguments {
     }
 }
 
+impl Model for Arguments {
+    ghost use Rattle.std.specs.Prelude.{List, ℕ};
+
+    ghost Value = { List (List ℕ × ℕ) };
+
+    ghost view = { λ a. a.by_name };
+}
+
 /// Adds what is passed to an instance, by the names of the arguments.
 fn add_arguments(
     alloc: Global,
     graph: &CompositionGraph,
     id: NodeId,
     by_name: &mut NamedMap<NodeId>,
-) -> Result<(), AllocError> {
+) -> Result<(), AllocError>
+    requires { by_name.old ≡ [] }
+    ensures { OnOk result (AreArguments graph.now id by_name.new) }
+{
+    graph.see_sound();
+    graph.types().see_acyclic();
     if !graph.contains_node(id) {
         return Ok(());
     }
@@ -99,21 +127,28 @@ impl Arguments {
         alloc: Global,
         graph: &CompositionGraph,
         id: NodeId,
-    ) -> Result<Self, AllocError> {
-        let mut arguments = Arguments {
-            by_name: NamedMap::new(alloc),
-        };
-        add_arguments(alloc, graph, id, &mut arguments.by_name)?;
-        Ok(arguments)
+    ) -> Result<Self, AllocError>
+        ensures { IfOk result (AreArguments graph.now id) }
+    {
+        let mut by_name = NamedMap::new(alloc);
+        add_arguments(alloc, graph, id, &mut by_name)?;
+        Ok(Arguments { by_name })
     }
 
     /// What is passed under a name.
-    pub(crate) fn get(&self, name: &str) -> Option<NodeId> {
+    pub(crate) fn get(&self, name: &str) -> Option<NodeId>
+        ensures { result ≡ value_at self.now name.now }
+    {
         self.by_name.get(name).copied()
     }
 
     /// All that is passed.
-    pub(crate) fn nodes(&self) -> &[NodeId] {
+    pub(crate) fn nodes(&self) -> &[NodeId]
+        ensures nodes { result.now ≡ values_of self.now }
+        ensures distinct { AreDistinct (names_of self.now) }
+    {
+        // That the names differ is told with their number.
+        let _ = self.by_name.len();
         self.by_name.values()
     }
 }

@@ -1,5 +1,7 @@
 //! The outer imports: one for each class of asks.
 
+ghost use Rattle.wac_graph_encode.specs.Named.{SpellsClass};
+
 use crate::asks::{Ask, Asked, Asking};
 use crate::classes::{Classes, classes_of, has_track};
 use crate::copies::{add_world, bare_world, filled};
@@ -257,7 +259,9 @@ fn identified(
 }
 
 /// The name of the ask that spells a class.
-fn spelling_of<'a>(asks: &'a [Ask], classes: &Classes, class: usize) -> &'a str {
+fn spelling_of<'a>(asks: &'a [Ask], classes: &Classes, class: usize) -> &'a str
+    ensures { SpellsClass asks.now classes.now.labels.items classes.now.spellings.items class result.now }
+{
     match classes.spellings.get(class) {
         Some(at) => match asks.get(*at) {
             Some(ask) => ask.name.as_str(),

@@ -1,5 +1,13 @@
 //! The types and the imports of a composition, as entries.
 
+ghost use Rattle.std.specs.Prelude.{◌≡◌, ◌+◌, ◌++◌, [], ◌∷◌, ℕ, IfOk, OnOk, if◌then◌else◌};
+ghost use Rattle.wac_graph_bytes.specs.declared.value.Sort.{Sort as SortKind};
+ghost use Rattle.wac_graph_bytes.specs.Counting.{same_sort};
+ghost use Rattle.wac_graph_bytes.specs.Entries.{Aliased, Instantiate, ExportAlias};
+ghost use Rattle.wac_graph_bytes.specs.Views.{view, arguments_view};
+ghost use Rattle.wac_graph_encode.specs.Standing.{counted, CountsOne};
+ghost use Rattle.wac_graph_encode.specs.Writing.{AddsIndex};
+
 use crate::asks::Definition;
 use crate::conflicts::dependency_name;
 use crate::errors::{Refusal, not_written};
@@ -50,7 +58,9 @@ impl Drop for Root {
 }
 
 /// The number after this one.
-pub(crate) fn next_index(index: u32) -> Result<u32, Refusal> {
+pub(crate) fn next_index(index: u32) -> Result<u32, Refusal>
+    ensures { IfOk result (λ next. next ≡ index + 1) }
+{
     match index.checked_add(1) {
         Some(next) => Ok(next),
         None => Err(Refusal::TooLarge),
@@ -58,7 +68,9 @@ pub(crate) fn next_index(index: u32) -> Result<u32, Refusal> {
 }
 
 /// Adds an entry.
-pub(crate) fn push_entry(entries: &mut Vec<Entry>, entry: Entry) -> Result<(), AllocError> {
+pub(crate) fn push_entry(entries: &mut Vec<Entry>, entry: Entry) -> Result<(), AllocError>
+    ensures { OnOk result (entries.new.items ≡ entries.old.items ++ entry ∷ []) }
+{
     entries.push(entry)?;
     Ok(())
 }
@@ -314,7 +326,9 @@ impl Root {
     }
 }
 
-fn count_of(counts: &Counts, sort: Sort) -> u32 {
+fn count_of(counts: &Counts, sort: Sort) -> u32
+    ensures { result ≡ counted counts.now sort }
+{
     match sort {
         Sort::Func => counts.funcs,
         Sort::Ty => counts.types,
@@ -324,7 +338,9 @@ fn count_of(counts: &Counts, sort: Sort) -> u32 {
     }
 }
 
-fn set_count(counts: &mut Counts, sort: Sort, next: u32) {
+fn set_count(counts: &mut Counts, sort: Sort, next: u32)
+    ensures { (t : SortKind) → counted counts.new t ≡ (if same_sort t sort then next else counted counts.old t) }
+{
     match sort {
         Sort::Func => counts.funcs = next,
         Sort::Ty => counts.types = next,
@@ -335,7 +351,10 @@ fn set_count(counts: &mut Counts, sort: Sort, next: u32) {
 }
 
 /// The index of one more thing of a sort.
-fn count_one(counts: &mut Counts, sort: Sort) -> Result<u32, Refusal> {
+fn count_one(counts: &mut Counts, sort: Sort) -> Result<u32, Refusal>
+    ensures index { IfOk result (λ k. k ≡ counted counts.old sort) }
+    ensures counts { OnOk result (CountsOne sort counts.old counts.new) }
+{
     let index = count_of(counts, sort);
     let next = next_index(index)?;
     set_count(counts, sort, next);
@@ -344,7 +363,9 @@ fn count_one(counts: &mut Counts, sort: Sort) -> Result<u32, Refusal> {
 
 impl Root {
     /// Adds an entry that adds one thing of a sort.
-    fn add(&mut self, entry: Entry, sort: Sort) -> Result<SortIndex, Refusal> {
+    fn add(&mut self, entry: Entry, sort: Sort) -> Result<SortIndex, Refusal>
+        ensures { IfOk result (AddsIndex self.old self.new (view entry) sort) }
+    {
         push_entry(&mut self.entries, entry)?;
         let index = count_one(&mut self.counts, sort)?;
         Ok(SortIndex { sort, index })
@@ -357,7 +378,9 @@ impl Root {
         sort: Sort,
         instance: u32,
         name: &str,
-    ) -> Result<SortIndex, Refusal> {
+    ) -> Result<SortIndex, Refusal>
+        ensures { IfOk result (AddsIndex self.old self.new (Aliased (ExportAlias sort instance name.now)) sort) }
+    {
         let name = String::from_str(alloc, name)?;
         self.add(Entry::Alias(Alias::Export(sort, instance, name)), sort)
     }
@@ -367,7 +390,9 @@ impl Root {
         &mut self,
         component: u32,
         arguments: Vec<NamedIndex>,
-    ) -> Result<SortIndex, Refusal> {
+    ) -> Result<SortIndex, Refusal>
+        ensures { IfOk result (AddsIndex self.old self.new (Instantiate component (arguments_view arguments.items)) SortKind.Instance) }
+    {
         self.add(Entry::Instantiate(component, arguments), Sort::Instance)
     }
 }

@@ -1,4 +1,9 @@
+use Rattle.std.specs.Prelude.{Bool, List}
 use Rattle.std.proofs.Common.{◌+◌, ◌*◌}
+use Rattle.wac_types_base.specs.Entries.{Name}
+use Rattle.wac_types_base.specs.Tree.{Tree}
+use Rattle.wac_graph_bytes.specs.Typing.{Worlds}
+use Rattle.wac_graph_encode.specs.Writing.{AddsOnly, KeepsNodes, UpToOne, WrittenSo}
 use Rattle.wac_graph_encode.proofs.instances.Wired.+nodes.Given as goal
 
 abbrev pub decreases-write_node : goal.decreases-write_node
@@ -12,3 +17,11 @@ decreases-write_sources l = 4 * l.depth + 2
 
 abbrev pub decreases-write_each : goal.decreases-write_each
 decreases-write_each l = 4 * l.depth + 1
+
+-- what was written is written still, and nothing is new that these don't need
+abbrev pub invariant-write_each-loop-node : goal.invariant-write_each-loop-node
+invariant-write_each-loop-node l = record {
+  writes : (define : Bool) (worlds : Worlds) (asked : List (Name × Tree)) → WrittenSo define worlds asked l.fn.self → WrittenSo define worlds asked l.self;
+  keeps : KeepsNodes l.fn.self l.self;
+  only : AddsOnly (UpToOne l.nodes) l.fn.self l.self;
+}

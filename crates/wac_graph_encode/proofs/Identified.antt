@@ -1,0 +1,121 @@
+-- Names of interfaces, and the identifier of an instance that is asked under one.
+use Rattle.std.proofs.Common.{◌≡◌, suc, ◌+◌, Bool, true, false, true≢false, Option, Some, None, Result, Ok, Err, refl, sym, ap, ◌∙◌, inl, inr, arith, length, slice_get}
+use Rattle.std.specs.Prelude.{◌&&◌, ◌⊎◌, is_some, IsSome, if◌then◌else◌}
+use Rattle.std.specs.Bool.{Decides}
+use Rattle.std.specs.Result.{result_ok}
+use Rattle.std.proofs.lemmas.Bool.{or_right}
+use Rattle.semver.specs.Parse.{Parts, version_parts}
+use Rattle.wac_names.specs.ComponentNames.{IsPath, IsVersion, IsInterfaceName}
+use Rattle.wac_names.specs.NameTests.{path_test, pair_test}
+use Rattle.wac_names.proofs.NameForms.{pair_decides}
+use Rattle.wac_names.proofs.NameKinds.{or_parts, or_left, path_decides, path_lacks}
+use Rattle.wac_types_base.specs.declared.item.ItemKind.{ItemKind}
+use Rattle.wac_types_base.specs.declared.item.«Type».{«Type» as TypeKind}
+use Rattle.wac_types_base.specs.declared.ids.InterfaceId.{InterfaceId}
+use Rattle.wac_types_base.specs.declared.defined.Interface.{Interface}
+use Rattle.wac_types_base.specs.Entries.{Name}
+use Rattle.wac_types_base.specs.Record.{Collection}
+use Rattle.wac_types_base.specs.Graph.{whole, grow, node, no_more}
+use Rattle.wac_types_base.specs.Collection.{Stands, IsAcyclic, depth, rows, item_node, unfolding_of, interface_entry, alias}
+use Rattle.wac_types_base.specs.Stated.{kind_of, stated_in, stated_of, identifier_of}
+use Rattle.wac_types_base.proofs.Slots.{entry_at-is}
+use Rattle.wac_types_base.proofs.Telling.{item_kind, kind_stated, stated_step}
+use Rattle.wac_types_names.specs.Tracks.{read_version}
+use Rattle.wac_composition.specs.Names.{version_test, is_interface_name}
+use Rattle.wac_composition.specs.Classes.{is_instance}
+
+-- ---- names of interfaces
+
+version_told : (text : Name) → Decides (version_test text) (IsVersion text)
+unfolding read_version
+version_told text = go (version_parts text) refl
+  where
+    go : (r : Result Parts _) → version_parts text ≡ r → Decides (is_some (result_ok (version_parts text))) (IsVersion text)
+    go (Ok p) e = (λ h. (p, e), λ h. ap (λ r. is_some (result_ok r)) e)
+    go (Err f) e = (λ h. absurd (true≢false (sym h ∙ ap (λ r. is_some (result_ok r)) e)), λ h. absurd (cc (sym e ∙ h.1)))
+
+pub interface_named : (n : Name) → Decides (is_interface_name n) (IsInterfaceName n)
+interface_named n =
+    let path = path_decides n in
+    let pair = pair_decides 64 path_test version_test IsPath IsVersion path_decides version_told path_lacks n in (
+      λ e. elim (or_parts (path_test n) (pair_test 64 path_test version_test n) e) [ inl h ↦ inl (path.0 h) | inr h ↦ inr (pair.0 h) ],
+      λ h. elim h [
+        | inl j ↦ or_left (path_test n) (pair_test 64 path_test version_test n) (path.1 j)
+        | inr j ↦ or_right (path_test n) (pair_test 64 path_test version_test n) (pair.1 j)
+      ],
+    )
+
+-- ---- what does not stand states nothing
+
+nothing : {A : Type 0} (o : Option A) → (IsSome o → ⊥) → o ≡ None
+nothing None h = refl
+nothing (Some x) h = absurd (h refl)
+
+no_unfolding : (c : Collection) (k : ItemKind) → (Stands c k → ⊥) → unfolding_of c k ≡ None
+unfolding unfolding_of whole
+no_unfolding c k h =
+    let g = item_node c in
+    let e : depth c ≡ suc (length (rows c) + 1) = omega arith in
+    ap (λ n. whole g n k) e ∙ ap (λ o. grow o (whole g (length (rows c) + 1))) (nothing (g k) h)
+
+stated_nothing : (c : Collection) (k : ItemKind) → (Stands c k → ⊥) → stated_of c k ≡ node alias no_more
+stated_nothing c k h = ap stated_in (no_unfolding c k h)
+
+-- ---- identifiers
+
+pub no_identifier : (c : Collection) (k : ItemKind) → (Stands c k → ⊥) → identifier_of (stated_of c k) ≡ None
+no_identifier c k h = ap identifier_of (stated_nothing c k h)
+
+pub identifier_is : (c : Collection) → IsAcyclic c → (id : InterfaceId) (i : Interface) → slice_get c.interfaces id.index ≡ Some i → id.collection ≡ c.number → identifier_of (stated_of c (ItemKind.Instance id)) ≡ i.id
+unfolding item_node
+identifier_is c a id i at own = ap identifier_of (stated_step c a (ItemKind.Instance id) (interface_entry i) (entry_at-is interface_entry c.number c.interfaces id.collection id.index i at own))
+
+stands_or_not : (c : Collection) (k : ItemKind) → Stands c k ⊎ (Stands c k → ⊥)
+stands_or_not c k = go (item_node c k)
+  where
+    go : {A : Type 0} (o : Option A) → IsSome o ⊎ (IsSome o → ⊥)
+    go None = inr (λ h. true≢false (sym h))
+    go (Some x) = inl refl
+
+-- the identifier of an instance is asked under the name of an interface
+pub asked_instance : (c : Collection) → IsAcyclic c → (id : InterfaceId) (b : Bool) → (if is_instance (kind_of (stated_of c (ItemKind.Instance id))) && b then identifier_of (stated_of c (ItemKind.Instance id)) else None) ≡ (if b then identifier_of (stated_of c (ItemKind.Instance id)) else None)
+asked_instance c a id b = elim (stands_or_not c (ItemKind.Instance id)) [
+  | inl s ↦ ap (λ k. if is_instance k && b then identifier_of (stated_of c (ItemKind.Instance id)) else None) (kind_stated c a (ItemKind.Instance id) s)
+  | inr n ↦ ap (λ t. if is_instance (kind_of t) && b then identifier_of t else None) (stated_nothing c (ItemKind.Instance id) n) ∙ go b (identifier_of (stated_of c (ItemKind.Instance id))) (no_identifier c (ItemKind.Instance id) n)
+]
+  where
+    go : (b : Bool) (o : Option Name) → o ≡ None → None ≡ (if b then o else None)
+    go true o e = sym e
+    go false o e = refl
+
+-- of nothing else one is asked
+abbrev pub IsNoInstance : ItemKind → Type 0
+IsNoInstance (ItemKind.Instance id) = ⊥
+IsNoInstance k = Unit {0}
+
+pub asked_other : (c : Collection) → IsAcyclic c → (k : ItemKind) (b : Bool) → IsNoInstance k → (if is_instance (kind_of (stated_of c k)) && b then identifier_of (stated_of c k) else None) ≡ None
+asked_other c a k b other_kind = elim (stands_or_not c k) [
+  | inl s ↦ ap (λ j. if is_instance j && b then identifier_of (stated_of c k) else None) (kind_stated c a k s) ∙ ap (λ j. if j && b then identifier_of (stated_of c k) else None) (other k other_kind)
+  | inr n ↦ ap (λ t. if is_instance (kind_of t) && b then identifier_of t else None) (stated_nothing c k n)
+]
+  where
+    other : (k : ItemKind) → IsNoInstance k → is_instance (item_kind k) ≡ false
+    other (ItemKind.Ty (TypeKind.Resource r)) h = refl
+    other (ItemKind.Ty (TypeKind.Func f)) h = refl
+    other (ItemKind.Ty (TypeKind.Value v)) h = refl
+    other (ItemKind.Ty (TypeKind.Interface i)) h = refl
+    other (ItemKind.Ty (TypeKind.World w)) h = refl
+    other (ItemKind.Ty (TypeKind.Module m)) h = refl
+    other (ItemKind.Func f) h = refl
+    other (ItemKind.Instance i) h = absurd h
+    other (ItemKind.Component w) h = refl
+    other (ItemKind.Module m) h = refl
+    other (ItemKind.Value v) h = refl
+
+pub no_instance : (k : ItemKind) → ((id : InterfaceId) → k ≡ ItemKind.Instance id → ⊥) → IsNoInstance k
+no_instance (ItemKind.Ty t) h = tt
+no_instance (ItemKind.Func f) h = tt
+no_instance (ItemKind.Instance i) h = h i refl
+no_instance (ItemKind.Component w) h = tt
+no_instance (ItemKind.Module m) h = tt
+no_instance (ItemKind.Value v) h = tt

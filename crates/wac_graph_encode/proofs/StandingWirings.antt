@@ -1,0 +1,164 @@
+-- What is finished states the wiring of the graph.
+use Rattle.std.specs.Prelude.{slice_get, option_map, not, if◌then◌else◌}
+use Rattle.std.specs.Cmp.Lexicographic.{pointwise}
+use Rattle.std.specs.List.{AllZip}
+use Rattle.std.proofs.lemmas.Option.{same_Some}
+use Rattle.std.proofs.Common.{◌≡◌, ◌==◌, ℕ, zero, suc, ◌+◌, Bool, true, false, ◌||◌, cond, List, [], ◌∷◌, length, Option, Some, None, IsSome, inl, inr, refl, sym, ap, subst, ◌∙◌, arith}
+use Rattle.wac_types_base.specs.Entries.{Name, AreDistinct, value_at}
+use Rattle.wac_types_base.specs.Graph.{Among}
+use Rattle.wac_types_base.specs.Tree.{Tree}
+use Rattle.wac_types_names.specs.Packaged.{Packaged}
+use Rattle.wac_graph_bytes.specs.declared.entry.Entry.{Entry}
+use Rattle.wac_graph_bytes.specs.Typing.{Worlds}
+use Rattle.wac_graph_bytes.specs.Wirings.{Tag, Source, Absent, OfBytes, Instantiation, Wiring, Same, rename, renamed}
+use Rattle.wac_graph_bytes.specs.Wirings as wirings
+use Rattle.wac_graph_bytes.specs.Meaning.{Listed, source_at, instantiation, is_package, is_package_of, wiring_of}
+use Rattle.wac_graph_bytes.proofs.SameWirings.{orders_rename}
+use Rattle.wac_graph_core.specs.Graph.{Graph, IsGraph, instantiated}
+use Rattle.wac_graph_core.specs.GraphWiring as core
+use Rattle.wac_graph_core.proofs.Found.{eq_same}
+use Rattle.wac_types_base.proofs.Replacing.{same_number}
+use Rattle.wac_types_base.proofs.Looked.{among-get}
+use Rattle.wac_graph_core.proofs.WiringLaws.{once, same_instance}
+use Rattle.wac_graph_encode.specs.Encoding.{written_tree}
+use Rattle.wac_graph_encode.specs.Standing.{number_in, by_number, spelled, Denotes, IsListed, IsExported, IsFinished}
+use Rattle.wac_graph_encode.proofs.StandingNumbers.{later}
+
+-- ---- places in two lists that go together
+
+pub zip_at : {A B : Type 0} (R : A → B → Type 0) (xs : List A) (ys : List B) → AllZip R xs ys → (i : ℕ) (x : A) → slice_get xs i ≡ Some x → (y : B) × (slice_get ys i ≡ Some y) × R x y
+zip_at R [] [] z i x e = absurd (cc e)
+zip_at R [] (y ∷ ys) z i x e = absurd z
+zip_at R (x ∷ xs) [] z i a e = absurd z
+zip_at R (x ∷ xs) (y ∷ ys) z zero a e = (y, refl, subst (λ b. R b y) (same_Some _ _ e) z.0)
+zip_at R (x ∷ xs) (y ∷ ys) z (suc i) a e = zip_at R xs ys z.1 i a e
+
+pub zip_back : {A B : Type 0} (R : A → B → Type 0) (xs : List A) (ys : List B) → AllZip R xs ys → (i : ℕ) (y : B) → slice_get ys i ≡ Some y → (x : A) × (slice_get xs i ≡ Some x) × R x y
+zip_back R [] [] z i y e = absurd (cc e)
+zip_back R [] (y ∷ ys) z i b e = absurd z
+zip_back R (x ∷ xs) [] z i y e = absurd z
+zip_back R (x ∷ xs) (y ∷ ys) z zero b e = (x, refl, subst (λ c. R x c) (same_Some _ _ e) z.0)
+zip_back R (x ∷ xs) (y ∷ ys) z (suc i) b e = zip_back R xs ys z.1 i b e
+
+-- ---- the place of a number
+
+pub number_at : (order : List ℕ) (j : ℕ) → Among j order → slice_get order (number_in order j) ≡ Some j
+number_at [] j m = absurd m
+number_at (i ∷ is) j m = go (i == j) refl (λ e. number_at is j (later i j is e m))
+  where
+    go : (b : Bool) → (i == j) ≡ b → ((i == j) ≡ false → slice_get is (number_in is j) ≡ Some j) → slice_get (i ∷ is) (cond (not b) (1 + number_in is j) 0) ≡ Some j
+    go true e rest = ap Some (same_number i j e)
+    go false e rest = let next : 1 + number_in is j ≡ suc (number_in is j) = omega arith in ap (slice_get (i ∷ is)) next ∙ rest e
+
+pub number_of : (order : List ℕ) → AreDistinct order → (j k : ℕ) → slice_get order j ≡ Some k → number_in order k ≡ j
+number_of [] d j k e = absurd (cc e)
+number_of (i ∷ is) d zero k e =
+    let same : i ≡ k = same_Some _ _ e in
+    ap (λ (b : Bool). cond (not b) (1 + number_in is k) 0) (ap (λ x. i == x) (sym same) ∙ eq_same i)
+number_of (i ∷ is) d (suc j) k e =
+    let rest = number_of is d.1 j k e in
+    go (i == k) refl rest
+  where
+    go : (b : Bool) → (i == k) ≡ b → number_in is k ≡ j → cond (not b) (1 + number_in is k) 0 ≡ suc j
+    go true q r = absurd (d.0 (subst (λ x. Among x is) (sym (same_number i k q)) (among-get is j k e)))
+    go false q r = omega (arith, r)
+
+-- ---- exports
+
+-- what is exported under a name is what its node denotes
+abbrev ExportIs : Graph → List ℕ → Option ℕ → Option (Source ℕ) → Type 0
+ExportIs g order None o = o ≡ None
+ExportIs g order (Some k) o = (s : Source ℕ) × Denotes g k s × (o ≡ Some (by_number order s))
+
+exported_at : (g : Graph) (worlds : Worlds) (define : Bool) (order : List ℕ) (es : List (Name × ℕ)) (xs : List (Name × Source ℕ)) → AllZip (IsExported g worlds define order) es xs → (n : Name) → ExportIs g order (value_at es n) (value_at xs n)
+exported_at g worlds define order [] [] z n = refl
+exported_at g worlds define order [] (x ∷ xs) z n = absurd z
+exported_at g worlds define order (e ∷ es) [] z n = absurd z
+exported_at g worlds define order (e ∷ es) (x ∷ xs) z n =
+    subst (λ (m : Name). ExportIs g order (if pointwise ◌==◌ n e.0 then Some e.1 else value_at es n) (if pointwise ◌==◌ n m then Some x.1 else value_at xs n)) (sym z.0.name)
+    (go (pointwise ◌==◌ n e.0) (exported_at g worlds define order es xs z.1 n))
+  where
+    go : (b : Bool) → ExportIs g order (value_at es n) (value_at xs n) → ExportIs g order (if b then Some e.1 else value_at es n) (if b then Some x.1 else value_at xs n)
+    go true rest = (z.0.source, z.0.denotes, ap Some z.0.is)
+    go false rest = rest
+
+-- ---- the wiring
+
+-- no import is a package where all are nested
+no_package : (n : Name) (xs : List (Tag × List (Name × Source ℕ))) → ((x : Tag × List (Name × Source ℕ)) → Among x xs → (bytes : List ℕ) × (x.0 ≡ OfBytes bytes)) → is_package n xs ≡ false
+no_package n [] h = refl
+no_package n (x ∷ xs) h =
+    let b = h x (inl refl) in
+    ap (λ (t : Tag). is_package_of n t || is_package n xs) b.1 ∙ no_package n xs (λ y m. h y (inr m))
+
+among_zip : {A B : Type 0} (R : A → B → Type 0) (xs : List A) (ys : List B) → AllZip R xs ys → (y : B) → Among y ys → (x : A) × R x y
+among_zip R [] [] z y m = absurd m
+among_zip R [] (b ∷ ys) z y m = absurd z
+among_zip R (x ∷ xs) [] z y m = absurd m
+among_zip R (x ∷ xs) (b ∷ ys) z y (inl e) = (x, subst (R x) (sym e) z.0)
+among_zip R (x ∷ xs) (b ∷ ys) z y (inr m) = among_zip R xs ys z.1 y m
+
+module _ (g : Graph) (is : IsGraph g) (worlds : Worlds) (asked : List (Name × Tree)) (es : List Entry) (h : IsFinished g worlds true asked es) (asks : Name → Option Tree) (outers : (n : Name) → value_at asked n ≡ asks n)
+    (W : Wiring ℕ) (wires : core.IsWiring (spelled g) (written_tree g) g asks W) where
+  abbrev listed : Listed
+  listed = h.state.listed
+
+  abbrev read : Wiring ℕ
+  read = wiring_of listed
+
+  all_nested : (x : Tag × List (Name × Source ℕ)) → Among x listed.instances → (bytes : List ℕ) × (x.0 ≡ OfBytes bytes)
+  all_nested x m = let a = among_zip (IsListed g worlds true h.order) h.order listed.instances h.instances x m in (a.1.of.bytes, a.1.tag)
+
+  apart : (n : Name) → is_package n listed.instances ≡ false
+  apart n = no_package n listed.instances all_nested
+
+  outers_same : (n : Name) → W.outers n ≡ read.outers n
+  outers_same n =
+      wires.outers n ∙ sym (outers n) ∙ ap (λ xs. value_at xs n) (sym h.imports)
+      ∙ ap (λ (b : Bool). if b then None else value_at listed.imports n) (sym (apart n))
+
+  -- an instance that is listed is the one of the wiring, by numbers
+  same_made : (k : ℕ) (p : Packaged) (x : Instantiation ℕ) (y : Tag × List (Name × Source ℕ)) → instantiated g k ≡ Some p → core.IsInstance (spelled g) (written_tree g) g k p x → IsListed g worlds true h.order k y
+      → instantiation y ≡ renamed (number_in h.order) x
+  same_made k p x y at of a =
+      let q : a.of ≡ p = same_Some _ _ (sym a.is ∙ at) in
+      let mine = subst (λ r. core.IsInstance (spelled g) (written_tree g) g k r a.instance) q a.bound in
+      let one : a.instance ≡ x = same_instance (spelled g) (written_tree g) g is k p a.instance x mine of in
+      λ i. record {
+        tag = (a.tag ∙ ap (λ r. OfBytes r.bytes) q ∙ sym of.tag) i;
+        args = λ n. (a.given n ∙ ap (λ (z : Instantiation ℕ). by_number h.order (z.args n)) one) i;
+      }
+
+  each : (k : ℕ) (x : Instantiation ℕ) → W.at k ≡ Some x → (slice_get h.order (number_in h.order k) ≡ Some k) × (read.at (number_in h.order k) ≡ Some (renamed (number_in h.order) x))
+  each k x e = go (instantiated g k) refl
+    where
+      go : (o : Option Packaged) → instantiated g k ≡ o → (slice_get h.order (number_in h.order k) ≡ Some k) × (read.at (number_in h.order k) ≡ Some (renamed (number_in h.order) x))
+      go None q = absurd (cc (sym e ∙ wires.no_other k q))
+      go (Some p) q =
+          let w = wires.instances k p q in
+          let same : w.0 ≡ x = same_Some _ _ (sym w.1 ∙ e) in
+          let at = number_at h.order k (h.all k (subst IsSome (sym q) refl)) in
+          let y = zip_at (IsListed g worlds true h.order) h.order listed.instances h.instances (number_in h.order k) k at in
+          (at, ap (option_map instantiation) y.1 ∙ ap Some (same_made k p x y.0 q (subst (core.IsInstance (spelled g) (written_tree g) g k p) same w.2) y.2))
+
+  only : (j : ℕ) (y : Instantiation ℕ) → read.at j ≡ Some y → (k : ℕ) × (x : Instantiation ℕ) × (slice_get h.order j ≡ Some k) × (W.at k ≡ Some x) × (number_in h.order k ≡ j)
+  only j y e = go (slice_get listed.instances j) refl e
+    where
+      go : (o : Option (Tag × List (Name × Source ℕ))) → slice_get listed.instances j ≡ o → option_map instantiation o ≡ Some y → (k : ℕ) × (x : Instantiation ℕ) × (slice_get h.order j ≡ Some k) × (W.at k ≡ Some x) × (number_in h.order k ≡ j)
+      go None q r = absurd (cc r)
+      go (Some z) q r =
+          let a = zip_back (IsListed g worlds true h.order) h.order listed.instances h.instances j z q in
+          let w = wires.instances a.0 a.2.of a.2.is in
+          (a.0, w.0, a.1, w.1, number_of h.order h.once j a.0 a.1)
+
+  exports_same : (n : Name) → by_number h.order (W.exports n) ≡ read.exports n
+  exports_same n = go (value_at g.exports n) refl (value_at listed.exports n) refl (exported_at g worlds true h.order g.exports listed.exports h.exports n)
+    where
+      go : (o : Option ℕ) → value_at g.exports n ≡ o → (p : Option (Source ℕ)) → value_at listed.exports n ≡ p → ExportIs g h.order o p → by_number h.order (W.exports n) ≡ read.exports n
+      go None q p r a = ap (by_number h.order) (wires.no_export n q) ∙ ap (λ (s : Option (Source ℕ)). elim s [ None ↦ Absent | Some t ↦ t ]) (sym (r ∙ a))
+      go (Some k) q p r a =
+          ap (by_number h.order) (once (spelled g) (written_tree g) g is k (W.exports n) a.0 (wires.exported n k q) a.1)
+          ∙ ap (λ (s : Option (Source ℕ)). elim s [ None ↦ Absent | Some t ↦ t ]) (sym (r ∙ a.2))
+
+  pub nested_wiring : Same W read
+  nested_wiring = orders_rename W read h.order (number_in h.order) (record { outers = outers_same; each = each; only = only; exports = exports_same })

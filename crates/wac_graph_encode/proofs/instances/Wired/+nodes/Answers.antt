@@ -1,0 +1,63 @@
+use Rattle.std.proofs.Common.{◌≡◌, ◌<◌, ◌≤◌, ◌∙◌, ℕ, List, [], ap, arith, inl, inr, refl, sym, subst}
+use Rattle.wac_types_base.specs.Entries.{names_of}
+use Rattle.wac_types_base.specs.Graph.{Among}
+use Rattle.wac_types_base.proofs.Looked.{among-get}
+use Rattle.wac_types_base.proofs.Loops.{get-place}
+use Rattle.wac_types_fit.proofs.Items.{name-among}
+use Rattle.wac_graph_core.specs.Edges.{IsRank}
+use Rattle.wac_graph_encode.specs.Writing.{AddsOnly, AddsNeeded, Below, UpTo, UpToOne, noted}
+use Rattle.wac_graph_encode.proofs.WritingLaws.{on_ok, keeps_refl, keeps_trans, needed_below_one, only_none, only_trans, stands_if}
+use Rattle.wac_graph_encode.proofs.instances.Wired.+nodes.Goals as goal
+use Rattle.wac_graph_encode.proofs.instances.Wired.+nodes.Goals.{write_node-then-depth-eq0-via-then-depth-eq0, write_node-then-depth-eq0-via-else-depth-eq0+then-is_some}
+
+pub write_bound-write_itself-requires-clause-new : goal.write_bound-write_itself-requires-clause-new
+write_bound-write_itself-requires-clause-new t c m =
+    let r = c.see_sound.ensures.acyclic in
+    elim (c.in_ok-write_sources.ensures.only r.0 r.1 c.args.node m) [
+      | inl there ↦ c.requires.new there
+      | inr below ↦ let low : r.0 c.args.node < r.0 c.args.node = below in absurd (omega (arith, low))
+    ]
+
+pub write_bound-returns-clause-keeps : goal.write_bound-returns-clause-keeps
+write_bound-returns-clause-keeps t c = on_ok c.write_itself.result (keeps_trans c.args.self.now c.write_sources.new.self c.write_itself.new.self c.in_ok-write_sources.ensures.keeps) c.write_itself.ensures.keeps
+
+pub write_bound-returns-clause-only : goal.write_bound-returns-clause-only
+write_bound-returns-clause-only t c =
+    on_ok c.write_itself.result
+    (only_trans (Below c.args.node) (λ rank k. k ≡ c.args.node) (UpTo c.args.node) c.args.self.now c.write_sources.new.self c.write_itself.new.self c.in_ok-write_sources.ensures.keeps.same.graph
+    (λ rank is k low. below_most (rank k) (rank c.args.node) low) (λ rank is k e. same_most (rank k) (rank c.args.node) (ap rank e)) c.in_ok-write_sources.ensures.only) c.write_itself.ensures.only
+  where
+    below_most : (m n : ℕ) → m < n → m ≤ n
+    below_most m n h = omega (arith, h)
+
+    same_most : (m n : ℕ) → m ≡ n → m ≤ n
+    same_most m n e = omega (arith, e)
+
+pub write_each-loop-node-init : goal.write_each-loop-node-init
+write_each-loop-node-init t c = record { writes = λ define worlds asked h. h; keeps = keeps_refl c.args.self.now; only = only_none (UpToOne c.args.nodes.now) c.args.self.now }
+
+pub write_each-loop-node-preserved : goal.write_each-loop-node-preserved
+write_each-loop-node-preserved t c =
+    let before = c.loop-node.invariant in
+    let ks = c.args.nodes.now in
+    let k = c.node-item.result in
+    let there : Among k ks = among-get ks c.loop-node.node-index k (get-place ks c.loop-node.node-index k c.loop-node-test.true c.node-item.is) in
+    record {
+      writes = λ define worlds asked h. c.in_ok-write_node.ensures.writes define worlds asked (before.writes define worlds asked h);
+      keeps = keeps_trans c.args.self.now c.loop-node.self c.write_node.new.self before.keeps c.in_ok-write_node.ensures.keeps;
+      only = only_trans (UpToOne ks) (UpTo k) (UpToOne ks) c.args.self.now c.loop-node.self c.write_node.new.self before.keeps.same.graph (λ rank is j x. x) (λ rank is j low. (k, there, low)) before.only c.in_ok-write_node.ensures.only;
+    }
+
+pub write_node-returns-then-depth-eq0-clause-stands : goal.write_node-returns-then-depth-eq0-clause-stands
+write_node-returns-then-depth-eq0-clause-stands t c low =
+    elim c.then-depth-eq0.branch [
+      | write_node-then-depth-eq0-via-then-depth-eq0 w ↦ let none : c.args.depth ≡ 0 = w.if-depth-eq0.true in absurd (omega (arith, none, low))
+      | write_node-then-depth-eq0-via-else-depth-eq0+then-is_some w ↦ stands_if (noted c.args.self.now) c.args.node w.node.result w.if-is_some.ensures w.node.ensures.found
+    ]
+
+pub write_sources-returns-clause-only : goal.write_sources-returns-clause-only
+write_sources-returns-clause-only t c =
+    let g = c.args.self.now.graph.now in
+    let needs = subst (AddsNeeded g c.args.node []) (sym c.deref.ensures.value) c.in_ok-sources.ensures in
+    on_ok c.write_each.result
+    (λ only rank is k m. elim (only rank is k m) [ inl there ↦ inl there | inr x ↦ inr (needed_below_one g c.args.node c.deref.result.now needs rank is k x) ]) c.write_each.ensures.only

@@ -1,0 +1,9 @@
+use Rattle.std.proofs.Common.{subst}
+use Rattle.wac_types_base.specs.Collection.{IsAcyclic}
+use Rattle.wac_graph_encode.proofs.WritingSteps.{alias_wired}
+use Rattle.wac_graph_encode.proofs.instances.Wired.alias.Goals as goal
+
+pub returns-clause-writes : goal.returns-clause-writes
+returns-clause-writes c define worlds asked h new =
+    alias_wired c.args.self.now c.see_sound.ensures (subst IsAcyclic c.types.ensures c.see_acyclic.ensures) c.add_alias.new.self c.args.node c.in_ok-place.place c.in-Some.sort c.in-Some.index c.in-Some.name.now c.in-Some.ensures c.in_ok-place.ensures
+    define worlds asked h

@@ -1,0 +1,27 @@
+use Rattle.std.proofs.Common.{◌≡◌, List, Option, subst, sym, ap, ◌∙◌}
+use Rattle.wac_types_base.specs.Entries.{Name}
+use Rattle.wac_graph_core.specs.Graph.{Graph, IsGraph}
+use Rattle.wac_graph_bytes.specs.declared.entry.Entry.{Entry}
+use Rattle.wac_graph_scopes.specs.declared.imports.SortIndex.{SortIndex}
+use Rattle.wac_graph_encode.specs.declared.instances.Wired.{Wired}
+use Rattle.wac_graph_encode.specs.Standing.{IsWritten, IsFinished}
+use Rattle.wac_graph_encode.specs.Writing.{AddsExports, AllStand, AreCalled, noted}
+use Rattle.wac_graph_encode.proofs.StandingExports.{exports_finished}
+use Rattle.wac_graph_encode.proofs.WritingSteps.{begun_outers}
+use Rattle.wac_graph_encode.proofs.instances.Wired.write_all.Goals as goal
+
+pub push_exports-requires : goal.push_exports-requires
+push_exports-requires c = c.in_ok-write_nodes.ensures.all
+
+pub returns : goal.returns
+returns c = λ define worlds asked begun.
+    let old = c.args.self.now in
+    let w = c.write_nodes.new.self in
+    let found = c.add_outers.new.outers in
+    let called = subst (λ (xs : List (Option SortIndex)). AreCalled c.args.called.now xs found) c.deref.ensures.value c.in_ok-add_outers.ensures in
+    let first = begun_outers define worlds asked c.args.called.now old found begun called in
+    let h = c.in_ok-write_nodes.ensures.writes define worlds asked first in
+    let same = c.in_ok-write_nodes.ensures.keeps.same.graph in
+    subst (λ g. IsFinished g worlds define asked c.push_exports.new.entries.items) (ap (λ r. r.now) same)
+    (exports_finished w.graph.now (subst (λ r. IsGraph r.now) (sym same) c.see_sound.ensures) worlds define asked w.outers w.root.packages.entries w.root.entries.items w.root.counts (noted w) h
+    c.push_exports.new.entries.items c.in_ok-write_nodes.ensures.all c.in_ok-push_exports.ensures)

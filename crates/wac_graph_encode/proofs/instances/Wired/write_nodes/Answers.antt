@@ -1,0 +1,24 @@
+use Rattle.std.specs.FinMap as finite
+use Rattle.std.proofs.Common.{rules, ◌∙◌}
+use Rattle.wac_graph_encode.proofs.WritingLaws.{wrote_all, wrote_more, wrote_none}
+use Rattle.wac_graph_encode.proofs.instances.Wired.write_nodes.Goals as goal
+
+pub loop-node-init : goal.loop-node-init
+loop-node-init c = (tt, tt, wrote_none (finite.keys c.args.self.now.graph.now.nodes) c.into_iter-node-iterator.result c.args.self.now (c.into_iter-node-iterator.ensures.into_iter_gives ∙ c.node_ids-node-items.ensures))
+
+pub loop-node-preserved : goal.loop-node-preserved
+loop-node-preserved c = (
+  tt,
+  tt,
+  wrote_more (finite.keys c.args.self.now.graph.now.nodes) c.loop-node.node-iterator c.next.new.self c.in-Some.node c.args.self.now c.loop-node.self c.write_node.new.self c.loop-node.invariant.2 c.in-Some.ensures.steps c.in_ok-write_node.ensures.writes
+      c.in_ok-write_node.ensures.keeps (c.in_ok-write_node.ensures.stands (search rules)),
+)
+
+pub returns-clause-writes : goal.returns-clause-writes
+returns-clause-writes c = c.loop-node.invariant.2.writes
+
+pub returns-clause-keeps : goal.returns-clause-keeps
+returns-clause-keeps c = c.loop-node.invariant.2.keeps
+
+pub returns-clause-all : goal.returns-clause-all
+returns-clause-all c = wrote_all c.loop-node.node-iterator c.args.self.now c.loop-node.self c.loop-node.invariant.2 c.in-None.ensures.steps.0
