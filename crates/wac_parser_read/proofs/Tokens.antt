@@ -32,8 +32,19 @@ span_first : (is : List Item) (r : Result Token Error) (span : SourceSpan) → f
 span_first [] r span e = cc
 span_first (i ∷ is) r span e = ap (λ (q : Result Token Error × SourceSpan). q.1) (same_Some _ _ e)
 
+span_read : (b : Bool) (at span : SourceSpan) (rest r : Input) (fault : Fault)
+    → ◌≡◌ {A = Result (SourceSpan × Input) Fault} (cond b (Ok (at, rest)) (Err fault)) (Ok (span, r)) → ◌≡◌ {A = Result (SourceSpan × Input) Fault} (cond b (Ok (at, rest)) (Err fault)) (Ok (at, r))
+span_read true at span rest r fault e =
+    let same : ◌≡◌ {A = SourceSpan × Input} (at, rest) (span, r) = cc in
+    ap (λ (n : Input). Ok (at, n)) (ap (λ (p : SourceSpan × Input). p.1) same)
+span_read false at span rest r fault e = cc
+
 pub token_taken : (k : Token) (s r : Input) (span : SourceSpan) → first_item s ≡ Some (Ok k, span) → r ≡ rest_input s → (token k).read s ≡ Ok (span, r)
 token_taken k s r span e after = rw (sees_taken k s span e, span_first s.items (Ok k) span e, after) refl
+
+-- the span of the token that was read
+pub taken_span : (k : Token) (s r : Input) (span : SourceSpan) → (token k).read s ≡ Ok (span, r) → (token k).read s ≡ Ok (span_of_items s.items, r)
+taken_span k s r span e = span_read (sees k s) (span_of_items s.items) span (rest_input s) r (missed k s) e
 
 pub taken_less : (k : Token) (s r : Input) (span : SourceSpan) → first_item s ≡ Some (Ok k, span) → r ≡ rest_input s → left r < left s
 taken_less k s r span e after = rw after (fewer s.items (Ok k, span) e)

@@ -50,6 +50,19 @@ pub fn parse_token(lexer: &mut Lexer<'_>, expected: Token) -> ParseResult<Source
     }
 }
 
+/// The value before this token, which is taken.
+#[inline(always)]
+#[tactic(auto, using(crate::proofs::Behind::places, crate::proofs::Tokens::taken_span))]
+pub(crate) fn ended<T: Drop>(value: T, lexer: &mut Lexer<'_>, end: Token) -> ParseResult<T>
+    ensures read { Reads (λ x. rules.span_of_items lexer.old.items) (rules.token end) lexer.old result lexer.new }
+    ensures same { IfOk result (λ x. x ≡ value) }
+    ensures takes { OnOk result (rules.left lexer.new < rules.left lexer.old) }
+    ensures goes_on { IsBehind lexer.new lexer.old }
+{
+    parse_token(lexer, end)?;
+    Ok(value)
+}
+
 /// The token that comes next, if one does.
 #[inline(always)]
 fn next_token(lexer: &Lexer<'_>) -> Option<Token>

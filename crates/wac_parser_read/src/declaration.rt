@@ -1,18 +1,17 @@
 //! Declarations of types.
 
 ghost use Rattle.wac_parser_grammar.specs.Places.{IsBehind};
-ghost use Rattle.std.specs.Prelude.{◌≡◌, ◌∷◌, [], ◌<◌, ◌≤◌, OnOk};
+ghost use Rattle.std.specs.Prelude.{◌≡◌, ◌∷◌, [], ◌<◌, ◌≤◌, map, OnOk};
 ghost use Rattle.std.specs.Option.{option_map};
 ghost use Rattle.wac_parser_lexer.specs.declared.token.Token.TheVariants as k;
 ghost use Rattle.wac_parser_tree.specs.Trees as t;
 ghost use Rattle.wac_parser_tree.specs.Views.{view_ty, view_variant_case, view_variant_decl, view_field, view_record_decl, view_flag, view_flags_decl, view_enum_case, view_enum_decl, view_type_alias_kind, view_type_alias, view_type_decl, view_item_type_decl};
-ghost use Rattle.wac_parser_read.specs.Views.{view_all};
 ghost use Rattle.wac_parser_grammar.specs.Rules.{left};
 ghost use Rattle.wac_parser_grammar.specs.Reads.{Reads};
 ghost use Rattle.wac_parser_grammar.specs.Ahead as ahead;
 ghost use Rattle.wac_parser_grammar.specs.Declarations as grammar;
 
-use crate::base::{none_of, optional, parse_token, sees, sees_any};
+use crate::base::{ended, none_of, optional, parse_token, sees, sees_any};
 use crate::lookahead::Lookahead;
 use crate::parse::{Parse, Peek, parse_delimited};
 use crate::text::{doc_comments, ident};
@@ -44,6 +43,32 @@ pub(crate) const ITEM_TYPE_DECL_FIRST: [Token; 6] = [
     Token::TypeKeyword,
 ];
 
+/// The members of a declaration in braces, at least one. Each begins with its name.
+#[tactic(auto, using(crate::proofs::Behind::places))]
+fn members<'a, T: Parse<'a> + Peek>(
+    alloc: Global,
+    lexer: &mut Lexer<'a>,
+    ty: DeclaredType,
+    kind: MemberKind,
+) -> ParseResult<Vec<T>>
+    requires { T.first ≡ k.Ident ∷ [] }
+    ensures value { Reads (λ v. map T.view v.items) (grammar.members T.rule ty kind) lexer.old result lexer.new }
+    ensures takes { OnOk result (left lexer.new < left lexer.old) }
+    ensures goes_on { IsBehind lexer.new lexer.old }
+{
+    parse_token(lexer, Token::OpenBrace)?;
+    let items: Vec<T> = parse_delimited(alloc, lexer, Token::CloseBrace, true)?;
+    let close = parse_token(lexer, Token::CloseBrace)?;
+    if items.is_empty() {
+        return Err(Error::EmptyType {
+            ty,
+            kind,
+            span: close,
+        });
+    }
+    Ok(items)
+}
+
 /// The type of a case in parentheses, or none.
 #[tactic(auto, using(crate::proofs::Behind::places), unfolding(wac_parser_grammar::specs::Declarations::case_type))]
 fn case_type<'a>(alloc: Global, lexer: &mut Lexer<'a>) -> ParseResult<Option<Type<'a>>>
@@ -54,8 +79,7 @@ fn case_type<'a>(alloc: Global, lexer: &mut Lexer<'a>) -> ParseResult<Option<Typ
     if !optional(lexer, Token::OpenParen)? {
         return Ok(None);
     }
-    let ty = Type::parse(alloc, lexer)?;
-    parse_token(lexer, Token::CloseParen)?;
+    let ty = ended(Type::parse(alloc, lexer)?, lexer, Token::CloseParen)?;
     Ok(Some(ty))
 }
 
@@ -85,26 +109,6 @@ impl<'a> Parse<'a> for VariantCase<'a> {
     }
 }
 
-/// The cases of a variant in braces, at least one.
-#[tactic(auto, using(crate::proofs::Behind::places), unfolding(wac_parser_grammar::specs::Declarations::variant_cases))]
-fn variant_cases<'a>(alloc: Global, lexer: &mut Lexer<'a>) -> ParseResult<Vec<VariantCase<'a>>>
-    ensures value { Reads (view_all view_variant_case) grammar.variant_cases lexer.old result lexer.new }
-    ensures takes { OnOk result (left lexer.new < left lexer.old) }
-    ensures goes_on { IsBehind lexer.new lexer.old }
-{
-    parse_token(lexer, Token::OpenBrace)?;
-    let items: Vec<VariantCase<'a>> = parse_delimited(alloc, lexer, Token::CloseBrace, true)?;
-    let close = parse_token(lexer, Token::CloseBrace)?;
-    if items.is_empty() {
-        return Err(Error::EmptyType {
-            ty: DeclaredType::Variant,
-            kind: MemberKind::Case,
-            span: close,
-        });
-    }
-    Ok(items)
-}
-
 impl<'a> Peek for VariantDecl<'a> {
     ghost first = { k.VariantKeyword ∷ [] };
 
@@ -122,12 +126,12 @@ impl<'a> Parse<'a> for VariantDecl<'a> {
 
     ghost rule = { grammar.variant_decl };
 
-    #[tactic(auto, using(crate::proofs::Behind::places), unfolding(wac_parser_grammar::specs::Declarations::variant_decl))]
+    #[tactic(auto, using(crate::proofs::Behind::places), unfolding(wac_parser_grammar::specs::Declarations::variant_decl, wac_parser_grammar::specs::Declarations::variant_cases))]
     fn parse(alloc: Global, lexer: &mut Lexer<'a>) -> ParseResult<VariantDecl<'a>> {
         let docs = doc_comments(alloc, lexer)?;
         parse_token(lexer, Token::VariantKeyword)?;
         let id = ident(lexer)?;
-        let cases = variant_cases(alloc, lexer)?;
+        let cases = members(alloc, lexer, DeclaredType::Variant, MemberKind::Case)?;
         Ok(VariantDecl { docs, id, cases })
     }
 }
@@ -161,26 +165,6 @@ impl<'a> Parse<'a> for Field<'a> {
     }
 }
 
-/// The fields of a record in braces, at least one.
-#[tactic(auto, using(crate::proofs::Behind::places), unfolding(wac_parser_grammar::specs::Declarations::record_fields))]
-fn record_fields<'a>(alloc: Global, lexer: &mut Lexer<'a>) -> ParseResult<Vec<Field<'a>>>
-    ensures value { Reads (view_all view_field) grammar.record_fields lexer.old result lexer.new }
-    ensures takes { OnOk result (left lexer.new < left lexer.old) }
-    ensures goes_on { IsBehind lexer.new lexer.old }
-{
-    parse_token(lexer, Token::OpenBrace)?;
-    let items: Vec<Field<'a>> = parse_delimited(alloc, lexer, Token::CloseBrace, true)?;
-    let close = parse_token(lexer, Token::CloseBrace)?;
-    if items.is_empty() {
-        return Err(Error::EmptyType {
-            ty: DeclaredType::Record,
-            kind: MemberKind::Field,
-            span: close,
-        });
-    }
-    Ok(items)
-}
-
 impl<'a> Peek for RecordDecl<'a> {
     ghost first = { k.RecordKeyword ∷ [] };
 
@@ -198,12 +182,12 @@ impl<'a> Parse<'a> for RecordDecl<'a> {
 
     ghost rule = { grammar.record_decl };
 
-    #[tactic(auto, using(crate::proofs::Behind::places), unfolding(wac_parser_grammar::specs::Declarations::record_decl))]
+    #[tactic(auto, using(crate::proofs::Behind::places), unfolding(wac_parser_grammar::specs::Declarations::record_decl, wac_parser_grammar::specs::Declarations::record_fields))]
     fn parse(alloc: Global, lexer: &mut Lexer<'a>) -> ParseResult<RecordDecl<'a>> {
         let docs = doc_comments(alloc, lexer)?;
         parse_token(lexer, Token::RecordKeyword)?;
         let id = ident(lexer)?;
-        let fields = record_fields(alloc, lexer)?;
+        let fields = members(alloc, lexer, DeclaredType::Record, MemberKind::Field)?;
         Ok(RecordDecl { docs, id, fields })
     }
 }
@@ -233,26 +217,6 @@ impl<'a> Parse<'a> for Flag<'a> {
     }
 }
 
-/// The flags in braces, at least one.
-#[tactic(auto, using(crate::proofs::Behind::places), unfolding(wac_parser_grammar::specs::Declarations::flags_members))]
-fn flags_members<'a>(alloc: Global, lexer: &mut Lexer<'a>) -> ParseResult<Vec<Flag<'a>>>
-    ensures value { Reads (view_all view_flag) grammar.flags_members lexer.old result lexer.new }
-    ensures takes { OnOk result (left lexer.new < left lexer.old) }
-    ensures goes_on { IsBehind lexer.new lexer.old }
-{
-    parse_token(lexer, Token::OpenBrace)?;
-    let items: Vec<Flag<'a>> = parse_delimited(alloc, lexer, Token::CloseBrace, true)?;
-    let close = parse_token(lexer, Token::CloseBrace)?;
-    if items.is_empty() {
-        return Err(Error::EmptyType {
-            ty: DeclaredType::Flags,
-            kind: MemberKind::Flag,
-            span: close,
-        });
-    }
-    Ok(items)
-}
-
 impl<'a> Peek for FlagsDecl<'a> {
     ghost first = { k.FlagsKeyword ∷ [] };
 
@@ -270,12 +234,12 @@ impl<'a> Parse<'a> for FlagsDecl<'a> {
 
     ghost rule = { grammar.flags_decl };
 
-    #[tactic(auto, using(crate::proofs::Behind::places), unfolding(wac_parser_grammar::specs::Declarations::flags_decl))]
+    #[tactic(auto, using(crate::proofs::Behind::places), unfolding(wac_parser_grammar::specs::Declarations::flags_decl, wac_parser_grammar::specs::Declarations::flags_members))]
     fn parse(alloc: Global, lexer: &mut Lexer<'a>) -> ParseResult<FlagsDecl<'a>> {
         let docs = doc_comments(alloc, lexer)?;
         parse_token(lexer, Token::FlagsKeyword)?;
         let id = ident(lexer)?;
-        let flags = flags_members(alloc, lexer)?;
+        let flags = members(alloc, lexer, DeclaredType::Flags, MemberKind::Flag)?;
         Ok(FlagsDecl { docs, id, flags })
     }
 }
@@ -305,26 +269,6 @@ impl<'a> Parse<'a> for EnumCase<'a> {
     }
 }
 
-/// The cases of an enum in braces, at least one.
-#[tactic(auto, using(crate::proofs::Behind::places), unfolding(wac_parser_grammar::specs::Declarations::enum_cases))]
-fn enum_cases<'a>(alloc: Global, lexer: &mut Lexer<'a>) -> ParseResult<Vec<EnumCase<'a>>>
-    ensures value { Reads (view_all view_enum_case) grammar.enum_cases lexer.old result lexer.new }
-    ensures takes { OnOk result (left lexer.new < left lexer.old) }
-    ensures goes_on { IsBehind lexer.new lexer.old }
-{
-    parse_token(lexer, Token::OpenBrace)?;
-    let items: Vec<EnumCase<'a>> = parse_delimited(alloc, lexer, Token::CloseBrace, true)?;
-    let close = parse_token(lexer, Token::CloseBrace)?;
-    if items.is_empty() {
-        return Err(Error::EmptyType {
-            ty: DeclaredType::Enum,
-            kind: MemberKind::Case,
-            span: close,
-        });
-    }
-    Ok(items)
-}
-
 impl<'a> Peek for EnumDecl<'a> {
     ghost first = { k.EnumKeyword ∷ [] };
 
@@ -342,12 +286,12 @@ impl<'a> Parse<'a> for EnumDecl<'a> {
 
     ghost rule = { grammar.enum_decl };
 
-    #[tactic(auto, using(crate::proofs::Behind::places), unfolding(wac_parser_grammar::specs::Declarations::enum_decl))]
+    #[tactic(auto, using(crate::proofs::Behind::places), unfolding(wac_parser_grammar::specs::Declarations::enum_decl, wac_parser_grammar::specs::Declarations::enum_cases))]
     fn parse(alloc: Global, lexer: &mut Lexer<'a>) -> ParseResult<EnumDecl<'a>> {
         let docs = doc_comments(alloc, lexer)?;
         parse_token(lexer, Token::EnumKeyword)?;
         let id = ident(lexer)?;
-        let cases = enum_cases(alloc, lexer)?;
+        let cases = members(alloc, lexer, DeclaredType::Enum, MemberKind::Case)?;
         Ok(EnumDecl { docs, id, cases })
     }
 }
@@ -394,8 +338,7 @@ impl<'a> Parse<'a> for TypeAlias<'a> {
         parse_token(lexer, Token::TypeKeyword)?;
         let id = ident(lexer)?;
         parse_token(lexer, Token::Equals)?;
-        let kind = TypeAliasKind::parse(alloc, lexer)?;
-        parse_token(lexer, Token::Semicolon)?;
+        let kind = ended(TypeAliasKind::parse(alloc, lexer)?, lexer, Token::Semicolon)?;
         Ok(TypeAlias { docs, id, kind })
     }
 }

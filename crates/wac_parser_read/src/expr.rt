@@ -102,11 +102,11 @@ fn nested_expr<'a>(
     ensures goes_on { IsBehind lexer.new lexer.old }
 {
     let start = parse_token(lexer, Token::OpenParen)?;
-    let inner = expr_within(alloc, lexer, inside)?;
+    let inner = Box::new(alloc, expr_within(alloc, lexer, inside)?)?;
     let close = parse_token(lexer, Token::CloseParen)?;
     Ok(NestedExpr {
         span: through(start, close),
-        inner: Box::new(alloc, inner)?,
+        inner,
     })
 }
 

@@ -8,7 +8,7 @@ ghost use Rattle.wac_parser_grammar.specs.Ahead as ahead;
 ghost use Rattle.wac_parser_grammar.specs.Expressions.{name_first};
 ghost use Rattle.wac_parser_grammar.specs.Documents as grammar;
 
-use crate::base::{none_of, parse_token, sees, sees_any};
+use crate::base::{ended, none_of, parse_token, sees, sees_any};
 use crate::expr::NAME_FIRST;
 use crate::lookahead::Lookahead;
 use crate::parse::{Parse, Peek, parse_optional};
@@ -108,8 +108,7 @@ impl<'a> Parse<'a> for ImportStatement<'a> {
         let id = ident(lexer)?;
         let name = parse_optional(alloc, lexer, Token::AsKeyword)?;
         parse_token(lexer, Token::Colon)?;
-        let ty = ImportType::parse(alloc, lexer)?;
-        parse_token(lexer, Token::Semicolon)?;
+        let ty = ended(ImportType::parse(alloc, lexer)?, lexer, Token::Semicolon)?;
         Ok(ImportStatement { docs, id, name, ty })
     }
 }

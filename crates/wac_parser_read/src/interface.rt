@@ -1,20 +1,16 @@
 //! Interfaces.
 
-ghost use Rattle.wac_parser_grammar.specs.Places.{IsBehind};
 ghost use Rattle.std.specs.Prelude.{◌≡◌, ◌∷◌, [], ◌<◌, ◌≤◌, OnOk};
 ghost use Rattle.wac_parser_lexer.specs.declared.token.Token.TheVariants as k;
 ghost use Rattle.wac_parser_tree.specs.Trees as t;
 ghost use Rattle.wac_parser_tree.specs.Views.{view_use_path, view_use_item, view_use, view_interface_export, view_interface_item, view_interface_decl, view_inline_interface};
-ghost use Rattle.wac_parser_read.specs.Views.{view_all};
-ghost use Rattle.wac_parser_grammar.specs.Rules.{left};
-ghost use Rattle.wac_parser_grammar.specs.Reads.{Reads};
 ghost use Rattle.wac_parser_grammar.specs.Ahead as ahead;
 ghost use Rattle.wac_parser_grammar.specs.Worlds as grammar;
 
-use crate::base::{none_of, parse_token, sees, sees_any};
+use crate::base::{ended, none_of, parse_token, sees, sees_any};
 use crate::declaration::ITEM_TYPE_DECL_FIRST;
 use crate::lookahead::Lookahead;
-use crate::parse::{Parse, Peek, parse_delimited, parse_optional};
+use crate::parse::{Parse, Peek, braced, parse_optional};
 use crate::text::{doc_comments, ident};
 use std::alloc::Global;
 use wac_parser_grammar::ParseResult;
@@ -93,19 +89,6 @@ impl<'a> Parse<'a> for UseItem<'a> {
     }
 }
 
-/// The used types in braces.
-#[tactic(auto, using(crate::proofs::Behind::places), unfolding(wac_parser_grammar::specs::Worlds::use_items))]
-fn use_items<'a>(alloc: Global, lexer: &mut Lexer<'a>) -> ParseResult<Vec<UseItem<'a>>>
-    ensures value { Reads (view_all view_use_item) grammar.use_items lexer.old result lexer.new }
-    ensures takes { OnOk result (left lexer.new < left lexer.old) }
-    ensures goes_on { IsBehind lexer.new lexer.old }
-{
-    parse_token(lexer, Token::OpenBrace)?;
-    let items = parse_delimited(alloc, lexer, Token::CloseBrace, true)?;
-    parse_token(lexer, Token::CloseBrace)?;
-    Ok(items)
-}
-
 impl<'a> Peek for Use<'a> {
     ghost first = { k.UseKeyword ∷ [] };
 
@@ -123,13 +106,13 @@ impl<'a> Parse<'a> for Use<'a> {
 
     ghost rule = { grammar.use_types };
 
-    #[tactic(auto, using(crate::proofs::Behind::places), unfolding(wac_parser_grammar::specs::Worlds::use_types))]
+    #[tactic(auto, using(crate::proofs::Behind::places), unfolding(wac_parser_grammar::specs::Worlds::use_types, wac_parser_grammar::specs::Worlds::use_items))]
     fn parse(alloc: Global, lexer: &mut Lexer<'a>) -> ParseResult<Use<'a>> {
         let docs = doc_comments(alloc, lexer)?;
         parse_token(lexer, Token::UseKeyword)?;
         let path = UsePath::parse(alloc, lexer)?;
         parse_token(lexer, Token::Dot)?;
-        let items = use_items(alloc, lexer)?;
+        let items = braced(alloc, lexer, true)?;
         parse_token(lexer, Token::Semicolon)?;
         Ok(Use { docs, path, items })
     }
@@ -157,8 +140,7 @@ impl<'a> Parse<'a> for InterfaceExport<'a> {
         let docs = doc_comments(alloc, lexer)?;
         let id = ident(lexer)?;
         parse_token(lexer, Token::Colon)?;
-        let ty = FuncTypeRef::parse(alloc, lexer)?;
-        parse_token(lexer, Token::Semicolon)?;
+        let ty = ended(FuncTypeRef::parse(alloc, lexer)?, lexer, Token::Semicolon)?;
         Ok(InterfaceExport { docs, id, ty })
     }
 }
@@ -196,19 +178,6 @@ impl<'a> Parse<'a> for InterfaceItem<'a> {
     }
 }
 
-/// The items of an interface in braces.
-#[tactic(auto, using(crate::proofs::Behind::places), unfolding(wac_parser_grammar::specs::Worlds::interface_items))]
-fn interface_items<'a>(alloc: Global, lexer: &mut Lexer<'a>) -> ParseResult<Vec<InterfaceItem<'a>>>
-    ensures value { Reads (view_all view_interface_item) grammar.interface_items lexer.old result lexer.new }
-    ensures takes { OnOk result (left lexer.new < left lexer.old) }
-    ensures goes_on { IsBehind lexer.new lexer.old }
-{
-    parse_token(lexer, Token::OpenBrace)?;
-    let items = parse_delimited(alloc, lexer, Token::CloseBrace, false)?;
-    parse_token(lexer, Token::CloseBrace)?;
-    Ok(items)
-}
-
 impl<'a> Peek for InterfaceDecl<'a> {
     ghost first = { k.InterfaceKeyword ∷ [] };
 
@@ -226,12 +195,12 @@ impl<'a> Parse<'a> for InterfaceDecl<'a> {
 
     ghost rule = { grammar.interface_decl };
 
-    #[tactic(auto, using(crate::proofs::Behind::places), unfolding(wac_parser_grammar::specs::Worlds::interface_decl))]
+    #[tactic(auto, using(crate::proofs::Behind::places), unfolding(wac_parser_grammar::specs::Worlds::interface_decl, wac_parser_grammar::specs::Worlds::interface_items))]
     fn parse(alloc: Global, lexer: &mut Lexer<'a>) -> ParseResult<InterfaceDecl<'a>> {
         let docs = doc_comments(alloc, lexer)?;
         parse_token(lexer, Token::InterfaceKeyword)?;
         let id = ident(lexer)?;
-        let items = interface_items(alloc, lexer)?;
+        let items = braced(alloc, lexer, false)?;
         Ok(InterfaceDecl { docs, id, items })
     }
 }
@@ -253,10 +222,10 @@ impl<'a> Parse<'a> for InlineInterface<'a> {
 
     ghost rule = { grammar.inline_interface };
 
-    #[tactic(auto, using(crate::proofs::Behind::places), unfolding(wac_parser_grammar::specs::Worlds::inline_interface))]
+    #[tactic(auto, using(crate::proofs::Behind::places), unfolding(wac_parser_grammar::specs::Worlds::inline_interface, wac_parser_grammar::specs::Worlds::interface_items))]
     fn parse(alloc: Global, lexer: &mut Lexer<'a>) -> ParseResult<InlineInterface<'a>> {
         parse_token(lexer, Token::InterfaceKeyword)?;
-        let items = interface_items(alloc, lexer)?;
+        let items = braced(alloc, lexer, false)?;
         Ok(InlineInterface { items })
     }
 }

@@ -9,7 +9,7 @@ ghost use Rattle.wac_parser_grammar.specs.Reads.{Reads};
 ghost use Rattle.wac_parser_grammar.specs.Ahead as ahead;
 ghost use Rattle.wac_parser_grammar.specs.Documents as grammar;
 
-use crate::base::parse_token;
+use crate::base::{ended, parse_token};
 use crate::lookahead::Lookahead;
 use crate::parse::{Parse, Peek};
 use crate::text::{doc_comments, ident};
@@ -41,8 +41,7 @@ impl<'a> Parse<'a> for LetStatement<'a> {
         parse_token(lexer, Token::LetKeyword)?;
         let id = ident(lexer)?;
         parse_token(lexer, Token::Equals)?;
-        let expr = Expr::parse(alloc, lexer)?;
-        parse_token(lexer, Token::Semicolon)?;
+        let expr = ended(Expr::parse(alloc, lexer)?, lexer, Token::Semicolon)?;
         Ok(LetStatement { docs, id, expr })
     }
 }

@@ -10,8 +10,9 @@ ghost use Rattle.wac_parser_grammar.specs.Faults.{Fault, fault_of};
 ghost use Rattle.wac_parser_grammar.specs.Rules.{Rule, left, list_of, optional_of};
 ghost use Rattle.std.specs.Option.{option_map};
 ghost use Rattle.wac_parser_grammar.specs.Reads.{Reads};
+ghost use Rattle.wac_parser_grammar.specs.Declarations.{body};
 
-use crate::base::{behind, optional, sees};
+use crate::base::{behind, optional, parse_token, sees};
 use crate::lookahead::Lookahead;
 use std::alloc::Global;
 use wac_parser_grammar::{Error, ParseResult};
@@ -76,6 +77,22 @@ pub fn parse_delimited<'a, T: Parse<'a> + Peek>(
         items.push(T::parse(alloc, lexer)?)?;
         behind(lexer, until, with_commas)?;
     }
+    Ok(items)
+}
+
+/// The values between braces, each followed by a comma or not.
+pub(crate) fn braced<'a, T: Parse<'a> + Peek>(
+    alloc: Global,
+    lexer: &mut Lexer<'a>,
+    with_commas: bool,
+) -> ParseResult<Vec<T>>
+    ensures value { Reads (λ v. map T.view v.items) (body T.rule T.first with_commas) lexer.old result lexer.new }
+    ensures takes { OnOk result (left lexer.new < left lexer.old) }
+    ensures goes_on { IsBehind lexer.new lexer.old }
+{
+    parse_token(lexer, Token::OpenBrace)?;
+    let items = parse_delimited(alloc, lexer, Token::CloseBrace, with_commas)?;
+    parse_token(lexer, Token::CloseBrace)?;
     Ok(items)
 }
 

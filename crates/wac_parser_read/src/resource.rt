@@ -11,9 +11,9 @@ ghost use Rattle.wac_parser_grammar.specs.Reads.{Reads};
 ghost use Rattle.wac_parser_grammar.specs.Ahead as ahead;
 ghost use Rattle.wac_parser_grammar.specs.Declarations as grammar;
 
-use crate::base::{none_of, parse_token, sees};
+use crate::base::{ended, none_of, parse_token, sees};
 use crate::lookahead::Lookahead;
-use crate::parse::{Parse, Peek, parse_delimited};
+use crate::parse::{Parse, Peek, braced};
 use crate::text::{doc_comments, ident};
 use crate::value_type::func_params;
 use std::alloc::Global;
@@ -88,8 +88,7 @@ impl<'a> Parse<'a> for Method<'a> {
         let id = ident(lexer)?;
         parse_token(lexer, Token::Colon)?;
         let is_static = static_mark(lexer)?;
-        let ty = FuncType::parse(alloc, lexer)?;
-        parse_token(lexer, Token::Semicolon)?;
+        let ty = ended(FuncType::parse(alloc, lexer)?, lexer, Token::Semicolon)?;
         Ok(Method {
             docs,
             id,
@@ -145,10 +144,7 @@ fn resource_methods<'a>(
     if !sees(lexer, Token::OpenBrace) {
         return Err(none_of(lexer, &[Token::Semicolon, Token::OpenBrace]));
     }
-    parse_token(lexer, Token::OpenBrace)?;
-    let methods = parse_delimited(alloc, lexer, Token::CloseBrace, false)?;
-    parse_token(lexer, Token::CloseBrace)?;
-    Ok(methods)
+    braced(alloc, lexer, false)
 }
 
 impl<'a> Peek for ResourceDecl<'a> {

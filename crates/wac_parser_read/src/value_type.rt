@@ -259,9 +259,9 @@ fn list_ty<'a>(alloc: Global, lexer: &mut Lexer<'a>, inside: usize) -> ParseResu
 {
     let start = parse_token(lexer, Token::ListKeyword)?;
     parse_token(lexer, Token::OpenAngle)?;
-    let ty = ty_within(alloc, lexer, inside)?;
+    let ty = boxed_ty(alloc, lexer, inside)?;
     let close = parse_token(lexer, Token::CloseAngle)?;
-    Ok(Type::List(Box::new(alloc, ty)?, through(start, close)))
+    Ok(Type::List(ty, through(start, close)))
 }
 
 #[cycle(ty)]
@@ -273,9 +273,9 @@ fn option_ty<'a>(alloc: Global, lexer: &mut Lexer<'a>, inside: usize) -> ParseRe
 {
     let start = parse_token(lexer, Token::OptionKeyword)?;
     parse_token(lexer, Token::OpenAngle)?;
-    let ty = ty_within(alloc, lexer, inside)?;
+    let ty = boxed_ty(alloc, lexer, inside)?;
     let close = parse_token(lexer, Token::CloseAngle)?;
-    Ok(Type::Option(Box::new(alloc, ty)?, through(start, close)))
+    Ok(Type::Option(ty, through(start, close)))
 }
 
 #[tactic(auto, using(crate::proofs::Behind::places), unfolding(wac_parser_grammar::specs::ValueTypes::borrow_ty))]

@@ -11,11 +11,11 @@ ghost use Rattle.wac_parser_grammar.specs.Reads.{Reads};
 ghost use Rattle.wac_parser_grammar.specs.Ahead as ahead;
 ghost use Rattle.wac_parser_grammar.specs.Worlds as grammar;
 
-use crate::base::{none_of, optional, parse_token, sees, sees_any};
+use crate::base::{ended, none_of, optional, parse_token, sees, sees_any};
 use crate::declaration::ITEM_TYPE_DECL_FIRST;
 use crate::interface::PATH_FIRST;
 use crate::lookahead::Lookahead;
-use crate::parse::{Parse, Peek, parse_delimited};
+use crate::parse::{Parse, Peek, braced};
 use crate::text::{doc_comments, ident};
 use crate::value_type::FUNC_FIRST;
 use std::alloc::Global;
@@ -165,8 +165,7 @@ impl<'a> Parse<'a> for WorldImport<'a> {
     fn parse(alloc: Global, lexer: &mut Lexer<'a>) -> ParseResult<WorldImport<'a>> {
         let docs = doc_comments(alloc, lexer)?;
         parse_token(lexer, Token::ImportKeyword)?;
-        let path = WorldItemPath::parse(alloc, lexer)?;
-        parse_token(lexer, Token::Semicolon)?;
+        let path = ended(WorldItemPath::parse(alloc, lexer)?, lexer, Token::Semicolon)?;
         Ok(WorldImport { docs, path })
     }
 }
@@ -192,8 +191,7 @@ impl<'a> Parse<'a> for WorldExport<'a> {
     fn parse(alloc: Global, lexer: &mut Lexer<'a>) -> ParseResult<WorldExport<'a>> {
         let docs = doc_comments(alloc, lexer)?;
         parse_token(lexer, Token::ExportKeyword)?;
-        let path = WorldItemPath::parse(alloc, lexer)?;
-        parse_token(lexer, Token::Semicolon)?;
+        let path = ended(WorldItemPath::parse(alloc, lexer)?, lexer, Token::Semicolon)?;
         Ok(WorldExport { docs, path })
     }
 }
@@ -243,28 +241,15 @@ impl<'a> Parse<'a> for WorldIncludeItem<'a> {
     }
 }
 
-/// The names that change, in braces.
-#[tactic(auto, using(crate::proofs::Behind::places), unfolding(wac_parser_grammar::specs::Worlds::include_items))]
-fn include_items<'a>(alloc: Global, lexer: &mut Lexer<'a>) -> ParseResult<Vec<WorldIncludeItem<'a>>>
-    ensures value { Reads (view_all view_world_include_item) grammar.include_items lexer.old result lexer.new }
-    ensures takes { OnOk result (left lexer.new < left lexer.old) }
-    ensures goes_on { IsBehind lexer.new lexer.old }
-{
-    parse_token(lexer, Token::OpenBrace)?;
-    let items = parse_delimited(alloc, lexer, Token::CloseBrace, true)?;
-    parse_token(lexer, Token::CloseBrace)?;
-    Ok(items)
-}
-
 /// The names that change behind a `with`, or none.
-#[tactic(auto, using(crate::proofs::Behind::places), unfolding(wac_parser_grammar::specs::Worlds::include_with))]
+#[tactic(auto, using(crate::proofs::Behind::places), unfolding(wac_parser_grammar::specs::Worlds::include_with, wac_parser_grammar::specs::Worlds::include_items))]
 fn include_with<'a>(alloc: Global, lexer: &mut Lexer<'a>) -> ParseResult<Vec<WorldIncludeItem<'a>>>
     ensures value { Reads (view_all view_world_include_item) grammar.include_with lexer.old result lexer.new }
     ensures keeps { OnOk result (left lexer.new ≤ left lexer.old) }
     ensures goes_on { IsBehind lexer.new lexer.old }
 {
     if optional(lexer, Token::WithKeyword)? {
-        return include_items(alloc, lexer);
+        return braced(alloc, lexer, true);
     }
     Ok(Vec::new(alloc))
 }
@@ -335,19 +320,6 @@ impl<'a> Parse<'a> for WorldItem<'a> {
     }
 }
 
-/// The items of a world in braces.
-#[tactic(auto, using(crate::proofs::Behind::places), unfolding(wac_parser_grammar::specs::Worlds::world_items))]
-fn world_items<'a>(alloc: Global, lexer: &mut Lexer<'a>) -> ParseResult<Vec<WorldItem<'a>>>
-    ensures value { Reads (view_all view_world_item) grammar.world_items lexer.old result lexer.new }
-    ensures takes { OnOk result (left lexer.new < left lexer.old) }
-    ensures goes_on { IsBehind lexer.new lexer.old }
-{
-    parse_token(lexer, Token::OpenBrace)?;
-    let items = parse_delimited(alloc, lexer, Token::CloseBrace, false)?;
-    parse_token(lexer, Token::CloseBrace)?;
-    Ok(items)
-}
-
 impl<'a> Peek for WorldDecl<'a> {
     ghost first = { k.WorldKeyword ∷ [] };
 
@@ -365,12 +337,12 @@ impl<'a> Parse<'a> for WorldDecl<'a> {
 
     ghost rule = { grammar.world_decl };
 
-    #[tactic(auto, using(crate::proofs::Behind::places), unfolding(wac_parser_grammar::specs::Worlds::world_decl))]
+    #[tactic(auto, using(crate::proofs::Behind::places), unfolding(wac_parser_grammar::specs::Worlds::world_decl, wac_parser_grammar::specs::Worlds::world_items))]
     fn parse(alloc: Global, lexer: &mut Lexer<'a>) -> ParseResult<WorldDecl<'a>> {
         let docs = doc_comments(alloc, lexer)?;
         parse_token(lexer, Token::WorldKeyword)?;
         let id = ident(lexer)?;
-        let items = world_items(alloc, lexer)?;
+        let items = braced(alloc, lexer, false)?;
         Ok(WorldDecl { docs, id, items })
     }
 }

@@ -55,16 +55,14 @@ arguments-returns-clause-value t c =
     Rests-ends (instantiation_argument (expr c.args.inside)).read argument_first k.CloseBrace true (map view_instantiation_argument c.items.items.items) c.items.lexer c.args.lexer.now (length c.items.items.items) (left c.args.lexer.now)
     c.items.invariant.reads (omega (arith, c.items.invariant.room)) (sym c.sees.ensures ∙ c.items-test.false)
 
+pub nested_expr-returns-in_err-expr_within-clause-goes_on : goal.nested_expr-returns-in_err-expr_within-clause-goes_on
+nested_expr-returns-in_err-expr_within-clause-goes_on t c = behind_trans _ _ _ c.expr_within.ensures.goes_on c.parse_token.ensures.goes_on
+
 pub nested_expr-returns-in_err-inner-clause-goes_on : goal.nested_expr-returns-in_err-inner-clause-goes_on
 nested_expr-returns-in_err-inner-clause-goes_on t c = behind_trans _ _ _ c.expr_within.ensures.goes_on c.parse_token.ensures.goes_on
 
 pub nested_expr-returns-in_err-close-clause-goes_on : goal.nested_expr-returns-in_err-close-clause-goes_on
 nested_expr-returns-in_err-close-clause-goes_on t c =
-    behind_trans _ _ _ c.parse_token-2.ensures.goes_on
-    (behind_trans _ _ _ c.expr_within.ensures.goes_on c.parse_token.ensures.goes_on)
-
-pub nested_expr-returns-in_err-new-clause-goes_on : goal.nested_expr-returns-in_err-new-clause-goes_on
-nested_expr-returns-in_err-new-clause-goes_on t c =
     behind_trans _ _ _ c.parse_token-2.ensures.goes_on
     (behind_trans _ _ _ c.expr_within.ensures.goes_on c.parse_token.ensures.goes_on)
 

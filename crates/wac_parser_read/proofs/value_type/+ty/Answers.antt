@@ -91,25 +91,19 @@ list_ty-returns-in_err-parse_token-clause-goes_on t c = behind_trans _ _ _ c.par
 
 pub list_ty-returns-in_err-ty-clause-goes_on : goal.list_ty-returns-in_err-ty-clause-goes_on
 list_ty-returns-in_err-ty-clause-goes_on t c =
-    behind_trans _ _ _ c.ty_within.ensures.goes_on
+    behind_trans _ _ _ c.boxed_ty.ensures.goes_on
     (behind_trans _ _ _ c.parse_token-2.ensures.goes_on c.parse_token.ensures.goes_on)
 
 pub list_ty-returns-in_err-close-clause-goes_on : goal.list_ty-returns-in_err-close-clause-goes_on
 list_ty-returns-in_err-close-clause-goes_on t c =
     behind_trans _ _ _ c.parse_token-3.ensures.goes_on
-    (behind_trans _ _ _ c.ty_within.ensures.goes_on
-    (behind_trans _ _ _ c.parse_token-2.ensures.goes_on c.parse_token.ensures.goes_on))
-
-pub list_ty-returns-in_err-new-clause-goes_on : goal.list_ty-returns-in_err-new-clause-goes_on
-list_ty-returns-in_err-new-clause-goes_on t c =
-    behind_trans _ _ _ c.parse_token-3.ensures.goes_on
-    (behind_trans _ _ _ c.ty_within.ensures.goes_on
+    (behind_trans _ _ _ c.boxed_ty.ensures.goes_on
     (behind_trans _ _ _ c.parse_token-2.ensures.goes_on c.parse_token.ensures.goes_on))
 
 pub list_ty-returns-clause-goes_on : goal.list_ty-returns-clause-goes_on
 list_ty-returns-clause-goes_on t c =
     behind_trans _ _ _ c.parse_token-3.ensures.goes_on
-    (behind_trans _ _ _ c.ty_within.ensures.goes_on
+    (behind_trans _ _ _ c.boxed_ty.ensures.goes_on
     (behind_trans _ _ _ c.parse_token-2.ensures.goes_on c.parse_token.ensures.goes_on))
 
 pub option_ty-returns-in_err-parse_token-clause-goes_on : goal.option_ty-returns-in_err-parse_token-clause-goes_on
@@ -117,25 +111,19 @@ option_ty-returns-in_err-parse_token-clause-goes_on t c = behind_trans _ _ _ c.p
 
 pub option_ty-returns-in_err-ty-clause-goes_on : goal.option_ty-returns-in_err-ty-clause-goes_on
 option_ty-returns-in_err-ty-clause-goes_on t c =
-    behind_trans _ _ _ c.ty_within.ensures.goes_on
+    behind_trans _ _ _ c.boxed_ty.ensures.goes_on
     (behind_trans _ _ _ c.parse_token-2.ensures.goes_on c.parse_token.ensures.goes_on)
 
 pub option_ty-returns-in_err-close-clause-goes_on : goal.option_ty-returns-in_err-close-clause-goes_on
 option_ty-returns-in_err-close-clause-goes_on t c =
     behind_trans _ _ _ c.parse_token-3.ensures.goes_on
-    (behind_trans _ _ _ c.ty_within.ensures.goes_on
-    (behind_trans _ _ _ c.parse_token-2.ensures.goes_on c.parse_token.ensures.goes_on))
-
-pub option_ty-returns-in_err-new-clause-goes_on : goal.option_ty-returns-in_err-new-clause-goes_on
-option_ty-returns-in_err-new-clause-goes_on t c =
-    behind_trans _ _ _ c.parse_token-3.ensures.goes_on
-    (behind_trans _ _ _ c.ty_within.ensures.goes_on
+    (behind_trans _ _ _ c.boxed_ty.ensures.goes_on
     (behind_trans _ _ _ c.parse_token-2.ensures.goes_on c.parse_token.ensures.goes_on))
 
 pub option_ty-returns-clause-goes_on : goal.option_ty-returns-clause-goes_on
 option_ty-returns-clause-goes_on t c =
     behind_trans _ _ _ c.parse_token-3.ensures.goes_on
-    (behind_trans _ _ _ c.ty_within.ensures.goes_on
+    (behind_trans _ _ _ c.boxed_ty.ensures.goes_on
     (behind_trans _ _ _ c.parse_token-2.ensures.goes_on c.parse_token.ensures.goes_on))
 
 pub result_ty-returns-in_err-optional-clause-goes_on : goal.result_ty-returns-in_err-optional-clause-goes_on

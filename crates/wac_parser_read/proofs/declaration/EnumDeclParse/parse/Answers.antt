@@ -6,10 +6,10 @@ returns-in_err-id-clause-goes_on c = behind_trans _ _ _ c.ident.ensures.goes_on 
 
 pub returns-in_err-cases-clause-goes_on : goal.returns-in_err-cases-clause-goes_on
 returns-in_err-cases-clause-goes_on c =
-    behind_trans _ _ _ c.enum_cases.ensures.goes_on
+    behind_trans _ _ _ c.members.ensures.goes_on
     (behind_trans _ _ _ c.ident.ensures.goes_on c.parse_token.ensures.goes_on)
 
 pub returns-clause-goes_on : goal.returns-clause-goes_on
 returns-clause-goes_on c =
-    behind_trans _ _ _ c.enum_cases.ensures.goes_on
+    behind_trans _ _ _ c.members.ensures.goes_on
     (behind_trans _ _ _ c.ident.ensures.goes_on c.parse_token.ensures.goes_on)

@@ -15,16 +15,16 @@ returns-in_err-parse_token-2-clause-goes_on c =
     (behind_trans _ _ _ c.parse_optional.ensures.goes_on
     (behind_trans _ _ _ c.ident.ensures.goes_on c.parse_token.ensures.goes_on))
 
-pub returns-in_err-ty-clause-goes_on : goal.returns-in_err-ty-clause-goes_on
-returns-in_err-ty-clause-goes_on c =
+pub returns-in_err-parse-clause-goes_on : goal.returns-in_err-parse-clause-goes_on
+returns-in_err-parse-clause-goes_on c =
     behind_trans _ _ _ c.parse.ensures.goes_on
     (behind_trans _ _ _ c.parse_token-2.ensures.goes_on
     (behind_trans _ _ _ c.parse_optional.ensures.goes_on
     (behind_trans _ _ _ c.ident.ensures.goes_on c.parse_token.ensures.goes_on)))
 
-pub returns-in_err-parse_token-3-clause-goes_on : goal.returns-in_err-parse_token-3-clause-goes_on
-returns-in_err-parse_token-3-clause-goes_on c =
-    behind_trans _ _ _ c.parse_token-3.ensures.goes_on
+pub returns-in_err-ty-clause-goes_on : goal.returns-in_err-ty-clause-goes_on
+returns-in_err-ty-clause-goes_on c =
+    behind_trans _ _ _ c.ended.ensures.goes_on
     (behind_trans _ _ _ c.parse.ensures.goes_on
     (behind_trans _ _ _ c.parse_token-2.ensures.goes_on
     (behind_trans _ _ _ c.parse_optional.ensures.goes_on
@@ -32,7 +32,7 @@ returns-in_err-parse_token-3-clause-goes_on c =
 
 pub returns-clause-goes_on : goal.returns-clause-goes_on
 returns-clause-goes_on c =
-    behind_trans _ _ _ c.parse_token-3.ensures.goes_on
+    behind_trans _ _ _ c.ended.ensures.goes_on
     (behind_trans _ _ _ c.parse.ensures.goes_on
     (behind_trans _ _ _ c.parse_token-2.ensures.goes_on
     (behind_trans _ _ _ c.parse_optional.ensures.goes_on

@@ -2,7 +2,7 @@ use Rattle.wac_parser_read.proofs.interface.InlineInterfaceParse.parse.Goals as 
 use Rattle.wac_parser_grammar.proofs.Faithful.{behind_trans}
 
 pub returns-in_err-items-clause-goes_on : goal.returns-in_err-items-clause-goes_on
-returns-in_err-items-clause-goes_on c = behind_trans _ _ _ c.interface_items.ensures.goes_on c.parse_token.ensures.goes_on
+returns-in_err-items-clause-goes_on c = behind_trans _ _ _ c.braced.ensures.goes_on c.parse_token.ensures.goes_on
 
 pub returns-clause-goes_on : goal.returns-clause-goes_on
-returns-clause-goes_on c = behind_trans _ _ _ c.interface_items.ensures.goes_on c.parse_token.ensures.goes_on
+returns-clause-goes_on c = behind_trans _ _ _ c.braced.ensures.goes_on c.parse_token.ensures.goes_on

@@ -11,20 +11,20 @@ returns-in_err-parse_token-2-clause-goes_on c =
 
 pub returns-in_err-items-clause-goes_on : goal.returns-in_err-items-clause-goes_on
 returns-in_err-items-clause-goes_on c =
-    behind_trans _ _ _ c.use_items.ensures.goes_on
+    behind_trans _ _ _ c.braced.ensures.goes_on
     (behind_trans _ _ _ c.parse_token-2.ensures.goes_on
     (behind_trans _ _ _ c.parse.ensures.goes_on c.parse_token.ensures.goes_on))
 
 pub returns-in_err-parse_token-3-clause-goes_on : goal.returns-in_err-parse_token-3-clause-goes_on
 returns-in_err-parse_token-3-clause-goes_on c =
     behind_trans _ _ _ c.parse_token-3.ensures.goes_on
-    (behind_trans _ _ _ c.use_items.ensures.goes_on
+    (behind_trans _ _ _ c.braced.ensures.goes_on
     (behind_trans _ _ _ c.parse_token-2.ensures.goes_on
     (behind_trans _ _ _ c.parse.ensures.goes_on c.parse_token.ensures.goes_on)))
 
 pub returns-clause-goes_on : goal.returns-clause-goes_on
 returns-clause-goes_on c =
     behind_trans _ _ _ c.parse_token-3.ensures.goes_on
-    (behind_trans _ _ _ c.use_items.ensures.goes_on
+    (behind_trans _ _ _ c.braced.ensures.goes_on
     (behind_trans _ _ _ c.parse_token-2.ensures.goes_on
     (behind_trans _ _ _ c.parse.ensures.goes_on c.parse_token.ensures.goes_on)))
