@@ -1,4 +1,6 @@
 pub mod Apart
+pub mod Handing
 pub mod Refusing
+pub mod Resolved
 pub mod Searching
 pub mod StreamLaws

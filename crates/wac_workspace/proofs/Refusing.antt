@@ -5,18 +5,19 @@ use Rattle.wac_workspace.specs.declared.output.Output.{Output}
 use Rattle.wac_workspace.specs.declared.errors.ComposeError.{ComposeError}
 use Rattle.wac_workspace.specs.declared.errors.ComposeError.TheVariants as error
 use Rattle.wac_workspace.specs.Packages.{Held, HasKey}
-use Rattle.wac_workspace.specs.Composing.{IsOutput, IsNumbered, IsRefused}
+use Rattle.wac_workspace.specs.Composing.{IsOutput, IsTried, IsRefused}
+use Rattle.wac_workspace.specs.Resolving.{Handed, handed, IsAccepted}
 use Rattle.wac_workspace.specs.Steps.{IsUnregistered}
 
-numbered : (next : ℕ) (source : List ℕ) (o : Output) → IsOutput next source o → IsNumbered next source
-numbered next source o h = record { tree = h.tree; read = h.read; room = h.room }
+tried : (next : ℕ) (ps : Handed) (source : List ℕ) (o : Output) → IsOutput next ps source o → IsTried next ps source IsAccepted
+tried next ps source o h = record { tree = h.tree; read = h.read; room = h.room; late = h.accepted }
 
-pub unregistered : (w : Held) (source : List ℕ) (define : Bool) (o : Output) (e : ComposeError) → define ≡ true → IsOutput w.next source o → IsUnregistered w o e → IsRefused w source define e
+pub unregistered : (w : Held) (source : List ℕ) (define : Bool) (o : Output) (e : ComposeError) → define ≡ true → IsOutput w.next (handed w.packages) source o → IsUnregistered w o e → IsRefused w source define e
 unregistered w source define o (error.Parse x) d h f = absurd f
 unregistered w source define o error.NumbersExhausted d h f = absurd f
 unregistered w source define o (error.Resolution x) d h f = absurd f
 unregistered w source define o (error.Target x) d h f = absurd f
-unregistered w source define o error.KeyTaken d h f = (d, numbered w.next source o h, (h.tree, h.read, subst (λ (k : Key). HasKey w.packages k) h.key f))
+unregistered w source define o error.KeyTaken d h f = (d, tried w.next (handed w.packages) source o h, (h.tree, h.read, subst (λ (k : Key). HasKey w.packages k) h.key f))
 unregistered w source define o error.BytesTaken d h f =
-    (d, numbered w.next source o h, (h.tree, h.read, λ k. f.0 (subst (λ (k : Key). HasKey w.packages k) (sym h.key) k)), (o.bytes.items, f.1))
+    (d, tried w.next (handed w.packages) source o h, (h.tree, h.read, λ k. f.0 (subst (λ (k : Key). HasKey w.packages k) (sym h.key) k)), (o.bytes.items, f.1))
 unregistered w source define o error.Memory d h f = tt

@@ -11,7 +11,7 @@ module _ {X : Type 0} (P : X → Type 0) where
   abbrev pub Some_of : List X → Type 0
   Some_of xs = (x : X) × Among x xs × P x
 
-  among_at : (xs : List X) (i : ℕ) (d : X) → i < length xs → Among (get_or xs i d) xs
+  pub among_at : (xs : List X) (i : ℕ) (d : X) → i < length xs → Among (get_or xs i d) xs
   among_at [] i d h = absurd (omega (arith, h))
   among_at (x ∷ xs) zero d h = inl refl
   among_at (x ∷ xs) (suc i) d h = inr (among_at xs i d (omega (arith, h)))

@@ -5,14 +5,18 @@ use Rattle.semver.specs.Identifiers.{parts_of}
 use Rattle.wac_types_base.specs.declared.item.ItemKind.{ItemKind}
 use Rattle.wac_types_base.specs.Collection.{Stands}
 use Rattle.wac_types_names.specs.Keys.{Key}
+use Rattle.wac_graph_core.specs.Graph.{Graph}
 use Rattle.wac_parser_tree.specs.Trees.{Document}
 use Rattle.wac_parser_grammar.specs.Documents.{document}
 use Rattle.wac_parser_grammar.specs.Reads.{read_source}
 use Rattle.wac_parser_grammar.specs.Faults.{fault_of}
+use Rattle.wac_parser_resolve.specs.InDocuments.{IsErrorOf}
+use Rattle.wac_parser_resolve.specs.Meeting.{resolved}
 use Rattle.wac_workspace.specs.declared.output.Output.{Output}
 use Rattle.wac_workspace.specs.declared.errors.ComposeError.{ComposeError}
 use Rattle.wac_workspace.specs.declared.errors.ComposeError.TheVariants as error
 use Rattle.wac_workspace.specs.Packages.{Held, Made, HasKey, HasHanded, Adds}
+use Rattle.wac_workspace.specs.Resolving.{Handed, Resolves, handed, IsGraphOf, IsAccepted, NamesFirst}
 
 -- the greatest number of a collection, which is never given out
 abbrev pub greatest : ℕ
@@ -46,10 +50,11 @@ abbrev pub Keeps : (define : Bool) → Held → Held → Output → Type 0
 Keeps true old new o = Registers old (record new { next = old.next }) o
 Keeps false old new o = new.packages ≡ old.packages
 
--- The source is a document, and the output has its directive's key and a world under the last of the next three numbers.
-pub record IsOutput (next : ℕ) (source : List ℕ) (o : Output) : Type 0 where
+-- The source is a document that these packages resolve, and the output has its directive's key and a world under the last of the next three numbers.
+pub record IsOutput (next : ℕ) (ps : Handed) (source : List ℕ) (o : Output) : Type 0 where
   pub tree : Document
   pub read : IsDocument source tree
+  pub accepted : IsAccepted (resolved tree ps)
   pub room : next + 3 ≤ greatest
   pub key : output_key o ≡ directive_key tree
   pub number : o.types.number ≡ next + 2
@@ -57,44 +62,45 @@ pub record IsOutput (next : ℕ) (source : List ℕ) (o : Output) : Type 0 where
 
 -- The source is composed: three numbers are taken, and the output is kept.
 pub record IsComposed (old new : Held) (source : List ℕ) (define : Bool) (o : Output) : Type 0 where
-  pub output : IsOutput old.next source o
+  pub output : IsOutput old.next (handed old.packages) source o
   pub next : new.next ≡ old.next + 3
   pub kept : Keeps define old new o
 
--- the source is a document, and there are three more numbers
-pub record IsNumbered (next : ℕ) (source : List ℕ) : Type 0 where
+-- the source is a document, there are three more numbers, and this is so of what the document resolves to
+pub record IsTried (next : ℕ) (ps : Handed) (source : List ℕ) (P : Resolves → Type 0) : Type 0 where
   pub tree : Document
   pub read : IsDocument source tree
   pub room : next + 3 ≤ greatest
+  pub late : P (resolved tree ps)
 
 -- the document that the source is has a key of this kind
 abbrev pub WithKey : List ℕ → (Key → Type 0) → Type 0
 WithKey source P = (d : Document) × IsDocument source d × P (directive_key d)
 
--- the source is a document
-abbrev pub HasDocument : List ℕ → Type 0
-HasDocument source = (d : Document) × IsDocument source d
+-- the graph holds what the document says that the source is
+abbrev pub IsGraphed : Handed → List ℕ → Graph → Type 0
+IsGraphed ps source g = (d : Document) × IsDocument source d × IsGraphOf (resolved d ps) g
 
--- why a source has no graph, whatever packages there are
-abbrev pub IsUnresolved : List ℕ → ComposeError → Type 0
-IsUnresolved source (error.Parse f) = read_source document source ≡ Err (fault_of f)
-IsUnresolved source (error.Resolution f) = HasDocument source
-IsUnresolved source error.Memory = Unit {0}
-IsUnresolved source e = ⊥
+-- why a source has no graph: it is no document, or the document's first cause
+abbrev pub IsUnresolved : Handed → List ℕ → ComposeError → Type 0
+IsUnresolved ps source (error.Parse f) = read_source document source ≡ Err (fault_of f)
+IsUnresolved ps source (error.Resolution f) = (d : Document) × IsDocument source d × IsErrorOf (resolved d ps) f
+IsUnresolved ps source error.Memory = Unit {0}
+IsUnresolved ps source e = ⊥
 
--- why a source has no output, whatever packages there are
-abbrev pub IsUnmade : ℕ → List ℕ → ComposeError → Type 0
-IsUnmade next source (error.Parse f) = read_source document source ≡ Err (fault_of f)
-IsUnmade next source error.NumbersExhausted = (d : Document) × IsDocument source d × (greatest < next + 3)
-IsUnmade next source (error.Resolution f) = IsNumbered next source
-IsUnmade next source (error.Target r) = IsNumbered next source
-IsUnmade next source error.KeyTaken = ⊥
-IsUnmade next source error.BytesTaken = ⊥
-IsUnmade next source error.Memory = Unit {0}
+-- why a source has no output, whatever stands in the workspace under its key
+abbrev pub IsUnmade : ℕ → Handed → List ℕ → ComposeError → Type 0
+IsUnmade next ps source (error.Parse f) = read_source document source ≡ Err (fault_of f)
+IsUnmade next ps source error.NumbersExhausted = (d : Document) × IsDocument source d × (greatest < next + 3)
+IsUnmade next ps source (error.Resolution f) = IsTried next ps source (λ q. NamesFirst q f)
+IsUnmade next ps source (error.Target r) = IsTried next ps source IsAccepted
+IsUnmade next ps source error.KeyTaken = ⊥
+IsUnmade next ps source error.BytesTaken = ⊥
+IsUnmade next ps source error.Memory = Unit {0}
 
 -- The causes of a refusal, in their order: that of the source, its key, its bytes.
 abbrev pub IsRefused : Held → List ℕ → (define : Bool) → ComposeError → Type 0
-IsRefused w source define error.KeyTaken = (define ≡ true) × IsNumbered w.next source × WithKey source (HasKey w.packages)
+IsRefused w source define error.KeyTaken = (define ≡ true) × IsTried w.next (handed w.packages) source IsAccepted × WithKey source (HasKey w.packages)
 IsRefused w source define error.BytesTaken =
-    (define ≡ true) × IsNumbered w.next source × WithKey source (λ k. HasKey w.packages k → ⊥) × ((bytes : List ℕ) × HasHanded w.packages bytes)
-IsRefused w source define e = IsUnmade w.next source e
+    (define ≡ true) × IsTried w.next (handed w.packages) source IsAccepted × WithKey source (λ k. HasKey w.packages k → ⊥) × ((bytes : List ℕ) × HasHanded w.packages bytes)
+IsRefused w source define e = IsUnmade w.next (handed w.packages) source e

@@ -1,5 +1,5 @@
 -- The faults of a composition that come from parsing and from resolving.
-use Rattle.std.specs.Prelude.{◌≡◌}
+use Rattle.std.specs.Prelude.{◌≡◌, ◌⊎◌}
 use Rattle.wac_parser_grammar.specs.declared.error.Error.{Error as ParseError}
 use Rattle.wac_parser_grammar.specs.declared.error.Error.TheVariants as parse
 use Rattle.wac_parser_refusals.specs.declared.error.Error.{Error as ResolutionError}
@@ -14,5 +14,4 @@ IsParsing f e = e ≡ error.Parse f
 
 -- the same of resolving
 abbrev pub IsResolving : ResolutionError → ComposeError → Type 0
-IsResolving resolution.Memory e = e ≡ error.Memory
-IsResolving f e = e ≡ error.Resolution f
+IsResolving f e = ((f ≡ resolution.Memory) × (e ≡ error.Memory)) ⊎ (e ≡ error.Resolution f)

@@ -1,5 +1,6 @@
 pub mod Composing
 pub mod Reading
+pub mod Resolving
 pub mod Faults
 pub mod Getting
 pub mod Packages

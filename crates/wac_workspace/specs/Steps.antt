@@ -13,6 +13,7 @@ use Rattle.wac_workspace.specs.declared.errors.ComposeError.{ComposeError}
 use Rattle.wac_workspace.specs.declared.errors.ComposeError.TheVariants as error
 use Rattle.wac_workspace.specs.Packages.{Held, HasKey, HasHanded}
 use Rattle.wac_workspace.specs.Composing.{greatest, output_key}
+use Rattle.wac_workspace.specs.Resolving.{Resolves, IsAccepted, NamesFirst}
 
 -- three numbers from this one on, and the one behind them
 pub record AreNext (next : ℕ) (n : Numbers) : Type 0 where
@@ -31,18 +32,12 @@ pub record IsEncoded (last : ℕ) (e : Encoded) : Type 0 where
   pub number : e.types.number ≡ last
   pub stands : Stands e.types (ItemKind.Component e.world)
 
--- a fault that stands behind parsing and numbering: one of resolving, a target that is not met, or want of memory
-abbrev pub IsLate : ComposeError → Type 0
-IsLate (error.Resolution f) = Unit {0}
-IsLate (error.Target r) = Unit {0}
-IsLate error.Memory = Unit {0}
-IsLate e = ⊥
-
--- a fault of resolving, or want of memory
-abbrev pub IsOfResolving : ComposeError → Type 0
-IsOfResolving (error.Resolution f) = Unit {0}
-IsOfResolving error.Memory = Unit {0}
-IsOfResolving e = ⊥
+-- a fault that stands behind resolving: one of encoding, a target that is not met, or want of memory
+abbrev pub IsAfterwards : ComposeError → Type 0
+IsAfterwards (error.Resolution f) = Unit {0}
+IsAfterwards (error.Target r) = Unit {0}
+IsAfterwards error.Memory = Unit {0}
+IsAfterwards e = ⊥
 
 -- a component under the name and the version of a package
 pub record IsNamed (p : PackageName) (e : Encoded) (o : Output) : Type 0 where
@@ -65,9 +60,9 @@ pub record IsOf (next : ℕ) (p : PackageName) (o : Output) : Type 0 where
   pub stands : Stands o.types (ItemKind.Component o.world)
 
 -- why a document has no output: the numbers, or behind them a late fault
-abbrev pub IsUnencoded : ℕ → ComposeError → Type 0
-IsUnencoded next error.NumbersExhausted = greatest < next + 3
-IsUnencoded next (error.Resolution f) = next + 3 ≤ greatest
-IsUnencoded next (error.Target r) = next + 3 ≤ greatest
-IsUnencoded next error.Memory = Unit {0}
-IsUnencoded next e = ⊥
+abbrev pub IsUnencoded : ℕ → Resolves → ComposeError → Type 0
+IsUnencoded next q error.NumbersExhausted = greatest < next + 3
+IsUnencoded next q (error.Resolution f) = (next + 3 ≤ greatest) × NamesFirst q f
+IsUnencoded next q (error.Target r) = (next + 3 ≤ greatest) × IsAccepted q
+IsUnencoded next q error.Memory = Unit {0}
+IsUnencoded next q e = ⊥

@@ -1,16 +1,21 @@
 //! Composing documents.
 
-ghost use Rattle.std.specs.Prelude.{◌≡◌, ◌+◌, ◌<◌, IfOk, IfErr, OnErr, IsErrOf};
+ghost use Rattle.std.specs.Prelude.{◌≡◌, ◌+◌, ◌<◌, All, IfOk, IfErr, OnErr, IsErrOf};
 ghost use Rattle.std.specs.Option.{option_copied, option_map};
 ghost use Rattle.semver.specs.Identifiers.{parts_of};
 ghost use Rattle.wac_types_base.specs.declared.item.ItemKind.{ItemKind};
 ghost use Rattle.wac_types_base.specs.Collection.{Stands};
-ghost use Rattle.wac_parser_tree.specs.Trees.{PackageName as PackageTree};
-ghost use Rattle.wac_parser_tree.specs.Views.{view_package_name};
+ghost use Rattle.wac_parser_tree.specs.Trees.{Document as Tree};
+ghost use Rattle.wac_parser_tree.specs.Views.{view_document, view_package_name};
+ghost use Rattle.wac_parser_resolve.specs.Knowing.{handed_list};
+ghost use Rattle.wac_parser_resolve.specs.Meeting.{resolved};
 ghost use Rattle.wac_parser_resolve.specs.Resolved.{graph_of, target_of};
 ghost use Rattle.wac_parser_resolve.specs.Targeting.{IsTarget};
-ghost use Rattle.wac_workspace.specs.Composing.{greatest, IsUnmade, IsOutput, HasDocument, IsUnresolved};
-ghost use Rattle.wac_workspace.specs.Steps.{AreNext, IsPair, IsEncoded, IsLate, IsNamed, IsOf, IsUnencoded, IsOfResolving};
+ghost use Rattle.wac_workspace.specs.Composing.{greatest, IsUnmade, IsOutput, IsGraphed, IsUnresolved};
+ghost use Rattle.wac_workspace.specs.Packages.{AreApart};
+ghost use Rattle.wac_workspace.specs.View.{HasWorld};
+ghost use Rattle.wac_workspace.specs.Resolving.{handed, IsGraphOf, IsAccepted, IsLate, IsOfResolving};
+ghost use Rattle.wac_workspace.specs.Steps.{AreNext, IsPair, IsEncoded, IsAfterwards, IsNamed, IsOf, IsUnencoded};
 
 use crate::entries::{Entry, packages_of};
 use crate::errors::ComposeError;
@@ -112,7 +117,7 @@ fn test_target(
 ) -> Result<(), ComposeError>
     requires target { Stands types.now (ItemKind.Component target) }
     requires component { Stands encoded.now.types (ItemKind.Component encoded.now.world) }
-    ensures { IfErr result IsLate }
+    ensures { IfErr result IsAfterwards }
 {
     let pair = bring_together(alloc, types, target, encoded)?;
     match validate_target(alloc, &pair.types, pair.target, pair.world) {
@@ -139,7 +144,7 @@ fn encode_resolved<'d, D: Drop>(
 ) -> Result<Encoded, ComposeError>
     requires { IsTarget (graph_of resolution) (target_of resolution) }
     ensures encoded { IfOk result (IsEncoded numbers.output) }
-    ensures late { IfErr result IsLate }
+    ensures late { IfErr result IsAfterwards }
 {
     let encoded = resolution.encode_world(options, (numbers.merging, numbers.output))?;
     if let Some(target) = resolution.target() {
@@ -163,7 +168,8 @@ fn encode_document(
     options: EncodeOptions,
 ) -> Result<Encoded, ComposeError>
     ensures encoded { IfOk result (IsEncoded numbers.output) }
-    ensures late { IfErr result IsLate }
+    ensures accepted { IfOk result (λ _. IsAccepted (resolved (view_document document.now) (handed_list «packages».now))) }
+    ensures late { IfErr result (IsLate (resolved (view_document document.now) (handed_list «packages».now))) }
 {
     let name = String::from_str(alloc, target_name(&document.directive))?;
     let resolution = AstResolver::new(document).resolve(alloc, packages, numbers.graph)?;
@@ -207,8 +213,9 @@ fn compose_document(
     options: EncodeOptions,
 ) -> Result<(Output, u64), ComposeError>
     ensures output { IfOk result (λ r. IsOf next (view_package_name document.now.directive.«package») r.0) }
+    ensures accepted { IfOk result (λ _. IsAccepted (resolved (view_document document.now) (handed_list «packages».now))) }
     ensures after { IfOk result (λ r. r.1 ≡ next + 3) }
-    ensures refused { IfErr result (IsUnencoded next) }
+    ensures refused { IfErr result (IsUnencoded next (resolved (view_document document.now) (handed_list «packages».now))) }
 {
     let numbers = numbers_from(next)?;
     let encoded = encode_document(document, alloc, packages, numbers, validated(options))?;
@@ -223,7 +230,8 @@ fn document_graph(
     packages: &Packages<'_>,
 ) -> Result<CompositionGraph, ComposeError>
     ensures number { IfOk result (λ g. g.types.number ≡ greatest) }
-    ensures refused { IfErr result IsOfResolving }
+    ensures graph { IfOk result (IsGraphOf (resolved (view_document document.now) (handed_list «packages».now))) }
+    ensures refused { IfErr result (IsOfResolving (resolved (view_document document.now) (handed_list «packages».now))) }
 {
     let resolution = AstResolver::new(document).resolve(alloc, packages, UNSEEN)?;
     Ok(resolution.into_graph())
@@ -234,8 +242,7 @@ fn document_graph(
 
 /// Documents that are composed.
 trait ComposeDocument: Sized + Drop {
-    // the package that the directive names
-    ghost package_of: { Self → PackageTree };
+    ghost stated: { Self → Tree };
 
     /// The document's graph over these packages.
     fn graph(
@@ -244,7 +251,8 @@ trait ComposeDocument: Sized + Drop {
         packages: &Packages<'_>,
     ) -> Result<CompositionGraph, ComposeError>
         ensures number { IfOk result (λ g. g.types.number ≡ greatest) }
-        ensures refused { IfErr result IsOfResolving };
+        ensures graph { IfOk result (IsGraphOf (resolved (stated self.now) (handed_list «packages».now))) }
+        ensures refused { IfErr result (IsOfResolving (resolved (stated self.now) (handed_list «packages».now))) };
 
     /// What the document is composed to, by the next three numbers, and the number behind them.
     fn compose(
@@ -254,13 +262,14 @@ trait ComposeDocument: Sized + Drop {
         next: u64,
         options: EncodeOptions,
     ) -> Result<(Output, u64), ComposeError>
-        ensures output { IfOk result (λ r. IsOf next (package_of self.now) r.0) }
+        ensures output { IfOk result (λ r. IsOf next (stated self.now).directive.«package» r.0) }
+        ensures accepted { IfOk result (λ _. IsAccepted (resolved (stated self.now) (handed_list «packages».now))) }
         ensures after { IfOk result (λ r. r.1 ≡ next + 3) }
-        ensures refused { IfErr result (IsUnencoded next) };
+        ensures refused { IfErr result (IsUnencoded next (resolved (stated self.now) (handed_list «packages».now))) };
 }
 
 impl<'s> ComposeDocument for Document<'s> {
-    ghost package_of = { λ d. view_package_name d.directive.«package» };
+    ghost stated = { view_document };
 
     fn graph(
         &self,
@@ -289,9 +298,10 @@ fn compose_whole<D: ComposeDocument>(
     next: u64,
     options: EncodeOptions,
 ) -> Result<(Output, u64), ComposeError>
-    ensures output { IfOk result (λ r. IsOf next (D.package_of document) r.0) }
+    ensures output { IfOk result (λ r. IsOf next (D.stated document).directive.«package» r.0) }
+    ensures accepted { IfOk result (λ _. IsAccepted (resolved (D.stated document) (handed_list «packages».now))) }
     ensures after { IfOk result (λ r. r.1 ≡ next + 3) }
-    ensures refused { IfErr result (IsUnencoded next) }
+    ensures refused { IfErr result (IsUnencoded next (resolved (D.stated document) (handed_list «packages».now))) }
 {
     document.compose(alloc, packages, next, options)
 }
@@ -303,7 +313,8 @@ fn graph_of_whole<D: ComposeDocument>(
     packages: &Packages<'_>,
 ) -> Result<CompositionGraph, ComposeError>
     ensures number { IfOk result (λ g. g.types.number ≡ greatest) }
-    ensures refused { IfErr result IsOfResolving }
+    ensures graph { IfOk result (IsGraphOf (resolved (D.stated document) (handed_list «packages».now))) }
+    ensures refused { IfErr result (IsOfResolving (resolved (D.stated document) (handed_list «packages».now))) }
 {
     document.graph(alloc, packages)
 }
@@ -316,9 +327,9 @@ fn compose_source(
     next: u64,
     options: EncodeOptions,
 ) -> Result<(Output, u64), ComposeError>
-    ensures output { IfOk result (λ r. IsOutput next source.now r.0) }
+    ensures output { IfOk result (λ r. IsOutput next (handed_list «packages».now) source.now r.0) }
     ensures after { IfOk result (λ r. r.1 ≡ next + 3) }
-    ensures refused { IfErr result (IsUnmade next source.now) }
+    ensures refused { IfErr result (IsUnmade next (handed_list «packages».now) source.now) }
 {
     let document: Document<'_> = ParseDocument::parse(alloc, source)?;
     compose_whole(document, alloc, packages, next, options)
@@ -332,9 +343,11 @@ fn compose_over(
     next: u64,
     options: EncodeOptions,
 ) -> Result<(Output, u64), ComposeError>
-    ensures output { IfOk result (λ r. IsOutput next source.now r.0) }
+    requires worlds { All HasWorld entries.now }
+    requires apart { AreApart entries.now }
+    ensures output { IfOk result (λ r. IsOutput next (handed entries.now) source.now r.0) }
     ensures after { IfOk result (λ r. r.1 ≡ next + 3) }
-    ensures refused { IfErr result (IsUnmade next source.now) }
+    ensures refused { IfErr result (IsUnmade next (handed entries.now) source.now) }
 {
     let packages = packages_of(alloc, entries)?;
     compose_source(source, alloc, &packages, next, options)
@@ -347,8 +360,8 @@ fn source_graph(
     packages: &Packages<'_>,
 ) -> Result<CompositionGraph, ComposeError>
     ensures number { IfOk result (λ g. g.types.number ≡ greatest) }
-    ensures document { IfOk result (λ _. HasDocument source.now) }
-    ensures refused { IfErr result (IsUnresolved source.now) }
+    ensures graph { IfOk result (IsGraphed (handed_list «packages».now) source.now) }
+    ensures refused { IfErr result (IsUnresolved (handed_list «packages».now) source.now) }
 {
     let document: Document<'_> = ParseDocument::parse(alloc, source)?;
     graph_of_whole(document, alloc, packages)
@@ -356,14 +369,15 @@ fn source_graph(
 
 impl Workspace {
     ghost use Rattle.std.specs.Prelude.{◌≡◌, IfOk, IfErr, OnErr};
-    ghost use Rattle.wac_workspace.specs.Composing.{greatest, IsComposed, IsRefused, HasDocument, IsUnresolved};
+    ghost use Rattle.wac_workspace.specs.Resolving.{handed};
+    ghost use Rattle.wac_workspace.specs.Composing.{greatest, IsComposed, IsRefused, IsGraphed, IsUnresolved};
 
     /// The graph of the document that the source is, over the packages: to look at, with nothing registered. The number of
     /// its collection is the greatest `u64`, which no output has.
     pub fn graph(&self, source: &str) -> Result<CompositionGraph, ComposeError>
         ensures number { IfOk result (λ g. g.types.number ≡ greatest) }
-        ensures document { IfOk result (λ _. HasDocument source.now) }
-        ensures refused { IfErr result (IsUnresolved source.now) }
+        ensures graph { IfOk result (IsGraphed (handed self.now.packages) source.now) }
+        ensures refused { IfErr result (IsUnresolved (handed self.now.packages) source.now) }
     {
         let packages = packages_of(self.alloc, &self.entries)?;
         source_graph(source, self.alloc, &packages)

@@ -1,12 +1,14 @@
 //! The packages of a workspace.
 
-ghost use Rattle.std.specs.Prelude.{◌≡◌, ◌↔◌, IsTrue, IfOk, IfSome, IfNone, true, false};
+ghost use Rattle.std.specs.Prelude.{◌≡◌, ◌↔◌, All, IsTrue, IfOk, IfSome, IfNone, true, false};
 ghost use Rattle.std.specs.Option.{option_copied, option_map};
 ghost use Rattle.std.specs.Iterator.{item_count};
 ghost use Rattle.semver.specs.Identifiers.{parts_of};
 ghost use Rattle.wac_types_base.specs.declared.item.ItemKind.{ItemKind};
 ghost use Rattle.wac_types_base.specs.Collection.{Stands};
-ghost use Rattle.wac_workspace.specs.Packages.{key_of, IsUnder, HasKey, HasBytes, HasHanded, IsMade};
+ghost use Rattle.wac_workspace.specs.Packages.{key_of, AreApart, IsUnder, HasKey, HasBytes, HasHanded, IsMade};
+ghost use Rattle.wac_workspace.specs.Resolving.{handed};
+ghost use Rattle.wac_parser_resolve.specs.Knowing.{handed_list};
 ghost use Rattle.wac_workspace.specs.View.{HasWorld};
 ghost use Rattle.wac_workspace.specs.Composing.{made_of};
 ghost use Rattle.wac_workspace.specs.Getting.{GivesRef};
@@ -175,7 +177,11 @@ pub(crate) fn holds_handed(entries: &[Entry], bytes: &[u8]) -> bool
 }
 
 /// The packages under their keys.
-pub(crate) fn packages_of(alloc: Global, entries: &[Entry]) -> Result<Packages<'_>, AllocError> {
+pub(crate) fn packages_of(alloc: Global, entries: &[Entry]) -> Result<Packages<'_>, AllocError>
+    requires worlds { All HasWorld entries.now }
+    requires apart { AreApart entries.now }
+    ensures handed { IfOk result (λ m. handed_list m ≡ handed entries.now) }
+{
     let mut packages = IndexMap::new(alloc);
     for entry in entries {
         let _ = packages.insert(entry.package.key(), entry.refer())?;

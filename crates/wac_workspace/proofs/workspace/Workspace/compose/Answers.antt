@@ -1,12 +1,15 @@
-use Rattle.std.proofs.Common.{subst}
+use Rattle.std.proofs.Common.{subst, List}
 use Rattle.std.proofs.lemmas.Result.{err_from_is_err_and}
+use Rattle.wac_workspace.specs.declared.entries.Entry.{Entry}
 use Rattle.wac_workspace.specs.Packages.{Held}
 use Rattle.wac_workspace.specs.Composing.{IsOutput}
+use Rattle.wac_workspace.specs.Resolving.{handed}
 use Rattle.wac_workspace.proofs.Refusing.{unregistered}
 use Rattle.wac_workspace.proofs.workspace.Workspace.compose.Goals as goal
 
 pub returns-in_err-register-clause-refused : goal.returns-in_err-register-clause-refused
 returns-in_err-register-clause-refused c =
     let p = err_from_is_err_and c.from_residual-in_err-register.result c.from_residual-in_err-register.ensures.1 in
-    let output = subst (λ (w : Held). IsOutput w.next c.args.source.now c.in_ok-output.output) c.self.view_is c.in_ok-output.ensures.output in
+    let there = subst (λ (es : List Entry). IsOutput c.self.inside.next (handed es) c.args.source.now c.in_ok-output.output) c.deref.ensures.value c.in_ok-output.ensures.output in
+    let output = subst (λ (w : Held). IsOutput w.next (handed w.packages) c.args.source.now c.in_ok-output.output) c.self.view_is there in
     rw (p.1, p.2) (unregistered c.args.self.now c.args.source.now c.args.options.define_components c.in_ok-output.output _ c.if-define.true output c.in_err-register.ensures.fault)

@@ -1,0 +1,51 @@
+-- What is answered of a document over packages.
+use Rattle.std.proofs.Common.{◌≡◌, Option, Ok, Err, sym, subst, inl, inr}
+use Rattle.wac_types_base.specs.declared.ids.WorldId.{WorldId}
+use Rattle.wac_types_base.specs.Stated.{Stated}
+use Rattle.wac_graph_core.specs.Graph.{Graph}
+use Rattle.wac_parser_refusals.specs.declared.error.Error.{Error}
+use Rattle.wac_parser_refusals.specs.Outcomes.{IsHeld}
+use Rattle.wac_parser_resolve.specs.Ascribing.{State}
+use Rattle.wac_parser_resolve.specs.InDocuments.{IsBuilt, IsErrorOf}
+use Rattle.wac_parser_resolve.specs.InTargets.{HoldsTarget}
+use Rattle.wac_workspace.specs.declared.errors.ComposeError.{ComposeError}
+use Rattle.wac_workspace.specs.declared.errors.ComposeError.TheVariants as error
+use Rattle.wac_workspace.specs.Faults.{IsResolving}
+use Rattle.wac_workspace.specs.Resolving.{Resolves, IsAccepted, IsGraphOf, IsLate, IsOfResolving, NamesFirst}
+use Rattle.wac_workspace.specs.Steps.{IsAfterwards}
+
+pub accepted : {B : Type 0} (holds : State × Option Stated → B → Type 0) (q : Resolves) (b : B) → IsHeld holds q b → IsAccepted q
+accepted holds (Ok s) b h = tt
+accepted holds (Err c) b h = absurd h
+
+-- a graph that is built is the document's
+pub graph_held : {B : Type 0} (graph : B → Graph) (target : B → Option WorldId) (q : Resolves) (b : B) (g : Graph) → g ≡ graph b
+    → IsHeld (λ (s : State × Option Stated) (b : B). IsBuilt (graph b) s.0 × HoldsTarget (graph b).types s.1 (target b)) q b → IsGraphOf q g
+graph_held graph target (Ok s) b g same h = subst (λ (x : Graph). IsBuilt x s.0) (sym same) h.0
+graph_held graph target (Err c) b g same h = absurd h
+
+names_first : (q : Resolves) (f : Error) → IsErrorOf q f → NamesFirst q f
+names_first (Ok s) f h = tt
+names_first (Err c) f h = h
+
+pub of_resolving : (q : Resolves) (f : Error) (e : ComposeError) → IsErrorOf q f → IsResolving f e → IsOfResolving q e
+of_resolving q f e h (inl m) = subst (λ (x : ComposeError). IsOfResolving q x) (sym m.1) tt
+of_resolving q f e h (inr s) = subst (λ (x : ComposeError). IsOfResolving q x) (sym s) h
+
+pub late_resolving : (q : Resolves) (f : Error) (e : ComposeError) → IsErrorOf q f → IsResolving f e → IsLate q e
+late_resolving q f e h (inl m) = subst (λ (x : ComposeError). IsLate q x) (sym m.1) tt
+late_resolving q f e h (inr s) = subst (λ (x : ComposeError). IsLate q x) (sym s) (names_first q f h)
+
+names_none : (q : Resolves) (f : Error) → IsAccepted q → NamesFirst q f
+names_none (Ok s) f a = tt
+names_none (Err c) f a = absurd a
+
+-- behind an accepted document
+pub late_afterwards : (q : Resolves) (e : ComposeError) → IsAccepted q → IsAfterwards e → IsLate q e
+late_afterwards q (error.Parse x) a h = absurd h
+late_afterwards q error.NumbersExhausted a h = absurd h
+late_afterwards q (error.Resolution x) a h = names_none q x a
+late_afterwards q (error.Target x) a h = a
+late_afterwards q error.KeyTaken a h = absurd h
+late_afterwards q error.BytesTaken a h = absurd h
+late_afterwards q error.Memory a h = tt

@@ -1,0 +1,59 @@
+-- A document over the packages of a workspace: it has a graph, or a first cause.
+use Rattle.std.specs.Prelude.{List, [], ◌∷◌, Option, Ok, Err}
+use Rattle.wac_types_base.specs.declared.item.ItemKind.{ItemKind}
+use Rattle.wac_types_base.specs.Stated.{Stated, stated_of}
+use Rattle.wac_types_names.specs.Keys.{Key}
+use Rattle.wac_graph_core.specs.Graph.{Graph}
+use Rattle.wac_parser_refusals.specs.declared.error.Error.{Error}
+use Rattle.wac_parser_refusals.specs.Causes.{Answer}
+use Rattle.wac_parser_refusals.specs.Outcomes.{IsHeld, Tells}
+use Rattle.wac_parser_refusals.specs.Views.{cause_of}
+use Rattle.wac_parser_resolve.specs.Ascribing.{State}
+use Rattle.wac_parser_resolve.specs.InDocuments.{IsBuilt, IsErrorOf}
+use Rattle.wac_workspace.specs.declared.entries.Entry.{Entry}
+use Rattle.wac_workspace.specs.declared.errors.ComposeError.{ComposeError}
+use Rattle.wac_workspace.specs.declared.errors.ComposeError.TheVariants as error
+use Rattle.wac_workspace.specs.Packages.{key_of}
+
+-- the tree of a package's world
+abbrev pub world_of : Entry → Stated
+world_of e = stated_of e.types (ItemKind.Component e.package.ty)
+
+-- packages as a document sees them: each key with its world, in order
+abbrev pub Handed : Type 0
+Handed = List (Key × Stated)
+
+abbrev pub handed : List Entry → Handed
+handed [] = []
+handed (e ∷ es) = (key_of e, world_of e) ∷ handed es
+
+-- what a document says and targets, or its first cause
+abbrev pub Resolves : Type 0
+Resolves = Answer (State × Option Stated)
+
+-- the graph holds what is said
+abbrev pub IsGraphOf : Resolves → Graph → Type 0
+IsGraphOf q g = IsHeld (λ (s : State × Option Stated) (g : Graph). IsBuilt g s.0) q g
+
+-- no cause stands against the document
+abbrev pub IsAccepted : Resolves → Type 0
+IsAccepted (Ok s) = Unit {0}
+IsAccepted (Err c) = ⊥
+
+-- where the document has a cause, the error names the first one
+abbrev pub NamesFirst : Resolves → Error → Type 0
+NamesFirst (Ok s) e = Unit {0}
+NamesFirst (Err c) e = Tells (cause_of e) c
+
+-- why a document has no graph: its first cause, or want of memory
+abbrev pub IsOfResolving : Resolves → ComposeError → Type 0
+IsOfResolving q (error.Resolution f) = IsErrorOf q f
+IsOfResolving q error.Memory = Unit {0}
+IsOfResolving q e = ⊥
+
+-- why a document has no component that meets its target: its first cause; or, where none stands, a fault of encoding or of the target; or want of memory
+abbrev pub IsLate : Resolves → ComposeError → Type 0
+IsLate q (error.Resolution f) = NamesFirst q f
+IsLate q (error.Target r) = IsAccepted q
+IsLate q error.Memory = Unit {0}
+IsLate q e = ⊥
