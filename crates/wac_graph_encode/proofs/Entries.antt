@@ -1,6 +1,6 @@
 -- Entries under keys that are compared by a test.
 use Rattle.std.specs.Map.{lookup}
-use Rattle.std.proofs.Common.{rules, ◌≡◌, ◌↔◌, ℕ, Bool, true, false, cond, IsTrue, List, [], ◌∷◌, ◌++◌, Option, Some, None, inl, inr, refl, sym, ap, subst, ◌∙◌}
+use Rattle.std.proofs.Common.{rules, ◌≡◌, ◌↔◌, ℕ, Bool, true, false, cond, IsTrue, List, [], ◌∷◌, ◌++◌, Some, None, inl, inr, refl, sym, ap}
 use Rattle.indexmap.specs.IndexMap.{insert_entry}
 use Rattle.wac_types_base.specs.Entries.{names_of}
 use Rattle.wac_types_base.specs.Graph.{Among}

@@ -27,3 +27,6 @@ pub mod StandingWirings
 pub mod WritingLaws
 pub mod WritingSteps
 pub mod StandingExports
+pub mod Rooting
+pub mod Nesting
+pub mod Beginning

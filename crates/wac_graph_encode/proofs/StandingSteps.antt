@@ -1,14 +1,13 @@
 -- What stands at the root after one more alias, or one more instance.
-use Rattle.std.specs.Prelude.{slice_get, is_some, option_map}
-use Rattle.std.specs.List.{AllZip}
-use Rattle.std.proofs.Common.{◌≡◌, ◌⊎◌, ℕ, ◌+◌, Bool, true, false, cond, List, [], ◌∷◌, ◌++◌, map, length, Option, Some, None, inl, inr, refl, sym, ap, subst, ◌∙◌, arith}
+use Rattle.std.specs.Prelude.{slice_get}
+use Rattle.std.proofs.Common.{◌≡◌, ◌⊎◌, ℕ, ◌+◌, Bool, true, cond, List, [], ◌∷◌, ◌++◌, map, length, Option, Some, inl, inr, refl, sym, ap, subst, ◌∙◌}
 use Rattle.std.proofs.lemmas.List.Sums.{sum_by_push}
 use Rattle.std.proofs.lemmas.List.{map-append}
 use Rattle.wac_types_base.specs.declared.item.ItemKind.{ItemKind}
-use Rattle.wac_types_base.specs.Collection.{Stands, IsAcyclic as IsFinite}
-use Rattle.wac_types_base.specs.Entries.{Name, AreDistinct, names_of, value_at}
+use Rattle.wac_types_base.specs.Collection.{IsAcyclic as IsFinite}
+use Rattle.wac_types_base.specs.Entries.{Name, names_of, value_at}
 use Rattle.wac_types_base.specs.Graph.{Among}
-use Rattle.wac_types_base.specs.Stated.{Stated, Kind, kind_of, stated_of, exports_of}
+use Rattle.wac_types_base.specs.Stated.{kind_of, stated_of, exports_of}
 use Rattle.wac_types_base.specs.Tree.{Tree, tree}
 use Rattle.wac_types_base.specs.Fits.{Fits}
 use Rattle.wac_types_base.proofs.Telling.{kind_stated, item_kind}
@@ -19,14 +18,14 @@ use Rattle.wac_graph_bytes.specs.declared.value.Sort.TheVariants as sort
 use Rattle.wac_graph_bytes.specs.declared.entry.Entry.{Entry as CodeEntry}
 use Rattle.wac_graph_bytes.specs.Entries.{Entry, Aliased, ExportAlias}
 use Rattle.wac_graph_bytes.specs.Counting.{count_of, is_sort, entry_sort, same_sort}
-use Rattle.wac_graph_bytes.specs.Typing.{◌>>=◌, Worlds, Meaning, Part, Scope, space, with_one, item_tree, export_named, item_of_sort, part_of, alias_of}
+use Rattle.wac_graph_bytes.specs.Typing.{◌>>=◌, Worlds, Meaning, Part, space, with_one, item_tree, export_named, item_of_sort, part_of, alias_of}
 use Rattle.wac_graph_bytes.specs.Wirings.{Tag, Source, Outer, Inst, Projection, project, Uses, IsNamed}
 use Rattle.wac_graph_bytes.specs.Meaning.{State, start, step, steps, adds, source_of}
 use Rattle.wac_graph_bytes.specs.Views.{view}
 use Rattle.wac_graph_bytes.proofs.Steps.{steps_push, counted, last_of, kept_one, some_is}
 use Rattle.wac_graph_bytes.proofs.Replace.{replace-project, Uses-weaker}
 use Rattle.wac_graph_core.specs.declared.ids.PackageId.{PackageId}
-use Rattle.wac_graph_core.specs.Nodes.{NodeData, Role}
+use Rattle.wac_graph_core.specs.Nodes.{NodeData}
 use Rattle.wac_graph_core.specs.Edges.{HasAlias, alias_edge}
 use Rattle.wac_graph_core.specs.Graph as graph
 use Rattle.wac_graph_core.specs.Graph.{Graph, IsGraph, GivesExport, node_at}
@@ -36,7 +35,7 @@ use Rattle.wac_composition.specs.Classes.{is_instance}
 use Rattle.wac_graph_encode.specs.declared.root.Counts.{Counts}
 use Rattle.wac_graph_encode.specs.Standing as standing
 use Rattle.wac_graph_encode.specs.Standing.{sort_of, number_in, by_number, Denotes, StandsAt, IsOuterAt, IsPackageAt, IsListed, IsWritten, CountsOne}
-use Rattle.wac_graph_encode.proofs.StandingNumbers.{split, by_number_on, project_named, named_number, zip_map}
+use Rattle.wac_graph_encode.proofs.StandingNumbers.{split, by_number_on, project_named, named_number}
 use Rattle.wac_graph_encode.proofs.StandingTrees.{Gives, Sorts, gives_export, sorts}
 
 -- ---- lists with one more

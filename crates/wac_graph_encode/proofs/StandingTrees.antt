@@ -1,6 +1,6 @@
 -- What gives an item gives each of its exports, under the sort of the export.
-use Rattle.std.specs.Prelude.{◌≡◌, Some, None, option_map}
-use Rattle.std.proofs.Common.{refl, sym, ap, subst, ◌∙◌, true, List}
+use Rattle.std.specs.Prelude.{◌≡◌, Some, option_map}
+use Rattle.std.proofs.Common.{refl, ap, subst, ◌∙◌, true, List}
 use Rattle.wac_types_base.specs.declared.item.ItemKind.{ItemKind}
 use Rattle.wac_types_base.specs.declared.item.«Type».{«Type» as TypeKind}
 use Rattle.wac_types_base.specs.declared.core_types.CoreExtern.{CoreExtern}

@@ -111,7 +111,7 @@ module _ (w : Wired) (s : Standing) (nodes : s.nodes.now ≡ w.root.nodes) (oute
 
 -- ---- outer imports
 
-pub begun_outers : (define : Bool) (worlds : Worlds) (asked : List (Name × Tree)) (called : List Called) (w : Wired) (found : List (Name × SortIndex)) → IsBegun define worlds asked called w → AreCalled called w.root.imports.items found
+pub begun_outers : (define : Bool) (worlds : Worlds) (asked : List (Name × Tree)) (called : List Called) (w : Wired) (found : List (Name × SortIndex)) → IsBegun define worlds asked called w.graph.now w.root → AreCalled called w.root.imports.items found
     → IsWritten w.graph.now worlds define asked found w.root.packages.entries w.root.entries.items w.root.counts (noted w)
 begun_outers define worlds asked called w found b are =
     let h = b.written in

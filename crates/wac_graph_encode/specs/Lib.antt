@@ -13,3 +13,6 @@ pub mod AskedNodes
 pub mod AskedUses
 pub mod Standing
 pub mod Writing
+pub mod Rooting
+pub mod Nesting
+pub mod Beginning

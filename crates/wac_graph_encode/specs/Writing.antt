@@ -154,13 +154,13 @@ AllStand g nodes = (k : ℕ) → ContainsNode g k → Among k (names_of nodes)
 
 -- The types, the outer imports and the packages are written, and no instance: what is written of the imports at these places stands
 -- for the outer imports that are asked under these names.
-pub record IsBegun (define : Bool) (worlds : Worlds) (asked : List (Name × Tree)) (called : List Called) (w : Wired) : Type 0 where
-  pub written : IsWritten w.graph.now worlds define asked [] w.root.packages.entries w.root.entries.items w.root.counts (noted w)
-  pub outers : (one : Called) (p : SortIndex) → Among one called → slice_get w.root.imports.items one.at ≡ Some (Some p) → IsOuterAt w.graph.now worlds written.state one.name p
+pub record IsBegun (define : Bool) (worlds : Worlds) (asked : List (Name × Tree)) (called : List Called) (g : Graph) (r : Root) : Type 0 where
+  pub written : IsWritten g worlds define asked [] r.packages.entries r.entries.items r.counts r.nodes.entries
+  pub outers : (one : Called) (p : SortIndex) → Among one called → slice_get r.imports.items one.at ≡ Some (Some p) → IsOuterAt g worlds written.state one.name p
 
 -- what is begun is finished
 abbrev pub Finishes : {A E : Type 0} → List Called → Wired → Wired → Result A E → Type 0
-Finishes called old new r = (define : Bool) (worlds : Worlds) (asked : List (Name × Tree)) → IsBegun define worlds asked called old → OnOk r (IsFinished old.graph.now worlds define asked new.root.entries.items)
+Finishes called old new r = (define : Bool) (worlds : Worlds) (asked : List (Name × Tree)) → IsBegun define worlds asked called old.graph.now old.root → OnOk r (IsFinished old.graph.now worlds define asked new.root.entries.items)
 
 -- ---- exports
 

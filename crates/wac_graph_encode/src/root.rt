@@ -1,12 +1,18 @@
 //! The types and the imports of a composition, as entries.
 
-ghost use Rattle.std.specs.Prelude.{◌≡◌, ◌+◌, ◌++◌, [], ◌∷◌, ℕ, IfOk, OnOk, if◌then◌else◌};
+ghost use Rattle.std.specs.Prelude.{◌≡◌, ◌+◌, ◌++◌, [], ◌∷◌, ℕ, IfOk, OnOk, if◌then◌else◌, map, option_to_list};
+ghost use Rattle.wac_types_base.specs.Entries.{names_of};
 ghost use Rattle.wac_graph_bytes.specs.declared.value.Sort.{Sort as SortKind};
 ghost use Rattle.wac_graph_bytes.specs.Counting.{same_sort};
-ghost use Rattle.wac_graph_bytes.specs.Entries.{Aliased, Instantiate, ExportAlias};
-ghost use Rattle.wac_graph_bytes.specs.Views.{view, arguments_view};
+ghost use Rattle.wac_graph_bytes.specs.Entries.{Aliased, End, Instantiate, ExportAlias, Nested};
+ghost use Rattle.wac_graph_bytes.specs.Views.{view, arguments_view, before, declarations_of};
+ghost use Rattle.wac_graph_scopes.specs.Imports.{WritesImport, WritesInOrder};
+ghost use Rattle.wac_graph_scopes.specs.Roots.{root_entries};
 ghost use Rattle.wac_graph_encode.specs.Standing.{counted, CountsOne};
-ghost use Rattle.wac_graph_encode.specs.Writing.{AddsIndex};
+ghost use Rattle.wac_graph_encode.specs.Writing.{AddsEntry, AddsIndex};
+ghost use Rattle.wac_graph_encode.specs.Rooting.{AddsRead, ReadsAtRoot, TakesScope, WritesItem, WritesOuters, counter};
+ghost use Rattle.wac_graph_encode.specs.Beginning.{Begins};
+ghost use Rattle.wac_graph_encode.specs.Nesting.{NestsAll, NestsBehind, NestsIfDefined, NestsOne, bytes_of};
 
 use crate::asks::Definition;
 use crate::conflicts::dependency_name;
@@ -15,11 +21,11 @@ use crate::nodes::package_at;
 use crate::options::EncodeOptions;
 use indexmap::IndexMap;
 use std::alloc::{AllocError, Global};
+use std::mem;
 use wac_graph_bytes::{Alias, Declaration, Description, Entry, NamedIndex, Sort};
 use wac_graph_core::{CompositionGraph, NodeId, PackageId};
 use wac_graph_scopes::imports::{ImportScope, Importing, SortIndex};
 use wac_graph_scopes::items::ItemScope;
-use wac_graph_scopes::order::ImportOrder;
 use wac_graph_scopes::parts::{Item, import_at};
 use wac_types_base::{ItemKind, Types, WorldId};
 
@@ -89,31 +95,38 @@ fn write_outer(
     all: Importing<'_>,
     scope: &mut ImportScope,
     at: usize,
-) -> Result<(), Refusal> {
+) -> Result<(), Refusal>
+    ensures { WritesImport all.entry at scope.old scope.new result }
+{
     match scope.write_import(alloc, all, at) {
         Ok(()) => Ok(()),
         Err(fault) => Err(not_written(alloc, name_at(all, at), fault)),
     }
 }
 
-/// Writes the outer imports in an order.
+/// Writes the outer imports at places.
 fn write_in_order(
     alloc: Global,
     all: Importing<'_>,
     scope: &mut ImportScope,
-    order: &ImportOrder,
-) -> Result<(), Refusal> {
-    for at in order.sources.iter().chain(&order.others) {
+    order: &[usize],
+) -> Result<(), Refusal>
+    ensures { WritesInOrder all.entry order.now scope.old scope.new result }
+{
+    for at in order {
         write_outer(alloc, all, scope, *at)?;
     }
     Ok(())
 }
 
 /// Writes the outer imports.
-fn write_outers(alloc: Global, all: Importing<'_>, scope: &mut ImportScope) -> Result<(), Refusal> {
+fn write_outers(alloc: Global, all: Importing<'_>, scope: &mut ImportScope) -> Result<(), Refusal>
+    ensures { WritesOuters all.entry scope.old scope.new result }
+{
     scope.begin(alloc, all)?;
     let order = scope.order(alloc, all)?;
-    write_in_order(alloc, all, scope, &order)
+    write_in_order(alloc, all, scope, order.sources.as_slice())?;
+    write_in_order(alloc, all, scope, order.others.as_slice())
 }
 
 /// Writes the type of an item that stands at the root.
@@ -123,7 +136,9 @@ fn write_type(
     all: Importing<'_>,
     name: &str,
     item: ItemKind,
-) -> Result<Description, Refusal> {
+) -> Result<Description, Refusal>
+    ensures { WritesItem all.entry item scope.old scope.new result }
+{
     if let Err(fault) = scope.prepare(alloc, all, item) {
         return Err(not_written(alloc, name, fault));
     }
@@ -233,7 +248,9 @@ fn import_packages(
 }
 
 /// The declaration as an entry. An export is none.
-fn entry_of(declaration: Declaration) -> Option<Entry> {
+fn entry_of(declaration: Declaration) -> Option<Entry>
+    ensures { map view (option_to_list result) ≡ root_entries (before declaration End) }
+{
     match declaration {
         Declaration::Module(declarations) => Some(Entry::Module(declarations)),
         Declaration::Defined(ty) => Some(Entry::Defined(ty)),
@@ -245,18 +262,30 @@ fn entry_of(declaration: Declaration) -> Option<Entry> {
     }
 }
 
+/// Adds a declaration as an entry.
+fn add_entry(entries: &mut Vec<Entry>, declaration: Declaration) -> Result<(), AllocError>
+    ensures { OnOk result (AddsRead entries.old.items entries.new.items (root_entries (before declaration End))) }
+{
+    match entry_of(declaration) {
+        Some(entry) => push_entry(entries, entry),
+        None => Ok(()),
+    }
+}
+
 /// Adds declarations as entries.
-fn add_entries(entries: &mut Vec<Entry>, declarations: Vec<Declaration>) -> Result<(), AllocError> {
+fn add_entries(entries: &mut Vec<Entry>, declarations: Vec<Declaration>) -> Result<(), AllocError>
+    ensures { OnOk result (AddsRead entries.old.items entries.new.items (root_entries (declarations_of declarations.items))) }
+{
     for declaration in declarations {
-        if let Some(entry) = entry_of(declaration) {
-            push_entry(entries, entry)?;
-        }
+        add_entry(entries, declaration)?;
     }
     Ok(())
 }
 
 /// The bytes of a package.
-fn bytes_at(graph: &CompositionGraph, id: PackageId) -> &[u8] {
+fn bytes_at(graph: &CompositionGraph, id: PackageId) -> &[u8]
+    ensures { result.now ≡ bytes_of graph.now id }
+{
     match package_at(graph, id) {
         Some(package) => package.bytes(),
         None => &[],
@@ -264,19 +293,18 @@ fn bytes_at(graph: &CompositionGraph, id: PackageId) -> &[u8] {
 }
 
 /// Adds the bytes of a component.
-fn push_nested(alloc: Global, entries: &mut Vec<Entry>, bytes: &[u8]) -> Result<(), AllocError> {
+fn push_nested(alloc: Global, entries: &mut Vec<Entry>, bytes: &[u8]) -> Result<(), AllocError>
+    ensures { OnOk result (AddsEntry entries.old.items entries.new.items (Nested bytes.now)) }
+{
     let mut copy = Vec::new(alloc);
     copy.extend_from_slice(bytes)?;
     push_entry(entries, Entry::Nested(copy))
 }
 
 /// Nests a package of those bytes behind what is written.
-fn nest_package(
-    alloc: Global,
-    root: &mut Root,
-    id: PackageId,
-    bytes: &[u8],
-) -> Result<(), Refusal> {
+fn nest_package(alloc: Global, root: &mut Root, id: PackageId, bytes: &[u8]) -> Result<(), Refusal>
+    ensures { OnOk result (NestsOne id bytes.now root.old root.new) }
+{
     let index = root.counts.components;
     root.counts.components = next_index(index)?;
     push_nested(alloc, &mut root.entries, bytes)?;
@@ -289,7 +317,9 @@ fn nest_packages(
     graph: &CompositionGraph,
     worlds: &IndexMap<PackageId, WorldId>,
     root: &mut Root,
-) -> Result<(), Refusal> {
+) -> Result<(), Refusal>
+    ensures { OnOk result (NestsAll graph.now (names_of worlds.now.entries) root.old root.new) }
+{
     for id in worlds.keys() {
         nest_package(graph.alloc(), root, *id, bytes_at(graph, *id))?;
     }
@@ -297,7 +327,9 @@ fn nest_packages(
 }
 
 /// How many things of each sort stand in a scope.
-fn counts_of(scope: &ItemScope) -> Counts {
+fn counts_of(scope: &ItemScope) -> Counts
+    ensures { (s : SortKind) → counted result s ≡ counter scope.now s }
+{
     Counts {
         funcs: scope.funcs,
         types: scope.types.types,
@@ -309,7 +341,11 @@ fn counts_of(scope: &ItemScope) -> Counts {
 
 impl Root {
     /// Nothing stands there.
-    pub(crate) fn new(alloc: Global) -> Self {
+    pub(crate) fn new(alloc: Global) -> Self
+        ensures entries { result.entries.items ≡ [] }
+        ensures nodes { result.nodes.entries ≡ [] }
+        ensures packages { result.packages.entries ≡ [] }
+    {
         Root {
             entries: Vec::new(alloc),
             counts: Counts {
@@ -397,10 +433,22 @@ impl Root {
     }
 }
 
+/// What is written of the imports of a scope, which is taken from there.
+fn take_places(alloc: Global, scope: &mut ImportScope) -> Vec<Option<SortIndex>>
+    ensures places { result.items ≡ scope.old.places.items }
+    ensures scope { scope.new.scope ≡ scope.old.scope }
+{
+    let none = Vec::new(alloc);
+    mem::replace(&mut scope.places, none)
+}
+
 /// Takes what is written in a scope.
-fn take_scope(alloc: Global, scope: &mut ImportScope, root: &mut Root) -> Result<(), AllocError> {
+fn take_scope(alloc: Global, scope: &mut ImportScope, root: &mut Root) -> Result<(), AllocError>
+    ensures takes { OnOk result (TakesScope scope.old root.old root.new) }
+    ensures reads { ReadsAtRoot scope.old root.old root.new result }
+{
     root.counts = counts_of(&scope.scope);
-    root.imports = scope.take_places(alloc);
+    root.imports = take_places(alloc, scope);
     add_entries(&mut root.entries, scope.scope.take_declarations(alloc))
 }
 
@@ -417,22 +465,46 @@ pub(crate) struct Writing<'a> {
     pub options: &'a EncodeOptions,
 }
 
+/// Takes what is written in a scope, and nests the packages behind it.
+fn nest_behind(
+    graph: &CompositionGraph,
+    worlds: &IndexMap<PackageId, WorldId>,
+    scope: &mut ImportScope,
+    root: &mut Root,
+) -> Result<(), Refusal>
+    ensures { OnOk result (NestsBehind graph.now (names_of worlds.now.entries) scope.old root.old root.new) }
+{
+    take_scope(graph.alloc(), scope, root)?;
+    nest_packages(graph, worlds, root)
+}
+
+/// Imports the packages in a scope, and takes what is written there.
+fn import_before(
+    graph: &CompositionGraph,
+    worlds: &IndexMap<PackageId, WorldId>,
+    all: Importing<'_>,
+    scope: &mut ImportScope,
+    root: &mut Root,
+) -> Result<(), Refusal> {
+    import_packages(graph, scope, all, worlds, &mut root.packages)?;
+    take_scope(graph.alloc(), scope, root)?;
+    Ok(())
+}
+
 /// Imports or nests the packages, and takes what is written in a scope.
 fn write_packages(
     writing: Writing<'_>,
     scope: &mut ImportScope,
     root: &mut Root,
-) -> Result<(), Refusal> {
-    let graph = writing.graph;
-    let worlds = writing.worlds;
-    if !writing.options.define_components {
-        import_packages(graph, scope, writing.all, worlds, &mut root.packages)?;
-    }
-    take_scope(graph.alloc(), scope, root)?;
+) -> Result<(), Refusal>
+    ensures nests { NestsIfDefined writing.entry scope.old root.old root.new result }
+    ensures begins { Begins writing.entry scope.old root.old root.new result }
+{
     if writing.options.define_components {
-        nest_packages(graph, worlds, root)?;
+        nest_behind(writing.graph, writing.worlds, scope, root)
+    } else {
+        import_before(writing.graph, writing.worlds, writing.all, scope, root)
     }
-    Ok(())
 }
 
 /// Writes the types and the imports of a composition in a scope, and takes them with its packages.

@@ -1,0 +1,73 @@
+-- The root is begun once packages are nested behind types and outer imports.
+use Rattle.std.specs.Prelude.{slice_get}
+use Rattle.std.proofs.Common.{◌≡◌, ℕ, true, List, [], Some, Result, Ok, Err, refl, sym, ap, subst, ◌∙◌}
+use Rattle.wac_types_base.specs.declared.ids.WorldId.{WorldId}
+use Rattle.wac_types_base.specs.Record.{Collection}
+use Rattle.wac_types_base.specs.Entries.{Name, names_of}
+use Rattle.wac_types_base.specs.Graph.{Among}
+use Rattle.wac_graph_bytes.specs.declared.value.Sort.{Sort}
+use Rattle.wac_graph_bytes.specs.Typing.{Worlds, Inside, Meaning, space}
+use Rattle.wac_graph_bytes.specs.Meaning.{State}
+use Rattle.wac_graph_core.specs.declared.ids.PackageId.{PackageId}
+use Rattle.wac_graph_core.specs.Graph.{Graph}
+use Rattle.wac_graph_scopes.specs.declared.imports.Called.{Called}
+use Rattle.wac_graph_scopes.specs.declared.imports.ImportScope.{ImportScope}
+use Rattle.wac_graph_scopes.specs.Imports.{WritesWorld}
+use Rattle.wac_graph_scopes.specs.Roots.{at_root}
+use Rattle.wac_graph_encode.specs.declared.root.Root.{Root}
+use Rattle.wac_graph_encode.specs.declared.root.Writing.{Writing}
+use Rattle.wac_graph_encode.specs.Standing.{IsPackageAt}
+use Rattle.wac_graph_encode.specs.Rooting.{IsReadTo}
+use Rattle.wac_graph_encode.specs.Nesting.{NestsAll, NestsBehind, NestsIfDefined}
+use Rattle.wac_graph_encode.specs.Beginning.{AreTold, IsRooted, Begins}
+use Rattle.wac_graph_encode.specs.Writing.{IsBegun}
+use Rattle.wac_graph_encode.proofs.StandingSteps.{stands_on, outer_on}
+use Rattle.wac_graph_encode.proofs.Nesting.{with_nested, nested_reads, nested_keeps, nested_counts, package_stands}
+use Rattle.wac_graph_encode.proofs.Rooting.{scope_reads}
+
+module _ (g : Graph) (w : Worlds) (ids : List PackageId) (told : AreTold g w ids) (called : List Called) (i : Inside) (c : Collection) (world : WorldId) (mid new : Root) (empty : mid.packages.entries ≡ [])
+    (reads : IsReadTo w c world i mid) (rooted : IsRooted g w called i mid.nodes.entries mid.imports.items) (nests : NestsAll g ids mid new) where
+  abbrev st : State
+  st = at_root i
+
+  abbrev next : State
+  next = with_nested g ids st
+
+  kept : (s : Sort) (j : ℕ) (m : Meaning) → slice_get (space s st.scope) j ≡ Some m → slice_get (space s next.scope) j ≡ Some m
+  kept = nested_keeps g ids mid new nests w st reads.reads
+
+  held : (id : PackageId) (index : ℕ) → Among (id, index) new.packages.entries → IsPackageAt g w true next id index
+  held id index m = package_stands g ids mid new nests w st reads.reads reads.counts id index (told id) (λ n. absurd (subst (Among (id, index)) empty n)) m
+
+  pub begun : IsBegun true w i.imports called g new
+  begun = record {
+    written = record {
+      state = next;
+      reads = nested_reads g ids mid new nests w st reads.reads;
+      counts = nested_counts g ids mid new nests w st reads.reads reads.counts;
+      imports = refl;
+      exports = refl;
+      stated = refl;
+      outers = λ n p e. absurd (cc e);
+      packages = held;
+      order = [];
+      once = tt;
+      stand = λ k p m. stands_on g w st next [] [] kept (λ j a. a) (λ j a. refl) k p (rooted.nodes_stand k p (subst (λ ns. Among (k, p) ns.entries) nests.others.nodes m));
+      noted = λ k m. absurd m;
+      instances = tt;
+    };
+    outers = λ one p m e. outer_on g w st next [] [] kept (λ j a. a) (λ j a. refl) one.name p
+        (rooted.outers_stand one p m (subst (λ xs. slice_get xs.items one.at ≡ Some (Some p)) nests.others.imports e));
+  }
+
+-- behind what is taken from a scope
+pub begun_behind : (g : Graph) (w : Worlds) (ids : List PackageId) → AreTold g w ids → (called : List Called) (c : Collection) (world : WorldId) (scope : ImportScope) (old new : Root) (imported : List Name) (h : WritesWorld w c [] world scope imported [])
+    → old.entries.items ≡ [] → old.packages.entries ≡ [] → IsRooted g w called h.writing.inside old.nodes.entries scope.places.items → NestsBehind g ids scope old new → IsBegun true w h.writing.inside.imports called g new
+begun_behind g w ids told called c world scope old new imported h none empty rooted b =
+    begun g w ids told called h.writing.inside c world b.taken new (ap (λ ps. ps.entries) b.takes.packages ∙ empty) (scope_reads scope old b.taken b.takes none w c world imported h)
+    (subst (λ xs. IsRooted g w called h.writing.inside b.taken.nodes.entries xs) (sym b.takes.imports) (subst (λ ns. IsRooted g w called h.writing.inside ns.entries scope.places.items) (sym b.takes.nodes) rooted)) b.nests
+
+pub begins : {U E : Type 0} (x : Writing) (scope : ImportScope) (old new : Root) (r : Result U E) → NestsIfDefined x scope old new r → Begins x scope old new r
+begins x scope old new (Ok u) n = λ define w c world imported called h none empty told rooted.
+    begun_behind x.graph.now w (names_of x.worlds.now.entries) told called c world scope old new imported h none empty rooted (n define)
+begins x scope old new (Err e) n = λ define w c world imported called h none empty told rooted. tt

@@ -1,0 +1,71 @@
+-- Packages that are nested at the root of a component.
+use Rattle.std.specs.Prelude.{◌≡◌, ℕ, ◌+◌, List, [], ◌∷◌, length, map, Option, None, Some, Result, OnOk, true, if◌then◌else◌}
+use Rattle.indexmap.specs.IndexMap.{insert_entry, insert_all}
+use Rattle.wac_types_base.specs.declared.item.ItemKind.{ItemKind}
+use Rattle.wac_types_base.specs.Entries.{names_of}
+use Rattle.wac_types_base.specs.Stated.{stated_of}
+use Rattle.wac_types_base.specs.Tree.{tree}
+use Rattle.wac_types_names.specs.Packaged.{Packaged}
+use Rattle.wac_graph_bytes.specs.declared.value.Sort.{Sort}
+use Rattle.wac_graph_bytes.specs.declared.value.Sort.TheVariants as sort
+use Rattle.wac_graph_bytes.specs.Counting.{same_sort}
+use Rattle.wac_graph_bytes.specs.Entries.{Nested}
+use Rattle.wac_graph_bytes.specs.Typing.{Worlds}
+use Rattle.wac_graph_bytes.specs.Wirings.{OfBytes}
+use Rattle.wac_graph_scopes.specs.declared.imports.ImportScope.{ImportScope}
+use Rattle.wac_graph_core.specs.declared.ids.PackageId.{PackageId}
+use Rattle.wac_graph_core.specs.contracts.ids.PackageIdPartialEq.TheImpl as package_id
+use Rattle.wac_graph_core.specs.Graph.{Graph, package_of}
+use Rattle.wac_graph_encode.specs.declared.root.Root.{Root}
+use Rattle.wac_graph_encode.specs.declared.root.Writing.{Writing}
+use Rattle.wac_graph_encode.specs.Standing.{counted, CountsOne}
+use Rattle.wac_graph_encode.specs.Writing.{AddsEntry}
+use Rattle.wac_graph_encode.specs.Rooting.{AddsRead, TakesScope}
+
+abbrev pub bytes_in : Option Packaged → List ℕ
+bytes_in None = []
+bytes_in (Some p) = p.bytes
+
+-- the bytes of the package of an id
+abbrev pub bytes_of : Graph → PackageId → List ℕ
+bytes_of g id = bytes_in (package_of g id)
+
+-- of the root nothing else is changed
+pub record KeepsOthers (old new : Root) : Type 0 where
+  pub imports : new.imports ≡ old.imports
+  pub nodes : new.nodes ≡ old.nodes
+
+-- One more component, of those bytes, is nested behind the entries, and the id has its index.
+pub record NestsOne (id : PackageId) (bytes : List ℕ) (old new : Root) : Type 0 where
+  pub entry : AddsEntry old.entries.items new.entries.items (Nested bytes)
+  pub counts : CountsOne sort.Component old.counts new.counts
+  pub packages : new.packages.entries ≡ insert_entry package_id.eq-value.it old.packages.entries id (counted old.counts sort.Component)
+  pub others : KeepsOthers old new
+
+-- these under that index and those after it
+abbrev pub numbered : {X : Type 0} → ℕ → List X → List (X × ℕ)
+numbered k [] = []
+numbered k (x ∷ xs) = (x, k) ∷ numbered (k + 1) xs
+
+-- The packages are nested behind the entries, in order and unchanged, and the ids have their indexes.
+pub record NestsAll (g : Graph) (ids : List PackageId) (old new : Root) : Type 0 where
+  pub entries : AddsRead old.entries.items new.entries.items (map (λ id. Nested (bytes_of g id)) ids)
+  pub counts : (s : Sort) → counted new.counts s ≡ counted old.counts s + (if same_sort s sort.Component then length ids else 0)
+  pub packages : new.packages.entries ≡ insert_all package_id.eq-value.it old.packages.entries (numbered (counted old.counts sort.Component) ids)
+  pub others : KeepsOthers old new
+
+-- what is written in the scope is taken to the root, and the packages are nested behind it
+pub record NestsBehind (g : Graph) (ids : List PackageId) (scope : ImportScope) (old new : Root) : Type 0 where
+  pub taken : Root
+  pub takes : TakesScope scope old taken
+  pub nests : NestsAll g ids taken new
+
+-- they are, where the options say so
+abbrev pub NestsIfDefined : {U E : Type 0} → Writing → ImportScope → Root → Root → Result U E → Type 0
+NestsIfDefined x scope old new r = x.options.now.define_components ≡ true → OnOk r (NestsBehind x.graph.now (names_of x.worlds.now.entries) scope old new)
+
+-- the worlds say what an instance of the package is
+pub record IsTold (g : Graph) (worlds : Worlds) (id : PackageId) : Type 0 where
+  pub of : Packaged
+  pub is : package_of g id ≡ Some of
+  pub world : worlds (OfBytes of.bytes) ≡ Some (tree (stated_of g.types (ItemKind.Instance of.instance_type)))
