@@ -37,7 +37,8 @@ use Rattle.wac_graph_encode.specs.Encoding.{tag_of}
 use Rattle.wac_graph_encode.specs.Standing as standing
 use Rattle.wac_graph_encode.specs.Standing.{sort_of, number_in, by_number, StandsAt, IsOuterAt, IsPackageAt, IsListed, IsWritten, CountsOne}
 use Rattle.wac_graph_encode.specs.Writing.{AreGivenAt}
-use Rattle.wac_graph_encode.proofs.StandingNumbers.{split, number_more, number_last, by_number_on, zip_more, zip_map, zip_length}
+use Rattle.wac_types_fit.proofs.Items.{Among-last}
+use Rattle.wac_graph_encode.proofs.StandingNumbers.{number_more, number_last, by_number_on, zip_more, zip_map, zip_length}
 use Rattle.wac_graph_encode.proofs.StandingSteps.{named_front, named_end, stands_on, outer_on, package_on, listed_on, counts_one, read_one, index_is}
 use Rattle.wac_graph_encode.proofs.StandingGiven.{Given, given, has_imports, instance_made, instance_is, instance_written, instance_given}
 
@@ -82,7 +83,7 @@ module _ (g : Graph) (is : IsGraph g) (worlds : Worlds) (define : Bool) (asked :
       packages = h.packages;
       order = h.order;
       once = h.once;
-      stand = λ j q m. import_by j q (split nodes (k, p) (j, q) m);
+      stand = λ j q m. import_by j q (Among-last nodes (k, p) (j, q) m);
       noted = λ j m. named_front nodes (k, p) j (h.noted j m);
       instances = h.instances;
     }
@@ -201,8 +202,8 @@ module _ (g : Graph) (is : IsGraph g) (worlds : Worlds) (define : Bool) (asked :
         packages = λ j i m. package_on g worlds st next h.order more grown among numbers define j i (h.packages j i m);
         order = more;
         once = distinct-append h.order (k ∷ []) h.once (λ m. m, tt) (λ j m n. elim n [ inl e ↦ not_written (subst (λ (i : ℕ). Among i h.order) e m) | inr none ↦ none ]);
-        stand = λ j q m. stand_by j q (split nodes (k, here) (j, q) m);
-        noted = λ j m. noted_by j (split h.order k j m);
+        stand = λ j q m. stand_by j q (Among-last nodes (k, here) (j, q) m);
+        noted = λ j m. noted_by j (Among-last h.order k j m);
         instances = zip_more (IsListed g worlds define more) h.order st.listed.instances k (tag, sources)
             (zip_map (IsListed g worlds define h.order) (IsListed g worlds define more) (listed_on g worlds st next h.order more grown among numbers define) h.order st.listed.instances h.instances) listed;
       }

@@ -63,12 +63,6 @@ named_number order (Definition t) h = tt
 
 -- ---- lists in turn
 
-pub split : {X : Type 0} (xs : List X) (x y : X) → Among y (xs ++ x ∷ []) → Among y xs ⊎ (y ≡ x)
-split [] x y (inl e) = inr e
-split [] x y (inr m) = absurd m
-split (z ∷ xs) x y (inl e) = inl (inl e)
-split (z ∷ xs) x y (inr m) = elim (split xs x y m) [ inl n ↦ inl (inr n) | inr e ↦ inr e ]
-
 pub zip_more : {A B : Type 0} (R : A → B → Type 0) (xs : List A) (ys : List B) (x : A) (y : B) → AllZip R xs ys → R x y → AllZip R (xs ++ x ∷ []) (ys ++ y ∷ [])
 zip_more R [] [] x y h r = (r, tt)
 zip_more R [] (b ∷ ys) x y h r = absurd h

@@ -35,7 +35,8 @@ use Rattle.wac_composition.specs.Classes.{is_instance}
 use Rattle.wac_graph_encode.specs.declared.root.Counts.{Counts}
 use Rattle.wac_graph_encode.specs.Standing as standing
 use Rattle.wac_graph_encode.specs.Standing.{sort_of, number_in, by_number, Denotes, StandsAt, IsOuterAt, IsPackageAt, IsListed, IsWritten, CountsOne}
-use Rattle.wac_graph_encode.proofs.StandingNumbers.{split, by_number_on, project_named, named_number}
+use Rattle.wac_types_fit.proofs.Items.{Among-last}
+use Rattle.wac_graph_encode.proofs.StandingNumbers.{by_number_on, project_named, named_number}
 use Rattle.wac_graph_encode.proofs.StandingTrees.{Gives, Sorts, gives_export, sorts}
 
 -- ---- lists with one more
@@ -242,7 +243,7 @@ module _ (g : Graph) (is : IsGraph g) (finite : IsFinite g.types) (worlds : Worl
         packages = λ id j m. package_on g worlds st next h.order h.order (grown s made) (λ i m. m) (λ i m. refl) define id j (h.packages id j m);
         order = h.order;
         once = h.once;
-        stand = λ j q m. stand_by j q (split nodes (k, here) (j, q) m);
+        stand = λ j q m. stand_by j q (Among-last nodes (k, here) (j, q) m);
         noted = λ j m. named_front nodes (k, here) j (h.noted j m);
         instances = h.instances;
       }

@@ -39,7 +39,3 @@ keyed front (Some p) =
 pub has_key : (n : Name) → is_some (lookup_key n) ≡ has_track n
 unfolding lookup_key
 has_key n = keyed (before_at n) (version_of n)
-
-pub is_mapped : {A B : Type 0} (f : A → B) (o : Option A) → is_some (option_map f o) ≡ is_some o
-is_mapped f None = refl
-is_mapped f (Some x) = refl

@@ -33,7 +33,8 @@ use Rattle.wac_graph_encode.specs.Reads.{AreArguments}
 use Rattle.wac_graph_encode.specs.Standing.{IsGivenAt, argument, outer}
 use Rattle.wac_graph_encode.specs.Writing.{IsNeeded, AddsCalled, AreCalled, AddsEntry, AddsExport, AddsExports, AddsGiven, AddsNeeded, IsExportOf, exported_as, GivesUnder, by_node, by_import, AreGivenUnder, AreGivenAt, IsSameRoot, KeepsNodes, AddsOnly, AllStand, Below, UpToOne, WrittenSo, noted}
 use Rattle.wac_graph_encode.proofs.Entries.{same_node, found_among, none_among}
-use Rattle.wac_graph_encode.proofs.StandingNumbers.{zip_map, zip_more, split}
+use Rattle.wac_types_fit.proofs.Items.{Among-last}
+use Rattle.wac_graph_encode.proofs.StandingNumbers.{zip_map, zip_more}
 
 -- what follows of what is answered
 pub on_ok : {X E A B : Type 0} (r : Result X E) → (A → B) → OnOk r A → OnOk r B
@@ -71,7 +72,7 @@ pub passed_needed : (g : Graph) (k : ℕ) (bound : List (Name × ℕ)) → AreAr
 passed_needed g k bound are d v m = let r = value_named bound d v m in inl (r.0, argument_found g.edges k v r.0 (sym (are r.0) ∙ r.1))
 
 pub needed_more : (g : Graph) (k : ℕ) (start old new : List ℕ) (v : ℕ) → AddsNeeded g k start old → new ≡ old ++ v ∷ [] → IsNeeded g v k → AddsNeeded g k start new
-needed_more g k start old new v adds is needed j m = go (split old v j (subst (Among j) is m))
+needed_more g k start old new v adds is needed j m = go (Among-last old v j (subst (Among j) is m))
   where
     go : Among j old ⊎ (j ≡ v) → Among j start ⊎ IsNeeded g j k
     go (inl there) = adds j there

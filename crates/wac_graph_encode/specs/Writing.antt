@@ -1,13 +1,16 @@
 -- What writing the nodes of a graph does, one behind those that it needs.
-use Rattle.std.specs.Prelude.{◌≡◌, ◌⊎◌, ◌<◌, ◌≤◌, ℕ, Bool, List, ◌++◌, [], ◌∷◌, Option, Some, None, slice_get, Result, OnOk, IfOk, IfSome}
+use Rattle.std.specs.Prelude.{◌≡◌, ◌⊎◌, ◌<◌, ◌≤◌, ℕ, Bool, true, List, ◌++◌, [], ◌∷◌, Option, Some, None, slice_get, Result, OnOk, IfOk, IfSome}
 use Rattle.std.specs.List.{AllZip}
+use Rattle.wac_types_base.specs.declared.ids.WorldId.{WorldId}
+use Rattle.wac_types_base.specs.Record.{Collection}
 use Rattle.wac_types_base.specs.Entries.{AreDistinct, Name, names_of, value_at}
 use Rattle.wac_types_base.specs.Graph.{Among}
 use Rattle.wac_types_base.specs.Tree.{Tree}
 use Rattle.wac_graph_bytes.specs.declared.value.Sort.{Sort}
+use Rattle.wac_graph_bytes.specs.declared.value.Sort.TheVariants as sort
 use Rattle.wac_graph_bytes.specs.declared.entry.Entry.{Entry as CodeEntry}
 use Rattle.wac_graph_bytes.specs.declared.entry.NamedIndex.{NamedIndex}
-use Rattle.wac_graph_bytes.specs.Entries.{Entry, Argument, Exported}
+use Rattle.wac_graph_bytes.specs.Entries.{Entry, Argument, Instantiate, Exported}
 use Rattle.wac_graph_bytes.specs.Typing.{Worlds}
 use Rattle.wac_graph_bytes.specs.Views.{view, arguments_view}
 use Rattle.wac_graph_core.specs.Edges.{IsRank, HasAlias, HasArgument}
@@ -39,6 +42,10 @@ pub record AddsIndex (old new : Root) (x : Entry) (s : Sort) (p : SortIndex) : T
   pub nodes : new.nodes ≡ old.nodes
   pub packages : new.packages ≡ old.packages
 
+-- one more instance, of that component
+abbrev pub AddsInstance : Root → Root → ℕ → List NamedIndex → SortIndex → Type 0
+AddsInstance old new component given p = AddsIndex old new (Instantiate component (arguments_view given)) sort.Instance p
+
 -- ---- arguments
 
 -- the first is passed to the other, or the other is an alias of an export of it
@@ -60,6 +67,17 @@ AreGivenUnder s bound ns as_ = AllZip (λ n a. (a.0 ≡ n) × GivesUnder s bound
 -- under each name, what is given to the instance there
 abbrev pub AreGivenAt : Graph → List (Name × SortIndex) → List (ℕ × SortIndex) → ℕ → List Name → List Argument → Type 0
 AreGivenAt g found nodes k ns as_ = AllZip (λ n a. (a.0 ≡ n) × IsGivenAt g found nodes k n (record { sort = a.1; index = a.2 })) ns as_
+
+-- under the name of each import of the world
+abbrev pub AreGivenIn : Collection → WorldId → Standing → List (Name × ℕ) → List NamedIndex → Type 0
+AreGivenIn types world s bound new = AreGivenUnder s bound (names_of (imports_of types world)) (arguments_view new)
+
+-- so it is if the answer is yes
+abbrev pub IfYes : {E : Type 0} → Result Bool E → Type 0 → Type 0
+IfYes r P = IfOk r (λ yes. yes ≡ true → P)
+
+abbrev pub AddsArgument : List NamedIndex → List NamedIndex → Argument → Type 0
+AddsArgument old new a = arguments_view new ≡ arguments_view old ++ a ∷ []
 
 -- one more argument, of what is given under the name
 pub record AddsGiven (s : Standing) (bound : List (Name × ℕ)) (n : Name) (old new : List NamedIndex) : Type 0 where

@@ -8,7 +8,7 @@ ghost use Rattle.wac_graph_core.specs.Graph.{IsOfKind};
 ghost use Rattle.wac_graph_scopes.specs.Parts.{imports_of};
 ghost use Rattle.wac_graph_encode.specs.Reads.{AreArguments};
 ghost use Rattle.wac_graph_encode.specs.Standing.{sort_of};
-ghost use Rattle.wac_graph_encode.specs.Writing.{Finishes, AddsCalled, AddsEntry, AddsExport, AddsExports, AddsGiven, AddsNeeded, AddsOnly, AllStand, AreCalled, AreGivenUnder, Below, GivesUnder, IsAliasAt, IsSameRoot, KeepsNodes, KeepsWritten, PassesAll, UpTo, UpToOne, WritesInstance, WritesNode, exported_as, noted};
+ghost use Rattle.wac_graph_encode.specs.Writing.{Finishes, AddsArgument, AddsCalled, AddsEntry, AddsExport, AddsExports, AddsGiven, AddsNeeded, AddsOnly, AllStand, AreCalled, AreGivenIn, Below, GivesUnder, IfYes, IsAliasAt, IsSameRoot, KeepsNodes, KeepsWritten, PassesAll, UpTo, UpToOne, WritesInstance, WritesNode, exported_as, noted};
 
 use crate::errors::Refusal;
 use crate::labels::names_of_nodes;
@@ -145,7 +145,7 @@ fn push_argument(
     name: &str,
     place: SortIndex,
 ) -> Result<(), AllocError>
-    ensures { OnOk result (arguments_view arguments.new.items ≡ arguments_view arguments.old.items ++ (name.now, place.sort, place.index) ∷ []) }
+    ensures { OnOk result (AddsArgument arguments.old.items arguments.new.items (name.now, place.sort, place.index)) }
 {
     let name = String::from_str(alloc, name)?;
     arguments.push(NamedIndex {
@@ -181,7 +181,7 @@ fn push_given(
     name: &str,
     arguments: &mut Vec<NamedIndex>,
 ) -> Result<bool, AllocError>
-    ensures { IfOk result (λ yes. yes ≡ true → AddsGiven standing.entry bound.now name.now arguments.old.items arguments.new.items) }
+    ensures { IfYes result (AddsGiven standing.entry bound.now name.now arguments.old.items arguments.new.items) }
 {
     match argument(standing, bound, name) {
         Some(place) => {
@@ -202,7 +202,7 @@ fn push_arguments(
     arguments: &mut Vec<NamedIndex>,
 ) -> Result<bool, AllocError>
     requires { arguments.old.items ≡ [] }
-    ensures given { IfOk result (λ yes. yes ≡ true → AreGivenUnder standing.entry bound.now (names_of (imports_of types.now world)) (arguments_view arguments.new.items)) }
+    ensures given { IfYes result (AreGivenIn types.now world standing.entry bound.now arguments.new.items) }
     ensures distinct { AreDistinct (names_of (imports_of types.now world)) }
 {
     for at in 0..import_count(types, world) {
@@ -224,7 +224,7 @@ fn arguments_in(
     standing: Standing<'_>,
     bound: &Arguments,
 ) -> Result<Option<Vec<NamedIndex>>, AllocError>
-    ensures given { IfOk result (λ o. IfSome o (λ v. AreGivenUnder standing.entry bound.now (names_of (imports_of types.now world)) (arguments_view v.items))) }
+    ensures given { IfOk result (λ o. IfSome o (λ v. AreGivenIn types.now world standing.entry bound.now v.items)) }
     ensures distinct { AreDistinct (names_of (imports_of types.now world)) }
 {
     let mut arguments = Vec::new(alloc);

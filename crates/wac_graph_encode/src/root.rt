@@ -4,12 +4,12 @@ ghost use Rattle.std.specs.Prelude.{◌≡◌, ◌+◌, ◌++◌, [], ◌∷◌,
 ghost use Rattle.wac_types_base.specs.Entries.{names_of};
 ghost use Rattle.wac_graph_bytes.specs.declared.value.Sort.{Sort as SortKind};
 ghost use Rattle.wac_graph_bytes.specs.Counting.{same_sort};
-ghost use Rattle.wac_graph_bytes.specs.Entries.{Aliased, End, Instantiate, ExportAlias, Nested};
-ghost use Rattle.wac_graph_bytes.specs.Views.{view, arguments_view, before, declarations_of};
+ghost use Rattle.wac_graph_bytes.specs.Entries.{Aliased, End, ExportAlias, Nested};
+ghost use Rattle.wac_graph_bytes.specs.Views.{view, before, declarations_of};
 ghost use Rattle.wac_graph_scopes.specs.Imports.{WritesImport, WritesInOrder};
 ghost use Rattle.wac_graph_scopes.specs.Roots.{root_entries};
 ghost use Rattle.wac_graph_encode.specs.Standing.{counted, CountsOne};
-ghost use Rattle.wac_graph_encode.specs.Writing.{AddsEntry, AddsIndex};
+ghost use Rattle.wac_graph_encode.specs.Writing.{AddsEntry, AddsIndex, AddsInstance};
 ghost use Rattle.wac_graph_encode.specs.Rooting.{AddsRead, ReadsAtRoot, TakesScope, WritesItem, WritesOuters, counter};
 ghost use Rattle.wac_graph_encode.specs.Beginning.{Begins};
 ghost use Rattle.wac_graph_encode.specs.Nesting.{NestsAll, NestsBehind, NestsIfDefined, NestsOne, bytes_of};
@@ -427,7 +427,7 @@ impl Root {
         component: u32,
         arguments: Vec<NamedIndex>,
     ) -> Result<SortIndex, Refusal>
-        ensures { IfOk result (AddsIndex self.old self.new (Instantiate component (arguments_view arguments.items)) SortKind.Instance) }
+        ensures { IfOk result (AddsInstance self.old self.new component arguments.items) }
     {
         self.add(Entry::Instantiate(component, arguments), Sort::Instance)
     }
