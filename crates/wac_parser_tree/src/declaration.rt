@@ -11,7 +11,7 @@ use std::alloc::{AllocError, Global};
 use wac_parser_lexer::SourceSpan;
 
 /// A type that is declared in a document, outside interfaces and worlds.
-#[derive(Debug, Drop)]
+#[derive(Debug)]
 pub enum TypeDecl<'a> {
     /// A variant.
     Variant(VariantDecl<'a>),
@@ -25,8 +25,21 @@ pub enum TypeDecl<'a> {
     Alias(TypeAlias<'a>),
 }
 
+// It takes the value apart: where one is held at a `?`, a derived drop is proved there part by part.
+impl Drop for TypeDecl<'_> {
+    fn drop(self) {
+        match self {
+            TypeDecl::Variant(_) => {}
+            TypeDecl::Record(_) => {}
+            TypeDecl::Flags(_) => {}
+            TypeDecl::Enum(_) => {}
+            TypeDecl::Alias(_) => {}
+        }
+    }
+}
+
 /// A type that is declared in an interface or a world: there are resources too.
-#[derive(Debug, Drop)]
+#[derive(Debug)]
 pub enum ItemTypeDecl<'a> {
     /// A resource.
     Resource(ResourceDecl<'a>),
@@ -42,6 +55,20 @@ pub enum ItemTypeDecl<'a> {
     Alias(TypeAlias<'a>),
 }
 
+// It takes the value apart: where one is held at a `?`, a derived drop is proved there part by part.
+impl Drop for ItemTypeDecl<'_> {
+    fn drop(self) {
+        match self {
+            ItemTypeDecl::Resource(_) => {}
+            ItemTypeDecl::Variant(_) => {}
+            ItemTypeDecl::Record(_) => {}
+            ItemTypeDecl::Flags(_) => {}
+            ItemTypeDecl::Enum(_) => {}
+            ItemTypeDecl::Alias(_) => {}
+        }
+    }
+}
+
 /// A declaration `resource ID;` or `resource ID { METHODS }`.
 #[derive(Debug, Drop)]
 pub struct ResourceDecl<'a> {
@@ -54,12 +81,22 @@ pub struct ResourceDecl<'a> {
 }
 
 /// A method of a resource.
-#[derive(Debug, Drop)]
+#[derive(Debug)]
 pub enum ResourceMethod<'a> {
     /// The constructor.
     Constructor(Constructor<'a>),
     /// A method of a resource's value, or a static one.
     Method(Method<'a>),
+}
+
+// It takes the value apart: where one is held at a `?`, a derived drop is proved there part by part.
+impl Drop for ResourceMethod<'_> {
+    fn drop(self) {
+        match self {
+            ResourceMethod::Constructor(_) => {}
+            ResourceMethod::Method(_) => {}
+        }
+    }
 }
 
 /// A constructor `constructor(PARAMS);`.
@@ -182,12 +219,22 @@ pub struct TypeAlias<'a> {
 }
 
 /// What an alias names.
-#[derive(Debug, Drop)]
+#[derive(Debug)]
 pub enum TypeAliasKind<'a> {
     /// A function type.
     Func(FuncType<'a>),
     /// The type of a value.
     Ty(Type<'a>),
+}
+
+// It takes the value apart: where one is held at a `?`, a derived drop is proved there part by part.
+impl Drop for TypeAliasKind<'_> {
+    fn drop(self) {
+        match self {
+            TypeAliasKind::Func(_) => {}
+            TypeAliasKind::Ty(_) => {}
+        }
+    }
 }
 
 impl<'a> VariantCase<'a> {

@@ -60,7 +60,7 @@ pub struct PackageDirective<'a> {
 }
 
 /// A statement of a document.
-#[derive(Debug, Drop)]
+#[derive(Debug)]
 pub enum Statement<'a> {
     /// An import.
     Import(ImportStatement<'a>),
@@ -72,8 +72,20 @@ pub enum Statement<'a> {
     Export(ExportStatement<'a>),
 }
 
+// It takes the value apart: where one is held at a `?`, a derived drop is proved there part by part.
+impl Drop for Statement<'_> {
+    fn drop(self) {
+        match self {
+            Statement::Import(_) => {}
+            Statement::Ty(_) => {}
+            Statement::Let(_) => {}
+            Statement::Export(_) => {}
+        }
+    }
+}
+
 /// A statement that declares a type.
-#[derive(Debug, Drop)]
+#[derive(Debug)]
 pub enum TypeStatement<'a> {
     /// An interface.
     Interface(InterfaceDecl<'a>),
@@ -81,6 +93,17 @@ pub enum TypeStatement<'a> {
     World(WorldDecl<'a>),
     /// Any other type.
     Ty(TypeDecl<'a>),
+}
+
+// It takes the value apart: where one is held at a `?`, a derived drop is proved there part by part.
+impl Drop for TypeStatement<'_> {
+    fn drop(self) {
+        match self {
+            TypeStatement::Interface(_) => {}
+            TypeStatement::World(_) => {}
+            TypeStatement::Ty(_) => {}
+        }
+    }
 }
 
 impl<'a> TypeStatement<'a> {

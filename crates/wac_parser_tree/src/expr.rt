@@ -23,7 +23,7 @@ pub struct Expr<'a> {
 
 /// An expression without accesses.
 #[cycle(expr)]
-#[derive(Debug, Drop)]
+#[derive(Debug)]
 pub enum PrimaryExpr<'a> {
     /// An instantiation.
     New(NewExpr<'a>),
@@ -31,6 +31,18 @@ pub enum PrimaryExpr<'a> {
     Nested(NestedExpr<'a>),
     /// A name.
     Ident(Ident<'a>),
+}
+
+// It takes the value apart: where one is held at a `?`, a derived drop is proved there part by part.
+impl Drop for PrimaryExpr<'_> {
+    #[cycle(drops)]
+    fn drop(self) {
+        match self {
+            PrimaryExpr::New(_) => {}
+            PrimaryExpr::Nested(_) => {}
+            PrimaryExpr::Ident(_) => {}
+        }
+    }
 }
 
 /// An instantiation `new PACKAGE { ARGUMENTS }`.
@@ -47,7 +59,7 @@ pub struct NewExpr<'a> {
 
 /// An argument of an instantiation.
 #[cycle(expr)]
-#[derive(Debug, Drop)]
+#[derive(Debug)]
 pub enum InstantiationArgument<'a> {
     /// An item, whose name the import tells: `ID`.
     Inferred(Ident<'a>),
@@ -57,6 +69,19 @@ pub enum InstantiationArgument<'a> {
     Named(NamedInstantiationArgument<'a>),
     /// An import for each argument that is left; where the `...` stands.
     Fill(SourceSpan),
+}
+
+// It takes the value apart: where one is held at a `?`, a derived drop is proved there part by part.
+impl Drop for InstantiationArgument<'_> {
+    #[cycle(drops)]
+    fn drop(self) {
+        match self {
+            InstantiationArgument::Inferred(_) => {}
+            InstantiationArgument::Spread(_) => {}
+            InstantiationArgument::Named(_) => {}
+            InstantiationArgument::Fill(_) => {}
+        }
+    }
 }
 
 /// An argument `NAME: EXPR`.

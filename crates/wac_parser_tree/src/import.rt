@@ -40,7 +40,7 @@ pub struct ImportStatement<'a> {
 }
 
 /// The type of an import.
-#[derive(Debug, Drop)]
+#[derive(Debug)]
 pub enum ImportType<'a> {
     /// An item of a package.
     Package(PackagePath<'a>),
@@ -50,6 +50,18 @@ pub enum ImportType<'a> {
     Interface(InlineInterface<'a>),
     /// A type of the document.
     Ident(Ident<'a>),
+}
+
+// It takes the value apart: where one is held at a `?`, a derived drop is proved there part by part.
+impl Drop for ImportType<'_> {
+    fn drop(self) {
+        match self {
+            ImportType::Package(_) => {}
+            ImportType::Func(_) => {}
+            ImportType::Interface(_) => {}
+            ImportType::Ident(_) => {}
+        }
+    }
 }
 
 /// A path to an item of a package, as `a:b/c/d@1.0.0`.

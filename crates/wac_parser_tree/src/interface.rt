@@ -28,7 +28,7 @@ pub struct InlineInterface<'a> {
 }
 
 /// An item of an interface.
-#[derive(Debug, Drop)]
+#[derive(Debug)]
 pub enum InterfaceItem<'a> {
     /// Types of another interface or world.
     Use(Box<Use<'a>>),
@@ -36,6 +36,17 @@ pub enum InterfaceItem<'a> {
     Ty(ItemTypeDecl<'a>),
     /// A function.
     Export(InterfaceExport<'a>),
+}
+
+// It takes the value apart: where one is held at a `?`, a derived drop is proved there part by part.
+impl Drop for InterfaceItem<'_> {
+    fn drop(self) {
+        match self {
+            InterfaceItem::Use(_) => {}
+            InterfaceItem::Ty(_) => {}
+            InterfaceItem::Export(_) => {}
+        }
+    }
 }
 
 /// A function `ID: TYPE;` of an interface.
@@ -61,12 +72,22 @@ pub struct Use<'a> {
 }
 
 /// What has the types that are used.
-#[derive(Debug, Drop)]
+#[derive(Debug)]
 pub enum UsePath<'a> {
     /// An item of a package.
     Package(PackagePath<'a>),
     /// A name of the document.
     Ident(Ident<'a>),
+}
+
+// It takes the value apart: where one is held at a `?`, a derived drop is proved there part by part.
+impl Drop for UsePath<'_> {
+    fn drop(self) {
+        match self {
+            UsePath::Package(_) => {}
+            UsePath::Ident(_) => {}
+        }
+    }
 }
 
 /// A type that is used: `ID` or `ID as ID`.

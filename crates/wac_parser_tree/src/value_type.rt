@@ -10,7 +10,7 @@ use std::alloc::{AllocError, Global};
 use wac_parser_lexer::SourceSpan;
 
 /// The type of a value.
-#[derive(Debug, Drop)]
+#[derive(Debug)]
 pub enum Type<'a> {
     /// `u8`.
     U8(SourceSpan),
@@ -65,6 +65,40 @@ pub enum Type<'a> {
     Ident(Ident<'a>),
 }
 
+// It takes the value apart: where one is held at a `?`, a derived drop is proved there part by part.
+impl Drop for Type<'_> {
+    fn drop(self) {
+        match self {
+            Type::U8(_) => {}
+            Type::S8(_) => {}
+            Type::U16(_) => {}
+            Type::S16(_) => {}
+            Type::U32(_) => {}
+            Type::S32(_) => {}
+            Type::U64(_) => {}
+            Type::S64(_) => {}
+            Type::F32(_) => {}
+            Type::F64(_) => {}
+            Type::Char(_) => {}
+            Type::Bool(_) => {}
+            Type::String(_) => {}
+            Type::Tuple(_, _) => {}
+            Type::List(_, _) => {}
+            Type::Option(_, _) => {}
+            Type::Result {
+                ok: _,
+                err: _,
+                span: _,
+            } => {}
+            Type::Borrow(_, _) => {}
+            Type::Stream(_, _) => {}
+            Type::Future(_, _) => {}
+            Type::ErrorContext(_) => {}
+            Type::Ident(_) => {}
+        }
+    }
+}
+
 /// A name with its type: `ID: TYPE`.
 #[derive(Debug, Drop)]
 pub struct NamedType<'a> {
@@ -86,7 +120,7 @@ pub struct FuncType<'a> {
 }
 
 /// What a function returns.
-#[derive(Debug, Drop)]
+#[derive(Debug)]
 pub enum ResultList<'a> {
     /// Nothing.
     Empty,
@@ -94,13 +128,33 @@ pub enum ResultList<'a> {
     Scalar(Type<'a>),
 }
 
+// It takes the value apart: where one is held at a `?`, a derived drop is proved there part by part.
+impl Drop for ResultList<'_> {
+    fn drop(self) {
+        match self {
+            ResultList::Empty => {}
+            ResultList::Scalar(_) => {}
+        }
+    }
+}
+
 /// A function type, or the name of one.
-#[derive(Debug, Drop)]
+#[derive(Debug)]
 pub enum FuncTypeRef<'a> {
     /// A function type.
     Func(FuncType<'a>),
     /// The name of a function type.
     Ident(Ident<'a>),
+}
+
+// It takes the value apart: where one is held at a `?`, a derived drop is proved there part by part.
+impl Drop for FuncTypeRef<'_> {
+    fn drop(self) {
+        match self {
+            FuncTypeRef::Func(_) => {}
+            FuncTypeRef::Ident(_) => {}
+        }
+    }
 }
 
 impl<'a> Type<'a> {

@@ -41,7 +41,7 @@ impl fmt::Debug for WorldDecl<'_> {
 }
 
 /// An item of a world.
-#[derive(Debug, Drop)]
+#[derive(Debug)]
 pub enum WorldItem<'a> {
     /// Types of an interface or another world.
     Use(Use<'a>),
@@ -53,6 +53,19 @@ pub enum WorldItem<'a> {
     Export(WorldExport<'a>),
     /// The items of another world.
     Include(WorldInclude<'a>),
+}
+
+// It takes the value apart: where one is held at a `?`, a derived drop is proved there part by part.
+impl Drop for WorldItem<'_> {
+    fn drop(self) {
+        match self {
+            WorldItem::Use(_) => {}
+            WorldItem::Ty(_) => {}
+            WorldItem::Import(_) => {}
+            WorldItem::Export(_) => {}
+            WorldItem::Include(_) => {}
+        }
+    }
 }
 
 /// An item `import PATH;`.
@@ -74,7 +87,7 @@ pub struct WorldExport<'a> {
 }
 
 /// What a world imports or exports.
-#[derive(Debug, Drop)]
+#[derive(Debug)]
 pub enum WorldItemPath<'a> {
     /// An item under a name.
     Named(NamedWorldItem<'a>),
@@ -82,6 +95,17 @@ pub enum WorldItemPath<'a> {
     Package(PackagePath<'a>),
     /// An interface of the document.
     Ident(Ident<'a>),
+}
+
+// It takes the value apart: where one is held at a `?`, a derived drop is proved there part by part.
+impl Drop for WorldItemPath<'_> {
+    fn drop(self) {
+        match self {
+            WorldItemPath::Named(_) => {}
+            WorldItemPath::Package(_) => {}
+            WorldItemPath::Ident(_) => {}
+        }
+    }
 }
 
 /// An item `ID: TYPE` of a world.
@@ -94,7 +118,7 @@ pub struct NamedWorldItem<'a> {
 }
 
 /// The type of an item of a world.
-#[derive(Debug, Drop)]
+#[derive(Debug)]
 pub enum ExternType<'a> {
     /// A type of the document.
     Ident(Ident<'a>),
@@ -102,6 +126,17 @@ pub enum ExternType<'a> {
     Func(FuncType<'a>),
     /// An interface.
     Interface(InlineInterface<'a>),
+}
+
+// It takes the value apart: where one is held at a `?`, a derived drop is proved there part by part.
+impl Drop for ExternType<'_> {
+    fn drop(self) {
+        match self {
+            ExternType::Ident(_) => {}
+            ExternType::Func(_) => {}
+            ExternType::Interface(_) => {}
+        }
+    }
 }
 
 /// An item `include WORLD [with { ITEMS }];`.
@@ -116,12 +151,22 @@ pub struct WorldInclude<'a> {
 }
 
 /// A world of the document or of a package.
-#[derive(Debug, Drop)]
+#[derive(Debug)]
 pub enum WorldRef<'a> {
     /// A world of the document.
     Ident(Ident<'a>),
     /// A world of a package.
     Package(PackagePath<'a>),
+}
+
+// It takes the value apart: where one is held at a `?`, a derived drop is proved there part by part.
+impl Drop for WorldRef<'_> {
+    fn drop(self) {
+        match self {
+            WorldRef::Ident(_) => {}
+            WorldRef::Package(_) => {}
+        }
+    }
 }
 
 /// A name that changes: `ID as ID`.
