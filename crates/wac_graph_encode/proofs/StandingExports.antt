@@ -22,7 +22,7 @@ use Rattle.wac_graph_core.specs.GraphWiring as wired
 use Rattle.wac_graph_core.proofs.WiringLaws.{once}
 use Rattle.wac_graph_scopes.specs.declared.imports.SortIndex.{SortIndex}
 use Rattle.wac_graph_encode.specs.declared.root.Counts.{Counts}
-use Rattle.wac_graph_encode.specs.Encoding.{written_tree}
+use Rattle.wac_graph_asks.specs.Wirings.{written_tree}
 use Rattle.wac_graph_encode.specs.Standing.{by_number, spelled, Denotes, StandsAt, IsExported, IsWritten, IsFinished}
 use Rattle.wac_graph_encode.specs.Writing.{AllStand, IsExportOf, AddsExports, exported_as}
 use Rattle.wac_graph_encode.proofs.WritingLaws.{names_among}

@@ -29,7 +29,7 @@ use Rattle.wac_graph_scopes.specs.declared.imports.SortIndex.{SortIndex}
 use Rattle.wac_graph_encode.specs.declared.root.Counts.{Counts}
 use Rattle.wac_graph_encode.specs.Standing.{spelled, number_in, by_number, Denotes, IsInstanceOf, StandsAt, IsOuterAt, IsWritten, IsGivenAt, argument, outer}
 use Rattle.wac_graph_encode.specs.Writing.{AreGivenAt}
-use Rattle.wac_graph_encode.specs.Encoding.{written_tree}
+use Rattle.wac_graph_asks.specs.Wirings.{written_tree}
 
 -- ---- values under one list of names
 

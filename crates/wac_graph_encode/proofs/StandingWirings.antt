@@ -20,7 +20,7 @@ use Rattle.wac_graph_core.proofs.Found.{eq_same}
 use Rattle.wac_types_base.proofs.Replacing.{same_number}
 use Rattle.wac_types_base.proofs.Looked.{among-get}
 use Rattle.wac_graph_core.proofs.WiringLaws.{once, same_instance}
-use Rattle.wac_graph_encode.specs.Encoding.{written_tree}
+use Rattle.wac_graph_asks.specs.Wirings.{written_tree}
 use Rattle.wac_graph_encode.specs.Standing.{number_in, by_number, spelled, Denotes, IsListed, IsExported, IsFinished}
 use Rattle.wac_graph_encode.proofs.StandingNumbers.{later}
 

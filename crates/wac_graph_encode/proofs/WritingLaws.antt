@@ -18,8 +18,8 @@ use Rattle.wac_graph_bytes.specs.Entries.{Argument}
 use Rattle.wac_types_base.specs.Tree.{Tree}
 use Rattle.wac_graph_bytes.specs.Typing.{Worlds}
 use Rattle.wac_graph_core.specs.Nodes.{NodeData}
-use Rattle.wac_graph_encode.specs.Graphs.{nodes_of}
-use Rattle.wac_graph_encode.proofs.Origins.{node_among}
+use Rattle.wac_graph_asks.specs.Graphs.{nodes_of}
+use Rattle.wac_graph_asks.proofs.Origins.{node_among}
 use Rattle.wac_graph_core.specs.Edges.{HasAlias, IsRank, alias_edge, argument_edge}
 use Rattle.wac_graph_core.specs.Graph.{Graph, ContainsNode, node_at}
 use Rattle.wac_graph_core.specs.contracts.ids.NodeIdPartialEq.TheImpl as node
@@ -29,7 +29,7 @@ use Rattle.wac_graph_scopes.specs.declared.imports.SortIndex.{SortIndex}
 use Rattle.wac_graph_scopes.specs.declared.imports.Called.{Called}
 use Rattle.wac_graph_encode.specs.declared.instances.Wired.{Wired}
 use Rattle.wac_graph_encode.specs.declared.instances.Standing.{Standing}
-use Rattle.wac_graph_encode.specs.Reads.{AreArguments}
+use Rattle.wac_graph_asks.specs.Reads.{AreArguments}
 use Rattle.wac_graph_encode.specs.Standing.{IsGivenAt, argument, outer}
 use Rattle.wac_graph_encode.specs.Writing.{IsNeeded, AddsCalled, AreCalled, AddsEntry, AddsExport, AddsExports, AddsGiven, AddsNeeded, IsExportOf, exported_as, GivesUnder, by_node, by_import, AreGivenUnder, AreGivenAt, IsSameRoot, KeepsNodes, AddsOnly, AllStand, Below, UpToOne, WrittenSo, noted}
 use Rattle.wac_graph_encode.proofs.Entries.{same_node, found_among, none_among}

@@ -27,7 +27,7 @@ use Rattle.wac_graph_encode.specs.declared.root.Counts.{Counts}
 use Rattle.wac_graph_encode.specs.declared.root.Root.{Root}
 use Rattle.wac_graph_encode.specs.declared.instances.Wired.{Wired}
 use Rattle.wac_graph_encode.specs.declared.instances.Standing.{Standing}
-use Rattle.wac_graph_encode.specs.Reads.{AreArguments, import_name_of, package_id_of}
+use Rattle.wac_graph_asks.specs.Reads.{AreArguments, import_name_of, package_id_of}
 use Rattle.wac_graph_encode.specs.Standing.{IsOuterAt, IsWritten}
 use Rattle.wac_graph_encode.specs.Writing.{AddsIndex, AreCalled, IsBegun, AreGivenAt, AreGivenUnder, IsAliasAt, PassesAll, WrittenSo, WrittenWith, noted}
 use Rattle.wac_graph_encode.proofs.WritingLaws.{all_given}

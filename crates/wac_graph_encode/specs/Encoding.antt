@@ -24,20 +24,9 @@ use Rattle.wac_types_written.specs.Written.{written_definition}
 use Rattle.wac_composition.specs.Conflicts.{Cause, first_cause, name_cause, dependency_name}
 use Rattle.wac_composition.specs.Worlds.{composed_world}
 use Rattle.wac_composition.specs.Outlines.{IsSketched}
-use Rattle.wac_graph_encode.specs.Graphs.{composition_of}
+use Rattle.wac_graph_asks.specs.Graphs.{composition_of}
 
 -- ---- the wiring of a graph, as its bytes have it
-
--- what an outer import asks
-abbrev pub asked_trees : Graph → Name → Option Tree
-asked_trees g n = option_map tree (value_at (outer_imports (asks_of (composition_of g))) n)
-
-abbrev pub written_tree : Graph → ItemKind → Tree
-written_tree g k = tree (written_definition (stated_of g.types k))
-
--- the wiring in which packages are nested
-abbrev pub IsGraphWiring : Graph → Wiring ℕ → Type 0
-IsGraphWiring g W = IsWiring (spelling (asks_of (composition_of g))) (written_tree g) g (asked_trees g) W
 
 -- the name under which a package is imported in place of being nested
 abbrev pub dependency_tag : Option Packaged → Tag → Tag

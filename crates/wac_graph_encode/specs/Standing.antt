@@ -27,8 +27,9 @@ use Rattle.wac_graph_scopes.specs.declared.imports.SortIndex.{SortIndex}
 use Rattle.wac_composition.specs.Asks.{asks_of}
 use Rattle.wac_composition.specs.Classes.{spelling}
 use Rattle.wac_graph_encode.specs.declared.root.Counts.{Counts}
-use Rattle.wac_graph_encode.specs.Graphs.{composition_of}
-use Rattle.wac_graph_encode.specs.Encoding.{written_tree, tag_of}
+use Rattle.wac_graph_asks.specs.Graphs.{composition_of}
+use Rattle.wac_graph_asks.specs.Wirings.{written_tree}
+use Rattle.wac_graph_encode.specs.Encoding.{tag_of}
 
 -- the sort of an item; a value has none
 abbrev pub sort_of : ItemKind → Option Sort

@@ -18,7 +18,7 @@ use Rattle.wac_graph_core.specs.declared.ids.PackageId.{PackageId}
 use Rattle.wac_graph_core.specs.Graph.{Graph, ContainsNode, IsOfKind, node_at, package_of}
 use Rattle.wac_graph_scopes.specs.Parts.{imports_of}
 use Rattle.wac_types_names.specs.Packaged.{Packaged}
-use Rattle.wac_graph_encode.specs.Reads.{AreArguments, package_id_of}
+use Rattle.wac_graph_asks.specs.Reads.{AreArguments, package_id_of}
 use Rattle.wac_graph_scopes.specs.declared.imports.SortIndex.{SortIndex}
 use Rattle.wac_graph_encode.specs.declared.root.Root.{Root}
 use Rattle.wac_graph_scopes.specs.declared.imports.Called.{Called}

@@ -1,13 +1,13 @@
 //! Why a composition cannot be written: the first cause in order.
 
-use crate::asks::{Ask, Asked, Asking, Definition};
+use wac_graph_asks::asks::{Ask, Asked, Asking, Definition};
 use crate::errors::{Refusal, ValidationFault};
 use crate::holder::Holder;
-use crate::maps::insert_under;
-use crate::nodes::{kind_of, package_at, package_of};
+use wac_graph_asks::maps::insert_under;
+use wac_graph_asks::nodes::{kind_of, package_at, package_of};
 use crate::options::EncodeOptions;
-use crate::outers::Outers;
-use crate::unnamed::Unnamed;
+use wac_graph_asks::outers::Outers;
+use wac_graph_asks::unnamed::Unnamed;
 use crate::writable::{Test, is_unwritable_definition, is_unwritable_package, unwritable_outer};
 use semver::Version;
 use std::alloc::{AllocError, Global};

@@ -5,12 +5,12 @@ ghost use Rattle.wac_types_base.specs.declared.item.ItemKind.{ItemKind};
 ghost use Rattle.wac_types_base.specs.Collection.{Stands};
 ghost use Rattle.wac_graph_encode.specs.Acyclic.{IsNoCycle};
 
-use crate::asks::{Asked, Definition, asked_by};
+use wac_graph_asks::asks::{Asked, Definition, asked_by};
 use crate::conflicts::{check_implicit, check_names, check_writable};
 use crate::errors::{EncodeError, Refusal, error_of};
 use crate::instances::Wired;
 use crate::options::{EncodeOptions, Encoded};
-use crate::outers::{Outers, outers_of};
+use wac_graph_asks::outers::{Outers, outers_of};
 use crate::root::{Writing, write_root};
 use crate::world::composed_world;
 use std::alloc::{AllocError, Global};

@@ -5,6 +5,7 @@ ghost use Rattle.wac_graph_encode.specs.Acyclic.{IsNoCycle};
 use std::alloc::{AllocError, AllocFailed, Global};
 use std::fmt;
 use thiserror::Error;
+use wac_graph_asks::OuterError;
 use wac_graph_bytes::SizeError;
 use wac_graph_core::NodeId;
 use wac_graph_scopes::fault::WriteError;
@@ -195,6 +196,35 @@ impl From<AllocError> for Refusal {
 impl<T: Drop> From<AllocFailed<T>> for Refusal {
     fn from(_e: AllocFailed<T>) -> Self {
         Refusal::Memory
+    }
+}
+
+impl From<OuterError> for Refusal {
+    fn from(e: OuterError) -> Self {
+        match e {
+            OuterError::ExplicitImportConflict {
+                name,
+                first,
+                second,
+            } => Refusal::ExplicitImportConflict {
+                name,
+                first,
+                second,
+            },
+            OuterError::ImportTypeMergeConflict {
+                import,
+                first,
+                second,
+                source,
+            } => Refusal::ImportTypeMergeConflict {
+                import,
+                first,
+                second,
+                source,
+            },
+            OuterError::TooLarge => Refusal::TooLarge,
+            OuterError::Memory => Refusal::Memory,
+        }
     }
 }
 

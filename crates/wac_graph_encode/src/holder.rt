@@ -1,6 +1,6 @@
 //! What stands directly in an interface, in a component type or at the root.
 
-use crate::maps::insert_under;
+use wac_graph_asks::maps::insert_under;
 use indexmap::IndexMap;
 use std::alloc::{AllocError, Global};
 use wac_graph_scopes::fits_in;

@@ -6,14 +6,14 @@ ghost use Rattle.wac_types_base.specs.Graph.{Among};
 ghost use Rattle.wac_graph_bytes.specs.Views.{arguments_view};
 ghost use Rattle.wac_graph_core.specs.Graph.{IsOfKind};
 ghost use Rattle.wac_graph_scopes.specs.Parts.{imports_of};
-ghost use Rattle.wac_graph_encode.specs.Reads.{AreArguments};
+ghost use Rattle.wac_graph_asks.specs.Reads.{AreArguments};
 ghost use Rattle.wac_graph_encode.specs.Standing.{sort_of};
 ghost use Rattle.wac_graph_encode.specs.Writing.{Finishes, AddsArgument, AddsCalled, AddsEntry, AddsExport, AddsExports, AddsGiven, AddsNeeded, AddsOnly, AllStand, AreCalled, AreGivenIn, Below, GivesUnder, IfYes, IsAliasAt, IsSameRoot, KeepsNodes, KeepsWritten, PassesAll, UpTo, UpToOne, WritesInstance, WritesNode, exported_as, noted};
 
 use crate::errors::Refusal;
 use crate::labels::names_of_nodes;
-use crate::maps::insert_under;
-use crate::nodes::{Arguments, import_name, kind_of, package_of, world_at};
+use wac_graph_asks::maps::insert_under;
+use wac_graph_asks::nodes::{Arguments, import_name, kind_of, package_of, world_at};
 use crate::root::{Root, push_entry};
 use indexmap::IndexMap;
 use std::alloc::{AllocError, Global};

@@ -1,6 +1,6 @@
 //! The names of nodes, for debuggers.
 
-use crate::nodes::node_at;
+use wac_graph_asks::nodes::node_at;
 use indexmap::{IndexMap, IndexSet};
 use std::alloc::{AllocError, Global};
 use wac_graph_bytes::{IndexName, Sort, SortNames};

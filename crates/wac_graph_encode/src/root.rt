@@ -14,10 +14,10 @@ ghost use Rattle.wac_graph_encode.specs.Rooting.{AddsRead, ReadsAtRoot, TakesSco
 ghost use Rattle.wac_graph_encode.specs.Beginning.{Begins};
 ghost use Rattle.wac_graph_encode.specs.Nesting.{NestsAll, NestsBehind, NestsIfDefined, NestsOne, bytes_of};
 
-use crate::asks::Definition;
+use wac_graph_asks::asks::Definition;
 use crate::conflicts::dependency_name;
 use crate::errors::{Refusal, not_written};
-use crate::nodes::package_at;
+use wac_graph_asks::nodes::package_at;
 use crate::options::EncodeOptions;
 use indexmap::IndexMap;
 use std::alloc::{AllocError, Global};

@@ -1,9 +1,9 @@
 //! The form in which worlds are handed out.
 
-use crate::copies::{
+use wac_graph_asks::copies::{
     add_interface, add_world, bare_interface, bare_world, copy_text, copy_use, filled,
 };
-use crate::maps::insert_under;
+use wac_graph_asks::maps::insert_under;
 use indexmap::{IndexMap, IndexSet};
 use std::alloc::{AllocError, Global};
 use wac_graph_scopes::parts::{

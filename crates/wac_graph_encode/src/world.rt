@@ -4,12 +4,12 @@ ghost use Rattle.std.specs.Prelude.{IfOk, IfSome};
 ghost use Rattle.wac_types_base.specs.declared.item.ItemKind.{ItemKind};
 ghost use Rattle.wac_types_base.specs.Collection.{Stands, Grows};
 
-use crate::asks::{Asked, Definition};
-use crate::copies::{add_world, bare_world, filled};
+use wac_graph_asks::asks::{Asked, Definition};
+use wac_graph_asks::copies::{add_world, bare_world, filled};
 use crate::copying::Copies;
-use crate::maps::insert_under;
-use crate::nodes::{import_name, kind_of};
-use crate::outers::Outers;
+use wac_graph_asks::maps::insert_under;
+use wac_graph_asks::nodes::{import_name, kind_of};
+use wac_graph_asks::outers::Outers;
 use crate::without_uses::without_uses;
 use indexmap::IndexMap;
 use std::alloc::{AllocError, Global};

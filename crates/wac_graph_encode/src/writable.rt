@@ -2,7 +2,7 @@
 
 use crate::holder::{Holder, is_same_item};
 use crate::modules::is_writable_module;
-use crate::unnamed::Unnamed;
+use wac_graph_asks::unnamed::Unnamed;
 use indexmap::IndexSet;
 use std::alloc::{AllocError, Global};
 use wac_graph_scopes::parts::{

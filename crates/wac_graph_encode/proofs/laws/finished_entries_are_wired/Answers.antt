@@ -1,4 +1,4 @@
-use Rattle.wac_graph_encode.specs.Encoding.{asked_trees}
+use Rattle.wac_graph_asks.specs.Wirings.{asked_trees}
 use Rattle.wac_graph_encode.proofs.StandingWirings.{nested_wiring}
 use Rattle.wac_graph_encode.proofs.laws.finished_entries_are_wired.Goals as goal
 

@@ -1,0 +1,43 @@
+-- Asks that are listed once have the classes of all.
+use Rattle.std.proofs.Common.{List, [], ◌∷◌, ◌++◌, refl, subst, ◌∙◌, inl, inr, append_assoc}
+use Rattle.wac_types_base.specs.Graph.{Among}
+use Rattle.wac_types_base.proofs.Adding.{Among-left, Among-right}
+use Rattle.wac_composition.specs.Asks.{Ask}
+use Rattle.wac_composition.specs.Again.{IsWell, KeepsClasses}
+use Rattle.wac_composition.proofs.AskedAgain.{asked_again}
+use Rattle.wac_composition.proofs.Clashing.{among_append}
+use Rattle.wac_graph_asks.specs.Asked.{IsAskedBehind, no_more, asked, left_out, Asked_once_keeps}
+
+module _ {A : Type 0} where
+  keeps_itself : (xs : List (Ask A)) → KeepsClasses xs xs
+  keeps_itself xs = record { classes = λ c d m n. (λ h. h, λ h. h); kept = λ c m. refl; spelled = λ n. refl }
+
+  keeps_then : (xs ys zs : List (Ask A)) → ((c : Ask A) → Among c xs → Among c ys) → KeepsClasses xs ys → KeepsClasses ys zs → KeepsClasses xs zs
+  keeps_then xs ys zs inside p q = record {
+    classes = λ c d m n. (
+      λ h. (p.classes c d m n).0 ((q.classes c d (inside c m) (inside d n)).0 h),
+      λ h. (q.classes c d (inside c m) (inside d n)).1 ((p.classes c d m n).1 h),
+    );
+    kept = λ c m. q.kept c (inside c m) ∙ p.kept c m;
+    spelled = λ n. q.spelled n ∙ p.spelled n;
+  }
+
+  listed_among : {before asks list : List (Ask A)} → IsAskedBehind before asks list → (c : Ask A) → Among c list → Among c asks
+  listed_among no_more c m = absurd m
+  listed_among (asked a h) c (inl s) = inl s
+  listed_among (asked a h) c (inr m) = inr (listed_among h c m)
+  listed_among (left_out a b e n i h) c m = inr (listed_among h c m)
+
+  keeps_behind : {before asks list : List (Ask A)} → IsAskedBehind before asks list → ((a : Ask A) → Among a (before ++ list) → IsWell a.item) → KeepsClasses (before ++ list) (before ++ asks)
+  keeps_behind {before} no_more well = keeps_itself (before ++ [])
+  keeps_behind {before} (asked {asks = asks} {list = list} a h) well =
+      subst (λ l. KeepsClasses l (before ++ a ∷ asks)) (append_assoc before (a ∷ []) list)
+      (subst (λ l. KeepsClasses ((before ++ a ∷ []) ++ list) l) (append_assoc before (a ∷ []) asks)
+      (keeps_behind h (λ x m. well x (subst (λ l. Among x l) (append_assoc before (a ∷ []) list) m))))
+  keeps_behind {before} (left_out {asks = asks} {list = list} a b e n i h) well =
+      keeps_then (before ++ list) (before ++ asks) (before ++ a ∷ asks)
+      (λ c m. elim (among_append before list c m) [ inl k ↦ Among-left c before asks k | inr k ↦ Among-right c before asks (listed_among h c k) ])
+      (keeps_behind h well) (asked_again before asks a b e n i (λ c k. well c (Among-left c before list k)))
+
+  pub asked_once_keeps : Asked_once_keeps A
+  asked_once_keeps asks list h well = keeps_behind h well

@@ -1,0 +1,12 @@
+use Rattle.std.proofs.Common.{[]}
+use Rattle.std.specs.FinMap as finite
+use Rattle.wac_graph_asks.specs.AskedNodes.{instance_asks, instance_ids}
+use Rattle.wac_graph_asks.proofs.Asking.{AddsUpTo}
+use Rattle.wac_graph_asks.proofs.asks.ask_instances.Given as goal
+
+-- what the nodes so far ask is added
+abbrev pub invariant-loop-node : goal.invariant-loop-node
+invariant-loop-node l =
+    (goal.iterator-loop-node).can_next l.node-iterator ×
+    (goal.iterator-loop-node).is_finite l.node-iterator ×
+    AddsUpTo l.graph (instance_asks l.graph) (instance_ids l.graph) (λ k. []) (finite.keys l.graph.nodes) l.initial.asked l.node-iterator l.asked

@@ -1,0 +1,12 @@
+pub mod Graphs
+pub mod Wirings
+pub mod Composed
+pub mod AsksIn
+pub mod Joining
+pub mod Words
+pub mod Classed
+pub mod Named
+pub mod Reads
+pub mod Asked
+pub mod AskedNodes
+pub mod AskedUses

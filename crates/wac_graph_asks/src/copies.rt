@@ -1,0 +1,71 @@
+//! Copies of the parts of interfaces and worlds.
+
+use std::alloc::{AllocError, Global};
+use wac_types_base::{
+    Interface, InterfaceId, ItemKind, NamedMap, Text, Types, UsedType, World, WorldId,
+};
+
+/// The value, if what was to be added to it was added; it is dropped here alone.
+pub fn filled<T: Drop>(value: T, added: Result<(), AllocError>) -> Result<T, AllocError> {
+    added?;
+    Ok(value)
+}
+
+/// The same text again, if there is one.
+pub fn copy_text(text: &Option<Text>) -> Result<Option<Text>, AllocError> {
+    match text {
+        None => Ok(None),
+        Some(text) => {
+            let copy = text.copy()?;
+            Ok(Some(copy))
+        }
+    }
+}
+
+/// The same use again, of that interface.
+pub fn copy_use(used: &UsedType, interface: InterfaceId) -> Result<UsedType, AllocError> {
+    let name = copy_text(&used.name)?;
+    Ok(UsedType { interface, name })
+}
+
+/// An interface of that identifier, in which nothing stands.
+pub fn bare_interface(alloc: Global, id: Option<Text>) -> Interface {
+    Interface {
+        id,
+        uses: NamedMap::new(alloc),
+        exports: NamedMap::new(alloc),
+    }
+}
+
+/// A world of that identifier, in which nothing stands.
+pub fn bare_world(alloc: Global, id: Option<Text>) -> World {
+    World {
+        id,
+        uses: NamedMap::new(alloc),
+        imports: NamedMap::new(alloc),
+        exports: NamedMap::new(alloc),
+    }
+}
+
+/// Adds an interface, if all that it names stands.
+pub fn add_interface(
+    types: &mut Types,
+    interface: Interface,
+) -> Result<Option<InterfaceId>, AllocError> {
+    if !types.has_ids_of(&interface) {
+        drop(interface);
+        return Ok(None);
+    }
+    let id = types.add_interface(interface)?;
+    Ok(Some(id))
+}
+
+/// Adds a world, if all that it names stands.
+pub fn add_world(types: &mut Types, world: World) -> Result<Option<WorldId>, AllocError> {
+    if !types.has_ids_of(&world) {
+        drop(world);
+        return Ok(None);
+    }
+    let id = types.add_world(world)?;
+    Ok(Some(id))
+}

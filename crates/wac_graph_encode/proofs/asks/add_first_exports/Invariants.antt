@@ -1,7 +1,0 @@
-use Rattle.std.proofs.Common.{drop}
-use Rattle.wac_graph_encode.proofs.FirstNames.{GetsFirst}
-use Rattle.wac_graph_encode.proofs.asks.add_first_exports.Given as goal
-
--- a node without name gets the first of those that are left
-abbrev pub invariant-loop-name : goal.invariant-loop-name
-invariant-loop-name l = GetsFirst l.names.entries (drop l.name-index l.graph.exports) l.graph.exports

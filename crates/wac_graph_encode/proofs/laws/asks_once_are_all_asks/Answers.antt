@@ -1,5 +1,0 @@
-use Rattle.wac_graph_encode.proofs.Once.{asked_once_keeps}
-use Rattle.wac_graph_encode.proofs.laws.asks_once_are_all_asks.Goals as goal
-
-pub returns : goal.returns
-returns c s = asked_once_keeps

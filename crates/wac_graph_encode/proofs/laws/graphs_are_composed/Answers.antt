@@ -1,5 +1,0 @@
-use Rattle.wac_graph_encode.proofs.Origins.{graphs_are_composed}
-use Rattle.wac_graph_encode.proofs.laws.graphs_are_composed.Goals as goal
-
-pub returns : goal.returns
-returns c = graphs_are_composed
