@@ -10,7 +10,7 @@ use Rattle.wac_types_base.specs.Graph.{Among}
 use Rattle.wac_graph_core.specs.declared.edge.Edge.{Edge}
 use Rattle.wac_graph_core.specs.declared.edge.Label.{Label}
 use Rattle.wac_graph_core.specs.declared.edge.Follow.{Follow}
-use Rattle.wac_graph_core.specs.Nodes.{NodeData, defined_node}
+use Rattle.wac_graph_core.specs.Nodes.{NodeData, IsResource, defined_node}
 use Rattle.wac_graph_core.specs.NodeMaps.{NodeMap, NoDefinition, IsDefinition, AreThose}
 use Rattle.wac_graph_core.specs.Edges.{alias_edge, argument_edge, dependency_edge, follows, has}
 use Rattle.wac_graph_core.specs.Graph.{Graph, node_at, NodeStands, EdgeStands, AreExports, IsGraph}
@@ -77,11 +77,11 @@ module _ (g : Graph) (es : List Edge) (k : ℕ) (t : TypeKind) (name : Name) (fr
         ];
       }
 
-  pub IsGraph-defined : Stands g.types (ItemKind.Ty t) → NoDefinition g.nodes (ItemKind.Ty t) → IsGraph g → IsGraph (record g { nodes = map.insert g.nodes k (defined_node t name); edges = es; exports = g.exports ++ (name, k) ∷ [] })
-  IsGraph-defined stands none is =
+  pub IsGraph-defined : Stands g.types (ItemKind.Ty t) → NoDefinition g.nodes (ItemKind.Ty t) → (IsResource t → ⊥) → IsGraph g → IsGraph (record g { nodes = map.insert g.nodes k (defined_node t name); edges = es; exports = g.exports ++ (name, k) ∷ [] })
+  IsGraph-defined stands none named is =
       record {
         nodes = each_node (NodeStands g.types g.places) g.nodes k (defined_node t name)
-            (record { item = stands; of = λ id e. absurd (cc (e)); made = λ r. absurd (cc (r)); only = λ id e. absurd (cc (e)); instance = λ id p e at. absurd (cc (e)) }) is.nodes;
+            (record { item = stands; of = λ id e. absurd (cc (e)); made = λ r. absurd (cc (r)); only = λ id e. absurd (cc (e)); defined = λ r. record { type = t; is = refl; no_resource = named }; instance = λ id p e at. absurd (cc (e)) }) is.nodes;
         once = AreOnce-insert g.nodes k (defined_node t name) (λ x r. absurd (cc (r))) (λ r. none) is.once;
         acyclic = IsAcyclic-by g.edges es old_followed is.acyclic;
         keyed = AreKeyed-by g.edges es (λ i j n at. old_followed (alias_edge i j n) at refl) (λ i a n at. old_followed (argument_edge a i n) at refl) is.keyed;
@@ -223,7 +223,7 @@ module _ (g : Graph) (k : ℕ) (t : TypeKind) (name : Name) (free : node_at g k 
   defined_by ns xs own nodes exports may stands is =
       subst (λ ns. IsGraph (record g { nodes = ns; edges = es; exports = xs })) (sym nodes)
       (subst (λ ys. IsGraph (record g { nodes = m; edges = es; exports = ys })) (sym exports)
-      (IsGraph-defined g es k t name free may.unexported only_edges keeps_edges stands may.definable.0 is))
+      (IsGraph-defined g es k t name free may.unexported only_edges keeps_edges stands may.definable.0 may.definable.1 is))
 
 -- the items of a graph stand
 pub items_stand : (g : Graph) → IsGraph g → ItemsStand g.types g.nodes

@@ -162,6 +162,7 @@ NodeStands-kept c d ps qs x y stand keeps role of item is =
       of = λ id e. subst IsSome (sym (keeps id (of ∙ e) (is.of id (of ∙ e)))) (is.of id (of ∙ e));
       made = λ r. subst IsSome of (is.made (role ∙ r));
       only = λ id e. sym role ∙ is.only id (of ∙ e);
+      defined = λ r. let d = is.defined (role ∙ r) in record { type = d.type; is = sym item ∙ d.is; no_resource = d.no_resource };
       instance = λ id p e at. sym item ∙ is.instance id p (of ∙ e) (sym (keeps id (of ∙ e) (is.of id (of ∙ e))) ∙ at);
     }
 
@@ -240,7 +241,7 @@ module _ (g : Graph) (es : List Edge) (i k : ℕ) (n : Name) (item : ItemKind) (
       let there : ContainsNode g i = subst IsSome (sym given.there) refl in
       record {
         nodes = each_node (NodeStands g.types g.places) g.nodes k (plain_node Role.Aliased None item)
-            (record { item = stands; of = λ id e. absurd (cc (e)); made = λ r. absurd (cc (r)); only = λ id e. absurd (cc (e)); instance = λ id p e at. absurd (cc (e)) }) is.nodes;
+            (record { item = stands; of = λ id e. absurd (cc (e)); made = λ r. absurd (cc (r)); only = λ id e. absurd (cc (e)); defined = λ r. absurd (cc (r)); instance = λ id p e at. absurd (cc (e)) }) is.nodes;
         once = AreOnce-insert g.nodes k (plain_node Role.Aliased None item) (λ x r. absurd (cc (r))) (λ r. absurd (cc (r))) is.once;
         acyclic = IsAcyclic-leaf g.edges es (alias_edge i k n) adds
             (λ d at. (none_here d.from (is.wired.edges d at).from, none_here d.to (is.wired.edges d at).to)) (none_here i there) is.acyclic;
@@ -370,7 +371,7 @@ IsGraph-grown g c grows is =
 pub IsGraph-import : (g : Graph) (k : ℕ) (name : Name) (kind : ItemKind) → node_at g k ≡ None → Stands g.types kind → NoImport g.nodes name → IsGraph g → IsGraph (with_node g k (plain_node (Role.Imported name) None kind))
 IsGraph-import g k name kind free stands none is =
     IsGraph-new_node g k (plain_node (Role.Imported name) None kind) free
-    (record { item = stands; of = λ id e. absurd (cc (e)); made = λ r. absurd (cc (r)); only = λ id e. absurd (cc (e)); instance = λ id p e at. absurd (cc (e)) })
+    (record { item = stands; of = λ id e. absurd (cc (e)); made = λ r. absurd (cc (r)); only = λ id e. absurd (cc (e)); defined = λ r. absurd (cc (r)); instance = λ id p e at. absurd (cc (e)) })
     (λ r. absurd (cc (r))) (λ x r. subst (NoImport g.nodes) (same_import x r) none) (λ r. absurd (cc (r))) refl is
   where
     same_import : (x : Name) → Role.Imported name ≡ Role.Imported x → name ≡ x
@@ -380,7 +381,7 @@ IsGraph-import g k name kind free stands none is =
 pub IsGraph-instance : (g : Graph) (k : ℕ) (id : PackageId) (p : Packaged) → node_at g k ≡ None → package_of g id ≡ Some p → IsGraph g → IsGraph (with_node g k (plain_node Role.Instance (Some id) (ItemKind.Instance p.instance_type)))
 IsGraph-instance g k id p free at is =
     IsGraph-new_node g k (plain_node Role.Instance (Some id) (ItemKind.Instance p.instance_type)) free
-    (record { item = (is.packages.stand id p at).instance; of = λ j e. subst (λ j. IsSome (package_in g.places j)) (same_package j e) (subst IsSome (sym at) refl); made = λ r. refl; only = λ j e. refl; instance = same_instance })
+    (record { item = (is.packages.stand id p at).instance; of = λ j e. subst (λ j. IsSome (package_in g.places j)) (same_package j e) (subst IsSome (sym at) refl); made = λ r. refl; only = λ j e. refl; defined = λ r. absurd (cc (r)); instance = same_instance })
     (λ r. absurd (cc (r))) (λ x r. absurd (cc (r))) (λ r. absurd (cc (r))) refl is
   where
     same_package : (j : PackageId) → Some id ≡ Some j → id ≡ j

@@ -2,7 +2,6 @@
 use Rattle.std.specs.Prelude.{◌≡◌, ◌≢◌, ◌<◌, ◌⊎◌, ℕ, List, [], ◌∷◌, ◌++◌, Some, None, string_bytes}
 use Rattle.std.specs.FinMap as map
 use Rattle.wac_types_base.specs.declared.ids.DefinedTypeId.{DefinedTypeId}
-use Rattle.wac_types_base.specs.declared.ids.ResourceId.{ResourceId}
 use Rattle.wac_types_base.specs.declared.item.ItemKind.{ItemKind}
 use Rattle.wac_types_base.specs.declared.item.«Type».{«Type» as TypeKind}
 use Rattle.wac_types_base.specs.Record.{Collection}
@@ -12,15 +11,12 @@ use Rattle.wac_types_base.specs.Graph.{Among}
 use Rattle.wac_types_base.specs.Visiting.{defined_in}
 use Rattle.wac_graph_core.specs.declared.edge.Edge.{Edge}
 use Rattle.wac_graph_core.specs.declared.errors.DefineTypeError.{DefineTypeError}
-use Rattle.wac_graph_core.specs.Nodes.{NodeData, Role, defined_node}
+use Rattle.wac_graph_core.specs.Nodes.{NodeData, Role, IsResource, defined_node}
 use Rattle.wac_graph_core.specs.NodeMaps.{NodeMap, IsDefinition, NoDefinition}
 use Rattle.wac_graph_core.specs.Edges.{AreEdges, dependency_edge}
 use Rattle.wac_graph_core.specs.Graph.{Graph, node_at}
 use Rattle.wac_graph_core.specs.Steps.{IsExternName}
 use Rattle.wac_graph_core.specs.Reaching.{Reaches, Marked}
-
-abbrev pub IsResource : TypeKind → Type 0
-IsResource t = (r : ResourceId) × (t ≡ TypeKind.Resource r)
 
 -- the second is a defined type, and the first reaches it
 pub record UsesType (c : Collection) (s t : TypeKind) : Type 0 where

@@ -19,7 +19,7 @@ use Rattle.wac_graph_core.specs.declared.ids.PackageId.{PackageId}
 use Rattle.wac_graph_core.specs.declared.edge.Edge.{Edge}
 use Rattle.wac_graph_core.specs.declared.edge.Label.{Label}
 use Rattle.wac_graph_core.specs.declared.package.Place.{Place}
-use Rattle.wac_graph_core.specs.Nodes.{NodeData, Role}
+use Rattle.wac_graph_core.specs.Nodes.{NodeData, Role, IsDefinedType}
 use Rattle.wac_graph_core.specs.NodeMaps.{NodeMap, AreOnce}
 use Rattle.wac_graph_core.specs.Edges.{IsAcyclic, AreKeyed, HasAlias}
 
@@ -135,6 +135,7 @@ pub record NodeStands (c : Collection) (ps : List Place) (n : NodeData) : Type 0
   pub of : (id : PackageId) → n.of ≡ Some id → IsSome (package_in ps id)
   pub made : n.role ≡ Role.Instance → IsSome n.of
   pub only : (id : PackageId) → n.of ≡ Some id → n.role ≡ Role.Instance
+  pub defined : n.role ≡ Role.Defined → IsDefinedType n.item_kind
   pub instance : (id : PackageId) (p : Packaged) → n.of ≡ Some id → package_in ps id ≡ Some p → n.item_kind ≡ ItemKind.Instance p.instance_type
 
 -- the one node is an instance, and its export of this name is the other's item, by their stated types

@@ -1,5 +1,6 @@
 -- What contracts see of a node.
-use Rattle.std.specs.Prelude.{Option, Some, None, string_bytes}
+use Rattle.std.specs.Prelude.{◌≡◌, Option, Some, None, string_bytes}
+use Rattle.wac_types_base.specs.declared.ids.ResourceId.{ResourceId}
 use Rattle.wac_types_base.specs.declared.item.ItemKind.{ItemKind}
 use Rattle.wac_types_base.specs.declared.item.«Type».{«Type» as TypeKind}
 use Rattle.wac_types_base.specs.Entries.{Name}
@@ -32,6 +33,15 @@ role_of NodeKind.Alias = Aliased
 abbrev pub imported_as : Role → Option Name
 imported_as (Imported n) = Some n
 imported_as r = None
+
+abbrev pub IsResource : TypeKind → Type 0
+IsResource t = (r : ResourceId) × (t ≡ TypeKind.Resource r)
+
+-- what can be defined: a type that is no resource
+pub record IsDefinedType (k : ItemKind) : Type 0 where
+  pub type : TypeKind
+  pub is : k ≡ ItemKind.Ty type
+  pub no_resource : IsResource type → ⊥
 
 -- a node without names
 abbrev pub plain_node : Role → Option PackageId → ItemKind → NodeData

@@ -6,7 +6,8 @@ ghost use Rattle.wac_types_base.specs.Graph.{Among};
 ghost use Rattle.wac_types_base.specs.Collection.{Stands};
 ghost use Rattle.wac_graph_core.specs.Edges.{AreEdges, dependency_edge, has};
 ghost use Rattle.wac_graph_core.specs.NodeMaps.{IsDefinition, NoDefinition, AreThose};
-ghost use Rattle.wac_graph_core.specs.Defining.{IsResource, IsUserOf, MayDefine, DefinesType, DefineRefused};
+ghost use Rattle.wac_graph_core.specs.Nodes.{IsResource};
+ghost use Rattle.wac_graph_core.specs.Defining.{IsUserOf, MayDefine, DefinesType, DefineRefused};
 
 use crate::edge::{Edge, Label};
 use crate::edges::Edges;

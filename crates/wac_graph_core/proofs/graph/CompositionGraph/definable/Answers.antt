@@ -1,6 +1,6 @@
 use Rattle.std.proofs.Common.{sym}
 use Rattle.wac_graph_core.specs.Steps.{IsExternName}
-use Rattle.wac_graph_core.specs.Defining.{IsResource}
+use Rattle.wac_graph_core.specs.Nodes.{IsResource}
 use Rattle.wac_graph_core.proofs.Calls.{refuted}
 use Rattle.wac_graph_core.proofs.graph.CompositionGraph.definable.Goals as goal
 
