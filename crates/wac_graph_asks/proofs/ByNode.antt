@@ -11,7 +11,6 @@ use Rattle.std.proofs.Common.{◌≡◌, ℕ, Bool, true, false, true≢false, c
 use Rattle.std.proofs.lemmas.List.Elements.{filter-append}
 use Rattle.wac_types_base.specs.Graph.{Among}
 use Rattle.wac_types_base.specs.Stated.{kind_of}
-use Rattle.wac_types_written.specs.Written.{is_type}
 use Rattle.wac_types_base.proofs.Replacing.{same_number}
 use Rattle.wac_graph_core.proofs.NodeMap.{tied}
 use Rattle.wac_graph_core.specs.Nodes.{NodeData}
@@ -20,7 +19,7 @@ use Rattle.wac_composition.specs.Composition.{Placed, Made}
 use Rattle.wac_composition.specs.Asks.{explicit_ask, filled_asks}
 use Rattle.wac_graph_asks.specs.Graphs.{nodes_of, import_by, made_with, definition_by, composition_of}
 use Rattle.wac_graph_asks.specs.Reads.{package_id_of}
-use Rattle.wac_graph_asks.specs.Asked.{package_ids, types_among}
+use Rattle.wac_graph_asks.specs.Asked.{package_ids}
 use Rattle.wac_graph_asks.specs.AskedNodes.{filled_by, imported_at, made_at, defined_at, import_asks, instance_asks, instance_ids, definitions_at}
 
 -- ---- an entry is found under its key
@@ -83,10 +82,6 @@ module _ {X Y : Type 0} (p : X → Option Y) where
       go None ih = ih
       go (Some y) ih = ap (λ l. y ∷ l) ih
 
-filtered_each : {X Y : Type 0} (p : Y → Bool) (f : X → List Y) (xs : List X) → flat_map (λ x. filter p (f x)) xs ≡ filter p (flat_map f xs)
-filtered_each p f [] = refl
-filtered_each p f (x ∷ xs) = ap (λ l. filter p (f x) ++ l) (filtered_each p f xs) ∙ sym (filter-append p (f x) (flat_map f xs))
-
 module _ (g : Graph) where
   -- ---- what all nodes ask and define is what the composition does
 
@@ -110,11 +105,8 @@ module _ (g : Graph) where
   pub ids_are : flat_map (instance_ids g) (finite.keys g.nodes) ≡ package_ids g
   ids_are = by_keys (λ k o. option_to_list (package_id_of o)) g.nodes ∙ listed_options (λ e. e.1.of) (nodes_of g)
 
-  pub definitions_are : flat_map (definitions_at g) (finite.keys g.nodes) ≡ types_among (composition_of g).definitions
-  definitions_are =
-      by_keys (λ k o. types_among (option_to_list (defined_at g k o))) g.nodes
-      ∙ filtered_each (λ (d : Placed ℕ). is_type (kind_of d.item)) (λ e. option_to_list (definition_by g e.0 e.1 e.1.role)) (nodes_of g)
-      ∙ ap types_among (listed_options (λ e. definition_by g e.0 e.1 e.1.role) (nodes_of g))
+  pub definitions_are : flat_map (definitions_at g) (finite.keys g.nodes) ≡ (composition_of g).definitions
+  definitions_are = by_keys (λ k o. option_to_list (defined_at g k o)) g.nodes ∙ listed_options (λ e. definition_by g e.0 e.1 e.1.role) (nodes_of g)
 
 -- nothing from each is nothing
 pub flat_nothing : {X Y : Type 0} (f : X → List Y) → ((x : X) → f x ≡ []) → (xs : List X) → flat_map f xs ≡ []

@@ -11,7 +11,6 @@ use Rattle.wac_types_base.specs.Graph.{Among}
 use Rattle.wac_types_base.specs.Collection.{Stands, IsAcyclic, Grows}
 use Rattle.wac_types_base.specs.Stated.{Stated, Kind, IsInterface, IsWorld, stated_in, stated_of, kind_of, identifier_of}
 use Rattle.wac_types_base.proofs.Telling.{item_kind}
-use Rattle.wac_types_written.specs.Written.{is_type}
 use Rattle.wac_graph_core.specs.Graph.{Graph}
 use Rattle.wac_composition.specs.Composition.{Placed}
 use Rattle.wac_composition.specs.Asks.{Ask, used_by_kind, used_by_definition, asked_for, named_asks, asks_of}
@@ -20,7 +19,7 @@ use Rattle.wac_graph_asks.specs.declared.asks.Definition.{Definition}
 use Rattle.wac_graph_asks.specs.declared.asks.Asked.{Asked}
 use Rattle.wac_graph_asks.specs.Graphs.{composition_of}
 use Rattle.wac_graph_asks.specs.AsksIn.{asks_in}
-use Rattle.wac_graph_asks.specs.Asked.{IsAskedBehind, package_ids, with_ids, placed_in, types_among, uses_others, HasCopy, IsHeld, Adds, IsAsked}
+use Rattle.wac_graph_asks.specs.Asked.{IsAskedBehind, package_ids, with_ids, placed_in, uses_others, HasCopy, IsHeld, Adds, IsAsked}
 use Rattle.wac_graph_asks.specs.AskedUses.{uses_of_asks, uses_of_copy, uses_of_copies, CopiesStand, AreUses}
 use Rattle.wac_graph_asks.proofs.Asking.{adds_asks}
 use Rattle.wac_graph_asks.proofs.Repeating.{behind_then, behind_same, behind_more}
@@ -29,21 +28,6 @@ use Rattle.wac_graph_asks.proofs.Using.{other_definition_uses}
 -- what a definition asks for what it uses
 abbrev uses_of : Placed ℕ → List (Ask ℕ)
 uses_of d = asked_for d.by (used_by_definition d.item)
-
--- ---- a definition that is no type uses nothing
-
-nothing_used : (k : Kind) (n : Option Name) (x : Stated) → is_type k ≡ false → used_by_kind k n x ≡ []
-nothing_used IsInterface n x e = absurd (true≢false e)
-nothing_used IsWorld n x e = absurd (true≢false e)
-nothing_used k n x e = refl
-
-types_use : (ds : List (Placed ℕ)) → flat_map uses_of (types_among ds) ≡ flat_map uses_of ds
-types_use [] = refl
-types_use (d ∷ ds) = go (is_type (kind_of d.item)) refl (types_use ds)
-  where
-    go : (b : Bool) → is_type (kind_of d.item) ≡ b → flat_map uses_of (types_among ds) ≡ flat_map uses_of ds → flat_map uses_of (cond b (d ∷ types_among ds) (types_among ds)) ≡ uses_of d ++ flat_map uses_of ds
-    go true e ih = ap (λ l. uses_of d ++ l) ih
-    go false e ih = ih ∙ sym (ap (λ xs. asked_for d.by xs ++ flat_map uses_of ds) (nothing_used (kind_of d.item) (identifier_of d.item) d.item e))
 
 -- ---- copies use what the definitions use
 
@@ -96,13 +80,13 @@ module _ (g : Graph) where
   }
 
   module _ (finite_types : IsAcyclic g.types) (a b d : Asked) (no_asks : a.asks.items ≡ []) (no_packages : a.packages.entries ≡ []) (no_definitions : a.definitions.items ≡ [])
-      (adds : Adds g a b (named_asks (composition_of g)) (package_ids g) (types_among (composition_of g).definitions)) (uses : List HeldAsk) (are : AreUses b uses)
+      (adds : Adds g a b (named_asks (composition_of g)) (package_ids g) ((composition_of g).definitions)) (uses : List HeldAsk) (are : AreUses b uses)
       (same : d.types ≡ b.types) (grows : Grows b.types d.types) (behind : d.asks.items ≡ b.asks.items ++ uses) (same_packages : d.packages.entries ≡ b.packages.entries) (same_definitions : d.definitions.items ≡ b.definitions.items) where
     named : asks_in b.types b.asks.items ≡ named_asks (composition_of g)
     named = adds.asked ∙ ap (λ l. asks_in a.types l ++ named_asks (composition_of g)) no_asks
 
-    definitions : map (placed_in g.types) b.definitions.items ≡ types_among (composition_of g).definitions
-    definitions = adds.definitions ∙ ap (λ l. map (placed_in g.types) l ++ types_among (composition_of g).definitions) no_definitions
+    definitions : map (placed_in g.types) b.definitions.items ≡ (composition_of g).definitions
+    definitions = adds.definitions ∙ ap (λ l. map (placed_in g.types) l ++ (composition_of g).definitions) no_definitions
 
     last : Adds g b d (asks_in d.types uses) [] []
     last = adds_asks g b d adds.held grows uses (λ x m. subst (λ c. Stands c x.item) (sym same) (are.stand x m)) behind same_packages same_definitions
@@ -112,7 +96,7 @@ module _ (g : Graph) where
     all_uses =
         ap (λ l. uses_of_asks l ++ uses_of_copies b.types b.definitions.items) named
         ∙ ap (λ l. uses_of_asks (named_asks (composition_of g)) ++ l)
-        (copies_use g.types b.types finite_types b.definitions.items adds.held.copies ∙ ap (flat_map uses_of) definitions ∙ types_use (composition_of g).definitions)
+        (copies_use g.types b.types finite_types b.definitions.items adds.held.copies ∙ ap (flat_map uses_of) definitions)
 
     once : IsAskedBehind [] (asks_of (composition_of g)) (named_asks (composition_of g) ++ asks_in d.types uses)
     once =

@@ -14,11 +14,10 @@ use Rattle.wac_types_base.specs.Collection.{Stands, IsAcyclic, Grows}
 use Rattle.wac_types_base.specs.Copying.{IsCopy}
 use Rattle.wac_types_base.specs.Stated.{IsComponent, stated_in, stated_of, kind_of}
 use Rattle.wac_types_base.proofs.Telling.{item_kind, kind_stated}
-use Rattle.wac_types_written.specs.Written.{is_type}
 use Rattle.wac_types_names.specs.Packaged.{Packaged}
 use Rattle.wac_graph_core.specs.declared.ids.PackageId.{PackageId}
 use Rattle.wac_graph_core.specs.contracts.ids.PackageIdPartialEq.TheImpl.{eq-value}
-use Rattle.wac_graph_core.specs.Nodes.{NodeData, Role, imported_as}
+use Rattle.wac_graph_core.specs.Nodes.{NodeData, Role, IsDefinedType, imported_as}
 use Rattle.wac_graph_core.specs.Graph.{Graph, IsGraph, node_at, package_of, package_if}
 use Rattle.wac_graph_scopes.specs.Parts.{imports_of}
 use Rattle.wac_composition.specs.Composition.{Placed}
@@ -29,7 +28,7 @@ use Rattle.wac_graph_asks.specs.declared.asks.Asked.{Asked}
 use Rattle.wac_graph_asks.specs.Graphs.{import_by, made_with, definition_by, first_export}
 use Rattle.wac_graph_asks.specs.Reads.{import_name_of, package_id_of, is_defined, is_definition, AreArguments}
 use Rattle.wac_graph_asks.specs.AsksIn.{asks_in}
-use Rattle.wac_graph_asks.specs.Asked.{IsWorldOf, types_among, HasCopy, IsHeld, Adds}
+use Rattle.wac_graph_asks.specs.Asked.{IsWorldOf, HasCopy, IsHeld, Adds}
 use Rattle.wac_graph_asks.specs.AskedNodes.{filled_by, unbound_asks, imported_at, made_at, defined_at, import_asks, instance_asks, instance_ids, definitions_at}
 use Rattle.wac_graph_asks.proofs.Filling.{instance_filled, filled_stands}
 use Rattle.wac_graph_asks.proofs.Asking.{adds_nothing, adds_then, adds_as, adds_asks, adds_definition, adds_package, adds_known_package}
@@ -81,24 +80,6 @@ not_world (ItemKind.Value r) h e = absurd (cc e)
 pub world_copied : (c d : Collection) → IsAcyclic c → IsAcyclic d → (w : WorldId) (k : ItemKind) → Stands c (ItemKind.Component w) → IsCopy c d (ItemKind.Component w) k → ((x : WorldId) → k ≡ ItemKind.Component x → ⊥) → ⊥
 world_copied c d a b w k stands copy h =
     not_world k h (sym (kind_stated d b k copy.stands) ∙ ap (λ o. kind_of (stated_in o)) copy.same ∙ kind_stated c a (ItemKind.Component w) stands)
-
--- ---- types
-
-type_is : (t : TypeKind) → is_type (item_kind (ItemKind.Ty t)) ≡ true
-type_is (TypeKind.Resource r) = refl
-type_is (TypeKind.Func r) = refl
-type_is (TypeKind.Value r) = refl
-type_is (TypeKind.Interface r) = refl
-type_is (TypeKind.World r) = refl
-type_is (TypeKind.Module r) = refl
-
-no_type_is : (k : ItemKind) → ((t : TypeKind) → k ≡ ItemKind.Ty t → ⊥) → is_type (item_kind k) ≡ false
-no_type_is (ItemKind.Ty t) h = absurd (h t refl)
-no_type_is (ItemKind.Func r) h = refl
-no_type_is (ItemKind.Instance r) h = refl
-no_type_is (ItemKind.Component r) h = refl
-no_type_is (ItemKind.Module r) h = refl
-no_type_is (ItemKind.Value r) h = refl
 
 module _ (g : Graph) where
   -- ---- an import
@@ -206,7 +187,7 @@ module _ (g : Graph) where
 
   -- ---- a definition
 
-  module _ (finite_types : IsAcyclic g.types) (k : ℕ) (kind : ItemKind) (defined : is_definition (node_at g k) ≡ true) (of_kind : Some kind ≡ option_map (λ x. x.item_kind) (node_at g k)) (stands : Stands g.types kind) where
+  module _ (k : ℕ) (kind : ItemKind) (defined : is_definition (node_at g k) ≡ true) (of_kind : Some kind ≡ option_map (λ x. x.item_kind) (node_at g k)) where
     placed : Placed ℕ
     placed = record { by = k; name = first_export g.exports k; item = stated_of g.types kind }
 
@@ -224,39 +205,39 @@ module _ (g : Graph) where
         by_node None e f = absurd (true≢false (sym e))
         by_node (Some x) e f = by_role x x.role e f
 
-    kind_is : kind_of (stated_of g.types kind) ≡ item_kind kind
-    kind_is = kind_stated g.types finite_types kind stands
+    pub is_defined_type : IsGraph g → IsDefinedType kind
+    is_defined_type sound = by_node (node_at g k) refl defined of_kind
+      where
+        by_role : (x : NodeData) → node_at g k ≡ Some x → (r : Role) → x.role ≡ r → is_defined r ≡ true → IsDefinedType x.item_kind
+        by_role x at Role.Defined r e = (sound.nodes k x at).defined r
+        by_role x at (Role.Imported n) r e = absurd (true≢false (sym e))
+        by_role x at Role.Instance r e = absurd (true≢false (sym e))
+        by_role x at Role.Aliased r e = absurd (true≢false (sym e))
 
-    pub type_placed : (t : TypeKind) → kind ≡ ItemKind.Ty t → record { by = k; name = first_export g.exports k; item = stated_of g.types kind } ∷ [] ≡ definitions_at g k
-    unfolding placed
-    type_placed t is =
-        sym (ap (λ b. cond b (placed ∷ []) []) (ap is_type (kind_is ∙ ap item_kind is) ∙ type_is t)) ∙ ap (λ o. types_among (option_to_list o)) defined_is
+        by_node : (o : Option NodeData) → node_at g k ≡ o → is_definition o ≡ true → Some kind ≡ option_map (λ x. x.item_kind) o → IsDefinedType kind
+        by_node None at e f = absurd (true≢false (sym e))
+        by_node (Some x) at e f = subst IsDefinedType (sym (same_Some _ _ f)) (by_role x at x.role refl e)
 
-    none_placed : ((t : TypeKind) → kind ≡ ItemKind.Ty t → ⊥) → [] ≡ definitions_at g k
-    unfolding placed
-    none_placed h =
-        sym (ap (λ b. cond b (placed ∷ []) []) (ap is_type kind_is ∙ no_type_is kind h)) ∙ ap (λ o. types_among (option_to_list o)) defined_is
-
-    pub no_type_added : (a : Asked) → IsHeld g a → ((t : TypeKind) → kind ≡ ItemKind.Ty t → ⊥) → Adds g a a [] [] (definitions_at g k)
-    no_type_added a h none = adds_as g a a (adds_nothing g a h) refl refl (none_placed none)
+    pub no_other_kind : IsGraph g → ((t : TypeKind) → kind ≡ ItemKind.Ty t → ⊥) → ⊥
+    no_other_kind sound none = let d = is_defined_type sound in none d.type d.is
 
     pub definition_added : (a b : Asked) → IsHeld g a → Grows a.types b.types → (t : TypeKind) → kind ≡ ItemKind.Ty t → (n : Name) → n ≡ first_export g.exports k → (copy : Option ItemKind) → HasCopy g.types b.types t copy
         → b.definitions.items ≡ a.definitions.items ++ record { node = k; name = n; ty = t; copy = copy } ∷ [] → b.asks.items ≡ a.asks.items → b.packages.entries ≡ a.packages.entries → Adds g a b [] [] (definitions_at g k)
     definition_added a b h grows t is n named copy has items same_asks same_packages =
         adds_as g a b (adds_definition g a b h grows (record { node = k; name = n; ty = t; copy = copy }) has items same_asks same_packages) refl refl
         (ap (λ m. record { by = k; name = m; item = stated_of g.types (ItemKind.Ty t) } ∷ []) named
-        ∙ ap (λ j. record { by = k; name = first_export g.exports k; item = stated_of g.types j } ∷ []) (sym is) ∙ type_placed t is)
+        ∙ ap (λ j. record { by = k; name = first_export g.exports k; item = stated_of g.types j } ∷ []) (sym is) ∙ ap option_to_list defined_is)
 
   pub no_node_added : (a : Asked) → IsHeld g a → (k : ℕ) → is_definition (node_at g k) ≡ false → Adds g a a [] [] (definitions_at g k)
   no_node_added a h k none = adds_as g a a (adds_nothing g a h) refl refl (by_node (node_at g k) none)
     where
-      by_role : (x : NodeData) (r : Role) → is_defined r ≡ false → [] ≡ types_among (option_to_list (definition_by g k x r))
+      by_role : (x : NodeData) (r : Role) → is_defined r ≡ false → [] ≡ option_to_list (definition_by g k x r)
       by_role x Role.Defined e = absurd (true≢false e)
       by_role x (Role.Imported n) e = refl
       by_role x Role.Instance e = refl
       by_role x Role.Aliased e = refl
 
-      by_node : (o : Option NodeData) → is_definition o ≡ false → [] ≡ types_among (option_to_list (defined_at g k o))
+      by_node : (o : Option NodeData) → is_definition o ≡ false → [] ≡ option_to_list (defined_at g k o)
       by_node None e = refl
       by_node (Some x) e = by_role x x.role e
 

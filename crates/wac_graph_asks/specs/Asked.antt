@@ -1,5 +1,5 @@
 -- What a graph asks and defines as it is held, and when that is what its composition asks and defines.
-use Rattle.std.specs.Prelude.{◌≡◌, ℕ, List, [], ◌∷◌, ◌++◌, map, Bool, true, false, Option, Some, None, fold, filter, filter_map, if◌then◌else◌}
+use Rattle.std.specs.Prelude.{◌≡◌, ℕ, List, [], ◌∷◌, ◌++◌, map, Bool, true, false, Option, Some, None, fold, filter_map, if◌then◌else◌}
 use Rattle.std.specs.List.{list_any}
 use Rattle.std.specs.Map.{keys_of}
 use Rattle.wac_types_base.specs.declared.ids.WorldId.{WorldId}
@@ -9,8 +9,7 @@ use Rattle.wac_types_base.specs.Record.{Collection}
 use Rattle.wac_types_base.specs.Graph.{Among}
 use Rattle.wac_types_base.specs.Collection.{Stands, IsAcyclic, Grows}
 use Rattle.wac_types_base.specs.Copying.{IsCopy}
-use Rattle.wac_types_base.specs.Stated.{kind_of, stated_of}
-use Rattle.wac_types_written.specs.Written.{is_type}
+use Rattle.wac_types_base.specs.Stated.{stated_of}
 use Rattle.wac_types_names.specs.Packaged.{Packaged}
 use Rattle.wac_graph_core.specs.declared.ids.PackageId.{PackageId}
 use Rattle.wac_graph_core.specs.contracts.ids.PackageIdPartialEq.TheImpl.{eq-value}
@@ -63,10 +62,6 @@ pub record IsWorldOf (g : Graph) (c : Collection) (id : PackageId) (w : WorldId)
 abbrev pub placed_in : Collection → Definition → Placed ℕ
 placed_in c d = record { by = d.node; name = d.name; item = stated_of c (ItemKind.Ty d.ty) }
 
--- those whose item is a type
-abbrev pub types_among : List (Placed ℕ) → List (Placed ℕ)
-types_among ds = filter (λ d. is_type (kind_of d.item)) ds
-
 -- interfaces and worlds
 abbrev pub uses_others : TypeKind → Bool
 uses_others (TypeKind.Interface i) = true
@@ -96,12 +91,11 @@ pub record Adds (g : Graph) (old new : Asked) (asks : List (Ask ℕ)) (ids : Lis
   pub definitions : map (placed_in g.types) new.definitions.items ≡ map (placed_in g.types) old.definitions.items ++ placed
 
 -- The asks by name and those that instances leave are those of the composition, in order, and behind them stand those of used
--- interfaces. The packages that are instantiated stand each once, and the definitions are the composition's (of a graph no clause
--- says that what is defined is a type; what is none is left out).
+-- interfaces. The packages that are instantiated stand each once, and the definitions are the composition's.
 pub record IsAsked (g : Graph) (a : Asked) : Type 0 where
   pub held : IsHeld g a
   pub uses : List (Ask ℕ)
   pub asks : asks_in a.types a.asks.items ≡ named_asks (composition_of g) ++ uses
   pub once : IsAskedOnce (asks_of (composition_of g)) (named_asks (composition_of g) ++ uses)
   pub packages : keys_of a.packages.entries ≡ with_ids [] (package_ids g)
-  pub definitions : map (placed_in g.types) a.definitions.items ≡ types_among (composition_of g).definitions
+  pub definitions : map (placed_in g.types) a.definitions.items ≡ (composition_of g).definitions

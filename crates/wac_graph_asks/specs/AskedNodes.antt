@@ -16,7 +16,7 @@ use Rattle.wac_graph_asks.specs.declared.asks.Ask.{Ask as HeldAsk}
 use Rattle.wac_graph_asks.specs.declared.asks.Asked.{Asked}
 use Rattle.wac_graph_asks.specs.Graphs.{import_by, made_with, definition_by, first_export, composition_of}
 use Rattle.wac_graph_asks.specs.Reads.{package_id_of}
-use Rattle.wac_graph_asks.specs.Asked.{package_ids, IsWorldOf, types_among, Adds}
+use Rattle.wac_graph_asks.specs.Asked.{package_ids, IsWorldOf, Adds}
 
 -- an ask as it is held
 abbrev pub held_ask : HeldAsking → ℕ → Name → ItemKind → HeldAsk
@@ -50,12 +50,12 @@ module _ (g : Graph) where
   abbrev pub instances_ask : List (Ask ℕ)
   instances_ask = flat_map filled_asks (composition_of g).made
 
-  abbrev pub types_defined : List (Placed ℕ)
-  types_defined = types_among (composition_of g).definitions
+  abbrev pub all_defined : List (Placed ℕ)
+  all_defined = (composition_of g).definitions
 
   -- all that the nodes ask and define is added
   abbrev pub AddsNodes : (old new : Asked) → Type 0
-  AddsNodes old new = Adds g old new (imports_ask ++ instances_ask) (package_ids g) types_defined
+  AddsNodes old new = Adds g old new (imports_ask ++ instances_ask) (package_ids g) all_defined
 
   -- what a node asks by name
   abbrev pub import_asks : ℕ → List (Ask ℕ)
@@ -74,7 +74,7 @@ module _ (g : Graph) where
 
   -- what it defines
   abbrev pub definitions_at : ℕ → List (Placed ℕ)
-  definitions_at k = types_among (option_to_list (defined_at k (node_at g k)))
+  definitions_at k = option_to_list (defined_at k (node_at g k))
 
   -- the package's world has a copy; there is none where the package does not stand
   abbrev pub CopiesWorld : (old new : Asked) → PackageId → Option WorldId → Type 0

@@ -11,7 +11,7 @@ ghost use Rattle.wac_graph_asks.specs.Graphs.{first_export};
 ghost use Rattle.wac_graph_asks.specs.Reads.{is_definition};
 ghost use Rattle.wac_graph_asks.specs.AsksIn.{asks_in};
 ghost use Rattle.wac_graph_asks.specs.Asked.{package_ids, HasCopy, IsHeld, Adds, IsAsked};
-ghost use Rattle.wac_graph_asks.specs.AskedNodes.{held_ask, unbound_asks, imports_ask, instances_ask, types_defined};
+ghost use Rattle.wac_graph_asks.specs.AskedNodes.{held_ask, unbound_asks, imports_ask, instances_ask, all_defined};
 ghost use Rattle.wac_graph_asks.specs.AskedNodes.{import_asks, definitions_at, AsksInstance, CopiesWorld, AddsNodes};
 ghost use Rattle.wac_graph_asks.specs.AskedNodes.{NamesFirst, AreFirstNames, name_in};
 ghost use Rattle.wac_graph_asks.specs.AskedUses.{NotesUse, AskedBelow, AllSeenAsked, AddsUses, AreUses};
@@ -264,7 +264,7 @@ impl Asked {
         requires name { name.now ≡ first_export graph.now.exports node }
         ensures { OnOk result (Adds graph.now self.old self.new [] [] (definitions_at graph.now node)) }
     {
-        graph.types().see_acyclic();
+        graph.see_sound();
         let Some(kind) = kind_of(graph, node) else {
             return Ok(());
         };
@@ -586,7 +586,7 @@ fn define_all(
 ) -> Result<(), AllocError>
     requires names { AreFirstNames graph.now names.now.entries }
     requires held { IsHeld graph.now asked.old }
-    ensures { OnOk result (Adds graph.now asked.old asked.new [] [] (types_defined graph.now)) }
+    ensures { OnOk result (Adds graph.now asked.old asked.new [] [] (all_defined graph.now)) }
 {
     for node in graph.node_ids() {
         define_node(alloc, graph, names, asked, node)?;
@@ -601,7 +601,7 @@ fn ask_definitions(
     asked: &mut Asked,
 ) -> Result<(), AllocError>
     requires { IsHeld graph.now asked.old }
-    ensures { OnOk result (Adds graph.now asked.old asked.new [] [] (types_defined graph.now)) }
+    ensures { OnOk result (Adds graph.now asked.old asked.new [] [] (all_defined graph.now)) }
 {
     let mut names = IndexMap::new(alloc);
     add_first_exports(graph, &mut names)?;

@@ -16,7 +16,7 @@ ghost use Rattle.wac_graph_asks.specs.Classed.{AreLabels, AreSpellings};
 ghost use Rattle.wac_graph_asks.specs.Named.{text_in, words_in, all_words, AddsNames, AreBefore, FirstsBefore, JoinsAsk, JoinsNames, LabelsNames, SpellsNames};
 
 use crate::asks::Ask;
-use crate::maps::insert_under;
+use wac_writable::maps::insert_under;
 use semver::Version;
 use std::alloc::{AllocError, Global};
 use std::cmp::Ordering;

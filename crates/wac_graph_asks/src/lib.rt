@@ -6,10 +6,8 @@ pub mod classes;
 pub mod copies;
 pub mod faults;
 mod laws;
-pub mod maps;
 pub mod nodes;
 pub mod outers;
-pub mod unnamed;
 
 pub use faults::OuterError;
 pub use laws::{asks_once_are_all_asks, first_name_of_a_definition, graphs_are_composed};

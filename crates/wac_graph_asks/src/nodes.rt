@@ -8,7 +8,7 @@ ghost use Rattle.wac_types_base.specs.Entries.{AreDistinct, names_of, value_at, 
 ghost use Rattle.wac_graph_core.specs.Graph.{node_at, package_of};
 ghost use Rattle.wac_graph_asks.specs.Reads.{import_name_of, package_id_of, AreArguments};
 
-use crate::maps::insert_under;
+use wac_writable::maps::insert_under;
 use std::alloc::{AllocError, Global};
 use std::marker::Model;
 use wac_graph_core::{CompositionGraph, Node, NodeId, PackageId};

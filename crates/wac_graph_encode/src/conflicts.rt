@@ -2,13 +2,13 @@
 
 use wac_graph_asks::asks::{Ask, Asked, Asking, Definition};
 use crate::errors::{Refusal, ValidationFault};
-use crate::holder::Holder;
-use wac_graph_asks::maps::insert_under;
+use wac_writable::holder::Holder;
+use wac_writable::maps::insert_under;
 use wac_graph_asks::nodes::{kind_of, package_at, package_of};
 use crate::options::EncodeOptions;
 use wac_graph_asks::outers::Outers;
-use wac_graph_asks::unnamed::Unnamed;
-use crate::writable::{Test, is_unwritable_definition, is_unwritable_package, unwritable_outer};
+use wac_writable::unnamed::Unnamed;
+use wac_writable::writable::{Test, is_unwritable_definition, is_unwritable_package, unwritable_outer};
 use semver::Version;
 use std::alloc::{AllocError, Global};
 use wac_graph_core::{CompositionGraph, NodeId, PackageId};

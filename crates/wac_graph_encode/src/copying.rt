@@ -2,7 +2,7 @@
 
 ghost use Rattle.wac_types_base.specs.Collection.{Stands};
 
-use wac_graph_asks::maps::insert_under;
+use wac_writable::maps::insert_under;
 use indexmap::IndexMap;
 use std::alloc::{AllocError, Global};
 use wac_types_base::copy::copy_item;

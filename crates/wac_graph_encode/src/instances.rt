@@ -12,7 +12,7 @@ ghost use Rattle.wac_graph_encode.specs.Writing.{Finishes, AddsArgument, AddsCal
 
 use crate::errors::Refusal;
 use crate::labels::names_of_nodes;
-use wac_graph_asks::maps::insert_under;
+use wac_writable::maps::insert_under;
 use wac_graph_asks::nodes::{Arguments, import_name, kind_of, package_of, world_at};
 use crate::root::{Root, push_entry};
 use indexmap::IndexMap;

@@ -5,16 +5,13 @@ mod conflicts;
 mod copying;
 pub mod encode;
 pub mod errors;
-mod holder;
 mod instances;
 mod labels;
 mod laws;
-mod modules;
 pub mod options;
 mod root;
 mod without_uses;
 mod world;
-mod writable;
 
 pub use encode::EncodeGraph;
 pub use errors::{EncodeError, ValidationFault};

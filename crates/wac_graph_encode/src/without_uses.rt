@@ -3,7 +3,7 @@
 use wac_graph_asks::copies::{
     add_interface, add_world, bare_interface, bare_world, copy_text, copy_use, filled,
 };
-use wac_graph_asks::maps::insert_under;
+use wac_writable::maps::insert_under;
 use indexmap::{IndexMap, IndexSet};
 use std::alloc::{AllocError, Global};
 use wac_graph_scopes::parts::{

@@ -7,7 +7,7 @@ ghost use Rattle.wac_types_base.specs.Collection.{Stands, Grows};
 use wac_graph_asks::asks::{Asked, Definition};
 use wac_graph_asks::copies::{add_world, bare_world, filled};
 use crate::copying::Copies;
-use wac_graph_asks::maps::insert_under;
+use wac_writable::maps::insert_under;
 use wac_graph_asks::nodes::{import_name, kind_of};
 use wac_graph_asks::outers::Outers;
 use crate::without_uses::without_uses;

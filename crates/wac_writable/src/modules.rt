@@ -36,7 +36,7 @@ fn is_writable_item(item: &CoreExtern) -> bool {
 }
 
 /// Whether each item of a module type can be written.
-pub(crate) fn is_writable_module(module: &ModuleType) -> bool {
+pub fn is_writable_module(module: &ModuleType) -> bool {
     for item in module.imports.values() {
         if !is_writable_item(item) {
             return false;

@@ -1,7 +1,7 @@
 use Rattle.std.proofs.Common.{◌+◌, ◌-◌, ◌*◌, length}
 use Rattle.wac_types_base.specs.declared.item.ItemKind.{ItemKind}
 use Rattle.wac_types_base.specs.Collection.{size_of, slots_of}
-use Rattle.wac_graph_encode.proofs.writable.+values.Given as goal
+use Rattle.wac_writable.proofs.writable.+values.Given as goal
 
 abbrev pub decreases-value_fails : goal.decreases-value_fails
 decreases-value_fails l = 4 * size_of l.test.types.now (ItemKind.Value l.ty) + 3

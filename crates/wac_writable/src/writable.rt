@@ -2,7 +2,7 @@
 
 use crate::holder::{Holder, is_same_item};
 use crate::modules::is_writable_module;
-use wac_graph_asks::unnamed::Unnamed;
+use crate::unnamed::Unnamed;
 use indexmap::IndexSet;
 use std::alloc::{AllocError, Global};
 use wac_graph_scopes::parts::{
@@ -16,7 +16,7 @@ use wac_types_base::{
 
 /// A test of types: which interfaces use one without identifier, and whether the types stand in an outer import.
 #[derive(Clone, Copy)]
-pub(crate) struct Test<'a> {
+pub struct Test<'a> {
     pub alloc: Global,
     pub types: &'a Types,
     pub unnamed: &'a Unnamed,
@@ -485,7 +485,7 @@ fn first_that_fails(
 }
 
 /// The first outer import whose type cannot be written: its place.
-pub(crate) fn unwritable_outer(
+pub fn unwritable_outer(
     test: Test<'_>,
     world: WorldId,
 ) -> Result<Option<usize>, AllocError> {
@@ -522,7 +522,7 @@ fn wrapped_interface(types: &Types, kind: ItemKind) -> Option<InterfaceId> {
 }
 
 /// Whether a definition cannot be written, beside the outer imports that stand in a holder.
-pub(crate) fn is_unwritable_definition(
+pub fn is_unwritable_definition(
     test: Test<'_>,
     outers: &mut Holder,
     item: Item<'_>,
@@ -534,6 +534,6 @@ pub(crate) fn is_unwritable_definition(
 }
 
 /// Whether a package's world cannot be written as the type of an import.
-pub(crate) fn is_unwritable_package(test: Test<'_>, world: WorldId) -> Result<bool, AllocError> {
+pub fn is_unwritable_package(test: Test<'_>, world: WorldId) -> Result<bool, AllocError> {
     world_fails(test, world)
 }

@@ -1,6 +1,6 @@
 //! What stands directly in an interface, in a component type or at the root.
 
-use wac_graph_asks::maps::insert_under;
+use crate::maps::insert_under;
 use indexmap::IndexMap;
 use std::alloc::{AllocError, Global};
 use wac_graph_scopes::fits_in;
@@ -12,7 +12,7 @@ use wac_types_base::{DefinedTypeId, InterfaceId, ItemKind, NamedMap, Names, Type
 
 /// Used items under the names that they have here, the root names of resources, and which value types were tested
 /// here: whether they fail.
-pub(crate) struct Holder {
+pub struct Holder {
     alloc: Global,
     used: NamedMap<ItemKind>,
     roots: Names,
@@ -31,7 +31,7 @@ impl Drop for Holder {
 }
 
 /// Whether one item has the tree of another.
-pub(crate) fn is_same_item(
+pub fn is_same_item(
     alloc: Global,
     types: &Types,
     a: ItemKind,
@@ -129,7 +129,7 @@ impl Holder {
     }
 
     /// What stands in an interface.
-    pub(crate) fn of_interface(
+    pub fn of_interface(
         alloc: Global,
         types: &Types,
         id: InterfaceId,
@@ -140,14 +140,14 @@ impl Holder {
     }
 
     /// What stands in a component type.
-    pub(crate) fn of_world(alloc: Global, types: &Types, id: WorldId) -> Result<Self, AllocError> {
+    pub fn of_world(alloc: Global, types: &Types, id: WorldId) -> Result<Self, AllocError> {
         let mut holder = Holder::new(alloc);
         holder.add_world(types, id)?;
         Ok(holder)
     }
 
     /// Whether a use gives the item: under its name, with its tree.
-    pub(crate) fn gives(
+    pub fn gives(
         &self,
         alloc: Global,
         types: &Types,
@@ -160,12 +160,12 @@ impl Holder {
     }
 
     /// Whether a resource of that root name stands there.
-    pub(crate) fn has_root(&self, name: &str) -> bool {
+    pub fn has_root(&self, name: &str) -> bool {
         self.roots.contains(name)
     }
 
     /// Whether a value type, as a type item, is one that is used.
-    pub(crate) fn has_value(
+    pub fn has_value(
         &self,
         alloc: Global,
         types: &Types,
@@ -180,12 +180,12 @@ impl Holder {
     }
 
     /// Whether a value type fails, if it was tested here.
-    pub(crate) fn tested(&self, id: DefinedTypeId) -> Option<bool> {
+    pub fn tested(&self, id: DefinedTypeId) -> Option<bool> {
         self.tested.get(&id).copied()
     }
 
     /// Remembers whether a value type fails.
-    pub(crate) fn remember(&mut self, id: DefinedTypeId, fails: bool) -> Result<(), AllocError> {
+    pub fn remember(&mut self, id: DefinedTypeId, fails: bool) -> Result<(), AllocError> {
         let _ = self.tested.insert(id, fails)?;
         Ok(())
     }

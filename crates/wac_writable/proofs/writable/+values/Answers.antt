@@ -2,7 +2,7 @@ use Rattle.std.proofs.Common.{Some, refl, sym, ap, ◌∙◌, arith}
 use Rattle.wac_types_base.specs.declared.item.ItemKind.{ItemKind}
 use Rattle.wac_types_base.specs.Collection.{slots_of}
 use Rattle.wac_types_base.proofs.Walking.{child_smaller, some_place}
-use Rattle.wac_graph_encode.proofs.writable.+values.Goals as goal
+use Rattle.wac_writable.proofs.writable.+values.Goals as goal
 
 pub places_fail-value_fails-requires : goal.places_fail-value_fails-requires
 places_fail-value_fails-requires t c =

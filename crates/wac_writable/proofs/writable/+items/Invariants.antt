@@ -1,7 +1,7 @@
 use Rattle.std.proofs.Common.{◌+◌, ◌*◌}
 use Rattle.wac_types_base.specs.declared.item.ItemKind.{ItemKind}
 use Rattle.wac_types_base.specs.Collection.{size_of}
-use Rattle.wac_graph_encode.proofs.writable.+items.Given as goal
+use Rattle.wac_writable.proofs.writable.+items.Given as goal
 
 abbrev pub decreases-item_fails : goal.decreases-item_fails
 decreases-item_fails l = 16 * size_of l.test.types.now l.item.kind + 9
