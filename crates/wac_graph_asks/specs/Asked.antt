@@ -82,6 +82,13 @@ pub record IsHeld (g : Graph) (a : Asked) : Type 0 where
   pub worlds : (id : PackageId) (w : WorldId) → Among (id, w) a.packages.entries → IsWorldOf g a.types id w
   pub copies : (d : Definition) → Among d a.definitions.items → HasCopy g.types a.types d.ty d.copy
 
+-- the collection may have grown, and all else is as it was
+pub record KeepsAsked (old new : Asked) : Type 0 where
+  pub grows : Grows old.types new.types
+  pub asks : new.asks ≡ old.asks
+  pub packages : new.packages ≡ old.packages
+  pub definitions : new.definitions ≡ old.definitions
+
 -- these asks, packages and definitions are added behind the others
 pub record Adds (g : Graph) (old new : Asked) (asks : List (Ask ℕ)) (ids : List PackageId) (placed : List (Placed ℕ)) : Type 0 where
   pub held : IsHeld g new

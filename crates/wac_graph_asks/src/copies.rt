@@ -1,5 +1,9 @@
 //! Copies of the parts of interfaces and worlds.
 
+ghost use Rattle.std.specs.Prelude.{IfOk, IfSome};
+ghost use Rattle.wac_types_base.specs.declared.item.ItemKind.{ItemKind};
+ghost use Rattle.wac_types_base.specs.Collection.{Grows, Stands};
+
 use std::alloc::{AllocError, Global};
 use wac_types_base::{
     Interface, InterfaceId, ItemKind, NamedMap, Text, Types, UsedType, World, WorldId,
@@ -61,7 +65,11 @@ pub fn add_interface(
 }
 
 /// Adds a world, if all that it names stands.
-pub fn add_world(types: &mut Types, world: World) -> Result<Option<WorldId>, AllocError> {
+pub fn add_world(types: &mut Types, world: World) -> Result<Option<WorldId>, AllocError>
+    ensures stands { IfOk result (λ o. IfSome o (λ w. Stands types.new (ItemKind.Component w))) }
+    ensures grows { Grows types.old types.new }
+{
+    types.see_acyclic();
     if !types.has_ids_of(&world) {
         drop(world);
         return Ok(None);

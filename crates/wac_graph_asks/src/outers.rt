@@ -1,5 +1,9 @@
 //! The outer imports: one for each class of asks.
 
+ghost use Rattle.std.specs.Prelude.{IfOk};
+ghost use Rattle.wac_types_base.specs.declared.item.ItemKind.{ItemKind};
+ghost use Rattle.wac_types_base.specs.Collection.{Grows, Stands};
+ghost use Rattle.wac_graph_asks.specs.Asked.{KeepsAsked};
 ghost use Rattle.wac_graph_asks.specs.Named.{SpellsClass};
 
 use crate::asks::{Ask, Asked, Asking};
@@ -7,7 +11,6 @@ use crate::classes::{Classes, classes_of, has_track};
 use crate::copies::{add_world, bare_world, filled};
 use crate::faults::OuterError;
 use wac_writable::maps::insert_under;
-use wac_writable::unnamed::Unnamed;
 use indexmap::IndexMap;
 use std::alloc::{AllocError, Global};
 use wac_graph_core::NodeId;
@@ -41,12 +44,11 @@ impl Drop for Outers {
     }
 }
 
-/// What is kept of the classes, by the places of their first asks, and which interfaces use one without identifier.
+/// What is kept of the classes, by the places of their first asks.
 struct Merging<'a> {
     alloc: Global,
     asks: &'a [Ask],
     kept: IndexMap<usize, Kept>,
-    unnamed: Unnamed,
 }
 
 impl Drop for Merging<'_> {
@@ -55,7 +57,6 @@ impl Drop for Merging<'_> {
             alloc: _,
             asks: _,
             kept: _,
-            unnamed: _,
         } = self;
     }
 }
@@ -67,7 +68,10 @@ fn merged(
     family: Family,
     kept: ItemKind,
     asked: ItemKind,
-) -> Result<ItemKind, AggregateError> {
+) -> Result<ItemKind, AggregateError>
+    ensures grows { Grows types.old types.new }
+{
+    types.see_acyclic();
     if !types.has(kept) {
         return Err(AggregateError::OutsideFamilies);
     }
@@ -113,33 +117,23 @@ fn first_of<'a>(asks: &'a [Ask], class: usize, ask: &'a Ask) -> &'a Ask {
     }
 }
 
+/// The family of an ask.
+fn family_asked(types: &Types, ask: &Ask) -> Family {
+    if !types.has(ask.item) {
+        return Family::Neither;
+    }
+    family_of(types, ask.name.as_str(), ask.item)
+}
+
+/// The family of what a class asked before.
+fn family_before(types: &Types, before: Kept, first: &Ask) -> Family {
+    match before.family {
+        Some(family) => family,
+        None => family_asked(types, first),
+    }
+}
+
 impl<'a> Merging<'a> {
-    /// The family of an ask.
-    fn family_asked(&mut self, types: &Types, ask: &Ask) -> Result<Family, AllocError> {
-        if !types.has(ask.item) {
-            return Ok(Family::Neither);
-        }
-        if let ItemKind::Instance(id) = ask.item {
-            if self.unnamed.is_used_by(types, id)? {
-                return Ok(Family::Neither);
-            }
-        }
-        Ok(family_of(types, ask.name.as_str(), ask.item))
-    }
-
-    /// The family of what a class asked before.
-    fn family_before(
-        &mut self,
-        types: &Types,
-        before: Kept,
-        first: &Ask,
-    ) -> Result<Family, AllocError> {
-        match before.family {
-            Some(family) => Ok(family),
-            None => self.family_asked(types, first),
-        }
-    }
-
     /// What is kept after one more ask, which is not the first one again.
     fn merge(
         &mut self,
@@ -147,9 +141,12 @@ impl<'a> Merging<'a> {
         before: Kept,
         first: &Ask,
         ask: &Ask,
-    ) -> Result<Kept, OuterError> {
-        let family = self.family_before(types, before, first)?;
-        let family = joint_family(family, self.family_asked(types, ask)?);
+    ) -> Result<Kept, OuterError>
+        ensures grows { Grows types.old types.new }
+    {
+        types.see_acyclic();
+        let family = family_before(types, before, first);
+        let family = joint_family(family, family_asked(types, ask));
         match merged(self.alloc, types, family, before.item, ask.item) {
             Ok(item) => Ok(Kept {
                 count: before.count.saturating_add(1),
@@ -167,7 +164,10 @@ impl<'a> Merging<'a> {
         before: Kept,
         first: &Ask,
         ask: &Ask,
-    ) -> Result<Kept, OuterError> {
+    ) -> Result<Kept, OuterError>
+        ensures grows { Grows types.old types.new }
+    {
+        types.see_acyclic();
         if before.family.is_none() && is_again(first, ask) {
             return Ok(Kept {
                 count: before.count.saturating_add(1),
@@ -185,7 +185,10 @@ impl<'a> Merging<'a> {
         first: &Ask,
         ask: &Ask,
         class: usize,
-    ) -> Result<Kept, OuterError> {
+    ) -> Result<Kept, OuterError>
+        ensures grows { Grows types.old types.new }
+    {
+        types.see_acyclic();
         match self.kept.get(&class).copied() {
             Some(before) => self.kept_after(types, before, first, ask),
             None => Ok(Kept {
@@ -197,7 +200,9 @@ impl<'a> Merging<'a> {
     }
 
     /// Takes an ask into what is kept of its class.
-    fn take(&mut self, types: &mut Types, ask: &Ask, class: usize) -> Result<(), OuterError> {
+    fn take(&mut self, types: &mut Types, ask: &Ask, class: usize) -> Result<(), OuterError>
+        ensures grows { Grows types.old types.new }
+    {
         let first = first_of(self.asks, class, ask);
         let after = self.kept_with(types, first, ask, class)?;
         let _ = self.kept.insert(class, after)?;
@@ -205,7 +210,10 @@ impl<'a> Merging<'a> {
     }
 
     /// Takes all asks.
-    fn take_all(&mut self, types: &mut Types, classes: &Classes) -> Result<(), OuterError> {
+    fn take_all(&mut self, types: &mut Types, classes: &Classes) -> Result<(), OuterError>
+        ensures grows { Grows types.old types.new }
+    {
+        types.see_acyclic();
         for (ask, class) in self.asks.iter().zip(&classes.labels) {
             self.take(types, ask, *class)?;
         }
@@ -217,7 +225,6 @@ impl<'a> Merging<'a> {
             alloc: _,
             asks: _,
             kept,
-            unnamed: _,
         } = self;
         kept
     }
@@ -229,12 +236,13 @@ fn kept_of_all(
     types: &mut Types,
     asks: &[Ask],
     classes: &Classes,
-) -> Result<IndexMap<usize, Kept>, OuterError> {
+) -> Result<IndexMap<usize, Kept>, OuterError>
+    ensures grows { Grows types.old types.new }
+{
     let mut merging = Merging {
         alloc,
         asks,
         kept: IndexMap::new(alloc),
-        unnamed: Unnamed::new(alloc),
     };
     merging.take_all(types, classes)?;
     Ok(merging.into_kept())
@@ -246,7 +254,10 @@ fn identified(
     types: &mut Types,
     kept: Kept,
     spelling: &str,
-) -> Result<ItemKind, AllocError> {
+) -> Result<ItemKind, AllocError>
+    ensures grows { Grows types.old types.new }
+{
+    types.see_acyclic();
     if kept.count < 2 || !types.has(kept.item) {
         return Ok(kept.item);
     }
@@ -312,7 +323,9 @@ fn add_import(
     kept: Kept,
     spelling: &str,
     imports: &mut NamedMap<ItemKind>,
-) -> Result<(), AllocError> {
+) -> Result<(), AllocError>
+    ensures grows { Grows types.old types.new }
+{
     let item = identified(alloc, types, kept, spelling)?;
     insert_under(alloc, imports, spelling, item)
 }
@@ -325,7 +338,10 @@ fn add_imports(
     classes: &Classes,
     kept: &IndexMap<usize, Kept>,
     imports: &mut NamedMap<ItemKind>,
-) -> Result<(), AllocError> {
+) -> Result<(), AllocError>
+    ensures grows { Grows types.old types.new }
+{
+    types.see_acyclic();
     for (class, one) in kept.iter() {
         let spelling = spelling_of(asks, classes, *class);
         add_import(alloc, types, *one, spelling, imports)?;
@@ -339,7 +355,9 @@ fn world_kept(
     asked: &mut Asked,
     classes: &Classes,
     kept: &IndexMap<usize, Kept>,
-) -> Result<World, AllocError> {
+) -> Result<World, AllocError>
+    ensures { KeepsAsked asked.old asked.new }
+{
     let mut world = bare_world(alloc, None);
     let imports = &mut world.imports;
     let added = add_imports(alloc, &mut asked.types, &asked.asks, classes, kept, imports);
@@ -352,7 +370,10 @@ fn outer_world(
     asked: &mut Asked,
     classes: &Classes,
     kept: &IndexMap<usize, Kept>,
-) -> Result<WorldId, OuterError> {
+) -> Result<WorldId, OuterError>
+    ensures keeps { KeepsAsked asked.old asked.new }
+    ensures stands { IfOk result (λ w. Stands asked.new.types (ItemKind.Component w)) }
+{
     let world = world_kept(alloc, asked, classes, kept)?;
     match add_world(&mut asked.types, world)? {
         Some(world) => Ok(world),
@@ -366,7 +387,10 @@ fn outers_kept(
     asked: &mut Asked,
     classes: &Classes,
     kept: &IndexMap<usize, Kept>,
-) -> Result<Outers, OuterError> {
+) -> Result<Outers, OuterError>
+    ensures keeps { KeepsAsked asked.old asked.new }
+    ensures stands { IfOk result (λ o. Stands asked.new.types (ItemKind.Component o.world)) }
+{
     let world = outer_world(alloc, asked, classes, kept)?;
     let called = names_called(alloc, &asked.asks, classes, kept)?;
     Ok(Outers { world, called })
@@ -377,13 +401,19 @@ fn outers_of_classes(
     alloc: Global,
     asked: &mut Asked,
     classes: &Classes,
-) -> Result<Outers, OuterError> {
+) -> Result<Outers, OuterError>
+    ensures keeps { KeepsAsked asked.old asked.new }
+    ensures stands { IfOk result (λ o. Stands asked.new.types (ItemKind.Component o.world)) }
+{
     let kept = kept_of_all(alloc, &mut asked.types, &asked.asks, classes)?;
     outers_kept(alloc, asked, classes, &kept)
 }
 
 /// The outer imports of what is asked.
-pub fn outers_of(alloc: Global, asked: &mut Asked) -> Result<Outers, OuterError> {
+pub fn outers_of(alloc: Global, asked: &mut Asked) -> Result<Outers, OuterError>
+    ensures keeps { KeepsAsked asked.old asked.new }
+    ensures stands { IfOk result (λ o. Stands asked.new.types (ItemKind.Component o.world)) }
+{
     let classes = classes_of(alloc, &asked.types, &asked.asks)?;
     outers_of_classes(alloc, asked, &classes)
 }

@@ -1,5 +1,6 @@
 pub mod Acyclic
 pub mod Encoding
+pub mod Formed
 pub mod Standing
 pub mod Finished
 pub mod Writing

@@ -1,13 +1,16 @@
 //! The bytes and the world of a composition graph.
 
-ghost use Rattle.std.specs.Prelude.{◌≡◌, [], IfOk, IfErr};
+ghost use Rattle.std.specs.Prelude.{◌≡◌, [], IfOk, IfErr, OnOk};
 ghost use Rattle.wac_types_base.specs.declared.item.ItemKind.{ItemKind};
 ghost use Rattle.wac_types_base.specs.Collection.{Stands};
+ghost use Rattle.wac_graph_asks.specs.Asked.{KeepsAsked};
 ghost use Rattle.wac_graph_encode.specs.Acyclic.{IsNoCycle};
+ghost use Rattle.wac_graph_encode.specs.Formed.{CopiesStand};
 
 use wac_graph_asks::asks::{Asked, Definition, asked_by};
 use crate::conflicts::{check_implicit, check_names, check_writable};
 use crate::errors::{EncodeError, Refusal, error_of};
+use crate::forms::written_definitions;
 use crate::instances::Wired;
 use crate::options::{EncodeOptions, Encoded};
 use wac_graph_asks::outers::{Outers, outers_of};
@@ -17,50 +20,7 @@ use std::alloc::{AllocError, Global};
 use wac_graph_bytes::{Entry, SortNames, push_component};
 use wac_graph_core::CompositionGraph;
 use wac_graph_scopes::imports::Importing;
-use wac_types_base::{ItemKind, Types, WorldId};
-use wac_types_written::written_definition;
-
-/// The form in which the type of a definition is written.
-fn written_form(
-    alloc: Global,
-    types: &mut Types,
-    kind: ItemKind,
-) -> Result<Option<ItemKind>, AllocError> {
-    if !types.has(kind) {
-        return Ok(None);
-    }
-    let form = written_definition(alloc, types, kind)?;
-    Ok(Some(form))
-}
-
-/// A definition in the form in which it is written.
-fn written_again(
-    alloc: Global,
-    types: &mut Types,
-    definition: &Definition,
-) -> Result<Definition, AllocError> {
-    let copy = match definition.copy {
-        Some(kind) => written_form(alloc, types, kind)?,
-        None => None,
-    };
-    let name = definition.name.copy()?;
-    Ok(Definition {
-        node: definition.node,
-        name,
-        ty: definition.ty,
-        copy,
-    })
-}
-
-/// The definitions in the form in which they are written.
-fn written_definitions(alloc: Global, asked: &mut Asked) -> Result<Vec<Definition>, AllocError> {
-    let mut written = Vec::new(alloc);
-    for definition in &asked.definitions {
-        let again = written_again(alloc, &mut asked.types, definition)?;
-        written.push(again)?;
-    }
-    Ok(written)
-}
+use wac_types_base::{Types, WorldId};
 
 /// The bytes of a component of these entries.
 fn bytes_of_entries(
@@ -135,9 +95,11 @@ fn bytes_asked(
     options: &EncodeOptions,
     asked: &mut Asked,
     outers: &Outers,
-) -> Result<(Vec<u8>, Vec<Definition>), Refusal> {
+) -> Result<(Vec<u8>, Vec<Definition>), Refusal>
+    requires { CopiesStand asked.old }
+{
     let alloc = graph.alloc();
-    let definitions = written_definitions(alloc, asked)?;
+    let definitions = written_definitions(alloc, &mut asked.types, &asked.definitions)?;
     let bytes = bytes_of(graph, asked, outers, &definitions, options)?;
     check_names(alloc, graph, asked, outers, options)?;
     Ok((bytes, definitions))
@@ -151,6 +113,7 @@ fn encoded_asked(
     outers: &Outers,
     number: u64,
 ) -> Result<Encoded, Refusal>
+    requires { CopiesStand asked.old }
     ensures number { IfOk result (λ e. e.types.number ≡ number) }
     ensures stands { IfOk result (λ e. Stands e.types (ItemKind.Component e.world)) }
 {
@@ -169,7 +132,9 @@ fn outers_checked(
     graph: &CompositionGraph,
     options: &EncodeOptions,
     asked: &mut Asked,
-) -> Result<Outers, Refusal> {
+) -> Result<Outers, Refusal>
+    ensures { OnOk result (KeepsAsked asked.old asked.new) }
+{
     let alloc = graph.alloc();
     check_implicit(alloc, graph, &asked.asks)?;
     let outers = outers_of(alloc, asked)?;

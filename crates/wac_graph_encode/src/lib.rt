@@ -5,6 +5,7 @@ mod conflicts;
 mod copying;
 pub mod encode;
 pub mod errors;
+mod forms;
 mod instances;
 mod labels;
 mod laws;
