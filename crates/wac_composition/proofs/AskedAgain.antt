@@ -157,7 +157,7 @@ among_first [] ys x m = absurd m
 among_first (z ∷ xs) ys x (inl e) = inl e
 among_first (z ∷ xs) ys x (inr m) = inr (among_first xs ys x m)
 
-among_mapped : {X Y : Type 0} (f : X → Y) (xs : List X) (x : X) → Among x xs → Among (f x) (map f xs)
+pub among_mapped : {X Y : Type 0} (f : X → Y) (xs : List X) (x : X) → Among x xs → Among (f x) (map f xs)
 among_mapped f [] x m = m
 among_mapped f (y ∷ xs) x (inl e) = inl (ap f e)
 among_mapped f (y ∷ xs) x (inr m) = inr (among_mapped f xs x m)

@@ -52,9 +52,12 @@ module _ {X : Type 0} where
   entry_found (x ∷ es) s e (inr m) =
       ap (λ b. cond b (Some x.1) (find nat_cmp e.0 es)) (other_key x.0 es (both _ _ s).0 e m) ∙ entry_found es (both _ _ s).1 e m
 
+  pub entry_there : (m : FinMap nat_cmp X) (e : ℕ × X) → Among e (finite.entries m) → finite.get m e.0 ≡ Some e.1
+  entry_there m e a = finite.get-entries m e.0 ∙ entry_found (finite.entries m) (finite.entries_sorted m) e a
+
   -- key by key, and entry by entry
   by_keys : {Y : Type 0} (f : ℕ → Option X → List Y) (m : FinMap nat_cmp X) → flat_map (λ k. f k (finite.get m k)) (finite.keys m) ≡ flat_map (λ e. f e.0 (Some e.1)) (finite.entries m)
-  by_keys f m = go (finite.entries m) (λ e a. finite.get-entries m e.0 ∙ entry_found (finite.entries m) (finite.entries_sorted m) e a)
+  by_keys f m = go (finite.entries m) (entry_there m)
     where
       go : (es : List (ℕ × X)) → ((e : ℕ × X) → Among e es → finite.get m e.0 ≡ Some e.1) → flat_map (λ k. f k (finite.get m k)) (map (λ e. e.0) es) ≡ flat_map (λ e. f e.0 (Some e.1)) es
       go [] h = refl

@@ -100,7 +100,7 @@ find_among (d ∷ es) k x e = go (find_among es k x) (eq_by_cmp nat_cmp k d.0) r
 pub node_among : (g : Graph) (k : ℕ) (x : NodeData) → node_at g k ≡ Some x → Among (k, x) (nodes_of g)
 node_among g k x e = find_among (nodes_of g) k x (sym (finite.get-entries g.nodes k) ∙ e)
 
-among_mapped : {X Y : Type 0} (f : X → Option Y) (xs : List X) (x : X) (y : Y) → Among x xs → f x ≡ Some y → Among y (filter_map f xs)
+pub among_mapped : {X Y : Type 0} (f : X → Option Y) (xs : List X) (x : X) (y : Y) → Among x xs → f x ≡ Some y → Among y (filter_map f xs)
 among_mapped f [] x y m e = absurd m
 among_mapped {X = X} {Y = Y} f (z ∷ zs) x y m e = go (among_mapped f zs x y) (f z) refl m
   where

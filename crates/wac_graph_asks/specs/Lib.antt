@@ -10,3 +10,4 @@ pub mod Reads
 pub mod Asked
 pub mod AskedNodes
 pub mod AskedUses
+pub mod Outers

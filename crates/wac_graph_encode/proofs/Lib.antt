@@ -10,4 +10,8 @@ pub mod WritingSteps
 pub mod StandingExports
 pub mod Rooting
 pub mod Nesting
+pub mod Forming
+pub mod ItemSorts
+pub mod RootedOuters
+pub mod RootedDefinitions
 pub mod Beginning

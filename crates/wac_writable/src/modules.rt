@@ -1,23 +1,44 @@
 //! Which module types can be written.
 
-use wac_graph_bytes::{core_reference, core_value};
-use wac_types_base::{CoreExtern, CoreFuncType, ModuleType};
+ghost use Rattle.std.specs.Prelude.{◌≡◌};
+ghost use Rattle.std.specs.List.{list_all};
+ghost use Rattle.wac_composition.specs.Writable.{writable_core_type, writable_reference, writable_signature, writable_extern, writable_module};
 
-fn is_writable_signature(func: &CoreFuncType) -> bool {
-    for ty in func.params.as_slice() {
-        if core_value(*ty).is_none() {
-            return false;
-        }
-    }
-    for ty in func.results.as_slice() {
-        if core_value(*ty).is_none() {
+use wac_graph_bytes::{core_reference, core_value};
+use wac_types_base::{CoreExtern, CoreFuncType, CoreRefType, CoreType, ModuleType};
+
+fn is_writable_reference(ty: CoreRefType) -> bool
+    ensures { result ≡ writable_reference ty }
+{
+    core_reference(ty).is_some()
+}
+
+fn is_writable_type(ty: CoreType) -> bool
+    ensures { result ≡ writable_core_type ty }
+{
+    core_value(ty).is_some()
+}
+
+fn are_writable_types(types: &[CoreType]) -> bool
+    ensures { result ≡ list_all writable_core_type types.now }
+{
+    for ty in types {
+        if !is_writable_type(*ty) {
             return false;
         }
     }
     true
 }
 
-fn is_writable_item(item: &CoreExtern) -> bool {
+fn is_writable_signature(func: &CoreFuncType) -> bool
+    ensures { result ≡ writable_signature func.now }
+{
+    are_writable_types(func.params.as_slice()) && are_writable_types(func.results.as_slice())
+}
+
+fn is_writable_item(item: &CoreExtern) -> bool
+    ensures { result ≡ writable_extern item.now }
+{
     match item {
         CoreExtern::Func(func) => is_writable_signature(func),
         CoreExtern::Tag(func) => is_writable_signature(func),
@@ -25,27 +46,30 @@ fn is_writable_item(item: &CoreExtern) -> bool {
             element_type,
             shared,
             ..
-        } => core_reference(*element_type).is_some() && !*shared,
+        } => is_writable_reference(*element_type) && !*shared,
         CoreExtern::Memory { page_size_log2, .. } => page_size_log2.is_none(),
         CoreExtern::Global {
             val_type,
             shared,
             ..
-        } => core_value(*val_type).is_some() && !*shared,
+        } => is_writable_type(*val_type) && !*shared,
     }
 }
 
-/// Whether each item of a module type can be written.
-pub fn is_writable_module(module: &ModuleType) -> bool {
-    for item in module.imports.values() {
-        if !is_writable_item(item) {
-            return false;
-        }
-    }
-    for item in module.exports.values() {
+fn are_writable_items(items: &[CoreExtern]) -> bool
+    ensures { result ≡ list_all writable_extern items.now }
+{
+    for item in items {
         if !is_writable_item(item) {
             return false;
         }
     }
     true
+}
+
+/// Whether each item of a module type can be written.
+pub fn is_writable_module(module: &ModuleType) -> bool
+    ensures { result ≡ writable_module module.now }
+{
+    are_writable_items(module.imports.values()) && are_writable_items(module.exports.values())
 }

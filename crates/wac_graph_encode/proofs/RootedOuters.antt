@@ -1,0 +1,81 @@
+-- Outer imports that are placed stand for what is asked.
+use Rattle.std.specs.List.{flat_map}
+use Rattle.std.specs.Prelude.{filter_map, option_map}
+use Rattle.std.proofs.Common.{◌≡◌, ℕ, true, List, [], ◌∷◌, map, Option, Some, slice_get, refl, sym, ap, subst, ◌∙◌, inl, inr}
+use Rattle.std.proofs.lemmas.Option.{same_Some}
+use Rattle.wac_types_base.specs.declared.item.ItemKind.{ItemKind}
+use Rattle.wac_types_base.specs.Record.{Collection}
+use Rattle.wac_types_base.specs.Entries.{Name, value_at}
+use Rattle.wac_types_base.specs.Graph.{Among}
+use Rattle.wac_types_base.specs.Collection.{Stands, IsAcyclic}
+use Rattle.wac_types_base.specs.Stated.{stated_of}
+use Rattle.wac_types_base.specs.Tree.{tree}
+use Rattle.wac_types_base.specs.Fits.{Fits}
+use Rattle.wac_types_base.proofs.Adding.{Among-left}
+use Rattle.wac_types_base.proofs.Stating.{value_with}
+use Rattle.wac_types_fit.specs.Trees.{tree_in}
+use Rattle.wac_types_fit.proofs.Ordering.{tree_in_order}
+use Rattle.wac_graph_bytes.specs.Typing.{Worlds, Item, Inside}
+use Rattle.wac_graph_core.specs.Nodes.{NodeData, Role}
+use Rattle.wac_graph_core.specs.Graph.{Graph, IsGraph, node_at}
+use Rattle.wac_graph_scopes.specs.declared.imports.Called.{Called}
+use Rattle.wac_graph_scopes.specs.declared.imports.SortIndex.{SortIndex}
+use Rattle.wac_graph_scopes.specs.Items.{sort_of}
+use Rattle.wac_graph_scopes.specs.Parts.{imports_of}
+use Rattle.wac_graph_scopes.specs.Imports.{ArePlaced}
+use Rattle.wac_graph_scopes.specs.Roots.{at_root}
+use Rattle.wac_graph_scopes.proofs.WritingLaws.{value_here}
+use Rattle.wac_composition.specs.Composition.{Placed}
+use Rattle.wac_composition.specs.Asks.{Ask, explicit_ask, filled_asks, asked_for, used_by, used_by_definition, named_asks, asks_of}
+use Rattle.wac_composition.specs.OuterImports.{outer_imports}
+use Rattle.wac_graph_asks.specs.declared.outers.Outers.{Outers}
+use Rattle.wac_graph_asks.specs.Graphs.{composition_of, import_by, nodes_of, item_of}
+use Rattle.wac_graph_asks.specs.Outers.{IsOuters}
+use Rattle.wac_graph_asks.proofs.Origins.{node_among, among_mapped}
+use Rattle.wac_graph_encode.specs.Standing.{spelled, GivesItem, IsOuterAt}
+use Rattle.wac_graph_encode.proofs.ItemSorts.{fits_sort, import_there}
+
+module _ (g : Graph) (sound : IsGraph g) (finite_types : IsAcyclic g.types) (c : Collection) (acyclic : IsAcyclic c) (o : Outers) (is : IsOuters g c o) where
+  -- what an import of the graph asks
+  ask_at : (j : ℕ) (x : NodeData) (n : Name) → Ask ℕ
+  ask_at j x n = explicit_ask (record { by = j; name = n; item = item_of g x })
+
+  among_mapped_asks : (xs : List (Placed ℕ)) (p : Placed ℕ) → Among p xs → Among (explicit_ask p) (map explicit_ask xs)
+  among_mapped_asks [] p m = m
+  among_mapped_asks (y ∷ xs) p (inl e) = inl (ap explicit_ask e)
+  among_mapped_asks (y ∷ xs) p (inr m) = inr (among_mapped_asks xs p m)
+
+  asked_there : (j : ℕ) (x : NodeData) (n : Name) → node_at g j ≡ Some x → x.role ≡ Role.Imported n → Among (ask_at j x n) (asks_of (composition_of g))
+  unfolding ask_at
+  asked_there j x n there role =
+      let placed : Placed ℕ = record { by = j; name = n; item = item_of g x } in
+      let made : Among placed (composition_of g).imports = among_mapped (λ e. import_by g e.0 e.1 e.1.role) (nodes_of g) (j, x) placed (node_among g j x there) (ap (import_by g j x) role) in
+      Among-left (explicit_ask placed) (named_asks (composition_of g)) _
+      (Among-left (explicit_ask placed) (map explicit_ask (composition_of g).imports) _ (among_mapped_asks (composition_of g).imports placed made))
+
+  -- what is imported under the spelling fits what is asked
+  import_fits : (j : ℕ) (x : NodeData) (n : Name) (k : ItemKind) → node_at g j ≡ Some x → x.role ≡ Role.Imported n → value_at (imports_of c o.world) (spelled g n) ≡ Some k → Fits (tree_in c k) (tree_in g.types x.item_kind)
+  unfolding tree_in ask_at
+  import_fits j x n k there role at =
+      let met = is.met (ask_at j x n) (asked_there j x n there role) in
+      let found : value_at (outer_imports (asks_of (composition_of g))) (spelled g n) ≡ Some (stated_of c k) =
+          ap (λ es. value_at es (spelled g n)) (sym is.imports) ∙ value_with (stated_of c) (imports_of c o.world) (spelled g n) ∙ ap (option_map (stated_of c)) at in
+      subst (λ s. Fits (tree s) (tree (item_of g x))) (same_Some _ _ (sym met.there ∙ found)) met.fits
+
+  pub outers_stand : (w : Worlds) (i : Inside) (ps : List (Option SortIndex)) → ArePlaced w c (i.here ∷ []) (imports_of c o.world) ps → (one : Called) (p : SortIndex) → Among one o.called.items → slice_get ps one.at ≡ Some (Some p)
+      → IsOuterAt g w (at_root i) one.name p
+  unfolding tree_in
+  outers_stand w i ps placed one p m at =
+      let called = is.called one m in
+      let k = called.0 in
+      let here = placed one.at (spelled g one.name) k p called.1 at in
+      let first = value_here (imports_of c o.world) one.at (spelled g one.name) k is.distinct called.1 in
+      record {
+        meaning = Item (spelled g one.name) p.sort (tree_in c k);
+        at = here.means;
+        means = refl;
+        asked = λ j x there role.
+            let fits = import_fits j x one.name k there role first in
+            (fits_sort c acyclic g.types finite_types k x.item_kind p.sort (import_there c acyclic o.world is.stands (spelled g one.name) k first) ((sound.nodes j x there).item) here.sort fits,
+             λ instance. (tree_in c k, refl, tree_in_order (stated_of c k), fits));
+      }
