@@ -10,8 +10,8 @@ use Rattle.wac_types_base.specs.Record.{Collection}
 use Rattle.wac_types_base.specs.Entries.{Name, value_at, names_of}
 use Rattle.wac_types_base.specs.Collection.{Entry, Stands, IsAcyclic, item_node, interface_entry, world_entry}
 use Rattle.wac_types_base.proofs.Replacing.{number_same}
-use Rattle.wac_types_fit.proofs.Items.{value_at-among, exports_inside}
-use Rattle.wac_graph_scopes.specs.Parts.{at_own, interface_in, world_in, exports_in, exports_of, uses_in, uses_of, imports_in, imports_of, exports_in_world, world_exports_of}
+use Rattle.wac_types_fit.proofs.Items.{value_at-among, exports_inside, world_imports_inside}
+use Rattle.wac_graph_scopes.specs.Parts.{at_own, interface_in, world_in, exports_in, exports_of, identifier_in, uses_in, uses_of, uses_in_world, world_uses_of, imports_in, imports_of, exports_in_world, world_exports_of}
 
 at_own-is : {E : Type 0} (c : Collection) (es : List E) (n i : ℕ) (x : E) → slice_get es i ≡ Some x → n ≡ c.number → at_own c es n i ≡ Some x
 at_own-is c es n i x e h = rw (number_same n c.number h, e) refl
@@ -41,6 +41,12 @@ module _ (c : Collection) (id : InterfaceId) where
   pub uses_missing : (Stands c (ItemKind.Instance id) → ⊥) → uses_of c id ≡ []
   uses_missing h = ap uses_in (interface_missing h)
 
+  pub identifier_there : (x : Interface) → slice_get c.interfaces id.index ≡ Some x → id.collection ≡ c.number → identifier_in (interface_in c id) ≡ x.id
+  identifier_there x e own = ap identifier_in (interface_there x e own)
+
+  pub identifier_missing : (Stands c (ItemKind.Instance id) → ⊥) → identifier_in (interface_in c id) ≡ None
+  identifier_missing h = ap identifier_in (interface_missing h)
+
   pub export_stands : IsAcyclic c → (x : Interface) → Stands c (ItemKind.Instance id) → slice_get c.interfaces id.index ≡ Some x → id.collection ≡ c.number → (n : Name) (k : ItemKind) → value_at x.exports n ≡ Some k → Stands c k
   export_stands a x s e own n k at = (exports_inside c a id x s e own n k (value_at-among x.exports n k at)).0
 
@@ -52,11 +58,20 @@ module _ (c : Collection) (id : WorldId) where
   unfolding item_node
   world_missing h = none_by world_entry (id.collection == c.number) (slice_get c.worlds id.index) h
 
+  pub world_uses_there : (x : World) → slice_get c.worlds id.index ≡ Some x → id.collection ≡ c.number → world_uses_of c id ≡ x.uses
+  world_uses_there x e own = ap uses_in_world (world_there x e own)
+
+  pub world_uses_missing : (Stands c (ItemKind.Component id) → ⊥) → world_uses_of c id ≡ []
+  world_uses_missing h = ap uses_in_world (world_missing h)
+
   pub imports_there : (x : World) → slice_get c.worlds id.index ≡ Some x → id.collection ≡ c.number → imports_of c id ≡ x.imports
   imports_there x e own = ap imports_in (world_there x e own)
 
   pub imports_missing : (Stands c (ItemKind.Component id) → ⊥) → imports_of c id ≡ []
   imports_missing h = ap imports_in (world_missing h)
+
+  pub import_stands : IsAcyclic c → (x : World) → Stands c (ItemKind.Component id) → slice_get c.worlds id.index ≡ Some x → id.collection ≡ c.number → (n : Name) (k : ItemKind) → value_at x.imports n ≡ Some k → Stands c k
+  import_stands a x s e own n k at = (world_imports_inside c a id x s e own n k (value_at-among x.imports n k at)).0
 
   pub world_exports_there : (x : World) → slice_get c.worlds id.index ≡ Some x → id.collection ≡ c.number → world_exports_of c id ≡ x.exports
   world_exports_there x e own = ap exports_in_world (world_there x e own)

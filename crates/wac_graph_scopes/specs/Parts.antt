@@ -1,5 +1,5 @@
 -- The parts of interfaces and worlds. What does not stand has none.
-use Rattle.std.specs.Prelude.{◌≡◌, ℕ, List, [], Option, Some, None, slice_get, if◌then◌else◌, ◌==◌}
+use Rattle.std.specs.Prelude.{◌≡◌, ℕ, List, [], Option, Some, None, slice_get, unwrap_or, if◌then◌else◌, ◌==◌}
 use Rattle.wac_types_base.specs.declared.ids.InterfaceId.{InterfaceId}
 use Rattle.wac_types_base.specs.declared.ids.WorldId.{WorldId}
 use Rattle.wac_types_base.specs.declared.ids.ResourceId.{ResourceId}
@@ -13,6 +13,7 @@ use Rattle.wac_types_base.specs.Entries.{Name}
 use Rattle.wac_types_base.specs.Collection.{Stands, resource}
 use Rattle.wac_types_base.specs.Tree.{rigid, end}
 use Rattle.wac_types_fit.specs.Trees.{tree_in}
+use Rattle.wac_graph_scopes.specs.declared.parts.Use.{Use}
 
 -- what is at an index, under the collection's own number
 abbrev pub at_own : {E : Type 0} → Collection → List E → ℕ → ℕ → Option E
@@ -32,6 +33,14 @@ abbrev pub uses_in : Option Interface → List (Name × UsedType)
 uses_in None = []
 uses_in (Some i) = i.uses
 
+abbrev pub identifier_in : Option Interface → Option Name
+identifier_in None = None
+identifier_in (Some i) = i.id
+
+abbrev pub uses_in_world : Option World → List (Name × UsedType)
+uses_in_world None = []
+uses_in_world (Some w) = w.uses
+
 abbrev pub imports_in : Option World → List (Name × ItemKind)
 imports_in None = []
 imports_in (Some w) = w.imports
@@ -47,11 +56,24 @@ module _ (c : Collection) where
   abbrev pub uses_of : InterfaceId → List (Name × UsedType)
   uses_of id = uses_in (interface_in c id)
 
+  abbrev pub world_uses_of : WorldId → List (Name × UsedType)
+  world_uses_of id = uses_in_world (world_in c id)
+
   abbrev pub imports_of : WorldId → List (Name × ItemKind)
   imports_of id = imports_in (world_in c id)
 
   abbrev pub world_exports_of : WorldId → List (Name × ItemKind)
   world_exports_of id = exports_in_world (world_in c id)
+
+-- a use, by its name, its name in the interface, and that
+pub record IsUse (e : Name × UsedType) (u : Use) : Type 0 where
+  pub name : u.name.now ≡ e.0
+  pub there : u.there.now ≡ unwrap_or e.1.name e.0
+  pub interface : u.interface ≡ e.1.interface
+
+-- the use at the place
+abbrev pub IsUseAt : List (Name × UsedType) → ℕ → Use → Type 0
+IsUseAt us at u = (e : Name × UsedType) × (slice_get us at ≡ Some e) × IsUse e u
 
 -- a resource or a value type
 abbrev pub IsUsedKind : ItemKind → Type 0

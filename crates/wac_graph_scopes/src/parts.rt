@@ -1,6 +1,7 @@
 //! The parts of interfaces and worlds, one by one. What does not stand has none.
 
 ghost use Rattle.std.specs.Prelude.{◌≡◌, ◌≤◌, ◌↔◌, IfSome, IfNone, Some, IsTrue, length, slice_get};
+ghost use Rattle.std.specs.Option.{option_copied};
 ghost use Rattle.wac_types_base.specs.declared.ids.InterfaceId.{InterfaceId};
 ghost use Rattle.wac_types_base.specs.declared.item.ItemKind.{ItemKind};
 ghost use Rattle.wac_types_base.specs.declared.item.«Type».{«Type» as TypeKind};
@@ -8,7 +9,8 @@ ghost use Rattle.wac_types_base.specs.Entries.{names_of, value_at, AreDistinct};
 ghost use Rattle.wac_types_base.specs.Collection.{Stands, size_of, resource};
 ghost use Rattle.wac_types_base.specs.Tree.{rigid, end};
 ghost use Rattle.wac_types_fit.specs.Trees.{IsInside, tree_in};
-ghost use Rattle.wac_graph_scopes.specs.Parts.{exports_of, uses_of, imports_of, world_exports_of, IsUsedKind, IsOfInterface, IsOfWorld, IsFresh, IsRootName};
+ghost use Rattle.wac_graph_scopes.specs.Parts.{interface_in, identifier_in, exports_of, uses_of, world_uses_of, imports_of, world_exports_of};
+ghost use Rattle.wac_graph_scopes.specs.Parts.{IsUse, IsUseAt, IsUsedKind, IsOfInterface, IsOfWorld, IsFresh, IsRootName};
 
 use wac_types_base::{InterfaceId, ItemKind, ResourceId, Type, Types, UsedType, WorldId};
 
@@ -28,8 +30,7 @@ pub struct Item<'a> {
 }
 
 fn use_of<'a>(name: &'a str, used: &'a UsedType) -> Use<'a>
-    ensures interface { result.interface ≡ used.now.interface }
-    ensures name { result.name.now ≡ name.now }
+    ensures { IsUse (name.now, used.now) result }
 {
     let there = match &used.name {
         Some(there) => there.as_str(),
@@ -99,7 +100,9 @@ pub fn root_name(types: &Types, id: ResourceId) -> &str
 
 // ---- interfaces
 
-pub fn identifier(types: &Types, id: InterfaceId) -> Option<&str> {
+pub fn identifier(types: &Types, id: InterfaceId) -> Option<&str>
+    ensures { option_copied result ≡ identifier_in (interface_in types.now id) }
+{
     if !types.has(ItemKind::Instance(id)) {
         return None;
     }
@@ -124,6 +127,8 @@ pub fn use_count(types: &Types, id: InterfaceId) -> usize
 pub fn use_at(types: &Types, id: InterfaceId, at: usize) -> Option<Use<'_>>
     ensures inside { IfSome result (λ u. IsInside types.now (ItemKind.Instance u.interface) (ItemKind.Instance id)) }
     ensures name { IfSome result (λ u. slice_get (names_of (uses_of types.now id)) at ≡ Some u.name.now) }
+    ensures entry { IfSome result (IsUseAt (uses_of types.now id) at) }
+    ensures none { IfNone result (length (uses_of types.now id) ≤ at) }
 {
     if !types.has(ItemKind::Instance(id)) {
         return None;
@@ -194,7 +199,10 @@ pub fn world_identifier(types: &Types, id: WorldId) -> Option<&str> {
     }
 }
 
-pub fn world_use_count(types: &Types, id: WorldId) -> usize {
+pub fn world_use_count(types: &Types, id: WorldId) -> usize
+    ensures len { result ≡ length (world_uses_of types.now id) }
+    ensures distinct { AreDistinct (names_of (world_uses_of types.now id)) }
+{
     if types.has(ItemKind::Component(id)) {
         types.world(id).uses.len()
     } else {
@@ -205,6 +213,8 @@ pub fn world_use_count(types: &Types, id: WorldId) -> usize {
 /// The world's use at a place.
 pub fn world_use_at(types: &Types, id: WorldId, at: usize) -> Option<Use<'_>>
     ensures inside { IfSome result (λ u. IsInside types.now (ItemKind.Instance u.interface) (ItemKind.Component id)) }
+    ensures entry { IfSome result (IsUseAt (world_uses_of types.now id) at) }
+    ensures none { IfNone result (length (world_uses_of types.now id) ≤ at) }
 {
     if !types.has(ItemKind::Component(id)) {
         return None;
@@ -259,11 +269,18 @@ pub fn import_at(types: &Types, id: WorldId, at: usize) -> Option<Item<'_>>
 }
 
 /// The import of a name.
-pub fn import_named(types: &Types, id: WorldId, name: &str) -> Option<ItemKind> {
-    if types.has(ItemKind::Component(id)) {
-        types.world(id).imports.get(name).copied()
-    } else {
-        None
+pub fn import_named(types: &Types, id: WorldId, name: &str) -> Option<ItemKind>
+    ensures value { result ≡ value_at (imports_of types.now id) name.now }
+    ensures stands { IfSome result (Stands types.now) }
+{
+    types.see_acyclic();
+    if !types.has(ItemKind::Component(id)) {
+        return None;
+    }
+    let world = types.world(id);
+    match world.imports.get(name) {
+        Some(kind) => Some(*kind),
+        None => None,
     }
 }
 
