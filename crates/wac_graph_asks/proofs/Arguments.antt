@@ -67,7 +67,7 @@ passed_is es i (x ∷ ns) n a m = go (first_argument es i x) refl m (passed_is e
     go (Some b) e (inl s) later = ap (λ p. first_argument es i p.0) s ∙ e ∙ ap (λ p. Some p.1) (sym s)
     go (Some b) e (inr h) later = later h
 
-named_among : {T : Type 0} (xs : List (Name × T)) (n : Name) (v : T) → value_at xs n ≡ Some v → Among n (names_of xs)
+pub named_among : {T : Type 0} (xs : List (Name × T)) (n : Name) (v : T) → value_at xs n ≡ Some v → Among n (names_of xs)
 named_among xs n v e = name-among xs n v (value_at-among xs n v e)
 
 pub nothing_there : {X : Type 0} (o : Option X) → is_some o ≡ false → o ≡ None

@@ -1,28 +1,30 @@
 -- Outer imports that are placed stand for what is asked.
 use Rattle.std.specs.List.{flat_map}
 use Rattle.std.specs.Prelude.{filter_map, option_map}
-use Rattle.std.proofs.Common.{◌≡◌, ℕ, true, List, [], ◌∷◌, map, Option, Some, slice_get, refl, sym, ap, subst, ◌∙◌, inl, inr}
+use Rattle.std.proofs.Common.{◌≡◌, ℕ, true, true≢false, List, [], ◌∷◌, map, Option, Some, None, is_none, slice_get, refl, sym, ap, subst, ◌∙◌, inl, inr}
 use Rattle.std.proofs.lemmas.Option.{same_Some}
 use Rattle.wac_types_base.specs.declared.item.ItemKind.{ItemKind}
 use Rattle.wac_types_base.specs.Record.{Collection}
-use Rattle.wac_types_base.specs.Entries.{Name, value_at}
+use Rattle.wac_types_base.specs.Entries.{Name, names_of, value_at}
 use Rattle.wac_types_base.specs.Graph.{Among}
 use Rattle.wac_types_base.specs.Collection.{Stands, IsAcyclic}
 use Rattle.wac_types_base.specs.Stated.{stated_of}
-use Rattle.wac_types_base.specs.Tree.{tree}
+use Rattle.wac_types_base.specs.Tree.{Tree, tree}
 use Rattle.wac_types_base.specs.Fits.{Fits}
 use Rattle.wac_types_base.proofs.Adding.{Among-left}
 use Rattle.wac_types_base.proofs.Stating.{value_with}
 use Rattle.wac_types_fit.specs.Trees.{tree_in}
+use Rattle.wac_types_fit.proofs.Items.{value_at-among}
 use Rattle.wac_types_fit.proofs.Ordering.{tree_in_order}
 use Rattle.wac_graph_bytes.specs.Typing.{Worlds, Item, Inside}
 use Rattle.wac_graph_core.specs.Nodes.{NodeData, Role}
 use Rattle.wac_graph_core.specs.Graph.{Graph, IsGraph, node_at}
 use Rattle.wac_graph_scopes.specs.declared.imports.Called.{Called}
 use Rattle.wac_graph_scopes.specs.declared.imports.SortIndex.{SortIndex}
+use Rattle.wac_graph_scopes.specs.declared.imports.ImportScope.{ImportScope}
 use Rattle.wac_graph_scopes.specs.Items.{sort_of}
 use Rattle.wac_graph_scopes.specs.Parts.{imports_of}
-use Rattle.wac_graph_scopes.specs.Imports.{ArePlaced}
+use Rattle.wac_graph_scopes.specs.Imports.{ArePlaced, WritesWorld}
 use Rattle.wac_graph_scopes.specs.Roots.{at_root}
 use Rattle.wac_graph_scopes.proofs.WritingLaws.{value_here}
 use Rattle.wac_composition.specs.Composition.{Placed}
@@ -31,6 +33,9 @@ use Rattle.wac_composition.specs.OuterImports.{outer_imports}
 use Rattle.wac_graph_asks.specs.declared.outers.Outers.{Outers}
 use Rattle.wac_graph_asks.specs.Graphs.{composition_of, import_by, nodes_of, item_of}
 use Rattle.wac_graph_asks.specs.Outers.{IsOuters}
+use Rattle.wac_graph_asks.specs.Wirings.{asked_trees}
+use Rattle.wac_graph_asks.proofs.Arguments.{named_among}
+use Rattle.wac_composition.proofs.Clashing.{name_found}
 use Rattle.wac_graph_asks.proofs.Origins.{node_among, among_mapped}
 use Rattle.wac_graph_encode.specs.Standing.{spelled, GivesItem, IsOuterAt}
 use Rattle.wac_graph_encode.proofs.ItemSorts.{fits_sort, import_there}
@@ -79,3 +84,24 @@ module _ (g : Graph) (sound : IsGraph g) (finite_types : IsAcyclic g.types) (c :
             (fits_sort c acyclic g.types finite_types k x.item_kind p.sort (import_there c acyclic o.world is.stands (spelled g one.name) k first) ((sound.nodes j x there).item) here.sort fits,
              λ instance. (tree_in c k, refl, tree_in_order (stated_of c k), fits));
       }
+
+  -- what is imported is what is asked, once all of it is written
+  pub imports_asked : (w : Worlds) (s : ImportScope) (imported : List Name) (h : WritesWorld w c [] o.world s imported []) → ((n : Name) → Among n (names_of (imports_of c o.world)) → Among n imported)
+      → (n : Name) → value_at h.writing.inside.imports n ≡ asked_trees g n
+  unfolding tree_in
+  imports_asked w s imported h all n = go (value_at h.writing.inside.imports n) refl
+    where
+      asked_is : asked_trees g n ≡ option_map tree (option_map (stated_of c) (value_at (imports_of c o.world) n))
+      asked_is = ap (λ es. option_map tree (value_at es n)) (sym is.imports) ∙ ap (option_map tree) (value_with (stated_of c) (imports_of c o.world) n)
+
+      none_asked : value_at h.writing.inside.imports n ≡ None → (v : Option ItemKind) → value_at (imports_of c o.world) n ≡ v → option_map tree (option_map (stated_of c) v) ≡ None
+      none_asked e None f = refl
+      none_asked e (Some k) f =
+          let there : Among n (names_of h.writing.inside.imports) = subst (λ l. Among n l) (sym h.writing.imports) (all n (named_among (imports_of c o.world) n k f)) in
+          absurd (true≢false (ap is_none (sym e) ∙ name_found h.writing.inside.imports n there))
+
+      go : (v : Option Tree) → value_at h.writing.inside.imports n ≡ v → value_at h.writing.inside.imports n ≡ asked_trees g n
+      go (Some t) e =
+          let tree_is = h.writing.import_trees n t (value_at-among h.writing.inside.imports n t e) in
+          e ∙ ap Some tree_is.2 ∙ sym (asked_is ∙ ap (λ v. option_map tree (option_map (stated_of c) v)) tree_is.1)
+      go None e = e ∙ sym (asked_is ∙ none_asked e (value_at (imports_of c o.world) n) refl)
