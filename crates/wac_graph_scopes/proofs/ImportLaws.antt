@@ -29,14 +29,13 @@ use Rattle.wac_types_fit.proofs.Unfolded as unfolded
 use Rattle.wac_graph_bytes.specs.declared.value.Sort.{Sort}
 use Rattle.wac_graph_bytes.specs.declared.value.Sort.TheVariants as sort
 use Rattle.wac_graph_bytes.specs.declared.value.Description.{Description}
-use Rattle.wac_graph_bytes.specs.declared.value.Description.TheVariants as desc
 use Rattle.wac_graph_bytes.specs.declared.entry.Declaration.{Import}
 use Rattle.wac_graph_bytes.specs.Counting.{description_sort}
 use Rattle.wac_graph_bytes.specs.Entries.{End}
 use Rattle.wac_graph_bytes.specs.Typing as typing
 use Rattle.wac_graph_bytes.specs.Typing.{◌>>=◌, Worlds, Meaning, Item, Scope, space, with_one, Inside, nothing_inside, imports_inside, declared, described, found, item_tree, type_at, type_tree, item_of, type_in, as_sort, get, export_named, some_if, distinct_names, component_of, fields_in}
 use Rattle.wac_graph_bytes.specs.Views.{before, declarations_of}
-use Rattle.wac_graph_bytes.proofs.Steps.{get_last}
+use Rattle.wac_graph_bytes.proofs.Steps.{last_of}
 use Rattle.wac_graph_bytes.proofs.Distinct.{distinct_decides}
 use Rattle.wac_graph_scopes.specs.declared.items.ItemScope.{ItemScope}
 use Rattle.wac_graph_scopes.specs.declared.used.UsedIndex.{UsedIndex}
@@ -45,8 +44,8 @@ use Rattle.wac_graph_scopes.specs.declared.imports.SortIndex.{SortIndex}
 use Rattle.wac_graph_scopes.specs.declared.imports.ImportScope.{ImportScope}
 use Rattle.wac_graph_scopes.specs.Scopes.{Extends}
 use Rattle.wac_graph_scopes.specs.Parts.{interface_in, exports_in, exports_of, imports_of, world_exports_of, IsUsedKind, IsOfWorld}
-use Rattle.wac_graph_scopes.specs.Items.{IsItemScope, ItemsGo, GivesType, ExportsItem, IsTypeItem, IsUsedType, AreUsed, IsSorted, Describes, IsTreeOf, AreTreesOf, IsInstanceAt, StatesComponent, described_as}
-use Rattle.wac_graph_scopes.specs.Imports.{NoneWritten, ArePlaced, WritesWorld, HasAlias, DescribesIn, ImportsItem, names_at, IsNewAt, BeginsWorld}
+use Rattle.wac_graph_scopes.specs.Items.{IsItemScope, ItemsGo, GivesType, ExportsItem, IsTypeItem, IsUsedType, AreUsed, IsSorted, Describes, IsTreeOf, AreTreesOf, StatesComponent, described_as}
+use Rattle.wac_graph_scopes.specs.Imports.{NoneWritten, IsImportAt, ArePlaced, WritesWorld, HasAlias, DescribesIn, ImportsItem, names_at, IsNewAt, BeginsWorld}
 use Rattle.wac_graph_scopes.proofs.ScopeLaws.{Extends-refl, Extends-one}
 use Rattle.wac_graph_scopes.proofs.ItemLaws.{used_on}
 use Rattle.wac_graph_scopes.proofs.UsedLaws.{plain_item}
@@ -76,11 +75,11 @@ export_tree c acyclic id n t e =
 
 -- ---- what stands on
 
-pub instance_on : (w : Worlds) (g h : Scope) (outer : List Scope) (t : Tree) (k : ℕ) → Extends g h → IsInstanceAt w (g ∷ outer) t k → IsInstanceAt w (h ∷ outer) t k
-instance_on w g h outer t k x a = (a.0, x.indexes sort.Instance k a.0 a.1, a.2)
+pub import_on : (c : Collection) (g h : Scope) (outer : List Scope) (n : Name) (k : ItemKind) (p : SortIndex) → Extends g h → IsImportAt c (g ∷ outer) n k p → IsImportAt c (h ∷ outer) n k p
+import_on c g h outer n k p x a = record { sort = a.sort; means = x.indexes p.sort p.index (Item n p.sort (tree_in c k)) a.means }
 
 pub placed_on : (w : Worlds) (c : Collection) (g h : Scope) (outer : List Scope) (is : List (Name × ItemKind)) (ps : List (Option SortIndex)) → Extends g h → ArePlaced w c (g ∷ outer) is ps → ArePlaced w c (h ∷ outer) is ps
-placed_on w c g h outer is ps x a at n k p e f q = instance_on w g h outer (tree_in c k) p.index x (a at n k p e f q)
+placed_on w c g h outer is ps x a at n k p e f = import_on c g h outer n k p x (a at n k p e f)
 
 module _ (w : Worlds) (c : Collection) (outer : List Scope) (world : WorldId) (imported exported : List Name) where
   -- the items' scope goes on
@@ -133,9 +132,9 @@ module _ (w : Worlds) (c : Collection) (outer : List Scope) (world : WorldId) (i
 
   -- one more import, which is written at its place
   pub world_imports : (s t : ImportScope) (h : WritesWorld w c outer world s imported exported) (n : Name) (kind : ItemKind) (d : Description) (at : ℕ) (p : SortIndex) → slice_get (imports_of c world) at ≡ Some (n, kind)
-      → AreDistinct (names_of (imports_of c world)) → ImportsItem w c outer h.writing.inside n (tree_in c kind) d t.scope p → t.used.all.items ≡ s.used.all.items → t.places.items ≡ slice_set s.places.items at (Some p)
+      → AreDistinct (names_of (imports_of c world)) → IsSorted kind d → ImportsItem w c outer h.writing.inside n (tree_in c kind) d t.scope p → t.used.all.items ≡ s.used.all.items → t.places.items ≡ slice_set s.places.items at (Some p)
       → (Among n imported → ⊥) → WritesWorld w c outer world t (imported ++ n ∷ []) exported
-  world_imports s t h n kind d at p there distinct a us ps new =
+  world_imports s t h n kind d at p there distinct sorted a us ps new =
       let i = h.writing.inside in
       let is = imports_of c world in
       let tree = tree_in c kind in
@@ -155,17 +154,17 @@ module _ (w : Worlds) (c : Collection) (outer : List Scope) (world : WorldId) (i
           export_trees = subst (AreTreesOf c (world_exports_of c world)) (sym a.exports) k.export_trees;
         };
         used = subst (AreUsed w c (a.after.here ∷ outer) 0) (sym us) (used_on w c i.here a.after.here outer 0 s.used.all.items a.extends h.used);
-        placed = λ x m l q e f g. elim (apart x at (eqb x at) refl) [
+        placed = λ x m l q e f. elim (apart x at (eqb x at) refl) [
           | inl same ↦
               let lt = slice_get_within (slice_set s.places.items at (Some p)) x (Some q) (ap (λ l. slice_get l x) (sym ps) ∙ f) in
               let within : at < length s.places.items = omega (arith, lt, length-set s.places.items at (Some p), same) in
               let now : Some (Some q) ≡ Some (Some p) = sym (ap (λ l. slice_get l x) (sym ps) ∙ f) ∙ ap (slice_get (slice_set s.places.items at (Some p))) same ∙ slice_get-set_same s.places.items at (Some p) within in
               let is_p : q ≡ p = cc now in
               let is_k : (m, l) ≡ (n, kind) = cc (e, there, same) in
-              let sorted = ap (λ (z : SortIndex). z.sort) (sym is_p) ∙ g in
-              subst (λ (z : SortIndex). IsInstanceAt w (a.after.here ∷ outer) (tree_in c l) z.index) (sym is_p)
-              (subst (λ (y : Name × ItemKind). IsInstanceAt w (a.after.here ∷ outer) (tree_in c y.1) p.index) (sym is_k) (a.there sorted))
-          | inr other ↦ instance_on w i.here a.after.here outer (tree_in c l) q.index a.extends (h.placed x m l q e (sym (slice_get-set_other s.places.items at x (Some p) other) ∙ ap (λ l. slice_get l x) (sym ps) ∙ f) g)
+              let there_now : IsImportAt c (a.after.here ∷ outer) n kind p = record { sort = sorted ∙ ap Some (sym a.sort_is); means = a.means } in
+              subst (λ (z : SortIndex). IsImportAt c (a.after.here ∷ outer) m l z) (sym is_p)
+              (subst (λ (y : Name × ItemKind). IsImportAt c (a.after.here ∷ outer) y.0 y.1 p) (sym is_k) there_now)
+          | inr other ↦ import_on c i.here a.after.here outer m l q a.extends (h.placed x m l q e (sym (slice_get-set_other s.places.items at x (Some p) other) ∙ ap (λ l. slice_get l x) (sym ps) ∙ f))
         ];
       }
 
@@ -175,7 +174,7 @@ pub world_begun : (s : ImportScope) → ((w : Worlds) (c : Collection) (outer : 
 world_begun s h us ps w c outer world = record {
   writing = record { inside = nothing_inside; stands = h w c outer; imports = refl; imports_once = tt; import_trees = λ n t m. absurd m; exports = refl; exports_once = tt; export_trees = λ n t m. absurd m };
   used = λ u m. absurd (subst (λ (l : List UsedIndex). Among u l) us m);
-  placed = λ at n k p e f g. absurd (ps at p f);
+  placed = λ at n k p e f. absurd (ps at p f);
 }
 
 pub none_pushed : (ps : List (Option SortIndex)) → NoneWritten ps → NoneWritten (ps ++ None ∷ [])
@@ -191,13 +190,6 @@ module _ (w : Worlds) (c : Collection) (outer : List Scope) (i : Inside) where
   unfolding declared
   import_declared n d x e = ap (λ (o : Option (Sort × Tree)). o >>= λ y. Some (imports_inside (string_bytes n) y i)) e
 
-  import_there : (n : Name) (t : Tree) (so : Sort) (k : ℕ) → k ≡ length (space so i.here) → so ≡ sort.Instance → IsInstanceAt w ((imports_inside n (so, t) i).here ∷ outer) t k
-  import_there n t sort.Func k e s = absurd (cc s)
-  import_there n t sort.Ty k e s = absurd (cc s)
-  import_there n t sort.Component k e s = absurd (cc s)
-  import_there n t sort.Instance k e s = (Item n sort.Instance t, get_last i.here.instances (Item n sort.Instance t) k e, refl)
-  import_there n t sort.Module k e s = absurd (cc s)
-
   pub imported_item : (m n : Name) (t : Tree) (d : Description) (u : ItemScope) (k : ℕ) → m ≡ n → IsItemScope w c outer (imports_inside m (description_sort d, t) i) u → k ≡ length (space (description_sort d) i.here)
       → ImportsItem w c outer i n t d u (record { sort = description_sort d; index = k })
   imported_item m n t d u k e h at = record {
@@ -207,7 +199,7 @@ module _ (w : Worlds) (c : Collection) (outer : List Scope) (i : Inside) where
     imports = ap (λ (x : Name). i.imports ++ (x, t) ∷ []) e;
     exports = refl;
     sort_is = refl;
-    there = import_there m t (description_sort d) k at;
+    means = last_of (description_sort d) (Item m (description_sort d) t) i.here k at ∙ ap (λ (x : Name). Some (Item x (description_sort d) t)) e;
   }
 
 -- ---- in order
@@ -283,7 +275,7 @@ module _ (c : Collection) (acyclic : IsAcyclic c) where
       record {
         after = a.after;
         goes = a.goes;
-        sorted = tt;
+        sorted = refl;
         reads = λ n. ap (λ (o : Option Tree). o >>= as_sort sort.Component >>= λ t. Some (sort.Component, t)) (a.index ∙ ap Some (sym same)) ∙ ap (λ (o : Option Tree). o >>= λ t. Some (sort.Component, t)) sorted;
       }
   component_described w outer i (ItemKind.Ty (TypeKind.World j)) id s k is stands a =
@@ -319,24 +311,6 @@ world_stands c (ItemKind.Func j) id is s = absurd is
 world_stands c (ItemKind.Instance j) id is s = absurd is
 world_stands c (ItemKind.Module j) id is s = absurd is
 world_stands c (ItemKind.Value j) id is s = absurd is
-
--- ---- types by their descriptions
-
-pub sorted_equal : (kind : ItemKind) (k : ℕ) → IsSorted kind (desc.Equal k)
-sorted_equal (ItemKind.Ty t) k = refl
-sorted_equal (ItemKind.Func f) k = tt
-sorted_equal (ItemKind.Instance f) k = tt
-sorted_equal (ItemKind.Component f) k = tt
-sorted_equal (ItemKind.Module f) k = tt
-sorted_equal (ItemKind.Value f) k = tt
-
-pub sorted_fresh : (kind : ItemKind) → IsSorted kind desc.Resource
-sorted_fresh (ItemKind.Ty t) = refl
-sorted_fresh (ItemKind.Func f) = tt
-sorted_fresh (ItemKind.Instance f) = tt
-sorted_fresh (ItemKind.Component f) = tt
-sorted_fresh (ItemKind.Module f) = tt
-sorted_fresh (ItemKind.Value f) = tt
 
 -- ---- all of them
 

@@ -12,18 +12,19 @@ use Rattle.wac_types_base.specs.declared.defined.ResourceAlias.{ResourceAlias}
 use Rattle.wac_types_base.specs.Record.{Collection}
 use Rattle.wac_types_base.specs.Entries.{Name}
 use Rattle.wac_types_base.specs.Collection.{Stands, IsAcyclic, size_of, resource}
-use Rattle.wac_types_base.specs.Stated.{IsResource}
+use Rattle.wac_types_base.specs.Stated.{Kind, IsResource}
 use Rattle.wac_types_base.specs.Tree.{Tree, rigid, instance, component, core_module, handle_own, handle_borrow, type_item, end}
 use Rattle.wac_types_base.specs.Fits.{Fits, rigid_fits, own_fits, borrow_fits, instance_fits, component_fits, module_fits, type_fits}
 use Rattle.wac_types_base.specs.Resolving.{IsNoAlias}
 use Rattle.wac_types_base.proofs.Standing.{resource_found, defined_found}
 use Rattle.wac_types_base.proofs.Slots.{stands_typed_value}
-use Rattle.wac_types_base.proofs.Telling.{resource_source}
+use Rattle.wac_types_base.proofs.Telling.{item_kind, resource_source}
 use Rattle.wac_types_fit.specs.Trees.{tree_in, Fit}
 use Rattle.wac_types_fit.specs.Checking.{IsFlat}
 use Rattle.wac_types_fit.proofs.Unfolded.{root_tree, source_tree, type_value}
-use Rattle.wac_types_fit.proofs.ItemKinds.{tree_kind, IsFlatTree, fits_flat, flat_is, kind_is}
+use Rattle.wac_types_fit.proofs.ItemKinds.{tree_kind, is_type, IsFlatTree, fits_flat, flat_is, kind_is}
 use Rattle.wac_types_base.specs.declared.item.PrimitiveType.{PrimitiveType}
+use Rattle.wac_graph_bytes.specs.declared.value.Sort.TheVariants as sort
 use Rattle.wac_graph_bytes.specs.declared.value.ValueType.TheVariants.{Primitive, Index}
 use Rattle.wac_graph_bytes.specs.declared.entry.DefinedType.TheVariants as code
 use Rattle.wac_graph_bytes.specs.Views.{defined_view}
@@ -31,10 +32,10 @@ use Rattle.wac_graph_bytes.specs.Typing.{Worlds, Scope, Inside, defined, item_of
 use Rattle.wac_graph_bytes.proofs.Steps.{bind_some}
 use Rattle.wac_graph_bytes.proofs.Looked.{type_in_item}
 use Rattle.wac_graph_scopes.specs.declared.scope.TypeScope.{TypeScope}
-use Rattle.wac_graph_scopes.specs.Parts.{IsUsedKind}
+use Rattle.wac_graph_scopes.specs.Parts.{IsUsedKind, IsFresh}
 use Rattle.wac_graph_scopes.specs.Scopes.{IsScope, StandsFor, AnswersType, AnswersValue}
 use Rattle.wac_graph_scopes.proofs.ScopeLaws.{Goes-refl, Goes-trans}
-use Rattle.wac_graph_scopes.specs.Items.{IsTypeItem, IsNotable}
+use Rattle.wac_graph_scopes.specs.Items.{IsTypeItem, IsNotable, sort_of}
 use Rattle.wac_graph_scopes.specs.Forms.{row_of}
 use Rattle.wac_graph_scopes.proofs.FormLaws.{entry_is_value, index_reads, trees_by}
 use Rattle.wac_graph_scopes.proofs.ValueLaws.{defined_tree_is, not_alias, value_remembered}
@@ -134,6 +135,39 @@ module _ (c : Collection) (acyclic : IsAcyclic c) (j k : ItemKind) where
 
   pub fits_used : IsUsedKind k → Stands c k → Fit c j c k → tree_in c j ≡ tree_in c k
   fits_used u s f = flat_fits (tree_in c j) (tree_in c k) (flat_is c acyclic k (used_flat k u) s) f
+
+-- ---- the sort of a type
+
+-- what has the tree of a type item is one
+type_kind : (k : ItemKind) (s : Kind) → is_type s ≡ true → item_kind k ≡ s → sort_of k ≡ Some sort.Ty
+type_kind (ItemKind.Ty t) s h e = refl
+type_kind (ItemKind.Func f) s h e = absurd (cc (ap is_type e, h))
+type_kind (ItemKind.Instance f) s h e = absurd (cc (ap is_type e, h))
+type_kind (ItemKind.Component f) s h e = absurd (cc (ap is_type e, h))
+type_kind (ItemKind.Module f) s h e = absurd (cc (ap is_type e, h))
+type_kind (ItemKind.Value f) s h e = absurd (cc (ap is_type e, h))
+
+used_is_type : (k : ItemKind) → IsUsedKind k → is_type (item_kind k) ≡ true
+used_is_type (ItemKind.Ty (TypeKind.Resource r)) u = refl
+used_is_type (ItemKind.Ty (TypeKind.Value v)) u = refl
+used_is_type (ItemKind.Ty (TypeKind.Func f)) u = absurd u
+used_is_type (ItemKind.Ty (TypeKind.Interface f)) u = absurd u
+used_is_type (ItemKind.Ty (TypeKind.World f)) u = absurd u
+used_is_type (ItemKind.Ty (TypeKind.Module f)) u = absurd u
+used_is_type (ItemKind.Func f) u = absurd u
+used_is_type (ItemKind.Instance f) u = absurd u
+used_is_type (ItemKind.Component f) u = absurd u
+used_is_type (ItemKind.Module f) u = absurd u
+used_is_type (ItemKind.Value f) u = absurd u
+
+module _ (c : Collection) (acyclic : IsAcyclic c) where
+  -- the same as a used type
+  pub sorted_used : (item kind : ItemKind) → IsUsedKind item → Stands c item → Stands c kind → tree_in c item ≡ tree_in c kind → sort_of kind ≡ Some sort.Ty
+  sorted_used item kind used s r same =
+      type_kind kind (item_kind item) (used_is_type item used) (sym (kind_is c acyclic kind r) ∙ ap tree_kind (sym same) ∙ kind_is c acyclic item s)
+
+  pub sorted_fresh : (n : Name) (kind : ItemKind) → IsFresh c n kind → sort_of kind ≡ Some sort.Ty
+  sorted_fresh n kind f = type_kind kind IsResource refl (sym (kind_is c acyclic kind f.0) ∙ ap tree_kind f.1)
 
 -- ---- indexes
 

@@ -37,7 +37,7 @@ use Rattle.wac_graph_bytes.specs.Entries.{End}
 use Rattle.wac_graph_bytes.specs.Typing as typing
 use Rattle.wac_graph_bytes.specs.Typing.{◌>>=◌, Worlds, Meaning, Item, Known, Scope, space, with_one, Inside, nothing_inside, adds_inside, imports_inside, exports_inside, declared, described, found_at, type_tree, type_at, item_of, type_in, as_func, as_sort, module_tree, instance_by}
 use Rattle.wac_graph_bytes.specs.Views.{before, declarations_of, module_view}
-use Rattle.wac_graph_bytes.proofs.Steps.{get_last}
+use Rattle.wac_graph_bytes.proofs.Steps.{get_last, some_is}
 use Rattle.wac_graph_bytes.proofs.Rows.{before_instance, before_component}
 use Rattle.wac_graph_scopes.specs.declared.scope.TypeScope.{TypeScope}
 use Rattle.wac_graph_scopes.specs.declared.items.ItemScope.{ItemScope}
@@ -160,7 +160,7 @@ module _ (w : Worlds) (c : Collection) (outer : List Scope) (i : Inside) where
       record {
         after = a.after;
         goes = a.goes;
-        sorted = tt;
+        sorted = refl;
         reads = λ n. ap (λ (o : Option Tree). o >>= as_sort sort.Func >>= λ t. Some (sort.Func, t)) a.index ∙ ap (λ (o : Option Tree). o >>= λ t. Some (sort.Func, t)) is;
       }
 
@@ -177,7 +177,7 @@ pub module_described : (w : Worlds) (c : Collection) (outer : List Scope) (i : I
 module_described w c outer i m s k a = record {
   after = a.after;
   goes = a.goes;
-  sorted = tt;
+  sorted = refl;
   reads = λ n. ap (λ (o : Option Tree). o >>= λ t. Some (sort.Module, t)) a.index;
 }
 
@@ -192,8 +192,9 @@ pub noted_item : (w : Worlds) (c : Collection) (outer : List Scope) (i : Inside)
 noted_item w c outer i n (ItemKind.Ty t) d k stands sorted e =
     let u = tree_in c (ItemKind.Ty t) in
     let m = Item n (description_sort d) u in
-    let at : k ≡ length i.here.types = e ∙ ap (λ (x : Sort). length (space x i.here)) sorted in
-    let types : (with_one (description_sort d) m i.here).types ≡ i.here.types ++ m ∷ [] = ap (λ (x : Sort). (with_one x m i.here).types) sorted in
+    let is : description_sort d ≡ sort.Ty = sym (some_is sort.Ty (description_sort d) sorted) in
+    let at : k ≡ length i.here.types = e ∙ ap (λ (x : Sort). length (space x i.here)) is in
+    let types : (with_one (description_sort d) m i.here).types ≡ i.here.types ++ m ∷ [] = ap (λ (x : Sort). (with_one x m i.here).types) is in
     let there : slice_get (with_one (description_sort d) m i.here).types k ≡ Some m = ap (λ (l : List Meaning). slice_get l k) types ∙ get_last i.here.types m k at in
     (stands, ap (λ (o : Option Meaning). o >>= type_tree w) there)
 noted_item w c outer i n (ItemKind.Func f) d k stands sorted e = tt
@@ -316,7 +317,7 @@ module _ (c : Collection) (acyclic : IsAcyclic c) where
       record {
         after = a.after;
         goes = a.goes;
-        sorted = tt;
+        sorted = refl;
         reads = λ n. ap (λ (o : Option Tree). o >>= as_sort sort.Instance >>= λ t. Some (sort.Instance, t)) (a.index ∙ ap Some (sym same)) ∙ ap (λ (o : Option Tree). o >>= λ t. Some (sort.Instance, t)) sorted;
       }
   instance_described w outer i (ItemKind.Ty (TypeKind.Interface j)) id s k is stands a =

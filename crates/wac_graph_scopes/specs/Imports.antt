@@ -15,7 +15,8 @@ use Rattle.wac_graph_bytes.specs.declared.value.Sort.TheVariants as sort
 use Rattle.wac_graph_bytes.specs.declared.value.Description.{Description}
 use Rattle.wac_graph_bytes.specs.declared.entry.Declaration.{Declaration}
 use Rattle.wac_graph_bytes.specs.Counting.{description_sort}
-use Rattle.wac_graph_bytes.specs.Typing.{Worlds, Scope, Inside, export_named, described}
+use Rattle.wac_graph_bytes.specs.Typing as typing
+use Rattle.wac_graph_bytes.specs.Typing.{Worlds, Scope, Inside, found, export_named, described}
 use Rattle.wac_graph_bytes.specs.Views.{declarations_of}
 use Rattle.wac_graph_scopes.specs.declared.items.ItemScope.{ItemScope}
 use Rattle.wac_graph_scopes.specs.declared.imports.Importing.{Importing}
@@ -24,7 +25,7 @@ use Rattle.wac_graph_scopes.specs.declared.imports.ImportScope.{ImportScope}
 use Rattle.wac_graph_scopes.specs.declared.parts.Item.{Item}
 use Rattle.wac_graph_scopes.specs.Parts.{exports_of, imports_of, world_exports_of, IsUsedKind}
 use Rattle.wac_graph_scopes.specs.Scopes.{Extends}
-use Rattle.wac_graph_scopes.specs.Items.{IsItemScope, AreUsed, IsTypeItem, IsInstanceAt, IsTreeOf, IsSorted, Writing, StatesComponent}
+use Rattle.wac_graph_scopes.specs.Items.{IsItemScope, AreUsed, IsTypeItem, IsInstanceAt, IsTreeOf, sort_of, IsSorted, Writing, StatesComponent}
 
 -- what the world imports and exports
 abbrev pub all_imports : Importing → List (Name × ItemKind)
@@ -33,7 +34,7 @@ all_imports a = imports_of a.types.now a.world
 abbrev pub all_exports : Importing → List (Name × ItemKind)
 all_exports a = world_exports_of a.types.now a.world
 
--- ---- instances that are imported
+-- ---- what is written of imports
 
 abbrev pub NoneWritten : List (Option SortIndex) → Type 0
 NoneWritten ps = (at : ℕ) (p : SortIndex) → slice_get ps at ≡ Some (Some p) → ⊥
@@ -46,9 +47,14 @@ IsInstanceImport is at id = (n : Name) × (slice_get is at ≡ Some (n, ItemKind
 abbrev pub IsPlaced : List (Option SortIndex) → ℕ → ℕ → Type 0
 IsPlaced ps at k = slice_get ps at ≡ Some (Some (record { sort = sort.Instance; index = k }))
 
--- what is written of an imported instance stands for it
+-- the index stands for the import of that name, and is of the item's sort
+pub record IsImportAt (c : Collection) (ss : List Scope) (n : Name) (k : ItemKind) (p : SortIndex) : Type 0 where
+  pub sort : sort_of k ≡ Some p.sort
+  pub means : found ss p.sort p.index ≡ Some (typing.Item n p.sort (tree_in c k))
+
+-- what is written of an import stands for it
 abbrev pub ArePlaced : Worlds → Collection → List Scope → List (Name × ItemKind) → List (Option SortIndex) → Type 0
-ArePlaced w c ss is ps = (at : ℕ) (n : Name) (k : ItemKind) (p : SortIndex) → slice_get is at ≡ Some (n, k) → slice_get ps at ≡ Some (Some p) → p.sort ≡ sort.Instance → IsInstanceAt w ss (tree_in c k) p.index
+ArePlaced w c ss is ps = (at : ℕ) (n : Name) (k : ItemKind) (p : SortIndex) → slice_get is at ≡ Some (n, k) → slice_get ps at ≡ Some (Some p) → IsImportAt c ss n k p
 
 -- the import at the place is an instance that exports the item under that name
 pub record GivesAt (c : Collection) (is : List (Name × ItemKind)) (at : ℕ) (n : Name) (item : ItemKind) : Type 0 where
@@ -61,7 +67,7 @@ GivesTaken a at n item r = Stands a.types.now item → IsUsedKind item → IfOk 
 
 -- ---- a world that is being written
 
--- The scope stands, with these of the world's imports and these of its exports; the used types and the instances are true.
+-- The scope stands, with these of the world's imports and these of its exports; the used types and the places of imports are true.
 pub record WritesWorld (w : Worlds) (c : Collection) (outer : List Scope) (world : WorldId) (s : ImportScope) (imported exported : List Name) : Type 0 where
   pub writing : Writing w c outer (imports_of c world) (world_exports_of c world) s.scope imported exported
   pub used : AreUsed w c (writing.inside.here ∷ outer) 0 s.used.all.items
@@ -116,7 +122,7 @@ MayDescribe a x old new r = (w : Worlds) (outer : List Scope) (imported exported
 
 -- ---- imports
 
--- The scope stands, extended, with the item behind the other imports; if it is an instance, the index stands for it.
+-- The scope stands, extended, with the item behind the other imports; the index stands for it.
 pub record ImportsItem (w : Worlds) (c : Collection) (outer : List Scope) (i : Inside) (n : Name) (t : Tree) (d : Description) (s : ItemScope) (p : SortIndex) : Type 0 where
   pub after : Inside
   pub stands : IsItemScope w c outer after s
@@ -124,7 +130,7 @@ pub record ImportsItem (w : Worlds) (c : Collection) (outer : List Scope) (i : I
   pub imports : after.imports ≡ i.imports ++ (n, t) ∷ []
   pub exports : after.exports ≡ i.exports
   pub sort_is : p.sort ≡ description_sort d
-  pub there : p.sort ≡ sort.Instance → IsInstanceAt w (after.here ∷ outer) t p.index
+  pub means : found (after.here ∷ outer) p.sort p.index ≡ Some (typing.Item n p.sort t)
 
 abbrev pub ImportsDescribed : {E : Type 0} → Collection → Item → Description → ItemScope → ItemScope → Result SortIndex E → Type 0
 ImportsDescribed c x d old new r = (w : Worlds) (outer : List Scope) (i : Inside) → IsItemScope w c outer i old → Stands c x.kind → IsSorted x.kind d

@@ -12,6 +12,7 @@ use Rattle.wac_types_base.specs.Entries.{Name, names_of, value_at, has_name, Are
 use Rattle.wac_types_base.specs.Collection.{Stands}
 use Rattle.wac_types_base.specs.Tree.{Tree}
 use Rattle.wac_types_fit.specs.Trees.{tree_in}
+use Rattle.wac_graph_bytes.specs.declared.value.Sort.{Sort}
 use Rattle.wac_graph_bytes.specs.declared.value.Sort.TheVariants as sort
 use Rattle.wac_graph_bytes.specs.declared.value.Description.{Description}
 use Rattle.wac_graph_bytes.specs.declared.value.Description.TheVariants as desc
@@ -50,10 +51,18 @@ pub record GivesType (w : Worlds) (c : Collection) (outer : List Scope) (i : Ins
   pub goes : ItemsGo w c outer i after s
   pub index : type_at w (after.here ∷ outer) k ≡ Some t
 
--- a type item is of the sort of types
+-- the sort of an item; a value has none
+abbrev pub sort_of : ItemKind → Option Sort
+sort_of (ItemKind.Ty t) = Some sort.Ty
+sort_of (ItemKind.Func f) = Some sort.Func
+sort_of (ItemKind.Instance i) = Some sort.Instance
+sort_of (ItemKind.Component w) = Some sort.Component
+sort_of (ItemKind.Module m) = Some sort.Module
+sort_of (ItemKind.Value v) = None
+
+-- the description is one of the item's sort
 abbrev pub IsSorted : ItemKind → Description → Type 0
-IsSorted (ItemKind.Ty t) d = description_sort d ≡ sort.Ty
-IsSorted kind d = Unit {0}
+IsSorted kind d = sort_of kind ≡ Some (description_sort d)
 
 -- and what is so described is the item, whatever its name
 pub record Describes (w : Worlds) (c : Collection) (outer : List Scope) (i : Inside) (kind : ItemKind) (s : ItemScope) (d : Description) : Type 0 where

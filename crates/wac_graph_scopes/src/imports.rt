@@ -219,7 +219,11 @@ impl ImportScope {
     }
 
     /// What is written of the imports, in their order, which is taken from here.
-    pub fn take_places(&mut self, alloc: Global) -> Vec<Option<SortIndex>> {
+    pub fn take_places(&mut self, alloc: Global) -> Vec<Option<SortIndex>>
+        ensures places { result.items ≡ self.old.places.items }
+        ensures scope { self.new.scope ≡ self.old.scope }
+        ensures used { self.new.used ≡ self.old.used }
+    {
         let none = Vec::new(alloc);
         mem::replace(&mut self.places, none)
     }
@@ -541,6 +545,7 @@ impl ImportScope {
     ) -> Result<Option<Description>, WriteError>
         ensures { MayDescribe all.entry import.entry self.old self.new result }
     {
+        all.types.see_acyclic();
         if is_fresh(all.types, import) {
             return Ok(Some(Description::Resource));
         }

@@ -413,6 +413,7 @@ pub(crate) fn export_resource(
 ) -> Result<(), WriteError>
     ensures { ExportsFresh types.now item.entry scope.old scope.new result }
 {
+    types.see_acyclic();
     export_described(alloc, scope, types, item, Description::Resource)
 }
 

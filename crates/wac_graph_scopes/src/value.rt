@@ -117,6 +117,7 @@ fn push_resolved(
 pub fn fits_in(alloc: Global, types: &Types, a: ItemKind, b: ItemKind) -> Result<bool, WriteError>
     ensures fits { IfOk result (λ yes. yes ≡ true → Fit types.now a types.now b) }
     ensures stands { IfOk result (λ yes. yes ≡ true → Stands types.now a) }
+    ensures other_stands { IfOk result (λ yes. yes ≡ true → Stands types.now b) }
     ensures refused { IfErr result (λ e. e ≡ WriteError.Memory) }
 {
     if !types.has(a) || !types.has(b) {

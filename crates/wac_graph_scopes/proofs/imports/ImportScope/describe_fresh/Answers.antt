@@ -1,10 +1,10 @@
 use Rattle.std.proofs.Common.{Some, refl, sym, ap}
 use Rattle.wac_types_base.specs.Tree.{Tree}
 use Rattle.wac_graph_bytes.specs.declared.value.Sort.TheVariants as sort
-use Rattle.wac_graph_scopes.proofs.ImportLaws.{sorted_fresh}
+use Rattle.wac_graph_scopes.proofs.UsedLaws.{sorted_fresh}
 use Rattle.wac_graph_scopes.proofs.imports.ImportScope.describe_fresh.Goals as goal
 
 pub returns-then-is_fresh : goal.returns-then-is_fresh
 returns-then-is_fresh c w outer imported exported h =
     let f = c.if-is_fresh.ensures refl in
-    record { goes = h; sorted = sorted_fresh c.args.import.kind; reads = ap (λ (x : Tree). Some (sort.Ty, x)) (sym f.1) }
+    record { goes = h; sorted = sorted_fresh c.args.all.types.now c.see_acyclic.ensures c.args.import.name.now c.args.import.kind f; reads = ap (λ (x : Tree). Some (sort.Ty, x)) (sym f.1) }

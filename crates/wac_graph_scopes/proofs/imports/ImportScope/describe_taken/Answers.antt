@@ -4,8 +4,7 @@ use Rattle.wac_types_fit.specs.Trees.{tree_in}
 use Rattle.wac_graph_bytes.specs.declared.value.Sort.TheVariants as sort
 use Rattle.wac_graph_bytes.specs.Typing.{◌>>=◌, item_of}
 use Rattle.wac_graph_scopes.specs.Imports.{HasAlias}
-use Rattle.wac_graph_scopes.proofs.UsedLaws.{used_fits}
-use Rattle.wac_graph_scopes.proofs.ImportLaws.{sorted_equal}
+use Rattle.wac_graph_scopes.proofs.UsedLaws.{used_fits, sorted_used}
 use Rattle.wac_graph_scopes.proofs.imports.ImportScope.describe_taken.Goals as goal
 
 pub returns-in-Some : goal.returns-in-Some
@@ -15,9 +14,10 @@ returns-in-Some c w outer imported exported h =
     let kind = c.args.import.kind in
     let a = subst (HasAlias w types outer c.args.all.world c.alias_of.new.self imported exported (tree_in types item)) c.in-Some.is (c.in_ok-found.ensures c.requires.stands c.requires.kind w outer imported exported h) in
     let same = used_fits types c.see_acyclic.ensures item kind c.requires.kind c.requires.stands (c.in_ok-fits.ensures.fits c.if-not-fits.false) in
+    let there = c.in_ok-fits.ensures.other_stands c.if-not-fits.false in
     record {
       goes = a.goes;
-      sorted = sorted_equal kind c.in-Some.index;
+      sorted = sorted_used types c.see_acyclic.ensures item kind c.requires.kind c.requires.stands there same;
       reads = ap (λ (o : Option Tree). o >>= λ t. Some (sort.Ty, item_of t)) a.index.reads ∙ ap (λ (x : Tree). Some (sort.Ty, x)) (a.index.item ∙ same);
     }
 

@@ -18,4 +18,4 @@ returns c w outer imported exported distinct stands there new h =
     let b = subst (λ (s : ItemScope). ImportsItem w types outer i n (tree_in types import.kind) d s p) (sym c.set_place.ensures.scope) a in
     let us = ap (λ (u : UsedTypes). u.all.items) (c.set_place.ensures.used ∙ c.in_ok-place.ensures.used) in
     let ps = c.set_place.ensures.places ∙ ap (λ v. slice_set v.items c.args.at (Some p)) c.in_ok-place.ensures.places in
-    world_imports w types outer c.args.all.world imported exported c.args.self.now c.set_place.new.self h.goes n import.kind d c.args.at p there distinct b us ps new
+    world_imports w types outer c.args.all.world imported exported c.args.self.now c.set_place.new.self h.goes n import.kind d c.args.at p there distinct h.sorted b us ps new
