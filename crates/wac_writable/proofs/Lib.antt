@@ -1,1 +1,1 @@
-pub mod Modules
+pub mod CoreItems

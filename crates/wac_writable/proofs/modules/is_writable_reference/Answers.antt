@@ -1,5 +1,5 @@
 use Rattle.std.proofs.Common.{◌∙◌}
-use Rattle.wac_writable.proofs.Modules.{reference_tested}
+use Rattle.wac_writable.proofs.CoreItems.{reference_tested}
 use Rattle.wac_writable.proofs.modules.is_writable_reference.Goals as goal
 
 pub returns : goal.returns

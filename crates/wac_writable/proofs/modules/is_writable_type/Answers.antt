@@ -1,5 +1,5 @@
 use Rattle.std.proofs.Common.{◌∙◌}
-use Rattle.wac_writable.proofs.Modules.{type_tested}
+use Rattle.wac_writable.proofs.CoreItems.{type_tested}
 use Rattle.wac_writable.proofs.modules.is_writable_type.Goals as goal
 
 pub returns : goal.returns

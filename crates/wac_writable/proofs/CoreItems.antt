@@ -1,16 +1,17 @@
 -- Core items that can be written.
-use Rattle.std.proofs.Common.{◌≡◌, ◌≢◌, ℕ, zero, suc, ◌+◌, ◌<◌, ◌≤◌, Bool, true, false, not, ◌&&◌, List, [], ◌∷◌, length, drop, get_or, Option, Some, None, is_some, IfSome, refl, sym, ap, ◌∙◌, slice_get, arith}
+use Rattle.std.proofs.Common.{◌≡◌, ◌≢◌, Bool, true, false, ◌&&◌, List, [], ◌∷◌, Option, Some, None, is_some, IfSome, refl, sym, ap, ◌∙◌}
 use Rattle.std.specs.List.{list_all}
 use Rattle.wac_types_base.specs.Entries.{values_of}
 use Rattle.wac_types_base.specs.declared.core_types.HeapType.{HeapType}
 use Rattle.wac_types_base.specs.declared.core_types.CoreRefType.{CoreRefType}
 use Rattle.wac_types_base.specs.declared.core_types.CoreType.{CoreType}
+use Rattle.wac_types_base.specs.declared.core_types.ModuleType.{ModuleType}
 use Rattle.wac_graph_bytes.specs.declared.module.CoreReference.{CoreReference}
 use Rattle.wac_graph_bytes.specs.declared.module.CoreReference.TheVariants as reference
 use Rattle.wac_graph_bytes.specs.declared.module.CoreValue.{CoreValue}
 use Rattle.wac_graph_bytes.specs.declared.module.CoreValue.TheVariants as value
 use Rattle.wac_graph_bytes.specs.Typing.{core_reference_type, core_type}
-use Rattle.wac_composition.specs.Writable.{writable_heap, writable_reference, writable_core_type}
+use Rattle.wac_composition.specs.Writable.{writable_heap, writable_reference, writable_core_type, writable_extern, writable_module}
 
 -- ---- what can be spelled
 
@@ -65,27 +66,15 @@ pub type_tested : (o : Option CoreValue) (t : CoreType) → IfSome o (λ v. core
 type_tested (Some v) t e n = sym (spelled_value v) ∙ ap writable_core_type e
 type_tested None t e n = unspelled_type t (n refl)
 
--- ---- one after another
+-- ---- all of a module
 
-module _ {X : Type 0} (p : X → Bool) where
-  pub passed : (xs : List X) (i : ℕ) (x : X) → slice_get xs i ≡ Some x → list_all p (drop i xs) ≡ p x && list_all p (drop (i + 1) xs)
-  passed [] i x e = absurd (cc e)
-  passed (y ∷ xs) zero x e = let same : y ≡ x = cc e in ap (λ z. p z && list_all p xs) same
-  passed (y ∷ xs) (suc i) x e = passed xs i x e
-
-  pub at_end : (xs : List X) (i : ℕ) → length xs ≤ i → list_all p (drop i xs) ≡ true
-  at_end [] zero h = refl
-  at_end [] (suc i) h = refl
-  at_end (x ∷ xs) zero h = absurd (omega (arith, h))
-  at_end (x ∷ xs) (suc i) h = at_end xs i (omega (arith, h))
-
-  -- after one that passes the rest decides, and one that fails decides
-  pub goes_on : (whole : Bool) (xs : List X) (i : ℕ) (x : X) → slice_get xs i ≡ Some x → p x ≡ true → whole ≡ list_all p (drop i xs) → whole ≡ list_all p (drop (i + 1) xs)
-  goes_on whole xs i x at e h = h ∙ passed xs i x at ∙ ap (λ b. b && list_all p (drop (i + 1) xs)) e
-
-  pub stops : (whole : Bool) (xs : List X) (i : ℕ) (x : X) → slice_get xs i ≡ Some x → p x ≡ false → whole ≡ list_all p (drop i xs) → false ≡ whole
-  stops whole xs i x at e h = sym (h ∙ passed xs i x at ∙ ap (λ b. b && list_all p (drop (i + 1) xs)) e)
-
-pub of_values : {N X : Type 0} (p : X → Bool) (xs : List (N × X)) → list_all p (values_of xs) ≡ list_all (λ e. p e.1) xs
+of_values : {N X : Type 0} (p : X → Bool) (xs : List (N × X)) → list_all p (values_of xs) ≡ list_all (λ e. p e.1) xs
 of_values p [] = refl
 of_values p (x ∷ xs) = ap (λ b. p x.1 && b) (of_values p xs)
+
+pub both_tested : (m : ModuleType) (first second : Bool) → first ≡ list_all writable_extern (values_of m.imports) → second ≡ list_all writable_extern (values_of m.exports) → first && second ≡ writable_module m
+both_tested m first second e f =
+    ap (λ b. b && second) (e ∙ of_values writable_extern m.imports) ∙ ap (λ b. list_all (λ i. writable_extern i.1) m.imports && b) (f ∙ of_values writable_extern m.exports)
+
+pub first_tested : (m : ModuleType) (first : Bool) → first ≡ list_all writable_extern (values_of m.imports) → first ≡ false → first ≡ writable_module m
+first_tested m first e f = f ∙ sym (ap (λ b. b && list_all (λ e. writable_extern e.1) m.exports) (sym (of_values writable_extern m.imports) ∙ sym e ∙ f))
