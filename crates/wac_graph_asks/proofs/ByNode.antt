@@ -1,5 +1,5 @@
 -- What nodes ask and define, one after another by their ids.
-use Rattle.std.specs.Prelude.{filter, filter_map, option_map, option_to_list}
+use Rattle.std.specs.Prelude.{filter_map, option_map, option_to_list}
 use Rattle.std.specs.List.{flat_map, cons_option}
 use Rattle.std.specs.FinMap as finite
 use Rattle.std.specs.FinMap.{FinMap, find}
@@ -8,14 +8,12 @@ use Rattle.std.specs.declared.cmp.Ordering.{Ordering}
 use Rattle.std.specs.Ordering.{nat_cmp, eq_by_cmp, is_lt, is_eq}
 use Rattle.std.specs.Cmp.{unsigned_tied}
 use Rattle.std.proofs.Common.{◌≡◌, ℕ, Bool, true, false, true≢false, cond, ◌&&◌, T, List, [], ◌∷◌, ◌++◌, map, Option, Some, None, refl, sym, ap, ◌∙◌, inl, inr}
-use Rattle.std.proofs.lemmas.List.Elements.{filter-append}
 use Rattle.wac_types_base.specs.Graph.{Among}
-use Rattle.wac_types_base.specs.Stated.{kind_of}
 use Rattle.wac_types_base.proofs.Replacing.{same_number}
 use Rattle.wac_graph_core.proofs.NodeMap.{tied}
 use Rattle.wac_graph_core.specs.Nodes.{NodeData}
 use Rattle.wac_graph_core.specs.Graph.{Graph, package_if}
-use Rattle.wac_composition.specs.Composition.{Placed, Made}
+use Rattle.wac_composition.specs.Composition.{Made}
 use Rattle.wac_composition.specs.Asks.{explicit_ask, filled_asks}
 use Rattle.wac_graph_asks.specs.Graphs.{nodes_of, import_by, made_with, definition_by, composition_of}
 use Rattle.wac_graph_asks.specs.Reads.{package_id_of}

@@ -1,19 +1,18 @@
 -- All that is asked is what the composition of the graph asks.
 use Rattle.std.specs.List.{flat_map}
 use Rattle.std.specs.Map.{keys_of}
-use Rattle.std.proofs.Common.{◌≡◌, ℕ, Bool, true, false, true≢false, cond, List, [], ◌∷◌, ◌++◌, map, Option, Some, None, IfSome, refl, sym, ap, subst, ◌∙◌, inl, inr}
+use Rattle.std.proofs.Common.{◌≡◌, ℕ, false, true≢false, List, [], ◌∷◌, ◌++◌, map, Option, Some, None, IfSome, refl, sym, ap, subst, ◌∙◌, inl, inr}
 use Rattle.std.proofs.lemmas.List.{append-nil}
 use Rattle.wac_types_base.specs.declared.item.ItemKind.{ItemKind}
 use Rattle.wac_types_base.specs.declared.item.«Type».{«Type» as TypeKind}
 use Rattle.wac_types_base.specs.Record.{Collection}
-use Rattle.wac_types_base.specs.Entries.{Name}
 use Rattle.wac_types_base.specs.Graph.{Among}
 use Rattle.wac_types_base.specs.Collection.{Stands, IsAcyclic, Grows}
-use Rattle.wac_types_base.specs.Stated.{Stated, Kind, IsInterface, IsWorld, stated_in, stated_of, kind_of, identifier_of}
+use Rattle.wac_types_base.specs.Stated.{IsInterface, IsWorld, stated_in, stated_of}
 use Rattle.wac_types_base.proofs.Telling.{item_kind}
 use Rattle.wac_graph_core.specs.Graph.{Graph}
 use Rattle.wac_composition.specs.Composition.{Placed}
-use Rattle.wac_composition.specs.Asks.{Ask, used_by_kind, used_by_definition, asked_for, named_asks, asks_of}
+use Rattle.wac_composition.specs.Asks.{Ask, used_by_definition, asked_for, named_asks, asks_of}
 use Rattle.wac_graph_asks.specs.declared.asks.Ask.{Ask as HeldAsk}
 use Rattle.wac_graph_asks.specs.declared.asks.Definition.{Definition}
 use Rattle.wac_graph_asks.specs.declared.asks.Asked.{Asked}

@@ -17,3 +17,4 @@ pub mod UseSteps
 pub mod NodeAsks
 pub mod FirstNames
 pub mod Once
+pub mod Adding

@@ -223,6 +223,7 @@ module _ (g : Graph) where
 
     pub definition_added : (a b : Asked) → IsHeld g a → Grows a.types b.types → (t : TypeKind) → kind ≡ ItemKind.Ty t → (n : Name) → n ≡ first_export g.exports k → (copy : Option ItemKind) → HasCopy g.types b.types t copy
         → b.definitions.items ≡ a.definitions.items ++ record { node = k; name = n; ty = t; copy = copy } ∷ [] → b.asks.items ≡ a.asks.items → b.packages.entries ≡ a.packages.entries → Adds g a b [] [] (definitions_at g k)
+    unfolding placed
     definition_added a b h grows t is n named copy has items same_asks same_packages =
         adds_as g a b (adds_definition g a b h grows (record { node = k; name = n; ty = t; copy = copy }) has items same_asks same_packages) refl refl
         (ap (λ m. record { by = k; name = m; item = stated_of g.types (ItemKind.Ty t) } ∷ []) named

@@ -1,23 +1,19 @@
 -- The wiring of a graph is the one that its composition has, with nodes for instances.
-use Rattle.std.specs.Prelude.{◌≡◌, ℕ, true, List, [], map, Some, None, option_map}
+use Rattle.std.specs.Prelude.{◌≡◌, ℕ, [], map, Some, None, option_map}
 use Rattle.wac_types_base.specs.Collection.{IsAcyclic}
 use Rattle.wac_types_base.specs.Entries.{Name, value_at}
 use Rattle.wac_types_base.specs.Graph.{Among}
-use Rattle.wac_types_base.specs.Tree.{Tree, tree}
+use Rattle.wac_types_base.specs.Tree.{tree}
 use Rattle.wac_types_names.specs.Packaged.{Packaged}
 use Rattle.wac_types_names.specs.Keys.{package_key}
-use Rattle.wac_graph_bytes.specs.declared.entry.Entry.{Entry}
-use Rattle.wac_graph_bytes.specs.Typing.{Worlds}
-use Rattle.wac_graph_bytes.specs.Meaning.{wiring_of}
-use Rattle.wac_graph_bytes.specs.Wirings.{OfBytes, Instantiation, Wiring, Same}
+use Rattle.wac_graph_bytes.specs.Wirings.{OfBytes, Instantiation, Wiring}
 use Rattle.wac_graph_core.specs.Graph.{Graph, IsGraph, instantiated}
 use Rattle.wac_composition.specs.Composition.{Made}
 use Rattle.wac_composition.specs.Asks.{asks_of}
 use Rattle.wac_composition.specs.OuterImports.{outer_imports}
 use Rattle.wac_composition.specs.Wired.{argument_source, export_source}
 use Rattle.wac_graph_asks.specs.Graphs.{composition_of}
-use Rattle.wac_graph_asks.specs.Wirings.{IsGraphWiring, asked_trees}
-use Rattle.wac_graph_asks.specs.Standing.{IsFinished}
+use Rattle.wac_graph_asks.specs.Wirings.{IsGraphWiring}
 
 -- the node is this instance of the composition: of a package of its key, and each import is given what the composition says
 pub record IsComposedAs (g : Graph) (W : Wiring ℕ) (k : ℕ) (p : Packaged) : Type 0 where

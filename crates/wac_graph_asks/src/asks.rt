@@ -655,11 +655,7 @@ fn ask_named(alloc: Global, graph: &CompositionGraph, asked: &mut Asked) -> Resu
 }
 
 /// What a graph asks: by its imports, by its instances, and for what these and its definitions use.
-pub fn asked_by(
-    alloc: Global,
-    graph: &CompositionGraph,
-    number: u64,
-) -> Result<Asked, AllocError>
+pub fn asked_by(alloc: Global, graph: &CompositionGraph, number: u64) -> Result<Asked, AllocError>
     ensures { IfOk result (IsAsked graph.now) }
 {
     graph.see_sound();

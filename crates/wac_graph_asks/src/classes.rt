@@ -16,13 +16,13 @@ ghost use Rattle.wac_graph_asks.specs.Classed.{AreLabels, AreSpellings};
 ghost use Rattle.wac_graph_asks.specs.Named.{text_in, words_in, all_words, AddsNames, AreBefore, FirstsBefore, JoinsAsk, JoinsNames, LabelsNames, SpellsNames};
 
 use crate::asks::Ask;
-use wac_writable::maps::insert_under;
 use semver::Version;
 use std::alloc::{AllocError, Global};
 use std::cmp::Ordering;
 use wac_graph_bytes::{NameKind, component_name};
 use wac_types_base::{InterfaceId, ItemKind, NamedMap, Types};
 use wac_types_names::alternate_lookup_key;
+use wac_writable::maps::insert_under;
 
 /// An asked name: its track with its version, and the identifier of the instance that is asked under it.
 struct Named<'a> {

@@ -8,12 +8,12 @@ ghost use Rattle.wac_types_base.specs.Entries.{AreDistinct, names_of, value_at, 
 ghost use Rattle.wac_graph_core.specs.Graph.{node_at, package_of};
 ghost use Rattle.wac_graph_asks.specs.Reads.{import_name_of, package_id_of, AreArguments};
 
-use wac_writable::maps::insert_under;
 use std::alloc::{AllocError, Global};
 use std::marker::Model;
 use wac_graph_core::{CompositionGraph, Node, NodeId, PackageId};
 use wac_types_base::{ItemKind, NamedMap, WorldId};
 use wac_types_names::Package;
+use wac_writable::maps::insert_under;
 
 pub fn node_at(graph: &CompositionGraph, id: NodeId) -> Option<&Node>
     ensures { option_copied result ≡ node_at graph.now id }
@@ -123,11 +123,7 @@ fn add_arguments(
 
 impl Arguments {
     /// What is passed to an instance.
-    pub fn of(
-        alloc: Global,
-        graph: &CompositionGraph,
-        id: NodeId,
-    ) -> Result<Self, AllocError>
+    pub fn of(alloc: Global, graph: &CompositionGraph, id: NodeId) -> Result<Self, AllocError>
         ensures { IfOk result (AreArguments graph.now id) }
     {
         let mut by_name = NamedMap::new(alloc);

@@ -10,13 +10,13 @@ use crate::asks::{Ask, Asked, Asking};
 use crate::classes::{Classes, classes_of, has_track};
 use crate::copies::{add_world, bare_world, filled};
 use crate::faults::OuterError;
-use wac_writable::maps::insert_under;
 use indexmap::IndexMap;
 use std::alloc::{AllocError, Global};
 use wac_graph_core::NodeId;
 use wac_graph_scopes::imports::Called;
 use wac_types_base::{ItemKind, NamedMap, Text, Types, World, WorldId};
 use wac_types_merge::{AggregateError, Family, family_of, joint_family, kept_of, spelled};
+use wac_writable::maps::insert_under;
 
 /// What is kept of a class.
 #[derive(Clone, Copy)]
@@ -414,6 +414,7 @@ pub fn outers_of(alloc: Global, asked: &mut Asked) -> Result<Outers, OuterError>
     ensures keeps { KeepsAsked asked.old asked.new }
     ensures stands { IfOk result (λ o. Stands asked.new.types (ItemKind.Component o.world)) }
 {
+    asked.types.see_acyclic();
     let classes = classes_of(alloc, &asked.types, &asked.asks)?;
     outers_of_classes(alloc, asked, &classes)
 }

@@ -64,7 +64,7 @@ module _ (g : Graph) (sound : IsGraph g) (finite_types : IsAcyclic g.types) (c :
   import_fits j x n k there role at =
       let met = is.met (ask_at j x n) (asked_there j x n there role) in
       let found : value_at (outer_imports (asks_of (composition_of g))) (spelled g n) ≡ Some (stated_of c k) =
-          ap (λ es. value_at es (spelled g n)) (sym is.imports) ∙ value_with (stated_of c) (imports_of c o.world) (spelled g n) ∙ ap (option_map (stated_of c)) at in
+      ap (λ es. value_at es (spelled g n)) (sym is.imports) ∙ value_with (stated_of c) (imports_of c o.world) (spelled g n) ∙ ap (option_map (stated_of c)) at in
       subst (λ s. Fits (tree s) (tree (item_of g x))) (same_Some _ _ (sym met.there ∙ found)) met.fits
 
   pub outers_stand : (w : Worlds) (i : Inside) (ps : List (Option SortIndex)) → ArePlaced w c (i.here ∷ []) (imports_of c o.world) ps → (one : Called) (p : SortIndex) → Among one o.called.items → slice_get ps one.at ≡ Some (Some p)
@@ -80,9 +80,10 @@ module _ (g : Graph) (sound : IsGraph g) (finite_types : IsAcyclic g.types) (c :
         at = here.means;
         means = refl;
         asked = λ j x there role.
-            let fits = import_fits j x one.name k there role first in
-            (fits_sort c acyclic g.types finite_types k x.item_kind p.sort (import_there c acyclic o.world is.stands (spelled g one.name) k first) ((sound.nodes j x there).item) here.sort fits,
-             λ instance. (tree_in c k, refl, tree_in_order (stated_of c k), fits));
+            let fits = import_fits j x one.name k there role first in (
+              fits_sort c acyclic g.types finite_types k x.item_kind p.sort (import_there c acyclic o.world is.stands (spelled g one.name) k first) ((sound.nodes j x there).item) here.sort fits,
+              λ instance. (tree_in c k, refl, tree_in_order (stated_of c k), fits),
+            );
       }
 
   -- what is imported is what is asked, once all of it is written

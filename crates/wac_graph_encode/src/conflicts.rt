@@ -1,20 +1,22 @@
 //! Why a composition cannot be written: the first cause in order.
 
-use wac_graph_asks::asks::{Ask, Asked, Asking, Definition};
 use crate::errors::{Refusal, ValidationFault};
-use wac_writable::holder::Holder;
-use wac_writable::maps::insert_under;
-use wac_graph_asks::nodes::{kind_of, package_at, package_of};
 use crate::options::EncodeOptions;
-use wac_graph_asks::outers::Outers;
-use wac_writable::unnamed::Unnamed;
-use wac_writable::writable::{Test, is_unwritable_definition, is_unwritable_package, unwritable_outer};
 use semver::Version;
 use std::alloc::{AllocError, Global};
+use wac_graph_asks::asks::{Ask, Asked, Asking, Definition};
+use wac_graph_asks::nodes::{kind_of, package_at, package_of};
+use wac_graph_asks::outers::Outers;
 use wac_graph_core::{CompositionGraph, NodeId, PackageId};
 use wac_graph_scopes::parts::{Item, import_at, import_count};
 use wac_types_base::{ItemKind, NamedMap, Text, Types};
 use wac_types_names::{Package, PackageKey};
+use wac_writable::holder::Holder;
+use wac_writable::maps::insert_under;
+use wac_writable::unnamed::Unnamed;
+use wac_writable::writable::{
+    Test, is_unwritable_definition, is_unwritable_package, unwritable_outer,
+};
 
 // ---- an import that is asked by its name and by an instance
 

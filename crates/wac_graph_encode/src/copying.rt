@@ -2,7 +2,6 @@
 
 ghost use Rattle.wac_types_base.specs.Collection.{Stands};
 
-use wac_writable::maps::insert_under;
 use indexmap::IndexMap;
 use std::alloc::{AllocError, Global};
 use wac_types_base::copy::copy_item;
@@ -10,6 +9,7 @@ use wac_types_base::{
     DefinedType, DefinedTypeId, Enum, Flags, ItemKind, Items, NamedMap, Names, Record, Type, Types,
     ValueType, Variant,
 };
+use wac_writable::maps::insert_under;
 
 /// What became of the value types so far, by their ids: a copy in the other collection, or none where a resource is in it.
 pub(crate) struct Copies {

@@ -7,16 +7,16 @@ ghost use Rattle.wac_graph_asks.specs.Asked.{KeepsAsked};
 ghost use Rattle.wac_graph_encode.specs.Acyclic.{IsNoCycle};
 ghost use Rattle.wac_graph_encode.specs.Formed.{CopiesStand};
 
-use wac_graph_asks::asks::{Asked, Definition, asked_by};
 use crate::conflicts::{check_implicit, check_names, check_writable};
 use crate::errors::{EncodeError, Refusal, error_of};
 use crate::forms::written_definitions;
 use crate::instances::Wired;
 use crate::options::{EncodeOptions, Encoded};
-use wac_graph_asks::outers::{Outers, outers_of};
 use crate::root::{Writing, write_root};
 use crate::world::composed_world;
 use std::alloc::{AllocError, Global};
+use wac_graph_asks::asks::{Asked, Definition, asked_by};
+use wac_graph_asks::outers::{Outers, outers_of};
 use wac_graph_bytes::{Entry, SortNames, push_component};
 use wac_graph_core::CompositionGraph;
 use wac_graph_scopes::imports::Importing;

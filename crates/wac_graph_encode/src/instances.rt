@@ -12,16 +12,16 @@ ghost use Rattle.wac_graph_encode.specs.Writing.{Finishes, AddsArgument, AddsCal
 
 use crate::errors::Refusal;
 use crate::labels::names_of_nodes;
-use wac_writable::maps::insert_under;
-use wac_graph_asks::nodes::{Arguments, import_name, kind_of, package_of, world_at};
 use crate::root::{Root, push_entry};
 use indexmap::IndexMap;
 use std::alloc::{AllocError, Global};
+use wac_graph_asks::nodes::{Arguments, import_name, kind_of, package_of, world_at};
 use wac_graph_bytes::{Entry, Export, NamedIndex, Sort, SortNames};
 use wac_graph_core::{CompositionGraph, NodeId, PackageId};
 use wac_graph_scopes::imports::{Called, SortIndex};
 use wac_graph_scopes::parts::{import_at, import_count};
 use wac_types_base::{ItemKind, NamedMap, Types, WorldId};
+use wac_writable::maps::insert_under;
 
 /// The entries so far, and what stands for nodes.
 pub(crate) struct Wired<'a> {

@@ -1,8 +1,8 @@
 //! The names of nodes, for debuggers.
 
-use wac_graph_asks::nodes::node_at;
 use indexmap::{IndexMap, IndexSet};
 use std::alloc::{AllocError, Global};
+use wac_graph_asks::nodes::node_at;
 use wac_graph_bytes::{IndexName, Sort, SortNames};
 use wac_graph_core::{CompositionGraph, NodeId};
 use wac_graph_scopes::imports::SortIndex;

@@ -18,7 +18,5 @@ pub use encode::EncodeGraph;
 pub use errors::{EncodeError, ValidationFault};
 pub use laws::finished_entries_are_wired;
 pub use options::{EncodeOptions, Encoded};
-pub use wac_graph_asks::{
-    asks_once_are_all_asks, first_name_of_a_definition, graphs_are_composed,
-};
+pub use wac_graph_asks::{asks_once_are_all_asks, first_name_of_a_definition, graphs_are_composed};
 pub use wac_graph_bytes::Processor;

@@ -1,11 +1,10 @@
 //! The form in which worlds are handed out.
 
+use indexmap::{IndexMap, IndexSet};
+use std::alloc::{AllocError, Global};
 use wac_graph_asks::copies::{
     add_interface, add_world, bare_interface, bare_world, copy_text, copy_use, filled,
 };
-use wac_writable::maps::insert_under;
-use indexmap::{IndexMap, IndexSet};
-use std::alloc::{AllocError, Global};
 use wac_graph_scopes::parts::{
     export_at, export_count, import_at, import_count, interface_of, use_at, use_count,
     world_export_at, world_export_count, world_of, world_use_at, world_use_count,
@@ -13,6 +12,7 @@ use wac_graph_scopes::parts::{
 use wac_types_base::{
     Interface, InterfaceId, ItemKind, NamedMap, Type, Types, UsedType, World, WorldId,
 };
+use wac_writable::maps::insert_under;
 
 /// What became of interfaces and worlds.
 type Changes = IndexMap<ItemKind, ItemKind>;

@@ -4,19 +4,19 @@ ghost use Rattle.std.specs.Prelude.{IfOk, IfSome};
 ghost use Rattle.wac_types_base.specs.declared.item.ItemKind.{ItemKind};
 ghost use Rattle.wac_types_base.specs.Collection.{Stands, Grows};
 
-use wac_graph_asks::asks::{Asked, Definition};
-use wac_graph_asks::copies::{add_world, bare_world, filled};
 use crate::copying::Copies;
-use wac_writable::maps::insert_under;
-use wac_graph_asks::nodes::{import_name, kind_of};
-use wac_graph_asks::outers::Outers;
 use crate::without_uses::without_uses;
 use indexmap::IndexMap;
 use std::alloc::{AllocError, Global};
+use wac_graph_asks::asks::{Asked, Definition};
+use wac_graph_asks::copies::{add_world, bare_world, filled};
+use wac_graph_asks::nodes::{import_name, kind_of};
+use wac_graph_asks::outers::Outers;
 use wac_graph_core::{CompositionGraph, NodeId};
 use wac_graph_scopes::parts::{export_named, import_at, import_count};
 use wac_types_base::copy::copy_item;
 use wac_types_base::{ItemKind, NamedMap, Types, World, WorldId};
+use wac_writable::maps::insert_under;
 
 /// The types of outer imports, by the names under which they are asked for, the written types of definitions, and what
 /// is copied of the graph's types.

@@ -129,11 +129,7 @@ impl Holder {
     }
 
     /// What stands in an interface.
-    pub fn of_interface(
-        alloc: Global,
-        types: &Types,
-        id: InterfaceId,
-    ) -> Result<Self, AllocError> {
+    pub fn of_interface(alloc: Global, types: &Types, id: InterfaceId) -> Result<Self, AllocError> {
         let mut holder = Holder::new(alloc);
         holder.add_interface(types, id)?;
         Ok(holder)
@@ -147,12 +143,7 @@ impl Holder {
     }
 
     /// Whether a use gives the item: under its name, with its tree.
-    pub fn gives(
-        &self,
-        alloc: Global,
-        types: &Types,
-        item: Item<'_>,
-    ) -> Result<bool, AllocError> {
+    pub fn gives(&self, alloc: Global, types: &Types, item: Item<'_>) -> Result<bool, AllocError> {
         match self.used.get(item.name) {
             Some(used) => is_same_item(alloc, types, *used, item.kind),
             None => Ok(false),

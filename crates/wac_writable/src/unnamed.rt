@@ -44,11 +44,7 @@ impl Unnamed {
 
     /// Whether an interface that this one uses, or one that such a one uses, has no identifier.
     #[cycle(unnamed)]
-    pub fn is_used_by(
-        &mut self,
-        types: &Types,
-        id: InterfaceId,
-    ) -> Result<bool, AllocError> {
+    pub fn is_used_by(&mut self, types: &Types, id: InterfaceId) -> Result<bool, AllocError> {
         if let Some(found) = self.found.get(&id) {
             return Ok(*found);
         }

@@ -485,10 +485,7 @@ fn first_that_fails(
 }
 
 /// The first outer import whose type cannot be written: its place.
-pub fn unwritable_outer(
-    test: Test<'_>,
-    world: WorldId,
-) -> Result<Option<usize>, AllocError> {
+pub fn unwritable_outer(test: Test<'_>, world: WorldId) -> Result<Option<usize>, AllocError> {
     let mut holder = Holder::of_world(test.alloc, test.types, world)?;
     first_that_fails(test, &mut holder, world)
 }

@@ -18,10 +18,11 @@ returns-then-at-len-clause-name c =
     ∙ name_at c.interface-interface.result.now.uses c.args.at c.entry.result.0.now c.entry.result.1.now c.entry.ensures ∙ ap (λ (n : Name). Some n) (sym c.use_of.ensures.name)
 
 pub returns-then-at-len-clause-entry : goal.returns-then-at-len-clause-entry
-returns-then-at-len-clause-entry c =
-    ((c.entry.result.0.now, c.entry.result.1.now),
-     ap (λ l. slice_get l c.args.at) (uses_there c.args.types.now c.args.id c.interface-interface.result.now c.interface-interface.ensures.entry c.interface-interface.ensures.own) ∙ c.entry.ensures,
-     c.use_of.ensures)
+returns-then-at-len-clause-entry c = (
+  (c.entry.result.0.now, c.entry.result.1.now),
+  ap (λ l. slice_get l c.args.at) (uses_there c.args.types.now c.args.id c.interface-interface.result.now c.interface-interface.ensures.entry c.interface-interface.ensures.own) ∙ c.entry.ensures,
+  c.use_of.ensures,
+)
 
 pub returns-then-not-has-clause-none : goal.returns-then-not-has-clause-none
 returns-then-not-has-clause-none c =

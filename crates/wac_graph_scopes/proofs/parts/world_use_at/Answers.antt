@@ -12,10 +12,11 @@ returns-then-at-len-clause-inside c =
     c.args.at c.entry.result.0.now c.entry.result.1.now c.entry.ensures)
 
 pub returns-then-at-len-clause-entry : goal.returns-then-at-len-clause-entry
-returns-then-at-len-clause-entry c =
-    ((c.entry.result.0.now, c.entry.result.1.now),
-     ap (λ l. slice_get l c.args.at) (world_uses_there c.args.types.now c.args.id c.world-world.result.now c.world-world.ensures.entry c.world-world.ensures.own) ∙ c.entry.ensures,
-     c.use_of.ensures)
+returns-then-at-len-clause-entry c = (
+  (c.entry.result.0.now, c.entry.result.1.now),
+  ap (λ l. slice_get l c.args.at) (world_uses_there c.args.types.now c.args.id c.world-world.result.now c.world-world.ensures.entry c.world-world.ensures.own) ∙ c.entry.ensures,
+  c.use_of.ensures,
+)
 
 pub returns-then-not-has-clause-none : goal.returns-then-not-has-clause-none
 returns-then-not-has-clause-none c =
