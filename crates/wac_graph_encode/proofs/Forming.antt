@@ -16,13 +16,14 @@ use Rattle.wac_graph_core.specs.Graph.{Graph}
 use Rattle.wac_graph_asks.specs.declared.asks.Definition.{Definition}
 use Rattle.wac_graph_asks.specs.declared.asks.Asked.{Asked}
 use Rattle.wac_graph_asks.specs.Asked.{HasCopy, IsHeld, KeepsAsked}
+use Rattle.wac_graph_asks.specs.AskedUses.{CopiesStand}
 use Rattle.wac_graph_asks.proofs.Asking.{copy_kept}
-use Rattle.wac_graph_encode.specs.Formed.{HasForm, IsFormed, AreFormed, CopyStands, CopiesStand, AreCopied, IsFormOf}
+use Rattle.wac_graph_encode.specs.Formed.{HasForm, IsFormed, AreFormed, AreCopied, IsFormOf}
 use Rattle.wac_graph_encode.proofs.StandingNumbers.{zip_more, zip_map}
 
 -- ---- copies stand
 
-pub copies_stand : (g : Graph) (a b : Asked) → IsHeld g a → KeepsAsked a b → CopiesStand b
+pub copies_stand : (g : Graph) (a b : Asked) → IsHeld g a → KeepsAsked a b → CopiesStand b.types b.definitions.items
 copies_stand g a b h k x m = go x.copy (h.copies x (subst (λ v. Among x v.items) k.definitions m))
   where
     go : (o : Option ItemKind) → HasCopy g.types a.types x.ty o → IfSome o (Stands b.types)
@@ -88,5 +89,5 @@ next_formed old mid new xs before after later i x at f g one = record {
     one_more xs i x at = sym (map_same (take (i + 1) xs)) ∙ map-one_more (λ y. y) xs i x at ∙ ap (λ l. l ++ x ∷ []) (map_same (take i xs))
 
 -- the copy of one that is still to be formed stands
-pub next_stands : (old mid : Collection) (xs : List Definition) (i : ℕ) (x : Definition) → slice_get xs i ≡ Some x → Grows old mid → ((y : Definition) → Among y xs → CopyStands old y) → CopyStands mid x
+pub next_stands : (old mid : Collection) (xs : List Definition) (i : ℕ) (x : Definition) → slice_get xs i ≡ Some x → Grows old mid → CopiesStand old xs → IfSome x.copy (Stands mid)
 next_stands old mid xs i x at g stand = stands_grown old mid g x.copy (stand x (among-get xs i x at))

@@ -25,6 +25,7 @@ use Rattle.wac_composition.specs.Conflicts.{Cause, first_cause, name_cause, depe
 use Rattle.wac_composition.specs.Worlds.{composed_world}
 use Rattle.wac_composition.specs.Outlines.{IsSketched}
 use Rattle.wac_graph_asks.specs.Graphs.{composition_of}
+use Rattle.wac_graph_asks.specs.Wirings.{IsGraphWiring}
 
 -- ---- the wiring of a graph, as its bytes have it
 

@@ -1,5 +1,5 @@
 -- Definitions in the forms in which they are written.
-use Rattle.std.specs.Prelude.{◌≡◌, ◌++◌, true, false, List, Result, Option, Some, None, IfOk, IfSome}
+use Rattle.std.specs.Prelude.{◌≡◌, ◌++◌, true, false, List, Result, Option, Some, None, IfOk}
 use Rattle.std.specs.declared.alloc.Global.{Global}
 use Rattle.std.specs.declared.vec.Vec.{Vec}
 use Rattle.std.specs.List.{AllZip}
@@ -10,7 +10,6 @@ use Rattle.wac_types_base.specs.Graph.{Among}
 use Rattle.wac_types_base.specs.Collection.{Stands}
 use Rattle.wac_types_written.specs.Forms.{IsDefinitionOf}
 use Rattle.wac_graph_asks.specs.declared.asks.Definition.{Definition}
-use Rattle.wac_graph_asks.specs.declared.asks.Asked.{Asked}
 use Rattle.wac_graph_asks.specs.Asked.{uses_others, HasCopy}
 
 -- the form of an interface or a world; other types are written as they are
@@ -29,12 +28,6 @@ abbrev pub AreFormed : (c d : Collection) → (xs ys : List Definition) → Type
 AreFormed c d xs ys = AllZip (IsFormed c d) xs ys
 
 -- ---- where interfaces and worlds of a collection have copies
-
-abbrev pub CopyStands : Collection → Definition → Type 0
-CopyStands d x = IfSome x.copy (Stands d)
-
-abbrev pub CopiesStand : Asked → Type 0
-CopiesStand a = (x : Definition) → Among x a.definitions.items → CopyStands a.types x
 
 abbrev pub AreCopied : (c d : Collection) → List Definition → Type 0
 AreCopied c d xs = (x : Definition) → Among x xs → HasCopy c d x.ty x.copy

@@ -4,8 +4,8 @@ ghost use Rattle.std.specs.Prelude.{◌≡◌, [], IfOk, IfErr, OnOk};
 ghost use Rattle.wac_types_base.specs.declared.item.ItemKind.{ItemKind};
 ghost use Rattle.wac_types_base.specs.Collection.{Stands};
 ghost use Rattle.wac_graph_asks.specs.Asked.{KeepsAsked};
+ghost use Rattle.wac_graph_asks.specs.AskedUses.{CopiesStand};
 ghost use Rattle.wac_graph_encode.specs.Acyclic.{IsNoCycle};
-ghost use Rattle.wac_graph_encode.specs.Formed.{CopiesStand};
 
 use crate::conflicts::{check_implicit, check_names, check_writable};
 use crate::errors::{EncodeError, Refusal, error_of};
@@ -96,7 +96,7 @@ fn bytes_asked(
     asked: &mut Asked,
     outers: &Outers,
 ) -> Result<(Vec<u8>, Vec<Definition>), Refusal>
-    requires { CopiesStand asked.old }
+    requires { CopiesStand asked.old.types asked.old.definitions.items }
 {
     let alloc = graph.alloc();
     let definitions = written_definitions(alloc, &mut asked.types, &asked.definitions)?;
@@ -113,7 +113,7 @@ fn encoded_asked(
     outers: &Outers,
     number: u64,
 ) -> Result<Encoded, Refusal>
-    requires { CopiesStand asked.old }
+    requires { CopiesStand asked.old.types asked.old.definitions.items }
     ensures number { IfOk result (λ e. e.types.number ≡ number) }
     ensures stands { IfOk result (λ e. Stands e.types (ItemKind.Component e.world)) }
 {

@@ -1,10 +1,9 @@
 //! Definitions in the forms in which they are written.
 
 ghost use Rattle.std.specs.Prelude.{◌∷◌, [], IfOk, IfSome};
-ghost use Rattle.wac_types_base.specs.Graph.{Among};
 ghost use Rattle.wac_types_base.specs.Collection.{Stands, Grows};
-ghost use Rattle.wac_graph_asks.specs.declared.asks.Definition.{Definition};
-ghost use Rattle.wac_graph_encode.specs.Formed.{CopyStands, FormsAll, FormsMore, FormsOne, IsFormOf};
+ghost use Rattle.wac_graph_asks.specs.AskedUses.{CopiesStand};
+ghost use Rattle.wac_graph_encode.specs.Formed.{FormsAll, FormsMore, FormsOne, IsFormOf};
 
 use std::alloc::{AllocError, Global};
 use wac_graph_asks::asks::Definition;
@@ -37,7 +36,7 @@ fn formed(
     types: &mut Types,
     definition: &Definition,
 ) -> Result<Definition, AllocError>
-    requires { CopyStands types.old definition.now }
+    requires { IfSome definition.now.copy (Stands types.old) }
     ensures forms { FormsOne types.old types.new definition.now result }
     ensures grows { Grows types.old types.new }
 {
@@ -58,7 +57,7 @@ fn push_formed(
     definition: &Definition,
     written: &mut Vec<Definition>,
 ) -> Result<(), AllocError>
-    requires { CopyStands types.old definition.now }
+    requires { IfSome definition.now.copy (Stands types.old) }
     ensures forms { FormsMore types.old types.new (definition.now ∷ []) written.old.items written.new.items result }
     ensures grows { Grows types.old types.new }
 {
@@ -74,7 +73,7 @@ fn push_all_formed(
     definitions: &[Definition],
     written: &mut Vec<Definition>,
 ) -> Result<(), AllocError>
-    requires { (x : Definition) → Among x definitions.now → CopyStands types.old x }
+    requires { CopiesStand types.old definitions.now }
     ensures forms { FormsMore types.old types.new definitions.now written.old.items written.new.items result }
     ensures grows { Grows types.old types.new }
 {
@@ -91,7 +90,7 @@ pub(crate) fn written_definitions(
     types: &mut Types,
     definitions: &[Definition],
 ) -> Result<Vec<Definition>, AllocError>
-    requires { (x : Definition) → Among x definitions.now → CopyStands types.old x }
+    requires { CopiesStand types.old definitions.now }
     ensures forms { FormsAll types.old types.new definitions.now result }
     ensures grows { Grows types.old types.new }
 {
