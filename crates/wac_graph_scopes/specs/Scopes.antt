@@ -35,6 +35,12 @@ pub record OnlyTypes (old new : Scope) : Type 0 where
   pub modules : new.modules ≡ old.modules
   pub cores : new.cores ≡ old.cores
 
+-- more may stand, and what stood stands; the same is imported and exported
+pub record GoesOn (old new : Inside) : Type 0 where
+  pub extends : Extends old.here new.here
+  pub imports : new.imports ≡ old.imports
+  pub exports : new.exports ≡ old.exports
+
 -- the index of a type that is remembered stands for the type of its id
 pub record IsKnown (w : Worlds) (ss : List Scope) (c : Collection) (k : KnownType) : Type 0 where
   pub reads : value_of w ss (Index k.index) ≡ Some (tree_in c (ItemKind.Value (ValueType.Defined k.id)))

@@ -18,7 +18,7 @@ use Rattle.wac_graph_scopes.proofs.ImportLaws.{world_describes}
 use Rattle.wac_graph_scopes.proofs.imports.ImportScope.describe_apart.Goals as goal
 
 pub returns-in_ok-index-in-Value-clause-describes : goal.returns-in_ok-index-in-Value-clause-describes
-returns-in_ok-index-in-Value-clause-describes c world n w outer imported exported h =
+returns-in_ok-index-in-Value-clause-describes c world n w outer from imported exported h =
     let types = c.args.types.now in
     let acyclic = c.see_acyclic.ensures in
     let v = c.in-Value.ty in
@@ -26,13 +26,13 @@ returns-in_ok-index-in-Value-clause-describes c world n w outer imported exporte
     let s = c.args.self.now.scope in
     let u : ItemScope = record s { types = c.define_apart.new.scope } in
     let all : ImportScope = record c.args.self.now { scope = u } in
-    let i = h.writing.inside in
+    let i = h.goes.writing.inside in
     let stands = c.in_ok-index-in-Value.ensures.stands in
     let item = value_item types acyclic v stands ∙ sym (type_value types acyclic v (typed_value_stands types v ∙ stands)) in
-    let a = gives_of w types outer i (tree_in types (ItemKind.Value v)) s c.define_apart.new.scope k h.writing.stands (c.in_ok-index-in-Value.ensures.writes w outer i h.writing.stands.written) in
+    let a = gives_of w types outer i (tree_in types (ItemKind.Value v)) s c.define_apart.new.scope k h.goes.writing.stands (c.in_ok-index-in-Value.ensures.writes w outer i h.goes.writing.stands.written) in
     let g = item_of_type w types outer i (tree_in types (ItemKind.Ty (TypeKind.Value v))) (tree_in types (ItemKind.Value v)) u k item a in
-    subst (λ (t : TypeKind). DescribesIn w types outer world n (ItemKind.Ty t) all imported exported (desc.Equal k)) (sym c.in-Value.is)
-    (world_describes w types outer world imported exported c.args.self.now u h n (ItemKind.Ty (TypeKind.Value v)) (desc.Equal k) (type_described w types outer i (TypeKind.Value v) u k g))
+    subst (λ (t : TypeKind). DescribesIn w types outer world from n (ItemKind.Ty t) all imported exported (desc.Equal k)) (sym c.in-Value.is)
+    (world_describes w types outer world imported exported from c.args.self.now u h n (ItemKind.Ty (TypeKind.Value v)) (desc.Equal k) (type_described w types outer i (TypeKind.Value v) u k g))
 
 pub returns-in_err-index-in-Value-clause-refused : goal.returns-in_err-index-in-Value-clause-refused
 returns-in_err-index-in-Value-clause-refused c stands =
