@@ -37,17 +37,19 @@ use Rattle.wac_graph_bytes.specs.Typing.{◌>>=◌, Worlds, Meaning, Item, Scope
 use Rattle.wac_graph_bytes.specs.Views.{before, declarations_of}
 use Rattle.wac_graph_bytes.proofs.Steps.{last_of}
 use Rattle.wac_graph_bytes.proofs.Distinct.{distinct_decides}
+use Rattle.wac_graph_scopes.specs.declared.scope.KnownTypes.{KnownTypes}
+use Rattle.wac_graph_scopes.specs.declared.scope.TypeScope.{TypeScope}
 use Rattle.wac_graph_scopes.specs.declared.items.ItemScope.{ItemScope}
 use Rattle.wac_graph_scopes.specs.declared.used.UsedIndex.{UsedIndex}
 use Rattle.wac_graph_scopes.specs.declared.used.UsedTypes.{UsedTypes}
 use Rattle.wac_graph_scopes.specs.declared.imports.SortIndex.{SortIndex}
 use Rattle.wac_graph_scopes.specs.declared.imports.ImportScope.{ImportScope}
-use Rattle.wac_graph_scopes.specs.Scopes.{Extends, GoesOn}
+use Rattle.wac_graph_scopes.specs.Scopes.{Extends, GoesOn, AreKnown, Exchanges}
 use Rattle.wac_graph_scopes.specs.Parts.{interface_in, exports_in, exports_of, imports_of, world_exports_of, IsUsedKind, IsOfWorld}
 use Rattle.wac_graph_scopes.specs.Items.{IsItemScope, ItemsGo, GivesType, ExportsItem, IsTypeItem, IsUsedType, AreUsed, IsSorted, Describes, IsTreeOf, AreTreesOf, StatesComponent, described_as}
-use Rattle.wac_graph_scopes.specs.Imports.{NoneWritten, IsImportAt, ArePlaced, WritesWorld, WritesOn, HasAlias, DescribesIn, ImportsItem, names_at, IsNewAt, BeginsWorld}
-use Rattle.wac_graph_scopes.proofs.ScopeLaws.{Extends-refl, Extends-trans, Extends-one}
-use Rattle.wac_graph_scopes.proofs.ItemLaws.{used_on, ItemsGo-refl}
+use Rattle.wac_graph_scopes.specs.Imports.{NoneWritten, IsImportAt, ArePlaced, WritesWorld, WritesOn, HasAlias, DescribesIn, DescribesApart, ImportsItem, names_at, IsNewAt, BeginsWorld}
+use Rattle.wac_graph_scopes.proofs.ScopeLaws.{Extends-refl, Extends-trans, Extends-one, all_known_kept}
+use Rattle.wac_graph_scopes.proofs.ItemLaws.{used_on, item_exchanged, ItemsGo-refl}
 use Rattle.wac_graph_scopes.proofs.UsedLaws.{plain_item}
 use Rattle.wac_graph_scopes.proofs.PartLaws.{imports_there, world_exports_there, name_at}
 use Rattle.wac_graph_scopes.proofs.FieldLaws.{same_look, written_fields}
@@ -131,6 +133,24 @@ module _ (w : Worlds) (c : Collection) (outer : List Scope) (world : WorldId) (i
     sorted = a.sorted;
     reads = a.reads n;
   }
+
+  -- so of another collection, of whose types others are known
+  pub world_apart : (other : Collection) (i : Inside) (s : ImportScope) (u : ItemScope) (t : TypeScope) (ks ls : KnownTypes) (h : WritesOn w c outer world i s imported exported) (kind : ItemKind) (d : Description)
+      → Describes w other outer h.goes.writing.inside kind u d → AreKnown w (h.goes.writing.inside.here ∷ outer) c ks → Exchanges u.types ks t ls
+      → DescribesApart w c other outer world i kind (record s { scope = record u { types = t } }) ls imported exported d
+  unfolding writes_on world_goes
+  world_apart other i s u t ks ls h kind d a known e =
+      let j = a.after in
+      let last : ItemScope = record u { types = t } in
+      let x = item_exchanged w other c outer j u t ks ls e a.goes.stands (all_known_kept w c h.goes.writing.inside.here j.here outer ks a.goes.extends known) in
+      let g : ItemsGo w c outer h.goes.writing.inside j last = record { stands = x.0; extends = a.goes.extends; imports = a.goes.imports; exports = a.goes.exports } in
+      record {
+        goes = world_goes s last h.goes j g;
+        on = items_on w c outer i h.goes.writing.inside j last h.on g;
+        known = x.1;
+        sorted = a.sorted;
+        reads = a.reads;
+      }
 
   -- what is remembered changes
   pub world_noted : (i : Inside) (s : ImportScope) (u : ItemScope) (h : WritesWorld w c outer world s imported exported) → GoesOn i h.writing.inside → IsItemScope w c outer h.writing.inside u

@@ -18,13 +18,14 @@ use Rattle.wac_graph_bytes.specs.Counting.{description_sort}
 use Rattle.wac_graph_bytes.specs.Typing as typing
 use Rattle.wac_graph_bytes.specs.Typing.{Worlds, Scope, Inside, found, export_named, described}
 use Rattle.wac_graph_bytes.specs.Views.{declarations_of}
+use Rattle.wac_graph_scopes.specs.declared.scope.KnownTypes.{KnownTypes}
 use Rattle.wac_graph_scopes.specs.declared.items.ItemScope.{ItemScope}
 use Rattle.wac_graph_scopes.specs.declared.imports.Importing.{Importing}
 use Rattle.wac_graph_scopes.specs.declared.imports.SortIndex.{SortIndex}
 use Rattle.wac_graph_scopes.specs.declared.imports.ImportScope.{ImportScope}
 use Rattle.wac_graph_scopes.specs.declared.parts.Item.{Item}
 use Rattle.wac_graph_scopes.specs.Parts.{exports_of, imports_of, world_exports_of, IsUsedKind}
-use Rattle.wac_graph_scopes.specs.Scopes.{Extends, GoesOn}
+use Rattle.wac_graph_scopes.specs.Scopes.{Extends, GoesOn, AreKnown}
 use Rattle.wac_graph_scopes.specs.Items.{IsItemScope, AreUsed, IsTypeItem, IsInstanceAt, IsTreeOf, sort_of, IsSorted, Writing, StatesComponent}
 
 -- what the world imports and exports
@@ -120,6 +121,20 @@ DescribesImport a x old new r = (w : Worlds) (outer : List Scope) (i : Inside) (
 abbrev pub DescribesThere : {E : Type 0} → Collection → ItemKind → ImportScope → ImportScope → Result Description E → Type 0
 DescribesThere c kind old new r = (world : WorldId) (n : Name) (w : Worlds) (outer : List Scope) (i : Inside) (imported exported : List Name) → WritesOn w c outer world i old imported exported
     → IfOk r (DescribesIn w c outer world i n kind new imported exported)
+
+-- The world is written on, and what is so described under any name is the item of the other collection, of whose types these are known.
+pub record DescribesApart (w : Worlds) (c other : Collection) (outer : List Scope) (world : WorldId) (i : Inside) (kind : ItemKind) (s : ImportScope) (ks : KnownTypes) (imported exported : List Name) (d : Description) : Type 0 where
+  pub goes : WritesWorld w c outer world s imported exported
+  pub on : GoesOn i goes.writing.inside
+  pub known : AreKnown w (goes.writing.inside.here ∷ outer) other ks
+  pub sorted : IsSorted kind d
+  pub reads : (n : Name) → described w (goes.writing.inside.here ∷ outer) n d ≡ Some (description_sort d, tree_in other kind)
+
+-- of whatever world
+abbrev pub DescribesOther : {E : Type 0} → Collection → ItemKind → ImportScope → KnownTypes → ImportScope → KnownTypes → Result Description E → Type 0
+DescribesOther other kind old before new after r = (world : WorldId) (w : Worlds) (c : Collection) (outer : List Scope) (i : Inside) (imported exported : List Name)
+    → (h : WritesOn w c outer world i old imported exported) → AreKnown w (h.goes.writing.inside.here ∷ outer) other before
+    → IfOk r (DescribesApart w c other outer world i kind new after imported exported)
 
 abbrev pub MayDescribeIn : Worlds → Collection → List Scope → WorldId → Inside → Name → ItemKind → ImportScope → List Name → List Name → Option Description → Type 0
 MayDescribeIn w c outer world i n kind s imported exported None = WritesOn w c outer world i s imported exported
