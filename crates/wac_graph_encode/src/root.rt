@@ -187,7 +187,7 @@ fn add_definition(
     Ok(())
 }
 
-/// Writes the definitions, and adds what stands for them. Most are of the graph's collection, and copies of the asked one.
+/// Writes the definitions, and adds what stands for them: types of the graph's collection, and copies in the asked one.
 fn write_definitions(
     graph: &CompositionGraph,
     scope: &mut ImportScope,
