@@ -27,6 +27,7 @@ use wac_graph_core::{CompositionGraph, NodeId, PackageId};
 use wac_graph_scopes::imports::{ImportScope, Importing, SortIndex};
 use wac_graph_scopes::items::ItemScope;
 use wac_graph_scopes::parts::{Item, import_at};
+use wac_graph_scopes::scope::KnownTypes;
 use wac_types_base::{ItemKind, Types, WorldId};
 
 /// How many things of each sort stand there.
@@ -148,18 +149,20 @@ fn write_type(
     }
 }
 
-/// Writes a definition; its type is an entry of its own, whatever else is written.
+/// Writes a definition; its type is an entry of its own, whatever else is written. The types are known that are written
+/// of the graph's collection.
 fn write_definition(
     alloc: Global,
     scope: &mut ImportScope,
     all: Importing<'_>,
     types: &Types,
+    known: &mut KnownTypes,
     definition: &Definition,
 ) -> Result<Description, Refusal> {
     let name = definition.name.as_str();
     match definition.copy {
         Some(item) => write_type(alloc, scope, all, name, item),
-        None => match scope.describe_apart(alloc, types, definition.ty) {
+        None => match scope.describe_apart(alloc, types, known, definition.ty) {
             Ok(description) => Ok(description),
             Err(fault) => Err(not_written(alloc, name, fault)),
         },
@@ -171,11 +174,12 @@ fn add_definition(
     graph: &CompositionGraph,
     scope: &mut ImportScope,
     all: Importing<'_>,
+    known: &mut KnownTypes,
     definition: &Definition,
     nodes: &mut IndexMap<NodeId, SortIndex>,
 ) -> Result<(), Refusal> {
     let alloc = graph.alloc();
-    let description = write_definition(alloc, scope, all, graph.types(), definition)?;
+    let description = write_definition(alloc, scope, all, graph.types(), known, definition)?;
     if let Description::Equal(index) = description {
         let sort = Sort::Ty;
         let _ = nodes.insert(definition.node, SortIndex { sort, index })?;
@@ -183,8 +187,7 @@ fn add_definition(
     Ok(())
 }
 
-/// Writes the definitions, and adds what stands for them. Types of the graph's collection are written, and no longer of
-/// the asked one.
+/// Writes the definitions, and adds what stands for them: types of the graph's collection, and copies in the asked one.
 fn write_definitions(
     graph: &CompositionGraph,
     scope: &mut ImportScope,
@@ -192,9 +195,9 @@ fn write_definitions(
     definitions: &[Definition],
     nodes: &mut IndexMap<NodeId, SortIndex>,
 ) -> Result<(), Refusal> {
-    scope.scope.types.forget(graph.alloc());
+    let mut known = KnownTypes::new(graph.alloc());
     for definition in definitions {
-        add_definition(graph, scope, all, definition, nodes)?;
+        add_definition(graph, scope, all, &mut known, definition, nodes)?;
     }
     Ok(())
 }

@@ -29,7 +29,7 @@ module _ (w : Worlds) (c : Collection) (outer : List Scope) (i : Inside) where
   export_reads n d x e = ap (λ (o : Option (Sort × Tree)). o >>= λ y. Some (exports_inside (string_bytes n) y i)) e
 
   pub export_added : (n : String Global) (d : Description) (x : Sort × Tree) (s u : TypeScope) → IsScope w c outer i s → described w (i.here ∷ outer) (string_bytes n) d ≡ Some x
-      → u.declarations.items ≡ s.declarations.items ++ Export n d ∷ [] → u.types ≡ length (exports_inside (string_bytes n) x i).here.types → u.known.items ≡ s.known.items → u.resources ≡ s.resources
+      → u.declarations.items ≡ s.declarations.items ++ Export n d ∷ [] → u.types ≡ length (exports_inside (string_bytes n) x i).here.types → u.known.all.items ≡ s.known.all.items → u.resources ≡ s.resources
       → Exports w c outer i (string_bytes n) x.1 u
   export_added n d x s u h e ds ts ks rs =
       let m = Item (string_bytes n) x.0 x.1 in
@@ -48,7 +48,7 @@ module _ (w : Worlds) (c : Collection) (outer : List Scope) (i : Inside) where
       }
 
   pub func_exported : (n : String Global) (k : ℕ) (t : Tree) (s u : TypeScope) → IsScope w c outer i s → type_at w (i.here ∷ outer) k ≡ Some t → as_func t ≡ Some t
-      → u.declarations.items ≡ s.declarations.items ++ Export n (desc.Func k) ∷ [] → u.types ≡ s.types → u.known.items ≡ s.known.items → u.resources ≡ s.resources
+      → u.declarations.items ≡ s.declarations.items ++ Export n (desc.Func k) ∷ [] → u.types ≡ s.types → u.known.all.items ≡ s.known.all.items → u.resources ≡ s.resources
       → Exports w c outer i (string_bytes n) t u
   func_exported n k t s u h at is ds ts ks rs =
       export_added n (desc.Func k) (sort.Func, t) s u h
@@ -56,7 +56,7 @@ module _ (w : Worlds) (c : Collection) (outer : List Scope) (i : Inside) where
       ds (ts ∙ h.types) ks rs
 
   pub type_exported : (n : String Global) (k : ℕ) (t : Tree) (s u : TypeScope) → IsScope w c outer i s → type_at w (i.here ∷ outer) k ≡ Some t
-      → u.declarations.items ≡ s.declarations.items ++ Export n (desc.Equal k) ∷ [] → u.types ≡ s.types + 1 → u.known.items ≡ s.known.items → u.resources ≡ s.resources
+      → u.declarations.items ≡ s.declarations.items ++ Export n (desc.Equal k) ∷ [] → u.types ≡ s.types + 1 → u.known.all.items ≡ s.known.all.items → u.resources ≡ s.resources
       → ExportsType w c outer i (string_bytes n) t u s.types
   unfolding export_added
   type_exported n k t s u h at ds ts ks rs =

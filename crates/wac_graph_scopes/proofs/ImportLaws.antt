@@ -37,17 +37,19 @@ use Rattle.wac_graph_bytes.specs.Typing.{◌>>=◌, Worlds, Meaning, Item, Scope
 use Rattle.wac_graph_bytes.specs.Views.{before, declarations_of}
 use Rattle.wac_graph_bytes.proofs.Steps.{last_of}
 use Rattle.wac_graph_bytes.proofs.Distinct.{distinct_decides}
+use Rattle.wac_graph_scopes.specs.declared.scope.KnownTypes.{KnownTypes}
+use Rattle.wac_graph_scopes.specs.declared.scope.TypeScope.{TypeScope}
 use Rattle.wac_graph_scopes.specs.declared.items.ItemScope.{ItemScope}
 use Rattle.wac_graph_scopes.specs.declared.used.UsedIndex.{UsedIndex}
 use Rattle.wac_graph_scopes.specs.declared.used.UsedTypes.{UsedTypes}
 use Rattle.wac_graph_scopes.specs.declared.imports.SortIndex.{SortIndex}
 use Rattle.wac_graph_scopes.specs.declared.imports.ImportScope.{ImportScope}
-use Rattle.wac_graph_scopes.specs.Scopes.{Extends}
+use Rattle.wac_graph_scopes.specs.Scopes.{Extends, GoesOn, AreKnown, Exchanges}
 use Rattle.wac_graph_scopes.specs.Parts.{interface_in, exports_in, exports_of, imports_of, world_exports_of, IsUsedKind, IsOfWorld}
 use Rattle.wac_graph_scopes.specs.Items.{IsItemScope, ItemsGo, GivesType, ExportsItem, IsTypeItem, IsUsedType, AreUsed, IsSorted, Describes, IsTreeOf, AreTreesOf, StatesComponent, described_as}
-use Rattle.wac_graph_scopes.specs.Imports.{NoneWritten, IsImportAt, ArePlaced, WritesWorld, HasAlias, DescribesIn, ImportsItem, names_at, IsNewAt, BeginsWorld}
-use Rattle.wac_graph_scopes.proofs.ScopeLaws.{Extends-refl, Extends-one}
-use Rattle.wac_graph_scopes.proofs.ItemLaws.{used_on}
+use Rattle.wac_graph_scopes.specs.Imports.{NoneWritten, IsImportAt, ArePlaced, WritesWorld, WritesOn, HasAlias, DescribesIn, DescribesApart, ImportsItem, names_at, IsNewAt, BeginsWorld}
+use Rattle.wac_graph_scopes.proofs.ScopeLaws.{Extends-refl, Extends-trans, Extends-one, all_known_kept}
+use Rattle.wac_graph_scopes.proofs.ItemLaws.{used_on, item_exchanged, ItemsGo-refl}
 use Rattle.wac_graph_scopes.proofs.UsedLaws.{plain_item}
 use Rattle.wac_graph_scopes.proofs.PartLaws.{imports_there, world_exports_there, name_at}
 use Rattle.wac_graph_scopes.proofs.FieldLaws.{same_look, written_fields}
@@ -81,7 +83,17 @@ import_on c g h outer n k p x a = record { sort = a.sort; means = x.indexes p.so
 pub placed_on : (w : Worlds) (c : Collection) (g h : Scope) (outer : List Scope) (is : List (Name × ItemKind)) (ps : List (Option SortIndex)) → Extends g h → ArePlaced w c (g ∷ outer) is ps → ArePlaced w c (h ∷ outer) is ps
 placed_on w c g h outer is ps x a at n k p e f = import_on c g h outer n k p x (a at n k p e f)
 
+pub GoesOn-refl : (i : Inside) → GoesOn i i
+GoesOn-refl i = record { extends = Extends-refl i.here; imports = refl; exports = refl }
+
+pub items_on : (w : Worlds) (c : Collection) (outer : List Scope) (i j k : Inside) (u : ItemScope) → GoesOn i j → ItemsGo w c outer j k u → GoesOn i k
+items_on w c outer i j k u x g = record { extends = Extends-trans i.here j.here k.here x.extends g.extends; imports = g.imports ∙ x.imports; exports = g.exports ∙ x.exports }
+
 module _ (w : Worlds) (c : Collection) (outer : List Scope) (world : WorldId) (imported exported : List Name) where
+  -- a world is written on from where it is
+  pub written : (s : ImportScope) (h : WritesWorld w c outer world s imported exported) → WritesOn w c outer world h.writing.inside s imported exported
+  written s h = record { goes = h; on = GoesOn-refl h.writing.inside }
+
   -- the items' scope goes on
   unfoldable pub world_goes : (s : ImportScope) (u : ItemScope) (h : WritesWorld w c outer world s imported exported) (j : Inside) → ItemsGo w c outer h.writing.inside j u → WritesWorld w c outer world (record s { scope = u }) imported exported
   unfolding writes_on
@@ -92,12 +104,12 @@ module _ (w : Worlds) (c : Collection) (outer : List Scope) (world : WorldId) (i
   }
 
   -- and one more used type is known
-  pub world_adds : (s : ImportScope) (u : ItemScope) (v : UsedTypes) (h : WritesWorld w c outer world s imported exported) (j : Inside) (item : ItemKind) (k : ℕ) → ItemsGo w c outer h.writing.inside j u
+  pub world_adds : (i : Inside) (s : ImportScope) (u : ItemScope) (v : UsedTypes) (h : WritesOn w c outer world i s imported exported) (j : Inside) (item : ItemKind) (k : ℕ) → ItemsGo w c outer h.goes.writing.inside j u
       → v.all.items ≡ s.used.all.items ++ record { item = item; index = k } ∷ [] → Stands c item → IsUsedKind item → IsTypeItem w (j.here ∷ outer) 0 (tree_in c item) k
-      → HasAlias w c outer world (record s { scope = u; used = v }) imported exported (tree_in c item) (Some k)
+      → HasAlias w c outer world i (record s { scope = u; used = v }) imported exported (tree_in c item) (Some k)
   unfolding writes_on world_goes
-  world_adds s u v h j item k g e stands kind at =
-      let b = world_goes s u h j g in
+  world_adds i s u v h j item k g e stands kind at =
+      let b = world_goes s u h.goes j g in
       let one : UsedIndex = record { item = item; index = k } in
       record {
         goes = record {
@@ -108,17 +120,43 @@ module _ (w : Worlds) (c : Collection) (outer : List Scope) (world : WorldId) (i
           ];
           placed = b.placed;
         };
+        on = items_on w c outer i h.goes.writing.inside j u h.on g;
         index = at;
       }
 
-  pub world_describes : (s : ImportScope) (u : ItemScope) (h : WritesWorld w c outer world s imported exported) (n : Name) (kind : ItemKind) (d : Description) → Describes w c outer h.writing.inside kind u d
-      → DescribesIn w c outer world n kind (record s { scope = u }) imported exported d
+  pub world_describes : (i : Inside) (s : ImportScope) (u : ItemScope) (h : WritesOn w c outer world i s imported exported) (n : Name) (kind : ItemKind) (d : Description) → Describes w c outer h.goes.writing.inside kind u d
+      → DescribesIn w c outer world i n kind (record s { scope = u }) imported exported d
   unfolding writes_on world_goes
-  world_describes s u h n kind d a = record { goes = world_goes s u h a.after a.goes; sorted = a.sorted; reads = a.reads n }
+  world_describes i s u h n kind d a = record {
+    goes = world_goes s u h.goes a.after a.goes;
+    on = items_on w c outer i h.goes.writing.inside a.after u h.on a.goes;
+    sorted = a.sorted;
+    reads = a.reads n;
+  }
+
+  -- so of another collection, of whose types others are known
+  pub world_apart : (other : Collection) (i : Inside) (s : ImportScope) (u : ItemScope) (t : TypeScope) (ks ls : KnownTypes) (h : WritesOn w c outer world i s imported exported) (kind : ItemKind) (d : Description)
+      → Describes w other outer h.goes.writing.inside kind u d → AreKnown w (h.goes.writing.inside.here ∷ outer) c ks → Exchanges u.types ks t ls
+      → DescribesApart w c other outer world i kind (record s { scope = record u { types = t } }) ls imported exported d
+  unfolding writes_on world_goes
+  world_apart other i s u t ks ls h kind d a known e =
+      let j = a.after in
+      let last : ItemScope = record u { types = t } in
+      let x = item_exchanged w other c outer j u t ks ls e a.goes.stands (all_known_kept w c h.goes.writing.inside.here j.here outer ks a.goes.extends known) in
+      let g : ItemsGo w c outer h.goes.writing.inside j last = record { stands = x.0; extends = a.goes.extends; imports = a.goes.imports; exports = a.goes.exports } in
+      record {
+        goes = world_goes s last h.goes j g;
+        on = items_on w c outer i h.goes.writing.inside j last h.on g;
+        known = x.1;
+        sorted = a.sorted;
+        reads = a.reads;
+      }
 
   -- what is remembered changes
-  pub world_noted : (s : ImportScope) (u : ItemScope) (h : WritesWorld w c outer world s imported exported) → IsItemScope w c outer h.writing.inside u → WritesWorld w c outer world (record s { scope = u }) imported exported
-  world_noted s u h g = world_goes s u h h.writing.inside (record { stands = g; extends = Extends-refl h.writing.inside.here; imports = refl; exports = refl })
+  pub world_noted : (i : Inside) (s : ImportScope) (u : ItemScope) (h : WritesWorld w c outer world s imported exported) → GoesOn i h.writing.inside → IsItemScope w c outer h.writing.inside u
+      → WritesOn w c outer world i (record s { scope = u }) imported exported
+  unfolding writes_on world_goes
+  world_noted i s u h x g = record { goes = world_goes s u h h.writing.inside (ItemsGo-refl w c outer h.writing.inside u g); on = x }
 
   -- one more export
   pub world_exports : (s : ImportScope) (u : ItemScope) (h : WritesWorld w c outer world s imported exported) (n : Name) (t : Tree) (more : List Name) → IsTreeOf c (world_exports_of c world) n t → ExportsItem w c outer h.writing.inside n t u

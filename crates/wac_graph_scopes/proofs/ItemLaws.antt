@@ -19,10 +19,11 @@ use Rattle.wac_graph_bytes.specs.Entries.{End}
 use Rattle.wac_graph_bytes.specs.Typing.{◌>>=◌, Worlds, Meaning, Part, Scope, with_one, with_core, Inside, adds_inside, declared, found_at, found, part_of, item_tree, type_tree, item_of, type_in, export_named}
 use Rattle.wac_graph_bytes.specs.Views.{before}
 use Rattle.wac_graph_bytes.proofs.Steps.{bind_some, core_kept, get_kept, get_last}
+use Rattle.wac_graph_scopes.specs.declared.scope.KnownTypes.{KnownTypes}
 use Rattle.wac_graph_scopes.specs.declared.scope.TypeScope.{TypeScope}
 use Rattle.wac_graph_scopes.specs.declared.items.ItemScope.{ItemScope}
 use Rattle.wac_graph_scopes.specs.declared.used.UsedIndex.{UsedIndex}
-use Rattle.wac_graph_scopes.specs.Scopes.{Extends, IsScope, Goes}
+use Rattle.wac_graph_scopes.specs.Scopes.{Extends, AreKnown, IsScope, Exchanges, Goes}
 use Rattle.wac_graph_scopes.specs.Items.{IsItemScope, ItemsGo, ExportsItem, IsTypeItem, AreUsed, AreAround, HasType, adds_core, HasCore, count_of, with_count, HasItem, GivesItem, IsInstanceAt}
 use Rattle.wac_graph_scopes.proofs.HandleLaws.{if_ok_map}
 use Rattle.wac_graph_scopes.proofs.ScopeLaws.{Extends-refl, Extends-trans, Extends-one, type_added, scope_at}
@@ -54,6 +55,13 @@ used_deeper w c ss depth next us vs e f a here u m =
     let i = b.index in
     let deep : next ≡ suc depth = omega (arith, e) in
     record { stands = b.stands; kind = b.kind; index = subst (λ (n : ℕ). IsTypeItem w (here ∷ ss) n (tree_in c u.item) u.index) (sym deep) (record { there = i.there; item = i.item; reads = i.reads }) }
+
+-- a scope of another collection, of which those types are known
+pub item_exchanged : (w : Worlds) (c d : Collection) (outer : List Scope) (i : Inside) (s : ItemScope) (t : TypeScope) (ks ls : KnownTypes) → Exchanges s.types ks t ls → IsItemScope w c outer i s → AreKnown w (i.here ∷ outer) d ks
+    → IsItemScope w d outer i (record s { types = t }) × AreKnown w (i.here ∷ outer) c ls
+item_exchanged w c d outer i s t ks ls x h a =
+    let b = x w c d outer i h.written a in
+    (record { written = b.0; cores = h.cores; funcs = h.funcs; components = h.components; instances = h.instances; modules = h.modules }, b.1)
 
 -- ---- going on
 
@@ -102,12 +110,12 @@ module _ (w : Worlds) (c : Collection) (outer : List Scope) where
   -- ---- one more declaration
 
   pub has_type : (i : Inside) (m : Meaning) (s : ItemScope) (t : TypeScope) (d : Declaration) → IsItemScope w c outer i s → declared w outer i (before d End) ≡ Some (adds_inside sort.Ty m i)
-      → t.declarations.items ≡ s.types.declarations.items ++ d ∷ [] → t.types ≡ s.types.types + 1 → t.known.items ≡ s.types.known.items → t.resources ≡ s.types.resources
+      → t.declarations.items ≡ s.types.declarations.items ++ d ∷ [] → t.types ≡ s.types.types + 1 → t.known.all.items ≡ s.types.known.all.items → t.resources ≡ s.types.resources
       → HasType w c outer i m (record s { types = t }) s.types.types
   has_type i m s t d h e ds ts ks rs = record { goes = types_go i (adds_inside sort.Ty m i) s t h (type_added w c outer i m s.types t d h.written e ds ts ks rs); index = h.written.types }
 
   pub has_core : (i : Inside) (x : Tree) (s : ItemScope) (t : TypeScope) (d : Declaration) (n : ℕ) → IsItemScope w c outer i s → declared w outer i (before d End) ≡ Some (adds_core x i)
-      → t.declarations.items ≡ s.types.declarations.items ++ d ∷ [] → t.types ≡ s.types.types → t.known.items ≡ s.types.known.items → t.resources ≡ s.types.resources → n ≡ s.cores + 1
+      → t.declarations.items ≡ s.types.declarations.items ++ d ∷ [] → t.types ≡ s.types.types → t.known.all.items ≡ s.types.known.all.items → t.resources ≡ s.types.resources → n ≡ s.cores + 1
       → HasCore w c outer i x (record s { types = t; cores = n }) s.cores
   has_core i x s t d n h e ds ts ks rs ns = record {
     goes = record {
@@ -127,7 +135,7 @@ module _ (w : Worlds) (c : Collection) (outer : List Scope) where
   }
 
   module _ (i j : Inside) (m : Meaning) (s : ItemScope) (t : TypeScope) (e : Declaration) (n : ℕ) (h : IsItemScope w c outer i s) (reads : declared w outer i (before e End) ≡ Some j)
-      (ds : t.declarations.items ≡ s.types.declarations.items ++ e ∷ []) (ts : t.types ≡ s.types.types) (ks : t.known.items ≡ s.types.known.items) (rs : t.resources ≡ s.types.resources) where
+      (ds : t.declarations.items ≡ s.types.declarations.items ++ e ∷ []) (ts : t.types ≡ s.types.types) (ks : t.known.all.items ≡ s.types.known.all.items) (rs : t.resources ≡ s.types.resources) where
     extended : (d : Sort) → j.here ≡ with_one d m i.here → Extends i.here j.here
     extended d here = subst (λ (x : Scope). Extends i.here x) (sym here) (Extends-one d m i.here)
 
@@ -208,7 +216,7 @@ module _ (w : Worlds) (c : Collection) (outer : List Scope) where
   count_same (desc.Instance k) s t e = refl
 
   pub item_counted : (i j : Inside) (m : Meaning) (s u : ItemScope) (t : TypeScope) (e : Declaration) (d : Description) (n k : ℕ) → IsItemScope w c outer i s → declared w outer i (before e End) ≡ Some j
-      → t.declarations.items ≡ s.types.declarations.items ++ e ∷ [] → t.types ≡ s.types.types → t.known.items ≡ s.types.known.items → t.resources ≡ s.types.resources
+      → t.declarations.items ≡ s.types.declarations.items ++ e ∷ [] → t.types ≡ s.types.types → t.known.all.items ≡ s.types.known.all.items → t.resources ≡ s.types.resources
       → j.here ≡ with_one (description_sort d) m i.here → k ≡ count_of d (record s { types = t }) → n ≡ k + 1 → u ≡ with_count d n (record s { types = t }) → HasItem w c outer i j d u k
   item_counted i j m s u t e d n k h reads ds ts ks rs here ke ne ue =
       let same : k ≡ count_of d s = ke ∙ count_same d s t ts in

@@ -7,7 +7,7 @@ use Rattle.wac_types_base.specs.declared.item.«Type».{«Type» as TypeKind}
 use Rattle.wac_types_base.specs.declared.item.ValueType.{ValueType}
 use Rattle.wac_graph_scopes.specs.declared.items.ItemScope.{ItemScope}
 use Rattle.wac_graph_scopes.specs.Parts.{IsOfInterface, IsOfWorld}
-use Rattle.wac_graph_scopes.specs.ItemRefusals.{RefusedItem}
+use Rattle.wac_graph_scopes.specs.ItemRefusals.{RefusedType, RefusedItem}
 use Rattle.wac_types_base.specs.declared.item.ItemKind.{ItemKind}
 use Rattle.wac_types_base.specs.declared.defined.DefinedType.{DefinedType}
 use Rattle.wac_types_base.specs.Record.{Collection}
@@ -24,7 +24,7 @@ use Rattle.wac_graph_bytes.specs.declared.fault.SizeError.{SizeError}
 use Rattle.wac_graph_scopes.specs.declared.fault.WriteError.{WriteError}
 use Rattle.wac_graph_scopes.specs.declared.scope.TypeScope.{TypeScope}
 use Rattle.wac_graph_scopes.specs.Faults.{written_fault}
-use Rattle.wac_graph_scopes.specs.Refusals.{Dangles, part_dangles, Refused, RefusedPlace}
+use Rattle.wac_graph_scopes.specs.Refusals.{IsUnnamed, Dangles, part_dangles, Refused, RefusedPlace}
 
 pub if_err_map : {T E : Type 0} {P Q : E → Type 0} (r : Result T E) → ((e : E) → P e → Q e) → IfErr r P → IfErr r Q
 if_err_map (Ok x) f h = tt
@@ -43,6 +43,14 @@ pub refused_kept : (c : Collection) (k : ItemKind) (s u : TypeScope) (e : WriteE
 refused_kept c k s u WriteError.Unwritable r t h = subst (λ (rs : List (Name × ℕ)). Dangles c rs k) (sym r) h
 refused_kept c k s u WriteError.TooLarge r t h = t ∙ h
 refused_kept c k s u WriteError.Memory r t h = tt
+
+pub type_refused_kept : (c : Collection) (t : TypeKind) (s u : ItemScope) (e : WriteError) → u.types.resources ≡ s.types.resources → u.types.types ≡ s.types.types → RefusedType c t s e → RefusedType c t u e
+type_refused_kept c (TypeKind.Resource x) s u e r n h = (h.0, subst (λ (rs : List (Name × ℕ)). IsUnnamed c rs x) (sym r) h.1)
+type_refused_kept c (TypeKind.Func f) s u e r n h = refused_kept c (ItemKind.Func f) s.types u.types e r n h
+type_refused_kept c (TypeKind.Value v) s u e r n h = refused_kept c (ItemKind.Value v) s.types u.types e r n h
+type_refused_kept c (TypeKind.Interface f) s u e r n h = tt
+type_refused_kept c (TypeKind.World f) s u e r n h = tt
+type_refused_kept c (TypeKind.Module f) s u e r n h = tt
 
 -- of a value type in a place
 pub part_refused : (c : Collection) (k : ItemKind) (v : ValueType) (s : TypeScope) (e : WriteError) → Among (Some (ItemKind.Value v)) (slots_of c k) → Refused c (ItemKind.Value v) s e → Refused c k s e

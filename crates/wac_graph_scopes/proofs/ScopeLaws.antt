@@ -20,13 +20,14 @@ use Rattle.wac_graph_bytes.specs.declared.value.ValueType.TheVariants.{Primitive
 use Rattle.wac_graph_bytes.specs.declared.entry.DefinedType.{DefinedType as CodeType}
 use Rattle.wac_graph_bytes.specs.declared.entry.Declaration.{Declaration, Defined}
 use Rattle.wac_graph_bytes.specs.Entries.{End}
-use Rattle.wac_graph_bytes.specs.Typing.{◌>>=◌, Worlds, Meaning, Known, Scope, with_one, Inside, nothing_inside, adds_inside, declared, defined, found, type_tree, type_at, value_of, as_value}
+use Rattle.wac_graph_bytes.specs.Typing.{◌>>=◌, Worlds, Meaning, Known, Scope, no_scope, with_one, Inside, nothing_inside, adds_inside, declared, defined, found, type_tree, type_at, value_of, as_value}
 use Rattle.wac_graph_bytes.specs.Views.{defined_view, before, declarations_of}
 use Rattle.wac_graph_bytes.proofs.Steps.{bind_some, kept_one, cores_kept, get_last}
 use Rattle.wac_graph_bytes.proofs.Extending.{one_more}
 use Rattle.wac_graph_scopes.specs.declared.scope.KnownType.{KnownType}
+use Rattle.wac_graph_scopes.specs.declared.scope.KnownTypes.{KnownTypes}
 use Rattle.wac_graph_scopes.specs.declared.scope.TypeScope.{TypeScope}
-use Rattle.wac_graph_scopes.specs.Scopes.{Extends, OnlyTypes, IsKnown, IsResource, IsScope, Goes, AnswersType, PlaceReads, PlacesRead}
+use Rattle.wac_graph_scopes.specs.Scopes.{Extends, OnlyTypes, IsKnown, AreKnown, IsResource, IsScope, Exchanges, Goes, AnswersType, PlaceReads, PlacesRead}
 use Rattle.wac_types_fit.proofs.Items.{Among-last}
 
 -- ---- what stands on
@@ -91,6 +92,9 @@ places_more w ss (x ∷ bs) [] b t h e = absurd h
 pub known_kept : (w : Worlds) (c : Collection) (h j : Scope) (outer : List Scope) (k : KnownType) → Extends h j → IsKnown w (h ∷ outer) c k → IsKnown w (j ∷ outer) c k
 known_kept w c h j outer k x e = record { reads = value_kept w h j outer (Index k.index) _ x e.reads }
 
+pub all_known_kept : (w : Worlds) (c : Collection) (h j : Scope) (outer : List Scope) (ks : KnownTypes) → Extends h j → AreKnown w (h ∷ outer) c ks → AreKnown w (j ∷ outer) c ks
+all_known_kept w c h j outer ks x a k m = known_kept w c h j outer k x (a k m)
+
 pub resource_kept : (w : Worlds) (h j : Scope) (outer : List Scope) (n : Name) (k : ℕ) → Extends h j → IsResource w (h ∷ outer) n k → IsResource w (j ∷ outer) n k
 resource_kept w h j outer n k x e = record { reads = type_kept w h j outer k _ x e.reads }
 
@@ -111,7 +115,7 @@ module _ (w : Worlds) (c : Collection) (outer : List Scope) where
 
   -- one more type
   pub type_added : (i : Inside) (m : Meaning) (s u : TypeScope) (d : Declaration) → IsScope w c outer i s → declared w outer i (before d End) ≡ Some (adds_inside sort.Ty m i)
-      → u.declarations.items ≡ s.declarations.items ++ d ∷ [] → u.types ≡ s.types + 1 → u.known.items ≡ s.known.items → u.resources ≡ s.resources
+      → u.declarations.items ≡ s.declarations.items ++ d ∷ [] → u.types ≡ s.types + 1 → u.known.all.items ≡ s.known.all.items → u.resources ≡ s.resources
       → Goes w c outer i (adds_inside sort.Ty m i) u
   type_added i m s u d h one ds ts ks rs =
       let x = Extends-one sort.Ty m i.here in
@@ -137,7 +141,7 @@ module _ (w : Worlds) (c : Collection) (outer : List Scope) where
 
   -- a type without declarations
   pub type_defined : (i : Inside) (t : Tree) (s u : TypeScope) (ty : CodeType) → IsScope w c outer i s → defined w (i.here ∷ outer) (defined_view ty) ≡ Some t
-      → u.declarations.items ≡ s.declarations.items ++ Defined ty ∷ [] → u.types ≡ s.types + 1 → u.known.items ≡ s.known.items → u.resources ≡ s.resources
+      → u.declarations.items ≡ s.declarations.items ++ Defined ty ∷ [] → u.types ≡ s.types + 1 → u.known.all.items ≡ s.known.all.items → u.resources ≡ s.resources
       → AnswersType w c outer i t u s.types
   type_defined i t s u ty h e ds ts ks rs = record {
     after = adds_inside sort.Ty (Known t) i;
@@ -147,12 +151,12 @@ module _ (w : Worlds) (c : Collection) (outer : List Scope) where
 
 -- ---- a new scope, and what it remembers
 
-pub scope_empty : (w : Worlds) (c : Collection) (outer : List Scope) (s : TypeScope) → s.declarations.items ≡ [] → s.types ≡ 0 → s.known.items ≡ [] → s.resources ≡ [] → IsScope w c outer nothing_inside s
+pub scope_empty : (w : Worlds) (c : Collection) (outer : List Scope) (s : TypeScope) → s.declarations.items ≡ [] → s.types ≡ 0 → AreKnown w (no_scope ∷ outer) c s.known → s.resources ≡ [] → IsScope w c outer nothing_inside s
 unfolding declared
 scope_empty w c outer s d t k r = record {
   reads = ap (λ (l : List Declaration). declared w outer nothing_inside (declarations_of l)) d;
   types = t;
-  known = λ x a. absurd (subst (λ (l : List KnownType). Among x l) k a);
+  known = k;
   resources = λ n k a. let none : value_at [] n ≡ Some k = subst (λ (l : List (Name × ℕ)). value_at l n ≡ Some k) r a in absurd (cc none);
 }
 
@@ -161,15 +165,15 @@ further xs x y z (inl b) = inl (inr b)
 further xs x y z (inr e) = inr e
 
 pub scope_remembers : (w : Worlds) (c : Collection) (outer : List Scope) (i : Inside) (s u : TypeScope) (k : KnownType) → IsScope w c outer i s → IsKnown w (i.here ∷ outer) c k
-    → u.declarations.items ≡ s.declarations.items → u.types ≡ s.types → u.known.items ≡ s.known.items ++ k ∷ [] → u.resources ≡ s.resources → IsScope w c outer i u
+    → u.declarations.items ≡ s.declarations.items → u.types ≡ s.types → u.known.all.items ≡ s.known.all.items ++ k ∷ [] → u.resources ≡ s.resources → IsScope w c outer i u
 scope_remembers w c outer i s u k h true_of d t ks rs = record {
   reads = ap (λ (l : List Declaration). declared w outer nothing_inside (declarations_of l)) d ∙ h.reads;
   types = t ∙ h.types;
-  known = λ x a. by x (Among-last s.known.items k x (subst (λ (l : List KnownType). Among x l) ks a));
+  known = λ x a. by x (Among-last s.known.all.items k x (subst (λ (l : List KnownType). Among x l) ks a));
   resources = λ n k a. h.resources n k (subst (λ (l : List (Name × ℕ)). value_at l n ≡ Some k) rs a);
 }
   where
-    by : (x : KnownType) → Among x s.known.items ⊎ (x ≡ k) → IsKnown w (i.here ∷ outer) c x
+    by : (x : KnownType) → Among x s.known.all.items ⊎ (x ≡ k) → IsKnown w (i.here ∷ outer) c x
     by x (inl a) = h.known x a
     by x (inr e) = subst (λ (y : KnownType). IsKnown w (i.here ∷ outer) c y) (sym e) true_of
 
@@ -177,19 +181,16 @@ scope_remembers w c outer i s u k h true_of d t ks rs = record {
 pub known_same : (w : Worlds) (c : Collection) (ss : List Scope) (k : KnownType) (id : DefinedTypeId) → IsKnown w ss c k → k.id ≡ id → value_of w ss (Index k.index) ≡ Some (tree_in c (ItemKind.Value (ValueType.Defined id)))
 known_same w c ss k id h same = h.reads ∙ ap (λ (x : DefinedTypeId). Some (tree_in c (ItemKind.Value (ValueType.Defined x)))) same
 
--- with nothing known it is a scope of any collection
-pub scope_forgets : (w : Worlds) (c d : Collection) (outer : List Scope) (i : Inside) (s u : TypeScope) → IsScope w c outer i s
-    → u.declarations.items ≡ s.declarations.items → u.types ≡ s.types → u.known.items ≡ [] → u.resources ≡ s.resources → IsScope w d outer i u
-scope_forgets w c d outer i s u h ds t ks rs = record {
-  reads = ap (λ (l : List Declaration). declared w outer nothing_inside (declarations_of l)) ds ∙ h.reads;
-  types = t ∙ h.types;
-  known = λ x a. absurd (subst (λ (l : List KnownType). Among x l) ks a);
-  resources = λ n k a. h.resources n k (subst (λ (l : List (Name × ℕ)). value_at l n ≡ Some k) rs a);
-}
+-- a scope of another collection, of which these types are known
+pub scope_exchanged : (s : TypeScope) (ks here there : KnownTypes) → here ≡ ks → there ≡ s.known → Exchanges s ks (record s { known = here }) there
+scope_exchanged s ks here there e f w c d outer i h a = (
+  record { reads = h.reads; types = h.types; known = subst (λ (ls : KnownTypes). AreKnown w (i.here ∷ outer) d ls) (sym e) a; resources = h.resources },
+  subst (λ (ls : KnownTypes). AreKnown w (i.here ∷ outer) c ls) (sym f) h.known,
+)
 
 -- beside declarations, counters, known types and resources nothing matters
 pub scope_same : (w : Worlds) (c : Collection) (outer : List Scope) (i : Inside) (s u : TypeScope) → IsScope w c outer i s
-    → u.declarations.items ≡ s.declarations.items → u.types ≡ s.types → u.known.items ≡ s.known.items → u.resources ≡ s.resources → IsScope w c outer i u
+    → u.declarations.items ≡ s.declarations.items → u.types ≡ s.types → u.known.all.items ≡ s.known.all.items → u.resources ≡ s.resources → IsScope w c outer i u
 scope_same w c outer i s u h ds t ks rs = record {
   reads = ap (λ (l : List Declaration). declared w outer nothing_inside (declarations_of l)) ds ∙ h.reads;
   types = t ∙ h.types;
@@ -200,7 +201,7 @@ scope_same w c outer i s u h ds t ks rs = record {
 -- ---- one more declaration of any kind
 
 pub scope_at : (w : Worlds) (c : Collection) (outer : List Scope) (i j : Inside) (s u : TypeScope) (d : Declaration) → IsScope w c outer i s → declared w outer i (before d End) ≡ Some j → Extends i.here j.here
-    → u.declarations.items ≡ s.declarations.items ++ d ∷ [] → u.types ≡ length j.here.types → u.known.items ≡ s.known.items → u.resources ≡ s.resources → IsScope w c outer j u
+    → u.declarations.items ≡ s.declarations.items ++ d ∷ [] → u.types ≡ length j.here.types → u.known.all.items ≡ s.known.all.items → u.resources ≡ s.resources → IsScope w c outer j u
 scope_at w c outer i j s u d h one x ds ts ks rs = record {
   reads = ap (λ (l : List Declaration). declared w outer nothing_inside (declarations_of l)) ds ∙ one_more w outer nothing_inside i j s.declarations.items d h.reads one;
   types = ts;
@@ -234,7 +235,7 @@ put_either (x ∷ es) n m v k e = put_in_more x es n m v k (pointwise ◌==◌ n
 
 -- the name has an index, beside the others
 pub scope_has_resource : (w : Worlds) (c : Collection) (outer : List Scope) (i : Inside) (s u : TypeScope) (n : Name) (k : ℕ) → IsScope w c outer i s → IsResource w (i.here ∷ outer) n k
-    → u.declarations.items ≡ s.declarations.items → u.types ≡ s.types → u.known.items ≡ s.known.items → u.resources ≡ put_entry s.resources n k → IsScope w c outer i u
+    → u.declarations.items ≡ s.declarations.items → u.types ≡ s.types → u.known.all.items ≡ s.known.all.items → u.resources ≡ put_entry s.resources n k → IsScope w c outer i u
 scope_has_resource w c outer i s u n k h r ds t ks rs = record {
   reads = ap (λ (l : List Declaration). declared w outer nothing_inside (declarations_of l)) ds ∙ h.reads;
   types = t ∙ h.types;

@@ -18,13 +18,14 @@ use Rattle.wac_graph_bytes.specs.Counting.{description_sort}
 use Rattle.wac_graph_bytes.specs.Typing as typing
 use Rattle.wac_graph_bytes.specs.Typing.{Worlds, Scope, Inside, found, export_named, described}
 use Rattle.wac_graph_bytes.specs.Views.{declarations_of}
+use Rattle.wac_graph_scopes.specs.declared.scope.KnownTypes.{KnownTypes}
 use Rattle.wac_graph_scopes.specs.declared.items.ItemScope.{ItemScope}
 use Rattle.wac_graph_scopes.specs.declared.imports.Importing.{Importing}
 use Rattle.wac_graph_scopes.specs.declared.imports.SortIndex.{SortIndex}
 use Rattle.wac_graph_scopes.specs.declared.imports.ImportScope.{ImportScope}
 use Rattle.wac_graph_scopes.specs.declared.parts.Item.{Item}
 use Rattle.wac_graph_scopes.specs.Parts.{exports_of, imports_of, world_exports_of, IsUsedKind}
-use Rattle.wac_graph_scopes.specs.Scopes.{Extends}
+use Rattle.wac_graph_scopes.specs.Scopes.{Extends, GoesOn, AreKnown}
 use Rattle.wac_graph_scopes.specs.Items.{IsItemScope, AreUsed, IsTypeItem, IsInstanceAt, IsTreeOf, sort_of, IsSorted, Writing, StatesComponent}
 
 -- what the world imports and exports
@@ -73,6 +74,11 @@ pub record WritesWorld (w : Worlds) (c : Collection) (outer : List Scope) (world
   pub used : AreUsed w c (writing.inside.here ∷ outer) 0 s.used.all.items
   pub placed : ArePlaced w c (writing.inside.here ∷ outer) (imports_of c world) s.places.items
 
+-- and what stood there stands
+pub record WritesOn (w : Worlds) (c : Collection) (outer : List Scope) (world : WorldId) (i : Inside) (s : ImportScope) (imported exported : List Name) : Type 0 where
+  pub goes : WritesWorld w c outer world s imported exported
+  pub on : GoesOn i goes.writing.inside
+
 -- the index stands for an instance that exports a type with that tree
 abbrev pub IsSource : Worlds → List Scope → Name → Tree → ℕ → Type 0
 IsSource w ss n t k = (u : Tree) × IsInstanceAt w ss u k × (export_named n u ≡ Some t)
@@ -82,43 +88,61 @@ FindsSource a n item s r = Stands a.types.now item → IsUsedKind item → (w : 
     → IfOk r (λ o. IfSome o (IsSource w (h.writing.inside.here ∷ outer) n (tree_in a.types.now item)))
 
 -- the world is written on, and the index, if there is one, stands for a type item with that tree
-pub record HasAlias (w : Worlds) (c : Collection) (outer : List Scope) (world : WorldId) (s : ImportScope) (imported exported : List Name) (t : Tree) (o : Option ℕ) : Type 0 where
+pub record HasAlias (w : Worlds) (c : Collection) (outer : List Scope) (world : WorldId) (i : Inside) (s : ImportScope) (imported exported : List Name) (t : Tree) (o : Option ℕ) : Type 0 where
   pub goes : WritesWorld w c outer world s imported exported
+  pub on : GoesOn i goes.writing.inside
   pub index : IfSome o (IsTypeItem w (goes.writing.inside.here ∷ outer) 0 t)
 
 abbrev pub AliasesUse : {E : Type 0} → Importing → ItemKind → ImportScope → ImportScope → Result (Option ℕ) E → Type 0
-AliasesUse a item old new r = Stands a.types.now item → IsUsedKind item → (w : Worlds) (outer : List Scope) (imported exported : List Name) → WritesWorld w a.types.now outer a.world old imported exported
-    → IfOk r (HasAlias w a.types.now outer a.world new imported exported (tree_in a.types.now item))
+AliasesUse a item old new r = Stands a.types.now item → IsUsedKind item → (w : Worlds) (outer : List Scope) (i : Inside) (imported exported : List Name)
+    → WritesOn w a.types.now outer a.world i old imported exported → IfOk r (HasAlias w a.types.now outer a.world i new imported exported (tree_in a.types.now item))
 
 abbrev pub AddsUsed : {E : Type 0} → Collection → WorldId → ℕ → Name → ItemKind → ImportScope → ImportScope → Result ℕ E → Type 0
-AddsUsed c world k n item old new r = Stands c item → IsUsedKind item → (w : Worlds) (outer : List Scope) (imported exported : List Name) → (h : WritesWorld w c outer world old imported exported)
-    → IsSource w (h.writing.inside.here ∷ outer) n (tree_in c item) k → IfOk r (λ j. HasAlias w c outer world new imported exported (tree_in c item) (Some j))
+AddsUsed c world k n item old new r = Stands c item → IsUsedKind item → (w : Worlds) (outer : List Scope) (i : Inside) (imported exported : List Name) → (h : WritesOn w c outer world i old imported exported)
+    → IsSource w (h.goes.writing.inside.here ∷ outer) n (tree_in c item) k → IfOk r (λ j. HasAlias w c outer world i new imported exported (tree_in c item) (Some j))
 
+-- wherever it was written on from
 abbrev pub KeepsWorld : {U E : Type 0} → Importing → ImportScope → ImportScope → Result U E → Type 0
-KeepsWorld a old new r = (w : Worlds) (outer : List Scope) (imported exported : List Name) → WritesWorld w a.types.now outer a.world old imported exported → IfOk r (λ _. WritesWorld w a.types.now outer a.world new imported exported)
+KeepsWorld a old new r = (w : Worlds) (outer : List Scope) (i : Inside) (imported exported : List Name)
+    → WritesOn w a.types.now outer a.world i old imported exported → IfOk r (λ _. WritesOn w a.types.now outer a.world i new imported exported)
 
 -- the world is written on, and what is so described under the name is the item
-pub record DescribesIn (w : Worlds) (c : Collection) (outer : List Scope) (world : WorldId) (n : Name) (kind : ItemKind) (s : ImportScope) (imported exported : List Name) (d : Description) : Type 0 where
+pub record DescribesIn (w : Worlds) (c : Collection) (outer : List Scope) (world : WorldId) (i : Inside) (n : Name) (kind : ItemKind) (s : ImportScope) (imported exported : List Name) (d : Description) : Type 0 where
   pub goes : WritesWorld w c outer world s imported exported
+  pub on : GoesOn i goes.writing.inside
   pub sorted : IsSorted kind d
   pub reads : described w (goes.writing.inside.here ∷ outer) n d ≡ Some (description_sort d, tree_in c kind)
 
 abbrev pub DescribesImport : {E : Type 0} → Importing → Item → ImportScope → ImportScope → Result Description E → Type 0
-DescribesImport a x old new r = (w : Worlds) (outer : List Scope) (imported exported : List Name) → WritesWorld w a.types.now outer a.world old imported exported
-    → IfOk r (DescribesIn w a.types.now outer a.world x.name.now x.kind new imported exported)
+DescribesImport a x old new r = (w : Worlds) (outer : List Scope) (i : Inside) (imported exported : List Name) → WritesOn w a.types.now outer a.world i old imported exported
+    → IfOk r (DescribesIn w a.types.now outer a.world i x.name.now x.kind new imported exported)
 
 -- under any name, of whatever world
 abbrev pub DescribesThere : {E : Type 0} → Collection → ItemKind → ImportScope → ImportScope → Result Description E → Type 0
-DescribesThere c kind old new r = (world : WorldId) (n : Name) (w : Worlds) (outer : List Scope) (imported exported : List Name) → WritesWorld w c outer world old imported exported
-    → IfOk r (DescribesIn w c outer world n kind new imported exported)
+DescribesThere c kind old new r = (world : WorldId) (n : Name) (w : Worlds) (outer : List Scope) (i : Inside) (imported exported : List Name) → WritesOn w c outer world i old imported exported
+    → IfOk r (DescribesIn w c outer world i n kind new imported exported)
 
-abbrev pub MayDescribeIn : Worlds → Collection → List Scope → WorldId → Name → ItemKind → ImportScope → List Name → List Name → Option Description → Type 0
-MayDescribeIn w c outer world n kind s imported exported None = WritesWorld w c outer world s imported exported
-MayDescribeIn w c outer world n kind s imported exported (Some d) = DescribesIn w c outer world n kind s imported exported d
+-- The world is written on, and what is so described under any name is the item of the other collection, of whose types these are known.
+pub record DescribesApart (w : Worlds) (c other : Collection) (outer : List Scope) (world : WorldId) (i : Inside) (kind : ItemKind) (s : ImportScope) (ks : KnownTypes) (imported exported : List Name) (d : Description) : Type 0 where
+  pub goes : WritesWorld w c outer world s imported exported
+  pub on : GoesOn i goes.writing.inside
+  pub known : AreKnown w (goes.writing.inside.here ∷ outer) other ks
+  pub sorted : IsSorted kind d
+  pub reads : (n : Name) → described w (goes.writing.inside.here ∷ outer) n d ≡ Some (description_sort d, tree_in other kind)
+
+-- of whatever world
+abbrev pub DescribesOther : {E : Type 0} → Collection → ItemKind → ImportScope → KnownTypes → ImportScope → KnownTypes → Result Description E → Type 0
+DescribesOther other kind old before new after r = (world : WorldId) (w : Worlds) (c : Collection) (outer : List Scope) (i : Inside) (imported exported : List Name)
+    → (h : WritesOn w c outer world i old imported exported) → AreKnown w (h.goes.writing.inside.here ∷ outer) other before
+    → IfOk r (DescribesApart w c other outer world i kind new after imported exported)
+
+abbrev pub MayDescribeIn : Worlds → Collection → List Scope → WorldId → Inside → Name → ItemKind → ImportScope → List Name → List Name → Option Description → Type 0
+MayDescribeIn w c outer world i n kind s imported exported None = WritesOn w c outer world i s imported exported
+MayDescribeIn w c outer world i n kind s imported exported (Some d) = DescribesIn w c outer world i n kind s imported exported d
 
 abbrev pub MayDescribe : {E : Type 0} → Importing → Item → ImportScope → ImportScope → Result (Option Description) E → Type 0
-MayDescribe a x old new r = (w : Worlds) (outer : List Scope) (imported exported : List Name) → WritesWorld w a.types.now outer a.world old imported exported
-    → IfOk r (MayDescribeIn w a.types.now outer a.world x.name.now x.kind new imported exported)
+MayDescribe a x old new r = (w : Worlds) (outer : List Scope) (i : Inside) (imported exported : List Name) → WritesOn w a.types.now outer a.world i old imported exported
+    → IfOk r (MayDescribeIn w a.types.now outer a.world i x.name.now x.kind new imported exported)
 
 -- ---- imports
 
@@ -143,8 +167,8 @@ names_at ns (k ∷ ks) = option_to_list (slice_get ns k) ++ names_at ns ks
 
 -- the import at the place is written, which was not
 abbrev pub ImportsAt : {U E : Type 0} → Importing → Item → Description → ℕ → ImportScope → ImportScope → Result U E → Type 0
-ImportsAt a x d at old new r = (w : Worlds) (outer : List Scope) (imported exported : List Name) → AreDistinct (names_of (imports_of a.types.now a.world)) → Stands a.types.now x.kind → slice_get (imports_of a.types.now a.world) at ≡ Some (x.name.now, x.kind) → (Among x.name.now imported → ⊥)
-    → DescribesIn w a.types.now outer a.world x.name.now x.kind old imported exported d → IfOk r (λ _. WritesWorld w a.types.now outer a.world new (imported ++ x.name.now ∷ []) exported)
+ImportsAt a x d at old new r = (w : Worlds) (outer : List Scope) (i : Inside) (imported exported : List Name) → AreDistinct (names_of (imports_of a.types.now a.world)) → Stands a.types.now x.kind → slice_get (imports_of a.types.now a.world) at ≡ Some (x.name.now, x.kind) → (Among x.name.now imported → ⊥)
+    → DescribesIn w a.types.now outer a.world i x.name.now x.kind old imported exported d → IfOk r (λ _. WritesWorld w a.types.now outer a.world new (imported ++ x.name.now ∷ []) exported)
 
 abbrev pub IsNewAt : List Name → ℕ → List Name → Type 0
 IsNewAt ns at imported = (n : Name) → slice_get ns at ≡ Some n → Among n imported → ⊥

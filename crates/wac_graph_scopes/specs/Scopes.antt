@@ -20,6 +20,7 @@ use Rattle.wac_graph_bytes.specs.Typing.{Worlds, Meaning, Scope, space, Inside, 
 use Rattle.wac_graph_bytes.specs.declared.entry.DefinedType.{DefinedType}
 use Rattle.wac_graph_bytes.specs.Views.{declarations_of, defined_view}
 use Rattle.wac_graph_scopes.specs.declared.scope.KnownType.{KnownType}
+use Rattle.wac_graph_scopes.specs.declared.scope.KnownTypes.{KnownTypes}
 use Rattle.wac_graph_scopes.specs.declared.scope.TypeScope.{TypeScope}
 
 -- more may stand, and what stood stands
@@ -35,9 +36,19 @@ pub record OnlyTypes (old new : Scope) : Type 0 where
   pub modules : new.modules ≡ old.modules
   pub cores : new.cores ≡ old.cores
 
+-- more may stand, and what stood stands; the same is imported and exported
+pub record GoesOn (old new : Inside) : Type 0 where
+  pub extends : Extends old.here new.here
+  pub imports : new.imports ≡ old.imports
+  pub exports : new.exports ≡ old.exports
+
 -- the index of a type that is remembered stands for the type of its id
 pub record IsKnown (w : Worlds) (ss : List Scope) (c : Collection) (k : KnownType) : Type 0 where
   pub reads : value_of w ss (Index k.index) ≡ Some (tree_in c (ItemKind.Value (ValueType.Defined k.id)))
+
+-- all of them are true there
+abbrev pub AreKnown : Worlds → List Scope → Collection → KnownTypes → Type 0
+AreKnown w ss c ks = (k : KnownType) → Among k ks.all.items → IsKnown w ss c k
 
 -- the index of a resource that stands there stands for the resource of that name
 pub record IsResource (w : Worlds) (ss : List Scope) (n : Name) (k : ℕ) : Type 0 where
@@ -47,16 +58,17 @@ pub record IsResource (w : Worlds) (ss : List Scope) (n : Name) (k : ℕ) : Type
 pub record IsScope (w : Worlds) (c : Collection) (outer : List Scope) (i : Inside) (s : TypeScope) : Type 0 where
   pub reads : declared w outer nothing_inside (declarations_of s.declarations.items) ≡ Some i
   pub types : s.types ≡ length i.here.types
-  pub known : (k : KnownType) → Among k s.known.items → IsKnown w (i.here ∷ outer) c k
+  pub known : AreKnown w (i.here ∷ outer) c s.known
   pub resources : (n : Name) (k : ℕ) → value_at s.resources n ≡ Some k → IsResource w (i.here ∷ outer) n k
 
 -- whatever scope of the collection it was, it is again
 abbrev pub KeepsScope : Collection → TypeScope → TypeScope → Type 0
 KeepsScope c s u = (w : Worlds) (outer : List Scope) (i : Inside) → IsScope w c outer i s → IsScope w c outer i u
 
--- a scope of one collection is one of any other
-abbrev pub Forgets : TypeScope → TypeScope → Type 0
-Forgets s u = (w : Worlds) (c d : Collection) (outer : List Scope) (i : Inside) → IsScope w c outer i s → IsScope w d outer i u
+-- a scope of one collection becomes one of another, of which those types are known
+abbrev pub Exchanges : TypeScope → KnownTypes → TypeScope → KnownTypes → Type 0
+Exchanges s ks u ls = (w : Worlds) (c d : Collection) (outer : List Scope) (i : Inside) → IsScope w c outer i s → AreKnown w (i.here ∷ outer) d ks
+    → IsScope w d outer i u × AreKnown w (i.here ∷ outer) c ls
 
 -- the index of a defined type
 abbrev pub StandsFor : Worlds → List Scope → Collection → DefinedTypeId → ℕ → Type 0

@@ -11,10 +11,10 @@ ghost use Rattle.wac_graph_bytes.specs.declared.value.Sort.TheVariants.{Instance
 ghost use Rattle.wac_graph_bytes.specs.Counting.{description_sort};
 ghost use Rattle.wac_graph_bytes.specs.Typing.{Worlds, Scope, nothing_inside};
 ghost use Rattle.wac_graph_scopes.specs.Parts.{IsUsedKind, IsFresh};
-ghost use Rattle.wac_graph_scopes.specs.Items.{IsItemScope, HasNameAt};
+ghost use Rattle.wac_graph_scopes.specs.Items.{IsItemScope, HasNameAt, DescribesSimply};
 ghost use Rattle.wac_graph_scopes.specs.Orders.{IsOrder, SourcesFirst};
 ghost use Rattle.wac_graph_scopes.specs.ItemRefusals.{RefusedType, RefusedItem};
-ghost use Rattle.wac_graph_scopes.specs.Imports.{all_imports, all_exports, NoneWritten, IsInstanceImport, IsPlaced, GivesTaken, FindsSource, AddsUsed, AliasesUse, KeepsWorld, DescribesImport, DescribesThere, MayDescribe};
+ghost use Rattle.wac_graph_scopes.specs.Imports.{all_imports, all_exports, NoneWritten, IsInstanceImport, IsPlaced, GivesTaken, FindsSource, AddsUsed, AliasesUse, KeepsWorld, DescribesImport, DescribesThere, DescribesOther, MayDescribe};
 ghost use Rattle.wac_graph_scopes.specs.Imports.{ImportsDescribed, ImportsAt, WritesImport, WritesInOrder, KeepsExporting, ExportsAt, ExportsAll, ExportsThere, WritesBetween, WritesBeforeOthers, BeginsWorld, MakesComponent};
 
 use crate::fault::WriteError;
@@ -27,6 +27,7 @@ use crate::parts::{
     is_fresh, taken, use_at, use_count, world_export_at, world_export_count, world_use_at,
     world_use_count, world_use_named,
 };
+use crate::scope::KnownTypes;
 use crate::used::{UsedIndex, UsedTypes};
 use crate::value::{define_apart, fits_in};
 use std::alloc::{AllocError, Global};
@@ -187,6 +188,44 @@ fn index_if_instance(sort: Sort, index: u32) -> Option<u32>
     match sort {
         Sort::Instance => Some(index),
         _ => None,
+    }
+}
+
+/// What an item is, where no types of interfaces stand around; its type is written.
+fn describe_alone(
+    alloc: Global,
+    scope: &mut ItemScope,
+    types: &Types,
+    kind: ItemKind,
+) -> Result<Description, WriteError>
+    ensures describes { DescribesSimply types.now kind scope.old scope.new result }
+    ensures refused { Stands types.now kind → IfErr result (RefusedItem types.now kind scope.new) }
+{
+    let used = UsedTypes::new(alloc);
+    let around = Around {
+        used: &used,
+        depth: 0,
+    };
+    describe(alloc, scope, types, around, kind)
+}
+
+/// What a type is, where no types of interfaces stand around; a value type is an entry of its own.
+fn describe_type(
+    alloc: Global,
+    scope: &mut ItemScope,
+    types: &Types,
+    ty: Type,
+) -> Result<Description, WriteError>
+    ensures describes { DescribesSimply types.now (ItemKind.Ty ty) scope.old scope.new result }
+    ensures refused { Stands types.now (ItemKind.Ty ty) → IfErr result (RefusedType types.now ty scope.new) }
+{
+    types.see_acyclic();
+    match ty {
+        Type::Value(ty) => {
+            let index = define_apart(alloc, &mut scope.types, types, ty)?;
+            Ok(Description::Equal(index))
+        }
+        _ => describe_alone(alloc, scope, types, ItemKind::Ty(ty)),
     }
 }
 
@@ -500,24 +539,23 @@ impl ImportScope {
         describe(alloc, &mut self.scope, types, around, kind)
     }
 
-    /// What a definition is that is a value type or a function type; its type is an entry of its own.
+    /// What a type of another collection than the world's is, where those types of that collection are known. A value
+    /// type gets an entry of its own. What is known of the world's collection stays, also on a refusal.
     pub fn describe_apart(
         &mut self,
         alloc: Global,
         types: &Types,
+        other: &mut KnownTypes,
         ty: Type,
     ) -> Result<Description, WriteError>
-        ensures describes { DescribesThere types.now (ItemKind.Ty ty) self.old self.new result }
+        ensures describes { DescribesOther types.now (ItemKind.Ty ty) self.old other.old self.new other.new result }
         ensures refused { Stands types.now (ItemKind.Ty ty) → IfErr result (RefusedType types.now ty self.new.scope) }
+        ensures kept { self.new.scope.types.known ≡ self.old.scope.types.known }
     {
-        types.see_acyclic();
-        match ty {
-            Type::Value(ty) => {
-                let index = define_apart(alloc, &mut self.scope.types, types, ty)?;
-                Ok(Description::Equal(index))
-            }
-            _ => self.describe(alloc, types, ItemKind::Ty(ty)),
-        }
+        self.scope.types.exchange(other);
+        let description = describe_type(alloc, &mut self.scope, types, ty);
+        self.scope.types.exchange(other);
+        description
     }
 
     /// What an import is that needs no type written: a type that the world uses, or a resource under its own name.

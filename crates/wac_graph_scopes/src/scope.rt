@@ -5,11 +5,12 @@ ghost use Rattle.wac_types_base.specs.Record.{Collection};
 ghost use Rattle.wac_types_base.specs.Entries.{value_at};
 ghost use Rattle.wac_graph_bytes.specs.declared.fault.SizeError.TheVariants.{TooLarge};
 ghost use Rattle.wac_graph_bytes.specs.Typing.{Worlds, Scope, nothing_inside};
-ghost use Rattle.wac_graph_scopes.specs.Scopes.{IsScope, Forgets, FindsType, Defines, ExportsFunction, ExportsNewType, Remembers, FindsKnown, KnowsResource, NotesResource};
+ghost use Rattle.wac_graph_scopes.specs.Scopes.{AreKnown, IsScope, Exchanges, FindsType, Defines, ExportsFunction, ExportsNewType, Remembers, FindsKnown, KnowsResource, NotesResource};
 
 use crate::prints::Prints;
 use indexmap::IndexMap;
 use std::alloc::{AllocError, Global};
+use std::mem;
 use wac_graph_bytes::{Declaration, DefinedType, Description, SizeError};
 use wac_types_base::{DefinedTypeId, NamedMap};
 
@@ -18,6 +19,13 @@ use wac_types_base::{DefinedTypeId, NamedMap};
 pub struct KnownType {
     pub id: DefinedTypeId,
     pub index: u32,
+}
+
+/// The types of one collection that are written in a scope.
+#[derive(Drop)]
+pub struct KnownTypes {
+    pub all: Vec<KnownType>,
+    pub places: Places,
 }
 
 /// Where types stand in the list of those that are known.
@@ -30,15 +38,14 @@ pub struct Places {
     pub prints: Prints,
 }
 
-/// Declarations, how many types they add, and what is remembered of them.
+/// Declarations, how many types they add, and what is known of them.
 #[derive(Drop)]
 pub struct TypeScope {
     pub declarations: Vec<Declaration>,
     pub types: u32,
-    pub known: Vec<KnownType>,
+    pub known: KnownTypes,
     /// The indexes of resources, by their root names.
     pub resources: NamedMap<u32>,
-    pub places: Places,
 }
 
 pub(crate) fn next_of(count: u32) -> Result<u32, SizeError>
@@ -66,20 +73,31 @@ impl Places {
     }
 }
 
+impl KnownTypes {
+    /// None is known.
+    pub fn new(alloc: Global) -> Self
+        ensures { (w : Worlds) (ss : List Scope) (c : Collection) → AreKnown w ss c result }
+    {
+        KnownTypes {
+            all: Vec::new(alloc),
+            places: Places::new(alloc),
+        }
+    }
+}
+
 impl TypeScope {
     /// Nothing is written yet.
     pub fn new(alloc: Global) -> Self
         ensures { (w : Worlds) (c : Collection) (outer : List Scope) → IsScope w c outer nothing_inside result }
     {
         let declarations = Vec::new(alloc);
-        let known = Vec::new(alloc);
+        let known = KnownTypes::new(alloc);
         let resources = NamedMap::new(alloc);
         TypeScope {
             declarations,
             types: 0,
             known,
             resources,
-            places: Places::new(alloc),
         }
     }
 
@@ -124,18 +142,19 @@ impl TypeScope {
         ensures known { Remembers id index self.old self.new result }
         ensures resources { self.new.resources ≡ self.old.resources }
     {
-        let at = self.known.len();
-        self.places.by_id.insert(id, at)?;
-        self.known.push(KnownType { id, index })?;
+        let at = self.known.all.len();
+        self.known.places.by_id.insert(id, at)?;
+        self.known.all.push(KnownType { id, index })?;
         Ok(())
     }
 
-    /// Forgets the types that are known, so that those of another collection can be written here.
-    pub fn forget(&mut self, alloc: Global)
-        ensures { Forgets self.old self.new }
+    /// Exchanges the types that are known with others, so that types of another collection can be written here.
+    pub fn exchange(&mut self, other: &mut KnownTypes)
+        ensures exchanges { Exchanges self.old other.old self.new other.new }
+        ensures scope { self.new ≡ record self.old { known = other.old } }
+        ensures other { other.new ≡ self.old.known }
     {
-        self.known = Vec::new(alloc);
-        self.places = Places::new(alloc);
+        mem::swap(&mut self.known, other);
     }
 
     /// Remembers the index of a resource.
@@ -150,7 +169,7 @@ impl TypeScope {
     pub fn known(&self, id: DefinedTypeId) -> Option<u32>
         ensures { (c : Collection) → FindsType c self.now id result }
     {
-        match self.places.by_id.get(&id) {
+        match self.known.places.by_id.get(&id) {
             Some(at) => self.known_as(*at, id),
             None => None,
         }
@@ -176,7 +195,7 @@ impl TypeScope {
     pub(crate) fn known_at(&self, at: usize) -> Option<KnownType>
         ensures { FindsKnown self.now result }
     {
-        match self.known.get(at) {
+        match self.known.all.get(at) {
             Some(known) => Some(*known),
             None => None,
         }

@@ -146,11 +146,11 @@ fn place_of(
     ensures refused { IfErr result (λ e. e ≡ WriteError.Memory) }
     ensures resources { scope.new.resources ≡ scope.old.resources }
 {
-    if scope.places.by_print.is_empty() {
+    if scope.known.places.by_print.is_empty() {
         return Ok(None);
     }
-    let print = scope.places.prints.of(types, ValueType::Defined(id))?;
-    Ok(scope.places.by_print.get(&print).copied())
+    let print = scope.known.places.prints.of(types, ValueType::Defined(id))?;
+    Ok(scope.known.places.by_print.get(&print).copied())
 }
 
 /// The index of the type at a place in the list of those that are known, if it is equal.
@@ -190,7 +190,7 @@ fn equal_among(
     ensures reads { IfOk result (λ o. FindsType types.now scope.now id o) }
     ensures refused { IfErr result (λ e. e ≡ WriteError.Memory) }
 {
-    for at in 0..scope.known.len() {
+    for at in 0..scope.known.all.len() {
         let found = equal_at(alloc, scope, types, id, at)?;
         if found.is_some() {
             return Ok(found);
@@ -253,10 +253,10 @@ fn note_named(
     requires { Stands types.now (ItemKind.Value (ValueType.Defined id)) }
     ensures { RemembersOne types.now id index scope.old scope.new result }
 {
-    let print = scope.places.prints.of(types, ValueType::Defined(id))?;
-    if !scope.places.by_print.contains_key(&print) {
-        let at = scope.known.len();
-        let _ = scope.places.by_print.insert(print, at)?;
+    let print = scope.known.places.prints.of(types, ValueType::Defined(id))?;
+    if !scope.known.places.by_print.contains_key(&print) {
+        let at = scope.known.all.len();
+        let _ = scope.known.places.by_print.insert(print, at)?;
     }
     scope.remember(id, index)?;
     Ok(())

@@ -23,7 +23,7 @@ use Rattle.wac_graph_scopes.specs.Parts.{imports_of, world_exports_of}
 use Rattle.wac_graph_scopes.specs.Imports.{WritesWorld, MayDescribeIn, ExportsWritten, names_at}
 use Rattle.wac_graph_scopes.specs.Items.{StatesComponent}
 use Rattle.wac_graph_scopes.proofs.OrderLaws.{distinct-left, distinct-right}
-use Rattle.wac_graph_scopes.proofs.ImportLaws.{world_describes, world_exports, no_name_at, name_added, next_new, next_names, all_named, others_new, ordered_names, states_component, component_described, world_stands}
+use Rattle.wac_graph_scopes.proofs.ImportLaws.{written, world_describes, world_exports, no_name_at, name_added, next_new, next_names, all_named, others_new, ordered_names, states_component, component_described, world_stands}
 use Rattle.std.proofs.lemmas.Result.{err_from_is_err_and}
 use Rattle.wac_graph_scopes.proofs.RefusedLaws.{interface_unsaid, world_unsaid}
 use Rattle.wac_graph_scopes.proofs.+types.Goals as goal
@@ -124,19 +124,19 @@ items::push_component_type-returns m c stands w outer i h =
 -- ---- imports
 
 pub imports::ImportScope::describe-returns-clause-describes : goal.imports::ImportScope::describe-returns-clause-describes
-imports::ImportScope::describe-returns-clause-describes m c world n w outer imported exported h =
+imports::ImportScope::describe-returns-clause-describes m c world n w outer i imported exported h =
     let types = c.args.types.now in
-    if_ok_map c.describe.result (λ d a. world_describes w types outer world imported exported c.args.self.now c.describe.new.scope h n c.args.kind d a)
-    (c.describe.ensures.describes w outer h.writing.inside h.writing.stands h.used)
+    if_ok_map c.describe.result (λ d a. world_describes w types outer world imported exported i c.args.self.now c.describe.new.scope h n c.args.kind d a)
+    (c.describe.ensures.describes w outer h.goes.writing.inside h.goes.writing.stands h.goes.used)
 
 pub imports::ImportScope::describe_import-returns-in-Some : goal.imports::ImportScope::describe_import-returns-in-Some
-imports::ImportScope::describe_import-returns-in-Some m c w outer imported exported h =
-    subst (MayDescribeIn w c.args.all.types.now outer c.args.all.world c.args.import.name.now c.args.import.kind c.describe_plainly.new.self imported exported) c.in-Some.is (c.in_ok-plainly.ensures w outer imported exported h)
+imports::ImportScope::describe_import-returns-in-Some m c w outer i imported exported h =
+    subst (MayDescribeIn w c.args.all.types.now outer c.args.all.world i c.args.import.name.now c.args.import.kind c.describe_plainly.new.self imported exported) c.in-Some.is (c.in_ok-plainly.ensures w outer i imported exported h)
 
 pub imports::ImportScope::describe_import-returns-in-None : goal.imports::ImportScope::describe_import-returns-in-None
-imports::ImportScope::describe_import-returns-in-None m c w outer imported exported h =
-    c.describe.ensures.describes c.args.all.world c.args.import.name.now w outer imported exported
-    (subst (MayDescribeIn w c.args.all.types.now outer c.args.all.world c.args.import.name.now c.args.import.kind c.describe_plainly.new.self imported exported) c.in-None.is (c.in_ok-plainly.ensures w outer imported exported h))
+imports::ImportScope::describe_import-returns-in-None m c w outer i imported exported h =
+    c.describe.ensures.describes c.args.all.world c.args.import.name.now w outer i imported exported
+    (subst (MayDescribeIn w c.args.all.types.now outer c.args.all.world i c.args.import.name.now c.args.import.kind c.describe_plainly.new.self imported exported) c.in-None.is (c.in_ok-plainly.ensures w outer i imported exported h))
 
 pub imports::ImportScope::write_import-returns-then-at-count : goal.imports::ImportScope::write_import-returns-then-at-count
 imports::ImportScope::write_import-returns-then-at-count m c w outer imported exported h new =
@@ -154,16 +154,16 @@ imports::ImportScope::write_import-returns-in_ok-description-in-Some m c w outer
     let import = c.in-Some.import in
     let n = import.name.now in
     let entry = c.in-Some.ensures.entry in
-    let d = c.in_ok-description-in-Some.ensures w outer imported exported h in
+    let d = c.in_ok-description-in-Some.ensures w outer h.writing.inside imported exported (written w types outer world imported exported c.args.self.now h) in
     if_ok_map c.import_placed.result (λ u a. subst (λ (l : List Name). WritesWorld w types outer world c.import_placed.new.self l exported) (name_added is c.args.at n import.kind imported entry) a)
-    (c.import_placed.ensures w outer imported exported c.import_count-count.ensures.distinct c.in-Some.ensures.inside.0 entry (new n (name_at is c.args.at n import.kind entry)) d)
+    (c.import_placed.ensures w outer h.writing.inside imported exported c.import_count-count.ensures.distinct c.in-Some.ensures.inside.0 entry (new n (name_at is c.args.at n import.kind entry)) d)
 
 pub imports::ImportScope::export-returns : goal.imports::ImportScope::export-returns
 imports::ImportScope::export-returns m c w outer imported exported stands is new h =
     let types = c.args.all.types.now in
     let world = c.args.all.world in
     let n = c.args.item.name.now in
-    let k = c.in_ok-prepare.ensures w outer imported exported h in
+    let k = (c.in_ok-prepare.ensures w outer h.writing.inside imported exported (written w types outer world imported exported c.args.self.now h)).goes in
     let i = k.writing.inside in
     if_ok_map c.export_item.result (λ u e. world_exports w types outer world imported exported c.prepare.new.self c.export_item.new.scope k n (tree_in types c.args.item.kind) (exported ++ n ∷ []) is e new (sym (put_name-new exported n new)))
     (c.export_item.ensures stands w outer i k.writing.stands k.used)

@@ -2,8 +2,8 @@ use Rattle.std.proofs.Common.{◌+◌, ◌*◌, List}
 use Rattle.wac_types_base.specs.declared.item.ItemKind.{ItemKind}
 use Rattle.wac_types_base.specs.Entries.{Name}
 use Rattle.wac_types_base.specs.Collection.{size_of}
-use Rattle.wac_graph_bytes.specs.Typing.{Worlds, Scope}
-use Rattle.wac_graph_scopes.specs.Imports.{WritesWorld}
+use Rattle.wac_graph_bytes.specs.Typing.{Worlds, Scope, Inside}
+use Rattle.wac_graph_scopes.specs.Imports.{WritesOn}
 use Rattle.wac_graph_scopes.proofs.imports.ImportScope.+preparing.Given as goal
 
 abbrev pub decreases-prepare : goal.decreases-prepare
@@ -16,4 +16,4 @@ abbrev pub decreases-prepare_export : goal.decreases-prepare_export
 decreases-prepare_export l = 4 * size_of l.all.types.now (ItemKind.Instance l.id)
 
 abbrev pub invariant-prepare_interface-loop-at : goal.invariant-prepare_interface-loop-at
-invariant-prepare_interface-loop-at l = (w : Worlds) (outer : List Scope) (imported exported : List Name) → WritesWorld w l.all.types.now outer l.all.world l.fn.self imported exported → WritesWorld w l.all.types.now outer l.all.world l.self imported exported
+invariant-prepare_interface-loop-at l = (w : Worlds) (outer : List Scope) (i : Inside) (imported exported : List Name) → WritesOn w l.all.types.now outer l.all.world i l.fn.self imported exported → WritesOn w l.all.types.now outer l.all.world i l.self imported exported

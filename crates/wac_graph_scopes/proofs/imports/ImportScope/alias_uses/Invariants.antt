@@ -1,8 +1,8 @@
 use Rattle.std.proofs.Common.{List}
 use Rattle.wac_types_base.specs.Entries.{Name}
-use Rattle.wac_graph_bytes.specs.Typing.{Worlds, Scope}
-use Rattle.wac_graph_scopes.specs.Imports.{WritesWorld}
+use Rattle.wac_graph_bytes.specs.Typing.{Worlds, Scope, Inside}
+use Rattle.wac_graph_scopes.specs.Imports.{WritesOn}
 use Rattle.wac_graph_scopes.proofs.imports.ImportScope.alias_uses.Given as goal
 
 abbrev pub invariant-loop-at : goal.invariant-loop-at
-invariant-loop-at l = (w : Worlds) (outer : List Scope) (imported exported : List Name) → WritesWorld w l.all.types.now outer l.all.world l.fn.self imported exported → WritesWorld w l.all.types.now outer l.all.world l.self imported exported
+invariant-loop-at l = (w : Worlds) (outer : List Scope) (i : Inside) (imported exported : List Name) → WritesOn w l.all.types.now outer l.all.world i l.fn.self imported exported → WritesOn w l.all.types.now outer l.all.world i l.self imported exported

@@ -1,44 +1,29 @@
-use Rattle.std.proofs.Common.{sym, subst, ◌∙◌}
-use Rattle.std.proofs.lemmas.Result.{err_from_is_err_and}
+use Rattle.std.proofs.Common.{ap}
 use Rattle.wac_types_base.specs.declared.item.ItemKind.{ItemKind}
-use Rattle.wac_types_base.specs.declared.item.«Type».{«Type» as TypeKind}
-use Rattle.wac_types_base.specs.Collection.{Stands}
-use Rattle.wac_types_base.proofs.Slots.{stands_typed_value}
-use Rattle.wac_types_base.proofs.Standing.{typed_value_stands}
-use Rattle.wac_types_fit.specs.Trees.{tree_in}
-use Rattle.wac_types_fit.proofs.Unfolded.{type_value}
-use Rattle.wac_graph_bytes.specs.declared.value.Description.TheVariants as desc
 use Rattle.wac_graph_scopes.specs.declared.items.ItemScope.{ItemScope}
-use Rattle.wac_graph_scopes.specs.declared.imports.ImportScope.{ImportScope}
-use Rattle.wac_graph_scopes.specs.Imports.{DescribesIn}
-use Rattle.wac_graph_scopes.specs.ItemRefusals.{RefusedType}
-use Rattle.wac_graph_scopes.proofs.UsedLaws.{value_item}
-use Rattle.wac_graph_scopes.proofs.WritingLaws.{gives_of, item_of_type, type_described}
-use Rattle.wac_graph_scopes.proofs.ImportLaws.{world_describes}
+use Rattle.wac_graph_scopes.specs.declared.scope.TypeScope.{TypeScope}
+use Rattle.wac_graph_scopes.proofs.HandleLaws.{if_ok_map}
+use Rattle.wac_graph_scopes.proofs.ItemLaws.{item_exchanged}
+use Rattle.wac_graph_scopes.proofs.ImportLaws.{world_apart}
+use Rattle.wac_graph_scopes.proofs.RefusedLaws.{if_err_map, type_refused_kept}
 use Rattle.wac_graph_scopes.proofs.imports.ImportScope.describe_apart.Goals as goal
 
-pub returns-in_ok-index-in-Value-clause-describes : goal.returns-in_ok-index-in-Value-clause-describes
-returns-in_ok-index-in-Value-clause-describes c world n w outer imported exported h =
+pub returns-clause-describes : goal.returns-clause-describes
+returns-clause-describes c world w col outer from imported exported h known =
     let types = c.args.types.now in
-    let acyclic = c.see_acyclic.ensures in
-    let v = c.in-Value.ty in
-    let k = c.in_ok-index-in-Value.index in
-    let s = c.args.self.now.scope in
-    let u : ItemScope = record s { types = c.define_apart.new.scope } in
-    let all : ImportScope = record c.args.self.now { scope = u } in
-    let i = h.writing.inside in
-    let stands = c.in_ok-index-in-Value.ensures.stands in
-    let item = value_item types acyclic v stands ∙ sym (type_value types acyclic v (typed_value_stands types v ∙ stands)) in
-    let a = gives_of w types outer i (tree_in types (ItemKind.Value v)) s c.define_apart.new.scope k h.writing.stands (c.in_ok-index-in-Value.ensures.writes w outer i h.writing.stands.written) in
-    let g = item_of_type w types outer i (tree_in types (ItemKind.Ty (TypeKind.Value v))) (tree_in types (ItemKind.Value v)) u k item a in
-    subst (λ (t : TypeKind). DescribesIn w types outer world n (ItemKind.Ty t) all imported exported (desc.Equal k)) (sym c.in-Value.is)
-    (world_describes w types outer world imported exported c.args.self.now u h n (ItemKind.Ty (TypeKind.Value v)) (desc.Equal k) (type_described w types outer i (TypeKind.Value v) u k g))
+    let i = h.goes.writing.inside in
+    let s = c.args.self.now in
+    let mid = c.describe_type-description.new.scope in
+    let held = c.exchange.new.other in
+    let x = item_exchanged w col types outer i s.scope c.exchange.new.self c.args.other.now held c.exchange.ensures.exchanges h.goes.writing.stands known in
+    if_ok_map c.describe_type-description.result
+    (λ d a. world_apart w col outer world imported exported types from s mid c.exchange-2.new.self held c.exchange-2.new.other h (ItemKind.Ty c.args.ty) d a x.1 c.exchange-2.ensures.exchanges)
+    (c.describe_type-description.ensures.describes w outer i x.0)
 
-pub returns-in_err-index-in-Value-clause-refused : goal.returns-in_err-index-in-Value-clause-refused
-returns-in_err-index-in-Value-clause-refused c stands =
-    let p = err_from_is_err_and c.from_residual.result c.from_residual.ensures.1 in
-    let types = c.args.types.now in
-    let s : ItemScope = record c.args.self.now.scope { types = c.define_apart.new.scope } in
-    let e = c.in_err-index-in-Value.field-0.0 in
-    let there = stands_typed_value types c.in-Value.ty (subst (λ (t : TypeKind). Stands types (ItemKind.Ty t)) c.in-Value.is stands) in
-    rw (p.1, p.2) (subst (λ (t : TypeKind). RefusedType types t s e) (sym c.in-Value.is) (c.in_err-index-in-Value.ensures.refused there))
+pub returns-clause-refused : goal.returns-clause-refused
+returns-clause-refused c stands =
+    let mid = c.describe_type-description.new.scope in
+    let last : ItemScope = record mid { types = c.exchange-2.new.self } in
+    let same = c.exchange-2.ensures.scope in
+    if_err_map c.describe_type-description.result (λ e h. type_refused_kept c.args.types.now c.args.ty mid last e (ap (λ (t : TypeScope). t.resources) same) (ap (λ (t : TypeScope). t.types) same) h)
+    (c.describe_type-description.ensures.refused stands)

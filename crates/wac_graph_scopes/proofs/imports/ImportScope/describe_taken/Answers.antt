@@ -8,18 +8,21 @@ use Rattle.wac_graph_scopes.proofs.UsedLaws.{used_fits, sorted_used}
 use Rattle.wac_graph_scopes.proofs.imports.ImportScope.describe_taken.Goals as goal
 
 pub returns-in-Some : goal.returns-in-Some
-returns-in-Some c w outer imported exported h =
+returns-in-Some c w outer i imported exported h =
     let types = c.args.all.types.now in
     let item = c.args.item in
     let kind = c.args.import.kind in
-    let a = subst (HasAlias w types outer c.args.all.world c.alias_of.new.self imported exported (tree_in types item)) c.in-Some.is (c.in_ok-found.ensures c.requires.stands c.requires.kind w outer imported exported h) in
+    let a = subst (HasAlias w types outer c.args.all.world i c.alias_of.new.self imported exported (tree_in types item)) c.in-Some.is (c.in_ok-found.ensures c.requires.stands c.requires.kind w outer i imported exported h) in
     let same = used_fits types c.see_acyclic.ensures item kind c.requires.kind c.requires.stands (c.in_ok-fits.ensures.fits c.if-not-fits.false) in
     let there = c.in_ok-fits.ensures.other_stands c.if-not-fits.false in
     record {
       goes = a.goes;
+      on = a.on;
       sorted = sorted_used types c.see_acyclic.ensures item kind c.requires.kind c.requires.stands there same;
       reads = ap (λ (o : Option Tree). o >>= λ t. Some (sort.Ty, item_of t)) a.index.reads ∙ ap (λ (x : Tree). Some (sort.Ty, x)) (a.index.item ∙ same);
     }
 
 pub returns-in-None : goal.returns-in-None
-returns-in-None c w outer imported exported h = (c.in_ok-found.ensures c.requires.stands c.requires.kind w outer imported exported h).goes
+returns-in-None c w outer i imported exported h =
+    let a = c.in_ok-found.ensures c.requires.stands c.requires.kind w outer i imported exported h in
+    record { goes = a.goes; on = a.on }

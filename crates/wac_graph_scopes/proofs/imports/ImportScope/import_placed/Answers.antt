@@ -7,7 +7,7 @@ use Rattle.wac_graph_scopes.proofs.ImportLaws.{world_imports}
 use Rattle.wac_graph_scopes.proofs.imports.ImportScope.import_placed.Goals as goal
 
 pub returns : goal.returns
-returns c w outer imported exported distinct stands there new h =
+returns c w outer from imported exported distinct stands there new h =
     let types = c.args.all.types.now in
     let import = c.args.import in
     let n = import.name.now in

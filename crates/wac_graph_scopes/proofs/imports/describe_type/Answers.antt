@@ -1,0 +1,37 @@
+use Rattle.std.proofs.Common.{sym, ap, subst, ◌∙◌}
+use Rattle.std.proofs.lemmas.Result.{err_from_is_err_and}
+use Rattle.wac_types_base.specs.declared.item.ItemKind.{ItemKind}
+use Rattle.wac_types_base.specs.declared.item.«Type».{«Type» as TypeKind}
+use Rattle.wac_types_base.specs.Collection.{Stands}
+use Rattle.wac_types_base.proofs.Slots.{stands_typed_value}
+use Rattle.wac_types_base.proofs.Standing.{typed_value_stands}
+use Rattle.wac_types_fit.specs.Trees.{tree_in}
+use Rattle.wac_types_fit.proofs.Unfolded.{type_value}
+use Rattle.wac_graph_bytes.specs.declared.value.Description.TheVariants as desc
+use Rattle.wac_graph_scopes.specs.declared.items.ItemScope.{ItemScope}
+use Rattle.wac_graph_scopes.specs.ItemRefusals.{RefusedType}
+use Rattle.wac_graph_scopes.proofs.UsedLaws.{value_item}
+use Rattle.wac_graph_scopes.proofs.WritingLaws.{gives_of, item_of_type, type_described, describes_kind}
+use Rattle.wac_graph_scopes.proofs.imports.describe_type.Goals as goal
+
+pub returns-in_ok-index-in-Value-clause-describes : goal.returns-in_ok-index-in-Value-clause-describes
+returns-in_ok-index-in-Value-clause-describes c w outer i h =
+    let types = c.args.types.now in
+    let v = c.in-Value.ty in
+    let k = c.in_ok-index-in-Value.index in
+    let s = c.args.scope.now in
+    let u : ItemScope = record s { types = c.define_apart.new.scope } in
+    let stands = c.in_ok-index-in-Value.ensures.stands in
+    let item = value_item types c.see_acyclic.ensures v stands ∙ sym (type_value types c.see_acyclic.ensures v (typed_value_stands types v ∙ stands)) in
+    let a = gives_of w types outer i (tree_in types (ItemKind.Value v)) s c.define_apart.new.scope k h (c.in_ok-index-in-Value.ensures.writes w outer i h.written) in
+    let g = item_of_type w types outer i (tree_in types (ItemKind.Ty (TypeKind.Value v))) (tree_in types (ItemKind.Value v)) u k item a in
+    describes_kind w types outer i (ItemKind.Ty (TypeKind.Value v)) (ItemKind.Ty c.args.ty) u (desc.Equal k) (ap ItemKind.Ty c.in-Value.is) (type_described w types outer i (TypeKind.Value v) u k g)
+
+pub returns-in_err-index-in-Value-clause-refused : goal.returns-in_err-index-in-Value-clause-refused
+returns-in_err-index-in-Value-clause-refused c stands =
+    let p = err_from_is_err_and c.from_residual.result c.from_residual.ensures.1 in
+    let types = c.args.types.now in
+    let s : ItemScope = record c.args.scope.now { types = c.define_apart.new.scope } in
+    let e = c.in_err-index-in-Value.field-0.0 in
+    let there = stands_typed_value types c.in-Value.ty (subst (λ (t : TypeKind). Stands types (ItemKind.Ty t)) c.in-Value.is stands) in
+    rw (p.1, p.2) (subst (λ (t : TypeKind). RefusedType types t s e) (sym c.in-Value.is) (c.in_err-index-in-Value.ensures.refused there))
