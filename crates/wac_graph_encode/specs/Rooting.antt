@@ -18,7 +18,7 @@ use Rattle.wac_graph_scopes.specs.declared.imports.Importing.{Importing}
 use Rattle.wac_graph_scopes.specs.declared.imports.ImportScope.{ImportScope}
 use Rattle.wac_graph_scopes.specs.Items.{IsItemScope}
 use Rattle.wac_graph_scopes.specs.Parts.{imports_of}
-use Rattle.wac_graph_scopes.specs.Imports.{ArePlaced, DescribesIn, WritesWorld, WritesAllImports}
+use Rattle.wac_graph_scopes.specs.Imports.{ArePlaced, DescribesIn, WritesWorld, WritesOn, WritesAllImports}
 use Rattle.wac_graph_scopes.specs.Roots.{at_root, root_entries}
 use Rattle.wac_graph_encode.specs.declared.root.Root.{Root}
 use Rattle.wac_graph_encode.specs.Standing.{counted}
@@ -36,8 +36,8 @@ WritesOuters a old new r = IsNewScope old → (w : Worlds) (outer : List Scope) 
 
 -- the world is written on, and what is so described is the item, whatever its name
 abbrev pub WritesItem : {E : Type 0} → Importing → ItemKind → ImportScope → ImportScope → Result Description E → Type 0
-WritesItem a kind old new r = (n : Name) (w : Worlds) (outer : List Scope) (imported exported : List Name) → WritesWorld w a.types.now outer a.world old imported exported
-    → IfOk r (DescribesIn w a.types.now outer a.world n kind new imported exported)
+WritesItem a kind old new r = (n : Name) (w : Worlds) (outer : List Scope) (i : Inside) (imported exported : List Name) → WritesOn w a.types.now outer a.world i old imported exported
+    → IfOk r (DescribesIn w a.types.now outer a.world i n kind new imported exported)
 
 -- ---- what is taken to the root
 
