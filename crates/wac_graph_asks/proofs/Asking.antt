@@ -40,7 +40,7 @@ asks_kept c d grows (a ∷ asks) s =
     ap (λ x. ask_of a x ∷ asks_in d asks) (kept c d grows a.item (s a (inl refl))) ∙ ap (λ l. ask_in c a ∷ l) (asks_kept c d grows asks (λ b m. s b (inr m)))
 
 pub copy_kept : (c d e : Collection) → Grows d e → (t : TypeKind) (o : Option ItemKind) → HasCopy c d t o → HasCopy c e t o
-copy_kept c d e grows t (Some k) h = (h.0, IsCopy-kept c d e (ItemKind.Ty t) k grows h.1)
+copy_kept c d e grows t (Some k) h = (h.0, IsCopy-kept c d e (ItemKind.Ty t) k grows h.1, h.2)
 copy_kept c d e grows t None h = h
 
 module _ (g : Graph) where

@@ -70,7 +70,7 @@ uses_others t = false
 
 -- a copy of each interface and world, and of no other type
 abbrev pub HasCopy : (c d : Collection) → TypeKind → Option ItemKind → Type 0
-HasCopy c d t (Some k) = (uses_others t ≡ true) × IsCopy c d (ItemKind.Ty t) k
+HasCopy c d t (Some k) = (uses_others t ≡ true) × IsCopy c d (ItemKind.Ty t) k × Stands c (ItemKind.Ty t)
 HasCopy c d t None = (uses_others t ≡ false) × Stands c (ItemKind.Ty t)
 
 -- ---- all

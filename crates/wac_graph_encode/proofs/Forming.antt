@@ -38,14 +38,14 @@ stands_grown d e g (Some k) h = g.stand k h
 
 form_grown : (c d e : Collection) → Grows d e → (t : TypeKind) (o : Option ItemKind) → HasForm c d t o → HasForm c e t o
 form_grown c d e g t None h = h
-form_grown c d e g t (Some k) h = (h.0, record { stands = g.stand k h.1.stands; states = ap stated_in (g.keep k h.1.stands) ∙ h.1.states })
+form_grown c d e g t (Some k) h = (h.0, record { stands = g.stand k h.1.stands; states = ap stated_in (g.keep k h.1.stands) ∙ h.1.states }, h.2)
 
 formed_grown : (c d e : Collection) → Grows d e → (x y : Definition) → IsFormed c d x y → IsFormed c e x y
 formed_grown c d e g x y h = record { node = h.node; name = h.name; ty = h.ty; form = form_grown c d e g y.ty y.copy h.form }
 
 form_of_copy : (c old new : Collection) (t : TypeKind) (copy form : Option ItemKind) → HasCopy c old t copy → IsFormOf old new copy form → HasForm c new t form
 form_of_copy c old new t None None h f = h
-form_of_copy c old new t (Some k) (Some j) h f = (h.0, record { stands = f.stands; states = f.states ∙ ap (λ o. written_definition (stated_in o)) h.1.same })
+form_of_copy c old new t (Some k) (Some j) h f = (h.0, record { stands = f.stands; states = f.states ∙ ap (λ o. written_definition (stated_in o)) h.1.same }, h.2)
 form_of_copy c old new t None (Some j) h f = absurd f
 form_of_copy c old new t (Some k) None h f = absurd f
 

@@ -12,6 +12,7 @@ pub mod Rooting
 pub mod Nesting
 pub mod Forming
 pub mod ItemSorts
+pub mod FormKinds
 pub mod RootedOuters
 pub mod RootedDefinitions
 pub mod Beginning

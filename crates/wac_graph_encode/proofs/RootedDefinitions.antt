@@ -26,6 +26,7 @@ use Rattle.wac_graph_asks.specs.Asked.{placed_in}
 use Rattle.wac_graph_asks.proofs.ByNode.{entry_there}
 use Rattle.wac_composition.proofs.AskedAgain.{among_mapped}
 use Rattle.wac_graph_encode.specs.Standing.{StandsAt}
+use Rattle.wac_graph_encode.specs.Defining.{IsNodeOf, IsToWrite, AreToWrite, HoldsDefinitions, DefinesIn}
 
 from_filtered : {X Y : Type 0} (p : X → Option Y) (xs : List X) (y : Y) → Among y (filter_map p xs) → (x : X) × Among x xs × (p x ≡ Some y)
 from_filtered p [] y m = absurd m
@@ -35,13 +36,6 @@ from_filtered {X} {Y} p (x ∷ xs) y m = go (p x) refl m
     go None e m = let r = from_filtered p xs y m in (r.0, inr r.1, r.2)
     go (Some v) e (inl same) = (x, inl refl, e ∙ ap Some (sym same))
     go (Some v) e (inr m) = let r = from_filtered p xs y m in (r.0, inr r.1, r.2)
-
--- the node that is defined
-pub record IsNodeOf (g : Graph) (x : Definition) : Type 0 where
-  pub node : NodeData
-  pub there : node_at g x.node ≡ Some node
-  pub role : node.role ≡ Role.Defined
-  pub states : stated_of g.types node.item_kind ≡ stated_of g.types (ItemKind.Ty x.ty)
 
 module _ (g : Graph) where
   node_of : (x : Definition) → Among (placed_in g.types x) (composition_of g).definitions → IsNodeOf g x

@@ -14,7 +14,7 @@ use Rattle.wac_graph_asks.specs.Asked.{uses_others, HasCopy}
 
 -- the form of an interface or a world; other types are written as they are
 abbrev pub HasForm : (c d : Collection) → TypeKind → Option ItemKind → Type 0
-HasForm c d t (Some k) = (uses_others t ≡ true) × IsDefinitionOf c d (ItemKind.Ty t) k
+HasForm c d t (Some k) = (uses_others t ≡ true) × IsDefinitionOf c d (ItemKind.Ty t) k × Stands c (ItemKind.Ty t)
 HasForm c d t None = (uses_others t ≡ false) × Stands c (ItemKind.Ty t)
 
 -- the definition, with the form of its type

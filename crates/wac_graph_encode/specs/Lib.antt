@@ -2,6 +2,7 @@ pub mod Acyclic
 pub mod Encoding
 pub mod Formed
 pub mod Standing
+pub mod Defining
 pub mod Finished
 pub mod Writing
 pub mod Rooting

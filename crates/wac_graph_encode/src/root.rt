@@ -11,6 +11,7 @@ ghost use Rattle.wac_graph_scopes.specs.Roots.{root_entries};
 ghost use Rattle.wac_graph_encode.specs.Standing.{counted, CountsOne};
 ghost use Rattle.wac_graph_encode.specs.Writing.{AddsEntry, AddsIndex, AddsInstance};
 ghost use Rattle.wac_graph_encode.specs.Rooting.{AddsRead, ReadsAtRoot, TakesScope, WritesItem, WritesOuters, counter};
+ghost use Rattle.wac_graph_encode.specs.Defining.{AddsDefinitions, WritesDefinition, WritesDefinitions};
 ghost use Rattle.wac_graph_encode.specs.Beginning.{Begins};
 ghost use Rattle.wac_graph_encode.specs.Nesting.{NestsAll, NestsBehind, NestsIfDefined, NestsOne, bytes_of};
 
@@ -152,20 +153,37 @@ fn write_type(
 /// Writes a definition; its type is an entry of its own, whatever else is written. The types are known that are written
 /// of the graph's collection.
 fn write_definition(
-    alloc: Global,
+    graph: &CompositionGraph,
     scope: &mut ImportScope,
     all: Importing<'_>,
-    types: &Types,
     known: &mut KnownTypes,
     definition: &Definition,
-) -> Result<Description, Refusal> {
+) -> Result<Description, Refusal>
+    ensures { WritesDefinition graph.now all.entry definition.now scope.old known.old scope.new known.new result }
+{
+    graph.see_sound();
+    graph.types().see_acyclic();
+    all.types.see_acyclic();
+    let alloc = graph.alloc();
     let name = definition.name.as_str();
     match definition.copy {
         Some(item) => write_type(alloc, scope, all, name, item),
-        None => match scope.describe_apart(alloc, types, known, definition.ty) {
+        None => match scope.describe_apart(alloc, graph.types(), known, definition.ty) {
             Ok(description) => Ok(description),
             Err(fault) => Err(not_written(alloc, name, fault)),
         },
+    }
+}
+
+/// What is known of the graph's types while definitions are written, and what stands for their nodes.
+struct Defined {
+    known: KnownTypes,
+    nodes: IndexMap<NodeId, SortIndex>,
+}
+
+impl Drop for Defined {
+    fn drop(self) {
+        let Defined { known: _, nodes: _ } = self;
     }
 }
 
@@ -174,32 +192,55 @@ fn add_definition(
     graph: &CompositionGraph,
     scope: &mut ImportScope,
     all: Importing<'_>,
-    known: &mut KnownTypes,
     definition: &Definition,
-    nodes: &mut IndexMap<NodeId, SortIndex>,
-) -> Result<(), Refusal> {
-    let alloc = graph.alloc();
-    let description = write_definition(alloc, scope, all, graph.types(), known, definition)?;
+    defined: &mut Defined,
+) -> Result<(), Refusal>
+    ensures { AddsDefinitions graph.now all.entry (definition.now ∷ []) scope.old defined.old scope.new defined.new result }
+{
+    let description = write_definition(graph, scope, all, &mut defined.known, definition)?;
     if let Description::Equal(index) = description {
         let sort = Sort::Ty;
-        let _ = nodes.insert(definition.node, SortIndex { sort, index })?;
+        let _ = defined
+            .nodes
+            .insert(definition.node, SortIndex { sort, index })?;
     }
     Ok(())
 }
 
-/// Writes the definitions, and adds what stands for them: types of the graph's collection, and copies in the asked one.
+/// Writes definitions one after another, and adds what stands for them.
+fn add_definitions(
+    graph: &CompositionGraph,
+    scope: &mut ImportScope,
+    all: Importing<'_>,
+    definitions: &[Definition],
+    defined: &mut Defined,
+) -> Result<(), Refusal>
+    ensures { AddsDefinitions graph.now all.entry definitions.now scope.old defined.old scope.new defined.new result }
+{
+    for definition in definitions {
+        add_definition(graph, scope, all, definition, defined)?;
+    }
+    Ok(())
+}
+
+/// Writes the definitions: types of the graph's collection, and copies in the asked one. It answers what stands for their
+/// nodes.
 fn write_definitions(
     graph: &CompositionGraph,
     scope: &mut ImportScope,
     all: Importing<'_>,
     definitions: &[Definition],
-    nodes: &mut IndexMap<NodeId, SortIndex>,
-) -> Result<(), Refusal> {
-    let mut known = KnownTypes::new(graph.alloc());
-    for definition in definitions {
-        add_definition(graph, scope, all, &mut known, definition, nodes)?;
-    }
-    Ok(())
+) -> Result<IndexMap<NodeId, SortIndex>, Refusal>
+    ensures { IfOk result (λ nodes. WritesDefinitions graph.now all.entry definitions.now scope.old scope.new nodes.entries) }
+{
+    let alloc = graph.alloc();
+    let mut defined = Defined {
+        known: KnownTypes::new(alloc),
+        nodes: IndexMap::new(alloc),
+    };
+    add_definitions(graph, scope, all, definitions, &mut defined)?;
+    let Defined { known: _, nodes } = defined;
+    Ok(nodes)
 }
 
 /// Imports an item.
@@ -519,7 +560,7 @@ fn write_in(writing: Writing<'_>, scope: &mut ImportScope, root: &mut Root) -> R
         ..
     } = writing;
     write_outers(graph.alloc(), all, scope)?;
-    write_definitions(graph, scope, all, definitions, &mut root.nodes)?;
+    root.nodes = write_definitions(graph, scope, all, definitions)?;
     write_packages(writing, scope, root)
 }
 

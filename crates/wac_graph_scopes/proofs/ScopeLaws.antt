@@ -5,6 +5,7 @@ use Rattle.std.specs.Cmp.Lexicographic.{pointwise}
 use Rattle.std.proofs.lemmas.Slice.Eq.{bytes_eq-Decides}
 use Rattle.wac_types_base.specs.Entries.{Name, value_at, put_entry}
 use Rattle.std.proofs.lemmas.List.{length_push}
+use Rattle.std.proofs.lemmas.Option.{none-some, same_Some}
 use Rattle.wac_types_base.specs.declared.ids.DefinedTypeId.{DefinedTypeId}
 use Rattle.wac_types_base.specs.declared.item.ValueType.{ValueType}
 use Rattle.wac_types_base.specs.declared.item.ItemKind.{ItemKind}
@@ -23,11 +24,11 @@ use Rattle.wac_graph_bytes.specs.Entries.{End}
 use Rattle.wac_graph_bytes.specs.Typing.{◌>>=◌, Worlds, Meaning, Known, Scope, no_scope, with_one, Inside, nothing_inside, adds_inside, declared, defined, found, type_tree, type_at, value_of, as_value}
 use Rattle.wac_graph_bytes.specs.Views.{defined_view, before, declarations_of}
 use Rattle.wac_graph_bytes.proofs.Steps.{bind_some, kept_one, cores_kept, get_last}
-use Rattle.wac_graph_bytes.proofs.Extending.{one_more}
+use Rattle.wac_graph_bytes.proofs.Extending.{one_more, all_then}
 use Rattle.wac_graph_scopes.specs.declared.scope.KnownType.{KnownType}
 use Rattle.wac_graph_scopes.specs.declared.scope.KnownTypes.{KnownTypes}
 use Rattle.wac_graph_scopes.specs.declared.scope.TypeScope.{TypeScope}
-use Rattle.wac_graph_scopes.specs.Scopes.{Extends, OnlyTypes, IsKnown, AreKnown, IsResource, IsScope, Exchanges, Goes, AnswersType, PlaceReads, PlacesRead}
+use Rattle.wac_graph_scopes.specs.Scopes.{Extends, OnlyTypes, IsKnown, AreKnown, IsResource, IsScope, Exchanges, Goes, AnswersType, PlaceReads, PlacesRead, IsTypeDeclaration, IsEntryIn}
 use Rattle.wac_types_fit.proofs.Items.{Among-last}
 
 -- ---- what stands on
@@ -148,6 +149,26 @@ module _ (w : Worlds) (c : Collection) (outer : List Scope) where
     goes = type_added i (Known t) s u (Defined ty) h (type_reads i ty t e) ds ts ks rs;
     index = last_type i t s.types h.types;
   }
+
+-- ---- types of their own
+
+pub type_stated : (i j : Inside) (o : Option Tree) → (o >>= λ t. Some (adds_inside sort.Ty (Known t) i)) ≡ Some j → (t : Tree) × (adds_inside sort.Ty (Known t) i ≡ j)
+type_stated i j (Some t) e = (t, same_Some _ _ e)
+type_stated i j None e = absurd (none-some _ e)
+
+pub defined_states : (ty : CodeType) → IsTypeDeclaration (Defined ty)
+unfolding declared
+defined_states ty w outer i j e = type_stated i j (defined w (i.here ∷ outer) (defined_view ty)) e
+
+-- the last type is an entry of its own
+pub entry_added : (w : Worlds) (c : Collection) (outer : List Scope) (i : Inside) (s : TypeScope) (ds : List Declaration) (d : Declaration) → IsTypeDeclaration d → IsScope w c outer i s → ds ≡ s.declarations.items ++ d ∷ [] → IsEntryIn w outer ds s.types
+entry_added w c outer i s ds d states h is j reads =
+    let last : declared w outer i (before d End) ≡ Some j =
+    sym (ap (λ (l : List Declaration). declared w outer nothing_inside (declarations_of l)) is
+    ∙ all_then w outer nothing_inside s.declarations.items (d ∷ [])
+    ∙ ap (λ (o : Option Inside). o >>= λ x. declared w outer x (before d End)) h.reads) ∙ reads in
+    let t = states w outer i j last in
+    (t.0, ap (λ (x : Inside). slice_get x.here.types s.types) (sym t.1) ∙ get_last i.here.types (Known t.0) s.types h.types)
 
 -- ---- a new scope, and what it remembers
 

@@ -1,5 +1,5 @@
 -- The items of an interface, one after another.
-use Rattle.std.proofs.Common.{◌≡◌, ℕ, zero, suc, ◌+◌, ◌≤◌, Bool, true, false, List, [], ◌∷◌, ◌++◌, length, take, Option, Some, refl, sym, ap, ◌∙◌, subst, arith, slice_get, inl, inr, string_bytes}
+use Rattle.std.proofs.Common.{is_some, ◌≡◌, ℕ, zero, suc, ◌+◌, ◌≤◌, Bool, true, false, List, [], ◌∷◌, ◌++◌, length, take, Option, Some, refl, sym, ap, ◌∙◌, subst, arith, slice_get, inl, inr, string_bytes}
 use Rattle.std.specs.Prelude.{String, ◌⊎◌, ◌||◌, ◌==◌}
 use Rattle.std.specs.Global.{Global}
 use Rattle.std.specs.declared.vec.Vec.{Vec}
@@ -8,18 +8,21 @@ use Rattle.std.proofs.lemmas.List.{map_push, take_all, length-map}
 use Rattle.std.proofs.lemmas.Slice.Eq.{bytes_eq-Decides}
 use Rattle.wac_types_base.specs.declared.ids.InterfaceId.{InterfaceId}
 use Rattle.wac_types_base.specs.declared.ids.FuncTypeId.{FuncTypeId}
+use Rattle.wac_types_base.specs.declared.ids.ModuleTypeId.{ModuleTypeId}
+use Rattle.wac_types_base.specs.declared.ids.WorldId.{WorldId}
 use Rattle.wac_types_base.specs.declared.ids.ResourceId.{ResourceId}
 use Rattle.wac_types_base.specs.declared.defined.Interface.{Interface}
 use Rattle.wac_types_base.specs.declared.item.«Type».{«Type» as TypeKind}
 use Rattle.wac_types_base.specs.declared.item.ItemKind.{ItemKind}
+use Rattle.wac_types_base.specs.declared.item.ValueType.{ValueType}
 use Rattle.wac_types_base.specs.Record.{Collection}
 use Rattle.wac_types_base.specs.Graph.{Among}
 use Rattle.wac_types_base.specs.Entries.{Name, names_of, value_at, has_name, put_name, AreDistinct}
-use Rattle.wac_types_base.specs.Collection.{Stands, IsAcyclic, resource}
+use Rattle.wac_types_base.specs.Collection.{Stands, IsAcyclic, item_node, resource}
 use Rattle.wac_types_base.specs.Tree.{Tree, rigid, end}
 use Rattle.wac_types_base.proofs.Looked.{put_name-new, take-one_more, among-get}
 use Rattle.wac_types_base.proofs.Adding.{Among-left, Among-right}
-use Rattle.wac_types_base.proofs.Standing.{func_found, interface_found}
+use Rattle.wac_types_base.proofs.Standing.{is_some-labelled, func_found, interface_found}
 use Rattle.wac_types_base.proofs.Slots.{stands_typed_interface}
 use Rattle.wac_types_base.proofs.Walking.{some_place}
 use Rattle.wac_types_fit.specs.Trees.{tree_in}
@@ -41,9 +44,10 @@ use Rattle.wac_graph_bytes.proofs.Steps.{get_last, some_is}
 use Rattle.wac_graph_bytes.proofs.Rows.{before_instance, before_component}
 use Rattle.wac_graph_scopes.specs.declared.scope.TypeScope.{TypeScope}
 use Rattle.wac_graph_scopes.specs.declared.items.ItemScope.{ItemScope}
-use Rattle.wac_graph_scopes.specs.Scopes.{AnswersType, ExportsType}
-use Rattle.wac_graph_scopes.specs.Parts.{exports_of, IsOfInterface}
-use Rattle.wac_graph_scopes.specs.Items.{IsItemScope, ItemsGo, GivesType, ExportsItem, IsTypeItem, IsNotable, IsSorted, Describes, IsTreeOf, AreTreesOf, Writing, adds_core, HasCore, GivesCore, GivesItem, MayExport, WritesSome, GrowsBy, StatesInstance, StatesComponent, HasType, described_as}
+use Rattle.wac_graph_scopes.specs.Scopes.{AnswersType, ExportsType, IsTypeDeclaration}
+use Rattle.wac_graph_scopes.proofs.ScopeLaws.{type_stated}
+use Rattle.wac_graph_scopes.specs.Parts.{exports_of, IsOfInterface, IsOfWorld}
+use Rattle.wac_graph_scopes.specs.Items.{IsItemScope, ItemsGo, GivesType, ExportsItem, IsTypeItem, IsNotable, IsSorted, Describes, IsTreeOf, AreTreesOf, Writing, adds_core, HasCore, GivesCore, GivesItem, MayExport, WritesSome, GrowsBy, StatesInstance, StatesComponent, HasType, described_as, HasEntry, IsNoResource}
 use Rattle.wac_graph_scopes.proofs.ScopeLaws.{Extends-one}
 use Rattle.wac_graph_scopes.proofs.ItemLaws.{ItemsGo-refl, ItemsGo-trans, types_go, export_follows}
 use Rattle.wac_graph_scopes.proofs.UsedLaws.{root_of, plain_item}
@@ -366,3 +370,51 @@ type_given w c outer i t s k h = record { after = adds_inside sort.Ty (Known t) 
 pub component_reads : (w : Worlds) (outer : List Scope) (i : Inside) (ds : Vec Declaration Global) (t : Tree) → StatesComponent w (i.here ∷ outer) t (declarations_of ds.items) → declared w outer i (before (ComponentType ds) End) ≡ Some (adds_inside sort.Ty (Known t) i)
 unfolding declared
 component_reads w outer i ds t e = ap (declared w outer i) (before_component ds End) ∙ ap (λ (o : Option Tree). o >>= λ t. Some (adds_inside sort.Ty (Known t) i)) e
+
+-- ---- types of their own
+
+pub instance_declared : (ds : Vec Declaration Global) → IsTypeDeclaration (InstanceType ds)
+unfolding declared
+instance_declared ds w outer i j e =
+    type_stated i j (declared w (i.here ∷ outer) nothing_inside (declarations_of ds.items) >>= typing.instance_tree) (sym (ap (declared w outer i) (before_instance ds End)) ∙ e)
+
+pub component_declared : (ds : Vec Declaration Global) → IsTypeDeclaration (ComponentType ds)
+unfolding declared
+component_declared ds w outer i j e =
+    type_stated i j (declared w (i.here ∷ outer) nothing_inside (declarations_of ds.items) >>= typing.component_tree) (sym (ap (declared w outer i) (before_component ds End)) ∙ e)
+
+-- any type but a resource, a value type, a function type and a core module type
+pub declared_entry : (t : TypeKind) → IsNoResource t → ((v : ValueType) → t ≡ TypeKind.Value v → ⊥) → ((f : FuncTypeId) → t ≡ TypeKind.Func f → ⊥) → ((m : ModuleTypeId) → t ≡ TypeKind.Module m → ⊥) → HasEntry (ItemKind.Ty t)
+declared_entry (TypeKind.Resource r) n v f m = absurd n
+declared_entry (TypeKind.Value x) n v f m = absurd (v x refl)
+declared_entry (TypeKind.Func x) n v f m = absurd (f x refl)
+declared_entry (TypeKind.Module x) n v f m = absurd (m x refl)
+declared_entry (TypeKind.Interface i) n v f m = tt
+declared_entry (TypeKind.World i) n v f m = tt
+
+-- of an interface or a world the description is its type
+pub described_entry : (kind : ItemKind) (k : ℕ) → HasEntry kind → described_as kind k ≡ desc.Equal k
+described_entry (ItemKind.Ty t) k h = refl
+described_entry (ItemKind.Func f) k h = absurd h
+described_entry (ItemKind.Instance i) k h = absurd h
+described_entry (ItemKind.Component w) k h = absurd h
+described_entry (ItemKind.Module m) k h = absurd h
+described_entry (ItemKind.Value v) k h = absurd h
+
+pub no_entry : (kind : ItemKind) → HasEntry kind → ((i : InterfaceId) → IsOfInterface kind i → ⊥) → ((w : WorldId) → IsOfWorld kind w → ⊥) → ⊥
+no_entry (ItemKind.Ty (TypeKind.Interface i)) h a b = a i refl
+no_entry (ItemKind.Ty (TypeKind.World w)) h a b = b w refl
+no_entry (ItemKind.Ty (TypeKind.Resource r)) h a b = h
+no_entry (ItemKind.Ty (TypeKind.Func r)) h a b = h
+no_entry (ItemKind.Ty (TypeKind.Value r)) h a b = h
+no_entry (ItemKind.Ty (TypeKind.Module r)) h a b = h
+no_entry (ItemKind.Func f) h a b = h
+no_entry (ItemKind.Instance i) h a b = h
+no_entry (ItemKind.Component w) h a b = h
+no_entry (ItemKind.Module m) h a b = h
+no_entry (ItemKind.Value v) h a b = h
+
+-- the type of a function stands where the function does
+pub typed_func_stands : (c : Collection) (f : FuncTypeId) → is_some (item_node c (ItemKind.Ty (TypeKind.Func f))) ≡ is_some (item_node c (ItemKind.Func f))
+unfolding item_node
+typed_func_stands c f = is_some-labelled _ _

@@ -21,13 +21,14 @@ use Rattle.wac_graph_bytes.specs.Counting.{description_sort}
 use Rattle.wac_graph_bytes.specs.Entries.{Declarations, End}
 use Rattle.wac_graph_bytes.specs.Typing.{◌>>=◌, Worlds, Meaning, Scope, space, with_one, with_core, Inside, nothing_inside, adds_inside, declared, described, found_at, found, item_tree, type_tree, type_at, item_of, type_in, export_named, instance_tree, component_tree}
 use Rattle.wac_graph_bytes.specs.Views.{before, declarations_of}
+use Rattle.wac_graph_scopes.specs.declared.scope.KnownTypes.{KnownTypes}
 use Rattle.wac_graph_scopes.specs.declared.items.ItemScope.{ItemScope}
 use Rattle.wac_graph_scopes.specs.declared.items.Around.{Around}
 use Rattle.wac_graph_scopes.specs.declared.parts.Item.{Item}
 use Rattle.wac_graph_scopes.specs.declared.parts.Use.{Use}
 use Rattle.wac_graph_scopes.specs.declared.used.UsedIndex.{UsedIndex}
 use Rattle.wac_graph_scopes.specs.Parts.{exports_of, uses_of, IsUsedKind, IsFresh}
-use Rattle.wac_graph_scopes.specs.Scopes.{Extends, IsScope}
+use Rattle.wac_graph_scopes.specs.Scopes.{Extends, AreKnown, IsScope, IsEntryIn, IsTypeDeclaration}
 
 -- The types can be read, and the counters of the other sorts are true.
 pub record IsItemScope (w : Worlds) (c : Collection) (outer : List Scope) (i : Inside) (s : ItemScope) : Type 0 where
@@ -270,6 +271,36 @@ ExportsDescribed c x d old new r = (w : Worlds) (outer : List Scope) (i : Inside
 
 abbrev pub ExportsFresh : {U E : Type 0} → Collection → Item → ItemScope → ItemScope → Result U E → Type 0
 ExportsFresh c x old new r = (w : Worlds) (outer : List Scope) (i : Inside) → IsItemScope w c outer i old → IsFresh c x.name.now x.kind → IfOk r (λ _. ExportsItem w c outer i x.name.now (tree_in c x.kind) new)
+
+-- ---- types of their own
+
+-- the description is the type at an index that stands for a type entry of its own
+abbrev pub IsEntryOf : Worlds → List Scope → List Declaration → Description → Type 0
+IsEntryOf w outer ds d = (k : ℕ) × (d ≡ desc.Equal k) × IsEntryIn w outer ds k
+
+abbrev pub EntersType : {E : Type 0} → Declaration → ItemScope → ItemScope → Result ℕ E → Type 0
+EntersType d old new r = IsTypeDeclaration d → (w : Worlds) (c : Collection) (outer : List Scope) (i : Inside) → IsItemScope w c outer i old → IfOk r (IsEntryIn w outer new.types.declarations.items)
+
+abbrev pub MakesItem : {E : Type 0} → Collection → ItemScope → ItemScope → Result ℕ E → Type 0
+MakesItem c old new r = (w : Worlds) (outer : List Scope) (i : Inside) → IsItemScope w c outer i old → IfOk r (IsEntryIn w outer new.types.declarations.items)
+
+abbrev pub DescribesEntry : {E : Type 0} → Collection → ItemScope → ItemScope → Result Description E → Type 0
+DescribesEntry c old new r = (w : Worlds) (outer : List Scope) (i : Inside) → IsItemScope w c outer i old → IfOk r (IsEntryOf w outer new.types.declarations.items)
+
+-- the same of another collection, where these of its types are known
+abbrev pub DescribesOwn : {E : Type 0} → Collection → ItemScope → KnownTypes → ItemScope → Result Description E → Type 0
+DescribesOwn other old known new r = (w : Worlds) (c : Collection) (outer : List Scope) (i : Inside) → IsItemScope w c outer i old → AreKnown w (i.here ∷ outer) other known → IfOk r (IsEntryOf w outer new.types.declarations.items)
+
+-- an interface or a world
+abbrev pub HasEntry : ItemKind → Type 0
+HasEntry (ItemKind.Ty (TypeKind.Interface i)) = Unit {0}
+HasEntry (ItemKind.Ty (TypeKind.World w)) = Unit {0}
+HasEntry k = ⊥
+
+-- any but a resource
+abbrev pub IsNoResource : TypeKind → Type 0
+IsNoResource (TypeKind.Resource r) = ⊥
+IsNoResource t = Unit {0}
 
 -- ---- types of things
 

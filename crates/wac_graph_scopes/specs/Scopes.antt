@@ -16,9 +16,12 @@ use Rattle.wac_types_fit.specs.Trees.{tree_in}
 use Rattle.wac_graph_bytes.specs.declared.value.Sort.{Sort}
 use Rattle.wac_graph_bytes.specs.declared.value.ValueType.{ValueType as Written}
 use Rattle.wac_graph_bytes.specs.declared.value.ValueType.TheVariants.{Index}
-use Rattle.wac_graph_bytes.specs.Typing.{Worlds, Meaning, Scope, space, Inside, nothing_inside, declared, defined, item_of, type_at, value_of, as_func}
+use Rattle.wac_graph_bytes.specs.Typing.{Worlds, Meaning, Known, Scope, space, Inside, nothing_inside, adds_inside, declared, defined, item_of, type_at, value_of, as_func}
 use Rattle.wac_graph_bytes.specs.declared.entry.DefinedType.{DefinedType}
-use Rattle.wac_graph_bytes.specs.Views.{declarations_of, defined_view}
+use Rattle.wac_graph_bytes.specs.declared.entry.Declaration.{Declaration}
+use Rattle.wac_graph_bytes.specs.declared.value.Sort.TheVariants as sort
+use Rattle.wac_graph_bytes.specs.Entries.{End}
+use Rattle.wac_graph_bytes.specs.Views.{before, declarations_of, defined_view}
 use Rattle.wac_graph_scopes.specs.declared.scope.KnownType.{KnownType}
 use Rattle.wac_graph_scopes.specs.declared.scope.KnownTypes.{KnownTypes}
 use Rattle.wac_graph_scopes.specs.declared.scope.TypeScope.{TypeScope}
@@ -161,6 +164,22 @@ WritesEntry c id old new r = (w : Worlds) (outer : List Scope) (i : Inside) → 
 
 abbrev pub FindsResource : {E : Type 0} → Collection → Tree → TypeScope → Result ℕ E → Type 0
 FindsResource c t s r = (w : Worlds) (outer : List Scope) (i : Inside) → IsScope w c outer i s → IfOk r (λ k. type_at w (i.here ∷ outer) k ≡ Some t)
+
+-- ---- types of their own
+
+-- the index stands for a type entry of its own
+abbrev pub IsEntryIn : Worlds → List Scope → List Declaration → ℕ → Type 0
+IsEntryIn w outer ds k = (i : Inside) → declared w outer nothing_inside (declarations_of ds) ≡ Some i → (t : Tree) × (slice_get i.here.types k ≡ Some (Known t))
+
+-- wherever the declaration is read, it states a type
+abbrev pub IsTypeDeclaration : Declaration → Type 0
+IsTypeDeclaration d = (w : Worlds) (outer : List Scope) (i j : Inside) → declared w outer i (before d End) ≡ Some j → (t : Tree) × (adds_inside sort.Ty (Known t) i ≡ j)
+
+abbrev pub MakesEntry : {E : Type 0} → Collection → TypeScope → TypeScope → Result ℕ E → Type 0
+MakesEntry c old new r = (w : Worlds) (outer : List Scope) (i : Inside) → IsScope w c outer i old → IfOk r (IsEntryIn w outer new.declarations.items)
+
+abbrev pub WritesIndex : {E : Type 0} → Collection → Tree → TypeScope → TypeScope → Result ℕ E → Type 0
+WritesIndex c t old new r = (w : Worlds) (outer : List Scope) (i : Inside) → IsScope w c outer i old → IfOk r (λ k. AnswersValue w c outer i t new (Index k))
 
 -- ---- of whatever collection the scope was
 

@@ -11,7 +11,7 @@ ghost use Rattle.wac_graph_bytes.specs.declared.value.Sort.TheVariants.{Instance
 ghost use Rattle.wac_graph_bytes.specs.Counting.{description_sort};
 ghost use Rattle.wac_graph_bytes.specs.Typing.{Worlds, Scope, nothing_inside};
 ghost use Rattle.wac_graph_scopes.specs.Parts.{IsUsedKind, IsFresh};
-ghost use Rattle.wac_graph_scopes.specs.Items.{IsItemScope, HasNameAt, DescribesSimply};
+ghost use Rattle.wac_graph_scopes.specs.Items.{IsItemScope, HasNameAt, HasEntry, IsNoResource, DescribesSimply, DescribesEntry, DescribesOwn};
 ghost use Rattle.wac_graph_scopes.specs.Orders.{IsOrder, SourcesFirst};
 ghost use Rattle.wac_graph_scopes.specs.ItemRefusals.{RefusedType, RefusedItem};
 ghost use Rattle.wac_graph_scopes.specs.Imports.{all_imports, all_exports, NoneWritten, IsInstanceImport, IsPlaced, GivesTaken, FindsSource, AddsUsed, AliasesUse, KeepsWorld, DescribesImport, DescribesThere, DescribesOther, MayDescribe};
@@ -20,6 +20,7 @@ ghost use Rattle.wac_graph_scopes.specs.Imports.{ImportsDescribed, ImportsAt, Wr
 use crate::fault::WriteError;
 use crate::items::{
     Around, ItemScope, add_name, describe, export_item, export_resource, exports_taken, find_used,
+    push_func_type,
 };
 use crate::order::{ImportOrder, order_of};
 use crate::parts::{
@@ -199,6 +200,7 @@ fn describe_alone(
     kind: ItemKind,
 ) -> Result<Description, WriteError>
     ensures describes { DescribesSimply types.now kind scope.old scope.new result }
+    ensures own { HasEntry kind → DescribesEntry types.now scope.old scope.new result }
     ensures refused { Stands types.now kind → IfErr result (RefusedItem types.now kind scope.new) }
 {
     let used = UsedTypes::new(alloc);
@@ -217,6 +219,7 @@ fn describe_type(
     ty: Type,
 ) -> Result<Description, WriteError>
     ensures describes { DescribesSimply types.now (ItemKind.Ty ty) scope.old scope.new result }
+    ensures own { IsNoResource ty → DescribesEntry types.now scope.old scope.new result }
     ensures refused { Stands types.now (ItemKind.Ty ty) → IfErr result (RefusedType types.now ty scope.new) }
 {
     types.see_acyclic();
@@ -225,6 +228,11 @@ fn describe_type(
             let index = define_apart(alloc, &mut scope.types, types, ty)?;
             Ok(Description::Equal(index))
         }
+        Type::Func(id) => {
+            let index = push_func_type(alloc, scope, types, id)?;
+            Ok(Description::Equal(index))
+        }
+        Type::Module(_) => Err(WriteError::Unwritable),
         _ => describe_alone(alloc, scope, types, ItemKind::Ty(ty)),
     }
 }
@@ -530,6 +538,7 @@ impl ImportScope {
         kind: ItemKind,
     ) -> Result<Description, WriteError>
         ensures describes { DescribesThere types.now kind self.old self.new result }
+        ensures own { HasEntry kind → DescribesEntry types.now self.old.scope self.new.scope result }
         ensures refused { Stands types.now kind → IfErr result (RefusedItem types.now kind self.new.scope) }
     {
         let around = Around {
@@ -549,6 +558,7 @@ impl ImportScope {
         ty: Type,
     ) -> Result<Description, WriteError>
         ensures describes { DescribesOther types.now (ItemKind.Ty ty) self.old other.old self.new other.new result }
+        ensures own { IsNoResource ty → DescribesOwn types.now self.old.scope other.old self.new.scope result }
         ensures refused { Stands types.now (ItemKind.Ty ty) → IfErr result (RefusedType types.now ty self.new.scope) }
         ensures kept { self.new.scope.types.known ≡ self.old.scope.types.known }
     {

@@ -14,9 +14,9 @@ ghost use Rattle.wac_graph_scopes.specs.declared.fault.WriteError.{WriteError};
 ghost use Rattle.wac_graph_scopes.specs.Scopes.{FindsResource};
 ghost use Rattle.wac_graph_scopes.specs.Refusals.{IsUnnamed, RefusedThere};
 ghost use Rattle.wac_graph_scopes.specs.ItemRefusals.{CoresFull, RefusedModule, RefusedType, RefusedItem};
-ghost use Rattle.wac_graph_scopes.specs.Items.{IsItemScope, AddsType, AddsCore, count_of, with_count, AddsItem, AliasesOuter, AliasesExport, described_as, Notes};
+ghost use Rattle.wac_graph_scopes.specs.Items.{IsItemScope, AddsType, EntersType, AddsCore, count_of, with_count, AddsItem, AliasesOuter, AliasesExport, described_as, Notes};
 ghost use Rattle.wac_graph_scopes.specs.Items.{FindsUsed, AliasesUsed, ExportsTaken, HasNameAt, ExportsUsed, TakesUse, TakesNamed, TakesAt, BeginsInstance, KeepsWriting, ExportsDescribed, ExportsFresh};
-ghost use Rattle.wac_graph_scopes.specs.Items.{StatesType, StatesTypeItem, StatesModule, DescribesSimply, StatesItem, StatesClosed, DescribesItem, ExportsOne, WritesOtherAt, WritesOthers, WritesInstance, MakesInstance};
+ghost use Rattle.wac_graph_scopes.specs.Items.{StatesType, StatesTypeItem, StatesModule, DescribesSimply, MakesItem, HasEntry, DescribesEntry, StatesItem, StatesClosed, DescribesItem, ExportsOne, WritesOtherAt, WritesOthers, WritesInstance, MakesInstance};
 
 use crate::core_items::module_declarations;
 use crate::fault::WriteError;
@@ -93,7 +93,8 @@ impl ItemScope {
 
     /// Adds a declaration of a type.
     fn add_type(&mut self, declaration: Declaration) -> Result<u32, WriteError>
-        ensures { AddsType declaration self.old self.new result }
+        ensures adds { AddsType declaration self.old self.new result }
+        ensures entry { EntersType declaration self.old self.new result }
     {
         self.types.declarations.push(declaration)?;
         let index = self.types.types;
@@ -604,7 +605,8 @@ fn push_instance_type(
     around: Around<'_>,
     id: InterfaceId,
 ) -> Result<u32, WriteError>
-    ensures { StatesItem types.now around.entry (ItemKind.Instance id) scope.old scope.new result }
+    ensures states { StatesItem types.now around.entry (ItemKind.Instance id) scope.old scope.new result }
+    ensures entry { MakesItem types.now scope.old scope.new result }
 {
     let inner = around.deeper()?;
     let declarations = instance_type(alloc, types, inner, id)?;
@@ -619,7 +621,8 @@ fn push_component_type(
     types: &Types,
     id: WorldId,
 ) -> Result<u32, WriteError>
-    ensures { StatesClosed types.now (ItemKind.Component id) scope.old scope.new result }
+    ensures states { StatesClosed types.now (ItemKind.Component id) scope.old scope.new result }
+    ensures entry { MakesItem types.now scope.old scope.new result }
 {
     let declarations = component_type(alloc, types, id)?;
     scope.add_type(Declaration::ComponentType(declarations))
@@ -655,13 +658,15 @@ fn resource_index(scope: &ItemScope, types: &Types, id: ResourceId) -> Result<u3
 }
 
 /// The index of a function's type, which is written.
-fn push_func_type(
+pub(crate) fn push_func_type(
     alloc: Global,
     scope: &mut ItemScope,
     types: &Types,
     id: FuncTypeId,
 ) -> Result<u32, WriteError>
+    ensures stands { IfOk result (λ _. Stands types.now (ItemKind.Func id)) }
     ensures states { StatesType types.now (ItemKind.Func id) scope.old scope.new result }
+    ensures entry { MakesItem types.now scope.old scope.new result }
     ensures refused { RefusedThere types.now (ItemKind.Func id) scope.new.types result }
 {
     if !types.has(ItemKind::Func(id)) {
@@ -753,6 +758,7 @@ pub(crate) fn describe(
     kind: ItemKind,
 ) -> Result<Description, WriteError>
     ensures describes { DescribesItem types.now around.entry kind scope.old scope.new result }
+    ensures own { HasEntry kind → DescribesEntry types.now scope.old scope.new result }
     ensures refused { Stands types.now kind → IfErr result (RefusedItem types.now kind scope.new) }
 {
     if !types.has(kind) {

@@ -3,6 +3,7 @@
 ghost use Rattle.std.specs.Prelude.{◌≡◌, ◌≤◌, ◌↔◌, IfSome, IfNone, Some, IsTrue, length, slice_get};
 ghost use Rattle.std.specs.Option.{option_copied};
 ghost use Rattle.wac_types_base.specs.declared.ids.InterfaceId.{InterfaceId};
+ghost use Rattle.wac_types_base.specs.declared.ids.WorldId.{WorldId};
 ghost use Rattle.wac_types_base.specs.declared.item.ItemKind.{ItemKind};
 ghost use Rattle.wac_types_base.specs.declared.item.«Type».{«Type» as TypeKind};
 ghost use Rattle.wac_types_base.specs.Entries.{names_of, value_at, AreDistinct};
@@ -71,6 +72,7 @@ pub fn world_of(types: &Types, kind: ItemKind) -> Option<WorldId>
     ensures size { IfSome result (λ w. size_of types.now (ItemKind.Component w) ≡ size_of types.now kind) }
     ensures kind { IfSome result (IsOfWorld kind) }
     ensures stands { IfSome result (λ _. Stands types.now kind) }
+    ensures none { IfNone result (Stands types.now kind → (w : WorldId) → IsOfWorld kind w → ⊥) }
 {
     if !types.has(kind) {
         return None;

@@ -5,7 +5,7 @@ ghost use Rattle.wac_types_base.specs.Record.{Collection};
 ghost use Rattle.wac_types_base.specs.Entries.{value_at};
 ghost use Rattle.wac_graph_bytes.specs.declared.fault.SizeError.TheVariants.{TooLarge};
 ghost use Rattle.wac_graph_bytes.specs.Typing.{Worlds, Scope, nothing_inside};
-ghost use Rattle.wac_graph_scopes.specs.Scopes.{AreKnown, IsScope, Exchanges, FindsType, Defines, ExportsFunction, ExportsNewType, Remembers, FindsKnown, KnowsResource, NotesResource};
+ghost use Rattle.wac_graph_scopes.specs.Scopes.{AreKnown, IsScope, Exchanges, FindsType, Defines, MakesEntry, ExportsFunction, ExportsNewType, Remembers, FindsKnown, KnowsResource, NotesResource};
 
 use crate::prints::Prints;
 use indexmap::IndexMap;
@@ -104,6 +104,7 @@ impl TypeScope {
     /// Writes a type without declarations.
     pub fn define(&mut self, ty: DefinedType) -> Result<u32, SizeError>
         ensures stands { Defines ty self.old self.new result }
+        ensures entry { (c : Collection) → MakesEntry c self.old self.new result }
         ensures full { result ≡ Err TooLarge → self.old.types ≡ 4294967295 }
         ensures kept { OnErr result (self.new.types ≡ self.old.types) }
         ensures resources { self.new.resources ≡ self.old.resources }
@@ -140,6 +141,7 @@ impl TypeScope {
     /// Remembers the index of a type; in place of an earlier one of that id.
     pub fn remember(&mut self, id: DefinedTypeId, index: u32) -> Result<(), AllocError>
         ensures known { Remembers id index self.old self.new result }
+        ensures declarations { self.new.declarations ≡ self.old.declarations }
         ensures resources { self.new.resources ≡ self.old.resources }
     {
         let at = self.known.all.len();

@@ -12,7 +12,7 @@ ghost use Rattle.wac_types_fit.specs.Trees.{tree_in, Fit};
 ghost use Rattle.wac_types_fit.specs.Checking.{value_in, HoldsValues, ValueStands, value_tree, place_trees};
 ghost use Rattle.wac_graph_scopes.specs.declared.fault.WriteError.{WriteError};
 ghost use Rattle.wac_graph_scopes.specs.Refusals.{IsUnnamed, Refused, RefusedPlace, RefusedThere};
-ghost use Rattle.wac_graph_scopes.specs.Scopes.{KeepsScope, FindsType, WritesValue, WritesDefined, WritesType, WritesPlaces, WritesPlace, WritesEntry, RemembersOne, NotesResource, NotesValue, FindsResource};
+ghost use Rattle.wac_graph_scopes.specs.Scopes.{KeepsScope, FindsType, WritesValue, WritesDefined, WritesType, WritesPlaces, WritesPlace, WritesEntry, WritesIndex, MakesEntry, RemembersOne, NotesResource, NotesValue, FindsResource};
 
 use crate::entry::{entry_of, func_entry_of};
 use crate::fault::WriteError;
@@ -38,16 +38,42 @@ fn resource_of(scope: &TypeScope, types: &Types, id: ResourceId) -> Result<u32, 
     }
 }
 
-fn push_own(scope: &mut TypeScope, types: &Types, id: ResourceId) -> Result<Written, WriteError>
+/// The index of a type entry that is such a handle.
+fn define_own(scope: &mut TypeScope, types: &Types, id: ResourceId) -> Result<u32, WriteError>
     requires { Stands types.now (ItemKind.Value (ValueType.Own id)) }
-    ensures writes { WritesValue types.now (tree_in types.now (ItemKind.Value (ValueType.Own id))) scope.old scope.new result }
+    ensures writes { WritesIndex types.now (tree_in types.now (ItemKind.Value (ValueType.Own id))) scope.old scope.new result }
+    ensures entry { MakesEntry types.now scope.old scope.new result }
     ensures refused { IfErr result (Refused types.now (ItemKind.Value (ValueType.Own id)) scope.new) }
     ensures resources { scope.new.resources ≡ scope.old.resources }
 {
     types.see_acyclic();
     let resource = resource_of(scope, types, id)?;
     let index = scope.define(TypeEntry::Own(resource))?;
+    Ok(index)
+}
+
+fn push_own(scope: &mut TypeScope, types: &Types, id: ResourceId) -> Result<Written, WriteError>
+    requires { Stands types.now (ItemKind.Value (ValueType.Own id)) }
+    ensures writes { WritesValue types.now (tree_in types.now (ItemKind.Value (ValueType.Own id))) scope.old scope.new result }
+    ensures refused { IfErr result (Refused types.now (ItemKind.Value (ValueType.Own id)) scope.new) }
+    ensures resources { scope.new.resources ≡ scope.old.resources }
+{
+    let index = define_own(scope, types, id)?;
     Ok(Written::Index(index))
+}
+
+/// The index of a type entry that is such a handle.
+fn define_borrow(scope: &mut TypeScope, types: &Types, id: ResourceId) -> Result<u32, WriteError>
+    requires { Stands types.now (ItemKind.Value (ValueType.Borrow id)) }
+    ensures writes { WritesIndex types.now (tree_in types.now (ItemKind.Value (ValueType.Borrow id))) scope.old scope.new result }
+    ensures entry { MakesEntry types.now scope.old scope.new result }
+    ensures refused { IfErr result (Refused types.now (ItemKind.Value (ValueType.Borrow id)) scope.new) }
+    ensures resources { scope.new.resources ≡ scope.old.resources }
+{
+    types.see_acyclic();
+    let resource = resource_of(scope, types, id)?;
+    let index = scope.define(TypeEntry::Borrow(resource))?;
+    Ok(index)
 }
 
 fn push_borrow(scope: &mut TypeScope, types: &Types, id: ResourceId) -> Result<Written, WriteError>
@@ -56,9 +82,7 @@ fn push_borrow(scope: &mut TypeScope, types: &Types, id: ResourceId) -> Result<W
     ensures refused { IfErr result (Refused types.now (ItemKind.Value (ValueType.Borrow id)) scope.new) }
     ensures resources { scope.new.resources ≡ scope.old.resources }
 {
-    types.see_acyclic();
-    let resource = resource_of(scope, types, id)?;
-    let index = scope.define(TypeEntry::Borrow(resource))?;
+    let index = define_borrow(scope, types, id)?;
     Ok(Written::Index(index))
 }
 
@@ -343,15 +367,19 @@ fn define_plain(
     types: &Types,
     ty: ValueType,
 ) -> Result<u32, WriteError>
-    requires { Stands types.now (ItemKind.Value ty) }
+    requires stands { Stands types.now (ItemKind.Value ty) }
+    requires no_alias { IsNoAlias types.now ty }
     ensures writes { WritesType types.now (tree_in types.now (ItemKind.Value ty)) scope.old scope.new result }
+    ensures entry { MakesEntry types.now scope.old scope.new result }
     ensures refused { IfErr result (Refused types.now (ItemKind.Value ty) scope.new) }
     ensures resources { scope.new.resources ≡ scope.old.resources }
 {
     types.see_acyclic();
-    match push_value(alloc, scope, types, ty)? {
-        Written::Index(index) => Ok(index),
-        Written::Primitive(p) => Ok(scope.define(TypeEntry::Primitive(p))?),
+    match ty {
+        ValueType::Primitive(p) => Ok(scope.define(TypeEntry::Primitive(p))?),
+        ValueType::Own(id) => define_own(scope, types, id),
+        ValueType::Borrow(id) => define_borrow(scope, types, id),
+        ValueType::Defined(id) => define_anew(alloc, scope, types, id),
     }
 }
 
@@ -383,6 +411,7 @@ pub(crate) fn define_apart(
 ) -> Result<u32, WriteError>
     ensures stands { IfOk result (λ _. Stands types.now (ItemKind.Value ty)) }
     ensures writes { WritesType types.now (tree_in types.now (ItemKind.Value ty)) scope.old scope.new result }
+    ensures entry { MakesEntry types.now scope.old scope.new result }
     ensures refused { RefusedThere types.now (ItemKind.Value ty) scope.new result }
     ensures resources { scope.new.resources ≡ scope.old.resources }
 {
@@ -390,10 +419,8 @@ pub(crate) fn define_apart(
         return Err(WriteError::Unwritable);
     }
     types.see_acyclic();
-    match types.resolve_value_type(ty) {
-        ValueType::Defined(id) => define_anew(alloc, scope, types, id),
-        end => define_plain(alloc, scope, types, end),
-    }
+    let end = types.resolve_value_type(ty);
+    define_plain(alloc, scope, types, end)
 }
 
 /// The same of a defined type that is no alias. It is known afterwards.
@@ -406,6 +433,7 @@ fn define_anew(
     requires stands { Stands types.now (ItemKind.Value (ValueType.Defined id)) }
     requires no_alias { IsNoAlias types.now (ValueType.Defined id) }
     ensures writes { WritesType types.now (tree_in types.now (ItemKind.Value (ValueType.Defined id))) scope.old scope.new result }
+    ensures entry { MakesEntry types.now scope.old scope.new result }
     ensures refused { IfErr result (Refused types.now (ItemKind.Value (ValueType.Defined id)) scope.new) }
     ensures resources { scope.new.resources ≡ scope.old.resources }
 {
@@ -447,6 +475,7 @@ fn define_entry(
 ) -> Result<u32, WriteError>
     requires { Stands types.now (ItemKind.Value (ValueType.Defined id)) }
     ensures writes { WritesEntry types.now id scope.old scope.new result }
+    ensures entry { MakesEntry types.now scope.old scope.new result }
     ensures refused { IfErr result (Refused types.now (ItemKind.Value (ValueType.Defined id)) scope.new) }
     ensures resources { scope.new.resources ≡ scope.old.resources }
 {
@@ -513,6 +542,7 @@ pub(crate) fn push_func(
 ) -> Result<u32, WriteError>
     requires { Stands types.now (ItemKind.Func id) }
     ensures writes { WritesType types.now (tree_in types.now (ItemKind.Func id)) scope.old scope.new result }
+    ensures entry { MakesEntry types.now scope.old scope.new result }
     ensures refused { IfErr result (Refused types.now (ItemKind.Func id) scope.new) }
     ensures resources { scope.new.resources ≡ scope.old.resources }
 {

@@ -13,7 +13,7 @@ use Rattle.wac_graph_scopes.specs.Items.{Describes, ItemsWritten, StatesInstance
 use Rattle.wac_graph_scopes.proofs.HandleLaws.{if_ok_map}
 use Rattle.wac_graph_scopes.proofs.PartLaws.{exports_there, name_at}
 use Rattle.wac_graph_scopes.proofs.ItemLaws.{used_deeper, export_follows}
-use Rattle.wac_graph_scopes.proofs.WritingLaws.{writes_none, writes_more, states_instance, instance_described, interface_stands, instance_reads, component_reads, type_given, take_or, all_taken, put_there, put_keeps, not_among, among_has, value_here}
+use Rattle.wac_graph_scopes.proofs.WritingLaws.{writes_none, writes_more, states_instance, instance_described, interface_stands, instance_reads, component_reads, type_given, instance_declared, component_declared, described_entry, no_entry, take_or, all_taken, put_there, put_keeps, not_among, among_has, value_here}
 use Rattle.std.proofs.Common.{get_or}
 use Rattle.std.proofs.lemmas.List.{take_all}
 use Rattle.std.proofs.lemmas.Option.{slice_get-get_or}
@@ -28,14 +28,14 @@ use Rattle.std.proofs.lemmas.Result.{err_from_is_err_and}
 use Rattle.wac_graph_scopes.proofs.RefusedLaws.{interface_unsaid, world_unsaid}
 use Rattle.wac_graph_scopes.proofs.+types.Goals as goal
 
-pub items::push_instance_type-returns : goal.items::push_instance_type-returns
-items::push_instance_type-returns m c stands w outer i h are =
+pub items::push_instance_type-returns-clause-states : goal.items::push_instance_type-returns-clause-states
+items::push_instance_type-returns-clause-states m c stands w outer i h are =
     let types = c.args.types.now in
     let t = tree_in types (ItemKind.Instance c.args.id) in
     let inner = c.in_ok-inner.inner in
     let deep = used_deeper w types (i.here ∷ outer) c.args.around.depth inner.depth c.args.around.used.now.all.items inner.used.now.all.items c.in_ok-inner.ensures.depth (ap (λ (u : UsedTypes). u.all.items) c.in_ok-inner.ensures.used) are in
     let reads = c.in_ok-declarations.ensures stands w (i.here ∷ outer) deep in
-    if_ok_map c.add_type.result (λ k a. type_given w types outer i t c.add_type.new.self k a) (c.add_type.ensures w types outer i (Known t) h (instance_reads w outer i c.in_ok-declarations.declarations t reads))
+    if_ok_map c.add_type.result (λ k a. type_given w types outer i t c.add_type.new.self k a) (c.add_type.ensures.adds w types outer i (Known t) h (instance_reads w outer i c.in_ok-declarations.declarations t reads))
 
 pub items::instance_type-returns : goal.items::instance_type-returns
 items::instance_type-returns m c stands w outer around =
@@ -100,7 +100,7 @@ items::describe-returns-in-Some-clause-describes m c w outer i h are =
     let id = c.in-Some.id in
     let is = c.in-Some.ensures.kind in
     let stands = c.in-Some.ensures.stands in
-    let a = c.in_ok-index.ensures (interface_stands types c.args.kind id is stands) w outer i h are in
+    let a = c.in_ok-index.ensures.states (interface_stands types c.args.kind id is stands) w outer i h are in
     subst (λ (d : Description). Describes w types outer i c.args.kind c.push_instance_type.new.scope d) (sym c.described.ensures)
     (instance_described types c.see_acyclic.ensures w outer i c.args.kind id c.push_instance_type.new.scope c.in_ok-index.index is stands a)
 
@@ -110,16 +110,31 @@ items::describe-returns-in-Some-world_of-clause-describes m c w outer i h are =
     let id = c.in-Some-world_of.id in
     let is = c.in-Some-world_of.ensures.kind in
     let stands = c.in-Some-world_of.ensures.stands in
-    let a = c.in_ok-index-2.ensures (world_stands types c.args.kind id is stands) w outer i h in
+    let a = c.in_ok-index-2.ensures.states (world_stands types c.args.kind id is stands) w outer i h in
     subst (λ (d : Description). Describes w types outer i c.args.kind c.push_component_type.new.scope d) (sym c.described-in-Some-world_of.ensures)
     (component_described types c.see_acyclic.ensures w outer i c.args.kind id c.push_component_type.new.scope c.in_ok-index-2.index is stands a)
 
-pub items::push_component_type-returns : goal.items::push_component_type-returns
-items::push_component_type-returns m c stands w outer i h =
+pub items::push_component_type-returns-clause-states : goal.items::push_component_type-returns-clause-states
+items::push_component_type-returns-clause-states m c stands w outer i h =
     let types = c.args.types.now in
     let t = tree_in types (ItemKind.Component c.args.id) in
     let reads = c.in_ok-declarations.ensures stands w (i.here ∷ outer) in
-    if_ok_map c.add_type.result (λ k a. type_given w types outer i t c.add_type.new.self k a) (c.add_type.ensures w types outer i (Known t) h (component_reads w outer i c.in_ok-declarations.declarations t reads))
+    if_ok_map c.add_type.result (λ k a. type_given w types outer i t c.add_type.new.self k a) (c.add_type.ensures.adds w types outer i (Known t) h (component_reads w outer i c.in_ok-declarations.declarations t reads))
+
+pub items::describe-returns-in-Some-clause-own : goal.items::describe-returns-in-Some-clause-own
+items::describe-returns-in-Some-clause-own m c own w outer i h = (c.in_ok-index.index, c.described.ensures ∙ described_entry c.args.kind c.in_ok-index.index own, c.in_ok-index.ensures.entry w outer i h)
+
+pub items::describe-returns-in-Some-world_of-clause-own : goal.items::describe-returns-in-Some-world_of-clause-own
+items::describe-returns-in-Some-world_of-clause-own m c own w outer i h = (c.in_ok-index-2.index, c.described-in-Some-world_of.ensures ∙ described_entry c.args.kind c.in_ok-index-2.index own, c.in_ok-index-2.ensures.entry w outer i h)
+
+pub items::describe-returns-clause-own : goal.items::describe-returns-clause-own
+items::describe-returns-clause-own m c own = absurd (no_entry c.args.kind own (c.in_default.ensures.none (c.if-not-has.ensures.0 refl)) (c.in_default-world_of.ensures.none (c.if-not-has.ensures.0 refl)))
+
+pub items::push_instance_type-returns-clause-entry : goal.items::push_instance_type-returns-clause-entry
+items::push_instance_type-returns-clause-entry m c w outer i h = c.add_type.ensures.entry (instance_declared c.in_ok-declarations.declarations) w c.args.types.now outer i h
+
+pub items::push_component_type-returns-clause-entry : goal.items::push_component_type-returns-clause-entry
+items::push_component_type-returns-clause-entry m c w outer i h = c.add_type.ensures.entry (component_declared c.in_ok-declarations.declarations) w c.args.types.now outer i h
 
 -- ---- imports
 

@@ -1,4 +1,4 @@
-use Rattle.std.proofs.Common.{◌≤◌, length, Some, slice_get, refl, sym, ap, subst, ◌∙◌, arith}
+use Rattle.std.proofs.Common.{◌≤◌, length, slice_get, refl, sym, ap, subst, ◌∙◌, arith}
 use Rattle.wac_types_base.specs.declared.item.ItemKind.{ItemKind}
 use Rattle.wac_types_fit.specs.Trees.{IsInside}
 use Rattle.wac_graph_scopes.proofs.InsideLaws.{world_use_inside}

@@ -145,3 +145,6 @@ push_places-returns-in_err-value-clause-refused t c =
     let p = err_from_is_err_and c.from_residual.result c.from_residual.ensures.1 in
     rw (p.1, p.2)
     (place_refused types c.args.kind c.loop-place.at c.in-Some.place c.value_of.result c.push_place.new.scope c.in_err-value.field-0.0 c.requires.values (sym c.in-Some.ensures.place) c.value_of.ensures c.in_err-value.ensures.refused)
+
+pub define_entry-returns-clause-entry : goal.define_entry-returns-clause-entry
+define_entry-returns-clause-entry t c w outer i h = let a = c.in_ok-places.ensures.writes w outer i h in c.in_ok-define.ensures.entry c.args.types.now w outer a.after a.goes.stands

@@ -1,6 +1,5 @@
 use Rattle.std.proofs.Common.{refl}
 use Rattle.wac_types_base.specs.declared.item.ItemKind.{ItemKind}
-use Rattle.wac_types_base.specs.declared.item.ValueType.{ValueType}
 use Rattle.wac_types_fit.specs.Trees.{tree_in}
 use Rattle.wac_types_fit.proofs.Unfolded.{same_tree, end_no_alias}
 use Rattle.wac_graph_scopes.proofs.HandleLaws.{if_ok_map}
@@ -8,26 +7,16 @@ use Rattle.wac_graph_scopes.proofs.UsedLaws.{type_of_tree}
 use Rattle.wac_graph_scopes.proofs.RefusedLaws.{if_err_map, alias_refused}
 use Rattle.wac_graph_scopes.proofs.value.define_apart.Goals as goal
 
-pub define_anew-requires-clause-no_alias : goal.define_anew-requires-clause-no_alias
-define_anew-requires-clause-no_alias c = end_no_alias c.args.types.now c.see_acyclic.ensures c.in-Defined.ensures.resolved
+pub define_plain-requires-clause-no_alias : goal.define_plain-requires-clause-no_alias
+define_plain-requires-clause-no_alias c = end_no_alias c.args.types.now c.see_acyclic.ensures c.resolve_value_type-end.ensures.resolved
 
-pub returns-in-Defined-clause-writes : goal.returns-in-Defined-clause-writes
-returns-in-Defined-clause-writes c w outer i h =
+pub returns-clause-writes : goal.returns-clause-writes
+returns-clause-writes c w outer i h =
     let types = c.args.types.now in
-    let same = same_tree types c.see_acyclic.ensures (ItemKind.Value (ValueType.Defined c.in-Defined.id)) (ItemKind.Value c.args.ty) c.in-Defined.ensures.stands (c.if-not-has.ensures.0 refl) c.in-Defined.ensures.tree in
-    if_ok_map c.define_anew.result (λ k a. type_of_tree w types outer i (tree_in types (ItemKind.Value (ValueType.Defined c.in-Defined.id))) (tree_in types (ItemKind.Value c.args.ty)) c.define_anew.new.scope k same a) (c.define_anew.ensures.writes w outer i h)
-
-pub returns-in_default-clause-writes : goal.returns-in_default-clause-writes
-returns-in_default-clause-writes c w outer i h =
-    let types = c.args.types.now in
-    let end = c.resolve_value_type.result in
-    let same = same_tree types c.see_acyclic.ensures (ItemKind.Value end) (ItemKind.Value c.args.ty) c.resolve_value_type.ensures.stands (c.if-not-has.ensures.0 refl) c.resolve_value_type.ensures.tree in
+    let end = c.resolve_value_type-end.result in
+    let same = same_tree types c.see_acyclic.ensures (ItemKind.Value end) (ItemKind.Value c.args.ty) c.resolve_value_type-end.ensures.stands (c.if-not-has.ensures.0 refl) c.resolve_value_type-end.ensures.tree in
     if_ok_map c.define_plain.result (λ k a. type_of_tree w types outer i (tree_in types (ItemKind.Value end)) (tree_in types (ItemKind.Value c.args.ty)) c.define_plain.new.scope k same a) (c.define_plain.ensures.writes w outer i h)
 
-pub returns-in-Defined-clause-refused : goal.returns-in-Defined-clause-refused
-returns-in-Defined-clause-refused c stands =
-    if_err_map c.define_anew.result (λ e h. alias_refused c.args.types.now c.see_acyclic.ensures c.args.ty (ValueType.Defined c.in-Defined.id) c.in-Defined.ensures.resolved stands c.define_anew.new.scope e h) c.define_anew.ensures.refused
-
-pub returns-in_default-clause-refused : goal.returns-in_default-clause-refused
-returns-in_default-clause-refused c stands =
-    if_err_map c.define_plain.result (λ e h. alias_refused c.args.types.now c.see_acyclic.ensures c.args.ty c.resolve_value_type.result c.resolve_value_type.ensures.resolved stands c.define_plain.new.scope e h) c.define_plain.ensures.refused
+pub returns-clause-refused : goal.returns-clause-refused
+returns-clause-refused c stands =
+    if_err_map c.define_plain.result (λ e h. alias_refused c.args.types.now c.see_acyclic.ensures c.args.ty c.resolve_value_type-end.result c.resolve_value_type-end.ensures.resolved stands c.define_plain.new.scope e h) c.define_plain.ensures.refused

@@ -1,21 +1,59 @@
-use Rattle.std.proofs.Common.{subst}
+use Rattle.std.proofs.Common.{Some, sym, ap, subst, ◌∙◌}
 use Rattle.wac_types_base.specs.declared.item.ItemKind.{ItemKind}
+use Rattle.wac_types_base.specs.declared.item.ValueType.{ValueType}
+use Rattle.wac_types_base.specs.Collection.{Stands}
+use Rattle.wac_types_base.specs.Resolving.{IsNoAlias}
 use Rattle.wac_types_fit.specs.Trees.{tree_in}
-use Rattle.wac_graph_bytes.specs.declared.value.ValueType.{ValueType as Written}
-use Rattle.wac_graph_scopes.specs.Scopes.{AnswersValue}
-use Rattle.wac_graph_scopes.proofs.UsedLaws.{type_answered, primitive_defined}
+use Rattle.wac_types_fit.proofs.Unfolded.{primitive_tree}
+use Rattle.wac_graph_bytes.specs.declared.value.ValueType.TheVariants.{Primitive}
+use Rattle.wac_graph_scopes.proofs.HandleLaws.{if_ok_map}
+use Rattle.wac_graph_scopes.proofs.ValueLaws.{value_there}
+use Rattle.wac_graph_scopes.proofs.UsedLaws.{type_answered, type_of_tree, primitive_defined}
 use Rattle.wac_graph_scopes.proofs.value.define_plain.Goals as goal
 
-pub returns-in-Index-clause-writes : goal.returns-in-Index-clause-writes
-returns-in-Index-clause-writes c w outer i h =
-    let types = c.args.types.now in
-    let t = tree_in types (ItemKind.Value c.args.ty) in
-    type_answered w types outer i t c.push_value.new.scope c.in-Index.index (subst (λ (b : Written). AnswersValue w types outer i t c.push_value.new.scope b) c.in-Index.is (c.in_ok-index.ensures.writes w outer i h))
+pub define_own-requires : goal.define_own-requires
+define_own-requires c = subst (λ v. Stands c.args.types.now (ItemKind.Value v)) c.in-Own.is c.requires.stands
+
+pub define_borrow-requires : goal.define_borrow-requires
+define_borrow-requires c = subst (λ v. Stands c.args.types.now (ItemKind.Value v)) c.in-Borrow.is c.requires.stands
+
+pub define_anew-requires-clause-stands : goal.define_anew-requires-clause-stands
+define_anew-requires-clause-stands c = subst (λ v. Stands c.args.types.now (ItemKind.Value v)) c.in-Defined.is c.requires.stands
+
+pub define_anew-requires-clause-no_alias : goal.define_anew-requires-clause-no_alias
+define_anew-requires-clause-no_alias c = subst (IsNoAlias c.args.types.now) c.in-Defined.is c.requires.no_alias
 
 pub returns-in_ok-define-in-Primitive-clause-writes : goal.returns-in_ok-define-in-Primitive-clause-writes
 returns-in_ok-define-in-Primitive-clause-writes c w outer i h =
     let types = c.args.types.now in
+    let p = c.in-Primitive.p in
     let t = tree_in types (ItemKind.Value c.args.ty) in
-    primitive_defined w types outer i t c.in-Primitive.p c.push_value.new.scope c.define.new.self c.in_ok-define-in-Primitive.field-0
-    (subst (λ (b : Written). AnswersValue w types outer i t c.push_value.new.scope b) c.in-Primitive.is (c.in_ok-index.ensures.writes w outer i h))
+    primitive_defined w types outer i t p c.args.scope.now c.define.new.self c.in_ok-define-in-Primitive.field-0
+    (value_there w types outer i t c.args.scope.now (Primitive p) h (ap Some (sym (ap (λ v. tree_in types (ItemKind.Value v)) c.in-Primitive.is ∙ primitive_tree types c.see_acyclic.ensures p))))
     (λ j x hs e. c.in_ok-define-in-Primitive.ensures.stands w types outer j x hs e)
+
+pub returns-in_ok-define-in-Primitive-clause-entry : goal.returns-in_ok-define-in-Primitive-clause-entry
+returns-in_ok-define-in-Primitive-clause-entry c w outer i h = c.in_ok-define-in-Primitive.ensures.entry c.args.types.now w outer i h
+
+pub returns-in-Own-clause-writes : goal.returns-in-Own-clause-writes
+returns-in-Own-clause-writes c w outer i h =
+    let types = c.args.types.now in
+    let own = tree_in types (ItemKind.Value (ValueType.Own c.in-Own.id)) in
+    let s = c.define_own.new.scope in
+    if_ok_map c.define_own.result (λ k a. type_of_tree w types outer i own (tree_in types (ItemKind.Value c.args.ty)) s k (ap (λ v. tree_in types (ItemKind.Value v)) (sym c.in-Own.is)) (type_answered w types outer i own s k a))
+    (c.define_own.ensures.writes w outer i h)
+
+pub returns-in-Borrow-clause-writes : goal.returns-in-Borrow-clause-writes
+returns-in-Borrow-clause-writes c w outer i h =
+    let types = c.args.types.now in
+    let borrow = tree_in types (ItemKind.Value (ValueType.Borrow c.in-Borrow.id)) in
+    let s = c.define_borrow.new.scope in
+    if_ok_map c.define_borrow.result (λ k a. type_of_tree w types outer i borrow (tree_in types (ItemKind.Value c.args.ty)) s k (ap (λ v. tree_in types (ItemKind.Value v)) (sym c.in-Borrow.is)) (type_answered w types outer i borrow s k a))
+    (c.define_borrow.ensures.writes w outer i h)
+
+pub returns-in-Defined-clause-writes : goal.returns-in-Defined-clause-writes
+returns-in-Defined-clause-writes c w outer i h =
+    let types = c.args.types.now in
+    let defined = tree_in types (ItemKind.Value (ValueType.Defined c.in-Defined.id)) in
+    let s = c.define_anew.new.scope in
+    if_ok_map c.define_anew.result (λ k a. type_of_tree w types outer i defined (tree_in types (ItemKind.Value c.args.ty)) s k (ap (λ v. tree_in types (ItemKind.Value v)) (sym c.in-Defined.is)) a) (c.define_anew.ensures.writes w outer i h)

@@ -11,6 +11,9 @@ use Rattle.wac_graph_scopes.proofs.value.define_value.Goals as goal
 pub define_once-requires-clause-no_alias : goal.define_once-requires-clause-no_alias
 define_once-requires-clause-no_alias c = end_no_alias c.args.types.now c.see_acyclic.ensures c.in-Defined.ensures.resolved
 
+pub define_plain-requires-clause-no_alias : goal.define_plain-requires-clause-no_alias
+define_plain-requires-clause-no_alias c = end_no_alias c.args.types.now c.see_acyclic.ensures c.resolve_value_type.ensures.resolved
+
 pub returns-in-Defined-clause-writes : goal.returns-in-Defined-clause-writes
 returns-in-Defined-clause-writes c w outer i h =
     let types = c.args.types.now in

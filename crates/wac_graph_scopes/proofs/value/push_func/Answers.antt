@@ -13,3 +13,6 @@ returns-clause-writes c w outer i h =
     func_written w types outer i c.see_acyclic.ensures c.args.id c.func_type-ty.result.now c.push_places.new.scope c.define.new.self c.in_ok-places.places.items c.in_ok-entry.entry c.in_ok-index.index
     c.func_type-ty.ensures.entry c.func_type-ty.ensures.own (c.in_ok-places.ensures.writes w outer i h) (c.in_ok-entry.ensures ∙ ap (func_entry_of c.func_type-ty.result.now) c.as_slice.ensures.value)
     (λ j x hs e. c.in_ok-index.ensures.stands w types outer j x hs e)
+
+pub returns-clause-entry : goal.returns-clause-entry
+returns-clause-entry c w outer i h = let a = c.in_ok-places.ensures.writes w outer i h in c.in_ok-index.ensures.entry c.args.types.now w outer a.after a.goes.stands

@@ -1,7 +1,8 @@
-use Rattle.std.proofs.Common.{ap}
+use Rattle.std.proofs.Common.{sym, ap, subst}
 use Rattle.wac_types_base.specs.declared.item.ItemKind.{ItemKind}
 use Rattle.wac_graph_scopes.specs.declared.items.ItemScope.{ItemScope}
 use Rattle.wac_graph_scopes.specs.declared.scope.TypeScope.{TypeScope}
+use Rattle.wac_graph_scopes.specs.Scopes.{IsEntryIn}
 use Rattle.wac_graph_scopes.proofs.HandleLaws.{if_ok_map}
 use Rattle.wac_graph_scopes.proofs.ItemLaws.{item_exchanged}
 use Rattle.wac_graph_scopes.proofs.ImportLaws.{world_apart}
@@ -27,3 +28,12 @@ returns-clause-refused c stands =
     let same = c.exchange-2.ensures.scope in
     if_err_map c.describe_type-description.result (λ e h. type_refused_kept c.args.types.now c.args.ty mid last e (ap (λ (t : TypeScope). t.resources) same) (ap (λ (t : TypeScope). t.types) same) h)
     (c.describe_type-description.ensures.refused stands)
+
+pub returns-clause-own : goal.returns-clause-own
+returns-clause-own c own w col outer i h known =
+    let types = c.args.types.now in
+    let s = c.args.self.now in
+    let x = item_exchanged w col types outer i s.scope c.exchange.new.self c.args.other.now c.exchange.new.other c.exchange.ensures.exchanges h known in
+    if_ok_map c.describe_type-description.result
+    (λ d e. (e.0, e.1, subst (λ (t : TypeScope). IsEntryIn w outer t.declarations.items e.0) (sym c.exchange-2.ensures.scope) e.2))
+    (c.describe_type-description.ensures.own own w outer i x.0)

@@ -1,0 +1,73 @@
+-- Definitions that are written at the root, each as a type of its own that stands for its node.
+use Rattle.std.specs.Prelude.{◌≡◌, ℕ, List, [], ◌∷◌, Result, OnOk, IfOk}
+use Rattle.wac_types_base.specs.declared.ids.WorldId.{WorldId}
+use Rattle.wac_types_base.specs.declared.item.ItemKind.{ItemKind}
+use Rattle.wac_types_base.specs.Record.{Collection}
+use Rattle.wac_types_base.specs.Entries.{Name}
+use Rattle.wac_types_base.specs.Graph.{Among}
+use Rattle.wac_types_base.specs.Stated.{stated_of}
+use Rattle.wac_graph_bytes.specs.declared.value.Description.{Description}
+use Rattle.wac_graph_bytes.specs.Typing.{Worlds, Inside}
+use Rattle.wac_graph_core.specs.Nodes.{NodeData, Role}
+use Rattle.wac_graph_core.specs.Graph.{Graph, IsGraph, node_at}
+use Rattle.wac_graph_scopes.specs.declared.scope.KnownTypes.{KnownTypes}
+use Rattle.wac_graph_scopes.specs.declared.imports.Importing.{Importing}
+use Rattle.wac_graph_scopes.specs.declared.imports.ImportScope.{ImportScope}
+use Rattle.wac_graph_scopes.specs.declared.imports.SortIndex.{SortIndex}
+use Rattle.wac_graph_scopes.specs.Items.{IsTypeEntry}
+use Rattle.wac_graph_scopes.specs.Scopes.{GoesOn, AreKnown}
+use Rattle.wac_graph_scopes.specs.Imports.{WritesWorld, WritesOn}
+use Rattle.wac_graph_scopes.specs.Roots.{at_root}
+use Rattle.wac_graph_asks.specs.declared.asks.Definition.{Definition}
+use Rattle.wac_graph_asks.specs.Wirings.{written_tree}
+use Rattle.wac_graph_encode.specs.declared.root.Defined.{Defined}
+use Rattle.wac_graph_encode.specs.Standing.{StandsAt}
+use Rattle.wac_graph_encode.specs.Formed.{HasForm}
+
+-- the node that is defined
+pub record IsNodeOf (g : Graph) (x : Definition) : Type 0 where
+  pub node : NodeData
+  pub there : node_at g x.node ≡ Some node
+  pub role : node.role ≡ Role.Defined
+  pub states : stated_of g.types node.item_kind ≡ stated_of g.types (ItemKind.Ty x.ty)
+
+-- the definition is a node's, and its type has its form in the collection
+pub record IsToWrite (g : Graph) (c : Collection) (x : Definition) : Type 0 where
+  pub node : IsNodeOf g x
+  pub form : HasForm g.types c x.ty x.copy
+
+abbrev pub AreToWrite : Graph → Collection → List Definition → Type 0
+AreToWrite g c xs = (x : Definition) → Among x xs → IsToWrite g c x
+
+-- The world is written on, what is known of the graph's types is true there, and the nodes stand.
+pub record HoldsDefinitions (g : Graph) (w : Worlds) (c : Collection) (world : WorldId) (i : Inside) (imported : List Name) (s : ImportScope) (known : KnownTypes) (nodes : List (ℕ × SortIndex)) : Type 0 where
+  pub written : WritesOn w c [] world i s imported []
+  pub known : AreKnown w (written.goes.writing.inside.here ∷ []) g.types known
+  pub nodes : (k : ℕ) (p : SortIndex) → Among (k, p) nodes → StandsAt g w (at_root written.goes.writing.inside) [] k p
+
+-- The world is written on, and what is so described is a type of its own, as the definition is written.
+pub record DefinesIn (g : Graph) (w : Worlds) (c : Collection) (world : WorldId) (i : Inside) (imported : List Name) (x : Definition) (s : ImportScope) (known : KnownTypes) (d : Description) : Type 0 where
+  pub goes : WritesWorld w c [] world s imported []
+  pub on : GoesOn i goes.writing.inside
+  pub known : AreKnown w (goes.writing.inside.here ∷ []) g.types known
+  pub entry : IsTypeEntry goes.writing.inside.here d (written_tree g (ItemKind.Ty x.ty))
+
+abbrev pub WritesDefinition : {E : Type 0} → Graph → Importing → Definition → (old : ImportScope) → (before : KnownTypes) → (new : ImportScope) → (after : KnownTypes) → Result Description E → Type 0
+WritesDefinition g a x old before new after r = IsToWrite g a.types.now x → (w : Worlds) (i : Inside) (imported : List Name) (h : WritesOn w a.types.now [] a.world i old imported []) → AreKnown w (h.goes.writing.inside.here ∷ []) g.types before
+    → IfOk r (DefinesIn g w a.types.now a.world i imported x new after)
+
+-- ---- with the nodes that stand
+
+abbrev pub HoldsDefined : Graph → Worlds → Importing → Inside → List Name → ImportScope → Defined → Type 0
+HoldsDefined g w a i imported s d = HoldsDefinitions g w a.types.now a.world i imported s d.known d.nodes.entries
+
+abbrev pub AddsDefinitions : {U E : Type 0} → Graph → Importing → List Definition → ImportScope → Defined → ImportScope → Defined → Result U E → Type 0
+AddsDefinitions g a xs old before new after r = IsGraph g → AreToWrite g a.types.now xs → (w : Worlds) (i : Inside) (imported : List Name) → HoldsDefined g w a i imported old before → OnOk r (HoldsDefined g w a i imported new after)
+
+-- the world is written on with the definitions, and their nodes stand
+pub record AreDefined (g : Graph) (w : Worlds) (a : Importing) (i : Inside) (imported : List Name) (s : ImportScope) (nodes : List (ℕ × SortIndex)) : Type 0 where
+  pub known : KnownTypes
+  pub holds : HoldsDefinitions g w a.types.now a.world i imported s known nodes
+
+abbrev pub WritesDefinitions : Graph → Importing → List Definition → (old new : ImportScope) → List (ℕ × SortIndex) → Type 0
+WritesDefinitions g a xs old new nodes = IsGraph g → AreToWrite g a.types.now xs → (w : Worlds) (i : Inside) (imported : List Name) → WritesOn w a.types.now [] a.world i old imported [] → AreDefined g w a i imported new nodes
