@@ -74,7 +74,7 @@ pub record WritesWorld (w : Worlds) (c : Collection) (outer : List Scope) (world
   pub used : AreUsed w c (writing.inside.here ∷ outer) 0 s.used.all.items
   pub placed : ArePlaced w c (writing.inside.here ∷ outer) (imports_of c world) s.places.items
 
--- and what stood there stands
+-- The world is written on from there: what stood stands, and the same is imported and exported.
 pub record WritesOn (w : Worlds) (c : Collection) (outer : List Scope) (world : WorldId) (i : Inside) (s : ImportScope) (imported exported : List Name) : Type 0 where
   pub goes : WritesWorld w c outer world s imported exported
   pub on : GoesOn i goes.writing.inside
@@ -101,7 +101,7 @@ abbrev pub AddsUsed : {E : Type 0} → Collection → WorldId → ℕ → Name �
 AddsUsed c world k n item old new r = Stands c item → IsUsedKind item → (w : Worlds) (outer : List Scope) (i : Inside) (imported exported : List Name) → (h : WritesOn w c outer world i old imported exported)
     → IsSource w (h.goes.writing.inside.here ∷ outer) n (tree_in c item) k → IfOk r (λ j. HasAlias w c outer world i new imported exported (tree_in c item) (Some j))
 
--- wherever it was written on from
+-- a world that is written on from somewhere still is
 abbrev pub KeepsWorld : {U E : Type 0} → Importing → ImportScope → ImportScope → Result U E → Type 0
 KeepsWorld a old new r = (w : Worlds) (outer : List Scope) (i : Inside) (imported exported : List Name)
     → WritesOn w a.types.now outer a.world i old imported exported → IfOk r (λ _. WritesOn w a.types.now outer a.world i new imported exported)
