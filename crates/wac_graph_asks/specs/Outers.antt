@@ -1,5 +1,5 @@
 -- The outer imports of a graph, as the imports of a world.
-use Rattle.std.specs.Prelude.{◌≡◌, ℕ, map, Some, slice_get}
+use Rattle.std.specs.Prelude.{◌≡◌, ℕ, List, map, Some, slice_get}
 use Rattle.wac_types_base.specs.declared.ids.WorldId.{WorldId}
 use Rattle.wac_types_base.specs.declared.item.ItemKind.{ItemKind}
 use Rattle.wac_types_base.specs.Record.{Collection}
@@ -14,7 +14,6 @@ use Rattle.wac_composition.specs.Asks.{Ask, asks_of}
 use Rattle.wac_composition.specs.Classes.{spelling}
 use Rattle.wac_composition.specs.OuterImports.{outer_imports}
 use Rattle.wac_composition.specs.OuterLaws.{IsMet}
-use Rattle.wac_graph_asks.specs.declared.outers.Outers.{Outers}
 use Rattle.wac_graph_asks.specs.Graphs.{composition_of}
 
 module _ (g : Graph) (c : Collection) where
@@ -23,10 +22,10 @@ module _ (g : Graph) (c : Collection) where
   IsCalled world one = (k : ItemKind) × (slice_get (imports_of c world) one.at ≡ Some (spelling (asks_of (composition_of g)) one.name, k))
 
   -- The world's imports are the outer imports of the composition, in order. Each ask is met, and its name is called.
-  pub record IsOuters (o : Outers) : Type 0 where
-    pub stands : Stands c (ItemKind.Component o.world)
-    pub imports : stated_items c (imports_of c o.world) ≡ outer_imports (asks_of (composition_of g))
-    pub distinct : AreDistinct (names_of (imports_of c o.world))
+  pub record IsOuters (world : WorldId) (called : List Called) : Type 0 where
+    pub stands : Stands c (ItemKind.Component world)
+    pub imports : stated_items c (imports_of c world) ≡ outer_imports (asks_of (composition_of g))
+    pub distinct : AreDistinct (names_of (imports_of c world))
     pub met : (a : Ask ℕ) → Among a (asks_of (composition_of g)) → IsMet (asks_of (composition_of g)) a
-    pub called : (one : Called) → Among one o.called.items → IsCalled o.world one
-    pub named : (a : Ask ℕ) → Among a (asks_of (composition_of g)) → Among a.name (map (λ x. x.name) o.called.items)
+    pub called_there : (one : Called) → Among one called → IsCalled world one
+    pub named : (a : Ask ℕ) → Among a (asks_of (composition_of g)) → Among a.name (map (λ x. x.name) called)

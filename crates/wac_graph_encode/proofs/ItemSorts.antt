@@ -9,7 +9,7 @@ use Rattle.wac_types_base.specs.declared.ids.WorldId.{WorldId}
 use Rattle.wac_types_base.specs.Entries.{Name, value_at}
 use Rattle.wac_types_base.specs.Record.{Collection}
 use Rattle.wac_types_base.specs.Collection.{Shape, func, resource, Stands, IsAcyclic, size_of}
-use Rattle.wac_types_base.specs.Tree.{Tree, Row, rigid, instance, component, core_module, handle_own, handle_borrow, type_item}
+use Rattle.wac_types_base.specs.Tree.{Tree, rigid, instance, component, core_module, handle_own, handle_borrow, type_item}
 use Rattle.wac_types_base.specs.Fits.{Fits, rigid_fits, own_fits, borrow_fits, instance_fits, component_fits, module_fits, type_fits}
 use Rattle.wac_types_base.proofs.Slots.{slots_defined}
 use Rattle.wac_types_base.proofs.Walking.{child_smaller}

@@ -88,7 +88,7 @@ nesting_all g all rest old now e h = subst (λ (ids : List PackageId). NestsAll 
 -- ---- entries that were inserted
 
 module _ {K X : Type 0} (eq : K → K → Bool) (decides : (a b : K) → IsTrue (eq a b) ↔ (a ≡ b)) where
-  inserted_among : (es : List (K × X)) (k : K) (x : X) (p : K × X) → Among p (insert_entry eq es k x) → Among p es ⊎ (p ≡ (k, x))
+  pub inserted_among : (es : List (K × X)) (k : K) (x : X) (p : K × X) → Among p (insert_entry eq es k x) → Among p es ⊎ (p ≡ (k, x))
   inserted_among [] k x p (inl s) = inr s
   inserted_among [] k x p (inr m) = absurd m
   inserted_among (y ∷ es) k x p m = go (eq k y.0) refl m (inserted_among es k x p)

@@ -1,23 +1,40 @@
 -- Definitions that are written stand for their nodes.
+use Rattle.indexmap.specs.IndexMap.{insert_entry}
 use Rattle.std.specs.List.{cons_option}
 use Rattle.std.specs.Prelude.{filter_map}
-use Rattle.std.proofs.Common.{◌≡◌, ℕ, true, List, [], ◌∷◌, map, Option, Some, None, slice_get, refl, sym, ap, subst, ◌∙◌, inl, inr}
+use Rattle.std.proofs.Common.{Result, Ok, Err, IfOk, ◌≡◌, ℕ, true, List, [], ◌∷◌, map, Option, Some, None, slice_get, refl, sym, ap, subst, ◌∙◌, inl, inr}
 use Rattle.std.proofs.lemmas.Option.{none-some, same_Some}
 use Rattle.wac_types_base.specs.declared.item.ItemKind.{ItemKind}
+use Rattle.wac_types_base.specs.declared.item.«Type».{«Type» as TypeKind}
+use Rattle.wac_types_base.specs.declared.ids.WorldId.{WorldId}
+use Rattle.wac_types_base.specs.Record.{Collection}
+use Rattle.wac_types_base.specs.Entries.{Name}
 use Rattle.wac_types_base.specs.Graph.{Among}
-use Rattle.wac_types_base.specs.Stated.{stated_of}
+use Rattle.wac_types_base.specs.Collection.{Stands, IsAcyclic}
+use Rattle.wac_types_base.proofs.Telling.{item_kind, kind_stated}
+use Rattle.wac_types_fit.specs.Trees.{tree_in}
+use Rattle.wac_types_base.specs.Stated.{stated_of, kind_of}
 use Rattle.wac_types_base.specs.Tree.{Tree, tree}
 use Rattle.wac_types_written.specs.Written.{written_definition}
+use Rattle.wac_graph_bytes.specs.declared.value.Sort.{Sort}
 use Rattle.wac_graph_bytes.specs.declared.value.Sort.TheVariants as sort
+use Rattle.wac_graph_bytes.specs.declared.value.Description.{Description}
+use Rattle.wac_graph_bytes.specs.declared.value.Description.TheVariants as desc
+use Rattle.wac_graph_bytes.specs.Counting.{description_sort}
 use Rattle.wac_graph_bytes.specs.Typing as typing
-use Rattle.wac_graph_bytes.specs.Typing.{Worlds, Known, Inside}
+use Rattle.wac_graph_bytes.specs.Typing.{Worlds, Meaning, Known, Scope, Inside, ◌>>=◌}
 use Rattle.wac_graph_bytes.specs.Wirings.{Definition as DefinitionOf}
-use Rattle.wac_graph_core.specs.Nodes.{NodeData, Role}
+use Rattle.wac_graph_core.specs.Nodes.{NodeData, Role, IsResource}
 use Rattle.wac_graph_core.specs.Graph.{Graph, IsGraph, node_at, is_instance}
 use Rattle.wac_graph_core.specs.GraphWiring.{defined}
+use Rattle.wac_graph_core.specs.contracts.ids.NodeIdPartialEq.TheImpl as node_id
 use Rattle.wac_graph_scopes.specs.declared.imports.SortIndex.{SortIndex}
-use Rattle.wac_graph_scopes.specs.Items.{sort_of}
-use Rattle.wac_graph_scopes.specs.Scopes.{Extends}
+use Rattle.wac_graph_scopes.specs.declared.scope.KnownTypes.{KnownTypes}
+use Rattle.wac_graph_scopes.specs.declared.imports.ImportScope.{ImportScope}
+use Rattle.wac_graph_scopes.specs.Items.{sort_of, HasEntry, IsNoResource, IsEntryOf}
+use Rattle.wac_graph_scopes.specs.Imports.{WritesOn, DescribesIn, DescribesApart}
+use Rattle.wac_graph_scopes.proofs.ScopeLaws.{Extends-trans, all_known_kept}
+use Rattle.wac_graph_scopes.specs.Scopes.{Extends, GoesOn, AreKnown}
 use Rattle.wac_graph_scopes.specs.Roots.{at_root}
 use Rattle.wac_graph_asks.specs.declared.asks.Definition.{Definition}
 use Rattle.wac_graph_asks.specs.Graphs.{composition_of, definition_by, nodes_of}
@@ -26,16 +43,21 @@ use Rattle.wac_graph_asks.specs.Asked.{placed_in}
 use Rattle.wac_graph_asks.proofs.ByNode.{entry_there}
 use Rattle.wac_composition.proofs.AskedAgain.{among_mapped}
 use Rattle.wac_graph_encode.specs.Standing.{StandsAt}
+use Rattle.wac_graph_encode.specs.Formed.{HasForm}
+use Rattle.wac_graph_encode.proofs.FormKinds.{own_form, form_entry}
+use Rattle.wac_graph_encode.proofs.Entries.{same_node}
+use Rattle.wac_graph_encode.proofs.Nesting.{inserted_among}
 use Rattle.wac_graph_encode.specs.Defining.{IsNodeOf, IsToWrite, AreToWrite, HoldsDefinitions, DefinesIn}
+
+filtered_further : {X Y : Type 0} (p : X → Option Y) (x : X) (xs : List X) (y : Y) → (Among y (filter_map p xs) → (z : X) × Among z xs × (p z ≡ Some y)) → (o : Option Y) → p x ≡ o → Among y (cons_option o (filter_map p xs))
+    → (z : X) × Among z (x ∷ xs) × (p z ≡ Some y)
+filtered_further p x xs y rest None e m = let r = rest m in (r.0, inr r.1, r.2)
+filtered_further p x xs y rest (Some v) e (inl same) = (x, inl refl, e ∙ ap Some (sym same))
+filtered_further p x xs y rest (Some v) e (inr m) = let r = rest m in (r.0, inr r.1, r.2)
 
 from_filtered : {X Y : Type 0} (p : X → Option Y) (xs : List X) (y : Y) → Among y (filter_map p xs) → (x : X) × Among x xs × (p x ≡ Some y)
 from_filtered p [] y m = absurd m
-from_filtered {X} {Y} p (x ∷ xs) y m = go (p x) refl m
-  where
-    go : (o : Option Y) → p x ≡ o → Among y (cons_option o (filter_map p xs)) → (z : X) × Among z (x ∷ xs) × (p z ≡ Some y)
-    go None e m = let r = from_filtered p xs y m in (r.0, inr r.1, r.2)
-    go (Some v) e (inl same) = (x, inl refl, e ∙ ap Some (sym same))
-    go (Some v) e (inr m) = let r = from_filtered p xs y m in (r.0, inr r.1, r.2)
+from_filtered p (x ∷ xs) y m = filtered_further p x xs y (from_filtered p xs y) (p x) refl m
 
 module _ (g : Graph) where
   node_of : (x : Definition) → Among (placed_in g.types x) (composition_of g).definitions → IsNodeOf g x
@@ -88,3 +110,120 @@ module _ (g : Graph) where
       means = s.means;
       gives = s.gives;
     }
+
+-- ---- a definition that is written
+
+-- what is described as a type entry is its type
+entry_read : (w : Worlds) (here : Scope) (n : Name) (d : Description) (k : ℕ) (u t : Tree) → d ≡ desc.Equal k → slice_get here.types k ≡ Some (Known u) → typing.described w (here ∷ []) n d ≡ Some (description_sort d, t) → typing.item_of u ≡ t
+entry_read w here n d k u t is at reads =
+    let equal : typing.described w (here ∷ []) n (desc.Equal k) ≡ Some (sort.Ty, t) = subst (λ (x : Description). typing.described w (here ∷ []) n x ≡ Some (description_sort x, t)) is reads in
+    let found : typing.described w (here ∷ []) n (desc.Equal k) ≡ Some (sort.Ty, typing.item_of u) =
+        ap (λ (o : Option Meaning). (o >>= typing.type_tree w) >>= λ v. Some (sort.Ty, typing.item_of v)) at in
+    ap (λ (p : Sort × Tree). p.1) (same_Some _ _ (sym found ∙ equal))
+
+no_resource_kind : (t r : TypeKind) → (IsResource t → ⊥) → item_kind (ItemKind.Ty t) ≡ item_kind (ItemKind.Ty r) → IsNoResource r
+no_resource_kind t (TypeKind.Func f) n e = tt
+no_resource_kind t (TypeKind.Value v) n e = tt
+no_resource_kind t (TypeKind.Interface i) n e = tt
+no_resource_kind t (TypeKind.World w) n e = tt
+no_resource_kind t (TypeKind.Module m) n e = tt
+no_resource_kind (TypeKind.Resource x) (TypeKind.Resource r) n e = n (x, refl)
+no_resource_kind (TypeKind.Func f) (TypeKind.Resource r) n e = absurd (cc e)
+no_resource_kind (TypeKind.Value v) (TypeKind.Resource r) n e = absurd (cc e)
+no_resource_kind (TypeKind.Interface i) (TypeKind.Resource r) n e = absurd (cc e)
+no_resource_kind (TypeKind.World w) (TypeKind.Resource r) n e = absurd (cc e)
+no_resource_kind (TypeKind.Module m) (TypeKind.Resource r) n e = absurd (cc e)
+
+pub if_ok_both : {T E : Type 0} {P Q R : T → Type 0} (r : Result T E) → IfOk r P → IfOk r Q → ((x : T) → P x → Q x → R x) → IfOk r R
+if_ok_both (Ok x) p q f = f x p q
+if_ok_both (Err e) p q f = tt
+
+goes_trans : (i j k : Inside) → GoesOn i j → GoesOn j k → GoesOn i k
+goes_trans i j k a b = record { extends = Extends-trans i.here j.here k.here a.extends b.extends; imports = b.imports ∙ a.imports; exports = b.exports ∙ a.exports }
+
+module _ (g : Graph) (sound : IsGraph g) (finite_types : IsAcyclic g.types) (c : Collection) (acyclic : IsAcyclic c) (w : Worlds) (world : WorldId) (i : Inside) (imported : List Name) (x : Definition) (to : IsToWrite g c x) where
+  -- the form of an interface or a world is an entry
+  pub copy_entry : (item : ItemKind) → x.copy ≡ Some item → HasEntry item
+  copy_entry item is =
+      let form : HasForm g.types c x.ty (Some item) = subst (HasForm g.types c x.ty) is to.form in
+      form_entry g.types c finite_types acyclic x.ty form.2 form.0 item form.1.stands form.1.states
+
+  -- the graph's own types are entries
+  pub own_entry : x.copy ≡ None → IsNoResource x.ty
+  own_entry is =
+      let form : HasForm g.types c x.ty None = subst (HasForm g.types c x.ty) is to.form in
+      let n = to.node in
+      let d = (sound.nodes x.node n.node n.there).defined n.role in
+      let stands : Stands g.types (ItemKind.Ty d.type) = subst (Stands g.types) d.is ((sound.nodes x.node n.node n.there).item) in
+      no_resource_kind d.type x.ty d.no_resource
+      (sym (kind_stated g.types finite_types (ItemKind.Ty d.type) stands) ∙ ap (λ k. kind_of (stated_of g.types k)) (sym d.is) ∙ ap kind_of n.states ∙ kind_stated g.types finite_types (ItemKind.Ty x.ty) form.1)
+
+  pub copy_defines : (item : ItemKind) → x.copy ≡ Some item → (old new : ImportScope) (known : KnownTypes) (h : WritesOn w c [] world i old imported []) → AreKnown w (h.goes.writing.inside.here ∷ []) g.types known
+      → (n : Name) (d : Description) → DescribesIn w c [] world h.goes.writing.inside n item new imported [] d → IsEntryOf w [] new.scope.types.declarations.items d → DefinesIn g w c world i imported x new known d
+  unfolding tree_in
+  copy_defines item is old new known h knows n d described own =
+      let form : HasForm g.types c x.ty (Some item) = subst (HasForm g.types c x.ty) is to.form in
+      let inside = described.goes.writing.inside in
+      let there = own.2 inside described.goes.writing.stands.written.reads in
+      record {
+        goes = described.goes;
+        on = goes_trans i h.goes.writing.inside inside h.on described.on;
+        knows = all_known_kept w g.types h.goes.writing.inside.here inside.here [] known described.on.extends knows;
+        entry = (own.0, own.1, there.0, there.1, entry_read w inside.here n d own.0 there.0 (tree_in c item) own.1 there.1 described.reads ∙ ap tree form.1.states);
+      }
+
+  pub own_defines : x.copy ≡ None → (new : ImportScope) (known : KnownTypes) (d : Description) → DescribesApart w c g.types [] world i (ItemKind.Ty x.ty) new known imported [] d → IsEntryOf w [] new.scope.types.declarations.items d → DefinesIn g w c world i imported x new known d
+  unfolding tree_in
+  own_defines is new known d described own =
+      let form : HasForm g.types c x.ty None = subst (HasForm g.types c x.ty) is to.form in
+      let inside = described.goes.writing.inside in
+      let there = own.2 inside described.goes.writing.stands.written.reads in
+      record {
+        goes = described.goes;
+        on = described.on;
+        knows = described.known;
+        entry = (own.0, own.1, there.0, there.1,
+            entry_read w inside.here [] d own.0 there.0 (tree_in g.types (ItemKind.Ty x.ty)) own.1 there.1 (described.reads [])
+            ∙ ap tree (sym (own_form g.types finite_types x.ty form.1 form.0)));
+      }
+
+-- ---- and the nodes stand
+
+module _ (g : Graph) (sound : IsGraph g) (w : Worlds) (c : Collection) (world : WorldId) (i : Inside) (imported : List Name) (x : Definition) (to : IsToWrite g c x) (old new : ImportScope) (before after : KnownTypes) (nodes : List (ℕ × SortIndex)) (holds : HoldsDefinitions g w c world i imported old before nodes) (d : Description)
+    (defines : DefinesIn g w c world holds.written.goes.writing.inside imported x new after d) where
+  on : WritesOn w c [] world i new imported []
+  on = record { goes = defines.goes; on = goes_trans i holds.written.goes.writing.inside defines.goes.writing.inside holds.written.on defines.on }
+
+  stood : (k : ℕ) (p : SortIndex) → Among (k, p) nodes → StandsAt g w (at_root defines.goes.writing.inside) [] k p
+  stood k p m = stands_extended g sound w holds.written.goes.writing.inside defines.goes.writing.inside [] k p defines.on.extends (holds.stand k p m)
+
+  pub still_held : HoldsDefinitions g w c world i imported new after nodes
+  unfolding on
+  still_held = record { written = on; knows = defines.knows; stand = stood }
+
+  pub one_held : (index : ℕ) → d ≡ desc.Equal index → HoldsDefinitions g w c world i imported new after (insert_entry node_id.eq-value.it nodes x.node (record { sort = sort.Ty; index = index }))
+  unfolding on
+  one_held index is = record {
+    written = on;
+    knows = defines.knows;
+    stand = λ k p m. elim (inserted_among node_id.eq-value.it same_node nodes x.node (record { sort = sort.Ty; index = index }) (k, p) m) [
+      | inl old ↦ stood k p old
+      | inr new ↦
+          let at : defines.entry.0 ≡ index = cc (sym defines.entry.1 ∙ is) in
+          subst (λ (e : ℕ × SortIndex). StandsAt g w (at_root defines.goes.writing.inside) [] e.0 e.1) (sym new)
+          (known_stands g sound w defines.goes.writing.inside x to.node index defines.entry.2 (ap (slice_get defines.goes.writing.inside.here.types) (sym at) ∙ defines.entry.3) defines.entry.4)
+    ];
+  }
+
+-- at first nothing stands
+pub none_held : (g : Graph) (w : Worlds) (c : Collection) (world : WorldId) (i : Inside) (imported : List Name) (s : ImportScope) (known : KnownTypes) (nodes : List (ℕ × SortIndex)) (h : WritesOn w c [] world i s imported [])
+    → AreKnown w (h.goes.writing.inside.here ∷ []) g.types known → nodes ≡ [] → HoldsDefinitions g w c world i imported s known nodes
+none_held g w c world i imported s known nodes h knows none = record {
+  written = h;
+  knows = knows;
+  stand = λ k p m. absurd (subst (λ (es : List (ℕ × SortIndex)). Among (k, p) es) none m);
+}
+
+pub one_to_write : (g : Graph) (c : Collection) (xs : List Definition) (x : Definition) → Among x xs → AreToWrite g c xs → AreToWrite g c (x ∷ [])
+one_to_write g c xs x m to y (inl same) = subst (IsToWrite g c) (sym same) (to x m)
+one_to_write g c xs x m to y (inr n) = absurd n

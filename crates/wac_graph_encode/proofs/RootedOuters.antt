@@ -1,13 +1,13 @@
 -- Outer imports that are placed stand for what is asked.
-use Rattle.std.specs.List.{flat_map}
-use Rattle.std.specs.Prelude.{filter_map, option_map}
-use Rattle.std.proofs.Common.{◌≡◌, ℕ, true, true≢false, List, [], ◌∷◌, map, Option, Some, None, is_none, slice_get, refl, sym, ap, subst, ◌∙◌, inl, inr}
+use Rattle.std.specs.Prelude.{option_map}
+use Rattle.std.proofs.Common.{◌≡◌, ℕ, true≢false, List, [], ◌∷◌, map, Option, Some, None, is_none, slice_get, refl, sym, ap, subst, ◌∙◌, inl, inr}
 use Rattle.std.proofs.lemmas.Option.{same_Some}
+use Rattle.wac_types_base.specs.declared.ids.WorldId.{WorldId}
 use Rattle.wac_types_base.specs.declared.item.ItemKind.{ItemKind}
 use Rattle.wac_types_base.specs.Record.{Collection}
 use Rattle.wac_types_base.specs.Entries.{Name, names_of, value_at}
 use Rattle.wac_types_base.specs.Graph.{Among}
-use Rattle.wac_types_base.specs.Collection.{Stands, IsAcyclic}
+use Rattle.wac_types_base.specs.Collection.{IsAcyclic}
 use Rattle.wac_types_base.specs.Stated.{stated_of}
 use Rattle.wac_types_base.specs.Tree.{Tree, tree}
 use Rattle.wac_types_base.specs.Fits.{Fits}
@@ -22,25 +22,23 @@ use Rattle.wac_graph_core.specs.Graph.{Graph, IsGraph, node_at}
 use Rattle.wac_graph_scopes.specs.declared.imports.Called.{Called}
 use Rattle.wac_graph_scopes.specs.declared.imports.SortIndex.{SortIndex}
 use Rattle.wac_graph_scopes.specs.declared.imports.ImportScope.{ImportScope}
-use Rattle.wac_graph_scopes.specs.Items.{sort_of}
 use Rattle.wac_graph_scopes.specs.Parts.{imports_of}
 use Rattle.wac_graph_scopes.specs.Imports.{ArePlaced, WritesWorld}
 use Rattle.wac_graph_scopes.specs.Roots.{at_root}
 use Rattle.wac_graph_scopes.proofs.WritingLaws.{value_here}
 use Rattle.wac_composition.specs.Composition.{Placed}
-use Rattle.wac_composition.specs.Asks.{Ask, explicit_ask, filled_asks, asked_for, used_by, used_by_definition, named_asks, asks_of}
+use Rattle.wac_composition.specs.Asks.{Ask, explicit_ask, named_asks, asks_of}
 use Rattle.wac_composition.specs.OuterImports.{outer_imports}
-use Rattle.wac_graph_asks.specs.declared.outers.Outers.{Outers}
 use Rattle.wac_graph_asks.specs.Graphs.{composition_of, import_by, nodes_of, item_of}
 use Rattle.wac_graph_asks.specs.Outers.{IsOuters}
 use Rattle.wac_graph_asks.specs.Wirings.{asked_trees}
 use Rattle.wac_graph_asks.proofs.Arguments.{named_among}
 use Rattle.wac_composition.proofs.Clashing.{name_found}
 use Rattle.wac_graph_asks.proofs.Origins.{node_among, among_mapped}
-use Rattle.wac_graph_encode.specs.Standing.{spelled, GivesItem, IsOuterAt}
+use Rattle.wac_graph_encode.specs.Standing.{spelled, IsOuterAt}
 use Rattle.wac_graph_encode.proofs.ItemSorts.{fits_sort, import_there}
 
-module _ (g : Graph) (sound : IsGraph g) (finite_types : IsAcyclic g.types) (c : Collection) (acyclic : IsAcyclic c) (o : Outers) (is : IsOuters g c o) where
+module _ (g : Graph) (sound : IsGraph g) (finite_types : IsAcyclic g.types) (c : Collection) (acyclic : IsAcyclic c) (world : WorldId) (called : List Called) (is : IsOuters g c world called) where
   -- what an import of the graph asks
   ask_at : (j : ℕ) (x : NodeData) (n : Name) → Ask ℕ
   ask_at j x n = explicit_ask (record { by = j; name = n; item = item_of g x })
@@ -59,50 +57,50 @@ module _ (g : Graph) (sound : IsGraph g) (finite_types : IsAcyclic g.types) (c :
       (Among-left (explicit_ask placed) (map explicit_ask (composition_of g).imports) _ (among_mapped_asks (composition_of g).imports placed made))
 
   -- what is imported under the spelling fits what is asked
-  import_fits : (j : ℕ) (x : NodeData) (n : Name) (k : ItemKind) → node_at g j ≡ Some x → x.role ≡ Role.Imported n → value_at (imports_of c o.world) (spelled g n) ≡ Some k → Fits (tree_in c k) (tree_in g.types x.item_kind)
+  import_fits : (j : ℕ) (x : NodeData) (n : Name) (k : ItemKind) → node_at g j ≡ Some x → x.role ≡ Role.Imported n → value_at (imports_of c world) (spelled g n) ≡ Some k → Fits (tree_in c k) (tree_in g.types x.item_kind)
   unfolding tree_in ask_at
   import_fits j x n k there role at =
       let met = is.met (ask_at j x n) (asked_there j x n there role) in
       let found : value_at (outer_imports (asks_of (composition_of g))) (spelled g n) ≡ Some (stated_of c k) =
-      ap (λ es. value_at es (spelled g n)) (sym is.imports) ∙ value_with (stated_of c) (imports_of c o.world) (spelled g n) ∙ ap (option_map (stated_of c)) at in
+      ap (λ es. value_at es (spelled g n)) (sym is.imports) ∙ value_with (stated_of c) (imports_of c world) (spelled g n) ∙ ap (option_map (stated_of c)) at in
       subst (λ s. Fits (tree s) (tree (item_of g x))) (same_Some _ _ (sym met.there ∙ found)) met.fits
 
-  pub outers_stand : (w : Worlds) (i : Inside) (ps : List (Option SortIndex)) → ArePlaced w c (i.here ∷ []) (imports_of c o.world) ps → (one : Called) (p : SortIndex) → Among one o.called.items → slice_get ps one.at ≡ Some (Some p)
+  pub outers_stand : (w : Worlds) (i : Inside) (ps : List (Option SortIndex)) → ArePlaced w c (i.here ∷ []) (imports_of c world) ps → (one : Called) (p : SortIndex) → Among one called → slice_get ps one.at ≡ Some (Some p)
       → IsOuterAt g w (at_root i) one.name p
   unfolding tree_in
   outers_stand w i ps placed one p m at =
-      let called = is.called one m in
-      let k = called.0 in
-      let here = placed one.at (spelled g one.name) k p called.1 at in
-      let first = value_here (imports_of c o.world) one.at (spelled g one.name) k is.distinct called.1 in
+      let call = is.called_there one m in
+      let k = call.0 in
+      let here = placed one.at (spelled g one.name) k p call.1 at in
+      let first = value_here (imports_of c world) one.at (spelled g one.name) k is.distinct call.1 in
       record {
         meaning = Item (spelled g one.name) p.sort (tree_in c k);
         at = here.means;
         means = refl;
         asked = λ j x there role.
             let fits = import_fits j x one.name k there role first in (
-              fits_sort c acyclic g.types finite_types k x.item_kind p.sort (import_there c acyclic o.world is.stands (spelled g one.name) k first) ((sound.nodes j x there).item) here.sort fits,
+              fits_sort c acyclic g.types finite_types k x.item_kind p.sort (import_there c acyclic world is.stands (spelled g one.name) k first) ((sound.nodes j x there).item) here.sort fits,
               λ instance. (tree_in c k, refl, tree_in_order (stated_of c k), fits),
             );
       }
 
   -- what is imported is what is asked, once all of it is written
-  pub imports_asked : (w : Worlds) (s : ImportScope) (imported : List Name) (h : WritesWorld w c [] o.world s imported []) → ((n : Name) → Among n (names_of (imports_of c o.world)) → Among n imported)
+  pub imports_asked : (w : Worlds) (s : ImportScope) (imported : List Name) (h : WritesWorld w c [] world s imported []) → ((n : Name) → Among n (names_of (imports_of c world)) → Among n imported)
       → (n : Name) → value_at h.writing.inside.imports n ≡ asked_trees g n
   unfolding tree_in
   imports_asked w s imported h all n = go (value_at h.writing.inside.imports n) refl
     where
-      asked_is : asked_trees g n ≡ option_map tree (option_map (stated_of c) (value_at (imports_of c o.world) n))
-      asked_is = ap (λ es. option_map tree (value_at es n)) (sym is.imports) ∙ ap (option_map tree) (value_with (stated_of c) (imports_of c o.world) n)
+      asked_is : asked_trees g n ≡ option_map tree (option_map (stated_of c) (value_at (imports_of c world) n))
+      asked_is = ap (λ es. option_map tree (value_at es n)) (sym is.imports) ∙ ap (option_map tree) (value_with (stated_of c) (imports_of c world) n)
 
-      none_asked : value_at h.writing.inside.imports n ≡ None → (v : Option ItemKind) → value_at (imports_of c o.world) n ≡ v → option_map tree (option_map (stated_of c) v) ≡ None
+      none_asked : value_at h.writing.inside.imports n ≡ None → (v : Option ItemKind) → value_at (imports_of c world) n ≡ v → option_map tree (option_map (stated_of c) v) ≡ None
       none_asked e None f = refl
       none_asked e (Some k) f =
-          let there : Among n (names_of h.writing.inside.imports) = subst (λ l. Among n l) (sym h.writing.imports) (all n (named_among (imports_of c o.world) n k f)) in
+          let there : Among n (names_of h.writing.inside.imports) = subst (λ l. Among n l) (sym h.writing.imports) (all n (named_among (imports_of c world) n k f)) in
           absurd (true≢false (ap is_none (sym e) ∙ name_found h.writing.inside.imports n there))
 
       go : (v : Option Tree) → value_at h.writing.inside.imports n ≡ v → value_at h.writing.inside.imports n ≡ asked_trees g n
       go (Some t) e =
           let tree_is = h.writing.import_trees n t (value_at-among h.writing.inside.imports n t e) in
           e ∙ ap Some tree_is.2 ∙ sym (asked_is ∙ ap (λ v. option_map tree (option_map (stated_of c) v)) tree_is.1)
-      go None e = e ∙ sym (asked_is ∙ none_asked e (value_at (imports_of c o.world) n) refl)
+      go None e = e ∙ sym (asked_is ∙ none_asked e (value_at (imports_of c world) n) refl)

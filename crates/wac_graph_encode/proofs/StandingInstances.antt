@@ -35,7 +35,8 @@ use Rattle.wac_graph_scopes.proofs.OrderLaws.{distinct-append}
 use Rattle.wac_graph_encode.specs.declared.root.Counts.{Counts}
 use Rattle.wac_graph_encode.specs.Encoding.{tag_of}
 use Rattle.wac_graph_encode.specs.Standing as standing
-use Rattle.wac_graph_encode.specs.Standing.{sort_of, number_in, by_number, StandsAt, IsOuterAt, IsPackageAt, IsListed, IsWritten, CountsOne}
+use Rattle.wac_graph_scopes.specs.Items.{sort_of}
+use Rattle.wac_graph_encode.specs.Standing.{number_in, by_number, StandsAt, IsOuterAt, IsPackageAt, IsListed, IsWritten, CountsOne}
 use Rattle.wac_graph_encode.specs.Writing.{AreGivenAt}
 use Rattle.wac_types_fit.proofs.Items.{Among-last}
 use Rattle.wac_graph_encode.proofs.StandingNumbers.{number_more, number_last, by_number_on, zip_more, zip_map, zip_length}

@@ -34,7 +34,8 @@ use Rattle.wac_graph_scopes.specs.declared.imports.SortIndex.{SortIndex}
 use Rattle.wac_composition.specs.Classes.{is_instance}
 use Rattle.wac_graph_encode.specs.declared.root.Counts.{Counts}
 use Rattle.wac_graph_encode.specs.Standing as standing
-use Rattle.wac_graph_encode.specs.Standing.{sort_of, number_in, by_number, Denotes, StandsAt, IsOuterAt, IsPackageAt, IsListed, IsWritten, CountsOne}
+use Rattle.wac_graph_scopes.specs.Items.{sort_of}
+use Rattle.wac_graph_encode.specs.Standing.{number_in, by_number, Denotes, StandsAt, IsOuterAt, IsPackageAt, IsListed, IsWritten, CountsOne}
 use Rattle.wac_types_fit.proofs.Items.{Among-last}
 use Rattle.wac_graph_encode.proofs.StandingNumbers.{by_number_on, project_named, named_number}
 use Rattle.wac_graph_encode.proofs.StandingTrees.{Gives, Sorts, gives_export, sorts}

@@ -23,7 +23,7 @@ use Rattle.wac_graph_scopes.proofs.UsedLaws.{root_of}
 use Rattle.wac_composition.specs.Classes.{is_instance}
 use Rattle.wac_composition.specs.Sound.{fields_of}
 use Rattle.wac_composition.proofs.KeptFits.{fields_looked, instance_tree}
-use Rattle.wac_graph_encode.specs.Standing.{sort_of}
+use Rattle.wac_graph_scopes.specs.Items.{sort_of}
 
 -- ---- what fits a tree has its label
 

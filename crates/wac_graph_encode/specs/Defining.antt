@@ -1,20 +1,21 @@
 -- Definitions that are written at the root, each as a type of its own that stands for its node.
-use Rattle.std.specs.Prelude.{◌≡◌, ℕ, List, [], ◌∷◌, Result, OnOk, IfOk}
+use Rattle.std.specs.Prelude.{◌≡◌, ℕ, List, [], ◌∷◌, Some, slice_get, Result, OnOk, IfOk}
 use Rattle.wac_types_base.specs.declared.ids.WorldId.{WorldId}
 use Rattle.wac_types_base.specs.declared.item.ItemKind.{ItemKind}
 use Rattle.wac_types_base.specs.Record.{Collection}
 use Rattle.wac_types_base.specs.Entries.{Name}
 use Rattle.wac_types_base.specs.Graph.{Among}
 use Rattle.wac_types_base.specs.Stated.{stated_of}
+use Rattle.wac_types_base.specs.Tree.{Tree}
 use Rattle.wac_graph_bytes.specs.declared.value.Description.{Description}
-use Rattle.wac_graph_bytes.specs.Typing.{Worlds, Inside}
+use Rattle.wac_graph_bytes.specs.declared.value.Description.TheVariants as desc
+use Rattle.wac_graph_bytes.specs.Typing.{Worlds, Known, Inside, item_of}
 use Rattle.wac_graph_core.specs.Nodes.{NodeData, Role}
 use Rattle.wac_graph_core.specs.Graph.{Graph, IsGraph, node_at}
 use Rattle.wac_graph_scopes.specs.declared.scope.KnownTypes.{KnownTypes}
 use Rattle.wac_graph_scopes.specs.declared.imports.Importing.{Importing}
 use Rattle.wac_graph_scopes.specs.declared.imports.ImportScope.{ImportScope}
 use Rattle.wac_graph_scopes.specs.declared.imports.SortIndex.{SortIndex}
-use Rattle.wac_graph_scopes.specs.Items.{IsTypeEntry}
 use Rattle.wac_graph_scopes.specs.Scopes.{GoesOn, AreKnown}
 use Rattle.wac_graph_scopes.specs.Imports.{WritesWorld, WritesOn}
 use Rattle.wac_graph_scopes.specs.Roots.{at_root}
@@ -31,6 +32,10 @@ pub record IsNodeOf (g : Graph) (x : Definition) : Type 0 where
   pub role : node.role ≡ Role.Defined
   pub states : stated_of g.types node.item_kind ≡ stated_of g.types (ItemKind.Ty x.ty)
 
+-- the description is a type entry of its own, of this type item
+abbrev pub IsTypeEntry : Inside → Tree → Description → Type 0
+IsTypeEntry i t d = (k : ℕ) × (d ≡ desc.Equal k) × (u : Tree) × (slice_get i.here.types k ≡ Some (Known u)) × (item_of u ≡ t)
+
 -- the definition is a node's, and its type has its form in the collection
 pub record IsToWrite (g : Graph) (c : Collection) (x : Definition) : Type 0 where
   pub node : IsNodeOf g x
@@ -42,15 +47,15 @@ AreToWrite g c xs = (x : Definition) → Among x xs → IsToWrite g c x
 -- The world is written on, what is known of the graph's types is true there, and the nodes stand.
 pub record HoldsDefinitions (g : Graph) (w : Worlds) (c : Collection) (world : WorldId) (i : Inside) (imported : List Name) (s : ImportScope) (known : KnownTypes) (nodes : List (ℕ × SortIndex)) : Type 0 where
   pub written : WritesOn w c [] world i s imported []
-  pub known : AreKnown w (written.goes.writing.inside.here ∷ []) g.types known
-  pub nodes : (k : ℕ) (p : SortIndex) → Among (k, p) nodes → StandsAt g w (at_root written.goes.writing.inside) [] k p
+  pub knows : AreKnown w (written.goes.writing.inside.here ∷ []) g.types known
+  pub stand : (k : ℕ) (p : SortIndex) → Among (k, p) nodes → StandsAt g w (at_root written.goes.writing.inside) [] k p
 
 -- The world is written on, and what is so described is a type of its own, as the definition is written.
 pub record DefinesIn (g : Graph) (w : Worlds) (c : Collection) (world : WorldId) (i : Inside) (imported : List Name) (x : Definition) (s : ImportScope) (known : KnownTypes) (d : Description) : Type 0 where
   pub goes : WritesWorld w c [] world s imported []
   pub on : GoesOn i goes.writing.inside
-  pub known : AreKnown w (goes.writing.inside.here ∷ []) g.types known
-  pub entry : IsTypeEntry goes.writing.inside.here d (written_tree g (ItemKind.Ty x.ty))
+  pub knows : AreKnown w (goes.writing.inside.here ∷ []) g.types known
+  pub entry : IsTypeEntry goes.writing.inside (written_tree g (ItemKind.Ty x.ty)) d
 
 abbrev pub WritesDefinition : {E : Type 0} → Graph → Importing → Definition → (old : ImportScope) → (before : KnownTypes) → (new : ImportScope) → (after : KnownTypes) → Result Description E → Type 0
 WritesDefinition g a x old before new after r = IsToWrite g a.types.now x → (w : Worlds) (i : Inside) (imported : List Name) (h : WritesOn w a.types.now [] a.world i old imported []) → AreKnown w (h.goes.writing.inside.here ∷ []) g.types before

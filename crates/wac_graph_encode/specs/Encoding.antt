@@ -3,11 +3,11 @@ use Rattle.std.specs.Prelude.{◌≡◌, ◌↔◌, ◌⊎◌, ℕ, Bool, true, 
 use Rattle.wac_types_base.specs.declared.item.ItemKind.{ItemKind}
 use Rattle.wac_types_base.specs.declared.ids.WorldId.{WorldId}
 use Rattle.wac_types_base.specs.Record.{Collection}
-use Rattle.wac_types_base.specs.Entries.{Name, AreDistinct, value_at}
+use Rattle.wac_types_base.specs.Entries.{AreDistinct}
 use Rattle.wac_types_base.specs.Graph.{Among}
 use Rattle.wac_types_base.specs.Collection.{Stands}
 use Rattle.wac_types_base.specs.Stated.{stated_of}
-use Rattle.wac_types_base.specs.Tree.{Tree, tree, tree_of}
+use Rattle.wac_types_base.specs.Tree.{tree, tree_of}
 use Rattle.wac_types_names.specs.Packaged.{Packaged}
 use Rattle.wac_types_names.specs.Keys.{package_key}
 use Rattle.wac_graph_bytes.specs.Entries.{Entry, Nested, Section, entries_of}
@@ -16,11 +16,6 @@ use Rattle.wac_graph_bytes.specs.Wirings.{Tag, OfBytes, OfDependency, Instantiat
 use Rattle.wac_graph_bytes.specs.Typing.{Worlds}
 use Rattle.wac_graph_bytes.specs.Meaning.{Means}
 use Rattle.wac_graph_core.specs.Graph.{Graph, instantiated}
-use Rattle.wac_graph_core.specs.GraphWiring.{IsWiring}
-use Rattle.wac_composition.specs.Asks.{asks_of}
-use Rattle.wac_composition.specs.Classes.{spelling}
-use Rattle.wac_composition.specs.OuterImports.{outer_imports}
-use Rattle.wac_types_written.specs.Written.{written_definition}
 use Rattle.wac_composition.specs.Conflicts.{Cause, first_cause, name_cause, dependency_name}
 use Rattle.wac_composition.specs.Worlds.{composed_world}
 use Rattle.wac_composition.specs.Outlines.{IsSketched}

@@ -16,7 +16,7 @@ use Rattle.wac_graph_bytes.specs.Views.{view, declarations_of}
 use Rattle.wac_graph_scopes.specs.declared.items.ItemScope.{ItemScope}
 use Rattle.wac_graph_scopes.specs.declared.imports.Importing.{Importing}
 use Rattle.wac_graph_scopes.specs.declared.imports.ImportScope.{ImportScope}
-use Rattle.wac_graph_scopes.specs.Items.{IsItemScope}
+use Rattle.wac_graph_scopes.specs.Items.{IsItemScope, IsEntryOf}
 use Rattle.wac_graph_scopes.specs.Parts.{imports_of}
 use Rattle.wac_graph_scopes.specs.Imports.{ArePlaced, DescribesIn, WritesWorld, WritesOn, WritesAllImports}
 use Rattle.wac_graph_scopes.specs.Roots.{at_root, root_entries}
@@ -38,6 +38,11 @@ WritesOuters a old new r = IsNewScope old → (w : Worlds) (outer : List Scope) 
 abbrev pub WritesItem : {E : Type 0} → Importing → ItemKind → ImportScope → ImportScope → Result Description E → Type 0
 WritesItem a kind old new r = (n : Name) (w : Worlds) (outer : List Scope) (i : Inside) (imported exported : List Name) → WritesOn w a.types.now outer a.world i old imported exported
     → IfOk r (DescribesIn w a.types.now outer a.world i n kind new imported exported)
+
+-- what is so described is a type entry of its own
+abbrev pub WritesOwn : {E : Type 0} → Importing → ImportScope → ImportScope → Result Description E → Type 0
+WritesOwn a old new r = (w : Worlds) (outer : List Scope) (i : Inside) (imported exported : List Name) → WritesOn w a.types.now outer a.world i old imported exported
+    → IfOk r (IsEntryOf w outer new.scope.types.declarations.items)
 
 -- ---- what is taken to the root
 

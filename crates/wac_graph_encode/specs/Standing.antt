@@ -1,5 +1,5 @@
 -- What stands at the root of a component while the instances of a graph are written.
-use Rattle.std.specs.Prelude.{◌≡◌, ◌==◌, ℕ, ◌+◌, Bool, true, if◌then◌else◌, List, [], map, Option, Some, None, IsSome, slice_get}
+use Rattle.std.specs.Prelude.{◌≡◌, ◌==◌, ℕ, ◌+◌, Bool, true, if◌then◌else◌, List, [], map, Some, IsSome, slice_get}
 use Rattle.std.specs.List.{AllZip, position_or_len}
 use Rattle.wac_types_base.specs.declared.item.ItemKind.{ItemKind}
 use Rattle.wac_types_base.specs.Entries.{Name, AreDistinct, names_of, value_at}
@@ -24,21 +24,13 @@ use Rattle.wac_graph_core.specs.Edges.{HasArgument}
 use Rattle.wac_graph_core.specs.Graph.{Graph, node_at, instantiated, is_instance, package_of}
 use Rattle.wac_graph_core.specs.GraphWiring as wired
 use Rattle.wac_graph_scopes.specs.declared.imports.SortIndex.{SortIndex}
+use Rattle.wac_graph_scopes.specs.Items.{sort_of}
 use Rattle.wac_composition.specs.Asks.{asks_of}
 use Rattle.wac_composition.specs.Classes.{spelling}
 use Rattle.wac_graph_encode.specs.declared.root.Counts.{Counts}
 use Rattle.wac_graph_asks.specs.Graphs.{composition_of}
 use Rattle.wac_graph_asks.specs.Wirings.{written_tree}
 use Rattle.wac_graph_encode.specs.Encoding.{tag_of}
-
--- the sort of an item; a value has none
-abbrev pub sort_of : ItemKind → Option Sort
-sort_of (ItemKind.Ty t) = Some sort.Ty
-sort_of (ItemKind.Func f) = Some sort.Func
-sort_of (ItemKind.Instance i) = Some sort.Instance
-sort_of (ItemKind.Component w) = Some sort.Component
-sort_of (ItemKind.Module m) = Some sort.Module
-sort_of (ItemKind.Value v) = None
 
 -- how many indexes of a sort are counted
 abbrev pub counted : Counts → Sort → ℕ

@@ -24,7 +24,8 @@ use Rattle.wac_graph_encode.specs.declared.root.Root.{Root}
 use Rattle.wac_graph_scopes.specs.declared.imports.Called.{Called}
 use Rattle.wac_graph_encode.specs.declared.instances.Wired.{Wired}
 use Rattle.wac_graph_encode.specs.declared.instances.Standing.{Standing}
-use Rattle.wac_graph_encode.specs.Standing.{counted, sort_of, CountsOne, IsFinished, IsGivenAt, IsOuterAt, IsWritten}
+use Rattle.wac_graph_scopes.specs.Items.{sort_of}
+use Rattle.wac_graph_encode.specs.Standing.{counted, CountsOne, IsFinished, IsGivenAt, IsOuterAt, IsWritten}
 
 -- ---- entries
 

@@ -7,7 +7,7 @@ ghost use Rattle.wac_graph_bytes.specs.Views.{arguments_view};
 ghost use Rattle.wac_graph_core.specs.Graph.{IsOfKind};
 ghost use Rattle.wac_graph_scopes.specs.Parts.{imports_of};
 ghost use Rattle.wac_graph_asks.specs.Reads.{AreArguments};
-ghost use Rattle.wac_graph_encode.specs.Standing.{sort_of};
+ghost use Rattle.wac_graph_scopes.specs.Items.{sort_of};
 ghost use Rattle.wac_graph_encode.specs.Writing.{Finishes, AddsArgument, AddsCalled, AddsEntry, AddsExport, AddsExports, AddsGiven, AddsNeeded, AddsOnly, AllStand, AreCalled, AreGivenIn, Below, GivesUnder, IfYes, IsAliasAt, IsSameRoot, KeepsNodes, KeepsWritten, PassesAll, UpTo, UpToOne, WritesInstance, WritesNode, exported_as, noted};
 
 use crate::errors::Refusal;

@@ -1,18 +1,22 @@
 //! The types and the imports of a composition, as entries.
 
-ghost use Rattle.std.specs.Prelude.{◌≡◌, ◌+◌, ◌++◌, [], ◌∷◌, ℕ, IfOk, OnOk, if◌then◌else◌, map, option_to_list};
+ghost use Rattle.std.specs.Prelude.{◌≡◌, ◌+◌, ◌++◌, [], ◌∷◌, ℕ, List, IfOk, OnOk, if◌then◌else◌, map, option_to_list};
+ghost use Rattle.wac_types_base.specs.Record.{Collection};
 ghost use Rattle.wac_types_base.specs.Entries.{names_of};
 ghost use Rattle.wac_graph_bytes.specs.declared.value.Sort.{Sort as SortKind};
 ghost use Rattle.wac_graph_bytes.specs.Counting.{same_sort};
 ghost use Rattle.wac_graph_bytes.specs.Entries.{Aliased, End, ExportAlias, Nested};
 ghost use Rattle.wac_graph_bytes.specs.Views.{view, before, declarations_of};
+ghost use Rattle.wac_graph_bytes.specs.Typing.{Scope, Worlds};
+ghost use Rattle.wac_graph_scopes.specs.Scopes.{AreKnown};
+ghost use Rattle.wac_graph_scopes.specs.Items.{HasEntry};
 ghost use Rattle.wac_graph_scopes.specs.Imports.{WritesImport, WritesInOrder};
 ghost use Rattle.wac_graph_scopes.specs.Roots.{root_entries};
 ghost use Rattle.wac_graph_encode.specs.Standing.{counted, CountsOne};
 ghost use Rattle.wac_graph_encode.specs.Writing.{AddsEntry, AddsIndex, AddsInstance};
-ghost use Rattle.wac_graph_encode.specs.Rooting.{AddsRead, ReadsAtRoot, TakesScope, WritesItem, WritesOuters, counter};
+ghost use Rattle.wac_graph_encode.specs.Rooting.{AddsRead, IsNewScope, ReadsAtRoot, TakesScope, WritesItem, WritesOuters, WritesOwn, counter};
 ghost use Rattle.wac_graph_encode.specs.Defining.{AddsDefinitions, WritesDefinition, WritesDefinitions};
-ghost use Rattle.wac_graph_encode.specs.Beginning.{Begins};
+ghost use Rattle.wac_graph_encode.specs.Beginning.{Begins, BeginsRoot};
 ghost use Rattle.wac_graph_encode.specs.Nesting.{NestsAll, NestsBehind, NestsIfDefined, NestsOne, bytes_of};
 
 use crate::conflicts::dependency_name;
@@ -20,7 +24,6 @@ use crate::errors::{Refusal, not_written};
 use crate::options::EncodeOptions;
 use indexmap::IndexMap;
 use std::alloc::{AllocError, Global};
-use std::mem;
 use wac_graph_asks::asks::Definition;
 use wac_graph_asks::nodes::package_at;
 use wac_graph_bytes::{Alias, Declaration, Description, Entry, NamedIndex, Sort};
@@ -139,7 +142,8 @@ fn write_type(
     name: &str,
     item: ItemKind,
 ) -> Result<Description, Refusal>
-    ensures { WritesItem all.entry item scope.old scope.new result }
+    ensures item { WritesItem all.entry item scope.old scope.new result }
+    ensures own { HasEntry item → WritesOwn all.entry scope.old scope.new result }
 {
     if let Err(fault) = scope.prepare(alloc, all, item) {
         return Err(not_written(alloc, name, fault));
@@ -184,6 +188,27 @@ struct Defined {
 impl Drop for Defined {
     fn drop(self) {
         let Defined { known: _, nodes: _ } = self;
+    }
+}
+
+impl Defined {
+    /// Nothing is known or written yet.
+    fn new(alloc: Global) -> Self
+        ensures known { (w : Worlds) (ss : List Scope) (c : Collection) → AreKnown w ss c result.known }
+        ensures nodes { result.nodes.entries ≡ [] }
+    {
+        Defined {
+            known: KnownTypes::new(alloc),
+            nodes: IndexMap::new(alloc),
+        }
+    }
+
+    /// What stands for the nodes.
+    fn into_nodes(self) -> IndexMap<NodeId, SortIndex>
+        ensures { result ≡ self.nodes }
+    {
+        let Defined { known: _, nodes } = self;
+        nodes
     }
 }
 
@@ -233,14 +258,9 @@ fn write_definitions(
 ) -> Result<IndexMap<NodeId, SortIndex>, Refusal>
     ensures { IfOk result (λ nodes. WritesDefinitions graph.now all.entry definitions.now scope.old scope.new nodes.entries) }
 {
-    let alloc = graph.alloc();
-    let mut defined = Defined {
-        known: KnownTypes::new(alloc),
-        nodes: IndexMap::new(alloc),
-    };
+    let mut defined = Defined::new(graph.alloc());
     add_definitions(graph, scope, all, definitions, &mut defined)?;
-    let Defined { known: _, nodes } = defined;
-    Ok(nodes)
+    Ok(defined.into_nodes())
 }
 
 /// Imports an item.
@@ -477,22 +497,13 @@ impl Root {
     }
 }
 
-/// What is written of the imports of a scope, which is taken from there.
-fn take_places(alloc: Global, scope: &mut ImportScope) -> Vec<Option<SortIndex>>
-    ensures places { result.items ≡ scope.old.places.items }
-    ensures scope { scope.new.scope ≡ scope.old.scope }
-{
-    let none = Vec::new(alloc);
-    mem::replace(&mut scope.places, none)
-}
-
 /// Takes what is written in a scope.
 fn take_scope(alloc: Global, scope: &mut ImportScope, root: &mut Root) -> Result<(), AllocError>
     ensures takes { OnOk result (TakesScope scope.old root.old root.new) }
     ensures reads { ReadsAtRoot scope.old root.old root.new result }
 {
     root.counts = counts_of(&scope.scope);
-    root.imports = take_places(alloc, scope);
+    root.imports = scope.take_places(alloc);
     add_entries(&mut root.entries, scope.scope.take_declarations(alloc))
 }
 
@@ -552,20 +563,28 @@ fn write_packages(
 }
 
 /// Writes the types and the imports of a composition in a scope, and takes them with its packages.
-fn write_in(writing: Writing<'_>, scope: &mut ImportScope, root: &mut Root) -> Result<(), Refusal> {
+fn write_in(writing: Writing<'_>, scope: &mut ImportScope, root: &mut Root) -> Result<(), Refusal>
+    requires { IsNewScope scope.old }
+    ensures { BeginsRoot writing.entry root.old root.new result }
+{
     let Writing {
         graph,
         all,
         definitions,
         ..
     } = writing;
+    graph.see_sound();
+    graph.types().see_acyclic();
+    all.types.see_acyclic();
     write_outers(graph.alloc(), all, scope)?;
     root.nodes = write_definitions(graph, scope, all, definitions)?;
     write_packages(writing, scope, root)
 }
 
 /// Writes the types, the imports and the packages of a composition.
-pub(crate) fn write_root(writing: Writing<'_>, root: &mut Root) -> Result<(), Refusal> {
+pub(crate) fn write_root(writing: Writing<'_>, root: &mut Root) -> Result<(), Refusal>
+    ensures { BeginsRoot writing.entry root.old root.new result }
+{
     let mut scope = ImportScope::new(writing.graph.alloc());
     let written = write_in(writing, &mut scope, root);
     drop(scope);

@@ -1,5 +1,5 @@
 use Rattle.std.proofs.Common.{ℕ, List, [], ◌++◌, length, sym, ap, subst, ◌∙◌}
-use Rattle.wac_types_base.specs.Entries.{Name, names_of}
+use Rattle.wac_types_base.specs.Entries.{names_of}
 use Rattle.wac_graph_bytes.specs.Typing.{nothing_inside}
 use Rattle.wac_graph_scopes.specs.declared.items.ItemScope.{ItemScope}
 use Rattle.wac_graph_scopes.specs.declared.used.UsedTypes.{UsedTypes}

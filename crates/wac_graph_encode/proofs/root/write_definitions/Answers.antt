@@ -1,0 +1,13 @@
+use Rattle.std.proofs.Common.{ℕ, List, sym, ap, subst}
+use Rattle.wac_graph_scopes.specs.declared.imports.SortIndex.{SortIndex}
+use Rattle.wac_graph_encode.specs.Defining.{HoldsDefined, HoldsDefinitions}
+use Rattle.wac_graph_encode.proofs.RootedDefinitions.{none_held}
+use Rattle.wac_graph_encode.proofs.root.write_definitions.Goals as goal
+
+pub returns : goal.returns
+returns c sound to w i imported h =
+    let g = c.args.graph.now in
+    let a = c.args.all in
+    let first = none_held g w a.types.now a.world i imported c.args.scope.now c.new-defined.result.known c.new-defined.result.nodes.entries h (c.new-defined.ensures.known w _ _) c.new-defined.ensures.nodes in
+    let last : HoldsDefined g w a i imported c.add_definitions.new.scope c.add_definitions.new.defined = c.in_ok-add_definitions.ensures sound to w i imported first in
+    record { known = c.add_definitions.new.defined.known; holds = subst (λ (es : List (ℕ × SortIndex)). HoldsDefinitions g w a.types.now a.world i imported c.add_definitions.new.scope c.add_definitions.new.defined.known es) (sym (ap (λ m. m.entries) c.into_nodes.ensures)) last }

@@ -1,0 +1,33 @@
+use Rattle.std.proofs.Common.{[], subst}
+use Rattle.wac_types_base.specs.Collection.{IsAcyclic}
+use Rattle.wac_graph_scopes.specs.Imports.{WritesOn, WritesAllImports}
+use Rattle.wac_graph_scopes.proofs.ImportLaws.{GoesOn-refl}
+use Rattle.wac_graph_encode.specs.Beginning.{IsRooted}
+use Rattle.wac_graph_encode.specs.Defining.{AreDefined}
+use Rattle.wac_graph_encode.proofs.RootedOuters.{outers_stand, imports_asked}
+use Rattle.wac_graph_encode.proofs.WritingLaws.{on_ok}
+use Rattle.wac_graph_encode.proofs.root.write_in.Goals as goal
+
+pub returns : goal.returns
+returns c define to bare w told =
+    let g = c.args.writing.graph.now in
+    let a = c.args.writing.all in
+    let finite = subst IsAcyclic c.types.ensures c.see_acyclic.ensures in
+    let acyclic = c.see_acyclic-2.ensures in
+    let all : WritesAllImports w a.types.now [] a.world c.write_outers.new.scope [] = c.in_ok-write_outers.ensures c.requires w [] in
+    let from = all.1.writing.inside in
+    let base : WritesOn w a.types.now [] a.world from c.write_outers.new.scope all.0 [] = record { goes = all.1; on = GoesOn-refl from } in
+    let scope = c.write_definitions.new.scope in
+    let are : AreDefined g w a from all.0 scope c.in_ok-root.field-0.entries = c.in_ok-root.ensures c.see_sound.ensures to.definitions w from all.0 base in
+    let goes = are.holds.written.goes in
+    let rooted : IsRooted g w a.called.now goes.writing.inside c.in_ok-root.field-0.entries scope.places.items = record {
+      nodes_stand = are.holds.stand;
+      outers_stand = outers_stand g c.see_sound.ensures finite a.types.now acyclic a.world a.called.now to.outers w goes.writing.inside scope.places.items goes.placed;
+    } in
+    on_ok c.write_packages.result
+    (λ begun. record {
+      imports = goes.writing.inside.imports;
+      asked = imports_asked g c.see_sound.ensures finite a.types.now acyclic a.world a.called.now to.outers w scope all.0 goes all.2;
+      begun = begun;
+    })
+    (c.write_packages.ensures.begins define w a.types.now a.world all.0 a.called.now goes bare.0 bare.1 told rooted)
