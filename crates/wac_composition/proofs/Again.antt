@@ -26,7 +26,7 @@ use Rattle.wac_types_base.proofs.Made.{made_exports}
 -- ---- an interface that is made
 
 -- exports, each with what merges it
-abbrev merging : List (Name × Stated) → List (Name × (Stated × Merge))
+abbrev pub merging : List (Name × Stated) → List (Name × (Stated × Merge))
 merging es = map (λ e. (e.0, (e.1, merge e.1))) es
 
 row_exports : (es : List (Name × Stated)) → with_names (names es) (folded_row merge_at (row (filled es))) ≡ merging es
@@ -45,16 +45,16 @@ own_uses : (us : List Used) (os : List (Option Stated)) → map (λ u. u.0) (use
 own_uses [] os = refl
 own_uses (u ∷ us) os = ap (λ l. u ∷ l) (own_uses us os)
 
-made_uses : (i : Option Name) (us : List Used) (es : List (Name × Stated)) → uses_of (interface_of i us es) ≡ us
+pub made_uses : (i : Option Name) (us : List Used) (es : List (Name × Stated)) → uses_of (interface_of i us es) ≡ us
 made_uses i us es = own_uses us (filled es)
 
-abbrev more_uses : List Used → Stated → List Used
+abbrev pub more_uses : List Used → Stated → List Used
 more_uses us y = filter (λ u. not (has_use us u.name)) (uses_of y)
 
-abbrev more_exports : List (Name × Stated) → Stated → List (Name × Stated)
+abbrev pub more_exports : List (Name × Stated) → Stated → List (Name × Stated)
 more_exports es y = filter (λ f. is_none (value_at (merging es) f.0)) (exports_of y)
 
-abbrev merged_of : Option Name → List Used → List (Name × Stated) → Stated → Option Stated
+abbrev pub merged_of : Option Name → List Used → List (Name × Stated) → Stated → Option Stated
 merged_of i us es y = option_map (λ xs. interface_of i (us ++ more_uses us y) (xs ++ more_exports es y)) (merged_exports (merging es) (exports_of y))
 
 module _ (i : Option Name) (us : List Used) (es : List (Name × Stated)) where
@@ -65,17 +65,17 @@ module _ (i : Option Name) (us : List Used) (es : List (Name × Stated)) where
   interface_merge y = λ j.
       option_map (λ xs. interface_of i (first_uses us (filled es) j ++ more_uses (first_uses us (filled es) j) y) (xs ++ filter (λ (f : Name × Stated). is_none (value_at (parts_exports j) f.0)) (exports_of y))) (merged_exports (parts_exports j) (exports_of y))
 
-  merge_made : (y : Stated) → merge (interface_of i us es) y ≡ if_kind (is_instance (kind_of y)) (merged_of i us es y)
+  pub merge_made : (y : Stated) → merge (interface_of i us es) y ≡ if_kind (is_instance (kind_of y)) (merged_of i us es y)
   merge_made y = ap (if_kind (is_instance (kind_of y))) (interface_merge y)
 
-  merge_typed : (y : Stated) → merge (as_type (interface_of i us es)) y ≡ if_kind (is_interface (kind_of y)) (option_map as_type (merged_of i us es y))
+  pub merge_typed : (y : Stated) → merge (as_type (interface_of i us es)) y ≡ if_kind (is_interface (kind_of y)) (option_map as_type (merged_of i us es y))
   merge_typed y = ap (λ o. if_kind (is_interface (kind_of y)) (option_map as_type o)) (interface_merge y)
 
 -- what is no interface is kept where it is the same
 rebuilt_same : (s : Shape) (ts : Wholes Shape) → rebuilt s (folded_row merge_at ts) ≡ node s ts
 rebuilt_same s ts = ap (λ os. node s (row os)) (folded_firsts merge_at ts) ∙ ap (node s) (row_again ts)
 
-merge_other : (x y : Stated) → is_instance (kind_of x) ≡ false → is_interface (kind_of x) ≡ false → merge x y ≡ if_kind (fits x y && fits y x) (Some x)
+pub merge_other : (x y : Stated) → is_instance (kind_of x) ≡ false → is_interface (kind_of x) ≡ false → merge x y ≡ if_kind (fits x y && fits y x) (Some x)
 merge_other (node s ts) y g h = merge_flat (folded_row merge_at ts) s y g h ∙ ap (λ x. if_kind (fits x y && fits y x) (Some x)) (rebuilt_same s ts)
 
 -- ---- merged exports by their names
@@ -88,7 +88,7 @@ value_merging (e ∷ es) n = go (value_merging es n) (pointwise ◌==◌ n e.0)
     go rest true = refl
     go rest false = rest
 
-none_merging : (es : List (Name × Stated)) (n : Name) → is_none (value_at (merging es) n) ≡ is_none (value_at es n)
+pub none_merging : (es : List (Name × Stated)) (n : Name) → is_none (value_at (merging es) n) ≡ is_none (value_at es n)
 none_merging es n = ap (λ (o : Option (Stated × Merge)). is_none o) (value_merging es n) ∙ go (value_at es n)
   where
     go : (o : Option Stated) → is_none (option_map {U = Stated × Merge} (λ x. (x, merge x)) o) ≡ is_none o
