@@ -1,0 +1,12 @@
+pub mod Well
+pub mod United
+pub mod Regular
+pub mod Merged
+pub mod Folding
+pub mod Plainness
+pub mod Owners
+pub mod SameStated
+pub mod Reached
+pub mod Wit
+pub mod Families
+pub mod Taking

@@ -1,0 +1,4 @@
+pub mod Named
+pub mod Families
+pub mod Merging
+pub mod Asking
