@@ -285,7 +285,7 @@ record Merges (w b z : Stated) : Type 0 where
   new : Holds z b
   old : (a : Stated) → Holds w a → Holds z a
 
-abbrev WellEntries : Stated → Type 0
+abbrev pub WellEntries : Stated → Type 0
 WellEntries x = (n : Name) (y : Stated) → Among (n, y) (exports_of x) → IsWell y
 
 -- the exports of a merged interface
@@ -430,7 +430,7 @@ module _ (w b : Stated) (dw : AreDistinct (names_of (exports_of w))) (db : AreDi
   interfaces_merge : is_interface (kind_of w) ≡ true → is_interface (kind_of b) ≡ true → Merges w b (as_type made)
   interfaces_merge k h = record { well = well_interface (ap as_type made_is) made_distinct made_well; new = of_interfaces refl h new_uses new_names new_exports; old = interface_keeps k }
 
-entries_of : (b : Stated) → (is_instance (kind_of b) ≡ true) ⊎ (is_interface (kind_of b) ≡ true) → IsWell b → AreDistinct (names_of (exports_of b)) × WellEntries b
+pub entries_of : (b : Stated) → (is_instance (kind_of b) ≡ true) ⊎ (is_interface (kind_of b) ≡ true) → IsWell b → AreDistinct (names_of (exports_of b)) × WellEntries b
 entries_of b k (well_instance e d h) = (d, h)
 entries_of b k (well_interface e d h) = (d, h)
 entries_of b (inl k) (no_interface g h) = absurd (true≢false (sym k ∙ g))
@@ -540,6 +540,19 @@ keeps_from before x (a ∷ as_) z k v e = go (λ w i q. keeps_from (before ++ a 
     go further None q s = absurd (no_more_kept (before ++ a ∷ []) as_ z s)
     go further (Some w) q s = subst (λ l. Keeps l z) (append_assoc before (a ∷ []) as_) (further w (keeps_step before x a w k (v a (inl refl)) (in_family (before ++ a ∷ [])) refl q) s)
 
+-- one ask keeps itself
+first_keeps : (b : Asked) → IsWell b.1 → Keeps (b ∷ []) b.1
+first_keeps b w = record { well = w; each = λ f c k. subst (λ (d : Asked). Holds b.1 d.1) (sym (only c k)) (holds_itself b.1 w) }
+  where
+    only : (c : Asked) → Among c (b ∷ []) → c ≡ b
+    only c (inl d) = d
+    only c (inr f) = absurd f
+
+-- what well asks keep is well
+pub kept_well : (asks : List Asked) (x : Stated) → ((a : Asked) → Among a asks → IsWell a.1) → kept asks ≡ Some x → IsWell x
+kept_well [] x v e = absurd (none-some _ e)
+kept_well (b ∷ bs) x v e = (keeps_from (b ∷ []) b.1 bs x (first_keeps b (v b (inl refl))) (λ c i. v c (inr i)) e).well
+
 -- what is kept of an ask stays where it is asked again
 stays : (before : List Asked) (x : Stated) (a : Asked) → kept before ≡ Some x → Keeps before x → Among a before → (if in_family (before ++ a ∷ []) then merge x a.1 else narrower x a.1) ≡ Some x
 stays before x a e k m = go (in_family (before ++ a ∷ [])) refl
@@ -569,13 +582,8 @@ asking_twice (b ∷ bs) after a m v = go (kept_from (b ∷ []) (Some b.1) bs) re
     go : (o : Option Stated) → kept_from (b ∷ []) (Some b.1) bs ≡ o → kept_from (b ∷ []) (Some b.1) (bs ++ a ∷ after) ≡ kept_from (b ∷ []) (Some b.1) (bs ++ after)
     go None e = still_none (b ∷ []) (Some b.1) bs (a ∷ after) e ∙ sym (still_none (b ∷ []) (Some b.1) bs after e)
     go (Some x) e =
-        let first : Keeps (b ∷ []) b.1 = record { well = v b (inl refl); each = λ f c k. subst (λ (d : Asked). Holds b.1 d.1) (sym (only c k)) (holds_itself b.1 (v b (inl refl))) } in
-        let k = keeps_from (b ∷ []) b.1 bs x first (λ c i. v c (inr i)) e in
+        let k = keeps_from (b ∷ []) b.1 bs x (first_keeps b (v b (inl refl))) (λ c i. v c (inr i)) e in
         kept_further (b ∷ []) bs (a ∷ after) b.1 x e
         ∙ ap (λ o. kept_from ((b ∷ bs) ++ a ∷ []) o after) (stays (b ∷ bs) x a e k m)
         ∙ same_from ((b ∷ bs) ++ a ∷ []) (b ∷ bs) (Some x) after (λ more. ap in_family (append_assoc (b ∷ bs) (a ∷ []) more) ∙ family_again (b ∷ bs) more a m)
         ∙ sym (kept_further (b ∷ []) bs after b.1 x e)
-      where
-        only : (c : Asked) → Among c (b ∷ []) → c ≡ b
-        only c (inl d) = d
-        only c (inr f) = absurd f

@@ -10,3 +10,4 @@ pub mod Reached
 pub mod Wit
 pub mod Families
 pub mod Taking
+pub mod Looking

@@ -20,18 +20,18 @@ use Rattle.wac_composition.proofs.FitBack.{fits_decides}
 use Rattle.wac_composition.proofs.KeptFits.{merge_fits}
 use Rattle.wac_composition.proofs.Clashing.{merge_clashes}
 use Rattle.wac_merging.specs.Merging.{AreMergeable, Merged_is_stated, Clash_is_stated, Narrower_is_stated, Outside_is_stated, AreKeepable, Kept_is_stated, Refused_is_stated, Spelled_is_stated}
-use Rattle.wac_merging.proofs.Well.{stated_are_well}
+use Rattle.wac_merging.proofs.Well.{stated_made}
 use Rattle.wac_merging.proofs.Regular.{regular_stated}
 use Rattle.wac_merging.proofs.United.{merged_once, instance_made}
 
 pub merged_is_stated : Merged_is_stated
 unfolding tree_in
-merged_is_stated c d a b k m p meet united = go (merge (stated_of c a) (stated_of c b)) refl
+merged_is_stated c d a b k m acyclic meet united = go (merge (stated_of c a) (stated_of c b)) refl
   where
     go : (o : Option Stated) → merge (stated_of c a) (stated_of c b) ≡ o → o ≡ Some (stated_of d k)
-    go None q = absurd (merge_clashes (stated_of c a) (regular_stated c m.proper a m.first m.first_plain) (stated_of c b) (regular_stated c m.proper b m.second m.second_plain) q
+    go None q = absurd (merge_clashes (stated_of c a) (regular_stated c m.acyclic a m.first m.first_well m.first_plain) (stated_of c b) (regular_stated c m.acyclic b m.second m.second_well m.second_plain) q
         (tree_in d k) meet.meet.ordered meet.meet.fits.0 meet.meet.fits.1.0)
-    go (Some z) q = ap Some (merged_once (stated_of c a) (stated_of c b) (stated_of d k) z (stated_are_well c a m.proper m.first) (stated_are_well c b m.proper m.second) (stated_are_well d k p meet.stands) united q)
+    go (Some z) q = ap Some (merged_once (stated_of c a) (stated_of c b) (stated_of d k) z (stated_made c m.acyclic a m.first) (stated_made d acyclic k meet.stands) united q)
 
 pub clash_is_stated : Clash_is_stated
 unfolding tree_in
@@ -82,12 +82,12 @@ wit_no : IsNone Family.Wit → ⊥
 wit_no e = cc e
 
 mergeable : (c : Collection) (f : Family) (a b : ItemKind) → AreKeepable c f a b → (IsNone f → ⊥) → AreMergeable c a b
-mergeable c f a b k n = record { proper = k.proper; first = k.first; second = k.second; first_plain = k.first_plain n; second_plain = k.second_plain n }
+mergeable c f a b k n = record { acyclic = k.acyclic; first = k.first; second = k.second; first_well = k.first_well; second_well = k.second_well; first_plain = k.first_plain n; second_plain = k.second_plain n }
 
 pub kept_is_stated : Kept_is_stated
-kept_is_stated c d Family.Plain a b k m p h = merged_is_stated c d a b k (mergeable c Family.Plain a b m plain_no) p h.meet (h.united plain_no)
-kept_is_stated c d Family.Wit a b k m p h = merged_is_stated c d a b k (mergeable c Family.Wit a b m wit_no) p h.meet (h.united wit_no)
-kept_is_stated c d Family.Neither a b k m p h = narrower_is_stated c a b k (h.narrower refl) ∙ ap Some (sym (ap stated_in (h.grows.keep k (stays (h.narrower refl)))))
+kept_is_stated c d Family.Plain a b k m h = merged_is_stated c d a b k (mergeable c Family.Plain a b m plain_no) h.grows.acyclic h.meet (h.united plain_no)
+kept_is_stated c d Family.Wit a b k m h = merged_is_stated c d a b k (mergeable c Family.Wit a b m wit_no) h.grows.acyclic h.meet (h.united wit_no)
+kept_is_stated c d Family.Neither a b k m h = narrower_is_stated c a b k (h.narrower refl) ∙ ap Some (sym (ap stated_in (h.grows.keep k (stays (h.narrower refl)))))
   where
     stays : IsNarrower c a b k → Stands c k
     stays (inl n) = subst (Stands c) (sym n.1) m.first
@@ -104,8 +104,8 @@ refused_is_stated c Family.Wit a b m (inr h) = absurd (wit_no h.0)
 -- ---- spellings
 
 pub spelled_is_stated : Spelled_is_stated
-spelled_is_stated c d j k n p s h = h.stated ∙ go (is_instance (kind_of (stated_of c j))) refl
+spelled_is_stated c d j k n acyclic s h = h.stated ∙ go (is_instance (kind_of (stated_of c j))) refl
   where
     go : (b : Bool) → is_instance (kind_of (stated_of c j)) ≡ b → renamed n (stated_of c j) ≡ identified_by b n (stated_of c j)
-    go true e = ap (renamed n) (instance_made (stated_of c j) e (stated_are_well c j p s))
-    go false e = sym (same_renamed c n p.acyclic j s (λ i is. true≢false (sym (ap (λ k. is_instance (item_kind k)) is) ∙ sym (ap (λ l. is_instance l) (kind_stated c p.acyclic j s)) ∙ e)))
+    go true e = ap (renamed n) (instance_made (stated_of c j) e (stated_made c acyclic j s))
+    go false e = sym (same_renamed c n acyclic j s (λ i is. true≢false (sym (ap (λ k. is_instance (item_kind k)) is) ∙ sym (ap (λ l. is_instance l) (kind_stated c acyclic j s)) ∙ e)))

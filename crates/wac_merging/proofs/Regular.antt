@@ -1,5 +1,5 @@
 -- What the items of a collection state is regular, where no component and no module is in it.
-use Rattle.std.proofs.Common.{◌≡◌, ℕ, zero, suc, ◌<◌, Option, Some, None, false, refl, sym, ap, subst, ◌∙◌, arith}
+use Rattle.std.proofs.Common.{◌≡◌, ℕ, zero, suc, ◌<◌, List, Option, Some, None, true, false, refl, sym, ap, subst, ◌∙◌, inl, inr, arith}
 use Rattle.std.specs.Prelude.{slice_get}
 use Rattle.std.specs.Option.{option_map}
 use Rattle.wac_types_base.specs.declared.item.ValueType.{ValueType}
@@ -14,9 +14,10 @@ use Rattle.wac_types_base.specs.declared.defined.Resource.{Resource}
 use Rattle.wac_types_base.specs.declared.defined.ResourceAlias.{ResourceAlias}
 use Rattle.wac_types_base.specs.declared.defined.Interface.{Interface}
 use Rattle.wac_types_base.specs.Record.{Collection}
-use Rattle.wac_types_base.specs.Entries.{Name, value_at, names_of, AreDistinct}
+use Rattle.wac_types_base.specs.Graph.{Among}
+use Rattle.wac_types_base.specs.Entries.{Name, value_at}
 use Rattle.wac_types_base.specs.Collection.{Stands, IsAcyclic, size_of}
-use Rattle.wac_types_base.specs.Stated.{Stated, stated_of, as_type, exports_of}
+use Rattle.wac_types_base.specs.Stated.{Stated, kind_of, stated_of, as_type, exports_of}
 use Rattle.wac_types_base.specs.Tree.{Tree, rigid, instance, component, core_module, handle_own, handle_borrow, type_item}
 use Rattle.wac_types_base.proofs.Adding.{option_map-some}
 use Rattle.wac_types_base.proofs.Slots.{stands_typed_func, stands_typed_value, stands_typed_interface, stands_typed_world, stands_typed_module}
@@ -31,9 +32,11 @@ use Rattle.wac_types_fit.proofs.Unfolded.{primitive_tree, own_tree, borrow_tree,
 use Rattle.wac_types_merge.proofs.Clashing.{plain_has}
 use Rattle.wac_composition.specs.Classes.{is_instance}
 use Rattle.wac_composition.specs.Merging.{is_interface}
+use Rattle.wac_composition.specs.Again.{IsWell}
+use Rattle.wac_composition.proofs.Clashing.{value_among}
+use Rattle.wac_composition.proofs.Again.{entries_of}
 use Rattle.wac_composition.specs.Regular.{IsFlat as IsFlatThing, IsFlatItem, Regular, flat, an_instance, an_interface}
-use Rattle.wac_merging.specs.Named.{IsProper}
-use Rattle.wac_merging.proofs.Well.{made_stated, typed_stated, stated_distinct}
+use Rattle.wac_merging.proofs.Well.{made_stated, typed_stated}
 
 -- ---- trees without parts
 
@@ -101,12 +104,9 @@ flat_item (type_item t) f = absurd f
 
 -- ---- items
 
-module _ (c : Collection) (p : IsProper c) where
-  abbrev a : IsAcyclic c
-  a = p.acyclic
-
+module _ (c : Collection) (a : IsAcyclic c) where
   abbrev RegularBelow : ℕ → Type 0
-  RegularBelow n = (j : ItemKind) → size_of c j < n → Stands c j → IsPlain (tree_in c j) → Regular (stated_of c j)
+  RegularBelow n = (j : ItemKind) → size_of c j < n → Stands c j → IsWell (stated_of c j) → IsPlain (tree_in c j) → Regular (stated_of c j)
 
   -- what is no interface
   flat_regular : (k : ItemKind) → Stands c k → is_instance (item_kind k) ≡ false → is_interface (item_kind k) ≡ false → IsFlatItem (tree_in c k) → Regular (stated_of c k)
@@ -114,50 +114,56 @@ module _ (c : Collection) (p : IsProper c) where
   flat_regular k s g h f = let e = kind_stated c a k s in flat (ap (λ i. is_instance i) e ∙ g) (ap (λ i. is_interface i) e ∙ h) f
 
   -- the exports of an interface
-  export_regular : (n : ℕ) (i : InterfaceId) (x : Interface) → slice_get c.interfaces i.index ≡ Some x → i.collection ≡ c.number → Stands c (ItemKind.Instance i) → size_of c (ItemKind.Instance i) < suc n → IsPlain (tree_in c (ItemKind.Instance i)) → RegularBelow n
-      → (m : Name) (y : Stated) → value_at (exports_of (stated_of c (ItemKind.Instance i))) m ≡ Some y → Regular y
-  export_regular n i x at own s lt plain below m y v =
-      let o = option_map-some (stated_of c) (value_at x.exports m) y (sym (value_with (stated_of c) x.exports m) ∙ ap (λ l. value_at l m) (sym (instance_exports_stated c a i x at own)) ∙ v) in
-      let inside = found_inside c (ItemKind.Instance i) x.exports (exports_inside c a i x s at own) m o.0 o.1 in
-      let less = inside.1 in
-      let has = looked-has m (tree_in c o.0) (fields_in c x.exports) (looked_in c x.exports m ∙ ap (option_map (tree_in c)) o.1) in
-      subst Regular (sym o.2) (below o.0 (omega (arith, lt, less)) inside.0 (plain_has m (tree_in c o.0) (fields_in c x.exports) has (subst IsPlain (instance_tree c a i x at own) plain)))
+  module _ (n : ℕ) (i : InterfaceId) (x : Interface) (at : slice_get c.interfaces i.index ≡ Some x) (own : i.collection ≡ c.number) (s : Stands c (ItemKind.Instance i)) (lt : size_of c (ItemKind.Instance i) < suc n) (plain : IsPlain (tree_in c (ItemKind.Instance i))) (below : RegularBelow n) where
+    abbrev exports : List (Name × Stated)
+    exports = exports_of (stated_of c (ItemKind.Instance i))
+
+    export_regular : ((m : Name) (y : Stated) → Among (m, y) exports → IsWell y) → (m : Name) (y : Stated) → value_at exports m ≡ Some y → Regular y
+    export_regular well m y v =
+        let o = option_map-some (stated_of c) (value_at x.exports m) y (sym (value_with (stated_of c) x.exports m) ∙ ap (λ l. value_at l m) (sym (instance_exports_stated c a i x at own)) ∙ v) in
+        let inside = found_inside c (ItemKind.Instance i) x.exports (exports_inside c a i x s at own) m o.0 o.1 in
+        let less = inside.1 in
+        let has = looked-has m (tree_in c o.0) (fields_in c x.exports) (looked_in c x.exports m ∙ ap (option_map (tree_in c)) o.1) in
+        subst Regular (sym o.2)
+        (below o.0 (omega (arith, lt, less)) inside.0 (subst IsWell o.2 (well m y (value_among exports m y v))) (plain_has m (tree_in c o.0) (fields_in c x.exports) has (subst IsPlain (instance_tree c a i x at own) plain)))
 
   typed_exports : (i : InterfaceId) (x : Interface) → slice_get c.interfaces i.index ≡ Some x → i.collection ≡ c.number → exports_of (stated_of c (ItemKind.Ty (TypeKind.Interface i))) ≡ exports_of (stated_of c (ItemKind.Instance i))
   typed_exports i x at own =
-      let made = made_stated c p i x at own in
-      ap exports_of (typed_stated c p i x at own) ∙ ap (λ t. exports_of (as_type t)) made ∙ ap exports_of (sym made)
-
-  exports_distinct : (i : InterfaceId) (x : Interface) → slice_get c.interfaces i.index ≡ Some x → i.collection ≡ c.number → AreDistinct (names_of (exports_of (stated_of c (ItemKind.Instance i))))
-  exports_distinct i x at own = subst (λ l. AreDistinct (names_of l)) (sym (instance_exports_stated c a i x at own)) (stated_distinct c p i x at)
+      let made = made_stated c a i x at own in
+      ap exports_of (typed_stated c a i x at own) ∙ ap (λ t. exports_of (as_type t)) made ∙ ap exports_of (sym made)
 
   regular_below : (n : ℕ) → RegularBelow n
-  regular_below zero k lt s plain = absurd (omega arith)
-  regular_below (suc n) (ItemKind.Instance i) lt s plain =
+  regular_below zero k lt s w plain = absurd (omega arith)
+  regular_below (suc n) (ItemKind.Instance i) lt s w plain =
       let f = interface_found c i s in
-      an_instance (ap (λ k. is_instance k) (kind_stated c a (ItemKind.Instance i) s)) (exports_distinct i f.value f.at f.own) (export_regular n i f.value f.at f.own s lt plain (regular_below n))
-  regular_below (suc n) (ItemKind.Ty (TypeKind.Interface i)) lt s plain =
+      let kind : is_instance (kind_of (stated_of c (ItemKind.Instance i))) ≡ true = ap (λ k. is_instance k) (kind_stated c a (ItemKind.Instance i) s) in
+      let e = entries_of (stated_of c (ItemKind.Instance i)) (inl kind) w in
+      an_instance kind e.0 (export_regular n i f.value f.at f.own s lt plain (regular_below n) e.1)
+  regular_below (suc n) (ItemKind.Ty (TypeKind.Interface i)) lt s w plain =
       let r = stands_typed_interface c i s in
       let f = interface_found c i r in
       let same = interface_size c a i s in
-      let typed : exports_of (stated_of c (ItemKind.Ty (TypeKind.Interface i))) ≡ exports_of (stated_of c (ItemKind.Instance i)) = typed_exports i f.value f.at f.own in
-      an_interface (ap (λ k. is_interface k) (kind_stated c a (ItemKind.Ty (TypeKind.Interface i)) s)) (subst (λ l. AreDistinct (names_of l)) (sym typed) (exports_distinct i f.value f.at f.own))
-      (λ m y v. export_regular n i f.value f.at f.own r (omega (arith, lt, same)) (subst IsPlain (type_interface c a i s) plain) (regular_below n) m y (ap (λ l. value_at l m) (sym typed) ∙ v))
-  regular_below (suc n) (ItemKind.Func f) lt s plain = flat_regular (ItemKind.Func f) s refl refl (flat_item _ (func_flat c a f s))
-  regular_below (suc n) (ItemKind.Value v) lt s plain = flat_regular (ItemKind.Value v) s refl refl (flat_item _ (value_flat c a v s))
-  regular_below (suc n) (ItemKind.Component w) lt s plain = let f = world_found c w s in absurd (subst IsPlain (component_tree c a w f.value f.at f.own) plain)
-  regular_below (suc n) (ItemKind.Module w) lt s plain = let f = module_found c w s in absurd (subst IsPlain (module_tree c a w f.value f.at f.own) plain)
-  regular_below (suc n) (ItemKind.Ty (TypeKind.Resource r)) lt s plain = flat_regular (ItemKind.Ty (TypeKind.Resource r)) s refl refl (flat_item _ (resource_flat c a r s))
-  regular_below (suc n) (ItemKind.Ty (TypeKind.Func f)) lt s plain =
+      let kind : is_interface (kind_of (stated_of c (ItemKind.Ty (TypeKind.Interface i)))) ≡ true = ap (λ k. is_interface k) (kind_stated c a (ItemKind.Ty (TypeKind.Interface i)) s) in
+      let e = entries_of (stated_of c (ItemKind.Ty (TypeKind.Interface i))) (inr kind) w in
+      let typed = typed_exports i f.value f.at f.own in
+      an_interface kind e.0 (λ m y v.
+      export_regular n i f.value f.at f.own r (omega (arith, lt, same)) (subst IsPlain (type_interface c a i s) plain) (regular_below n)
+      (λ l z q. e.1 l z (subst (Among (l, z)) (sym typed) q)) m y (ap (λ l. value_at l m) (sym typed) ∙ v))
+  regular_below (suc n) (ItemKind.Func f) lt s w plain = flat_regular (ItemKind.Func f) s refl refl (flat_item _ (func_flat c a f s))
+  regular_below (suc n) (ItemKind.Value v) lt s w plain = flat_regular (ItemKind.Value v) s refl refl (flat_item _ (value_flat c a v s))
+  regular_below (suc n) (ItemKind.Component l) lt s w plain = let f = world_found c l s in absurd (subst IsPlain (component_tree c a l f.value f.at f.own) plain)
+  regular_below (suc n) (ItemKind.Module l) lt s w plain = let f = module_found c l s in absurd (subst IsPlain (module_tree c a l f.value f.at f.own) plain)
+  regular_below (suc n) (ItemKind.Ty (TypeKind.Resource r)) lt s w plain = flat_regular (ItemKind.Ty (TypeKind.Resource r)) s refl refl (flat_item _ (resource_flat c a r s))
+  regular_below (suc n) (ItemKind.Ty (TypeKind.Func f)) lt s w plain =
       flat_regular (ItemKind.Ty (TypeKind.Func f)) s refl refl (subst IsFlatItem (sym (type_func c a f s)) (func_flat c a f (stands_typed_func c f s)))
-  regular_below (suc n) (ItemKind.Ty (TypeKind.Value v)) lt s plain =
+  regular_below (suc n) (ItemKind.Ty (TypeKind.Value v)) lt s w plain =
       flat_regular (ItemKind.Ty (TypeKind.Value v)) s refl refl (subst IsFlatItem (sym (type_value c a v s)) (value_flat c a v (stands_typed_value c v s)))
-  regular_below (suc n) (ItemKind.Ty (TypeKind.World w)) lt s plain =
-      let f = world_found c w (stands_typed_world c w s) in
-      absurd (subst IsPlain (component_tree c a w f.value f.at f.own) (subst IsPlain (type_world c a w s) plain))
-  regular_below (suc n) (ItemKind.Ty (TypeKind.Module w)) lt s plain =
-      let f = module_found c w (stands_typed_module c w s) in
-      absurd (subst IsPlain (module_tree c a w f.value f.at f.own) (subst IsPlain (type_module c a w s) plain))
+  regular_below (suc n) (ItemKind.Ty (TypeKind.World l)) lt s w plain =
+      let f = world_found c l (stands_typed_world c l s) in
+      absurd (subst IsPlain (component_tree c a l f.value f.at f.own) (subst IsPlain (type_world c a l s) plain))
+  regular_below (suc n) (ItemKind.Ty (TypeKind.Module l)) lt s w plain =
+      let f = module_found c l (stands_typed_module c l s) in
+      absurd (subst IsPlain (module_tree c a l f.value f.at f.own) (subst IsPlain (type_module c a l s) plain))
 
-  pub regular_stated : (k : ItemKind) → Stands c k → IsPlain (tree_in c k) → Regular (stated_of c k)
-  regular_stated k s plain = regular_below (suc (size_of c k)) k (omega arith) s plain
+  pub regular_stated : (k : ItemKind) → Stands c k → IsWell (stated_of c k) → IsPlain (tree_in c k) → Regular (stated_of c k)
+  regular_stated k s w plain = regular_below (suc (size_of c k)) k (omega arith) s w plain

@@ -7,6 +7,7 @@ use Rattle.std.proofs.lemmas.List.{length-append}
 use Rattle.wac_types_base.specs.declared.item.ItemKind.{ItemKind}
 use Rattle.wac_types_base.specs.Record.{Collection}
 use Rattle.wac_types_base.specs.Entries.{Name}
+use Rattle.wac_types_base.specs.Collection.{IsAcyclic}
 use Rattle.wac_types_base.specs.Graph.{Among}
 use Rattle.wac_types_base.specs.Stated.{Stated, kind_of, interface_of, uses_of, exports_of, identifier_of, stated_in, stated_of}
 use Rattle.wac_types_base.specs.Tree.{tree}
@@ -24,12 +25,11 @@ use Rattle.wac_composition.specs.Merging.{is_plain, is_wit, merge, narrower, Ask
 use Rattle.wac_composition.specs.Again.{IsWell}
 use Rattle.wac_composition.proofs.KeptFits.{append_nil}
 use Rattle.wac_composition.proofs.Clashing.{among_append, kept_further}
-use Rattle.wac_composition.proofs.Again.{asking_twice}
-use Rattle.wac_merging.specs.Named.{IsProper}
+use Rattle.wac_composition.proofs.Again.{asking_twice, kept_well}
 use Rattle.wac_merging.specs.Families.{family_by, family_stated}
 use Rattle.wac_merging.specs.Merging.{kept_by, IsKept, AreKeepable}
 use Rattle.wac_merging.specs.Asking.{asked_as, HaveFamily, IsOfFamily, FamilyTaken, IsTaken, Asked_has_family, Unnamed_has_none, First_is_taken, Again_is_taken, One_family_is_all, Next_is_taken, Refused_keeps_nothing, Taken_stays, Kept_is_identified, Spelled_is_identified}
-use Rattle.wac_merging.proofs.Well.{stated_are_well}
+use Rattle.wac_merging.proofs.Well.{well_made}
 use Rattle.wac_merging.proofs.United.{instance_made}
 use Rattle.wac_merging.proofs.Merged.{kept_is_stated, refused_is_stated, spelled_is_stated}
 use Rattle.wac_merging.proofs.Wit.{all_of, of_all, called_is}
@@ -41,7 +41,7 @@ use Rattle.wac_merging.proofs.Families.{not_so, wit_kind, wit_called, family_is_
 plain_or_wit : (n : Name) (x : Stated) → IsWell x → is_wit n x ≡ true → is_plain x ≡ true → ⊥
 plain_or_wit n x w e p =
     let named = called_is (identifier_of x) n (wit_called n x e) in
-    let made : x ≡ interface_of (Some n) (uses_of x) (exports_of x) = instance_made x (wit_kind n x e) w ∙ ap (λ i. interface_of i (uses_of x) (exports_of x)) named in
+    let made : x ≡ interface_of (Some n) (uses_of x) (exports_of x) = instance_made x (wit_kind n x e) (well_made w) ∙ ap (λ i. interface_of i (uses_of x) (exports_of x)) named in
     true≢false (sym p ∙ ap (λ y. is_plain y) made)
 
 by_plain : (p w : Bool) → Family.Plain ≡ family_by p w → p ≡ true
@@ -168,21 +168,22 @@ some_ask (a ∷ asks) x e = (a, inl refl)
 -- ---- single asks
 
 pub asked_has_family : Asked_has_family
-asked_has_family c n k f p s named equal h = record {
+asked_has_family c n k f acyclic s w named equal h = record {
   stands = s;
-  family = family_is_stated c n k f p.acyclic s named equal h;
-  plain = λ some. family_plain c p.acyclic n k f s h some;
+  family = family_is_stated c n k f acyclic s named equal h;
+  plain = λ some. family_plain c acyclic n k f s h some;
+  well = w;
 }
 
 pub unnamed_has_none : Unnamed_has_none
-unnamed_has_none c n k p s u = record { stands = s; family = sym (unnamed_is_of_none c n k p.acyclic s u); plain = λ some. absurd (some refl) }
+unnamed_has_none c n k acyclic s w u = record { stands = s; family = sym (unnamed_is_of_none c n k acyclic s u); plain = λ some. absurd (some refl); well = w }
 
 pub first_is_taken : First_is_taken
-first_is_taken c n k p s = record {
+first_is_taken c n k s w = record {
   stands = s;
   kept = refl;
   counted = refl;
-  well = λ a m. subst (λ (b : Asked). IsWell b.1) (sym (only a m)) (stated_are_well c k p s);
+  well = λ a m. subst (λ (b : Asked). IsWell b.1) (sym (only a m)) w;
   family = (n, only);
 }
   where
@@ -232,21 +233,20 @@ joint_second Family.Plain Family.Neither h e = h refl
 joint_second Family.Wit Family.Neither h e = h refl
 joint_second Family.Neither Family.Neither h e = h refl
 
-module _ (c : Collection) (asks : List Asked) (count : ℕ) (n : Name) (k j : ItemKind) (f g : Family) (p : IsProper c) (t : IsTaken c asks count k (Some f)) (o : IsOfFamily c n j g) where
+module _ (c : Collection) (asks : List Asked) (count : ℕ) (n : Name) (k j : ItemKind) (f g : Family) (acyclic : IsAcyclic c) (t : IsTaken c asks count k (Some f)) (o : IsOfFamily c n j g) where
   abbrev a : Asked
   a = asked_as c n j
 
-  well_asked : IsWell a.1
-  well_asked = stated_are_well c j p o.stands
-
   have_next : HaveFamily (asks ++ a ∷ []) (joint f g)
-  have_next = let b = some_ask asks (stated_of c k) t.kept in family_next asks b.0 b.1 t.well a well_asked f g t.family.0 o.family
+  have_next = let b = some_ask asks (stated_of c k) t.kept in family_next asks b.0 b.1 t.well a o.well f g t.family.0 o.family
 
   keepable : AreKeepable c (joint f g) k j
   keepable = record {
-    proper = p;
+    acyclic = acyclic;
     first = t.stands;
     second = o.stands;
+    first_well = kept_well asks (stated_of c k) t.well t.kept;
+    second_well = o.well;
     first_plain = λ some. t.family.1 (joint_first f g some);
     second_plain = λ some. o.plain (joint_second f g some);
   }
@@ -261,12 +261,12 @@ module _ (c : Collection) (asks : List Asked) (count : ℕ) (n : Name) (k j : It
   plain_next d r h some =
       plain_meet (tree (stated_of c k)) (tree (stated_of c j)) (tree (stated_of d r)) (tree_in_order (stated_of c k)) (tree_in_order (stated_of c j)) (keepable.first_plain some) (keepable.second_plain some) h.meet.meet
 
-  pub taken_next : (d : Collection) (r : ItemKind) → IsProper d → IsKept c (joint f g) k j d r → IsTaken d (asks ++ a ∷ []) (count + 1) r (Some (joint f g))
-  taken_next d r q h = record {
+  pub taken_next : (d : Collection) (r : ItemKind) → IsKept c (joint f g) k j d r → IsTaken d (asks ++ a ∷ []) (count + 1) r (Some (joint f g))
+  taken_next d r h = record {
     stands = h.meet.stands;
-    kept = kept_more [] ∙ ap (λ z. kept_from (asks ++ a ∷ []) z []) (kept_is_stated c d (joint f g) k j r keepable q h);
+    kept = kept_more [] ∙ ap (λ z. kept_from (asks ++ a ∷ []) z []) (kept_is_stated c d (joint f g) k j r keepable h);
     counted = one_longer asks a count t.counted;
-    well = more_asks asks a (λ b. IsWell b.1) t.well well_asked;
+    well = more_asks asks a (λ b. IsWell b.1) t.well o.well;
     family = (have_next, plain_next d r h);
   }
 
@@ -274,10 +274,10 @@ module _ (c : Collection) (asks : List Asked) (count : ℕ) (n : Name) (k j : It
   refused_next later h = kept_more later ∙ ap (λ z. kept_from (asks ++ a ∷ []) z later) (refused_is_stated c (joint f g) k j keepable h)
 
 pub next_is_taken : Next_is_taken
-next_is_taken c d asks count n k j r f g p q t o h = taken_next c asks count n k j f g p t o d r q h
+next_is_taken c d asks count n k j r f g acyclic t o h = taken_next c asks count n k j f g acyclic t o d r h
 
 pub refused_keeps_nothing : Refused_keeps_nothing
-refused_keeps_nothing c asks later count n k j f g p t o h = refused_next c asks count n k j f g p t o later h
+refused_keeps_nothing c asks later count n k j f g acyclic t o h = refused_next c asks count n k j f g acyclic t o later h
 
 -- ---- growing
 
@@ -317,10 +317,10 @@ kept_is_identified c asks count n k f t (inl l) = one_ask n asks (stated_of c k)
 kept_is_identified c asks count n k f t (inr e) = off_track n asks (stated_of c k) e
 
 pub spelled_is_identified : Spelled_is_identified
-spelled_is_identified c d asks count n k r f p t l e h =
+spelled_is_identified c d asks count n k r f acyclic t l e h =
     two_asks n asks (stated_of c k) (let same = t.counted in omega (arith, l, same))
     ∙ ap (λ b. identified_by b n (stated_of c k)) (ap (λ t. is_instance (kind_of (stated_of c k)) && t) e ∙ by (is_instance (kind_of (stated_of c k))))
-    ∙ sym (spelled_is_stated c d k r n p t.stands h)
+    ∙ sym (spelled_is_stated c d k r n acyclic t.stands h)
   where
     by : (i : Bool) → (i && true) ≡ i
     by true = refl

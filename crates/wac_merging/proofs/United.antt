@@ -15,10 +15,9 @@ use Rattle.wac_types_merge.specs.United.{by_name, AreBoth, Unites, the_first, of
 use Rattle.wac_composition.specs.Classes.{is_instance}
 use Rattle.wac_composition.specs.Tests.{fits}
 use Rattle.wac_composition.specs.Merging.{is_interface, both, merged_with, merged_exports, has_use, merge}
-use Rattle.wac_composition.specs.Again.{IsWell, well_instance, well_interface, no_interface}
 use Rattle.wac_composition.proofs.KeptFits.{both_is, if_is}
-use Rattle.wac_composition.proofs.Clashing.{value_among}
 use Rattle.wac_composition.proofs.Again.{merging, more_uses, more_exports, merged_of, merge_made, merge_typed, merge_other, none_merging}
+use Rattle.wac_merging.proofs.Well.{IsMade, made_instance, made_interface, made_other}
 
 -- ---- kinds
 
@@ -109,28 +108,28 @@ uses_are us vs ws e =
 
 -- ---- what merging makes is one
 
-abbrev EachWell : List (Name × Stated) → Type 0
-EachWell es = (n : Name) (y : Stated) → Among (n, y) es → IsWell y
+abbrev EachMade : List (Name × Stated) → Type 0
+EachMade es = (n : Name) (y : Stated) → Among (n, y) es → IsMade y
 
 -- the parts of an instance, or of the type of one
-exports_well : (x : Stated) → (is_instance (kind_of x) ≡ true) ⊎ (is_interface (kind_of x) ≡ true) → IsWell x → EachWell (exports_of x)
-exports_well x k (well_instance e d h) = h
-exports_well x k (well_interface e d h) = h
-exports_well x (inl k) (no_interface g h) = absurd (true≢false (sym k ∙ g))
-exports_well x (inr k) (no_interface g h) = absurd (true≢false (sym k ∙ h))
+exports_made : (x : Stated) → (is_instance (kind_of x) ≡ true) ⊎ (is_interface (kind_of x) ≡ true) → IsMade x → EachMade (exports_of x)
+exports_made x k (made_instance e d h) = h
+exports_made x k (made_interface e d h) = h
+exports_made x (inl k) (made_other g h) = absurd (true≢false (sym k ∙ g))
+exports_made x (inr k) (made_other g h) = absurd (true≢false (sym k ∙ h))
 
 not_both : (k : Kind) → is_instance k ≡ true → is_interface k ≡ true → ⊥
 not_both k a b = true≢false (sym (ap (λ i. is_interface i) (sym (instance_by k a)) ∙ b))
 
-pub instance_made : (x : Stated) → is_instance (kind_of x) ≡ true → IsWell x → x ≡ interface_of (identifier_of x) (uses_of x) (exports_of x)
-instance_made x k (well_instance e d h) = e
-instance_made x k (well_interface e d h) = absurd (not_both (kind_of x) k (ap (λ y. is_interface (kind_of y)) e))
-instance_made x k (no_interface g h) = absurd (true≢false (sym k ∙ g))
+pub instance_made : (x : Stated) → is_instance (kind_of x) ≡ true → IsMade x → x ≡ interface_of (identifier_of x) (uses_of x) (exports_of x)
+instance_made x k (made_instance e d h) = e
+instance_made x k (made_interface e d h) = absurd (not_both (kind_of x) k (ap (λ y. is_interface (kind_of y)) e))
+instance_made x k (made_other g h) = absurd (true≢false (sym k ∙ g))
 
-interface_made : (x : Stated) → is_interface (kind_of x) ≡ true → IsWell x → x ≡ as_type (interface_of (identifier_of x) (uses_of x) (exports_of x))
-interface_made x k (well_interface e d h) = e
-interface_made x k (well_instance e d h) = absurd (not_both (kind_of x) (ap (λ y. is_instance (kind_of y)) e) k)
-interface_made x k (no_interface g h) = absurd (true≢false (sym k ∙ h))
+interface_made : (x : Stated) → is_interface (kind_of x) ≡ true → IsMade x → x ≡ as_type (interface_of (identifier_of x) (uses_of x) (exports_of x))
+interface_made x k (made_interface e d h) = e
+interface_made x k (made_instance e d h) = absurd (not_both (kind_of x) (ap (λ y. is_instance (kind_of y)) e) k)
+interface_made x k (made_other g h) = absurd (true≢false (sym k ∙ h))
 
 -- what is merged of two interfaces
 record MergedOf (t u y : Stated) : Type 0 where
@@ -143,13 +142,13 @@ merged_is t u y e =
     let r = mapped-some (λ xs. interface_of (identifier_of t) (uses_of t ++ more_uses (uses_of t) u) (xs ++ more_exports (exports_of t) u)) (merged_exports (merging (exports_of t)) (exports_of u)) y e in
     record { exports = r.0; merged = r.1; is = sym r.2 }
 
-instances_merged : (t u z : Stated) → is_instance (kind_of t) ≡ true → IsWell t → merge t u ≡ Some z → (is_instance (kind_of u) ≡ true) × MergedOf t u z
+instances_merged : (t u z : Stated) → is_instance (kind_of t) ≡ true → IsMade t → merge t u ≡ Some z → (is_instance (kind_of u) ≡ true) × MergedOf t u z
 instances_merged t u z k w e =
     let own = instance_made t k w in
     let i = if_is (is_instance (kind_of u)) (merged_of (identifier_of t) (uses_of t) (exports_of t) u) z (sym (merge_made (identifier_of t) (uses_of t) (exports_of t) u) ∙ ap (λ x. merge x u) (sym own) ∙ e) in
     (i.0, merged_is t u z i.1)
 
-interfaces_merged : (t u z : Stated) → is_interface (kind_of t) ≡ true → IsWell t → merge t u ≡ Some z → (is_interface (kind_of u) ≡ true) × (y : Stated) × (z ≡ as_type y) × MergedOf t u y
+interfaces_merged : (t u z : Stated) → is_interface (kind_of t) ≡ true → IsMade t → merge t u ≡ Some z → (is_interface (kind_of u) ≡ true) × (y : Stated) × (z ≡ as_type y) × MergedOf t u y
 interfaces_merged t u z k w e =
     let own = interface_made t k w in
     let i = if_is (is_interface (kind_of u)) (option_map as_type (merged_of (identifier_of t) (uses_of t) (exports_of t) u)) z (sym (merge_typed (identifier_of t) (uses_of t) (exports_of t) u) ∙ ap (λ x. merge x u) (sym own) ∙ e) in
@@ -157,7 +156,7 @@ interfaces_merged t u z k w e =
     (i.0, m.0, sym m.2, merged_is t u m.0 m.1)
 
 -- of neither kind the first is merged
-first_merged : (t u z : Stated) → (AreBoth t u → ⊥) → IsWell t → merge t u ≡ Some z → z ≡ t
+first_merged : (t u z : Stated) → (AreBoth t u → ⊥) → IsMade t → merge t u ≡ Some z → z ≡ t
 first_merged t u z other w e = by (is_instance (kind_of t)) refl (is_interface (kind_of t)) refl
   where
     by : (a : Bool) → is_instance (kind_of t) ≡ a → (b : Bool) → is_interface (kind_of t) ≡ b → z ≡ t
@@ -171,8 +170,8 @@ first_merged t u z other w e = by (is_instance (kind_of t)) refl (is_interface (
         let i = if_is (fits t u && fits u t) (Some t) z (sym (merge_other t u p q) ∙ e) in
         sym (same_Some _ _ i.1)
 
-left_well : (v : Stated) (es fs : List (Name × Stated)) → exports_of v ≡ es ++ fs → EachWell (exports_of v) → EachWell es
-left_well v es fs is h n y m = h n y (subst (Among (n, y)) (sym is) (Among-left (n, y) es fs m))
+left_made : (v : Stated) (es fs : List (Name × Stated)) → exports_of v ≡ es ++ fs → EachMade (exports_of v) → EachMade es
+left_made v es fs is h n y m = h n y (subst (Among (n, y)) (sym is) (Among-left (n, y) es fs m))
 
 -- the united interface has the merged parts
 united_parts : (t u v : Stated) (es : List (Name × Stated)) → identifier_of v ≡ identifier_of t → by_name (uses_of v) ≡ joined (by_name (uses_of t)) (by_name (uses_of u)) → exports_of v ≡ es ++ new_in (exports_of t) (exports_of u)
@@ -183,33 +182,33 @@ united_parts t u v es id us is y m same =
     m.is ∙ (λ j. interface_of (sym id j) (sym uses j) (sym exports j))
 
 mutual
-  unites_is : (t u v z : Stated) → IsWell t → IsWell u → IsWell v → Unites t u v → merge t u ≡ Some z → z ≡ v
-  unites_is t u v z wt wu wv (the_first a b other) e = first_merged t u z other wt e
-  unites_is t u v z wt wu wv (of_instances a b d (inl both) kind id us es each is) e =
+  unites_is : (t u v z : Stated) → IsMade t → IsMade v → Unites t u v → merge t u ≡ Some z → z ≡ v
+  unites_is t u v z wt wv (the_first a b other) e = first_merged t u z other wt e
+  unites_is t u v z wt wv (of_instances a b d (inl both) kind id us es each is) e =
       let k : is_instance (kind_of t) ≡ true = ap (λ i. is_instance i) both.0 in
       let m = (instances_merged t u z k wt e).1 in
       let l : is_instance (kind_of v) ≡ true = ap (λ i. is_instance i) kind ∙ k in
-      let fs = exports_unite (exports_of u) (exports_of t) es m.exports (exports_well t (inl k) wt) (exports_well u (inl (ap (λ i. is_instance i) both.1)) wu) (left_well v es (new_in (exports_of t) (exports_of u)) is (exports_well v (inl l) wv)) each m.merged in
+      let fs = exports_unite (exports_of u) (exports_of t) es m.exports (exports_made t (inl k) wt) (left_made v es (new_in (exports_of t) (exports_of u)) is (exports_made v (inl l) wv)) each m.merged in
       united_parts t u v es id us is z m fs ∙ sym (instance_made v l wv)
-  unites_is t u v z wt wu wv (of_instances a b d (inr both) kind id us es each is) e =
+  unites_is t u v z wt wv (of_instances a b d (inr both) kind id us es each is) e =
       let k : is_interface (kind_of t) ≡ true = ap (λ i. is_interface i) both.0 in
       let r = interfaces_merged t u z k wt e in
       let l : is_interface (kind_of v) ≡ true = ap (λ i. is_interface i) kind ∙ k in
-      let fs = exports_unite (exports_of u) (exports_of t) es r.3.exports (exports_well t (inr k) wt) (exports_well u (inr (ap (λ i. is_interface i) both.1)) wu) (left_well v es (new_in (exports_of t) (exports_of u)) is (exports_well v (inr l) wv)) each r.3.merged in
+      let fs = exports_unite (exports_of u) (exports_of t) es r.3.exports (exports_made t (inr k) wt) (left_made v es (new_in (exports_of t) (exports_of u)) is (exports_made v (inr l) wv)) each r.3.merged in
       r.2 ∙ ap as_type (united_parts t u v es id us is r.1 r.3 fs) ∙ sym (interface_made v l wv)
 
-  exports_unite : (others es fs xs : List (Name × Stated)) → EachWell es → EachWell others → EachWell fs → ExportsUnite others es fs → merged_exports (merging es) others ≡ Some xs → xs ≡ fs
-  exports_unite others es fs xs we wo wf none_united e = sym (same_Some _ _ e)
-  exports_unite others es fs xs we wo wf (one_alone n t gs hs none rest) e =
+  exports_unite : (others es fs xs : List (Name × Stated)) → EachMade es → EachMade fs → ExportsUnite others es fs → merged_exports (merging es) others ≡ Some xs → xs ≡ fs
+  exports_unite others es fs xs we wf none_united e = sym (same_Some _ _ e)
+  exports_unite others es fs xs we wf (one_alone n t gs hs none rest) e =
       let b = both_is (λ x ys. (n, x) ∷ ys) (merged_with (merge t) t (value_at others n)) (merged_exports (merging gs) others) xs e in
       let first : b.0 ≡ t = sym (same_Some _ _ (ap (merged_with (merge t) t) (sym none) ∙ b.2)) in
-      let more = exports_unite others gs hs b.1 (λ m y k. we m y (inr k)) wo (λ m y k. wf m y (inr k)) rest b.3 in
+      let more = exports_unite others gs hs b.1 (λ m y k. we m y (inr k)) (λ m y k. wf m y (inr k)) rest b.3 in
       sym b.4 ∙ (λ j. (n, first j) ∷ more j)
-  exports_unite others es fs xs we wo wf (one_united n t u v gs hs there here rest) e =
+  exports_unite others es fs xs we wf (one_united n t u v gs hs there here rest) e =
       let b = both_is (λ x ys. (n, x) ∷ ys) (merged_with (merge t) t (value_at others n)) (merged_exports (merging gs) others) xs e in
-      let first = unites_is t u v b.0 (we n t (inl refl)) (wo n u (value_among others n u there)) (wf n v (inl refl)) here (ap (merged_with (merge t) t) (sym there) ∙ b.2) in
-      let more = exports_unite others gs hs b.1 (λ m y k. we m y (inr k)) wo (λ m y k. wf m y (inr k)) rest b.3 in
+      let first = unites_is t u v b.0 (we n t (inl refl)) (wf n v (inl refl)) here (ap (merged_with (merge t) t) (sym there) ∙ b.2) in
+      let more = exports_unite others gs hs b.1 (λ m y k. we m y (inr k)) (λ m y k. wf m y (inr k)) rest b.3 in
       sym b.4 ∙ (λ j. (n, first j) ∷ more j)
 
-pub merged_once : (t u v z : Stated) → IsWell t → IsWell u → IsWell v → Unites t u v → merge t u ≡ Some z → z ≡ v
+pub merged_once : (t u v z : Stated) → IsMade t → IsMade v → Unites t u v → merge t u ≡ Some z → z ≡ v
 merged_once = unites_is

@@ -5,7 +5,7 @@ use Rattle.wac_types_base.specs.declared.item.ItemKind.{ItemKind}
 use Rattle.wac_types_base.specs.Record.{Collection}
 use Rattle.wac_types_base.specs.Entries.{Name}
 use Rattle.wac_types_base.specs.Graph.{Among}
-use Rattle.wac_types_base.specs.Collection.{Stands, Grows}
+use Rattle.wac_types_base.specs.Collection.{Stands, IsAcyclic, Grows}
 use Rattle.wac_types_base.specs.Stated.{stated_of}
 use Rattle.wac_types_fit.specs.Trees.{tree_in}
 use Rattle.wac_types_fit.specs.Meets.{IsPlain}
@@ -16,7 +16,6 @@ use Rattle.wac_types_merge.specs.Steps.{HasClash, LieOutside}
 use Rattle.wac_composition.specs.Names.{has_track}
 use Rattle.wac_composition.specs.Merging.{is_plain, is_wit, Asked, in_family, kept, identified}
 use Rattle.wac_composition.specs.Again.{IsWell}
-use Rattle.wac_merging.specs.Named.{IsProper}
 use Rattle.wac_merging.specs.Families.{EqualAreUsed, family_stated}
 use Rattle.wac_merging.specs.Merging.{IsKept}
 
@@ -35,6 +34,7 @@ pub record IsOfFamily (c : Collection) (n : Name) (k : ItemKind) (f : Family) : 
   pub stands : Stands c k
   pub family : f ≡ family_stated n (stated_of c k)
   pub plain : (f ≡ Family.Neither → ⊥) → IsPlain (tree_in c k)
+  pub well : IsWell (stated_of c k)
 
 -- The item of c is what these asks keep. With no family they all ask it under one name, else they have the family.
 abbrev pub FamilyTaken : Collection → List Asked → ItemKind → Option Family → Type 0
@@ -51,16 +51,16 @@ pub record IsTaken (c : Collection) (asks : List Asked) (count : ℕ) (k : ItemK
 -- ---- the family of an ask
 
 abbrev pub Asked_has_family : Type 0
-Asked_has_family = (c : Collection) (n : Name) (k : ItemKind) (f : Family) → IsProper c → Stands c k → (UsesUnnamed c k → ⊥) → (f ≡ Family.Neither → EqualAreUsed c k) → IsFamily c n k f → IsOfFamily c n k f
+Asked_has_family = (c : Collection) (n : Name) (k : ItemKind) (f : Family) → IsAcyclic c → Stands c k → IsWell (stated_of c k) → (UsesUnnamed c k → ⊥) → (f ≡ Family.Neither → EqualAreUsed c k) → IsFamily c n k f → IsOfFamily c n k f
 
 abbrev pub Unnamed_has_none : Type 0
-Unnamed_has_none = (c : Collection) (n : Name) (k : ItemKind) → IsProper c → Stands c k → UsesUnnamed c k → IsOfFamily c n k Family.Neither
+Unnamed_has_none = (c : Collection) (n : Name) (k : ItemKind) → IsAcyclic c → Stands c k → IsWell (stated_of c k) → UsesUnnamed c k → IsOfFamily c n k Family.Neither
 
 -- ---- one ask after another
 
 -- the first ask is kept
 abbrev pub First_is_taken : Type 0
-First_is_taken = (c : Collection) (n : Name) (k : ItemKind) → IsProper c → Stands c k → IsTaken c (asked_as c n k ∷ []) 1 k None
+First_is_taken = (c : Collection) (n : Name) (k : ItemKind) → Stands c k → IsWell (stated_of c k) → IsTaken c (asked_as c n k ∷ []) 1 k None
 
 -- an ask of the same under the same name changes nothing
 abbrev pub Again_is_taken : Type 0
@@ -72,12 +72,12 @@ One_family_is_all = (c : Collection) (asks : List Asked) (count : ℕ) (n : Name
 
 -- what is kept of two, of the joint family, is what is kept of one ask more
 abbrev pub Next_is_taken : Type 0
-Next_is_taken = (c d : Collection) (asks : List Asked) (count : ℕ) (n : Name) (k j r : ItemKind) (f g : Family) → IsProper c → IsProper d → IsTaken c asks count k (Some f) → IsOfFamily c n j g → IsKept c (joint f g) k j d r
+Next_is_taken = (c d : Collection) (asks : List Asked) (count : ℕ) (n : Name) (k j r : ItemKind) (f g : Family) → IsAcyclic c → IsTaken c asks count k (Some f) → IsOfFamily c n j g → IsKept c (joint f g) k j d r
     → IsTaken d (asks ++ asked_as c n j ∷ []) (count + 1) r (Some (joint f g))
 
 -- where the two are refused the asks keep nothing, whatever is asked later
 abbrev pub Refused_keeps_nothing : Type 0
-Refused_keeps_nothing = (c : Collection) (asks later : List Asked) (count : ℕ) (n : Name) (k j : ItemKind) (f g : Family) → IsProper c → IsTaken c asks count k (Some f) → IsOfFamily c n j g
+Refused_keeps_nothing = (c : Collection) (asks later : List Asked) (count : ℕ) (n : Name) (k j : ItemKind) (f g : Family) → IsAcyclic c → IsTaken c asks count k (Some f) → IsOfFamily c n j g
     → HasClash c (joint f g) k j ⊎ LieOutside c (joint f g) k j → kept (asks ++ asked_as c n j ∷ later) ≡ None
 
 -- it stays so while the collection grows
@@ -93,5 +93,5 @@ Kept_is_identified = (c : Collection) (asks : List Asked) (count : ℕ) (n : Nam
 
 -- of several on a track it is spelled
 abbrev pub Spelled_is_identified : Type 0
-Spelled_is_identified = (c d : Collection) (asks : List Asked) (count : ℕ) (n : Name) (k r : ItemKind) (f : Option Family) → IsProper c → IsTaken c asks count k f → 2 ≤ count → has_track n ≡ true → IsSpelled c k d n r
+Spelled_is_identified = (c d : Collection) (asks : List Asked) (count : ℕ) (n : Name) (k r : ItemKind) (f : Option Family) → IsAcyclic c → IsTaken c asks count k f → 2 ≤ count → has_track n ≡ true → IsSpelled c k d n r
     → identified n asks (stated_of c k) ≡ stated_of d r

@@ -3,7 +3,7 @@ use Rattle.std.specs.Prelude.{◌≡◌, ◌⊎◌, Option, Some, None}
 use Rattle.wac_types_base.specs.declared.item.ItemKind.{ItemKind}
 use Rattle.wac_types_base.specs.Record.{Collection}
 use Rattle.wac_types_base.specs.Entries.{Name}
-use Rattle.wac_types_base.specs.Collection.{Stands, Grows}
+use Rattle.wac_types_base.specs.Collection.{Stands, IsAcyclic, Grows}
 use Rattle.wac_types_base.specs.Stated.{Stated, kind_of, stated_of}
 use Rattle.wac_types_fit.specs.Trees.{tree_in}
 use Rattle.wac_types_fit.specs.Meets.{IsPlain}
@@ -14,19 +14,21 @@ use Rattle.wac_types_merge.specs.Steps.{HasClash, LieOutside}
 use Rattle.wac_types_merge.specs.United.{UnitesIn}
 use Rattle.wac_composition.specs.Classes.{is_instance}
 use Rattle.wac_composition.specs.Merging.{merge, narrower, identified_by}
-use Rattle.wac_merging.specs.Named.{IsProper}
+use Rattle.wac_composition.specs.Again.{IsWell}
 
 -- two items that stand, neither with a component or a module in it
 pub record AreMergeable (c : Collection) (a b : ItemKind) : Type 0 where
-  pub proper : IsProper c
+  pub acyclic : IsAcyclic c
   pub first : Stands c a
   pub second : Stands c b
+  pub first_well : IsWell (stated_of c a)
+  pub second_well : IsWell (stated_of c b)
   pub first_plain : IsPlain (tree_in c a)
   pub second_plain : IsPlain (tree_in c b)
 
 -- what merging makes of them states what merging makes of what they state
 abbrev pub Merged_is_stated : Type 0
-Merged_is_stated = (c d : Collection) (a b k : ItemKind) → AreMergeable c a b → IsProper d → MeetIn c a b d k → UnitesIn c a b d k
+Merged_is_stated = (c d : Collection) (a b k : ItemKind) → AreMergeable c a b → IsAcyclic d → MeetIn c a b d k → UnitesIn c a b d k
     → merge (stated_of c a) (stated_of c b) ≡ Some (stated_of d k)
 
 -- where no tree fits both, merging makes nothing of what they state
@@ -56,14 +58,16 @@ pub record IsKept (c : Collection) (f : Family) (a b : ItemKind) (d : Collection
 
 -- two items that stand, of a family only where neither has a component or a module in it
 pub record AreKeepable (c : Collection) (f : Family) (a b : ItemKind) : Type 0 where
-  pub proper : IsProper c
+  pub acyclic : IsAcyclic c
   pub first : Stands c a
   pub second : Stands c b
+  pub first_well : IsWell (stated_of c a)
+  pub second_well : IsWell (stated_of c b)
   pub first_plain : (f ≡ Family.Neither → ⊥) → IsPlain (tree_in c a)
   pub second_plain : (f ≡ Family.Neither → ⊥) → IsPlain (tree_in c b)
 
 abbrev pub Kept_is_stated : Type 0
-Kept_is_stated = (c d : Collection) (f : Family) (a b k : ItemKind) → AreKeepable c f a b → IsProper d → IsKept c f a b d k
+Kept_is_stated = (c d : Collection) (f : Family) (a b k : ItemKind) → AreKeepable c f a b → IsKept c f a b d k
     → kept_by f (stated_of c a) (stated_of c b) ≡ Some (stated_of d k)
 
 abbrev pub Refused_is_stated : Type 0
@@ -74,5 +78,5 @@ Refused_is_stated = (c : Collection) (f : Family) (a b : ItemKind) → AreKeepab
 
 -- an instance under another identifier is made of its other parts; anything else stays
 abbrev pub Spelled_is_stated : Type 0
-Spelled_is_stated = (c d : Collection) (j k : ItemKind) (n : Name) → IsProper c → Stands c j → IsSpelled c j d n k
+Spelled_is_stated = (c d : Collection) (j k : ItemKind) (n : Name) → IsAcyclic c → Stands c j → IsSpelled c j d n k
     → stated_of d k ≡ identified_by (is_instance (kind_of (stated_of c j))) n (stated_of c j)

@@ -12,11 +12,6 @@ use Rattle.wac_composition.specs.Again.{IsWell}
 abbrev pub NamesDiffer : Collection → Type 0
 NamesDiffer c = (x : Interface) → Among x c.interfaces → AreDistinct (names_of x.exports)
 
--- each id unfolds, and no interface exports a name twice
-pub record IsProper (c : Collection) : Type 0 where
-  pub acyclic : IsAcyclic c
-  pub named : NamesDiffer c
-
 -- what stands states a type whose interfaces are of their parts alone and export no name twice
 abbrev pub Stated_are_well : Type 0
-Stated_are_well = (c : Collection) (k : ItemKind) → IsProper c → Stands c k → IsWell (stated_of c k)
+Stated_are_well = (c : Collection) (k : ItemKind) → IsAcyclic c → NamesDiffer c → Stands c k → IsWell (stated_of c k)

@@ -3,10 +3,14 @@
 //! function without a body.
 #![tactic(auto)]
 
+pub mod named;
+
 ghost use Rattle.wac_merging.specs.Named.{Stated_are_well};
 ghost use Rattle.wac_merging.specs.Families.{Family_is_stated, Unnamed_is_of_none};
 ghost use Rattle.wac_merging.specs.Merging.{Merged_is_stated, Clash_is_stated, Narrower_is_stated, Outside_is_stated, Kept_is_stated, Refused_is_stated, Spelled_is_stated};
 ghost use Rattle.wac_merging.specs.Asking.{Asked_has_family, Unnamed_has_none, First_is_taken, Again_is_taken, One_family_is_all, Next_is_taken, Refused_keeps_nothing, Taken_stays, Kept_is_identified, Spelled_is_identified};
+
+pub use named::see_named;
 
 /// What stands in a collection whose interfaces export no name twice states a type whose interfaces are of their
 /// parts alone and export no name twice.
