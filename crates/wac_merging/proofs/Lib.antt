@@ -11,3 +11,4 @@ pub mod Wit
 pub mod Families
 pub mod Taking
 pub mod Looking
+pub mod Labels

@@ -2,3 +2,4 @@ pub mod Named
 pub mod Families
 pub mod Merging
 pub mod Asking
+pub mod Labelled

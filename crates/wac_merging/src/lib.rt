@@ -8,6 +8,7 @@ pub mod named;
 ghost use Rattle.wac_merging.specs.Named.{Stated_are_well};
 ghost use Rattle.wac_merging.specs.Families.{Family_is_stated, Unnamed_is_of_none};
 ghost use Rattle.wac_merging.specs.Merging.{Merged_is_stated, Clash_is_stated, Narrower_is_stated, Outside_is_stated, Kept_is_stated, Refused_is_stated, Spelled_is_stated};
+ghost use Rattle.wac_merging.specs.Labelled.{Class_is_labelled, Outers_are_labelled, One_more_labelled};
 ghost use Rattle.wac_merging.specs.Asking.{Asked_has_family, Unnamed_has_none, First_is_taken, Again_is_taken, One_family_is_all, Next_is_taken, Refused_keeps_nothing, Taken_stays, Kept_is_identified, Spelled_is_identified};
 
 pub use named::see_named;
@@ -68,4 +69,12 @@ pub fn asks_have_families()
 pub fn outer_imports_are_identified()
     ensures kept { Kept_is_identified }
     ensures spelled { Spelled_is_identified }
+{}
+
+/// Where asks have labels, and one label exactly where they are one outer import, the class of an ask has the asks of
+/// its label in order, and the outer imports are those of the labels, in the order in which these come first.
+pub fn outer_imports_are_labelled<A>()
+    ensures class { Class_is_labelled A }
+    ensures outers { Outers_are_labelled A }
+    ensures more { One_more_labelled A }
 {}
