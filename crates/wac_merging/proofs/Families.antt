@@ -19,7 +19,7 @@ use Rattle.wac_types_merge.specs.declared.family.Family.{Family}
 use Rattle.wac_types_merge.specs.Families.{IsUnnamedIn, uses_of as uses_held, UsesUnnamed, HasMore, IsPlainItem, IsWitInterface, IsWitItem}
 use Rattle.wac_composition.specs.Classes.{is_instance}
 use Rattle.wac_composition.specs.Merging.{is_plain, is_called, is_wit}
-use Rattle.wac_merging.specs.Families.{family_by, family_stated, EqualAreUsed, Family_is_stated, Unnamed_is_of_none}
+use Rattle.wac_merging.specs.Families.{family_by, family_stated, EqualAreUsed, NamesUses, Family_is_stated, Unnamed_is_of_none}
 use Rattle.wac_merging.proofs.Plainness.{plain_stated, stated_plain}
 use Rattle.wac_merging.proofs.Wit.{instance_wit, wit_instance, wit_named}
 
@@ -93,7 +93,7 @@ module _ (c : Collection) (a : IsAcyclic c) (n : Name) where
   same_by : (k : ItemKind) (b : Bool) → is_plain (stated_of c k) ≡ false → is_wit n (stated_of c k) ≡ b → Same (family_by false b) k
   same_by k b p w = λ j. family_by (sym p j) (sym w j)
 
-  same_wit : (k : ItemKind) → Stands c k → (UsesUnnamed c k → ⊥) → IsWitItem c n k → Same Family.Wit k
+  same_wit : (k : ItemKind) → Stands c k → NamesUses c k → IsWitItem c n k → Same Family.Wit k
   same_wit (ItemKind.Instance i) s named w = same_by (ItemKind.Instance i) true (not_plain (ItemKind.Instance i) s (identified_unplain i s w)) (instance_stated i s named w)
   same_wit (ItemKind.Ty t) s named w = absurd w
   same_wit (ItemKind.Func t) s named w = absurd w

@@ -12,3 +12,4 @@ pub mod Families
 pub mod Taking
 pub mod Looking
 pub mod Labels
+pub mod Keeping

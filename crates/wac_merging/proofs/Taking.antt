@@ -1,5 +1,5 @@
 -- Asks that are taken one after another keep what the list of them keeps.
-use Rattle.std.proofs.Common.{◌≡◌, ℕ, ◌+◌, ◌<◌, ◌≤◌, List, [], ◌∷◌, ◌++◌, length, Bool, true, false, true≢false, Option, Some, None, ◌⊎◌, refl, sym, ap, subst, ◌∙◌, inl, inr, arith}
+use Rattle.std.proofs.Common.{◌≡◌, ◌≤◌, List, [], ◌∷◌, ◌++◌, length, Bool, true, false, true≢false, Option, Some, None, ◌⊎◌, refl, sym, ap, subst, ◌∙◌, inl, inr, arith}
 use Rattle.std.specs.Prelude.{◌&&◌, ◌||◌, if◌then◌else◌}
 use Rattle.std.specs.List.{list_all}
 use Rattle.std.proofs.lemmas.Option.{none-some}
@@ -182,7 +182,7 @@ pub first_is_taken : First_is_taken
 first_is_taken c n k s w = record {
   stands = s;
   kept = refl;
-  counted = refl;
+  counted = (λ e. absurd (true≢false (sym e)), λ l. absurd (omega (arith, l)));
   well = λ a m. subst (λ (b : Asked). IsWell b.1) (sym (only a m)) w;
   family = (n, only);
 }
@@ -198,20 +198,21 @@ more_asks asks a P h p b m = elim (among_append asks (a ∷ []) b m) [ inl k ↦
     only (inl e) = subst P (sym e) p
     only (inr e) = absurd e
 
-one_longer : (asks : List Asked) (a : Asked) (count : ℕ) → count ≡ length asks → count + 1 ≡ length (asks ++ a ∷ [])
-one_longer asks a count e = ap (λ n. n + 1) e ∙ sym (length-append asks (a ∷ []))
+several_now : (asks : List Asked) (a b : Asked) → Among b asks → 2 ≤ length (asks ++ a ∷ [])
+several_now [] a b m = absurd m
+several_now (c ∷ asks) a b m = let all = length-append asks (a ∷ []) in omega (arith, all)
 
 pub again_is_taken : Again_is_taken
-again_is_taken c asks a count k m t = record {
+again_is_taken c asks a several k m t = record {
   stands = t.stands;
   kept = asking_twice asks [] a m t.well ∙ ap kept (append_nil asks) ∙ t.kept;
-  counted = one_longer asks a count t.counted;
+  counted = (λ e. several_now asks a a m, λ l. refl);
   well = more_asks asks a (λ b. IsWell b.1) t.well (t.well a m);
   family = (t.family.0, more_asks asks a (λ b. b ≡ asked_as c t.family.0 k) t.family.1 (t.family.1 a m));
 }
 
 pub one_family_is_all : One_family_is_all
-one_family_is_all c asks count n k f m o t = record {
+one_family_is_all c asks several n k f m o t = record {
   stands = t.stands;
   kept = t.kept;
   counted = t.counted;
@@ -233,7 +234,7 @@ joint_second Family.Plain Family.Neither h e = h refl
 joint_second Family.Wit Family.Neither h e = h refl
 joint_second Family.Neither Family.Neither h e = h refl
 
-module _ (c : Collection) (asks : List Asked) (count : ℕ) (n : Name) (k j : ItemKind) (f g : Family) (acyclic : IsAcyclic c) (t : IsTaken c asks count k (Some f)) (o : IsOfFamily c n j g) where
+module _ (c : Collection) (asks : List Asked) (several : Bool) (n : Name) (k j : ItemKind) (f g : Family) (acyclic : IsAcyclic c) (t : IsTaken c asks several k (Some f)) (o : IsOfFamily c n j g) where
   abbrev a : Asked
   a = asked_as c n j
 
@@ -261,11 +262,11 @@ module _ (c : Collection) (asks : List Asked) (count : ℕ) (n : Name) (k j : It
   plain_next d r h some =
       plain_meet (tree (stated_of c k)) (tree (stated_of c j)) (tree (stated_of d r)) (tree_in_order (stated_of c k)) (tree_in_order (stated_of c j)) (keepable.first_plain some) (keepable.second_plain some) h.meet.meet
 
-  pub taken_next : (d : Collection) (r : ItemKind) → IsKept c (joint f g) k j d r → IsTaken d (asks ++ a ∷ []) (count + 1) r (Some (joint f g))
+  pub taken_next : (d : Collection) (r : ItemKind) → IsKept c (joint f g) k j d r → IsTaken d (asks ++ a ∷ []) true r (Some (joint f g))
   taken_next d r h = record {
     stands = h.meet.stands;
     kept = kept_more [] ∙ ap (λ z. kept_from (asks ++ a ∷ []) z []) (kept_is_stated c d (joint f g) k j r keepable h);
-    counted = one_longer asks a count t.counted;
+    counted = let b = some_ask asks (stated_of c k) t.kept in (λ e. several_now asks a b.0 b.1, λ l. refl);
     well = more_asks asks a (λ b. IsWell b.1) t.well o.well;
     family = (have_next, plain_next d r h);
   }
@@ -274,16 +275,16 @@ module _ (c : Collection) (asks : List Asked) (count : ℕ) (n : Name) (k j : It
   refused_next later h = kept_more later ∙ ap (λ z. kept_from (asks ++ a ∷ []) z later) (refused_is_stated c (joint f g) k j keepable h)
 
 pub next_is_taken : Next_is_taken
-next_is_taken c d asks count n k j r f g acyclic t o h = taken_next c asks count n k j f g acyclic t o d r h
+next_is_taken c d asks several n k j r f g acyclic t o h = taken_next c asks several n k j f g acyclic t o d r h
 
 pub refused_keeps_nothing : Refused_keeps_nothing
-refused_keeps_nothing c asks later count n k j f g acyclic t o h = refused_next c asks count n k j f g acyclic t o later h
+refused_keeps_nothing c asks later several n k j f g acyclic t o h = refused_next c asks several n k j f g acyclic t o later h
 
 -- ---- growing
 
 pub taken_stays : Taken_stays
 unfolding tree_in
-taken_stays c d asks count k f g t =
+taken_stays c d asks several k f g t =
     let same : stated_of d k ≡ stated_of c k = ap stated_in (g.keep k t.stands) in
     record { stands = g.stand k t.stands; kept = t.kept ∙ ap Some (sym same); counted = t.counted; well = t.well; family = stays f same t.family }
   where
@@ -298,10 +299,10 @@ two_asks n [] x h = absurd (omega (arith, h))
 two_asks n (a ∷ []) x h = absurd (omega (arith, h))
 two_asks n (a ∷ b ∷ asks) x h = refl
 
-one_ask : (n : Name) (asks : List Asked) (x : Stated) → length asks < 2 → identified n asks x ≡ x
+one_ask : (n : Name) (asks : List Asked) (x : Stated) → (2 ≤ length asks → ⊥) → identified n asks x ≡ x
 one_ask n [] x h = refl
 one_ask n (a ∷ []) x h = refl
-one_ask n (a ∷ b ∷ asks) x h = absurd (omega (arith, h))
+one_ask n (a ∷ b ∷ asks) x h = absurd (h (omega arith))
 
 off_track : (n : Name) (asks : List Asked) (x : Stated) → has_track n ≡ false → identified n asks x ≡ x
 off_track n [] x h = refl
@@ -313,12 +314,12 @@ off_track n (a ∷ b ∷ asks) x h = ap (λ b. identified_by b n x) (ap (λ t. i
     by false = refl
 
 pub kept_is_identified : Kept_is_identified
-kept_is_identified c asks count n k f t (inl l) = one_ask n asks (stated_of c k) (let same = t.counted in omega (arith, l, same))
-kept_is_identified c asks count n k f t (inr e) = off_track n asks (stated_of c k) e
+kept_is_identified c asks several n k f t (inl l) = one_ask n asks (stated_of c k) (λ s. true≢false (sym (t.counted.1 s) ∙ l))
+kept_is_identified c asks several n k f t (inr e) = off_track n asks (stated_of c k) e
 
 pub spelled_is_identified : Spelled_is_identified
-spelled_is_identified c d asks count n k r f acyclic t l e h =
-    two_asks n asks (stated_of c k) (let same = t.counted in omega (arith, l, same))
+spelled_is_identified c d asks several n k r f acyclic t l e h =
+    two_asks n asks (stated_of c k) (t.counted.0 l)
     ∙ ap (λ b. identified_by b n (stated_of c k)) (ap (λ t. is_instance (kind_of (stated_of c k)) && t) e ∙ by (is_instance (kind_of (stated_of c k))))
     ∙ sym (spelled_is_stated c d k r n acyclic t.stands h)
   where

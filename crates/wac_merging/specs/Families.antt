@@ -24,9 +24,14 @@ abbrev pub EqualAreUsed : Collection → ItemKind → Type 0
 EqualAreUsed c (ItemKind.Instance i) = (o j : InterfaceId) → IsUsedBy c i j → stated_of c (ItemKind.Instance o) ≡ stated_of c (ItemKind.Instance j) → IsUsedBy c i o
 EqualAreUsed c k = Unit {0}
 
+-- the uses of an instance have identifiers
+abbrev pub NamesUses : Collection → ItemKind → Type 0
+NamesUses c (ItemKind.Instance i) = UsesUnnamed c (ItemKind.Instance i) → ⊥
+NamesUses c k = Unit {0}
+
 -- of an item whose uses have identifiers the families are the same, Neither only where equal interfaces are used
 abbrev pub Family_is_stated : Type 0
-Family_is_stated = (c : Collection) (n : Name) (k : ItemKind) (f : Family) → IsAcyclic c → Stands c k → (UsesUnnamed c k → ⊥) → (f ≡ Family.Neither → EqualAreUsed c k)
+Family_is_stated = (c : Collection) (n : Name) (k : ItemKind) (f : Family) → IsAcyclic c → Stands c k → NamesUses c k → (f ≡ Family.Neither → EqualAreUsed c k)
     → IsFamily c n k f → f ≡ family_stated n (stated_of c k)
 
 -- one that uses an interface without identifier states what is of no family

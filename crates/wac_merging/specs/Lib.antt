@@ -3,3 +3,4 @@ pub mod Families
 pub mod Merging
 pub mod Asking
 pub mod Labelled
+pub mod Kept

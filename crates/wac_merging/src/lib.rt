@@ -1,8 +1,9 @@
-//! Merging on ids is merging on stated types: what `wac_types_merge` says of the items of a collection is what
-//! `wac_composition` says of the types that they state. Laws over definitions alone: each is the contract of a
-//! function without a body.
+//! What is kept of the asks of an outer import, on ids and on stated types: what `wac_types_merge` says of the items
+//! of a collection is what `wac_composition` says of the types that they state. Most functions are laws over
+//! definitions alone, the contract of a function without a body; the others take one ask after another.
 #![tactic(auto)]
 
+pub mod kept;
 pub mod named;
 
 ghost use Rattle.wac_merging.specs.Named.{Stated_are_well};
@@ -11,6 +12,7 @@ ghost use Rattle.wac_merging.specs.Merging.{Merged_is_stated, Clash_is_stated, N
 ghost use Rattle.wac_merging.specs.Labelled.{Class_is_labelled, Outers_are_labelled, One_more_labelled};
 ghost use Rattle.wac_merging.specs.Asking.{Asked_has_family, Unnamed_has_none, First_is_taken, Again_is_taken, One_family_is_all, Next_is_taken, Refused_keeps_nothing, Taken_stays, Kept_is_identified, Spelled_is_identified};
 
+pub use kept::{Kept, family_asked, kept_again, kept_first, kept_import, kept_next, kept_with};
 pub use named::see_named;
 
 /// What stands in a collection whose interfaces export no name twice states a type whose interfaces are of their
