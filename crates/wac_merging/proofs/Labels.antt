@@ -23,7 +23,7 @@ use Rattle.wac_merging.specs.Labelled.{with_label, labelled, LabelClasses, Class
 
 -- ---- tests
 
-same_test : (b c : Bool) → (b ≡ true → c ≡ true) → (c ≡ true → b ≡ true) → b ≡ c
+pub same_test : (b c : Bool) → (b ≡ true → c ≡ true) → (c ≡ true → b ≡ true) → b ≡ c
 same_test true c f g = sym (f refl)
 same_test false true f g = g refl
 same_test false false f g = refl
@@ -74,7 +74,7 @@ gives h (k ∷ ls) l o (inr m) e = go (h k) (gives h ls l o m e)
 
 module _ {A : Type 0} where
   -- asks that pass a test exactly where they have the label
-  passing_labelled : (p : Ask A → Bool) (l : ℕ) (xs : List (Ask A)) (ms : List ℕ) → length ms ≡ length xs
+  pub passing_labelled : (p : Ask A → Bool) (l : ℕ) (xs : List (Ask A)) (ms : List ℕ) → length ms ≡ length xs
       → ((j : ℕ) (x : Ask A) (m : ℕ) → slice_get xs j ≡ Some x → slice_get ms j ≡ Some m → p x ≡ (m == l)) → filter p xs ≡ labelled l xs ms
   passing_labelled p l [] ms e h = refl
   passing_labelled p l (x ∷ xs) [] e h = absurd (cc e)
@@ -104,26 +104,26 @@ module _ {A : Type 0} where
     class_test a there = class_is asks a ∙ sym (closed joined asks itself turned a there) ∙ ap (λ ms. filter (λ b. list_any (joined b) ms) asks) (sym (class_is asks a))
 
     -- the ask and the label at a place
-    record IsAt (a : Ask A) (l : ℕ) : Type 0 where
-      place : ℕ
-      ask : slice_get asks place ≡ Some a
-      label : slice_get labels place ≡ Some l
+    pub record IsAt (a : Ask A) (l : ℕ) : Type 0 where
+      pub place : ℕ
+      pub ask : slice_get asks place ≡ Some a
+      pub label : slice_get labels place ≡ Some l
 
-    at_among : (a : Ask A) (l : ℕ) → IsAt a l → Among a asks
+    pub at_among : (a : Ask A) (l : ℕ) → IsAt a l → Among a asks
     at_among a l i = among-get asks i.place a i.ask
 
     -- linked asks have one label
-    one : (a b : Ask A) (l m : ℕ) → IsAt a l → IsAt b m → Linked asks a b → m ≡ l
-    one a b l m i j k = sym (same_Some _ _ (sym i.label ∙ (c.one_label i.place j.place a b i.ask j.ask).1 k ∙ j.label))
+    pub one_label : (a b : Ask A) (l m : ℕ) → IsAt a l → IsAt b m → Linked asks a b → m ≡ l
+    one_label a b l m i j k = sym (same_Some _ _ (sym i.label ∙ (c.one_label i.place j.place a b i.ask j.ask).1 k ∙ j.label))
 
-    linked : (a b : Ask A) (l m : ℕ) → IsAt a l → IsAt b m → m ≡ l → Linked asks a b
+    pub linked : (a b : Ask A) (l m : ℕ) → IsAt a l → IsAt b m → m ≡ l → Linked asks a b
     linked a b l m i j e = (c.one_label i.place j.place a b i.ask j.ask).0 (i.label ∙ ap Some (sym e) ∙ sym j.label)
 
     label_test : (a b : Ask A) (l m : ℕ) → IsAt a l → IsAt b m → in_class a b ≡ (m == l)
     label_test a b l m i j =
         let here = at_among a l i in
         same_test (in_class a b) (m == l)
-        (λ e. (Decides-eqb m l).1 (one a b l m i j (in_class_linked asks a b here (subst (Among b) (sym (class_test a here)) (among_filter (in_class a) asks b (at_among b m j) e)))))
+        (λ e. (Decides-eqb m l).1 (one_label a b l m i j (in_class_linked asks a b here (subst (Among b) (sym (class_test a here)) (among_filter (in_class a) asks b (at_among b m j) e)))))
         (λ e. (filter_among (in_class a) asks b (subst (Among b) (class_test a here) (linked_in_class asks a b here (linked a b l m i j ((Decides-eqb m l).0 e))))).1)
 
     class_at : (a : Ask A) (l : ℕ) → IsAt a l → class asks a ≡ labelled l asks labels
@@ -146,7 +146,7 @@ module _ {A : Type 0} where
         let p = ap outer_of (class_at a l i) ∙ e in
         let q = ap outer_of (class_at b m j) ∙ f in
         let same = class_by_spelling asks a b (at_among a l i) (at_among b m j) (sym (spelled_outer asks (class asks a) n x p) ∙ spelled_outer asks (class asks b) n y q) in
-        one a b l m i j (in_class_linked asks a b (at_among a l i) (subst (Among b) (sym same) (class_itself asks b (at_among b m j))))
+        one_label a b l m i j (in_class_linked asks a b (at_among a l i) (subst (Among b) (sym same) (class_itself asks b (at_among b m j))))
 
     -- what one more ask adds
     module _ (ls : List ℕ) (h : AreOfAsks ls) (a : Ask A) (l : ℕ) (i : IsAt a l) where

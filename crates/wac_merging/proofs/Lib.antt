@@ -13,3 +13,4 @@ pub mod Taking
 pub mod Looking
 pub mod Labels
 pub mod Keeping
+pub mod Conflicts

@@ -9,7 +9,7 @@ pub mod named;
 ghost use Rattle.wac_merging.specs.Named.{Stated_are_well};
 ghost use Rattle.wac_merging.specs.Families.{Family_is_stated, Unnamed_is_of_none};
 ghost use Rattle.wac_merging.specs.Merging.{Merged_is_stated, Clash_is_stated, Narrower_is_stated, Outside_is_stated, Kept_is_stated, Refused_is_stated, Spelled_is_stated};
-ghost use Rattle.wac_merging.specs.Labelled.{Class_is_labelled, Outers_are_labelled, One_more_labelled};
+ghost use Rattle.wac_merging.specs.Labelled.{Class_is_labelled, Outers_are_labelled, One_more_labelled, Kept_have_no_conflict, Refused_is_conflict};
 ghost use Rattle.wac_merging.specs.Asking.{Asked_has_family, Unnamed_has_none, First_is_taken, Again_is_taken, One_family_is_all, Next_is_taken, Refused_keeps_nothing, Taken_stays, Kept_is_identified, Spelled_is_identified};
 
 pub use kept::{Kept, family_asked, kept_again, kept_first, kept_import, kept_next, kept_with};
@@ -79,4 +79,11 @@ pub fn outer_imports_are_labelled<A>()
     ensures class { Class_is_labelled A }
     ensures outers { Outers_are_labelled A }
     ensures more { One_more_labelled A }
+{}
+
+/// Where asks are taken in turn by their labels, none of them conflicts while those of each label keep something, and
+/// the first one behind which they keep nothing is the conflict, with the first ask of its label.
+pub fn conflicts_are_labelled<A>()
+    ensures none { Kept_have_no_conflict A }
+    ensures first { Refused_is_conflict A }
 {}
