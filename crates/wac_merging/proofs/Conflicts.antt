@@ -1,5 +1,5 @@
 -- Asks that are taken by their labels conflict where asks of their classes do.
-use Rattle.std.proofs.Common.{◌≡◌, ℕ, List, [], ◌∷◌, ◌++◌, append_assoc, length, Bool, true, false, Option, Some, None, ◌==◌, ◌+◌, refl, sym, ap, subst, ◌∙◌}
+use Rattle.std.proofs.Common.{◌≡◌, ℕ, List, [], ◌∷◌, ◌++◌, append_assoc, length, Bool, Option, Some, None, ◌==◌, ◌+◌, refl, sym, ap, subst, ◌∙◌}
 use Rattle.std.specs.Prelude.{bytes_eq, is_some, slice_get, if◌then◌else◌}
 use Rattle.std.specs.List.{list_any}
 use Rattle.std.proofs.lemmas.Slice.Eq.{bytes_eq-Decides}
@@ -10,8 +10,6 @@ use Rattle.wac_types_base.proofs.Adding.{slice_get-left}
 use Rattle.wac_types_base.proofs.Copying.{last_place}
 use Rattle.wac_composition.specs.Asks.{Asking, ByName, ToFill, ToUse, Ask}
 use Rattle.wac_composition.specs.Classes.{class}
-use Rattle.wac_composition.specs.Merging.{kept}
-use Rattle.wac_composition.specs.OuterImports.{asked_in}
 use Rattle.wac_composition.specs.Conflicts.{Cause, or_else, merge_cause, merge_fails, those_in, merge_conflict}
 use Rattle.wac_composition.proofs.Closures.{any_among, among_any}
 use Rattle.wac_composition.proofs.OuterClasses.{class_same, within, class_itself, class_by_name}

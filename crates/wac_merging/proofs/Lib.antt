@@ -14,3 +14,4 @@ pub mod Looking
 pub mod Labels
 pub mod Keeping
 pub mod Conflicts
+pub mod Outers

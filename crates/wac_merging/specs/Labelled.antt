@@ -1,5 +1,5 @@
 -- Outer imports of asks whose classes have labels.
-use Rattle.std.specs.Prelude.{◌≡◌, ◌↔◌, ◌==◌, ℕ, true, List, [], ◌∷◌, ◌++◌, length, Some, None, is_some, fold, filter_map, slice_get, if◌then◌else◌}
+use Rattle.std.specs.Prelude.{◌≡◌, ◌↔◌, ◌==◌, ◌<◌, ℕ, true, List, [], ◌∷◌, ◌++◌, length, Some, None, is_some, fold, filter_map, slice_get, if◌then◌else◌}
 use Rattle.std.specs.List.{list_any}
 use Rattle.wac_composition.specs.Asks.{Ask}
 use Rattle.wac_composition.specs.Classes.{Linked, class}
@@ -25,6 +25,23 @@ module _ {A : Type 0} where
   pub record LabelClasses (asks : List (Ask A)) (labels : List ℕ) : Type 0 where
     pub as_many : length labels ≡ length asks
     pub one_label : (i j : ℕ) (a b : Ask A) → slice_get asks i ≡ Some a → slice_get asks j ≡ Some b → (slice_get labels i ≡ slice_get labels j) ↔ Linked asks a b
+
+module _ {A : Type 0} where
+  -- the first place whose ask is linked to that one
+  pub record IsFirstLinked (asks : List (Ask A)) (a : Ask A) (first : ℕ) : Type 0 where
+    pub ask : Ask A
+    pub there : slice_get asks first ≡ Some ask
+    pub linked : Linked asks a ask
+    pub none_before : (i : ℕ) (b : Ask A) → i < first → slice_get asks i ≡ Some b → Linked asks a b → ⊥
+
+  -- each ask's label is the place of the first ask of its class
+  pub record AreLabels (asks : List (Ask A)) (labels : List ℕ) : Type 0 where
+    pub as_many : length labels ≡ length asks
+    pub each : (i : ℕ) (a : Ask A) → slice_get asks i ≡ Some a → (first : ℕ) × (slice_get labels i ≡ Some first) × IsFirstLinked asks a first
+
+-- places of first asks are labels of classes
+abbrev pub Labels_are_of_classes : Type 0 → Type 0
+Labels_are_of_classes A = (asks : List (Ask A)) (labels : List ℕ) → AreLabels asks labels → LabelClasses asks labels
 
 -- After each of the asks in turn, those of its label keep something.
 pub data AreKept {A : Type 0} : List (Ask A) → List ℕ → Type 0 where

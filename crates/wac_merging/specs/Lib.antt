@@ -4,3 +4,4 @@ pub mod Merging
 pub mod Asking
 pub mod Labelled
 pub mod Kept
+pub mod Outers

@@ -9,7 +9,8 @@ pub mod named;
 ghost use Rattle.wac_merging.specs.Named.{Stated_are_well};
 ghost use Rattle.wac_merging.specs.Families.{Family_is_stated, Unnamed_is_of_none};
 ghost use Rattle.wac_merging.specs.Merging.{Merged_is_stated, Clash_is_stated, Narrower_is_stated, Outside_is_stated, Kept_is_stated, Refused_is_stated, Spelled_is_stated};
-ghost use Rattle.wac_merging.specs.Labelled.{Class_is_labelled, Outers_are_labelled, One_more_labelled, Kept_have_no_conflict, Refused_is_conflict};
+ghost use Rattle.wac_merging.specs.Labelled.{Labels_are_of_classes, Class_is_labelled, Outers_are_labelled, One_more_labelled, Kept_have_no_conflict, Refused_is_conflict};
+ghost use Rattle.wac_merging.specs.Outers.{Spelled_is_outer, Outers_are_stated};
 ghost use Rattle.wac_merging.specs.Asking.{Asked_has_family, Unnamed_has_none, First_is_taken, Again_is_taken, One_family_is_all, Next_is_taken, Refused_keeps_nothing, Taken_stays, Kept_is_identified, Spelled_is_identified};
 
 pub use kept::{Kept, family_asked, kept_again, kept_first, kept_import, kept_next, kept_with};
@@ -73,9 +74,11 @@ pub fn outer_imports_are_identified()
     ensures spelled { Spelled_is_identified }
 {}
 
-/// Where asks have labels, and one label exactly where they are one outer import, the class of an ask has the asks of
-/// its label in order, and the outer imports are those of the labels, in the order in which these come first.
+/// Where asks have labels, and one label exactly where they are one outer import, as the places of first asks are, the
+/// class of an ask has the asks of its label in order, and the outer imports are those of the labels, in the order in
+/// which these come first.
 pub fn outer_imports_are_labelled<A>()
+    ensures labels { Labels_are_of_classes A }
     ensures class { Class_is_labelled A }
     ensures outers { Outers_are_labelled A }
     ensures more { One_more_labelled A }
@@ -86,4 +89,10 @@ pub fn outer_imports_are_labelled<A>()
 pub fn conflicts_are_labelled<A>()
     ensures none { Kept_have_no_conflict A }
     ensures first { Refused_is_conflict A }
+{}
+
+/// What the asks of each label keep, under their spellings, are the outer imports.
+pub fn outer_imports_are_kept<A>()
+    ensures spelled { Spelled_is_outer A }
+    ensures outers { Outers_are_stated A }
 {}
