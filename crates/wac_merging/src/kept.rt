@@ -1,6 +1,6 @@
 //! What is kept of the asks of one outer import, as they are taken one after another.
 
-ghost use Rattle.std.specs.Prelude.{◌≡◌, ◌↔◌, IsTrue, IfOk, IfErr, false, slice_get};
+ghost use Rattle.std.specs.Prelude.{◌≡◌, ◌↔◌, IsTrue, IfOk, IfErr, Some, false, slice_get};
 ghost use Rattle.wac_types_base.specs.declared.item.ItemKind.{ItemKind};
 ghost use Rattle.wac_types_base.specs.Collection.{Stands, Grows};
 ghost use Rattle.wac_types_base.specs.declared.defined.UsedType.{UsedType};
@@ -75,7 +75,8 @@ pub fn family_asked(types: &Types, name: &str, item: ItemKind) -> Family
 
 /// What the first ask keeps: its item.
 pub fn kept_first(item: ItemKind) -> Kept
-    ensures { KeepsFirst item result }
+    ensures keeps { KeepsFirst item result }
+    ensures item { result.item ≡ item }
 {
     Kept {
         several: false,
@@ -86,7 +87,8 @@ pub fn kept_first(item: ItemKind) -> Kept
 
 /// What is kept where one ask stands before that asks the same under the same name.
 pub fn kept_again(before: Kept) -> Kept
-    ensures { KeepsAgain before result }
+    ensures keeps { KeepsAgain before result }
+    ensures item { result.item ≡ before.item }
 {
     Kept {
         several: true,
@@ -97,7 +99,9 @@ pub fn kept_again(before: Kept) -> Kept
 
 /// What is kept, with the family of the one ask that all are.
 pub fn kept_with(before: Kept, family: Family) -> Kept
-    ensures { KeepsWith before family result }
+    ensures keeps { KeepsWith before family result }
+    ensures item { result.item ≡ before.item }
+    ensures family { result.family ≡ Some family }
 {
     Kept {
         several: before.several,
@@ -118,6 +122,7 @@ pub fn kept_next(
     requires kept { Stands types.old before.item }
     requires asked { Stands types.old asked }
     ensures next { IfOk result (KeepsNext types.old before family asked asked_family types.new) }
+    ensures stands { IfOk result (λ k. Stands types.new k.item) }
     ensures nothing { IfErr result (λ e. IfMerging e (KeepsNothing types.old before family asked asked_family)) }
     ensures grows { Grows types.old types.new }
 {
