@@ -15,3 +15,4 @@ pub mod Labels
 pub mod Keeping
 pub mod Conflicts
 pub mod Outers
+pub mod Repeated

@@ -5,3 +5,4 @@ pub mod Asking
 pub mod Labelled
 pub mod Kept
 pub mod Outers
+pub mod Repeated
