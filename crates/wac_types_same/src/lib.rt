@@ -1,0 +1,5 @@
+//! Whether two items of a collection state the same, identifiers, uses and owners included.
+#![tactic(auto)]
+
+mod core_items;
+mod labels;
