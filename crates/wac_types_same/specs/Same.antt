@@ -5,7 +5,7 @@ use Rattle.wac_types_base.specs.declared.item.ItemKind.{ItemKind}
 use Rattle.wac_types_base.specs.declared.defined.UsedType.{UsedType}
 use Rattle.wac_types_base.specs.Entries.{Name}
 use Rattle.wac_types_base.specs.Record.{Collection}
-use Rattle.wac_types_base.specs.Collection.{Shape, alias, Entry, item_node, slots_of}
+use Rattle.wac_types_base.specs.Collection.{Shape, alias, Entry, Slot, item_node, slots_of}
 use Rattle.wac_types_base.specs.Stated.{Stated, stated_of}
 
 -- the label of an entry; where there is none it does not matter which
@@ -17,9 +17,13 @@ label_in (Some e) = e.0
 abbrev pub label_of : Collection → ItemKind → Shape
 label_of c k = label_in (item_node c k)
 
+-- what a place states
+abbrev pub slot_stated : Collection → Slot → Option Stated
+slot_stated c o = option_map (stated_of c) o
+
 -- what the places of a kind state
 abbrev pub places_stated : Collection → ItemKind → List (Option Stated)
-places_stated c k = map (option_map (stated_of c)) (slots_of c k)
+places_stated c k = map (slot_stated c) (slots_of c k)
 
 -- a pair of texts, as their bytes
 abbrev pub pair_of : {Y Z : Type 0} → String Y × String Z → Name × Name

@@ -3,3 +3,6 @@
 
 mod core_items;
 mod labels;
+mod same;
+
+pub use same::states_same;
