@@ -115,7 +115,7 @@ pub fn states_same(types: &Types, a: ItemKind, b: ItemKind) -> bool
     ensures { IsTrue result ↔ (stated_of types.now a ≡ stated_of types.now b) }
 {
     types.see_acyclic();
-    same_labels(types, a, b) && same_places(types, a, b)
+    is_same(a, b) || (same_labels(types, a, b) && same_places(types, a, b))
 }
 
 /// Whether the places of two items state the same.
