@@ -43,8 +43,7 @@ states_same-returns-then-same_labels t c =
     same_said c.args.types.now c.see_acyclic.ensures c.args.a c.args.b c.requires.first c.requires.second c.same_places.result (c.same_labels.ensures.0 c.if-same_labels.true) c.same_places.ensures
 
 pub states_same-returns-else-same_labels : goal.states_same-returns-else-same_labels
-states_same-returns-else-same_labels t c =
-    (
-      λ x. absurd (not_both c.same_labels.result c.if-same_labels.false x),
-      λ e. c.same_labels.ensures.1 (same_label c.args.types.now c.see_acyclic.ensures c.args.a c.args.b c.requires.first c.requires.second e),
-    )
+states_same-returns-else-same_labels t c = (
+  λ x. absurd (not_both c.same_labels.result c.if-same_labels.false x),
+  λ e. c.same_labels.ensures.1 (same_label c.args.types.now c.see_acyclic.ensures c.args.a c.args.b c.requires.first c.requires.second e),
+)
