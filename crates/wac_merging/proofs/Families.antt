@@ -19,7 +19,7 @@ use Rattle.wac_types_merge.specs.declared.family.Family.{Family}
 use Rattle.wac_types_merge.specs.Families.{IsUnnamedIn, uses_of as uses_held, UsesUnnamed, HasMore, IsPlainItem, IsWitInterface, IsWitItem}
 use Rattle.wac_composition.specs.Classes.{is_instance}
 use Rattle.wac_composition.specs.Merging.{is_plain, is_called, is_wit}
-use Rattle.wac_merging.specs.Families.{family_by, family_stated, EqualAreUsed, NamesUses, Family_is_stated, Unnamed_is_of_none}
+use Rattle.wac_merging.specs.Families.{family_by, family_stated, NamesUses, Family_is_stated, Unnamed_is_of_none}
 use Rattle.wac_merging.proofs.Plainness.{plain_stated, stated_plain}
 use Rattle.wac_merging.proofs.Wit.{instance_wit, wit_instance, wit_named}
 
@@ -62,10 +62,10 @@ module _ (c : Collection) (a : IsAcyclic c) (n : Name) where
         let f = interface_found c i s in
         instance_wit c a i s f.value f.at f.own n (λ u. named (subst (λ o. IsUnnamedIn c (uses_held o)) (sym f.at) u)) (subst (IsWitInterface c n i) f.at w)
 
-    stated_instance : EqualAreUsed c (ItemKind.Instance i) → is_wit n (stated_of c (ItemKind.Instance i)) ≡ true → IsWitItem c n (ItemKind.Instance i)
-    stated_instance equal e =
+    stated_instance : is_wit n (stated_of c (ItemKind.Instance i)) ≡ true → IsWitItem c n (ItemKind.Instance i)
+    stated_instance e =
         let f = interface_found c i s in
-        subst (IsWitInterface c n i) (sym f.at) (wit_instance c a i s f.value f.at f.own n equal e)
+        subst (IsWitInterface c n i) (sym f.at) (wit_instance c a i s f.value f.at f.own n e)
 
     instance_named : is_wit n (stated_of c (ItemKind.Instance i)) ≡ true → UsesUnnamed c (ItemKind.Instance i) → ⊥
     instance_named e u =
@@ -109,13 +109,13 @@ module _ (c : Collection) (a : IsAcyclic c) (n : Name) where
   no_type (TypeKind.World r) = refl
   no_type (TypeKind.Module r) = refl
 
-  none_wit : (k : ItemKind) → Stands c k → EqualAreUsed c k → (IsWitItem c n k → ⊥) → is_wit n (stated_of c k) ≡ false
-  none_wit (ItemKind.Instance i) s equal h = not_so (is_wit n (stated_of c (ItemKind.Instance i))) (λ e. h (stated_instance i s equal e))
-  none_wit (ItemKind.Ty t) s equal h = not_wit (ItemKind.Ty t) s (no_type t)
-  none_wit (ItemKind.Func t) s equal h = not_wit (ItemKind.Func t) s refl
-  none_wit (ItemKind.Component t) s equal h = not_wit (ItemKind.Component t) s refl
-  none_wit (ItemKind.Module t) s equal h = not_wit (ItemKind.Module t) s refl
-  none_wit (ItemKind.Value t) s equal h = not_wit (ItemKind.Value t) s refl
+  none_wit : (k : ItemKind) → Stands c k → (IsWitItem c n k → ⊥) → is_wit n (stated_of c k) ≡ false
+  none_wit (ItemKind.Instance i) s h = not_so (is_wit n (stated_of c (ItemKind.Instance i))) (λ e. h (stated_instance i s e))
+  none_wit (ItemKind.Ty t) s h = not_wit (ItemKind.Ty t) s (no_type t)
+  none_wit (ItemKind.Func t) s h = not_wit (ItemKind.Func t) s refl
+  none_wit (ItemKind.Component t) s h = not_wit (ItemKind.Component t) s refl
+  none_wit (ItemKind.Module t) s h = not_wit (ItemKind.Module t) s refl
+  none_wit (ItemKind.Value t) s h = not_wit (ItemKind.Value t) s refl
 
   typed_unplain : (t : TypeKind) → Stands c (ItemKind.Ty t) → UsesUnnamed c (ItemKind.Ty t) → IsPlainItem c (ItemKind.Ty t) → ⊥
   typed_unplain (TypeKind.Interface i) s u p =
@@ -137,9 +137,9 @@ module _ (c : Collection) (a : IsAcyclic c) (n : Name) where
   unnamed_none (ItemKind.Value f) s u = absurd u.1
 
 pub family_is_stated : Family_is_stated
-family_is_stated c n k Family.Plain a s named equal h = same_plain c a n k s h
-family_is_stated c n k Family.Wit a s named equal h = same_wit c a n k s named h
-family_is_stated c n k Family.Neither a s named equal h = same_by c a n k false (not_plain c a n k s h.0) (none_wit c a n k s (equal refl) h.1)
+family_is_stated c n k Family.Plain a s named h = same_plain c a n k s h
+family_is_stated c n k Family.Wit a s named h = same_wit c a n k s named h
+family_is_stated c n k Family.Neither a s named h = same_by c a n k false (not_plain c a n k s h.0) (none_wit c a n k s h.1)
 
 pub unnamed_is_of_none : Unnamed_is_of_none
 unnamed_is_of_none c n k a s u = sym (unnamed_none c a n k s u)

@@ -16,7 +16,7 @@ use Rattle.wac_types_base.proofs.Adding.{Among-left, Among-right}
 use Rattle.wac_types_base.proofs.Standing.{interface_found}
 use Rattle.wac_types_fit.proofs.Unfolded.{interface_node}
 use Rattle.wac_types_merge.specs.Families.{IsUsedBy, used_directly, used_further}
-use Rattle.wac_types_merge.proofs.Families.{use_inside, leads_there}
+use Rattle.wac_types_merge.proofs.Families.{use_inside, use_in}
 use Rattle.wac_composition.specs.Merging.{reached_at, reached}
 use Rattle.wac_composition.proofs.Clashing.{among_append}
 use Rattle.wac_merging.proofs.Folding.{found_in, folded_step}
@@ -90,10 +90,10 @@ module _ (c : Collection) where
         let into = use_inside c a i f.value s f.at f.own u.0 u.1 in
         let less = into.1 in
         elim u.2 [
-          | inl e ↦ (u.0.interface, leads_there c u.0.interface i f.value f.at u.0 u.1 (inl refl), e)
+          | inl e ↦ (u.0.interface, used_directly (use_in c u.0.interface i f.value f.at u.0 u.1), e)
           | inr k ↦
               let r = reached_below n u.0.interface y (omega (arith, lt, less)) into.0 k in
-              (r.0, leads_there c r.0 i f.value f.at u.0 u.1 (inr r.1), r.2)
+              (r.0, used_further (use_in c r.0 i f.value f.at u.0 u.1) r.1, r.2)
         ]
 
     pub reached_used : (i : InterfaceId) (y : Stated) → Stands c (ItemKind.Instance i) → Among y (reached (interface_stated i)) → (j : InterfaceId) × IsUsedBy c i j × (y ≡ interface_stated j)

@@ -168,9 +168,9 @@ some_ask (a ∷ asks) x e = (a, inl refl)
 -- ---- single asks
 
 pub asked_has_family : Asked_has_family
-asked_has_family c n k f acyclic s w named equal h = record {
+asked_has_family c n k f acyclic s w named h = record {
   stands = s;
-  family = family_is_stated c n k f acyclic s named equal h;
+  family = family_is_stated c n k f acyclic s named h;
   plain = λ some. family_plain c acyclic n k f s h some;
   well = w;
 }

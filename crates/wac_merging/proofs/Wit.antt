@@ -21,13 +21,12 @@ use Rattle.wac_types_base.proofs.Standing.{interface_found}
 use Rattle.wac_types_base.proofs.Stating.{stated_uses, interface_uses, interface_stated, instance_exports_stated}
 use Rattle.wac_types_base.proofs.Telling.{item_kind, kind_stated}
 use Rattle.wac_types_fit.proofs.Items.{exports_inside}
-use Rattle.wac_types_merge.specs.Families.{IsUnnamedIn, IsUsedBy, IsWitExport, IsForeign, AreWitExports, IsWitInterface}
+use Rattle.wac_types_merge.specs.Families.{IsUnnamedIn, UsesSuch, IsWitExport, IsForeign, AreWitExports, IsWitInterface}
 use Rattle.wac_types_merge.proofs.Families.{use_inside, entry_of, unnamed_there, all_named}
 use Rattle.wac_composition.specs.Classes.{is_instance}
 use Rattle.wac_composition.specs.Tests.{same}
 use Rattle.wac_composition.specs.Merging.{is_wit_kind, is_called, is_wit, owners, reached}
 use Rattle.wac_composition.proofs.Closures.{any_among, among_any}
-use Rattle.wac_merging.specs.Families.{EqualAreUsed}
 use Rattle.wac_merging.proofs.SameStated.{stated_tell}
 use Rattle.wac_merging.proofs.Owners.{OwnsItem, reached_owner, owner_reached}
 use Rattle.wac_merging.proofs.Reached.{used_reached, reached_used}
@@ -116,7 +115,7 @@ module _ (c : Collection) (i : InterfaceId) where
   interface_of_id o = stated_of c (ItemKind.Instance o)
 
   -- the owner of a resource that is reached and foreign
-  foreign_owner : {k : ItemKind} → Reaches (item_node c) (IsForeign c i) k → (o : InterfaceId) × (IsUsedBy c i o → ⊥) × Reaches (item_node c) (OwnsItem c (interface_of_id o)) k
+  foreign_owner : {k : ItemKind} → Reaches (item_node c) (IsForeign c i) k → (o : InterfaceId) × (UsesSuch c i o → ⊥) × Reaches (item_node c) (OwnsItem c (interface_of_id o)) k
   foreign_owner (here p) = (p.0, p.2, here (p.0, p.1, refl))
   foreign_owner (below e m r) = let f = foreign_owner r in (f.0, f.1, below e m f.2)
 
@@ -139,20 +138,20 @@ module _ (c : Collection) (a : IsAcyclic c) (i : InterfaceId) (s : Stands c (Ite
         p.0,
         p.1,
         λ u.
-            true≢false (sym (among_any (same y) (reached t) (stated_of c (ItemKind.Instance p.0)) (used_reached c a i p.0 s u) (subst (λ z. same y z ≡ true) p.2 (stated_tell.itself y))) ∙ e),
+            true≢false (sym (among_any (same y) (reached t) (stated_of c (ItemKind.Instance u.0)) (used_reached c a i u.0 s u.1) (subst (λ z. same y z ≡ true) (p.2 ∙ sym u.2) (stated_tell.itself y))) ∙ e),
       )
 
       each : (y : Stated) → Among y (owners (stated_of c k)) → (b : Bool) → is_reached y ≡ b → b ≡ true
       each y m true e = refl
       each y m false e = absurd (h (reaches_as (item_node c) (OwnsItem c y) (IsForeign c i) (foreign y e) (owner_reached c y a k stands m)))
 
-  none_foreign : EqualAreUsed c (ItemKind.Instance i) → (k : ItemKind) → Stands c k → owners_reached (stated_of c k) ≡ true → Reaches (item_node c) (IsForeign c i) k → ⊥
-  none_foreign equal k stands e r =
+  none_foreign : (k : ItemKind) → Stands c k → owners_reached (stated_of c k) ≡ true → Reaches (item_node c) (IsForeign c i) k → ⊥
+  none_foreign k stands e r =
       let f = foreign_owner c i r in
       let y = stated_of c (ItemKind.Instance f.0) in
       let z = any_among (same y) (reached t) (of_all is_reached (owners (stated_of c k)) e y (reached_owner c y a k stands f.2)) in
       let j = reached_used c a i z.0 s z.1 in
-      f.1 (equal f.0 j.0 j.1 (stated_tell.only y z.0 z.2 ∙ j.2))
+      f.1 (j.0, j.1, sym (stated_tell.only y z.0 z.2 ∙ j.2))
 
   -- ---- the interface
 
@@ -202,11 +201,11 @@ module _ (c : Collection) (a : IsAcyclic c) (i : InterfaceId) (s : Stands c (Ite
         ap (list_all (λ (e : Name × Stated). owners_reached e.1)) exports_are
         ∙ all_items c owners_reached x.exports (λ k m. owners_are k (export_stands k m) (w k m).1)
 
-    are_wit : EqualAreUsed c (ItemKind.Instance i) → list_all (λ (e : Name × Stated). has_wit_kind e.1) (exports_of t) ≡ true → list_all (λ (e : Name × Stated). owners_reached e.1) (exports_of t) ≡ true → AreWitExports c i (values_of x.exports)
-    are_wit equal e f k m =
+    are_wit : list_all (λ (e : Name × Stated). has_wit_kind e.1) (exports_of t) ≡ true → list_all (λ (e : Name × Stated). owners_reached e.1) (exports_of t) ≡ true → AreWitExports c i (values_of x.exports)
+    are_wit e f k m =
         let kinds = items_all c has_wit_kind x.exports (ap (list_all (λ (e : Name × Stated). has_wit_kind e.1)) (sym exports_are) ∙ e) k m in
         let owned = items_all c owners_reached x.exports (ap (list_all (λ (e : Name × Stated). owners_reached e.1)) (sym exports_are) ∙ f) k m in
-        (wit_kind k (ap (λ k. is_wit_kind k) (sym (kind_stated c a k (export_stands k m))) ∙ kinds), none_foreign equal k (export_stands k m) owned)
+        (wit_kind k (ap (λ k. is_wit_kind k) (sym (kind_stated c a k (export_stands k m))) ∙ kinds), none_foreign k (export_stands k m) owned)
 
     pub instance_wit : (n : Name) → (IsUnnamedIn c (values_of x.uses) → ⊥) → IsWitInterface c n i (Some x) → is_wit n t ≡ true
     instance_wit n h w =
@@ -236,8 +235,8 @@ module _ (c : Collection) (a : IsAcyclic c) (i : InterfaceId) (s : Stands c (Ite
         let h = and_parts (kind && called) kinds g.0 in
         record { called = (and_parts kind called h.0).1; kinds = h.1; uses = g.1; owned = f.1 }
 
-    pub wit_instance : (n : Name) → EqualAreUsed c (ItemKind.Instance i) → is_wit n t ≡ true → IsWitInterface c n i (Some x)
-    wit_instance n equal e = let p = tested n e in (sym named_as ∙ called_is (identifier_of t) n p.called, are_wit equal p.kinds p.owned)
+    pub wit_instance : (n : Name) → is_wit n t ≡ true → IsWitInterface c n i (Some x)
+    wit_instance n e = let p = tested n e in (sym named_as ∙ called_is (identifier_of t) n p.called, are_wit p.kinds p.owned)
 
     pub wit_named : (n : Name) → is_wit n t ≡ true → IsUnnamedIn c (values_of x.uses) → ⊥
     wit_named n e = none_unnamed (tested n e).uses

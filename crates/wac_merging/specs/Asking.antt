@@ -16,7 +16,7 @@ use Rattle.wac_types_merge.specs.Steps.{HasClash, LieOutside}
 use Rattle.wac_composition.specs.Names.{has_track}
 use Rattle.wac_composition.specs.Merging.{is_plain, is_wit, Asked, in_family, kept, identified}
 use Rattle.wac_composition.specs.Again.{IsWell}
-use Rattle.wac_merging.specs.Families.{EqualAreUsed, NamesUses, family_stated}
+use Rattle.wac_merging.specs.Families.{NamesUses, family_stated}
 use Rattle.wac_merging.specs.Merging.{IsKept}
 
 -- an item asked under a name, by what it states
@@ -51,7 +51,7 @@ pub record IsTaken (c : Collection) (asks : List Asked) (several : Bool) (k : It
 -- ---- the family of an ask
 
 abbrev pub Asked_has_family : Type 0
-Asked_has_family = (c : Collection) (n : Name) (k : ItemKind) (f : Family) → IsAcyclic c → Stands c k → IsWell (stated_of c k) → NamesUses c k → (f ≡ Family.Neither → EqualAreUsed c k) → IsFamily c n k f → IsOfFamily c n k f
+Asked_has_family = (c : Collection) (n : Name) (k : ItemKind) (f : Family) → IsAcyclic c → Stands c k → IsWell (stated_of c k) → NamesUses c k → IsFamily c n k f → IsOfFamily c n k f
 
 abbrev pub Unnamed_has_none : Type 0
 Unnamed_has_none = (c : Collection) (n : Name) (k : ItemKind) → IsAcyclic c → Stands c k → IsWell (stated_of c k) → UsesUnnamed c k → IsOfFamily c n k Family.Neither

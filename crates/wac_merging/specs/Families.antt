@@ -1,13 +1,12 @@
 -- The families of asks on ids are those of stated types.
 use Rattle.std.specs.Prelude.{◌≡◌, Bool, true, false}
 use Rattle.wac_types_base.specs.declared.item.ItemKind.{ItemKind}
-use Rattle.wac_types_base.specs.declared.ids.InterfaceId.{InterfaceId}
 use Rattle.wac_types_base.specs.Record.{Collection}
 use Rattle.wac_types_base.specs.Entries.{Name}
 use Rattle.wac_types_base.specs.Collection.{Stands, IsAcyclic}
 use Rattle.wac_types_base.specs.Stated.{Stated, stated_of}
 use Rattle.wac_types_merge.specs.declared.family.Family.{Family}
-use Rattle.wac_types_merge.specs.Families.{IsUsedBy, UsesUnnamed, IsFamily}
+use Rattle.wac_types_merge.specs.Families.{UsesUnnamed, IsFamily}
 use Rattle.wac_composition.specs.Merging.{is_plain, is_wit}
 
 abbrev pub family_by : (plain wit : Bool) → Family
@@ -19,20 +18,14 @@ family_by false false = Family.Neither
 abbrev pub family_stated : Name → Stated → Family
 family_stated n x = family_by (is_plain x) (is_wit n x)
 
--- an interface that states what a used one states is used: owners are compared by their ids, and what they state is not
-abbrev pub EqualAreUsed : Collection → ItemKind → Type 0
-EqualAreUsed c (ItemKind.Instance i) = (o j : InterfaceId) → IsUsedBy c i j → stated_of c (ItemKind.Instance o) ≡ stated_of c (ItemKind.Instance j) → IsUsedBy c i o
-EqualAreUsed c k = Unit {0}
-
 -- the uses of an instance have identifiers
 abbrev pub NamesUses : Collection → ItemKind → Type 0
 NamesUses c (ItemKind.Instance i) = UsesUnnamed c (ItemKind.Instance i) → ⊥
 NamesUses c k = Unit {0}
 
--- of an item whose uses have identifiers the families are the same, Neither only where equal interfaces are used
+-- of an item whose uses have identifiers the families are the same
 abbrev pub Family_is_stated : Type 0
-Family_is_stated = (c : Collection) (n : Name) (k : ItemKind) (f : Family) → IsAcyclic c → Stands c k → NamesUses c k → (f ≡ Family.Neither → EqualAreUsed c k)
-    → IsFamily c n k f → f ≡ family_stated n (stated_of c k)
+Family_is_stated = (c : Collection) (n : Name) (k : ItemKind) (f : Family) → IsAcyclic c → Stands c k → NamesUses c k → IsFamily c n k f → f ≡ family_stated n (stated_of c k)
 
 -- one that uses an interface without identifier states what is of no family
 abbrev pub Unnamed_is_of_none : Type 0

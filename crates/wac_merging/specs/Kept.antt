@@ -11,16 +11,15 @@ use Rattle.wac_types_merge.specs.declared.family.Family.{Family}
 use Rattle.wac_composition.specs.Merging.{Asked, kept, identified}
 use Rattle.wac_composition.specs.Again.{IsWell}
 use Rattle.wac_merging.specs.declared.kept.Kept.{Kept}
-use Rattle.wac_merging.specs.Families.{EqualAreUsed}
 use Rattle.wac_merging.specs.Asking.{asked_as, IsOfFamily, IsTaken}
 
 -- these asks keep it
 abbrev pub Keeps : Collection → List Asked → Kept → Type 0
 Keeps c asks k = IsTaken c asks k.several k.item k.family
 
--- of a well item the family, of no family where equal interfaces are used
+-- the family of a well item
 abbrev pub HasFamily : Collection → Name → ItemKind → Family → Type 0
-HasFamily c n k f = IsWell (stated_of c k) → (f ≡ Family.Neither → EqualAreUsed c k) → IsOfFamily c n k f
+HasFamily c n k f = IsWell (stated_of c k) → IsOfFamily c n k f
 
 -- the first ask keeps its item
 abbrev pub KeepsFirst : ItemKind → Kept → Type 0

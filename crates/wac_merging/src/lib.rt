@@ -23,8 +23,7 @@ pub fn stated_items_are_well()
     ensures { Stated_are_well }
 {}
 
-/// The family of an ask is that of what its item states. Owners of resources are compared by their ids, so for an
-/// ask of no family it has to be known that equal interfaces are used where one of them is.
+/// The family of an ask is that of what its item states.
 pub fn families_are_stated()
     ensures family { Family_is_stated }
     ensures unnamed { Unnamed_is_of_none }
