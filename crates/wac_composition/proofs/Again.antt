@@ -26,7 +26,7 @@ use Rattle.wac_types_base.proofs.Made.{made_exports}
 -- ---- an interface that is made
 
 -- exports, each with what merges it
-abbrev merging : List (Name × Stated) → List (Name × (Stated × Merge))
+abbrev pub merging : List (Name × Stated) → List (Name × (Stated × Merge))
 merging es = map (λ e. (e.0, (e.1, merge e.1))) es
 
 row_exports : (es : List (Name × Stated)) → with_names (names es) (folded_row merge_at (row (filled es))) ≡ merging es
@@ -45,16 +45,16 @@ own_uses : (us : List Used) (os : List (Option Stated)) → map (λ u. u.0) (use
 own_uses [] os = refl
 own_uses (u ∷ us) os = ap (λ l. u ∷ l) (own_uses us os)
 
-made_uses : (i : Option Name) (us : List Used) (es : List (Name × Stated)) → uses_of (interface_of i us es) ≡ us
+pub made_uses : (i : Option Name) (us : List Used) (es : List (Name × Stated)) → uses_of (interface_of i us es) ≡ us
 made_uses i us es = own_uses us (filled es)
 
-abbrev more_uses : List Used → Stated → List Used
+abbrev pub more_uses : List Used → Stated → List Used
 more_uses us y = filter (λ u. not (has_use us u.name)) (uses_of y)
 
-abbrev more_exports : List (Name × Stated) → Stated → List (Name × Stated)
+abbrev pub more_exports : List (Name × Stated) → Stated → List (Name × Stated)
 more_exports es y = filter (λ f. is_none (value_at (merging es) f.0)) (exports_of y)
 
-abbrev merged_of : Option Name → List Used → List (Name × Stated) → Stated → Option Stated
+abbrev pub merged_of : Option Name → List Used → List (Name × Stated) → Stated → Option Stated
 merged_of i us es y = option_map (λ xs. interface_of i (us ++ more_uses us y) (xs ++ more_exports es y)) (merged_exports (merging es) (exports_of y))
 
 module _ (i : Option Name) (us : List Used) (es : List (Name × Stated)) where
@@ -65,17 +65,17 @@ module _ (i : Option Name) (us : List Used) (es : List (Name × Stated)) where
   interface_merge y = λ j.
       option_map (λ xs. interface_of i (first_uses us (filled es) j ++ more_uses (first_uses us (filled es) j) y) (xs ++ filter (λ (f : Name × Stated). is_none (value_at (parts_exports j) f.0)) (exports_of y))) (merged_exports (parts_exports j) (exports_of y))
 
-  merge_made : (y : Stated) → merge (interface_of i us es) y ≡ if_kind (is_instance (kind_of y)) (merged_of i us es y)
+  pub merge_made : (y : Stated) → merge (interface_of i us es) y ≡ if_kind (is_instance (kind_of y)) (merged_of i us es y)
   merge_made y = ap (if_kind (is_instance (kind_of y))) (interface_merge y)
 
-  merge_typed : (y : Stated) → merge (as_type (interface_of i us es)) y ≡ if_kind (is_interface (kind_of y)) (option_map as_type (merged_of i us es y))
+  pub merge_typed : (y : Stated) → merge (as_type (interface_of i us es)) y ≡ if_kind (is_interface (kind_of y)) (option_map as_type (merged_of i us es y))
   merge_typed y = ap (λ o. if_kind (is_interface (kind_of y)) (option_map as_type o)) (interface_merge y)
 
 -- what is no interface is kept where it is the same
 rebuilt_same : (s : Shape) (ts : Wholes Shape) → rebuilt s (folded_row merge_at ts) ≡ node s ts
 rebuilt_same s ts = ap (λ os. node s (row os)) (folded_firsts merge_at ts) ∙ ap (node s) (row_again ts)
 
-merge_other : (x y : Stated) → is_instance (kind_of x) ≡ false → is_interface (kind_of x) ≡ false → merge x y ≡ if_kind (fits x y && fits y x) (Some x)
+pub merge_other : (x y : Stated) → is_instance (kind_of x) ≡ false → is_interface (kind_of x) ≡ false → merge x y ≡ if_kind (fits x y && fits y x) (Some x)
 merge_other (node s ts) y g h = merge_flat (folded_row merge_at ts) s y g h ∙ ap (λ x. if_kind (fits x y && fits y x) (Some x)) (rebuilt_same s ts)
 
 -- ---- merged exports by their names
@@ -88,7 +88,7 @@ value_merging (e ∷ es) n = go (value_merging es n) (pointwise ◌==◌ n e.0)
     go rest true = refl
     go rest false = rest
 
-none_merging : (es : List (Name × Stated)) (n : Name) → is_none (value_at (merging es) n) ≡ is_none (value_at es n)
+pub none_merging : (es : List (Name × Stated)) (n : Name) → is_none (value_at (merging es) n) ≡ is_none (value_at es n)
 none_merging es n = ap (λ (o : Option (Stated × Merge)). is_none o) (value_merging es n) ∙ go (value_at es n)
   where
     go : (o : Option Stated) → is_none (option_map {U = Stated × Merge} (λ x. (x, merge x)) o) ≡ is_none o
@@ -285,7 +285,7 @@ record Merges (w b z : Stated) : Type 0 where
   new : Holds z b
   old : (a : Stated) → Holds w a → Holds z a
 
-abbrev WellEntries : Stated → Type 0
+abbrev pub WellEntries : Stated → Type 0
 WellEntries x = (n : Name) (y : Stated) → Among (n, y) (exports_of x) → IsWell y
 
 -- the exports of a merged interface
@@ -430,7 +430,7 @@ module _ (w b : Stated) (dw : AreDistinct (names_of (exports_of w))) (db : AreDi
   interfaces_merge : is_interface (kind_of w) ≡ true → is_interface (kind_of b) ≡ true → Merges w b (as_type made)
   interfaces_merge k h = record { well = well_interface (ap as_type made_is) made_distinct made_well; new = of_interfaces refl h new_uses new_names new_exports; old = interface_keeps k }
 
-entries_of : (b : Stated) → (is_instance (kind_of b) ≡ true) ⊎ (is_interface (kind_of b) ≡ true) → IsWell b → AreDistinct (names_of (exports_of b)) × WellEntries b
+pub entries_of : (b : Stated) → (is_instance (kind_of b) ≡ true) ⊎ (is_interface (kind_of b) ≡ true) → IsWell b → AreDistinct (names_of (exports_of b)) × WellEntries b
 entries_of b k (well_instance e d h) = (d, h)
 entries_of b k (well_interface e d h) = (d, h)
 entries_of b (inl k) (no_interface g h) = absurd (true≢false (sym k ∙ g))
@@ -540,6 +540,19 @@ keeps_from before x (a ∷ as_) z k v e = go (λ w i q. keeps_from (before ++ a 
     go further None q s = absurd (no_more_kept (before ++ a ∷ []) as_ z s)
     go further (Some w) q s = subst (λ l. Keeps l z) (append_assoc before (a ∷ []) as_) (further w (keeps_step before x a w k (v a (inl refl)) (in_family (before ++ a ∷ [])) refl q) s)
 
+-- one ask keeps itself
+first_keeps : (b : Asked) → IsWell b.1 → Keeps (b ∷ []) b.1
+first_keeps b w = record { well = w; each = λ f c k. subst (λ (d : Asked). Holds b.1 d.1) (sym (only c k)) (holds_itself b.1 w) }
+  where
+    only : (c : Asked) → Among c (b ∷ []) → c ≡ b
+    only c (inl d) = d
+    only c (inr f) = absurd f
+
+-- what well asks keep is well
+pub kept_well : (asks : List Asked) (x : Stated) → ((a : Asked) → Among a asks → IsWell a.1) → kept asks ≡ Some x → IsWell x
+kept_well [] x v e = absurd (none-some _ e)
+kept_well (b ∷ bs) x v e = (keeps_from (b ∷ []) b.1 bs x (first_keeps b (v b (inl refl))) (λ c i. v c (inr i)) e).well
+
 -- what is kept of an ask stays where it is asked again
 stays : (before : List Asked) (x : Stated) (a : Asked) → kept before ≡ Some x → Keeps before x → Among a before → (if in_family (before ++ a ∷ []) then merge x a.1 else narrower x a.1) ≡ Some x
 stays before x a e k m = go (in_family (before ++ a ∷ [])) refl
@@ -569,13 +582,8 @@ asking_twice (b ∷ bs) after a m v = go (kept_from (b ∷ []) (Some b.1) bs) re
     go : (o : Option Stated) → kept_from (b ∷ []) (Some b.1) bs ≡ o → kept_from (b ∷ []) (Some b.1) (bs ++ a ∷ after) ≡ kept_from (b ∷ []) (Some b.1) (bs ++ after)
     go None e = still_none (b ∷ []) (Some b.1) bs (a ∷ after) e ∙ sym (still_none (b ∷ []) (Some b.1) bs after e)
     go (Some x) e =
-        let first : Keeps (b ∷ []) b.1 = record { well = v b (inl refl); each = λ f c k. subst (λ (d : Asked). Holds b.1 d.1) (sym (only c k)) (holds_itself b.1 (v b (inl refl))) } in
-        let k = keeps_from (b ∷ []) b.1 bs x first (λ c i. v c (inr i)) e in
+        let k = keeps_from (b ∷ []) b.1 bs x (first_keeps b (v b (inl refl))) (λ c i. v c (inr i)) e in
         kept_further (b ∷ []) bs (a ∷ after) b.1 x e
         ∙ ap (λ o. kept_from ((b ∷ bs) ++ a ∷ []) o after) (stays (b ∷ bs) x a e k m)
         ∙ same_from ((b ∷ bs) ++ a ∷ []) (b ∷ bs) (Some x) after (λ more. ap in_family (append_assoc (b ∷ bs) (a ∷ []) more) ∙ family_again (b ∷ bs) more a m)
         ∙ sym (kept_further (b ∷ []) bs after b.1 x e)
-      where
-        only : (c : Asked) → Among c (b ∷ []) → c ≡ b
-        only c (inl d) = d
-        only c (inr f) = absurd f

@@ -113,7 +113,7 @@ greatest_again n m ns ks k =
 
 -- ---- lists
 
-filter_append : {X : Type 0} (p : X → Bool) (xs ys : List X) → filter p (xs ++ ys) ≡ filter p xs ++ filter p ys
+pub filter_append : {X : Type 0} (p : X → Bool) (xs ys : List X) → filter p (xs ++ ys) ≡ filter p xs ++ filter p ys
 filter_append p [] ys = refl
 filter_append p (x ∷ xs) ys = go (filter_append p xs ys) (p x)
   where
@@ -135,7 +135,7 @@ find_again p (x ∷ xs) ys a b m e = go (λ k. find_again p xs ys a b k e) m (p 
     go rest (inl d) false q = behind xs (sym e ∙ ap p d ∙ q)
 
 module _ {X : Type 0} (before after : List X) (a : X) where
-  among_more : (x : X) → Among x (before ++ after) → Among x (before ++ a ∷ after)
+  pub among_more : (x : X) → Among x (before ++ after) → Among x (before ++ a ∷ after)
   among_more = go before
     where
       go : (bs : List X) (x : X) → Among x (bs ++ after) → Among x (bs ++ a ∷ after)
@@ -143,7 +143,7 @@ module _ {X : Type 0} (before after : List X) (a : X) where
       go (b ∷ bs) x (inl e) = inl e
       go (b ∷ bs) x (inr m) = inr (go bs x m)
 
-  among_fewer : (x : X) → Among x (before ++ a ∷ after) → Among x (before ++ after) ⊎ (x ≡ a)
+  pub among_fewer : (x : X) → Among x (before ++ a ∷ after) → Among x (before ++ after) ⊎ (x ≡ a)
   among_fewer = go before
     where
       go : (bs : List X) (x : X) → Among x (bs ++ a ∷ after) → Among x (bs ++ after) ⊎ (x ≡ a)
@@ -183,7 +183,7 @@ module _ {A : Type 0} where
   abbrev pair_in : Ask A → Asked
   pair_in a = (a.name, a.item)
 
-  kept_again : (xs ys : List (Ask A)) (a b : Ask A) → Among b xs → b.name ≡ a.name → b.item ≡ a.item → ((c : Ask A) → Among c xs → IsWell c.item) → kept (asked_in (xs ++ a ∷ ys)) ≡ kept (asked_in (xs ++ ys))
+  pub kept_again : (xs ys : List (Ask A)) (a b : Ask A) → Among b xs → b.name ≡ a.name → b.item ≡ a.item → ((c : Ask A) → Among c xs → IsWell c.item) → kept (asked_in (xs ++ a ∷ ys)) ≡ kept (asked_in (xs ++ ys))
   kept_again xs ys a b m e f v =
       ap kept (map-append pair_in xs (a ∷ ys))
       ∙ asking_twice (asked_in xs) (asked_in ys) (pair_in a) (subst (λ p. Among p (asked_in xs)) (λ i. (e i, f i)) (among_mapped pair_in xs b m))

@@ -170,7 +170,7 @@ not_typed xs y (an_instance a d r) e t o (type_fits {t = v} h) g = no v (fields_
 -- ---- merged exports
 
 -- what a merge refuses, no tree fits beside what it merges with
-abbrev ClashesBoth : Stated → Merge → Type 0
+abbrev pub ClashesBoth : Stated → Merge → Type 0
 ClashesBoth x m = Regular x → (y : Stated) → Regular y → m y ≡ None → Clash (tree x) (tree y)
 
 abbrev AllClash : List (Name × (Stated × Merge)) → Type 0
@@ -299,7 +299,7 @@ merge_at_clashes s ts h (an_instance a d k) y q e = absurd (true≢false (sym a)
 merge_at_clashes s ts h (an_interface a d k) y q e = absurd (true≢false (sym a))
 
 mutual
-  merge_clashes : (x : Stated) → ClashesBoth x (merge x)
+  pub merge_clashes : (x : Stated) → ClashesBoth x (merge x)
   merge_clashes (node s ts) r y q e = merge_at_clashes s ts (row_clashes ts) r y q e
 
   row_clashes : (ts : Wholes Shape) → RowClashes (folded_row merge_at ts)

@@ -128,7 +128,7 @@ module _ {A : Type 0} (asks : List (Ask A)) where
   ]
 
   -- classes of one spelling are one
-  class_by_spelling : (a b : Ask A) → Among a asks → Among b asks → spelled (class asks a) ≡ spelled (class asks b) → class asks a ≡ class asks b
+  pub class_by_spelling : (a b : Ask A) → Among a asks → Among b asks → spelled (class asks a) ≡ spelled (class asks b) → class asks a ≡ class asks b
   class_by_spelling a b m n e =
       let c = spelled_among (class asks a) a (class_itself a m) in
       let d = spelled_among (class asks b) b (class_itself b n) in
@@ -174,7 +174,7 @@ module _ {A : Type 0} (asks : List (Ask A)) where
       let same = class_by_spelling a b m k (sym p ∙ q) in
       ap (λ (z : Name × Stated). z.1) (same_Some _ _ (sym e ∙ ap outer_of same ∙ f))
 
-  spelled_outer : (as_ : List (Ask A)) (n : Name) (x : Stated) → outer_of as_ ≡ Some (n, x) → n ≡ spelled as_
+  pub spelled_outer : (as_ : List (Ask A)) (n : Name) (x : Stated) → outer_of as_ ≡ Some (n, x) → n ≡ spelled as_
   spelled_outer as_ n x e = go (kept (asked_in as_)) e
     where
       go : (o : Option Stated) → option_map {U = Name × Stated} (λ (z : Stated). (spelled as_, identified (spelled as_) (asked_in as_) z)) o ≡ Some (n, x) → n ≡ spelled as_

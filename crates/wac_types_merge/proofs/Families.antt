@@ -1,25 +1,30 @@
 -- What the tests of the families rest on.
-use Rattle.std.proofs.Common.{◌≡◌, ℕ, ◌+◌, ◌<◌, ◌≤◌, List, [], ◌∷◌, ◌++◌, length, map, Option, Some, None, IsSome, Bool, IsTrue, ◌↔◌, refl, sym, ap, subst, ◌⊎◌, inl, inr, arith, below_more}
+use Rattle.std.proofs.Common.{◌≡◌, ℕ, ◌+◌, ◌<◌, ◌≤◌, List, [], ◌∷◌, ◌++◌, length, map, Option, Some, None, IsSome, Bool, IsTrue, ◌↔◌, refl, sym, ap, subst, ◌∙◌, ◌⊎◌, inl, inr, arith, below_more}
 use Rattle.std.specs.Prelude.{slice_get, is_some}
+use Rattle.std.specs.Option.{option_map}
 use Rattle.wac_types_base.specs.declared.item.ItemKind.{ItemKind}
 use Rattle.wac_types_base.specs.declared.item.ValueType.{ValueType}
 use Rattle.wac_types_base.specs.declared.item.«Type».{«Type» as TypeKind}
 use Rattle.wac_types_base.specs.declared.ids.ResourceId.{ResourceId}
 use Rattle.wac_types_base.specs.declared.ids.InterfaceId.{InterfaceId}
 use Rattle.wac_types_base.specs.declared.defined.UsedType.{UsedType}
+use Rattle.wac_types_base.specs.declared.defined.Resource.{Resource}
+use Rattle.wac_types_base.specs.declared.defined.ResourceAlias.{ResourceAlias}
 use Rattle.wac_types_base.specs.declared.defined.Interface.{Interface}
 use Rattle.wac_types_base.specs.declared.ids.WorldId.{WorldId}
 use Rattle.wac_types_base.specs.declared.defined.World.{World}
 use Rattle.wac_types_base.specs.Record.{Collection}
 use Rattle.wac_types_base.specs.Graph.{Among}
 use Rattle.wac_types_base.specs.Entries.{values_of}
-use Rattle.wac_types_base.specs.Collection.{Stands, IsAcyclic, used, items, interface_entry, world_entry}
+use Rattle.wac_types_base.specs.Collection.{Stands, IsAcyclic, used, items, interface_entry, world_entry, resource_entry_at}
+use Rattle.wac_types_base.specs.Stated.{stated_of}
 use Rattle.wac_types_base.specs.Implicit.{used_interfaces, uses_in, identifier_in}
 use Rattle.wac_types_base.proofs.Adding.{Among-left}
-use Rattle.wac_types_base.proofs.Slots.{slots_interface, slots_world, stands_borrow, stands_own}
+use Rattle.wac_types_base.proofs.Slots.{slots_interface, slots_world, slots_resource, stands_borrow, stands_own, stands_typed_value}
+use Rattle.wac_types_base.proofs.Standing.{resource_found}
 use Rattle.wac_types_base.proofs.Walking.{slice_get-Among, child_smaller}
 use Rattle.wac_types_fit.specs.Trees.{IsInside}
-use Rattle.wac_types_merge.specs.Families.{IsUnnamedIn, IsUsedBy, used_directly, used_further}
+use Rattle.wac_types_merge.specs.Families.{IsUnnamedIn, IsUsedBy, used_directly, used_further, UsesSuch, owner, owner_in, owner_of, value_owner}
 
 pub some_test : {T : Type 0} (o p : Option T) (t : Bool) → t ≡ is_some o → o ≡ p → IsTrue t ↔ IsSome p
 some_test None p t e f = (λ h. absurd (cc (e, h)), λ h. absurd (cc (f, h)))
@@ -81,26 +86,66 @@ all_named c us h n =
     let u = use_of us n.0 n.1 in
     h u.0 u.1 (subst (λ (j : InterfaceId). identifier_in (slice_get c.interfaces j.index) ≡ None) (sym u.2) n.2)
 
--- the interface of a use is the target, or uses it
+abbrev StateSame : Collection → InterfaceId → InterfaceId → Type 0
+StateSame c i j = stated_of c (ItemKind.Instance i) ≡ stated_of c (ItemKind.Instance j)
+
+-- the interface of a use states what the target does, or uses one that does
 abbrev pub Leads : Collection → InterfaceId → UsedType → Type 0
-Leads c target u = (u.interface ≡ target) ⊎ IsUsedBy c u.interface target
+Leads c target u = StateSame c u.interface target ⊎ UsesSuch c u.interface target
 
 module _ (c : Collection) (target i : InterfaceId) (x : Interface) (at : slice_get c.interfaces i.index ≡ Some x) where
-  use_in : (u : UsedType) → Among u (values_of x.uses) → Among u.interface (uses_in (slice_get c.interfaces i.index))
+  pub use_in : (u : UsedType) → Among u (values_of x.uses) → Among u.interface (uses_in (slice_get c.interfaces i.index))
   use_in u m = subst (λ o. Among u.interface (uses_in o)) (sym at) (map_among (λ (v : UsedType). v.interface) (values_of x.uses) u m)
 
-  pub leads_there : (u : UsedType) → Among u (values_of x.uses) → Leads c target u → IsUsedBy c i target
-  leads_there u m (inl e) = used_directly (subst (λ j. Among j (uses_in (slice_get c.interfaces i.index))) e (use_in u m))
-  leads_there u m (inr r) = used_further (use_in u m) r
+  pub leads_there : (u : UsedType) → Among u (values_of x.uses) → Leads c target u → UsesSuch c i target
+  leads_there u m (inl e) = (u.interface, used_directly (use_in u m), e)
+  leads_there u m (inr r) = (r.0, used_further (use_in u m) r.1, r.2)
 
-none_leads : (c : Collection) (target i : InterfaceId) (x : Interface) → slice_get c.interfaces i.index ≡ Some x → ((u : UsedType) → Among u (values_of x.uses) → Leads c target u → ⊥) → (j : InterfaceId) → Among j (uses_in (slice_get c.interfaces i.index)) → (j ≡ target) ⊎ IsUsedBy c j target → ⊥
+none_leads : (c : Collection) (target i : InterfaceId) (x : Interface) → slice_get c.interfaces i.index ≡ Some x → ((u : UsedType) → Among u (values_of x.uses) → Leads c target u → ⊥) → (j : InterfaceId) → Among j (uses_in (slice_get c.interfaces i.index)) → StateSame c j target ⊎ UsesSuch c j target → ⊥
 none_leads c target i x at h j m r =
     let u = use_of (values_of x.uses) j (subst (λ o. Among j (uses_in o)) at m) in
-    h u.0 u.1 (subst (λ k. (k ≡ target) ⊎ IsUsedBy c k target) (sym u.2) r)
+    h u.0 u.1 (subst (λ k. StateSame c k target ⊎ UsesSuch c k target) (sym u.2) r)
 
-pub not_used : (c : Collection) (target i : InterfaceId) (x : Interface) → slice_get c.interfaces i.index ≡ Some x → ((u : UsedType) → Among u (values_of x.uses) → Leads c target u → ⊥) → IsUsedBy c i target → ⊥
-not_used c target i x at h (used_directly m) = none_leads c target i x at h target m (inl refl)
-not_used c target i x at h (used_further {k = k} m r) = none_leads c target i x at h k m (inr r)
+pub not_used : (c : Collection) (target i : InterfaceId) (x : Interface) → slice_get c.interfaces i.index ≡ Some x → ((u : UsedType) → Among u (values_of x.uses) → Leads c target u → ⊥) → UsesSuch c i target → ⊥
+not_used c target i x at h such = by such.1 refl
+  where
+    by : {l : InterfaceId} → IsUsedBy c l such.0 → l ≡ i → ⊥
+    by (used_directly m) e = none_leads c target i x at h such.0 (subst (λ l. Among such.0 (uses_in (slice_get c.interfaces l.index))) e m) (inl such.2)
+    by (used_further {k = k} m r) e = none_leads c target i x at h k (subst (λ l. Among k (uses_in (slice_get c.interfaces l.index))) e m) (inr (such.0, r, such.2))
+
+-- ---- owners
+
+module _ (c : Collection) (a : IsAcyclic c) (o : InterfaceId) where
+  alias_owner : (r : ResourceId) (x : Resource) → Stands c (ItemKind.Ty (TypeKind.Resource r)) → slice_get c.resources r.index ≡ Some x → r.collection ≡ c.number → (l : Option ResourceAlias) → x.alias ≡ l → owner_of l ≡ Some o → Stands c (ItemKind.Instance o)
+  alias_owner r x s at own None is e = absurd (cc e)
+  alias_owner r x s at own (Some l) is e =
+      let places = slots_resource c r x at own ∙ ap (λ l. (resource_entry_at x.name l).1) is in
+      (child_smaller c a (ItemKind.Ty (TypeKind.Resource r)) s 1 (ItemKind.Instance o) (ap (λ l. slice_get l 1) places ∙ ap (λ q. Some (option_map ItemKind.Instance q)) e)).0
+
+  resource_owner : (r : ResourceId) → Stands c (ItemKind.Ty (TypeKind.Resource r)) → owner_in (slice_get c.resources r.index) ≡ Some o → Stands c (ItemKind.Instance o)
+  resource_owner r s e =
+      let f = resource_found c r s in
+      alias_owner r f.value s f.at f.own f.value.alias refl (ap owner_in (sym f.at) ∙ e)
+
+  value_owner_stands : (v : ValueType) → Stands c (ItemKind.Value v) → value_owner c v ≡ Some o → Stands c (ItemKind.Instance o)
+  value_owner_stands (ValueType.Primitive p) s e = absurd (cc e)
+  value_owner_stands (ValueType.Borrow r) s e = resource_owner r (stands_borrow c r s) e
+  value_owner_stands (ValueType.Own r) s e = resource_owner r (stands_own c r s) e
+  value_owner_stands (ValueType.Defined d) s e = absurd (cc e)
+
+  -- an owner stands
+  pub owner_stands : (k : ItemKind) → Stands c k → owner c k ≡ Some o → Stands c (ItemKind.Instance o)
+  owner_stands (ItemKind.Ty (TypeKind.Resource r)) s e = resource_owner r s e
+  owner_stands (ItemKind.Ty (TypeKind.Func f)) s e = absurd (cc e)
+  owner_stands (ItemKind.Ty (TypeKind.Value v)) s e = value_owner_stands v (stands_typed_value c v s) e
+  owner_stands (ItemKind.Ty (TypeKind.Interface i)) s e = absurd (cc e)
+  owner_stands (ItemKind.Ty (TypeKind.World w)) s e = absurd (cc e)
+  owner_stands (ItemKind.Ty (TypeKind.Module m)) s e = absurd (cc e)
+  owner_stands (ItemKind.Func f) s e = absurd (cc e)
+  owner_stands (ItemKind.Instance i) s e = absurd (cc e)
+  owner_stands (ItemKind.Component w) s e = absurd (cc e)
+  owner_stands (ItemKind.Module m) s e = absurd (cc e)
+  owner_stands (ItemKind.Value v) s e = value_owner_stands v s e
 
 -- ---- tests
 
@@ -110,9 +155,6 @@ borrowed_stands c v r is s = stands_borrow c r (subst (λ x. Stands c (ItemKind.
 
 pub owned_stands : (c : Collection) (v : ValueType) (r : ResourceId) → v ≡ ValueType.Own r → Stands c (ItemKind.Value v) → Stands c (ItemKind.Ty (TypeKind.Resource r))
 owned_stands c v r is s = stands_own c r (subst (λ x. Stands c (ItemKind.Value x)) is s)
-
-pub same_instance : (i j : InterfaceId) → ItemKind.Instance i ≡ ItemKind.Instance j → i ≡ j
-same_instance i j e = cc e
 
 pub entry_of : {K V : Type 0} (es : List (K × V)) (v : V) → Among v (values_of es) → (n : K) × Among (n, v) es
 entry_of [] v m = absurd m

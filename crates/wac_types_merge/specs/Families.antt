@@ -14,6 +14,7 @@ use Rattle.wac_types_base.specs.Entries.{Name, values_of}
 use Rattle.wac_types_base.specs.Graph.{Among}
 use Rattle.wac_types_base.specs.Collection.{item_node}
 use Rattle.wac_types_base.specs.Reaching.{Reaches}
+use Rattle.wac_types_base.specs.Stated.{stated_of}
 use Rattle.wac_types_base.specs.Implicit.{used_interfaces, uses_in, identifier_in}
 use Rattle.wac_types_merge.specs.declared.family.Family.{Family}
 
@@ -111,11 +112,15 @@ IsWitExport (ItemKind.Ty (TypeKind.Value v)) = Unit {0}
 IsWitExport (ItemKind.Ty (TypeKind.Resource r)) = Unit {0}
 IsWitExport k = ⊥
 
--- a resource, or a handle of one, whose owner is not used by the interface
-abbrev pub IsForeign : Collection → InterfaceId → ItemKind → Type 0
-IsForeign c i k = (o : InterfaceId) × (owner c k ≡ Some o) × (IsUsedBy c i o → ⊥)
+-- an interface that states what this one does is used
+abbrev pub UsesSuch : Collection → InterfaceId → InterfaceId → Type 0
+UsesSuch c i o = (j : InterfaceId) × IsUsedBy c i j × (stated_of c (ItemKind.Instance j) ≡ stated_of c (ItemKind.Instance o))
 
--- each of these is a function, a value type or a resource, and each owner of a resource in it is used by the interface
+-- a resource, or a handle of one; no interface that states what its owner does is used by the interface
+abbrev pub IsForeign : Collection → InterfaceId → ItemKind → Type 0
+IsForeign c i k = (o : InterfaceId) × (owner c k ≡ Some o) × (UsesSuch c i o → ⊥)
+
+-- each of these is a function, a value type or a resource, and of each owner of a resource in it such an interface is used
 abbrev pub AreWitExports : Collection → InterfaceId → List ItemKind → Type 0
 AreWitExports c i ks = (k : ItemKind) → Among k ks → IsWitExport k × (Reaches (item_node c) (IsForeign c i) k → ⊥)
 

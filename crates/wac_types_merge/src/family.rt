@@ -6,12 +6,12 @@ ghost use Rattle.wac_types_base.specs.declared.defined.UsedType.{UsedType};
 ghost use Rattle.wac_types_base.specs.Graph.{Among};
 ghost use Rattle.wac_types_base.specs.Collection.{Stands, item_node};
 ghost use Rattle.wac_types_base.specs.Reaching.{Reaches};
-ghost use Rattle.wac_types_merge.specs.Families.{UsesUnnamed, IsUnnamedIn, uses_of, uses_of_world, uses_at_type, HasMore, owner_in, value_owner, type_owner, owner, IsUnplainType, IsUnplain, IsUsedBy, IsWitExport, IsForeign, AreWitExports, IsWitItem, IsFamily, joint};
+ghost use Rattle.wac_types_merge.specs.Families.{UsesUnnamed, IsUnnamedIn, uses_of, uses_of_world, uses_at_type, HasMore, owner_in, value_owner, type_owner, owner, IsUnplainType, IsUnplain, UsesSuch, IsWitExport, IsForeign, AreWitExports, IsWitItem, IsFamily, joint};
 
-use wac_types_base::replace::is_same;
 use wac_types_base::{
     Interface, InterfaceId, ItemKind, Resource, Text, Type, Types, UsedType, ValueType, WorldId,
 };
+use wac_types_same::states_same;
 
 /// The family in which all asks on a track lie.
 #[derive(Clone, Copy, Debug, PartialEq, Eq)]
@@ -206,33 +206,35 @@ fn reaches_unplain(types: &Types, kind: ItemKind) -> bool
     false
 }
 
-/// Whether an interface uses another, or one that does.
-fn is_used_by(types: &Types, id: InterfaceId, target: InterfaceId) -> bool
-    requires { Stands types.now (ItemKind.Instance id) }
-    ensures { IsTrue result ↔ IsUsedBy types.now id target }
+/// Whether an interface uses one that states what the target does, or one that uses such.
+fn uses_such(types: &Types, id: InterfaceId, target: InterfaceId) -> bool
+    requires interface { Stands types.now (ItemKind.Instance id) }
+    requires target { Stands types.now (ItemKind.Instance target) }
+    ensures { IsTrue result ↔ UsesSuch types.now id target }
 {
     let uses = types.interface(id).uses.values();
     for index in 0..uses.len() {
         let used = uses[index].interface;
-        if is_same(ItemKind::Instance(used), ItemKind::Instance(target)) {
+        if states_same(types, ItemKind::Instance(used), ItemKind::Instance(target)) {
             return true;
         }
-        if is_used_by(types, used, target) {
+        if uses_such(types, used, target) {
             return true;
         }
     }
     false
 }
 
-/// Whether the item is a resource, or a handle of one, with an owner that the interface does not use.
+/// Whether the item is a resource, or a handle of one, and the interface uses none that states what its owner does.
 fn is_foreign(types: &Types, id: InterfaceId, kind: ItemKind) -> bool
     requires interface { Stands types.now (ItemKind.Instance id) }
     requires stands { Stands types.now kind }
     ensures { IsTrue result ↔ IsForeign types.now id kind }
 {
+    types.see_acyclic();
     match owner_of(types, kind) {
         None => false,
-        Some(owner) => !is_used_by(types, id, owner),
+        Some(owner) => !uses_such(types, id, owner),
     }
 }
 

@@ -1,10 +1,10 @@
 use Rattle.wac_types_base.specs.declared.item.ItemKind.{ItemKind}
 use Rattle.wac_types_base.specs.Collection.{size_of}
 use Rattle.wac_types_merge.proofs.Families.{AllBefore, Leads}
-use Rattle.wac_types_merge.proofs.family.+is_used_by.Given as goal
+use Rattle.wac_types_merge.proofs.family.+uses_such.Given as goal
 
-abbrev pub decreases-is_used_by : goal.decreases-is_used_by
-decreases-is_used_by l = size_of l.types.now (ItemKind.Instance l.id)
+abbrev pub decreases-uses_such : goal.decreases-uses_such
+decreases-uses_such l = size_of l.types.now (ItemKind.Instance l.id)
 
 -- no use so far leads to the target
 abbrev pub invariant-loop-index : goal.invariant-loop-index

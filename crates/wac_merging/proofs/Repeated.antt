@@ -1,0 +1,200 @@
+-- An ask that repeats one before it conflicts with none, and changes no conflict.
+use Rattle.std.proofs.Common.{◌≡◌, List, [], ◌∷◌, ◌++◌, append_assoc, Bool, true, false, Option, Some, None, ◌⊎◌, refl, sym, ap, subst, ◌∙◌, inl, inr}
+use Rattle.std.specs.Prelude.{bytes_eq, cond, filter, is_some, if◌then◌else◌}
+use Rattle.std.specs.List.{list_any}
+use Rattle.std.proofs.lemmas.Option.{none-some}
+use Rattle.std.proofs.lemmas.List.{append-nil}
+use Rattle.std.proofs.lemmas.Slice.Eq.{bytes_eq-Decides}
+use Rattle.wac_types_base.specs.Graph.{Among}
+use Rattle.wac_types_base.proofs.Adding.{Among-left, Among-right}
+use Rattle.wac_composition.specs.Asks.{Asking, ByName, ToFill, ToUse, Ask}
+use Rattle.wac_composition.specs.Classes.{class}
+use Rattle.wac_composition.specs.Merging.{kept}
+use Rattle.wac_composition.specs.Again.{IsWell, KeepsClasses}
+use Rattle.wac_composition.specs.OuterImports.{asked_in}
+use Rattle.wac_composition.specs.Conflicts.{Cause, or_else, merge_cause, merge_fails, those_in, merge_conflict}
+use Rattle.wac_composition.proofs.Closures.{any_among, among_any, filter_among, among_filter, filter_same}
+use Rattle.wac_composition.proofs.OuterClasses.{class_same, within, class_itself, class_by_name}
+use Rattle.wac_composition.proofs.AskedAgain.{asked_again, filter_append, kept_again, among_more, among_fewer}
+use Rattle.wac_merging.proofs.Labels.{same_test}
+use Rattle.wac_merging.specs.Repeated.{Repeated_conflicts_no_more}
+
+-- ---- causes
+
+or_else_through : {X : Type 0} (o p q : Option X) → or_else (or_else o p) q ≡ or_else o (or_else p q)
+or_else_through None p q = refl
+or_else_through (Some x) p q = refl
+
+or_nothing : {X : Type 0} (o p : Option X) → or_else o p ≡ None → (o ≡ None) × (p ≡ None)
+or_nothing None p e = (refl, e)
+or_nothing (Some x) p e = absurd (none-some _ (sym e))
+
+module _ {A : Type 0} where
+  -- the cause of asks that are some is that of their first
+  cause_first : (k : Asking) (a : Ask A) (xs ys zs : List (Ask A)) (b : Ask A) → Among b xs → merge_cause k a (xs ++ ys) ≡ merge_cause k a (xs ++ zs)
+  cause_first k a [] ys zs b m = absurd m
+  cause_first ByName a (x ∷ xs) ys zs b m = refl
+  cause_first ToFill a (x ∷ xs) ys zs b m = refl
+  cause_first ToUse a (x ∷ xs) ys zs b m = refl
+
+  no_cause : (k : Asking) (a : Ask A) (xs : List (Ask A)) (b : Ask A) → Among b xs → merge_cause k a xs ≡ None → ⊥
+  no_cause k a [] b m e = m
+  no_cause ByName a (x ∷ xs) b m e = none-some _ (sym e)
+  no_cause ToFill a (x ∷ xs) b m e = none-some _ (sym e)
+  no_cause ToUse a (x ∷ xs) b m e = none-some _ (sym e)
+
+  -- what meets no cause keeps something
+  keeps_some : (a : Ask A) (xs : List (Ask A)) (b : Ask A) → Among b xs → merge_fails a xs ≡ None → is_some (kept (asked_in xs)) ≡ true
+  keeps_some a xs b m e = go (is_some (kept (asked_in xs))) e
+    where
+      go : (t : Bool) → (if t then None else merge_cause a.asking a xs) ≡ None → t ≡ true
+      go true q = refl
+      go false q = absurd (no_cause a.asking a xs b m q)
+
+  conflict_split : (all pre ds rest : List (Ask A)) → merge_conflict all pre (ds ++ rest) ≡ or_else (merge_conflict all pre ds) (merge_conflict all (pre ++ ds) rest)
+  conflict_split all pre [] rest = ap (λ xs. merge_conflict all xs rest) (sym (append-nil pre))
+  conflict_split all pre (d ∷ ds) rest =
+      let fails = merge_fails d (those_in (class all d) (pre ++ d ∷ [])) in
+      ap (or_else fails) (conflict_split all (pre ++ d ∷ []) ds rest ∙ ap (λ xs. or_else (merge_conflict all (pre ++ d ∷ []) ds) (merge_conflict all xs rest)) (append_assoc pre (d ∷ []) ds))
+      ∙ sym (or_else_through fails (merge_conflict all (pre ++ d ∷ []) ds) (merge_conflict all (pre ++ d ∷ ds) rest))
+
+  -- whether a name of the asks is this one's
+  abbrev named : List (Ask A) → Ask A → Bool
+  named cs x = list_any (λ c. bytes_eq x.name c.name) cs
+
+  named_by : (cs : List (Ask A)) (x : Ask A) → named cs x ≡ true → (d : Ask A) × Among d cs × (x.name ≡ d.name)
+  named_by cs x e = let d = any_among (λ c. bytes_eq x.name c.name) cs e in (d.0, d.1, (bytes_eq-Decides x.name d.0.name).0 d.2)
+
+  by_named : (cs : List (Ask A)) (x d : Ask A) → Among d cs → x.name ≡ d.name → named cs x ≡ true
+  by_named cs x d m e = among_any (λ c. bytes_eq x.name c.name) cs d m ((bytes_eq-Decides x.name d.name).1 e)
+
+  -- ---- asks of one class, so far
+
+  module _ (all : List (Ask A)) (a : Ask A) (there : Among a all) where
+    abbrev p : Ask A → Bool
+    p x = named (class all a) x
+
+    -- an ask that has a name of the class is of it
+    class_named : (d : Ask A) → Among d all → p d ≡ true → class all d ≡ class all a
+    class_named d m e =
+        let c = named_by (class all a) d e in
+        class_by_name all d c.0 m (within all a c.0 there c.1) c.2 ∙ sym (class_same all a c.0 there c.1)
+
+    -- none is asked yet, or something is kept
+    abbrev IsFine : List (Ask A) → Type 0
+    IsFine xs = (filter p xs ≡ []) ⊎ (is_some (kept (asked_in (filter p xs))) ≡ true)
+
+    fine_more : (pre : List (Ask A)) (d : Ask A) → Among d all → IsFine pre → merge_fails d (those_in (class all d) (pre ++ d ∷ [])) ≡ None → IsFine (pre ++ d ∷ [])
+    fine_more pre d m fine e = go (p d) refl
+      where
+        go : (b : Bool) → p d ≡ b → IsFine (pre ++ d ∷ [])
+        go true q =
+            let same : those_in (class all d) (pre ++ d ∷ []) ≡ filter p (pre ++ d ∷ []) = ap (λ cs. those_in cs (pre ++ d ∷ [])) (class_named d m q) in
+            inr (keeps_some d (filter p (pre ++ d ∷ [])) d (among_filter p (pre ++ d ∷ []) d (Among-right d pre (d ∷ []) (inl refl)) q) (ap (merge_fails d) (sym same) ∙ e))
+        go false q =
+            let same : filter p (pre ++ d ∷ []) ≡ filter p pre = filter_append p pre (d ∷ []) ∙ ap (λ b. filter p pre ++ cond b (d ∷ []) []) q ∙ append-nil (filter p pre) in
+            subst (λ xs. (xs ≡ []) ⊎ (is_some (kept (asked_in xs)) ≡ true)) (sym same) fine
+
+    -- behind asks that do not conflict
+    fine_behind : (pre ds : List (Ask A)) → ((d : Ask A) → Among d ds → Among d all) → IsFine pre → merge_conflict all pre ds ≡ None → IsFine (pre ++ ds)
+    fine_behind pre [] sub fine e = subst IsFine (sym (append-nil pre)) fine
+    fine_behind pre (d ∷ ds) sub fine e =
+        let n = or_nothing (merge_fails d (those_in (class all d) (pre ++ d ∷ []))) (merge_conflict all (pre ++ d ∷ []) ds) e in
+        subst IsFine (append_assoc pre (d ∷ []) ds) (fine_behind (pre ++ d ∷ []) ds (λ c m. sub c (inr m)) (fine_more pre d (sub d (inl refl)) fine n.0) n.1)
+
+  -- ---- an ask that repeats one before
+
+  module _ (before after : List (Ask A)) (a b : Ask A) (there : Among b before) (names : b.name ≡ a.name) (items : b.item ≡ a.item) (well : (c : Ask A) → Among c before → IsWell c.item) where
+    abbrev asks : List (Ask A)
+    asks = before ++ after
+
+    abbrev more : List (Ask A)
+    more = before ++ a ∷ after
+
+    own : Among a more
+    own = Among-right a before (a ∷ after) (inl refl)
+
+    twin : Among b more
+    twin = Among-left b before (a ∷ after) there
+
+    classes_stay : KeepsClasses asks more
+    classes_stay = asked_again before after a b there names items well
+
+    -- the asks before whose names are these
+    abbrev firsts : List (Ask A) → List (Ask A)
+    firsts cs = filter (named cs) before
+
+    -- the names of a class are the same
+    names_same : (c x : Ask A) → Among c asks → named (class more c) x ≡ named (class asks c) x
+    names_same c x m = same_test (named (class more c) x) (named (class asks c) x) to from
+      where
+        to : named (class more c) x ≡ true → named (class asks c) x ≡ true
+        to e =
+            let d = named_by (class more c) x e in
+            let here = among_more before after a c m in
+            elim (among_fewer before after a d.0 (within more c d.0 here d.1)) [
+              | inl n ↦ by_named (class asks c) x d.0 ((classes_stay.classes c d.0 m n).0 d.1) d.2
+              | inr q ↦
+                  let in_class : Among a (class more c) = subst (λ y. Among y (class more c)) q d.1 in
+                  let same = class_same more c a here in_class ∙ class_by_name more a b own twin (sym names) in
+                  let b_in : Among b (class more c) = subst (Among b) (sym same) (class_itself more b twin) in
+                  by_named (class asks c) x b ((classes_stay.classes c b m (Among-left b before after there)).0 b_in) (d.2 ∙ ap (λ (y : Ask A). y.name) q ∙ sym names)
+            ]
+
+        from : named (class asks c) x ≡ true → named (class more c) x ≡ true
+        from e =
+            let d = named_by (class asks c) x e in
+            by_named (class more c) x d.0 ((classes_stay.classes c d.0 m (within asks c d.0 m d.1)).1 d.1) d.2
+
+    those_same : (c : Ask A) (xs : List (Ask A)) → Among c asks → those_in (class more c) xs ≡ those_in (class asks c) xs
+    those_same c xs m = filter_same (named (class more c)) (named (class asks c)) xs (λ x n e. sym (names_same c x m) ∙ e) (λ x n e. names_same c x m ∙ e)
+
+    -- the asks before
+    before_same : (pre ds : List (Ask A)) → ((d : Ask A) → Among d ds → Among d asks) → merge_conflict more pre ds ≡ merge_conflict asks pre ds
+    before_same pre [] sub = refl
+    before_same pre (d ∷ ds) sub =
+        λ i. or_else (merge_fails d (those_same d (pre ++ d ∷ []) (sub d (inl refl)) i)) (before_same (pre ++ d ∷ []) ds (λ c m. sub c (inr m)) i)
+
+    -- the repeated one among asks of a class
+    fails_same : (d : Ask A) (cs xs : List (Ask A)) → merge_fails d (those_in cs (before ++ a ∷ xs)) ≡ merge_fails d (those_in cs (before ++ xs))
+    fails_same d cs xs = ap (merge_fails d) (filter_append (named cs) before (a ∷ xs)) ∙ go (named cs a) refl ∙ ap (merge_fails d) (sym (filter_append (named cs) before xs))
+      where
+        go : (t : Bool) → named cs a ≡ t → merge_fails d (firsts cs ++ cond t (a ∷ filter (named cs) xs) (filter (named cs) xs)) ≡ merge_fails d (firsts cs ++ filter (named cs) xs)
+        go true q =
+            let m = among_filter (named cs) before b there (ap (λ n. list_any (λ c. bytes_eq n c.name) cs) names ∙ q) in
+            λ i. if is_some (kept_again (firsts cs) (filter (named cs) xs) a b m names items (λ c n. well c (filter_among (named cs) before c n).0) i) then None else cause_first d.asking d (firsts cs) (a ∷ filter (named cs) xs) (filter (named cs) xs) b m i
+        go false q = refl
+
+    -- the asks behind it
+    after_same : (bs ds : List (Ask A)) → ((d : Ask A) → Among d ds → Among d asks) → merge_conflict more (before ++ a ∷ bs) ds ≡ merge_conflict asks (before ++ bs) ds
+    after_same bs [] sub = refl
+    after_same bs (d ∷ ds) sub =
+        let left = append_assoc before (a ∷ bs) (d ∷ []) in
+        let right = append_assoc before bs (d ∷ []) in
+        let first = ap (λ xs. merge_fails d (those_in (class more d) xs)) left ∙ ap (merge_fails d) (those_same d (before ++ a ∷ (bs ++ d ∷ [])) (sub d (inl refl))) ∙ fails_same d (class asks d) (bs ++ d ∷ []) ∙ ap (λ xs. merge_fails d (those_in (class asks d) xs)) (sym right) in
+        let rest = ap (λ xs. merge_conflict more xs ds) left ∙ after_same (bs ++ d ∷ []) ds (λ c m. sub c (inr m)) ∙ ap (λ xs. merge_conflict asks xs ds) (sym right) in
+        λ i. or_else (first i) (rest i)
+
+    -- and itself
+    repeated_fine : merge_conflict more [] before ≡ None → merge_fails a (those_in (class more a) (before ++ a ∷ [])) ≡ None
+    repeated_fine e = fails_same a (class more a) [] ∙ ap (λ xs. merge_fails a (those_in (class more a) xs)) (append-nil before) ∙ go (fine_behind more a own [] before (λ d m. Among-left d before (a ∷ after) m) (inl refl) e)
+      where
+        go : (firsts (class more a) ≡ []) ⊎ (is_some (kept (asked_in (firsts (class more a)))) ≡ true) → merge_fails a (firsts (class more a)) ≡ None
+        go (inl q) = absurd (subst (Among b) q (among_filter (named (class more a)) before b there (by_named (class more a) b a (class_itself more a own) names)))
+        go (inr q) = ap (λ t. if t then None else merge_cause a.asking a (firsts (class more a))) q
+
+    firsts_same : merge_conflict more [] before ≡ merge_conflict asks [] before
+    firsts_same = before_same [] before (λ d m. Among-left d before after m)
+
+    conflict_same : merge_conflict more [] more ≡ merge_conflict asks [] asks
+    conflict_same = conflict_split more [] before (a ∷ after) ∙ go (merge_conflict more [] before) refl ∙ sym (conflict_split asks [] before after)
+      where
+        go : (o : Option (Cause A)) → merge_conflict more [] before ≡ o → or_else (merge_conflict more [] before) (merge_conflict more before (a ∷ after)) ≡ or_else (merge_conflict asks [] before) (merge_conflict asks before after)
+        go None e =
+            let rest = ap (λ o. or_else o (merge_conflict more (before ++ a ∷ []) after)) (repeated_fine e) ∙ after_same [] after (λ d m. Among-right d before after m) ∙ ap (λ xs. merge_conflict asks xs after) (append-nil before) in
+            λ i. or_else (firsts_same i) (rest i)
+        go (Some x) e =
+            ap (λ o. or_else o (merge_conflict more before (a ∷ after))) e ∙ ap (λ o. or_else o (merge_conflict asks before after)) (sym (sym firsts_same ∙ e))
+
+pub repeated_conflicts_no_more : {A : Type 0} → Repeated_conflicts_no_more A
+repeated_conflicts_no_more before after a b m n i w = conflict_same before after a b m n i w

@@ -1,0 +1,7 @@
+use Rattle.std.proofs.Common.{◌≡◌, ℕ, ◌<◌, slice_get}
+use Rattle.wac_types_base.specs.Entries.{pairs_of}
+use Rattle.wac_types_same.proofs.core_items.same_pair_lists.Given as goal
+
+-- the lists agree so far
+abbrev pub invariant-loop-at : goal.invariant-loop-at
+invariant-loop-at l = (i : ℕ) → i < l.at → slice_get (pairs_of l.a) i ≡ slice_get (pairs_of l.b) i
