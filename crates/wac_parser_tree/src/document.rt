@@ -1,6 +1,6 @@
 //! A whole document.
 
-ghost use Rattle.std.specs.Prelude.{◌≡◌, IfOk, map};
+ghost use Rattle.std.specs.Prelude.{◌≡◌, IfOk};
 ghost use Rattle.std.specs.Option.{option_map};
 ghost use Rattle.wac_parser_tree.specs.Views.{view_document, view_package_directive, view_package_path, view_statement, view_type_statement};
 
