@@ -212,17 +212,6 @@ joined_step {X = X} {A = A} {a = a} {b = b} {c = c} {d = d} view between now f i
     subst (λ (t : List ℕ). Adds b (word t) c) (e ∙ ap (λ (n : ℕ). gap n between) (sym count)) q in
     subst (λ (ys : List A). Adds a (joined between f ys) d) (sym (one_more_item view items i x h is)) (joined_then between f (map view (take i items)) (view x) p before r)
 
--- the same where one call adds both
-pub joined_whole : {X A : Type 0} {a b d : Printer} (view : X → A) (between now : List ℕ) (f : A → Text) (items : List X) (i : ℕ) (x : X) → i < length items → x ≡ get_or items i x → now ≡ gap i between
-    → Adds a (joined between f (map view (take i items))) b → Adds b (word now >> f (view x)) d → Adds a (joined between f (map view (take (i + 1) items))) d
-unfolding ◌>>◌ word
-joined_whole {X = X} {A = A} {a = a} {b = b} {d = d} view between now f items i x h is e p q =
-    let count : length (map view (take i items)) ≡ i = length-map (take i items) view ∙ length-take-le i items (omega (arith, h)) in
-    let front : Adds b (word (gap (length (map view (take i items))) between) >> f (view x)) d =
-    subst (λ (t : List ℕ). Adds b (word t >> f (view x)) d) (e ∙ ap (λ (n : ℕ). gap n between) (sym count)) q in
-    subst (λ (ys : List A). Adds a (joined between f ys) d) (sym (one_more_item view items i x h is))
-    (same_text (joined between f (map view (take i items)) >> (word (gap (length (map view (take i items))) between) >> f (view x))) (joined between f (map view (take i items) ++ view x ∷ [])) (λ l. sym (joined_more between f (map view (take i items)) (view x) l)) (and_then p front))
-
 pub joined_copied : {X A : Type 0} {a b c d : Printer} (view : X → A) (between now : List ℕ) (f : A → Text) (items : List X) (i : ℕ) (e : X) → i < length items → now ≡ gap i between
     → Adds a (joined between f (map view (take i items))) b → Adds b (word now) c → Adds c (f (view (get_or items i e))) d → Adds a (joined between f (map view (take (i + 1) items))) d
 joined_copied view between now f items i e h same p q r = joined_step view between now f items i (get_or items i e) h (get_or_default items i e (get_or items i e) h) same p q r

@@ -1,5 +1,5 @@
 -- Texts over a source, and how they are put together.
-use Rattle.std.specs.Prelude.{Bool, if◌then◌else◌, ℕ, zero, suc, ◌+◌, ◌-◌, ◌^◌, min, List, [], ◌∷◌, ◌++◌, Option, Some, None, codes}
+use Rattle.std.specs.Prelude.{ℕ, zero, suc, ◌+◌, ◌-◌, ◌^◌, min, List, [], ◌∷◌, ◌++◌, Option, Some, None, codes}
 use Rattle.wac_parser_lexer.specs.declared.span.SourceSpan.{SourceSpan}
 use Rattle.wac_parser_lexer.specs.Pieces.{text_at}
 
@@ -97,11 +97,3 @@ result_of None None = word (codes "result")
 result_of None (Some g) = enclosed (codes "result<_, ") g
 result_of (Some f) None = enclosed (codes "result<") f
 result_of (Some f) (Some g) = enclosed (codes "result<") (f >> word (codes ", ") >> g)
-
--- a text that ends its line, behind these bytes
-abbrev pub behind : List ℕ → Text → Text
-behind between text = word between >> text >> line_end
-
--- the empty line before a text that is not the first
-abbrev pub gap_before : Bool → List ℕ
-gap_before first = if first then [] else 10 ∷ []

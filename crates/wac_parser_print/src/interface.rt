@@ -2,11 +2,12 @@
 
 ghost use Rattle.std.specs.Prelude.{map, codes};
 ghost use Rattle.std.specs.Option.{option_map};
-ghost use Rattle.wac_parser_print.specs.Texts.{joined, paragraphs};
+ghost use Rattle.wac_parser_print.specs.Texts.{joined};
 ghost use Rattle.wac_parser_tree.specs.Views.{view_ident, view_inline_interface, view_interface_decl, view_interface_export, view_interface_item, view_use, view_use_item, view_use_path};
 ghost use Rattle.wac_parser_print.specs.Printing as text;
 ghost use Rattle.wac_parser_print.specs.Printers.{Adds};
 
+use crate::bodies::add_body_of_items;
 use crate::printer::DocumentPrinter;
 use wac_parser_tree::{
     Ident, InlineInterface, InterfaceDecl, InterfaceExport, InterfaceItem, Use, UseItem, UsePath,
@@ -85,33 +86,11 @@ impl<W: ByteSink + Drop> DocumentPrinter<'_, W> {
         }
     }
 
-    /// Adds items, with an empty line between each two.
-    fn add_interface_item_paragraphs(&mut self, level: usize, items: &Vec<InterfaceItem<'_>>)
-        ensures { Adds self.old (paragraphs (text.interface_item level) (map view_interface_item items.now.items)) self.new }
-    {
-        let mut between = "";
-        for interface_item in items {
-            self.word(between);
-            self.add_interface_item(level, interface_item);
-            self.line_end();
-            between = "\n";
-        }
-    }
-
-    /// Adds items in braces.
-    fn add_interface_items(&mut self, level: usize, items: &Vec<InterfaceItem<'_>>)
-        ensures { Adds self.old (text.interface_items level (map view_interface_item items.now.items)) self.new }
-    {
-        self.open_body();
-        self.add_interface_item_paragraphs(level.saturating_add(1), items);
-        self.close_body(level);
-    }
-
     pub(crate) fn add_inline_interface(&mut self, level: usize, interface: &InlineInterface<'_>)
         ensures { Adds self.old (text.inline_interface level (view_inline_interface interface.now)) self.new }
     {
         self.word("interface");
-        self.add_interface_items(level, &interface.items);
+        add_body_of_items(self, level, &interface.items);
     }
 
     pub(crate) fn add_interface_decl(&mut self, level: usize, decl: &InterfaceDecl<'_>)
@@ -120,6 +99,6 @@ impl<W: ByteSink + Drop> DocumentPrinter<'_, W> {
         self.begin(level, &decl.docs);
         self.word("interface ");
         self.slice(decl.id.span);
-        self.add_interface_items(level, &decl.items);
+        add_body_of_items(self, level, &decl.items);
     }
 }

@@ -1,6 +1,7 @@
 //! The printer of documents, and their values as JSON.
 #![tactic(auto)]
 
+mod bodies;
 mod declaration;
 mod document;
 mod error;

@@ -1,11 +1,10 @@
 //! Resources.
 
-ghost use Rattle.std.specs.Prelude.{map};
-ghost use Rattle.wac_parser_print.specs.Texts.{body_of_items, paragraphs};
 ghost use Rattle.wac_parser_tree.specs.Views.{view_constructor, view_method, view_resource_decl, view_resource_method};
 ghost use Rattle.wac_parser_print.specs.Printing as text;
 ghost use Rattle.wac_parser_print.specs.Printers.{Adds};
 
+use crate::bodies::add_body_of_items;
 use crate::printer::DocumentPrinter;
 use wac_parser_tree::{Constructor, Method, ResourceDecl, ResourceMethod};
 use wac_streams::ByteSink;
@@ -40,34 +39,12 @@ impl<W: ByteSink + Drop> DocumentPrinter<'_, W> {
         }
     }
 
-    /// Adds methods, with an empty line between each two.
-    fn add_resource_method_paragraphs(&mut self, level: usize, methods: &Vec<ResourceMethod<'_>>)
-        ensures { Adds self.old (paragraphs (text.resource_method level) (map view_resource_method methods.now.items)) self.new }
-    {
-        let mut between = "";
-        for resource_method in methods {
-            self.word(between);
-            self.add_resource_method(level, resource_method);
-            self.line_end();
-            between = "\n";
-        }
-    }
-
-    /// Adds methods in braces.
-    fn add_resource_body(&mut self, level: usize, methods: &Vec<ResourceMethod<'_>>)
-        ensures { Adds self.old (body_of_items text.resource_method level (map view_resource_method methods.now.items)) self.new }
-    {
-        self.open_body();
-        self.add_resource_method_paragraphs(level.saturating_add(1), methods);
-        self.close_body(level);
-    }
-
     pub(crate) fn add_resource_decl(&mut self, level: usize, decl: &ResourceDecl<'_>)
         ensures { Adds self.old (text.resource_decl level (view_resource_decl decl.now)) self.new }
     {
         self.begin(level, &decl.docs);
         self.word("resource ");
         self.slice(decl.id.span);
-        self.add_resource_body(level, &decl.methods);
+        add_body_of_items(self, level, &decl.methods);
     }
 }

@@ -1,11 +1,11 @@
 //! Worlds.
 
 ghost use Rattle.std.specs.Prelude.{map};
-ghost use Rattle.wac_parser_print.specs.Texts.{body_of_items, each, ended, paragraphs};
 ghost use Rattle.wac_parser_tree.specs.Views.{view_extern_type, view_named_world_item, view_world_decl, view_world_export, view_world_import, view_world_include, view_world_include_item, view_world_item, view_world_item_path, view_world_ref};
 ghost use Rattle.wac_parser_print.specs.Printing as text;
 ghost use Rattle.wac_parser_print.specs.Printers.{Adds};
 
+use crate::bodies::{add_body_of_items, add_lines};
 use crate::printer::DocumentPrinter;
 use wac_parser_tree::{
     ExternType, NamedWorldItem, WorldDecl, WorldExport, WorldImport, WorldInclude,
@@ -69,23 +69,13 @@ impl<W: ByteSink + Drop> DocumentPrinter<'_, W> {
         }
     }
 
-    fn add_world_include_item(&mut self, level: usize, item: &WorldIncludeItem<'_>)
+    pub(crate) fn add_world_include_item(&mut self, level: usize, item: &WorldIncludeItem<'_>)
         ensures { Adds self.old (text.world_include_item level (view_world_include_item item.now)) self.new }
     {
         self.indent(level);
         self.slice(item.from.span);
         self.word(" as ");
         self.slice(item.to.span);
-    }
-
-    /// Adds the lines of names that change.
-    fn add_with_lines(&mut self, level: usize, items: &Vec<WorldIncludeItem<'_>>)
-        ensures { Adds self.old (each (λ y. ended (text.world_include_item level y)) (map view_world_include_item items.now.items)) self.new }
-    {
-        for item in items {
-            self.add_world_include_item(level, item);
-            self.end_line();
-        }
     }
 
     /// Adds the names that change, where there are any.
@@ -97,7 +87,7 @@ impl<W: ByteSink + Drop> DocumentPrinter<'_, W> {
         }
         self.word(" with");
         self.open_body();
-        self.add_with_lines(level.saturating_add(1), items);
+        add_lines(self, level.saturating_add(1), items);
         self.close_body(level);
     }
 
@@ -123,34 +113,12 @@ impl<W: ByteSink + Drop> DocumentPrinter<'_, W> {
         }
     }
 
-    /// Adds items, with an empty line between each two.
-    fn add_world_item_paragraphs(&mut self, level: usize, items: &Vec<WorldItem<'_>>)
-        ensures { Adds self.old (paragraphs (text.world_item level) (map view_world_item items.now.items)) self.new }
-    {
-        let mut between = "";
-        for world_item in items {
-            self.word(between);
-            self.add_world_item(level, world_item);
-            self.line_end();
-            between = "\n";
-        }
-    }
-
-    /// Adds items in braces.
-    fn add_world_body(&mut self, level: usize, items: &Vec<WorldItem<'_>>)
-        ensures { Adds self.old (body_of_items text.world_item level (map view_world_item items.now.items)) self.new }
-    {
-        self.open_body();
-        self.add_world_item_paragraphs(level.saturating_add(1), items);
-        self.close_body(level);
-    }
-
     pub(crate) fn add_world_decl(&mut self, level: usize, decl: &WorldDecl<'_>)
         ensures { Adds self.old (text.world_decl level (view_world_decl decl.now)) self.new }
     {
         self.begin(level, &decl.docs);
         self.word("world ");
         self.slice(decl.id.span);
-        self.add_world_body(level, &decl.items);
+        add_body_of_items(self, level, &decl.items);
     }
 }

@@ -1,12 +1,13 @@
 //! Declared types.
 
-ghost use Rattle.std.specs.Prelude.{◌≡◌, IfOk, map};
+ghost use Rattle.std.specs.Prelude.{◌≡◌, IfOk};
 ghost use Rattle.std.specs.Option.{option_map};
 ghost use Rattle.wac_parser_tree.specs.Accessors.{item_type_decl_id, type_decl_id};
 ghost use Rattle.wac_parser_tree.specs.Views.{view_ident, view_constructor, view_enum_case, view_enum_decl, view_field, view_flag, view_flags_decl, view_item_type_decl, view_method, view_record_decl, view_resource_decl, view_resource_method, view_ty, view_type_alias, view_type_alias_kind, view_type_decl, view_variant_case, view_variant_decl};
 
+use crate::lists::clone_all;
 use crate::text::{DocComment, Ident, clone_docs};
-use crate::value_type::{FuncType, NamedType, Type, clone_named_types};
+use crate::value_type::{FuncType, NamedType, Type};
 use std::alloc::{AllocError, Global};
 use wac_parser_lexer::SourceSpan;
 
@@ -250,19 +251,6 @@ impl<'a> VariantCase<'a> {
     }
 }
 
-fn clone_variant_cases<'a>(
-    alloc: Global,
-    cases: &Vec<VariantCase<'a>>,
-) -> Result<Vec<VariantCase<'a>>, AllocError>
-    ensures { IfOk result (λ v. map view_variant_case v.items ≡ map view_variant_case cases.now.items) }
-{
-    let mut copies = Vec::new(alloc);
-    for case in cases {
-        copies.push(case.clone(alloc)?)?;
-    }
-    Ok(copies)
-}
-
 impl<'a> VariantDecl<'a> {
     /// An equal declaration.
     pub fn clone(&self, alloc: Global) -> Result<Self, AllocError>
@@ -271,7 +259,7 @@ impl<'a> VariantDecl<'a> {
         Ok(VariantDecl {
             docs: clone_docs(alloc, &self.docs)?,
             id: self.id,
-            cases: clone_variant_cases(alloc, &self.cases)?,
+            cases: clone_all(alloc, &self.cases)?,
         })
     }
 }
@@ -289,16 +277,6 @@ impl<'a> Field<'a> {
     }
 }
 
-fn clone_fields<'a>(alloc: Global, fields: &Vec<Field<'a>>) -> Result<Vec<Field<'a>>, AllocError>
-    ensures { IfOk result (λ v. map view_field v.items ≡ map view_field fields.now.items) }
-{
-    let mut copies = Vec::new(alloc);
-    for field in fields {
-        copies.push(field.clone(alloc)?)?;
-    }
-    Ok(copies)
-}
-
 impl<'a> RecordDecl<'a> {
     /// An equal declaration.
     pub fn clone(&self, alloc: Global) -> Result<Self, AllocError>
@@ -307,7 +285,7 @@ impl<'a> RecordDecl<'a> {
         Ok(RecordDecl {
             docs: clone_docs(alloc, &self.docs)?,
             id: self.id,
-            fields: clone_fields(alloc, &self.fields)?,
+            fields: clone_all(alloc, &self.fields)?,
         })
     }
 }
@@ -324,16 +302,6 @@ impl<'a> Flag<'a> {
     }
 }
 
-fn clone_flags<'a>(alloc: Global, flags: &Vec<Flag<'a>>) -> Result<Vec<Flag<'a>>, AllocError>
-    ensures { IfOk result (λ v. map view_flag v.items ≡ map view_flag flags.now.items) }
-{
-    let mut copies = Vec::new(alloc);
-    for flag in flags {
-        copies.push(flag.clone(alloc)?)?;
-    }
-    Ok(copies)
-}
-
 impl<'a> FlagsDecl<'a> {
     /// An equal declaration.
     pub fn clone(&self, alloc: Global) -> Result<Self, AllocError>
@@ -342,7 +310,7 @@ impl<'a> FlagsDecl<'a> {
         Ok(FlagsDecl {
             docs: clone_docs(alloc, &self.docs)?,
             id: self.id,
-            flags: clone_flags(alloc, &self.flags)?,
+            flags: clone_all(alloc, &self.flags)?,
         })
     }
 }
@@ -359,19 +327,6 @@ impl<'a> EnumCase<'a> {
     }
 }
 
-fn clone_enum_cases<'a>(
-    alloc: Global,
-    cases: &Vec<EnumCase<'a>>,
-) -> Result<Vec<EnumCase<'a>>, AllocError>
-    ensures { IfOk result (λ v. map view_enum_case v.items ≡ map view_enum_case cases.now.items) }
-{
-    let mut copies = Vec::new(alloc);
-    for case in cases {
-        copies.push(case.clone(alloc)?)?;
-    }
-    Ok(copies)
-}
-
 impl<'a> EnumDecl<'a> {
     /// An equal declaration.
     pub fn clone(&self, alloc: Global) -> Result<Self, AllocError>
@@ -380,7 +335,7 @@ impl<'a> EnumDecl<'a> {
         Ok(EnumDecl {
             docs: clone_docs(alloc, &self.docs)?,
             id: self.id,
-            cases: clone_enum_cases(alloc, &self.cases)?,
+            cases: clone_all(alloc, &self.cases)?,
         })
     }
 }
@@ -418,7 +373,7 @@ impl<'a> Constructor<'a> {
         Ok(Constructor {
             docs: clone_docs(alloc, &self.docs)?,
             span: self.span,
-            params: clone_named_types(alloc, &self.params)?,
+            params: clone_all(alloc, &self.params)?,
         })
     }
 }
@@ -451,19 +406,6 @@ impl<'a> ResourceMethod<'a> {
     }
 }
 
-fn clone_methods<'a>(
-    alloc: Global,
-    methods: &Vec<ResourceMethod<'a>>,
-) -> Result<Vec<ResourceMethod<'a>>, AllocError>
-    ensures { IfOk result (λ v. map view_resource_method v.items ≡ map view_resource_method methods.now.items) }
-{
-    let mut copies = Vec::new(alloc);
-    for method in methods {
-        copies.push(method.clone(alloc)?)?;
-    }
-    Ok(copies)
-}
-
 impl<'a> ResourceDecl<'a> {
     /// An equal declaration.
     pub fn clone(&self, alloc: Global) -> Result<Self, AllocError>
@@ -472,7 +414,7 @@ impl<'a> ResourceDecl<'a> {
         Ok(ResourceDecl {
             docs: clone_docs(alloc, &self.docs)?,
             id: self.id,
-            methods: clone_methods(alloc, &self.methods)?,
+            methods: clone_all(alloc, &self.methods)?,
         })
     }
 }

@@ -1,6 +1,6 @@
 //! A whole document.
 
-ghost use Rattle.std.specs.Prelude.{◌≡◌, IfOk, map};
+ghost use Rattle.std.specs.Prelude.{◌≡◌, IfOk};
 ghost use Rattle.std.specs.Option.{option_map};
 ghost use Rattle.wac_parser_tree.specs.Views.{view_document, view_package_directive, view_package_path, view_statement, view_type_statement};
 
@@ -9,6 +9,7 @@ use crate::export::ExportStatement;
 use crate::import::{ImportStatement, PackageName, PackagePath};
 use crate::interface::InterfaceDecl;
 use crate::let_statement::LetStatement;
+use crate::lists::clone_all;
 use crate::text::{DocComment, clone_docs};
 use crate::world::WorldDecl;
 use std::alloc::{AllocError, Global};
@@ -135,19 +136,6 @@ impl<'a> Statement<'a> {
     }
 }
 
-fn clone_statements<'a>(
-    alloc: Global,
-    statements: &Vec<Statement<'a>>,
-) -> Result<Vec<Statement<'a>>, AllocError>
-    ensures { IfOk result (λ v. map view_statement v.items ≡ map view_statement statements.now.items) }
-{
-    let mut copies = Vec::new(alloc);
-    for statement in statements {
-        copies.push(statement.clone(alloc)?)?;
-    }
-    Ok(copies)
-}
-
 impl<'a> PackageDirective<'a> {
     /// An equal directive.
     pub fn clone(&self, alloc: Global) -> Result<Self, AllocError>
@@ -168,7 +156,7 @@ impl<'a> Document<'a> {
         Ok(Document {
             docs: clone_docs(alloc, &self.docs)?,
             directive: self.directive.clone(alloc)?,
-            statements: clone_statements(alloc, &self.statements)?,
+            statements: clone_all(alloc, &self.statements)?,
         })
     }
 }

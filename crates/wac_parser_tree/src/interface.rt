@@ -5,6 +5,7 @@ ghost use Rattle.wac_parser_tree.specs.Views.{view_inline_interface, view_interf
 
 use crate::declaration::ItemTypeDecl;
 use crate::import::PackagePath;
+use crate::lists::clone_all;
 use crate::text::{DocComment, Ident, clone_docs};
 use crate::value_type::FuncTypeRef;
 use std::alloc::{AllocError, Global};
@@ -153,19 +154,6 @@ impl<'a> InterfaceItem<'a> {
     }
 }
 
-fn clone_interface_items<'a>(
-    alloc: Global,
-    items: &Vec<InterfaceItem<'a>>,
-) -> Result<Vec<InterfaceItem<'a>>, AllocError>
-    ensures { IfOk result (λ v. map view_interface_item v.items ≡ map view_interface_item items.now.items) }
-{
-    let mut copies = Vec::new(alloc);
-    for item in items {
-        copies.push(item.clone(alloc)?)?;
-    }
-    Ok(copies)
-}
-
 impl<'a> InterfaceDecl<'a> {
     /// An equal declaration.
     pub fn clone(&self, alloc: Global) -> Result<Self, AllocError>
@@ -174,7 +162,7 @@ impl<'a> InterfaceDecl<'a> {
         Ok(InterfaceDecl {
             docs: clone_docs(alloc, &self.docs)?,
             id: self.id,
-            items: clone_interface_items(alloc, &self.items)?,
+            items: clone_all(alloc, &self.items)?,
         })
     }
 }
@@ -185,7 +173,7 @@ impl<'a> InlineInterface<'a> {
         ensures { IfOk result (λ t. view_inline_interface t ≡ view_inline_interface self.now) }
     {
         Ok(InlineInterface {
-            items: clone_interface_items(alloc, &self.items)?,
+            items: clone_all(alloc, &self.items)?,
         })
     }
 }

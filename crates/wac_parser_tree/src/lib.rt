@@ -8,6 +8,7 @@ mod expr;
 mod import;
 mod interface;
 mod let_statement;
+mod lists;
 mod segments;
 mod text;
 mod value_type;

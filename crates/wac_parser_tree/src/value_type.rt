@@ -5,6 +5,7 @@ ghost use Rattle.std.specs.Option.{option_map};
 ghost use Rattle.wac_parser_tree.specs.Accessors.{ty_span};
 ghost use Rattle.wac_parser_tree.specs.Views.{view_boxed_ty, view_func_type, view_func_type_ref, view_named_type, view_result_list, view_ty};
 
+use crate::lists::clone_all;
 use crate::text::Ident;
 use std::alloc::{AllocError, Global};
 use wac_parser_lexer::SourceSpan;
@@ -267,19 +268,6 @@ impl<'a> NamedType<'a> {
     }
 }
 
-pub(crate) fn clone_named_types<'a>(
-    alloc: Global,
-    types: &Vec<NamedType<'a>>,
-) -> Result<Vec<NamedType<'a>>, AllocError>
-    ensures { IfOk result (λ v. map view_named_type v.items ≡ map view_named_type types.now.items) }
-{
-    let mut copies = Vec::new(alloc);
-    for ty in types {
-        copies.push(ty.clone(alloc)?)?;
-    }
-    Ok(copies)
-}
-
 impl<'a> FuncType<'a> {
     /// An equal type.
     pub fn clone(&self, alloc: Global) -> Result<Self, AllocError>
@@ -287,7 +275,7 @@ impl<'a> FuncType<'a> {
     {
         Ok(FuncType {
             is_async: self.is_async,
-            params: clone_named_types(alloc, &self.params)?,
+            params: clone_all(alloc, &self.params)?,
             results: self.results.clone(alloc)?,
         })
     }

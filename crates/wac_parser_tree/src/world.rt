@@ -7,6 +7,7 @@ ghost use Rattle.wac_parser_tree.specs.Views.{view_extern_type, view_named_world
 use crate::declaration::ItemTypeDecl;
 use crate::import::PackagePath;
 use crate::interface::{InlineInterface, Use};
+use crate::lists::clone_all;
 use crate::text::{DocComment, Ident, clone_docs};
 use crate::value_type::FuncType;
 use std::alloc::{AllocError, Global};
@@ -300,19 +301,6 @@ impl<'a> WorldItem<'a> {
     }
 }
 
-fn clone_world_items<'a>(
-    alloc: Global,
-    items: &Vec<WorldItem<'a>>,
-) -> Result<Vec<WorldItem<'a>>, AllocError>
-    ensures { IfOk result (λ v. map view_world_item v.items ≡ map view_world_item items.now.items) }
-{
-    let mut copies = Vec::new(alloc);
-    for item in items {
-        copies.push(item.clone(alloc)?)?;
-    }
-    Ok(copies)
-}
-
 impl<'a> WorldDecl<'a> {
     /// An equal declaration.
     pub fn clone(&self, alloc: Global) -> Result<Self, AllocError>
@@ -321,7 +309,7 @@ impl<'a> WorldDecl<'a> {
         Ok(WorldDecl {
             docs: clone_docs(alloc, &self.docs)?,
             id: self.id,
-            items: clone_world_items(alloc, &self.items)?,
+            items: clone_all(alloc, &self.items)?,
         })
     }
 }

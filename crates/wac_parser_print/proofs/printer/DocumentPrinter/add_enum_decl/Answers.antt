@@ -4,4 +4,4 @@ use Rattle.wac_parser_print.proofs.printer.DocumentPrinter.add_enum_decl.Goals a
 
 pub returns : goal.returns
 unfolding enum_decl
-returns g c = and_then c.begin.ensures (and_then c.word.ensures (and_then c.slice.ensures c.add_enum_case_body.ensures))
+returns g c = and_then c.begin.ensures (and_then c.word.ensures (and_then c.slice.ensures c.add_body_of_entries.ensures))

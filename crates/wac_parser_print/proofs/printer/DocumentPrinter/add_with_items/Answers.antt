@@ -16,4 +16,4 @@ returns g c =
     let some : 0 < length c.args.items.now.items = grind (arith, nat_tests) in
     let many : 0 < length (map view_world_include_item c.args.items.now.items) = omega (arith, some, length-map c.args.items.now.items view_world_include_item) in
     equal_text _ _ (sym (names_change c.args.level (map view_world_include_item c.args.items.now.items) many))
-    (rw (← c.saturating_add.ensures) (and_then c.word.ensures (and_then c.open_body.ensures (and_then c.add_with_lines.ensures c.close_body.ensures))))
+    (rw (← c.saturating_add.ensures) (and_then c.word.ensures (and_then c.open_body.ensures (and_then c.add_lines.ensures c.close_body.ensures))))

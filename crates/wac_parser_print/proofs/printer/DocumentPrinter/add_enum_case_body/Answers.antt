@@ -1,5 +1,0 @@
-use Rattle.wac_parser_print.proofs.Adding.{and_then}
-use Rattle.wac_parser_print.proofs.printer.DocumentPrinter.add_enum_case_body.Goals as goal
-
-pub returns : goal.returns
-returns g c = rw (← c.saturating_add.ensures) (and_then c.open_body.ensures (and_then c.add_enum_case_lines.ensures c.close_body.ensures))

@@ -1,6 +1,0 @@
-use Rattle.std.proofs.Common.{◌≡◌, map, take}
-use Rattle.wac_parser_tree.specs.Views.{view_variant_case}
-use Rattle.wac_parser_tree.proofs.declaration.clone_variant_cases.Given as goal
-
-abbrev pub invariant-loop-case : goal.invariant-loop-case
-invariant-loop-case l = map view_variant_case l.copies.items ≡ map view_variant_case (take l.case-index l.case-items)
