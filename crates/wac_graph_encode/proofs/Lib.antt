@@ -1,4 +1,5 @@
 pub mod Entries
+pub mod Finishing
 pub mod StandingTrees
 pub mod StandingNumbers
 pub mod StandingSteps

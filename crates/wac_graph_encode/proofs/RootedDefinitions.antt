@@ -118,7 +118,7 @@ entry_read : (w : Worlds) (here : Scope) (n : Name) (d : Description) (k : ℕ) 
 entry_read w here n d k u t is at reads =
     let equal : typing.described w (here ∷ []) n (desc.Equal k) ≡ Some (sort.Ty, t) = subst (λ (x : Description). typing.described w (here ∷ []) n x ≡ Some (description_sort x, t)) is reads in
     let found : typing.described w (here ∷ []) n (desc.Equal k) ≡ Some (sort.Ty, typing.item_of u) =
-        ap (λ (o : Option Meaning). (o >>= typing.type_tree w) >>= λ v. Some (sort.Ty, typing.item_of v)) at in
+    ap (λ (o : Option Meaning). (o >>= typing.type_tree w) >>= λ v. Some (sort.Ty, typing.item_of v)) at in
     ap (λ (p : Sort × Tree). p.1) (same_Some _ _ (sym found ∙ equal))
 
 no_resource_kind : (t r : TypeKind) → (IsResource t → ⊥) → item_kind (ItemKind.Ty t) ≡ item_kind (ItemKind.Ty r) → IsNoResource r
@@ -182,9 +182,14 @@ module _ (g : Graph) (sound : IsGraph g) (finite_types : IsAcyclic g.types) (c :
         goes = described.goes;
         on = described.on;
         knows = described.known;
-        entry = (own.0, own.1, there.0, there.1,
-            entry_read w inside.here [] d own.0 there.0 (tree_in g.types (ItemKind.Ty x.ty)) own.1 there.1 (described.reads [])
-            ∙ ap tree (sym (own_form g.types finite_types x.ty form.1 form.0)));
+        entry = (
+          own.0,
+          own.1,
+          there.0,
+          there.1,
+          entry_read w inside.here [] d own.0 there.0 (tree_in g.types (ItemKind.Ty x.ty)) own.1 there.1 (described.reads [])
+              ∙ ap tree (sym (own_form g.types finite_types x.ty form.1 form.0)),
+        );
       }
 
 -- ---- and the nodes stand

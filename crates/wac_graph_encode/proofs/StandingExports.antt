@@ -1,15 +1,14 @@
 -- What is finished once all nodes stand and the exports are written.
 use Rattle.std.specs.Prelude.{slice_get}
 use Rattle.std.specs.List.{AllZip}
-use Rattle.std.proofs.lemmas.Option.{same_Some}
 use Rattle.std.proofs.lemmas.List.{map-append, append-nil, append_assoc}
 use Rattle.std.proofs.Common.{◌≡◌, ℕ, Bool, List, [], ◌∷◌, ◌++◌, map, Option, Some, None, IsSome, refl, sym, ap, subst, ◌∙◌}
-use Rattle.wac_types_base.specs.Entries.{Name, names_of}
+use Rattle.wac_types_base.specs.Entries.{Name}
 use Rattle.wac_types_base.specs.Graph.{Among}
 use Rattle.wac_types_base.specs.Tree.{Tree}
 use Rattle.wac_graph_bytes.specs.declared.value.Sort.{Sort}
 use Rattle.wac_graph_bytes.specs.declared.entry.Entry.{Entry as CodeEntry}
-use Rattle.wac_graph_bytes.specs.Entries.{Entry, Exported}
+use Rattle.wac_graph_bytes.specs.Entries.{Entry}
 use Rattle.wac_graph_bytes.specs.Typing.{◌>>=◌, Worlds, Meaning, space}
 use Rattle.wac_graph_bytes.specs.Wirings.{Source, Inst, Uses}
 use Rattle.wac_graph_bytes.specs.Meaning.{State, start, step, steps, states, source_of, exports_one}
@@ -23,8 +22,8 @@ use Rattle.wac_graph_core.proofs.WiringLaws.{once}
 use Rattle.wac_graph_scopes.specs.declared.imports.SortIndex.{SortIndex}
 use Rattle.wac_graph_encode.specs.declared.root.Counts.{Counts}
 use Rattle.wac_graph_asks.specs.Wirings.{written_tree}
-use Rattle.wac_graph_encode.specs.Standing.{by_number, spelled, Denotes, StandsAt, IsExported, IsWritten, IsFinished}
-use Rattle.wac_graph_encode.specs.Writing.{AllStand, IsExportOf, AddsExports, exported_as}
+use Rattle.wac_graph_encode.specs.Standing.{by_number, spelled, IsExported, IsWritten, IsFinished}
+use Rattle.wac_graph_encode.specs.Writing.{AllStand, IsExportOf, AddsExports}
 use Rattle.wac_graph_encode.proofs.WritingLaws.{names_among}
 
 steps_more : (w : Worlds) (st : State) (xs ys : List Entry) → steps w st (xs ++ ys) ≡ (steps w st xs >>= λ m. steps w m ys)

@@ -1,15 +1,14 @@
 -- What the arguments of an instance that is written stand for.
 use Rattle.std.specs.Prelude.{slice_get, is_some, option_map, if◌then◌else◌}
 use Rattle.std.specs.Cmp.Lexicographic.{pointwise, same_text}
-use Rattle.std.specs.List.{AllZip}
-use Rattle.std.proofs.Common.{◌≡◌, ◌==◌, ℕ, Bool, true, false, cond, List, [], ◌∷◌, map, Option, Some, None, IsSome, refl, sym, ap, subst, ◌∙◌}
+use Rattle.std.proofs.Common.{◌≡◌, ◌==◌, ℕ, Bool, true, false, List, [], ◌∷◌, Option, Some, None, refl, sym, ap, subst, ◌∙◌}
 use Rattle.wac_types_base.specs.declared.item.ItemKind.{ItemKind}
 use Rattle.wac_types_base.specs.declared.ids.WorldId.{WorldId}
 use Rattle.wac_types_base.specs.declared.defined.World.{World}
 use Rattle.wac_types_base.specs.Record.{Collection}
 use Rattle.wac_types_base.specs.Collection.{Stands}
 use Rattle.wac_types_base.proofs.Standing.{world_found}
-use Rattle.wac_types_base.specs.Entries.{Name, AreDistinct, names_of, value_at, with_values}
+use Rattle.wac_types_base.specs.Entries.{Name, names_of, value_at, with_values}
 use Rattle.wac_types_base.specs.Graph.{Among}
 use Rattle.wac_types_base.specs.Tree.{Tree}
 use Rattle.wac_types_base.proofs.Stating.{value_with}
@@ -20,14 +19,13 @@ use Rattle.wac_graph_bytes.specs.Typing.{◌>>=◌, Worlds, Meaning, space}
 use Rattle.wac_graph_bytes.specs.Wirings.{Source, Absent, Outer, OfBytes, Instantiation, Uses}
 use Rattle.wac_graph_bytes.specs.Meaning.{State, source_of, source_at, arguments_of}
 use Rattle.wac_graph_core.specs.declared.ids.PackageId.{PackageId}
-use Rattle.wac_graph_core.specs.Edges.{HasArgument}
 use Rattle.wac_graph_core.specs.Graph.{Graph, item_import, imported_in}
 use Rattle.wac_graph_core.specs.GraphWiring as wired
 use Rattle.wac_graph_core.proofs.Found.{eq_same}
 use Rattle.wac_graph_scopes.specs.Parts.{imports_of, imports_in, world_in}
 use Rattle.wac_graph_scopes.specs.declared.imports.SortIndex.{SortIndex}
 use Rattle.wac_graph_encode.specs.declared.root.Counts.{Counts}
-use Rattle.wac_graph_encode.specs.Standing.{spelled, number_in, by_number, Denotes, IsInstanceOf, StandsAt, IsOuterAt, IsWritten, IsGivenAt, argument, outer}
+use Rattle.wac_graph_encode.specs.Standing.{spelled, by_number, IsInstanceOf, IsWritten, IsGivenAt, argument, outer}
 use Rattle.wac_graph_encode.specs.Writing.{AreGivenAt}
 use Rattle.wac_graph_asks.specs.Wirings.{written_tree}
 

@@ -1,9 +1,7 @@
 -- What stands at the root after one more instance, and for imports.
-use Rattle.std.specs.Prelude.{slice_get, is_some, option_map}
-use Rattle.std.specs.List.{AllZip}
-use Rattle.std.proofs.Common.{◌≡◌, ◌⊎◌, ℕ, Bool, List, [], ◌∷◌, ◌++◌, length, Option, Some, None, inl, inr, refl, sym, ap, subst, ◌∙◌}
+use Rattle.std.specs.Prelude.{slice_get, is_some}
+use Rattle.std.proofs.Common.{◌≡◌, ◌⊎◌, ℕ, Bool, List, [], ◌∷◌, ◌++◌, length, Option, Some, inl, inr, refl, sym, ap, subst, ◌∙◌}
 use Rattle.wac_types_base.specs.declared.item.ItemKind.{ItemKind}
-use Rattle.wac_types_base.specs.Collection.{IsAcyclic as IsFinite}
 use Rattle.wac_types_base.specs.Entries.{Name, AreDistinct, names_of, value_at, with_values}
 use Rattle.wac_types_base.specs.Graph.{Among}
 use Rattle.wac_types_base.specs.Stated.{Stated, stated_of}
@@ -18,11 +16,11 @@ use Rattle.wac_graph_bytes.specs.declared.entry.Entry.{Entry as CodeEntry}
 use Rattle.wac_graph_bytes.specs.Entries.{Argument, Instantiate}
 use Rattle.wac_graph_bytes.specs.Counting.{entry_sort}
 use Rattle.wac_graph_bytes.specs.Typing.{◌>>=◌, Worlds, Meaning, Made, space}
-use Rattle.wac_graph_bytes.specs.Wirings.{Tag, Source, Inst, Instantiation, Uses}
+use Rattle.wac_graph_bytes.specs.Wirings.{Tag, Source, Inst}
 use Rattle.wac_graph_bytes.specs.Meaning as meaning
 use Rattle.wac_graph_bytes.specs.Meaning.{State, step, makes, arguments_of, source_at, source_of}
 use Rattle.wac_graph_bytes.specs.Views.{view}
-use Rattle.wac_graph_bytes.proofs.Steps.{last_of, kept_one, some_is}
+use Rattle.wac_graph_bytes.proofs.Steps.{last_of, kept_one}
 use Rattle.wac_graph_bytes.proofs.Replace.{Uses-weaker}
 use Rattle.wac_graph_core.specs.declared.ids.PackageId.{PackageId}
 use Rattle.wac_graph_core.specs.Nodes.{NodeData, Role}

@@ -3,16 +3,15 @@ use Rattle.std.specs.Prelude.{slice_get, option_map, not, if◌then◌else◌}
 use Rattle.std.specs.Cmp.Lexicographic.{pointwise}
 use Rattle.std.specs.List.{AllZip}
 use Rattle.std.proofs.lemmas.Option.{same_Some}
-use Rattle.std.proofs.Common.{◌≡◌, ◌==◌, ℕ, zero, suc, ◌+◌, Bool, true, false, ◌||◌, cond, List, [], ◌∷◌, length, Option, Some, None, IsSome, inl, inr, refl, sym, ap, subst, ◌∙◌, arith}
+use Rattle.std.proofs.Common.{◌≡◌, ◌==◌, ℕ, zero, suc, ◌+◌, Bool, true, false, ◌||◌, cond, List, [], ◌∷◌, Option, Some, None, IsSome, inl, inr, refl, sym, ap, subst, ◌∙◌, arith}
 use Rattle.wac_types_base.specs.Entries.{Name, AreDistinct, value_at}
 use Rattle.wac_types_base.specs.Graph.{Among}
 use Rattle.wac_types_base.specs.Tree.{Tree}
 use Rattle.wac_types_names.specs.Packaged.{Packaged}
 use Rattle.wac_graph_bytes.specs.declared.entry.Entry.{Entry}
 use Rattle.wac_graph_bytes.specs.Typing.{Worlds}
-use Rattle.wac_graph_bytes.specs.Wirings.{Tag, Source, Absent, OfBytes, Instantiation, Wiring, Same, rename, renamed}
-use Rattle.wac_graph_bytes.specs.Wirings as wirings
-use Rattle.wac_graph_bytes.specs.Meaning.{Listed, source_at, instantiation, is_package, is_package_of, wiring_of}
+use Rattle.wac_graph_bytes.specs.Wirings.{Tag, Source, Absent, OfBytes, Instantiation, Wiring, Same, renamed}
+use Rattle.wac_graph_bytes.specs.Meaning.{Listed, instantiation, is_package, is_package_of, wiring_of}
 use Rattle.wac_graph_bytes.proofs.SameWirings.{orders_rename}
 use Rattle.wac_graph_core.specs.Graph.{Graph, IsGraph, instantiated}
 use Rattle.wac_graph_core.specs.GraphWiring as core

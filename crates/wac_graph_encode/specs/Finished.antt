@@ -1,16 +1,64 @@
 -- What entries mean that are finished.
-use Rattle.std.specs.Prelude.{◌≡◌, ℕ, true, List}
-use Rattle.wac_types_base.specs.Entries.{Name, value_at}
+use Rattle.std.specs.Prelude.{◌≡◌, ℕ, Bool, true, List, [], Some, Result, IfOk}
+use Rattle.std.specs.declared.alloc.Global.{Global}
+use Rattle.std.specs.declared.vec.Vec.{Vec}
+use Rattle.std.specs.List.{AllByRecursion}
+use Rattle.wac_types_base.specs.Entries.{Name, names_of, value_at}
 use Rattle.wac_types_base.specs.Tree.{Tree}
-use Rattle.wac_graph_bytes.specs.declared.entry.Entry.{Entry}
+use Rattle.wac_graph_bytes.specs.declared.entry.Entry.{Entry as CodeEntry}
+use Rattle.wac_graph_bytes.specs.Entries.{Entry, Section, entries_of}
+use Rattle.wac_graph_bytes.specs.Sizes.{section_fits}
+use Rattle.wac_graph_bytes.specs.Spelling.{component_bytes}
 use Rattle.wac_graph_bytes.specs.Typing.{Worlds}
-use Rattle.wac_graph_bytes.specs.Meaning.{wiring_of}
+use Rattle.wac_graph_bytes.specs.Meaning.{State, start, steps, wiring_of}
 use Rattle.wac_graph_bytes.specs.Wirings.{Wiring, Same}
+use Rattle.wac_graph_core.specs.declared.ids.PackageId.{PackageId}
 use Rattle.wac_graph_core.specs.Graph.{Graph, IsGraph}
+use Rattle.wac_graph_asks.specs.declared.asks.Asked.{Asked}
+use Rattle.wac_graph_asks.specs.declared.asks.Definition.{Definition}
+use Rattle.wac_graph_asks.specs.declared.outers.Outers.{Outers}
+use Rattle.wac_graph_asks.specs.Outers.{IsOuters}
 use Rattle.wac_graph_asks.specs.Wirings.{IsGraphWiring, asked_trees}
+use Rattle.wac_graph_encode.specs.declared.options.EncodeOptions.{EncodeOptions}
+use Rattle.wac_graph_encode.specs.declared.instances.Wired.{Wired}
+use Rattle.wac_graph_encode.specs.declared.root.Writing.{Writing}
 use Rattle.wac_graph_encode.specs.Standing.{IsFinished}
+use Rattle.wac_graph_encode.specs.Defining.{AreToWrite}
+use Rattle.wac_graph_encode.specs.Beginning.{AreTold, IsBare, IsToBegin}
 
 -- Entries that are finished over the outer imports that the graph asks, with the packages nested, state each wiring of the graph.
 abbrev pub FinishedIsWired : Type 0
-FinishedIsWired = (g : Graph) (worlds : Worlds) (asked : List (Name × Tree)) (es : List Entry) (W : Wiring ℕ) → IsGraph g → ((n : Name) → value_at asked n ≡ asked_trees g n)
+FinishedIsWired = (g : Graph) (worlds : Worlds) (asked : List (Name × Tree)) (es : List CodeEntry) (W : Wiring ℕ) → IsGraph g → ((n : Name) → value_at asked n ≡ asked_trees g n)
     → (done : IsFinished g worlds true asked es) → IsGraphWiring g W → Same W (wiring_of done.state.listed)
+
+-- ---- the bytes of entries
+
+-- a spelling of sections of these entries, whose numbers have 32 bits
+pub record AreSpelled (es : List Entry) (bytes : List ℕ) : Type 0 where
+  pub sections : List Section
+  pub entries : entries_of sections ≡ es
+  pub spelled : bytes ≡ component_bytes sections
+  pub fits : AllByRecursion (λ s. section_fits s ≡ true) sections
+
+-- In these worlds the entries of the bytes are read to each wiring of the graph, but for the numbers of instances.
+pub record ReadsAsWired (g : Graph) (w : Worlds) (bytes : List ℕ) : Type 0 where
+  pub sections : List Section
+  pub spelled : bytes ≡ component_bytes sections
+  pub fits : AllByRecursion (λ s. section_fits s ≡ true) sections
+  pub last : State
+  pub read : steps w start (entries_of sections) ≡ Some last
+  pub stated : last.stated ≡ []
+  pub same : (W : Wiring ℕ) → IsGraphWiring g W → Same W (wiring_of last.listed)
+
+-- Where packages are nested and this holds, so it is in each world that is told of the packages.
+abbrev pub ReadsSo : {E : Type 0} → (define : Bool) → Graph → List PackageId → (P : Type 0) → Result (Vec ℕ Global) E → Type 0
+ReadsSo define g ids P r = define ≡ true → P → (w : Worlds) → AreTold g w ids → IfOk r (λ bytes. ReadsAsWired g w bytes.items)
+
+-- where nothing of the graph is written yet
+abbrev pub ReadsWired : {E : Type 0} → Writing → Wired → Result (Vec ℕ Global) E → Type 0
+ReadsWired x old r = old.graph.now ≡ x.graph.now → IsBare old.root → ReadsSo x.options.now.define_components x.graph.now (names_of x.worlds.now.entries) (IsToBegin x) r
+
+-- of the graph's outer imports, with its definitions in the forms in which they are written
+abbrev pub ReadsAsked : {E : Type 0} → Graph → Asked → Outers → List Definition → EncodeOptions → Result (Vec ℕ Global) E → Type 0
+ReadsAsked g asked outers xs options r =
+    ReadsSo options.define_components g (names_of asked.packages.entries) (IsOuters g asked.types outers.world outers.called.items × AreToWrite g asked.types xs) r

@@ -1,11 +1,13 @@
 //! The bytes and the world of a composition graph.
 
-ghost use Rattle.std.specs.Prelude.{◌≡◌, [], IfOk, IfErr, OnOk};
+ghost use Rattle.std.specs.Prelude.{◌≡◌, [], IfOk, IfErr, OnOk, map};
 ghost use Rattle.wac_types_base.specs.declared.item.ItemKind.{ItemKind};
 ghost use Rattle.wac_types_base.specs.Collection.{Stands};
+ghost use Rattle.wac_graph_bytes.specs.Views.{view};
 ghost use Rattle.wac_graph_asks.specs.Asked.{KeepsAsked};
 ghost use Rattle.wac_graph_asks.specs.AskedUses.{CopiesStand};
 ghost use Rattle.wac_graph_encode.specs.Acyclic.{IsNoCycle};
+ghost use Rattle.wac_graph_encode.specs.Finished.{AreSpelled, ReadsAsked, ReadsWired};
 
 use crate::conflicts::{check_implicit, check_names, check_writable};
 use crate::errors::{EncodeError, Refusal, error_of};
@@ -28,7 +30,9 @@ fn bytes_of_entries(
     entries: &[Entry],
     names: &[SortNames],
     options: &EncodeOptions,
-) -> Result<Vec<u8>, Refusal> {
+) -> Result<Vec<u8>, Refusal>
+    ensures { IfOk result (λ bytes. AreSpelled (map view entries.now) bytes.items) }
+{
     let mut bytes = Vec::new(alloc);
     let processor = options.processor.as_ref();
     push_component(alloc, &mut bytes, entries, processor, names)?;
@@ -38,7 +42,9 @@ fn bytes_of_entries(
 /// The bytes of a composition, where nothing of it is written yet.
 fn bytes_wired(writing: Writing<'_>, wired: &mut Wired<'_>) -> Result<Vec<u8>, Refusal>
     requires { wired.old.outers ≡ [] }
+    ensures { ReadsWired writing.entry wired.old result }
 {
+    writing.graph.see_sound();
     write_root(writing, &mut wired.root)?;
     let names = wired.write_all(writing.all.called)?;
     let alloc = writing.graph.alloc();
@@ -52,7 +58,9 @@ fn bytes_of(
     outers: &Outers,
     definitions: &[Definition],
     options: &EncodeOptions,
-) -> Result<Vec<u8>, Refusal> {
+) -> Result<Vec<u8>, Refusal>
+    ensures { ReadsAsked graph.now asked.now outers.now definitions.now options.now result }
+{
     let all = Importing {
         types: &asked.types,
         world: outers.world,

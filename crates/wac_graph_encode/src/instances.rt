@@ -8,6 +8,7 @@ ghost use Rattle.wac_graph_core.specs.Graph.{IsOfKind};
 ghost use Rattle.wac_graph_scopes.specs.Parts.{imports_of};
 ghost use Rattle.wac_graph_asks.specs.Reads.{AreArguments};
 ghost use Rattle.wac_graph_scopes.specs.Items.{sort_of};
+ghost use Rattle.wac_graph_encode.specs.Beginning.{IsBare};
 ghost use Rattle.wac_graph_encode.specs.Writing.{Finishes, AddsArgument, AddsCalled, AddsEntry, AddsExport, AddsExports, AddsGiven, AddsNeeded, AddsOnly, AllStand, AreCalled, AreGivenIn, Below, GivesUnder, IfYes, IsAliasAt, IsSameRoot, KeepsNodes, KeepsWritten, PassesAll, UpTo, UpToOne, WritesInstance, WritesNode, exported_as, noted};
 
 use crate::errors::Refusal;
@@ -293,6 +294,7 @@ impl<'a> Wired<'a> {
     pub(crate) fn new(alloc: Global, graph: &'a CompositionGraph) -> Self
         ensures graph { result.graph.now ≡ graph.now }
         ensures outers { result.outers ≡ [] }
+        ensures bare { IsBare result.root }
     {
         Wired {
             alloc,

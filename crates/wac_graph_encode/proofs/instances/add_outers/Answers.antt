@@ -1,4 +1,4 @@
-use Rattle.std.proofs.Common.{List, [], sym, subst}
+use Rattle.std.proofs.Common.{List, sym, subst}
 use Rattle.wac_types_base.specs.Entries.{Name}
 use Rattle.wac_types_base.proofs.Loops.{get-place}
 use Rattle.wac_types_base.proofs.Looked.{among-get}

@@ -1,4 +1,4 @@
-use Rattle.std.proofs.Common.{sym, subst, take, ap, ◌∙◌, [], ◌≡◌, ◌≤◌, ◌<◌, ◌+◌, ℕ, Vec, Global, arith}
+use Rattle.std.proofs.Common.{sym, subst, take, [], ◌≤◌, ◌<◌, ◌+◌, ℕ, Vec, Global, arith}
 use Rattle.std.specs.Prelude.{List}
 use Rattle.wac_types_base.specs.declared.item.ItemKind.{ItemKind}
 use Rattle.wac_types_base.specs.Entries.{Name, names_of}

@@ -1,11 +1,8 @@
-use Rattle.std.proofs.Common.{◌≡◌, ◌<◌, ◌≤◌, ◌∙◌, ℕ, List, [], ap, arith, inl, inr, refl, sym, subst}
-use Rattle.wac_types_base.specs.Entries.{names_of}
+use Rattle.std.proofs.Common.{◌≡◌, ◌<◌, ◌≤◌, ℕ, [], ap, arith, inl, inr, sym, subst}
 use Rattle.wac_types_base.specs.Graph.{Among}
 use Rattle.wac_types_base.proofs.Looked.{among-get}
 use Rattle.wac_types_base.proofs.Loops.{get-place}
-use Rattle.wac_types_fit.proofs.Items.{name-among}
-use Rattle.wac_graph_core.specs.Edges.{IsRank}
-use Rattle.wac_graph_encode.specs.Writing.{AddsOnly, AddsNeeded, Below, UpTo, UpToOne, noted}
+use Rattle.wac_graph_encode.specs.Writing.{AddsNeeded, Below, UpTo, UpToOne, noted}
 use Rattle.wac_graph_encode.proofs.WritingLaws.{on_ok, keeps_refl, keeps_trans, needed_below_one, only_none, only_trans, stands_if}
 use Rattle.wac_graph_encode.proofs.instances.Wired.+nodes.Goals as goal
 use Rattle.wac_graph_encode.proofs.instances.Wired.+nodes.Goals.{write_node-then-depth-eq0-via-then-depth-eq0, write_node-then-depth-eq0-via-else-depth-eq0+then-is_some}

@@ -1,6 +1,6 @@
 use Rattle.std.specs.Prelude.{Option, Vec, IfSome}
 use Rattle.std.specs.Global.{Global}
-use Rattle.std.proofs.Common.{Some, ap, sym, subst, ◌∙◌}
+use Rattle.std.proofs.Common.{sym, subst, ◌∙◌}
 use Rattle.wac_types_base.specs.Collection.{IsAcyclic}
 use Rattle.wac_graph_bytes.specs.declared.entry.NamedIndex.{NamedIndex}
 use Rattle.wac_graph_encode.specs.Writing.{PassesAll}

@@ -1,6 +1,4 @@
-use Rattle.std.proofs.Common.{sym, ◌∙◌}
-use Rattle.wac_graph_core.specs.contracts.ids.NodeIdPartialEq.TheImpl as node
-use Rattle.wac_graph_encode.proofs.Entries.{same_node, found_among, none_among}
+use Rattle.std.proofs.Common.{◌∙◌}
 use Rattle.wac_graph_encode.proofs.WritingLaws.{found_if, none_if}
 use Rattle.wac_graph_encode.proofs.instances.Wired.node.Goals as goal
 

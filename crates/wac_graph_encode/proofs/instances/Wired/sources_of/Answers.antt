@@ -1,4 +1,4 @@
-use Rattle.std.proofs.Common.{[], List, ℕ, sym, subst}
+use Rattle.std.proofs.Common.{List, ℕ, subst}
 use Rattle.wac_graph_encode.specs.Writing.{AddsNeeded}
 use Rattle.wac_graph_encode.proofs.instances.Wired.sources_of.Goals as goal
 

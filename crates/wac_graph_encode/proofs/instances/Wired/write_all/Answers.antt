@@ -1,11 +1,8 @@
-use Rattle.std.proofs.Common.{◌≡◌, List, Option, subst, sym, ap, ◌∙◌}
-use Rattle.wac_types_base.specs.Entries.{Name}
-use Rattle.wac_graph_core.specs.Graph.{Graph, IsGraph}
-use Rattle.wac_graph_bytes.specs.declared.entry.Entry.{Entry}
+use Rattle.std.proofs.Common.{List, Option, subst, sym, ap}
+use Rattle.wac_graph_core.specs.Graph.{IsGraph}
 use Rattle.wac_graph_scopes.specs.declared.imports.SortIndex.{SortIndex}
-use Rattle.wac_graph_encode.specs.declared.instances.Wired.{Wired}
-use Rattle.wac_graph_encode.specs.Standing.{IsWritten, IsFinished}
-use Rattle.wac_graph_encode.specs.Writing.{AddsExports, AllStand, AreCalled, noted}
+use Rattle.wac_graph_encode.specs.Standing.{IsFinished}
+use Rattle.wac_graph_encode.specs.Writing.{AreCalled, noted}
 use Rattle.wac_graph_encode.proofs.StandingExports.{exports_finished}
 use Rattle.wac_graph_encode.proofs.WritingSteps.{begun_outers}
 use Rattle.wac_graph_encode.proofs.instances.Wired.write_all.Goals as goal

@@ -1,0 +1,9 @@
+use Rattle.std.proofs.Common.{List, sym, subst}
+use Rattle.wac_graph_scopes.specs.declared.imports.Called.{Called}
+use Rattle.wac_graph_asks.specs.Outers.{IsOuters}
+use Rattle.wac_graph_encode.proofs.encode.bytes_of.Goals as goal
+
+pub returns : goal.returns
+returns c = λ define h w told.
+    let outers = subst (λ (xs : List Called). IsOuters c.args.graph.now c.args.asked.now.types c.args.outers.now.world xs) (sym c.as_slice.ensures.value) h.0 in
+    c.bytes_wired.ensures c.new-wired.ensures.graph c.new-wired.ensures.bare define (record { outers = outers; definitions = h.1 }) w told

@@ -1,0 +1,7 @@
+use Rattle.std.proofs.Common.{map}
+use Rattle.wac_graph_bytes.specs.Views.{view}
+use Rattle.wac_graph_encode.proofs.Finishing.{spelled_so}
+use Rattle.wac_graph_encode.proofs.encode.bytes_of_entries.Goals as goal
+
+pub returns : goal.returns
+returns c = spelled_so (map view c.args.entries.now) _ _ c.new-bytes.result.items c.push_component.new.out.items c.new-bytes.ensures.items c.in_ok-push_component.ensures

@@ -1,0 +1,24 @@
+use Rattle.std.proofs.Common.{true, List, map, sym, subst}
+use Rattle.wac_graph_bytes.specs.declared.entry.Entry.{Entry}
+use Rattle.wac_graph_bytes.specs.Views.{view}
+use Rattle.wac_graph_core.specs.Graph.{Graph}
+use Rattle.wac_graph_encode.specs.Standing.{IsFinished}
+use Rattle.wac_graph_encode.specs.Writing.{IsBegun}
+use Rattle.wac_graph_encode.specs.Beginning.{IsBegunRoot}
+use Rattle.wac_graph_encode.specs.Finished.{AreSpelled}
+use Rattle.wac_graph_encode.proofs.Finishing.{read_as_wired}
+use Rattle.wac_graph_encode.proofs.RootedDefinitions.{if_ok_both}
+use Rattle.wac_graph_encode.proofs.encode.bytes_wired.Goals as goal
+
+pub returns : goal.returns
+returns c = λ same bare define to w told.
+    let x = c.args.writing in
+    let g = x.graph.now in
+    let called = x.all.called.now in
+    let begun : IsBegunRoot g w called c.write_root.new.root = c.in_ok-write_root.ensures define to bare w told in
+    let old = subst (λ (h : Graph). IsBegun true w begun.imports called h c.write_root.new.root) (sym same) begun.begun in
+    let es = c.write_all.new.self.root.entries.items in
+    let done = subst (λ (h : Graph). IsFinished h w true begun.imports es) same (c.in_ok-names.ensures true w begun.imports old) in
+    let spelled = c.bytes_of_entries.ensures in
+    if_ok_both c.bytes_of_entries.result spelled spelled
+    (λ bytes a b. read_as_wired g c.see_sound.ensures w begun.imports es bytes.items begun.asked done (subst (λ (xs : List Entry). AreSpelled (map view xs) bytes.items) c.deref.ensures.value a))
