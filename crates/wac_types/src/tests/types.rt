@@ -8,11 +8,11 @@ use std::test::Fail;
 
 const U32: ValueType = ValueType::Primitive(PrimitiveType::U32);
 
-fn text(alloc: Global, value: &str) -> Result<Text, AllocError> {
+pub(super) fn text(alloc: Global, value: &str) -> Result<Text, AllocError> {
     Ok(Text::new(String::from_str(alloc, value)?))
 }
 
-fn one<T: Drop>(alloc: Global, name: &str, value: T) -> Result<NamedMap<T>, AllocError> {
+pub(super) fn one<T: Drop>(alloc: Global, name: &str, value: T) -> Result<NamedMap<T>, AllocError> {
     let mut map = NamedMap::new(alloc);
     let _ = map.insert(String::from_str(alloc, name)?, value)?;
     Ok(map)
@@ -34,7 +34,7 @@ fn interface(alloc: Global, exports: NamedMap<ItemKind>) -> Interface {
     }
 }
 
-fn resource(alloc: Global) -> Result<Resource, AllocError> {
+pub(super) fn resource(alloc: Global) -> Result<Resource, AllocError> {
     Ok(Resource {
         name: text(alloc, "r")?,
         alias: None,
@@ -68,7 +68,7 @@ fn add_defined(
 }
 
 /// Adds a resource.
-fn add_resource(
+pub(super) fn add_resource(
     rt: &impl Abort,
     types: &mut Types,
     resource: Resource,
@@ -78,14 +78,18 @@ fn add_resource(
 }
 
 /// Adds the function type without parameters.
-fn add_func(rt: &impl Abort, alloc: Global, types: &mut Types) -> Result<FuncTypeId, Fail> {
+pub(super) fn add_func(
+    rt: &impl Abort,
+    alloc: Global,
+    types: &mut Types,
+) -> Result<FuncTypeId, Fail> {
     let func = func(alloc);
     assert!(rt; types.has_ids_of(&func));
     Ok(types.add_func_type(func)?)
 }
 
 /// Adds an interface.
-fn add_interface(
+pub(super) fn add_interface(
     rt: &impl Abort,
     types: &mut Types,
     interface: Interface,
