@@ -90,12 +90,17 @@ no_package n (x ∷ xs) h =
     let b = h x (inl refl) in
     ap (λ (t : Tag). is_package_of n t || is_package n xs) b.1 ∙ no_package n xs (λ y m. h y (inr m))
 
-among_zip : {A B : Type 0} (R : A → B → Type 0) (xs : List A) (ys : List B) → AllZip R xs ys → (y : B) → Among y ys → (x : A) × R x y
+pub among_zip : {A B : Type 0} (R : A → B → Type 0) (xs : List A) (ys : List B) → AllZip R xs ys → (y : B) → Among y ys → (x : A) × R x y
 among_zip R [] [] z y m = absurd m
 among_zip R [] (b ∷ ys) z y m = absurd z
 among_zip R (x ∷ xs) [] z y m = absurd m
 among_zip R (x ∷ xs) (b ∷ ys) z y (inl e) = (x, subst (R x) (sym e) z.0)
 among_zip R (x ∷ xs) (b ∷ ys) z y (inr m) = among_zip R xs ys z.1 y m
+
+pub nested_apart : (g : Graph) (worlds : Worlds) (asked : List (Name × Tree)) (es : List Entry) (h : IsFinished g worlds true asked es) (n : Name) → is_package n h.state.listed.instances ≡ false
+nested_apart g worlds asked es h n =
+    let listed = h.state.listed.instances in
+    no_package n listed (λ x m. let a = among_zip (IsListed g worlds true h.order) h.order listed h.instances x m in (a.1.of.bytes, a.1.tag))
 
 module _ (g : Graph) (is : IsGraph g) (worlds : Worlds) (asked : List (Name × Tree)) (es : List Entry) (h : IsFinished g worlds true asked es) (asks : Name → Option Tree) (outers : (n : Name) → value_at asked n ≡ asks n)
     (W : Wiring ℕ) (wires : core.IsWiring (spelled g) (written_tree g) g asks W) where
@@ -105,16 +110,10 @@ module _ (g : Graph) (is : IsGraph g) (worlds : Worlds) (asked : List (Name × T
   abbrev read : Wiring ℕ
   read = wiring_of listed
 
-  all_nested : (x : Tag × List (Name × Source ℕ)) → Among x listed.instances → (bytes : List ℕ) × (x.0 ≡ OfBytes bytes)
-  all_nested x m = let a = among_zip (IsListed g worlds true h.order) h.order listed.instances h.instances x m in (a.1.of.bytes, a.1.tag)
-
-  apart : (n : Name) → is_package n listed.instances ≡ false
-  apart n = no_package n listed.instances all_nested
-
   outers_same : (n : Name) → W.outers n ≡ read.outers n
   outers_same n =
       wires.outers n ∙ sym (outers n) ∙ ap (λ xs. value_at xs n) (sym h.imports)
-      ∙ ap (λ (b : Bool). if b then None else value_at listed.imports n) (sym (apart n))
+      ∙ ap (λ (b : Bool). if b then None else value_at listed.imports n) (sym (nested_apart g worlds asked es h n))
 
   -- an instance that is listed is the one of the wiring, by numbers
   same_made : (k : ℕ) (p : Packaged) (x : Instantiation ℕ) (y : Tag × List (Name × Source ℕ)) → instantiated g k ≡ Some p → core.IsInstance (spelled g) (written_tree g) g k p x → IsListed g worlds true h.order k y

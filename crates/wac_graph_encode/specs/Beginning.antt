@@ -2,7 +2,7 @@
 use Rattle.std.specs.Prelude.{◌≡◌, ℕ, true, List, [], Option, Some, Result, OnOk, slice_get}
 use Rattle.wac_types_base.specs.declared.ids.WorldId.{WorldId}
 use Rattle.wac_types_base.specs.Record.{Collection}
-use Rattle.wac_types_base.specs.Entries.{Name, names_of, value_at}
+use Rattle.wac_types_base.specs.Entries.{AreDistinct, Name, names_of, value_at}
 use Rattle.wac_types_base.specs.Graph.{Among}
 use Rattle.wac_types_base.specs.Tree.{Tree}
 use Rattle.wac_graph_bytes.specs.Typing.{Worlds, Inside}
@@ -41,6 +41,7 @@ Begins x scope old new r = x.options.now.define_components ≡ true → (w : Wor
 -- with these imports, which are what the graph asks, the root is begun
 pub record IsBegunRoot (g : Graph) (w : Worlds) (called : List Called) (root : Root) : Type 0 where
   pub imports : List (Name × Tree)
+  pub once : AreDistinct (names_of imports)
   pub asked : (n : Name) → value_at imports n ≡ asked_trees g n
   pub begun : IsBegun true w imports called g root
 

@@ -1,5 +1,5 @@
 -- What entries mean that are finished.
-use Rattle.std.specs.Prelude.{◌≡◌, ℕ, Bool, true, List, [], Some, Result, IfOk}
+use Rattle.std.specs.Prelude.{◌≡◌, ℕ, Bool, true, List, Result, IfOk}
 use Rattle.std.specs.declared.alloc.Global.{Global}
 use Rattle.std.specs.declared.vec.Vec.{Vec}
 use Rattle.std.specs.List.{AllByRecursion}
@@ -10,7 +10,7 @@ use Rattle.wac_graph_bytes.specs.Entries.{Entry, Section, entries_of}
 use Rattle.wac_graph_bytes.specs.Sizes.{section_fits}
 use Rattle.wac_graph_bytes.specs.Spelling.{component_bytes}
 use Rattle.wac_graph_bytes.specs.Typing.{Worlds}
-use Rattle.wac_graph_bytes.specs.Meaning.{State, start, steps, wiring_of}
+use Rattle.wac_graph_bytes.specs.Meaning.{Means, wiring_of}
 use Rattle.wac_graph_bytes.specs.Wirings.{Wiring, Same}
 use Rattle.wac_graph_core.specs.declared.ids.PackageId.{PackageId}
 use Rattle.wac_graph_core.specs.Graph.{Graph, IsGraph}
@@ -40,25 +40,21 @@ pub record AreSpelled (es : List Entry) (bytes : List ℕ) : Type 0 where
   pub spelled : bytes ≡ component_bytes sections
   pub fits : AllByRecursion (λ s. section_fits s ≡ true) sections
 
--- In these worlds the entries of the bytes are read to each wiring of the graph, but for the numbers of instances.
-pub record ReadsAsWired (g : Graph) (w : Worlds) (bytes : List ℕ) : Type 0 where
-  pub sections : List Section
-  pub spelled : bytes ≡ component_bytes sections
-  pub fits : AllByRecursion (λ s. section_fits s ≡ true) sections
-  pub last : State
-  pub read : steps w start (entries_of sections) ≡ Some last
-  pub stated : last.stated ≡ []
-  pub same : (W : Wiring ℕ) → IsGraphWiring g W → Same W (wiring_of last.listed)
+-- In these worlds the bytes mean each wiring of the graph, but for the numbers of instances.
+pub record MeansGraph (g : Graph) (w : Worlds) (bytes : List ℕ) : Type 0 where
+  pub meant : Wiring ℕ
+  pub means : Means w bytes meant
+  pub same : (W : Wiring ℕ) → IsGraphWiring g W → Same W meant
 
 -- Where packages are nested and this holds, so it is in each world that is told of the packages.
-abbrev pub ReadsSo : {E : Type 0} → (define : Bool) → Graph → List PackageId → (P : Type 0) → Result (Vec ℕ Global) E → Type 0
-ReadsSo define g ids P r = define ≡ true → P → (w : Worlds) → AreTold g w ids → IfOk r (λ bytes. ReadsAsWired g w bytes.items)
+abbrev pub MeansSo : {E : Type 0} → (define : Bool) → Graph → List PackageId → (P : Type 0) → Result (Vec ℕ Global) E → Type 0
+MeansSo define g ids P r = define ≡ true → P → (w : Worlds) → AreTold g w ids → IfOk r (λ bytes. MeansGraph g w bytes.items)
 
 -- where nothing of the graph is written yet
-abbrev pub ReadsWired : {E : Type 0} → Writing → Wired → Result (Vec ℕ Global) E → Type 0
-ReadsWired x old r = old.graph.now ≡ x.graph.now → IsBare old.root → ReadsSo x.options.now.define_components x.graph.now (names_of x.worlds.now.entries) (IsToBegin x) r
+abbrev pub MeansWired : {E : Type 0} → Writing → Wired → Result (Vec ℕ Global) E → Type 0
+MeansWired x old r = old.graph.now ≡ x.graph.now → IsBare old.root → MeansSo x.options.now.define_components x.graph.now (names_of x.worlds.now.entries) (IsToBegin x) r
 
 -- of the graph's outer imports, with its definitions in the forms in which they are written
-abbrev pub ReadsAsked : {E : Type 0} → Graph → Asked → Outers → List Definition → EncodeOptions → Result (Vec ℕ Global) E → Type 0
-ReadsAsked g asked outers xs options r =
-    ReadsSo options.define_components g (names_of asked.packages.entries) (IsOuters g asked.types outers.world outers.called.items × AreToWrite g asked.types xs) r
+abbrev pub MeansAsked : {E : Type 0} → Graph → Asked → Outers → List Definition → EncodeOptions → Result (Vec ℕ Global) E → Type 0
+MeansAsked g asked outers xs options r =
+    MeansSo options.define_components g (names_of asked.packages.entries) (IsOuters g asked.types outers.world outers.called.items × AreToWrite g asked.types xs) r

@@ -7,7 +7,7 @@ ghost use Rattle.wac_graph_bytes.specs.Views.{view};
 ghost use Rattle.wac_graph_asks.specs.Asked.{KeepsAsked};
 ghost use Rattle.wac_graph_asks.specs.AskedUses.{CopiesStand};
 ghost use Rattle.wac_graph_encode.specs.Acyclic.{IsNoCycle};
-ghost use Rattle.wac_graph_encode.specs.Finished.{AreSpelled, ReadsAsked, ReadsWired};
+ghost use Rattle.wac_graph_encode.specs.Finished.{AreSpelled, MeansAsked, MeansWired};
 
 use crate::conflicts::{check_implicit, check_names, check_writable};
 use crate::errors::{EncodeError, Refusal, error_of};
@@ -42,7 +42,7 @@ fn bytes_of_entries(
 /// The bytes of a composition, where nothing of it is written yet.
 fn bytes_wired(writing: Writing<'_>, wired: &mut Wired<'_>) -> Result<Vec<u8>, Refusal>
     requires { wired.old.outers ≡ [] }
-    ensures { ReadsWired writing.entry wired.old result }
+    ensures { MeansWired writing.entry wired.old result }
 {
     writing.graph.see_sound();
     write_root(writing, &mut wired.root)?;
@@ -59,7 +59,7 @@ fn bytes_of(
     definitions: &[Definition],
     options: &EncodeOptions,
 ) -> Result<Vec<u8>, Refusal>
-    ensures { ReadsAsked graph.now asked.now outers.now definitions.now options.now result }
+    ensures { MeansAsked graph.now asked.now outers.now definitions.now options.now result }
 {
     let all = Importing {
         types: &asked.types,

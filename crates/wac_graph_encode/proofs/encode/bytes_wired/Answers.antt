@@ -6,7 +6,7 @@ use Rattle.wac_graph_encode.specs.Standing.{IsFinished}
 use Rattle.wac_graph_encode.specs.Writing.{IsBegun}
 use Rattle.wac_graph_encode.specs.Beginning.{IsBegunRoot}
 use Rattle.wac_graph_encode.specs.Finished.{AreSpelled}
-use Rattle.wac_graph_encode.proofs.Finishing.{read_as_wired}
+use Rattle.wac_graph_encode.proofs.Finishing.{means_graph}
 use Rattle.wac_graph_encode.proofs.RootedDefinitions.{if_ok_both}
 use Rattle.wac_graph_encode.proofs.encode.bytes_wired.Goals as goal
 
@@ -21,4 +21,4 @@ returns c = λ same bare define to w told.
     let done = subst (λ (h : Graph). IsFinished h w true begun.imports es) same (c.in_ok-names.ensures true w begun.imports old) in
     let spelled = c.bytes_of_entries.ensures in
     if_ok_both c.bytes_of_entries.result spelled spelled
-    (λ bytes a b. read_as_wired g c.see_sound.ensures w begun.imports es bytes.items begun.asked done (subst (λ (xs : List Entry). AreSpelled (map view xs) bytes.items) c.deref.ensures.value a))
+    (λ bytes a b. means_graph g c.see_sound.ensures w begun.imports es begun.once done bytes.items begun.asked (subst (λ (xs : List Entry). AreSpelled (map view xs) bytes.items) c.deref.ensures.value a))

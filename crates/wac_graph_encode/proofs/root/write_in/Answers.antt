@@ -1,4 +1,5 @@
-use Rattle.std.proofs.Common.{[], subst}
+use Rattle.std.proofs.Common.{[], sym, subst}
+use Rattle.wac_types_base.specs.Entries.{AreDistinct}
 use Rattle.wac_types_base.specs.Collection.{IsAcyclic}
 use Rattle.wac_graph_scopes.specs.Imports.{WritesOn, WritesAllImports}
 use Rattle.wac_graph_scopes.proofs.ImportLaws.{GoesOn-refl}
@@ -27,6 +28,7 @@ returns c define to bare w told =
     on_ok c.write_packages.result
     (λ begun. record {
       imports = goes.writing.inside.imports;
+      once = subst AreDistinct (sym goes.writing.imports) goes.writing.imports_once;
       asked = imports_asked g c.see_sound.ensures finite a.types.now acyclic a.world a.called.now to.outers w scope all.0 goes all.2;
       begun = begun;
     })
