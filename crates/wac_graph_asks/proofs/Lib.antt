@@ -18,3 +18,5 @@ pub mod NodeAsks
 pub mod FirstNames
 pub mod Once
 pub mod Adding
+pub mod TakingMore
+pub mod TakingAll
