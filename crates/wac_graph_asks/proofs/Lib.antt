@@ -20,3 +20,4 @@ pub mod Once
 pub mod Adding
 pub mod TakingMore
 pub mod TakingAll
+pub mod Merged

@@ -1,5 +1,5 @@
 -- What the classes of asks keep, as one ask is taken after another.
-use Rattle.std.specs.Prelude.{◌≡◌, ◌==◌, ℕ, List, [], ◌∷◌, ◌++◌, length, Option, Some, None, slice_get}
+use Rattle.std.specs.Prelude.{◌≡◌, ◌==◌, ℕ, List, [], ◌∷◌, ◌++◌, length, Option, Some, None, is_some, true, slice_get}
 use Rattle.std.specs.Map.{keys_of, lookup}
 use Rattle.wac_types_base.specs.Record.{Collection}
 use Rattle.wac_types_base.specs.Graph.{Among}
@@ -7,20 +7,22 @@ use Rattle.wac_types_base.specs.Collection.{Stands}
 use Rattle.wac_types_base.specs.Stated.{stated_of}
 use Rattle.indexmap.specs.IndexMap.{insert_entry}
 use Rattle.wac_composition.specs.Asks.{Ask}
-use Rattle.wac_composition.specs.Merging.{Asked}
+use Rattle.wac_composition.specs.Classes.{class}
+use Rattle.wac_composition.specs.Merging.{Asked as AskedPair, kept}
 use Rattle.wac_composition.specs.Again.{IsWell}
 use Rattle.wac_composition.specs.OuterImports.{asked_in}
 use Rattle.wac_merging.specs.declared.kept.Kept.{Kept}
 use Rattle.wac_merging.specs.Named.{NamesDiffer}
 use Rattle.wac_merging.specs.Asking.{asked_as}
 use Rattle.wac_merging.specs.Kept.{Keeps, KeepsFirst}
-use Rattle.wac_merging.specs.Labelled.{labelled, each_label}
+use Rattle.wac_merging.specs.Labelled.{labelled, each_label, AreLabels}
 use Rattle.wac_graph_asks.specs.declared.asks.Ask.{Ask as HeldAsk}
+use Rattle.wac_graph_asks.specs.declared.asks.Asked.{Asked}
 use Rattle.wac_graph_asks.specs.declared.taken.Taken.{Taken}
 use Rattle.wac_graph_asks.specs.AsksIn.{asks_in}
 
 -- what is asked, by what it states
-abbrev pub pair_in : Collection → HeldAsk → Asked
+abbrev pub pair_in : Collection → HeldAsk → AskedPair
 pair_in c a = asked_as c a.name a.item
 
 -- the second asks the item of the first, under its name
@@ -29,7 +31,7 @@ AsksSame a b = (b.item ≡ a.item) × (b.name ≡ a.name)
 
 -- with this ask it is kept of what was asked before, where the first is among that
 abbrev pub KeepsMore : Collection → Kept → (first ask : HeldAsk) → Collection → Kept → Type 0
-KeepsMore c before first ask d after = (asks : List Asked) → Among (pair_in c first) asks → IsWell (stated_of c ask.item) → Keeps c asks before → Keeps d (asks ++ pair_in c ask ∷ []) after
+KeepsMore c before first ask d after = (asks : List AskedPair) → Among (pair_in c first) asks → IsWell (stated_of c ask.item) → Keeps c asks before → Keeps d (asks ++ pair_in c ask ∷ []) after
 
 -- the first ask of the class stays, and this is kept with one ask more
 abbrev pub TakesMore : Collection → List HeldAsk → Taken → HeldAsk → Collection → Taken → Type 0
@@ -49,7 +51,7 @@ Takes c asks at class old d new = (a : HeldAsk) → slice_get asks at ≡ Some a
     → (after : Taken) × TakesOne c asks (lookup (λ k. class == k) old) at a d after × (new ≡ insert_entry ◌==◌ old class after)
 
 -- this is kept of the asks of this label, the first of which stands at that place
-pub record IsTakenOf (c : Collection) (held : List HeldAsk) (asks : List Asked) (one : Taken) : Type 0 where
+pub record IsTakenOf (c : Collection) (held : List HeldAsk) (asks : List AskedPair) (one : Taken) : Type 0 where
   pub first : HeldAsk
   pub there : slice_get held one.first ≡ Some first
   pub among : Among (pair_in c first) asks
@@ -69,3 +71,14 @@ pub record AreSound (c : Collection) (held : List HeldAsk) : Type 0 where
 -- the asks of a sound collection are taken by their labels
 abbrev pub TakesAll : Collection → List HeldAsk → List ℕ → Collection → List (ℕ × Taken) → Type 0
 TakesAll c held labels d taken = AreSound c held → length labels ≡ length held → AreTaken d held (asks_in c held) labels taken
+
+-- each class of the asks keeps something
+abbrev pub AreMerged : List (Ask ℕ) → Type 0
+AreMerged asks = (a : Ask ℕ) → Among a asks → is_some (kept (asked_in (class asks a))) ≡ true
+
+abbrev pub MergesLabelled : Collection → List HeldAsk → List ℕ → Type 0
+MergesLabelled c held labels = AreSound c held → AreLabels (asks_in c held) labels → AreMerged (asks_in c held)
+
+-- what is asked merges, class by class, where it stands
+abbrev pub Merges : Asked → Type 0
+Merges a = ((x : HeldAsk) → Among x a.asks.items → Stands a.types x.item) → AreMerged (asks_in a.types a.asks.items)

@@ -6,6 +6,7 @@ ghost use Rattle.wac_types_base.specs.Collection.{Grows, Stands};
 ghost use Rattle.wac_merging.specs.Kept.{Spells};
 ghost use Rattle.wac_graph_asks.specs.Asked.{KeepsAsked};
 ghost use Rattle.wac_graph_asks.specs.Named.{SpellsClass};
+ghost use Rattle.wac_graph_asks.specs.Takes.{Merges, MergesLabelled};
 
 use crate::asks::{Ask, Asked};
 use crate::classes::{Classes, classes_of, has_track};
@@ -15,7 +16,7 @@ use crate::taken::{Taken, all_taken};
 use indexmap::IndexMap;
 use std::alloc::{AllocError, Global};
 use wac_graph_scopes::imports::Called;
-use wac_merging::{Kept, kept_import};
+use wac_merging::{Kept, kept_import, see_named};
 use wac_types_base::{ItemKind, NamedMap, Text, Types, World, WorldId};
 use wac_writable::maps::insert_under;
 
@@ -196,6 +197,7 @@ fn outers_of_classes(
 ) -> Result<Outers, OuterError>
     ensures keeps { KeepsAsked asked.old asked.new }
     ensures stands { IfOk result (λ o. Stands asked.new.types (ItemKind.Component o.world)) }
+    ensures merges { IfOk result (λ o. MergesLabelled asked.old.types asked.old.asks.items classes.now.labels.items) }
 {
     let taken = all_taken(alloc, &mut asked.types, &asked.asks, &classes.labels)?;
     outers_kept(alloc, asked, classes, &taken)
@@ -205,8 +207,10 @@ fn outers_of_classes(
 pub fn outers_of(alloc: Global, asked: &mut Asked) -> Result<Outers, OuterError>
     ensures keeps { KeepsAsked asked.old asked.new }
     ensures stands { IfOk result (λ o. Stands asked.new.types (ItemKind.Component o.world)) }
+    ensures merges { IfOk result (λ o. Merges asked.old) }
 {
     asked.types.see_acyclic();
+    see_named(&asked.types);
     let classes = classes_of(alloc, &asked.types, &asked.asks)?;
     outers_of_classes(alloc, asked, &classes)
 }
