@@ -18,3 +18,6 @@ pub mod NodeAsks
 pub mod FirstNames
 pub mod Once
 pub mod Adding
+pub mod TakingMore
+pub mod TakingAll
+pub mod Merged

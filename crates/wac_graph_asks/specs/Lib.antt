@@ -10,4 +10,5 @@ pub mod Reads
 pub mod Asked
 pub mod AskedNodes
 pub mod AskedUses
+pub mod Takes
 pub mod Outers

@@ -150,7 +150,7 @@ impl Drop for Classes {
 }
 
 /// The place that is kept there, or that place itself.
-fn place_at(places: &[usize], at: usize) -> usize
+pub(crate) fn place_at(places: &[usize], at: usize) -> usize
     ensures { result ≡ label_at places.now at }
 {
     match places.get(at) {

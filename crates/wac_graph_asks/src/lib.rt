@@ -8,6 +8,7 @@ pub mod faults;
 mod laws;
 pub mod nodes;
 pub mod outers;
+mod taken;
 
 pub use faults::OuterError;
 pub use laws::{asks_once_are_all_asks, first_name_of_a_definition, graphs_are_composed};

@@ -3,29 +3,22 @@
 ghost use Rattle.std.specs.Prelude.{IfOk};
 ghost use Rattle.wac_types_base.specs.declared.item.ItemKind.{ItemKind};
 ghost use Rattle.wac_types_base.specs.Collection.{Grows, Stands};
+ghost use Rattle.wac_merging.specs.Kept.{Spells};
 ghost use Rattle.wac_graph_asks.specs.Asked.{KeepsAsked};
 ghost use Rattle.wac_graph_asks.specs.Named.{SpellsClass};
+ghost use Rattle.wac_graph_asks.specs.Takes.{Merges, MergesLabelled};
 
-use crate::asks::{Ask, Asked, Asking};
+use crate::asks::{Ask, Asked};
 use crate::classes::{Classes, classes_of, has_track};
 use crate::copies::{add_world, bare_world, filled};
 use crate::faults::OuterError;
+use crate::taken::{Taken, all_taken};
 use indexmap::IndexMap;
 use std::alloc::{AllocError, Global};
-use wac_graph_core::NodeId;
 use wac_graph_scopes::imports::Called;
+use wac_merging::{Kept, kept_import, see_named};
 use wac_types_base::{ItemKind, NamedMap, Text, Types, World, WorldId};
-use wac_types_merge::{AggregateError, Family, family_of, joint_family, kept_of, spelled};
 use wac_writable::maps::insert_under;
-
-/// What is kept of a class.
-#[derive(Clone, Copy)]
-struct Kept {
-    count: usize,
-    item: ItemKind,
-    /// That of the asks, once they are not all one.
-    family: Option<Family>,
-}
 
 /// The outer imports of a composition.
 pub struct Outers {
@@ -44,229 +37,22 @@ impl Drop for Outers {
     }
 }
 
-/// What is kept of the classes, by the places of their first asks.
-struct Merging<'a> {
-    alloc: Global,
-    asks: &'a [Ask],
-    kept: IndexMap<usize, Kept>,
-}
-
-impl Drop for Merging<'_> {
-    fn drop(self) {
-        let Merging {
-            alloc: _,
-            asks: _,
-            kept: _,
-        } = self;
-    }
-}
-
-/// What is kept of two asked items.
-fn merged(
-    alloc: Global,
-    types: &mut Types,
-    family: Family,
-    kept: ItemKind,
-    asked: ItemKind,
-) -> Result<ItemKind, AggregateError>
-    ensures grows { Grows types.old types.new }
-{
-    types.see_acyclic();
-    if !types.has(kept) {
-        return Err(AggregateError::OutsideFamilies);
-    }
-    if !types.has(asked) {
-        return Err(AggregateError::OutsideFamilies);
-    }
-    kept_of(alloc, types, family, kept, asked)
-}
-
-/// The refusal of an ask that does not merge with what is kept of its class.
-fn merge_fault(alloc: Global, ask: &Ask, first: NodeId, source: AggregateError) -> OuterError {
-    let Ok(name) = String::from_str(alloc, ask.name.as_str()) else {
-        return OuterError::Memory;
-    };
-    if matches!(&source, AggregateError::Memory) {
-        return OuterError::Memory;
-    }
-    match ask.asking {
-        Asking::ByName => OuterError::ExplicitImportConflict {
-            name,
-            first,
-            second: ask.by,
-        },
-        _ => OuterError::ImportTypeMergeConflict {
-            import: name,
-            first,
-            second: ask.by,
-            source,
-        },
-    }
-}
-
-/// Whether the second asks the same under the same name.
-fn is_again(first: &Ask, ask: &Ask) -> bool {
-    first.item == ask.item && first.name.is(ask.name.as_str())
-}
-
-/// The first ask of a class, or that ask itself.
-fn first_of<'a>(asks: &'a [Ask], class: usize, ask: &'a Ask) -> &'a Ask {
-    match asks.get(class) {
-        Some(first) => first,
-        None => ask,
-    }
-}
-
-/// The family of an ask.
-fn family_asked(types: &Types, ask: &Ask) -> Family {
-    if !types.has(ask.item) {
-        return Family::Neither;
-    }
-    family_of(types, ask.name.as_str(), ask.item)
-}
-
-/// The family of what a class asked before.
-fn family_before(types: &Types, before: Kept, first: &Ask) -> Family {
-    match before.family {
-        Some(family) => family,
-        None => family_asked(types, first),
-    }
-}
-
-impl<'a> Merging<'a> {
-    /// What is kept after one more ask, which is not the first one again.
-    fn merge(
-        &mut self,
-        types: &mut Types,
-        before: Kept,
-        first: &Ask,
-        ask: &Ask,
-    ) -> Result<Kept, OuterError>
-        ensures grows { Grows types.old types.new }
-    {
-        types.see_acyclic();
-        let family = family_before(types, before, first);
-        let family = joint_family(family, family_asked(types, ask));
-        match merged(self.alloc, types, family, before.item, ask.item) {
-            Ok(item) => Ok(Kept {
-                count: before.count.saturating_add(1),
-                item,
-                family: Some(family),
-            }),
-            Err(source) => Err(merge_fault(self.alloc, ask, first.by, source)),
-        }
-    }
-
-    /// What is kept after one more ask.
-    fn kept_after(
-        &mut self,
-        types: &mut Types,
-        before: Kept,
-        first: &Ask,
-        ask: &Ask,
-    ) -> Result<Kept, OuterError>
-        ensures grows { Grows types.old types.new }
-    {
-        types.see_acyclic();
-        if before.family.is_none() && is_again(first, ask) {
-            return Ok(Kept {
-                count: before.count.saturating_add(1),
-                item: before.item,
-                family: None,
-            });
-        }
-        self.merge(types, before, first, ask)
-    }
-
-    /// What is kept of a class after one more ask.
-    fn kept_with(
-        &mut self,
-        types: &mut Types,
-        first: &Ask,
-        ask: &Ask,
-        class: usize,
-    ) -> Result<Kept, OuterError>
-        ensures grows { Grows types.old types.new }
-    {
-        types.see_acyclic();
-        match self.kept.get(&class).copied() {
-            Some(before) => self.kept_after(types, before, first, ask),
-            None => Ok(Kept {
-                count: 1,
-                item: ask.item,
-                family: None,
-            }),
-        }
-    }
-
-    /// Takes an ask into what is kept of its class.
-    fn take(&mut self, types: &mut Types, ask: &Ask, class: usize) -> Result<(), OuterError>
-        ensures grows { Grows types.old types.new }
-    {
-        let first = first_of(self.asks, class, ask);
-        let after = self.kept_with(types, first, ask, class)?;
-        let _ = self.kept.insert(class, after)?;
-        Ok(())
-    }
-
-    /// Takes all asks.
-    fn take_all(&mut self, types: &mut Types, classes: &Classes) -> Result<(), OuterError>
-        ensures grows { Grows types.old types.new }
-    {
-        types.see_acyclic();
-        for (ask, class) in self.asks.iter().zip(&classes.labels) {
-            self.take(types, ask, *class)?;
-        }
-        Ok(())
-    }
-
-    fn into_kept(self) -> IndexMap<usize, Kept> {
-        let Merging {
-            alloc: _,
-            asks: _,
-            kept,
-        } = self;
-        kept
-    }
-}
-
-/// What is kept of each class, in asking order.
-fn kept_of_all(
-    alloc: Global,
-    types: &mut Types,
-    asks: &[Ask],
-    classes: &Classes,
-) -> Result<IndexMap<usize, Kept>, OuterError>
-    ensures grows { Grows types.old types.new }
-{
-    let mut merging = Merging {
-        alloc,
-        asks,
-        kept: IndexMap::new(alloc),
-    };
-    merging.take_all(types, classes)?;
-    Ok(merging.into_kept())
-}
-
-/// The item under the spelling: an instance that several ask for on a track is identified by it.
-fn identified(
+/// The outer import of what is kept, under its spelling.
+fn import_kept(
     alloc: Global,
     types: &mut Types,
     kept: Kept,
     spelling: &str,
 ) -> Result<ItemKind, AllocError>
+    ensures spells { IfOk result (Spells types.old kept spelling.now types.new) }
     ensures grows { Grows types.old types.new }
 {
     types.see_acyclic();
-    if kept.count < 2 || !types.has(kept.item) {
+    if !types.has(kept.item) {
         return Ok(kept.item);
     }
     let on_track = has_track(alloc, spelling)?;
-    if on_track {
-        spelled(alloc, types, kept.item, spelling)
-    } else {
-        Ok(kept.item)
-    }
+    kept_import(alloc, types, kept, spelling, on_track)
 }
 
 /// The name of the ask that spells a class.
@@ -293,11 +79,11 @@ fn push_called(called: &mut Vec<Called>, name: &Text, at: usize) -> Result<(), A
 fn push_names_called(
     asks: &[Ask],
     classes: &Classes,
-    kept: &IndexMap<usize, Kept>,
+    taken: &IndexMap<usize, Taken>,
     called: &mut Vec<Called>,
 ) -> Result<(), AllocError> {
     for (ask, class) in asks.iter().zip(&classes.labels) {
-        if let Some(at) = kept.get_index_of(class) {
+        if let Some(at) = taken.get_index_of(class) {
             push_called(called, &ask.name, at)?;
         }
     }
@@ -309,10 +95,10 @@ fn names_called(
     alloc: Global,
     asks: &[Ask],
     classes: &Classes,
-    kept: &IndexMap<usize, Kept>,
+    taken: &IndexMap<usize, Taken>,
 ) -> Result<Vec<Called>, AllocError> {
     let mut called = Vec::new(alloc);
-    push_names_called(asks, classes, kept, &mut called)?;
+    push_names_called(asks, classes, taken, &mut called)?;
     Ok(called)
 }
 
@@ -326,7 +112,7 @@ fn add_import(
 ) -> Result<(), AllocError>
     ensures grows { Grows types.old types.new }
 {
-    let item = identified(alloc, types, kept, spelling)?;
+    let item = import_kept(alloc, types, kept, spelling)?;
     insert_under(alloc, imports, spelling, item)
 }
 
@@ -336,15 +122,15 @@ fn add_imports(
     types: &mut Types,
     asks: &[Ask],
     classes: &Classes,
-    kept: &IndexMap<usize, Kept>,
+    taken: &IndexMap<usize, Taken>,
     imports: &mut NamedMap<ItemKind>,
 ) -> Result<(), AllocError>
     ensures grows { Grows types.old types.new }
 {
     types.see_acyclic();
-    for (class, one) in kept.iter() {
+    for (class, one) in taken.iter() {
         let spelling = spelling_of(asks, classes, *class);
-        add_import(alloc, types, *one, spelling, imports)?;
+        add_import(alloc, types, one.kept, spelling, imports)?;
     }
     Ok(())
 }
@@ -354,13 +140,20 @@ fn world_kept(
     alloc: Global,
     asked: &mut Asked,
     classes: &Classes,
-    kept: &IndexMap<usize, Kept>,
+    taken: &IndexMap<usize, Taken>,
 ) -> Result<World, AllocError>
     ensures { KeepsAsked asked.old asked.new }
 {
     let mut world = bare_world(alloc, None);
     let imports = &mut world.imports;
-    let added = add_imports(alloc, &mut asked.types, &asked.asks, classes, kept, imports);
+    let added = add_imports(
+        alloc,
+        &mut asked.types,
+        &asked.asks,
+        classes,
+        taken,
+        imports,
+    );
     filled(world, added)
 }
 
@@ -369,12 +162,12 @@ fn outer_world(
     alloc: Global,
     asked: &mut Asked,
     classes: &Classes,
-    kept: &IndexMap<usize, Kept>,
+    taken: &IndexMap<usize, Taken>,
 ) -> Result<WorldId, OuterError>
     ensures keeps { KeepsAsked asked.old asked.new }
     ensures stands { IfOk result (λ w. Stands asked.new.types (ItemKind.Component w)) }
 {
-    let world = world_kept(alloc, asked, classes, kept)?;
+    let world = world_kept(alloc, asked, classes, taken)?;
     match add_world(&mut asked.types, world)? {
         Some(world) => Ok(world),
         None => Err(OuterError::TooLarge),
@@ -386,13 +179,13 @@ fn outers_kept(
     alloc: Global,
     asked: &mut Asked,
     classes: &Classes,
-    kept: &IndexMap<usize, Kept>,
+    taken: &IndexMap<usize, Taken>,
 ) -> Result<Outers, OuterError>
     ensures keeps { KeepsAsked asked.old asked.new }
     ensures stands { IfOk result (λ o. Stands asked.new.types (ItemKind.Component o.world)) }
 {
-    let world = outer_world(alloc, asked, classes, kept)?;
-    let called = names_called(alloc, &asked.asks, classes, kept)?;
+    let world = outer_world(alloc, asked, classes, taken)?;
+    let called = names_called(alloc, &asked.asks, classes, taken)?;
     Ok(Outers { world, called })
 }
 
@@ -404,17 +197,20 @@ fn outers_of_classes(
 ) -> Result<Outers, OuterError>
     ensures keeps { KeepsAsked asked.old asked.new }
     ensures stands { IfOk result (λ o. Stands asked.new.types (ItemKind.Component o.world)) }
+    ensures merges { IfOk result (λ o. MergesLabelled asked.old.types asked.old.asks.items classes.now.labels.items) }
 {
-    let kept = kept_of_all(alloc, &mut asked.types, &asked.asks, classes)?;
-    outers_kept(alloc, asked, classes, &kept)
+    let taken = all_taken(alloc, &mut asked.types, &asked.asks, &classes.labels)?;
+    outers_kept(alloc, asked, classes, &taken)
 }
 
 /// The outer imports of what is asked.
 pub fn outers_of(alloc: Global, asked: &mut Asked) -> Result<Outers, OuterError>
     ensures keeps { KeepsAsked asked.old asked.new }
     ensures stands { IfOk result (λ o. Stands asked.new.types (ItemKind.Component o.world)) }
+    ensures merges { IfOk result (λ o. Merges asked.old) }
 {
     asked.types.see_acyclic();
+    see_named(&asked.types);
     let classes = classes_of(alloc, &asked.types, &asked.asks)?;
     outers_of_classes(alloc, asked, &classes)
 }

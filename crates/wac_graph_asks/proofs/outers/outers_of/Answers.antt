@@ -1,6 +1,11 @@
 use Rattle.std.proofs.Common.{refl}
 use Rattle.wac_types_base.proofs.Adding.{Grows-refl}
+use Rattle.wac_graph_asks.proofs.Merged.{merges}
 use Rattle.wac_graph_asks.proofs.outers.outers_of.Goals as goal
 
 pub returns-in_err-classes-clause-keeps : goal.returns-in_err-classes-clause-keeps
 returns-in_err-classes-clause-keeps c = record { grows = Grows-refl c.args.asked.now.types c.see_acyclic.ensures; asks = refl; packages = refl; definitions = refl }
+
+pub returns-clause-merges : goal.returns-clause-merges
+returns-clause-merges c =
+    merges c.outers_of_classes.result c.args.asked.now c.deref.result.now c.in_ok-classes.classes.labels.items c.see_named.ensures c.deref.ensures.value c.in_ok-classes.ensures.labels c.outers_of_classes.ensures.merges

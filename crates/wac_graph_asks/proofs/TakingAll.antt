@@ -1,0 +1,167 @@
+-- What all asks keep by their labels, as they are taken one after another.
+use Rattle.std.specs.Map.{keys_of, lookup}
+use Rattle.std.proofs.Common.{◌≡◌, ◌==◌, ◌<◌, ℕ, zero, suc, ◌+◌, Bool, true, false, true≢false, ◌≤◌, List, [], ◌∷◌, ◌++◌, length, take, slice_get, Option, Some, None, refl, sym, ap, subst, ◌∙◌, inl, inr, arith, if◌then◌else◌}
+use Rattle.std.proofs.lemmas.Option.{none-some, same_Some, get_or_from_slice_get}
+use Rattle.std.proofs.lemmas.List.{map-append, length-map, length-take-le}
+use Rattle.std.proofs.lemmas.List.Sums.{fold-append}
+use Rattle.indexmap.specs.IndexMap.{insert_entry}
+use Rattle.wac_types_base.specs.Record.{Collection}
+use Rattle.wac_types_base.specs.Graph.{Among}
+use Rattle.wac_types_base.specs.Collection.{Stands, IsAcyclic, Grows}
+use Rattle.wac_types_base.specs.Stated.{stated_of}
+use Rattle.wac_types_base.proofs.Adding.{Grows-refl, Grows-trans}
+use Rattle.wac_types_base.proofs.Looked.{among-get, take-one_more}
+use Rattle.wac_types_base.proofs.Loops.{map-get, take-all}
+use Rattle.wac_types_base.proofs.Replacing.{same_number}
+use Rattle.wac_graph_core.proofs.Found.{eq_same, eq_false}
+use Rattle.wac_composition.specs.Asks.{Ask}
+use Rattle.wac_composition.specs.Merging.{Asked}
+use Rattle.wac_composition.specs.Again.{IsWell}
+use Rattle.wac_composition.specs.OuterImports.{asked_in}
+use Rattle.wac_composition.proofs.AskedAgain.{among_first}
+use Rattle.wac_merging.specs.Labelled.{labelled, each_label, with_label}
+use Rattle.wac_merging.proofs.Taking.{taken_stays}
+use Rattle.wac_merging.proofs.Labels.{one_more_labelled}
+use Rattle.wac_merging.proofs.Well.{stated_are_well}
+use Rattle.wac_graph_asks.specs.declared.asks.Ask.{Ask as HeldAsk}
+use Rattle.wac_graph_asks.specs.declared.taken.Taken.{Taken}
+use Rattle.wac_graph_asks.specs.AsksIn.{ask_in, asks_in}
+use Rattle.wac_graph_asks.specs.Joining.{label_at}
+use Rattle.wac_graph_asks.specs.Takes.{pair_in, TakesFirst, TakesMore, TakesOne, Takes, IsTakenOf, AreTaken, AreSound, TakesAll}
+use Rattle.wac_graph_asks.proofs.Asking.{kept}
+use Rattle.wac_graph_asks.proofs.TakingMore.{own_entry, other_entry, keys_with}
+
+there_is : {X : Type 0} (xs : List X) (i : ℕ) → i < length xs → (x : X) × (slice_get xs i ≡ Some x)
+there_is [] i lt = absurd (omega arith)
+there_is (x ∷ xs) zero lt = (x, refl)
+there_is (x ∷ xs) (suc i) lt = there_is xs i (omega arith)
+
+last_among : {X : Type 0} (xs : List X) (x : X) → Among x (xs ++ x ∷ [])
+last_among [] x = inl refl
+last_among (y ∷ xs) x = inr (last_among xs x)
+
+module _ (c : Collection) (acyclic : IsAcyclic c) (held : List HeldAsk) (sound : AreSound c held) where
+  held_stands : (at : ℕ) (x : HeldAsk) → slice_get held at ≡ Some x → Stands c x.item
+  held_stands at x there = sound.stand x (among-get held at x there)
+
+  pair_kept : (d e : Collection) → Grows c d → Grows d e → (at : ℕ) (x : HeldAsk) → slice_get held at ≡ Some x → pair_in e x ≡ pair_in d x
+  pair_kept d e g h at x there = ap (λ s. (x.name, s)) (kept d e h x.item (g.stand x.item (held_stands at x there)))
+
+  stays : (d e : Collection) → Grows c d → Grows d e → (asks : List Asked) (one : Taken) → IsTakenOf d held asks one → IsTakenOf e held asks one
+  stays d e g h asks one t = record {
+    first = t.first;
+    there = t.there;
+    among = subst (λ (a : Asked). Among a asks) (sym (pair_kept d e g h one.first t.first t.there)) t.among;
+    keeps = taken_stays d e asks one.kept.several one.kept.item one.kept.family h t.keeps;
+  }
+
+  -- one ask more
+  module _ (d e : Collection) (g : Grows c d) (h : Grows d e) (xs : List (Ask ℕ)) (ls : List ℕ) (many : length ls ≡ length xs) (at l : ℕ) (x : HeldAsk) (there : slice_get held at ≡ Some x) (old new : List (ℕ × Taken)) (t : AreTaken d held xs ls old)
+      (after : Taken) (entries : new ≡ insert_entry ◌==◌ old l after) where
+    abbrev before_at : List Asked
+    before_at = asked_in (labelled l xs ls)
+
+    well : (f : Collection) → Grows c f → IsWell (stated_of f x.item)
+    well f k = subst IsWell (sym (kept c f k x.item (held_stands at x there))) (stated_are_well c x.item acyclic sound.differ (held_stands at x there))
+
+    more_first : lookup (λ k. l == k) old ≡ None → TakesFirst at x after → IsTakenOf e held (before_at ++ pair_in d x ∷ []) after
+    more_first none takes =
+        subst (λ (ys : List (Ask ℕ)). IsTakenOf e held (asked_in ys ++ pair_in d x ∷ []) after) (sym (t.no_more l none)) (subst (λ (a : Asked). IsTakenOf e held (a ∷ []) after) (pair_kept d e g h at x there) (record {
+          first = x;
+          there = ap (slice_get held) takes.0 ∙ there;
+          among = inl refl;
+          keeps = takes.1 e x.name (h.stand x.item (g.stand x.item (held_stands at x there))) (well e (Grows-trans c d e g h));
+        }))
+
+    more_behind : (before : Taken) → lookup (λ k. l == k) old ≡ Some before → TakesMore d held before x e after → IsTakenOf e held (before_at ++ pair_in d x ∷ []) after
+    more_behind before some takes =
+        let was = t.each l before some in
+        record {
+          first = was.first;
+          there = ap (slice_get held) takes.0 ∙ was.there;
+          among = subst (λ (a : Asked). Among a (before_at ++ pair_in d x ∷ [])) (sym (pair_kept d e g h before.first was.first was.there)) (among_first before_at (pair_in d x ∷ []) (pair_in d was.first) was.among);
+          keeps = takes.1 was.first was.there before_at was.among (well d g) was.keeps;
+        }
+
+    more_by : (o : Option Taken) → lookup (λ k. l == k) old ≡ o → TakesOne d held o at x e after → IsTakenOf e held (before_at ++ pair_in d x ∷ []) after
+    more_by None is takes = more_first is takes
+    more_by (Some before) is takes = more_behind before is takes
+
+    own_labelled : asked_in (labelled l (xs ++ ask_in c x ∷ []) (ls ++ l ∷ [])) ≡ before_at ++ pair_in d x ∷ []
+    own_labelled =
+        ap asked_in (one_more_labelled xs ls (ask_in c x) l l many ∙ ap (λ b. if b then labelled l xs ls ++ ask_in c x ∷ [] else labelled l xs ls) (eq_same l)) ∙ map-append (λ (a : Ask ℕ). (a.name, a.item)) (labelled l xs ls) (ask_in c x ∷ [])
+        ∙ ap (λ s. before_at ++ (x.name, s) ∷ []) (sym (kept c d g x.item (held_stands at x there)))
+
+    other_labelled : (j : ℕ) → (j == l) ≡ false → labelled j (xs ++ ask_in c x ∷ []) (ls ++ l ∷ []) ≡ labelled j xs ls
+    other_labelled j apart =
+        one_more_labelled xs ls (ask_in c x) j l many
+        ∙ ap (λ b. if b then labelled j xs ls ++ ask_in c x ∷ [] else labelled j xs ls) (eq_false l j (λ s. true≢false (sym (ap (λ m. m == l) (sym s) ∙ eq_same l) ∙ apart)))
+
+    own_now : lookup (λ k. l == k) new ≡ Some after
+    own_now = ap (lookup (λ k. l == k)) entries ∙ own_entry l after old
+
+    other_now : (j : ℕ) → (j == l) ≡ false → lookup (λ k. j == k) new ≡ lookup (λ k. j == k) old
+    other_now j apart = ap (lookup (λ k. j == k)) entries ∙ other_entry l after j apart old
+
+    abbrev IsMore : ℕ → Taken → Type 0
+    IsMore j one = IsTakenOf e held (asked_in (labelled j (xs ++ ask_in c x ∷ []) (ls ++ l ∷ []))) one
+
+    module _ (takes : TakesOne d held (lookup (λ k. l == k) old) at x e after) where
+      own_more : IsMore l after
+      own_more = subst (λ asks. IsTakenOf e held asks after) (sym own_labelled) (more_by (lookup (λ k. l == k) old) refl takes)
+
+      each_more : (j : ℕ) (one : Taken) → lookup (λ k. j == k) new ≡ Some one → (b : Bool) → (j == l) ≡ b → IsMore j one
+      each_more j one is true q =
+          let same = same_number j l q in
+          subst (λ i. IsMore i one) (sym same) (subst (IsMore l) (same_Some after one (sym own_now ∙ ap (λ i. lookup (λ k. i == k) new) (sym same) ∙ is)) own_more)
+      each_more j one is false q = subst (λ (ys : List (Ask ℕ)). IsTakenOf e held (asked_in ys) one) (sym (other_labelled j q)) (stays d e g h (asked_in (labelled j xs ls)) one (t.each j one (sym (other_now j q) ∙ is)))
+
+      none_more : (j : ℕ) → lookup (λ k. j == k) new ≡ None → (b : Bool) → (j == l) ≡ b → labelled j (xs ++ ask_in c x ∷ []) (ls ++ l ∷ []) ≡ []
+      none_more j is true q = absurd (none-some after (sym is ∙ ap (λ i. lookup (λ k. i == k) new) (same_number j l q) ∙ own_now))
+      none_more j is false q = other_labelled j q ∙ t.no_more j (sym (other_now j q) ∙ is)
+
+      one_more : AreTaken e held (xs ++ ask_in c x ∷ []) (ls ++ l ∷ []) new
+      one_more = record {
+        keys = ap keys_of entries ∙ keys_with l after old ∙ ap (λ ks. with_label ks l) t.keys ∙ sym (fold-append with_label [] ls (l ∷ []));
+        each = λ j one is. each_more j one is (j == l) refl;
+        no_more = λ j is. none_more j is (j == l) refl;
+      }
+
+-- ---- the loop
+
+abbrev pub SoFar : Collection → List HeldAsk → List ℕ → ℕ → Collection → List (ℕ × Taken) → Type 0
+SoFar c held labels m d taken = Grows c d × (AreSound c held → length labels ≡ length held → AreTaken d held (take m (asks_in c held)) (take m labels) taken)
+
+none_taken : (d : Collection) (held : List HeldAsk) (xs : List (Ask ℕ)) (ls : List ℕ) → xs ≡ [] → ls ≡ [] → (taken : List (ℕ × Taken)) → taken ≡ [] → AreTaken d held xs ls taken
+none_taken d held xs ls nx nl taken none = record {
+  keys = ap keys_of none ∙ ap each_label (sym nl);
+  each = λ l one is. absurd (none-some one (sym (ap (lookup (λ k. l == k)) none) ∙ is));
+  no_more = λ l is. ap (λ (ys : List (Ask ℕ)). labelled l ys ls) nx;
+}
+
+take_none : {X : Type 0} (xs : List X) → take 0 xs ≡ []
+take_none [] = refl
+take_none (x ∷ xs) = refl
+
+pub so_far_first : (c : Collection) → IsAcyclic c → (held : List HeldAsk) (labels : List ℕ) (taken : List (ℕ × Taken)) → taken ≡ [] → SoFar c held labels 0 c taken
+so_far_first c acyclic held labels taken none = (Grows-refl c acyclic, λ sound many. none_taken c held (take 0 (asks_in c held)) (take 0 labels) (take_none (asks_in c held)) (take_none labels) taken none)
+
+pub so_far_next : (c : Collection) → IsAcyclic c → (held : List HeldAsk) (labels : List ℕ) (m l : ℕ) (d e : Collection) (old new : List (ℕ × Taken)) → m < length held → l ≡ label_at labels m → SoFar c held labels m d old → Takes d held m l old e new → Grows d e
+    → SoFar c held labels (m + 1) e new
+so_far_next c acyclic held labels m l d e old new lt is far takes h = (Grows-trans c d e far.0 h, next)
+  where
+    next : AreSound c held → length labels ≡ length held → AreTaken e held (take (m + 1) (asks_in c held)) (take (m + 1) labels) new
+    next sound many =
+        let x = there_is held m lt in
+        let k = there_is labels m (omega (arith, many, lt)) in
+        let same : l ≡ k.0 = is ∙ get_or_from_slice_get labels m k.0 m k.1 in
+        let one = takes x.0 x.1 in
+        let as_many : length (take m labels) ≡ length (take m (asks_in c held)) =
+        length-take-le m labels (omega (arith, many, lt)) ∙ sym (length-take-le m (asks_in c held) (omega (arith, length-map held (ask_in c), lt))) in
+        subst (λ ys. AreTaken e held ys (take (m + 1) labels) new) (sym (take-one_more (asks_in c held) m (ask_in c x.0) (map-get (ask_in c) held m x.0 x.1)))
+        (subst (λ ns. AreTaken e held (take m (asks_in c held) ++ ask_in c x.0 ∷ []) ns new) (sym (take-one_more labels m l (k.1 ∙ ap Some (sym same))))
+        (one_more c acyclic held sound d e far.0 h (take m (asks_in c held)) (take m labels) as_many m l x.0 x.1 old new (far.1 sound many) one.0 one.2 one.1))
+
+pub so_far_all : (c : Collection) (held : List HeldAsk) (labels : List ℕ) (m : ℕ) (d : Collection) (taken : List (ℕ × Taken)) → length held ≤ m → SoFar c held labels m d taken → TakesAll c held labels d taken
+so_far_all c held labels m d taken le far sound many =
+    subst (λ ys. AreTaken d held ys labels taken) (take-all (asks_in c held) m (omega (arith, length-map held (ask_in c), le))) (subst (λ ns. AreTaken d held (take m (asks_in c held)) ns taken) (take-all labels m (omega (arith, many, le))) (far.1 sound many))
