@@ -173,7 +173,7 @@ module _ {A : Type 0} where
   abbrev name_in : Ask A → Name
   name_in a = a.name
 
-  spelled_again : (xs ys : List (Ask A)) (a b : Ask A) → Among b xs → b.name ≡ a.name → spelled (xs ++ a ∷ ys) ≡ spelled (xs ++ ys)
+  pub spelled_again : (xs ys : List (Ask A)) (a b : Ask A) → Among b xs → b.name ≡ a.name → spelled (xs ++ a ∷ ys) ≡ spelled (xs ++ ys)
   spelled_again [] ys a b m e = absurd m
   spelled_again (x ∷ xs) ys a b m e =
       ap (greatest x.name) (map-append name_in xs (a ∷ ys))
@@ -195,10 +195,10 @@ module _ {A : Type 0} where
       class_is asks c ∙ sym (closed joined asks joined_itself turned c there) ∙ ap (λ ms. filter (λ d. list_any (joined d) ms) asks) (sym (class_is asks c))
 
   module _ (before after : List (Ask A)) (a b : Ask A) (there : Among b before) (names : b.name ≡ a.name) (items : b.item ≡ a.item) where
-    abbrev asks : List (Ask A)
+    abbrev pub asks : List (Ask A)
     asks = before ++ after
 
-    abbrev more : List (Ask A)
+    abbrev pub more : List (Ask A)
     more = before ++ a ∷ after
 
     same_asked : identifier_asked b ≡ identifier_asked a
@@ -208,7 +208,7 @@ module _ {A : Type 0} where
     joined_twin d e = (λ j. compatible d.name (names j) || same_text (identifier_asked d) (same_asked j)) ∙ e
 
     module _ (c : Ask A) (own : Among c asks) where
-      abbrev P : Ask A → Bool
+      abbrev pub P : Ask A → Bool
       P d = list_any (joined d) (class asks c)
 
       passes_twin : P b ≡ P a
@@ -244,20 +244,20 @@ module _ {A : Type 0} where
           (λ d m e. let x = any_among (joined d) (class asks c) e in
           among_any (joined d) (class more c) x.0 (linked_in_class more c x.0 own_more (more_linked x.0 (in_class_linked asks c x.0 own x.1))) x.2)
 
-      parts_asks : class asks c ≡ filter P before ++ filter P after
+      pub parts_asks : class asks c ≡ filter P before ++ filter P after
       parts_asks = class_filter asks c own ∙ filter_append P before after
 
       parts_more : class more c ≡ filter P before ++ cond (P a) (a ∷ filter P after) (filter P after)
       parts_more = class_more ∙ filter_append P before (a ∷ after)
 
-      class_changes : (F : List (Ask A) → Type 0) → (P a ≡ true → F (filter P before ++ a ∷ filter P after)) → (P a ≡ false → F (class asks c)) → F (class more c)
+      pub class_changes : (F : List (Ask A) → Type 0) → (P a ≡ true → F (filter P before ++ a ∷ filter P after)) → (P a ≡ false → F (class asks c)) → F (class more c)
       class_changes F g h = go (P a) refl
         where
           go : (k : Bool) → P a ≡ k → F (class more c)
           go true q = subst F (sym (parts_more ∙ ap (λ k. filter P before ++ cond k (a ∷ filter P after) (filter P after)) q)) (g q)
           go false q = subst F (parts_asks ∙ sym (parts_more ∙ ap (λ k. filter P before ++ cond k (a ∷ filter P after) (filter P after)) q)) (h q)
 
-      twin_there : P a ≡ true → Among b (filter P before)
+      pub twin_there : P a ≡ true → Among b (filter P before)
       twin_there q = among_filter P before b there (passes_twin ∙ q)
 
       class_spelled : spelled (class more c) ≡ spelled (class asks c)

@@ -137,7 +137,7 @@ module _ {A : Type 0} (asks : List (Ask A)) where
   -- ---- the list of outer imports
 
   -- each is that of an ask
-  abbrev AreOfAsks : List (Name × Stated) → Type 0
+  abbrev pub AreOfAsks : List (Name × Stated) → Type 0
   AreOfAsks found = (n : Name) (x : Stated) → value_at found n ≡ Some x → (b : Ask A) × Among b asks × (outer_of (class asks b) ≡ Some (n, x)) × (n ≡ spelled (class asks b))
 
   value_kept : (xs ys : List (Name × Stated)) (n : Name) (x : Stated) → value_at xs n ≡ Some x → value_at (xs ++ ys) n ≡ Some x
@@ -215,7 +215,7 @@ module _ {A : Type 0} (asks : List (Ask A)) where
       go None e = record { of_asks = h; kept = λ n x r. r; there = λ n x r. absurd (none-some _ (sym e ∙ r)) }
       go (Some o) e = new o.0 o.1 e (value_at found o.0) refl
 
-  all_there : (found : List (Name × Stated)) (as_ : List (Ask A)) → AreOfAsks found → ((b : Ask A) → Among b as_ → Among b asks)
+  pub all_there : (found : List (Name × Stated)) (as_ : List (Ask A)) → AreOfAsks found → ((b : Ask A) → Among b as_ → Among b asks)
       → ((n : Name) (x : Stated) → value_at found n ≡ Some x → value_at (outers_from found asks as_) n ≡ Some x) × ((a : Ask A) (n : Name) (x : Stated) → Among a as_ → outer_of (class asks a) ≡ Some (n, x) → value_at (outers_from found asks as_) n ≡ Some x)
   all_there found [] h sub = (λ n x e. e, λ a n x m e. absurd m)
   all_there found (b ∷ as_) h sub =

@@ -1,12 +1,12 @@
 -- Stated types as collections have them, and what asking twice does.
-use Rattle.std.specs.Prelude.{◌≡◌, ◌↔◌, List, ◌∷◌, ◌++◌, false}
+use Rattle.std.specs.Prelude.{◌≡◌, ◌↔◌, List, ◌∷◌, ◌++◌, Some, false}
 use Rattle.wac_types_base.specs.Entries.{Name, AreDistinct, names_of}
 use Rattle.wac_types_base.specs.Graph.{Among}
 use Rattle.wac_types_base.specs.Stated.{Stated, kind_of, interface_of, as_type, exports_of, uses_of, identifier_of}
 use Rattle.wac_composition.specs.Asks.{Ask}
 use Rattle.wac_composition.specs.Classes.{is_instance, class, spelling}
 use Rattle.wac_composition.specs.Merging.{is_interface, Asked, kept}
-use Rattle.wac_composition.specs.OuterImports.{asked_in}
+use Rattle.wac_composition.specs.OuterImports.{asked_in, outer_imports}
 
 -- Each interface in it is of its identifier, uses and exports alone, and exports no name twice.
 pub data IsWell : Stated → Type 0 where
@@ -29,3 +29,9 @@ abbrev pub Asked_again : Type 0 → Type 0
 Asked_again A =
     (before after : List (Ask A)) (a b : Ask A) → Among b before → b.name ≡ a.name → b.item ≡ a.item → ((c : Ask A) → Among c before → IsWell c.item)
     → KeepsClasses (before ++ after) (before ++ a ∷ after)
+
+-- and no outer import does where an interface is asked again under its identifier
+abbrev pub Asked_by_identifier : Type 0 → Type 0
+Asked_by_identifier A =
+    (before after : List (Ask A)) (a b : Ask A) → Among b before → b.name ≡ a.name → b.item ≡ a.item → identifier_of a.item ≡ Some a.name → ((c : Ask A) → Among c before → IsWell c.item)
+    → outer_imports (before ++ a ∷ after) ≡ outer_imports (before ++ after)

@@ -24,7 +24,7 @@ ghost use Rattle.wac_composition.specs.OuterLaws.{Classes_are_linked, Links_turn
 ghost use Rattle.wac_composition.specs.Conflicts.{ImplicitImport, ExplicitImport, ImportTypes, Unwritable, ImportNames, first_cause, name_cause, dependencies_of};
 ghost use Rattle.wac_composition.specs.Composition.{Composition};
 ghost use Rattle.wac_composition.specs.Against.{FirstStands};
-ghost use Rattle.wac_composition.specs.Again.{Asked_again, Asking_twice};
+ghost use Rattle.wac_composition.specs.Again.{Asked_again, Asked_by_identifier, Asking_twice};
 ghost use Rattle.wac_composition.specs.Renaming.{KeepsMeaning};
 ghost use Rattle.wac_composition.specs.Sound.{IsSound, IsWired};
 ghost use Rattle.wac_composition.specs.Worlds.{composed_world, used_world, source_of};
@@ -83,10 +83,12 @@ pub fn outer_imports_fit<A, I>()
 {}
 
 /// What several asks of one outer import keep, with its identifier and its uses, does not change where
-/// one of them is asked again; and no class and no spelling does.
+/// one of them is asked again; and no class and no spelling does. Where an interface is asked again under its identifier
+/// no outer import changes.
 pub fn asking_twice_changes_nothing<A>()
     ensures kept { Asking_twice }
     ensures classes { Asked_again A }
+    ensures outers { Asked_by_identifier A }
 {}
 
 /// Taking the uses out of the worlds in a type changes no tree, so the world that is handed out has the

@@ -3,7 +3,7 @@ use Rattle.std.proofs.Common.{◌≡◌, ℕ, suc, List, [], ◌∷◌, ◌++◌
 use Rattle.std.specs.Prelude.{fold, filter, filter_map, cond, is_some, slice_get, if◌then◌else◌}
 use Rattle.std.specs.List.{cons_option, list_any}
 use Rattle.std.specs.Cmp.Lexicographic.{pointwise, bytes_decides}
-use Rattle.std.proofs.lemmas.Option.{same_Some}
+use Rattle.std.proofs.lemmas.Option.{none-some, same_Some}
 use Rattle.std.proofs.lemmas.Bool.Decides.{Decides-eqb}
 use Rattle.std.proofs.lemmas.List.{append-nil}
 use Rattle.std.proofs.lemmas.List.Elements.{filter_map-append}
@@ -20,6 +20,7 @@ use Rattle.wac_composition.proofs.Clashing.{value_among}
 use Rattle.wac_composition.proofs.ClassLaws.{in_class_linked, linked_in_class}
 use Rattle.wac_types_merge.proofs.Tracks.{Among-either}
 use Rattle.wac_merging.specs.Labelled.{with_label, labelled, LabelClasses, Class_is_labelled, Outers_are_labelled, One_more_labelled}
+use Rattle.wac_merging.specs.Outers.{Outers_differ}
 
 -- ---- tests
 
@@ -95,6 +96,16 @@ module _ {A : Type 0} where
       by false true = refl
       by false false = refl
 
+  -- of a label that has asks there is one
+  ask_there : (l : ℕ) (xs : List (Ask A)) (ms : List ℕ) (a : Ask A) (as_ : List (Ask A)) → labelled l xs ms ≡ a ∷ as_ → (i : ℕ) × (b : Ask A) × (slice_get xs i ≡ Some b) × (slice_get ms i ≡ Some l)
+  ask_there l [] ms a as_ e = absurd (cc e)
+  ask_there l (x ∷ xs) [] a as_ e = absurd (cc e)
+  ask_there l (x ∷ xs) (m ∷ ms) a as_ e = by (m == l) refl e
+    where
+      by : (t : Bool) → (m == l) ≡ t → (if t then x ∷ labelled l xs ms else labelled l xs ms) ≡ a ∷ as_ → (i : ℕ) × (b : Ask A) × (slice_get (x ∷ xs) i ≡ Some b) × (slice_get (m ∷ ms) i ≡ Some l)
+      by true t e = (0, x, refl, ap Some ((Decides-eqb m l).0 t))
+      by false t e = let r = ask_there l xs ms a as_ e in (suc r.0, r.1, r.2, r.3)
+
   module _ (asks : List (Ask A)) (labels : List ℕ) (c : LabelClasses asks labels) where
     -- the class of an ask, as a test
     abbrev in_class : Ask A → Ask A → Bool
@@ -147,6 +158,17 @@ module _ {A : Type 0} where
         let q = ap outer_of (class_at b m j) ∙ f in
         let same = class_by_spelling asks a b (at_among a l i) (at_among b m j) (sym (spelled_outer asks (class asks a) n x p) ∙ spelled_outer asks (class asks b) n y q) in
         one_label a b l m i j (in_class_linked asks a b (at_among a l i) (subst (Among b) (sym same) (class_itself asks b (at_among b m j))))
+
+    -- a label with an outer import is one of an ask
+    outer_there : (l : ℕ) (o : Name × Stated) → outer_at l ≡ Some o → (a : Ask A) × IsAt a l
+    outer_there l o e = by (labelled l asks labels) refl e
+      where
+        by : (xs : List (Ask A)) → labelled l asks labels ≡ xs → outer_of xs ≡ Some o → (a : Ask A) × IsAt a l
+        by [] s e = absurd (none-some o e)
+        by (x ∷ xs) s e = let r = ask_there l asks labels x xs s in (r.1, record { place = r.0; ask = r.2; label = r.3 })
+
+    pub outers_apart : (l m : ℕ) (n : Name) (x y : Stated) → outer_at l ≡ Some (n, x) → outer_at m ≡ Some (n, y) → l ≡ m
+    outers_apart l m n x y e f = let a = outer_there l (n, x) e in let b = outer_there m (n, y) f in sym (one_name a.0 b.0 l m a.1 b.1 x y n e f)
 
     -- what one more ask adds
     module _ (ls : List ℕ) (h : AreOfAsks ls) (a : Ask A) (l : ℕ) (i : IsAt a l) where
@@ -201,3 +223,6 @@ module _ {A : Type 0} where
 
   pub outers_are_labelled : Outers_are_labelled A
   outers_are_labelled asks labels c = outers asks labels c [] asks labels (λ l m. absurd m) c.as_many (λ j a l p q. record { place = j; ask = p; label = q })
+
+  pub outers_differ : Outers_differ A
+  outers_differ asks labels l m n x y c e f = outers_apart asks labels c l m n x y e f

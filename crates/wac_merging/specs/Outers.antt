@@ -4,7 +4,7 @@ use Rattle.wac_types_base.specs.declared.item.ItemKind.{ItemKind}
 use Rattle.wac_types_base.specs.Record.{Collection}
 use Rattle.wac_types_base.specs.Entries.{Name, names_of, values_of, with_values}
 use Rattle.wac_types_base.specs.Graph.{Among}
-use Rattle.wac_types_base.specs.Stated.{stated_of}
+use Rattle.wac_types_base.specs.Stated.{Stated, stated_of}
 use Rattle.wac_composition.specs.Asks.{Ask}
 use Rattle.wac_composition.specs.Classes.{spelled}
 use Rattle.wac_composition.specs.OuterImports.{asked_in, outer_of, outer_imports}
@@ -24,3 +24,7 @@ Spelled_is_outer A = (c d : Collection) (asks : List (Ask A)) (k : Kept) (item :
 abbrev pub Outers_are_stated : Type 0 → Type 0
 Outers_are_stated A = (d : Collection) (asks : List (Ask A)) (labels : List ℕ) (outers : List (ℕ × (Name × ItemKind))) → LabelClasses asks labels → names_of outers ≡ each_label labels
     → ((l : ℕ) (e : Name × ItemKind) → Among (l, e) outers → IsOuter d (labelled l asks labels) e) → outer_imports asks ≡ with_values (stated_of d) (values_of outers)
+
+-- outer imports of two labels have two names
+abbrev pub Outers_differ : Type 0 → Type 0
+Outers_differ A = (asks : List (Ask A)) (labels : List ℕ) (l m : ℕ) (n : Name) (x y : Stated) → LabelClasses asks labels → outer_of (labelled l asks labels) ≡ Some (n, x) → outer_of (labelled m asks labels) ≡ Some (n, y) → l ≡ m
