@@ -1,12 +1,14 @@
 -- Asks that are listed once have the classes of all.
-use Rattle.std.proofs.Common.{List, [], ◌∷◌, ◌++◌, refl, subst, ◌∙◌, inl, inr, append_assoc}
+use Rattle.std.proofs.Common.{◌≡◌, List, [], ◌∷◌, ◌++◌, refl, sym, ap, subst, ◌∙◌, inl, inr, append_assoc}
 use Rattle.wac_types_base.specs.Graph.{Among}
 use Rattle.wac_types_base.proofs.Adding.{Among-left, Among-right}
 use Rattle.wac_composition.specs.Asks.{Ask}
 use Rattle.wac_composition.specs.Again.{IsWell, KeepsClasses}
+use Rattle.wac_composition.specs.OuterImports.{outer_imports}
 use Rattle.wac_composition.proofs.AskedAgain.{asked_again}
+use Rattle.wac_composition.proofs.OutersAgain.{outers_again}
 use Rattle.wac_composition.proofs.Clashing.{among_append}
-use Rattle.wac_graph_asks.specs.Asked.{IsAskedBehind, no_more, asked, left_out, Asked_once_keeps}
+use Rattle.wac_graph_asks.specs.Asked.{IsAskedBehind, no_more, asked, left_out, Asked_once_keeps, Asked_once_imports}
 
 module _ {A : Type 0} where
   keeps_itself : (xs : List (Ask A)) → KeepsClasses xs xs
@@ -26,7 +28,7 @@ module _ {A : Type 0} where
   listed_among no_more c m = absurd m
   listed_among (asked a h) c (inl s) = inl s
   listed_among (asked a h) c (inr m) = inr (listed_among h c m)
-  listed_among (left_out a b e n i h) c m = inr (listed_among h c m)
+  listed_among (left_out a b o e n i h) c m = inr (listed_among h c m)
 
   keeps_behind : {before asks list : List (Ask A)} → IsAskedBehind before asks list → ((a : Ask A) → Among a (before ++ list) → IsWell a.item) → KeepsClasses (before ++ list) (before ++ asks)
   keeps_behind {before} no_more well = keeps_itself (before ++ [])
@@ -34,10 +36,19 @@ module _ {A : Type 0} where
       subst (λ l. KeepsClasses l (before ++ a ∷ asks)) (append_assoc before (a ∷ []) list)
       (subst (λ l. KeepsClasses ((before ++ a ∷ []) ++ list) l) (append_assoc before (a ∷ []) asks)
       (keeps_behind h (λ x m. well x (subst (λ l. Among x l) (append_assoc before (a ∷ []) list) m))))
-  keeps_behind {before} (left_out {asks = asks} {list = list} a b e n i h) well =
+  keeps_behind {before} (left_out {asks = asks} {list = list} a b o e n i h) well =
       keeps_then (before ++ list) (before ++ asks) (before ++ a ∷ asks)
       (λ c m. elim (among_append before list c m) [ inl k ↦ Among-left c before asks k | inr k ↦ Among-right c before asks (listed_among h c k) ])
       (keeps_behind h well) (asked_again before asks a b e n i (λ c k. well c (Among-left c before list k)))
 
   pub asked_once_keeps : Asked_once_keeps A
   asked_once_keeps asks list h well = keeps_behind h well
+
+  imports_behind : {before asks list : List (Ask A)} → IsAskedBehind before asks list → ((a : Ask A) → Among a (before ++ list) → IsWell a.item) → outer_imports (before ++ asks) ≡ outer_imports (before ++ list)
+  imports_behind no_more well = refl
+  imports_behind {before} (asked {asks = asks} {list = list} a h) well =
+      ap outer_imports (sym (append_assoc before (a ∷ []) asks)) ∙ imports_behind h (λ x m. well x (subst (λ l. Among x l) (append_assoc before (a ∷ []) list) m)) ∙ ap outer_imports (append_assoc before (a ∷ []) list)
+  imports_behind {before} (left_out {asks = asks} {list = list} a b o e n i h) well = outers_again before asks a b e n i o (λ c k. well c (Among-left c before list k)) ∙ imports_behind h well
+
+  pub asked_once_imports : Asked_once_imports A
+  asked_once_imports asks list h well = imports_behind h well

@@ -1,7 +1,8 @@
 -- Asks without such as ask what an earlier one asks.
-use Rattle.std.proofs.Common.{List, [], ◌∷◌, ◌++◌, refl, sym, ap, subst, ◌∙◌, inl, inr, append_assoc}
+use Rattle.std.proofs.Common.{◌≡◌, List, [], ◌∷◌, ◌++◌, Some, refl, sym, ap, subst, ◌∙◌, inl, inr, append_assoc}
 use Rattle.std.proofs.lemmas.List.{append-nil}
 use Rattle.wac_types_base.specs.Graph.{Among}
+use Rattle.wac_types_base.specs.Stated.{identifier_of}
 use Rattle.wac_types_base.proofs.Adding.{Among-left, Among-right}
 use Rattle.wac_composition.specs.Asks.{Ask}
 use Rattle.wac_graph_asks.specs.Asked.{IsAskedBehind, no_more, asked, left_out}
@@ -12,14 +13,14 @@ module _ {A : Type 0} where
   pub behind_then : {before xs ys us vs : List (Ask A)} → IsAskedBehind before xs ys → IsAskedBehind (before ++ ys) us vs → IsAskedBehind before (xs ++ us) (ys ++ vs)
   behind_then {before} {us = us} {vs = vs} no_more k = subst (λ l. IsAskedBehind l us vs) (append-nil before) k
   behind_then {before} {us = us} {vs = vs} (asked {list = list} a h) k = asked a (behind_then h (subst (λ l. IsAskedBehind l us vs) (sym (append_assoc before (a ∷ []) list)) k))
-  behind_then (left_out a b m n i h) k = left_out a b m n i (behind_then h k)
+  behind_then (left_out a b o m n i h) k = left_out a b o m n i (behind_then h k)
 
-  -- all are there before
-  pub behind_none : (before xs : List (Ask A)) → ((a : Ask A) → Among a xs → HasSame before a) → IsAskedBehind before xs []
-  behind_none before [] h = no_more
-  behind_none before (a ∷ xs) h =
+  -- all are there before, each of an interface under its identifier
+  pub behind_none : (before xs : List (Ask A)) → ((a : Ask A) → Among a xs → identifier_of a.item ≡ Some a.name) → ((a : Ask A) → Among a xs → HasSame before a) → IsAskedBehind before xs []
+  behind_none before [] o h = no_more
+  behind_none before (a ∷ xs) o h =
       let s = h a (inl refl) in
-      left_out a s.other s.among s.name s.item (behind_none before xs (λ b m. h b (inr m)))
+      left_out a s.other (o a (inl refl)) s.among s.name s.item (behind_none before xs (λ b m. o b (inr m)) (λ b m. h b (inr m)))
 
   -- none is left out
   pub behind_same : (before xs : List (Ask A)) → IsAskedBehind before xs xs
@@ -30,7 +31,7 @@ module _ {A : Type 0} where
   pub behind_more : (more : List (Ask A)) {before xs ys : List (Ask A)} → IsAskedBehind before xs ys → IsAskedBehind (more ++ before) xs ys
   behind_more more no_more = no_more
   behind_more more {before} (asked {asks = asks} {list = list} a h) = asked a (subst (λ l. IsAskedBehind l asks list) (sym (append_assoc more before (a ∷ []))) (behind_more more h))
-  behind_more more {before} (left_out a b m n i h) = left_out a b (Among-right b more before m) n i (behind_more more h)
+  behind_more more {before} (left_out a b o m n i h) = left_out a b o (Among-right b more before m) n i (behind_more more h)
 
   pub same_more : {xs : List (Ask A)} {a : Ask A} (ys : List (Ask A)) → HasSame xs a → HasSame (xs ++ ys) a
   same_more {xs} ys h = record { other = h.other; among = Among-left h.other xs ys h.among; name = h.name; item = h.item }
@@ -40,10 +41,10 @@ module _ {A : Type 0} where
   behind_has no_more a m = absurd m
   behind_has {before} (asked {list = list} d h) a (inl s) = record { other = d; among = Among-right d before (d ∷ list) (inl refl); name = ap (λ b. b.name) (sym s); item = ap (λ b. b.item) (sym s) }
   behind_has {before} (asked {list = list} d h) a (inr m) = subst (λ l. HasSame l a) (append_assoc before (d ∷ []) list) (behind_has h a m)
-  behind_has {before} {ys = ys} (left_out d b e n i h) a (inl s) = record {
+  behind_has {before} {ys = ys} (left_out d b o e n i h) a (inl s) = record {
     other = b;
     among = Among-left b before ys e;
     name = n ∙ ap (λ b. b.name) (sym s);
     item = i ∙ ap (λ b. b.item) (sym s);
   }
-  behind_has (left_out d b e n i h) a (inr m) = behind_has h a m
+  behind_has (left_out d b o e n i h) a (inr m) = behind_has h a m

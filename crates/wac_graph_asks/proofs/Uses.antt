@@ -29,6 +29,16 @@ use Rattle.wac_graph_asks.proofs.Repeating.{behind_then, behind_none, behind_sam
 asked_append : (by : ℕ) (xs ys : List Stated) → asked_for by (xs ++ ys) ≡ asked_for by xs ++ asked_for by ys
 asked_append by xs ys = filter_map-append (λ x. option_map (λ n. record { asking = ToUse; by = by; name = n; item = x }) (identifier_of x)) xs ys
 
+-- an interface is asked under its identifier
+asked_named : (by : ℕ) (xs : List Stated) (a : Ask ℕ) → Among a (asked_for by xs) → identifier_of a.item ≡ Some a.name
+asked_named by [] a m = absurd m
+asked_named by (x ∷ xs) a m = go (identifier_of x) refl m (asked_named by xs a)
+  where
+    go : (o : Option Name) → identifier_of x ≡ o → Among a (cons_option (option_map (λ n. record { asking = ToUse; by = by; name = n; item = x }) o) (asked_for by xs)) → (Among a (asked_for by xs) → identifier_of a.item ≡ Some a.name) → identifier_of a.item ≡ Some a.name
+    go None e m rest = rest m
+    go (Some n) e (inl s) rest = ap (λ (b : Ask ℕ). identifier_of b.item) s ∙ e ∙ ap (λ (b : Ask ℕ). Some b.name) (sym s)
+    go (Some n) e (inr m) rest = rest m
+
 -- the same is asked by another
 asked_alike : (by other : ℕ) (xs : List Stated) (a : Ask ℕ) → Among a (asked_for by xs) → HasSame (asked_for other xs) a
 asked_alike by other [] a m = absurd m
@@ -110,7 +120,7 @@ module _ (c : Collection) where
   seen_before old new by id h below = record {
     added = [];
     are = h.0 ∙ sym (append-nil old.asks.items);
-    once = behind_none (asks_in c old.asks.items) (asked_for by (with_used c id)) (λ a m. (below.each id h.2 (omega arith)).each by a m);
+    once = behind_none (asks_in c old.asks.items) (asked_for by (with_used c id)) (asked_named by (with_used c id)) (λ a m. (below.each id h.2 (omega arith)).each by a m);
     stand = λ a m. absurd m;
     seen = λ z m. inl (subst (λ l. Among z l) h.1 m);
   }

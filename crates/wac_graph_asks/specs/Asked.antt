@@ -9,13 +9,14 @@ use Rattle.wac_types_base.specs.Record.{Collection}
 use Rattle.wac_types_base.specs.Graph.{Among}
 use Rattle.wac_types_base.specs.Collection.{Stands, IsAcyclic, Grows}
 use Rattle.wac_types_base.specs.Copying.{IsCopy}
-use Rattle.wac_types_base.specs.Stated.{stated_of}
+use Rattle.wac_types_base.specs.Stated.{stated_of, identifier_of}
 use Rattle.wac_types_names.specs.Packaged.{Packaged}
 use Rattle.wac_graph_core.specs.declared.ids.PackageId.{PackageId}
 use Rattle.wac_graph_core.specs.contracts.ids.PackageIdPartialEq.TheImpl.{eq-value}
 use Rattle.wac_graph_core.specs.Graph.{Graph, package_of}
 use Rattle.wac_composition.specs.Composition.{Placed}
 use Rattle.wac_composition.specs.Asks.{Ask, named_asks, asks_of}
+use Rattle.wac_composition.specs.OuterImports.{outer_imports}
 use Rattle.wac_composition.specs.Again.{IsWell, KeepsClasses}
 use Rattle.wac_graph_asks.specs.declared.asks.Ask.{Ask as HeldAsk}
 use Rattle.wac_graph_asks.specs.declared.asks.Definition.{Definition}
@@ -25,11 +26,12 @@ use Rattle.wac_graph_asks.specs.AsksIn.{asks_in}
 
 -- ---- asks
 
--- The list has these asks in order, without some that ask under one name the item that one before them in it asks.
+-- The list has these asks in order, without some of interfaces under their identifiers, where one before them in it asks the same
+-- under that name.
 pub data IsAskedBehind {A : Type 0} : (before asks list : List (Ask A)) → Type 0 where
   no_more : {before : List (Ask A)} → IsAskedBehind before [] []
   asked : {before asks list : List (Ask A)} (a : Ask A) → IsAskedBehind (before ++ a ∷ []) asks list → IsAskedBehind before (a ∷ asks) (a ∷ list)
-  left_out : {before asks list : List (Ask A)} (a b : Ask A) → Among b before → b.name ≡ a.name → b.item ≡ a.item → IsAskedBehind before asks list → IsAskedBehind before (a ∷ asks) list
+  left_out : {before asks list : List (Ask A)} (a b : Ask A) → identifier_of a.item ≡ Some a.name → Among b before → b.name ≡ a.name → b.item ≡ a.item → IsAskedBehind before asks list → IsAskedBehind before (a ∷ asks) list
 
 abbrev pub IsAskedOnce : {A : Type 0} → (asks list : List (Ask A)) → Type 0
 IsAskedOnce asks list = IsAskedBehind [] asks list
@@ -37,6 +39,10 @@ IsAskedOnce asks list = IsAskedBehind [] asks list
 -- What is listed once has the classes, what they keep and the spellings of all asks.
 abbrev pub Asked_once_keeps : Type 0 → Type 0
 Asked_once_keeps A = (asks list : List (Ask A)) → IsAskedOnce asks list → ((a : Ask A) → Among a list → IsWell a.item) → KeepsClasses list asks
+
+-- It has their outer imports.
+abbrev pub Asked_once_imports : Type 0 → Type 0
+Asked_once_imports A = (asks list : List (Ask A)) → IsAskedOnce asks list → ((a : Ask A) → Among a list → IsWell a.item) → outer_imports asks ≡ outer_imports list
 
 -- ---- packages
 

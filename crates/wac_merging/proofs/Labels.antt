@@ -97,7 +97,7 @@ module _ {A : Type 0} where
       by false false = refl
 
   -- of a label that has asks there is one
-  ask_there : (l : ℕ) (xs : List (Ask A)) (ms : List ℕ) (a : Ask A) (as_ : List (Ask A)) → labelled l xs ms ≡ a ∷ as_ → (i : ℕ) × (b : Ask A) × (slice_get xs i ≡ Some b) × (slice_get ms i ≡ Some l)
+  pub ask_there : (l : ℕ) (xs : List (Ask A)) (ms : List ℕ) (a : Ask A) (as_ : List (Ask A)) → labelled l xs ms ≡ a ∷ as_ → (i : ℕ) × (b : Ask A) × (slice_get xs i ≡ Some b) × (slice_get ms i ≡ Some l)
   ask_there l [] ms a as_ e = absurd (cc e)
   ask_there l (x ∷ xs) [] a as_ e = absurd (cc e)
   ask_there l (x ∷ xs) (m ∷ ms) a as_ e = by (m == l) refl e

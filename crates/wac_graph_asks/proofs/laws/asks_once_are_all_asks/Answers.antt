@@ -1,5 +1,8 @@
-use Rattle.wac_graph_asks.proofs.Once.{asked_once_keeps}
+use Rattle.wac_graph_asks.proofs.Once.{asked_once_keeps, asked_once_imports}
 use Rattle.wac_graph_asks.proofs.laws.asks_once_are_all_asks.Goals as goal
 
-pub returns : goal.returns
-returns c s = asked_once_keeps
+pub returns-clause-keeps : goal.returns-clause-keeps
+returns-clause-keeps c s = asked_once_keeps
+
+pub returns-clause-imports : goal.returns-clause-imports
+returns-clause-imports c s = asked_once_imports
