@@ -12,3 +12,4 @@ pub mod AskedNodes
 pub mod AskedUses
 pub mod Takes
 pub mod Outers
+pub mod Imported

@@ -1,0 +1,88 @@
+-- The imports of classes of asks while they are put into a world, and the names that are asked.
+use Rattle.std.specs.Prelude.{◌≡◌, ℕ, List, [], ◌∷◌, ◌++◌, map, length, Some, slice_get}
+use Rattle.std.specs.Map.{keys_of}
+use Rattle.wac_types_base.specs.declared.ids.WorldId.{WorldId}
+use Rattle.wac_types_base.specs.declared.item.ItemKind.{ItemKind}
+use Rattle.wac_types_base.specs.Record.{Collection}
+use Rattle.wac_types_base.specs.Entries.{Name, AreDistinct, names_of, values_of, put_entry}
+use Rattle.wac_types_base.specs.Graph.{Among}
+use Rattle.wac_types_base.specs.Collection.{Stands}
+use Rattle.wac_graph_scopes.specs.Parts.{imports_of}
+use Rattle.wac_graph_scopes.specs.declared.imports.Called.{Called}
+use Rattle.wac_composition.specs.Asks.{Ask}
+use Rattle.wac_merging.specs.declared.kept.Kept.{Kept}
+use Rattle.wac_merging.specs.Kept.{Spells}
+use Rattle.wac_merging.specs.Labelled.{each_label, labelled}
+use Rattle.wac_merging.specs.Outers.{IsOuter}
+use Rattle.wac_graph_asks.specs.declared.asks.Ask.{Ask as HeldAsk}
+use Rattle.wac_graph_asks.specs.declared.classes.Classes.{Classes}
+use Rattle.wac_graph_asks.specs.declared.outers.Outers.{Outers}
+use Rattle.wac_graph_asks.specs.declared.taken.Taken.{Taken}
+use Rattle.wac_graph_asks.specs.AsksIn.{asks_in}
+use Rattle.wac_graph_asks.specs.Classed.{AreLabels, AreSpellings}
+use Rattle.wac_graph_asks.specs.Takes.{AreSound, AreTaken}
+use Rattle.wac_graph_asks.specs.Outers.{AreOuters}
+
+-- ---- imports
+
+-- it is the outer import of these asks, and stands
+pub record IsImport (d : Collection) (asks : List (Ask ℕ)) (e : Name × ItemKind) : Type 0 where
+  pub stands : Stands d e.1
+  pub outer : IsOuter d asks e
+
+-- Imports of these labels, one of each, in order. No two have one name.
+pub record AreImports (d : Collection) (asks : List (Ask ℕ)) (labels each : List ℕ) (imports : List (Name × ItemKind)) : Type 0 where
+  pub outers : List (ℕ × (Name × ItemKind))
+  pub of_labels : names_of outers ≡ each
+  pub are : values_of outers ≡ imports
+  pub each_is : (l : ℕ) (e : Name × ItemKind) → Among (l, e) outers → IsImport d (labelled l asks labels) e
+  pub distinct : AreDistinct (names_of imports)
+
+-- what is kept is put under the spelling
+pub record AddsImport (c : Collection) (kept : Kept) (n : Name) (d : Collection) (old new : List (Name × ItemKind)) : Type 0 where
+  pub item : ItemKind
+  pub put : new ≡ put_entry old n item
+  pub spells : Spells c kept n d item
+  pub stands : Stands c kept.item → Stands d item
+
+-- asks that stand, with their classes
+pub record AreClassed (c : Collection) (held : List HeldAsk) (classes : Classes) : Type 0 where
+  pub stand : (x : HeldAsk) → Among x held → Stands c x.item
+  pub labels : AreLabels (asks_in c held) classes.labels.items
+  pub spellings : AreSpellings (asks_in c held) classes.labels.items classes.spellings.items
+
+-- of each class what it keeps is put under its spelling
+abbrev pub AddsImports : Collection → List HeldAsk → Classes → List (ℕ × Taken) → Collection → List (Name × ItemKind) → Type 0
+AddsImports c held classes taken d imports =
+    AreClassed c held classes → AreTaken c held (asks_in c held) classes.labels.items taken → AreImports d (asks_in c held) classes.labels.items (each_label classes.labels.items) imports
+
+-- ---- names
+
+-- it is the name of an ask, with the place of its label among the labels
+pub record NamesAsk (held : List HeldAsk) (labels : List ℕ) (one : Called) : Type 0 where
+  pub place : ℕ
+  pub ask : HeldAsk
+  pub label : ℕ
+  pub there : slice_get held place ≡ Some ask
+  pub named : one.name ≡ ask.name
+  pub of_label : slice_get labels place ≡ Some label
+  pub at : slice_get (each_label labels) one.at ≡ Some label
+
+-- each is the name of an ask, and each ask has its name among them
+pub record AreCalled (held : List HeldAsk) (labels : List ℕ) (called : List Called) : Type 0 where
+  pub each : (one : Called) → Among one called → NamesAsk held labels one
+  pub all : (a : HeldAsk) → Among a held → Among a.name (map (λ x. x.name) called)
+
+-- the name is added, with the place of its label
+abbrev pub AddsName : (keys : List ℕ) (label : ℕ) → Name → (old new : List Called) → Type 0
+AddsName keys label n old new = Among label keys → (at : ℕ) × (slice_get keys at ≡ Some label) × (new ≡ old ++ record { name = n; at = at } ∷ [])
+
+-- where there is one key for each label, all names are added
+abbrev pub AddsNames : (held : List HeldAsk) (labels keys : List ℕ) → List Called → Type 0
+AddsNames held labels keys called = length labels ≡ length held → keys ≡ each_label labels → AreCalled held labels called
+
+-- ---- both
+
+-- of sound asks with their classes they are the outer imports
+abbrev pub OutersOf : Collection → List HeldAsk → Classes → Collection → Outers → Type 0
+OutersOf c held classes d o = AreSound c held → AreClassed c held classes → AreOuters (asks_in c held) d o.world o.called.items
