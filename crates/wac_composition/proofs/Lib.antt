@@ -18,3 +18,4 @@ pub mod AskedAgain
 pub mod NotWritten
 pub mod NotFound
 pub mod Against
+pub mod Lists
