@@ -215,7 +215,7 @@ Names_all w a = (n : Name) (y : Stated) → value_at (exports_of a) n ≡ Some y
 abbrev Exports_hold : Stated → Stated → Type 0
 Exports_hold w a = (n : Name) (x y : Stated) → value_at (exports_of w) n ≡ Some x → value_at (exports_of a) n ≡ Some y → Holds x y
 
-no_both : (k : Kind) → is_instance k ≡ true → is_interface k ≡ true → ⊥
+pub no_both : (k : Kind) → is_instance k ≡ true → is_interface k ≡ true → ⊥
 no_both IsInstance a b = true≢false (sym b)
 no_both IsFunction a b = true≢false (sym a)
 no_both IsComponent a b = true≢false (sym a)

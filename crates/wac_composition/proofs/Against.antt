@@ -16,7 +16,7 @@ use Rattle.wac_composition.specs.Circles.{as_written}
 use Rattle.wac_composition.specs.Conflicts.{Cause, Unwritable, or_else, first_found, implicit_with, implicit_by, implicit_conflict, merge_cause, merge_fails, those_in, merge_conflict, cause_at, placed, unwritable_cause, circle_cause, dependencies_of, first_cause}
 use Rattle.wac_composition.specs.Against.{IsUnmerged, StandsAgainst, asked_twice, import_unmerged, ask_unmerged, alias_of_value, outer_import, in_circle, definition, imported_package, FirstStands}
 use Rattle.wac_composition.proofs.NotFound.{written_decides}
-use Rattle.wac_composition.proofs.NotWritten.{among_map, map_among}
+use Rattle.wac_composition.proofs.Lists.{mapped_among, among_mapped}
 
 -- ---- the first that is found
 
@@ -183,7 +183,7 @@ module _ {A I : Type 0} (define : Bool) (c : Composition A I) where
       | inr s ↦ elim (or_some (first_found (cause_at (definition_unwritable outers)) (placed c.definitions)) _ x s.1) [
         | inl a ↦
             let f = cause_some (definition_unwritable outers) (placed c.definitions) x a in
-            let d = among_map (λ d. (d.name, d.item)) c.definitions f.0 f.1 in
+            let d = mapped_among (λ d. (d.name, d.item)) c.definitions f.0 f.1 in
             let p : definition_unwritable outers (d.0.name, d.0.item) ≡ true = ap (definition_unwritable outers) (sym d.2) ∙ f.2 in
             subst Stands (ap (λ e. Unwritable e.0) (sym d.2) ∙ f.3) (definition d.0 d.1 ((written_decides false (holder [] outers) d.0.name (as_defined d.0.item)).0 p))
         | inr t ↦
@@ -233,7 +233,7 @@ module _ {A I : Type 0} (define : Bool) (c : Composition A I) where
       go p q r s t v w x (outer_import n y m f) = cause_none (outer_unwritable outers) outers s (n, y) m ((written_decides true (holder [] outers) n y).1 f)
       go p q r s t v w x (in_circle n y m f) = cause_none (outer_unwritable outers) circling w (n, y) m ((written_decides true (holder [] outers) n y).1 f)
       go p q r s t v w x (definition d m f) =
-          cause_none (definition_unwritable outers) (placed c.definitions) t (d.name, d.item) (map_among (λ d. (d.name, d.item)) c.definitions d m) ((written_decides false (holder [] outers) d.name (as_defined d.item)).1 f)
+          cause_none (definition_unwritable outers) (placed c.definitions) t (d.name, d.item) (among_mapped (λ d. (d.name, d.item)) c.definitions d m) ((written_decides false (holder [] outers) d.name (as_defined d.item)).1 f)
       go p q r s t v w x (imported_package n y m f) = cause_none package_unwritable (dependencies_of define c) v (n, y) m ((written_decides true (holder [] []) n y).1 f)
 
   pub causes_stand : FirstStands define c

@@ -25,6 +25,7 @@ use Rattle.wac_composition.proofs.Again.{asking_twice}
 use Rattle.wac_composition.proofs.Closures.{any_among, among_any, filter_among, among_filter, filter_same, closed}
 use Rattle.wac_composition.proofs.OuterClasses.{itself as joined_itself, turned, class_is, class_itself}
 use Rattle.wac_composition.proofs.ClassLaws.{in_class_linked, linked_in_class}
+use Rattle.wac_composition.proofs.Lists.{among_mapped, mapped_among}
 use Rattle.wac_types_fit.proofs.Caching.{found-among}
 
 -- ---- later names
@@ -156,16 +157,6 @@ pub among_first : {X : Type 0} (xs ys : List X) (x : X) → Among x xs → Among
 among_first [] ys x m = absurd m
 among_first (z ∷ xs) ys x (inl e) = inl e
 among_first (z ∷ xs) ys x (inr m) = inr (among_first xs ys x m)
-
-pub among_mapped : {X Y : Type 0} (f : X → Y) (xs : List X) (x : X) → Among x xs → Among (f x) (map f xs)
-among_mapped f [] x m = m
-among_mapped f (y ∷ xs) x (inl e) = inl (ap f e)
-among_mapped f (y ∷ xs) x (inr m) = inr (among_mapped f xs x m)
-
-mapped_among : {X Y : Type 0} (f : X → Y) (xs : List X) (y : Y) → Among y (map f xs) → (x : X) × Among x xs × (y ≡ f x)
-mapped_among f [] y m = absurd m
-mapped_among f (x ∷ xs) y (inl e) = (x, inl refl, e)
-mapped_among f (x ∷ xs) y (inr m) = let r = mapped_among f xs y m in (r.0, inr r.1, r.2)
 
 -- ---- spellings and what is kept
 

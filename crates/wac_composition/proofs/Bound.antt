@@ -31,7 +31,9 @@ use Rattle.wac_composition.proofs.Merged.{all_met}
 use Rattle.wac_composition.proofs.Straight.{outer_straight}
 use Rattle.wac_composition.proofs.Unused.{made_world, without_same, zero_plus}
 use Rattle.wac_composition.proofs.AskedAgain.{among_first}
+use Rattle.wac_composition.proofs.Lists.{among_mapped, flat_among}
 use Rattle.wac_types_base.proofs.Looked.{among-get}
+use Rattle.wac_types_base.proofs.Adding.{Among-right}
 
 -- ---- maps of named items
 
@@ -68,20 +70,6 @@ instances_same : {xs ys : Fields} → Tree.instance xs ≡ Tree.instance ys → 
 instances_same e = cc
 
 -- ---- lists
-
-among_map : {X Y : Type 0} (f : X → Y) (xs : List X) (x : X) → Among x xs → Among (f x) (map f xs)
-among_map f [] x m = m
-among_map f (y ∷ xs) x (inl e) = inl (ap f e)
-among_map f (y ∷ xs) x (inr m) = inr (among_map f xs x m)
-
-among_right : {X : Type 0} (xs ys : List X) (x : X) → Among x ys → Among x (xs ++ ys)
-among_right [] ys x m = m
-among_right (z ∷ xs) ys x m = inr (among_right xs ys x m)
-
-among_flat : {X Y : Type 0} (f : X → List Y) (xs : List X) (x : X) (y : Y) → Among x xs → Among y (f x) → Among y (flat_map f xs)
-among_flat f [] x y m k = absurd m
-among_flat f (z ∷ xs) x y (inl e) k = among_first (f z) (flat_map f xs) y (subst (λ w. Among y (f w)) e k)
-among_flat f (z ∷ xs) x y (inr m) k = among_right (f z) (flat_map f xs) y (among_flat f xs x y m k)
 
 -- an entry that stands under its name, and passes
 among_passing : (t : Name × Stated → Bool) (es : List (Name × Stated)) (n : Name) (x : Stated) → value_at es n ≡ Some x → t (n, x) ≡ true → Among (n, x) (filter t es)
@@ -142,7 +130,7 @@ straight_instance : (x : Stated) (xs : Fields) → IsStraight x → tree x ≡ T
 straight_instance x xs (an_instance e h) q = (e, h)
 straight_instance x xs (no_instance f) q = absurd (f xs q)
 
-uses_project : {I : Type 0} (P : I → Type 0) (s : Source I) (n : Name) → Uses P s → Uses P (project s n)
+pub uses_project : {I : Type 0} (P : I → Type 0) (s : Source I) (n : Name) → Uses P s → Uses P (project s n)
 uses_project P Absent n u = tt
 uses_project P (Outer m) n u = u
 uses_project P (Inst k) n u = u
@@ -191,7 +179,7 @@ module _ {A : Type 0} (tag_of : Key → Tag) (c : Composition A ℕ) (define : B
 
   imported_stands : (i : Placed A) → Among i c.imports → Stands (imported i.name) i.item
   imported_stands i m =
-      let a : Among (explicit_ask i) asks = among_first (named_asks c) _ (explicit_ask i) (among_first (map explicit_ask c.imports) (flat_map filled_asks c.made) (explicit_ask i) (among_map explicit_ask c.imports i m)) in
+      let a : Among (explicit_ask i) asks = among_first (named_asks c) _ (explicit_ask i) (among_first (map explicit_ask c.imports) (flat_map filled_asks c.made) (explicit_ask i) (among_mapped explicit_ask c.imports i m)) in
       let k = all_met define c nothing (explicit_ask i) a in
       record {
         item = k.0;
@@ -292,8 +280,8 @@ module _ {A : Type 0} (tag_of : Key → Tag) (c : Composition A ℕ) (define : B
       → Among (record { asking = ToFill; by = m.by; name = n; item = x }) asks
   filled_ask k m n x e v a =
       let open_ = among_passing (λ (e : Name × Stated). not (is_some (value_at m.arguments e.0))) (imports_of m.world) n x v (ap (λ o. not (is_some o)) a) in
-      let one = among_map (λ (e : Name × Stated). record { asking = ToFill; by = m.by; name = e.0; item = e.1 }) _ (n, x) open_ in
-      among_first (named_asks c) _ _ (among_right (map explicit_ask c.imports) (flat_map filled_asks c.made) _ (among_flat filled_asks c.made m _ (among-get c.made k m e) one))
+      let one = among_mapped (λ (e : Name × Stated). record { asking = ToFill; by = m.by; name = e.0; item = e.1 }) _ (n, x) open_ in
+      among_first (named_asks c) _ _ (Among-right _ (map explicit_ask c.imports) (flat_map filled_asks c.made) (flat_among filled_asks c.made m _ (among-get c.made k m e) one))
 
   given_for : (k : ℕ) (m : Made A ℕ) (n : Name) (x : Stated) → slice_get c.made k ≡ Some m → value_at (imports_of m.world) n ≡ Some x → (o : Option (Origin ℕ)) → value_at m.arguments n ≡ o
       → Gives outs (IsMade c) (source_for tag_of c o n) (tree x)

@@ -19,3 +19,4 @@ pub mod NotWritten
 pub mod NotFound
 pub mod Against
 pub mod OutersAgain
+pub mod Lists

@@ -2,12 +2,13 @@
 use Rattle.std.proofs.Common.{◌≡◌, ℕ, ◌+◌, take, ◌<◌, ◌^◌, Bool, true, false, true≢false, List, [], ◌∷◌, ◌++◌, length, Option, Some, None, refl, sym, ap, subst, ◌∙◌, inl, inr}
 use Rattle.std.specs.Cmp.Derive.{both_true}
 use Rattle.std.proofs.lemmas.Option.{none-some, same_Some}
-use Rattle.std.specs.Prelude.{◌||◌, ◌==◌, bytes_eq, nat_lt, if◌then◌else◌}
+use Rattle.std.specs.Prelude.{◌==◌, bytes_eq, nat_lt, if◌then◌else◌}
 use Rattle.std.specs.List.{position_or_len, before_first, after_first, list_any}
 use Rattle.std.specs.Fmt.{decimal}
 use Rattle.std.proofs.lemmas.Fmt.{decimal_injective}
 use Rattle.std.proofs.lemmas.Slice.Eq.{bytes_eq-Decides}
 use Rattle.std.proofs.lemmas.Bool.Decides.{Decides-eqb}
+use Rattle.std.proofs.lemmas.Bool.{or_right}
 use Rattle.semver.specs.Parse.{Parts}
 use Rattle.semver.specs.Grammar.{IsValid}
 use Rattle.wac_types_base.specs.Entries.{Name}
@@ -25,10 +26,6 @@ tail_is e = cc
 
 number_itself : (a : ℕ) → (a == a) ≡ true
 number_itself a = (Decides-eqb a a).1 refl
-
-or_second : (a b : Bool) → b ≡ true → (a || b) ≡ true
-or_second true b e = refl
-or_second false b e = e
 
 -- ---- what stands before the first `@`, and behind it
 
@@ -131,7 +128,7 @@ on_one_track m n track p q a b =
 
 pub is_compatible : (m n : Name) → AreCompatible m n → compatible m n ≡ true
 is_compatible m n (inl e) = or_left (bytes_eq m n) (same_track m n) ((bytes_eq-Decides m n).1 e)
-is_compatible m n (inr s) = or_second (bytes_eq m n) (same_track m n) (on_one_track m n s.0 s.1 s.2 s.3 s.4)
+is_compatible m n (inr s) = or_right (bytes_eq m n) (same_track m n) (on_one_track m n s.0 s.1 s.2 s.3 s.4)
 
 pub later_on_track : (m n : Name) → IsLater m n → is_later m n ≡ true
 later_on_track m n s =

@@ -18,7 +18,8 @@ use Rattle.wac_composition.specs.Writable.{Holder, is_resource, is_fresh, root_o
 use Rattle.wac_composition.specs.NotWritten.{IsGiven, HasRoot, Dangles, has_items, Needs, a_use, under_use, under_item, IsImported, type_exports, component_holder, CannotBeWritten, a_value, core_items, module_as_type, renamed, an_alias, a_function, a_function_type, a_value_type, an_instance, an_interface, a_component, a_world, ItemsFail, unnamed, an_item, ComponentFails, unnamed_use, not_imported, not_added, an_import, an_export}
 use Rattle.wac_composition.proofs.Closures.{filter_among}
 use Rattle.wac_composition.proofs.KeptFits.{folded_firsts}
-use Rattle.wac_composition.proofs.NotWritten.{any_decides, has_decides, among_split, among_flat, flat_among, among_map, map_among, trees_decide, given_decides, resource_decides, value_decides, any_value_decides, stated_again}
+use Rattle.wac_composition.proofs.NotWritten.{any_decides, has_decides, trees_decide, given_decides, resource_decides, value_decides, any_value_decides, stated_again}
+use Rattle.wac_composition.proofs.Lists.{among_split, among_flat, flat_among, mapped_among, among_mapped}
 use Rattle.wac_types_base.proofs.Adding.{Among-left, Among-right}
 use Rattle.wac_types_base.proofs.Made.{firsts, first_names, drop_firsts, only_firsts}
 
@@ -136,14 +137,14 @@ module _ (o : Bool) where
   some_decide : (h : Holder) (es : List Item) → ItemsFound es → Decides (some_fails h o es) (SomeFail h (plain es))
   some_decide h es f =
       Decides-like (some_fails h o es)
-      (λ c. (c.0.0, c.0.1.0, map_among (λ e. (e.0, e.1.0)) es c.0 c.1, c.2.0, c.2.1))
+      (λ c. (c.0.0, c.0.1.0, among_mapped (λ e. (e.0, e.1.0)) es c.0 c.1, c.2.0, c.2.1))
       back
       (any_decides _ (λ e. (IsGiven h e.0 e.1.0 → ⊥) × CannotBeWritten o h e.0 e.1.0) es
       (λ e m. Decides-and (not (is_given h e.0 e.1.0)) (e.1.1.test e.0 h o) (Decides-not (is_given h e.0 e.1.0) (given_decides h e.0 e.1.0)) ((f e m).test o h e.0)))
     where
       back : SomeFail h (plain es) → (e : Item) × Among e es × ((IsGiven h e.0 e.1.0 → ⊥) × CannotBeWritten o h e.0 e.1.0)
       back (n, x, m, g, c) =
-          let a = among_map (λ e. (e.0, e.1.0)) es (n, x) m in
+          let a = mapped_among (λ e. (e.0, e.1.0)) es (n, x) m in
           (a.0, a.1, subst (λ y. (IsGiven h y.0 y.1 → ⊥) × CannotBeWritten o h y.0 y.1) a.2 (g, c))
 
   interface_decides : (us : List Used) (es : List Item) → ItemsFound es → Decides (interface_fails us es o) (ItemsFail o us (plain es))
@@ -176,20 +177,20 @@ module _ (us : List (Used × Found)) (es : List Item) (fu : UsesFound us) (fe : 
   listed_directly u a None q m n = absurd n
   listed_directly u a (Some k) q m (inr n) = absurd n
   listed_directly u a (Some k) q m (inl e) =
-      subst (IsNeeded (only_uses us) (plain es)) (sym e) (record { needs = a_use (map_among (λ w. w.0) us u a); named = q; types = (fu u a).types })
+      subst (IsNeeded (only_uses us) (plain es)) (sym e) (record { needs = a_use (among_mapped (λ w. w.0) us u a); named = q; types = (fu u a).types })
 
   listed_use : (u : Used × Found) → Among u us → (m : Needed) → Among m (below_use u) → IsNeeded (only_uses us) (plain es) m
   listed_use u a m n = elim (among_split m u.1.uses (needed_from u (identifier_of u.0.interface)) n) [
     | inl b ↦
         let h = (fu u a).only m b in
-        need_by (only_uses us) (plain es) m.by (uses_of u.0.interface) (exports_of u.0.interface) (λ w. under_use u.0 (map_among (λ w. w.0) us u a) h.0 w) m refl h.1
+        need_by (only_uses us) (plain es) m.by (uses_of u.0.interface) (exports_of u.0.interface) (λ w. under_use u.0 (among_mapped (λ w. w.0) us u a) h.0 w) m refl h.1
     | inr b ↦ listed_directly u a (identifier_of u.0.interface) refl m b
   ]
 
   listed_item : (e : Item) → Among e es → (m : Needed) → Among m e.1.1.uses → IsNeeded (only_uses us) (plain es) m
   listed_item e a m n =
       let h = (fe e a).only m n in
-      need_by (only_uses us) (plain es) m.by (uses_of e.1.0) (exports_of e.1.0) (λ w. under_item e.0 e.1.0 (map_among (λ e. (e.0, e.1.0)) es e a) h.0 w) m refl h.1
+      need_by (only_uses us) (plain es) m.by (uses_of e.1.0) (exports_of e.1.0) (λ w. under_item e.0 e.1.0 (among_mapped (λ e. (e.0, e.1.0)) es e a) h.0 w) m refl h.1
 
   listed_needed : (m : Needed) → Among m (listed us es) → IsNeeded (only_uses us) (plain es) m
   listed_needed m n = elim (among_split m (flat_map below_use us) (below_items es) n) [
@@ -219,15 +220,15 @@ module _ (us : List (Used × Found)) (es : List Item) (fu : UsesFound us) (fe : 
 
   needed_listed : (u : Used) (n : Name) → Needs (only_uses us) (plain es) u → identifier_of u.interface ≡ Some n → IsListed (listed us es) u n
   needed_listed u n (a_use m) e =
-      let a = among_map (λ w. w.0) us u m in
+      let a = mapped_among (λ w. w.0) us u m in
       subst (λ w. IsListed (listed us es) w n) (sym a.2) (direct a.0 a.1 n (ap (λ w. identifier_of w.interface) (sym a.2) ∙ e))
   needed_listed u n (under_use v m k w) e =
-      let a = among_map (λ w. w.0) us v m in
+      let a = mapped_among (λ w. w.0) us v m in
       let i : v.interface ≡ a.0.0.interface = ap (λ w. w.interface) a.2 in
       widened a.0.1.uses (λ m b. in_uses a.0 a.1 m (Among-left m a.0.1.uses (needed_from a.0 (identifier_of a.0.0.interface)) b)) u n
       ((fu a.0 a.1).all (ap (λ x. has_items (kind_of x)) (sym i) ∙ k) u n (subst (λ x. Needs (uses_of x) (exports_of x) u) i w) e)
   needed_listed u n (under_item l x m k w) e =
-      let a = among_map (λ e. (e.0, e.1.0)) es (l, x) m in
+      let a = mapped_among (λ e. (e.0, e.1.0)) es (l, x) m in
       let i : x ≡ a.0.1.0 = ap (λ y. y.1) a.2 in
       widened a.0.1.1.uses (in_items a.0 a.1) u n
       ((fe a.0 a.1).all (ap (λ x. has_items (kind_of x)) (sym i) ∙ k) u n (subst (λ x. Needs (uses_of x) (exports_of x) u) i w) e)
@@ -313,11 +314,11 @@ module _ (p : Parts Found) (fu : UsesFound p.uses) (fi : ItemsFound p.imports) (
 
     exports_decide : Decides (list_any (λ e. e.1.1.test e.0 (world_holder p) o) p.exports) ExportFails
     exports_decide =
-        Decides-like _ (λ c. (c.0.0, c.0.1.0, map_among (λ e. (e.0, e.1.0)) p.exports c.0 c.1, c.2)) back
+        Decides-like _ (λ c. (c.0.0, c.0.1.0, among_mapped (λ e. (e.0, e.1.0)) p.exports c.0 c.1, c.2)) back
         (any_decides _ (λ e. CannotBeWritten o (world_holder p) e.0 e.1.0) p.exports (λ e m. (fx e m).test o (world_holder p) e.0))
       where
         back : ExportFails → (e : Item) × Among e p.exports × CannotBeWritten o (world_holder p) e.0 e.1.0
-        back (n, x, m, c) = let a = among_map (λ e. (e.0, e.1.0)) p.exports (n, x) m in (a.0, a.1, subst (λ y. CannotBeWritten o (world_holder p) y.0 y.1) a.2 c)
+        back (n, x, m, c) = let a = mapped_among (λ e. (e.0, e.1.0)) p.exports (n, x) m in (a.0, a.1, subst (λ y. CannotBeWritten o (world_holder p) y.0 y.1) a.2 c)
 
     abbrev WorldFails : Type 0
     WorldFails = ((some_unnamed (used_of p) ≡ true) ⊎ SomeUseFails) ⊎ (SomeFail o (world_holder p) (plain p.imports) ⊎ ExportFails)

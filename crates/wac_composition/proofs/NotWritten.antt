@@ -2,10 +2,10 @@
 use Rattle.std.specs.Prelude.{◌==◌, not, ◌&&◌}
 use Rattle.std.proofs.lemmas.Option.{none-some, same_Some}
 use Rattle.std.specs.Bool.{Decides}
-use Rattle.std.specs.List.{list_any, flat_map}
+use Rattle.std.specs.List.{list_any}
 use Rattle.std.specs.Cmp.Lexicographic.{pointwise, bytes_decides}
 use Rattle.std.proofs.lemmas.Bool.Decides.{Decides-and, Decides-or, Decides-not, Decides-like}
-use Rattle.std.proofs.Common.{◌≡◌, List, [], ◌∷◌, ◌++◌, map, Bool, true, false, true≢false, Option, Some, None, ◌⊎◌, inl, inr, refl, sym, ap, subst, ◌∙◌}
+use Rattle.std.proofs.Common.{◌≡◌, List, [], ◌∷◌, Bool, true, false, true≢false, Option, Some, None, ◌⊎◌, inl, inr, refl, sym, ap, subst, ◌∙◌}
 use Rattle.wac_types_base.specs.Entries.{Name, value_at, has_name}
 use Rattle.wac_types_base.specs.Graph.{Wholes, node, no_more, more, hole, Among}
 use Rattle.wac_types_base.specs.Collection.{Shape, primitive, tuple, list, fixed_size_list, option, result, variant, record_of, flags, enum, alias, stream, future, resource, resource_alias, func, interface, world, module_type, type_of, own_of, borrow_of}
@@ -17,7 +17,6 @@ use Rattle.wac_composition.specs.NotWritten.{IsGiven, IsUsed, HasRoot, Handle, R
 use Rattle.wac_composition.proofs.TestLaws.{decides, trees_tell}
 use Rattle.wac_composition.proofs.Closures.{any_among, among_any}
 use Rattle.wac_composition.proofs.KeptFits.{folded_firsts, row_again}
-use Rattle.wac_types_base.proofs.Adding.{Among-left, Among-right}
 use Rattle.wac_types_base.proofs.Made.{firsts}
 
 -- ---- tests and lists
@@ -28,36 +27,6 @@ any_decides t P xs d = (λ e. let c = any_among t xs e in (c.0, c.1, (d c.0 c.1)
 pub has_decides : (ns : List Name) (n : Name) → Decides (has_name ns n) (Among n ns)
 has_decides [] n = (λ e. absurd (true≢false (sym e)), λ m. absurd m)
 has_decides (m ∷ ms) n = Decides-or (pointwise ◌==◌ n m) (has_name ms n) (bytes_decides n m) (has_decides ms n)
-
-pub among_split : {X : Type 0} (c : X) (xs ys : List X) → Among c (xs ++ ys) → Among c xs ⊎ Among c ys
-among_split c [] ys m = inr m
-among_split c (x ∷ xs) ys (inl e) = inl (inl e)
-among_split c (x ∷ xs) ys (inr m) = elim (among_split c xs ys m) [
-  | inl a ↦ inl (inr a)
-  | inr b ↦ inr b
-]
-
-pub among_flat : {X Y : Type 0} (f : X → List Y) (xs : List X) (y : Y) → Among y (flat_map f xs) → (x : X) × Among x xs × Among y (f x)
-among_flat f [] y m = absurd m
-among_flat f (x ∷ xs) y m = elim (among_split y (f x) (flat_map f xs) m) [
-  | inl a ↦ (x, inl refl, a)
-  | inr b ↦ let r = among_flat f xs y b in (r.0, inr r.1, r.2)
-]
-
-pub flat_among : {X Y : Type 0} (f : X → List Y) (xs : List X) (x : X) (y : Y) → Among x xs → Among y (f x) → Among y (flat_map f xs)
-flat_among f [] x y m n = absurd m
-flat_among f (z ∷ zs) x y (inl e) n = Among-left y (f z) (flat_map f zs) (subst (λ w. Among y (f w)) e n)
-flat_among f (z ∷ zs) x y (inr m) n = Among-right y (f z) (flat_map f zs) (flat_among f zs x y m n)
-
-pub among_map : {X Y : Type 0} (f : X → Y) (xs : List X) (y : Y) → Among y (map f xs) → (x : X) × Among x xs × (y ≡ f x)
-among_map f [] y m = absurd m
-among_map f (x ∷ xs) y (inl e) = (x, inl refl, e)
-among_map f (x ∷ xs) y (inr m) = let r = among_map f xs y m in (r.0, inr r.1, r.2)
-
-pub map_among : {X Y : Type 0} (f : X → Y) (xs : List X) (x : X) → Among x xs → Among (f x) (map f xs)
-map_among f [] x m = absurd m
-map_among f (z ∷ zs) x (inl e) = inl (ap f e)
-map_among f (z ∷ zs) x (inr m) = inr (map_among f zs x m)
 
 -- ---- what stands in a holder
 

@@ -1,6 +1,6 @@
 -- The outer import of an ask: under the spelling of its class there is one, and it fits the ask.
-use Rattle.std.specs.Prelude.{◌==◌, option_map, unwrap_or, is_some, find, cond, bytes_eq, if◌then◌else◌, ◌||◌}
-use Rattle.std.proofs.lemmas.Bool.{and_parts}
+use Rattle.std.specs.Prelude.{◌==◌, option_map, unwrap_or, is_some, find, cond, bytes_eq, if◌then◌else◌}
+use Rattle.std.proofs.lemmas.Bool.{and_parts, or_right}
 use Rattle.std.specs.Cmp.Derive.{both_true}
 use Rattle.std.proofs.lemmas.Option.{none-some, same_Some}
 use Rattle.std.specs.Cmp.Lexicographic.{pointwise}
@@ -24,10 +24,6 @@ use Rattle.wac_composition.proofs.Closures.{steps, reached, reached_within, reac
 use Rattle.wac_names.proofs.NameKinds.{or_parts, or_left}
 
 -- ---- asks are joined to themselves, and both ways
-
-or_right : (a b : Bool) → b ≡ true → (a || b) ≡ true
-or_right true b e = refl
-or_right false b e = e
 
 names_itself : (n : Name) → bytes_eq n n ≡ true
 names_itself n = (bytes_eq-Decides n n).1 refl

@@ -41,7 +41,7 @@ use Rattle.wac_graph_asks.specs.Graphs.{composition_of, definition_by, nodes_of}
 use Rattle.wac_graph_asks.specs.Wirings.{written_tree}
 use Rattle.wac_graph_asks.specs.Asked.{placed_in}
 use Rattle.wac_graph_asks.proofs.ByNode.{entry_there}
-use Rattle.wac_composition.proofs.AskedAgain.{among_mapped}
+use Rattle.wac_composition.proofs.Lists.{among_mapped}
 use Rattle.wac_graph_encode.specs.Standing.{StandsAt}
 use Rattle.wac_graph_encode.specs.Formed.{HasForm}
 use Rattle.wac_graph_encode.proofs.FormKinds.{own_form, form_entry}

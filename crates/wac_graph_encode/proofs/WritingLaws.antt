@@ -1,5 +1,5 @@
 -- What is given to an instance, and which nodes are written before others.
-use Rattle.std.specs.Prelude.{Option, IfSome, IfNone, Result, Ok, Err, OnOk, IsSome, is_some, slice_get, take}
+use Rattle.std.specs.Prelude.{Option, IfSome, IfNone, IsSome, is_some, slice_get, take}
 use Rattle.std.proofs.lemmas.List.{append-nil, append_assoc}
 use Rattle.std.specs.List.{AllZip}
 use Rattle.std.specs.Map.{lookup}
@@ -35,11 +35,6 @@ use Rattle.wac_graph_encode.specs.Writing.{IsNeeded, AddsCalled, AreCalled, Adds
 use Rattle.wac_graph_encode.proofs.Entries.{same_node, found_among, none_among}
 use Rattle.wac_types_fit.proofs.Items.{Among-last}
 use Rattle.wac_graph_encode.proofs.StandingNumbers.{zip_map, zip_more}
-
--- what follows of what is answered
-pub on_ok : {X E A B : Type 0} (r : Result X E) → (A → B) → OnOk r A → OnOk r B
-on_ok (Ok x) f a = f a
-on_ok (Err e) f a = tt
 
 -- ---- what is given
 

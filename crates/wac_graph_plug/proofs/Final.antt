@@ -34,13 +34,14 @@ use Rattle.wac_graph_plug.specs.Stops.{part_in, part_of, world_of, worlds_of, Pl
 use Rattle.wac_graph_plug.specs.Wired.{Part, export_for, or_later, bound_from, if_there, bound_source, socket_instance, plug_instance, plug_at, instance_at, plugged}
 use Rattle.wac_graph_plug.proofs.Near.{value_named, value_none}
 use Rattle.wac_graph_plug.proofs.Growing.{Grown-refl, Grown-trans, Grown-alias, Grown-instance, Grown-export, Grown-exports, same_package, same_world, worlds_same}
-use Rattle.wac_graph_plug.proofs.State.{Bound, imports_of_all, State, end_of, no_argument}
+use Rattle.wac_graph_plug.proofs.State.{Bound, imports_of_all, State, no_argument}
 use Rattle.wac_graph_plug.proofs.Causes.{Grown-each, first_state, all_distinct, each_state}
 use Rattle.wac_graph_plug.proofs.Passing.{bound_of}
 use Rattle.wac_graph_plug.proofs.Made.{PlugAt, BoundAt, EachMade, AllMade, each_made, quiet_alias}
+use Rattle.wac_graph_plug.proofs.Exporting.{alias_here}
 use Rattle.wac_graph_core.proofs.ExportSteps.{among_name}
 use Rattle.wac_types_base.proofs.Replacing.{same_number}
-use Rattle.wac_graph_core.proofs.Found.{eq_false, same_name, Among-front}
+use Rattle.wac_graph_core.proofs.Found.{eq_false, same_name, Among-front, Among-end}
 use Rattle.wac_types_fit.proofs.Items.{Among-last}
 
 -- ---- exports
@@ -59,10 +60,6 @@ alias_args g h i n k (inr made) j m a at = elim ((made.edges (argument_edge a j 
 alias_exports : (g h : Graph) (i : ℕ) (n : Name) (k : ℕ) → Aliases g h i n k → h.exports ≡ g.exports
 alias_exports g h i n k (inl again) = ap (λ (x : Graph). x.exports) again.same
 alias_exports g h i n k (inr made) = ap (λ (x : Graph). x.exports) made.made
-
-alias_here : (g h : Graph) (i : ℕ) (n : Name) (k : ℕ) → Aliases g h i n k → HasAlias h.edges i n k
-alias_here g h i n k (inl again) = subst (Among (alias_edge i k n)) (sym (ap (λ (x : Graph). x.edges) again.same)) again.there
-alias_here g h i n k (inr made) = (made.edges (alias_edge i k n)).1 (inr refl)
 
 export_instances : (g h : Graph) (k : ℕ) (n : Name) → Exports g h k n → (j : ℕ) → instantiated h j ≡ instantiated g j
 export_instances g h k n x j = elim (cases_eq j k) [
@@ -89,13 +86,13 @@ exported_all {s} (exported_next {ns = ns} {n = n} {f = f} {g = g} {h = h} rest o
         | inl old ↦ elim (r.found m k old) [ inl older ↦ inl older | inr x ↦ inr (Among-front ns n m x.0, grown.edges (alias_edge s k m) x.1) ]
         | inr same ↦
             inr (
-              subst (λ x. Among x (ns ++ n ∷ [])) (sym (ap (λ (p : Name × ℕ). p.0) same)) (end_of ns n),
+              subst (λ x. Among x (ns ++ n ∷ [])) (sym (ap (λ (p : Name × ℕ). p.0) same)) (Among-end ns n),
               subst (λ (p : Name × ℕ). HasAlias h.edges s p.0 p.1) (sym same) (subst (Among (alias_edge s one.alias n)) (sym edges) (alias_here g one.middle s n one.alias one.aliased)),
             )
       ];
       all = λ m at. elim (Among-last ns n m at) [
         | inl old ↦ let x = r.all m old in (x.0, subst (Among (m, x.0)) (sym exports) (Among-front g.exports (n, one.alias) (m, x.0) x.1))
-        | inr same ↦ (one.alias, subst (Among (m, one.alias)) (sym exports) (subst (λ x. Among (x, one.alias) (g.exports ++ (n, one.alias) ∷ [])) (sym same) (end_of g.exports (n, one.alias))))
+        | inr same ↦ (one.alias, subst (Among (m, one.alias)) (sym exports) (subst (λ x. Among (x, one.alias) (g.exports ++ (n, one.alias) ∷ [])) (sym same) (Among-end g.exports (n, one.alias))))
       ];
     }
 

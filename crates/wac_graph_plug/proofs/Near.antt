@@ -166,6 +166,3 @@ not_contained xs e b none is = by_value (value_at xs e) refl (sym is ∙ none)
     by_value : (o : Option ItemKind) → value_at xs e ≡ o → is_some o ≡ false → value_at xs e ≡ None
     by_value None at h = at
     by_value (Some k) at h = absurd (cc (h))
-
-pub not_both : (b : Bool) → b ≡ true → b ≡ false → ⊥
-not_both b p q = absurd (cc (p, q))

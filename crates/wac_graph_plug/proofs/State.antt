@@ -18,7 +18,7 @@ use Rattle.wac_graph_plug.specs.declared.matching.Match.{Match}
 use Rattle.wac_graph_plug.specs.Steps.{Grown, Passes, PassesAll, passed_none, passed_next}
 use Rattle.wac_graph_plug.proofs.Growing.{Grown-alias, Grown-instance, Grown-set, ContainsNode-grown}
 use Rattle.wac_types_fit.proofs.Items.{Among-last}
-use Rattle.wac_graph_core.proofs.Found.{Among-front}
+use Rattle.wac_graph_core.proofs.Found.{Among-front, Among-end}
 use Rattle.wac_types_base.proofs.Loops.{mapped_next}
 
 -- an export of a plug's instance that is passed
@@ -52,10 +52,6 @@ pub record IsPlug (g : Graph) (p : ℕ) (pp : Packaged) (exports : List Name) : 
 
 -- ---- lists
 
-pub end_of : {X : Type 0} (xs : List X) (x : X) → Among x (xs ++ x ∷ [])
-end_of [] x = inl refl
-end_of (z ∷ xs) x = inr (end_of xs x)
-
 pub distinct_end : (ns : List Name) (n : Name) → AreDistinct ns → (Among n ns → ⊥) → AreDistinct (ns ++ n ∷ [])
 distinct_end [] n d none = (λ m. m, tt)
 distinct_end (m ∷ ns) n d none = (λ at. elim (Among-last ns n m at) [ inl old ↦ d.0 old | inr same ↦ none (inl (sym same)) ], distinct_end ns n d.1 (λ at. none (inr at)))
@@ -64,7 +60,7 @@ pub distinct_front : (ns : List Name) (n : Name) → AreDistinct (ns ++ n ∷ []
 distinct_front [] n d = (tt, λ m. m)
 distinct_front (m ∷ ns) n d =
     let r = distinct_front ns n d.1 in
-    ((λ at. d.0 (Among-front ns n m at), r.0), λ at. elim at [ inl same ↦ d.0 (subst (λ x. Among x (ns ++ n ∷ [])) same (end_of ns n)) | inr later ↦ r.1 later ])
+    ((λ at. d.0 (Among-front ns n m at), r.0), λ at. elim at [ inl same ↦ d.0 (subst (λ x. Among x (ns ++ n ∷ [])) same (Among-end ns n)) | inr later ↦ r.1 later ])
 
 pub among_map : {X Y : Type 0} (f : X → Y) (xs : List X) (y : Y) → Among y (map f xs) → (x : X) × Among x xs × (f x ≡ y)
 among_map f [] y m = absurd m
@@ -187,7 +183,7 @@ module _ (g h : Graph) (s : ℕ) (sp : Packaged) (done : List Bound) (st : State
         bound = λ m a at. elim ((made.edges (argument_edge a s m)).0 at) [
           | inl old ↦ let r = st.bound m a old in (r.0, Among-front done one r.0 r.1, r.2, (made.edges (alias_edge r.0.plug a r.0.export)).1 (inl r.3))
           | inr same ↦
-              (one, end_of done one, sym (ap (λ l. argument_name l n) (edge_label same)), subst (λ j. HasAlias h.edges p e j) (sym (edge_from same)) ((made.edges (alias_edge p k e)).1 (inl aliased)))
+              (one, Among-end done one, sym (ap (λ l. argument_name l n) (edge_label same)), subst (λ j. HasAlias h.edges p e j) (sym (edge_from same)) ((made.edges (alias_edge p k e)).1 (inl aliased)))
         ];
         complete = λ b m. elim (Among-last done one b m) [
           | inl old ↦

@@ -1,5 +1,5 @@
 -- The imports and exports of a world, one after another.
-use Rattle.std.proofs.Common.{◌≡◌, ℕ, zero, suc, ◌+◌, ◌<◌, ◌≤◌, Bool, true, false, List, [], ◌∷◌, ◌++◌, length, take, Option, Some, None, refl, sym, ap, ◌∙◌, subst, arith, slice_get, slice_set, inl, inr, string_bytes, append_assoc, if◌then◌else◌}
+use Rattle.std.proofs.Common.{◌≡◌, ℕ, zero, suc, ◌+◌, ◌<◌, ◌≤◌, Bool, List, [], ◌∷◌, ◌++◌, length, take, Option, Some, None, refl, sym, ap, ◌∙◌, subst, arith, slice_get, slice_set, inl, inr, string_bytes, append_assoc}
 use Rattle.std.specs.Prelude.{String, ◌==◌, eqb, option_map, option_to_list}
 use Rattle.std.specs.Global.{Global}
 use Rattle.std.proofs.lemmas.List.{map_push, append-nil, length-map}
@@ -18,7 +18,7 @@ use Rattle.wac_types_base.specs.Entries.{Name, names_of, value_at, put_name, Are
 use Rattle.wac_types_base.specs.Collection.{Stands, IsAcyclic}
 use Rattle.wac_types_base.specs.Tree.{Tree, component}
 use Rattle.wac_types_base.proofs.Looked.{among-get, distinct-before, take-one_more}
-use Rattle.wac_types_base.proofs.Adding.{Among-left, Among-right}
+use Rattle.wac_types_base.proofs.Adding.{Among-left, Among-right, guarded-some}
 use Rattle.wac_types_base.proofs.Replacing.{slice_get-set_same, slice_get-set_other}
 use Rattle.wac_types_base.proofs.Standing.{world_found}
 use Rattle.wac_types_base.proofs.Slots.{stands_typed_world}
@@ -59,10 +59,6 @@ use Rattle.wac_graph_scopes.proofs.WritingLaws.{writes_on, writes_more, value_he
 
 -- ---- exports of an imported instance
 
-own_by : {E : Type 0} (t : Bool) (o : Option E) (x : E) → (if t then o else None) ≡ Some x → (t ≡ true) × (o ≡ Some x)
-own_by true o x e = (refl, e)
-own_by false o x e = absurd (cc e)
-
 exports_some : (o : Option Interface) (n : Name) (k : ItemKind) → value_at (exports_in o) n ≡ Some k → (x : Interface) × (o ≡ Some x)
 exports_some (Some x) n k e = (x, refl)
 exports_some None n k e = absurd (cc e)
@@ -70,7 +66,7 @@ exports_some None n k e = absurd (cc e)
 pub export_tree : (c : Collection) → IsAcyclic c → (id : InterfaceId) (n : Name) (t : Tree) → IsTreeOf c (exports_of c id) n t → export_named n (tree_in c (ItemKind.Instance id)) ≡ Some t
 export_tree c acyclic id n t e =
     let x = exports_some (interface_in c id) n e.0 e.1 in
-    let own = own_by (id.collection == c.number) (slice_get c.interfaces id.index) x.0 x.1 in
+    let own = guarded-some (id.collection == c.number) (slice_get c.interfaces id.index) x.0 x.1 in
     let is = unfolded.instance_tree c acyclic id x.0 own.1 ((Decides-eqb id.collection c.number).0 own.0) in
     let at = ap (λ (o : Option Interface). value_at (exports_in o) n) (sym x.1) ∙ e.1 in
     ap (export_named n) is ∙ same_look n (unfolded.fields_in c x.0.exports) ∙ looked_in c x.0.exports n ∙ ap (option_map (tree_in c)) at ∙ ap Some (sym e.2)

@@ -2,6 +2,7 @@
 use Rattle.std.proofs.Common.{◌≡◌, ℕ, List, [], ◌∷◌, ◌++◌, append_assoc, length, Bool, Option, Some, None, ◌==◌, ◌+◌, refl, sym, ap, subst, ◌∙◌}
 use Rattle.std.specs.Prelude.{bytes_eq, is_some, slice_get, if◌then◌else◌}
 use Rattle.std.specs.List.{list_any}
+use Rattle.std.specs.Cmp.Derive.{one_truth}
 use Rattle.std.proofs.lemmas.Slice.Eq.{bytes_eq-Decides}
 use Rattle.std.proofs.lemmas.Bool.Decides.{Decides-eqb}
 use Rattle.std.proofs.lemmas.List.{length-append}
@@ -15,7 +16,7 @@ use Rattle.wac_composition.proofs.Closures.{any_among, among_any}
 use Rattle.wac_composition.proofs.OuterClasses.{class_same, within, class_itself, class_by_name}
 use Rattle.wac_composition.proofs.ClassLaws.{in_class_linked, linked_in_class}
 use Rattle.wac_merging.specs.Labelled.{labelled, LabelClasses, AreKept, none_asked, one_more_kept, Kept_have_no_conflict, Refused_is_conflict}
-use Rattle.wac_merging.proofs.Labels.{same_test, one_more_labelled, passing_labelled, IsAt, at_among, one_label, linked}
+use Rattle.wac_merging.proofs.Labels.{one_more_labelled, passing_labelled, IsAt, at_among, one_label, linked}
 
 module _ {A : Type 0} (all : List (Ask A)) (labels : List ℕ) (c : LabelClasses all labels) where
   -- whether a name of the class is the ask's
@@ -27,7 +28,7 @@ module _ {A : Type 0} (all : List (Ask A)) (labels : List ℕ) (c : LabelClasses
   name_test a b l m i j =
       let here = at_among all labels c a l i in
       let there = at_among all labels c b m j in
-      same_test (named_in a b) (m == l)
+      one_truth (named_in a b) (m == l)
       (λ e.
       let d = any_among (λ d. bytes_eq b.name d.name) (class all a) e in
       let same = class_by_name all b d.0 there (within all a d.0 here d.1) ((bytes_eq-Decides b.name d.0.name).0 d.2) ∙ sym (class_same all a d.0 here d.1) in

@@ -1,7 +1,7 @@
 -- The families of asks on ids are those of stated types.
 use Rattle.std.proofs.Common.{◌≡◌, ◌<◌, List, [], ◌∷◌, length, Bool, true, false, true≢false, Some, refl, sym, ap, subst, ◌∙◌, inl, inr, arith}
 use Rattle.std.specs.Prelude.{◌&&◌, is_some, slice_get}
-use Rattle.std.proofs.lemmas.Bool.{and_parts}
+use Rattle.std.proofs.lemmas.Bool.{and_parts, false_from_ne_true}
 use Rattle.wac_types_base.specs.declared.item.«Type».{«Type» as TypeKind}
 use Rattle.wac_types_base.specs.declared.item.ItemKind.{ItemKind}
 use Rattle.wac_types_base.specs.declared.ids.InterfaceId.{InterfaceId}
@@ -26,10 +26,6 @@ use Rattle.wac_merging.proofs.Wit.{instance_wit, wit_instance, wit_named}
 first_of : (a b c d e : Bool) → (a && b && c && d && e) ≡ true → a ≡ true
 first_of a b c d e h = (and_parts a b (and_parts (a && b) c (and_parts (a && b && c) d (and_parts (a && b && c && d) e h).0).0).0).0
 
-pub not_so : (b : Bool) → (b ≡ true → ⊥) → b ≡ false
-not_so true h = absurd (h refl)
-not_so false h = refl
-
 pub wit_kind : (n : Name) (x : Stated) → is_wit n x ≡ true → is_instance (kind_of x) ≡ true
 wit_kind n x e = first_of (is_instance (kind_of x)) _ _ _ _ e
 
@@ -42,10 +38,10 @@ wit_called n x e = second_of _ (is_called (identifier_of x) n) _ _ _ e
 module _ (c : Collection) (a : IsAcyclic c) (n : Name) where
   -- what is no instance is not identified by the name asked
   not_wit : (k : ItemKind) → Stands c k → is_instance (item_kind k) ≡ false → is_wit n (stated_of c k) ≡ false
-  not_wit k s e = not_so (is_wit n (stated_of c k)) (λ w. true≢false (sym (wit_kind n (stated_of c k) w) ∙ ap (λ i. is_instance i) (kind_stated c a k s) ∙ e))
+  not_wit k s e = false_from_ne_true (is_wit n (stated_of c k)) (λ w. true≢false (sym (wit_kind n (stated_of c k) w) ∙ ap (λ i. is_instance i) (kind_stated c a k s) ∙ e))
 
   not_plain : (k : ItemKind) → Stands c k → (IsPlainItem c k → ⊥) → is_plain (stated_of c k) ≡ false
-  not_plain k s h = not_so (is_plain (stated_of c k)) (λ e. h (stated_plain c a k s e))
+  not_plain k s h = false_from_ne_true (is_plain (stated_of c k)) (λ e. h (stated_plain c a k s e))
 
   -- an interface with uses is not plain
   has_uses : (i : InterfaceId) (x : Interface) → slice_get c.interfaces i.index ≡ Some x → IsUnnamedIn c (values_of x.uses) → HasMore (slice_get c.interfaces i.index)
@@ -110,7 +106,7 @@ module _ (c : Collection) (a : IsAcyclic c) (n : Name) where
   no_type (TypeKind.Module r) = refl
 
   none_wit : (k : ItemKind) → Stands c k → (IsWitItem c n k → ⊥) → is_wit n (stated_of c k) ≡ false
-  none_wit (ItemKind.Instance i) s h = not_so (is_wit n (stated_of c (ItemKind.Instance i))) (λ e. h (stated_instance i s e))
+  none_wit (ItemKind.Instance i) s h = false_from_ne_true (is_wit n (stated_of c (ItemKind.Instance i))) (λ e. h (stated_instance i s e))
   none_wit (ItemKind.Ty t) s h = not_wit (ItemKind.Ty t) s (no_type t)
   none_wit (ItemKind.Func t) s h = not_wit (ItemKind.Func t) s refl
   none_wit (ItemKind.Component t) s h = not_wit (ItemKind.Component t) s refl
@@ -129,7 +125,7 @@ module _ (c : Collection) (a : IsAcyclic c) (n : Name) where
 
   unnamed_none : (k : ItemKind) → Stands c k → UsesUnnamed c k → Same Family.Neither k
   unnamed_none (ItemKind.Instance i) s u =
-      same_by (ItemKind.Instance i) false (not_plain (ItemKind.Instance i) s (uses_unplain i s u)) (not_so (is_wit n (stated_of c (ItemKind.Instance i))) (λ e. instance_named i s e u))
+      same_by (ItemKind.Instance i) false (not_plain (ItemKind.Instance i) s (uses_unplain i s u)) (false_from_ne_true (is_wit n (stated_of c (ItemKind.Instance i))) (λ e. instance_named i s e u))
   unnamed_none (ItemKind.Component w) s u = same_by (ItemKind.Component w) false (not_plain (ItemKind.Component w) s (λ p. p (here tt))) (not_wit (ItemKind.Component w) s refl)
   unnamed_none (ItemKind.Ty t) s u = same_by (ItemKind.Ty t) false (not_plain (ItemKind.Ty t) s (typed_unplain t s u)) (not_wit (ItemKind.Ty t) s (no_type t))
   unnamed_none (ItemKind.Func f) s u = absurd u.1

@@ -3,6 +3,7 @@ use Rattle.std.proofs.Common.{◌≡◌, ℕ, suc, List, [], ◌∷◌, ◌++◌
 use Rattle.std.specs.Prelude.{fold, filter, filter_map, cond, is_some, slice_get, if◌then◌else◌}
 use Rattle.std.specs.List.{cons_option, list_any}
 use Rattle.std.specs.Cmp.Lexicographic.{pointwise, bytes_decides}
+use Rattle.std.specs.Cmp.Derive.{one_truth}
 use Rattle.std.proofs.lemmas.Option.{none-some, same_Some}
 use Rattle.std.proofs.lemmas.Bool.Decides.{Decides-eqb}
 use Rattle.std.proofs.lemmas.List.{append-nil}
@@ -23,11 +24,6 @@ use Rattle.wac_merging.specs.Labelled.{with_label, labelled, LabelClasses, Class
 use Rattle.wac_merging.specs.Outers.{Outers_differ}
 
 -- ---- tests
-
-pub same_test : (b c : Bool) → (b ≡ true → c ≡ true) → (c ≡ true → b ≡ true) → b ≡ c
-same_test true c f g = sym (f refl)
-same_test false true f g = g refl
-same_test false false f g = refl
 
 -- a label among others
 label_among : (ls : List ℕ) (l : ℕ) → list_any (λ m. m == l) ls ≡ true → Among l ls
@@ -133,7 +129,7 @@ module _ {A : Type 0} where
     label_test : (a b : Ask A) (l m : ℕ) → IsAt a l → IsAt b m → in_class a b ≡ (m == l)
     label_test a b l m i j =
         let here = at_among a l i in
-        same_test (in_class a b) (m == l)
+        one_truth (in_class a b) (m == l)
         (λ e. (Decides-eqb m l).1 (one_label a b l m i j (in_class_linked asks a b here (subst (Among b) (sym (class_test a here)) (among_filter (in_class a) asks b (at_among b m j) e)))))
         (λ e. (filter_among (in_class a) asks b (subst (Among b) (class_test a here) (linked_in_class asks a b here (linked a b l m i j ((Decides-eqb m l).0 e))))).1)
 

@@ -2,6 +2,7 @@
 use Rattle.std.proofs.Common.{◌≡◌, List, [], ◌∷◌, ◌++◌, append_assoc, Bool, true, false, Option, Some, None, ◌⊎◌, refl, sym, ap, subst, ◌∙◌, inl, inr}
 use Rattle.std.specs.Prelude.{bytes_eq, cond, filter, is_some, if◌then◌else◌}
 use Rattle.std.specs.List.{list_any}
+use Rattle.std.specs.Cmp.Derive.{one_truth}
 use Rattle.std.proofs.lemmas.Option.{none-some}
 use Rattle.std.proofs.lemmas.List.{append-nil}
 use Rattle.std.proofs.lemmas.Slice.Eq.{bytes_eq-Decides}
@@ -16,7 +17,7 @@ use Rattle.wac_composition.specs.Conflicts.{Cause, or_else, merge_cause, merge_f
 use Rattle.wac_composition.proofs.Closures.{any_among, among_any, filter_among, among_filter, filter_same}
 use Rattle.wac_composition.proofs.OuterClasses.{class_same, within, class_itself, class_by_name}
 use Rattle.wac_composition.proofs.AskedAgain.{asked_again, filter_append, kept_again, among_more, among_fewer}
-use Rattle.wac_merging.proofs.Labels.{same_test}
+use Rattle.wac_composition.proofs.Against.{or_none}
 use Rattle.wac_merging.specs.Repeated.{Repeated_conflicts_no_more}
 
 -- ---- causes
@@ -24,10 +25,6 @@ use Rattle.wac_merging.specs.Repeated.{Repeated_conflicts_no_more}
 or_else_through : {X : Type 0} (o p q : Option X) → or_else (or_else o p) q ≡ or_else o (or_else p q)
 or_else_through None p q = refl
 or_else_through (Some x) p q = refl
-
-or_nothing : {X : Type 0} (o p : Option X) → or_else o p ≡ None → (o ≡ None) × (p ≡ None)
-or_nothing None p e = (refl, e)
-or_nothing (Some x) p e = absurd (none-some _ (sym e))
 
 module _ {A : Type 0} where
   -- the cause of asks that are some is that of their first
@@ -99,7 +96,7 @@ module _ {A : Type 0} where
     fine_behind : (pre ds : List (Ask A)) → ((d : Ask A) → Among d ds → Among d all) → IsFine pre → merge_conflict all pre ds ≡ None → IsFine (pre ++ ds)
     fine_behind pre [] sub fine e = subst IsFine (sym (append-nil pre)) fine
     fine_behind pre (d ∷ ds) sub fine e =
-        let n = or_nothing (merge_fails d (those_in (class all d) (pre ++ d ∷ []))) (merge_conflict all (pre ++ d ∷ []) ds) e in
+        let n = or_none (merge_fails d (those_in (class all d) (pre ++ d ∷ []))) (merge_conflict all (pre ++ d ∷ []) ds) e in
         subst IsFine (append_assoc pre (d ∷ []) ds) (fine_behind (pre ++ d ∷ []) ds (λ c m. sub c (inr m)) (fine_more pre d (sub d (inl refl)) fine n.0) n.1)
 
   -- ---- an ask that repeats one before
@@ -126,7 +123,7 @@ module _ {A : Type 0} where
 
     -- the names of a class are the same
     names_same : (c x : Ask A) → Among c asks → named (class more c) x ≡ named (class asks c) x
-    names_same c x m = same_test (named (class more c) x) (named (class asks c) x) to from
+    names_same c x m = one_truth (named (class more c) x) (named (class asks c) x) to from
       where
         to : named (class more c) x ≡ true → named (class asks c) x ≡ true
         to e =

@@ -4,6 +4,7 @@ use Rattle.std.specs.Prelude.{◌&&◌, ◌||◌, if◌then◌else◌}
 use Rattle.std.specs.List.{list_all}
 use Rattle.std.proofs.lemmas.Option.{none-some}
 use Rattle.std.proofs.lemmas.List.{length-append}
+use Rattle.std.proofs.lemmas.Bool.{false_from_ne_true}
 use Rattle.wac_types_base.specs.declared.item.ItemKind.{ItemKind}
 use Rattle.wac_types_base.specs.Record.{Collection}
 use Rattle.wac_types_base.specs.Entries.{Name}
@@ -19,6 +20,7 @@ use Rattle.wac_types_merge.specs.declared.family.Family.{Family}
 use Rattle.wac_types_merge.specs.Families.{joint}
 use Rattle.wac_types_merge.specs.Steps.{HasClash, LieOutside}
 use Rattle.wac_types_merge.proofs.Plain.{family_plain, plain_meet}
+use Rattle.wac_types_merge.proofs.Asking.{joint_first, joint_second}
 use Rattle.wac_composition.specs.Names.{has_track}
 use Rattle.wac_composition.specs.Classes.{is_instance}
 use Rattle.wac_composition.specs.Merging.{is_plain, is_wit, merge, narrower, Asked, in_family, kept_from, kept, identified_by, identified}
@@ -33,7 +35,7 @@ use Rattle.wac_merging.proofs.Well.{well_made}
 use Rattle.wac_merging.proofs.United.{instance_made}
 use Rattle.wac_merging.proofs.Merged.{kept_is_stated, refused_is_stated, spelled_is_stated}
 use Rattle.wac_merging.proofs.Wit.{all_of, of_all, called_is}
-use Rattle.wac_merging.proofs.Families.{not_so, wit_kind, wit_called, family_is_stated, unnamed_is_of_none}
+use Rattle.wac_merging.proofs.Families.{wit_kind, wit_called, family_is_stated, unnamed_is_of_none}
 
 -- ---- families
 
@@ -66,7 +68,7 @@ abbrev wit_ask : Asked → Bool
 wit_ask a = is_wit a.0 a.1
 
 fails : (p : Asked → Bool) (asks : List Asked) (a : Asked) → Among a asks → p a ≡ false → list_all p asks ≡ false
-fails p asks a m e = not_so (list_all p asks) (λ h. true≢false (sym (of_all p asks h a m) ∙ e))
+fails p asks a m e = false_from_ne_true (list_all p asks) (λ h. true≢false (sym (of_all p asks h a m) ∙ e))
 
 last : (asks : List Asked) (a : Asked) → Among a (asks ++ a ∷ [])
 last [] a = inl refl
@@ -108,10 +110,10 @@ module _ (asks : List Asked) (b : Asked) (there : Among b asks) (well : (a : Ask
   more = asks ++ a ∷ []
 
   not_wit : (c : Asked) → IsWell c.1 → plain_ask c ≡ true → wit_ask c ≡ false
-  not_wit c w p = not_so (wit_ask c) (λ e. plain_or_wit c.0 c.1 w e p)
+  not_wit c w p = false_from_ne_true (wit_ask c) (λ e. plain_or_wit c.0 c.1 w e p)
 
   not_plain : (c : Asked) → IsWell c.1 → wit_ask c ≡ true → plain_ask c ≡ false
-  not_plain c w e = not_so (plain_ask c) (λ p. plain_or_wit c.0 c.1 w e p)
+  not_plain c w e = false_from_ne_true (plain_ask c) (λ p. plain_or_wit c.0 c.1 w e p)
 
   abbrev HasFamily : Family → Type 0
   HasFamily g = g ≡ family_stated a.0 a.1
@@ -221,18 +223,6 @@ one_family_is_all c asks several n k f m o t = record {
 }
 
 -- ---- the next ask
-
-joint_first : (f g : Family) → (joint f g ≡ Family.Neither → ⊥) → f ≡ Family.Neither → ⊥
-joint_first Family.Plain g h e = cc e
-joint_first Family.Wit g h e = cc e
-joint_first Family.Neither g h e = h refl
-
-joint_second : (f g : Family) → (joint f g ≡ Family.Neither → ⊥) → g ≡ Family.Neither → ⊥
-joint_second f Family.Plain h e = cc e
-joint_second f Family.Wit h e = cc e
-joint_second Family.Plain Family.Neither h e = h refl
-joint_second Family.Wit Family.Neither h e = h refl
-joint_second Family.Neither Family.Neither h e = h refl
 
 module _ (c : Collection) (asks : List Asked) (several : Bool) (n : Name) (k j : ItemKind) (f g : Family) (acyclic : IsAcyclic c) (t : IsTaken c asks several k (Some f)) (o : IsOfFamily c n j g) where
   abbrev a : Asked

@@ -16,7 +16,7 @@ use Rattle.wac_composition.specs.Classes.{is_instance}
 use Rattle.wac_composition.specs.Tests.{fits}
 use Rattle.wac_composition.specs.Merging.{is_interface, both, merged_with, merged_exports, has_use, merge}
 use Rattle.wac_composition.proofs.KeptFits.{both_is, if_is}
-use Rattle.wac_composition.proofs.Again.{merging, more_uses, more_exports, merged_of, merge_made, merge_typed, merge_other, none_merging}
+use Rattle.wac_composition.proofs.Again.{merging, more_uses, more_exports, merged_of, merge_made, merge_typed, merge_other, none_merging, no_both}
 use Rattle.wac_merging.proofs.Well.{IsMade, made_instance, made_interface, made_other}
 
 -- ---- kinds
@@ -118,17 +118,14 @@ exports_made x k (made_interface e d h) = h
 exports_made x (inl k) (made_other g h) = absurd (true≢false (sym k ∙ g))
 exports_made x (inr k) (made_other g h) = absurd (true≢false (sym k ∙ h))
 
-not_both : (k : Kind) → is_instance k ≡ true → is_interface k ≡ true → ⊥
-not_both k a b = true≢false (sym (ap (λ i. is_interface i) (sym (instance_by k a)) ∙ b))
-
 pub instance_made : (x : Stated) → is_instance (kind_of x) ≡ true → IsMade x → x ≡ interface_of (identifier_of x) (uses_of x) (exports_of x)
 instance_made x k (made_instance e d h) = e
-instance_made x k (made_interface e d h) = absurd (not_both (kind_of x) k (ap (λ y. is_interface (kind_of y)) e))
+instance_made x k (made_interface e d h) = absurd (no_both (kind_of x) k (ap (λ y. is_interface (kind_of y)) e))
 instance_made x k (made_other g h) = absurd (true≢false (sym k ∙ g))
 
 interface_made : (x : Stated) → is_interface (kind_of x) ≡ true → IsMade x → x ≡ as_type (interface_of (identifier_of x) (uses_of x) (exports_of x))
 interface_made x k (made_interface e d h) = e
-interface_made x k (made_instance e d h) = absurd (not_both (kind_of x) (ap (λ y. is_instance (kind_of y)) e) k)
+interface_made x k (made_instance e d h) = absurd (no_both (kind_of x) (ap (λ y. is_instance (kind_of y)) e) k)
 interface_made x k (made_other g h) = absurd (true≢false (sym k ∙ h))
 
 -- what is merged of two interfaces

@@ -1,5 +1,5 @@
 -- Includes: one item under its name, all items in order, names that are left for exports.
-use Rattle.std.proofs.Common.{◌≡◌, ◌==◌, ℕ, zero, suc, ◌+◌, Bool, true, false, not, ◌&&◌, ◌||◌, cond, List, [], ◌∷◌, ◌++◌, drop, Option, Some, None, is_some, option_map, slice_get, Result, Ok, Err, refl, sym, ap, subst, ◌∙◌, arith}
+use Rattle.std.proofs.Common.{◌≡◌, ◌==◌, ℕ, zero, suc, ◌+◌, Bool, true, false, not, ◌&&◌, ◌||◌, cond, List, [], ◌∷◌, ◌++◌, drop, Option, Some, None, is_some, slice_get, Result, Ok, Err, refl, sym, ap, subst, ◌∙◌, arith}
 use Rattle.std.specs.Prelude.{⊤}
 use Rattle.std.specs.Cmp.Lexicographic.{bytes_decides, pointwise}
 use Rattle.wac_types_base.specs.declared.item.ExternKind.{ExternKind}
@@ -8,6 +8,7 @@ use Rattle.wac_types_base.specs.declared.defined.World.{World}
 use Rattle.wac_types_base.specs.Record.{Collection}
 use Rattle.wac_types_base.specs.Entries.{Name, value_at, with_values}
 use Rattle.wac_types_base.specs.Stated.{Stated, exports_of, imports_of, stated_of}
+use Rattle.wac_types_base.proofs.Standing.{is_some-option_map}
 use Rattle.wac_parser_tree.specs.Trees as t
 use Rattle.wac_parser_tree.specs.Trees.{Span}
 use Rattle.wac_parser_tree.specs.Accessors.{world_ref_name}
@@ -25,16 +26,12 @@ use Rattle.wac_parser_declare.specs.Worlds.{has_colon, include_at, include_items
 use Rattle.wac_parser_declare.proofs.InBodies.{absent_outcome, there_refused}
 use Rattle.wac_parser_declare.proofs.Kept.{value_at-with_values, with_values-more}
 
-some_mapped : {A B : Type 0} (f : A → B) (o : Option A) → is_some (option_map f o) ≡ is_some o
-some_mapped f None = refl
-some_mapped f (Some x) = refl
-
 module _ (c : Collection) where
   abbrev at_now : List (Name × ItemKind) → Items
   at_now es = with_values (stated_of c) es
 
   pub has_now : (es : List (Name × ItemKind)) (n : Name) → has (at_now es) n ≡ is_some (value_at es n)
-  has_now es n = ap is_some (value_at-with_values (stated_of c) es n) ∙ some_mapped (stated_of c) (value_at es n)
+  has_now es n = ap is_some (value_at-with_values (stated_of c) es n) ∙ is_some-option_map (stated_of c) (value_at es n)
 
   -- ---- one item
 

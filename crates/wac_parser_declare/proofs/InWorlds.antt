@@ -16,9 +16,9 @@ use Rattle.wac_types_base.proofs.Telling.{stated_step, untyped_stated}
 use Rattle.wac_parser_tree.specs.Trees as t
 use Rattle.wac_parser_tree.specs.Trees.{Span}
 use Rattle.wac_parser_refusals.specs.declared.refusal.Refusal.{Refusal}
-use Rattle.wac_parser_refusals.specs.Causes.{Answer, Cause, ◌>>=◌, ◌>>◌, DuplicateWorldItem, TypeCannotBeWritten, pure, unless_clear}
-use Rattle.wac_parser_refusals.specs.Views.{Names, cause_in}
-use Rattle.wac_parser_refusals.specs.Outcomes.{IsHeld, IsOutcome, IsRefusal, Tells}
+use Rattle.wac_parser_refusals.specs.Causes.{Answer, ◌>>=◌, ◌>>◌, DuplicateWorldItem, TypeCannotBeWritten, pure, unless_clear}
+use Rattle.wac_parser_refusals.specs.Views.{Names}
+use Rattle.wac_parser_refusals.specs.Outcomes.{IsHeld, IsOutcome, IsRefusal}
 use Rattle.wac_parser_declare.specs.declared.bodies.Body.{Body}
 use Rattle.wac_parser_declare.specs.Bodies as stated
 use Rattle.wac_parser_declare.specs.Bodies.{Items}
@@ -31,6 +31,7 @@ use Rattle.wac_parser_declare.specs.InWorlds.{item_on, items_on, on_side}
 use Rattle.wac_parser_declare.specs.Scope.{has}
 use Rattle.wac_parser_declare.specs.Worlds.{interface_added, with_exports, with_identifier, with_imports}
 use Rattle.wac_parser_declare.proofs.Kept.{labelled_holds}
+use Rattle.wac_parser_declare.proofs.Members.{told}
 
 -- ---- sides
 
@@ -66,21 +67,13 @@ module _ (c : Collection) (a : IsAcyclic c) (i : InterfaceId) where
   unfolding item_node
   type_untyped s = untyped_stated c a (ItemKind.Ty (TypeKind.Interface i)) (ItemKind.Instance i) refl s
 
-names_told : (e : Refusal) (f : Cause) → Names e (Some f) → Tells (cause_in e) f
-names_told (Refusal.Named x) f h = tells (cause_in (Refusal.Named x)) h
-  where
-    tells : (o : Option Cause) → o ≡ Some f → Tells o f
-    tells None is = tt
-    tells (Some d) is = cc is
-names_told Refusal.Memory f h = tt
-
 module _ (w : Name) (k : ExternKind) (b : stated.Body) (at : Span) (x : Stated) where
   -- an interface without identifier
   pub unnamed_refused : (e : Refusal) → identifier_of x ≡ None → Names e (Some (record { fault = TypeCannotBeWritten w; span = None })) → IsRefusal (on_side k b (interface_added w k (items_on k b) at x)) e
   unnamed_refused e none h =
       side_refused k b (interface_added w k (items_on k b) at x) e
       (subst (λ (o : Option Name). IsRefusal (with_identifier w o >>= λ n. item_on w k (items_on k b) (record { string = n; span = at }) (untyped x)) e) (sym none)
-      (names_told e (record { fault = TypeCannotBeWritten w; span = None }) h))
+      (told e (record { fault = TypeCannotBeWritten w; span = None }) h))
 
   -- an interface under its identifier
   pub named_added : (n : Name) → identifier_of x ≡ Some n → interface_added w k (items_on k b) at x ≡ item_on w k (items_on k b) (record { string = n; span = at }) (untyped x)

@@ -1,6 +1,6 @@
 -- What a loop over a list keeps: what is left, over what was found, gives the same as all.
-use Rattle.std.proofs.Common.{◌≡◌, ℕ, zero, suc, ◌+◌, ◌<◌, ◌≤◌, List, [], ◌∷◌, ◌++◌, map, length, get_or, drop, Option, Some, Ok, Err, refl, sym, ap, subst, ◌∙◌, arith}
-use Rattle.std.proofs.lemmas.List.{drop_more}
+use Rattle.std.proofs.Common.{◌≡◌, ℕ, ◌+◌, ◌<◌, ◌≤◌, List, [], ◌∷◌, ◌++◌, map, length, get_or, drop, Option, Some, Ok, Err, refl, sym, ap, subst, ◌∙◌}
+use Rattle.std.proofs.lemmas.List.{drop_more, drop_all}
 use Rattle.wac_types_base.specs.declared.item.ValueType.{ValueType}
 use Rattle.wac_types_base.specs.Record.{Collection}
 use Rattle.wac_types_base.specs.Stated.{Stated}
@@ -12,12 +12,6 @@ use Rattle.wac_parser_declare.specs.ValueTypes.{value, values}
 use Rattle.wac_parser_refusals.specs.Outcomes.{IsHeld, IsRefusal}
 use Rattle.wac_parser_declare.specs.Holding.{IsValue}
 use Rattle.wac_parser_refusals.proofs.Outcomes.{then_refused}
-
-past_all : {X : Type 0} (xs : List X) (i : ℕ) → length xs ≤ i → drop i xs ≡ []
-past_all [] zero h = refl
-past_all [] (suc i) h = refl
-past_all (x ∷ xs) zero h = absurd (omega arith)
-past_all (x ∷ xs) (suc i) h = past_all xs i (omega arith)
 
 -- a step that gave something
 pub step_by : {S A B : Type 0} (h : S → B → Type 0) (k : S → Answer A) (q : Answer S) (b : B) → IsHeld h q b → (s : S) × h s b × ((q >>= k) ≡ k s)
@@ -41,7 +35,7 @@ module _ {S A X : Type 0} (f : S → A → Answer S) (view : X → A) (xs : List
   each_refused_whole q s d e whole lt is h = subst (λ (p : Answer S). IsRefusal p e) (sym whole) (each_stops s d e lt (subst (λ (x : X). IsRefusal (f s (view x)) e) is h))
 
   pub each_ends : (s : S) → length xs ≤ i → each f s (map view (drop i xs)) ≡ Ok s
-  each_ends s h = ap (λ (ys : List X). each f s (map view ys)) (past_all xs i h)
+  each_ends s h = ap (λ (ys : List X). each f s (map view ys)) (drop_all i xs h)
 
 -- the members of a tuple
 module _ {X : Type 0} (ns : Scope) (view : X → t.Ty) (xs : List X) (i : ℕ) where
@@ -57,7 +51,7 @@ module _ {X : Type 0} (ns : Scope) (view : X → t.Ty) (xs : List X) (i : ℕ) w
       (then_refused (λ u. values ns (os ++ Some u ∷ []) (t.tys (map view (drop (i + 1) xs)))) (value ns (view (get_or xs i d))) e x)
 
   pub members_end : (os : List (Option Stated)) → length xs ≤ i → values ns os (t.tys (map view (drop i xs))) ≡ Ok os
-  members_end os h = ap (λ (ys : List X). values ns os (t.tys (map view ys))) (past_all xs i h)
+  members_end os h = ap (λ (ys : List X). values ns os (t.tys (map view ys))) (drop_all i xs h)
 
   -- the same from a state that says it in another scope and of another item
   pub members_refused : (os : List (Option Stated)) (ms : Scope) (d : X) (e : Refusal) → i < length xs → ms ≡ ns → d ≡ get_or xs i d → IsRefusal (value ms (view d)) e → IsRefusal (values ns os (t.tys (map view (drop i xs)))) e

@@ -167,10 +167,6 @@ module _ {V : Type 0} (P : V → Type 0) where
 pub bound_stand : (c : Collection) (ns ms : List (Name × Binding)) (n : Name) (b : Binding) → NamesStand c ns → Stands c b.kind → ms ≡ ns ++ (n, b) ∷ [] → NamesStand c ms
 bound_stand c ns ms n b s h is = subst (NamesStand c) (sym is) (EachStands-more (BindingStands c) ns n b s h)
 
-pub if_ok : {A E P Q : Type 0} (r : Result A E) → (P → Q) → OnOk r P → OnOk r Q
-if_ok (Ok a) f p = f p
-if_ok (Err e) f p = tt
-
 -- a function type with a copy of its parameters
 pub copied_func : (c : Collection) (id : FuncTypeId) (f : FuncType) (m : List (Name × ValueType)) → slice_get c.func_types id.index ≡ Some f → id.collection ≡ c.number → m ≡ f.params
     → item_node c (ItemKind.Func id) ≡ Some (func_entry (record { params = m; result = f.result; is_async = f.is_async }))

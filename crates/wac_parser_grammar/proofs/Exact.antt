@@ -73,11 +73,11 @@ begin_any_exact ks p q ep eq = bind (look (sees_any ks)) (λ found. choose found
 
 -- ---- tokens
 
-found_same : (k : Token) → same_token k k ≡ true
+pub found_same : (k : Token) → same_token k k ≡ true
 unfolding same_token
 found_same k = true_same the_type k k refl
 
-is_same : (t k : Token) → same_token t k ≡ true → t ≡ k
+pub is_same : (t k : Token) → same_token t k ≡ true → t ≡ k
 unfolding same_token
 is_same t k e = same_true the_type (search rules) t k e
 

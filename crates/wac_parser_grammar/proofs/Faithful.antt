@@ -1,20 +1,18 @@
 -- The faults of a rule stand in the source.
 use Rattle.std.proofs.Common.{◌≡◌, ◌≢◌, ℕ, zero, suc, ◌≤◌, ◌⊎◌, inl, inr, Bool, true, false, List, [], ◌∷◌, ◌++◌, length, Option, Some, None, Result, Ok, Err, refl, ap, subst, sym, ◌∙◌, arith, cond}
-use denote.Enum.Bare.{true_same}
-use Rattle.wac_parser_lexer.specs.contracts.token.Token.{the_type}
 use Rattle.wac_parser_lexer.specs.declared.span.SourceSpan.{SourceSpan}
 use Rattle.wac_parser_lexer.specs.declared.token.Token.{Token}
 use Rattle.wac_parser_lexer.specs.declared.token.Token.TheVariants as k
 use Rattle.wac_parser_lexer.specs.declared.error.Error.{Error}
 use Rattle.wac_parser_lexer.specs.Items.{Input, Item, first_item, first_of_items, rest_of_items, rest_input, shown_span}
 use Rattle.wac_parser_grammar.specs.Faults.{Fault, lexer, expected, nested_too_deep}
-use Rattle.wac_parser_grammar.specs.Ahead.{same_token, is_token, is_any, token_of, next_token, sees, sees_any, remember, none_found, refused_at, none_of, missed}
+use Rattle.wac_parser_grammar.specs.Ahead.{is_token, is_any, token_of, next_token, sees, sees_any, remember, none_found, refused_at, none_of, missed}
 use Rattle.wac_parser_grammar.specs.Rules.{Rule, span_of_items, fault_of_item, fault_ahead, sees_token, and_then, ◌>>=◌, pure, refuse, token, look, choose, begin, begin_any, unfaulty_by, unfaulty, optional, comma, behind, left}
 use Rattle.wac_parser_grammar.specs.ValueTypes.{type_first, too_deep}
 use Rattle.wac_parser_grammar.specs.Expressions.{expr_first}
 use Rattle.wac_parser_grammar.specs.Places.{IsBehind, here, on}
 use Rattle.wac_parser_grammar.specs.Standing.{IsFound, IsNoneOf, StandsAt, Stands}
-use Rattle.wac_parser_grammar.proofs.Exact.{inside, both}
+use Rattle.wac_parser_grammar.proofs.Exact.{inside, both, found_same}
 
 -- Where the condition holds, the rule goes on to a place behind, or its fault stands.
 pub record Faithful {X : Type 0} (C : Input → Type 0) (p : Rule X) : Type 0 where
@@ -111,10 +109,6 @@ none_right ks ls s e = any_right ks ls (next_token s) e
 pub none_one : (k : Token) (s : Input) → sees k s ≡ false → sees_any (k ∷ []) s ≡ false
 unfolding sees sees_any
 none_one k s e = rw e refl
-
-found_same : (k : Token) → same_token k k ≡ true
-unfolding same_token
-found_same k = true_same the_type k k refl
 
 not_it : (k : Token) (o : Option Token) → is_token k o ≡ false → o ≢ Some k
 not_it k o e f = let two : true ≡ false = sym (found_same k) ∙ ap (is_token k) (sym f) ∙ e in cc

@@ -1,9 +1,7 @@
 -- What has a plain form is taken by the rule, where what follows can't go on with it.
 use Rattle.std.proofs.Common.{◌≡◌, ℕ, zero, suc, ◌≤◌, inl, inr, true, false, List, [], ◌∷◌, Option, Some, None, Result, refl, ap, subst, sym, ◌∙◌, arith}
 use Rattle.std.proofs.Math.Nat.{le-max_left, le-max_right}
-use denote.Enum.Bare.{true_same}
 use Rattle.semver.specs.declared.error.Error.{Error}
-use Rattle.wac_parser_lexer.specs.contracts.token.Token.{the_type}
 use Rattle.wac_parser_lexer.specs.declared.span.SourceSpan.{SourceSpan}
 use Rattle.wac_parser_lexer.specs.declared.token.Token.{Token}
 use Rattle.wac_parser_lexer.specs.declared.token.Token.TheVariants as k
@@ -16,23 +14,19 @@ use Rattle.wac_parser_grammar.specs.Names as n
 use Rattle.wac_parser_grammar.specs.ValueTypes as v
 use Rattle.wac_parser_grammar.specs.Forms.{At, Ident, Quoted, Version, PackageName, PackagePath, Ty, SomeTys, FurtherTys, Omitted, Second}
 use Rattle.wac_parser_grammar.specs.FormDepths.{levels, levels_of, levels_in, Ends}
-use Rattle.wac_parser_grammar.proofs.Exact.{Begins}
+use Rattle.wac_parser_grammar.proofs.Exact.{Begins, found_same}
 use Rattle.wac_parser_grammar.proofs.TypeLaws.{ty_begins}
 use Rattle.wac_parser_grammar.proofs.TableLaws.{apart}
 use Rattle.wac_parser_lexer.proofs.FindLaws.{not_true}
 
 -- ---- the next token
 
-pub found : (k : Token) → same_token k k ≡ true
-unfolding same_token
-found k = true_same the_type k k refl
-
 pub next_at : (k : Token) (span : t.Span) (s m : Input) → At k span s m → next_token s ≡ Some k
 next_at k span s m h = ap (λ (l : List Item). token_of (first_of_items l)) h.2
 
 pub seen : (k : Token) (span : t.Span) (s m : Input) → At k span s m → sees k s ≡ true
 unfolding sees
-seen k span s m h = ap (is_token k) (next_at k span s m h) ∙ found k
+seen k span s m h = ap (is_token k) (next_at k span s m h) ∙ found_same k
 
 pub sees_at : (k l : Token) (span : t.Span) (s m : Input) → At k span s m → sees l s ≡ same_token k l
 unfolding sees

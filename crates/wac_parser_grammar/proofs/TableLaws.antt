@@ -1,14 +1,13 @@
 -- What the rules of Rules.antt accept has the plain forms.
-use Rattle.std.proofs.Common.{◌≡◌, ◌⊎◌, inl, inr, Bool, true, false, List, [], ◌∷◌, Option, Some, None, refl, ap, subst, sym, ◌∙◌, rules}
-use denote.Enum.Bare.{same_true}
-use Rattle.wac_parser_lexer.specs.contracts.token.Token.{the_type}
+use Rattle.std.proofs.Common.{◌≡◌, ◌⊎◌, inl, inr, Bool, true, false, List, [], ◌∷◌, Option, Some, None, refl, ap, subst, sym, ◌∙◌}
+use Rattle.std.proofs.lemmas.Bool.{both_ways}
 use Rattle.wac_parser_lexer.specs.declared.token.Token.{Token}
 use Rattle.wac_parser_lexer.specs.declared.token.Token.TheVariants as k
 use Rattle.wac_parser_lexer.specs.Items.{Input}
 use Rattle.wac_parser_grammar.specs.Faults.{Fault}
-use Rattle.wac_parser_grammar.specs.Ahead.{same_token, is_token, is_any, next_token, sees, sees_any}
+use Rattle.wac_parser_grammar.specs.Ahead.{is_token, is_any, next_token, sees, sees_any}
 use Rattle.wac_parser_grammar.specs.Rules.{Rule, has_token, sees_token, ◌>>=◌, ◌>>◌, pure, refuse, token, choose, begin, begin_any, optional, optional_of, comma, behind, IsListOf, list_of, IsWhile, while_of, IsAll, all_of}
-use Rattle.wac_parser_grammar.proofs.Exact.{Begins}
+use Rattle.wac_parser_grammar.proofs.Exact.{Begins, is_same}
 use Rattle.wac_parser_grammar.specs.Forms.{Part, Word, Marked, Row, Further, Separated, Behind}
 
 pub record Within {X : Type 0} (p : Rule X) (F : X → Part) : Type 0 where
@@ -92,10 +91,6 @@ begun_token : (ks : List Token) (s : Input) → sees_any ks s ≡ true → sees_
 unfolding sees_any sees_token
 begun_token ks s e = some_token ks (next_token s) e
 
-not_both : (b : Bool) → b ≡ true → b ≡ false → ⊥
-not_both true e f = cc
-not_both false e f = cc
-
 -- what stands behind a value of a list with commas: nothing before the end, a comma, or nothing before no token
 Passed : Token → Part
 Passed until m n = ((sees until m ≡ true) × (n ≡ m)) ⊎ (Word k.Comma m n ⊎ ((sees_token m ≡ false) × (n ≡ m)))
@@ -134,10 +129,10 @@ module _ {X : Type 0} (p : Rule X) (F : X → Part) (w : Within p F) (first : Li
     | inr a ↦ elim a [ inl c ↦ inl (landed (Word k.Comma) m n r (sym h.1) c) | inr c ↦ inr (h.1 ∙ c.1) ]
   ]
   further (x ∷ xs) m n r b h = elim (passed until m n b) [
-    | inl a ↦ absurd (not_both (sees until n) (ap (sees until) a.1 ∙ a.0) h.0)
+    | inl a ↦ absurd (both_ways (sees until n) h.0 (ap (sees until) a.1 ∙ a.0))
     | inr a ↦ elim a [
       | inl c ↦ (n, c, (h.1, w.within n x h.1 h.2, further xs h.1 h.3 r h.4 h.5))
-      | inr c ↦ absurd (not_both (sees_token n) (begun_token first n (begins.begins n x h.1 h.2)) (ap sees_token c.1 ∙ c.0))
+      | inr c ↦ absurd (both_ways (sees_token n) (ap sees_token c.1 ∙ c.0) (begun_token first n (begins.begins n x h.1 h.2)))
     ]
   ]
 
@@ -172,13 +167,9 @@ module _ {X : Type 0} (p : Rule X) (F : X → Part) (w : Within p F) where
 
 -- ---- tokens
 
-is_same : (t k : Token) → same_token t k ≡ true → t ≡ k
-unfolding same_token
-is_same t k e = same_true the_type (search rules) t k e
-
 apart_by : (k : Token) (ks : List Token) (o : Option Token) → is_any ks (Some k) ≡ false → is_token k o ≡ true → is_any ks o ≡ true → ⊥
 apart_by k ks None e f g = cc
-apart_by k ks (Some t) e f g = not_both (is_any ks (Some t)) g (ap (λ (u : Token). is_any ks (Some u)) (is_same t k f) ∙ e)
+apart_by k ks (Some t) e f g = both_ways (is_any ks (Some t)) (ap (λ (u : Token). is_any ks (Some u)) (is_same t k f) ∙ e) g
 
 -- a token that is none of some doesn't come where one of these does
 pub apart : (k : Token) (ks : List Token) (s : Input) → is_any ks (Some k) ≡ false → sees k s ≡ true → sees_any ks s ≡ true → ⊥

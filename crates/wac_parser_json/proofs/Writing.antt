@@ -1,6 +1,6 @@
 -- What is written, piece by piece.
 use Rattle.std.proofs.Common.{◌≡◌, ℕ, suc, ◌+◌, ◌<◌, ◌==◌, Bool, true, false, cond, ◌||◌, List, [], ◌∷◌, ◌++◌, length, take, drop, map, codes, Option, refl, ap, sym, ◌∙◌, subst, arith, append_assoc}
-use Rattle.std.proofs.lemmas.Bool.{or_parts, not-true, eqb-false, ltb-false}
+use Rattle.std.proofs.lemmas.Bool.{or_parts, not-true, eqb-false, ltb-false, both_ways}
 use Rattle.std.proofs.lemmas.Grind.{flat_map-append}
 use Rattle.std.proofs.lemmas.List.{append-nil}
 use Rattle.std.proofs.Math.Seq.{take-add}
@@ -20,9 +20,6 @@ use Rattle.wac_parser_print.specs.Printers.{Printer, Adds, printed, stopped, ref
 use Rattle.wac_parser_print.proofs.Adding.{and_then, same_at, no_word}
 use Rattle.wac_parser_json.specs.declared.writer.JsonWriter.{JsonWriter}
 use Rattle.wac_parser_json.specs.Writers.{Writes, WritesBytes, printer_of}
-
-never : (b : Bool) → b ≡ true → b ≡ false → ⊥
-never b holds fails = cc
 
 -- ---- arrays
 
@@ -119,15 +116,15 @@ module _ {W : Type 0} {contents : W → Option (List ℕ)} {calls : W → Option
   unfolding word
   written_whole {a = a} {b = b} p works = elim p.adds [
     | printed q ↦ q.written
-    | stopped q ↦ absurd (never b.failed q.gives_up works)
-    | refused q ↦ absurd (never b.failed (ap (λ (x : Printer). x.failed) q.kept ∙ q.failed) works)
+    | stopped q ↦ absurd (both_ways b.failed works q.gives_up)
+    | refused q ↦ absurd (both_ways b.failed works (ap (λ (x : Printer). x.failed) q.kept ∙ q.failed))
   ]
 
   -- one that has failed, and had not, wrote a front of it
   pub written_front : {a b : JsonWriter W} {bytes : List ℕ} → WritesBytes contents calls a bytes b → a.failed ≡ false → b.failed ≡ true → AppendsPrefix (contents a.sink.now) (contents b.sink.now) bytes
   unfolding word
   written_front {a = a} {b = b} p worked fails = elim p.adds [
-    | printed q ↦ absurd (never b.failed fails q.goes_on)
+    | printed q ↦ absurd (both_ways b.failed q.goes_on fails)
     | stopped q ↦ q.written
-    | refused q ↦ absurd (never a.failed q.failed worked)
+    | refused q ↦ absurd (both_ways a.failed worked q.failed)
   ]

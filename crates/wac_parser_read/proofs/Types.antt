@@ -1,18 +1,17 @@
 -- Where types begin, and where the depth is spent.
 use Rattle.std.proofs.Common.{◌≡◌, ℕ, Bool, true, false, List, [], ◌∷◌, Option, Some, None, Result, Ok, Err, refl, ap, sym, subst, ◌∙◌, cond}
-use denote.Enum.Bare.{true_same}
 use Rattle.std.specs.Option.{option_map}
-use Rattle.wac_parser_lexer.specs.contracts.token.Token.{the_type}
 use Rattle.wac_parser_lexer.specs.declared.span.SourceSpan.{SourceSpan}
 use Rattle.wac_parser_lexer.specs.declared.token.Token.{Token}
 use Rattle.wac_parser_lexer.specs.declared.error.Error.{Error}
 use Rattle.wac_parser_lexer.specs.Items.{Input, Doc, Item, first_item, rest_input}
 use Rattle.wac_parser_tree.specs.Trees as t
 use Rattle.wac_parser_grammar.specs.Faults.{Fault, nested_too_deep}
-use Rattle.wac_parser_grammar.specs.Ahead.{same_token, token_of, sees, sees_any, none_of}
+use Rattle.wac_parser_grammar.specs.Ahead.{token_of, sees, sees_any, none_of}
 use Rattle.wac_parser_grammar.specs.Reads.{Reads}
 use Rattle.wac_parser_grammar.specs.Rules.{Rule, span_of_items}
 use Rattle.wac_parser_grammar.specs.ValueTypes.{TakesKeyword, keyword_made, keyword_type, keyword_or, keyword_at, keyword_type_or, too_deep}
+use Rattle.wac_parser_grammar.proofs.Exact.{found_same}
 
 err_by : {X : Type 0} (b : Bool) (x y f : Fault) → f ≡ cond b x y → ◌≡◌ {A = Result (X × Input) Fault} (cond b (Err x) (Err y)) (Err f)
 err_by true x y f e = ap Err (sym e)
@@ -20,10 +19,6 @@ err_by false x y f e = ap Err (sym e)
 
 pub too_deep_reads : {X : Type 0} (first : List Token) (s : Input) (f : Fault) → f ≡ cond (sees_any first s) (nested_too_deep (span_of_items s.items)) (none_of first s) → (too_deep {X = X} first).read s ≡ Err f
 too_deep_reads first s f e = err_by (sees_any first s) (nested_too_deep (span_of_items s.items)) (none_of first s) f e
-
-found_same : (k : Token) → same_token k k ≡ true
-unfolding same_token
-found_same k = true_same the_type k k refl
 
 taken_by : (p : Rule t.Ty) (source : List ℕ) (docs behind : List Doc) (k : Token) (span last : SourceSpan) (items : List Item) (o : Option (SourceSpan → t.Ty)) (ty : t.Ty) → keyword_type k ≡ o → option_map (λ make. make span) o ≡ Some ty
     → let s : Input = record { source = source; items = record { docs = docs; token = Ok k; span = span } ∷ items; docs = behind; last = last } in (keyword_type_or p).read s ≡ Ok (ty, rest_input s)

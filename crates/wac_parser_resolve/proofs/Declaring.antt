@@ -1,8 +1,7 @@
 -- Declarations: the place of an earlier export, and what is said behind one.
-use Rattle.std.proofs.Common.{◌≡◌, ℕ, List, [], ◌∷◌, ◌++◌, Bool, true, false, not, ◌==◌, if◌then◌else◌, Option, Some, None, IsSome, inl, inr, refl, sym, ap, subst, ◌∙◌, arith}
+use Rattle.std.proofs.Common.{◌≡◌, ℕ, List, [], ◌∷◌, ◌++◌, Bool, true, false, not, ◌==◌, if◌then◌else◌, Option, Some, None, IsSome, inl, inr, refl, sym, ap, subst, ◌∙◌}
 use Rattle.std.specs.Prelude.{Result, ⊤, string_bytes, unwrap_or}
 use Rattle.std.specs.Cmp.Lexicographic.{bytes_decides, pointwise}
-use Rattle.std.proofs.lemmas.Bool.Decides.{nat_tests}
 use Rattle.std.specs.FinMap as map
 use Rattle.wac_types_base.specs.declared.item.ExternKind.{ExternKind}
 use Rattle.wac_types_base.specs.declared.item.ItemKind.{ItemKind}
@@ -11,6 +10,7 @@ use Rattle.wac_types_base.specs.Record.{Collection}
 use Rattle.wac_types_base.specs.Entries.{AreDistinct, Name, names_of, value_at}
 use Rattle.wac_types_base.specs.Graph.{Among}
 use Rattle.wac_types_base.specs.Stated.{Stated}
+use Rattle.wac_types_base.proofs.Replacing.{number_same}
 use Rattle.wac_types_fit.proofs.Items.{value_at-among}
 use Rattle.wac_graph_core.specs.declared.errors.DefineTypeError.{DefineTypeError}
 use Rattle.wac_graph_core.specs.Defining.{DefineRefused, DefinesType}
@@ -35,7 +35,7 @@ use Rattle.wac_parser_resolve.specs.InStatements.{NotesExport, definition_cause,
 use Rattle.wac_parser_resolve.specs.Later.{IsWithin, Later, first_name}
 use Rattle.wac_parser_resolve.specs.Said.{AreAsked, AreDeclared, AreExported, IsAsked, IsDeclared, IsNoted, IsSaid, last_noted}
 use Rattle.wac_parser_resolve.specs.Saying.{declaration, export_span, is_extern_name, not_exported, with_definition}
-use Rattle.wac_parser_resolve.proofs.Exporting.{export_place, last_is, one_thing}
+use Rattle.wac_parser_resolve.proofs.Exporting.{export_place, last_is, one_thing, first_new}
 use Rattle.wac_parser_resolve.proofs.Growing.{Later-define}
 use Rattle.wac_parser_resolve.proofs.Importing.{extern_name, last_other, no_extern_name}
 use Rattle.wac_parser_resolve.proofs.Nodes.{same_node}
@@ -47,12 +47,6 @@ use Rattle.wac_parser_resolve.proofs.Turns.{turn_map, turn_more, turn_on, turn_w
 
 -- ---- a name that is new
 
-same_number : (i j : ℕ) → (i == j) ≡ true → i ≡ j
-same_number i j e = grind (arith, nat_tests)
-
-number_is : (i j : ℕ) → i ≡ j → (i == j) ≡ true
-number_is i j e = grind (arith, nat_tests)
-
 value_last : (es : List (Name × ℕ)) (n : Name) (k : ℕ) → value_at es n ≡ None → value_at (es ++ (n, k) ∷ []) n ≡ Some k
 value_last [] n k e = ap (λ (b : Bool). if b then Some k else None) ((bytes_decides n n).1 refl)
 value_last (x ∷ es) n k e = by (value_at es n) (value_at (es ++ (n, k) ∷ []) n) (λ f. value_last es n k f) (pointwise ◌==◌ n x.0) e
@@ -60,14 +54,6 @@ value_last (x ∷ es) n k e = by (value_at es n) (value_at (es ++ (n, k) ∷ [])
     by : (o p : Option ℕ) → (o ≡ None → p ≡ Some k) → (b : Bool) → (if b then Some x.1 else o) ≡ None → (if b then Some x.1 else p) ≡ Some k
     by o p rest true f = absurd (cc f)
     by o p rest false f = rest f
-
-first_last : (es : List (Name × ℕ)) (n : Name) (k : ℕ) → ((m : Name) → Among (m, k) es → ⊥) → first_name (es ++ (n, k) ∷ []) k ≡ Some n
-first_last [] n k apart = ap (λ (b : Bool). if b then Some n else None) (number_is k k refl)
-first_last (x ∷ es) n k apart = by (first_name (es ++ (n, k) ∷ []) k) (first_last es n k (λ m p. apart m (inr p))) (x.1 == k) refl
-  where
-    by : (o : Option Name) → o ≡ Some n → (b : Bool) → (x.1 == k) ≡ b → (if b then Some x.0 else o) ≡ Some n
-    by o rest true e = absurd (apart x.0 (inl (λ j. (x.0, sym (same_number x.1 k e) j))))
-    by o rest false e = rest
 
 -- ---- where an export is noted
 
@@ -83,7 +69,7 @@ some_last : (xs : List (ℕ × Span)) (e : ℕ × Span) → Among e xs → IsSom
 some_last [] e m = absurd m
 some_last (x ∷ xs) e (inl q) =
     else_some (last_noted xs e.0) (if x.0 == e.0 then Some x.1 else None)
-    (subst (λ (b : Bool). IsSome (if b then Some x.1 else None)) (sym (number_is x.0 e.0 (sym (ap (λ (z : ℕ × Span). z.0) q)))) refl)
+    (subst (λ (b : Bool). IsSome (if b then Some x.1 else None)) (sym (number_same x.0 e.0 (sym (ap (λ (z : ℕ × Span). z.0) q)))) refl)
 some_last (x ∷ xs) e (inr m) = then_some (last_noted xs e.0) (if x.0 == e.0 then Some x.1 else None) (some_last xs e m)
 
 unwrapped_is : (o : Option Span) (s : Span) → IsSome o → o ≡ Some (unwrap_or o s)
@@ -196,7 +182,7 @@ module _ (own : t.PackageName) (b : Held) (s : State) (said : IsSaid own b s) (i
       type = ty;
       item = refl;
       named = ap (λ (xs : List (Name × ℕ)). value_at xs i.string) exports_are ∙ value_last g.exports i.string k made.unexported;
-      first = ap (λ (xs : List (Name × ℕ)). first_name xs k) exports_are ∙ first_last g.exports i.string k unexported;
+      first = ap (λ (xs : List (Name × ℕ)). first_name xs k) exports_are ∙ first_new g.exports i.string k unexported;
     }
 
     pub definition_denotes : Denotes h ms here k

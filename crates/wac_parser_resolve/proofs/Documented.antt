@@ -7,7 +7,7 @@ use Rattle.wac_parser_tree.specs.Trees as t
 use Rattle.wac_parser_refusals.specs.declared.error.Error.{Error}
 use Rattle.wac_parser_refusals.specs.declared.refusal.Refusal.{Refusal}
 use Rattle.wac_parser_refusals.specs.Causes.{Answer, Cause}
-use Rattle.wac_parser_refusals.specs.Outcomes.{IsHeld, IsMemory, IsRefusal, Tells}
+use Rattle.wac_parser_refusals.specs.Outcomes.{IsMemory, IsRefusal, Tells}
 use Rattle.wac_parser_refusals.specs.Views.{cause_in, cause_of}
 use Rattle.wac_parser_resolve.specs.declared.state.State.{State as Held}
 use Rattle.wac_parser_resolve.specs.Ascribing.{State}
@@ -27,11 +27,6 @@ built p b s said = record {
   exported = b.exports.noted.items;
   exports = said.exports;
 }
-
--- what is held, of another thing that tells the same
-pub held_told : {A B C : Type 0} (H : A → B → Type 0) (K : A → C → Type 0) (q : Answer A) (b : B) (c : C) → ((a : A) → H a b → K a c) → IsHeld H q b → IsHeld K q c
-held_told H K (Ok a) b c f h = f a h
-held_told H K (Err e) b c f h = absurd h
 
 pub error_told : {A : Type 0} (q : Answer A) (e : Refusal) (f : Error) → cause_of f ≡ cause_in e → IsRefusal q e → IsErrorOf q f
 error_told (Ok a) e f same h = subst (λ (o : Option Cause). IsMemory o) (sym same) h

@@ -14,7 +14,7 @@ use Rattle.wac_types_written.specs.Written.{written_definition}
 use Rattle.wac_composition.specs.Sound.{HasType, of_import, of_instance, of_export, of_definition, given_as, IsBefore, IsGiven, IsSound, IsWired}
 use Rattle.wac_composition.proofs.FitBack.{fits_decides}
 use Rattle.wac_composition.proofs.Bound.{wired}
-use Rattle.wac_composition.proofs.NotWritten.{among_map, map_among}
+use Rattle.wac_composition.proofs.Lists.{mapped_among, among_mapped}
 use Rattle.wac_parser_resolve.specs.Ascribing.{Origin, imported, instance, projected, defined, Denoted, Made, State}
 use Rattle.wac_parser_resolve.specs.Denoting.{compared_by}
 use Rattle.wac_parser_resolve.specs.Ascribed.{Asker, origin_in, made_in, placed_import, placed_definition, exported_in, composition}
@@ -39,10 +39,10 @@ given_fits g o x asked (a_definition n y m) e = (fits_decides (written_definitio
 
 module _ (ps : List (Key × Stated)) (g : State) (sound : Sound ps g) (regular : IsRegular (composition g)) where
   has_type : (o : Origin) (x : Stated) → Has g o x → HasType (composition g) (origin_in o) x
-  has_type o x (an_import i m) = of_import (placed_import i) (map_among placed_import g.imports i m)
+  has_type o x (an_import i m) = of_import (placed_import i) (among_mapped placed_import g.imports i m)
   has_type o x (an_instance k m e) = let r = numbered_at zero g.made k m e in of_instance k (made_in r.0 m) r.1
   has_type o x (an_export p z n y h k e) = of_export (origin_in p) z n y (has_type p z h) k e
-  has_type o x (a_definition n y m) = let r = regular.types (placed_definition (n, y)) (map_among placed_definition g.definitions (n, y) m) in of_definition y r.0 r.1
+  has_type o x (a_definition n y m) = let r = regular.types (placed_definition (n, y)) (among_mapped placed_definition g.definitions (n, y) m) in of_definition y r.0 r.1
 
   is_given : (k : ℕ) (m : Made) (n : Name) (x : Stated) → IsMadeOk ps g k m → value_at (imports_of m.world) n ≡ Some x → (o : Option Denoted) → value_at m.arguments n ≡ o → (q : c.Origin ℕ)
       → option_map (λ (d : Denoted). origin_in d.origin) o ≡ Some q → IsGiven (composition g) k q x
@@ -59,7 +59,7 @@ module _ (ps : List (Key × Stated)) (g : State) (sound : Sound ps g) (regular :
     given = λ k m n o x e v w. let r = numbered_is zero g.made k m e in
         is_given k r.made n x (sound.made k r.made r.there) (ap (λ (y : c.Made Asker ℕ). value_at (imports_of y.world) n) (sym r.is) ∙ w) (value_at r.made.arguments n) refl o
         (sym (argument_is r.made.arguments n) ∙ ap (λ (y : c.Made Asker ℕ). value_at y.arguments n) (sym r.is) ∙ v);
-    exported = λ n o x m. let a = among_map exported_in g.exports (n, o, x) m in
+    exported = λ n o x m. let a = mapped_among exported_in g.exports (n, o, x) m in
         subst (λ (e : Name × c.Origin ℕ × Stated). HasType (composition g) e.1 e.2) (sym a.2) (has_type a.0.1.denoted.origin a.0.1.denoted.item (sound.exports a.0 a.1));
     straight = regular.straight;
   }

@@ -2,6 +2,7 @@
 use Rattle.std.proofs.Common.{◌≡◌, ℕ, ◌+◌, ◌<◌, ◌≤◌, length, drop, filter, get_or, List, [], ◌∷◌, ◌++◌, Bool, true, false, not, ◌||◌, if◌then◌else◌, Option, Some, None, IsSome, is_some, Ok, Err, inl, inr, refl, sym, ap, subst, ◌∙◌}
 use Rattle.std.specs.Prelude.{Result, String, ⊤, string_bytes, unwrap_or}
 use Rattle.std.proofs.lemmas.List.{drop_all, drop_more}
+use Rattle.std.proofs.lemmas.List.Elements.{filter_agree}
 use Rattle.std.specs.List.{list_any}
 use Rattle.std.specs.Option.{option_or}
 use Rattle.std.specs.FinMap as map
@@ -430,10 +431,6 @@ module _ {Z : Type 0} (at : Span) (d : Denoted) (items : List (String Z)) (i : �
 
 -- ---- what is left to export
 
-filter_same : (p q : Name → Bool) → ((n : Name) → p n ≡ q n) → (ns : List Name) → filter p ns ≡ filter q ns
-filter_same p q e [] = refl
-filter_same p q e (n ∷ ns) = ap (λ (c : Bool). if c then n ∷ filter p ns else filter p ns) (e n) ∙ ap (λ (ks : List Name). if q n then n ∷ ks else ks) (filter_same p q e ns)
-
 there_same : (g : Graph) (ns : List ℕ) (o : Option Bound) (p : Option ℕ) → AreFound g ns o p → is_some p ≡ is_some o
 there_same g ns None None f = refl
 there_same g ns None (Some k) f = absurd f
@@ -443,7 +440,7 @@ there_same g ns (Some x) (Some k) f = refl
 pub left_is : (g : Graph) (ns : List ℕ) (es : List (Name × Bound)) (x : Stated) (i : InterfaceId) → AreNamed g ns es g.exports → Holds g.types x (ItemKind.Instance i)
     → left_to_export g.exports (names_of (exports_of (stated_of g.types (ItemKind.Instance i)))) ≡ filter (λ n. not (is_some (value_at es n))) (names_of (exports_of x))
 left_is g ns es x i all h =
-    filter_same (λ n. not (is_some (value_at g.exports n))) (λ n. not (is_some (value_at es n)))
+    filter_agree (λ (n : Name). not (is_some (value_at g.exports n))) (λ n. not (is_some (value_at es n)))
     (λ n. ap not (there_same g ns (value_at es n) (value_at g.exports n) (both_found g ns es g.exports n all))) (names_of (exports_of (stated_of g.types (ItemKind.Instance i))))
     ∙ ap (λ (y : Stated). filter (λ n. not (is_some (value_at es n))) (names_of (exports_of y))) h.same
 

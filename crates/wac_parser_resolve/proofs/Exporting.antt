@@ -1,18 +1,19 @@
 -- Exports: the names that they may have, definitions, where things were exported last, and what is said behind an export.
-use Rattle.std.proofs.Common.{◌≡◌, ◌⊎◌, ℕ, List, [], ◌∷◌, ◌++◌, Bool, true, false, ◌&&◌, ◌||◌, ◌==◌, if◌then◌else◌, Option, Some, None, IsSome, is_some, Ok, Err, inl, inr, refl, sym, ap, subst, ◌∙◌, arith}
+use Rattle.std.proofs.Common.{◌≡◌, ℕ, List, [], ◌∷◌, ◌++◌, Bool, true, false, ◌&&◌, ◌||◌, ◌==◌, if◌then◌else◌, Option, Some, None, IsSome, is_some, Ok, Err, inl, inr, refl, sym, ap, subst, ◌∙◌}
 use Rattle.std.specs.Prelude.{Result, bytes_eq, option_map, unwrap_or}
 use Rattle.std.specs.List.{position_or_len, before_first, after_first}
 use Rattle.std.specs.Prelude.{length, nat_lt}
 use Rattle.std.specs.Cmp.Lexicographic.{bytes_decides}
-use Rattle.std.proofs.lemmas.Bool.Decides.{nat_tests}
+use Rattle.std.proofs.lemmas.Bool.{or_left, or_right, false_from_ne_true, and_from}
 use Rattle.semver.specs.Parse.{Parts, version_parts}
 use Rattle.wac_types_base.specs.declared.item.«Type».{«Type» as TypeKind}
 use Rattle.wac_types_base.specs.Entries.{Name, AreDistinct, value_at}
 use Rattle.wac_types_base.specs.Graph.{Among}
+use Rattle.wac_types_base.proofs.Replacing.{same_number, number_same}
 use Rattle.wac_types_names.specs.Tracks.{read_version}
 use Rattle.wac_names.specs.declared.names.NameKind.TheVariants as kind
 use Rattle.wac_names.specs.NameTests.{plain_test, path_test}
-use Rattle.wac_names.proofs.NameKinds.{plain_decides}
+use Rattle.wac_names.proofs.NameKinds.{plain_decides, or_parts}
 use Rattle.wac_composition.specs.Names.{is_interface_name, version_test}
 use Rattle.wac_graph_core.specs.Nodes.{NodeData, Role}
 use Rattle.wac_graph_core.specs.Defining.{DefinesType}
@@ -52,18 +53,6 @@ interface_same n =
     ap (λ (b : Bool). path_test n || (nat_lt (position_or_len (λ b. b == 64) n) (length n) && (path_test (before_first (λ b. b == 64) n) && b)))
     (version_same (after_first (λ b. b == 64) n))
 
-or_left : (a b : Bool) → a ≡ true → (a || b) ≡ true
-or_left true b e = refl
-or_left false b e = absurd (cc e)
-
-or_right : (a b : Bool) → b ≡ true → (a || b) ≡ true
-or_right true b e = refl
-or_right false b e = e
-
-or_parts : (a b : Bool) → (a || b) ≡ true → (a ≡ true) ⊎ (b ≡ true)
-or_parts true b e = inl refl
-or_parts false b e = inr e
-
 -- the name of an export, by the test of documents
 pub exportable : (n : Name) → IsExportName n → is_exportable n ≡ true
 exportable n (kind.Plain, k, is) = or_left (plain_test n) (is_interface_name n) ((plain_decides n).1 is)
@@ -72,27 +61,13 @@ exportable n (kind.Dependency, k, is) = absurd k
 exportable n (kind.Url, k, is) = absurd k
 exportable n (kind.Hash, k, is) = absurd k
 
-false_by : (b : Bool) → (b ≡ true → ⊥) → b ≡ false
-false_by true h = absurd (h refl)
-false_by false h = refl
-
 pub unexportable : (n : Name) → (IsExportName n → ⊥) → is_exportable n ≡ false
-unexportable n h = false_by (is_exportable n) (λ e. elim (or_parts (plain_test n) (is_interface_name n) e) [
+unexportable n h = false_from_ne_true (is_exportable n) (λ e. elim (or_parts (plain_test n) (is_interface_name n) e) [
   | inl p ↦ h (kind.Plain, tt, (plain_decides n).0 p)
   | inr i ↦ h (kind.Interface, tt, (interface_told n).0 (interface_same n ∙ i))
 ])
 
 -- ---- one node is one thing
-
-number_is : (i j : ℕ) → i ≡ j → (i == j) ≡ true
-number_is i j e = grind (arith, nat_tests)
-
-number_same : (i j : ℕ) → (i == j) ≡ true → i ≡ j
-number_same i j e = grind (arith, nat_tests)
-
-true_both : (a b : Bool) → a ≡ true → b ≡ true → (a && b) ≡ true
-true_both true b e f = f
-true_both false b e f = absurd (cc e)
 
 module _ (g : Graph) (is : IsGraph g) (ms : List ℕ) where
   role_both : (o p : Origin) (k : ℕ) → IsNode g ms o k → IsNode g ms p k → (r : Role) × RoleTold o r × RoleTold p r
@@ -109,10 +84,10 @@ module _ (g : Graph) (is : IsGraph g) (ms : List ℕ) where
       let e : Role.Imported m ≡ Role.Imported n = sym r.1 ∙ r.2 in
       let s : m ≡ n = cc e in
       (bytes_decides m n).1 s
-  one_thing apart (instance l) (instance m) k a b = number_is l m (one_place ms l m k apart a.0 b.0)
+  one_thing apart (instance l) (instance m) k a b = number_same l m (one_place ms l m k apart a.0 b.0)
   one_thing apart (projected o m) (projected p n) k a b =
       let s = is.keyed.one_source a.0 b.0 k m n a.3 b.3 in
-      true_both (same_origin o p) (bytes_eq m n) (one_thing apart o p a.0 a.1 (subst (IsNode g ms p) (sym s.0) b.1)) ((bytes_decides m n).1 s.1)
+      and_from (same_origin o p) (bytes_eq m n) (one_thing apart o p a.0 a.1 (subst (IsNode g ms p) (sym s.0) b.1)) ((bytes_decides m n).1 s.1)
   one_thing apart (defined m x) (defined n y) k a b =
       let e : Some m ≡ Some n = sym a.first ∙ b.first in
       let s : m ≡ n = cc e in
@@ -140,8 +115,8 @@ module _ (g : Graph) (is : IsGraph g) (ms : List ℕ) where
 
     same_test : (p : Origin) (k : ℕ) → IsNode g ms p k → same_origin o p ≡ (k == j)
     same_test p k a = tested (same_origin o p) (k == j)
-        (λ e. number_is k j (sym (same_node g is ms o p j k e here a)))
-        (λ e. one_thing apart o p j here (subst (IsNode g ms p) (number_same k j e) a))
+        (λ e. number_same k j (sym (same_node g is ms o p j k e here a)))
+        (λ e. one_thing apart o p j here (subst (IsNode g ms p) (same_number k j e) a))
 
     last_by : (l : Option Span) (s x : Span) (b : Bool) → unwrap_or l (if b then x else s) ≡ unwrap_or (or_else l (if b then Some x else None)) s
     last_by (Some y) s x b = refl
@@ -171,7 +146,7 @@ module _ (g : Graph) (is : IsGraph g) (ms : List ℕ) where
 
     some_noted : (noted : List (ℕ × Span)) (e : ℕ × Span) → Among e noted → e.0 ≡ j → IsSome (last_noted noted j)
     some_noted [] e m s = absurd m
-    some_noted (y ∷ noted) e (inl q) s = some_by (last_noted noted j) (y.0 == j) y.1 (number_is y.0 j (sym (ap (λ (z : ℕ × Span). z.0) q) ∙ s))
+    some_noted (y ∷ noted) e (inl q) s = some_by (last_noted noted j) (y.0 == j) y.1 (number_same y.0 j (sym (ap (λ (z : ℕ × Span). z.0) q) ∙ s))
     some_noted (y ∷ noted) e (inr m) s = some_else (last_noted noted j) _ (some_noted noted e m s)
 
     unwrapped : (l : Option Span) (s u : Span) → IsSome l → unwrap_or l s ≡ unwrap_or l u
@@ -255,12 +230,12 @@ module _ (g : Graph) (ms : List ℕ) (s : State) (nodes : List (Name × ℕ)) (n
 -- ---- the first name of a definition
 
 -- what is new is exported first under its last name
-first_new : (es : List (Name × ℕ)) (n : Name) (k : ℕ) → ((m : Name) → Among (m, k) es → ⊥) → first_name (es ++ (n, k) ∷ []) k ≡ Some n
-first_new [] n k h = ap (λ (c : Bool). if c then Some n else None) (number_is k k refl)
+pub first_new : (es : List (Name × ℕ)) (n : Name) (k : ℕ) → ((m : Name) → Among (m, k) es → ⊥) → first_name (es ++ (n, k) ∷ []) k ≡ Some n
+first_new [] n k h = ap (λ (c : Bool). if c then Some n else None) (number_same k k refl)
 first_new (e ∷ es) n k h = by_test (e.1 == k) refl (first_new es n k (λ m a. h m (inr a)))
   where
     by_test : (c : Bool) → (e.1 == k) ≡ c → first_name (es ++ (n, k) ∷ []) k ≡ Some n → (if c then Some e.0 else first_name (es ++ (n, k) ∷ []) k) ≡ Some n
-    by_test true q r = absurd (h e.0 (inl (ap (λ (j : ℕ). (e.0, j)) (sym (number_same e.1 k q)))))
+    by_test true q r = absurd (h e.0 (inl (ap (λ (j : ℕ). (e.0, j)) (sym (same_number e.1 k q)))))
     by_test false q r = r
 
 pub declared_first : (g h : Graph) → IsGraph g → (n : Name) (x : TypeKind) (k : ℕ) → DefinesType g h n x k → first_name h.exports k ≡ Some n

@@ -1,5 +1,6 @@
 -- Arguments that are given.
-use Rattle.std.proofs.Common.{◌≡◌, ℕ, List, [], ◌∷◌, ◌++◌, Bool, true, false, ◌||◌, inl, inr, refl, sym, ap, subst, ◌∙◌}
+use Rattle.std.proofs.Common.{◌≡◌, ℕ, List, [], ◌∷◌, ◌++◌, Bool, true, false, inl, inr, refl, sym, ap, subst, ◌∙◌}
+use Rattle.std.proofs.lemmas.Bool.{or_right, or_left}
 use Rattle.std.specs.Prelude.{string_bytes, ◌==◌}
 use Rattle.std.specs.Cmp.Lexicographic.{pointwise, bytes_decides}
 use Rattle.wac_types_base.specs.Entries.{Name, AreDistinct, has_name}
@@ -13,7 +14,7 @@ use Rattle.wac_parser_resolve.specs.declared.arguments.Given.{Given}
 use Rattle.wac_parser_resolve.specs.Denoting as stated
 use Rattle.wac_parser_resolve.specs.Denoting.{add_given, given_names}
 use Rattle.wac_parser_resolve.specs.Holding.{AreGiven, InTurn, IsGiven, names_given}
-use Rattle.wac_parser_resolve.proofs.Turns.{distinct_more, turn_more}
+use Rattle.wac_parser_resolve.proofs.Turns.{distinct_more, turn_more, none_by}
 
 -- ---- names
 
@@ -25,25 +26,13 @@ module _ (g : Graph) (ms : List ℕ) where
   same_names (a ∷ gs) (x ∷ xs) t =
       ap (λ (ns : List Name). string_bytes x.name ∷ ns) (same_names gs xs t.1) ∙ ap (λ (n : Name). n ∷ given_names gs) t.0.name
 
-has_by : (b c : Bool) → b ≡ true → (b || c) ≡ true
-has_by true c e = refl
-has_by false c e = absurd (cc e)
-
-has_on : (b c : Bool) → c ≡ true → (b || c) ≡ true
-has_on true c e = refl
-has_on false c e = e
-
 pub among_has : (ns : List Name) (n : Name) → Among n ns → has_name ns n ≡ true
 among_has [] n m = absurd m
-among_has (k ∷ ns) n (inl e) = has_by (pointwise ◌==◌ n k) (has_name ns n) ((bytes_decides n k).1 e)
-among_has (k ∷ ns) n (inr m) = has_on (pointwise ◌==◌ n k) (has_name ns n) (among_has ns n m)
+among_has (k ∷ ns) n (inl e) = or_left (pointwise ◌==◌ n k) (has_name ns n) ((bytes_decides n k).1 e)
+among_has (k ∷ ns) n (inr m) = or_right (pointwise ◌==◌ n k) (has_name ns n) (among_has ns n m)
 
 pub not_among : (ns : List Name) (n : Name) → has_name ns n ≡ false → Among n ns → ⊥
 not_among ns n e m = absurd (cc (sym (among_has ns n m) ∙ e))
-
-none_by : (b c : Bool) → (b ≡ true → ⊥) → c ≡ false → (b || c) ≡ false
-none_by true c h e = absurd (h refl)
-none_by false c h e = e
 
 pub has_not : (ns : List Name) (n : Name) → (Among n ns → ⊥) → has_name ns n ≡ false
 has_not [] n h = refl

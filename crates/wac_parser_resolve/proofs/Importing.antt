@@ -1,10 +1,9 @@
 -- Import statements: the names that they may have, the place of an earlier import, and what is said behind one.
-use Rattle.std.proofs.Common.{◌≡◌, ◌≢◌, ◌⊎◌, ℕ, List, [], ◌∷◌, ◌++◌, Bool, true, false, not, ◌&&◌, ◌==◌, if◌then◌else◌, Option, Some, None, inl, inr, refl, sym, ap, subst, ◌∙◌, arith}
+use Rattle.std.proofs.Common.{◌≡◌, ◌≢◌, ◌⊎◌, ℕ, List, [], ◌∷◌, ◌++◌, Bool, true, false, not, ◌&&◌, ◌==◌, if◌then◌else◌, Option, Some, None, inl, inr, refl, sym, ap, subst, ◌∙◌}
 use Rattle.std.specs.Prelude.{Result, ⊤, bytes_eq, codes, cond, is_none, is_some, option_map, string_bytes, unwrap_or}
 use Rattle.std.specs.Bool.{Decides}
 use Rattle.std.specs.List.{AllByRecursion, list_any}
 use Rattle.std.specs.Cmp.Lexicographic.{bytes_decides}
-use Rattle.std.proofs.lemmas.Bool.Decides.{nat_tests}
 use Rattle.std.specs.FinMap as map
 use Rattle.wac_types_base.specs.declared.item.ExternKind.{ExternKind}
 use Rattle.wac_types_base.specs.declared.item.ItemKind.{ItemKind}
@@ -12,11 +11,12 @@ use Rattle.wac_types_base.specs.Record.{Collection}
 use Rattle.wac_types_base.specs.Entries.{AreDistinct, Name, names_of}
 use Rattle.wac_types_base.specs.Graph.{Among}
 use Rattle.wac_types_base.specs.Stated.{Stated, promote}
+use Rattle.wac_types_base.proofs.Replacing.{same_number, number_same}
 use Rattle.wac_names.specs.declared.names.NameKind.TheVariants as kind
 use Rattle.wac_names.specs.ComponentNames.{IsInside}
 use Rattle.wac_names.specs.NameTests.{behind_test}
 use Rattle.wac_names.proofs.NameForms.{behind_decides}
-use Rattle.std.proofs.lemmas.Bool.{or_right}
+use Rattle.std.proofs.lemmas.Bool.{or_right, not_from_false, not-true, false_from_ne_true, and_from}
 use Rattle.wac_names.proofs.NameKinds.{or_left, or_parts}
 use Rattle.wac_graph_core.specs.declared.errors.ImportError.{ImportError}
 use Rattle.wac_graph_core.specs.Nodes.{NodeData, Role, plain_node}
@@ -56,28 +56,6 @@ both_true : (a b : Bool) → (a && b) ≡ true → (a ≡ true) × (b ≡ true)
 both_true true b e = (refl, e)
 both_true false b e = absurd (cc e)
 
-true_both : (a b : Bool) → a ≡ true → b ≡ true → (a && b) ≡ true
-true_both true b e f = f
-true_both false b e f = absurd (cc e)
-
-not_false : (a : Bool) → not a ≡ true → a ≡ false
-not_false true e = absurd (cc e)
-not_false false e = refl
-
-not_true : (a : Bool) → a ≡ false → not a ≡ true
-not_true true e = absurd (cc e)
-not_true false e = refl
-
-false_by : (b : Bool) → (b ≡ true → ⊥) → b ≡ false
-false_by true h = absurd (h refl)
-false_by false h = refl
-
-same_number : (i j : ℕ) → (i == j) ≡ true → i ≡ j
-same_number i j e = grind (arith, nat_tests)
-
-number_is : (i j : ℕ) → i ≡ j → (i == j) ≡ true
-number_is i j e = grind (arith, nat_tests)
-
 abbrev Unbroken : List ℕ → Type 0
 Unbroken bs = AllByRecursion (λ b. (b == 60) ≡ false) bs
 
@@ -87,23 +65,23 @@ ended_told (b ∷ []) e = ([], ap (λ c. c ∷ []) (same_number b 62 e), tt)
 ended_told (b ∷ c ∷ cs) e =
     let p = both_true (not (b == 60)) (ended (c ∷ cs)) e in
     let r = ended_told (c ∷ cs) p.1 in
-    (b ∷ r.0, ap (λ bs. b ∷ bs) r.1, (not_false (b == 60) p.0, r.2))
+    (b ∷ r.0, ap (λ bs. b ∷ bs) r.1, (not-true (b == 60) p.0, r.2))
 
 ended_from : (xs : List ℕ) → Unbroken xs → ended (xs ++ 62 ∷ []) ≡ true
 ended_from [] u = refl
-ended_from (b ∷ []) u = true_both (not (b == 60)) true (not_true (b == 60) u.0) refl
-ended_from (b ∷ c ∷ cs) u = true_both (not (b == 60)) (ended (c ∷ cs ++ 62 ∷ [])) (not_true (b == 60) u.0) (ended_from (c ∷ cs) u.1)
+ended_from (b ∷ []) u = and_from (not (b == 60)) true (not_from_false (b == 60) u.0) refl
+ended_from (b ∷ c ∷ cs) u = and_from (not (b == 60)) (ended (c ∷ cs ++ 62 ∷ [])) (not_from_false (b == 60) u.0) (ended_from (c ∷ cs) u.1)
 
 inside_told : (bs : List ℕ) → inside_test bs ≡ true → IsInside bs
 inside_told [] e = absurd (cc e)
 inside_told (b ∷ bs) e =
     let p = both_true (not (b == 60)) (ended bs) e in
     let r = ended_told bs p.1 in
-    record { inside = b ∷ r.0; is = ap (λ cs. b ∷ cs) r.1; some = λ q. absurd (cc q); unbroken = (not_false (b == 60) p.0, r.2) }
+    record { inside = b ∷ r.0; is = ap (λ cs. b ∷ cs) r.1; some = λ q. absurd (cc q); unbroken = (not-true (b == 60) p.0, r.2) }
 
 inside_by : (xs : List ℕ) → xs ≢ [] → Unbroken xs → inside_test (xs ++ 62 ∷ []) ≡ true
 inside_by [] some u = absurd (some refl)
-inside_by (b ∷ xs) some u = true_both (not (b == 60)) (ended (xs ++ 62 ∷ [])) (not_true (b == 60) u.0) (ended_from xs u.1)
+inside_by (b ∷ xs) some u = and_from (not (b == 60)) (ended (xs ++ 62 ∷ [])) (not_from_false (b == 60) u.0) (ended_from xs u.1)
 
 inside_decides : (bs : List ℕ) → Decides (inside_test bs) (IsInside bs)
 inside_decides bs = (inside_told bs, λ i. ap inside_test i.is ∙ inside_by i.inside i.some i.unbroken)
@@ -153,7 +131,7 @@ export_extern : (n : Name) → is_exportable n ≡ true → (IsExternName n → 
 export_extern n e not_so = absurd (cc (sym e ∙ unexportable n (λ x. not_so (x.0, x.2))))
 
 pub no_extern_name : (n : Name) → (IsExternName n → ⊥) → is_extern_name n ≡ false
-no_extern_name n not_so = false_by (is_extern_name n) (λ e. elim (or_parts (is_exportable n) (is_bracketed_name n) e) [
+no_extern_name n not_so = false_from_ne_true (is_extern_name n) (λ e. elim (or_parts (is_exportable n) (is_bracketed_name n) e) [
   | inl a ↦ export_extern n a not_so
   | inr a ↦ not_so (bracketed_told n a)
 ])
@@ -161,18 +139,18 @@ no_extern_name n not_so = false_by (is_extern_name n) (λ e. elim (or_parts (is_
 -- ---- where nodes are noted
 
 pub last_other : (xs : List (ℕ × Span)) (k j : ℕ) (at : Span) → (k ≡ j → ⊥) → last_noted (xs ++ (k, at) ∷ []) j ≡ last_noted xs j
-last_other [] k j at apart = ap (λ (b : Bool). or_else None (if b then Some at else None)) (false_by (k == j) (λ e. apart (same_number k j e)))
+last_other [] k j at apart = ap (λ (b : Bool). or_else None (if b then Some at else None)) (false_from_ne_true (k == j) (λ e. apart (same_number k j e)))
 last_other (x ∷ xs) k j at apart = ap (λ (o : Option Span). or_else o (if x.0 == j then Some x.1 else None)) (last_other xs k j at apart)
 
 pub last_own : (xs : List (ℕ × Span)) (k : ℕ) (at : Span) → last_noted (xs ++ (k, at) ∷ []) k ≡ Some at
-last_own [] k at = ap (λ (b : Bool). or_else None (if b then Some at else None)) (number_is k k refl)
+last_own [] k at = ap (λ (b : Bool). or_else None (if b then Some at else None)) (number_same k k refl)
 last_own (x ∷ xs) k at = ap (λ (o : Option Span). or_else o (if x.0 == k then Some x.1 else None)) (last_own xs k at)
 
 last_none : (xs : List (ℕ × Span)) (k : ℕ) → (Among k (names_of xs) → ⊥) → last_noted xs k ≡ None
 last_none [] k not_so = refl
 last_none (x ∷ xs) k not_so =
     ap (λ (o : Option Span). or_else o (if x.0 == k then Some x.1 else None)) (last_none xs k (λ m. not_so (inr m)))
-    ∙ ap (λ (b : Bool). or_else None (if b then Some x.1 else None)) (false_by (x.0 == k) (λ e. not_so (inl (sym (same_number x.0 k e)))))
+    ∙ ap (λ (b : Bool). or_else None (if b then Some x.1 else None)) (false_from_ne_true (x.0 == k) (λ e. not_so (inl (sym (same_number x.0 k e)))))
 
 -- ---- an earlier import
 
@@ -182,7 +160,7 @@ module _ (g : Graph) (ids : List (ℕ × Span)) (n : Name) where
   none_called not_so (i ∷ is) [] a = absurd a
   none_called not_so (i ∷ is) (e ∷ noted) a =
       ap (λ (b : Bool). cond b (Some i) (import_called is n))
-      (false_by (bytes_eq n i.name) (λ s. not_so e.0 (subst (IsImport g.nodes e.0) (sym ((bytes_decides n i.name).0 s)) a.0.import)))
+      (false_from_ne_true (bytes_eq n i.name) (λ s. not_so e.0 (subst (IsImport g.nodes e.0) (sym ((bytes_decides n i.name).0 s)) a.0.import)))
       ∙ none_called not_so is noted a.1
 
   module _ (sound : IsGraph g) (k : ℕ) (here : IsImport g.nodes k n) where
@@ -207,7 +185,7 @@ module _ (g : Graph) (ids : List (ℕ × Span)) (n : Name) where
           earlier = i;
           called = ap (λ (b : Bool). cond b (Some i) (import_called is n)) s;
           noted_at = ap (λ (o : Option Span). or_else o (if e.0 == k then Some e.1 else None)) (last_none noted k (λ q. apart (subst (λ (j : ℕ). Among j (names_of noted)) (sym own) q)))
-              ∙ ap (λ (b : Bool). or_else None (if b then Some e.1 else None)) (number_is e.0 k own) ∙ ap Some a.span;
+              ∙ ap (λ (b : Bool). or_else None (if b then Some e.1 else None)) (number_same e.0 k own) ∙ ap Some a.span;
         }
     by_test i is e noted a apart more (inl own) false s =
         let name : n ≡ i.name = one_name i.name (subst (λ (j : ℕ). IsImport g.nodes j i.name) (sym own) a.import) in

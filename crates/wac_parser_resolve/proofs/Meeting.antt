@@ -1,5 +1,6 @@
 -- The tests of a target, and what is stated of them.
-use Rattle.std.proofs.Common.{◌≡◌, ◌⊎◌, ◌≤◌, ◌+◌, ℕ, zero, suc, List, [], ◌∷◌, length, drop, Bool, true, false, not, ◌||◌, ◌==◌, Option, Some, None, IsSome, option_map, if◌then◌else◌, Result, Ok, Err, OnOk, slice_get, refl, sym, ap, subst, ◌∙◌, inl, inr, arith}
+use Rattle.std.proofs.Common.{◌≡◌, ◌⊎◌, ◌≤◌, ◌+◌, ℕ, zero, suc, List, [], ◌∷◌, length, drop, Bool, true, false, not, ◌||◌, ◌==◌, Option, Some, None, IsSome, option_map, if◌then◌else◌, Result, Ok, Err, OnOk, slice_get, refl, sym, ap, subst, ◌∙◌, inl, inr}
+use Rattle.std.proofs.lemmas.List.{drop_all}
 use Rattle.std.specs.Prelude.{⊤}
 use Rattle.std.specs.Cmp.Lexicographic.{pointwise, bytes_decides}
 use Rattle.wac_types_base.specs.declared.item.ExternKind.{ExternKind}
@@ -27,10 +28,11 @@ use Rattle.wac_graph_core.specs.declared.ids.PackageId.{PackageId}
 use Rattle.wac_types_names.specs.Packaged.{Packaged}
 use Rattle.wac_parser_tree.specs.Trees.{Span}
 use Rattle.wac_parser_refusals.specs.declared.refusal.Refusal.{Refusal}
-use Rattle.wac_parser_refusals.specs.Causes.{Answer, Cause, Fault, ImportNotInTarget, TargetMismatch, each, pure, ◌>>=◌, ◌>>◌}
-use Rattle.wac_parser_refusals.specs.Outcomes.{IsHeld, IsRefusal, Refuses, Tells}
-use Rattle.wac_parser_refusals.specs.Views.{Names, cause_in, maybe_at}
+use Rattle.wac_parser_refusals.specs.Causes.{Answer, Fault, ImportNotInTarget, TargetMismatch, each, pure, ◌>>=◌, ◌>>◌}
+use Rattle.wac_parser_refusals.specs.Outcomes.{IsHeld, IsRefusal, Refuses}
+use Rattle.wac_parser_refusals.specs.Views.{Names, maybe_at}
 use Rattle.wac_parser_refusals.proofs.Outcomes.{memory_refusal}
+use Rattle.wac_parser_declare.proofs.Members.{told}
 use Rattle.wac_parser_resolve.specs.declared.targets.Target.{Target}
 use Rattle.wac_parser_resolve.specs.Giving.{given_by}
 use Rattle.wac_parser_resolve.specs.InTargets.{AreAllNoted, AreInstancesMet, AreStatementsMet, IsAnswerOf, IsTold, all_pass, asked_in, export_at, export_test, filled_test, fit_in, import_test, imports_in, instance_test, is_passed_in, item_in, lacks_export, node_item, package_imports, passes_or, path_of, statement_by, statement_test, tells_mismatch}
@@ -68,10 +70,6 @@ mismatch_told c j k r good bad (Some (SubtypeError.Mismatch fs a b)) h = sym (ap
 
 -- ---- what is refused
 
-pub named_tells : (e : Refusal) (c : Cause) → Names e (Some c) → Tells (cause_in e) c
-named_tells (Refusal.Named e) c n = subst (λ (o : Option Cause). Tells o c) (sym n) refl
-named_tells Refusal.Memory c n = tt
-
 not_true : (b : Bool) → false ≡ not b → b ≡ true
 not_true true e = refl
 not_true false e = absurd (cc e)
@@ -87,7 +85,7 @@ module _ (f : Fault) (s : Option Span) where
 
   pub pass_refused : (b : Bool) (e : Refusal) → true ≡ not b → Names e (maybe_at f s) → IsRefusal (passes_or b f s) e
   pass_refused true e h n = absurd (cc h)
-  pass_refused false e h n = named_tells e (record { fault = f; span = s }) n
+  pass_refused false e h n = told e (record { fault = f; span = s }) n
 
 -- ---- imports
 
@@ -95,7 +93,7 @@ module _ (t : Target) (c : Collection) (n : Name) (k : ItemKind) (s : Option Spa
   pub import_lacks : (e : Refusal) → None ≡ given_by t n → Names e (maybe_at (ImportNotInTarget n t.path.now.string.now) s) → IsRefusal (import_test t c (asked_in c n k s)) e
   import_lacks e is m =
       subst (λ (o : Option ItemKind). IsRefusal (import_by (path_of t) (asked_in c n k s) (option_map (stated_of c) o)) e) is
-      (named_tells e (record { fault = ImportNotInTarget n t.path.now.string.now; span = s }) m)
+      (told e (record { fault = ImportNotInTarget n t.path.now.string.now; span = s }) m)
 
   pub import_fits : IsAcyclic c → (i : ItemKind) (r : Result ⊤ Refusal) → Some i ≡ given_by t n → Stands c i
       → IsTold (passes_or (fit_in c (promoted i) k) (TargetMismatch ExternKind.Import n t.path.now.string.now) s) r → IsTold (import_test t c (asked_in c n k s)) r
@@ -138,12 +136,6 @@ pub refused_then : {B : Type 0} (q : Answer ⊤) (r : Answer B) (e : Refusal) �
 refused_then (Ok u) r e m = memory_refusal r e m
 refused_then (Err c) r e m = m
 
-pub drop_end : {X : Type 0} (xs : List X) (i : ℕ) → length xs ≤ i → drop i xs ≡ []
-drop_end [] zero h = refl
-drop_end [] (suc i) h = refl
-drop_end (x ∷ xs) zero h = absurd (omega (arith, h))
-drop_end (x ∷ xs) (suc i) h = drop_end xs i (omega (arith, h))
-
 module _ {A : Type 0} (f : A → Answer ⊤) where
   pub pass_first : (x : A) (xs : List A) → all_pass f (x ∷ xs) ≡ (f x >> all_pass f xs)
   pass_first x xs = then_unit (f x) (λ u. each (λ v y. f y) u xs)
@@ -160,7 +152,7 @@ module _ {A : Type 0} (f : A → Answer ⊤) where
 
   pub all_passed : (xs : List A) (i : ℕ) → length xs ≤ i → all_pass f (drop i xs) ≡ all_pass f xs → IsHeld Passed (all_pass f xs) tt
   all_passed xs i end so =
-      let e : all_pass f [] ≡ all_pass f xs = ap (all_pass f) (sym (drop_end xs i end)) ∙ so in
+      let e : all_pass f [] ≡ all_pass f xs = ap (all_pass f) (sym (drop_all i xs end)) ∙ so in
       subst (λ (q : Answer ⊤). IsHeld Passed q tt) e tt
 
 -- ---- nodes that are noted
@@ -188,7 +180,7 @@ module _ (P : ℕ → Type 0) (xs : List (ℕ × Span)) (i : ℕ) where
       among_first j x ys m = m
 
   pub none_to_come : length xs ≤ i → AreToCome P xs i → (k : ℕ) → Among k (names_of xs) → P k
-  none_to_come end come k m = elim (come k m) [ inl a ↦ absurd (subst (λ (ys : List (ℕ × Span)). Among k (names_of ys)) (drop_end xs i end) a) | inr p ↦ p ]
+  none_to_come end come k m = elim (come k m) [ inl a ↦ absurd (subst (λ (ys : List (ℕ × Span)). Among k (names_of ys)) (drop_all i xs end) a) | inr p ↦ p ]
 
 -- ---- names of entries
 

@@ -32,6 +32,7 @@ use Rattle.wac_parser_refusals.specs.Outcomes.{IsHeld, IsMemory, IsRefusal}
 use Rattle.wac_parser_refusals.specs.Views.{Names, cause_in, maybe_at}
 use Rattle.wac_parser_refusals.proofs.Outcomes.{memory_refusal}
 use Rattle.wac_parser_declare.proofs.Exports.{component_imports}
+use Rattle.wac_parser_declare.proofs.Members.{told}
 use Rattle.wac_parser_resolve.specs.declared.targets.Target.{Target}
 use Rattle.wac_parser_resolve.specs.Ascribing.{Bound, Denoted, Import, Made, State}
 use Rattle.wac_parser_resolve.specs.Giving.{given_by}
@@ -42,7 +43,7 @@ use Rattle.wac_parser_resolve.specs.Meeting.{Wanted, export_by, import_by, refus
 use Rattle.wac_parser_resolve.specs.Said.{AreAsked, AreExported, IsAsked}
 use Rattle.wac_parser_resolve.specs.Saying.{export_span}
 use Rattle.wac_parser_resolve.proofs.Giving.{among_has}
-use Rattle.wac_parser_resolve.proofs.Meeting.{Passed, held_then, named_among, named_tells, pass_first, refused_then}
+use Rattle.wac_parser_resolve.proofs.Meeting.{Passed, held_then, named_among, pass_first, refused_then}
 use Rattle.wac_parser_resolve.proofs.MeetingUses.{uses_unnamed}
 use Rattle.wac_parser_resolve.proofs.Rooted.{AreFound, both_found}
 use Rattle.wac_parser_resolve.proofs.TargetMet.{passed_has}
@@ -223,7 +224,7 @@ module _ (g : Graph) (acyclic : IsAcyclic g.types) (w : WorldId) (x : World) (at
 
       by : (b : Bool) → b ≡ false → IsRefusal ((if b then pure tt else refuse_at (TypeCannotBeWritten p.string) None) >> rest) e
       by true n = absurd (cc n)
-      by false n = named_tells e (record { fault = TypeCannotBeWritten p.string; span = None }) named
+      by false n = told e (record { fault = TypeCannotBeWritten p.string; span = None }) named
 
   pub fault_refused : (fault : TargetError) (path : PackagePath) (e : Refusal) → p ≡ view_package_path path → (fault ≡ TargetError.UsedWithoutIdentifier → ids.by_identifier g.types [] (ids.implicit_interfaces g.types x) ≡ None)
       → IsFaultOf path fault e → IsRefusal (stated.target_met s p target) e

@@ -1,5 +1,5 @@
 -- The target of a document, over the state that holds what was said.
-use Rattle.std.proofs.Common.{◌≡◌, ℕ, List, [], ◌∷◌, Option, Some, None, IsSome, Result, Ok, Err, refl, sym, subst, inl, inr}
+use Rattle.std.proofs.Common.{◌≡◌, ℕ, List, [], ◌∷◌, Option, Some, IsSome, Result, Ok, Err, refl, sym, subst, inl, inr}
 use Rattle.std.specs.Prelude.{⊤}
 use Rattle.wac_types_base.specs.declared.item.ItemKind.{ItemKind}
 use Rattle.wac_types_base.specs.declared.ids.WorldId.{WorldId}
@@ -8,7 +8,7 @@ use Rattle.wac_types_base.specs.Entries.{names_of}
 use Rattle.wac_types_base.specs.Graph.{Among}
 use Rattle.wac_types_base.specs.Stated.{Stated, stated_of}
 use Rattle.wac_graph_core.specs.Nodes.{NodeData}
-use Rattle.wac_graph_core.specs.Graph.{Graph, ContainsNode, node_at, package_made}
+use Rattle.wac_graph_core.specs.Graph.{Graph, ContainsNode, node_at}
 use Rattle.wac_parser_tree.specs.Trees as t
 use Rattle.wac_parser_tree.specs.Trees.{Span}
 use Rattle.wac_parser_tree.specs.declared.import.PackageName.{PackageName}
@@ -26,6 +26,7 @@ use Rattle.wac_parser_resolve.specs.Meeting.{target, target_met, target_world}
 use Rattle.wac_parser_resolve.specs.Said.{IsAsked, IsSaid}
 use Rattle.wac_parser_resolve.proofs.Meeting.{Passed, held_then, refused_then}
 use Rattle.wac_parser_resolve.proofs.Turns.{turn_back}
+use Rattle.wac_parser_resolve.proofs.TargetMet.{instance_there}
 
 -- ---- what is noted
 
@@ -36,10 +37,6 @@ entry_of (x ∷ es) k (inr m) = let r = entry_of es k m in (r.0, inr r.1, r.2)
 
 node_there : (g : Graph) (k : ℕ) (x : NodeData) → node_at g k ≡ Some x → ContainsNode g k
 node_there g k x e = subst IsSome (sym e) refl
-
-made_there : (g : Graph) (k : ℕ) (o : Option NodeData) → node_at g k ≡ o → IsSome (package_made g o) → ContainsNode g k
-made_there g k None e h = absurd (cc h)
-made_there g k (Some x) e h = node_there g k x e
 
 module _ (own : t.PackageName) (b : Held) (s : State) (said : IsSaid own b s) where
   pub said_standing : AreStanding b
@@ -53,7 +50,7 @@ module _ (own : t.PackageName) (b : Held) (s : State) (said : IsSaid own b s) wh
         instances = λ k m.
             let e = entry_of b.board.instances.noted.items k m in
             let i = turn_back (IsMade g (names_of b.board.instances.noted.items)) s.made b.board.instances.noted.items e.0 said.board.says.made e.1 in
-            subst (ContainsNode g) e.2 (made_there g e.0.0 (node_at g e.0.0) refl (subst IsSome (sym i.2.is) refl));
+            subst (ContainsNode g) e.2 (instance_there g e.0.0 (node_at g e.0.0) refl (subst IsSome (sym i.2.is) refl));
       }
 
   pub said_noted : AreNotedAll b

@@ -6,7 +6,7 @@ use Rattle.std.proofs.Common.{◌≡◌, ℕ, zero, suc, ◌<◌, List, [], ◌�
 use Rattle.wac_types_base.specs.Entries.{Name, value_at}
 use Rattle.wac_types_base.specs.Stated.{Stated, imports_of}
 use Rattle.wac_types_names.specs.Keys.{Key}
-use Rattle.wac_graph_bytes.specs.Wirings.{Tag, Source, Absent, Outer, Inst, Projection, Bundle, Definition, project, Uses, Instantiation, Wiring, IsOrdered}
+use Rattle.wac_graph_bytes.specs.Wirings.{Tag, Absent, Uses, Instantiation, Wiring, IsOrdered}
 use Rattle.wac_composition.specs.Asks.{Ask, asks_of}
 use Rattle.wac_composition.specs.Worlds.{source_of}
 use Rattle.wac_composition.specs.Wired.{source_for, argument_source, instantiation, export_source, composed_wiring}
@@ -14,6 +14,7 @@ use Rattle.wac_composition.specs.Composition as c
 use Rattle.wac_composition.specs.Composition.{Composition}
 use Rattle.wac_composition.specs.Conflicts as cause
 use Rattle.wac_composition.specs.Conflicts.{first_cause, name_cause}
+use Rattle.wac_composition.proofs.Bound.{uses_project}
 use Rattle.wac_parser_tree.specs.Trees as t
 use Rattle.wac_parser_refusals.specs.Causes.{Answer, ◌>>◌}
 use Rattle.wac_parser_declare.specs.Scope.{world_under}
@@ -53,14 +54,6 @@ numbered_there j (x ∷ ms) zero m e = (made_in j x, refl)
 numbered_there j (x ∷ ms) (suc k) m e = numbered_there (suc j) ms k m e
 
 -- ---- sources
-
-uses_project : {I : Type 0} (P : I → Type 0) (s : Source I) (n : Name) → Uses P s → Uses P (project s n)
-uses_project P Absent n u = tt
-uses_project P (Outer m) n u = tt
-uses_project P (Inst k) n u = u
-uses_project P (Projection s m) n u = u
-uses_project P (Bundle f) n u = u n
-uses_project P (Definition t) n u = tt
 
 module _ (P : ℕ → Type 0) (asks : List (Ask Asker)) where
   origin_uses : (k : ℕ) → ((j : ℕ) → j < k → P j) → (o : Origin) → Below k o → Uses P (source_of asks (origin_in o))

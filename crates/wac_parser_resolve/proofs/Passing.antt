@@ -4,6 +4,7 @@ use Rattle.std.specs.Prelude.{⊤, slice_get, option_map, string_bytes}
 use Rattle.std.specs.FinMap as map
 use Rattle.std.specs.Cmp.Lexicographic.{pointwise, bytes_decides}
 use Rattle.std.proofs.lemmas.Option.{same_Some}
+use Rattle.std.proofs.lemmas.Bool.{false_from_ne_true}
 use Rattle.wac_types_base.specs.declared.item.ItemKind.{ItemKind}
 use Rattle.wac_types_base.specs.declared.ids.WorldId.{WorldId}
 use Rattle.wac_types_base.specs.declared.defined.World.{World}
@@ -151,10 +152,6 @@ fit_back : (c : Collection) (k : ItemKind) (d : Collection) (item : ItemKind) �
 unfolding tree_in
 fit_back c k d item f = f
 
-not_by : (b : Bool) → (b ≡ true → ⊥) → b ≡ false
-not_by true h = absurd (h refl)
-not_by false h = refl
-
 module _ (g : Graph) (is : IsGraph g) (acyclic : IsAcyclic g.types) (noted : List (ℕ × Span)) (i : ℕ) (names : List (Name × ℕ)) (s : State) (m : Made) (says : SaysMade g noted i names s m) (a : stated.Given) (one : Given)
     (given : IsGiven g (names_of (noted ++ (i, m.span) ∷ [])) a one) (new : has_name (names_of m.arguments) a.name ≡ false) where
   abbrev ms : List ℕ
@@ -202,7 +199,7 @@ module _ (g : Graph) (is : IsGraph g) (acyclic : IsAcyclic g.types) (noted : Lis
       let is_passed : passed g.types mis.node ≡ compared_by a.denoted.origin a.denoted.item = passed_is g is ms a.denoted one.node given.denotes mis.node mis.there in
       let sm = mis.mismatch in
       let apart : fits (compared_by a.denoted.origin a.denoted.item) (stated_of g.types item) ≡ false =
-      not_by _ (λ t. sm.differ.differ (fit_back sm.types sm.given g.types item
+      false_from_ne_true _ (λ t. sm.differ.differ (fit_back sm.types sm.given g.types item
       (subst (λ (x : Stated). Fits (tree x) (tree (stated_of g.types item))) (sym is_passed ∙ sym sm.is) ((fits_decides (compared_by a.denoted.origin a.denoted.item) (stated_of g.types item)).0 t)))) in
       differs_by m.key m.world a (value_at (imports_of m.world) a.name) (stated_of g.types item) e (import_is item left.is) apart
       (subst (λ (x : Span). Refuses e (MismatchedInstantiationArg a.name) x) given.span

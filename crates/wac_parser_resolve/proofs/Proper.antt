@@ -9,8 +9,8 @@ use Rattle.wac_types_base.specs.Stated.{Stated, places_in, with_names, names, fi
 use Rattle.wac_types_base.specs.Tree.{Tree, Fields, trees, tree, tree_at}
 use Rattle.wac_composition.specs.Classes.{is_instance}
 use Rattle.wac_composition.specs.Sound.{IsStraight, an_instance, no_instance}
+use Rattle.wac_composition.proofs.Lists.{among_split, mapped_among}
 use Rattle.wac_types_base.proofs.Made.{row_places}
-use Rattle.wac_composition.proofs.NotWritten.{among_split, among_map}
 use Rattle.wac_parser_resolve.specs.Proper.{NoInstance, NamesNoInstance, Proper, proper}
 use Rattle.wac_types_fit.proofs.Items.{value_at-among}
 
@@ -141,17 +141,17 @@ AllUses us = (u : Used) → Among u us → Proper u.interface
 
 exports_among : (x : Stated) (e : Name × Stated) → Among e (exports_of x) → Among (Some e.1) (places_of x)
 exports_among (node s ts) e m =
-    let r = among_map (λ (f : Name × (Stated × ⊤)). (f.0, f.1.0)) (parts_at (untyped_shape s) (only_places ts)).exports e m in
+    let r = mapped_among (λ (f : Name × (Stated × ⊤)). (f.0, f.1.0)) (parts_at (untyped_shape s) (only_places ts)).exports e m in
     subst (λ (f : Name × Stated). Among (Some f.1) (places_in ts)) (sym r.2) (only_among ts r.0.1 ((in_places (untyped_shape s) (only_places ts)).exports r.0 r.1))
 
 imports_among : (x : Stated) (e : Name × Stated) → Among e (imports_of x) → Among (Some e.1) (places_of x)
 imports_among (node s ts) e m =
-    let r = among_map (λ (f : Name × (Stated × ⊤)). (f.0, f.1.0)) (parts_at (untyped_shape s) (only_places ts)).imports e m in
+    let r = mapped_among (λ (f : Name × (Stated × ⊤)). (f.0, f.1.0)) (parts_at (untyped_shape s) (only_places ts)).imports e m in
     subst (λ (f : Name × Stated). Among (Some f.1) (places_in ts)) (sym r.2) (only_among ts r.0.1 ((in_places (untyped_shape s) (only_places ts)).imports r.0 r.1))
 
 used_among : (x : Stated) (u : Used) → Among u (uses_of x) → Among (Some u.interface) (places_of x)
 used_among (node s ts) u m =
-    let r = among_map (λ (v : Used × ⊤). v.0) (parts_at (untyped_shape s) (only_places ts)).uses u m in
+    let r = mapped_among (λ (v : Used × ⊤). v.0) (parts_at (untyped_shape s) (only_places ts)).uses u m in
     subst (λ (v : Used). Among (Some v.interface) (places_in ts)) (sym r.2) (only_among ts (r.0.0.interface, r.0.1) ((in_places (untyped_shape s) (only_places ts)).uses r.0 r.1))
 
 pub exports_proper : (x : Stated) → Proper x → AllItems (exports_of x)
@@ -169,10 +169,10 @@ item_proper xs n y h e = h (n, y) (value_at-among xs n y e)
 -- ---- functions, interfaces and worlds that are made
 
 pub filled_places : (xs : List (Name × Stated)) → AllItems xs → AllPlaces (filled xs)
-filled_places xs h y m = let r = among_map (λ (x : Name × Stated). Some x.1) xs (Some y) m in subst Proper (sym (same_Some _ _ r.2)) (h r.0 r.1)
+filled_places xs h y m = let r = mapped_among (λ (x : Name × Stated). Some x.1) xs (Some y) m in subst Proper (sym (same_Some _ _ r.2)) (h r.0 r.1)
 
 used_all : (us : List Used) → AllUses us → AllPlaces (used_places us)
-used_all us h y m = let r = among_map (λ (u : Used). Some u.interface) us (Some y) m in subst Proper (sym (same_Some _ _ r.2)) (h r.0 r.1)
+used_all us h y m = let r = mapped_among (λ (u : Used). Some u.interface) us (Some y) m in subst Proper (sym (same_Some _ _ r.2)) (h r.0 r.1)
 
 pub behind_places : (os ps : List (Option Stated)) → AllPlaces os → AllPlaces ps → AllPlaces (os ++ ps)
 behind_places os ps h k y m = elim (among_split (Some y) os ps m) [ inl a ↦ h y a | inr b ↦ k y b ]

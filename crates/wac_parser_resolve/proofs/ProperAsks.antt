@@ -10,7 +10,7 @@ use Rattle.wac_types_base.specs.Stated.{Stated, Kind, IsFunction, IsInstance, Is
 use Rattle.wac_composition.specs.Composition.{Placed, Made, Composition}
 use Rattle.wac_composition.specs.Asks.{Ask, ToFill, ToUse, below_use, below_parts, used_at, used_by, used_by_kind, used_by_definition, explicit_ask, filled_asks, asked_for, named_asks, asks_of}
 use Rattle.wac_composition.proofs.Closures.{filter_among}
-use Rattle.wac_composition.proofs.NotWritten.{among_split, among_map, among_flat}
+use Rattle.wac_composition.proofs.Lists.{among_split, mapped_among, among_flat}
 use Rattle.wac_parser_resolve.specs.Proper.{Proper}
 use Rattle.wac_parser_resolve.proofs.Proper.{below, in_places, AllPlaces, imports_proper, uses_proper}
 
@@ -113,9 +113,9 @@ used_of_kind IsModuleType n x h y m = absurd m
 
 -- ---- asks
 
-pub mapped_among : {X Y : Type 0} (f : X → Option Y) (xs : List X) (y : Y) → Among y (filter_map f xs) → (x : X) × Among x xs × (f x ≡ Some y)
-mapped_among f [] y m = absurd m
-mapped_among {X = X} {Y = Y} f (x ∷ xs) y m = go (mapped_among f xs y) (f x) refl m
+pub from_filtered : {X Y : Type 0} (f : X → Option Y) (xs : List X) (y : Y) → Among y (filter_map f xs) → (x : X) × Among x xs × (f x ≡ Some y)
+from_filtered f [] y m = absurd m
+from_filtered {X = X} {Y = Y} f (x ∷ xs) y m = go (from_filtered f xs y) (f x) refl m
   where
     go : (Among y (filter_map f xs) → (z : X) × Among z xs × (f z ≡ Some y)) → (o : Option Y) → f x ≡ o → Among y (cons_option o (filter_map f xs)) → (z : X) × Among z (x ∷ xs) × (f z ≡ Some y)
     go rest None q n = let r = rest n in (r.0, inr r.1, r.2)
@@ -128,7 +128,7 @@ module _ {A : Type 0} where
 
   for_proper : (by : A) (xs : List Stated) → AllOf xs → AllAsks (asked_for by xs)
   for_proper by xs h a m =
-      let r = mapped_among (λ x. option_map (λ n. record { asking = ToUse; by = by; name = n; item = x }) (identifier_of x)) xs a m in
+      let r = from_filtered (λ x. option_map (λ n. record { asking = ToUse; by = by; name = n; item = x }) (identifier_of x)) xs a m in
       go r.0 (identifier_of r.0) (h r.0 r.1) r.2
     where
       go : (x : Stated) (o : Option Name) → Proper x → option_map (λ n. record { asking = ToUse; by = by; name = n; item = x }) o ≡ Some a → Proper a.item
@@ -138,12 +138,12 @@ module _ {A : Type 0} where
   module _ {I : Type 0} (c : Composition A I) (imports : (i : Placed A) → Among i c.imports → Proper i.item) (made : (m : Made A I) → Among m c.made → Proper m.world) (defined : (d : Placed A) → Among d c.definitions → Proper d.item) where
     filled_proper : (m : Made A I) → Proper m.world → AllAsks (filled_asks m)
     filled_proper m h a n =
-        let r = among_map (λ (e : Name × Stated). record { asking = ToFill; by = m.by; name = e.0; item = e.1 }) (filter (λ e. not (is_some (value_at m.arguments e.0))) (imports_of m.world)) a n in
+        let r = mapped_among (λ (e : Name × Stated). record { asking = ToFill; by = m.by; name = e.0; item = e.1 }) (filter (λ e. not (is_some (value_at m.arguments e.0))) (imports_of m.world)) a n in
         subst (λ (b : Ask A). Proper b.item) (sym r.2) (imports_proper m.world h r.0 (filter_among (λ e. not (is_some (value_at m.arguments e.0))) (imports_of m.world) r.0 r.1).0)
 
     named_proper : AllAsks (named_asks c)
     named_proper a n = elim (among_split a (map explicit_ask c.imports) (flat_map filled_asks c.made) n) [
-      | inl k ↦ let r = among_map explicit_ask c.imports a k in subst (λ (b : Ask A). Proper b.item) (sym r.2) (imports r.0 r.1)
+      | inl k ↦ let r = mapped_among explicit_ask c.imports a k in subst (λ (b : Ask A). Proper b.item) (sym r.2) (imports r.0 r.1)
       | inr k ↦ let r = among_flat filled_asks c.made a k in filled_proper r.0 (made r.0 r.1) a r.2
     ]
 

@@ -25,8 +25,8 @@ use Rattle.wac_parser_resolve.proofs.Answers.{err_ok, ok_of, then_ok, ok_is, eac
 use Rattle.wac_parser_resolve.proofs.Numbers.{each_more, value_more}
 use Rattle.wac_parser_resolve.proofs.Sound.{present_is}
 use Rattle.wac_parser_resolve.proofs.Proper.{leaf_proper, typed_proper, own_proper, borrow_proper, untyped_proper, AllItems, AllUses, exports_proper, imports_proper, item_proper, if_some, if_none, interface_proper, world_proper}
-use Rattle.wac_parser_resolve.proofs.ProperAsks.{mapped_among}
 use Rattle.wac_parser_resolve.proofs.ProperTypes.{typed_is, ScopeProper, named_proper, more_items, no_items, function_proper, free_proper, func_ref_proper, IsDeclared, variant_declared, record_declared, flags_declared, enum_declared, type_decl_proper, alias_in_body}
+use Rattle.wac_parser_resolve.proofs.ProperAsks.{from_filtered}
 
 -- ---- packages
 
@@ -65,7 +65,7 @@ definition_proper IsModuleType w x h e = absurd (none-some _ e)
 
 definitions_proper : (w : Stated) → Proper w → AllItems (definitions w)
 definitions_proper w h d m =
-    let r = mapped_among (λ (e : Name × Stated). option_map (λ x. (e.0, x)) (definition_by (kind_of e.1) e.1)) (exports_of w) d m in
+    let r = from_filtered (λ (e : Name × Stated). option_map (λ x. (e.0, x)) (definition_by (kind_of e.1) e.1)) (exports_of w) d m in
     go r.0 (definition_by (kind_of r.0.1) r.0.1) refl (exports_proper w h r.0 r.1) r.2
   where
     go : (e : Name × Stated) (o : Option Stated) → definition_by (kind_of e.1) e.1 ≡ o → Proper e.1 → option_map (λ x. (e.0, x)) o ≡ Some d → Proper d.1

@@ -15,8 +15,8 @@ use Rattle.wac_composition.specs.Composition as c
 use Rattle.wac_composition.specs.Composition.{Placed, Composition}
 use Rattle.wac_composition.specs.Asks.{Ask, asks_of}
 use Rattle.wac_composition.specs.Sound.{IsStraight}
+use Rattle.wac_composition.proofs.Lists.{mapped_among}
 use Rattle.wac_types_written.specs.Written.{is_type, written_at, written, written_by, written_definition}
-use Rattle.wac_composition.proofs.NotWritten.{among_map}
 use Rattle.wac_parser_tree.specs.Trees as t
 use Rattle.wac_parser_tree.specs.Trees.{Span}
 use Rattle.wac_parser_refusals.specs.declared.error.InstanceOperation.{InstanceOperation}
@@ -312,10 +312,10 @@ typed_definition (node l ts) y =
 pub is_regular : (ps : Packages) → AreProper ps → (g : State) → Sound ps g → Formed g → IsRegular (composition g)
 is_regular ps packages g sound f = record {
   straight = λ a m. straight a.item (asks_proper (composition g)
-      (λ i n. let r = among_map placed_import g.imports i n in subst (λ (x : Placed Asker). Proper x.item) (sym r.2) (f.imports r.0 r.1))
+      (λ i n. let r = mapped_among placed_import g.imports i n in subst (λ (x : Placed Asker). Proper x.item) (sym r.2) (f.imports r.0 r.1))
       (numbered_world zero g.made (λ j x e. under_proper ps x.key x.world packages (sound.made j x e).known))
-      (λ d n. let r = among_map placed_definition g.definitions d n in subst (λ (x : Placed Asker). Proper x.item) (sym r.2) (f.definitions r.0 r.1).is) a m);
-  types = λ d m. let r = among_map placed_definition g.definitions d m in
+      (λ d n. let r = mapped_among placed_definition g.definitions d n in subst (λ (x : Placed Asker). Proper x.item) (sym r.2) (f.definitions r.0 r.1).is) a m);
+  types = λ d m. let r = mapped_among placed_definition g.definitions d m in
       subst (λ (x : Placed Asker). (is_type (kind_of x.item) ≡ true) × IsDefinition (tree (written_definition x.item))) (sym r.2)
       (typed_kind r.0.1 (f.definitions r.0 r.1).typed, typed_definition r.0.1 (f.definitions r.0 r.1).typed);
 }

@@ -15,7 +15,7 @@ use Rattle.wac_parser_refusals.specs.Causes.{Fault, pure, unless_clear, each, Un
 use Rattle.wac_parser_declare.specs.Scope.{Scope, Meant, has, meant, named}
 use Rattle.wac_parser_declare.specs.ValueTypes.{value_by, borrow_by, value_named, borrow_named, primitive, value, values, maybe_value, value_if}
 use Rattle.wac_parser_declare.specs.Declarations.{add_member, param, result_of, function, free, func_by, func_ref, case_of, field_of, flag_of, enum_case_of, payloads, variant_of, record_of, owner_at, owner_of, alias_of, resource_alias_of, alias_by, alias_named, alias_value, alias_type, alias_kind, type_alias, variant_decl, record_decl, flags_decl, enum_decl, type_decl}
-use Rattle.wac_composition.proofs.NotWritten.{among_map}
+use Rattle.wac_composition.proofs.Lists.{mapped_among}
 use Rattle.wac_parser_resolve.specs.Proper.{NoInstance, NamesNoInstance, Proper}
 use Rattle.wac_parser_resolve.proofs.Answers.{err_ok, ok_of, then_ok, ok_is, each_keeps}
 use Rattle.wac_parser_resolve.proofs.Numbers.{each_more}
@@ -310,7 +310,7 @@ abbrev AllPayloads : List (Name × Option Stated) → Type 0
 AllPayloads xs = (e : Name × Option Stated) → Among e xs → IfProper e.1
 
 variant_proper : (xs : List (Name × Option Stated)) → AllPayloads xs → Proper (variant_of xs)
-variant_proper xs h = over_proper (s.variant (names xs)) (payloads xs) tt (λ y m. let r = among_map (λ (x : Name × Option Stated). x.1) xs (Some y) m in h r.0 r.1 y (sym r.2))
+variant_proper xs h = over_proper (s.variant (names xs)) (payloads xs) tt (λ y m. let r = mapped_among (λ (x : Name × Option Stated). x.1) xs (Some y) m in h r.0 r.1 y (sym r.2))
 
 record_proper : (xs : List (Name × Stated)) → AllItems xs → Proper (record_of xs)
 record_proper xs h = over_proper (s.record_of (names xs)) (map (λ x. Some x.1) xs) tt (filled_places xs h)

@@ -2,6 +2,7 @@
 use Rattle.std.specs.Prelude.{⊤, ◌==◌, Result, filter, is_some, option_map, slice_get, string_bytes, String}
 use Rattle.std.proofs.Common.{◌≡◌, ℕ, ◌+◌, ◌<◌, ◌≤◌, List, [], ◌∷◌, ◌++◌, map, get_or, drop, length, Bool, true, false, not, ◌&&◌, if◌then◌else◌, Option, Some, None, None, Ok, Err, inl, inr, refl, sym, ap, subst, ◌∙◌, arith}
 use Rattle.std.proofs.lemmas.List.{append-nil, append_assoc, drop_more, drop_all}
+use Rattle.std.proofs.lemmas.List.Elements.{filter_agree}
 use Rattle.wac_types_base.specs.declared.item.ItemKind.{ItemKind}
 use Rattle.wac_types_base.specs.declared.ids.InterfaceId.{InterfaceId}
 use Rattle.wac_types_base.specs.declared.ids.WorldId.{WorldId}
@@ -169,10 +170,6 @@ spread_ends {Z} at d items i q h = ap (λ (us : List (String Z)). each (spread_g
 
 -- ---- which exports are asked for
 
-filter_by : (p q : Name → Bool) → ((n : Name) → p n ≡ q n) → (ns : List Name) → filter p ns ≡ filter q ns
-filter_by p q e [] = refl
-filter_by p q e (n ∷ ns) = ap (λ (b : Bool). if b then n ∷ filter p ns else filter p ns) (e n) ∙ ap (λ (ks : List Name). if q n then n ∷ ks else ks) (filter_by p q e ns)
-
 mapped_some : {A B : Type 0} (f : A → B) (o : Option A) → is_some o ≡ is_some (option_map f o)
 mapped_some f None = refl
 mapped_some f (Some x) = refl
@@ -181,7 +178,7 @@ mapped_some f (Some x) = refl
 pub exports_by : (c : Collection) → IsAcyclic c → (i : InterfaceId) (x : Interface) → slice_get c.interfaces i.index ≡ Some x → i.collection ≡ c.number → (gn ns : List Name)
     → filter (λ n. not (has_name gn n) && is_some (value_at x.exports n)) ns ≡ filter (λ n. not (has_name gn n) && is_some (value_at (exports_of (stated_of c (ItemKind.Instance i))) n)) ns
 exports_by c a i x at own gn ns =
-    filter_by (λ n. not (has_name gn n) && is_some (value_at x.exports n)) (λ n. not (has_name gn n) && is_some (value_at (exports_of (stated_of c (ItemKind.Instance i))) n))
+    filter_agree (λ (n : Name). not (has_name gn n) && is_some (value_at x.exports n)) (λ n. not (has_name gn n) && is_some (value_at (exports_of (stated_of c (ItemKind.Instance i))) n))
     (λ n. ap (λ (b : Bool). not (has_name gn n) && b)
     (mapped_some (stated_of c) (value_at x.exports n) ∙ ap is_some (sym (value_at-with_values (stated_of c) x.exports n) ∙ ap (λ (es : List (Name × Stated)). value_at es n) (sym (instance_exports c a i x at own))))) ns
 

@@ -1,6 +1,7 @@
 -- Expressions and arguments, step by step.
 use Rattle.std.proofs.Common.{◌≡◌, ◌==◌, ℕ, zero, suc, ◌+◌, ◌<◌, ◌≤◌, List, [], ◌∷◌, Bool, true, false, map, get_or, drop, length, Ok, Err, Result, OnOk, refl, sym, ap, subst, ◌∙◌, arith}
 use Rattle.std.specs.Prelude.{⊤, not}
+use Rattle.std.specs.Cmp.Derive.{one_truth}
 use Rattle.std.proofs.lemmas.Bool.Decides.{nat_tests}
 use Rattle.std.proofs.lemmas.List.{drop_all, drop_more}
 use Rattle.wac_types_base.specs.declared.item.ItemKind.{ItemKind}
@@ -26,10 +27,6 @@ use Rattle.wac_parser_resolve.proofs.Growing.{as_it_was}
 use Rattle.wac_parser_resolve.proofs.Nodes.{holds_stays}
 
 -- ---- what is answered, step by step
-
-pub on_ok : {T E P : Type 0} (r : Result T E) → P → OnOk r P
-on_ok (Ok x) p = p
-on_ok (Err e) p = tt
 
 pub on_ok_then : {T E P Q : Type 0} (r : Result T E) → OnOk r P → (P → Q) → OnOk r Q
 on_ok_then (Ok x) p f = f p
@@ -77,14 +74,8 @@ package_stays g h l k w id p stands = record {
 
 -- ---- arguments, one behind the other
 
-bool_same : (a b : Bool) → (a ≡ true → b ≡ true) → (b ≡ true → a ≡ true) → a ≡ b
-bool_same true true f g = refl
-bool_same true false f g = sym (f refl)
-bool_same false true f g = g refl
-bool_same false false f g = refl
-
 next_same : (i n : ℕ) → (suc i + 1 == suc n) ≡ (i + 1 == n)
-next_same i n = bool_same (suc i + 1 == suc n) (i + 1 == n) (λ e. grind (arith, nat_tests, e)) (λ e. grind (arith, nat_tests, e))
+next_same i n = one_truth (suc i + 1 == suc n) (i + 1 == n) (λ e. grind (arith, nat_tests, e)) (λ e. grind (arith, nat_tests, e))
 
 abbrev views : List InstantiationArgument → t.Arguments
 views xs = t.arguments (map view_instantiation_argument xs)
@@ -96,7 +87,7 @@ drop_next x xs i j e = ap (λ k. drop k (x ∷ xs)) e
 pub last_is : (xs : List InstantiationArgument) (i : ℕ) → i < length xs → is_last (views (drop (i + 1) xs)) ≡ (i + 1 == length xs)
 last_is [] i lt = absurd (omega (arith, lt))
 last_is (x ∷ []) zero lt = refl
-last_is (x ∷ y ∷ xs) zero lt = bool_same false (zero + 1 == length (x ∷ y ∷ xs)) (λ e. absurd (cc e)) (λ e. grind (arith, nat_tests, e))
+last_is (x ∷ y ∷ xs) zero lt = one_truth false (zero + 1 == length (x ∷ y ∷ xs)) (λ e. absurd (cc e)) (λ e. grind (arith, nat_tests, e))
 last_is (x ∷ y ∷ xs) (suc i) lt =
     ap (λ ys. is_last (views ys)) (drop_next x (y ∷ xs) (i + 1) (suc i + 1) (omega arith)) ∙ last_is (y ∷ xs) i (omega (arith, lt)) ∙ sym (next_same i (length (y ∷ xs)))
 last_is (x ∷ []) (suc i) lt = absurd (omega (arith, lt))

@@ -1,6 +1,6 @@
 -- When a graph meets its target.
 use Rattle.std.proofs.Common.{◌≡◌, ◌⊎◌, ◌<◌, ◌≤◌, ◌+◌, ℕ, List, [], ◌∷◌, length, Bool, true, false, ◌||◌, ◌==◌, if◌then◌else◌, Option, Some, None, IsSome, IfSome, Result, Ok, Err, OnOk, slice_get, refl, sym, ap, subst, ◌∙◌, inl, inr, arith}
-use Rattle.std.proofs.lemmas.Bool.{cases_eq}
+use Rattle.std.proofs.lemmas.Bool.{cases_eq, or_right}
 use Rattle.std.proofs.lemmas.Slice.Eq.{bytes_eq-Decides}
 use borrow.Author.Count.{below_more}
 use Rattle.std.specs.Cmp.Lexicographic.{pointwise}
@@ -67,16 +67,12 @@ among_any : (q : ℕ) (ks : List ℕ) → list_any (eq_by_cmp nat_cmp q) ks ≡ 
 among_any q [] h = absurd (cc h)
 among_any q (x ∷ xs) h = elim (test_true q x (list_any (eq_by_cmp nat_cmp q) xs) (either_case q x) h) [ inl e ↦ inl e | inr r ↦ inr (among_any q xs r) ]
 
-or_true : (b : Bool) → (b || true) ≡ true
-or_true true = refl
-or_true false = refl
-
 any_among : (q : ℕ) (ks : List ℕ) → Among q ks → list_any (eq_by_cmp nat_cmp q) ks ≡ true
 any_among q [] m = absurd m
 any_among q (x ∷ xs) (inl e) =
     let same : eq_by_cmp nat_cmp q x ≡ true = ap (eq_by_cmp nat_cmp q) (sym e) ∙ tied q in
     ap (λ t. t || list_any (eq_by_cmp nat_cmp q) xs) same
-any_among q (x ∷ xs) (inr m) = ap (λ t. eq_by_cmp nat_cmp q x || t) (any_among q xs m) ∙ or_true (eq_by_cmp nat_cmp q x)
+any_among q (x ∷ xs) (inr m) = or_right (eq_by_cmp nat_cmp q x) (list_any (eq_by_cmp nat_cmp q) xs) (any_among q xs m)
 
 pub keys_there : (m : NodeMap) (k : ℕ) → IsSome (map.get m k) → Among k (map.keys m)
 keys_there m k h = among_any k (map.keys m) (sym (map.contains_key-keys m k) ∙ h)
@@ -119,7 +115,7 @@ some_node o x e = subst IsSome (sym e) refl
 pub all_statements : (g : Graph) (given : Gives) (left : List ℕ) → left ≡ [] → AreLeft g (IsStatementMet g given) left → (k : ℕ) → IsStatementMet g given k
 all_statements g given left is l k n i = left_none g (IsStatementMet g given) left is l k (some_node (node_at g k) i.node i.there) n i
 
-instance_there : (g : Graph) (k : ℕ) (o : Option NodeData) → node_at g k ≡ o → IsSome (package_made g o) → ContainsNode g k
+pub instance_there : (g : Graph) (k : ℕ) (o : Option NodeData) → node_at g k ≡ o → IsSome (package_made g o) → ContainsNode g k
 instance_there g k None e h = absurd (cc h)
 instance_there g k (Some x) e h = some_node (node_at g k) x e
 

@@ -1,5 +1,6 @@
 -- Two lists in turn, lists whose names are distinct, and what is found in them.
 use Rattle.std.proofs.Common.{◌≡◌, ℕ, zero, suc, List, [], ◌∷◌, ◌++◌, Bool, true, false, ◌||◌, Some, inl, inr, refl, sym, ap, subst, ◌∙◌}
+use Rattle.std.proofs.lemmas.Bool.{or_right, or_left}
 use Rattle.std.specs.Prelude.{slice_get}
 use Rattle.std.specs.List.{list_any}
 use Rattle.wac_types_base.specs.Entries.{AreDistinct, names_of}
@@ -35,15 +36,7 @@ module _ {A B : Type 0} where
   turn_on R (a ∷ xs) (b ∷ ys) x t (inl e) = (b, inl refl, subst (λ (z : A). R z b) (sym e) t.0)
   turn_on R (a ∷ xs) (b ∷ ys) x t (inr m) = let n = turn_on R xs ys x t.1 m in (n.0, inr n.1, n.2)
 
-any_here : (b c : Bool) → b ≡ true → (b || c) ≡ true
-any_here true c e = refl
-any_here false c e = absurd (cc e)
-
-any_later : (b c : Bool) → c ≡ true → (b || c) ≡ true
-any_later true c e = refl
-any_later false c e = e
-
-none_by : (b c : Bool) → (b ≡ true → ⊥) → c ≡ false → (b || c) ≡ false
+pub none_by : (b c : Bool) → (b ≡ true → ⊥) → c ≡ false → (b || c) ≡ false
 none_by true c h e = absurd (h refl)
 none_by false c h e = e
 
@@ -73,8 +66,8 @@ module _ {A : Type 0} where
 
   pub any_among : (p : A → Bool) (xs : List A) (x : A) → Among x xs → p x ≡ true → list_any p xs ≡ true
   any_among p [] x m e = absurd m
-  any_among p (y ∷ xs) x (inl s) e = any_here (p y) (list_any p xs) (ap p (sym s) ∙ e)
-  any_among p (y ∷ xs) x (inr m) e = any_later (p y) (list_any p xs) (any_among p xs x m e)
+  any_among p (y ∷ xs) x (inl s) e = or_left (p y) (list_any p xs) (ap p (sym s) ∙ e)
+  any_among p (y ∷ xs) x (inr m) e = or_right (p y) (list_any p xs) (any_among p xs x m e)
 
   pub any_none : (p : A → Bool) (xs : List A) → ((x : A) → Among x xs → p x ≡ true → ⊥) → list_any p xs ≡ false
   any_none p [] h = refl

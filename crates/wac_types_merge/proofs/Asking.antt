@@ -46,14 +46,14 @@ place_within ms i m e = some_place ms i m e
 pub same_import : (ms : List Import) (i : ℕ) (m b : Import) → slice_get ms i ≡ Some m → b ≡ slice_index_or ms i b → m ≡ b
 same_import ms i m b e is = let at = get-place ms i b (some_place ms i m e) is in cc (e, at)
 
-joint_first : (f g : Family) → (joint f g ≡ Family.Neither → ⊥) → f ≡ Family.Neither → ⊥
+pub joint_first : (f g : Family) → (joint f g ≡ Family.Neither → ⊥) → f ≡ Family.Neither → ⊥
 joint_first Family.Plain g h e = absurd (cc e)
 joint_first Family.Wit g h e = absurd (cc e)
 joint_first Family.Neither Family.Plain h e = h refl
 joint_first Family.Neither Family.Wit h e = h refl
 joint_first Family.Neither Family.Neither h e = h refl
 
-joint_second : (f g : Family) → (joint f g ≡ Family.Neither → ⊥) → g ≡ Family.Neither → ⊥
+pub joint_second : (f g : Family) → (joint f g ≡ Family.Neither → ⊥) → g ≡ Family.Neither → ⊥
 joint_second f Family.Plain h e = absurd (cc e)
 joint_second f Family.Wit h e = absurd (cc e)
 joint_second Family.Plain Family.Neither h e = h refl

@@ -1,5 +1,5 @@
 -- The map of merged items, and the meet that it is.
-use Rattle.std.proofs.Common.{◌≡◌, ℕ, ◌+◌, List, [], ◌∷◌, ◌++◌, take, Option, Some, None, Bool, true, false, if◌then◌else◌, append_assoc, refl, sym, ap, subst, ◌∙◌, ◌⊎◌, inl, inr}
+use Rattle.std.proofs.Common.{◌≡◌, ℕ, ◌+◌, List, [], ◌∷◌, ◌++◌, take, Option, Some, None, Bool, true, false, if◌then◌else◌, append_assoc, refl, sym, ap, subst, ◌∙◌, inl, inr}
 use Rattle.std.proofs.lemmas.List.{append-nil}
 use Rattle.std.specs.Prelude.{◌==◌, is_some, slice_get}
 use Rattle.std.specs.Option.{option_map}
@@ -22,6 +22,7 @@ use Rattle.wac_types_fit.proofs.Meeting.{Joins, fields_meet}
 use Rattle.wac_types_fit.proofs.Unfolded.{fields_in}
 use Rattle.wac_types_merge.specs.Interfaces.{if_new, new_in, AllStand, SlotInside, JoinedIn, AreJoined}
 use Rattle.wac_types_merge.proofs.Grown.{tree_kept, slot_kept, inside_kept}
+use Rattle.wac_types_merge.proofs.Tracks.{Among-either}
 
 -- ---- look-ups
 
@@ -109,16 +110,11 @@ names_new : {T : Type 0} (es fs : List (Name × T)) (n : Name) → Among n (name
 names_new es [] n m = m
 names_new es (f ∷ fs) n m = new_names (is_some (value_at es f.0)) f (new_in es fs) fs n (names_new es fs n) m
 
-either_list : {X : Type 0} (x : X) (xs ys : List X) → Among x (xs ++ ys) → Among x xs ⊎ Among x ys
-either_list x [] ys m = inr m
-either_list x (z ∷ xs) ys (inl e) = inl (inl e)
-either_list x (z ∷ xs) ys (inr m) = elim (either_list x xs ys m) [ inl n ↦ inl (inr n) | inr n ↦ inr n ]
-
 -- the next name is new, where the first map does not have it
 pub added_new : {T : Type 0} (es fs first all : List (Name × T)) (i : ℕ) (n : Name) (v : T) → slice_get fs i ≡ Some (n, v) → AreDistinct (names_of fs) → names_of first ≡ names_of es → all ≡ first ++ new_in es (take i fs) → value_at es n ≡ None → IsNew n all
 added_new es fs first all i n v at apart same e none m =
     let is : names_of all ≡ names_of first ++ names_of (new_in es (take i fs)) = ap names_of e ∙ map-append (λ x. x.0) first (new_in es (take i fs)) in
-    elim (either_list n (names_of first) (names_of (new_in es (take i fs))) (subst (Among n) is m)) [
+    elim (Among-either n (names_of first) (names_of (new_in es (take i fs))) (subst (Among n) is m)) [
       | inl k ↦ no_name es n none (subst (Among n) same k)
       | inr k ↦ distinct-before (names_of fs) i n apart (map-get (λ x. x.0) fs i (n, v) at) (subst (Among n) (map-take (λ x. x.0) fs i) (names_new es (take i fs) n k))
     ]

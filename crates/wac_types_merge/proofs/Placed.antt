@@ -1,5 +1,5 @@
 -- Interfaces that are added.
-use Rattle.std.proofs.Common.{◌≡◌, List, [], ◌∷◌, ◌++◌, length, map, Some, None, refl, sym, ap, subst, ◌∙◌, inl, inr, ◌⊎◌}
+use Rattle.std.proofs.Common.{◌≡◌, List, [], ◌∷◌, ◌++◌, length, map, Some, None, refl, sym, ap, subst, ◌∙◌, inl, inr}
 use Rattle.std.specs.Prelude.{Result, Ok, Err, OnOk, IfOk, slice_get, is_some, Bool, true, false, if◌then◌else◌}
 use Rattle.wac_types_base.specs.declared.item.«Type».{«Type» as TypeKind}
 use Rattle.wac_types_base.specs.declared.item.ItemKind.{ItemKind}
@@ -25,6 +25,7 @@ use Rattle.wac_types_fit.proofs.Unfolded.{fields_in, instance_tree, interface_no
 use Rattle.wac_types_merge.specs.Interfaces.{new_in, merged_interface, IsAt, renamed, IsRenamed, AllStand, UsesStand, MeetIn, AreJoined}
 use Rattle.wac_types_merge.proofs.Grown.{tree_kept}
 use Rattle.wac_types_merge.proofs.Joining.{merged_meet}
+use Rattle.wac_types_merge.proofs.Tracks.{Among-either}
 use Rattle.wac_types_base.proofs.Replacing.{labelled_there}
 use Rattle.wac_types_fit.proofs.Items.{as_slot}
 
@@ -46,11 +47,6 @@ item_slots : (c : Collection) (es : List (Name × ItemKind)) → AllStand c es �
 item_slots c [] h s m = absurd m
 item_slots c (e ∷ es) h s (inl is) = subst (SlotStands c) (sym is) (h e.0 e.1 (inl refl))
 item_slots c (e ∷ es) h s (inr m) = item_slots c es (λ n k a. h n k (inr a)) s m
-
-Among-either : {X : Type 0} (x : X) (xs ys : List X) → Among x (xs ++ ys) → Among x xs ⊎ Among x ys
-Among-either x [] ys m = inr m
-Among-either x (z ∷ xs) ys (inl e) = inl (inl e)
-Among-either x (z ∷ xs) ys (inr m) = elim (Among-either x xs ys m) [ inl n ↦ inl (inr n) | inr n ↦ inr n ]
 
 pub all_children : (c : Collection) (x : Interface) → UsesStand c x.uses → AllStand c x.exports → HasChildren c (interface_entry x)
 all_children c x u e =

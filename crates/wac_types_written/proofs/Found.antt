@@ -1,14 +1,11 @@
 -- What became of interfaces and worlds, as it is looked for and kept.
-use Rattle.std.proofs.Common.{◌≡◌, ℕ, Some, Bool, true, false, nat_eq, cond, refl, sym, ap, subst, ◌∙◌, arith}
-use Rattle.std.proofs.lemmas.Bool.Decides.{nat_tests}
+use Rattle.std.proofs.Common.{◌≡◌, ℕ, Some, Bool, true, false, nat_eq, cond, refl, sym, ap, subst, ◌∙◌}
+use Rattle.std.proofs.lemmas.Bool.{eqb-true}
 use Rattle.std.specs.HashMap.{HashMap, get, Updates}
 use Rattle.wac_types_base.specs.declared.item.ItemKind.{ItemKind}
 use Rattle.wac_types_base.specs.Record.{Collection}
 use Rattle.wac_types_base.specs.Collection.{Stands}
 use Rattle.wac_types_written.specs.Forms.{EachWritten, IsWritten}
-
-pub same_index : (a b : ℕ) → nat_eq a b ≡ true → a ≡ b
-same_index a b h = grind (arith, nat_tests)
 
 module _ {S : Type 0} (c : Collection) (kind : ℕ → ℕ → ItemKind) (t : HashMap ℕ ℕ S) (h : EachWritten c kind t) where
   -- what is found of an id of this collection
@@ -26,12 +23,12 @@ module _ {S : Type 0} (c : Collection) (kind : ℕ → ℕ → ItemKind) (t : Ha
       }
     where
       standing : (a : ℕ) → Stands c (kind c.number i) → (x : Bool) → nat_eq i a ≡ x → (b : ℕ) → get nat_eq t' a ≡ Some b → Stands c (kind c.number a)
-      standing a s true same b e = subst (λ n. Stands c (kind c.number n)) (same_index i a same) s
+      standing a s true same b e = subst (λ n. Stands c (kind c.number n)) (eqb-true i a same) s
       standing a s false other b e = h.stand a b (ap (λ x. cond x (Some j) (get nat_eq t a)) (sym other) ∙ sym (u.0 a) ∙ e)
 
       becoming : (a : ℕ) → IsWritten c (kind c.number i) (kind c.number j) → (x : Bool) → nat_eq i a ≡ x → (b : ℕ) → get nat_eq t' a ≡ Some b → IsWritten c (kind c.number a) (kind c.number b)
       becoming a w true same b e =
           let new : Some j ≡ Some b = ap (λ x. cond x (Some j) (get nat_eq t a)) (sym same) ∙ sym (u.0 a) ∙ e in
           let js : j ≡ b = cc new in
-          subst (λ n. IsWritten c (kind c.number n) (kind c.number b)) (same_index i a same) (subst (λ n. IsWritten c (kind c.number i) (kind c.number n)) js w)
+          subst (λ n. IsWritten c (kind c.number n) (kind c.number b)) (eqb-true i a same) (subst (λ n. IsWritten c (kind c.number i) (kind c.number n)) js w)
       becoming a w false other b e = h.written a b (ap (λ x. cond x (Some j) (get nat_eq t a)) (sym other) ∙ sym (u.0 a) ∙ e)

@@ -3,6 +3,7 @@ use Rattle.std.proofs.Common.{◌≡◌, ℕ, List, [], ◌∷◌, ◌++◌, Som
 use Rattle.std.specs.HashSet.{contains, Updates}
 use Rattle.std.specs.Cmp.Lexicographic.{pointwise}
 use Rattle.std.proofs.lemmas.Slice.Eq.{bytes_eq-Decides}
+use Rattle.std.proofs.lemmas.Bool.{eqb-true}
 use Rattle.wac_types_base.specs.declared.item.ItemKind.{ItemKind}
 use Rattle.wac_types_base.specs.declared.ids.InterfaceId.{InterfaceId}
 use Rattle.wac_types_base.specs.declared.defined.Interface.{Interface}
@@ -18,7 +19,6 @@ use Rattle.wac_types_written.specs.Forms.{Covers, FoundStand, stated_found, thro
 use Rattle.wac_types_written.specs.Walked.{IsWalk, Walks}
 use Rattle.wac_types_written.specs.Written.{under_identifier, with_firsts}
 use Rattle.wac_types_written.proofs.Firsts.{IsFound, firsts_append, firsts_found, firsts_same, kept_firsts}
-use Rattle.wac_types_written.proofs.Found.{same_index}
 use Rattle.wac_types_written.proofs.Ids.{interface_states}
 
 pub found_with : {T U : Type 0} (f : T → U) (es : List (Name × T)) (n : Name) → is_some (value_at (with_values f es) n) ≡ is_some (value_at es n)
@@ -82,7 +82,7 @@ module _ (c : Collection) where
       }
     where
       by_test : (i : ℕ) → Covers (stated_found c mid.found) (through (stated_of c (interface_at c.number id.index))) → (b : Bool) → nat_eq id.index i ≡ b → contains nat_eq new.walked i ≡ true → Stands c (interface_at c.number i) → Covers (stated_found c mid.found) (through (stated_of c (interface_at c.number i)))
-      by_test i here true e w s = subst (λ n. Covers (stated_found c mid.found) (through (stated_of c (interface_at c.number n)))) (same_index id.index i e) here
+      by_test i here true e w s = subst (λ n. Covers (stated_found c mid.found) (through (stated_of c (interface_at c.number n)))) (eqb-true id.index i e) here
       by_test i here false e w s = h.is.walked i (ap (λ b. cond b true (contains nat_eq mid.walked i)) (sym e) ∙ sym (u.0 i) ∙ w) s
 
   module _ (a : IsAcyclic c) (id : InterfaceId) (i : Interface) (at : slice_get c.interfaces id.index ≡ Some i) (own : id.collection ≡ c.number) where

@@ -1,6 +1,6 @@
 -- The last call of a stream.
 use Rattle.std.proofs.Common.{◌≡◌, ℕ, List, Bool, Option, Result, Ok, Err, sym, subst}
-use Rattle.std.specs.Prelude.{OnOk, OnErr, IfErr, IsErrOf}
+use Rattle.std.specs.Prelude.{OnErr, IfErr, IsErrOf}
 use Rattle.wac_workspace.specs.declared.output.Output.{Output}
 use Rattle.wac_workspace.specs.declared.errors.StreamError.{StreamError}
 use Rattle.wac_workspace.specs.declared.errors.StreamError.TheVariants as error
@@ -8,10 +8,6 @@ use Rattle.wac_workspace.specs.Packages.{Held}
 use Rattle.wac_workspace.specs.Composing.{IsComposed}
 use Rattle.wac_streams.specs.Calls.{AppendsPrefix}
 use Rattle.wac_workspace.specs.Streaming.{Ends, IsText, IsStopped}
-
-pub on_ok : {T E : Type 0} {P Q : Type 0} (r : Result T E) → (P → Q) → OnOk r P → OnOk r Q
-on_ok (Ok x) f h = f h
-on_ok (Err e) f h = tt
 
 pub write_stopped : {T : Type 0} {P : Type 0} (old new : Held) (define : Bool) (ends : Ends) (source : List ℕ) (o : Output) (r : Result T StreamError)
     → IsText ends.read ends.unread source → IsComposed old new source define o → (P → AppendsPrefix ends.written ends.known o.bytes.items) → OnErr r (IsErrOf r error.Write) → OnErr r P → IfErr r (IsStopped old new define ends)

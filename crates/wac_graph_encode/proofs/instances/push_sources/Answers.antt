@@ -1,8 +1,9 @@
 use Rattle.std.proofs.Common.{inl, subst}
+use Rattle.std.proofs.lemmas.Result.{on_ok_weaker}
 use Rattle.wac_types_base.specs.Graph.{Among}
 use Rattle.wac_types_base.proofs.Looked.{among-get}
 use Rattle.wac_types_base.proofs.Loops.{get-place}
-use Rattle.wac_graph_encode.proofs.WritingLaws.{on_ok, passed_needed, needed_more, needed_trans}
+use Rattle.wac_graph_encode.proofs.WritingLaws.{passed_needed, needed_more, needed_trans}
 use Rattle.wac_graph_encode.proofs.instances.push_sources.Goals as goal
 
 pub loop-argument-init : goal.loop-argument-init
@@ -18,5 +19,5 @@ loop-argument-preserved c =
 
 pub returns : goal.returns
 returns c =
-    on_ok c.push_alias_source.result
+    on_ok_weaker c.push_alias_source.result
     (needed_trans c.args.graph.now c.args.node c.args.sources.now.items c.loop-argument.sources.items c.push_alias_source.new.sources.items c.loop-argument.invariant) c.push_alias_source.ensures

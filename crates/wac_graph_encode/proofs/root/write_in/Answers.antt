@@ -1,4 +1,5 @@
 use Rattle.std.proofs.Common.{[], sym, subst}
+use Rattle.std.proofs.lemmas.Result.{on_ok_weaker}
 use Rattle.wac_types_base.specs.Entries.{AreDistinct}
 use Rattle.wac_types_base.specs.Collection.{IsAcyclic}
 use Rattle.wac_graph_scopes.specs.Imports.{WritesOn, WritesAllImports}
@@ -6,7 +7,6 @@ use Rattle.wac_graph_scopes.proofs.ImportLaws.{GoesOn-refl}
 use Rattle.wac_graph_encode.specs.Beginning.{IsRooted}
 use Rattle.wac_graph_encode.specs.Defining.{AreDefined}
 use Rattle.wac_graph_encode.proofs.RootedOuters.{outers_stand, imports_asked}
-use Rattle.wac_graph_encode.proofs.WritingLaws.{on_ok}
 use Rattle.wac_graph_encode.proofs.root.write_in.Goals as goal
 
 pub returns : goal.returns
@@ -25,7 +25,7 @@ returns c define to bare w told =
       nodes_stand = are.holds.stand;
       outers_stand = outers_stand g c.see_sound.ensures finite a.types.now acyclic a.world a.called.now to.outers w goes.writing.inside scope.places.items goes.placed;
     } in
-    on_ok c.write_packages.result
+    on_ok_weaker c.write_packages.result
     (λ begun. record {
       imports = goes.writing.inside.imports;
       once = subst AreDistinct (sym goes.writing.imports) goes.writing.imports_once;

@@ -1,4 +1,5 @@
 use Rattle.std.proofs.Common.{ℕ, List, [], ◌++◌, length, sym, ap, subst, ◌∙◌}
+use Rattle.std.proofs.lemmas.Result.{on_ok_weaker}
 use Rattle.wac_types_base.specs.Entries.{names_of}
 use Rattle.wac_graph_bytes.specs.Typing.{nothing_inside}
 use Rattle.wac_graph_scopes.specs.declared.items.ItemScope.{ItemScope}
@@ -9,7 +10,6 @@ use Rattle.wac_graph_scopes.specs.Orders.{IsOrder}
 use Rattle.wac_graph_scopes.specs.Parts.{imports_of}
 use Rattle.wac_graph_scopes.proofs.ImportLaws.{all_named, ordered_names, others_new, world_begun}
 use Rattle.wac_graph_scopes.proofs.OrderLaws.{distinct-left, distinct-right}
-use Rattle.wac_graph_encode.proofs.WritingLaws.{on_ok}
 use Rattle.wac_graph_encode.proofs.root.write_outers.Goals as goal
 
 pub returns : goal.returns
@@ -27,5 +27,5 @@ returns c is w outer =
     let o : IsOrder (length ns) sources others = subst (λ (l : List ℕ). IsOrder (length ns) sources l) (sym c.as_slice-2.ensures.value) half in
     let one = [] ++ names_at ns sources in
     let a = c.in_ok-write_in_order.ensures w outer [] [] dn (distinct-left sources others o.distinct) (λ k x n at y. y) h in
-    on_ok c.write_in_order-2.result (λ d. (one ++ names_at ns others, d, all_named ns sources others o))
+    on_ok_weaker c.write_in_order-2.result (λ d. (one ++ names_at ns others, d, all_named ns sources others o))
     (c.write_in_order-2.ensures w outer one [] dn (distinct-right sources others o.distinct) (others_new ns sources others o dn) a)

@@ -1,8 +1,9 @@
 use Rattle.std.proofs.Common.{◌≡◌, Some, sym, subst, ◌∙◌}
+use Rattle.std.proofs.lemmas.Bool.{both_ways}
 use Rattle.wac_types_base.specs.Entries.{Name, names_of, with_values}
 use Rattle.wac_types_base.specs.Stated.{stated_of}
 use Rattle.wac_graph_plug.specs.Plugging.{Finds, Matches}
-use Rattle.wac_graph_plug.proofs.Near.{value_none, finds_there, not_both}
+use Rattle.wac_graph_plug.proofs.Near.{value_none, finds_there}
 use Rattle.wac_graph_plug.proofs.Gathered.{is_match, no_fit, no_find}
 use Rattle.wac_graph_plug.proofs.matching.matched.Goals as goal
 
@@ -18,7 +19,7 @@ pub returns-then-not-yes : goal.returns-then-not-yes
 returns-then-not-yes c =
     let finds : Finds (names_of c.args.imports.now) c.args.name.now c.in-Some.import.now = rw c.in-Some.is at c.in_ok-import.ensures.found in
     no_fit c.args.types.now c.args.imports.now c.args.name.now c.args.given c.in-Some.import.now c.in-Some-get.asked.now finds (sym c.in-Some-get.ensures)
-    (λ fit. not_both c.in_ok-yes.yes (c.in_ok-yes.ensures.1 fit) c.if-not-yes.true)
+    (λ fit. both_ways c.in_ok-yes.yes c.if-not-yes.true (c.in_ok-yes.ensures.1 fit))
 
 pub returns : goal.returns
 returns c =

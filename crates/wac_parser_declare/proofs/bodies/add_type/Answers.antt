@@ -1,5 +1,6 @@
 use Rattle.std.specs.Prelude.{⊤}
 use Rattle.std.proofs.Common.{◌≡◌, subst}
+use Rattle.std.proofs.lemmas.Result.{on_ok_weaker}
 use Rattle.wac_types_base.specs.declared.item.ItemKind.{ItemKind}
 use Rattle.wac_types_base.specs.Stated.{stated_of}
 use Rattle.wac_parser_tree.specs.Views.{view_ident}
@@ -11,7 +12,7 @@ use Rattle.wac_parser_declare.specs.Held.{holder_of, stated_body}
 use Rattle.wac_parser_declare.specs.Holding.{scope_of}
 use Rattle.wac_parser_declare.specs.InBodies.{IsBody, item_added}
 use Rattle.wac_parser_declare.specs.Scope.{Scope, bind}
-use Rattle.wac_parser_declare.proofs.Standing.{if_ok, bound_stand}
+use Rattle.wac_parser_declare.proofs.Standing.{bound_stand}
 use Rattle.wac_parser_declare.proofs.bodies.add_type.Goals as goal
 
 pub returns-clause-outcome : goal.returns-clause-outcome
@@ -26,4 +27,4 @@ returns-clause-outcome c d =
 
 pub returns-clause-stands : goal.returns-clause-stands
 returns-clause-stands c =
-    if_ok c.add_item.result (λ f d s h. f d (record { names = bound_stand d _ _ _ _ s.names h c.in_ok-bind.ensures.ok; uses = s.uses; items = s.items; exports = s.exports }) h) c.add_item.ensures.stands
+    on_ok_weaker c.add_item.result (λ f d s h. f d (record { names = bound_stand d _ _ _ _ s.names h c.in_ok-bind.ensures.ok; uses = s.uses; items = s.items; exports = s.exports }) h) c.add_item.ensures.stands

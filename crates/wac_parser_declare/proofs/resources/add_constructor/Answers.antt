@@ -1,5 +1,6 @@
 use Rattle.std.specs.Prelude.{⊤}
 use Rattle.std.proofs.Common.{[], map, Some, false, is_some, Ok, ap, subst, sym, ◌∙◌}
+use Rattle.std.proofs.lemmas.Result.{on_ok_weaker}
 use Rattle.wac_types_base.specs.declared.item.FuncKind.{FuncKind}
 use Rattle.wac_types_base.specs.declared.item.ItemKind.{ItemKind}
 use Rattle.wac_types_base.specs.declared.item.ValueType.{ValueType}
@@ -18,7 +19,7 @@ use Rattle.wac_parser_declare.specs.Held.{stated_body}
 use Rattle.wac_parser_declare.specs.InBodies.{IsBody}
 use Rattle.wac_parser_declare.specs.Scope.{has}
 use Rattle.wac_parser_declare.proofs.InBodies.{absent_outcome, has_item, own_stated, there_refused}
-use Rattle.wac_parser_declare.proofs.Standing.{body_stays, if_ok}
+use Rattle.wac_parser_declare.proofs.Standing.{body_stays}
 use Rattle.wac_parser_declare.proofs.resources.add_constructor.Goals as goal
 
 pub add_function-requires : goal.add_function-requires
@@ -62,4 +63,4 @@ pub returns-clause-body : goal.returns-clause-body
 returns-clause-body g c =
     let old = g.T.GrowingTypes.collection c.args.types.now in
     let new = g.T.GrowingTypes.collection c.function-declared.new.types in
-    if_ok c.add_function.result (λ s. s new (body_stays old new c.args.body.now c.function-declared.ensures.grows c.requires.body) c.function-declared.ensures.stands) c.add_function.ensures.stands
+    on_ok_weaker c.add_function.result (λ s. s new (body_stays old new c.args.body.now c.function-declared.ensures.grows c.requires.body) c.function-declared.ensures.stands) c.add_function.ensures.stands

@@ -1,5 +1,6 @@
 use Rattle.std.specs.Prelude.{⊤}
 use Rattle.std.proofs.Common.{false, subst, sym}
+use Rattle.std.proofs.lemmas.Result.{on_ok_weaker}
 use Rattle.wac_parser_tree.specs.declared.declaration.ItemTypeDecl.{ItemTypeDecl}
 use Rattle.wac_parser_tree.specs.Views.{view_enum_decl, view_flags_decl, view_item_type_decl, view_record_decl, view_type_alias, view_variant_decl}
 use Rattle.wac_parser_refusals.specs.Outcomes.{IsOutcome}
@@ -8,7 +9,7 @@ use Rattle.wac_parser_declare.specs.Declarations.{enum_decl, flags_decl, record_
 use Rattle.wac_parser_declare.specs.Held.{holder_of, stated_body}
 use Rattle.wac_parser_declare.specs.Holding.{scope_of}
 use Rattle.wac_parser_declare.specs.InBodies.{IsBody}
-use Rattle.wac_parser_declare.proofs.Standing.{body_stays, if_ok}
+use Rattle.wac_parser_declare.proofs.Standing.{body_stays}
 use Rattle.wac_parser_declare.proofs.resources.item_type.Goals as goal
 
 pub returns-in-Variant-clause-outcome : goal.returns-in-Variant-clause-outcome
@@ -24,7 +25,7 @@ pub returns-in-Variant-clause-body : goal.returns-in-Variant-clause-body
 returns-in-Variant-clause-body g c =
     let old = g.T.GrowingTypes.collection c.args.types.now in
     let new = g.T.GrowingTypes.collection c.variant_decl-declared.new.types in
-    if_ok c.add_declared.result (λ s. s new (body_stays old new c.args.body.now c.variant_decl-declared.ensures.grows c.requires.body) c.variant_decl-declared.ensures.stands) c.add_declared.ensures.stands
+    on_ok_weaker c.add_declared.result (λ s. s new (body_stays old new c.args.body.now c.variant_decl-declared.ensures.grows c.requires.body) c.variant_decl-declared.ensures.stands) c.add_declared.ensures.stands
 
 pub returns-in-Record-clause-outcome : goal.returns-in-Record-clause-outcome
 returns-in-Record-clause-outcome g c =
@@ -39,7 +40,7 @@ pub returns-in-Record-clause-body : goal.returns-in-Record-clause-body
 returns-in-Record-clause-body g c =
     let old = g.T.GrowingTypes.collection c.args.types.now in
     let new = g.T.GrowingTypes.collection c.record_decl-declared.new.types in
-    if_ok c.add_declared-in-Record.result (λ s. s new (body_stays old new c.args.body.now c.record_decl-declared.ensures.grows c.requires.body) c.record_decl-declared.ensures.stands) c.add_declared-in-Record.ensures.stands
+    on_ok_weaker c.add_declared-in-Record.result (λ s. s new (body_stays old new c.args.body.now c.record_decl-declared.ensures.grows c.requires.body) c.record_decl-declared.ensures.stands) c.add_declared-in-Record.ensures.stands
 
 pub returns-in-Flags-clause-outcome : goal.returns-in-Flags-clause-outcome
 returns-in-Flags-clause-outcome g c =
@@ -54,7 +55,7 @@ pub returns-in-Flags-clause-body : goal.returns-in-Flags-clause-body
 returns-in-Flags-clause-body g c =
     let old = g.T.GrowingTypes.collection c.args.types.now in
     let new = g.T.GrowingTypes.collection c.flags_decl-declared.new.types in
-    if_ok c.add_declared-in-Flags.result (λ s. s new (body_stays old new c.args.body.now c.flags_decl-declared.ensures.grows c.requires.body) c.flags_decl-declared.ensures.stands) c.add_declared-in-Flags.ensures.stands
+    on_ok_weaker c.add_declared-in-Flags.result (λ s. s new (body_stays old new c.args.body.now c.flags_decl-declared.ensures.grows c.requires.body) c.flags_decl-declared.ensures.stands) c.add_declared-in-Flags.ensures.stands
 
 pub returns-in-Enum-clause-outcome : goal.returns-in-Enum-clause-outcome
 returns-in-Enum-clause-outcome g c =
@@ -69,7 +70,7 @@ pub returns-in-Enum-clause-body : goal.returns-in-Enum-clause-body
 returns-in-Enum-clause-body g c =
     let old = g.T.GrowingTypes.collection c.args.types.now in
     let new = g.T.GrowingTypes.collection c.enum_decl-declared.new.types in
-    if_ok c.add_declared-in-Enum.result (λ s. s new (body_stays old new c.args.body.now c.enum_decl-declared.ensures.grows c.requires.body) c.enum_decl-declared.ensures.stands) c.add_declared-in-Enum.ensures.stands
+    on_ok_weaker c.add_declared-in-Enum.result (λ s. s new (body_stays old new c.args.body.now c.enum_decl-declared.ensures.grows c.requires.body) c.enum_decl-declared.ensures.stands) c.add_declared-in-Enum.ensures.stands
 
 pub returns-in-Alias-clause-outcome : goal.returns-in-Alias-clause-outcome
 returns-in-Alias-clause-outcome g c =
@@ -84,4 +85,4 @@ pub returns-in-Alias-clause-body : goal.returns-in-Alias-clause-body
 returns-in-Alias-clause-body g c =
     let old = g.T.GrowingTypes.collection c.args.types.now in
     let new = g.T.GrowingTypes.collection c.type_alias-declared.new.types in
-    if_ok c.add_declared-in-Alias.result (λ s. s new (body_stays old new c.args.body.now c.type_alias-declared.ensures.grows c.requires.body) c.type_alias-declared.ensures.stands) c.add_declared-in-Alias.ensures.stands
+    on_ok_weaker c.add_declared-in-Alias.result (λ s. s new (body_stays old new c.args.body.now c.type_alias-declared.ensures.grows c.requires.body) c.type_alias-declared.ensures.stands) c.add_declared-in-Alias.ensures.stands

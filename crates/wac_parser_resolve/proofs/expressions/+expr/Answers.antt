@@ -16,6 +16,7 @@ use Rattle.wac_parser_refusals.specs.Causes.{Answer, ◌>>=◌, FillArgumentNotL
 use Rattle.wac_parser_refusals.specs.Outcomes.{IsHeld, IsOutcome, IsRefusal}
 use Rattle.wac_parser_refusals.proofs.Outcomes.{after_held, after_outcome, after_refused, refused_outcome, then_refused}
 use Rattle.wac_parser_declare.proofs.Members.{told}
+use Rattle.wac_parser_declare.proofs.Standing.{ok_of}
 use Rattle.wac_parser_resolve.specs.declared.arguments.Given.{Given}
 use Rattle.wac_parser_resolve.specs.declared.board.Board.{Board}
 use Rattle.wac_parser_resolve.specs.declared.spans.Spans.{Spans}
@@ -33,7 +34,7 @@ use Rattle.wac_parser_resolve.proofs.ExprViews.{argument_fill, argument_inferred
 use Rattle.wac_parser_resolve.proofs.Growing.{Inner-refl, Inner-trans}
 use Rattle.wac_parser_resolve.proofs.Inferring.{import_names}
 use Rattle.wac_parser_resolve.proofs.Staying.{given_stay}
-use Rattle.wac_parser_resolve.proofs.Stepping.{adding, argument_next, argument_stops, arguments_end, fill_held, fill_refused, made_held, made_refused, on_ok, on_ok_then, package_stays, then_pure}
+use Rattle.wac_parser_resolve.proofs.Stepping.{adding, argument_next, argument_stops, arguments_end, fill_held, fill_refused, made_held, made_refused, on_ok_then, package_stays, then_pure}
 use Rattle.wac_parser_resolve.proofs.expressions.+expr.Goals as goal
 
 -- ---- arguments
@@ -122,7 +123,7 @@ argument-returns-in_ok-argument-in-Inferred-clause-outcome u c q given =
     (λ hs u e x. record { on = given.on; given = x }) (c.give.ensures.outcome g ms q.1 (inferred_given ns i d) given.given is)))
 
 pub argument-returns-in_ok-argument-in-Inferred-clause-more : goal.argument-returns-in_ok-argument-in-Inferred-clause-more
-argument-returns-in_ok-argument-in-Inferred-clause-more u c = on_ok c.give.result (λ i k e. e)
+argument-returns-in_ok-argument-in-Inferred-clause-more u c = ok_of c.give.result (λ i k e. e)
 
 pub argument-returns-in_err-argument-in-Named-clause-outcome : goal.argument-returns-in_err-argument-in-Named-clause-outcome
 argument-returns-in_err-argument-in-Named-clause-outcome u c q given =
@@ -161,7 +162,7 @@ argument-returns-in_ok-argument-in-Named-clause-outcome u c q given =
     (c.give-in-Named.ensures.outcome h ms q.1 (made r).1 (given_stay g h ok.inner.later (instances_of c.args.board.now) ms ok.more q.1 xs given.given) is.given))))
 
 pub argument-returns-in_ok-argument-in-Named-clause-more : goal.argument-returns-in_ok-argument-in-Named-clause-more
-argument-returns-in_ok-argument-in-Named-clause-more u c = on_ok c.give-in-Named.result c.in_ok-argument-in-Named.ensures.more
+argument-returns-in_ok-argument-in-Named-clause-more u c = ok_of c.give-in-Named.result c.in_ok-argument-in-Named.ensures.more
 
 pub argument-returns-in-Spread-clause-outcome : goal.argument-returns-in-Spread-clause-outcome
 argument-returns-in-Spread-clause-outcome u c q given =
@@ -215,7 +216,7 @@ expression-returns-clause-outcome u c s on =
     (subst (λ (x : Span). IsOutcome (SaysThat h noted names) (accesses x q.0 q.1 ps) c.accesses.result) c.span.ensures (c.accesses.ensures.outcome noted names q.0 q.1 d.on.says d.denotes))))
 
 pub expression-returns-clause-more : goal.expression-returns-clause-more
-expression-returns-clause-more u c = on_ok c.accesses.result c.in_ok-first.ensures.more
+expression-returns-clause-more u c = ok_of c.accesses.result c.in_ok-first.ensures.more
 
 -- ---- a primary expression
 
@@ -241,7 +242,7 @@ primary-returns-in-Ident-clause-outcome u c s on =
     (then_pure (Denotes g ms) D (λ (d : Denoted). (s, d)) (λ d k x. record { on = on; denotes = x }) (denoted_by s i) c.node.result (c.node.ensures.outcome ms s on.says.root))
 
 pub primary-returns-in-Ident-clause-more : goal.primary-returns-in-Ident-clause-more
-primary-returns-in-Ident-clause-more u c = on_ok c.node.result (λ i k e. e)
+primary-returns-in-Ident-clause-more u c = ok_of c.node.result (λ i k e. e)
 
 -- ---- an argument with its name
 

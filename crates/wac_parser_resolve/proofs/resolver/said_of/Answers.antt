@@ -8,7 +8,8 @@ use Rattle.wac_parser_resolve.specs.InDocuments.{IsBuilt}
 use Rattle.wac_parser_resolve.specs.InTargets.{HoldsDocument, HoldsTarget}
 use Rattle.wac_parser_resolve.specs.Knowing.{handed_list}
 use Rattle.wac_parser_resolve.specs.Meeting.{resolved}
-use Rattle.wac_parser_resolve.proofs.Documented.{built, held_told, holds_as}
+use Rattle.wac_parser_resolve.proofs.Documented.{built, holds_as}
+use Rattle.wac_parser_resolve.proofs.Asking.{held_map}
 use Rattle.wac_parser_resolve.proofs.resolver.said_of.Goals as goal
 
 pub say_document-requires-clause-said : goal.say_document-requires-clause-said
@@ -21,7 +22,7 @@ returns-clause-outcome c =
     let own = c.args.document.now.directive.«package» in
     let b = c.say_document.new.state in
     let said = c.come_to.result in
-    held_told (HoldsDocument own b) (λ (q : State × Option Stated) (x : Said). IsBuilt x.graph q.0 × HoldsTarget x.graph.types q.1 x.target) (resolved d ps) c.in_ok-target.target said
+    held_map (HoldsDocument own b) (λ (q : State × Option Stated) (x : Said). IsBuilt x.graph q.0 × HoldsTarget x.graph.types q.1 x.target) (resolved d ps) c.in_ok-target.target said
     (λ q h. holds_as b.board.types.graph said.graph c.in_ok-target.target said.target q c.come_to.ensures.graph c.come_to.ensures.target (built (view_package_name own) b q.0 h.0, h.1))
     (c.in_ok-target.ensures.outcome (start d ps) (c.new-state.ensures.starts d))
 

@@ -1,12 +1,12 @@
 use Rattle.std.proofs.Common.{List, ℕ, ◌∙◌, subst}
-use Rattle.std.proofs.lemmas.Result.{err_from_is_err_and}
+use Rattle.std.proofs.lemmas.Result.{err_from_is_err_and, on_ok_weaker}
 use Rattle.std.specs.Str.{IsUtf8}
 use Rattle.std.specs.Io.KnownBytes.{Appends}
 use Rattle.wac_workspace.specs.Composing.{IsComposed, IsRefused}
 use Rattle.wac_streams.specs.Calls.{AppendsPrefix}
 use Rattle.wac_workspace.specs.Streaming.{IsText}
 use Rattle.wac_streams.proofs.CallLaws.{Appends-none, NoneFailed-none}
-use Rattle.wac_workspace.proofs.StreamLaws.{on_ok, write_stopped}
+use Rattle.wac_workspace.proofs.StreamLaws.{write_stopped}
 use Rattle.wac_workspace.proofs.stream.compose_stream.Goals as goal
 
 pub returns-in_default-clause-all_written : goal.returns-in_default-clause-all_written
@@ -29,7 +29,7 @@ returns-clause-composed g c =
       utf8 = subst (λ (t : List ℕ). IsUtf8 t) c.deref.ensures.value c.in-Ok.ensures.cases.1;
     } in
     let composed = subst (λ (t : List ℕ). IsComposed c.args.workspace.now c.compose.new.self t c.args.options.define_components c.in_ok-output.output) (c.in-Ok.ensures.cases.0 ∙ c.deref.ensures.value) c.in_ok-output.ensures.composed in
-    on_ok c.write_component.result (λ wrote. record {
+    on_ok_weaker c.write_component.result (λ wrote. record {
       source = c.in_ok-source.source.items;
       output = c.in_ok-output.output;
       text = text;

@@ -1,9 +1,10 @@
 use Rattle.std.proofs.Common.{◌≡◌, ◌<◌, ◌≤◌, ℕ, [], ap, arith, inl, inr, sym, subst}
+use Rattle.std.proofs.lemmas.Result.{on_ok_weaker}
 use Rattle.wac_types_base.specs.Graph.{Among}
 use Rattle.wac_types_base.proofs.Looked.{among-get}
 use Rattle.wac_types_base.proofs.Loops.{get-place}
 use Rattle.wac_graph_encode.specs.Writing.{AddsNeeded, Below, UpTo, UpToOne, noted}
-use Rattle.wac_graph_encode.proofs.WritingLaws.{on_ok, keeps_refl, keeps_trans, needed_below_one, only_none, only_trans, stands_if}
+use Rattle.wac_graph_encode.proofs.WritingLaws.{keeps_refl, keeps_trans, needed_below_one, only_none, only_trans, stands_if}
 use Rattle.wac_graph_encode.proofs.instances.Wired.+nodes.Goals as goal
 use Rattle.wac_graph_encode.proofs.instances.Wired.+nodes.Goals.{write_node-then-depth-eq0-via-then-depth-eq0, write_node-then-depth-eq0-via-else-depth-eq0+then-is_some}
 
@@ -16,11 +17,11 @@ write_bound-write_itself-requires-clause-new t c m =
     ]
 
 pub write_bound-returns-clause-keeps : goal.write_bound-returns-clause-keeps
-write_bound-returns-clause-keeps t c = on_ok c.write_itself.result (keeps_trans c.args.self.now c.write_sources.new.self c.write_itself.new.self c.in_ok-write_sources.ensures.keeps) c.write_itself.ensures.keeps
+write_bound-returns-clause-keeps t c = on_ok_weaker c.write_itself.result (keeps_trans c.args.self.now c.write_sources.new.self c.write_itself.new.self c.in_ok-write_sources.ensures.keeps) c.write_itself.ensures.keeps
 
 pub write_bound-returns-clause-only : goal.write_bound-returns-clause-only
 write_bound-returns-clause-only t c =
-    on_ok c.write_itself.result
+    on_ok_weaker c.write_itself.result
     (only_trans (Below c.args.node) (λ rank k. k ≡ c.args.node) (UpTo c.args.node) c.args.self.now c.write_sources.new.self c.write_itself.new.self c.in_ok-write_sources.ensures.keeps.same.graph
     (λ rank is k low. below_most (rank k) (rank c.args.node) low) (λ rank is k e. same_most (rank k) (rank c.args.node) (ap rank e)) c.in_ok-write_sources.ensures.only) c.write_itself.ensures.only
   where
@@ -56,5 +57,5 @@ pub write_sources-returns-clause-only : goal.write_sources-returns-clause-only
 write_sources-returns-clause-only t c =
     let g = c.args.self.now.graph.now in
     let needs = subst (AddsNeeded g c.args.node []) (sym c.deref.ensures.value) c.in_ok-sources.ensures in
-    on_ok c.write_each.result
+    on_ok_weaker c.write_each.result
     (λ only rank is k m. elim (only rank is k m) [ inl there ↦ inl there | inr x ↦ inr (needed_below_one g c.args.node c.deref.result.now needs rank is k x) ]) c.write_each.ensures.only

@@ -10,14 +10,15 @@ use Rattle.wac_parser_resolve.specs.InTargets.{HoldsTarget}
 use Rattle.wac_parser_resolve.specs.Knowing.{handed_list}
 use Rattle.wac_parser_resolve.specs.Meeting.{resolved}
 use Rattle.wac_parser_resolve.specs.Resolved.{asked_of, graph_of, target_of}
-use Rattle.wac_parser_resolve.proofs.Documented.{error_told, held_told, holds_as}
+use Rattle.wac_parser_resolve.proofs.Documented.{error_told, holds_as}
+use Rattle.wac_parser_resolve.proofs.Asking.{held_map}
 use Rattle.wac_parser_resolve.proofs.resolver.AstResolver.resolve.Goals as goal
 
 pub returns-in-Ok-clause-outcome : goal.returns-in-Ok-clause-outcome
 returns-in-Ok-clause-outcome c =
     let said = c.in-Ok.said in
     let r = c.with_document.result in
-    held_told (λ (q : State × Option Stated) (x : Said). IsBuilt x.graph q.0 × HoldsTarget x.graph.types q.1 x.target) (λ (q : State × Option Stated) (x : Resolved Document). IsBuilt (graph_of x) q.0 × HoldsTarget (graph_of x).types q.1 (target_of x))
+    held_map (λ (q : State × Option Stated) (x : Said). IsBuilt x.graph q.0 × HoldsTarget x.graph.types q.1 x.target) (λ (q : State × Option Stated) (x : Resolved Document). IsBuilt (graph_of x) q.0 × HoldsTarget (graph_of x).types q.1 (target_of x))
     (resolved (view_document (asked_of c.args.self)) (handed_list c.args.«packages».now)) said r
     (λ q h. holds_as said.graph (graph_of r) said.target (target_of r) q c.with_document.ensures.graph c.with_document.ensures.target h) c.in-Ok.ensures.outcome
 
