@@ -21,3 +21,6 @@ pub mod Adding
 pub mod TakingMore
 pub mod TakingAll
 pub mod Merged
+pub mod Importing
+pub mod Naming
+pub mod Answering

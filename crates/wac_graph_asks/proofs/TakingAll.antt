@@ -31,14 +31,10 @@ use Rattle.wac_graph_asks.specs.Takes.{pair_in, TakesFirst, TakesMore, TakesOne,
 use Rattle.wac_graph_asks.proofs.Asking.{kept}
 use Rattle.wac_graph_asks.proofs.TakingMore.{own_entry, other_entry, keys_with}
 
-there_is : {X : Type 0} (xs : List X) (i : ℕ) → i < length xs → (x : X) × (slice_get xs i ≡ Some x)
+pub there_is : {X : Type 0} (xs : List X) (i : ℕ) → i < length xs → (x : X) × (slice_get xs i ≡ Some x)
 there_is [] i lt = absurd (omega arith)
 there_is (x ∷ xs) zero lt = (x, refl)
 there_is (x ∷ xs) (suc i) lt = there_is xs i (omega arith)
-
-last_among : {X : Type 0} (xs : List X) (x : X) → Among x (xs ++ x ∷ [])
-last_among [] x = inl refl
-last_among (y ∷ xs) x = inr (last_among xs x)
 
 module _ (c : Collection) (acyclic : IsAcyclic c) (held : List HeldAsk) (sound : AreSound c held) where
   held_stands : (at : ℕ) (x : HeldAsk) → slice_get held at ≡ Some x → Stands c x.item

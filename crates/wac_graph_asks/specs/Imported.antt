@@ -15,6 +15,7 @@ use Rattle.wac_merging.specs.Kept.{Spells}
 use Rattle.wac_merging.specs.Labelled.{each_label, labelled}
 use Rattle.wac_merging.specs.Outers.{IsOuter}
 use Rattle.wac_graph_asks.specs.declared.asks.Ask.{Ask as HeldAsk}
+use Rattle.wac_graph_asks.specs.declared.asks.Asked.{Asked}
 use Rattle.wac_graph_asks.specs.declared.classes.Classes.{Classes}
 use Rattle.wac_graph_asks.specs.declared.outers.Outers.{Outers}
 use Rattle.wac_graph_asks.specs.declared.taken.Taken.{Taken}
@@ -56,6 +57,10 @@ abbrev pub AddsImports : Collection → List HeldAsk → Classes → List (ℕ �
 AddsImports c held classes taken d imports =
     AreClassed c held classes → AreTaken c held (asks_in c held) classes.labels.items taken → AreImports d (asks_in c held) classes.labels.items (each_label classes.labels.items) imports
 
+-- the world's imports are those
+abbrev pub MakesWorld : (old : Asked) → Classes → List (ℕ × Taken) → (new : Asked) → WorldId → Type 0
+MakesWorld old classes taken new w = AddsImports old.types old.asks.items classes taken new.types (imports_of new.types w)
+
 -- ---- names
 
 -- it is the name of an ask, with the place of its label among the labels
@@ -80,6 +85,9 @@ AddsName keys label n old new = Among label keys → (at : ℕ) × (slice_get ke
 -- where there is one key for each label, all names are added
 abbrev pub AddsNames : (held : List HeldAsk) (labels keys : List ℕ) → List Called → Type 0
 AddsNames held labels keys called = length labels ≡ length held → keys ≡ each_label labels → AreCalled held labels called
+
+abbrev pub CallsNames : (held : List HeldAsk) → Classes → List (ℕ × Taken) → List Called → Type 0
+CallsNames held classes taken called = AddsNames held classes.labels.items (keys_of taken) called
 
 -- ---- both
 

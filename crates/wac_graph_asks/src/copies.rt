@@ -1,8 +1,9 @@
 //! Copies of the parts of interfaces and worlds.
 
-ghost use Rattle.std.specs.Prelude.{IfOk, IfSome};
+ghost use Rattle.std.specs.Prelude.{◌≡◌, [], IsOk, IfOk, IfSome};
 ghost use Rattle.wac_types_base.specs.declared.item.ItemKind.{ItemKind};
 ghost use Rattle.wac_types_base.specs.Collection.{Grows, Stands};
+ghost use Rattle.wac_graph_scopes.specs.Parts.{imports_of};
 
 use std::alloc::{AllocError, Global};
 use wac_types_base::{
@@ -10,7 +11,10 @@ use wac_types_base::{
 };
 
 /// The value, if what was to be added to it was added; it is dropped here alone.
-pub fn filled<T: Drop>(value: T, added: Result<(), AllocError>) -> Result<T, AllocError> {
+pub fn filled<T: Drop>(value: T, added: Result<(), AllocError>) -> Result<T, AllocError>
+    ensures value { IfOk result (λ v. v ≡ value) }
+    ensures added { IfOk result (λ v. IsOk added) }
+{
     added?;
     Ok(value)
 }
@@ -42,7 +46,9 @@ pub fn bare_interface(alloc: Global, id: Option<Text>) -> Interface {
 }
 
 /// A world of that identifier, in which nothing stands.
-pub fn bare_world(alloc: Global, id: Option<Text>) -> World {
+pub fn bare_world(alloc: Global, id: Option<Text>) -> World
+    ensures { result.imports ≡ [] }
+{
     World {
         id,
         uses: NamedMap::new(alloc),
@@ -67,6 +73,7 @@ pub fn add_interface(
 /// Adds a world, if all that it names stands.
 pub fn add_world(types: &mut Types, world: World) -> Result<Option<WorldId>, AllocError>
     ensures stands { IfOk result (λ o. IfSome o (λ w. Stands types.new (ItemKind.Component w))) }
+    ensures imports { IfOk result (λ o. IfSome o (λ w. imports_of types.new w ≡ world.imports)) }
     ensures grows { Grows types.old types.new }
 {
     types.see_acyclic();

@@ -1,15 +1,20 @@
 //! The outer imports: one for each class of asks.
 
-ghost use Rattle.std.specs.Prelude.{IfOk};
+ghost use Rattle.std.specs.Prelude.{◌≡◌, ◌∷◌, ◌++◌, [], IfOk, OnOk};
+ghost use Rattle.std.specs.Map.{keys_of};
 ghost use Rattle.wac_types_base.specs.declared.item.ItemKind.{ItemKind};
 ghost use Rattle.wac_types_base.specs.Collection.{Grows, Stands};
+ghost use Rattle.wac_graph_scopes.specs.Parts.{imports_of};
+ghost use Rattle.wac_graph_scopes.specs.declared.imports.Called.{Called};
 ghost use Rattle.wac_merging.specs.Kept.{Spells};
 ghost use Rattle.wac_graph_asks.specs.Asked.{KeepsAsked};
 ghost use Rattle.wac_graph_asks.specs.Named.{SpellsClass};
 ghost use Rattle.wac_graph_asks.specs.Takes.{Merges, MergesLabelled};
+ghost use Rattle.wac_graph_asks.specs.Imported.{AddsImport, AddsImports, AddsName, AddsNames, CallsNames, MakesWorld, OutersOf};
+ghost use Rattle.wac_graph_asks.specs.Outers.{AnswersOuters};
 
 use crate::asks::{Ask, Asked};
-use crate::classes::{Classes, classes_of, has_track};
+use crate::classes::{Classes, classes_of, has_track, place_at};
 use crate::copies::{add_world, bare_world, filled};
 use crate::faults::OuterError;
 use crate::taken::{Taken, all_taken};
@@ -45,6 +50,7 @@ fn import_kept(
     spelling: &str,
 ) -> Result<ItemKind, AllocError>
     ensures spells { IfOk result (Spells types.old kept spelling.now types.new) }
+    ensures stands { IfOk result (λ k. Stands types.old kept.item → Stands types.new k) }
     ensures grows { Grows types.old types.new }
 {
     types.see_acyclic();
@@ -69,23 +75,41 @@ fn spelling_of<'a>(asks: &'a [Ask], classes: &Classes, class: usize) -> &'a str
 }
 
 /// Adds a name that is asked, with the place of its import.
-fn push_called(called: &mut Vec<Called>, name: &Text, at: usize) -> Result<(), AllocError> {
+fn push_called(called: &mut Vec<Called>, name: &Text, at: usize) -> Result<(), AllocError>
+    ensures { OnOk result (called.new.items ≡ called.old.items ++ record { name = name.now; at = at } ∷ []) }
+{
     let name = name.copy()?;
     called.push(Called { name, at })?;
     Ok(())
 }
 
+/// Adds the name of an ask of this class, with the place of its import.
+fn push_name_called(
+    taken: &IndexMap<usize, Taken>,
+    class: usize,
+    name: &Text,
+    called: &mut Vec<Called>,
+) -> Result<(), AllocError>
+    ensures { OnOk result (AddsName (keys_of taken.now.entries) class name.now called.old.items called.new.items) }
+{
+    match taken.get_index_of(&class) {
+        Some(at) => push_called(called, name, at),
+        None => Ok(()),
+    }
+}
+
 /// Adds the names that are asked, each with the place of its import.
 fn push_names_called(
     asks: &[Ask],
-    classes: &Classes,
+    labels: &[usize],
     taken: &IndexMap<usize, Taken>,
     called: &mut Vec<Called>,
-) -> Result<(), AllocError> {
-    for (ask, class) in asks.iter().zip(&classes.labels) {
-        if let Some(at) = taken.get_index_of(class) {
-            push_called(called, &ask.name, at)?;
-        }
+) -> Result<(), AllocError>
+    requires { called.old.items ≡ [] }
+    ensures { OnOk result (AddsNames asks.now labels.now (keys_of taken.now.entries) called.new.items) }
+{
+    for (at, ask) in asks.iter().enumerate() {
+        push_name_called(taken, place_at(labels, at), &ask.name, called)?;
     }
     Ok(())
 }
@@ -94,11 +118,13 @@ fn push_names_called(
 fn names_called(
     alloc: Global,
     asks: &[Ask],
-    classes: &Classes,
+    labels: &[usize],
     taken: &IndexMap<usize, Taken>,
-) -> Result<Vec<Called>, AllocError> {
+) -> Result<Vec<Called>, AllocError>
+    ensures { IfOk result (λ called. AddsNames asks.now labels.now (keys_of taken.now.entries) called.items) }
+{
     let mut called = Vec::new(alloc);
-    push_names_called(asks, classes, taken, &mut called)?;
+    push_names_called(asks, labels, taken, &mut called)?;
     Ok(called)
 }
 
@@ -110,6 +136,7 @@ fn add_import(
     spelling: &str,
     imports: &mut NamedMap<ItemKind>,
 ) -> Result<(), AllocError>
+    ensures adds { OnOk result (AddsImport types.old kept spelling.now types.new imports.old imports.new) }
     ensures grows { Grows types.old types.new }
 {
     let item = import_kept(alloc, types, kept, spelling)?;
@@ -125,6 +152,8 @@ fn add_imports(
     taken: &IndexMap<usize, Taken>,
     imports: &mut NamedMap<ItemKind>,
 ) -> Result<(), AllocError>
+    requires { imports.old ≡ [] }
+    ensures adds { OnOk result (AddsImports types.old asks.now classes.now taken.now.entries types.new imports.new) }
     ensures grows { Grows types.old types.new }
 {
     types.see_acyclic();
@@ -142,7 +171,8 @@ fn world_kept(
     classes: &Classes,
     taken: &IndexMap<usize, Taken>,
 ) -> Result<World, AllocError>
-    ensures { KeepsAsked asked.old asked.new }
+    ensures keeps { KeepsAsked asked.old asked.new }
+    ensures imports { IfOk result (λ w. AddsImports asked.old.types asked.old.asks.items classes.now taken.now.entries asked.new.types w.imports) }
 {
     let mut world = bare_world(alloc, None);
     let imports = &mut world.imports;
@@ -166,6 +196,7 @@ fn outer_world(
 ) -> Result<WorldId, OuterError>
     ensures keeps { KeepsAsked asked.old asked.new }
     ensures stands { IfOk result (λ w. Stands asked.new.types (ItemKind.Component w)) }
+    ensures imports { IfOk result (MakesWorld asked.old classes.now taken.now.entries asked.new) }
 {
     let world = world_kept(alloc, asked, classes, taken)?;
     match add_world(&mut asked.types, world)? {
@@ -183,9 +214,11 @@ fn outers_kept(
 ) -> Result<Outers, OuterError>
     ensures keeps { KeepsAsked asked.old asked.new }
     ensures stands { IfOk result (λ o. Stands asked.new.types (ItemKind.Component o.world)) }
+    ensures imports { IfOk result (λ o. MakesWorld asked.old classes.now taken.now.entries asked.new o.world) }
+    ensures called { IfOk result (λ o. CallsNames asked.old.asks.items classes.now taken.now.entries o.called.items) }
 {
     let world = outer_world(alloc, asked, classes, taken)?;
-    let called = names_called(alloc, &asked.asks, classes, taken)?;
+    let called = names_called(alloc, &asked.asks, &classes.labels, taken)?;
     Ok(Outers { world, called })
 }
 
@@ -198,6 +231,7 @@ fn outers_of_classes(
     ensures keeps { KeepsAsked asked.old asked.new }
     ensures stands { IfOk result (λ o. Stands asked.new.types (ItemKind.Component o.world)) }
     ensures merges { IfOk result (λ o. MergesLabelled asked.old.types asked.old.asks.items classes.now.labels.items) }
+    ensures outers { IfOk result (OutersOf asked.old.types asked.old.asks.items classes.now asked.new.types) }
 {
     let taken = all_taken(alloc, &mut asked.types, &asked.asks, &classes.labels)?;
     outers_kept(alloc, asked, classes, &taken)
@@ -208,6 +242,7 @@ pub fn outers_of(alloc: Global, asked: &mut Asked) -> Result<Outers, OuterError>
     ensures keeps { KeepsAsked asked.old asked.new }
     ensures stands { IfOk result (λ o. Stands asked.new.types (ItemKind.Component o.world)) }
     ensures merges { IfOk result (λ o. Merges asked.old) }
+    ensures outers { IfOk result (AnswersOuters asked.old asked.new) }
 {
     asked.types.see_acyclic();
     see_named(&asked.types);

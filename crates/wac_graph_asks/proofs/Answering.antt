@@ -1,0 +1,168 @@
+-- The world and the names of the classes of asks are the outer imports of the asks.
+use Rattle.std.specs.Map.{keys_of}
+use Rattle.std.specs.Option.{option_map}
+use Rattle.std.proofs.Common.{◌≡◌, ℕ, true, true≢false, List, [], map, is_some, Option, Some, None, Result, IfOk, slice_get, refl, sym, ap, subst, ◌∙◌}
+use Rattle.std.proofs.lemmas.Option.{none-some, same_Some, slice_get-map}
+use Rattle.std.proofs.lemmas.Result.{IfOk-weaker}
+use Rattle.std.proofs.lemmas.List.{length-map}
+use Rattle.wac_types_base.specs.declared.ids.WorldId.{WorldId}
+use Rattle.wac_types_base.specs.declared.item.ItemKind.{ItemKind}
+use Rattle.wac_types_base.specs.Record.{Collection}
+use Rattle.wac_types_base.specs.Entries.{Name, names_of, values_of, value_at}
+use Rattle.wac_types_base.specs.Graph.{Among}
+use Rattle.wac_types_base.specs.Collection.{Stands, IsAcyclic, Grows}
+use Rattle.wac_types_base.specs.Stated.{Stated, stated_of}
+use Rattle.wac_types_base.specs.Tree.{tree}
+use Rattle.wac_types_base.specs.Fits.{Fits}
+use Rattle.wac_types_base.proofs.Looked.{among-get}
+use Rattle.wac_types_base.proofs.Loops.{map-get}
+use Rattle.wac_types_written.specs.Forms.{stated_items}
+use Rattle.wac_graph_core.specs.Graph.{Graph}
+use Rattle.wac_graph_scopes.specs.Parts.{imports_of}
+use Rattle.wac_graph_scopes.specs.declared.imports.Called.{Called}
+use Rattle.wac_composition.specs.Asks.{Ask, named_asks, asks_of}
+use Rattle.wac_composition.specs.Classes.{class, spelled, spelling}
+use Rattle.wac_composition.specs.Merging.{kept as kept_of, identified}
+use Rattle.wac_composition.specs.Again.{IsWell}
+use Rattle.wac_composition.specs.OuterImports.{asked_in, outer_of, outer_imports}
+use Rattle.wac_composition.specs.OuterLaws.{IsMet}
+use Rattle.wac_composition.proofs.OuterClasses.{asks_are_met}
+use Rattle.wac_composition.proofs.Lists.{mapped_among}
+use Rattle.wac_merging.specs.Named.{NamesDiffer}
+use Rattle.wac_merging.specs.Labelled.{each_label, labelled, LabelClasses}
+use Rattle.wac_merging.proofs.Labels.{class_is_labelled}
+use Rattle.wac_merging.proofs.Outers.{labels_are_of_classes, outers_are_stated}
+use Rattle.wac_merging.proofs.Well.{stated_are_well}
+use Rattle.wac_graph_asks.specs.declared.asks.Ask.{Ask as HeldAsk}
+use Rattle.wac_graph_asks.specs.declared.asks.Asked.{Asked}
+use Rattle.wac_graph_asks.specs.declared.classes.Classes.{Classes}
+use Rattle.wac_graph_asks.specs.declared.outers.Outers.{Outers}
+use Rattle.wac_graph_asks.specs.declared.taken.Taken.{Taken}
+use Rattle.wac_graph_asks.specs.Graphs.{composition_of}
+use Rattle.wac_graph_asks.specs.AsksIn.{ask_in, asks_in}
+use Rattle.wac_graph_asks.specs.Asked.{IsAsked, IsAskedOnce}
+use Rattle.wac_graph_asks.specs.AskedUses.{HasSame}
+use Rattle.wac_graph_asks.specs.Classed.{AreLabels, AreSpellings}
+use Rattle.wac_graph_asks.specs.Takes.{AreSound, AreTaken, TakesAll, AreMerged}
+use Rattle.wac_graph_asks.specs.Imported.{AreImports, AreClassed, AddsImports, AreCalled, AddsNames, OutersOf}
+use Rattle.wac_graph_asks.specs.Outers.{IsCalled, AreOuters, IsOuters, AnswersOuters}
+use Rattle.wac_graph_asks.proofs.Asking.{asks_kept}
+use Rattle.wac_graph_asks.proofs.Merged.{all_merged}
+use Rattle.wac_graph_asks.proofs.Once.{asked_once_keeps, asked_once_imports}
+use Rattle.wac_graph_asks.proofs.Repeating.{behind_has}
+
+-- ---- of asks as they are held
+
+there_mapped : {X Y : Type 0} (f : X → Y) (xs : List X) (i : ℕ) (y : Y) → slice_get (map f xs) i ≡ Some y → (x : X) × (slice_get xs i ≡ Some x) × (f x ≡ y)
+there_mapped {X} f xs i y e = go (slice_get xs i) refl
+  where
+    go : (o : Option X) → slice_get xs i ≡ o → (x : X) × (slice_get xs i ≡ Some x) × (f x ≡ y)
+    go None q = absurd (none-some y (sym (ap (option_map f) q) ∙ sym (slice_get-map f xs i) ∙ e))
+    go (Some x) q = (x, q, same_Some _ _ (sym (ap (option_map f) q) ∙ sym (slice_get-map f xs i) ∙ e))
+
+module _ (c : Collection) (held : List HeldAsk) (labels : List ℕ) (are : AreLabels (asks_in c held) labels) (merged : AreMerged (asks_in c held)) (d : Collection) (world : WorldId) (called : List Called)
+    (imports : AreImports d (asks_in c held) labels (each_label labels) (imports_of d world)) (names : AreCalled held labels called) where
+  abbrev asks : List (Ask ℕ)
+  asks = asks_in c held
+
+  classes : LabelClasses asks labels
+  classes = labels_are_of_classes asks labels are
+
+  all_met : (a : Ask ℕ) → Among a asks → IsMet asks a
+  all_met a m = go (kept_of (asked_in (class asks a))) refl (merged a m)
+    where
+      go : (o : Option Stated) → kept_of (asked_in (class asks a)) ≡ o → is_some o ≡ true → IsMet asks a
+      go None e s = absurd (true≢false (sym s))
+      go (Some x) e s =
+          let n = spelled (class asks a) in
+          let met = asks_are_met asks a n (identified n (asked_in (class asks a)) x) m (ap (option_map (λ y. (n, identified n (asked_in (class asks a)) y))) e) in
+          record { item = identified n (asked_in (class asks a)) x; there = ap (value_at (outer_imports asks)) met.0 ∙ met.1; fits = met.2 }
+
+  all_called : (one : Called) → Among one called → IsCalled asks d world one
+  all_called one m =
+      let n = names.each one m in
+      let o = there_mapped (λ (e : ℕ × (Name × ItemKind)). e.0) imports.outers one.at n.label (ap (λ ls. slice_get ls one.at) imports.of_labels ∙ n.at) in
+      let e = o.0.1 in
+      let import = imports.each_is n.label e (subst (λ l. Among (l, e) imports.outers) o.2 (among-get imports.outers one.at o.0 o.1)) in
+      let there : slice_get (imports_of d world) one.at ≡ Some e = ap (λ es. slice_get es one.at) (sym imports.are) ∙ map-get (λ (x : ℕ × (Name × ItemKind)). x.1) imports.outers one.at o.0 o.1 in
+      let ask = ask_in c n.ask in
+      let at : slice_get asks n.place ≡ Some ask = map-get (ask_in c) held n.place n.ask n.there in
+      let own = class_is_labelled asks labels n.place n.label ask classes at n.of_label in
+      let met = asks_are_met asks ask e.0 (stated_of d e.1) (among-get asks n.place ask at) (ap outer_of own ∙ import.outer) in
+      (e.1, there ∙ ap (λ m. Some (m, e.1)) (sym (ap (spelling asks) n.named ∙ met.0)))
+
+  all_named : (a : Ask ℕ) → Among a asks → Among a.name (map (λ x. x.name) called)
+  all_named a m = let x = mapped_among (ask_in c) held a m in subst (λ (b : Ask ℕ). Among b.name (map (λ x. x.name) called)) (sym x.2) (names.all x.0 x.1)
+
+  outers_are : Stands d (ItemKind.Component world) → AreOuters asks d world called
+  outers_are stands = record {
+    stands = stands;
+    imports = ap (stated_items d) (sym imports.are) ∙ sym (outers_are_stated d asks labels imports.outers classes imports.of_labels (λ l e m. (imports.each_is l e m).outer));
+    distinct = imports.distinct;
+    met = all_met;
+    called_there = all_called;
+    named = all_named;
+  }
+
+-- the classes of asks are the same while the collection grows
+classed_still : (c d : Collection) → Grows c d → (held : List HeldAsk) (classes : Classes) → AreClassed c held classes → AreClassed d held classes
+classed_still c d g held classes a =
+    let same = asks_kept c d g held a.stand in
+    record {
+      stand = λ x m. g.stand x.item (a.stand x m);
+      labels = subst (λ asks. AreLabels asks classes.labels.items) (sym same) a.labels;
+      spellings = subst (λ asks. AreSpellings asks classes.labels.items classes.spellings.items) (sym same) a.spellings;
+    }
+
+pub outers_made : (c mid d : Collection) (held : List HeldAsk) (classes : Classes) (taken : List (ℕ × Taken)) (o : Outers) → Grows c mid → TakesAll c held classes.labels.items mid taken
+    → AddsImports mid held classes taken d (imports_of d o.world) → AddsNames held classes.labels.items (keys_of taken) o.called.items → Stands d (ItemKind.Component o.world) → OutersOf c held classes d o
+outers_made c mid d held classes taken o g takes adds names stands sound a =
+    let labels = classes.labels.items in
+    let same = asks_kept c mid g held a.stand in
+    let many = a.labels.as_many ∙ length-map held (ask_in c) in
+    let t : AreTaken mid held (asks_in c held) labels taken = takes sound many in
+    let imports = adds (classed_still c mid g held classes a) (subst (λ asks. AreTaken mid held asks labels taken) (sym same) t) in
+    outers_are c held labels a.labels (all_merged c mid held labels taken takes sound a.labels) d o.world o.called.items
+    (subst (λ asks. AreImports d asks labels (each_label labels) (imports_of d o.world)) same imports) (names many t.keys) stands
+
+-- ---- of the graph that asks so
+
+module _ (all list : List (Ask ℕ)) (once : IsAskedOnce all list) (well : (a : Ask ℕ) → Among a list → IsWell a.item) (c : Collection) (world : WorldId) (called : List Called) (h : AreOuters list c world called) where
+  spell : (n : Name) → spelling all n ≡ spelling list n
+  spell = (asked_once_keeps all list once well).spelled
+
+  same_imports : outer_imports all ≡ outer_imports list
+  same_imports = asked_once_imports all list once well
+
+  met_again : (a : Ask ℕ) → Among a all → IsMet all a
+  met_again a m =
+      let s : HasSame list a = behind_has once a m in
+      let k = h.met s.other s.among in
+      record {
+        item = k.item;
+        there = ap (value_at (outer_imports all)) (spell a.name ∙ ap (spelling list) (sym s.name)) ∙ ap (λ es. value_at es (spelling list s.other.name)) same_imports ∙ k.there;
+        fits = subst (λ x. Fits (tree k.item) (tree x)) s.item k.fits;
+      }
+
+  pub outers_of_all : AreOuters all c world called
+  outers_of_all = record {
+    stands = h.stands;
+    imports = h.imports ∙ sym same_imports;
+    distinct = h.distinct;
+    met = met_again;
+    called_there = λ one m. let k = h.called_there one m in (k.0, k.1 ∙ ap (λ n. Some (n, k.0)) (sym (spell one.name)));
+    named = λ a m. let s : HasSame list a = behind_has once a m in subst (λ n. Among n (map (λ x. x.name) called)) s.name (h.named s.other s.among);
+  }
+
+pub answers : {E : Type 0} (r : Result Outers E) (old new : Asked) (classes : Classes) → IsAcyclic old.types → NamesDiffer old.types → AreLabels (asks_in old.types old.asks.items) classes.labels.items
+    → AreSpellings (asks_in old.types old.asks.items) classes.labels.items classes.spellings.items → IfOk r (OutersOf old.types old.asks.items classes new.types) → IfOk r (AnswersOuters old new)
+answers r old new classes acyclic differ labels spellings h = IfOk-weaker r (OutersOf old.types old.asks.items classes new.types) (AnswersOuters old new) of h
+  where
+    of : (o : Outers) → OutersOf old.types old.asks.items classes new.types o → AnswersOuters old new o
+    of o outers g asked =
+        let held = old.asks.items in
+        let stand = asked.held.items in
+        let own = outers (record { stand = stand; differ = differ }) (record { stand = stand; labels = labels; spellings = spellings }) in
+        outers_of_all (asks_of (composition_of g)) (asks_in old.types held) (subst (IsAskedOnce (asks_of (composition_of g))) (sym asked.asks) asked.once)
+        (λ a m. let x = mapped_among (ask_in old.types) held a m in subst (λ (b : Ask ℕ). IsWell b.item) (sym x.2) (stated_are_well old.types x.0.item acyclic differ (stand x.0 x.1)))
+        new.types o.world o.called.items own
