@@ -24,3 +24,4 @@ pub mod Merged
 pub mod Importing
 pub mod Naming
 pub mod Answering
+pub mod Lasting
