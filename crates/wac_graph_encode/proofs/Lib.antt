@@ -17,3 +17,4 @@ pub mod FormKinds
 pub mod RootedOuters
 pub mod RootedDefinitions
 pub mod Beginning
+pub mod Preparing

@@ -80,18 +80,22 @@ pub record NestsPackages (define : Bool) (g : Graph) (bytes : List ℕ) : Type 0
 
 -- ---- the theorem
 
+-- In these worlds the bytes mean the graph's wiring, of which there is one, but for the numbers of instances.
+pub record MeansGraph (define : Bool) (g : Graph) (worlds : Worlds) (bytes : List ℕ) : Type 0 where
+  pub meant : Wiring ℕ
+  pub means : Means worlds bytes meant
+  pub same : (W : Wiring ℕ) → IsGraphWiring g W → Same (as_written define g W) meant
+
+-- so it is in all worlds that are true of the packages
+abbrev pub MeansWiring : (define : Bool) → Graph → List ℕ → Type 0
+MeansWiring define g bytes = (worlds : Worlds) → AreTrueOf define g worlds → MeansGraph define g worlds bytes
+
 pub record IsEncoded (define validate : Bool) (g : Graph) (bytes : List ℕ) : Type 0 where
   -- nothing stood against it
   pub free : first_cause define (composition_of g) ≡ None
   pub apart : name_cause define validate (composition_of g) ≡ None
   pub nests : NestsPackages define g bytes
-  -- the graph's wiring
-  pub wiring : Wiring ℕ
-  pub is : IsGraphWiring g wiring
-  -- the bytes mean it, but for the numbers of instances, in all worlds that are true of the packages
-  pub meant : Wiring ℕ
-  pub means : (worlds : Worlds) → AreTrueOf define g worlds → Means worlds bytes meant
-  pub same : Same (as_written define g wiring) meant
+  pub means : MeansWiring define g bytes
 
 -- the world that is handed out is true of the bytes
 pub record HasTrueWorld (g : Graph) (types : Collection) (world : WorldId) : Type 0 where

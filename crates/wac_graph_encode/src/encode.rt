@@ -4,10 +4,12 @@ ghost use Rattle.std.specs.Prelude.{◌≡◌, [], IfOk, IfErr, OnOk, map};
 ghost use Rattle.wac_types_base.specs.declared.item.ItemKind.{ItemKind};
 ghost use Rattle.wac_types_base.specs.Collection.{Stands};
 ghost use Rattle.wac_graph_bytes.specs.Views.{view};
+ghost use Rattle.wac_graph_core.specs.Graph.{Graph};
 ghost use Rattle.wac_graph_asks.specs.Asked.{KeepsAsked};
 ghost use Rattle.wac_graph_asks.specs.AskedUses.{CopiesStand};
+ghost use Rattle.wac_graph_asks.specs.Outers.{AnswersOuters};
 ghost use Rattle.wac_graph_encode.specs.Acyclic.{IsNoCycle};
-ghost use Rattle.wac_graph_encode.specs.Finished.{AreSpelled, MeansAsked, MeansWired};
+ghost use Rattle.wac_graph_encode.specs.Finished.{AreSpelled, IsPrepared, MeansAsked, MeansNested, MeansWired};
 
 use crate::conflicts::{check_implicit, check_names, check_writable};
 use crate::errors::{EncodeError, Refusal, error_of};
@@ -105,6 +107,7 @@ fn bytes_asked(
     outers: &Outers,
 ) -> Result<(Vec<u8>, Vec<Definition>), Refusal>
     requires { CopiesStand asked.old.types asked.old.definitions.items }
+    ensures { IfOk result (λ p. IsPrepared graph.now asked.old outers.now → MeansNested graph.now options.now p.0.items) }
 {
     let alloc = graph.alloc();
     let definitions = written_definitions(alloc, &mut asked.types, &asked.definitions)?;
@@ -122,6 +125,7 @@ fn encoded_asked(
     number: u64,
 ) -> Result<Encoded, Refusal>
     requires { CopiesStand asked.old.types asked.old.definitions.items }
+    ensures means { IfOk result (λ e. IsPrepared graph.now asked.old outers.now → MeansNested graph.now options.now e.bytes.items) }
     ensures number { IfOk result (λ e. e.types.number ≡ number) }
     ensures stands { IfOk result (λ e. Stands e.types (ItemKind.Component e.world)) }
 {
@@ -141,7 +145,8 @@ fn outers_checked(
     options: &EncodeOptions,
     asked: &mut Asked,
 ) -> Result<Outers, Refusal>
-    ensures { OnOk result (KeepsAsked asked.old asked.new) }
+    ensures keeps { OnOk result (KeepsAsked asked.old asked.new) }
+    ensures outers { IfOk result (AnswersOuters asked.old asked.new) }
 {
     let alloc = graph.alloc();
     check_implicit(alloc, graph, &asked.asks)?;
@@ -156,6 +161,7 @@ fn encoded(
     options: &EncodeOptions,
     numbers: (u64, u64),
 ) -> Result<Encoded, Refusal>
+    ensures means { IfOk result (λ e. MeansNested graph.now options.now e.bytes.items) }
     ensures number { IfOk result (λ e. e.types.number ≡ numbers.1) }
     ensures stands { IfOk result (λ e. Stands e.types (ItemKind.Component e.world)) }
 {
@@ -175,8 +181,12 @@ fn other_numbers(number: u64) -> (u64, u64) {
 
 /// Encoding of composition graphs.
 pub trait EncodeGraph {
+    /// The graph that is composed.
+    ghost graph: { Self → Graph };
+
     /// The bytes of the composition.
     fn encode(&self, options: EncodeOptions) -> Result<Vec<u8>, EncodeError>
+        ensures means { IfOk result (λ bytes. MeansNested (graph self.now) options bytes.items) }
         ensures acyclic { IfErr result IsNoCycle };
 
     /// The bytes of the composition, and the world that is true of them, in a collection of the second number. The
@@ -186,12 +196,15 @@ pub trait EncodeGraph {
         options: EncodeOptions,
         numbers: (u64, u64),
     ) -> Result<Encoded, EncodeError>
+        ensures means { IfOk result (λ e. MeansNested (graph self.now) options e.bytes.items) }
         ensures number { IfOk result (λ e. e.types.number ≡ numbers.1) }
         ensures stands { IfOk result (λ e. Stands e.types (ItemKind.Component e.world)) }
         ensures acyclic { IfErr result IsNoCycle };
 }
 
 impl EncodeGraph for CompositionGraph {
+    ghost graph = { λ g. g };
+
     fn encode(&self, options: EncodeOptions) -> Result<Vec<u8>, EncodeError> {
         let numbers = other_numbers(self.types().number());
         match encoded(self, &options, numbers) {
