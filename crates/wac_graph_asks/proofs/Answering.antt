@@ -49,7 +49,7 @@ use Rattle.wac_graph_asks.specs.Outers.{IsCalled, AreOuters, IsOuters, AnswersOu
 use Rattle.wac_graph_asks.proofs.Asking.{asks_kept}
 use Rattle.wac_graph_asks.proofs.Merged.{all_merged}
 use Rattle.wac_graph_asks.proofs.Once.{asked_once_keeps, asked_once_imports}
-use Rattle.wac_graph_asks.proofs.Repeating.{behind_has}
+use Rattle.wac_graph_asks.proofs.Repeating.{once_of_all, behind_has}
 
 -- ---- of asks as they are held
 
@@ -163,6 +163,6 @@ answers r old new classes acyclic differ labels spellings h = IfOk-weaker r (Out
         let held = old.asks.items in
         let stand = asked.held.items in
         let own = outers (record { stand = stand; differ = differ }) (record { stand = stand; labels = labels; spellings = spellings }) in
-        outers_of_all (asks_of (composition_of g)) (asks_in old.types held) (subst (IsAskedOnce (asks_of (composition_of g))) (sym asked.asks) asked.once)
+        outers_of_all (asks_of (composition_of g)) (asks_in old.types held) (subst (IsAskedOnce (asks_of (composition_of g))) (sym asked.asks) (once_of_all (named_asks (composition_of g)) asked.once))
         (λ a m. let x = mapped_among (ask_in old.types) held a m in subst (λ (b : Ask ℕ). IsWell b.item) (sym x.2) (stated_are_well old.types x.0.item acyclic differ (stand x.0 x.1)))
         new.types o.world o.called.items own

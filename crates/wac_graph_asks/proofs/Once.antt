@@ -8,6 +8,7 @@ use Rattle.wac_composition.specs.OuterImports.{outer_imports}
 use Rattle.wac_composition.proofs.AskedAgain.{asked_again}
 use Rattle.wac_composition.proofs.OutersAgain.{outers_again}
 use Rattle.wac_composition.proofs.Clashing.{among_append}
+use Rattle.wac_graph_asks.proofs.Repeating.{listed_among}
 use Rattle.wac_graph_asks.specs.Asked.{IsAskedBehind, no_more, asked, left_out, Asked_once_keeps, Asked_once_imports}
 
 module _ {A : Type 0} where
@@ -23,12 +24,6 @@ module _ {A : Type 0} where
     kept = λ c m. q.kept c (inside c m) ∙ p.kept c m;
     spelled = λ n. q.spelled n ∙ p.spelled n;
   }
-
-  listed_among : {before asks list : List (Ask A)} → IsAskedBehind before asks list → (c : Ask A) → Among c list → Among c asks
-  listed_among no_more c m = absurd m
-  listed_among (asked a h) c (inl s) = inl s
-  listed_among (asked a h) c (inr m) = inr (listed_among h c m)
-  listed_among (left_out a b o e n i h) c m = inr (listed_among h c m)
 
   keeps_behind : {before asks list : List (Ask A)} → IsAskedBehind before asks list → ((a : Ask A) → Among a (before ++ list) → IsWell a.item) → KeepsClasses (before ++ list) (before ++ asks)
   keeps_behind {before} no_more well = keeps_itself (before ++ [])
