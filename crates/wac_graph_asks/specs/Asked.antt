@@ -16,6 +16,7 @@ use Rattle.wac_graph_core.specs.contracts.ids.PackageIdPartialEq.TheImpl.{eq-val
 use Rattle.wac_graph_core.specs.Graph.{Graph, package_of}
 use Rattle.wac_composition.specs.Composition.{Placed}
 use Rattle.wac_composition.specs.Asks.{Ask, named_asks, asks_to_use}
+use Rattle.wac_composition.specs.Conflicts.{merge_conflict}
 use Rattle.wac_composition.specs.OuterImports.{outer_imports}
 use Rattle.wac_composition.specs.Again.{IsWell, KeepsClasses}
 use Rattle.wac_graph_asks.specs.declared.asks.Ask.{Ask as HeldAsk}
@@ -43,6 +44,10 @@ Asked_once_keeps A = (asks list : List (Ask A)) → IsAskedOnce asks list → ((
 -- It has their outer imports.
 abbrev pub Asked_once_imports : Type 0 → Type 0
 Asked_once_imports A = (asks list : List (Ask A)) → IsAskedOnce asks list → ((a : Ask A) → Among a list → IsWell a.item) → outer_imports asks ≡ outer_imports list
+
+-- It has their conflicts.
+abbrev pub Asked_once_conflicts : Type 0 → Type 0
+Asked_once_conflicts A = (asks list : List (Ask A)) → IsAskedOnce asks list → ((a : Ask A) → Among a list → IsWell a.item) → merge_conflict asks [] asks ≡ merge_conflict list [] list
 
 -- ---- packages
 
