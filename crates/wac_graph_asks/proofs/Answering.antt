@@ -1,7 +1,7 @@
 -- The world and the names of the classes of asks are the outer imports of the asks.
 use Rattle.std.specs.Map.{keys_of}
 use Rattle.std.specs.Option.{option_map}
-use Rattle.std.proofs.Common.{◌≡◌, ℕ, true, true≢false, List, [], map, is_some, Option, Some, None, Result, Ok, Err, IfOk, IfErr, OnOk, slice_get, refl, sym, ap, subst, ◌∙◌}
+use Rattle.std.proofs.Common.{◌≡◌, ℕ, true, true≢false, List, [], map, is_some, Option, Some, None, Result, Ok, Err, IsOk, IfOk, IfErr, OnOk, slice_get, refl, sym, ap, subst, ◌∙◌}
 use Rattle.std.proofs.lemmas.Option.{none-some, same_Some, slice_get-map}
 use Rattle.std.proofs.lemmas.Result.{IfOk-weaker, on_ok_weaker}
 use Rattle.std.proofs.lemmas.List.{length-map}
@@ -49,6 +49,7 @@ use Rattle.wac_graph_asks.specs.Takes.{AreSound, AreTaken, TakesAll, AreMerged, 
 use Rattle.wac_graph_asks.specs.Imported.{AreImports, AreClassed, AddsImports, AreCalled, AddsNames, OutersOf}
 use Rattle.wac_graph_asks.specs.Outers.{IsCalled, AreOuters, IsOuters, AnswersOuters}
 use Rattle.wac_graph_asks.proofs.Asking.{asks_kept}
+use Rattle.wac_graph_asks.proofs.Importing.{imports_stay}
 use Rattle.wac_graph_asks.proofs.Merged.{all_merged, refused_labelled}
 use Rattle.wac_graph_asks.proofs.Once.{asked_once_keeps, asked_once_imports, asked_once_conflicts}
 use Rattle.wac_graph_asks.proofs.Repeating.{once_of_all, behind_has}
@@ -198,3 +199,16 @@ pub answers_refused : {T : Type 0} (r : Result T OuterError) (old : Asked) (labe
 answers_refused (Ok x) old labels acyclic differ are h = tt
 answers_refused (Err e) old labels acyclic differ are h =
     if_conflict e (λ cause refuses g asked. same_conflicts old acyclic differ g asked ∙ refused_labelled old.types old.asks.items labels cause (sound old acyclic differ g asked) are refuses) h
+
+-- ---- the world
+
+pub filled_so : {T E F : Type 0} (r : Result T E) (v : T) (added : Result (Unit {0}) F) (P : T → Type 0) → IfOk r (λ w. w ≡ v) → IfOk r (λ w. IsOk added) → OnOk added (P v) → IfOk r P
+filled_so (Ok w) v (Ok u) P is ok h = subst P (sym is) h
+filled_so (Ok w) v (Err e) P is ok h = absurd ok
+filled_so (Err e) v added P is ok h = tt
+
+-- a world that stands in a collection that has grown has the imports that were added
+pub world_made : (c d e : Collection) (held : List HeldAsk) (classes : Classes) (taken : List (ℕ × Taken)) (imports : List (Name × ItemKind)) (w : WorldId) → Grows d e → imports_of e w ≡ imports → AddsImports c held classes taken d imports
+    → AddsImports c held classes taken e (imports_of e w)
+world_made c d e held classes taken imports w g is adds a t =
+    subst (AreImports e (asks_in c held) classes.labels.items (each_label classes.labels.items)) (sym is) (imports_stay (asks_in c held) classes.labels.items d e g (each_label classes.labels.items) imports (adds a t))

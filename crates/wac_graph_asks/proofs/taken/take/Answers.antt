@@ -1,5 +1,6 @@
 use Rattle.std.proofs.Common.{◌∙◌}
 use Rattle.wac_types_base.proofs.Loops.{get-place}
+use Rattle.wac_graph_asks.specs.declared.faults.OuterError.{OuterError}
 use Rattle.wac_graph_asks.specs.Takes.{IfConflict, RefusesAt}
 use Rattle.wac_graph_asks.proofs.TakingMore.{again_err, if_conflict, refuses_at, takes_at}
 use Rattle.wac_graph_asks.proofs.taken.take.Goals as goal
@@ -16,4 +17,5 @@ returns-in_err-after-clause-refused c =
     (get-place c.args.asks.now c.args.at c.index-asks-at.result c.requires c.index-asks-at.is)) c.in_err-after.ensures.refused)
 
 pub returns-in_err-insert-clause-refused : goal.returns-in_err-insert-clause-refused
-returns-in_err-insert-clause-refused c = ?
+returns-in_err-insert-clause-refused c =
+    again_err c.from_residual-in_err-insert.result (λ e. IfConflict e (RefusesAt c.args.types.now c.args.asks.now c.args.at c.args.class c.args.taken.now.entries)) OuterError.Memory c.from_residual-in_err-insert.ensures.1 tt
