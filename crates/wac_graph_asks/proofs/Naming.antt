@@ -23,7 +23,7 @@ use Rattle.wac_composition.proofs.Closures.{any_among}
 use Rattle.wac_merging.specs.Labelled.{with_label, each_label}
 use Rattle.wac_graph_asks.specs.declared.asks.Ask.{Ask as HeldAsk}
 use Rattle.wac_graph_asks.specs.Joining.{label_at}
-use Rattle.wac_graph_asks.specs.Imported.{NamesAsk, AreCalled, AddsName, AddsNames}
+use Rattle.wac_graph_asks.specs.Imported.{NamesAsk, AddsName, AddsNames}
 use Rattle.wac_graph_asks.proofs.TakingAll.{there_is}
 
 -- ---- each label is among the labels

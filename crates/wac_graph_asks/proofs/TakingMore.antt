@@ -23,7 +23,7 @@ use Rattle.wac_graph_asks.specs.declared.asks.Ask.{Ask as HeldAsk}
 use Rattle.wac_graph_asks.specs.declared.asks.Asking.{Asking}
 use Rattle.wac_graph_asks.specs.declared.faults.OuterError.{OuterError}
 use Rattle.wac_graph_asks.specs.declared.taken.Taken.{Taken}
-use Rattle.wac_graph_asks.specs.Takes.{conflict_by, pair_in, AsksSame, KeepsMore, KeepsNone, NamesConflict, conflict_of, IfConflict, IsMerging, RefusesMore, RefusesOne, RefusesAt, TakesOne, Takes}
+use Rattle.wac_graph_asks.specs.Takes.{conflict_by, pair_in, AsksSame, KeepsMore, KeepsNone, NamesConflict, conflict_of, IfConflict, IsNoConflict, IsMerging, RefusesMore, RefusesOne, RefusesAt, TakesOne, Takes}
 
 if_merging : {P Q : Type 0} (e : AggregateError) → (P → Q) → IfMerging e P → IfMerging e Q
 if_merging (AggregateError.Incompatible s) f h = f h
@@ -136,6 +136,11 @@ by_other a first other n named = ap (λ m. ImportTypes m first a.by) named ∙ g
 pub again_err : {T E : Type 0} (r : Result T E) (P : E → Type 0) (e : E) → IsErrAnd r (λ f. f ≡ e) → P e → IfErr r P
 again_err (Ok x) P e is h = absurd is
 again_err (Err f) P e is h = subst P (sym is) h
+
+-- what is no conflict claims none
+pub no_conflict : {T : Type 0} (r : Result T OuterError) (P : Cause ℕ → Type 0) → IfErr r IsNoConflict → IfErr r (λ e. IfConflict e P)
+no_conflict (Ok x) P h = tt
+no_conflict (Err e) P h = if_conflict e (λ cause none. absurd none) h
 
 -- ---- entries
 

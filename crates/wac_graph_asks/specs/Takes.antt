@@ -109,6 +109,10 @@ IfConflict (OuterError.ImportTypeMergeConflict n first second source) P = P (Imp
 IfConflict OuterError.TooLarge P = Unit {0}
 IfConflict OuterError.Memory P = Unit {0}
 
+-- it is refused for want of memory or room alone
+abbrev pub IsNoConflict : OuterError → Type 0
+IsNoConflict e = IfConflict e (λ cause. ⊥)
+
 -- no want of memory
 abbrev pub IsMerging : AggregateError → Type 0
 IsMerging AggregateError.Memory = ⊥

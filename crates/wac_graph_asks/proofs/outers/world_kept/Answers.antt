@@ -1,4 +1,4 @@
-use Rattle.std.proofs.Common.{List, subst}
+use Rattle.std.proofs.Common.{List, OnOk, subst}
 use Rattle.wac_graph_asks.specs.declared.asks.Ask.{Ask}
 use Rattle.wac_graph_asks.specs.Imported.{AddsImports}
 use Rattle.wac_graph_asks.proofs.Answering.{filled_so}
