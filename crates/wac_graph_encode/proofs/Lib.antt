@@ -17,4 +17,5 @@ pub mod FormKinds
 pub mod RootedOuters
 pub mod RootedDefinitions
 pub mod Beginning
+pub mod Nested
 pub mod Preparing

@@ -3,13 +3,14 @@
 ghost use Rattle.std.specs.Prelude.{◌≡◌, [], IfOk, IfErr, OnOk, map};
 ghost use Rattle.wac_types_base.specs.declared.item.ItemKind.{ItemKind};
 ghost use Rattle.wac_types_base.specs.Collection.{Stands};
+ghost use Rattle.wac_types_base.specs.Entries.{names_of};
 ghost use Rattle.wac_graph_bytes.specs.Views.{view};
 ghost use Rattle.wac_graph_core.specs.Graph.{Graph};
 ghost use Rattle.wac_graph_asks.specs.Asked.{KeepsAsked};
 ghost use Rattle.wac_graph_asks.specs.AskedUses.{CopiesStand};
 ghost use Rattle.wac_graph_asks.specs.Outers.{AnswersOuters};
 ghost use Rattle.wac_graph_encode.specs.Acyclic.{IsNoCycle};
-ghost use Rattle.wac_graph_encode.specs.Finished.{AreSpelled, IsPrepared, MeansAsked, MeansNested, MeansWired};
+ghost use Rattle.wac_graph_encode.specs.Finished.{AreSpelled, IsPrepared, MeansAsked, MeansNested, MeansWired, NestsSo, NestsWired};
 
 use crate::conflicts::{check_implicit, check_names, check_writable};
 use crate::errors::{EncodeError, Refusal, error_of};
@@ -44,7 +45,8 @@ fn bytes_of_entries(
 /// The bytes of a composition, where nothing of it is written yet.
 fn bytes_wired(writing: Writing<'_>, wired: &mut Wired<'_>) -> Result<Vec<u8>, Refusal>
     requires { wired.old.outers ≡ [] }
-    ensures { MeansWired writing.entry wired.old result }
+    ensures means { MeansWired writing.entry wired.old result }
+    ensures nests { NestsWired writing.entry wired.old result }
 {
     writing.graph.see_sound();
     write_root(writing, &mut wired.root)?;
@@ -61,7 +63,8 @@ fn bytes_of(
     definitions: &[Definition],
     options: &EncodeOptions,
 ) -> Result<Vec<u8>, Refusal>
-    ensures { MeansAsked graph.now asked.now outers.now definitions.now options.now result }
+    ensures means { MeansAsked graph.now asked.now outers.now definitions.now options.now result }
+    ensures nests { NestsSo options.now.define_components graph.now (names_of asked.now.packages.entries) result }
 {
     let all = Importing {
         types: &asked.types,

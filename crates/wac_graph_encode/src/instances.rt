@@ -9,7 +9,7 @@ ghost use Rattle.wac_graph_scopes.specs.Parts.{imports_of};
 ghost use Rattle.wac_graph_asks.specs.Reads.{AreArguments};
 ghost use Rattle.wac_graph_scopes.specs.Items.{sort_of};
 ghost use Rattle.wac_graph_encode.specs.Beginning.{IsBare};
-ghost use Rattle.wac_graph_encode.specs.Writing.{Finishes, AddsArgument, AddsCalled, AddsEntry, AddsExport, AddsExports, AddsGiven, AddsNeeded, AddsOnly, AllStand, AreCalled, AreGivenIn, Below, GivesUnder, IfYes, IsAliasAt, IsSameRoot, KeepsNodes, KeepsWritten, PassesAll, UpTo, UpToOne, WritesInstance, WritesNode, exported_as, noted};
+ghost use Rattle.wac_graph_encode.specs.Writing.{Finishes, AddsArgument, AddsCalled, AddsEntry, AddsExport, AddsExports, AddsGiven, AddsNeeded, AddsOnly, AllStand, AreCalled, AreGivenIn, Below, GivesUnder, IfYes, IsAliasAt, IsSameRoot, KeepsNodes, KeepsWritten, PassesAll, UpTo, UpToOne, WritesInstance, WritesNode, exported_as, noted, NestsNoMore};
 
 use crate::errors::Refusal;
 use crate::labels::names_of_nodes;
@@ -506,7 +506,8 @@ impl<'a> Wired<'a> {
     /// Writes all that stands behind the root's types and imports; the names of nodes.
     pub(crate) fn write_all(&mut self, called: &[Called]) -> Result<Vec<SortNames>, Refusal>
         requires { self.old.outers ≡ [] }
-        ensures { Finishes called.now self.old self.new result }
+        ensures finishes { Finishes called.now self.old self.new result }
+        ensures nests { OnOk result (NestsNoMore self.old.root self.new.root) }
     {
         self.graph.see_sound();
         add_outers(self.alloc, called, &self.root.imports, &mut self.outers)?;

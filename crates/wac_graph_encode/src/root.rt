@@ -16,7 +16,7 @@ ghost use Rattle.wac_graph_encode.specs.Standing.{counted, CountsOne};
 ghost use Rattle.wac_graph_encode.specs.Writing.{AddsEntry, AddsIndex, AddsInstance};
 ghost use Rattle.wac_graph_encode.specs.Rooting.{AddsRead, IsNewScope, ReadsAtRoot, TakesScope, WritesItem, WritesOuters, WritesOwn, counter};
 ghost use Rattle.wac_graph_encode.specs.Defining.{AddsDefinitions, WritesDefinition, WritesDefinitions};
-ghost use Rattle.wac_graph_encode.specs.Beginning.{Begins, BeginsRoot};
+ghost use Rattle.wac_graph_encode.specs.Beginning.{Begins, BeginsRoot, NestsThese};
 ghost use Rattle.wac_graph_encode.specs.Nesting.{NestsAll, NestsBehind, NestsIfDefined, NestsOne, bytes_of};
 
 use crate::conflicts::dependency_name;
@@ -565,7 +565,8 @@ fn write_packages(
 /// Writes the types and the imports of a composition in a scope, and takes them with its packages.
 fn write_in(writing: Writing<'_>, scope: &mut ImportScope, root: &mut Root) -> Result<(), Refusal>
     requires { IsNewScope scope.old }
-    ensures { BeginsRoot writing.entry root.old root.new result }
+    ensures begins { BeginsRoot writing.entry root.old root.new result }
+    ensures nests { NestsThese writing.entry root.old root.new result }
 {
     let Writing {
         graph,
@@ -583,7 +584,8 @@ fn write_in(writing: Writing<'_>, scope: &mut ImportScope, root: &mut Root) -> R
 
 /// Writes the types, the imports and the packages of a composition.
 pub(crate) fn write_root(writing: Writing<'_>, root: &mut Root) -> Result<(), Refusal>
-    ensures { BeginsRoot writing.entry root.old root.new result }
+    ensures begins { BeginsRoot writing.entry root.old root.new result }
+    ensures nests { NestsThese writing.entry root.old root.new result }
 {
     let mut scope = ImportScope::new(writing.graph.alloc());
     let written = write_in(writing, &mut scope, root);
