@@ -112,6 +112,8 @@ fn bytes_asked(
     requires { CopiesStand asked.old.types asked.old.definitions.items }
     ensures { IfOk result (λ p. IsPrepared graph.now asked.old outers.now → MeansNested graph.now options.now p.0.items) }
 {
+    graph.see_sound();
+    graph.types().see_acyclic();
     let alloc = graph.alloc();
     let definitions = written_definitions(alloc, &mut asked.types, &asked.definitions)?;
     let bytes = bytes_of(graph, asked, outers, &definitions, options)?;
