@@ -1,6 +1,6 @@
 //! Why a graph is not encoded.
 
-ghost use Rattle.wac_graph_encode.specs.Acyclic.{IsNoCycle};
+ghost use Rattle.wac_graph_causes.specs.Acyclic.{IsNoCycle};
 
 use std::alloc::{AllocError, AllocFailed, Global};
 use std::fmt;
@@ -116,7 +116,7 @@ impl std::error::Error for EncodeError {}
 
 /// Why a graph is not encoded, but for cycles: no graph has one.
 #[derive(Drop)]
-pub(crate) enum Refusal {
+pub enum Refusal {
     ImplicitImportConflict {
         import: NodeId,
         instantiation: NodeId,
@@ -145,7 +145,7 @@ pub(crate) enum Refusal {
 }
 
 /// The public error of a refusal.
-pub(crate) fn error_of(refusal: Refusal) -> EncodeError
+pub fn error_of(refusal: Refusal) -> EncodeError
     ensures { IsNoCycle result }
 {
     match refusal {
@@ -238,7 +238,7 @@ impl From<SizeError> for Refusal {
 }
 
 /// The refusal where the type under a name was not written.
-pub(crate) fn not_written(alloc: Global, name: &str, fault: WriteError) -> Refusal {
+pub fn not_written(alloc: Global, name: &str, fault: WriteError) -> Refusal {
     match fault {
         WriteError::TooLarge => Refusal::TooLarge,
         WriteError::Memory => Refusal::Memory,
