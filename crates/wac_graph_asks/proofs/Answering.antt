@@ -1,9 +1,9 @@
 -- The world and the names of the classes of asks are the outer imports of the asks.
 use Rattle.std.specs.Map.{keys_of}
 use Rattle.std.specs.Option.{option_map}
-use Rattle.std.proofs.Common.{◌≡◌, ℕ, true, true≢false, List, [], map, is_some, Option, Some, None, Result, IfOk, slice_get, refl, sym, ap, subst, ◌∙◌}
+use Rattle.std.proofs.Common.{◌≡◌, ℕ, true, true≢false, List, [], map, is_some, Option, Some, None, Result, Ok, Err, IfOk, IfErr, OnOk, slice_get, refl, sym, ap, subst, ◌∙◌}
 use Rattle.std.proofs.lemmas.Option.{none-some, same_Some, slice_get-map}
-use Rattle.std.proofs.lemmas.Result.{IfOk-weaker}
+use Rattle.std.proofs.lemmas.Result.{IfOk-weaker, on_ok_weaker}
 use Rattle.std.proofs.lemmas.List.{length-map}
 use Rattle.wac_types_base.specs.declared.ids.WorldId.{WorldId}
 use Rattle.wac_types_base.specs.declared.item.ItemKind.{ItemKind}
@@ -26,6 +26,7 @@ use Rattle.wac_composition.specs.Merging.{kept as kept_of, identified}
 use Rattle.wac_composition.specs.Again.{IsWell}
 use Rattle.wac_composition.specs.OuterImports.{asked_in, outer_of, outer_imports}
 use Rattle.wac_composition.specs.OuterLaws.{IsMet}
+use Rattle.wac_composition.specs.Conflicts.{merge_conflict}
 use Rattle.wac_composition.proofs.OuterClasses.{asks_are_met}
 use Rattle.wac_composition.proofs.Lists.{mapped_among}
 use Rattle.wac_merging.specs.Named.{NamesDiffer}
@@ -36,6 +37,7 @@ use Rattle.wac_merging.proofs.Well.{stated_are_well}
 use Rattle.wac_graph_asks.specs.declared.asks.Ask.{Ask as HeldAsk}
 use Rattle.wac_graph_asks.specs.declared.asks.Asked.{Asked}
 use Rattle.wac_graph_asks.specs.declared.classes.Classes.{Classes}
+use Rattle.wac_graph_asks.specs.declared.faults.OuterError.{OuterError}
 use Rattle.wac_graph_asks.specs.declared.outers.Outers.{Outers}
 use Rattle.wac_graph_asks.specs.declared.taken.Taken.{Taken}
 use Rattle.wac_graph_asks.specs.Graphs.{composition_of}
@@ -43,13 +45,14 @@ use Rattle.wac_graph_asks.specs.AsksIn.{ask_in, asks_in}
 use Rattle.wac_graph_asks.specs.Asked.{IsAsked, IsAskedOnce}
 use Rattle.wac_graph_asks.specs.AskedUses.{HasSame}
 use Rattle.wac_graph_asks.specs.Classed.{AreLabels, AreSpellings}
-use Rattle.wac_graph_asks.specs.Takes.{AreSound, AreTaken, TakesAll, AreMerged}
+use Rattle.wac_graph_asks.specs.Takes.{AreSound, AreTaken, TakesAll, AreMerged, IfConflict, RefusesAll, HasNoneLabelled, conflict_in, ConflictsFor, HasNoConflict}
 use Rattle.wac_graph_asks.specs.Imported.{AreImports, AreClassed, AddsImports, AreCalled, AddsNames, OutersOf}
 use Rattle.wac_graph_asks.specs.Outers.{IsCalled, AreOuters, IsOuters, AnswersOuters}
 use Rattle.wac_graph_asks.proofs.Asking.{asks_kept}
-use Rattle.wac_graph_asks.proofs.Merged.{all_merged}
-use Rattle.wac_graph_asks.proofs.Once.{asked_once_keeps, asked_once_imports}
-use Rattle.wac_graph_asks.proofs.Repeating.{behind_has}
+use Rattle.wac_graph_asks.proofs.Merged.{all_merged, refused_labelled}
+use Rattle.wac_graph_asks.proofs.Once.{asked_once_keeps, asked_once_imports, asked_once_conflicts}
+use Rattle.wac_graph_asks.proofs.Repeating.{once_of_all, behind_has}
+use Rattle.wac_graph_asks.proofs.TakingMore.{if_conflict}
 
 -- ---- of asks as they are held
 
@@ -154,15 +157,44 @@ module _ (all list : List (Ask ℕ)) (once : IsAskedOnce all list) (well : (a : 
     named = λ a m. let s : HasSame list a = behind_has once a m in subst (λ n. Among n (map (λ x. x.name) called)) s.name (h.named s.other s.among);
   }
 
-pub answers : {E : Type 0} (r : Result Outers E) (old new : Asked) (classes : Classes) → IsAcyclic old.types → NamesDiffer old.types → AreLabels (asks_in old.types old.asks.items) classes.labels.items
-    → AreSpellings (asks_in old.types old.asks.items) classes.labels.items classes.spellings.items → IfOk r (OutersOf old.types old.asks.items classes new.types) → IfOk r (AnswersOuters old new)
-answers r old new classes acyclic differ labels spellings h = IfOk-weaker r (OutersOf old.types old.asks.items classes new.types) (AnswersOuters old new) of h
-  where
-    of : (o : Outers) → OutersOf old.types old.asks.items classes new.types o → AnswersOuters old new o
-    of o outers g asked =
-        let held = old.asks.items in
-        let stand = asked.held.items in
-        let own = outers (record { stand = stand; differ = differ }) (record { stand = stand; labels = labels; spellings = spellings }) in
-        outers_of_all (asks_of (composition_of g)) (asks_in old.types held) (subst (IsAskedOnce (asks_of (composition_of g))) (sym asked.asks) asked.once)
-        (λ a m. let x = mapped_among (ask_in old.types) held a m in subst (λ (b : Ask ℕ). IsWell b.item) (sym x.2) (stated_are_well old.types x.0.item acyclic differ (stand x.0 x.1)))
-        new.types o.world o.called.items own
+-- ---- what is answered
+
+module _ (old : Asked) (acyclic : IsAcyclic old.types) (differ : NamesDiffer old.types) (g : Graph) (asked : IsAsked g old) where
+  abbrev all : List (Ask ℕ)
+  all = asks_of (composition_of g)
+
+  abbrev list : List (Ask ℕ)
+  list = asks_in old.types old.asks.items
+
+  once : IsAskedOnce all list
+  once = subst (IsAskedOnce all) (sym asked.asks) (once_of_all (named_asks (composition_of g)) asked.once)
+
+  sound : AreSound old.types old.asks.items
+  sound = record { stand = asked.held.items; differ = differ }
+
+  well : (a : Ask ℕ) → Among a list → IsWell a.item
+  well a m =
+      let x = mapped_among (ask_in old.types) old.asks.items a m in
+      subst (λ (b : Ask ℕ). IsWell b.item) (sym x.2) (stated_are_well old.types x.0.item acyclic differ (asked.held.items x.0 x.1))
+
+  same_conflicts : conflict_in g ≡ merge_conflict list [] list
+  same_conflicts = asked_once_conflicts all list once well
+
+module _ {E : Type 0} (r : Result Outers E) (old new : Asked) (classes : Classes) (acyclic : IsAcyclic old.types) (differ : NamesDiffer old.types) (labels : AreLabels (asks_in old.types old.asks.items) classes.labels.items)
+    (spellings : AreSpellings (asks_in old.types old.asks.items) classes.labels.items classes.spellings.items) where
+  pub answers : IfOk r (OutersOf old.types old.asks.items classes new.types) → IfOk r (AnswersOuters old new)
+  answers = IfOk-weaker r (OutersOf old.types old.asks.items classes new.types) (AnswersOuters old new) of
+    where
+      of : (o : Outers) → OutersOf old.types old.asks.items classes new.types o → AnswersOuters old new o
+      of o outers g asked =
+          outers_of_all (all old acyclic differ g asked) (list old acyclic differ g asked) (once old acyclic differ g asked) (well old acyclic differ g asked) new.types o.world o.called.items
+          (outers (sound old acyclic differ g asked) (record { stand = asked.held.items; labels = labels; spellings = spellings }))
+
+  pub answers_free : OnOk r (HasNoneLabelled old.types old.asks.items classes.labels.items) → OnOk r (HasNoConflict old)
+  answers_free = on_ok_weaker r (λ none g asked. same_conflicts old acyclic differ g asked ∙ none (sound old acyclic differ g asked) labels)
+
+pub answers_refused : {T : Type 0} (r : Result T OuterError) (old : Asked) (labels : List ℕ) → IsAcyclic old.types → NamesDiffer old.types → AreLabels (asks_in old.types old.asks.items) labels → IfErr r (λ e. IfConflict e (RefusesAll old.types old.asks.items labels))
+    → IfErr r (λ e. IfConflict e (ConflictsFor old))
+answers_refused (Ok x) old labels acyclic differ are h = tt
+answers_refused (Err e) old labels acyclic differ are h =
+    if_conflict e (λ cause refuses g asked. same_conflicts old acyclic differ g asked ∙ refused_labelled old.types old.asks.items labels cause (sound old acyclic differ g asked) are refuses) h

@@ -17,7 +17,7 @@ use Rattle.wac_graph_core.proofs.Found.{eq_same, eq_false, Among-end}
 use Rattle.wac_graph_scopes.proofs.OrderLaws.{among-either, distinct-append, distinct-apart}
 use Rattle.wac_composition.specs.Asks.{Ask}
 use Rattle.wac_composition.specs.Classes.{Linked, class, spelled}
-use Rattle.wac_composition.specs.Merging.{Asked as AskedPair, identified}
+use Rattle.wac_composition.specs.Merging.{identified}
 use Rattle.wac_composition.specs.OuterImports.{asked_in, outer_of, outer_imports}
 use Rattle.wac_composition.proofs.Closures.{among_any}
 use Rattle.wac_composition.proofs.Lists.{mapped_among}
@@ -29,7 +29,7 @@ use Rattle.wac_merging.proofs.Taking.{taken_stays}
 use Rattle.wac_graph_asks.specs.declared.asks.Ask.{Ask as HeldAsk}
 use Rattle.wac_graph_asks.specs.declared.classes.Classes.{Classes}
 use Rattle.wac_graph_asks.specs.declared.taken.Taken.{Taken}
-use Rattle.wac_graph_asks.specs.AsksIn.{asks_in}
+use Rattle.wac_graph_asks.specs.AsksIn.{ask_in, asks_in}
 use Rattle.wac_graph_asks.specs.Classed.{AreSpellings}
 use Rattle.wac_graph_asks.specs.Named.{SpellsClass}
 use Rattle.wac_graph_asks.specs.Takes.{IsTakenOf, AreTaken}
@@ -81,12 +81,8 @@ module _ (asks : List (Ask ℕ)) (labels : List ℕ) (are : AreLabels asks label
         own = ap (slice_get labels) (sym same) ∙ sym ((classes.one_label i f.0 a f.2.ask p f.2.there).1 f.2.linked) ∙ q;
       }
 
-  labelled_own : (l : ℕ) (p : AskedPair) → Among p (asked_in (labelled l asks labels)) → IsOwn l
-  labelled_own l p m = go (labelled l asks labels) refl m
-    where
-      go : (xs : List (Ask ℕ)) → labelled l asks labels ≡ xs → Among p (asked_in xs) → IsOwn l
-      go [] e m = absurd m
-      go (x ∷ xs) e m = let r = ask_there l asks labels x xs e in own_label r.0 r.1 l r.2 r.3
+  labelled_own : (l : ℕ) (a : Ask ℕ) (as_ : List (Ask ℕ)) → labelled l asks labels ≡ a ∷ as_ → IsOwn l
+  labelled_own l a as_ e = let r = ask_there l asks labels a as_ e in own_label r.0 r.1 l r.2 r.3
 
 -- ---- imports while the collection grows
 
@@ -174,12 +170,12 @@ module _ (c : Collection) (held : List HeldAsk) (classes : Classes) (all : List 
           distinct-apart l (keys_of h.done) (l ∷ keys_of rest)
           (subst AreDistinct (map-append (λ (x : ℕ × Taken). x.0) h.done ((l, one) ∷ rest)) (subst (λ (xs : List (ℕ × Taken)). AreDistinct (keys_of xs)) (sym whole) (subst AreDistinct (sym t.keys) (distinct_labels [] labels tt)))) m (inl refl)
 
-      own_taken : IsTakenOf c held (asked_in (labelled l asks labels)) one
+      own_taken : IsTakenOf c held (labelled l asks labels) one
       own_taken = t.each l one (ap (lookup (λ k. l == k)) (sym whole) ∙ found_behind h.done rest l one new_label)
 
       spelling : n ≡ spelled (labelled l asks labels)
       spelling =
-          let o = labelled_own asks labels a.labels l _ own_taken.among in
+          let o = labelled_own asks labels a.labels l (ask_in c own_taken.first) own_taken.others own_taken.begins in
           spells c o.ask a.spellings o.own o.there ∙ ap spelled (class_is_labelled asks labels l l o.ask (labels_are_of_classes asks labels a.labels) o.there o.own)
 
       own_import : IsImport e (labelled l asks labels) (n, adds.item)

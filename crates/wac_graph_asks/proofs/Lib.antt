@@ -25,3 +25,4 @@ pub mod Importing
 pub mod Naming
 pub mod Answering
 pub mod Lasting
+pub mod ToUse

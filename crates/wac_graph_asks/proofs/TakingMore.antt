@@ -1,10 +1,12 @@
 -- What is kept with one ask more.
 use Rattle.std.specs.List.{list_any}
 use Rattle.std.specs.Map.{keys_of, lookup}
-use Rattle.std.proofs.Common.{◌≡◌, ◌==◌, ℕ, ◌||◌, Bool, true, false, true≢false, is_some, List, [], ◌∷◌, ◌++◌, slice_get, Option, Some, None, refl, sym, ap, subst, ◌∙◌, if◌then◌else◌}
+use Rattle.std.proofs.Common.{◌≡◌, ◌==◌, ℕ, ◌||◌, Bool, true, false, true≢false, is_some, List, [], ◌∷◌, ◌++◌, slice_get, Option, Some, None, Result, Ok, Err, IfErr, refl, sym, ap, subst, ◌∙◌, if◌then◌else◌}
 use Rattle.std.proofs.lemmas.Option.{none-some, same_Some}
 use Rattle.wac_types_base.specs.Record.{Collection}
 use Rattle.wac_types_base.specs.Graph.{Among}
+use Rattle.wac_types_base.specs.Collection.{Stands}
+use Rattle.wac_types_merge.specs.declared.errors.AggregateError.{AggregateError}
 use Rattle.wac_types_merge.specs.declared.family.Family.{Family}
 use Rattle.wac_types_base.proofs.Replacing.{same_number}
 use Rattle.indexmap.specs.IndexMap.{insert_entry}
@@ -12,11 +14,32 @@ use Rattle.wac_graph_core.proofs.Found.{eq_same, eq_false}
 use Rattle.wac_composition.specs.Merging.{Asked}
 use Rattle.wac_merging.specs.declared.kept.Kept.{Kept}
 use Rattle.wac_merging.specs.Asking.{asked_as, FamilyTaken}
-use Rattle.wac_merging.specs.Kept.{Keeps, HasFamily, KeepsAgain, KeepsWith, KeepsNext}
+use Rattle.wac_composition.specs.Conflicts.{Cause, ExplicitImport, ImportTypes}
+use Rattle.wac_merging.specs.Kept.{Keeps, HasFamily, KeepsAgain, KeepsWith, KeepsNext, KeepsNothing, IfMerging}
 use Rattle.wac_merging.specs.Labelled.{with_label}
 use Rattle.wac_graph_asks.specs.declared.asks.Ask.{Ask as HeldAsk}
+use Rattle.wac_graph_asks.specs.declared.faults.OuterError.{OuterError}
 use Rattle.wac_graph_asks.specs.declared.taken.Taken.{Taken}
-use Rattle.wac_graph_asks.specs.Takes.{pair_in, AsksSame, KeepsMore, TakesOne, Takes}
+use Rattle.wac_graph_asks.specs.Takes.{pair_in, AsksSame, KeepsMore, KeepsNone, IfConflict, IsMerging, TakesOne, Takes}
+
+if_merging : {P Q : Type 0} (e : AggregateError) → (P → Q) → IfMerging e P → IfMerging e Q
+if_merging (AggregateError.Incompatible s) f h = f h
+if_merging AggregateError.OutsideFamilies f h = f h
+if_merging AggregateError.UsedWithoutIdentifier f h = f h
+if_merging AggregateError.Memory f h = tt
+
+-- what holds unless memory is wanted holds where it is not
+pub merging_holds : {P : Type 0} (e : AggregateError) → IfMerging e P → IsMerging e → P
+merging_holds (AggregateError.Incompatible s) h is = h
+merging_holds AggregateError.OutsideFamilies h is = h
+merging_holds AggregateError.UsedWithoutIdentifier h is = h
+merging_holds AggregateError.Memory h is = absurd is
+
+pub if_conflict : {P Q : Cause ℕ → Type 0} (e : OuterError) → ((cause : Cause ℕ) → P cause → Q cause) → IfConflict e P → IfConflict e Q
+if_conflict (OuterError.ExplicitImportConflict n first second) f h = f (ExplicitImport n first second) h
+if_conflict (OuterError.ImportTypeMergeConflict n first second source) f h = f (ImportTypes n first second) h
+if_conflict OuterError.TooLarge f h = tt
+if_conflict OuterError.Memory f h = tt
 
 module _ (c : Collection) (before : Kept) (first ask : HeldAsk) where
   -- while all ask the same, the first one asks what is kept
@@ -40,6 +63,33 @@ module _ (c : Collection) (before : Kept) (first ask : HeldAsk) where
         let is = first_asks asks none there keeps in
         let among = subst (λ (a : Asked). Among a asks) is there in
         next asks ask.name has (asked well) (keeps_with c asks first.name none among (own (keeps.well (asked_as c first.name before.item) among)) keeps)
+
+  -- where it is refused with its family, nothing is kept with it
+  module _ (g : Family) (asked : HasFamily c ask.name ask.item g) where
+    next_none : (f : Family) → before.family ≡ Some f → KeepsNothing c before f ask.item g → KeepsNone c before first ask
+    next_none f has none asks there stands well keeps = none asks [] ask.name has (asked well) keeps
+
+    first_none : (f : Family) (with : Kept) → before.family ≡ None → HasFamily c first.name before.item f → KeepsWith before f with → with.family ≡ Some f → KeepsNothing c with f ask.item g → KeepsNone c before first ask
+    first_none f with none own keeps_with has nothing asks there stands well keeps =
+        let is = first_asks asks none there keeps in
+        let among = subst (λ (a : Asked). Among a asks) is there in
+        nothing asks [] ask.name has (asked well) (keeps_with c asks first.name none among (own (keeps.well (asked_as c first.name before.item) among)) keeps)
+
+    pub next_refused : {T : Type 0} (r : Result T AggregateError) (f : Family) → before.family ≡ Some f → IfErr r (λ e. IfMerging e (KeepsNothing c before f ask.item g)) → IfErr r (λ e. IfMerging e (KeepsNone c before first ask))
+    next_refused (Ok x) f has h = tt
+    next_refused (Err e) f has h = if_merging e (next_none f has) h
+
+    pub first_refused : {T : Type 0} (r : Result T AggregateError) (f : Family) (with : Kept) → before.family ≡ None → HasFamily c first.name before.item f → KeepsWith before f with → with.family ≡ Some f
+        → IfErr r (λ e. IfMerging e (KeepsNothing c with f ask.item g)) → IfErr r (λ e. IfMerging e (KeepsNone c before first ask))
+    first_refused (Ok x) f with none own keeps has h = tt
+    first_refused (Err e) f with none own keeps has h = if_merging e (first_none f with none own keeps has) h
+
+  -- what does not stand was not asked
+  pub not_kept : (Stands c before.item → ⊥) → KeepsNone c before first ask
+  not_kept no asks there stands well keeps = absurd (no keeps.stands)
+
+  pub not_asked : (Stands c ask.item → ⊥) → KeepsNone c before first ask
+  not_asked no asks there stands well keeps = absurd (no stands)
 
 pub no_family : (f : Option Family) → is_some f ≡ false → f ≡ None
 no_family None e = refl
