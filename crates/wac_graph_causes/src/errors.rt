@@ -1,6 +1,8 @@
 //! Why a graph is not encoded.
 
+ghost use Rattle.std.specs.Prelude.{◌≡◌};
 ghost use Rattle.wac_graph_causes.specs.Acyclic.{IsNoCycle};
+ghost use Rattle.wac_graph_causes.specs.Refusals.{refusal_shown};
 
 use std::alloc::{AllocError, AllocFailed, Global};
 use std::fmt;
@@ -146,7 +148,8 @@ pub enum Refusal {
 
 /// The public error of a refusal.
 pub fn error_of(refusal: Refusal) -> EncodeError
-    ensures { IsNoCycle result }
+    ensures shown { result ≡ refusal_shown refusal }
+    ensures acyclic { IsNoCycle result }
 {
     match refusal {
         Refusal::ImplicitImportConflict {
@@ -188,18 +191,33 @@ pub fn error_of(refusal: Refusal) -> EncodeError
 }
 
 impl From<AllocError> for Refusal {
+    ghost use Rattle.std.specs.Prelude.{◌≡◌};
+    ghost use Rattle.wac_graph_causes.specs.declared.errors.Refusal.{Refusal};
+
+    ghost from_gives = { λ _ e. e ≡ Refusal.Memory };
+
     fn from(_e: AllocError) -> Self {
         Refusal::Memory
     }
 }
 
 impl<T: Drop> From<AllocFailed<T>> for Refusal {
+    ghost use Rattle.std.specs.Prelude.{◌≡◌};
+    ghost use Rattle.wac_graph_causes.specs.declared.errors.Refusal.{Refusal};
+
+    ghost from_gives = { λ _ e. e ≡ Refusal.Memory };
+
     fn from(_e: AllocFailed<T>) -> Self {
         Refusal::Memory
     }
 }
 
 impl From<OuterError> for Refusal {
+    ghost use Rattle.std.specs.Prelude.{◌≡◌};
+    ghost use Rattle.wac_graph_causes.specs.Refusals.{outer_refusal};
+
+    ghost from_gives = { λ f e. e ≡ outer_refusal f };
+
     fn from(e: OuterError) -> Self {
         match e {
             OuterError::ExplicitImportConflict {
@@ -229,6 +247,11 @@ impl From<OuterError> for Refusal {
 }
 
 impl From<SizeError> for Refusal {
+    ghost use Rattle.std.specs.Prelude.{◌≡◌};
+    ghost use Rattle.wac_graph_causes.specs.Refusals.{size_refusal};
+
+    ghost from_gives = { λ f e. e ≡ size_refusal f };
+
     fn from(e: SizeError) -> Self {
         match e {
             SizeError::TooLarge => Refusal::TooLarge,
