@@ -34,13 +34,9 @@ use Rattle.wac_graph_asks.proofs.Asking.{kept}
 use Rattle.wac_graph_asks.proofs.TakingMore.{own_entry, other_entry, keys_with}
 
 -- a list around one of its places
-split_there : {X : Type 0} (xs : List X) (i : ℕ) (x : X) → slice_get xs i ≡ Some x → xs ≡ take i xs ++ x ∷ drop (i + 1) xs
+split_there : {X : Type 0} (xs : List X) (i : ℕ) (x : X) → slice_get xs i ≡ Some x → xs ≡ take i xs ++ x ∷ drop (suc i) xs
 split_there [] i x e = absurd (none-some x e)
-split_there (y ∷ xs) zero x e = ap (λ z. z ∷ xs) (same_Some y x e) ∙ ap (λ zs. x ∷ zs) (sym (drop_none xs))
-  where
-    drop_none : (zs : List _) → drop 0 zs ≡ zs
-    drop_none [] = refl
-    drop_none (z ∷ zs) = refl
+split_there (y ∷ xs) zero x e = ap (λ z. z ∷ xs) (same_Some y x e)
 split_there (y ∷ xs) (suc i) x e = ap (λ zs. y ∷ zs) (split_there xs i x e)
 
 pub there_is : {X : Type 0} (xs : List X) (i : ℕ) → i < length xs → (x : X) × (slice_get xs i ≡ Some x)
@@ -230,10 +226,10 @@ refused_at c acyclic held labels m l d taken lt is far cause refuses sound many 
         record {
           before = take m (asks_in c held);
           ask = ask_in c x.0;
-          later = drop (m + 1) (asks_in c held);
+          later = drop (suc m) (asks_in c held);
           labels_before = take m labels;
           label = l;
-          labels_later = drop (m + 1) labels;
+          labels_later = drop (suc m) labels;
           asks_are = split_there (asks_in c held) m (ask_in c x.0) (map-get (ask_in c) held m x.0 x.1);
           labels_are = split_there labels m l label;
           as_many = as_many;
