@@ -1,10 +1,10 @@
 -- The first names that are alike: of imports, and else of exports.
 use Rattle.std.specs.Prelude.{map}
-use Rattle.std.proofs.Common.{◌≡◌, ℕ, Bool, Option, Some, None, refl, sym, ap, subst, ◌∙◌}
-use Rattle.wac_types_base.specs.Entries.{Name, names_of}
+use Rattle.std.proofs.Common.{◌≡◌, ℕ, Bool, Option, None, sym, ap, subst, ◌∙◌}
+use Rattle.wac_types_base.specs.Entries.{names_of}
 use Rattle.wac_types_base.proofs.Loops.{map-map}
 use Rattle.wac_graph_core.specs.Graph.{Graph, IsGraph}
-use Rattle.wac_composition.specs.Conflicts.{Cause, or_else}
+use Rattle.wac_composition.specs.Conflicts.{Cause, or_else, import_names}
 use Rattle.wac_graph_asks.specs.declared.asks.Asked.{Asked}
 use Rattle.wac_graph_asks.specs.declared.outers.Outers.{Outers}
 use Rattle.wac_graph_asks.specs.Graphs.{origin_of, item_at, composition_of}
@@ -32,7 +32,7 @@ module _ (g : Graph) (sound : IsGraph g) (asked : Asked) (outers : Outers) (defi
   Exports = exports_alike validate (names_of g.exports)
 
   cause_is : AreHeld g asked outers → or_else Imports Exports ≡ alike_cause define validate g
-  cause_is h = ap (λ ns. or_else (imports_alike validate ns) Exports) (imports_named g sound asked outers h define) ∙ ap (λ ns. or_else (imports_alike validate _) (exports_alike validate ns)) (exports_named g)
+  cause_is h = ap (λ ns. or_else (imports_alike validate ns) Exports) (imports_named g sound asked outers h define) ∙ ap (λ ns. or_else (imports_alike validate (import_names define (composition_of g))) (exports_alike validate ns)) (exports_named g)
 
   pub none_alike : Imports ≡ None → Exports ≡ None → AreHeld g asked outers → alike_cause define validate g ≡ None
   none_alike i e h = sym (cause_is h) ∙ ap (λ o. or_else o Exports) i ∙ e

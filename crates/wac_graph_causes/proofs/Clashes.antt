@@ -1,25 +1,21 @@
 -- Asks of instances under the names of imports, one after another.
-use Rattle.std.specs.List.{flat_map}
-use Rattle.std.proofs.Common.{◌≡◌, ℕ, zero, suc, ◌+◌, ◌≤◌, List, [], ◌∷◌, ◌++◌, take, drop, length, slice_get, Option, Some, None, option_map, IsSome, refl, sym, ap, subst, ◌∙◌, arith}
+use Rattle.std.specs.Prelude.{string_bytes}
+use Rattle.std.proofs.Common.{◌≡◌, ℕ, zero, suc, ◌+◌, ◌≤◌, List, [], ◌∷◌, ◌++◌, take, drop, length, slice_get, Option, Some, None, refl, sym, ap, subst, ◌∙◌, arith}
 use Rattle.std.proofs.lemmas.Grind.{flat_map-append}
 use Rattle.std.proofs.lemmas.List.{append-nil}
-use Rattle.std.proofs.lemmas.Option.{same_Some}
-use Rattle.wac_types_base.specs.Entries.{Name, value_at}
-use Rattle.wac_types_base.specs.Graph.{Among}
+use Rattle.wac_types_base.specs.Entries.{Name}
 use Rattle.wac_types_base.proofs.Looked.{take-one_more}
 use Rattle.wac_types_base.proofs.Used.{drop_next}
-use Rattle.wac_types_names.specs.declared.package.PackageKey.{PackageKey}
 use Rattle.wac_types_names.specs.Packaged.{Packaged}
 use Rattle.wac_graph_core.specs.declared.ids.PackageId.{PackageId}
 use Rattle.wac_graph_core.specs.Nodes.{NodeData}
-use Rattle.wac_graph_core.specs.Graph.{Graph, node_at, package_of, package_if, package_made, instantiated}
+use Rattle.wac_graph_core.specs.Graph.{Graph, node_at, package_if, package_made, instantiated}
 use Rattle.wac_composition.specs.Conflicts.{Cause, ImplicitImport, or_else}
-use Rattle.wac_graph_asks.specs.declared.asks.Asking.{Asking}
 use Rattle.wac_graph_asks.specs.declared.asks.Ask.{Ask}
 use Rattle.wac_graph_asks.specs.Reads.{package_id_of}
 use Rattle.wac_graph_causes.specs.declared.errors.Refusal.{Refusal}
-use Rattle.wac_graph_causes.specs.Firsts.{AddsFirst, AreFirst}
-use Rattle.wac_graph_causes.specs.Implicit.{named, all_named, clash_with, clash_named, clash, first_clash, IsMade, AreMade, TellsAsk, TellsClash}
+use Rattle.wac_graph_causes.specs.Firsts.{AddsFirst}
+use Rattle.wac_graph_causes.specs.Implicit.{named, all_named, clash, first_clash, TellsAsk, TellsClash}
 use Rattle.wac_graph_causes.proofs.Firsts.{adds_then}
 
 -- ---- imports are added
@@ -42,10 +38,9 @@ made_by g k o is = ap (package_if g) is ∙ go (node_at g k)
 -- ---- refusals
 
 pub tells_asked : (g : Graph) (p : Packaged) (import : ℕ) (a : Ask) (e : Refusal) → instantiated g a.by ≡ Some p → TellsAsk p import a e → TellsClash g (Some (ImplicitImport a.name import a.by)) e
-tells_asked g p import a (Refusal.ImplicitImportConflict i k key n) is t = (
-  ap (λ m. Some (ImplicitImport m import a.by)) (sym t.1.1.1) ∙ ap (λ j. Some (ImplicitImport _ j a.by)) (sym t.0) ∙ ap (λ j. Some (ImplicitImport _ _ j)) (sym t.1.0),
-  record { of = p; is = ap (instantiated g) t.1.0 ∙ is; key_is = t.1.1.0 },
-)
+tells_asked g p import a (Refusal.ImplicitImportConflict i k key n) is t =
+    let same : Some (ImplicitImport a.name import a.by) ≡ Some (ImplicitImport (string_bytes n) i k) = cc (t.0, t.1, t.3) in
+    (same, record { of = p; is = ap (instantiated g) t.1 ∙ is; key_is = t.2 })
 tells_asked g p import a (Refusal.ExplicitImportConflict m i j) is t = t
 tells_asked g p import a (Refusal.ImportTypeMergeConflict m i j s) is t = t
 tells_asked g p import a (Refusal.TypeCannotBeWritten m) is t = t

@@ -1,8 +1,8 @@
 -- The first name that is like an earlier one, by the places of what names share.
-use Rattle.std.specs.Prelude.{bytes_eq, find, nat_le, nat_lt}
+use Rattle.std.specs.Prelude.{bytes_eq, find}
 use Rattle.std.specs.Char.{to_ascii_lowercase}
 use Rattle.std.specs.Cmp.Lexicographic.{pointwise}
-use Rattle.std.proofs.Common.{◌≡◌, ◌==◌, ℕ, zero, suc, ◌+◌, ◌<◌, ◌≤◌, Bool, true, false, cond, is_some, List, [], ◌∷◌, ◌++◌, map, take, drop, length, slice_get, Option, Some, None, option_map, refl, sym, ap, subst, ◌∙◌, arith}
+use Rattle.std.proofs.Common.{◌≡◌, ◌==◌, ℕ, zero, suc, ◌+◌, ◌<◌, ◌≤◌, Bool, true, false, cond, List, [], ◌∷◌, ◌++◌, map, take, drop, length, slice_get, Some, None, option_map, refl, sym, ap, subst, ◌∙◌, arith}
 use Rattle.std.proofs.lemmas.List.{length-take-le}
 use Rattle.std.proofs.lemmas.Option.{none-some, same_Some, slice_get_within}
 use Rattle.wac_types_base.specs.Entries.{Name, value_at}
@@ -10,7 +10,7 @@ use Rattle.wac_types_base.proofs.Looked.{take-one_more}
 use Rattle.wac_types_base.proofs.Used.{drop_next}
 use Rattle.wac_composition.specs.Conflicts.{or_else, lower, alike, twins}
 use Rattle.wac_graph_causes.specs.Firsts.{AddsFirst, AreFirst}
-use Rattle.wac_graph_causes.specs.Alike.{likeness, places_from, AreTwinsAt, AreTwins}
+use Rattle.wac_graph_causes.specs.Alike.{likeness, places_from, AreTwinsAt}
 use Rattle.wac_graph_causes.proofs.Clashes.{left_none}
 use Rattle.wac_graph_causes.proofs.Firsts.{more_first}
 
@@ -101,7 +101,8 @@ module _ (v : Bool) (names : List Name) where
     places : places_from v 0 (take at names) ++ (likeness v n, at) ∷ [] ≡ places_from v 0 (take (at + 1) names)
     places =
         let within : at < length names = slice_get_within names at n there in
-        let long : 0 + length (take at names) ≡ at = length-take-le at names (omega (arith, within)) in
+        let taken : length (take at names) ≡ at = length-take-le at names (omega (arith, within)) in
+        let long : 0 + length (take at names) ≡ at = omega (arith, taken) in
         sym (ap (places_from v 0) (take-one_more names at n there) ∙ places_next v 0 (take at names) n ∙ ap (λ i. places_from v 0 (take at names) ++ (likeness v n, i) ∷ []) long)
 
     pub twins_next : (new : List (Name × ℕ)) → None ≡ value_at firsts (likeness v n) → AddsFirst firsts new ((likeness v n, at) ∷ []) → TwinsLeft (at + 1) new
@@ -116,7 +117,8 @@ module _ (v : Bool) (names : List Name) where
     pub twins_found : (first : ℕ) → Some first ≡ value_at firsts (likeness v n) → AreTwinsAt v names first at
     twins_found first found =
         let f = first_place v n 0 (take at names) first (sym (h.are (likeness v n)) ∙ sym found) in
-        let place : first ≡ f.behind = f.is in record {
+        let is = f.is in
+        let place : first ≡ f.behind = omega (arith, is) in record {
           name = f.first;
           twin = n;
           name_at = ap (slice_get names) place ∙ taken_there names at f.behind f.first f.there;

@@ -1,5 +1,4 @@
 -- The refusals that faults below are, and the errors that refusals are.
-use Rattle.std.specs.Prelude.{ℕ}
 use Rattle.wac_graph_bytes.specs.declared.fault.SizeError.{SizeError}
 use Rattle.wac_graph_asks.specs.declared.faults.OuterError.{OuterError}
 use Rattle.wac_graph_causes.specs.declared.errors.Refusal.{Refusal}

@@ -130,11 +130,7 @@ fn check_asks(
 }
 
 /// No instance fills an import that has exactly the name of an import of the graph.
-pub fn check_implicit(
-    alloc: Global,
-    graph: &CompositionGraph,
-    asked: &Asked,
-) -> Result<(), Refusal>
+pub fn check_implicit(alloc: Global, graph: &CompositionGraph, asked: &Asked) -> Result<(), Refusal>
     ensures none { OnOk result (IsAsked graph.now asked.now → implicit_cause graph.now ≡ None) }
     ensures cause { IfErr result (λ e. IsAsked graph.now asked.now → IsImplicit graph.now e) }
 {

@@ -152,7 +152,7 @@ fn find_twins(
 
 /// Copies of two names.
 fn copy_both(alloc: Global, first: &Text, second: &Text) -> Result<(String, String), AllocError>
-    ensures { IfOk result (λ t. (string_bytes t.0, string_bytes t.1) ≡ (first.now, second.now)) }
+    ensures { IfOk result (λ t. (string_bytes t.0 ≡ first.now) × (string_bytes t.1 ≡ second.now)) }
 {
     let first = String::from_str(alloc, first.as_str())?;
     let second = String::from_str(alloc, second.as_str())?;

@@ -1,5 +1,5 @@
 -- The first ask of an instance under the name of an import, in a graph's composition.
-use Rattle.std.specs.Prelude.{◌⊎◌, ◌&&◌, bytes_eq, filter_map, find, is_some, map, not, filter}
+use Rattle.std.specs.Prelude.{◌⊎◌, bytes_eq, filter_map, find, is_some, map, not, filter}
 use Rattle.std.specs.Bool.{one_answer}
 use Rattle.std.specs.List.{cons_option, flat_map}
 use Rattle.std.specs.Cmp.Lexicographic.{bytes_decides}
@@ -14,9 +14,9 @@ use Rattle.wac_types_base.specs.Record.{Collection}
 use Rattle.wac_types_base.specs.Stated.{Stated, imports_of}
 use Rattle.wac_types_names.specs.Packaged.{Packaged}
 use Rattle.wac_graph_core.specs.Nodes.{NodeData}
-use Rattle.wac_graph_core.specs.Graph.{Graph, node_at, package_if, package_made, instantiated}
+use Rattle.wac_graph_core.specs.Graph.{Graph, package_if, package_made, instantiated}
 use Rattle.wac_composition.specs.Composition.{Placed, Made}
-use Rattle.wac_composition.specs.Asks.{Asking, ByName, ToFill, ToUse, Ask, explicit_ask, filled_asks, named_asks, asks_to_use, asks_of}
+use Rattle.wac_composition.specs.Asks.{Asking, ByName, ToFill, ToUse, Ask, explicit_ask, filled_asks, named_asks, asks_to_use}
 use Rattle.wac_composition.specs.Conflicts.{or_else, first_found, implicit_with, implicit_by, implicit_conflict}
 use Rattle.wac_composition.proofs.Lists.{among_split, among_flat, mapped_among, among_mapped}
 use Rattle.wac_graph_asks.specs.declared.asks.Asking.{Asking as HeldAsking}
@@ -27,8 +27,9 @@ use Rattle.wac_graph_asks.specs.AsksIn.{asking_of, ask_in, asks_in}
 use Rattle.wac_graph_asks.specs.Asked.{IsAsked}
 use Rattle.wac_graph_asks.proofs.ByNode.{entry_there}
 use Rattle.wac_graph_asks.proofs.ToUse.{all_to_use, listed_to_use}
+use Rattle.wac_graph_causes.specs.declared.errors.Refusal.{Refusal}
 use Rattle.wac_graph_causes.specs.Firsts.{AreFirst}
-use Rattle.wac_graph_causes.specs.Implicit.{named_by, all_named, clash_with, clash_by, first_clash, AreMade, implicit_cause}
+use Rattle.wac_graph_causes.specs.Implicit.{named_by, all_named, clash_with, clash_by, first_clash, AreMade, TellsClash, implicit_cause, IsImplicit}
 use Rattle.wac_graph_causes.proofs.Firsts.{or_nothing}
 
 -- ---- who asks by name
@@ -74,10 +75,10 @@ filled_fill ms a m =
     ap (λ (b : Ask ℕ). b.asking) e.2
 
 module _ (g : Graph) (a : Asked) (h : IsAsked g a) where
-  imports : List (Placed ℕ)
+  abbrev imports : List (Placed ℕ)
   imports = (composition_of g).imports
 
-  made : List (Made ℕ ℕ)
+  abbrev made : List (Made ℕ ℕ)
   made = (composition_of g).made
 
   names_held : all_named a.asks.items ≡ under_names imports
@@ -133,7 +134,7 @@ module _ (named : List (Name × ℕ)) (is : List (Placed ℕ)) (same : AreFirst 
       one HeldAsking.ToFill = ap (clash_with a) (same a.name ∙ import_found is a.name) ∙ with_import (find (λ i. bytes_eq i.name a.name) is)
       one HeldAsking.ToUse = refl
 
-pub clash_is_cause : (g : Graph) (a : Asked) (named : List (Name × ℕ)) → IsAsked g a → AreFirst named (all_named a.asks.items) → first_clash named a.asks.items ≡ implicit_cause g
+clash_is_cause : (g : Graph) (a : Asked) (named : List (Name × ℕ)) → IsAsked g a → AreFirst named (all_named a.asks.items) → first_clash named a.asks.items ≡ implicit_cause g
 clash_is_cause g a named h first =
     let c = composition_of g in
     held_clash named c.imports (λ n. first n ∙ ap (λ l. value_at l n) (names_held g a h)) a.types a.asks.items
@@ -178,5 +179,20 @@ module _ (g : Graph) (a : Asked) (h : IsAsked g a) where
       by_name_or (inl k) = let e = mapped_among explicit_ask (composition_of g).imports x k in let d : ⊥ = cc (fill, ap (λ (b : Ask ℕ). b.asking) e.2) in absurd d
       by_name_or (inr k) = filler_stands x k
 
-  pub askers_made : AreMade g a.asks.items
+  askers_made : AreMade g a.asks.items
   askers_made x m fill = asker_stands (ask_in a.types x) (subst (Among (ask_in a.types x)) h.asks (among_mapped (ask_in a.types) a.asks.items x m)) (ap asking_of fill)
+
+-- ---- what is checked
+
+module _ (g : Graph) (a : Asked) (imports : List (Name × ℕ)) (adding checked : List HeldAsk) (adds : adding ≡ a.asks.items) (checks : checked ≡ a.asks.items) (first : AreFirst imports (all_named adding)) (h : IsAsked g a) where
+  is_cause : first_clash imports checked ≡ implicit_cause g
+  is_cause = ap (first_clash imports) checks ∙ clash_is_cause g a imports h (subst (λ l. AreFirst imports (all_named l)) adds first)
+
+  all_made : AreMade g checked
+  all_made = subst (AreMade g) (sym checks) (askers_made g a h)
+
+  pub none_asked_twice : (AreMade g checked → first_clash imports checked ≡ None) → implicit_cause g ≡ None
+  none_asked_twice none = sym is_cause ∙ none all_made
+
+  pub told_asked_twice : (e : Refusal) → (AreMade g checked → TellsClash g (first_clash imports checked) e) → IsImplicit g e
+  told_asked_twice e told = subst (λ o. TellsClash g o e) is_cause (told all_made)
