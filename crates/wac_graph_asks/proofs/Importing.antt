@@ -1,36 +1,34 @@
 -- The imports of classes of asks, as one after another is put into a world.
 use Rattle.std.specs.List.{list_any}
 use Rattle.std.specs.Map.{keys_of, lookup}
-use Rattle.std.proofs.Common.{◌≡◌, ◌==◌, ℕ, Bool, true, false, true≢false, List, [], ◌∷◌, ◌++◌, fold, Option, Some, None, slice_get, refl, sym, ap, subst, ◌∙◌, inl, inr, ◌⊎◌, append_assoc, if◌then◌else◌}
+use Rattle.std.proofs.Common.{◌≡◌, ◌==◌, ℕ, Bool, true, false, true≢false, List, [], ◌∷◌, ◌++◌, fold, Some, slice_get, refl, sym, ap, subst, ◌∙◌, inl, inr, append_assoc, if◌then◌else◌}
 use Rattle.std.proofs.lemmas.Option.{same_Some}
 use Rattle.std.proofs.lemmas.List.{map-append, append-nil}
 use Rattle.wac_types_base.specs.declared.item.ItemKind.{ItemKind}
 use Rattle.wac_types_base.specs.Record.{Collection}
-use Rattle.wac_types_base.specs.Entries.{Name, AreDistinct, names_of, values_of}
+use Rattle.wac_types_base.specs.Entries.{Name, AreDistinct, names_of}
 use Rattle.wac_types_base.specs.Graph.{Among}
-use Rattle.wac_types_base.specs.Collection.{Stands, Grows}
-use Rattle.wac_types_base.specs.Stated.{Stated, stated_of}
-use Rattle.wac_types_base.proofs.Adding.{Grows-refl, Grows-trans}
-use Rattle.wac_types_base.proofs.Looked.{among-get, put_entry-new}
-use Rattle.wac_types_base.proofs.Replacing.{same_number}
-use Rattle.wac_graph_core.proofs.Found.{eq_same, eq_false, Among-end}
+use Rattle.wac_types_base.specs.Collection.{Grows}
+use Rattle.wac_types_base.specs.Stated.{stated_of}
+use Rattle.wac_types_base.proofs.Adding.{Grows-trans}
+use Rattle.wac_types_base.proofs.Looked.{put_entry-new}
+use Rattle.wac_graph_core.proofs.Found.{eq_same, eq_false}
 use Rattle.wac_graph_scopes.proofs.OrderLaws.{among-either, distinct-append, distinct-apart}
 use Rattle.wac_composition.specs.Asks.{Ask}
-use Rattle.wac_composition.specs.Classes.{Linked, class, spelled}
+use Rattle.wac_composition.specs.Classes.{spelled}
 use Rattle.wac_composition.specs.Merging.{identified}
-use Rattle.wac_composition.specs.OuterImports.{asked_in, outer_of, outer_imports}
+use Rattle.wac_composition.specs.OuterImports.{asked_in}
 use Rattle.wac_composition.proofs.Closures.{among_any}
 use Rattle.wac_composition.proofs.Lists.{mapped_among}
-use Rattle.wac_merging.specs.Labelled.{with_label, each_label, labelled, LabelClasses, AreLabels}
+use Rattle.wac_merging.specs.Labelled.{with_label, labelled, LabelClasses, AreLabels}
 use Rattle.wac_merging.specs.Outers.{IsOuter}
 use Rattle.wac_merging.proofs.Labels.{ask_there, class_is_labelled, outers_differ}
-use Rattle.wac_merging.proofs.Outers.{labels_are_of_classes, spelled_is_outer, outers_are_stated}
+use Rattle.wac_merging.proofs.Outers.{labels_are_of_classes, spelled_is_outer}
 use Rattle.wac_merging.proofs.Taking.{taken_stays}
 use Rattle.wac_graph_asks.specs.declared.asks.Ask.{Ask as HeldAsk}
 use Rattle.wac_graph_asks.specs.declared.classes.Classes.{Classes}
 use Rattle.wac_graph_asks.specs.declared.taken.Taken.{Taken}
 use Rattle.wac_graph_asks.specs.AsksIn.{ask_in, asks_in}
-use Rattle.wac_graph_asks.specs.Classed.{AreSpellings}
 use Rattle.wac_graph_asks.specs.Named.{SpellsClass}
 use Rattle.wac_graph_asks.specs.Takes.{IsTakenOf, AreTaken}
 use Rattle.wac_graph_asks.specs.Imported.{IsImport, AreImports, AddsImport, AreClassed, AddsImports}

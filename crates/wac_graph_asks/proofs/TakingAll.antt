@@ -1,6 +1,6 @@
 -- What all asks keep by their labels, as they are taken one after another.
 use Rattle.std.specs.Map.{keys_of, lookup}
-use Rattle.std.proofs.Common.{◌≡◌, ◌==◌, ◌<◌, ℕ, zero, suc, ◌+◌, Bool, true, false, true≢false, ◌≤◌, List, [], ◌∷◌, ◌++◌, length, take, drop, is_some, slice_get, Option, Some, None, refl, sym, ap, subst, ◌∙◌, inl, inr, arith, if◌then◌else◌}
+use Rattle.std.proofs.Common.{◌≡◌, ◌==◌, ◌<◌, ℕ, zero, suc, ◌+◌, Bool, true, false, true≢false, ◌≤◌, List, [], ◌∷◌, ◌++◌, length, take, drop, is_some, slice_get, Option, Some, None, refl, sym, ap, subst, ◌∙◌, inl, arith, if◌then◌else◌}
 use Rattle.std.proofs.lemmas.Option.{none-some, same_Some, get_or_from_slice_get}
 use Rattle.std.proofs.lemmas.List.{map-append, length-map, length-take-le}
 use Rattle.std.proofs.lemmas.List.Sums.{fold-append}

@@ -1,9 +1,11 @@
 -- What is kept with one ask more.
+use Rattle.std.specs.Prelude.{string_bytes}
 use Rattle.std.specs.List.{list_any}
 use Rattle.std.specs.Map.{keys_of, lookup}
-use Rattle.std.proofs.Common.{◌≡◌, ◌==◌, ℕ, ◌||◌, Bool, true, false, true≢false, is_some, List, [], ◌∷◌, ◌++◌, slice_get, Option, Some, None, Result, Ok, Err, IfErr, refl, sym, ap, subst, ◌∙◌, if◌then◌else◌}
+use Rattle.std.proofs.Common.{◌≡◌, ◌==◌, ℕ, ◌||◌, Bool, true, false, true≢false, is_some, List, [], ◌∷◌, ◌++◌, slice_get, Option, Some, None, Result, Ok, Err, IfErr, IsErrAnd, refl, sym, ap, subst, ◌∙◌, if◌then◌else◌}
 use Rattle.std.proofs.lemmas.Option.{none-some, same_Some}
 use Rattle.wac_types_base.specs.Record.{Collection}
+use Rattle.wac_types_base.specs.Entries.{Name}
 use Rattle.wac_types_base.specs.Graph.{Among}
 use Rattle.wac_types_base.specs.Collection.{Stands}
 use Rattle.wac_types_merge.specs.declared.errors.AggregateError.{AggregateError}
@@ -18,9 +20,10 @@ use Rattle.wac_composition.specs.Conflicts.{Cause, ExplicitImport, ImportTypes}
 use Rattle.wac_merging.specs.Kept.{Keeps, HasFamily, KeepsAgain, KeepsWith, KeepsNext, KeepsNothing, IfMerging}
 use Rattle.wac_merging.specs.Labelled.{with_label}
 use Rattle.wac_graph_asks.specs.declared.asks.Ask.{Ask as HeldAsk}
+use Rattle.wac_graph_asks.specs.declared.asks.Asking.{Asking}
 use Rattle.wac_graph_asks.specs.declared.faults.OuterError.{OuterError}
 use Rattle.wac_graph_asks.specs.declared.taken.Taken.{Taken}
-use Rattle.wac_graph_asks.specs.Takes.{pair_in, AsksSame, KeepsMore, KeepsNone, IfConflict, IsMerging, TakesOne, Takes}
+use Rattle.wac_graph_asks.specs.Takes.{conflict_by, pair_in, AsksSame, KeepsMore, KeepsNone, NamesConflict, conflict_of, IfConflict, IsNoConflict, IsMerging, RefusesMore, RefusesOne, RefusesAt, TakesOne, Takes}
 
 if_merging : {P Q : Type 0} (e : AggregateError) → (P → Q) → IfMerging e P → IfMerging e Q
 if_merging (AggregateError.Incompatible s) f h = f h
@@ -36,8 +39,8 @@ merging_holds AggregateError.UsedWithoutIdentifier h is = h
 merging_holds AggregateError.Memory h is = absurd is
 
 pub if_conflict : {P Q : Cause ℕ → Type 0} (e : OuterError) → ((cause : Cause ℕ) → P cause → Q cause) → IfConflict e P → IfConflict e Q
-if_conflict (OuterError.ExplicitImportConflict n first second) f h = f (ExplicitImport n first second) h
-if_conflict (OuterError.ImportTypeMergeConflict n first second source) f h = f (ImportTypes n first second) h
+if_conflict (OuterError.ExplicitImportConflict n first second) f h = f (ExplicitImport (string_bytes n) first second) h
+if_conflict (OuterError.ImportTypeMergeConflict n first second source) f h = f (ImportTypes (string_bytes n) first second) h
 if_conflict OuterError.TooLarge f h = tt
 if_conflict OuterError.Memory f h = tt
 
@@ -86,10 +89,10 @@ module _ (c : Collection) (before : Kept) (first ask : HeldAsk) where
 
   -- what does not stand was not asked
   pub not_kept : (Stands c before.item → ⊥) → KeepsNone c before first ask
-  not_kept no asks there stands well keeps = absurd (no keeps.stands)
+  not_kept never asks there stands well keeps = absurd (never keeps.stands)
 
   pub not_asked : (Stands c ask.item → ⊥) → KeepsNone c before first ask
-  not_asked no asks there stands well keeps = absurd (no stands)
+  not_asked never asks there stands well keeps = absurd (never stands)
 
 pub no_family : (f : Option Family) → is_some f ≡ false → f ≡ None
 no_family None e = refl
@@ -99,6 +102,45 @@ pub takes_at : (c : Collection) (asks : List HeldAsk) (at l : ℕ) (old : List (
     → (after : Taken) → TakesOne c asks before at a d after → new ≡ insert_entry ◌==◌ old l after → Takes c asks at l old d new
 takes_at c asks at l old d new before is a there after one entries b here =
     (after, subst (λ x. TakesOne c asks (lookup (λ k. l == k) old) at x d after) (same_Some a b (sym there ∙ here)) (subst (λ o. TakesOne c asks o at a d after) is one), entries)
+
+pub refuses_at : (c : Collection) (asks : List HeldAsk) (at l : ℕ) (old : List (ℕ × Taken)) (before : Option Taken) → before ≡ lookup (λ k. l == k) old → (a : HeldAsk) → slice_get asks at ≡ Some a → (cause : Cause ℕ) → RefusesOne c asks before a cause
+    → RefusesAt c asks at l old cause
+refuses_at c asks at l old before is a there cause refuses b here =
+    subst (λ x. RefusesOne c asks (lookup (λ k. l == k) old) x cause) (same_Some a b (sym there ∙ here)) (subst (λ o. RefusesOne c asks o a cause) is refuses)
+
+-- why the ask is refused that does not merge
+pub refuses_more : (c : Collection) (asks : List HeldAsk) (before : Taken) (first a : HeldAsk) (source : AggregateError) (e : OuterError) → ((x : HeldAsk) → slice_get asks before.first ≡ Some x → first ≡ x) → NamesConflict a first.by source e
+    → IfMerging source (KeepsNone c before.kept first a) → IfConflict e (RefusesMore c asks before a)
+refuses_more c asks before first a source e is names none =
+    if_conflict e (λ cause h x there. (h.0 ∙ ap (λ (y : HeldAsk). conflict_of a y.by) (is x there), subst (λ y. KeepsNone c before.kept y a) (is x there) (merging_holds source none h.1))) names
+
+pub not_memory : (e : AggregateError) → (e ≡ AggregateError.Memory → ⊥) → IsMerging e
+not_memory (AggregateError.Incompatible s) h = tt
+not_memory AggregateError.OutsideFamilies h = tt
+not_memory AggregateError.UsedWithoutIdentifier h = tt
+not_memory AggregateError.Memory h = absurd (h refl)
+
+-- the conflict of an ask by its name, and of any other
+pub by_name : (a : HeldAsk) (first : ℕ) → a.asking ≡ Asking.ByName → (n : Name) → n ≡ a.name → ExplicitImport n first a.by ≡ conflict_of a first
+by_name a first is n named = ap (λ m. ExplicitImport m first a.by) named ∙ sym (ap (λ k. conflict_by k a first) is)
+
+pub by_other : (a : HeldAsk) (first : ℕ) → (a.asking ≡ Asking.ByName → ⊥) → (n : Name) → n ≡ a.name → ImportTypes n first a.by ≡ conflict_of a first
+by_other a first other n named = ap (λ m. ImportTypes m first a.by) named ∙ go a.asking refl
+  where
+    go : (k : Asking) → a.asking ≡ k → ImportTypes a.name first a.by ≡ conflict_by k a first
+    go Asking.ByName e = absurd (other e)
+    go Asking.ToFill e = refl
+    go Asking.ToUse e = refl
+
+-- an error that is answered again
+pub again_err : {T E : Type 0} (r : Result T E) (P : E → Type 0) (e : E) → IsErrAnd r (λ f. f ≡ e) → P e → IfErr r P
+again_err (Ok x) P e is h = absurd is
+again_err (Err f) P e is h = subst P (sym is) h
+
+-- what is no conflict claims none
+pub no_conflict : {T : Type 0} (r : Result T OuterError) (P : Cause ℕ → Type 0) → IfErr r IsNoConflict → IfErr r (λ e. IfConflict e P)
+no_conflict (Ok x) P h = tt
+no_conflict (Err e) P h = if_conflict e (λ cause none. absurd none) h
 
 -- ---- entries
 

@@ -1,5 +1,5 @@
 -- What the classes of asks keep, as one ask is taken after another.
-use Rattle.std.specs.Prelude.{◌≡◌, ◌==◌, ℕ, List, [], ◌∷◌, ◌++◌, length, Option, Some, None, is_some, true, slice_get}
+use Rattle.std.specs.Prelude.{◌≡◌, ◌==◌, ℕ, List, [], ◌∷◌, ◌++◌, length, Option, Some, None, is_some, true, slice_get, string_bytes}
 use Rattle.std.specs.Map.{keys_of, lookup}
 use Rattle.wac_types_base.specs.Record.{Collection}
 use Rattle.wac_types_base.specs.Graph.{Among}
@@ -104,10 +104,14 @@ conflict_of a first = conflict_by a.asking a first
 
 -- where it is refused for what was asked, this holds of its cause
 abbrev pub IfConflict : OuterError → (Cause ℕ → Type 0) → Type 0
-IfConflict (OuterError.ExplicitImportConflict n first second) P = P (ExplicitImport n first second)
-IfConflict (OuterError.ImportTypeMergeConflict n first second source) P = P (ImportTypes n first second)
+IfConflict (OuterError.ExplicitImportConflict n first second) P = P (ExplicitImport (string_bytes n) first second)
+IfConflict (OuterError.ImportTypeMergeConflict n first second source) P = P (ImportTypes (string_bytes n) first second)
 IfConflict OuterError.TooLarge P = Unit {0}
 IfConflict OuterError.Memory P = Unit {0}
+
+-- it is refused for want of memory or room alone
+abbrev pub IsNoConflict : OuterError → Type 0
+IsNoConflict e = IfConflict e (λ cause. ⊥)
 
 -- no want of memory
 abbrev pub IsMerging : AggregateError → Type 0

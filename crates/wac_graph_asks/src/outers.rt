@@ -9,7 +9,7 @@ ghost use Rattle.wac_graph_scopes.specs.declared.imports.Called.{Called};
 ghost use Rattle.wac_merging.specs.Kept.{Spells};
 ghost use Rattle.wac_graph_asks.specs.Asked.{KeepsAsked};
 ghost use Rattle.wac_graph_asks.specs.Named.{SpellsClass};
-ghost use Rattle.wac_graph_asks.specs.Takes.{ConflictsFor, HasNoConflict, HasNoneLabelled, IfConflict, Merges, MergesLabelled, RefusesAll};
+ghost use Rattle.wac_graph_asks.specs.Takes.{ConflictsFor, HasNoConflict, HasNoneLabelled, IfConflict, IsNoConflict, Merges, MergesLabelled, RefusesAll};
 ghost use Rattle.wac_graph_asks.specs.Imported.{AddsImport, AddsImports, AddsName, AddsNames, CallsNames, MakesWorld, OutersOf};
 ghost use Rattle.wac_graph_asks.specs.Outers.{AnswersOuters};
 
@@ -197,6 +197,7 @@ fn outer_world(
     ensures keeps { KeepsAsked asked.old asked.new }
     ensures stands { IfOk result (λ w. Stands asked.new.types (ItemKind.Component w)) }
     ensures imports { IfOk result (MakesWorld asked.old classes.now taken.now.entries asked.new) }
+    ensures no_conflict { IfErr result IsNoConflict }
 {
     let world = world_kept(alloc, asked, classes, taken)?;
     match add_world(&mut asked.types, world)? {
@@ -216,6 +217,7 @@ fn outers_kept(
     ensures stands { IfOk result (λ o. Stands asked.new.types (ItemKind.Component o.world)) }
     ensures imports { IfOk result (λ o. MakesWorld asked.old classes.now taken.now.entries asked.new o.world) }
     ensures called { IfOk result (λ o. CallsNames asked.old.asks.items classes.now taken.now.entries o.called.items) }
+    ensures no_conflict { IfErr result IsNoConflict }
 {
     let world = outer_world(alloc, asked, classes, taken)?;
     let called = names_called(alloc, &asked.asks, &classes.labels, taken)?;
