@@ -1,4 +1,3 @@
-pub mod Acyclic
 pub mod Encoding
 pub mod Formed
 pub mod Standing

@@ -9,11 +9,9 @@ ghost use Rattle.wac_graph_core.specs.Graph.{Graph};
 ghost use Rattle.wac_graph_asks.specs.Asked.{KeepsAsked};
 ghost use Rattle.wac_graph_asks.specs.AskedUses.{CopiesStand};
 ghost use Rattle.wac_graph_asks.specs.Outers.{AnswersOuters};
-ghost use Rattle.wac_graph_encode.specs.Acyclic.{IsNoCycle};
+ghost use Rattle.wac_graph_causes.specs.Acyclic.{IsNoCycle};
 ghost use Rattle.wac_graph_encode.specs.Finished.{AreSpelled, IsPrepared, MeansAsked, MeansNested, MeansWired, NestsSo, NestsWired};
 
-use crate::conflicts::{check_implicit, check_names, check_writable};
-use crate::errors::{EncodeError, Refusal, error_of};
 use crate::forms::written_definitions;
 use crate::instances::Wired;
 use crate::options::{EncodeOptions, Encoded};
@@ -23,6 +21,10 @@ use std::alloc::{AllocError, Global};
 use wac_graph_asks::asks::{Asked, Definition, asked_by};
 use wac_graph_asks::outers::{Outers, outers_of};
 use wac_graph_bytes::{Entry, SortNames, push_component};
+use wac_graph_causes::errors::{EncodeError, Refusal, error_of};
+use wac_graph_causes::implicit::check_implicit;
+use wac_graph_causes::names::check_names;
+use wac_graph_causes::writable::check_writable;
 use wac_graph_core::CompositionGraph;
 use wac_graph_scopes::imports::Importing;
 use wac_types_base::{Types, WorldId};
@@ -117,7 +119,14 @@ fn bytes_asked(
     let alloc = graph.alloc();
     let definitions = written_definitions(alloc, &mut asked.types, &asked.definitions)?;
     let bytes = bytes_of(graph, asked, outers, &definitions, options)?;
-    check_names(alloc, graph, asked, outers, options)?;
+    check_names(
+        alloc,
+        graph,
+        asked,
+        outers,
+        options.define_components,
+        options.validate,
+    )?;
     Ok((bytes, definitions))
 }
 
@@ -154,9 +163,9 @@ fn outers_checked(
     ensures outers { IfOk result (AnswersOuters asked.old asked.new) }
 {
     let alloc = graph.alloc();
-    check_implicit(alloc, graph, &asked.asks)?;
+    check_implicit(alloc, graph, asked)?;
     let outers = outers_of(alloc, asked)?;
-    check_writable(alloc, graph, asked, &outers, options)?;
+    check_writable(alloc, graph, asked, &outers, options.define_components)?;
     Ok(outers)
 }
 

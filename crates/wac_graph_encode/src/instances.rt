@@ -11,13 +11,13 @@ ghost use Rattle.wac_graph_scopes.specs.Items.{sort_of};
 ghost use Rattle.wac_graph_encode.specs.Beginning.{IsBare};
 ghost use Rattle.wac_graph_encode.specs.Writing.{Finishes, AddsArgument, AddsCalled, AddsEntry, AddsExport, AddsExports, AddsGiven, AddsNeeded, AddsOnly, AllStand, AreCalled, AreGivenIn, Below, GivesUnder, IfYes, IsAliasAt, IsSameRoot, KeepsNodes, KeepsWritten, PassesAll, UpTo, UpToOne, WritesInstance, WritesNode, exported_as, noted, NestsNoMore};
 
-use crate::errors::Refusal;
 use crate::labels::names_of_nodes;
 use crate::root::{Root, push_entry};
 use indexmap::IndexMap;
 use std::alloc::{AllocError, Global};
 use wac_graph_asks::nodes::{Arguments, import_name, kind_of, package_of, world_at};
 use wac_graph_bytes::{Entry, Export, NamedIndex, Sort, SortNames};
+use wac_graph_causes::errors::Refusal;
 use wac_graph_core::{CompositionGraph, NodeId, PackageId};
 use wac_graph_scopes::imports::{Called, SortIndex};
 use wac_graph_scopes::parts::{import_at, import_count};

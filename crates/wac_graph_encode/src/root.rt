@@ -19,14 +19,14 @@ ghost use Rattle.wac_graph_encode.specs.Defining.{AddsDefinitions, WritesDefinit
 ghost use Rattle.wac_graph_encode.specs.Beginning.{Begins, BeginsRoot, NestsThese};
 ghost use Rattle.wac_graph_encode.specs.Nesting.{NestsAll, NestsBehind, NestsIfDefined, NestsOne, bytes_of};
 
-use crate::conflicts::dependency_name;
-use crate::errors::{Refusal, not_written};
 use crate::options::EncodeOptions;
 use indexmap::IndexMap;
 use std::alloc::{AllocError, Global};
 use wac_graph_asks::asks::Definition;
 use wac_graph_asks::nodes::package_at;
 use wac_graph_bytes::{Alias, Declaration, Description, Entry, NamedIndex, Sort};
+use wac_graph_causes::errors::{Refusal, not_written};
+use wac_graph_causes::names::dependency_name;
 use wac_graph_core::{CompositionGraph, NodeId, PackageId};
 use wac_graph_scopes::imports::{ImportScope, Importing, SortIndex};
 use wac_graph_scopes::items::ItemScope;

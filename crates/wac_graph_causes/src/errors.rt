@@ -1,6 +1,8 @@
 //! Why a graph is not encoded.
 
-ghost use Rattle.wac_graph_encode.specs.Acyclic.{IsNoCycle};
+ghost use Rattle.std.specs.Prelude.{◌≡◌};
+ghost use Rattle.wac_graph_causes.specs.Acyclic.{IsNoCycle};
+ghost use Rattle.wac_graph_causes.specs.Refusals.{refusal_shown};
 
 use std::alloc::{AllocError, AllocFailed, Global};
 use std::fmt;
@@ -116,7 +118,7 @@ impl std::error::Error for EncodeError {}
 
 /// Why a graph is not encoded, but for cycles: no graph has one.
 #[derive(Drop)]
-pub(crate) enum Refusal {
+pub enum Refusal {
     ImplicitImportConflict {
         import: NodeId,
         instantiation: NodeId,
@@ -145,8 +147,9 @@ pub(crate) enum Refusal {
 }
 
 /// The public error of a refusal.
-pub(crate) fn error_of(refusal: Refusal) -> EncodeError
-    ensures { IsNoCycle result }
+pub fn error_of(refusal: Refusal) -> EncodeError
+    ensures shown { result ≡ refusal_shown refusal }
+    ensures acyclic { IsNoCycle result }
 {
     match refusal {
         Refusal::ImplicitImportConflict {
@@ -188,18 +191,33 @@ pub(crate) fn error_of(refusal: Refusal) -> EncodeError
 }
 
 impl From<AllocError> for Refusal {
+    ghost use Rattle.std.specs.Prelude.{◌≡◌};
+    ghost use Rattle.wac_graph_causes.specs.declared.errors.Refusal.{Refusal};
+
+    ghost from_gives = { λ _ e. e ≡ Refusal.Memory };
+
     fn from(_e: AllocError) -> Self {
         Refusal::Memory
     }
 }
 
 impl<T: Drop> From<AllocFailed<T>> for Refusal {
+    ghost use Rattle.std.specs.Prelude.{◌≡◌};
+    ghost use Rattle.wac_graph_causes.specs.declared.errors.Refusal.{Refusal};
+
+    ghost from_gives = { λ _ e. e ≡ Refusal.Memory };
+
     fn from(_e: AllocFailed<T>) -> Self {
         Refusal::Memory
     }
 }
 
 impl From<OuterError> for Refusal {
+    ghost use Rattle.std.specs.Prelude.{◌≡◌};
+    ghost use Rattle.wac_graph_causes.specs.Refusals.{outer_refusal};
+
+    ghost from_gives = { λ f e. e ≡ outer_refusal f };
+
     fn from(e: OuterError) -> Self {
         match e {
             OuterError::ExplicitImportConflict {
@@ -229,6 +247,11 @@ impl From<OuterError> for Refusal {
 }
 
 impl From<SizeError> for Refusal {
+    ghost use Rattle.std.specs.Prelude.{◌≡◌};
+    ghost use Rattle.wac_graph_causes.specs.Refusals.{size_refusal};
+
+    ghost from_gives = { λ f e. e ≡ size_refusal f };
+
     fn from(e: SizeError) -> Self {
         match e {
             SizeError::TooLarge => Refusal::TooLarge,
@@ -238,7 +261,7 @@ impl From<SizeError> for Refusal {
 }
 
 /// The refusal where the type under a name was not written.
-pub(crate) fn not_written(alloc: Global, name: &str, fault: WriteError) -> Refusal {
+pub fn not_written(alloc: Global, name: &str, fault: WriteError) -> Refusal {
     match fault {
         WriteError::TooLarge => Refusal::TooLarge,
         WriteError::Memory => Refusal::Memory,
