@@ -2,6 +2,7 @@
 use Rattle.wac_graph_bytes.specs.declared.fault.SizeError.{SizeError}
 use Rattle.wac_graph_asks.specs.declared.faults.OuterError.{OuterError}
 use Rattle.wac_graph_causes.specs.declared.errors.Refusal.{Refusal}
+use Rattle.wac_graph_causes.specs.declared.errors.Unwritten.{Unwritten}
 use Rattle.wac_graph_causes.specs.declared.errors.EncodeError.{EncodeError}
 
 abbrev pub outer_refusal : OuterError → Refusal
@@ -10,9 +11,14 @@ outer_refusal (OuterError.ImportTypeMergeConflict name first second source) = Re
 outer_refusal OuterError.TooLarge = Refusal.TooLarge
 outer_refusal OuterError.Memory = Refusal.Memory
 
-abbrev pub size_refusal : SizeError → Refusal
-size_refusal SizeError.TooLarge = Refusal.TooLarge
-size_refusal SizeError.Memory = Refusal.Memory
+abbrev pub size_fault : SizeError → Unwritten
+size_fault SizeError.TooLarge = Unwritten.TooLarge
+size_fault SizeError.Memory = Unwritten.Memory
+
+abbrev pub unwritten_refusal : Unwritten → Refusal
+unwritten_refusal (Unwritten.TypeCannotBeWritten name) = Refusal.TypeCannotBeWritten name
+unwritten_refusal Unwritten.TooLarge = Refusal.TooLarge
+unwritten_refusal Unwritten.Memory = Refusal.Memory
 
 abbrev pub refusal_shown : Refusal → EncodeError
 refusal_shown (Refusal.ImplicitImportConflict import instantiation key name) = EncodeError.ImplicitImportConflict import instantiation key name

@@ -1,6 +1,6 @@
 //! Types that cannot be written.
 
-use crate::errors::Refusal;
+use crate::errors::Unwritten;
 use crate::names::dependency_name;
 use std::alloc::{AllocError, Global};
 use wac_graph_asks::asks::{Asked, Definition};
@@ -15,10 +15,10 @@ use wac_writable::writable::{
     Test, is_unwritable_definition, is_unwritable_package, unwritable_outer,
 };
 
-fn unwritable(alloc: Global, name: &str) -> Refusal {
+fn unwritable(alloc: Global, name: &str) -> Unwritten {
     match String::from_str(alloc, name) {
-        Ok(name) => Refusal::TypeCannotBeWritten { name },
-        Err(_) => Refusal::Memory,
+        Ok(name) => Unwritten::TypeCannotBeWritten { name },
+        Err(_) => Unwritten::Memory,
     }
 }
 
@@ -31,7 +31,7 @@ fn is_value(graph: &CompositionGraph, node: NodeId) -> bool {
 }
 
 /// No alias is of a value item.
-fn check_aliases(alloc: Global, graph: &CompositionGraph) -> Result<(), Refusal> {
+fn check_aliases(alloc: Global, graph: &CompositionGraph) -> Result<(), Unwritten> {
     for node in graph.node_ids() {
         if is_value(graph, node) {
             if let Some((_, name)) = graph.get_alias_source(node) {
@@ -56,7 +56,7 @@ fn check_outers(
     asked: &Asked,
     unnamed: &Unnamed,
     outers: &Outers,
-) -> Result<(), Refusal> {
+) -> Result<(), Unwritten> {
     let test = test_of(alloc, &asked.types, unnamed, true);
     match unwritable_outer(test, outers.world)? {
         Some(at) => match import_at(&asked.types, outers.world, at) {
@@ -91,7 +91,7 @@ fn check_definition(
     types: &Types,
     outers: &mut Holder,
     definition: &Definition,
-) -> Result<(), Refusal> {
+) -> Result<(), Unwritten> {
     if is_unwritable(test, types, outers, definition)? {
         return Err(unwritable(test.alloc, definition.name.as_str()));
     }
@@ -103,7 +103,7 @@ fn check_each(
     types: &Types,
     outers: &mut Holder,
     definitions: &[Definition],
-) -> Result<(), Refusal> {
+) -> Result<(), Unwritten> {
     for definition in definitions {
         check_definition(test, types, outers, definition)?;
     }
@@ -116,7 +116,7 @@ fn check_definitions(
     asked: &Asked,
     unnamed: &Unnamed,
     outers: &Outers,
-) -> Result<(), Refusal> {
+) -> Result<(), Unwritten> {
     let test = test_of(alloc, &asked.types, unnamed, false);
     let mut holder = Holder::of_world(alloc, &asked.types, outers.world)?;
     check_each(test, graph.types(), &mut holder, &asked.definitions)
@@ -127,12 +127,12 @@ fn check_packages(
     graph: &CompositionGraph,
     asked: &Asked,
     unnamed: &Unnamed,
-) -> Result<(), Refusal> {
+) -> Result<(), Unwritten> {
     let test = test_of(alloc, &asked.types, unnamed, true);
     for (id, world) in asked.packages.iter() {
         if is_unwritable_package(test, *world)? {
             let name = dependency_name(alloc, graph, *id)?;
-            return Err(Refusal::TypeCannotBeWritten { name });
+            return Err(Unwritten::TypeCannotBeWritten { name });
         }
     }
     Ok(())
@@ -146,7 +146,7 @@ fn check_types(
     unnamed: &Unnamed,
     outers: &Outers,
     define_components: bool,
-) -> Result<(), Refusal> {
+) -> Result<(), Unwritten> {
     check_outers(alloc, asked, unnamed, outers)?;
     check_definitions(alloc, graph, asked, unnamed, outers)?;
     if define_components {
@@ -162,7 +162,7 @@ pub fn check_writable(
     asked: &Asked,
     outers: &Outers,
     define_components: bool,
-) -> Result<(), Refusal> {
+) -> Result<(), Unwritten> {
     check_aliases(alloc, graph)?;
     let unnamed = Unnamed::all(alloc, &asked.types)?;
     check_types(alloc, graph, asked, &unnamed, outers, define_components)

@@ -34,22 +34,12 @@ use Rattle.wac_graph_encode.specs.Beginning.{AreTold}
 use Rattle.wac_graph_encode.specs.Defining.{IsToWrite, AreToWrite}
 use Rattle.wac_graph_encode.specs.Encoding.{AreTrueOf}
 use Rattle.wac_graph_encode.specs.Formed.{IsFormed, AreFormed, FormsAll}
-use Rattle.wac_graph_encode.specs.Finished.{IsPrepared, MeansAsked, MeansNested}
+use Rattle.wac_graph_encode.specs.Finished.{IsPrepared, MeansAsked, MeansNested, NestsSo}
 use Rattle.wac_graph_encode.specs.Nesting.{IsTold}
+use Rattle.wac_graph_encode.proofs.Nested.{with_among, nests_packages}
 use Rattle.wac_graph_encode.proofs.RootedDefinitions.{from_filtered, nodes_of_definitions}
 
 -- ---- the packages
-
-with_among : (ids more : List PackageId) (id : PackageId) → Among id (with_ids ids more) → Among id ids ⊎ Among id more
-with_among ids [] id m = inl m
-with_among ids (x ∷ more) id m = elim (with_among (with_id ids x) more id m) [
-  | inl k ↦ one (list_any (eq-value.it x) ids) k
-  | inr k ↦ inr (inr k)
-]
-  where
-    one : (b : Bool) → Among id (if b then ids else ids ++ x ∷ []) → Among id ids ⊎ Among id (x ∷ more)
-    one true k = inl k
-    one false k = elim (among-either id ids (x ∷ []) k) [ inl a ↦ inl a | inr (inl e) ↦ inr (inl e) | inr (inr n) ↦ absurd n ]
 
 module _ (g : Graph) (sound : IsGraph g) (finite_types : IsAcyclic g.types) (w : Worlds) (true_of : AreTrueOf true g w) where
   told_at : (k : ℕ) (n : NodeData) (id : PackageId) → node_at g k ≡ Some n → n.of ≡ Some id → IsTold g w id
@@ -100,14 +90,16 @@ module _ (g : Graph) (a : Asked) (o : Outers) (h : IsPrepared g a o) where
   module _ (sound : IsGraph g) (finite_types : IsAcyclic g.types) where
     -- with the definitions formed in a collection that has grown
     pub means_nested : {E : Type 0} (options : EncodeOptions) (new : Asked) (definitions : Vec Definition Global) (r : Result (Vec ℕ Global) E) → Grows a.types new.types → new.packages ≡ a.packages
-        → AreFormed g.types new.types a.definitions.items definitions.items → MeansAsked g new o definitions.items options r → IfOk r (λ bytes. MeansNested g options bytes.items)
-    means_nested {E} options new definitions r grows packages formed means = go r means
-      where
-        go : (r : Result (Vec ℕ Global) E) → MeansAsked g new o definitions.items options r → IfOk r (λ bytes. MeansNested g options bytes.items)
-        go (Err e) means = tt
-        go (Ok bytes) means define w true_of =
-            means define (outers_stay _ a.types new.types h.acyclic grows o.world o.called.items h.outers, to_write new.types definitions.items formed) w
-            (all_told g sound finite_types w true_of (names_of new.packages.entries) (ap (λ p. names_of p.entries) packages ∙ h.packages))
+        → AreFormed g.types new.types a.definitions.items definitions.items → MeansAsked g new o definitions.items options r → NestsSo options.define_components g (names_of new.packages.entries) r → IfOk r (λ bytes. MeansNested g options bytes.items)
+    means_nested options new definitions (Err e) grows packages formed means nests = tt
+    means_nested options new definitions (Ok bytes) grows packages formed means nests define =
+        let ids : names_of new.packages.entries ≡ with_ids [] (package_ids g) = ap (λ p. names_of p.entries) packages ∙ h.packages in
+        record {
+          nests = nests_packages g sound (names_of new.packages.entries) bytes.items ids (nests define);
+          means = λ w true_of.
+              means define (outers_stay _ a.types new.types h.acyclic grows o.world o.called.items h.outers, to_write new.types definitions.items formed) w
+              (all_told g sound finite_types w true_of (names_of new.packages.entries) ids);
+        }
 
 pub prepared : (g : Graph) (old new : Asked) (o : Outers) → IsAsked g old → KeepsAsked old new → AnswersOuters old new o → IsPrepared g new o
 prepared g old new o asked keeps answers = record {

@@ -10,12 +10,15 @@ use Rattle.wac_types_base.specs.Stated.{stated_of}
 use Rattle.wac_types_base.specs.Tree.{tree, tree_of}
 use Rattle.wac_types_names.specs.Packaged.{Packaged}
 use Rattle.wac_types_names.specs.Keys.{package_key}
+use Rattle.wac_graph_bytes.specs.declared.entry.Entry.{Entry as CodeEntry}
 use Rattle.wac_graph_bytes.specs.Entries.{Entry, Nested, Section, entries_of}
+use Rattle.wac_graph_bytes.specs.Views.{view}
 use Rattle.wac_graph_bytes.specs.Spelling.{component_bytes}
 use Rattle.wac_graph_bytes.specs.Wirings.{Tag, OfBytes, OfDependency, Instantiation, Wiring, Same}
 use Rattle.wac_graph_bytes.specs.Typing.{Worlds}
 use Rattle.wac_graph_bytes.specs.Meaning.{Means}
-use Rattle.wac_graph_core.specs.Graph.{Graph, instantiated}
+use Rattle.wac_graph_core.specs.declared.ids.PackageId.{PackageId}
+use Rattle.wac_graph_core.specs.Graph.{Graph, package_of, instantiated}
 use Rattle.wac_composition.specs.Conflicts.{Cause, first_cause, name_cause, dependency_name}
 use Rattle.wac_composition.specs.Worlds.{composed_world}
 use Rattle.wac_composition.specs.Outlines.{IsSketched}
@@ -61,6 +64,18 @@ abbrev pub nested_in : List Entry → List (List ℕ)
 nested_in [] = []
 nested_in (Nested bytes ∷ es) = bytes ∷ nested_in es
 nested_in (e ∷ es) = nested_in es
+
+-- the components that code entries nest
+abbrev pub nested_at : List CodeEntry → List (List ℕ)
+nested_at es = nested_in (map view es)
+
+abbrev pub bytes_in : Option Packaged → List ℕ
+bytes_in None = []
+bytes_in (Some p) = p.bytes
+
+-- the bytes of the package of an id
+abbrev pub bytes_of : Graph → PackageId → List ℕ
+bytes_of g id = bytes_in (package_of g id)
 
 abbrev pub IsInstantiated : Graph → Packaged → Type 0
 IsInstantiated g p = (k : ℕ) × (instantiated g k ≡ Some p)

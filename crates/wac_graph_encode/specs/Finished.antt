@@ -27,7 +27,7 @@ use Rattle.wac_graph_encode.specs.declared.instances.Wired.{Wired}
 use Rattle.wac_graph_encode.specs.declared.root.Writing.{Writing}
 use Rattle.wac_graph_encode.specs.Standing.{IsFinished}
 use Rattle.wac_graph_encode.specs.Defining.{AreToWrite}
-use Rattle.wac_graph_encode.specs.Encoding.{MeansGraph, MeansWiring}
+use Rattle.wac_graph_encode.specs.Encoding.{nested_in, bytes_of, NestsPackages, MeansGraph, MeansWiring}
 use Rattle.wac_graph_encode.specs.Formed.{AreCopied}
 use Rattle.wac_graph_encode.specs.Beginning.{AreTold, IsBare, IsToBegin}
 
@@ -53,6 +53,19 @@ MeansSo define g ids P r = define ≡ true → P → (w : Worlds) → AreTold g 
 abbrev pub MeansWired : {E : Type 0} → Writing → Wired → Result (Vec ℕ Global) E → Type 0
 MeansWired x old r = old.graph.now ≡ x.graph.now → IsBare old.root → MeansSo x.options.now.define_components x.graph.now (names_of x.worlds.now.entries) (IsToBegin x) r
 
+-- the bytes nest the packages of these ids, in order and unchanged, and nothing else
+pub record NestsBytes (g : Graph) (ids : List PackageId) (bytes : List ℕ) : Type 0 where
+  pub sections : List Section
+  pub spelled : bytes ≡ component_bytes sections
+  pub nested : nested_in (entries_of sections) ≡ map (bytes_of g) ids
+
+abbrev pub NestsSo : {E : Type 0} → (define : Bool) → Graph → List PackageId → Result (Vec ℕ Global) E → Type 0
+NestsSo define g ids r = define ≡ true → IfOk r (λ bytes. NestsBytes g ids bytes.items)
+
+-- where nothing is written yet
+abbrev pub NestsWired : {E : Type 0} → Writing → Wired → Result (Vec ℕ Global) E → Type 0
+NestsWired x old r = IsBare old.root → NestsSo x.options.now.define_components x.graph.now (names_of x.worlds.now.entries) r
+
 -- of the graph's outer imports, with its definitions in the forms in which they are written
 abbrev pub MeansAsked : {E : Type 0} → Graph → Asked → Outers → List Definition → EncodeOptions → Result (Vec ℕ Global) E → Type 0
 MeansAsked g asked outers xs options r =
@@ -68,6 +81,10 @@ pub record IsPrepared (g : Graph) (asked : Asked) (outers : Outers) : Type 0 whe
   pub copies : AreCopied g.types asked.types asked.definitions.items
   pub outers : IsOuters g asked.types outers.world outers.called.items
 
--- where packages are nested the bytes mean the graph's wiring
+-- where packages are nested: those that are instantiated are, each once and unchanged, and the bytes mean the graph's wiring
+pub record IsComposed (g : Graph) (bytes : List ℕ) : Type 0 where
+  pub nests : NestsPackages true g bytes
+  pub means : MeansWiring true g bytes
+
 abbrev pub MeansNested : Graph → EncodeOptions → List ℕ → Type 0
-MeansNested g options bytes = options.define_components ≡ true → MeansWiring true g bytes
+MeansNested g options bytes = options.define_components ≡ true → IsComposed g bytes

@@ -7,3 +7,4 @@ pub mod Writing
 pub mod Rooting
 pub mod Nesting
 pub mod Beginning
+pub mod Refused
