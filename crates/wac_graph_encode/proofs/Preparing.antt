@@ -29,6 +29,7 @@ use Rattle.wac_graph_asks.specs.Outers.{IsOuters, AnswersOuters}
 use Rattle.wac_graph_asks.proofs.Asking.{copy_kept}
 use Rattle.wac_graph_asks.proofs.ByNode.{entry_there}
 use Rattle.wac_graph_asks.proofs.Lasting.{outers_stay}
+use Rattle.wac_graph_causes.specs.Alike.{AreHeld}
 use Rattle.wac_graph_encode.specs.declared.options.EncodeOptions.{EncodeOptions}
 use Rattle.wac_graph_encode.specs.Beginning.{AreTold}
 use Rattle.wac_graph_encode.specs.Defining.{IsToWrite, AreToWrite}
@@ -100,6 +101,13 @@ module _ (g : Graph) (a : Asked) (o : Outers) (h : IsPrepared g a o) where
               means define (outers_stay _ a.types new.types h.acyclic grows o.world o.called.items h.outers, to_write new.types definitions.items formed) w
               (all_told g sound finite_types w true_of (names_of new.packages.entries) ids);
         }
+
+-- it is still held once types are added
+pub held_prepared : (g : Graph) (a : Asked) (o : Outers) → IsPrepared g a o → (new : Asked) → Grows a.types new.types → new.packages ≡ a.packages → AreHeld g new o
+held_prepared g a o h new grows packages = record {
+  packages = ap (λ p. names_of p.entries) packages ∙ h.packages;
+  imports = outers_stay _ a.types new.types h.acyclic grows o.world o.called.items h.outers;
+}
 
 pub prepared : (g : Graph) (old new : Asked) (o : Outers) → IsAsked g old → KeepsAsked old new → AnswersOuters old new o → IsPrepared g new o
 prepared g old new o asked keeps answers = record {
