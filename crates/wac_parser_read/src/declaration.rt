@@ -11,14 +11,15 @@ ghost use Rattle.wac_parser_grammar.specs.Reads.{Reads};
 ghost use Rattle.wac_parser_grammar.specs.Ahead as ahead;
 ghost use Rattle.wac_parser_grammar.specs.Declarations as grammar;
 
-use crate::base::{ended, none_of, optional, parse_token, sees, sees_any};
-use crate::lookahead::Lookahead;
 use crate::parse::{Parse, Peek, parse_delimited};
-use crate::text::{doc_comments, ident};
-use crate::value_type::{ALIAS_FIRST, FUNC_FIRST, TYPE_FIRST};
+use crate::value_type::{ALIAS_FIRST, FUNC_FIRST};
 use std::alloc::Global;
 use wac_parser_grammar::{DeclaredType, Error, MemberKind, ParseResult};
 use wac_parser_lexer::{Lexer, Token};
+use wac_parser_terms::{
+    Lookahead, TYPE_FIRST, doc_comments, ended, ident, none_of, optional, parse_token, sees,
+    sees_any,
+};
 use wac_parser_tree::{
     EnumCase, EnumDecl, Field, Flag, FlagsDecl, FuncType, ItemTypeDecl, NamedType, RecordDecl,
     ResourceDecl, Type, TypeAlias, TypeAliasKind, TypeDecl, VariantCase, VariantDecl,
@@ -44,7 +45,7 @@ pub(crate) const ITEM_TYPE_DECL_FIRST: [Token; 6] = [
 ];
 
 /// The members of a declaration in braces, at least one. Each begins with its name.
-#[tactic(auto, using(crate::proofs::Behind::places))]
+#[tactic(auto, using(wac_parser_terms::proofs::Behind::places))]
 fn members<'a, T: Parse<'a> + Peek>(
     alloc: Global,
     lexer: &mut Lexer<'a>,
@@ -70,7 +71,7 @@ fn members<'a, T: Parse<'a> + Peek>(
 }
 
 /// The type of a case in parentheses, or none.
-#[tactic(auto, using(crate::proofs::Behind::places), unfolding(wac_parser_grammar::specs::Declarations::case_type))]
+#[tactic(auto, using(wac_parser_terms::proofs::Behind::places), unfolding(wac_parser_grammar::specs::Declarations::case_type))]
 fn case_type<'a>(alloc: Global, lexer: &mut Lexer<'a>) -> ParseResult<Option<Type<'a>>>
     ensures value { Reads (option_map view_ty) grammar.case_type lexer.old result lexer.new }
     ensures keeps { OnOk result (left lexer.new ≤ left lexer.old) }
@@ -100,7 +101,7 @@ impl<'a> Parse<'a> for VariantCase<'a> {
 
     ghost rule = { grammar.variant_case };
 
-    #[tactic(auto, using(crate::proofs::Behind::places), unfolding(wac_parser_grammar::specs::Declarations::variant_case))]
+    #[tactic(auto, using(wac_parser_terms::proofs::Behind::places), unfolding(wac_parser_grammar::specs::Declarations::variant_case))]
     fn parse(alloc: Global, lexer: &mut Lexer<'a>) -> ParseResult<VariantCase<'a>> {
         let docs = doc_comments(alloc, lexer)?;
         let id = ident(lexer)?;
@@ -126,7 +127,7 @@ impl<'a> Parse<'a> for VariantDecl<'a> {
 
     ghost rule = { grammar.variant_decl };
 
-    #[tactic(auto, using(crate::proofs::Behind::places), unfolding(wac_parser_grammar::specs::Declarations::variant_decl, wac_parser_grammar::specs::Declarations::variant_cases))]
+    #[tactic(auto, using(wac_parser_terms::proofs::Behind::places), unfolding(wac_parser_grammar::specs::Declarations::variant_decl, wac_parser_grammar::specs::Declarations::variant_cases))]
     fn parse(alloc: Global, lexer: &mut Lexer<'a>) -> ParseResult<VariantDecl<'a>> {
         let docs = doc_comments(alloc, lexer)?;
         parse_token(lexer, Token::VariantKeyword)?;
@@ -153,7 +154,7 @@ impl<'a> Parse<'a> for Field<'a> {
 
     ghost rule = { grammar.field };
 
-    #[tactic(auto, using(crate::proofs::Behind::places), unfolding(wac_parser_grammar::specs::Declarations::field))]
+    #[tactic(auto, using(wac_parser_terms::proofs::Behind::places), unfolding(wac_parser_grammar::specs::Declarations::field))]
     fn parse(alloc: Global, lexer: &mut Lexer<'a>) -> ParseResult<Field<'a>> {
         let docs = doc_comments(alloc, lexer)?;
         let named = NamedType::parse(alloc, lexer)?;
@@ -182,7 +183,7 @@ impl<'a> Parse<'a> for RecordDecl<'a> {
 
     ghost rule = { grammar.record_decl };
 
-    #[tactic(auto, using(crate::proofs::Behind::places), unfolding(wac_parser_grammar::specs::Declarations::record_decl, wac_parser_grammar::specs::Declarations::record_fields))]
+    #[tactic(auto, using(wac_parser_terms::proofs::Behind::places), unfolding(wac_parser_grammar::specs::Declarations::record_decl, wac_parser_grammar::specs::Declarations::record_fields))]
     fn parse(alloc: Global, lexer: &mut Lexer<'a>) -> ParseResult<RecordDecl<'a>> {
         let docs = doc_comments(alloc, lexer)?;
         parse_token(lexer, Token::RecordKeyword)?;
@@ -209,7 +210,7 @@ impl<'a> Parse<'a> for Flag<'a> {
 
     ghost rule = { grammar.flag };
 
-    #[tactic(auto, using(crate::proofs::Behind::places), unfolding(wac_parser_grammar::specs::Declarations::flag))]
+    #[tactic(auto, using(wac_parser_terms::proofs::Behind::places), unfolding(wac_parser_grammar::specs::Declarations::flag))]
     fn parse(alloc: Global, lexer: &mut Lexer<'a>) -> ParseResult<Flag<'a>> {
         let docs = doc_comments(alloc, lexer)?;
         let id = ident(lexer)?;
@@ -234,7 +235,7 @@ impl<'a> Parse<'a> for FlagsDecl<'a> {
 
     ghost rule = { grammar.flags_decl };
 
-    #[tactic(auto, using(crate::proofs::Behind::places), unfolding(wac_parser_grammar::specs::Declarations::flags_decl, wac_parser_grammar::specs::Declarations::flags_members))]
+    #[tactic(auto, using(wac_parser_terms::proofs::Behind::places), unfolding(wac_parser_grammar::specs::Declarations::flags_decl, wac_parser_grammar::specs::Declarations::flags_members))]
     fn parse(alloc: Global, lexer: &mut Lexer<'a>) -> ParseResult<FlagsDecl<'a>> {
         let docs = doc_comments(alloc, lexer)?;
         parse_token(lexer, Token::FlagsKeyword)?;
@@ -261,7 +262,7 @@ impl<'a> Parse<'a> for EnumCase<'a> {
 
     ghost rule = { grammar.enum_case };
 
-    #[tactic(auto, using(crate::proofs::Behind::places), unfolding(wac_parser_grammar::specs::Declarations::enum_case))]
+    #[tactic(auto, using(wac_parser_terms::proofs::Behind::places), unfolding(wac_parser_grammar::specs::Declarations::enum_case))]
     fn parse(alloc: Global, lexer: &mut Lexer<'a>) -> ParseResult<EnumCase<'a>> {
         let docs = doc_comments(alloc, lexer)?;
         let id = ident(lexer)?;
@@ -286,7 +287,7 @@ impl<'a> Parse<'a> for EnumDecl<'a> {
 
     ghost rule = { grammar.enum_decl };
 
-    #[tactic(auto, using(crate::proofs::Behind::places), unfolding(wac_parser_grammar::specs::Declarations::enum_decl, wac_parser_grammar::specs::Declarations::enum_cases))]
+    #[tactic(auto, using(wac_parser_terms::proofs::Behind::places), unfolding(wac_parser_grammar::specs::Declarations::enum_decl, wac_parser_grammar::specs::Declarations::enum_cases))]
     fn parse(alloc: Global, lexer: &mut Lexer<'a>) -> ParseResult<EnumDecl<'a>> {
         let docs = doc_comments(alloc, lexer)?;
         parse_token(lexer, Token::EnumKeyword)?;
@@ -303,7 +304,7 @@ impl<'a> Parse<'a> for TypeAliasKind<'a> {
 
     ghost rule = { grammar.type_alias_kind };
 
-    #[tactic(auto, using(crate::proofs::Behind::places), unfolding(wac_parser_grammar::specs::Declarations::type_alias_kind))]
+    #[tactic(auto, using(wac_parser_terms::proofs::Behind::places), unfolding(wac_parser_grammar::specs::Declarations::type_alias_kind))]
     fn parse(alloc: Global, lexer: &mut Lexer<'a>) -> ParseResult<TypeAliasKind<'a>> {
         if sees_any(lexer, &FUNC_FIRST) {
             return Ok(TypeAliasKind::Func(FuncType::parse(alloc, lexer)?));
@@ -332,7 +333,7 @@ impl<'a> Parse<'a> for TypeAlias<'a> {
 
     ghost rule = { grammar.type_alias };
 
-    #[tactic(auto, using(crate::proofs::Behind::places), unfolding(wac_parser_grammar::specs::Declarations::type_alias))]
+    #[tactic(auto, using(wac_parser_terms::proofs::Behind::places), unfolding(wac_parser_grammar::specs::Declarations::type_alias))]
     fn parse(alloc: Global, lexer: &mut Lexer<'a>) -> ParseResult<TypeAlias<'a>> {
         let docs = doc_comments(alloc, lexer)?;
         parse_token(lexer, Token::TypeKeyword)?;
@@ -360,7 +361,7 @@ impl<'a> Parse<'a> for TypeDecl<'a> {
 
     ghost rule = { grammar.type_decl };
 
-    #[tactic(auto, using(crate::proofs::Behind::places), unfolding(wac_parser_grammar::specs::Declarations::type_decl))]
+    #[tactic(auto, using(wac_parser_terms::proofs::Behind::places), unfolding(wac_parser_grammar::specs::Declarations::type_decl))]
     fn parse(alloc: Global, lexer: &mut Lexer<'a>) -> ParseResult<TypeDecl<'a>> {
         if sees(lexer, Token::VariantKeyword) {
             return Ok(TypeDecl::Variant(VariantDecl::parse(alloc, lexer)?));
@@ -398,7 +399,7 @@ impl<'a> Parse<'a> for ItemTypeDecl<'a> {
 
     ghost rule = { grammar.item_type_decl };
 
-    #[tactic(auto, using(crate::proofs::Behind::places), unfolding(wac_parser_grammar::specs::Declarations::item_type_decl))]
+    #[tactic(auto, using(wac_parser_terms::proofs::Behind::places), unfolding(wac_parser_grammar::specs::Declarations::item_type_decl))]
     fn parse(alloc: Global, lexer: &mut Lexer<'a>) -> ParseResult<ItemTypeDecl<'a>> {
         if sees(lexer, Token::ResourceKeyword) {
             return Ok(ItemTypeDecl::Resource(ResourceDecl::parse(alloc, lexer)?));

@@ -1,7 +1,7 @@
 //! Documents.
 
 ghost use Rattle.std.specs.Prelude.{◌≡◌, ◌∷◌, [], ◌<◌, ◌≤◌, OnOk};
-ghost use Rattle.wac_parser_read.specs.Views.{view_all};
+ghost use Rattle.wac_parser_terms.specs.Views.{view_all};
 ghost use Rattle.wac_parser_grammar.specs.Rules.{all_of};
 ghost use Rattle.wac_parser_lexer.specs.declared.token.Token.TheVariants as k;
 ghost use Rattle.wac_parser_tree.specs.Trees as t;
@@ -11,14 +11,12 @@ ghost use Rattle.wac_parser_grammar.specs.Reads.{Reads, ReadsSource};
 ghost use Rattle.wac_parser_grammar.specs.Ahead as ahead;
 ghost use Rattle.wac_parser_grammar.specs.Documents as grammar;
 
-use crate::base::{none_of, parse_token, sees, sees_any};
 use crate::declaration::TYPE_DECL_FIRST;
-use crate::lookahead::Lookahead;
 use crate::parse::{Parse, Peek, parse_optional};
-use crate::text::doc_comments;
 use std::alloc::Global;
 use wac_parser_grammar::{Error, ParseResult};
 use wac_parser_lexer::{Lexer, Token};
+use wac_parser_terms::{Lookahead, doc_comments, none_of, parse_token, sees, sees_any};
 use wac_parser_tree::{
     Document, ExportStatement, ImportStatement, InterfaceDecl, LetStatement, PackageDirective,
     PackageName, Statement, TypeDecl, TypeStatement, WorldDecl,
@@ -66,7 +64,7 @@ impl<'a> Parse<'a> for TypeStatement<'a> {
 
     ghost rule = { grammar.type_statement };
 
-    #[tactic(auto, using(crate::proofs::Behind::places), unfolding(wac_parser_grammar::specs::Documents::type_statement))]
+    #[tactic(auto, using(wac_parser_terms::proofs::Behind::places), unfolding(wac_parser_grammar::specs::Documents::type_statement))]
     fn parse(alloc: Global, lexer: &mut Lexer<'a>) -> ParseResult<TypeStatement<'a>> {
         if sees(lexer, Token::InterfaceKeyword) {
             return Ok(TypeStatement::Interface(InterfaceDecl::parse(alloc, lexer)?));
@@ -98,7 +96,7 @@ impl<'a> Parse<'a> for Statement<'a> {
 
     ghost rule = { grammar.statement };
 
-    #[tactic(auto, using(crate::proofs::Behind::places), unfolding(wac_parser_grammar::specs::Documents::statement))]
+    #[tactic(auto, using(wac_parser_terms::proofs::Behind::places), unfolding(wac_parser_grammar::specs::Documents::statement))]
     fn parse(alloc: Global, lexer: &mut Lexer<'a>) -> ParseResult<Statement<'a>> {
         if sees(lexer, Token::ImportKeyword) {
             return Ok(Statement::Import(ImportStatement::parse(alloc, lexer)?));
@@ -133,7 +131,7 @@ impl<'a> Parse<'a> for PackageDirective<'a> {
 
     ghost rule = { grammar.package_directive };
 
-    #[tactic(auto, using(crate::proofs::Behind::places), unfolding(wac_parser_grammar::specs::Documents::package_directive, wac_parser_grammar::specs::Documents::targets))]
+    #[tactic(auto, using(wac_parser_terms::proofs::Behind::places), unfolding(wac_parser_grammar::specs::Documents::package_directive, wac_parser_grammar::specs::Documents::targets))]
     fn parse(alloc: Global, lexer: &mut Lexer<'a>) -> ParseResult<PackageDirective<'a>> {
         parse_token(lexer, Token::PackageKeyword)?;
         let package = PackageName::parse(alloc, lexer)?;

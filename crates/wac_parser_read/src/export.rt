@@ -10,17 +10,15 @@ ghost use Rattle.wac_parser_grammar.specs.Reads.{Reads};
 ghost use Rattle.wac_parser_grammar.specs.Ahead as ahead;
 ghost use Rattle.wac_parser_grammar.specs.Documents as grammar;
 
-use crate::base::{parse_token, sees};
-use crate::lookahead::Lookahead;
 use crate::parse::{Parse, Peek};
-use crate::text::doc_comments;
 use std::alloc::Global;
 use wac_parser_grammar::ParseResult;
 use wac_parser_lexer::{Lexer, Token};
+use wac_parser_terms::{Lookahead, doc_comments, parse_token, sees};
 use wac_parser_tree::{ExportOptions, ExportStatement, Expr, ExternName};
 
 /// How an expression is exported.
-#[tactic(auto, using(crate::proofs::Behind::places), unfolding(wac_parser_grammar::specs::Documents::export_options))]
+#[tactic(auto, using(wac_parser_terms::proofs::Behind::places), unfolding(wac_parser_grammar::specs::Documents::export_options))]
 fn export_options<'a>(alloc: Global, lexer: &mut Lexer<'a>) -> ParseResult<ExportOptions<'a>>
     ensures value { Reads view_export_options grammar.export_options lexer.old result lexer.new }
     ensures keeps { OnOk result (left lexer.new ≤ left lexer.old) }
@@ -53,7 +51,7 @@ impl<'a> Parse<'a> for ExportStatement<'a> {
 
     ghost rule = { grammar.export_statement };
 
-    #[tactic(auto, using(crate::proofs::Behind::places), unfolding(wac_parser_grammar::specs::Documents::export_statement))]
+    #[tactic(auto, using(wac_parser_terms::proofs::Behind::places), unfolding(wac_parser_grammar::specs::Documents::export_statement))]
     fn parse(alloc: Global, lexer: &mut Lexer<'a>) -> ParseResult<ExportStatement<'a>> {
         let docs = doc_comments(alloc, lexer)?;
         parse_token(lexer, Token::ExportKeyword)?;

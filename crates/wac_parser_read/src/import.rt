@@ -8,15 +8,15 @@ ghost use Rattle.wac_parser_grammar.specs.Ahead as ahead;
 ghost use Rattle.wac_parser_grammar.specs.Expressions.{name_first};
 ghost use Rattle.wac_parser_grammar.specs.Documents as grammar;
 
-use crate::base::{ended, none_of, parse_token, sees, sees_any};
 use crate::expr::NAME_FIRST;
-use crate::lookahead::Lookahead;
 use crate::parse::{Parse, Peek, parse_optional};
-use crate::text::{doc_comments, ident};
 use crate::value_type::FUNC_FIRST;
 use std::alloc::Global;
 use wac_parser_grammar::ParseResult;
 use wac_parser_lexer::{Lexer, Token};
+use wac_parser_terms::{
+    Lookahead, doc_comments, ended, ident, none_of, parse_token, sees, sees_any,
+};
 use wac_parser_tree::{
     ExternName, FuncType, Ident, ImportStatement, ImportType, InlineInterface, PackagePath, String,
 };
@@ -47,7 +47,7 @@ impl<'a> Parse<'a> for ExternName<'a> {
 
     ghost rule = { grammar.extern_name };
 
-    #[tactic(auto, using(crate::proofs::Behind::places), unfolding(wac_parser_grammar::specs::Documents::extern_name))]
+    #[tactic(auto, using(wac_parser_terms::proofs::Behind::places), unfolding(wac_parser_grammar::specs::Documents::extern_name))]
     fn parse(alloc: Global, lexer: &mut Lexer<'a>) -> ParseResult<ExternName<'a>> {
         if sees(lexer, Token::Ident) {
             return Ok(ExternName::Ident(Ident::parse(alloc, lexer)?));
@@ -66,7 +66,7 @@ impl<'a> Parse<'a> for ImportType<'a> {
 
     ghost rule = { grammar.import_type };
 
-    #[tactic(auto, using(crate::proofs::Behind::places), unfolding(wac_parser_grammar::specs::Documents::import_type))]
+    #[tactic(auto, using(wac_parser_terms::proofs::Behind::places), unfolding(wac_parser_grammar::specs::Documents::import_type))]
     fn parse(alloc: Global, lexer: &mut Lexer<'a>) -> ParseResult<ImportType<'a>> {
         if sees_any(lexer, &FUNC_FIRST) {
             return Ok(ImportType::Func(FuncType::parse(alloc, lexer)?));
@@ -101,7 +101,7 @@ impl<'a> Parse<'a> for ImportStatement<'a> {
 
     ghost rule = { grammar.import_statement };
 
-    #[tactic(auto, using(crate::proofs::Behind::places), unfolding(wac_parser_grammar::specs::Documents::import_statement, wac_parser_grammar::specs::Documents::import_name))]
+    #[tactic(auto, using(wac_parser_terms::proofs::Behind::places), unfolding(wac_parser_grammar::specs::Documents::import_statement, wac_parser_grammar::specs::Documents::import_name))]
     fn parse(alloc: Global, lexer: &mut Lexer<'a>) -> ParseResult<ImportStatement<'a>> {
         let docs = doc_comments(alloc, lexer)?;
         parse_token(lexer, Token::ImportKeyword)?;

@@ -7,14 +7,14 @@ ghost use Rattle.wac_parser_tree.specs.Views.{view_use_path, view_use_item, view
 ghost use Rattle.wac_parser_grammar.specs.Ahead as ahead;
 ghost use Rattle.wac_parser_grammar.specs.Worlds as grammar;
 
-use crate::base::{ended, none_of, parse_token, sees, sees_any};
 use crate::declaration::ITEM_TYPE_DECL_FIRST;
-use crate::lookahead::Lookahead;
 use crate::parse::{Parse, Peek, braced, parse_optional};
-use crate::text::{doc_comments, ident};
 use std::alloc::Global;
 use wac_parser_grammar::ParseResult;
 use wac_parser_lexer::{Lexer, Token};
+use wac_parser_terms::{
+    Lookahead, doc_comments, ended, ident, none_of, parse_token, sees, sees_any,
+};
 use wac_parser_tree::{
     FuncTypeRef, Ident, InlineInterface, InterfaceDecl, InterfaceExport, InterfaceItem,
     ItemTypeDecl, PackagePath, Use, UseItem, UsePath,
@@ -52,7 +52,7 @@ impl<'a> Parse<'a> for UsePath<'a> {
 
     ghost rule = { grammar.use_path };
 
-    #[tactic(auto, using(crate::proofs::Behind::places), unfolding(wac_parser_grammar::specs::Worlds::use_path))]
+    #[tactic(auto, using(wac_parser_terms::proofs::Behind::places), unfolding(wac_parser_grammar::specs::Worlds::use_path))]
     fn parse(alloc: Global, lexer: &mut Lexer<'a>) -> ParseResult<UsePath<'a>> {
         if sees(lexer, Token::PackagePath) {
             return Ok(UsePath::Package(PackagePath::parse(alloc, lexer)?));
@@ -81,7 +81,7 @@ impl<'a> Parse<'a> for UseItem<'a> {
 
     ghost rule = { grammar.use_item };
 
-    #[tactic(auto, using(crate::proofs::Behind::places), unfolding(wac_parser_grammar::specs::Worlds::use_item, wac_parser_grammar::specs::Worlds::use_as))]
+    #[tactic(auto, using(wac_parser_terms::proofs::Behind::places), unfolding(wac_parser_grammar::specs::Worlds::use_item, wac_parser_grammar::specs::Worlds::use_as))]
     fn parse(alloc: Global, lexer: &mut Lexer<'a>) -> ParseResult<UseItem<'a>> {
         let id = ident(lexer)?;
         let as_id = parse_optional(alloc, lexer, Token::AsKeyword)?;
@@ -106,7 +106,7 @@ impl<'a> Parse<'a> for Use<'a> {
 
     ghost rule = { grammar.use_types };
 
-    #[tactic(auto, using(crate::proofs::Behind::places), unfolding(wac_parser_grammar::specs::Worlds::use_types, wac_parser_grammar::specs::Worlds::use_items))]
+    #[tactic(auto, using(wac_parser_terms::proofs::Behind::places), unfolding(wac_parser_grammar::specs::Worlds::use_types, wac_parser_grammar::specs::Worlds::use_items))]
     fn parse(alloc: Global, lexer: &mut Lexer<'a>) -> ParseResult<Use<'a>> {
         let docs = doc_comments(alloc, lexer)?;
         parse_token(lexer, Token::UseKeyword)?;
@@ -135,7 +135,7 @@ impl<'a> Parse<'a> for InterfaceExport<'a> {
 
     ghost rule = { grammar.interface_export };
 
-    #[tactic(auto, using(crate::proofs::Behind::places), unfolding(wac_parser_grammar::specs::Worlds::interface_export))]
+    #[tactic(auto, using(wac_parser_terms::proofs::Behind::places), unfolding(wac_parser_grammar::specs::Worlds::interface_export))]
     fn parse(alloc: Global, lexer: &mut Lexer<'a>) -> ParseResult<InterfaceExport<'a>> {
         let docs = doc_comments(alloc, lexer)?;
         let id = ident(lexer)?;
@@ -162,7 +162,7 @@ impl<'a> Parse<'a> for InterfaceItem<'a> {
 
     ghost rule = { grammar.interface_item };
 
-    #[tactic(auto, using(crate::proofs::Behind::places), unfolding(wac_parser_grammar::specs::Worlds::interface_item))]
+    #[tactic(auto, using(wac_parser_terms::proofs::Behind::places), unfolding(wac_parser_grammar::specs::Worlds::interface_item))]
     fn parse(alloc: Global, lexer: &mut Lexer<'a>) -> ParseResult<InterfaceItem<'a>> {
         if sees(lexer, Token::UseKeyword) {
             let types = Use::parse(alloc, lexer)?;
@@ -195,7 +195,7 @@ impl<'a> Parse<'a> for InterfaceDecl<'a> {
 
     ghost rule = { grammar.interface_decl };
 
-    #[tactic(auto, using(crate::proofs::Behind::places), unfolding(wac_parser_grammar::specs::Worlds::interface_decl, wac_parser_grammar::specs::Worlds::interface_items))]
+    #[tactic(auto, using(wac_parser_terms::proofs::Behind::places), unfolding(wac_parser_grammar::specs::Worlds::interface_decl, wac_parser_grammar::specs::Worlds::interface_items))]
     fn parse(alloc: Global, lexer: &mut Lexer<'a>) -> ParseResult<InterfaceDecl<'a>> {
         let docs = doc_comments(alloc, lexer)?;
         parse_token(lexer, Token::InterfaceKeyword)?;
@@ -222,7 +222,7 @@ impl<'a> Parse<'a> for InlineInterface<'a> {
 
     ghost rule = { grammar.inline_interface };
 
-    #[tactic(auto, using(crate::proofs::Behind::places), unfolding(wac_parser_grammar::specs::Worlds::inline_interface, wac_parser_grammar::specs::Worlds::interface_items))]
+    #[tactic(auto, using(wac_parser_terms::proofs::Behind::places), unfolding(wac_parser_grammar::specs::Worlds::inline_interface, wac_parser_grammar::specs::Worlds::interface_items))]
     fn parse(alloc: Global, lexer: &mut Lexer<'a>) -> ParseResult<InlineInterface<'a>> {
         parse_token(lexer, Token::InterfaceKeyword)?;
         let items = braced(alloc, lexer, false)?;

@@ -9,13 +9,11 @@ ghost use Rattle.wac_parser_grammar.specs.Reads.{Reads};
 ghost use Rattle.wac_parser_grammar.specs.Ahead as ahead;
 ghost use Rattle.wac_parser_grammar.specs.Documents as grammar;
 
-use crate::base::{ended, parse_token};
-use crate::lookahead::Lookahead;
 use crate::parse::{Parse, Peek};
-use crate::text::{doc_comments, ident};
 use std::alloc::Global;
 use wac_parser_grammar::ParseResult;
 use wac_parser_lexer::{Lexer, Token};
+use wac_parser_terms::{Lookahead, doc_comments, ended, ident, parse_token};
 use wac_parser_tree::{Expr, LetStatement};
 
 impl<'a> Peek for LetStatement<'a> {
@@ -35,7 +33,7 @@ impl<'a> Parse<'a> for LetStatement<'a> {
 
     ghost rule = { grammar.let_statement };
 
-    #[tactic(auto, using(crate::proofs::Behind::places), unfolding(wac_parser_grammar::specs::Documents::let_statement))]
+    #[tactic(auto, using(wac_parser_terms::proofs::Behind::places), unfolding(wac_parser_grammar::specs::Documents::let_statement))]
     fn parse(alloc: Global, lexer: &mut Lexer<'a>) -> ParseResult<LetStatement<'a>> {
         let docs = doc_comments(alloc, lexer)?;
         parse_token(lexer, Token::LetKeyword)?;

@@ -1,5 +1,5 @@
 //! What can be parsed, and lists of it.
-#![tactic(auto, using(crate::proofs::Behind::places))]
+#![tactic(auto, using(wac_parser_terms::proofs::Behind::places))]
 
 ghost use Rattle.wac_parser_grammar.specs.Places.{IsBehind};
 ghost use Rattle.std.specs.Prelude.{◌≡◌, ◌∷◌, [], ◌<◌, ◌≤◌, Bool, false, true, OnOk, OnErr, IfErr, if◌then◌else◌, List, map};
@@ -12,11 +12,10 @@ ghost use Rattle.std.specs.Option.{option_map};
 ghost use Rattle.wac_parser_grammar.specs.Reads.{Reads};
 ghost use Rattle.wac_parser_grammar.specs.Declarations.{body};
 
-use crate::base::{behind, optional, parse_token, sees};
-use crate::lookahead::Lookahead;
 use std::alloc::Global;
 use wac_parser_grammar::{Error, ParseResult};
 use wac_parser_lexer::{Lexer, Token};
+use wac_parser_terms::{Lookahead, behind, optional, parse_token, sees};
 
 /// A part of a document that is known by its first token.
 pub trait Peek {

@@ -5,20 +5,18 @@ ghost use Rattle.std.specs.Prelude.{◌≡◌, ◌∷◌, [], ◌<◌, ◌≤◌
 ghost use Rattle.wac_parser_lexer.specs.declared.token.Token.TheVariants as k;
 ghost use Rattle.wac_parser_tree.specs.Trees as t;
 ghost use Rattle.wac_parser_tree.specs.Views.{view_constructor, view_method, view_resource_method, view_resource_decl};
-ghost use Rattle.wac_parser_read.specs.Views.{view_all};
+ghost use Rattle.wac_parser_terms.specs.Views.{view_all};
 ghost use Rattle.wac_parser_grammar.specs.Rules.{left};
 ghost use Rattle.wac_parser_grammar.specs.Reads.{Reads};
 ghost use Rattle.wac_parser_grammar.specs.Ahead as ahead;
 ghost use Rattle.wac_parser_grammar.specs.Declarations as grammar;
 
-use crate::base::{ended, none_of, parse_token, sees};
-use crate::lookahead::Lookahead;
 use crate::parse::{Parse, Peek, braced};
-use crate::text::{doc_comments, ident};
 use crate::value_type::func_params;
 use std::alloc::Global;
 use wac_parser_grammar::ParseResult;
 use wac_parser_lexer::{Lexer, Token};
+use wac_parser_terms::{Lookahead, doc_comments, ended, ident, none_of, parse_token, sees};
 use wac_parser_tree::{Constructor, FuncType, Method, ResourceDecl, ResourceMethod};
 
 /// The tokens with which a method begins.
@@ -41,7 +39,7 @@ impl<'a> Parse<'a> for Constructor<'a> {
 
     ghost rule = { grammar.constructor };
 
-    #[tactic(auto, using(crate::proofs::Behind::places), unfolding(wac_parser_grammar::specs::Declarations::constructor))]
+    #[tactic(auto, using(wac_parser_terms::proofs::Behind::places), unfolding(wac_parser_grammar::specs::Declarations::constructor))]
     fn parse(alloc: Global, lexer: &mut Lexer<'a>) -> ParseResult<Constructor<'a>> {
         let docs = doc_comments(alloc, lexer)?;
         let span = parse_token(lexer, Token::ConstructorKeyword)?;
@@ -52,7 +50,7 @@ impl<'a> Parse<'a> for Constructor<'a> {
 }
 
 /// Takes `static` where it comes next, and answers whether it did.
-#[tactic(auto, using(crate::proofs::Behind::places), unfolding(wac_parser_grammar::specs::Declarations::static_mark))]
+#[tactic(auto, using(wac_parser_terms::proofs::Behind::places), unfolding(wac_parser_grammar::specs::Declarations::static_mark))]
 fn static_mark(lexer: &mut Lexer<'_>) -> ParseResult<bool>
     ensures value { Reads (λ x. x) grammar.static_mark lexer.old result lexer.new }
     ensures keeps { OnOk result (left lexer.new ≤ left lexer.old) }
@@ -82,7 +80,7 @@ impl<'a> Parse<'a> for Method<'a> {
 
     ghost rule = { grammar.method };
 
-    #[tactic(auto, using(crate::proofs::Behind::places), unfolding(wac_parser_grammar::specs::Declarations::method))]
+    #[tactic(auto, using(wac_parser_terms::proofs::Behind::places), unfolding(wac_parser_grammar::specs::Declarations::method))]
     fn parse(alloc: Global, lexer: &mut Lexer<'a>) -> ParseResult<Method<'a>> {
         let docs = doc_comments(alloc, lexer)?;
         let id = ident(lexer)?;
@@ -115,7 +113,7 @@ impl<'a> Parse<'a> for ResourceMethod<'a> {
 
     ghost rule = { grammar.resource_method };
 
-    #[tactic(auto, using(crate::proofs::Behind::places), unfolding(wac_parser_grammar::specs::Declarations::resource_method))]
+    #[tactic(auto, using(wac_parser_terms::proofs::Behind::places), unfolding(wac_parser_grammar::specs::Declarations::resource_method))]
     fn parse(alloc: Global, lexer: &mut Lexer<'a>) -> ParseResult<ResourceMethod<'a>> {
         if sees(lexer, Token::ConstructorKeyword) {
             return Ok(ResourceMethod::Constructor(Constructor::parse(alloc, lexer)?));
@@ -128,7 +126,7 @@ impl<'a> Parse<'a> for ResourceMethod<'a> {
 }
 
 /// A semicolon, or methods in braces.
-#[tactic(auto, using(crate::proofs::Behind::places), unfolding(wac_parser_grammar::specs::Declarations::resource_methods))]
+#[tactic(auto, using(wac_parser_terms::proofs::Behind::places), unfolding(wac_parser_grammar::specs::Declarations::resource_methods))]
 fn resource_methods<'a>(
     alloc: Global,
     lexer: &mut Lexer<'a>,
@@ -164,7 +162,7 @@ impl<'a> Parse<'a> for ResourceDecl<'a> {
 
     ghost rule = { grammar.resource_decl };
 
-    #[tactic(auto, using(crate::proofs::Behind::places), unfolding(wac_parser_grammar::specs::Declarations::resource_decl))]
+    #[tactic(auto, using(wac_parser_terms::proofs::Behind::places), unfolding(wac_parser_grammar::specs::Declarations::resource_decl))]
     fn parse(alloc: Global, lexer: &mut Lexer<'a>) -> ParseResult<ResourceDecl<'a>> {
         let docs = doc_comments(alloc, lexer)?;
         parse_token(lexer, Token::ResourceKeyword)?;
