@@ -1,29 +1,24 @@
 //! Expressions and their parts.
-#![tactic(auto, using(wac_parser_terms::proofs::Behind::places))]
+#![tactic(auto, using(wac_parser_terms::proofs::Places::places))]
 
 ghost use Rattle.wac_parser_grammar.specs.Places.{IsBehind};
-ghost use Rattle.std.specs.Prelude.{◌≡◌, ◌∷◌, [], ◌<◌, ◌≤◌, OnOk};
-ghost use Rattle.wac_parser_lexer.specs.declared.token.Token.TheVariants as k;
+ghost use Rattle.std.specs.Prelude.{◌≡◌, ◌<◌, ◌≤◌, OnOk};
 ghost use Rattle.wac_parser_tree.specs.Trees as t;
 ghost use Rattle.wac_parser_tree.specs.Views.{view_expr, view_primary_expr, view_new_expr, view_nested_expr, view_instantiation_argument, view_named_instantiation_argument, view_instantiation_argument_name, view_access_expr, view_named_access_expr};
-ghost use Rattle.wac_parser_grammar.specs.Ahead as ahead;
 ghost use Rattle.wac_parser_grammar.specs.Expressions as grammar;
 
-use crate::parse::{Parse, Peek};
+use crate::parse::Parse;
 use std::alloc::Global;
 use wac_parser_grammar::ParseResult;
 use wac_parser_lexer::{Lexer, Token};
 use wac_parser_terms::{
-    ARGUMENT_FIRST, Lookahead, MAX_LEVELS, access_expr, argument_value, expr_within,
-    instantiation_argument, named_access_expr, nested_expr, new_expr, none_of, primary_expr, sees,
+    MAX_LEVELS, NAME_FIRST, access_expr, argument_value, expr_within, instantiation_argument,
+    named_access_expr, nested_expr, new_expr, none_of, primary_expr, sees,
 };
 use wac_parser_tree::{
     AccessExpr, Expr, Ident, InstantiationArgument, InstantiationArgumentName, NamedAccessExpr,
     NamedInstantiationArgument, NestedExpr, NewExpr, PrimaryExpr, String,
 };
-
-/// The tokens with which a name begins that may be a string.
-pub(crate) const NAME_FIRST: [Token; 2] = [Token::Ident, Token::String];
 
 impl<'a> Parse<'a> for Expr<'a> {
     ghost Plain = { t.Expr };
@@ -32,7 +27,7 @@ impl<'a> Parse<'a> for Expr<'a> {
 
     ghost rule = { grammar.expression };
 
-    #[tactic(auto, using(wac_parser_terms::proofs::Behind::places), unfolding(wac_parser_grammar::specs::Expressions::expression))]
+    #[tactic(auto, using(wac_parser_terms::proofs::Places::places), unfolding(wac_parser_grammar::specs::Expressions::expression))]
     fn parse(alloc: Global, lexer: &mut Lexer<'a>) -> ParseResult<Expr<'a>> {
         expr_within(alloc, lexer, MAX_LEVELS)
     }
@@ -50,16 +45,6 @@ impl<'a> Parse<'a> for PrimaryExpr<'a> {
     }
 }
 
-impl<'a> Peek for NewExpr<'a> {
-    ghost first = { k.NewKeyword ∷ [] };
-
-    fn peek(lookahead: &mut Lookahead) -> bool
-        ensures { ahead.Tries (k.NewKeyword ∷ []) lookahead.old result lookahead.new }
-    {
-        lookahead.peek(Token::NewKeyword)
-    }
-}
-
 impl<'a> Parse<'a> for NewExpr<'a> {
     ghost Plain = { t.NewExpr };
 
@@ -69,16 +54,6 @@ impl<'a> Parse<'a> for NewExpr<'a> {
 
     fn parse(alloc: Global, lexer: &mut Lexer<'a>) -> ParseResult<NewExpr<'a>> {
         new_expr(alloc, lexer, MAX_LEVELS - 1)
-    }
-}
-
-impl<'a> Peek for NestedExpr<'a> {
-    ghost first = { k.OpenParen ∷ [] };
-
-    fn peek(lookahead: &mut Lookahead) -> bool
-        ensures { ahead.Tries (k.OpenParen ∷ []) lookahead.old result lookahead.new }
-    {
-        lookahead.peek(Token::OpenParen)
     }
 }
 
@@ -94,16 +69,6 @@ impl<'a> Parse<'a> for NestedExpr<'a> {
     }
 }
 
-impl<'a> Peek for InstantiationArgument<'a> {
-    ghost first = { grammar.argument_first };
-
-    fn peek(lookahead: &mut Lookahead) -> bool
-        ensures { ahead.Tries (grammar.argument_first) lookahead.old result lookahead.new }
-    {
-        lookahead.peek_any(&ARGUMENT_FIRST)
-    }
-}
-
 impl<'a> Parse<'a> for InstantiationArgument<'a> {
     ghost Plain = { t.InstantiationArgument };
 
@@ -116,16 +81,6 @@ impl<'a> Parse<'a> for InstantiationArgument<'a> {
     }
 }
 
-impl<'a> Peek for NamedInstantiationArgument<'a> {
-    ghost first = { grammar.name_first };
-
-    fn peek(lookahead: &mut Lookahead) -> bool
-        ensures { ahead.Tries (grammar.name_first) lookahead.old result lookahead.new }
-    {
-        lookahead.peek_any(&NAME_FIRST)
-    }
-}
-
 impl<'a> Parse<'a> for NamedInstantiationArgument<'a> {
     ghost Plain = { t.NamedInstantiationArgument };
 
@@ -133,20 +88,10 @@ impl<'a> Parse<'a> for NamedInstantiationArgument<'a> {
 
     ghost rule = { grammar.named_argument (grammar.expr 127) };
 
-    #[tactic(auto, using(wac_parser_terms::proofs::Behind::places), unfolding(wac_parser_grammar::specs::Expressions::named_argument))]
+    #[tactic(auto, using(wac_parser_terms::proofs::Places::places), unfolding(wac_parser_grammar::specs::Expressions::named_argument))]
     fn parse(alloc: Global, lexer: &mut Lexer<'a>) -> ParseResult<NamedInstantiationArgument<'a>> {
         let name = InstantiationArgumentName::parse(alloc, lexer)?;
         argument_value(alloc, lexer, name, MAX_LEVELS - 1)
-    }
-}
-
-impl<'a> Peek for InstantiationArgumentName<'a> {
-    ghost first = { grammar.name_first };
-
-    fn peek(lookahead: &mut Lookahead) -> bool
-        ensures { ahead.Tries (grammar.name_first) lookahead.old result lookahead.new }
-    {
-        lookahead.peek_any(&NAME_FIRST)
     }
 }
 
@@ -157,7 +102,7 @@ impl<'a> Parse<'a> for InstantiationArgumentName<'a> {
 
     ghost rule = { grammar.argument_name };
 
-    #[tactic(auto, using(wac_parser_terms::proofs::Behind::places), unfolding(wac_parser_grammar::specs::Expressions::argument_name))]
+    #[tactic(auto, using(wac_parser_terms::proofs::Places::places), unfolding(wac_parser_grammar::specs::Expressions::argument_name))]
     fn parse(alloc: Global, lexer: &mut Lexer<'a>) -> ParseResult<InstantiationArgumentName<'a>> {
         if sees(lexer, Token::Ident) {
             return Ok(InstantiationArgumentName::Ident(Ident::parse(alloc, lexer)?));
@@ -166,16 +111,6 @@ impl<'a> Parse<'a> for InstantiationArgumentName<'a> {
             return Ok(InstantiationArgumentName::String(String::parse(alloc, lexer)?));
         }
         Err(none_of(lexer, &NAME_FIRST))
-    }
-}
-
-impl<'a> Peek for AccessExpr<'a> {
-    ghost first = { k.Dot ∷ [] };
-
-    fn peek(lookahead: &mut Lookahead) -> bool
-        ensures { ahead.Tries (k.Dot ∷ []) lookahead.old result lookahead.new }
-    {
-        lookahead.peek(Token::Dot)
     }
 }
 
@@ -188,16 +123,6 @@ impl<'a> Parse<'a> for AccessExpr<'a> {
 
     fn parse(_alloc: Global, lexer: &mut Lexer<'a>) -> ParseResult<AccessExpr<'a>> {
         access_expr(lexer)
-    }
-}
-
-impl<'a> Peek for NamedAccessExpr<'a> {
-    ghost first = { k.OpenBracket ∷ [] };
-
-    fn peek(lookahead: &mut Lookahead) -> bool
-        ensures { ahead.Tries (k.OpenBracket ∷ []) lookahead.old result lookahead.new }
-    {
-        lookahead.peek(Token::OpenBracket)
     }
 }
 

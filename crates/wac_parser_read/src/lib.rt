@@ -15,6 +15,6 @@ mod value_type;
 mod world;
 
 pub use document::ParseDocument;
-pub use parse::{Parse, Peek, parse_delimited, parse_optional};
+pub use parse::{Parse, parse_delimited, parse_optional};
 pub use wac_parser_grammar::{DeclaredType, Error, MemberKind, ParseResult};
-pub use wac_parser_terms::{Lookahead, MAX_LEVELS, parse_optional_payload, parse_token};
+pub use wac_parser_terms::{Lookahead, MAX_LEVELS, Peek, parse_optional_payload, parse_token};

@@ -1,30 +1,18 @@
 //! Names, strings and paths.
-#![tactic(auto, using(wac_parser_terms::proofs::Behind::places))]
+#![tactic(auto, using(wac_parser_terms::proofs::Places::places))]
 
 ghost use Rattle.wac_parser_grammar.specs.Places.{IsBehind};
-ghost use Rattle.std.specs.Prelude.{◌≡◌, ◌∷◌, [], ◌<◌, ◌≤◌, OnOk};
-ghost use Rattle.wac_parser_lexer.specs.declared.token.Token.TheVariants as k;
+ghost use Rattle.std.specs.Prelude.{◌≡◌, ◌<◌, ◌≤◌, OnOk};
 ghost use Rattle.wac_parser_tree.specs.Trees as t;
 ghost use Rattle.wac_parser_tree.specs.Views.{view_ident, view_string, view_package_name, view_package_path};
-ghost use Rattle.wac_parser_grammar.specs.Ahead as ahead;
 ghost use Rattle.wac_parser_grammar.specs.Names as grammar;
 
-use crate::parse::{Parse, Peek};
+use crate::parse::Parse;
 use std::alloc::Global;
 use wac_parser_grammar::ParseResult;
 use wac_parser_lexer::{Lexer, Token};
-use wac_parser_terms::{Lookahead, ident, package_name, package_path, string};
+use wac_parser_terms::{ident, package_name, package_path, string};
 use wac_parser_tree::{Ident, PackageName, PackagePath, String};
-
-impl<'a> Peek for Ident<'a> {
-    ghost first = { k.Ident ∷ [] };
-
-    fn peek(lookahead: &mut Lookahead) -> bool
-        ensures { ahead.Tries (k.Ident ∷ []) lookahead.old result lookahead.new }
-    {
-        lookahead.peek(Token::Ident)
-    }
-}
 
 impl<'a> Parse<'a> for Ident<'a> {
     ghost Plain = { t.Ident };
@@ -35,16 +23,6 @@ impl<'a> Parse<'a> for Ident<'a> {
 
     fn parse(_alloc: Global, lexer: &mut Lexer<'a>) -> ParseResult<Ident<'a>> {
         ident(lexer)
-    }
-}
-
-impl<'a> Peek for String<'a> {
-    ghost first = { k.String ∷ [] };
-
-    fn peek(lookahead: &mut Lookahead) -> bool
-        ensures { ahead.Tries (k.String ∷ []) lookahead.old result lookahead.new }
-    {
-        lookahead.peek(Token::String)
     }
 }
 

@@ -1,4 +1,4 @@
-pub mod Behind
+pub mod Places
 pub mod Tried
 pub mod TextLaws
 pub mod Types

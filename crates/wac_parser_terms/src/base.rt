@@ -16,7 +16,7 @@ use wac_parser_lexer::{Lexer, SourceSpan, Token};
 /// The fault where this token is missing. The item that stands there is taken.
 #[cold]
 #[inline(never)]
-#[tactic(auto, using(crate::proofs::Behind::places), unfolding(wac_parser_grammar::specs::Ahead::missed))]
+#[tactic(auto, using(crate::proofs::Places::places), unfolding(wac_parser_grammar::specs::Ahead::missed))]
 fn missed(lexer: &mut Lexer<'_>, expected: Token) -> Error
     ensures fault { fault_of result ≡ ahead.missed expected lexer.old }
     ensures goes_on { IsBehind lexer.new lexer.old }
@@ -37,7 +37,7 @@ fn missed(lexer: &mut Lexer<'_>, expected: Token) -> Error
 }
 
 /// Takes the next item, which must be this token, and gives its span.
-#[tactic(auto, using(crate::proofs::Behind::places))]
+#[tactic(auto, using(crate::proofs::Places::places))]
 pub fn parse_token(lexer: &mut Lexer<'_>, expected: Token) -> ParseResult<SourceSpan>
     ensures value { Reads (λ x. x) (rules.token expected) lexer.old result lexer.new }
     ensures within { IfOk result (λ span. IsSpanIn lexer.new.source span) }
@@ -52,7 +52,7 @@ pub fn parse_token(lexer: &mut Lexer<'_>, expected: Token) -> ParseResult<Source
 
 /// The value before this token, which is taken.
 #[inline(always)]
-#[tactic(auto, using(crate::proofs::Behind::places, crate::proofs::Tokens::taken_span))]
+#[tactic(auto, using(crate::proofs::Places::places, crate::proofs::Tokens::taken_span))]
 pub fn ended<T: Drop>(value: T, lexer: &mut Lexer<'_>, end: Token) -> ParseResult<T>
     ensures read { Reads (λ x. rules.span_of_items lexer.old.items) (rules.token end) lexer.old result lexer.new }
     ensures same { IfOk result (λ x. x ≡ value) }
@@ -158,7 +158,7 @@ fn absent(lexer: &Lexer<'_>) -> ParseResult<bool>
 }
 
 /// Takes the token where it comes next, and answers whether it did; a faulty item is refused.
-#[tactic(auto, using(crate::proofs::Behind::places))]
+#[tactic(auto, using(crate::proofs::Places::places))]
 pub fn optional(lexer: &mut Lexer<'_>, token: Token) -> ParseResult<bool>
     ensures value { Reads (λ x. x) (rules.optional token) lexer.old result lexer.new }
     ensures keeps { OnOk result (rules.left lexer.new ≤ rules.left lexer.old) }
@@ -171,7 +171,7 @@ pub fn optional(lexer: &mut Lexer<'_>, token: Token) -> ParseResult<bool>
 }
 
 /// Takes what stands behind a value of a list.
-#[tactic(auto, using(crate::proofs::Behind::places), unfolding(wac_parser_grammar::specs::Rules::behind))]
+#[tactic(auto, using(crate::proofs::Places::places), unfolding(wac_parser_grammar::specs::Rules::behind))]
 pub fn behind(lexer: &mut Lexer<'_>, until: Token, with_commas: bool) -> ParseResult<()>
     ensures value { Reads (λ x. x) (rules.behind until with_commas) lexer.old result lexer.new }
     ensures keeps { OnOk result (rules.left lexer.new ≤ rules.left lexer.old) }

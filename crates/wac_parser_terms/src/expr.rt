@@ -1,5 +1,5 @@
 //! Expressions.
-#![tactic(auto, using(crate::proofs::Behind::places))]
+#![tactic(auto, using(crate::proofs::Places::places))]
 
 ghost use Rattle.wac_parser_grammar.specs.Places.{IsBehind};
 ghost use Rattle.std.specs.Prelude.{◌≡◌, ◌∷◌, [], ◌+◌, ◌<◌, ◌≤◌, ◌^◌, true, map, IfOk, OnOk};
@@ -46,7 +46,7 @@ pub fn expr_within<'a>(alloc: Global, lexer: &mut Lexer<'a>, levels: usize) -> P
 }
 
 #[cycle(expr)]
-#[tactic(auto, using(crate::proofs::Behind::places), unfolding(wac_parser_grammar::specs::Expressions::expr_level))]
+#[tactic(auto, using(crate::proofs::Places::places), unfolding(wac_parser_grammar::specs::Expressions::expr_level))]
 fn expr_level<'a>(alloc: Global, lexer: &mut Lexer<'a>, inside: usize) -> ParseResult<Expr<'a>>
     ensures value { Reads view_expr (grammar.expr_level (grammar.expr inside)) lexer.old result lexer.new }
     ensures takes { OnOk result (left lexer.new < left lexer.old) }
@@ -62,7 +62,7 @@ fn expr_level<'a>(alloc: Global, lexer: &mut Lexer<'a>, inside: usize) -> ParseR
 }
 
 #[cycle(expr)]
-#[tactic(auto, using(crate::proofs::Behind::places), unfolding(wac_parser_grammar::specs::Expressions::primary_expr))]
+#[tactic(auto, using(crate::proofs::Places::places), unfolding(wac_parser_grammar::specs::Expressions::primary_expr))]
 pub fn primary_expr<'a>(
     alloc: Global,
     lexer: &mut Lexer<'a>,
@@ -85,7 +85,7 @@ pub fn primary_expr<'a>(
 }
 
 #[cycle(expr)]
-#[tactic(auto, using(crate::proofs::Behind::places), unfolding(wac_parser_grammar::specs::Expressions::nested_expr))]
+#[tactic(auto, using(crate::proofs::Places::places), unfolding(wac_parser_grammar::specs::Expressions::nested_expr))]
 pub fn nested_expr<'a>(
     alloc: Global,
     lexer: &mut Lexer<'a>,
@@ -105,7 +105,7 @@ pub fn nested_expr<'a>(
 }
 
 #[cycle(expr)]
-#[tactic(auto, using(crate::proofs::Behind::places), unfolding(wac_parser_grammar::specs::Expressions::new_expr))]
+#[tactic(auto, using(crate::proofs::Places::places), unfolding(wac_parser_grammar::specs::Expressions::new_expr))]
 pub fn new_expr<'a>(alloc: Global, lexer: &mut Lexer<'a>, inside: usize) -> ParseResult<NewExpr<'a>>
     ensures value { Reads view_new_expr (grammar.new_expr (grammar.expr inside)) lexer.old result lexer.new }
     ensures takes { OnOk result (left lexer.new < left lexer.old) }
@@ -144,7 +144,7 @@ fn arguments<'a>(
 }
 
 #[cycle(expr)]
-#[tactic(auto, using(crate::proofs::Behind::places), unfolding(wac_parser_grammar::specs::Expressions::instantiation_argument))]
+#[tactic(auto, using(crate::proofs::Places::places), unfolding(wac_parser_grammar::specs::Expressions::instantiation_argument))]
 pub fn instantiation_argument<'a>(
     alloc: Global,
     lexer: &mut Lexer<'a>,
@@ -167,7 +167,7 @@ pub fn instantiation_argument<'a>(
 }
 
 /// `...`, with an identifier behind it or not.
-#[tactic(auto, using(crate::proofs::Behind::places), unfolding(wac_parser_grammar::specs::Expressions::spread_or_fill))]
+#[tactic(auto, using(crate::proofs::Places::places), unfolding(wac_parser_grammar::specs::Expressions::spread_or_fill))]
 fn spread_or_fill<'a>(lexer: &mut Lexer<'a>) -> ParseResult<InstantiationArgument<'a>>
     ensures value { Reads view_instantiation_argument grammar.spread_or_fill lexer.old result lexer.new }
     ensures takes { OnOk result (left lexer.new < left lexer.old) }
@@ -182,7 +182,7 @@ fn spread_or_fill<'a>(lexer: &mut Lexer<'a>) -> ParseResult<InstantiationArgumen
 
 /// An identifier, which a colon makes the name of an argument.
 #[cycle(expr)]
-#[tactic(auto, using(crate::proofs::Behind::places), unfolding(wac_parser_grammar::specs::Expressions::ident_argument))]
+#[tactic(auto, using(crate::proofs::Places::places), unfolding(wac_parser_grammar::specs::Expressions::ident_argument))]
 fn ident_argument<'a>(
     alloc: Global,
     lexer: &mut Lexer<'a>,
@@ -202,7 +202,7 @@ fn ident_argument<'a>(
 
 /// A string, which only a colon makes an argument.
 #[cycle(expr)]
-#[tactic(auto, using(crate::proofs::Behind::places), unfolding(wac_parser_grammar::specs::Expressions::string_argument))]
+#[tactic(auto, using(crate::proofs::Places::places), unfolding(wac_parser_grammar::specs::Expressions::string_argument))]
 fn string_argument<'a>(
     alloc: Global,
     lexer: &mut Lexer<'a>,
@@ -226,7 +226,7 @@ fn string_argument<'a>(
 
 /// The colon and the expression behind the name of an argument.
 #[cycle(expr)]
-#[tactic(auto, using(crate::proofs::Behind::places), unfolding(wac_parser_grammar::specs::Expressions::argument_value))]
+#[tactic(auto, using(crate::proofs::Places::places), unfolding(wac_parser_grammar::specs::Expressions::argument_value))]
 pub fn argument_value<'a>(
     alloc: Global,
     lexer: &mut Lexer<'a>,
@@ -242,7 +242,7 @@ pub fn argument_value<'a>(
     Ok(NamedInstantiationArgument { name, expr })
 }
 
-#[tactic(auto, using(crate::proofs::Behind::places), unfolding(wac_parser_grammar::specs::Expressions::postfix_expr))]
+#[tactic(auto, using(crate::proofs::Places::places), unfolding(wac_parser_grammar::specs::Expressions::postfix_expr))]
 fn postfix_expr<'a>(lexer: &mut Lexer<'a>) -> ParseResult<PostfixExpr<'a>>
     ensures value { Reads view_postfix_expr grammar.postfix_expr lexer.old result lexer.new }
     ensures small { IfOk result (λ p. (postfix_expr_span (view_postfix_expr p)).offset + (postfix_expr_span (view_postfix_expr p)).length < 2 ^ 64) }
@@ -255,7 +255,7 @@ fn postfix_expr<'a>(lexer: &mut Lexer<'a>) -> ParseResult<PostfixExpr<'a>>
     Ok(PostfixExpr::NamedAccess(named_access_expr(lexer)?))
 }
 
-#[tactic(auto, using(crate::proofs::Behind::places), unfolding(wac_parser_grammar::specs::Expressions::access_expr))]
+#[tactic(auto, using(crate::proofs::Places::places), unfolding(wac_parser_grammar::specs::Expressions::access_expr))]
 pub fn access_expr<'a>(lexer: &mut Lexer<'a>) -> ParseResult<AccessExpr<'a>>
     ensures value { Reads view_access_expr grammar.access_expr lexer.old result lexer.new }
     ensures small { IfOk result (λ p. p.span.offset + p.span.length < 2 ^ 64) }
@@ -270,7 +270,7 @@ pub fn access_expr<'a>(lexer: &mut Lexer<'a>) -> ParseResult<AccessExpr<'a>>
     })
 }
 
-#[tactic(auto, using(crate::proofs::Behind::places), unfolding(wac_parser_grammar::specs::Expressions::named_access_expr))]
+#[tactic(auto, using(crate::proofs::Places::places), unfolding(wac_parser_grammar::specs::Expressions::named_access_expr))]
 pub fn named_access_expr<'a>(lexer: &mut Lexer<'a>) -> ParseResult<NamedAccessExpr<'a>>
     ensures value { Reads view_named_access_expr grammar.named_access_expr lexer.old result lexer.new }
     ensures small { IfOk result (λ p. p.span.offset + p.span.length < 2 ^ 64) }

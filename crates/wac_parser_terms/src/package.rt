@@ -88,7 +88,7 @@ fn version_of(
 }
 
 /// The name of a package, with its version.
-#[tactic(auto, using(crate::proofs::Behind::places), unfolding(wac_parser_grammar::specs::Names::package_name, wac_parser_grammar::specs::Names::version_of))]
+#[tactic(auto, using(crate::proofs::Places::places), unfolding(wac_parser_grammar::specs::Names::package_name, wac_parser_grammar::specs::Names::version_of))]
 pub fn package_name<'a>(alloc: Global, lexer: &mut Lexer<'a>) -> ParseResult<PackageName<'a>>
     ensures value { Reads view_package_name grammar.package_name lexer.old result lexer.new }
     ensures takes { OnOk result (left lexer.new < left lexer.old) }
@@ -107,7 +107,7 @@ pub fn package_name<'a>(alloc: Global, lexer: &mut Lexer<'a>) -> ParseResult<Pac
 }
 
 /// A path into a package, with its version.
-#[tactic(auto, using(crate::proofs::Behind::places), unfolding(wac_parser_grammar::specs::Names::package_path, wac_parser_grammar::specs::Names::version_of))]
+#[tactic(auto, using(crate::proofs::Places::places), unfolding(wac_parser_grammar::specs::Names::package_path, wac_parser_grammar::specs::Names::version_of))]
 pub fn package_path<'a>(alloc: Global, lexer: &mut Lexer<'a>) -> ParseResult<PackagePath<'a>>
     ensures value { Reads view_package_path grammar.package_path lexer.old result lexer.new }
     ensures takes { OnOk result (left lexer.new < left lexer.old) }

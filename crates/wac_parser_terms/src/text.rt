@@ -1,5 +1,5 @@
 //! Names, strings and doc comments.
-#![tactic(auto, using(crate::proofs::Behind::places))]
+#![tactic(auto, using(crate::proofs::Places::places))]
 
 ghost use Rattle.wac_parser_grammar.specs.Places.{IsBehind};
 ghost use Rattle.std.specs.Prelude.{◌≡◌, ◌<◌, ◌+◌, ◌^◌, map, IfOk, OnOk};
@@ -69,7 +69,7 @@ fn strip_close(text: &str) -> &str
 }
 
 /// An identifier, whose span lies in the source.
-#[tactic(auto, using(crate::proofs::Behind::places), unfolding(wac_parser_grammar::specs::Names::ident))]
+#[tactic(auto, using(crate::proofs::Places::places), unfolding(wac_parser_grammar::specs::Names::ident))]
 pub fn ident<'a>(lexer: &mut Lexer<'a>) -> ParseResult<Ident<'a>>
     ensures value { Reads view_ident grammar.ident lexer.old result lexer.new }
     ensures small { IfOk result (λ id. id.span.offset + id.span.length < 2 ^ 64) }
@@ -84,7 +84,7 @@ pub fn ident<'a>(lexer: &mut Lexer<'a>) -> ParseResult<Ident<'a>>
 }
 
 /// A string.
-#[tactic(auto, using(crate::proofs::Behind::places), unfolding(wac_parser_grammar::specs::Names::string))]
+#[tactic(auto, using(crate::proofs::Places::places), unfolding(wac_parser_grammar::specs::Names::string))]
 pub fn string<'a>(lexer: &mut Lexer<'a>) -> ParseResult<String<'a>>
     ensures value { Reads view_string grammar.string lexer.old result lexer.new }
     ensures takes { OnOk result (left lexer.new < left lexer.old) }

@@ -1,5 +1,5 @@
 //! Types of values.
-#![tactic(auto, using(crate::proofs::Behind::places))]
+#![tactic(auto, using(crate::proofs::Places::places))]
 
 ghost use Rattle.wac_parser_grammar.specs.Places.{IsBehind};
 ghost use Rattle.std.specs.Prelude.{◌≡◌, ◌∷◌, [], ◌+◌, ◌<◌, ◌≤◌, ◌^◌, true, map, Option, OnOk, OnSome};
@@ -130,9 +130,19 @@ fn next_keyword_type<'a>(lexer: &mut Lexer<'a>) -> Option<Type<'a>>
     }
 }
 
+/// A type.
+#[tactic(auto, using(crate::proofs::Places::places), unfolding(wac_parser_grammar::specs::ValueTypes::value_type))]
+pub fn value_ty<'a>(alloc: Global, lexer: &mut Lexer<'a>) -> ParseResult<Type<'a>>
+    ensures value { Reads view_ty grammar.value_type lexer.old result lexer.new }
+    ensures takes { OnOk result (left lexer.new < left lexer.old) }
+    ensures goes_on { IsBehind lexer.new lexer.old }
+{
+    ty_within(alloc, lexer, MAX_LEVELS)
+}
+
 /// A type nested no deeper than so many levels.
 #[cycle(ty)]
-pub fn ty_within<'a>(alloc: Global, lexer: &mut Lexer<'a>, levels: usize) -> ParseResult<Type<'a>>
+fn ty_within<'a>(alloc: Global, lexer: &mut Lexer<'a>, levels: usize) -> ParseResult<Type<'a>>
     ensures value { Reads view_ty (grammar.ty levels) lexer.old result lexer.new }
     ensures takes { OnOk result (left lexer.new < left lexer.old) }
     ensures goes_on { IsBehind lexer.new lexer.old }
@@ -156,7 +166,7 @@ fn ty_level<'a>(alloc: Global, lexer: &mut Lexer<'a>, inside: usize) -> ParseRes
 }
 
 #[cycle(ty)]
-#[tactic(auto, using(crate::proofs::Behind::places), unfolding(wac_parser_grammar::specs::ValueTypes::composed_ty))]
+#[tactic(auto, using(crate::proofs::Places::places), unfolding(wac_parser_grammar::specs::ValueTypes::composed_ty))]
 fn composed_ty<'a>(alloc: Global, lexer: &mut Lexer<'a>, inside: usize) -> ParseResult<Type<'a>>
     ensures value { Reads view_ty (grammar.composed_ty (grammar.ty inside)) lexer.old result lexer.new }
     ensures takes { OnOk result (left lexer.new < left lexer.old) }
@@ -184,7 +194,7 @@ fn composed_ty<'a>(alloc: Global, lexer: &mut Lexer<'a>, inside: usize) -> Parse
 }
 
 #[cycle(ty)]
-#[tactic(auto, using(crate::proofs::Behind::places), unfolding(wac_parser_grammar::specs::ValueTypes::tuple_ty))]
+#[tactic(auto, using(crate::proofs::Places::places), unfolding(wac_parser_grammar::specs::ValueTypes::tuple_ty))]
 fn tuple_ty<'a>(alloc: Global, lexer: &mut Lexer<'a>, inside: usize) -> ParseResult<Type<'a>>
     ensures value { Reads view_ty (grammar.tuple_ty (grammar.ty inside)) lexer.old result lexer.new }
     ensures takes { OnOk result (left lexer.new < left lexer.old) }
@@ -217,7 +227,7 @@ fn types<'a>(alloc: Global, lexer: &mut Lexer<'a>, inside: usize) -> ParseResult
 }
 
 #[cycle(ty)]
-#[tactic(auto, using(crate::proofs::Behind::places), unfolding(wac_parser_grammar::specs::ValueTypes::list_ty))]
+#[tactic(auto, using(crate::proofs::Places::places), unfolding(wac_parser_grammar::specs::ValueTypes::list_ty))]
 fn list_ty<'a>(alloc: Global, lexer: &mut Lexer<'a>, inside: usize) -> ParseResult<Type<'a>>
     ensures value { Reads view_ty (grammar.list_ty (grammar.ty inside)) lexer.old result lexer.new }
     ensures takes { OnOk result (left lexer.new < left lexer.old) }
@@ -231,7 +241,7 @@ fn list_ty<'a>(alloc: Global, lexer: &mut Lexer<'a>, inside: usize) -> ParseResu
 }
 
 #[cycle(ty)]
-#[tactic(auto, using(crate::proofs::Behind::places), unfolding(wac_parser_grammar::specs::ValueTypes::option_ty))]
+#[tactic(auto, using(crate::proofs::Places::places), unfolding(wac_parser_grammar::specs::ValueTypes::option_ty))]
 fn option_ty<'a>(alloc: Global, lexer: &mut Lexer<'a>, inside: usize) -> ParseResult<Type<'a>>
     ensures value { Reads view_ty (grammar.option_ty (grammar.ty inside)) lexer.old result lexer.new }
     ensures takes { OnOk result (left lexer.new < left lexer.old) }
@@ -244,7 +254,7 @@ fn option_ty<'a>(alloc: Global, lexer: &mut Lexer<'a>, inside: usize) -> ParseRe
     Ok(Type::Option(ty, through(start, close)))
 }
 
-#[tactic(auto, using(crate::proofs::Behind::places), unfolding(wac_parser_grammar::specs::ValueTypes::borrow_ty))]
+#[tactic(auto, using(crate::proofs::Places::places), unfolding(wac_parser_grammar::specs::ValueTypes::borrow_ty))]
 fn borrow_ty<'a>(lexer: &mut Lexer<'a>) -> ParseResult<Type<'a>>
     ensures value { Reads view_ty grammar.borrow_ty lexer.old result lexer.new }
     ensures takes { OnOk result (left lexer.new < left lexer.old) }
@@ -270,7 +280,7 @@ fn boxed_ty<'a>(alloc: Global, lexer: &mut Lexer<'a>, inside: usize) -> ParseRes
 
 /// `_` or a type.
 #[cycle(ty)]
-#[tactic(auto, using(crate::proofs::Behind::places), unfolding(wac_parser_grammar::specs::ValueTypes::omitted_or))]
+#[tactic(auto, using(crate::proofs::Places::places), unfolding(wac_parser_grammar::specs::ValueTypes::omitted_or))]
 fn omitted_or<'a>(
     alloc: Global,
     lexer: &mut Lexer<'a>,
@@ -291,7 +301,7 @@ fn omitted_or<'a>(
 }
 
 #[cycle(ty)]
-#[tactic(auto, using(crate::proofs::Behind::places), unfolding(wac_parser_grammar::specs::ValueTypes::second_part))]
+#[tactic(auto, using(crate::proofs::Places::places), unfolding(wac_parser_grammar::specs::ValueTypes::second_part))]
 fn second_part<'a>(
     alloc: Global,
     lexer: &mut Lexer<'a>,
@@ -308,7 +318,7 @@ fn second_part<'a>(
 }
 
 #[cycle(ty)]
-#[tactic(auto, using(crate::proofs::Behind::places), unfolding(wac_parser_grammar::specs::ValueTypes::result_ty, wac_parser_grammar::specs::ValueTypes::result_parts))]
+#[tactic(auto, using(crate::proofs::Places::places), unfolding(wac_parser_grammar::specs::ValueTypes::result_ty, wac_parser_grammar::specs::ValueTypes::result_parts))]
 fn result_ty<'a>(alloc: Global, lexer: &mut Lexer<'a>, inside: usize) -> ParseResult<Type<'a>>
     ensures value { Reads view_ty (grammar.result_ty (grammar.ty inside)) lexer.old result lexer.new }
     ensures takes { OnOk result (left lexer.new < left lexer.old) }
@@ -334,7 +344,7 @@ fn result_ty<'a>(alloc: Global, lexer: &mut Lexer<'a>, inside: usize) -> ParseRe
 
 /// What stands behind a keyword: nothing, or a type in angles; and the span of all.
 #[cycle(ty)]
-#[tactic(auto, using(crate::proofs::Behind::places), unfolding(wac_parser_grammar::specs::ValueTypes::payload))]
+#[tactic(auto, using(crate::proofs::Places::places), unfolding(wac_parser_grammar::specs::ValueTypes::payload))]
 fn payload<'a>(
     alloc: Global,
     lexer: &mut Lexer<'a>,
@@ -355,7 +365,7 @@ fn payload<'a>(
 
 /// Takes the next item, a keyword, and what stands behind it: nothing, or a type in angles, which
 /// is given with the span of all.
-#[tactic(auto, using(crate::proofs::Behind::places), unfolding(wac_parser_grammar::specs::ValueTypes::value_type))]
+#[tactic(auto, using(crate::proofs::Places::places), unfolding(wac_parser_grammar::specs::ValueTypes::value_type))]
 pub fn parse_optional_payload<'a>(
     alloc: Global,
     lexer: &mut Lexer<'a>,
@@ -370,7 +380,7 @@ pub fn parse_optional_payload<'a>(
 }
 
 #[cycle(ty)]
-#[tactic(auto, using(crate::proofs::Behind::places), unfolding(wac_parser_grammar::specs::ValueTypes::stream_ty))]
+#[tactic(auto, using(crate::proofs::Places::places), unfolding(wac_parser_grammar::specs::ValueTypes::stream_ty))]
 fn stream_ty<'a>(alloc: Global, lexer: &mut Lexer<'a>, inside: usize) -> ParseResult<Type<'a>>
     ensures value { Reads view_ty (grammar.stream_ty (grammar.ty inside)) lexer.old result lexer.new }
     ensures takes { OnOk result (left lexer.new < left lexer.old) }
@@ -382,7 +392,7 @@ fn stream_ty<'a>(alloc: Global, lexer: &mut Lexer<'a>, inside: usize) -> ParseRe
 }
 
 #[cycle(ty)]
-#[tactic(auto, using(crate::proofs::Behind::places), unfolding(wac_parser_grammar::specs::ValueTypes::future_ty))]
+#[tactic(auto, using(crate::proofs::Places::places), unfolding(wac_parser_grammar::specs::ValueTypes::future_ty))]
 fn future_ty<'a>(alloc: Global, lexer: &mut Lexer<'a>, inside: usize) -> ParseResult<Type<'a>>
     ensures value { Reads view_ty (grammar.future_ty (grammar.ty inside)) lexer.old result lexer.new }
     ensures takes { OnOk result (left lexer.new < left lexer.old) }

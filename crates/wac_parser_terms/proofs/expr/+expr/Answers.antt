@@ -5,7 +5,7 @@ use Rattle.wac_parser_lexer.specs.declared.token.Token.TheVariants as k
 use Rattle.wac_parser_tree.specs.Views.{view_instantiation_argument}
 use Rattle.wac_parser_grammar.specs.Rules.{left}
 use Rattle.wac_parser_grammar.specs.Expressions.{expr, expr_first, argument_first, instantiation_argument}
-use Rattle.wac_parser_terms.proofs.Behind.{stays}
+use Rattle.wac_parser_terms.proofs.Places.{stays}
 use Rattle.wac_parser_grammar.proofs.Lists.{deeper, Rests-more, Rests-ends, Rests-begins_not, Rests-fails, Rests-fails_behind, begun_some}
 use Rattle.wac_parser_terms.proofs.Types.{too_deep_reads}
 use Rattle.wac_parser_terms.proofs.expr.+expr.Goals as goal

@@ -1,4 +1,4 @@
-use Rattle.std.proofs.Common.{ℕ, ◌<◌, rules, arith, length, get_or}
+use Rattle.std.proofs.Common.{◌<◌, rules, arith, length, get_or}
 use Rattle.std.proofs.lemmas.Grind.{common_steps}
 use Rattle.std.proofs.lemmas.Str.{IsCharBoundary-after_ascii}
 use Rattle.wac_parser_terms.proofs.text.strip_percent.Goals as goal

@@ -5,7 +5,7 @@ use Rattle.wac_parser_lexer.specs.declared.token.Token.TheVariants as k
 use Rattle.wac_parser_tree.specs.Views.{view_ty}
 use Rattle.wac_parser_grammar.specs.Rules.{left}
 use Rattle.wac_parser_grammar.specs.ValueTypes.{ty, ty_level, composed_ty, type_first}
-use Rattle.wac_parser_terms.proofs.Behind.{stays}
+use Rattle.wac_parser_terms.proofs.Places.{stays}
 use Rattle.wac_parser_grammar.proofs.Lists.{deeper, Rests-more, Rests-ends, Rests-begins_not, Rests-fails, Rests-fails_behind, begun_some}
 use Rattle.wac_parser_terms.proofs.Types.{too_deep_reads, taken_type, passed_type}
 use Rattle.wac_parser_terms.proofs.value_type.+ty.Goals as goal

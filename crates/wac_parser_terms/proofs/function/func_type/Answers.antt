@@ -1,4 +1,4 @@
-use Rattle.wac_parser_read.proofs.value_type.FuncTypeParse.parse.Goals as goal
+use Rattle.wac_parser_terms.proofs.function.func_type.Goals as goal
 use Rattle.wac_parser_grammar.proofs.Faithful.{behind_trans}
 
 pub returns-in_err-parse_token-clause-goes_on : goal.returns-in_err-parse_token-clause-goes_on
