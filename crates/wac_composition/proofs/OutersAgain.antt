@@ -30,6 +30,11 @@ identified_again x n w i = go (is_instance (kind_of x) && has_track n) refl
     go true e = instance_again x n w i (and_parts (is_instance (kind_of x)) (has_track n) e).0
     go false e = refl
 
+-- what is found already is not added
+already : (found : List (Name × Stated)) (o : Option (Name × Stated)) → ((n : Name) (x : Stated) → o ≡ Some (n, x) → value_at found n ≡ Some x) → with_new found o ≡ found
+already found None h = refl
+already found (Some o) h = ap (λ v. if is_some v then found else found ++ o ∷ []) (h o.0 o.1 refl)
+
 module _ {A : Type 0} where
   -- ---- the outer import of a class
 
@@ -61,10 +66,6 @@ module _ {A : Type 0} where
   outers_append : (asks : List (Ask A)) (found : List (Name × Stated)) (xs ys : List (Ask A)) → outers_from found asks (xs ++ ys) ≡ outers_from (outers_from found asks xs) asks ys
   outers_append asks found [] ys = refl
   outers_append asks found (x ∷ xs) ys = outers_append asks (with_new found (outer_of (class asks x))) xs ys
-
-  already : (found : List (Name × Stated)) (o : Option (Name × Stated)) → ((n : Name) (x : Stated) → o ≡ Some (n, x) → value_at found n ≡ Some x) → with_new found o ≡ found
-  already found None h = refl
-  already found (Some o) h = ap (λ v. if is_some v then found else found ++ o ∷ []) (h o.0 o.1 refl)
 
   module _ (before after : List (Ask A)) (a b : Ask A) (there : Among b before) (names : b.name ≡ a.name) (items : b.item ≡ a.item) (named : identifier_of a.item ≡ Some a.name) (v : (c : Ask A) → Among c before → IsWell c.item) where
     abbrev asks : List (Ask A)

@@ -64,8 +64,9 @@ asked_for by xs = filter_map (λ x. option_map (λ n. record { asking = ToUse; b
 abbrev pub named_asks : {A I : Type 0} → Composition A I → List (Ask A)
 named_asks c = map explicit_ask c.imports ++ flat_map filled_asks c.made
 
--- then those of used interfaces: of the asked types, and of definitions
+-- those of used interfaces: of the asked types, and of definitions
+abbrev pub asks_to_use : {A I : Type 0} → Composition A I → List (Ask A)
+asks_to_use c = flat_map (λ a. asked_for a.by (used_by a.item)) (named_asks c) ++ flat_map (λ d. asked_for d.by (used_by_definition d.item)) c.definitions
+
 abbrev pub asks_of : {A I : Type 0} → Composition A I → List (Ask A)
-asks_of c = named_asks c
-    ++ (flat_map (λ a. asked_for a.by (used_by a.item)) (named_asks c)
-    ++ flat_map (λ d. asked_for d.by (used_by_definition d.item)) c.definitions)
+asks_of c = named_asks c ++ asks_to_use c

@@ -1,14 +1,14 @@
 -- The world and the names of the classes of asks are the outer imports of the asks.
 use Rattle.std.specs.Map.{keys_of}
 use Rattle.std.specs.Option.{option_map}
-use Rattle.std.proofs.Common.{◌≡◌, ℕ, true, true≢false, List, [], map, is_some, Option, Some, None, Result, IfOk, slice_get, refl, sym, ap, subst, ◌∙◌}
+use Rattle.std.proofs.Common.{◌≡◌, ℕ, true, true≢false, List, [], map, is_some, Option, Some, None, Result, Ok, Err, IsOk, IfOk, IfErr, OnOk, slice_get, refl, sym, ap, subst, ◌∙◌}
 use Rattle.std.proofs.lemmas.Option.{none-some, same_Some, slice_get-map}
-use Rattle.std.proofs.lemmas.Result.{IfOk-weaker}
+use Rattle.std.proofs.lemmas.Result.{IfOk-weaker, on_ok_weaker}
 use Rattle.std.proofs.lemmas.List.{length-map}
 use Rattle.wac_types_base.specs.declared.ids.WorldId.{WorldId}
 use Rattle.wac_types_base.specs.declared.item.ItemKind.{ItemKind}
 use Rattle.wac_types_base.specs.Record.{Collection}
-use Rattle.wac_types_base.specs.Entries.{Name, names_of, values_of, value_at}
+use Rattle.wac_types_base.specs.Entries.{Name, value_at}
 use Rattle.wac_types_base.specs.Graph.{Among}
 use Rattle.wac_types_base.specs.Collection.{Stands, IsAcyclic, Grows}
 use Rattle.wac_types_base.specs.Stated.{Stated, stated_of}
@@ -26,16 +26,18 @@ use Rattle.wac_composition.specs.Merging.{kept as kept_of, identified}
 use Rattle.wac_composition.specs.Again.{IsWell}
 use Rattle.wac_composition.specs.OuterImports.{asked_in, outer_of, outer_imports}
 use Rattle.wac_composition.specs.OuterLaws.{IsMet}
+use Rattle.wac_composition.specs.Conflicts.{merge_conflict}
 use Rattle.wac_composition.proofs.OuterClasses.{asks_are_met}
 use Rattle.wac_composition.proofs.Lists.{mapped_among}
 use Rattle.wac_merging.specs.Named.{NamesDiffer}
-use Rattle.wac_merging.specs.Labelled.{each_label, labelled, LabelClasses}
+use Rattle.wac_merging.specs.Labelled.{each_label, LabelClasses}
 use Rattle.wac_merging.proofs.Labels.{class_is_labelled}
 use Rattle.wac_merging.proofs.Outers.{labels_are_of_classes, outers_are_stated}
 use Rattle.wac_merging.proofs.Well.{stated_are_well}
 use Rattle.wac_graph_asks.specs.declared.asks.Ask.{Ask as HeldAsk}
 use Rattle.wac_graph_asks.specs.declared.asks.Asked.{Asked}
 use Rattle.wac_graph_asks.specs.declared.classes.Classes.{Classes}
+use Rattle.wac_graph_asks.specs.declared.faults.OuterError.{OuterError}
 use Rattle.wac_graph_asks.specs.declared.outers.Outers.{Outers}
 use Rattle.wac_graph_asks.specs.declared.taken.Taken.{Taken}
 use Rattle.wac_graph_asks.specs.Graphs.{composition_of}
@@ -43,17 +45,19 @@ use Rattle.wac_graph_asks.specs.AsksIn.{ask_in, asks_in}
 use Rattle.wac_graph_asks.specs.Asked.{IsAsked, IsAskedOnce}
 use Rattle.wac_graph_asks.specs.AskedUses.{HasSame}
 use Rattle.wac_graph_asks.specs.Classed.{AreLabels, AreSpellings}
-use Rattle.wac_graph_asks.specs.Takes.{AreSound, AreTaken, TakesAll, AreMerged}
+use Rattle.wac_graph_asks.specs.Takes.{AreSound, AreTaken, TakesAll, AreMerged, IfConflict, RefusesAll, HasNoneLabelled, conflict_in, ConflictsFor, HasNoConflict}
 use Rattle.wac_graph_asks.specs.Imported.{AreImports, AreClassed, AddsImports, AreCalled, AddsNames, OutersOf}
-use Rattle.wac_graph_asks.specs.Outers.{IsCalled, AreOuters, IsOuters, AnswersOuters}
+use Rattle.wac_graph_asks.specs.Outers.{IsCalled, AreOuters, AnswersOuters}
 use Rattle.wac_graph_asks.proofs.Asking.{asks_kept}
-use Rattle.wac_graph_asks.proofs.Merged.{all_merged}
-use Rattle.wac_graph_asks.proofs.Once.{asked_once_keeps, asked_once_imports}
-use Rattle.wac_graph_asks.proofs.Repeating.{behind_has}
+use Rattle.wac_graph_asks.proofs.Importing.{imports_stay}
+use Rattle.wac_graph_asks.proofs.Merged.{all_merged, refused_labelled}
+use Rattle.wac_graph_asks.proofs.Once.{asked_once_keeps, asked_once_imports, asked_once_conflicts}
+use Rattle.wac_graph_asks.proofs.Repeating.{once_of_all, behind_has}
+use Rattle.wac_graph_asks.proofs.TakingMore.{if_conflict}
 
 -- ---- of asks as they are held
 
-there_mapped : {X Y : Type 0} (f : X → Y) (xs : List X) (i : ℕ) (y : Y) → slice_get (map f xs) i ≡ Some y → (x : X) × (slice_get xs i ≡ Some x) × (f x ≡ y)
+pub there_mapped : {X Y : Type 0} (f : X → Y) (xs : List X) (i : ℕ) (y : Y) → slice_get (map f xs) i ≡ Some y → (x : X) × (slice_get xs i ≡ Some x) × (f x ≡ y)
 there_mapped {X} f xs i y e = go (slice_get xs i) refl
   where
     go : (o : Option X) → slice_get xs i ≡ o → (x : X) × (slice_get xs i ≡ Some x) × (f x ≡ y)
@@ -65,8 +69,8 @@ module _ (c : Collection) (held : List HeldAsk) (labels : List ℕ) (are : AreLa
   abbrev asks : List (Ask ℕ)
   asks = asks_in c held
 
-  classes : LabelClasses asks labels
-  classes = labels_are_of_classes asks labels are
+  label_classes : LabelClasses asks labels
+  label_classes = labels_are_of_classes asks labels are
 
   all_met : (a : Ask ℕ) → Among a asks → IsMet asks a
   all_met a m = go (kept_of (asked_in (class asks a))) refl (merged a m)
@@ -87,7 +91,7 @@ module _ (c : Collection) (held : List HeldAsk) (labels : List ℕ) (are : AreLa
       let there : slice_get (imports_of d world) one.at ≡ Some e = ap (λ es. slice_get es one.at) (sym imports.are) ∙ map-get (λ (x : ℕ × (Name × ItemKind)). x.1) imports.outers one.at o.0 o.1 in
       let ask = ask_in c n.ask in
       let at : slice_get asks n.place ≡ Some ask = map-get (ask_in c) held n.place n.ask n.there in
-      let own = class_is_labelled asks labels n.place n.label ask classes at n.of_label in
+      let own = class_is_labelled asks labels n.place n.label ask label_classes at n.of_label in
       let met = asks_are_met asks ask e.0 (stated_of d e.1) (among-get asks n.place ask at) (ap outer_of own ∙ import.outer) in
       (e.1, there ∙ ap (λ m. Some (m, e.1)) (sym (ap (spelling asks) n.named ∙ met.0)))
 
@@ -97,7 +101,7 @@ module _ (c : Collection) (held : List HeldAsk) (labels : List ℕ) (are : AreLa
   outers_are : Stands d (ItemKind.Component world) → AreOuters asks d world called
   outers_are stands = record {
     stands = stands;
-    imports = ap (stated_items d) (sym imports.are) ∙ sym (outers_are_stated d asks labels imports.outers classes imports.of_labels (λ l e m. (imports.each_is l e m).outer));
+    imports = ap (stated_items d) (sym imports.are) ∙ sym (outers_are_stated d asks labels imports.outers label_classes imports.of_labels (λ l e m. (imports.each_is l e m).outer));
     distinct = imports.distinct;
     met = all_met;
     called_there = all_called;
@@ -114,7 +118,7 @@ classed_still c d g held classes a =
       spellings = subst (λ asks. AreSpellings asks classes.labels.items classes.spellings.items) (sym same) a.spellings;
     }
 
-pub outers_made : (c mid d : Collection) (held : List HeldAsk) (classes : Classes) (taken : List (ℕ × Taken)) (o : Outers) → Grows c mid → TakesAll c held classes.labels.items mid taken
+outers_made : (c mid d : Collection) (held : List HeldAsk) (classes : Classes) (taken : List (ℕ × Taken)) (o : Outers) → Grows c mid → TakesAll c held classes.labels.items mid taken
     → AddsImports mid held classes taken d (imports_of d o.world) → AddsNames held classes.labels.items (keys_of taken) o.called.items → Stands d (ItemKind.Component o.world) → OutersOf c held classes d o
 outers_made c mid d held classes taken o g takes adds names stands sound a =
     let labels = classes.labels.items in
@@ -124,6 +128,11 @@ outers_made c mid d held classes taken o g takes adds names stands sound a =
     let imports = adds (classed_still c mid g held classes a) (subst (λ asks. AreTaken mid held asks labels taken) (sym same) t) in
     outers_are c held labels a.labels (all_merged c mid held labels taken takes sound a.labels) d o.world o.called.items
     (subst (λ asks. AreImports d asks labels (each_label labels) (imports_of d o.world)) same imports) (names many t.keys) stands
+
+pub outers_so : {E : Type 0} (r : Result Outers E) (c mid d : Collection) (held : List HeldAsk) (classes : Classes) (taken : List (ℕ × Taken)) → Grows c mid → TakesAll c held classes.labels.items mid taken
+    → IfOk r (λ o. AddsImports mid held classes taken d (imports_of d o.world)) → IfOk r (λ o. AddsNames held classes.labels.items (keys_of taken) o.called.items) → IfOk r (λ o. Stands d (ItemKind.Component o.world)) → IfOk r (OutersOf c held classes d)
+outers_so (Ok o) c mid d held classes taken g takes imports names stands = outers_made c mid d held classes taken o g takes imports names stands
+outers_so (Err e) c mid d held classes taken g takes imports names stands = tt
 
 -- ---- of the graph that asks so
 
@@ -154,15 +163,57 @@ module _ (all list : List (Ask ℕ)) (once : IsAskedOnce all list) (well : (a : 
     named = λ a m. let s : HasSame list a = behind_has once a m in subst (λ n. Among n (map (λ x. x.name) called)) s.name (h.named s.other s.among);
   }
 
-pub answers : {E : Type 0} (r : Result Outers E) (old new : Asked) (classes : Classes) → IsAcyclic old.types → NamesDiffer old.types → AreLabels (asks_in old.types old.asks.items) classes.labels.items
-    → AreSpellings (asks_in old.types old.asks.items) classes.labels.items classes.spellings.items → IfOk r (OutersOf old.types old.asks.items classes new.types) → IfOk r (AnswersOuters old new)
-answers r old new classes acyclic differ labels spellings h = IfOk-weaker r (OutersOf old.types old.asks.items classes new.types) (AnswersOuters old new) of h
-  where
-    of : (o : Outers) → OutersOf old.types old.asks.items classes new.types o → AnswersOuters old new o
-    of o outers g asked =
-        let held = old.asks.items in
-        let stand = asked.held.items in
-        let own = outers (record { stand = stand; differ = differ }) (record { stand = stand; labels = labels; spellings = spellings }) in
-        outers_of_all (asks_of (composition_of g)) (asks_in old.types held) (subst (IsAskedOnce (asks_of (composition_of g))) (sym asked.asks) asked.once)
-        (λ a m. let x = mapped_among (ask_in old.types) held a m in subst (λ (b : Ask ℕ). IsWell b.item) (sym x.2) (stated_are_well old.types x.0.item acyclic differ (stand x.0 x.1)))
-        new.types o.world o.called.items own
+-- ---- what is answered
+
+module _ (old : Asked) (acyclic : IsAcyclic old.types) (differ : NamesDiffer old.types) (g : Graph) (asked : IsAsked g old) where
+  abbrev all : List (Ask ℕ)
+  all = asks_of (composition_of g)
+
+  abbrev list : List (Ask ℕ)
+  list = asks_in old.types old.asks.items
+
+  once : IsAskedOnce all list
+  once = subst (IsAskedOnce all) (sym asked.asks) (once_of_all (named_asks (composition_of g)) asked.once)
+
+  sound : AreSound old.types old.asks.items
+  sound = record { stand = asked.held.items; differ = differ }
+
+  well : (a : Ask ℕ) → Among a list → IsWell a.item
+  well a m =
+      let x = mapped_among (ask_in old.types) old.asks.items a m in
+      subst (λ (b : Ask ℕ). IsWell b.item) (sym x.2) (stated_are_well old.types x.0.item acyclic differ (asked.held.items x.0 x.1))
+
+  same_conflicts : conflict_in g ≡ merge_conflict list [] list
+  same_conflicts = asked_once_conflicts all list once well
+
+module _ {E : Type 0} (r : Result Outers E) (old new : Asked) (classes : Classes) (acyclic : IsAcyclic old.types) (differ : NamesDiffer old.types) (labels : AreLabels (asks_in old.types old.asks.items) classes.labels.items)
+    (spellings : AreSpellings (asks_in old.types old.asks.items) classes.labels.items classes.spellings.items) where
+  pub answers : IfOk r (OutersOf old.types old.asks.items classes new.types) → IfOk r (AnswersOuters old new)
+  answers = IfOk-weaker r (OutersOf old.types old.asks.items classes new.types) (AnswersOuters old new) of
+    where
+      of : (o : Outers) → OutersOf old.types old.asks.items classes new.types o → AnswersOuters old new o
+      of o outers g asked =
+          outers_of_all (all old acyclic differ g asked) (list old acyclic differ g asked) (once old acyclic differ g asked) (well old acyclic differ g asked) new.types o.world o.called.items
+          (outers (sound old acyclic differ g asked) (record { stand = asked.held.items; labels = labels; spellings = spellings }))
+
+pub answers_free : {T E : Type 0} (r : Result T E) (old : Asked) (labels : List ℕ) → IsAcyclic old.types → NamesDiffer old.types → AreLabels (asks_in old.types old.asks.items) labels → OnOk r (HasNoneLabelled old.types old.asks.items labels) → OnOk r (HasNoConflict old)
+answers_free r old labels acyclic differ are = on_ok_weaker r (λ none g asked. same_conflicts old acyclic differ g asked ∙ none (sound old acyclic differ g asked) are)
+
+pub answers_refused : {T : Type 0} (r : Result T OuterError) (old : Asked) (labels : List ℕ) → IsAcyclic old.types → NamesDiffer old.types → AreLabels (asks_in old.types old.asks.items) labels → IfErr r (λ e. IfConflict e (RefusesAll old.types old.asks.items labels))
+    → IfErr r (λ e. IfConflict e (ConflictsFor old))
+answers_refused (Ok x) old labels acyclic differ are h = tt
+answers_refused (Err e) old labels acyclic differ are h =
+    if_conflict e (λ cause refuses g asked. same_conflicts old acyclic differ g asked ∙ refused_labelled old.types old.asks.items labels cause (sound old acyclic differ g asked) are refuses) h
+
+-- ---- the world
+
+pub filled_so : {T E F : Type 0} (r : Result T E) (v : T) (added : Result (Unit {0}) F) (P : T → Type 0) → IfOk r (λ w. w ≡ v) → IfOk r (λ w. IsOk added) → OnOk added (P v) → IfOk r P
+filled_so (Ok w) v (Ok u) P is ok h = subst P (sym is) h
+filled_so (Ok w) v (Err e) P is ok h = absurd (true≢false (sym ok))
+filled_so (Err e) v added P is ok h = tt
+
+-- a world that stands in a collection that has grown has the imports that were added
+pub world_made : (c d e : Collection) (held : List HeldAsk) (classes : Classes) (taken : List (ℕ × Taken)) (imports : List (Name × ItemKind)) (w : WorldId) → Grows d e → imports_of e w ≡ imports → AddsImports c held classes taken d imports
+    → AddsImports c held classes taken e (imports_of e w)
+world_made c d e held classes taken imports w g is adds a t =
+    subst (AreImports e (asks_in c held) classes.labels.items (each_label classes.labels.items)) (sym is) (imports_stay (asks_in c held) classes.labels.items d e g (each_label classes.labels.items) imports (adds a t))

@@ -12,7 +12,7 @@ use Rattle.wac_types_base.specs.Stated.{IsInterface, IsWorld, stated_in, stated_
 use Rattle.wac_types_base.proofs.Telling.{item_kind}
 use Rattle.wac_graph_core.specs.Graph.{Graph}
 use Rattle.wac_composition.specs.Composition.{Placed}
-use Rattle.wac_composition.specs.Asks.{Ask, used_by_definition, asked_for, named_asks, asks_of}
+use Rattle.wac_composition.specs.Asks.{Ask, used_by_definition, asked_for, named_asks, asks_to_use}
 use Rattle.wac_graph_asks.specs.declared.asks.Ask.{Ask as HeldAsk}
 use Rattle.wac_graph_asks.specs.declared.asks.Definition.{Definition}
 use Rattle.wac_graph_asks.specs.declared.asks.Asked.{Asked}
@@ -21,7 +21,7 @@ use Rattle.wac_graph_asks.specs.AsksIn.{asks_in}
 use Rattle.wac_graph_asks.specs.Asked.{IsAskedBehind, package_ids, with_ids, placed_in, uses_others, HasCopy, IsHeld, Adds, IsAsked}
 use Rattle.wac_graph_asks.specs.AskedUses.{uses_of_asks, uses_of_copy, uses_of_copies, CopiesStand, AreUses}
 use Rattle.wac_graph_asks.proofs.Asking.{adds_asks}
-use Rattle.wac_graph_asks.proofs.Repeating.{behind_then, behind_same, behind_more}
+use Rattle.wac_graph_asks.proofs.Repeating.{behind_more}
 use Rattle.wac_graph_asks.proofs.Using.{other_definition_uses}
 
 -- what a definition asks for what it uses
@@ -97,13 +97,12 @@ module _ (g : Graph) where
         ∙ ap (λ l. uses_of_asks (named_asks (composition_of g)) ++ l)
         (copies_use g.types b.types finite_types b.definitions.items adds.held.copies ∙ ap (flat_map uses_of) definitions)
 
-    once : IsAskedBehind [] (asks_of (composition_of g)) (named_asks (composition_of g) ++ asks_in d.types uses)
+    once : IsAskedBehind (named_asks (composition_of g)) (asks_to_use (composition_of g)) (asks_in d.types uses)
     once =
-        behind_then (behind_same [] (named_asks (composition_of g)))
-        (subst (λ l. IsAskedBehind l (uses_of_asks (named_asks (composition_of g)) ++ flat_map uses_of (composition_of g).definitions) (asks_in d.types uses)) (append-nil (named_asks (composition_of g)))
+        subst (λ l. IsAskedBehind l (asks_to_use (composition_of g)) (asks_in d.types uses)) (append-nil (named_asks (composition_of g)))
         (behind_more (named_asks (composition_of g))
         (subst (λ l. IsAskedBehind [] l (asks_in d.types uses)) all_uses
-        (subst (λ c. IsAskedBehind [] (uses_of_asks (asks_in b.types b.asks.items) ++ uses_of_copies b.types b.definitions.items) (asks_in c uses)) (sym same) are.once))))
+        (subst (λ c. IsAskedBehind [] (uses_of_asks (asks_in b.types b.asks.items) ++ uses_of_copies b.types b.definitions.items) (asks_in c uses)) (sym same) are.once)))
 
     pub is_asked : IsAsked g d
     is_asked = record {

@@ -1,36 +1,34 @@
 -- The imports of classes of asks, as one after another is put into a world.
 use Rattle.std.specs.List.{list_any}
 use Rattle.std.specs.Map.{keys_of, lookup}
-use Rattle.std.proofs.Common.{◌≡◌, ◌==◌, ℕ, Bool, true, false, true≢false, List, [], ◌∷◌, ◌++◌, fold, Option, Some, None, slice_get, refl, sym, ap, subst, ◌∙◌, inl, inr, ◌⊎◌, append_assoc, if◌then◌else◌}
+use Rattle.std.proofs.Common.{◌≡◌, ◌==◌, ℕ, Bool, true, false, true≢false, List, [], ◌∷◌, ◌++◌, fold, Some, slice_get, refl, sym, ap, subst, ◌∙◌, inl, inr, append_assoc, if◌then◌else◌}
 use Rattle.std.proofs.lemmas.Option.{same_Some}
 use Rattle.std.proofs.lemmas.List.{map-append, append-nil}
 use Rattle.wac_types_base.specs.declared.item.ItemKind.{ItemKind}
 use Rattle.wac_types_base.specs.Record.{Collection}
-use Rattle.wac_types_base.specs.Entries.{Name, AreDistinct, names_of, values_of}
+use Rattle.wac_types_base.specs.Entries.{Name, AreDistinct, names_of}
 use Rattle.wac_types_base.specs.Graph.{Among}
-use Rattle.wac_types_base.specs.Collection.{Stands, Grows}
-use Rattle.wac_types_base.specs.Stated.{Stated, stated_of}
-use Rattle.wac_types_base.proofs.Adding.{Grows-refl, Grows-trans}
-use Rattle.wac_types_base.proofs.Looked.{among-get, put_entry-new}
-use Rattle.wac_types_base.proofs.Replacing.{same_number}
-use Rattle.wac_graph_core.proofs.Found.{eq_same, eq_false, Among-end}
+use Rattle.wac_types_base.specs.Collection.{Grows}
+use Rattle.wac_types_base.specs.Stated.{stated_of}
+use Rattle.wac_types_base.proofs.Adding.{Grows-trans}
+use Rattle.wac_types_base.proofs.Looked.{put_entry-new}
+use Rattle.wac_graph_core.proofs.Found.{eq_same, eq_false}
 use Rattle.wac_graph_scopes.proofs.OrderLaws.{among-either, distinct-append, distinct-apart}
 use Rattle.wac_composition.specs.Asks.{Ask}
-use Rattle.wac_composition.specs.Classes.{Linked, class, spelled}
-use Rattle.wac_composition.specs.Merging.{Asked as AskedPair, identified}
-use Rattle.wac_composition.specs.OuterImports.{asked_in, outer_of, outer_imports}
+use Rattle.wac_composition.specs.Classes.{spelled}
+use Rattle.wac_composition.specs.Merging.{identified}
+use Rattle.wac_composition.specs.OuterImports.{asked_in}
 use Rattle.wac_composition.proofs.Closures.{among_any}
 use Rattle.wac_composition.proofs.Lists.{mapped_among}
-use Rattle.wac_merging.specs.Labelled.{with_label, each_label, labelled, LabelClasses, AreLabels}
+use Rattle.wac_merging.specs.Labelled.{with_label, labelled, LabelClasses, AreLabels}
 use Rattle.wac_merging.specs.Outers.{IsOuter}
 use Rattle.wac_merging.proofs.Labels.{ask_there, class_is_labelled, outers_differ}
-use Rattle.wac_merging.proofs.Outers.{labels_are_of_classes, spelled_is_outer, outers_are_stated}
+use Rattle.wac_merging.proofs.Outers.{labels_are_of_classes, spelled_is_outer}
 use Rattle.wac_merging.proofs.Taking.{taken_stays}
 use Rattle.wac_graph_asks.specs.declared.asks.Ask.{Ask as HeldAsk}
 use Rattle.wac_graph_asks.specs.declared.classes.Classes.{Classes}
 use Rattle.wac_graph_asks.specs.declared.taken.Taken.{Taken}
-use Rattle.wac_graph_asks.specs.AsksIn.{asks_in}
-use Rattle.wac_graph_asks.specs.Classed.{AreSpellings}
+use Rattle.wac_graph_asks.specs.AsksIn.{ask_in, asks_in}
 use Rattle.wac_graph_asks.specs.Named.{SpellsClass}
 use Rattle.wac_graph_asks.specs.Takes.{IsTakenOf, AreTaken}
 use Rattle.wac_graph_asks.specs.Imported.{IsImport, AreImports, AddsImport, AreClassed, AddsImports}
@@ -81,12 +79,8 @@ module _ (asks : List (Ask ℕ)) (labels : List ℕ) (are : AreLabels asks label
         own = ap (slice_get labels) (sym same) ∙ sym ((classes.one_label i f.0 a f.2.ask p f.2.there).1 f.2.linked) ∙ q;
       }
 
-  labelled_own : (l : ℕ) (p : AskedPair) → Among p (asked_in (labelled l asks labels)) → IsOwn l
-  labelled_own l p m = go (labelled l asks labels) refl m
-    where
-      go : (xs : List (Ask ℕ)) → labelled l asks labels ≡ xs → Among p (asked_in xs) → IsOwn l
-      go [] e m = absurd m
-      go (x ∷ xs) e m = let r = ask_there l asks labels x xs e in own_label r.0 r.1 l r.2 r.3
+  labelled_own : (l : ℕ) (a : Ask ℕ) (as_ : List (Ask ℕ)) → labelled l asks labels ≡ a ∷ as_ → IsOwn l
+  labelled_own l a as_ e = let r = ask_there l asks labels a as_ e in own_label r.0 r.1 l r.2 r.3
 
 -- ---- imports while the collection grows
 
@@ -174,12 +168,12 @@ module _ (c : Collection) (held : List HeldAsk) (classes : Classes) (all : List 
           distinct-apart l (keys_of h.done) (l ∷ keys_of rest)
           (subst AreDistinct (map-append (λ (x : ℕ × Taken). x.0) h.done ((l, one) ∷ rest)) (subst (λ (xs : List (ℕ × Taken)). AreDistinct (keys_of xs)) (sym whole) (subst AreDistinct (sym t.keys) (distinct_labels [] labels tt)))) m (inl refl)
 
-      own_taken : IsTakenOf c held (asked_in (labelled l asks labels)) one
+      own_taken : IsTakenOf c held (labelled l asks labels) one
       own_taken = t.each l one (ap (lookup (λ k. l == k)) (sym whole) ∙ found_behind h.done rest l one new_label)
 
       spelling : n ≡ spelled (labelled l asks labels)
       spelling =
-          let o = labelled_own asks labels a.labels l _ own_taken.among in
+          let o = labelled_own asks labels a.labels l (ask_in c own_taken.first) own_taken.others own_taken.begins in
           spells c o.ask a.spellings o.own o.there ∙ ap spelled (class_is_labelled asks labels l l o.ask (labels_are_of_classes asks labels a.labels) o.there o.own)
 
       own_import : IsImport e (labelled l asks labels) (n, adds.item)

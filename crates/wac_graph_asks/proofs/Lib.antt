@@ -24,3 +24,5 @@ pub mod Merged
 pub mod Importing
 pub mod Naming
 pub mod Answering
+pub mod Lasting
+pub mod ToUse

@@ -1,6 +1,6 @@
 -- Where all asks are taken each class of them keeps something.
 use Rattle.std.specs.Map.{lookup}
-use Rattle.std.proofs.Common.{◌≡◌, ◌==◌, ℕ, zero, suc, Bool, true, false, List, [], ◌∷◌, is_some, slice_get, Option, Some, None, Result, Ok, Err, IfOk, refl, sym, ap, subst, ◌∙◌, if◌then◌else◌}
+use Rattle.std.proofs.Common.{◌≡◌, ◌==◌, ℕ, zero, suc, Bool, true, false, List, [], ◌∷◌, ◌++◌, is_some, slice_get, Option, Some, None, Result, Ok, Err, IfOk, OnOk, refl, sym, ap, subst, ◌∙◌, if◌then◌else◌}
 use Rattle.std.proofs.lemmas.Option.{none-some, same_Some}
 use Rattle.std.proofs.lemmas.Result.{IfOk-weaker}
 use Rattle.std.proofs.lemmas.List.{length-map}
@@ -11,15 +11,17 @@ use Rattle.wac_composition.specs.Asks.{Ask}
 use Rattle.wac_composition.specs.Classes.{class}
 use Rattle.wac_composition.specs.Merging.{kept}
 use Rattle.wac_composition.specs.OuterImports.{asked_in}
+use Rattle.wac_composition.specs.Conflicts.{Cause, merge_conflict}
 use Rattle.wac_merging.specs.Named.{NamesDiffer}
-use Rattle.wac_merging.specs.Labelled.{labelled, AreLabels}
+use Rattle.wac_merging.specs.Labelled.{labelled, LabelClasses, AreLabels}
+use Rattle.wac_merging.proofs.Conflicts.{kept_have_no_conflict, refused_is_conflict}
 use Rattle.wac_merging.proofs.Labels.{class_is_labelled}
 use Rattle.wac_merging.proofs.Outers.{labels_are_of_classes}
 use Rattle.wac_graph_asks.specs.declared.asks.Ask.{Ask as HeldAsk}
 use Rattle.wac_graph_asks.specs.declared.asks.Asked.{Asked}
 use Rattle.wac_graph_asks.specs.declared.taken.Taken.{Taken}
 use Rattle.wac_graph_asks.specs.AsksIn.{ask_in, asks_in}
-use Rattle.wac_graph_asks.specs.Takes.{AreTaken, AreSound, TakesAll, AreMerged, MergesLabelled, Merges}
+use Rattle.wac_graph_asks.specs.Takes.{AreTaken, AreSound, TakesAll, AreMerged, MergesLabelled, Merges, RefusesAll, HasNoneLabelled}
 
 labelled_there : (l : ℕ) (xs : List (Ask ℕ)) (ms : List ℕ) (i : ℕ) (a : Ask ℕ) → slice_get xs i ≡ Some a → slice_get ms i ≡ Some l → labelled l xs ms ≡ [] → ⊥
 labelled_there l [] ms i a p q e = none-some a p
@@ -65,3 +67,21 @@ pub merges : {T E : Type 0} (r : Result T E) (a : Asked) (asks : List HeldAsk) (
     → IfOk r (λ _. Merges a)
 merges r a asks labels differ is are h =
     IfOk-weaker r (λ _. MergesLabelled a.types a.asks.items labels) (λ _. Merges a) (λ _ m stand. m (record { stand = stand; differ = differ }) (subst (λ xs. AreLabels (asks_in a.types xs) labels) is are)) h
+
+-- ---- conflicts
+
+none_labelled : (c d : Collection) (held : List HeldAsk) (labels : List ℕ) (taken : List (ℕ × Taken)) → TakesAll c held labels d taken → HasNoneLabelled c held labels
+none_labelled c d held labels taken takes sound are =
+    kept_have_no_conflict (asks_in c held) labels (labels_are_of_classes (asks_in c held) labels are) (takes sound (are.as_many ∙ length-map held (ask_in c))).in_turn
+
+pub free_labelled : {T E : Type 0} (r : Result T E) (c d : Collection) (asks held : List HeldAsk) (ls labels : List ℕ) (taken : List (ℕ × Taken)) → asks ≡ held → ls ≡ labels → TakesAll c asks ls d taken → OnOk r (HasNoneLabelled c held labels)
+free_labelled r c d asks held ls labels taken is own takes =
+    always r (HasNoneLabelled c held labels) (none_labelled c d held labels taken (subst (λ l. TakesAll c held l d taken) own (subst (λ xs. TakesAll c xs ls d taken) is takes)))
+
+-- the ask that is refused by its label is the first conflict
+pub refused_labelled : (c : Collection) (held : List HeldAsk) (labels : List ℕ) (cause : Cause ℕ) → AreSound c held → AreLabels (asks_in c held) labels → RefusesAll c held labels cause → merge_conflict (asks_in c held) [] (asks_in c held) ≡ Some cause
+refused_labelled c held labels cause sound are refuses =
+    let asks = asks_in c held in
+    let r = refuses sound (are.as_many ∙ length-map held (ask_in c)) in
+    let classes = subst (λ ls. LabelClasses (r.before ++ r.ask ∷ r.later) ls) r.labels_are (subst (λ xs. LabelClasses xs labels) r.asks_are (labels_are_of_classes asks labels are)) in
+    ap (λ xs. merge_conflict xs [] xs) r.asks_are ∙ refused_is_conflict r.before r.later r.labels_before r.labels_later r.ask r.label classes r.as_many r.in_turn r.nothing ∙ sym r.is

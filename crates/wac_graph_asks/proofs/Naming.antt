@@ -1,9 +1,14 @@
 -- The names that are asked, with the places of their labels.
 use Rattle.std.specs.List.{list_any}
-use Rattle.std.specs.Prelude.{◌⊎◌, fold}
-use Rattle.std.proofs.Common.{◌≡◌, ◌==◌, ◌<◌, ◌≤◌, ◌+◌, ℕ, Bool, true, false, List, [], ◌∷◌, ◌++◌, map, length, Some, slice_get, refl, sym, ap, subst, ◌∙◌, inl, inr, arith, if◌then◌else◌}
+use Rattle.std.specs.Prelude.{◌⊎◌, fold, position, Result, OnOk}
+use Rattle.std.specs.List.{position_or_len}
+use Rattle.std.proofs.Common.{◌≡◌, ◌==◌, ◌<◌, ◌≤◌, ◌+◌, ℕ, Bool, true, false, true≢false, List, [], ◌∷◌, ◌++◌, map, length, get_or, Some, None, slice_get, refl, sym, ap, subst, ◌∙◌, inl, inr, arith, if◌then◌else◌}
 use Rattle.std.proofs.lemmas.Bool.{cases_lt}
-use Rattle.std.proofs.lemmas.Option.{same_Some, get_or_from_slice_get, slice_get_within}
+use Rattle.std.proofs.lemmas.Grind.{common_steps}
+use Rattle.std.proofs.lemmas.Option.{same_Some, get_or_from_slice_get, slice_get-get_or, slice_get_within}
+use Rattle.std.proofs.lemmas.Result.{on_ok_weaker}
+use Rattle.std.proofs.lemmas.List.Quantifiers.{position-Some}
+use Rattle.std.proofs.lemmas.List.Sums.{fails_before_first}
 use Rattle.std.proofs.lemmas.List.{map-append}
 use Rattle.wac_types_base.specs.Entries.{Name}
 use Rattle.wac_types_base.specs.Graph.{Among}
@@ -11,14 +16,14 @@ use Rattle.wac_types_base.proofs.Adding.{Among-left}
 use Rattle.wac_types_base.proofs.Looked.{among-get}
 use Rattle.wac_types_base.proofs.Replacing.{same_number}
 use Rattle.wac_types_base.proofs.Walking.{slice_get-Among}
-use Rattle.wac_graph_core.proofs.Found.{Among-end}
+use Rattle.wac_graph_core.proofs.Found.{eq_same, Among-end}
 use Rattle.wac_graph_scopes.specs.declared.imports.Called.{Called}
 use Rattle.wac_graph_scopes.proofs.OrderLaws.{among-either}
 use Rattle.wac_composition.proofs.Closures.{any_among}
 use Rattle.wac_merging.specs.Labelled.{with_label, each_label}
 use Rattle.wac_graph_asks.specs.declared.asks.Ask.{Ask as HeldAsk}
 use Rattle.wac_graph_asks.specs.Joining.{label_at}
-use Rattle.wac_graph_asks.specs.Imported.{NamesAsk, AreCalled, AddsName, AddsNames}
+use Rattle.wac_graph_asks.specs.Imported.{NamesAsk, AddsName, AddsNames}
 use Rattle.wac_graph_asks.proofs.TakingAll.{there_is}
 
 -- ---- each label is among the labels
@@ -46,6 +51,26 @@ among_each ls (m ∷ ms) l (inr (inr k)) = among_each (with_label ls m) ms l (in
 
 among_at : (ms : List ℕ) (i l : ℕ) → slice_get ms i ≡ Some l → Among l (each_label ms)
 among_at ms i l e = among_each [] ms l (inr (among-get ms i l e))
+
+-- ---- the place of a label
+
+placed : (ks : List ℕ) (l at : ℕ) → position (λ k. l == k) ks ≡ Some at → slice_get ks at ≡ Some l
+placed ks l at e =
+    let p = position-Some (λ k. l == k) ks at 0 e in
+    slice_get-get_or ks at 0 p.0 ∙ ap Some (sym (same_number l (get_or ks at 0) p.1))
+
+not_placed : (ks : List ℕ) (l : ℕ) → position (λ k. l == k) ks ≡ None → Among l ks → ⊥
+not_placed ks l e m =
+    let p = slice_get-Among ks l m in
+    let far : length ks ≤ position_or_len (λ k. l == k) ks = grind (arith, common_steps) in
+    let lt = p.1 in
+    true≢false (sym (ap (λ k. l == k) (get_or_from_slice_get ks p.0 l 0 p.2) ∙ eq_same l) ∙ fails_before_first (λ k. l == k) ks p.0 0 (omega (arith, far, lt)))
+
+pub adds_name : {E : Type 0} (r : Result (Unit {0}) E) (ks : List ℕ) (l at : ℕ) (n : Name) (old new : List Called) → position (λ k. l == k) ks ≡ Some at → OnOk r (new ≡ old ++ record { name = n; at = at } ∷ []) → OnOk r (AddsName ks l n old new)
+adds_name r ks l at n old new e = on_ok_weaker r (λ is m. (at, placed ks l at e, is))
+
+pub adds_no_name : (ks : List ℕ) (l : ℕ) (n : Name) (old new : List Called) → position (λ k. l == k) ks ≡ None → AddsName ks l n old new
+adds_no_name ks l n old new e m = absurd (not_placed ks l e m)
 
 -- ---- the loop
 

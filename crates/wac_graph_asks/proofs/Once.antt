@@ -5,10 +5,13 @@ use Rattle.wac_types_base.proofs.Adding.{Among-left, Among-right}
 use Rattle.wac_composition.specs.Asks.{Ask}
 use Rattle.wac_composition.specs.Again.{IsWell, KeepsClasses}
 use Rattle.wac_composition.specs.OuterImports.{outer_imports}
+use Rattle.wac_composition.specs.Conflicts.{merge_conflict}
 use Rattle.wac_composition.proofs.AskedAgain.{asked_again}
 use Rattle.wac_composition.proofs.OutersAgain.{outers_again}
 use Rattle.wac_composition.proofs.Clashing.{among_append}
-use Rattle.wac_graph_asks.specs.Asked.{IsAskedBehind, no_more, asked, left_out, Asked_once_keeps, Asked_once_imports}
+use Rattle.wac_merging.proofs.Repeated.{repeated_conflicts_no_more}
+use Rattle.wac_graph_asks.proofs.Repeating.{listed_among}
+use Rattle.wac_graph_asks.specs.Asked.{IsAskedBehind, no_more, asked, left_out, Asked_once_keeps, Asked_once_imports, Asked_once_conflicts}
 
 module _ {A : Type 0} where
   keeps_itself : (xs : List (Ask A)) → KeepsClasses xs xs
@@ -23,12 +26,6 @@ module _ {A : Type 0} where
     kept = λ c m. q.kept c (inside c m) ∙ p.kept c m;
     spelled = λ n. q.spelled n ∙ p.spelled n;
   }
-
-  listed_among : {before asks list : List (Ask A)} → IsAskedBehind before asks list → (c : Ask A) → Among c list → Among c asks
-  listed_among no_more c m = absurd m
-  listed_among (asked a h) c (inl s) = inl s
-  listed_among (asked a h) c (inr m) = inr (listed_among h c m)
-  listed_among (left_out a b o e n i h) c m = inr (listed_among h c m)
 
   keeps_behind : {before asks list : List (Ask A)} → IsAskedBehind before asks list → ((a : Ask A) → Among a (before ++ list) → IsWell a.item) → KeepsClasses (before ++ list) (before ++ asks)
   keeps_behind {before} no_more well = keeps_itself (before ++ [])
@@ -52,3 +49,14 @@ module _ {A : Type 0} where
 
   pub asked_once_imports : Asked_once_imports A
   asked_once_imports asks list h well = imports_behind h well
+
+  conflicts_behind : {before asks list : List (Ask A)} → IsAskedBehind before asks list → ((a : Ask A) → Among a (before ++ list) → IsWell a.item)
+      → merge_conflict (before ++ asks) [] (before ++ asks) ≡ merge_conflict (before ++ list) [] (before ++ list)
+  conflicts_behind no_more well = refl
+  conflicts_behind {before} (asked {asks = asks} {list = list} a h) well =
+      ap (λ xs. merge_conflict xs [] xs) (sym (append_assoc before (a ∷ []) asks)) ∙ conflicts_behind h (λ x m. well x (subst (λ l. Among x l) (append_assoc before (a ∷ []) list) m))
+      ∙ ap (λ xs. merge_conflict xs [] xs) (append_assoc before (a ∷ []) list)
+  conflicts_behind {before} (left_out {asks = asks} {list = list} a b o e n i h) well = repeated_conflicts_no_more before asks a b e n i (λ c k. well c (Among-left c before list k)) ∙ conflicts_behind h well
+
+  pub asked_once_conflicts : Asked_once_conflicts A
+  asked_once_conflicts asks list h well = conflicts_behind h well

@@ -27,6 +27,17 @@ module _ {A : Type 0} where
   behind_same before [] = no_more
   behind_same before (a ∷ xs) = asked a (behind_same (before ++ a ∷ []) xs)
 
+  -- behind others that are all listed
+  pub once_of_all : (named : List (Ask A)) {uses list : List (Ask A)} → IsAskedBehind named uses list → IsAskedBehind [] (named ++ uses) (named ++ list)
+  once_of_all named h = behind_then (behind_same [] named) h
+
+  -- each that is listed was to be asked
+  pub listed_among : {before asks list : List (Ask A)} → IsAskedBehind before asks list → (c : Ask A) → Among c list → Among c asks
+  listed_among no_more c m = absurd m
+  listed_among (asked a h) c (inl s) = inl s
+  listed_among (asked a h) c (inr m) = inr (listed_among h c m)
+  listed_among (left_out a b o e n i h) c m = inr (listed_among h c m)
+
   -- with more before
   pub behind_more : (more : List (Ask A)) {before xs ys : List (Ask A)} → IsAskedBehind before xs ys → IsAskedBehind (more ++ before) xs ys
   behind_more more no_more = no_more

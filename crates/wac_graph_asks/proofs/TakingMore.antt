@@ -1,10 +1,14 @@
 -- What is kept with one ask more.
+use Rattle.std.specs.Prelude.{string_bytes}
 use Rattle.std.specs.List.{list_any}
 use Rattle.std.specs.Map.{keys_of, lookup}
-use Rattle.std.proofs.Common.{◌≡◌, ◌==◌, ℕ, ◌||◌, Bool, true, false, true≢false, is_some, List, [], ◌∷◌, ◌++◌, slice_get, Option, Some, None, refl, sym, ap, subst, ◌∙◌, if◌then◌else◌}
+use Rattle.std.proofs.Common.{◌≡◌, ◌==◌, ℕ, ◌||◌, Bool, true, false, true≢false, is_some, List, [], ◌∷◌, ◌++◌, slice_get, Option, Some, None, Result, Ok, Err, IfErr, IsErrAnd, refl, sym, ap, subst, ◌∙◌, if◌then◌else◌}
 use Rattle.std.proofs.lemmas.Option.{none-some, same_Some}
 use Rattle.wac_types_base.specs.Record.{Collection}
+use Rattle.wac_types_base.specs.Entries.{Name}
 use Rattle.wac_types_base.specs.Graph.{Among}
+use Rattle.wac_types_base.specs.Collection.{Stands}
+use Rattle.wac_types_merge.specs.declared.errors.AggregateError.{AggregateError}
 use Rattle.wac_types_merge.specs.declared.family.Family.{Family}
 use Rattle.wac_types_base.proofs.Replacing.{same_number}
 use Rattle.indexmap.specs.IndexMap.{insert_entry}
@@ -12,11 +16,33 @@ use Rattle.wac_graph_core.proofs.Found.{eq_same, eq_false}
 use Rattle.wac_composition.specs.Merging.{Asked}
 use Rattle.wac_merging.specs.declared.kept.Kept.{Kept}
 use Rattle.wac_merging.specs.Asking.{asked_as, FamilyTaken}
-use Rattle.wac_merging.specs.Kept.{Keeps, HasFamily, KeepsAgain, KeepsWith, KeepsNext}
+use Rattle.wac_composition.specs.Conflicts.{Cause, ExplicitImport, ImportTypes}
+use Rattle.wac_merging.specs.Kept.{Keeps, HasFamily, KeepsAgain, KeepsWith, KeepsNext, KeepsNothing, IfMerging}
 use Rattle.wac_merging.specs.Labelled.{with_label}
 use Rattle.wac_graph_asks.specs.declared.asks.Ask.{Ask as HeldAsk}
+use Rattle.wac_graph_asks.specs.declared.asks.Asking.{Asking}
+use Rattle.wac_graph_asks.specs.declared.faults.OuterError.{OuterError}
 use Rattle.wac_graph_asks.specs.declared.taken.Taken.{Taken}
-use Rattle.wac_graph_asks.specs.Takes.{pair_in, AsksSame, KeepsMore, TakesOne, Takes}
+use Rattle.wac_graph_asks.specs.Takes.{conflict_by, pair_in, AsksSame, KeepsMore, KeepsNone, NamesConflict, conflict_of, IfConflict, IsNoConflict, IsMerging, RefusesMore, RefusesOne, RefusesAt, TakesOne, Takes}
+
+if_merging : {P Q : Type 0} (e : AggregateError) → (P → Q) → IfMerging e P → IfMerging e Q
+if_merging (AggregateError.Incompatible s) f h = f h
+if_merging AggregateError.OutsideFamilies f h = f h
+if_merging AggregateError.UsedWithoutIdentifier f h = f h
+if_merging AggregateError.Memory f h = tt
+
+-- what holds unless memory is wanted holds where it is not
+pub merging_holds : {P : Type 0} (e : AggregateError) → IfMerging e P → IsMerging e → P
+merging_holds (AggregateError.Incompatible s) h is = h
+merging_holds AggregateError.OutsideFamilies h is = h
+merging_holds AggregateError.UsedWithoutIdentifier h is = h
+merging_holds AggregateError.Memory h is = absurd is
+
+pub if_conflict : {P Q : Cause ℕ → Type 0} (e : OuterError) → ((cause : Cause ℕ) → P cause → Q cause) → IfConflict e P → IfConflict e Q
+if_conflict (OuterError.ExplicitImportConflict n first second) f h = f (ExplicitImport (string_bytes n) first second) h
+if_conflict (OuterError.ImportTypeMergeConflict n first second source) f h = f (ImportTypes (string_bytes n) first second) h
+if_conflict OuterError.TooLarge f h = tt
+if_conflict OuterError.Memory f h = tt
 
 module _ (c : Collection) (before : Kept) (first ask : HeldAsk) where
   -- while all ask the same, the first one asks what is kept
@@ -41,6 +67,33 @@ module _ (c : Collection) (before : Kept) (first ask : HeldAsk) where
         let among = subst (λ (a : Asked). Among a asks) is there in
         next asks ask.name has (asked well) (keeps_with c asks first.name none among (own (keeps.well (asked_as c first.name before.item) among)) keeps)
 
+  -- where it is refused with its family, nothing is kept with it
+  module _ (g : Family) (asked : HasFamily c ask.name ask.item g) where
+    next_none : (f : Family) → before.family ≡ Some f → KeepsNothing c before f ask.item g → KeepsNone c before first ask
+    next_none f has none asks there stands well keeps = none asks [] ask.name has (asked well) keeps
+
+    first_none : (f : Family) (with : Kept) → before.family ≡ None → HasFamily c first.name before.item f → KeepsWith before f with → with.family ≡ Some f → KeepsNothing c with f ask.item g → KeepsNone c before first ask
+    first_none f with none own keeps_with has nothing asks there stands well keeps =
+        let is = first_asks asks none there keeps in
+        let among = subst (λ (a : Asked). Among a asks) is there in
+        nothing asks [] ask.name has (asked well) (keeps_with c asks first.name none among (own (keeps.well (asked_as c first.name before.item) among)) keeps)
+
+    pub next_refused : {T : Type 0} (r : Result T AggregateError) (f : Family) → before.family ≡ Some f → IfErr r (λ e. IfMerging e (KeepsNothing c before f ask.item g)) → IfErr r (λ e. IfMerging e (KeepsNone c before first ask))
+    next_refused (Ok x) f has h = tt
+    next_refused (Err e) f has h = if_merging e (next_none f has) h
+
+    pub first_refused : {T : Type 0} (r : Result T AggregateError) (f : Family) (with : Kept) → before.family ≡ None → HasFamily c first.name before.item f → KeepsWith before f with → with.family ≡ Some f
+        → IfErr r (λ e. IfMerging e (KeepsNothing c with f ask.item g)) → IfErr r (λ e. IfMerging e (KeepsNone c before first ask))
+    first_refused (Ok x) f with none own keeps has h = tt
+    first_refused (Err e) f with none own keeps has h = if_merging e (first_none f with none own keeps has) h
+
+  -- what does not stand was not asked
+  pub not_kept : (Stands c before.item → ⊥) → KeepsNone c before first ask
+  not_kept never asks there stands well keeps = absurd (never keeps.stands)
+
+  pub not_asked : (Stands c ask.item → ⊥) → KeepsNone c before first ask
+  not_asked never asks there stands well keeps = absurd (never stands)
+
 pub no_family : (f : Option Family) → is_some f ≡ false → f ≡ None
 no_family None e = refl
 no_family (Some f) e = absurd (true≢false e)
@@ -49,6 +102,45 @@ pub takes_at : (c : Collection) (asks : List HeldAsk) (at l : ℕ) (old : List (
     → (after : Taken) → TakesOne c asks before at a d after → new ≡ insert_entry ◌==◌ old l after → Takes c asks at l old d new
 takes_at c asks at l old d new before is a there after one entries b here =
     (after, subst (λ x. TakesOne c asks (lookup (λ k. l == k) old) at x d after) (same_Some a b (sym there ∙ here)) (subst (λ o. TakesOne c asks o at a d after) is one), entries)
+
+pub refuses_at : (c : Collection) (asks : List HeldAsk) (at l : ℕ) (old : List (ℕ × Taken)) (before : Option Taken) → before ≡ lookup (λ k. l == k) old → (a : HeldAsk) → slice_get asks at ≡ Some a → (cause : Cause ℕ) → RefusesOne c asks before a cause
+    → RefusesAt c asks at l old cause
+refuses_at c asks at l old before is a there cause refuses b here =
+    subst (λ x. RefusesOne c asks (lookup (λ k. l == k) old) x cause) (same_Some a b (sym there ∙ here)) (subst (λ o. RefusesOne c asks o a cause) is refuses)
+
+-- why the ask is refused that does not merge
+pub refuses_more : (c : Collection) (asks : List HeldAsk) (before : Taken) (first a : HeldAsk) (source : AggregateError) (e : OuterError) → ((x : HeldAsk) → slice_get asks before.first ≡ Some x → first ≡ x) → NamesConflict a first.by source e
+    → IfMerging source (KeepsNone c before.kept first a) → IfConflict e (RefusesMore c asks before a)
+refuses_more c asks before first a source e is names none =
+    if_conflict e (λ cause h x there. (h.0 ∙ ap (λ (y : HeldAsk). conflict_of a y.by) (is x there), subst (λ y. KeepsNone c before.kept y a) (is x there) (merging_holds source none h.1))) names
+
+pub not_memory : (e : AggregateError) → (e ≡ AggregateError.Memory → ⊥) → IsMerging e
+not_memory (AggregateError.Incompatible s) h = tt
+not_memory AggregateError.OutsideFamilies h = tt
+not_memory AggregateError.UsedWithoutIdentifier h = tt
+not_memory AggregateError.Memory h = absurd (h refl)
+
+-- the conflict of an ask by its name, and of any other
+pub by_name : (a : HeldAsk) (first : ℕ) → a.asking ≡ Asking.ByName → (n : Name) → n ≡ a.name → ExplicitImport n first a.by ≡ conflict_of a first
+by_name a first is n named = ap (λ m. ExplicitImport m first a.by) named ∙ sym (ap (λ k. conflict_by k a first) is)
+
+pub by_other : (a : HeldAsk) (first : ℕ) → (a.asking ≡ Asking.ByName → ⊥) → (n : Name) → n ≡ a.name → ImportTypes n first a.by ≡ conflict_of a first
+by_other a first other n named = ap (λ m. ImportTypes m first a.by) named ∙ go a.asking refl
+  where
+    go : (k : Asking) → a.asking ≡ k → ImportTypes a.name first a.by ≡ conflict_by k a first
+    go Asking.ByName e = absurd (other e)
+    go Asking.ToFill e = refl
+    go Asking.ToUse e = refl
+
+-- an error that is answered again
+pub again_err : {T E : Type 0} (r : Result T E) (P : E → Type 0) (e : E) → IsErrAnd r (λ f. f ≡ e) → P e → IfErr r P
+again_err (Ok x) P e is h = absurd is
+again_err (Err f) P e is h = subst P (sym is) h
+
+-- what is no conflict claims none
+pub no_conflict : {T : Type 0} (r : Result T OuterError) (P : Cause ℕ → Type 0) → IfErr r IsNoConflict → IfErr r (λ e. IfConflict e P)
+no_conflict (Ok x) P h = tt
+no_conflict (Err e) P h = if_conflict e (λ cause none. absurd none) h
 
 -- ---- entries
 

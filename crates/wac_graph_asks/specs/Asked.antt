@@ -15,7 +15,8 @@ use Rattle.wac_graph_core.specs.declared.ids.PackageId.{PackageId}
 use Rattle.wac_graph_core.specs.contracts.ids.PackageIdPartialEq.TheImpl.{eq-value}
 use Rattle.wac_graph_core.specs.Graph.{Graph, package_of}
 use Rattle.wac_composition.specs.Composition.{Placed}
-use Rattle.wac_composition.specs.Asks.{Ask, named_asks, asks_of}
+use Rattle.wac_composition.specs.Asks.{Ask, named_asks, asks_to_use}
+use Rattle.wac_composition.specs.Conflicts.{merge_conflict}
 use Rattle.wac_composition.specs.OuterImports.{outer_imports}
 use Rattle.wac_composition.specs.Again.{IsWell, KeepsClasses}
 use Rattle.wac_graph_asks.specs.declared.asks.Ask.{Ask as HeldAsk}
@@ -43,6 +44,10 @@ Asked_once_keeps A = (asks list : List (Ask A)) → IsAskedOnce asks list → ((
 -- It has their outer imports.
 abbrev pub Asked_once_imports : Type 0 → Type 0
 Asked_once_imports A = (asks list : List (Ask A)) → IsAskedOnce asks list → ((a : Ask A) → Among a list → IsWell a.item) → outer_imports asks ≡ outer_imports list
+
+-- It has their conflicts.
+abbrev pub Asked_once_conflicts : Type 0 → Type 0
+Asked_once_conflicts A = (asks list : List (Ask A)) → IsAskedOnce asks list → ((a : Ask A) → Among a list → IsWell a.item) → merge_conflict asks [] asks ≡ merge_conflict list [] list
 
 -- ---- packages
 
@@ -104,11 +109,11 @@ pub record Adds (g : Graph) (old new : Asked) (asks : List (Ask ℕ)) (ids : Lis
   pub definitions : map (placed_in g.types) new.definitions.items ≡ map (placed_in g.types) old.definitions.items ++ placed
 
 -- The asks by name and those that instances leave are those of the composition, in order, and behind them stand those of used
--- interfaces. The packages that are instantiated stand each once, and the definitions are the composition's.
+-- interfaces that ask anything new. The packages that are instantiated stand each once, and the definitions are the composition's.
 pub record IsAsked (g : Graph) (a : Asked) : Type 0 where
   pub held : IsHeld g a
   pub uses : List (Ask ℕ)
   pub asks : asks_in a.types a.asks.items ≡ named_asks (composition_of g) ++ uses
-  pub once : IsAskedOnce (asks_of (composition_of g)) (named_asks (composition_of g) ++ uses)
+  pub once : IsAskedBehind (named_asks (composition_of g)) (asks_to_use (composition_of g)) uses
   pub packages : keys_of a.packages.entries ≡ with_ids [] (package_ids g)
   pub definitions : map (placed_in g.types) a.definitions.items ≡ (composition_of g).definitions

@@ -27,12 +27,22 @@ pub enum OuterError {
 }
 
 impl From<AllocError> for OuterError {
+    ghost use Rattle.std.specs.Prelude.{◌≡◌};
+    ghost use Rattle.wac_graph_asks.specs.declared.faults.OuterError.{OuterError};
+
+    ghost from_gives = { λ _ e. e ≡ OuterError.Memory };
+
     fn from(_e: AllocError) -> Self {
         OuterError::Memory
     }
 }
 
 impl<T: Drop> From<AllocFailed<T>> for OuterError {
+    ghost use Rattle.std.specs.Prelude.{◌≡◌};
+    ghost use Rattle.wac_graph_asks.specs.declared.faults.OuterError.{OuterError};
+
+    ghost from_gives = { λ _ e. e ≡ OuterError.Memory };
+
     fn from(_e: AllocFailed<T>) -> Self {
         OuterError::Memory
     }

@@ -1,6 +1,6 @@
 //! The outer imports: one for each class of asks.
 
-ghost use Rattle.std.specs.Prelude.{◌≡◌, ◌∷◌, ◌++◌, [], IfOk, OnOk};
+ghost use Rattle.std.specs.Prelude.{◌≡◌, ◌∷◌, ◌++◌, [], IfOk, IfErr, OnOk};
 ghost use Rattle.std.specs.Map.{keys_of};
 ghost use Rattle.wac_types_base.specs.declared.item.ItemKind.{ItemKind};
 ghost use Rattle.wac_types_base.specs.Collection.{Grows, Stands};
@@ -9,7 +9,7 @@ ghost use Rattle.wac_graph_scopes.specs.declared.imports.Called.{Called};
 ghost use Rattle.wac_merging.specs.Kept.{Spells};
 ghost use Rattle.wac_graph_asks.specs.Asked.{KeepsAsked};
 ghost use Rattle.wac_graph_asks.specs.Named.{SpellsClass};
-ghost use Rattle.wac_graph_asks.specs.Takes.{Merges, MergesLabelled};
+ghost use Rattle.wac_graph_asks.specs.Takes.{ConflictsFor, HasNoConflict, HasNoneLabelled, IfConflict, IsNoConflict, Merges, MergesLabelled, RefusesAll};
 ghost use Rattle.wac_graph_asks.specs.Imported.{AddsImport, AddsImports, AddsName, AddsNames, CallsNames, MakesWorld, OutersOf};
 ghost use Rattle.wac_graph_asks.specs.Outers.{AnswersOuters};
 
@@ -197,6 +197,7 @@ fn outer_world(
     ensures keeps { KeepsAsked asked.old asked.new }
     ensures stands { IfOk result (λ w. Stands asked.new.types (ItemKind.Component w)) }
     ensures imports { IfOk result (MakesWorld asked.old classes.now taken.now.entries asked.new) }
+    ensures no_conflict { IfErr result IsNoConflict }
 {
     let world = world_kept(alloc, asked, classes, taken)?;
     match add_world(&mut asked.types, world)? {
@@ -216,6 +217,7 @@ fn outers_kept(
     ensures stands { IfOk result (λ o. Stands asked.new.types (ItemKind.Component o.world)) }
     ensures imports { IfOk result (λ o. MakesWorld asked.old classes.now taken.now.entries asked.new o.world) }
     ensures called { IfOk result (λ o. CallsNames asked.old.asks.items classes.now taken.now.entries o.called.items) }
+    ensures no_conflict { IfErr result IsNoConflict }
 {
     let world = outer_world(alloc, asked, classes, taken)?;
     let called = names_called(alloc, &asked.asks, &classes.labels, taken)?;
@@ -232,6 +234,8 @@ fn outers_of_classes(
     ensures stands { IfOk result (λ o. Stands asked.new.types (ItemKind.Component o.world)) }
     ensures merges { IfOk result (λ o. MergesLabelled asked.old.types asked.old.asks.items classes.now.labels.items) }
     ensures outers { IfOk result (OutersOf asked.old.types asked.old.asks.items classes.now asked.new.types) }
+    ensures free { OnOk result (HasNoneLabelled asked.old.types asked.old.asks.items classes.now.labels.items) }
+    ensures refused { IfErr result (λ e. IfConflict e (RefusesAll asked.old.types asked.old.asks.items classes.now.labels.items)) }
 {
     let taken = all_taken(alloc, &mut asked.types, &asked.asks, &classes.labels)?;
     outers_kept(alloc, asked, classes, &taken)
@@ -243,6 +247,8 @@ pub fn outers_of(alloc: Global, asked: &mut Asked) -> Result<Outers, OuterError>
     ensures stands { IfOk result (λ o. Stands asked.new.types (ItemKind.Component o.world)) }
     ensures merges { IfOk result (λ o. Merges asked.old) }
     ensures outers { IfOk result (AnswersOuters asked.old asked.new) }
+    ensures free { OnOk result (HasNoConflict asked.old) }
+    ensures refused { IfErr result (λ e. IfConflict e (ConflictsFor asked.old)) }
 {
     asked.types.see_acyclic();
     see_named(&asked.types);

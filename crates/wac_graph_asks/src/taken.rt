@@ -1,9 +1,10 @@
 //! What the classes of asks keep, as one ask is taken after another.
 
-ghost use Rattle.std.specs.Prelude.{◌≡◌, ◌<◌, [], Some, IsTrue, IfOk, OnOk, length, slice_get};
+ghost use Rattle.std.specs.Prelude.{◌≡◌, ◌<◌, [], Some, IsTrue, IfOk, IfErr, OnOk, length, slice_get};
 ghost use Rattle.wac_types_base.specs.Collection.{Stands, Grows};
 ghost use Rattle.wac_graph_asks.specs.declared.asks.Ask.{Ask};
-ghost use Rattle.wac_graph_asks.specs.Takes.{AsksSame, KeepsMore, TakesMore, TakesOne, Takes, TakesAll};
+ghost use Rattle.wac_graph_asks.specs.Takes.{AsksSame, IfConflict, KeepsMore, KeepsNone, NamesConflict, RefusesAll, RefusesAt, RefusesMore, RefusesOne, TakesMore, TakesOne, Takes, TakesAll};
+ghost use Rattle.wac_merging.specs.Kept.{IfMerging};
 
 use crate::asks::{Ask, Asking};
 use crate::classes::place_at;
@@ -24,7 +25,9 @@ pub(crate) struct Taken {
 }
 
 /// The refusal of an ask that does not merge with what is kept of its class.
-fn merge_fault(alloc: Global, ask: &Ask, first: NodeId, source: AggregateError) -> OuterError {
+fn merge_fault(alloc: Global, ask: &Ask, first: NodeId, source: AggregateError) -> OuterError
+    ensures { NamesConflict ask.now first source result }
+{
     let Ok(name) = String::from_str(alloc, ask.name.as_str()) else {
         return OuterError::Memory;
     };
@@ -74,6 +77,7 @@ fn kept_more(
     requires kept { Stands types.old before.item }
     requires asked { Stands types.old ask.now.item }
     ensures more { IfOk result (KeepsMore types.old before first.now ask.now types.new) }
+    ensures none { IfErr result (λ e. IfMerging e (KeepsNone types.old before first.now ask.now)) }
     ensures grows { Grows types.old types.new }
 {
     types.see_acyclic();
@@ -97,6 +101,7 @@ fn kept_after(
     ask: &Ask,
 ) -> Result<Kept, AggregateError>
     ensures more { IfOk result (KeepsMore types.old before first.now ask.now types.new) }
+    ensures none { IfErr result (λ e. IfMerging e (KeepsNone types.old before first.now ask.now)) }
     ensures grows { Grows types.old types.new }
 {
     types.see_acyclic();
@@ -121,6 +126,7 @@ fn taken_more(
     ask: &Ask,
 ) -> Result<Taken, OuterError>
     ensures more { IfOk result (TakesMore types.old asks.now before ask.now types.new) }
+    ensures refused { IfErr result (λ e. IfConflict e (RefusesMore types.old asks.now before ask.now)) }
     ensures grows { Grows types.old types.new }
 {
     let first = ask_at(asks, before.first, ask);
@@ -143,6 +149,7 @@ fn taken_with(
     ask: &Ask,
 ) -> Result<Taken, OuterError>
     ensures one { IfOk result (TakesOne types.old asks.now before at ask.now types.new) }
+    ensures refused { IfErr result (λ e. IfConflict e (RefusesOne types.old asks.now before ask.now)) }
     ensures grows { Grows types.old types.new }
 {
     types.see_acyclic();
@@ -166,6 +173,7 @@ fn take(
 ) -> Result<(), OuterError>
     requires { at < length asks.now }
     ensures takes { OnOk result (Takes types.old asks.now at class taken.old.entries types.new taken.new.entries) }
+    ensures refused { IfErr result (λ e. IfConflict e (RefusesAt types.old asks.now at class taken.old.entries)) }
     ensures grows { Grows types.old types.new }
 {
     types.see_acyclic();
@@ -185,6 +193,7 @@ fn take_all(
 ) -> Result<(), OuterError>
     requires { taken.old.entries ≡ [] }
     ensures takes { OnOk result (TakesAll types.old asks.now labels.now types.new taken.new.entries) }
+    ensures refused { IfErr result (λ e. IfConflict e (RefusesAll types.old asks.now labels.now)) }
     ensures grows { Grows types.old types.new }
 {
     types.see_acyclic();
@@ -202,6 +211,7 @@ pub(crate) fn all_taken(
     labels: &[usize],
 ) -> Result<IndexMap<usize, Taken>, OuterError>
     ensures takes { IfOk result (λ taken. TakesAll types.old asks.now labels.now types.new taken.entries) }
+    ensures refused { IfErr result (λ e. IfConflict e (RefusesAll types.old asks.now labels.now)) }
     ensures grows { Grows types.old types.new }
 {
     let mut taken = IndexMap::new(alloc);

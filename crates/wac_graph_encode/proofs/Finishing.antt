@@ -17,7 +17,8 @@ use Rattle.wac_graph_bytes.proofs.Written.{IsWhole, sections_entries, sections_s
 use Rattle.wac_graph_core.specs.Graph.{Graph, IsGraph}
 use Rattle.wac_graph_asks.specs.Wirings.{asked_trees}
 use Rattle.wac_graph_encode.specs.Standing.{IsExported, IsFinished, IsListed}
-use Rattle.wac_graph_encode.specs.Finished.{AreSpelled, MeansGraph}
+use Rattle.wac_graph_encode.specs.Encoding.{MeansGraph}
+use Rattle.wac_graph_encode.specs.Finished.{AreSpelled}
 use Rattle.wac_graph_encode.proofs.StandingWirings.{among_zip, nested_apart, nested_wiring}
 
 pub spelled_so : (es : List Entry) (p : Option (Name × Name)) (ns : List (Sort × List (ℕ × Name))) (old out : List ℕ) → old ≡ [] → (out ≡ old ++ component_bytes (sections_for es p ns)) × (sections_fit es p ns ≡ true) → AreSpelled es out
@@ -69,7 +70,7 @@ module _ (g : Graph) (sound : IsGraph g) (w : Worlds) (asked : List (Name × Tre
     exports_apart = all_of (λ e. IsApart listed e.1) listed.exports (λ e m. apart e.1);
   }
 
-  pub means_graph : (bytes : List ℕ) → ((n : Name) → value_at asked n ≡ asked_trees g n) → AreSpelled (map view es) bytes → MeansGraph g w bytes
+  pub means_graph : (bytes : List ℕ) → ((n : Name) → value_at asked n ≡ asked_trees g n) → AreSpelled (map view es) bytes → MeansGraph true g w bytes
   means_graph bytes outers s = record {
     meant = wiring_of listed;
     means = record {

@@ -17,3 +17,6 @@ pub mod FormKinds
 pub mod RootedOuters
 pub mod RootedDefinitions
 pub mod Beginning
+pub mod Nested
+pub mod Preparing
+pub mod Refusing

@@ -55,7 +55,7 @@ filtered_further p x xs y rest None e m = let r = rest m in (r.0, inr r.1, r.2)
 filtered_further p x xs y rest (Some v) e (inl same) = (x, inl refl, e ∙ ap Some (sym same))
 filtered_further p x xs y rest (Some v) e (inr m) = let r = rest m in (r.0, inr r.1, r.2)
 
-from_filtered : {X Y : Type 0} (p : X → Option Y) (xs : List X) (y : Y) → Among y (filter_map p xs) → (x : X) × Among x xs × (p x ≡ Some y)
+pub from_filtered : {X Y : Type 0} (p : X → Option Y) (xs : List X) (y : Y) → Among y (filter_map p xs) → (x : X) × Among x xs × (p x ≡ Some y)
 from_filtered p [] y m = absurd m
 from_filtered p (x ∷ xs) y m = filtered_further p x xs y (from_filtered p xs y) (p x) refl m
 

@@ -180,10 +180,10 @@ stands_if nodes k None e x = absurd (cc e)
 stands_if nodes k (Some p) e x = name-among nodes k p x
 
 pub same_refl : (w : Wired) → IsSameRoot w w
-same_refl w = record { graph = refl; outers = refl; packages = refl }
+same_refl w = record { graph = refl; outers = refl; packages = refl; nested = refl }
 
 pub same_trans : (u v w : Wired) → IsSameRoot u v → IsSameRoot v w → IsSameRoot u w
-same_trans u v w a b = record { graph = b.graph ∙ a.graph; outers = b.outers ∙ a.outers; packages = b.packages ∙ a.packages }
+same_trans u v w a b = record { graph = b.graph ∙ a.graph; outers = b.outers ∙ a.outers; packages = b.packages ∙ a.packages; nested = b.nested ∙ a.nested }
 
 pub keeps_refl : (w : Wired) → KeepsNodes w w
 keeps_refl w = record { same = same_refl w; kept = λ k p m. m }

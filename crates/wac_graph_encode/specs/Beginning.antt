@@ -1,5 +1,5 @@
 -- When the root of a component is begun: types and outer imports are written in a scope, and packages are nested behind them.
-use Rattle.std.specs.Prelude.{◌≡◌, ℕ, true, List, [], Option, Some, Result, OnOk, slice_get}
+use Rattle.std.specs.Prelude.{◌≡◌, ℕ, true, List, [], map, Option, Some, Result, OnOk, slice_get}
 use Rattle.wac_types_base.specs.declared.ids.WorldId.{WorldId}
 use Rattle.wac_types_base.specs.Record.{Collection}
 use Rattle.wac_types_base.specs.Entries.{AreDistinct, Name, names_of, value_at}
@@ -19,6 +19,7 @@ use Rattle.wac_graph_encode.specs.Standing.{StandsAt, IsOuterAt}
 use Rattle.wac_graph_asks.specs.Outers.{IsOuters}
 use Rattle.wac_graph_asks.specs.Wirings.{asked_trees}
 use Rattle.wac_graph_encode.specs.Defining.{AreToWrite}
+use Rattle.wac_graph_encode.specs.Encoding.{nested_at, bytes_of}
 use Rattle.wac_graph_encode.specs.Nesting.{IsTold}
 use Rattle.wac_graph_encode.specs.Writing.{IsBegun}
 
@@ -52,6 +53,10 @@ pub record IsToBegin (x : Writing) : Type 0 where
 
 abbrev pub IsBare : Root → Type 0
 IsBare root = (root.entries.items ≡ []) × (root.packages.entries ≡ [])
+
+-- where packages are nested, nothing else is
+abbrev pub NestsThese : {U E : Type 0} → Writing → Root → Root → Result U E → Type 0
+NestsThese x old new r = x.options.now.define_components ≡ true → IsBare old → OnOk r (nested_at new.entries.items ≡ map (bytes_of x.graph.now) (names_of x.worlds.now.entries))
 
 abbrev pub BeginsRoot : {U E : Type 0} → Writing → Root → Root → Result U E → Type 0
 BeginsRoot x old new r = x.options.now.define_components ≡ true → IsToBegin x → IsBare old → (w : Worlds) → AreTold x.graph.now w (names_of x.worlds.now.entries) → OnOk r (IsBegunRoot x.graph.now w x.all.called.now new)

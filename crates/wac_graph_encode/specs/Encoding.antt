@@ -10,12 +10,15 @@ use Rattle.wac_types_base.specs.Stated.{stated_of}
 use Rattle.wac_types_base.specs.Tree.{tree, tree_of}
 use Rattle.wac_types_names.specs.Packaged.{Packaged}
 use Rattle.wac_types_names.specs.Keys.{package_key}
+use Rattle.wac_graph_bytes.specs.declared.entry.Entry.{Entry as CodeEntry}
 use Rattle.wac_graph_bytes.specs.Entries.{Entry, Nested, Section, entries_of}
+use Rattle.wac_graph_bytes.specs.Views.{view}
 use Rattle.wac_graph_bytes.specs.Spelling.{component_bytes}
 use Rattle.wac_graph_bytes.specs.Wirings.{Tag, OfBytes, OfDependency, Instantiation, Wiring, Same}
 use Rattle.wac_graph_bytes.specs.Typing.{Worlds}
 use Rattle.wac_graph_bytes.specs.Meaning.{Means}
-use Rattle.wac_graph_core.specs.Graph.{Graph, instantiated}
+use Rattle.wac_graph_core.specs.declared.ids.PackageId.{PackageId}
+use Rattle.wac_graph_core.specs.Graph.{Graph, package_of, instantiated}
 use Rattle.wac_composition.specs.Conflicts.{Cause, first_cause, name_cause, dependency_name}
 use Rattle.wac_composition.specs.Worlds.{composed_world}
 use Rattle.wac_composition.specs.Outlines.{IsSketched}
@@ -62,6 +65,18 @@ nested_in [] = []
 nested_in (Nested bytes ∷ es) = bytes ∷ nested_in es
 nested_in (e ∷ es) = nested_in es
 
+-- the components that code entries nest
+abbrev pub nested_at : List CodeEntry → List (List ℕ)
+nested_at es = nested_in (map view es)
+
+abbrev pub bytes_in : Option Packaged → List ℕ
+bytes_in None = []
+bytes_in (Some p) = p.bytes
+
+-- the bytes of the package of an id
+abbrev pub bytes_of : Graph → PackageId → List ℕ
+bytes_of g id = bytes_in (package_of g id)
+
 abbrev pub IsInstantiated : Graph → Packaged → Type 0
 IsInstantiated g p = (k : ℕ) × (instantiated g k ≡ Some p)
 
@@ -80,18 +95,22 @@ pub record NestsPackages (define : Bool) (g : Graph) (bytes : List ℕ) : Type 0
 
 -- ---- the theorem
 
+-- In these worlds the bytes mean the graph's wiring, of which there is one, but for the numbers of instances.
+pub record MeansGraph (define : Bool) (g : Graph) (worlds : Worlds) (bytes : List ℕ) : Type 0 where
+  pub meant : Wiring ℕ
+  pub means : Means worlds bytes meant
+  pub same : (W : Wiring ℕ) → IsGraphWiring g W → Same (as_written define g W) meant
+
+-- so it is in all worlds that are true of the packages
+abbrev pub MeansWiring : (define : Bool) → Graph → List ℕ → Type 0
+MeansWiring define g bytes = (worlds : Worlds) → AreTrueOf define g worlds → MeansGraph define g worlds bytes
+
 pub record IsEncoded (define validate : Bool) (g : Graph) (bytes : List ℕ) : Type 0 where
   -- nothing stood against it
   pub free : first_cause define (composition_of g) ≡ None
   pub apart : name_cause define validate (composition_of g) ≡ None
   pub nests : NestsPackages define g bytes
-  -- the graph's wiring
-  pub wiring : Wiring ℕ
-  pub is : IsGraphWiring g wiring
-  -- the bytes mean it, but for the numbers of instances, in all worlds that are true of the packages
-  pub meant : Wiring ℕ
-  pub means : (worlds : Worlds) → AreTrueOf define g worlds → Means worlds bytes meant
-  pub same : Same (as_written define g wiring) meant
+  pub means : MeansWiring define g bytes
 
 -- the world that is handed out is true of the bytes
 pub record HasTrueWorld (g : Graph) (types : Collection) (world : WorldId) : Type 0 where

@@ -1,22 +1,25 @@
 -- What entries mean that are finished.
-use Rattle.std.specs.Prelude.{◌≡◌, ℕ, Bool, true, List, Result, IfOk}
+use Rattle.std.specs.Prelude.{◌≡◌, ℕ, Bool, true, List, [], map, Result, IfOk}
 use Rattle.std.specs.declared.alloc.Global.{Global}
 use Rattle.std.specs.declared.vec.Vec.{Vec}
 use Rattle.std.specs.List.{AllByRecursion}
 use Rattle.wac_types_base.specs.Entries.{Name, names_of, value_at}
+use Rattle.wac_types_base.specs.Collection.{IsAcyclic}
 use Rattle.wac_types_base.specs.Tree.{Tree}
 use Rattle.wac_graph_bytes.specs.declared.entry.Entry.{Entry as CodeEntry}
 use Rattle.wac_graph_bytes.specs.Entries.{Entry, Section, entries_of}
 use Rattle.wac_graph_bytes.specs.Sizes.{section_fits}
 use Rattle.wac_graph_bytes.specs.Spelling.{component_bytes}
 use Rattle.wac_graph_bytes.specs.Typing.{Worlds}
-use Rattle.wac_graph_bytes.specs.Meaning.{Means, wiring_of}
+use Rattle.wac_graph_bytes.specs.Meaning.{wiring_of}
 use Rattle.wac_graph_bytes.specs.Wirings.{Wiring, Same}
 use Rattle.wac_graph_core.specs.declared.ids.PackageId.{PackageId}
 use Rattle.wac_graph_core.specs.Graph.{Graph, IsGraph}
 use Rattle.wac_graph_asks.specs.declared.asks.Asked.{Asked}
 use Rattle.wac_graph_asks.specs.declared.asks.Definition.{Definition}
 use Rattle.wac_graph_asks.specs.declared.outers.Outers.{Outers}
+use Rattle.wac_graph_asks.specs.Graphs.{composition_of}
+use Rattle.wac_graph_asks.specs.Asked.{package_ids, with_ids, placed_in}
 use Rattle.wac_graph_asks.specs.Outers.{IsOuters}
 use Rattle.wac_graph_asks.specs.Wirings.{IsGraphWiring, asked_trees}
 use Rattle.wac_graph_encode.specs.declared.options.EncodeOptions.{EncodeOptions}
@@ -24,6 +27,8 @@ use Rattle.wac_graph_encode.specs.declared.instances.Wired.{Wired}
 use Rattle.wac_graph_encode.specs.declared.root.Writing.{Writing}
 use Rattle.wac_graph_encode.specs.Standing.{IsFinished}
 use Rattle.wac_graph_encode.specs.Defining.{AreToWrite}
+use Rattle.wac_graph_encode.specs.Encoding.{nested_in, bytes_of, NestsPackages, MeansGraph, MeansWiring}
+use Rattle.wac_graph_encode.specs.Formed.{AreCopied}
 use Rattle.wac_graph_encode.specs.Beginning.{AreTold, IsBare, IsToBegin}
 
 -- Entries that are finished over the outer imports that the graph asks, with the packages nested, state each wiring of the graph.
@@ -40,21 +45,46 @@ pub record AreSpelled (es : List Entry) (bytes : List ℕ) : Type 0 where
   pub spelled : bytes ≡ component_bytes sections
   pub fits : AllByRecursion (λ s. section_fits s ≡ true) sections
 
--- In these worlds the bytes mean each wiring of the graph, but for the numbers of instances.
-pub record MeansGraph (g : Graph) (w : Worlds) (bytes : List ℕ) : Type 0 where
-  pub meant : Wiring ℕ
-  pub means : Means w bytes meant
-  pub same : (W : Wiring ℕ) → IsGraphWiring g W → Same W meant
-
 -- Where packages are nested and this holds, so it is in each world that is told of the packages.
 abbrev pub MeansSo : {E : Type 0} → (define : Bool) → Graph → List PackageId → (P : Type 0) → Result (Vec ℕ Global) E → Type 0
-MeansSo define g ids P r = define ≡ true → P → (w : Worlds) → AreTold g w ids → IfOk r (λ bytes. MeansGraph g w bytes.items)
+MeansSo define g ids P r = define ≡ true → P → (w : Worlds) → AreTold g w ids → IfOk r (λ bytes. MeansGraph true g w bytes.items)
 
 -- where nothing of the graph is written yet
 abbrev pub MeansWired : {E : Type 0} → Writing → Wired → Result (Vec ℕ Global) E → Type 0
 MeansWired x old r = old.graph.now ≡ x.graph.now → IsBare old.root → MeansSo x.options.now.define_components x.graph.now (names_of x.worlds.now.entries) (IsToBegin x) r
 
+-- the bytes nest the packages of these ids, in order and unchanged, and nothing else
+pub record NestsBytes (g : Graph) (ids : List PackageId) (bytes : List ℕ) : Type 0 where
+  pub sections : List Section
+  pub spelled : bytes ≡ component_bytes sections
+  pub nested : nested_in (entries_of sections) ≡ map (bytes_of g) ids
+
+abbrev pub NestsSo : {E : Type 0} → (define : Bool) → Graph → List PackageId → Result (Vec ℕ Global) E → Type 0
+NestsSo define g ids r = define ≡ true → IfOk r (λ bytes. NestsBytes g ids bytes.items)
+
+-- where nothing is written yet
+abbrev pub NestsWired : {E : Type 0} → Writing → Wired → Result (Vec ℕ Global) E → Type 0
+NestsWired x old r = IsBare old.root → NestsSo x.options.now.define_components x.graph.now (names_of x.worlds.now.entries) r
+
 -- of the graph's outer imports, with its definitions in the forms in which they are written
 abbrev pub MeansAsked : {E : Type 0} → Graph → Asked → Outers → List Definition → EncodeOptions → Result (Vec ℕ Global) E → Type 0
 MeansAsked g asked outers xs options r =
     MeansSo options.define_components g (names_of asked.packages.entries) (IsOuters g asked.types outers.world outers.called.items × AreToWrite g asked.types xs) r
+
+-- ---- once all is asked
+
+-- All that the graph asks has outer imports, and its definitions have copies, in one collection.
+pub record IsPrepared (g : Graph) (a : Asked) (o : Outers) : Type 0 where
+  pub acyclic : IsAcyclic a.types
+  pub packages : names_of a.packages.entries ≡ with_ids [] (package_ids g)
+  pub definitions : map (placed_in g.types) a.definitions.items ≡ (composition_of g).definitions
+  pub copies : AreCopied g.types a.types a.definitions.items
+  pub outers : IsOuters g a.types o.world o.called.items
+
+-- where packages are nested: those that are instantiated are, each once and unchanged, and the bytes mean the graph's wiring
+pub record IsComposed (g : Graph) (bytes : List ℕ) : Type 0 where
+  pub nests : NestsPackages true g bytes
+  pub means : MeansWiring true g bytes
+
+abbrev pub MeansNested : Graph → EncodeOptions → List ℕ → Type 0
+MeansNested g options bytes = options.define_components ≡ true → IsComposed g bytes

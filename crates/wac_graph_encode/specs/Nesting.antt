@@ -1,4 +1,5 @@
 -- Packages that are nested at the root of a component.
+pub use Rattle.wac_graph_encode.specs.Encoding.{bytes_in, bytes_of}
 use Rattle.std.specs.Prelude.{◌≡◌, ℕ, ◌+◌, List, [], ◌∷◌, length, map, Option, None, Some, Result, OnOk, true, if◌then◌else◌}
 use Rattle.indexmap.specs.IndexMap.{insert_entry, insert_all}
 use Rattle.wac_types_base.specs.declared.item.ItemKind.{ItemKind}
@@ -21,14 +22,6 @@ use Rattle.wac_graph_encode.specs.declared.root.Writing.{Writing}
 use Rattle.wac_graph_encode.specs.Standing.{counted, CountsOne}
 use Rattle.wac_graph_encode.specs.Writing.{AddsEntry}
 use Rattle.wac_graph_encode.specs.Rooting.{AddsRead, TakesScope}
-
-abbrev pub bytes_in : Option Packaged → List ℕ
-bytes_in None = []
-bytes_in (Some p) = p.bytes
-
--- the bytes of the package of an id
-abbrev pub bytes_of : Graph → PackageId → List ℕ
-bytes_of g id = bytes_in (package_of g id)
 
 -- of the root nothing else is changed
 pub record KeepsOthers (old new : Root) : Type 0 where

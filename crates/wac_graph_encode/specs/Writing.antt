@@ -25,6 +25,7 @@ use Rattle.wac_graph_scopes.specs.declared.imports.Called.{Called}
 use Rattle.wac_graph_encode.specs.declared.instances.Wired.{Wired}
 use Rattle.wac_graph_encode.specs.declared.instances.Standing.{Standing}
 use Rattle.wac_graph_scopes.specs.Items.{sort_of}
+use Rattle.wac_graph_encode.specs.Encoding.{nested_at}
 use Rattle.wac_graph_encode.specs.Standing.{counted, CountsOne, IsFinished, IsGivenAt, IsOuterAt, IsWritten}
 
 -- ---- entries
@@ -118,11 +119,16 @@ WrittenSo define worlds asked w = WrittenWith define worlds asked w (noted w)
 abbrev pub KeepsWritten : {A E : Type 0} → Wired → Wired → Result A E → Type 0
 KeepsWritten old new r = (define : Bool) (worlds : Worlds) (asked : List (Name × Tree)) → WrittenSo define worlds asked old → OnOk r (WrittenSo define worlds asked new)
 
+-- no more component is nested
+abbrev pub NestsNoMore : Root → Root → Type 0
+NestsNoMore old new = nested_at new.entries.items ≡ nested_at old.entries.items
+
 -- the graph, the outer imports and the packages are the same
 pub record IsSameRoot (old new : Wired) : Type 0 where
   pub graph : new.graph ≡ old.graph
   pub outers : new.outers ≡ old.outers
   pub packages : new.root.packages ≡ old.root.packages
+  pub nested : NestsNoMore old.root new.root
 
 -- and what stood stands
 pub record KeepsNodes (old new : Wired) : Type 0 where

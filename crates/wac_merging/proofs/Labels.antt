@@ -96,11 +96,12 @@ module _ {A : Type 0} where
   pub ask_there : (l : ℕ) (xs : List (Ask A)) (ms : List ℕ) (a : Ask A) (as_ : List (Ask A)) → labelled l xs ms ≡ a ∷ as_ → (i : ℕ) × (b : Ask A) × (slice_get xs i ≡ Some b) × (slice_get ms i ≡ Some l)
   ask_there l [] ms a as_ e = absurd (cc e)
   ask_there l (x ∷ xs) [] a as_ e = absurd (cc e)
-  ask_there l (x ∷ xs) (m ∷ ms) a as_ e = by (m == l) refl e
+  ask_there l (x ∷ xs) (m ∷ ms) a as_ e = by (ask_there l xs ms a as_) (m == l) refl e
     where
-      by : (t : Bool) → (m == l) ≡ t → (if t then x ∷ labelled l xs ms else labelled l xs ms) ≡ a ∷ as_ → (i : ℕ) × (b : Ask A) × (slice_get (x ∷ xs) i ≡ Some b) × (slice_get (m ∷ ms) i ≡ Some l)
-      by true t e = (0, x, refl, ap Some ((Decides-eqb m l).0 t))
-      by false t e = let r = ask_there l xs ms a as_ e in (suc r.0, r.1, r.2, r.3)
+      by : (labelled l xs ms ≡ a ∷ as_ → (i : ℕ) × (b : Ask A) × (slice_get xs i ≡ Some b) × (slice_get ms i ≡ Some l)) → (t : Bool) → (m == l) ≡ t → (if t then x ∷ labelled l xs ms else labelled l xs ms) ≡ a ∷ as_
+          → (i : ℕ) × (b : Ask A) × (slice_get (x ∷ xs) i ≡ Some b) × (slice_get (m ∷ ms) i ≡ Some l)
+      by further true t e = (0, x, refl, ap Some ((Decides-eqb m l).0 t))
+      by further false t e = let r = further e in (suc r.0, r.1, r.2, r.3)
 
   module _ (asks : List (Ask A)) (labels : List ℕ) (c : LabelClasses asks labels) where
     -- the class of an ask, as a test

@@ -3,7 +3,10 @@
 ghost use Rattle.std.specs.Prelude.{◌≡◌, IfOk, Some};
 ghost use Rattle.wac_types_base.specs.declared.item.ItemKind.{ItemKind};
 ghost use Rattle.wac_types_base.specs.Collection.{Stands};
-ghost use Rattle.wac_graph_encode.specs.Acyclic.{IsNoCycle};
+ghost use Rattle.wac_graph_core.specs.Graph.{Graph};
+ghost use Rattle.wac_graph_causes.specs.Acyclic.{IsNoCycle};
+ghost use Rattle.wac_graph_encode.specs.Finished.{MeansNested};
+ghost use Rattle.wac_parser_resolve.specs.Resolved.{graph_of};
 ghost use Rattle.wac_parser_encode.specs.Processing.{IsProcessed};
 
 use std::alloc::{AllocError, Global};
@@ -106,17 +109,24 @@ fn with_processor(alloc: Global, options: EncodeOptions) -> Result<EncodeOptions
 
 /// Encoding of resolved documents.
 pub trait EncodeResolution {
+    /// The graph of the document.
+    ghost graph: { Self → Graph };
+
     /// The component of the graph.
-    fn encode(&self, options: EncodeOptions) -> ResolutionResult<Vec<u8>>;
+    fn encode(&self, options: EncodeOptions) -> ResolutionResult<Vec<u8>>
+        ensures means { IfOk result (λ bytes. MeansNested (graph self.now) options bytes.items) };
 
     /// The component of the graph, and the world that is true of it, in a collection of the second number. The first is
     /// that of the collection in which imports are merged.
     fn encode_world(&self, options: EncodeOptions, numbers: (u64, u64)) -> ResolutionResult<Encoded>
+        ensures means { IfOk result (λ e. MeansNested (graph self.now) options e.bytes.items) }
         ensures number { IfOk result (λ e. e.types.number ≡ numbers.1) }
         ensures stands { IfOk result (λ e. Stands e.types (ItemKind.Component e.world)) };
 }
 
 impl<'d, D> EncodeResolution for Resolved<'d, D> {
+    ghost graph = { graph_of };
+
     fn encode(&self, options: EncodeOptions) -> ResolutionResult<Vec<u8>> {
         let graph = self.graph();
         let options = with_processor(graph.alloc(), options)?;

@@ -3,7 +3,10 @@ use Rattle.wac_graph_scopes.specs.declared.imports.Called.{Called}
 use Rattle.wac_graph_asks.specs.Outers.{IsOuters}
 use Rattle.wac_graph_encode.proofs.encode.bytes_of.Goals as goal
 
-pub returns : goal.returns
-returns c = λ define h w told.
+pub returns-clause-means : goal.returns-clause-means
+returns-clause-means c = λ define h w told.
     let outers = subst (λ (xs : List Called). IsOuters c.args.graph.now c.args.asked.now.types c.args.outers.now.world xs) (sym c.as_slice.ensures.value) h.0 in
-    c.bytes_wired.ensures c.new-wired.ensures.graph c.new-wired.ensures.bare define (record { outers = outers; definitions = h.1 }) w told
+    c.bytes_wired.ensures.means c.new-wired.ensures.graph c.new-wired.ensures.bare define (record { outers = outers; definitions = h.1 }) w told
+
+pub returns-clause-nests : goal.returns-clause-nests
+returns-clause-nests c define = c.bytes_wired.ensures.nests c.new-wired.ensures.bare define

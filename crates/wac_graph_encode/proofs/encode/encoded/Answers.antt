@@ -1,5 +1,16 @@
+use Rattle.std.proofs.lemmas.Result.{IfOk-weaker}
+use Rattle.wac_graph_encode.specs.Finished.{IsPrepared, MeansNested}
 use Rattle.wac_graph_encode.proofs.Forming.{copies_stand}
+use Rattle.wac_graph_encode.proofs.Preparing.{prepared}
 use Rattle.wac_graph_encode.proofs.encode.encoded.Goals as goal
 
 pub encoded_asked-requires : goal.encoded_asked-requires
-encoded_asked-requires c = copies_stand c.args.graph.now c.in_ok-asked.asked c.outers_checked.new.asked c.in_ok-asked.ensures.held c.in_ok-outers.ensures
+encoded_asked-requires c = copies_stand c.args.graph.now c.in_ok-asked.asked c.outers_checked.new.asked c.in_ok-asked.ensures.held c.in_ok-outers.ensures.keeps
+
+pub returns-clause-means : goal.returns-clause-means
+returns-clause-means c =
+    let g = c.args.graph.now in
+    let asked = c.outers_checked.new.asked in
+    let outers = c.in_ok-outers.outers in
+    IfOk-weaker c.encoded_asked.result (λ e. IsPrepared g asked outers → MeansNested g c.args.options.now e.bytes.items) (λ e. MeansNested g c.args.options.now e.bytes.items)
+    (λ e h. h (prepared g c.in_ok-asked.asked asked outers c.in_ok-asked.ensures c.in_ok-outers.ensures.keeps c.in_ok-outers.ensures.outers)) c.encoded_asked.ensures.means

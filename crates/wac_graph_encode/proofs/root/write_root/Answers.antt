@@ -1,4 +1,7 @@
 use Rattle.wac_graph_encode.proofs.root.write_root.Goals as goal
 
-pub returns : goal.returns
-returns c = c.write_in-written.ensures
+pub returns-clause-begins : goal.returns-clause-begins
+returns-clause-begins c = c.write_in-written.ensures.begins
+
+pub returns-clause-nests : goal.returns-clause-nests
+returns-clause-nests c = c.write_in-written.ensures.nests

@@ -1,8 +1,9 @@
-use Rattle.std.proofs.Common.{List, Option, subst, sym, ap}
+use Rattle.std.proofs.Common.{List, Option, subst, sym, ap, ◌∙◌}
 use Rattle.wac_graph_core.specs.Graph.{IsGraph}
 use Rattle.wac_graph_scopes.specs.declared.imports.SortIndex.{SortIndex}
 use Rattle.wac_graph_encode.specs.Standing.{IsFinished}
 use Rattle.wac_graph_encode.specs.Writing.{AreCalled, noted}
+use Rattle.wac_graph_encode.proofs.Nested.{exports_nest_none}
 use Rattle.wac_graph_encode.proofs.StandingExports.{exports_finished}
 use Rattle.wac_graph_encode.proofs.WritingSteps.{begun_outers}
 use Rattle.wac_graph_encode.proofs.instances.Wired.write_all.Goals as goal
@@ -10,8 +11,8 @@ use Rattle.wac_graph_encode.proofs.instances.Wired.write_all.Goals as goal
 pub push_exports-requires : goal.push_exports-requires
 push_exports-requires c = c.in_ok-write_nodes.ensures.all
 
-pub returns : goal.returns
-returns c = λ define worlds asked begun.
+pub returns-clause-finishes : goal.returns-clause-finishes
+returns-clause-finishes c = λ define worlds asked begun.
     let old = c.args.self.now in
     let w = c.write_nodes.new.self in
     let found = c.add_outers.new.outers in
@@ -22,3 +23,8 @@ returns c = λ define worlds asked begun.
     subst (λ g. IsFinished g worlds define asked c.push_exports.new.entries.items) (ap (λ r. r.now) same)
     (exports_finished w.graph.now (subst (λ r. IsGraph r.now) (sym same) c.see_sound.ensures) worlds define asked w.outers w.root.packages.entries w.root.entries.items w.root.counts (noted w) h
     c.push_exports.new.entries.items c.in_ok-write_nodes.ensures.all c.in_ok-push_exports.ensures)
+
+pub returns-clause-nests : goal.returns-clause-nests
+returns-clause-nests c =
+    let w = c.write_nodes.new.self in
+    exports_nest_none (noted w) w.graph.now.exports w.root.entries.items c.push_exports.new.entries.items c.in_ok-push_exports.ensures ∙ c.in_ok-write_nodes.ensures.keeps.same.nested

@@ -28,7 +28,7 @@ pub returns-in_ok-insert-in-Some-clause-keeps : goal.returns-in_ok-insert-in-Som
 returns-in_ok-insert-in-Some-clause-keeps c =
     let same = c.in_ok-place.ensures.same in
     record {
-      same = record { graph = same.graph; outers = same.outers; packages = same.packages };
+      same = record { graph = same.graph; outers = same.outers; packages = same.packages; nested = same.nested };
       kept = λ k p m. subst (λ (xs : List (ℕ × SortIndex)). Among {R = ℕ × SortIndex} (k, p) xs) (sym (added c)) (Among-front (noted c.args.self.now) (c.args.node, c.in-Some.place) (k, p) m);
     }
 

@@ -1,6 +1,8 @@
 //! Why a graph is not encoded.
 
-ghost use Rattle.wac_graph_encode.specs.Acyclic.{IsNoCycle};
+ghost use Rattle.std.specs.Prelude.{◌≡◌};
+ghost use Rattle.wac_graph_causes.specs.Acyclic.{IsNoCycle};
+ghost use Rattle.wac_graph_causes.specs.Refusals.{refusal_shown};
 
 use std::alloc::{AllocError, AllocFailed, Global};
 use std::fmt;
@@ -116,7 +118,7 @@ impl std::error::Error for EncodeError {}
 
 /// Why a graph is not encoded, but for cycles: no graph has one.
 #[derive(Drop)]
-pub(crate) enum Refusal {
+pub enum Refusal {
     ImplicitImportConflict {
         import: NodeId,
         instantiation: NodeId,
@@ -145,8 +147,9 @@ pub(crate) enum Refusal {
 }
 
 /// The public error of a refusal.
-pub(crate) fn error_of(refusal: Refusal) -> EncodeError
-    ensures { IsNoCycle result }
+pub fn error_of(refusal: Refusal) -> EncodeError
+    ensures shown { result ≡ refusal_shown refusal }
+    ensures acyclic { IsNoCycle result }
 {
     match refusal {
         Refusal::ImplicitImportConflict {
@@ -187,19 +190,93 @@ pub(crate) fn error_of(refusal: Refusal) -> EncodeError
     }
 }
 
+/// Why it is not written against which no conflict stands.
+#[derive(Drop)]
+pub enum Unwritten {
+    TypeCannotBeWritten { name: String },
+    TooLarge,
+    Memory,
+}
+
+impl From<AllocError> for Unwritten {
+    ghost use Rattle.std.specs.Prelude.{◌≡◌};
+    ghost use Rattle.wac_graph_causes.specs.declared.errors.Unwritten.{Unwritten};
+
+    ghost from_gives = { λ _ e. e ≡ Unwritten.Memory };
+
+    fn from(_e: AllocError) -> Self {
+        Unwritten::Memory
+    }
+}
+
+impl<T: Drop> From<AllocFailed<T>> for Unwritten {
+    ghost use Rattle.std.specs.Prelude.{◌≡◌};
+    ghost use Rattle.wac_graph_causes.specs.declared.errors.Unwritten.{Unwritten};
+
+    ghost from_gives = { λ _ e. e ≡ Unwritten.Memory };
+
+    fn from(_e: AllocFailed<T>) -> Self {
+        Unwritten::Memory
+    }
+}
+
+impl From<SizeError> for Unwritten {
+    ghost use Rattle.std.specs.Prelude.{◌≡◌};
+    ghost use Rattle.wac_graph_causes.specs.Refusals.{size_fault};
+
+    ghost from_gives = { λ f e. e ≡ size_fault f };
+
+    fn from(e: SizeError) -> Self {
+        match e {
+            SizeError::TooLarge => Unwritten::TooLarge,
+            SizeError::Memory => Unwritten::Memory,
+        }
+    }
+}
+
+impl From<Unwritten> for Refusal {
+    ghost use Rattle.std.specs.Prelude.{◌≡◌};
+    ghost use Rattle.wac_graph_causes.specs.Refusals.{unwritten_refusal};
+
+    ghost from_gives = { λ f e. e ≡ unwritten_refusal f };
+
+    fn from(e: Unwritten) -> Self {
+        match e {
+            Unwritten::TypeCannotBeWritten { name } => Refusal::TypeCannotBeWritten { name },
+            Unwritten::TooLarge => Refusal::TooLarge,
+            Unwritten::Memory => Refusal::Memory,
+        }
+    }
+}
+
 impl From<AllocError> for Refusal {
+    ghost use Rattle.std.specs.Prelude.{◌≡◌};
+    ghost use Rattle.wac_graph_causes.specs.declared.errors.Refusal.{Refusal};
+
+    ghost from_gives = { λ _ e. e ≡ Refusal.Memory };
+
     fn from(_e: AllocError) -> Self {
         Refusal::Memory
     }
 }
 
 impl<T: Drop> From<AllocFailed<T>> for Refusal {
+    ghost use Rattle.std.specs.Prelude.{◌≡◌};
+    ghost use Rattle.wac_graph_causes.specs.declared.errors.Refusal.{Refusal};
+
+    ghost from_gives = { λ _ e. e ≡ Refusal.Memory };
+
     fn from(_e: AllocFailed<T>) -> Self {
         Refusal::Memory
     }
 }
 
 impl From<OuterError> for Refusal {
+    ghost use Rattle.std.specs.Prelude.{◌≡◌};
+    ghost use Rattle.wac_graph_causes.specs.Refusals.{outer_refusal};
+
+    ghost from_gives = { λ f e. e ≡ outer_refusal f };
+
     fn from(e: OuterError) -> Self {
         match e {
             OuterError::ExplicitImportConflict {
@@ -228,23 +305,14 @@ impl From<OuterError> for Refusal {
     }
 }
 
-impl From<SizeError> for Refusal {
-    fn from(e: SizeError) -> Self {
-        match e {
-            SizeError::TooLarge => Refusal::TooLarge,
-            SizeError::Memory => Refusal::Memory,
-        }
-    }
-}
-
-/// The refusal where the type under a name was not written.
-pub(crate) fn not_written(alloc: Global, name: &str, fault: WriteError) -> Refusal {
+/// Why the type under a name was not written.
+pub fn not_written(alloc: Global, name: &str, fault: WriteError) -> Unwritten {
     match fault {
-        WriteError::TooLarge => Refusal::TooLarge,
-        WriteError::Memory => Refusal::Memory,
+        WriteError::TooLarge => Unwritten::TooLarge,
+        WriteError::Memory => Unwritten::Memory,
         WriteError::Unwritable => match String::from_str(alloc, name) {
-            Ok(name) => Refusal::TypeCannotBeWritten { name },
-            Err(_) => Refusal::Memory,
+            Ok(name) => Unwritten::TypeCannotBeWritten { name },
+            Err(_) => Unwritten::Memory,
         },
     }
 }

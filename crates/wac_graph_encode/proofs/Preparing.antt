@@ -1,0 +1,119 @@
+-- What is asked of a graph is prepared, and its bytes mean the graph's wiring.
+use Rattle.std.specs.Prelude.{filter_map, fold, if◌then◌else◌}
+use Rattle.std.specs.List.{AllZip, list_any}
+use Rattle.std.proofs.Common.{◌≡◌, ℕ, Bool, true, false, List, [], ◌∷◌, ◌++◌, map, Option, Some, None, IsSome, Result, Ok, Err, IfOk, ◌⊎◌, inl, inr, refl, sym, ap, subst, ◌∙◌}
+use Rattle.std.proofs.lemmas.Option.{none-some}
+use Rattle.std.specs.declared.alloc.Global.{Global}
+use Rattle.std.specs.declared.vec.Vec.{Vec}
+use Rattle.wac_types_base.specs.declared.item.ItemKind.{ItemKind}
+use Rattle.wac_types_base.specs.Record.{Collection}
+use Rattle.wac_types_base.specs.Entries.{names_of}
+use Rattle.wac_types_base.specs.Graph.{Among}
+use Rattle.wac_types_base.specs.Collection.{IsAcyclic, Grows}
+use Rattle.wac_types_base.specs.Stated.{stated_of}
+use Rattle.wac_types_base.specs.Tree.{tree}
+use Rattle.wac_types_base.proofs.Telling.{tree_stated}
+use Rattle.wac_types_names.specs.Packaged.{Packaged}
+use Rattle.wac_graph_bytes.specs.Typing.{Worlds}
+use Rattle.wac_graph_core.specs.declared.ids.PackageId.{PackageId}
+use Rattle.wac_graph_core.specs.contracts.ids.PackageIdPartialEq.TheImpl.{eq-value}
+use Rattle.wac_graph_core.specs.Nodes.{NodeData}
+use Rattle.wac_graph_core.specs.Graph.{Graph, IsGraph, node_at, package_of, package_if, package_made, instantiated}
+use Rattle.wac_graph_scopes.proofs.OrderLaws.{among-either}
+use Rattle.wac_graph_asks.specs.declared.asks.Asked.{Asked}
+use Rattle.wac_graph_asks.specs.declared.asks.Definition.{Definition}
+use Rattle.wac_graph_asks.specs.declared.outers.Outers.{Outers}
+use Rattle.wac_graph_asks.specs.Graphs.{nodes_of}
+use Rattle.wac_graph_asks.specs.Asked.{package_ids, with_id, with_ids, placed_in, KeepsAsked, IsAsked}
+use Rattle.wac_graph_asks.specs.Outers.{IsOuters, AnswersOuters}
+use Rattle.wac_graph_asks.proofs.Asking.{copy_kept}
+use Rattle.wac_graph_asks.proofs.ByNode.{entry_there}
+use Rattle.wac_graph_asks.proofs.Lasting.{outers_stay}
+use Rattle.wac_graph_causes.specs.Alike.{AreHeld}
+use Rattle.wac_graph_encode.specs.declared.options.EncodeOptions.{EncodeOptions}
+use Rattle.wac_graph_encode.specs.Beginning.{AreTold}
+use Rattle.wac_graph_encode.specs.Defining.{IsToWrite, AreToWrite}
+use Rattle.wac_graph_encode.specs.Encoding.{AreTrueOf}
+use Rattle.wac_graph_encode.specs.Formed.{IsFormed, AreFormed, FormsAll}
+use Rattle.wac_graph_encode.specs.Finished.{IsPrepared, MeansAsked, MeansNested, NestsSo}
+use Rattle.wac_graph_encode.specs.Nesting.{IsTold}
+use Rattle.wac_graph_encode.proofs.Nested.{with_among, nests_packages}
+use Rattle.wac_graph_encode.proofs.RootedDefinitions.{from_filtered, nodes_of_definitions}
+
+-- ---- the packages
+
+module _ (g : Graph) (sound : IsGraph g) (finite_types : IsAcyclic g.types) (w : Worlds) (true_of : AreTrueOf true g w) where
+  told_at : (k : ℕ) (n : NodeData) (id : PackageId) → node_at g k ≡ Some n → n.of ≡ Some id → IsTold g w id
+  told_at k n id at of = go (package_of g id) refl ((sound.nodes k n at).of id of)
+    where
+      go : (o : Option Packaged) → package_of g id ≡ o → IsSome o → IsTold g w id
+      go None e s = absurd s
+      go (Some p) e s =
+          let made : instantiated g k ≡ Some p = ap (package_made g) at ∙ ap (package_if g) of ∙ e in
+          record {
+            of = p;
+            is = e;
+            world = true_of.each k p made ∙ tree_stated g.types finite_types (ItemKind.Instance p.instance_type) (sound.packages.stand id p e).instance;
+          }
+
+  pub all_told : (ids : List PackageId) → ids ≡ with_ids [] (package_ids g) → AreTold g w ids
+  all_told ids are id m = elim (with_among [] (package_ids g) id (subst (Among id) are m)) [
+    | inl n ↦ absurd n
+    | inr k ↦
+        let f = from_filtered (λ (e : ℕ × NodeData). e.1.of) (nodes_of g) id k in
+        told_at f.0.0 f.0.1 id (entry_there g.nodes f.0 f.1) f.2
+  ]
+
+-- ---- the definitions
+
+zip_back : {A B : Type 0} (R : A → B → Type 0) (xs : List A) (ys : List B) (y : B) → AllZip R xs ys → Among y ys → (x : A) × Among x xs × R x y
+zip_back R [] [] y h m = absurd m
+zip_back R [] (z ∷ ys) y h m = absurd h
+zip_back R (x ∷ xs) [] y h m = absurd h
+zip_back R (x ∷ xs) (z ∷ ys) y h (inl e) = (x, inl refl, subst (R x) (sym e) h.0)
+zip_back R (x ∷ xs) (z ∷ ys) y h (inr m) = let r = zip_back R xs ys y h.1 m in (r.0, inr r.1, r.2)
+
+module _ (g : Graph) (a : Asked) (o : Outers) (h : IsPrepared g a o) where
+  to_write : (d : Collection) (ys : List Definition) → AreFormed g.types d a.definitions.items ys → AreToWrite g d ys
+  to_write d ys formed y m =
+      let x = zip_back (IsFormed g.types d) a.definitions.items ys y formed m in
+      let n = nodes_of_definitions g a.definitions.items h.definitions x.0 x.1 in
+      record {
+        node = record {
+          node = n.node;
+          there = ap (node_at g) x.2.node ∙ n.there;
+          role = n.role;
+          states = n.states ∙ ap (λ t. stated_of g.types (ItemKind.Ty t)) (sym x.2.ty);
+        };
+        form = x.2.form;
+      }
+
+  module _ (sound : IsGraph g) (finite_types : IsAcyclic g.types) where
+    -- with the definitions formed in a collection that has grown
+    pub means_nested : {E : Type 0} (options : EncodeOptions) (new : Asked) (definitions : Vec Definition Global) (r : Result (Vec ℕ Global) E) → Grows a.types new.types → new.packages ≡ a.packages
+        → AreFormed g.types new.types a.definitions.items definitions.items → MeansAsked g new o definitions.items options r → NestsSo options.define_components g (names_of new.packages.entries) r → IfOk r (λ bytes. MeansNested g options bytes.items)
+    means_nested options new definitions (Err e) grows packages formed means nests = tt
+    means_nested options new definitions (Ok bytes) grows packages formed means nests define =
+        let ids : names_of new.packages.entries ≡ with_ids [] (package_ids g) = ap (λ p. names_of p.entries) packages ∙ h.packages in
+        record {
+          nests = nests_packages g sound (names_of new.packages.entries) bytes.items ids (nests define);
+          means = λ w true_of.
+              means define (outers_stay _ a.types new.types h.acyclic grows o.world o.called.items h.outers, to_write new.types definitions.items formed) w
+              (all_told g sound finite_types w true_of (names_of new.packages.entries) ids);
+        }
+
+-- it is still held once types are added
+pub held_prepared : (g : Graph) (a : Asked) (o : Outers) → IsPrepared g a o → (new : Asked) → Grows a.types new.types → new.packages ≡ a.packages → AreHeld g new o
+held_prepared g a o h new grows packages = record {
+  packages = ap (λ p. names_of p.entries) packages ∙ h.packages;
+  imports = outers_stay _ a.types new.types h.acyclic grows o.world o.called.items h.outers;
+}
+
+pub prepared : (g : Graph) (old new : Asked) (o : Outers) → IsAsked g old → KeepsAsked old new → AnswersOuters old new o → IsPrepared g new o
+prepared g old new o asked keeps answers = record {
+  acyclic = keeps.grows.acyclic;
+  packages = ap (λ p. names_of p.entries) keeps.packages ∙ asked.packages;
+  definitions = ap (λ (v : Vec Definition Global). map (placed_in g.types) v.items) keeps.definitions ∙ asked.definitions;
+  copies = λ x m. copy_kept g.types old.types new.types keeps.grows x.ty x.copy (asked.held.copies x (subst (λ (v : Vec Definition Global). Among x v.items) keeps.definitions m));
+  outers = answers g asked;
+}
