@@ -1,7 +1,7 @@
 -- What is asked of a graph is prepared, and its bytes mean the graph's wiring.
 use Rattle.std.specs.Prelude.{filter_map, fold, if◌then◌else◌}
 use Rattle.std.specs.List.{AllZip, list_any}
-use Rattle.std.proofs.Common.{◌≡◌, ℕ, Bool, true, false, List, [], ◌∷◌, ◌++◌, map, Option, Some, None, IsSome, Result, Ok, Err, IfOk, ◌⊎◌, inl, inr, refl, sym, ap, subst, ◌∙◌}
+use Rattle.std.proofs.Common.{◌≡◌, ℕ, Bool, true, false, true≢false, List, [], ◌∷◌, ◌++◌, map, Option, Some, None, IsSome, Result, Ok, Err, IfOk, ◌⊎◌, inl, inr, refl, sym, ap, subst, ◌∙◌}
 use Rattle.std.proofs.lemmas.Option.{none-some}
 use Rattle.std.specs.declared.alloc.Global.{Global}
 use Rattle.std.specs.declared.vec.Vec.{Vec}
@@ -47,7 +47,7 @@ module _ (g : Graph) (sound : IsGraph g) (finite_types : IsAcyclic g.types) (w :
   told_at k n id at of = go (package_of g id) refl ((sound.nodes k n at).of id of)
     where
       go : (o : Option Packaged) → package_of g id ≡ o → IsSome o → IsTold g w id
-      go None e s = absurd s
+      go None e s = absurd (true≢false (sym s))
       go (Some p) e s =
           let made : instantiated g k ≡ Some p = ap (package_made g) at ∙ ap (package_if g) of ∙ e in
           record {
@@ -93,7 +93,7 @@ module _ (g : Graph) (a : Asked) (o : Outers) (h : IsPrepared g a o) where
     pub means_nested : {E : Type 0} (options : EncodeOptions) (new : Asked) (definitions : Vec Definition Global) (r : Result (Vec ℕ Global) E) → Grows a.types new.types → new.packages ≡ a.packages
         → AreFormed g.types new.types a.definitions.items definitions.items → MeansAsked g new o definitions.items options r → NestsSo options.define_components g (names_of new.packages.entries) r → IfOk r (λ bytes. MeansNested g options bytes.items)
     means_nested options new definitions (Err e) grows packages formed means nests = tt
-    means_nested options new definitions (Ok bytes) grows packages formed means nests define =
+    means_nested options new definitions (Ok bytes) grows packages formed means nests = λ define.
         let ids : names_of new.packages.entries ≡ with_ids [] (package_ids g) = ap (λ p. names_of p.entries) packages ∙ h.packages in
         record {
           nests = nests_packages g sound (names_of new.packages.entries) bytes.items ids (nests define);
