@@ -1,8 +1,6 @@
 -- What is asked of a graph is prepared, and its bytes mean the graph's wiring.
-use Rattle.std.specs.Prelude.{filter_map, fold, if◌then◌else◌}
-use Rattle.std.specs.List.{AllZip, list_any}
-use Rattle.std.proofs.Common.{◌≡◌, ℕ, Bool, true, false, true≢false, List, [], ◌∷◌, ◌++◌, map, Option, Some, None, IsSome, Result, Ok, Err, IfOk, ◌⊎◌, inl, inr, refl, sym, ap, subst, ◌∙◌}
-use Rattle.std.proofs.lemmas.Option.{none-some}
+use Rattle.std.specs.List.{AllZip}
+use Rattle.std.proofs.Common.{◌≡◌, ℕ, true, true≢false, List, [], ◌∷◌, map, Option, Some, None, IsSome, Result, Ok, Err, IfOk, inl, inr, refl, sym, ap, subst, ◌∙◌}
 use Rattle.std.specs.declared.alloc.Global.{Global}
 use Rattle.std.specs.declared.vec.Vec.{Vec}
 use Rattle.wac_types_base.specs.declared.item.ItemKind.{ItemKind}
@@ -11,30 +9,27 @@ use Rattle.wac_types_base.specs.Entries.{names_of}
 use Rattle.wac_types_base.specs.Graph.{Among}
 use Rattle.wac_types_base.specs.Collection.{IsAcyclic, Grows}
 use Rattle.wac_types_base.specs.Stated.{stated_of}
-use Rattle.wac_types_base.specs.Tree.{tree}
 use Rattle.wac_types_base.proofs.Telling.{tree_stated}
 use Rattle.wac_types_names.specs.Packaged.{Packaged}
 use Rattle.wac_graph_bytes.specs.Typing.{Worlds}
 use Rattle.wac_graph_core.specs.declared.ids.PackageId.{PackageId}
-use Rattle.wac_graph_core.specs.contracts.ids.PackageIdPartialEq.TheImpl.{eq-value}
 use Rattle.wac_graph_core.specs.Nodes.{NodeData}
 use Rattle.wac_graph_core.specs.Graph.{Graph, IsGraph, node_at, package_of, package_if, package_made, instantiated}
-use Rattle.wac_graph_scopes.proofs.OrderLaws.{among-either}
 use Rattle.wac_graph_asks.specs.declared.asks.Asked.{Asked}
 use Rattle.wac_graph_asks.specs.declared.asks.Definition.{Definition}
 use Rattle.wac_graph_asks.specs.declared.outers.Outers.{Outers}
 use Rattle.wac_graph_asks.specs.Graphs.{nodes_of}
-use Rattle.wac_graph_asks.specs.Asked.{package_ids, with_id, with_ids, placed_in, KeepsAsked, IsAsked}
-use Rattle.wac_graph_asks.specs.Outers.{IsOuters, AnswersOuters}
+use Rattle.wac_graph_asks.specs.Asked.{package_ids, with_ids, placed_in, KeepsAsked, IsAsked}
+use Rattle.wac_graph_asks.specs.Outers.{AnswersOuters}
 use Rattle.wac_graph_asks.proofs.Asking.{copy_kept}
 use Rattle.wac_graph_asks.proofs.ByNode.{entry_there}
 use Rattle.wac_graph_asks.proofs.Lasting.{outers_stay}
 use Rattle.wac_graph_causes.specs.Alike.{AreHeld}
 use Rattle.wac_graph_encode.specs.declared.options.EncodeOptions.{EncodeOptions}
 use Rattle.wac_graph_encode.specs.Beginning.{AreTold}
-use Rattle.wac_graph_encode.specs.Defining.{IsToWrite, AreToWrite}
+use Rattle.wac_graph_encode.specs.Defining.{AreToWrite}
 use Rattle.wac_graph_encode.specs.Encoding.{AreTrueOf}
-use Rattle.wac_graph_encode.specs.Formed.{IsFormed, AreFormed, FormsAll}
+use Rattle.wac_graph_encode.specs.Formed.{IsFormed, AreFormed}
 use Rattle.wac_graph_encode.specs.Finished.{IsPrepared, MeansAsked, MeansNested, NestsSo}
 use Rattle.wac_graph_encode.specs.Nesting.{IsTold}
 use Rattle.wac_graph_encode.proofs.Nested.{with_among, nests_packages}

@@ -1,10 +1,10 @@
 -- Refusals are for the first cause.
-use Rattle.std.proofs.Common.{◌≡◌, ℕ, [], Some, None, Result, Ok, Err, IfErr, refl, sym, ap, ◌∙◌}
+use Rattle.std.proofs.Common.{◌≡◌, ℕ, [], Some, None, Result, Ok, Err, IfErr, ap, ◌∙◌}
 use Rattle.wac_graph_core.specs.Graph.{Graph}
 use Rattle.wac_composition.specs.Asks.{asks_of}
 use Rattle.wac_composition.specs.Classes.{spelling}
 use Rattle.wac_composition.specs.OuterImports.{outer_imports}
-use Rattle.wac_composition.specs.Conflicts.{Cause, or_else, implicit_conflict, merge_conflict, unwritable_cause, circle_cause, first_cause}
+use Rattle.wac_composition.specs.Conflicts.{Cause, or_else, merge_conflict, unwritable_cause, circle_cause}
 use Rattle.wac_graph_asks.specs.declared.faults.OuterError.{OuterError}
 use Rattle.wac_graph_asks.specs.Graphs.{composition_of}
 use Rattle.wac_graph_asks.specs.Takes.{IfConflict, conflict_in}
@@ -15,6 +15,10 @@ use Rattle.wac_graph_causes.specs.Implicit.{implicit_cause, IsImplicit}
 use Rattle.wac_graph_causes.specs.Alike.{IsAlike}
 use Rattle.wac_graph_encode.specs.declared.options.EncodeOptions.{EncodeOptions}
 use Rattle.wac_graph_encode.specs.Refused.{cause_in, IsRefusedFor}
+
+pub if_err : {T E : Type 0} {P Q : E → Type 0} (r : Result T E) → ((e : E) → P e → Q e) → IfErr r P → IfErr r Q
+if_err (Ok x) f h = tt
+if_err (Err e) f h = f e h
 
 module _ (options : EncodeOptions) (g : Graph) where
   -- an import that is asked by its name and by an instance comes first

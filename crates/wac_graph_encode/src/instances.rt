@@ -428,7 +428,12 @@ impl<'a> Wired<'a> {
 
     /// Writes a node behind those that it needs.
     #[cycle(nodes)]
-    fn write_bound(&mut self, node: NodeId, bound: &Arguments, depth: usize) -> Result<(), Unwritten>
+    fn write_bound(
+        &mut self,
+        node: NodeId,
+        bound: &Arguments,
+        depth: usize,
+    ) -> Result<(), Unwritten>
         requires bound { AreArguments self.old.graph.now node bound.now }
         requires new { Among node (names_of (noted self.old)) → ⊥ }
         ensures writes { KeepsWritten self.old self.new result }

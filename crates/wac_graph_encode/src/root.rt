@@ -366,7 +366,12 @@ fn push_nested(alloc: Global, entries: &mut Vec<Entry>, bytes: &[u8]) -> Result<
 }
 
 /// Nests a package of those bytes behind what is written.
-fn nest_package(alloc: Global, root: &mut Root, id: PackageId, bytes: &[u8]) -> Result<(), Unwritten>
+fn nest_package(
+    alloc: Global,
+    root: &mut Root,
+    id: PackageId,
+    bytes: &[u8],
+) -> Result<(), Unwritten>
     ensures { OnOk result (NestsOne id bytes.now root.old root.new) }
 {
     let index = root.counts.components;
