@@ -88,3 +88,7 @@ pub record IsComposed (g : Graph) (bytes : List ℕ) : Type 0 where
 
 abbrev pub MeansNested : Graph → EncodeOptions → List ℕ → Type 0
 MeansNested g options bytes = options.define_components ≡ true → IsComposed g bytes
+
+-- once it is prepared
+abbrev pub PreparedMeans : Graph → Asked → Outers → EncodeOptions → List ℕ → Type 0
+PreparedMeans g a o options bytes = IsPrepared g a o → MeansNested g options bytes

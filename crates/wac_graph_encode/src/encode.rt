@@ -11,7 +11,7 @@ ghost use Rattle.wac_graph_asks.specs.AskedUses.{CopiesStand};
 ghost use Rattle.wac_graph_asks.specs.Outers.{AnswersOuters};
 ghost use Rattle.wac_graph_causes.specs.Acyclic.{IsNoCycle};
 ghost use Rattle.wac_graph_encode.specs.Refused.{HasNoneAlike, HasNoneClashing, IsErrorFor, IsFree, IsRefusedFor};
-ghost use Rattle.wac_graph_encode.specs.Finished.{AreSpelled, IsPrepared, MeansAsked, MeansNested, MeansWired, NestsSo, NestsWired};
+ghost use Rattle.wac_graph_encode.specs.Finished.{AreSpelled, IsPrepared, MeansAsked, MeansNested, MeansWired, NestsSo, NestsWired, PreparedMeans};
 
 use crate::forms::written_definitions;
 use crate::instances::Wired;
@@ -113,7 +113,7 @@ fn bytes_asked(
     outers: &Outers,
 ) -> Result<(Vec<u8>, Vec<Definition>), Refusal>
     requires { CopiesStand asked.old.types asked.old.definitions.items }
-    ensures means { IfOk result (λ p. IsPrepared graph.now asked.old outers.now → MeansNested graph.now options.now p.0.items) }
+    ensures means { IfOk result (λ p. PreparedMeans graph.now asked.old outers.now options.now p.0.items) }
     ensures apart { OnOk result (IsPrepared graph.now asked.old outers.now → HasNoneAlike options.now graph.now) }
     ensures refused { IfErr result (λ e. IsPrepared graph.now asked.old outers.now → IsRefusedFor options.now graph.now e) }
 {
@@ -142,7 +142,7 @@ fn encoded_asked(
     number: u64,
 ) -> Result<Encoded, Refusal>
     requires { CopiesStand asked.old.types asked.old.definitions.items }
-    ensures means { IfOk result (λ e. IsPrepared graph.now asked.old outers.now → MeansNested graph.now options.now e.bytes.items) }
+    ensures means { IfOk result (λ e. PreparedMeans graph.now asked.old outers.now options.now e.bytes.items) }
     ensures apart { OnOk result (IsPrepared graph.now asked.old outers.now → HasNoneAlike options.now graph.now) }
     ensures refused { IfErr result (λ e. IsPrepared graph.now asked.old outers.now → IsRefusedFor options.now graph.now e) }
     ensures number { IfOk result (λ e. e.types.number ≡ number) }

@@ -55,6 +55,6 @@ late_afterwards q error.BytesTaken a h = absurd h
 late_afterwards q error.Memory a h = tt
 
 -- the bytes of a graph that holds what is resolved
-pub meant : {E : Type 0} (q : Resolves) (g : Graph) (r : Result Encoded E) (options : EncodeOptions) → IsGraphOf q g → IfOk r (λ e. MeansNested g options e.bytes.items) → IfOk r (λ e. MeansSaid options.define_components q e.bytes.items)
+pub meant : {E : Type 0} (q : Resolves) (g : Graph) (r : Result Encoded E) (options : EncodeOptions) → IsGraphOf q g → IfOk r (λ e. MeansNested g options e.bytes.items) → IfOk r (λ e. MeansSaid options q e.bytes.items)
 meant q g (Ok e) options holds h = λ define. record { graph = g; holds = holds; component = h define }
 meant q g (Err f) options holds h = tt

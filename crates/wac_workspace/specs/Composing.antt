@@ -6,6 +6,7 @@ use Rattle.wac_types_base.specs.declared.item.ItemKind.{ItemKind}
 use Rattle.wac_types_base.specs.Collection.{Stands}
 use Rattle.wac_types_names.specs.Keys.{Key}
 use Rattle.wac_graph_core.specs.Graph.{Graph}
+use Rattle.wac_graph_encode.specs.declared.options.EncodeOptions.{EncodeOptions}
 use Rattle.wac_graph_encode.specs.Finished.{IsComposed as IsComponentOf}
 use Rattle.wac_parser_tree.specs.Trees.{Document}
 use Rattle.wac_parser_grammar.specs.Documents.{document}
@@ -68,8 +69,12 @@ pub record IsMeant (q : Resolves) (bytes : List ℕ) : Type 0 where
   pub holds : IsGraphOf q graph
   pub component : IsComponentOf graph bytes
 
-abbrev pub MeansSaid : (define : Bool) → Resolves → List ℕ → Type 0
-MeansSaid define q bytes = define ≡ true → IsMeant q bytes
+-- so it is, with components defined, of what is resolved, and of a document over these packages
+abbrev pub MeansSaid : EncodeOptions → Resolves → List ℕ → Type 0
+MeansSaid options q bytes = options.define_components ≡ true → IsMeant q bytes
+
+abbrev pub MeansDocument : EncodeOptions → Document → Handed → List ℕ → Type 0
+MeansDocument options d ps bytes = MeansSaid options (resolved d ps) bytes
 
 -- likewise of the document that a source is
 pub record IsMeantBy (ps : Handed) (source : List ℕ) (bytes : List ℕ) : Type 0 where
@@ -77,8 +82,8 @@ pub record IsMeantBy (ps : Handed) (source : List ℕ) (bytes : List ℕ) : Type
   pub read : IsDocument source tree
   pub meant : IsMeant (resolved tree ps) bytes
 
-abbrev pub MeansSource : (define : Bool) → Handed → List ℕ → List ℕ → Type 0
-MeansSource define ps source bytes = define ≡ true → IsMeantBy ps source bytes
+abbrev pub MeansSource : EncodeOptions → Handed → List ℕ → List ℕ → Type 0
+MeansSource options ps source bytes = options.define_components ≡ true → IsMeantBy ps source bytes
 
 -- The source is composed: three numbers are taken, and the output is kept.
 pub record IsComposed (old new : Held) (source : List ℕ) (define : Bool) (o : Output) : Type 0 where

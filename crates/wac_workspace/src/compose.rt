@@ -12,7 +12,7 @@ ghost use Rattle.wac_parser_resolve.specs.Meeting.{resolved};
 ghost use Rattle.wac_parser_resolve.specs.Resolved.{graph_of, target_of};
 ghost use Rattle.wac_parser_resolve.specs.Targeting.{IsTarget};
 ghost use Rattle.wac_graph_encode.specs.Finished.{MeansNested};
-ghost use Rattle.wac_workspace.specs.Composing.{greatest, IsUnmade, IsOutput, IsGraphed, IsUnresolved, MeansSaid, MeansSource};
+ghost use Rattle.wac_workspace.specs.Composing.{greatest, IsUnmade, IsOutput, IsGraphed, IsUnresolved, MeansDocument, MeansSource};
 ghost use Rattle.wac_workspace.specs.Packages.{AreApart};
 ghost use Rattle.wac_workspace.specs.View.{HasWorld};
 ghost use Rattle.wac_workspace.specs.Resolving.{handed, IsGraphOf, IsAccepted, IsLate, IsOfResolving};
@@ -170,7 +170,7 @@ fn encode_document(
     options: EncodeOptions,
 ) -> Result<Encoded, ComposeError>
     ensures encoded { IfOk result (IsEncoded numbers.output) }
-    ensures means { IfOk result (λ e. MeansSaid options.define_components (resolved (view_document document.now) (handed_list «packages».now)) e.bytes.items) }
+    ensures means { IfOk result (λ e. MeansDocument options (view_document document.now) (handed_list «packages».now) e.bytes.items) }
     ensures accepted { IfOk result (λ _. IsAccepted (resolved (view_document document.now) (handed_list «packages».now))) }
     ensures late { IfErr result (IsLate (resolved (view_document document.now) (handed_list «packages».now))) }
 {
@@ -218,7 +218,7 @@ fn compose_document(
     options: EncodeOptions,
 ) -> Result<(Output, u64), ComposeError>
     ensures output { IfOk result (λ r. IsOf next (view_package_name document.now.directive.«package») r.0) }
-    ensures means { IfOk result (λ r. MeansSaid options.define_components (resolved (view_document document.now) (handed_list «packages».now)) r.0.bytes.items) }
+    ensures means { IfOk result (λ r. MeansDocument options (view_document document.now) (handed_list «packages».now) r.0.bytes.items) }
     ensures accepted { IfOk result (λ _. IsAccepted (resolved (view_document document.now) (handed_list «packages».now))) }
     ensures after { IfOk result (λ r. r.1 ≡ next + 3) }
     ensures refused { IfErr result (IsUnencoded next (resolved (view_document document.now) (handed_list «packages».now))) }
@@ -269,7 +269,7 @@ trait ComposeDocument: Sized + Drop {
         options: EncodeOptions,
     ) -> Result<(Output, u64), ComposeError>
         ensures output { IfOk result (λ r. IsOf next (stated self.now).directive.«package» r.0) }
-        ensures means { IfOk result (λ r. MeansSaid options.define_components (resolved (stated self.now) (handed_list «packages».now)) r.0.bytes.items) }
+        ensures means { IfOk result (λ r. MeansDocument options (stated self.now) (handed_list «packages».now) r.0.bytes.items) }
         ensures accepted { IfOk result (λ _. IsAccepted (resolved (stated self.now) (handed_list «packages».now))) }
         ensures after { IfOk result (λ r. r.1 ≡ next + 3) }
         ensures refused { IfErr result (IsUnencoded next (resolved (stated self.now) (handed_list «packages».now))) };
@@ -306,7 +306,7 @@ fn compose_whole<D: ComposeDocument>(
     options: EncodeOptions,
 ) -> Result<(Output, u64), ComposeError>
     ensures output { IfOk result (λ r. IsOf next (D.stated document).directive.«package» r.0) }
-    ensures means { IfOk result (λ r. MeansSaid options.define_components (resolved (D.stated document) (handed_list «packages».now)) r.0.bytes.items) }
+    ensures means { IfOk result (λ r. MeansDocument options (D.stated document) (handed_list «packages».now) r.0.bytes.items) }
     ensures accepted { IfOk result (λ _. IsAccepted (resolved (D.stated document) (handed_list «packages».now))) }
     ensures after { IfOk result (λ r. r.1 ≡ next + 3) }
     ensures refused { IfErr result (IsUnencoded next (resolved (D.stated document) (handed_list «packages».now))) }
@@ -336,7 +336,7 @@ fn compose_source(
     options: EncodeOptions,
 ) -> Result<(Output, u64), ComposeError>
     ensures output { IfOk result (λ r. IsOutput next (handed_list «packages».now) source.now r.0) }
-    ensures means { IfOk result (λ r. MeansSource options.define_components (handed_list «packages».now) source.now r.0.bytes.items) }
+    ensures means { IfOk result (λ r. MeansSource options (handed_list «packages».now) source.now r.0.bytes.items) }
     ensures after { IfOk result (λ r. r.1 ≡ next + 3) }
     ensures refused { IfErr result (IsUnmade next (handed_list «packages».now) source.now) }
 {
@@ -355,7 +355,7 @@ fn compose_over(
     requires worlds { All HasWorld entries.now }
     requires apart { AreApart entries.now }
     ensures output { IfOk result (λ r. IsOutput next (handed entries.now) source.now r.0) }
-    ensures means { IfOk result (λ r. MeansSource options.define_components (handed entries.now) source.now r.0.bytes.items) }
+    ensures means { IfOk result (λ r. MeansSource options (handed entries.now) source.now r.0.bytes.items) }
     ensures after { IfOk result (λ r. r.1 ≡ next + 3) }
     ensures refused { IfErr result (IsUnmade next (handed entries.now) source.now) }
 {
@@ -398,7 +398,7 @@ impl Workspace {
     /// are offsets in the source, in bytes.
     pub fn compose(&mut self, source: &str, options: EncodeOptions) -> Result<Output, ComposeError>
         ensures composed { IfOk result (IsComposed self.old self.new source.now options.define_components) }
-        ensures means { IfOk result (λ o. MeansSource options.define_components (handed self.old.packages) source.now o.bytes.items) }
+        ensures means { IfOk result (λ o. MeansSource options (handed self.old.packages) source.now o.bytes.items) }
         ensures refused { IfErr result (IsRefused self.old source.now options.define_components) }
         ensures kept { OnErr result (self.new ≡ self.old) }
     {
