@@ -145,7 +145,7 @@ fn encode_resolved<'d, D: Drop>(
 ) -> Result<Encoded, ComposeError>
     requires { IsTarget (graph_of resolution) (target_of resolution) }
     ensures encoded { IfOk result (IsEncoded numbers.output) }
-    ensures means { IfOk result (λ e. MeansNested (graph_of resolution) options e.bytes.items) }
+    ensures means { IfOk result (λ e. MeansNested (graph_of resolution.entry) options e.bytes.items) }
     ensures late { IfErr result IsAfterwards }
 {
     let encoded = resolution.encode_world(options, (numbers.merging, numbers.output))?;
