@@ -1,5 +1,5 @@
 -- What is answered of a document over packages.
-use Rattle.std.proofs.Common.{◌≡◌, ℕ, List, Option, Result, Ok, Err, IfOk, sym, subst, trans, inl, inr}
+use Rattle.std.proofs.Common.{◌≡◌, ℕ, List, Option, Result, Ok, Err, IfOk, sym, subst, ◌∙◌, inl, inr}
 use Rattle.wac_types_base.specs.declared.ids.WorldId.{WorldId}
 use Rattle.wac_types_base.specs.Stated.{Stated}
 use Rattle.wac_graph_core.specs.Graph.{Graph}
@@ -61,4 +61,4 @@ meant q g (Err f) options holds h = tt
 
 -- likewise with names tested, and under a name
 pub meant_named : (a b : EncodeOptions) (q : Resolves) (xs ys : List ℕ) → a.define_components ≡ b.define_components → ys ≡ xs → MeansSaid a q xs → MeansSaid b q ys
-meant_named a b q xs ys same bytes h = λ define. subst (λ (zs : List ℕ). IsMeant q zs) (sym bytes) (h (trans same define))
+meant_named a b q xs ys same bytes h = λ define. subst (λ (zs : List ℕ). IsMeant q zs) (sym bytes) (h (same ∙ define))
