@@ -1,1 +1,3 @@
 pub mod CoreItems
+pub mod PartsStated
+pub mod UnnamedLaws
