@@ -1,3 +1,5 @@
 pub mod CoreItems
 pub mod PartsStated
 pub mod UnnamedLaws
+pub mod ItemLaws
+pub mod HolderLaws

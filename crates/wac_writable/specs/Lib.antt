@@ -1,1 +1,2 @@
 pub mod Unnamed
+pub mod Holders

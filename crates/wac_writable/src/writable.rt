@@ -54,8 +54,7 @@ fn unused_fails(
     if !fails {
         return Ok(false);
     }
-    let item = ItemKind::Ty(Type::Value(ty));
-    let is_used = holder.has_value(test.alloc, test.types, item)?;
+    let is_used = holder.has_value(test.alloc, test.types, ty)?;
     Ok(!is_used)
 }
 
