@@ -3,3 +3,4 @@ pub mod PartsStated
 pub mod UnnamedLaws
 pub mod ItemLaws
 pub mod HolderLaws
+pub mod ValueLaws

@@ -13,6 +13,7 @@ use Rattle.wac_types_base.specs.Graph.{Among}
 use Rattle.wac_types_base.specs.Collection.{Stands}
 use Rattle.wac_types_base.specs.Stated.{Stated, kind_of, untyped, stated_of, uses_of, exports_of, root_name}
 use Rattle.wac_types_base.specs.Tree.{tree}
+use Rattle.wac_types_fit.specs.Trees.{OneOrApart}
 use Rattle.wac_composition.specs.Tests.{same_tree}
 use Rattle.wac_composition.specs.Writable.{is_resource, is_fresh, is_value_type, root_of, holder, value_fails}
 use Rattle.wac_composition.specs.Writable.{Holder as Held}
@@ -38,6 +39,14 @@ KnowsValues c es h = (d : DefinedTypeId) (b : Bool) → Stands c (ItemKind.Value
 pub record Holds (c : Collection) (s : Holder) (h : Held) : Type 0 where
   pub shows : Shows c s h
   pub knows : KnowsValues c s.tested.entries h
+
+-- what it has of a collection, and of those with other numbers, stays
+abbrev pub Keeps : Collection → Holder → Holder → Type 0
+Keeps c old new = (d : Collection) → OneOrApart c d → (h : Held) → Holds d old h → Holds d new h
+
+-- of an item that stands, the answer is this one of what the holder has
+abbrev pub TellsIn : Collection → Holder → ItemKind → (Held → Bool) → Bool → Type 0
+TellsIn c s k f b = Stands c k → (h : Held) → Holds c s h → b ≡ f h
 
 -- nothing is remembered yet
 pub record IsFilled (c : Collection) (s : Holder) (h : Held) : Type 0 where

@@ -1,2 +1,3 @@
 pub mod Unnamed
 pub mod Holders
+pub mod Values

@@ -1,5 +1,14 @@
 //! Which types cannot be written.
 
+ghost use Rattle.std.specs.Prelude.{◌≡◌, OnOk, IfOk};
+ghost use Rattle.wac_types_base.specs.declared.item.ValueType.{ValueType};
+ghost use Rattle.wac_types_base.specs.declared.item.ItemKind.{ItemKind};
+ghost use Rattle.wac_types_base.specs.declared.item.«Type».{«Type» as TypeKind};
+ghost use Rattle.wac_types_base.specs.Collection.{Stands};
+ghost use Rattle.wac_composition.specs.Writable.{Holder as Held};
+ghost use Rattle.wac_writable.specs.Holders.{Shows, Keeps, TellsIn};
+ghost use Rattle.wac_writable.specs.Values.{IsHandleOf, lacks_root, fails_unused, value_in_slot, id_fails, places_fail};
+
 use crate::holder::{Holder, is_same_item};
 use crate::modules::is_writable_module;
 use crate::unnamed::Unnamed;
@@ -40,7 +49,10 @@ fn is_tested(which: Which, kind: ItemKind) -> bool {
 // ---- values
 
 /// Whether a handle's resource does not stand there.
-fn handle_fails(test: Test<'_>, holder: &Holder, id: ResourceId) -> bool {
+fn handle_fails(test: Test<'_>, holder: &Holder, id: ResourceId) -> bool
+    ensures { Stands test.entry.types.now (ItemKind.Ty (TypeKind.Resource id)) → (h : Held) → Shows test.entry.types.now holder.now h → result ≡ lacks_root test.entry.types.now id h }
+{
+    test.types.see_acyclic();
     !holder.has_root(root_name(test.types, id))
 }
 
@@ -50,7 +62,9 @@ fn unused_fails(
     holder: &Holder,
     ty: ValueType,
     fails: bool,
-) -> Result<bool, AllocError> {
+) -> Result<bool, AllocError>
+    ensures { IfOk result (λ b. Stands test.entry.types.now (ItemKind.Value ty) → (h : Held) → Shows test.entry.types.now holder.now h → b ≡ fails_unused test.entry.types.now ty fails h) }
+{
     if !fails {
         return Ok(false);
     }
@@ -58,31 +72,61 @@ fn unused_fails(
     Ok(!is_used)
 }
 
-/// Whether a value type fails: a resource, not inside a used type, whose root does not stand there.
-#[cycle(values)]
-fn value_fails(test: Test<'_>, holder: &mut Holder, ty: ValueType) -> Result<bool, AllocError> {
-    match ty {
-        ValueType::Primitive(_) => Ok(false),
-        ValueType::Own(id) => {
-            let fails = handle_fails(test, holder, id);
-            unused_fails(test, holder, ty, fails)
-        }
-        ValueType::Borrow(id) => {
-            let fails = handle_fails(test, holder, id);
-            unused_fails(test, holder, ty, fails)
-        }
-        ValueType::Defined(id) => defined_fails(test, holder, ty, id),
+/// Whether a handle fails, that is none that is used.
+fn unused_handle_fails(
+    test: Test<'_>,
+    holder: &Holder,
+    ty: ValueType,
+    id: ResourceId,
+) -> Result<bool, AllocError>
+    requires { IsHandleOf ty id }
+    ensures { IfOk result (TellsIn test.entry.types.now holder.now (ItemKind.Value ty) (id_fails test.entry.types.now ty)) }
+{
+    test.types.see_acyclic();
+    let fails = handle_fails(test, holder, id);
+    unused_fails(test, holder, ty, fails)
+}
+
+/// The value type in a place.
+fn value_in_place(place: Option<ItemKind>) -> Option<ValueType>
+    ensures { result ≡ value_in_slot place }
+{
+    match place {
+        Some(ItemKind::Value(ty)) => Some(ty),
+        _ => None,
     }
 }
 
-/// The same of a defined type of that id, which is tested once.
+/// Whether a value type fails: a resource, not inside a used type, whose root does not stand there.
+#[cycle(values)]
+fn value_fails(test: Test<'_>, holder: &mut Holder, ty: ValueType) -> Result<bool, AllocError>
+    ensures keeps { OnOk result (Keeps test.entry.types.now holder.old holder.new) }
+    ensures fails { IfOk result (TellsIn test.entry.types.now holder.old (ItemKind.Value ty) (id_fails test.entry.types.now ty)) }
+{
+    test.types.see_acyclic();
+    match ty {
+        ValueType::Primitive(_) => Ok(false),
+        ValueType::Own(id) => unused_handle_fails(test, holder, ty, id),
+        ValueType::Borrow(id) => unused_handle_fails(test, holder, ty, id),
+        ValueType::Defined(id) => defined_fails(test, holder, id),
+    }
+}
+
+/// The same of a defined type, which is tested once.
 #[cycle(values)]
 fn defined_fails(
     test: Test<'_>,
     holder: &mut Holder,
-    ty: ValueType,
     id: DefinedTypeId,
-) -> Result<bool, AllocError> {
+) -> Result<bool, AllocError>
+    ensures keeps { OnOk result (Keeps test.entry.types.now holder.old holder.new) }
+    ensures fails { IfOk result (TellsIn test.entry.types.now holder.old (ItemKind.Value (ValueType.Defined id)) (id_fails test.entry.types.now (ValueType.Defined id))) }
+{
+    test.types.see_acyclic();
+    let ty = ValueType::Defined(id);
+    if !test.types.has(ItemKind::Value(ty)) {
+        return Ok(true);
+    }
     if let Some(fails) = holder.tested(id) {
         return Ok(fails);
     }
@@ -94,17 +138,18 @@ fn defined_fails(
 
 /// Whether a value type in a place fails.
 #[cycle(values)]
-fn places_fail(test: Test<'_>, holder: &mut Holder, kind: ItemKind) -> Result<bool, AllocError> {
+fn places_fail(test: Test<'_>, holder: &mut Holder, kind: ItemKind) -> Result<bool, AllocError>
+    ensures keeps { OnOk result (Keeps test.entry.types.now holder.old holder.new) }
+    ensures fails { IfOk result (TellsIn test.entry.types.now holder.old kind (places_fail test.entry.types.now kind)) }
+{
     if !test.types.has(kind) {
         return Ok(true);
     }
     let mut at: u128 = 0;
     while let Some(place) = test.types.place(kind, at) {
-        if let Some(child) = place {
-            if let ItemKind::Value(ty) = child {
-                if value_fails(test, holder, ty)? {
-                    return Ok(true);
-                }
+        if let Some(ty) = value_in_place(place) {
+            if value_fails(test, holder, ty)? {
+                return Ok(true);
             }
         }
         at += 1;
