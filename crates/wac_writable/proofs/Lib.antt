@@ -4,3 +4,4 @@ pub mod UnnamedLaws
 pub mod ItemLaws
 pub mod HolderLaws
 pub mod ValueLaws
+pub mod SimpleLaws

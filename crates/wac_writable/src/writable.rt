@@ -8,6 +8,8 @@ ghost use Rattle.wac_types_base.specs.Collection.{Stands};
 ghost use Rattle.wac_composition.specs.Writable.{Holder as Held};
 ghost use Rattle.wac_writable.specs.Holders.{Shows, Keeps, TellsIn};
 ghost use Rattle.wac_writable.specs.Values.{IsHandleOf, lacks_root, fails_unused, value_in_slot, id_fails, places_fail};
+ghost use Rattle.wac_writable.specs.Items.{IsSimple, module_unwritable};
+ghost use Rattle.wac_writable.specs.Tests.{TellsOf};
 
 use crate::holder::{Holder, is_same_item};
 use crate::modules::is_writable_module;
@@ -159,20 +161,36 @@ fn places_fail(test: Test<'_>, holder: &mut Holder, kind: ItemKind) -> Result<bo
 
 // ---- items
 
-/// Whether a resource item fails that no use gives: it has another name than its own and no alias, or its root does
+/// Whether a resource item fails: it has no alias, another name than its own, and no use gives it, or its root does
 /// not stand there.
-fn resource_fails(test: Test<'_>, holder: &Holder, item: Item<'_>, id: ResourceId) -> bool {
+fn resource_fails(
+    test: Test<'_>,
+    holder: &Holder,
+    item: Item<'_>,
+    id: ResourceId,
+) -> Result<bool, AllocError>
+    requires { item.kind ≡ ItemKind.Ty (TypeKind.Resource id) }
+    ensures { IfOk result (TellsOf test.entry holder.now item.entry) }
+{
+    test.types.see_acyclic();
     if !test.types.has(ItemKind::Ty(Type::Resource(id))) {
-        return true;
+        return Ok(true);
     }
     let resource = test.types.resource(id);
-    match resource.alias {
-        Some(_) => handle_fails(test, holder, id),
-        None => !resource.name.is(item.name),
+    if resource.alias.is_some() {
+        return Ok(handle_fails(test, holder, id));
     }
+    if item.name == resource.name.as_str() {
+        return Ok(false);
+    }
+    let is_given = holder.gives(test.alloc, test.types, item)?;
+    Ok(!is_given)
 }
 
-fn module_fails(test: Test<'_>, id: ModuleTypeId) -> bool {
+fn module_fails(test: Test<'_>, id: ModuleTypeId) -> bool
+    ensures { Stands test.entry.types.now (ItemKind.Module id) → result ≡ module_unwritable test.entry.types.now id }
+{
+    test.types.see_acyclic();
     !test.types.has(ItemKind::Module(id)) || !is_writable_module(test.types.module_type(id))
 }
 
@@ -182,25 +200,35 @@ fn type_fails(
     holder: &mut Holder,
     item: Item<'_>,
     ty: Type,
-) -> Result<bool, AllocError> {
+) -> Result<bool, AllocError>
+    requires { item.kind ≡ ItemKind.Ty ty }
+    ensures keeps { OnOk result (Keeps test.entry.types.now holder.old holder.new) }
+    ensures fails { IfOk result (λ b. IsSimple item.entry.kind → TellsOf test.entry holder.old item.entry b) }
+{
+    test.types.see_acyclic();
     match ty {
-        Type::Resource(id) => {
-            let given = holder.gives(test.alloc, test.types, item)?;
-            Ok(!given && resource_fails(test, holder, item, id))
-        }
+        Type::Resource(id) => resource_fails(test, holder, item, id),
         Type::Func(id) => places_fail(test, holder, ItemKind::Func(id)),
         Type::Value(ty) => value_fails(test, holder, ty),
-        _ => Ok(true),
+        Type::Interface(_) => Ok(true),
+        Type::World(_) => Ok(true),
+        Type::Module(_) => Ok(true),
     }
 }
 
 /// The same of an item.
-fn simple_fails(test: Test<'_>, holder: &mut Holder, item: Item<'_>) -> Result<bool, AllocError> {
+fn simple_fails(test: Test<'_>, holder: &mut Holder, item: Item<'_>) -> Result<bool, AllocError>
+    ensures keeps { OnOk result (Keeps test.entry.types.now holder.old holder.new) }
+    ensures fails { IfOk result (λ b. IsSimple item.entry.kind → TellsOf test.entry holder.old item.entry b) }
+{
+    test.types.see_acyclic();
     match item.kind {
         ItemKind::Ty(ty) => type_fails(test, holder, item, ty),
         ItemKind::Func(id) => places_fail(test, holder, ItemKind::Func(id)),
+        ItemKind::Instance(_) => Ok(true),
+        ItemKind::Component(_) => Ok(true),
         ItemKind::Module(id) => Ok(module_fails(test, id)),
-        _ => Ok(true),
+        ItemKind::Value(_) => Ok(true),
     }
 }
 
