@@ -35,7 +35,7 @@ pub tree_here : (c : Collection) (k : ItemKind) → tree_in c k ≡ tree (stated
 unfolding tree_in
 tree_here c k = refl
 
-both_decide : (a b : Bool) {P : Type 0} → Decides a P → Decides b P → a ≡ b
+pub both_decide : (a b : Bool) {P : Type 0} → Decides a P → Decides b P → a ≡ b
 both_decide true true d e = refl
 both_decide false false d e = refl
 both_decide true false d e = sym (e.1 (d.0 refl))
@@ -195,3 +195,7 @@ module _ (c : Collection) (a : IsAcyclic c) where
 pub if_ok_map : {T E : Type 0} {P Q : T → Type 0} (r : Result T E) → ((x : T) → P x → Q x) → IfOk r P → IfOk r Q
 if_ok_map (Ok x) f h = f x h
 if_ok_map (Err e) f h = tt
+
+pub if_ok_all : {T E : Type 0} {Q : T → Type 0} (r : Result T E) → ((x : T) → Q x) → IfOk r Q
+if_ok_all (Ok x) f = f x
+if_ok_all (Err e) f = tt

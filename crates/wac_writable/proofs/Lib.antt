@@ -5,3 +5,5 @@ pub mod ItemLaws
 pub mod HolderLaws
 pub mod ValueLaws
 pub mod SimpleLaws
+pub mod InterfaceLaws
+pub mod RootLaws

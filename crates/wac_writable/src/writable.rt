@@ -9,7 +9,8 @@ ghost use Rattle.wac_composition.specs.Writable.{Holder as Held};
 ghost use Rattle.wac_writable.specs.Holders.{Shows, Keeps, TellsIn};
 ghost use Rattle.wac_writable.specs.Values.{IsHandleOf, lacks_root, fails_unused, value_in_slot, id_fails, places_fail};
 ghost use Rattle.wac_writable.specs.Items.{IsSimple, module_unwritable};
-ghost use Rattle.wac_writable.specs.Tests.{TellsOf};
+ghost use Rattle.wac_writable.specs.Tests.{TellsPlain, TellsOf, TellsUngiven, TellsTested, TellsExports, TellsInterface};
+ghost use Rattle.wac_writable.specs.Tests.{is_tested, wrapped_in, TellsFirst, TellsOuter, TellsUnwrapped};
 
 use crate::holder::{Holder, is_same_item};
 use crate::modules::is_writable_module;
@@ -41,7 +42,9 @@ enum Which {
     TypesOnly,
 }
 
-fn is_tested(which: Which, kind: ItemKind) -> bool {
+fn is_tested(which: Which, kind: ItemKind) -> bool
+    ensures { result ≡ is_tested which kind }
+{
     match which {
         Which::All => true,
         Which::TypesOnly => matches!(kind, ItemKind::Ty(_)),
@@ -234,7 +237,11 @@ fn simple_fails(test: Test<'_>, holder: &mut Holder, item: Item<'_>) -> Result<b
 
 /// Whether an item fails, in what holds it.
 #[cycle(items)]
-fn item_fails(test: Test<'_>, holder: &mut Holder, item: Item<'_>) -> Result<bool, AllocError> {
+fn item_fails(test: Test<'_>, holder: &mut Holder, item: Item<'_>) -> Result<bool, AllocError>
+    ensures keeps { OnOk result (Keeps test.entry.types.now holder.old holder.new) }
+    ensures fails { IfOk result (TellsPlain test.entry item.entry.kind (TellsOf test.entry holder.old item.entry)) }
+{
+    test.types.see_acyclic();
     if let Some(id) = interface_of(test.types, item.kind) {
         return interface_fails(test, id, Which::All);
     }
@@ -246,11 +253,31 @@ fn item_fails(test: Test<'_>, holder: &mut Holder, item: Item<'_>) -> Result<boo
 
 /// Whether an item fails, in what holds it, that no use gives.
 #[cycle(items)]
-fn ungiven_fails(test: Test<'_>, holder: &mut Holder, item: Item<'_>) -> Result<bool, AllocError> {
+fn ungiven_fails(test: Test<'_>, holder: &mut Holder, item: Item<'_>) -> Result<bool, AllocError>
+    ensures keeps { OnOk result (Keeps test.entry.types.now holder.old holder.new) }
+    ensures fails { IfOk result (TellsPlain test.entry item.entry.kind (TellsUngiven test.entry holder.old item.entry)) }
+{
     if holder.gives(test.alloc, test.types, item)? {
         return Ok(false);
     }
     item_fails(test, holder, item)
+}
+
+/// The same of one that is tested.
+#[cycle(items)]
+fn tested_fails(
+    test: Test<'_>,
+    holder: &mut Holder,
+    item: Item<'_>,
+    which: Which,
+) -> Result<bool, AllocError>
+    ensures keeps { OnOk result (Keeps test.entry.types.now holder.old holder.new) }
+    ensures fails { IfOk result (TellsPlain test.entry item.entry.kind (TellsTested test.entry holder.old which item.entry)) }
+{
+    if !is_tested(which, item.kind) {
+        return Ok(false);
+    }
+    ungiven_fails(test, holder, item)
 }
 
 /// Whether an export of an interface fails that no use gives.
@@ -260,10 +287,12 @@ fn exports_fail(
     holder: &mut Holder,
     id: InterfaceId,
     which: Which,
-) -> Result<bool, AllocError> {
+) -> Result<bool, AllocError>
+    ensures { IfOk result (TellsPlain test.entry (ItemKind.Instance id) (TellsExports test.entry holder.old which id)) }
+{
     for at in 0..export_count(test.types, id) {
         if let Some(item) = export_at(test.types, id, at) {
-            if is_tested(which, item.kind) && ungiven_fails(test, holder, item)? {
+            if tested_fails(test, holder, item, which)? {
                 return Ok(true);
             }
         }
@@ -272,7 +301,9 @@ fn exports_fail(
 }
 
 #[cycle(items)]
-fn interface_fails(test: Test<'_>, id: InterfaceId, which: Which) -> Result<bool, AllocError> {
+fn interface_fails(test: Test<'_>, id: InterfaceId, which: Which) -> Result<bool, AllocError>
+    ensures { IfOk result (TellsPlain test.entry (ItemKind.Instance id) (TellsInterface test.entry which id)) }
+{
     if test.unnamed.is_found(id) {
         return Ok(true);
     }
@@ -545,7 +576,9 @@ fn first_that_fails(
     test: Test<'_>,
     holder: &mut Holder,
     world: WorldId,
-) -> Result<Option<usize>, AllocError> {
+) -> Result<Option<usize>, AllocError>
+    ensures { IfOk result (TellsFirst test.entry holder.old world) }
+{
     for at in 0..import_count(test.types, world) {
         if let Some(item) = import_at(test.types, world, at) {
             if item_fails(test, holder, item)? {
@@ -557,7 +590,9 @@ fn first_that_fails(
 }
 
 /// The first outer import whose type cannot be written: its place.
-pub fn unwritable_outer(test: Test<'_>, world: WorldId) -> Result<Option<usize>, AllocError> {
+pub fn unwritable_outer(test: Test<'_>, world: WorldId) -> Result<Option<usize>, AllocError>
+    ensures { IfOk result (TellsOuter test.entry world) }
+{
     let mut holder = Holder::of_world(test.alloc, test.types, world)?;
     first_that_fails(test, &mut holder, world)
 }
@@ -577,7 +612,9 @@ fn wrapped_fails(test: Test<'_>, id: InterfaceId) -> Result<bool, AllocError> {
 }
 
 /// The interface with identifier that a definition is.
-fn wrapped_interface(types: &Types, kind: ItemKind) -> Option<InterfaceId> {
+fn wrapped_interface(types: &Types, kind: ItemKind) -> Option<InterfaceId>
+    ensures { result ≡ wrapped_in types.now kind }
+{
     match kind {
         ItemKind::Ty(ty) => match ty {
             Type::Interface(id) => match identifier(types, id) {
@@ -595,7 +632,10 @@ pub fn is_unwritable_definition(
     test: Test<'_>,
     outers: &mut Holder,
     item: Item<'_>,
-) -> Result<bool, AllocError> {
+) -> Result<bool, AllocError>
+    ensures keeps { OnOk result (Keeps test.entry.types.now outers.old outers.new) }
+    ensures fails { IfOk result (TellsUnwrapped test.entry outers.old item.entry) }
+{
     match wrapped_interface(test.types, item.kind) {
         Some(id) => wrapped_fails(test, id),
         None => item_fails(test, outers, item),
