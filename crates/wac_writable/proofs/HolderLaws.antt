@@ -253,7 +253,7 @@ module _ (c : Collection) (a : IsAcyclic c) where
   filled_at us at u s t distinct (e, there, is) h same =
       let o = value_at (exports_in c e.1.interface) (unwrap_or e.1.name e.0) in
       let taken_is : t ≡ with_use c s e.0 o = same ∙ ap (λ n. with_use c s n (value_at (exports_in c u.interface) u.there.now)) is.name ∙ ap (λ n. with_use c s e.0 (value_at (exports_in c u.interface) n)) is.there
-          ∙ ap (λ i. with_use c s e.0 (value_at (exports_in c i) (unwrap_or e.1.name e.0))) is.interface in
+      ∙ ap (λ i. with_use c s e.0 (value_at (exports_in c i) (unwrap_or e.1.name e.0))) is.interface in
       subst (λ l. IsFilled c t (holder (stated_uses c l) [])) (sym (take_next us at e there))
       (subst (λ t. IsFilled c t (holder (stated_uses c (take at us ++ e ∷ [])) [])) (sym taken_is)
       (filled_next (take at us) e s h (not_before us at e distinct there) o (λ k q. export_item_stands e.1.interface (unwrap_or e.1.name e.0) k q) (takes e)))

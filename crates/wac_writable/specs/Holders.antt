@@ -8,15 +8,18 @@ use Rattle.wac_types_base.specs.declared.item.«Type».{«Type» as TypeKind}
 use Rattle.wac_types_base.specs.declared.item.ItemKind.{ItemKind}
 use Rattle.wac_types_base.specs.contracts.ids.DefinedTypeIdPartialEq.TheImpl.{eq-value}
 use Rattle.wac_types_base.specs.Record.{Collection}
-use Rattle.wac_types_base.specs.Entries.{Name, with_values, has_name, put_name, put_entry}
+use Rattle.wac_types_base.specs.Entries.{Name, value_at, with_values, has_name, put_name, put_entry}
 use Rattle.wac_types_base.specs.Graph.{Among}
 use Rattle.wac_types_base.specs.Collection.{Stands}
 use Rattle.wac_types_base.specs.Stated.{Stated, kind_of, untyped, stated_of, uses_of, exports_of, root_name}
 use Rattle.wac_types_base.specs.Tree.{tree}
 use Rattle.wac_types_fit.specs.Trees.{OneOrApart}
 use Rattle.wac_composition.specs.Tests.{same_tree}
-use Rattle.wac_composition.specs.Writable.{is_resource, is_fresh, is_value_type, root_of, holder, value_fails}
+use Rattle.wac_composition.specs.Writable.{is_resource, is_fresh, is_value_type, root_of, is_given, is_used_value, holder, value_fails}
 use Rattle.wac_composition.specs.Writable.{Holder as Held}
+use Rattle.wac_graph_scopes.specs.declared.parts.Use.{Use}
+use Rattle.wac_graph_scopes.specs.declared.parts.Item.{Item}
+use Rattle.wac_graph_scopes.specs.Parts.{exports_of as exports_in}
 use Rattle.wac_writable.specs.declared.holder.Holder.{Holder}
 
 -- the items that are used, in their order, and the same root names
@@ -93,6 +96,31 @@ named_roots c n k ns = if is_fresh (n, stated_of c k) then put_name ns n else ns
 abbrev pub with_use : Collection → Holder → Name → Option ItemKind → Holder
 with_use c s n None = s
 with_use c s n (Some k) = record s { used = put_entry s.used n k; roots = resource_roots c k s.roots }
+
+-- with what a use takes, and with the root of a resource under its own name
+abbrev pub with_taken : Collection → Holder → Use → Holder
+with_taken c s u = with_use c s u.name.now (value_at (exports_in c u.interface) u.there.now)
+
+abbrev pub with_fresh : Collection → Holder → Item → Holder
+with_fresh c s x = record s { roots = named_roots c x.name.now x.kind s.roots }
+
+-- ---- answers
+
+-- of what stands, whether a used item is the type of a value type
+abbrev pub TellsUsedAs : Collection → ItemKind → ValueType → Bool → Type 0
+TellsUsedAs c k v b =
+    Stands c k → Stands c (ItemKind.Value v) → b ≡ is_used_as (stated_of c k) (stated_of c (ItemKind.Value v))
+
+-- whether a value type is one that is used
+abbrev pub TellsUsed : Collection → Holder → ValueType → Bool → Type 0
+TellsUsed c s v b =
+    Stands c (ItemKind.Value v) → (h : Held) → Shows c s h → b ≡ is_used_value h (stated_of c (ItemKind.Value v))
+
+-- whether a use gives the item
+abbrev pub TellsGiven : Collection → Holder → Item → Bool → Type 0
+TellsGiven c s x b = Stands c x.kind → (h : Held) → Shows c s h → b ≡ is_given h x.name.now (stated_of c x.kind)
+
+-- ---- what is added
 
 -- the root names with those of the resources among items, and all else as it was
 pub record AddsRoots (c : Collection) (old : Holder) (es : List (Name × Stated)) (new : Holder) : Type 0 where

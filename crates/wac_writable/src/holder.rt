@@ -3,18 +3,18 @@
 ghost use Rattle.std.specs.Prelude.{◌≡◌, [], Some, false, ◌↔◌, IsTrue, IsSome, OnOk, IfOk};
 ghost use Rattle.std.specs.Bool.{Decides};
 ghost use Rattle.wac_types_base.specs.declared.item.ItemKind.{ItemKind};
-ghost use Rattle.wac_types_base.specs.Entries.{value_at, has_name, put_name};
+ghost use Rattle.wac_types_base.specs.Entries.{has_name, put_name};
 ghost use Rattle.wac_types_base.specs.Record.{Collection};
 ghost use Rattle.wac_types_base.specs.Collection.{Stands};
 ghost use Rattle.wac_types_base.specs.Stated.{stated_of, uses_of, imports_of, exports_of};
 ghost use Rattle.wac_types_fit.specs.Errors.{steps_of};
 ghost use Rattle.wac_types_fit.specs.Trees.{Fit};
-ghost use Rattle.wac_composition.specs.Writable.{is_fresh, holder, is_given, is_used_value};
+ghost use Rattle.wac_composition.specs.Writable.{is_fresh, holder};
 ghost use Rattle.wac_composition.specs.Writable.{Holder as Held};
 ghost use Rattle.wac_composition.specs.NotWritten.{component_holder};
-ghost use Rattle.wac_graph_scopes.specs.Parts.{exports_of as exports_in};
-ghost use Rattle.wac_writable.specs.Holders.{Shows, Holds, IsFilled, AddsRoots, Remembers, tested_of, interface_holder, is_used_as, same_item};
-ghost use Rattle.wac_writable.specs.Holders.{value_in, resource_in, resource_roots, named_roots, with_use};
+ghost use Rattle.wac_writable.specs.Holders.{Shows, Holds, IsFilled, AddsRoots, Remembers, tested_of, interface_holder};
+ghost use Rattle.wac_writable.specs.Holders.{TellsUsedAs, TellsUsed, TellsGiven, same_item, value_in, resource_in};
+ghost use Rattle.wac_writable.specs.Holders.{resource_roots, with_use, with_taken, with_fresh};
 
 use crate::maps::insert_under;
 use indexmap::IndexMap;
@@ -24,7 +24,8 @@ use wac_graph_scopes::parts::{
     use_count, world_export_at, world_export_count, world_use_at, world_use_count,
 };
 use wac_types_base::{
-    DefinedTypeId, InterfaceId, ItemKind, NamedMap, Names, ResourceId, Type, Types, ValueType, WorldId,
+    DefinedTypeId, InterfaceId, ItemKind, NamedMap, Names, ResourceId, Type, Types, ValueType,
+    WorldId,
 };
 use wac_types_fit::{SubtypeChecker, SubtypeError, new_cache};
 
@@ -126,13 +127,11 @@ fn is_value_of(
     used: ItemKind,
     ty: ValueType,
 ) -> Result<bool, AllocError>
-    ensures { IfOk result (λ yes. Stands types.now used → Stands types.now (ItemKind.Value ty) → yes ≡ is_used_as (stated_of types.now used) (stated_of types.now (ItemKind.Value ty))) }
+    ensures { IfOk result (TellsUsedAs types.now used ty) }
 {
     types.see_acyclic();
     match value_of(used) {
-        Some(value) => {
-            is_same_item(alloc, types, ItemKind::Value(value), ItemKind::Value(ty))
-        }
+        Some(value) => { is_same_item(alloc, types, ItemKind::Value(value), ItemKind::Value(ty)) }
         None => Ok(false),
     }
 }
@@ -193,7 +192,7 @@ impl Holder {
 
     /// Adds the item that is used, and the root of a resource.
     fn add_use(&mut self, types: &Types, used: Use<'_>) -> Result<(), AllocError>
-        ensures { OnOk result (self.new ≡ with_use types.now self.old used.entry.name.now (value_at (exports_in types.now used.entry.interface) used.entry.there.now)) }
+        ensures { OnOk result (self.new ≡ with_taken types.now self.old used.entry) }
     {
         match export_named(types, used.interface, used.there) {
             Some(kind) => self.add_taken(types, used.name, kind),
@@ -203,7 +202,7 @@ impl Holder {
 
     /// Adds the root of a resource under its own name.
     fn add_fresh(&mut self, types: &Types, item: Item<'_>) -> Result<(), AllocError>
-        ensures { OnOk result (self.new ≡ record self.old { roots = named_roots types.now item.entry.name.now item.entry.kind self.old.roots }) }
+        ensures { OnOk result (self.new ≡ with_fresh types.now self.old item.entry) }
     {
         if is_fresh(types, item) {
             self.add_root(item.name)?;
@@ -301,7 +300,7 @@ impl Holder {
 
     /// Whether a use gives the item: under its name, with its tree.
     pub fn gives(&self, alloc: Global, types: &Types, item: Item<'_>) -> Result<bool, AllocError>
-        ensures { IfOk result (λ yes. Stands types.now item.entry.kind → (h : Held) → Shows types.now self.now h → yes ≡ is_given h item.entry.name.now (stated_of types.now item.entry.kind)) }
+        ensures { IfOk result (TellsGiven types.now self.now item.entry) }
     {
         match self.used.get(item.name) {
             Some(used) => is_same_item(alloc, types, *used, item.kind),
@@ -317,13 +316,8 @@ impl Holder {
     }
 
     /// Whether a value type is one that is used.
-    pub fn has_value(
-        &self,
-        alloc: Global,
-        types: &Types,
-        ty: ValueType,
-    ) -> Result<bool, AllocError>
-        ensures { IfOk result (λ yes. Stands types.now (ItemKind.Value ty) → (h : Held) → Shows types.now self.now h → yes ≡ is_used_value h (stated_of types.now (ItemKind.Value ty))) }
+    pub fn has_value(&self, alloc: Global, types: &Types, ty: ValueType) -> Result<bool, AllocError>
+        ensures { IfOk result (TellsUsed types.now self.now ty) }
     {
         for at in 0..self.used.len() {
             let (_, used) = self.used.entry(at);

@@ -1,7 +1,8 @@
 //! Interfaces without identifiers that are used.
 
 ghost use Rattle.std.specs.Prelude.{◌≡◌, [], Some, OnOk, IfOk};
-ghost use Rattle.wac_writable.specs.Unnamed.{Knows, KnowsAll, Learns, found_of, is_found, is_unnamed, uses_unnamed, world_uses_unnamed};
+ghost use Rattle.wac_writable.specs.Unnamed.{Knows, KnowsAll, Learns, found_of, is_found};
+ghost use Rattle.wac_writable.specs.Unnamed.{is_unnamed, uses_unnamed, world_uses_unnamed};
 
 use indexmap::IndexMap;
 use std::alloc::{AllocError, Global};

@@ -5,9 +5,8 @@ ghost use Rattle.wac_types_base.specs.declared.item.ValueType.{ValueType};
 ghost use Rattle.wac_types_base.specs.declared.item.ItemKind.{ItemKind};
 ghost use Rattle.wac_types_base.specs.declared.item.«Type».{«Type» as TypeKind};
 ghost use Rattle.wac_types_base.specs.Collection.{Stands};
-ghost use Rattle.wac_composition.specs.Writable.{Holder as Held};
-ghost use Rattle.wac_writable.specs.Holders.{Shows, Keeps, TellsIn};
-ghost use Rattle.wac_writable.specs.Values.{IsHandleOf, lacks_root, fails_unused, value_in_slot, id_fails, places_fail};
+ghost use Rattle.wac_writable.specs.Holders.{Keeps};
+ghost use Rattle.wac_writable.specs.Values.{IsHandleOf, TellsRoot, TellsUnused, TellsValue, TellsPlaces, value_in_slot};
 ghost use Rattle.wac_writable.specs.Items.{IsSimple, module_unwritable};
 ghost use Rattle.wac_writable.specs.Tests.{TellsPlain, TellsOf, TellsUngiven, TellsTested, TellsExports, TellsInterface};
 ghost use Rattle.wac_writable.specs.Tests.{is_tested, wrapped_in, TellsFirst, TellsOuter, TellsUnwrapped};
@@ -55,7 +54,7 @@ fn is_tested(which: Which, kind: ItemKind) -> bool
 
 /// Whether a handle's resource does not stand there.
 fn handle_fails(test: Test<'_>, holder: &Holder, id: ResourceId) -> bool
-    ensures { Stands test.entry.types.now (ItemKind.Ty (TypeKind.Resource id)) → (h : Held) → Shows test.entry.types.now holder.now h → result ≡ lacks_root test.entry.types.now id h }
+    ensures { TellsRoot test.entry.types.now holder.now id result }
 {
     test.types.see_acyclic();
     !holder.has_root(root_name(test.types, id))
@@ -68,7 +67,7 @@ fn unused_fails(
     ty: ValueType,
     fails: bool,
 ) -> Result<bool, AllocError>
-    ensures { IfOk result (λ b. Stands test.entry.types.now (ItemKind.Value ty) → (h : Held) → Shows test.entry.types.now holder.now h → b ≡ fails_unused test.entry.types.now ty fails h) }
+    ensures { IfOk result (TellsUnused test.entry.types.now holder.now ty fails) }
 {
     if !fails {
         return Ok(false);
@@ -85,7 +84,7 @@ fn unused_handle_fails(
     id: ResourceId,
 ) -> Result<bool, AllocError>
     requires { IsHandleOf ty id }
-    ensures { IfOk result (TellsIn test.entry.types.now holder.now (ItemKind.Value ty) (id_fails test.entry.types.now ty)) }
+    ensures { IfOk result (TellsValue test.entry.types.now holder.now ty) }
 {
     test.types.see_acyclic();
     let fails = handle_fails(test, holder, id);
@@ -106,7 +105,7 @@ fn value_in_place(place: Option<ItemKind>) -> Option<ValueType>
 #[cycle(values)]
 fn value_fails(test: Test<'_>, holder: &mut Holder, ty: ValueType) -> Result<bool, AllocError>
     ensures keeps { OnOk result (Keeps test.entry.types.now holder.old holder.new) }
-    ensures fails { IfOk result (TellsIn test.entry.types.now holder.old (ItemKind.Value ty) (id_fails test.entry.types.now ty)) }
+    ensures fails { IfOk result (TellsValue test.entry.types.now holder.old ty) }
 {
     test.types.see_acyclic();
     match ty {
@@ -119,13 +118,9 @@ fn value_fails(test: Test<'_>, holder: &mut Holder, ty: ValueType) -> Result<boo
 
 /// The same of a defined type, which is tested once.
 #[cycle(values)]
-fn defined_fails(
-    test: Test<'_>,
-    holder: &mut Holder,
-    id: DefinedTypeId,
-) -> Result<bool, AllocError>
+fn defined_fails(test: Test<'_>, holder: &mut Holder, id: DefinedTypeId) -> Result<bool, AllocError>
     ensures keeps { OnOk result (Keeps test.entry.types.now holder.old holder.new) }
-    ensures fails { IfOk result (TellsIn test.entry.types.now holder.old (ItemKind.Value (ValueType.Defined id)) (id_fails test.entry.types.now (ValueType.Defined id))) }
+    ensures fails { IfOk result (TellsValue test.entry.types.now holder.old (ValueType.Defined id)) }
 {
     test.types.see_acyclic();
     let ty = ValueType::Defined(id);
@@ -145,7 +140,7 @@ fn defined_fails(
 #[cycle(values)]
 fn places_fail(test: Test<'_>, holder: &mut Holder, kind: ItemKind) -> Result<bool, AllocError>
     ensures keeps { OnOk result (Keeps test.entry.types.now holder.old holder.new) }
-    ensures fails { IfOk result (TellsIn test.entry.types.now holder.old kind (places_fail test.entry.types.now kind)) }
+    ensures fails { IfOk result (TellsPlaces test.entry.types.now holder.old kind) }
 {
     if !test.types.has(kind) {
         return Ok(true);

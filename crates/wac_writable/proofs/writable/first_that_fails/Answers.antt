@@ -15,10 +15,12 @@ loop-at-init c = (λ d o h w. w, λ ka none h w. none_taken (import_unwritable c
 
 pub returns-then-branch : goal.returns-then-branch
 returns-then-branch c ka none h w =
-    let C = c.args.test.types.now in
-    ((c.in-Some.item.name.now, c.in-Some.item.kind), c.in-Some.ensures.entry,
-    sym (c.in_ok-item_fails.ensures.fails ka (none c.loop-at.at c.in-Some.item.name.now c.in-Some.item.kind c.in-Some.ensures.entry) c.in-Some.ensures.inside.0 h (c.loop-at.invariant.0 C (inl refl) h w)) ∙ c.if-branch.true,
-    c.loop-at.invariant.1 ka none h w)
+    let C = c.args.test.types.now in (
+      (c.in-Some.item.name.now, c.in-Some.item.kind),
+      c.in-Some.ensures.entry,
+      sym (c.in_ok-item_fails.ensures.fails ka (none c.loop-at.at c.in-Some.item.name.now c.in-Some.item.kind c.in-Some.ensures.entry) c.in-Some.ensures.inside.0 h (c.loop-at.invariant.0 C (inl refl) h w)) ∙ c.if-branch.true,
+      c.loop-at.invariant.1 ka none h w,
+    )
 
 pub loop-at-preserved : goal.loop-at-preserved
 loop-at-preserved c = elim c.match-import_at.branch [
