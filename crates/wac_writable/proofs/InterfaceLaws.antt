@@ -181,7 +181,7 @@ module _ (c : Collection) (a : IsAcyclic c) (o : Bool) where
         let e = interface_node c id f.value f.at f.own in
         ap uses_of (stated_step c a (ItemKind.Instance id) (interface_entry f.value) e) ∙ sym (ap uses_of (stated_step c a (ItemKind.Ty (TypeKind.Interface id)) (type_of (interface_entry f.value).0, (interface_entry f.value).1) (type_node_is f.value e)))
 
-    same_exports : Stands c (ItemKind.Ty (TypeKind.Interface id)) → exports_of x ≡ exports_of y
+    pub same_exports : Stands c (ItemKind.Ty (TypeKind.Interface id)) → exports_of x ≡ exports_of y
     same_exports s =
         let f = interface_found c id (type_stands s) in
         let e = interface_node c id f.value f.at f.own in

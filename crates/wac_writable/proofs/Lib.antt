@@ -7,3 +7,4 @@ pub mod ValueLaws
 pub mod SimpleLaws
 pub mod InterfaceLaws
 pub mod RootLaws
+pub mod GivenLaws

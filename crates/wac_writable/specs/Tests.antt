@@ -1,5 +1,5 @@
 -- What a test answers of items.
-use Rattle.std.specs.Prelude.{◌≡◌, ◌&&◌, ◌||◌, not, ℕ, Bool, true, false, List, take, Option, Some, None, is_some, slice_get, if◌then◌else◌}
+use Rattle.std.specs.Prelude.{◌≡◌, ◌&&◌, ◌||◌, not, ℕ, Bool, true, false, List, take, Option, Some, None, is_some, option_map, slice_get, if◌then◌else◌}
 use Rattle.std.specs.List.{list_any}
 use Rattle.wac_types_base.specs.declared.ids.InterfaceId.{InterfaceId}
 use Rattle.wac_types_base.specs.declared.ids.WorldId.{WorldId}
@@ -7,12 +7,13 @@ use Rattle.wac_types_base.specs.declared.item.«Type».{«Type» as TypeKind}
 use Rattle.wac_types_base.specs.declared.item.ItemKind.{ItemKind}
 use Rattle.wac_types_base.specs.Record.{Collection}
 use Rattle.wac_types_base.specs.Entries.{Name}
-use Rattle.wac_types_base.specs.Collection.{item_node}
+use Rattle.wac_types_base.specs.Collection.{Stands, item_node}
 use Rattle.wac_types_base.specs.Reaching.{Reaches}
-use Rattle.wac_types_base.specs.Stated.{stated_of}
-use Rattle.wac_composition.specs.Writable.{is_given}
+use Rattle.wac_types_base.specs.Stated.{Used, stated_of}
+use Rattle.wac_composition.specs.Writable.{is_given, item_in, stands_as}
 use Rattle.wac_composition.specs.Writable.{Holder as Held}
 use Rattle.wac_composition.specs.NotWritten.{component_holder}
+use Rattle.wac_graph_scopes.specs.declared.parts.Use.{Use}
 use Rattle.wac_graph_scopes.specs.declared.parts.Item.{Item}
 use Rattle.wac_graph_scopes.specs.Parts.{exports_of as exports_in, imports_of as imports_in, interface_in, identifier_in}
 use Rattle.wac_writable.specs.declared.holder.Holder.{Holder}
@@ -104,3 +105,21 @@ wrapped_in c k = None
 -- of any other, whether it cannot be written in what the holder has
 abbrev pub TellsUnwrapped : Test → Holder → Item → Bool → Type 0
 TellsUnwrapped t s x b = wrapped_in t.types.now x.kind ≡ None → TellsPlain t x.kind (TellsOf t s x) b
+
+-- ---- uses
+
+-- a use, as it is stated
+abbrev pub used_of : Collection → Use → Used
+used_of c u = record { name = u.name.now; there = Some u.there.now; interface = stated_of c (ItemKind.Instance u.interface) }
+
+-- an import has what is used, a resource with its tree
+abbrev pub given_by : Collection → ItemKind → Use → Bool
+given_by c import u = stands_as (item_in (stated_of c (ItemKind.Instance u.interface)) (used_of c u)) (item_in (stated_of c import) (used_of c u))
+
+-- what there is stands for the item
+abbrev pub stands_in : Collection → ItemKind → Option ItemKind → Bool
+stands_in c k o = stands_as (Some (stated_of c k)) (option_map (stated_of c) o)
+
+-- of an import that is no component and no world, whether it has what is used
+abbrev pub TellsGivenBy : Test → ItemKind → Use → Bool → Type 0
+TellsGivenBy t import u b = Stands t.types.now import → (IsOfSomeWorld import → ⊥) → b ≡ given_by t.types.now import u

@@ -1,15 +1,15 @@
 //! Which types cannot be written.
 
-ghost use Rattle.std.specs.Prelude.{◌≡◌, OnOk, IfOk};
+ghost use Rattle.std.specs.Prelude.{◌≡◌, is_some, IfSome, OnOk, IfOk};
 ghost use Rattle.wac_types_base.specs.declared.item.ValueType.{ValueType};
 ghost use Rattle.wac_types_base.specs.declared.item.ItemKind.{ItemKind};
 ghost use Rattle.wac_types_base.specs.declared.item.«Type».{«Type» as TypeKind};
 ghost use Rattle.wac_types_base.specs.Collection.{Stands};
-ghost use Rattle.wac_writable.specs.Holders.{Keeps};
+ghost use Rattle.wac_writable.specs.Holders.{Keeps, resource_in};
 ghost use Rattle.wac_writable.specs.Values.{IsHandleOf, TellsRoot, TellsUnused, TellsValue, TellsPlaces, value_in_slot};
 ghost use Rattle.wac_writable.specs.Items.{IsSimple, module_unwritable};
 ghost use Rattle.wac_writable.specs.Tests.{TellsPlain, TellsOf, TellsUngiven, TellsTested, TellsExports, TellsInterface};
-ghost use Rattle.wac_writable.specs.Tests.{is_tested, wrapped_in, TellsFirst, TellsOuter, TellsUnwrapped};
+ghost use Rattle.wac_writable.specs.Tests.{is_tested, wrapped_in, stands_in, TellsFirst, TellsOuter, TellsUnwrapped, TellsGivenBy};
 
 use crate::holder::{Holder, is_same_item};
 use crate::modules::is_writable_module;
@@ -308,21 +308,40 @@ fn interface_fails(test: Test<'_>, id: InterfaceId, which: Which) -> Result<bool
 
 // ---- component types
 
+fn is_resource_item(kind: ItemKind) -> bool
+    ensures { result ≡ is_some (resource_in kind) }
+{
+    matches!(kind, ItemKind::Ty(Type::Resource(_)))
+}
+
+/// Whether one item stands for another that is used: a resource with its tree.
+fn stands_for(test: Test<'_>, item: ItemKind, there: Option<ItemKind>) -> Result<bool, AllocError>
+    requires item { Stands test.types.now item }
+    requires there { IfSome there (Stands test.types.now) }
+    ensures { IfOk result (λ b. b ≡ stands_in test.entry.types.now item there) }
+{
+    test.types.see_acyclic();
+    let Some(there) = there else {
+        return Ok(false);
+    };
+    if is_resource_item(item) {
+        return is_same_item(test.alloc, test.types, item, there);
+    }
+    Ok(true)
+}
+
 /// Whether the import of a used interface gives what is used; a resource as itself.
-fn gives_used(test: Test<'_>, import: ItemKind, used: Use<'_>) -> Result<bool, AllocError> {
+fn gives_used(test: Test<'_>, import: ItemKind, used: Use<'_>) -> Result<bool, AllocError>
+    ensures { IfOk result (TellsGivenBy test.entry import used.entry) }
+{
+    test.types.see_acyclic();
     let Some(item) = export_named(test.types, used.interface, used.there) else {
         return Ok(true);
     };
     let Some(id) = interface_of(test.types, import) else {
         return Ok(false);
     };
-    match export_named(test.types, id, used.there) {
-        None => Ok(false),
-        Some(there) => match item {
-            ItemKind::Ty(Type::Resource(_)) => is_same_item(test.alloc, test.types, item, there),
-            _ => Ok(true),
-        },
-    }
+    stands_for(test, item, export_named(test.types, id, used.there))
 }
 
 /// A component type whose items use interfaces.
