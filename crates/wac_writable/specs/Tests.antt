@@ -114,7 +114,8 @@ used_of c u = record { name = u.name.now; there = Some u.there.now; interface = 
 
 -- an import has what is used, a resource with its tree
 abbrev pub given_by : Collection → ItemKind → Use → Bool
-given_by c import u = stands_as (item_in (stated_of c (ItemKind.Instance u.interface)) (used_of c u)) (item_in (stated_of c import) (used_of c u))
+given_by c import u =
+    stands_as (item_in (stated_of c (ItemKind.Instance u.interface)) (used_of c u)) (item_in (stated_of c import) (used_of c u))
 
 -- what there is stands for the item
 abbrev pub stands_in : Collection → ItemKind → Option ItemKind → Bool

@@ -9,7 +9,8 @@ ghost use Rattle.wac_writable.specs.Holders.{Keeps, resource_in};
 ghost use Rattle.wac_writable.specs.Values.{IsHandleOf, TellsRoot, TellsUnused, TellsValue, TellsPlaces, value_in_slot};
 ghost use Rattle.wac_writable.specs.Items.{IsSimple, module_unwritable};
 ghost use Rattle.wac_writable.specs.Tests.{TellsPlain, TellsOf, TellsUngiven, TellsTested, TellsExports, TellsInterface};
-ghost use Rattle.wac_writable.specs.Tests.{is_tested, wrapped_in, stands_in, TellsFirst, TellsOuter, TellsUnwrapped, TellsGivenBy};
+ghost use Rattle.wac_writable.specs.Tests.{is_tested, wrapped_in, stands_in};
+ghost use Rattle.wac_writable.specs.Tests.{TellsFirst, TellsOuter, TellsUnwrapped, TellsGivenBy};
 
 use crate::holder::{Holder, is_same_item};
 use crate::modules::is_writable_module;
