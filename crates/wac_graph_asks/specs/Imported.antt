@@ -10,6 +10,7 @@ use Rattle.wac_types_base.specs.Collection.{Stands}
 use Rattle.wac_graph_scopes.specs.Parts.{imports_of}
 use Rattle.wac_graph_scopes.specs.declared.imports.Called.{Called}
 use Rattle.wac_composition.specs.Asks.{Ask}
+use Rattle.wac_composition.specs.Conflicts.{Cause}
 use Rattle.wac_merging.specs.declared.kept.Kept.{Kept}
 use Rattle.wac_merging.specs.Kept.{Spells}
 use Rattle.wac_merging.specs.Labelled.{each_label, labelled}
@@ -21,7 +22,7 @@ use Rattle.wac_graph_asks.specs.declared.outers.Outers.{Outers}
 use Rattle.wac_graph_asks.specs.declared.taken.Taken.{Taken}
 use Rattle.wac_graph_asks.specs.AsksIn.{asks_in}
 use Rattle.wac_graph_asks.specs.Classed.{AreLabels, AreSpellings}
-use Rattle.wac_graph_asks.specs.Takes.{AreSound, AreTaken}
+use Rattle.wac_graph_asks.specs.Takes.{AreSound, AreTaken, RefusesAll}
 use Rattle.wac_graph_asks.specs.Outers.{AreOuters}
 
 -- ---- imports
@@ -57,9 +58,16 @@ abbrev pub AddsImports : Collection → List HeldAsk → Classes → List (ℕ �
 AddsImports c held classes taken d imports =
     AreClassed c held classes → AreTaken c held (asks_in c held) classes.labels.items taken → AreImports d (asks_in c held) classes.labels.items (each_label classes.labels.items) imports
 
+abbrev pub MakesImports : (old : Asked) → Classes → List (ℕ × Taken) → (new : Asked) → List (Name × ItemKind) → Type 0
+MakesImports old classes taken new imports = AddsImports old.types old.asks.items classes taken new.types imports
+
 -- the world's imports are those
 abbrev pub MakesWorld : (old : Asked) → Classes → List (ℕ × Taken) → (new : Asked) → WorldId → Type 0
-MakesWorld old classes taken new w = AddsImports old.types old.asks.items classes taken new.types (imports_of new.types w)
+MakesWorld old classes taken new w = MakesImports old classes taken new (imports_of new.types w)
+
+-- an ask of these classes is refused
+abbrev pub RefusesIn : Asked → Classes → Cause ℕ → Type 0
+RefusesIn asked classes cause = RefusesAll asked.types asked.asks.items classes.labels.items cause
 
 -- ---- names
 

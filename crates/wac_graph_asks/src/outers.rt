@@ -9,8 +9,8 @@ ghost use Rattle.wac_graph_scopes.specs.declared.imports.Called.{Called};
 ghost use Rattle.wac_merging.specs.Kept.{Spells};
 ghost use Rattle.wac_graph_asks.specs.Asked.{KeepsAsked};
 ghost use Rattle.wac_graph_asks.specs.Named.{SpellsClass};
-ghost use Rattle.wac_graph_asks.specs.Takes.{ConflictsFor, HasNoConflict, HasNoneLabelled, IfConflict, IsNoConflict, Merges, MergesLabelled, RefusesAll};
-ghost use Rattle.wac_graph_asks.specs.Imported.{AddsImport, AddsImports, AddsName, AddsNames, CallsNames, MakesWorld, OutersOf};
+ghost use Rattle.wac_graph_asks.specs.Takes.{ConflictsFor, HasNoConflict, HasNoneLabelled, IfConflict, IsNoConflict, Merges, MergesLabelled};
+ghost use Rattle.wac_graph_asks.specs.Imported.{AddsImport, AddsImports, AddsName, AddsNames, CallsNames, MakesImports, MakesWorld, OutersOf, RefusesIn};
 ghost use Rattle.wac_graph_asks.specs.Outers.{AnswersOuters};
 
 use crate::asks::{Ask, Asked};
@@ -172,7 +172,7 @@ fn world_kept(
     taken: &IndexMap<usize, Taken>,
 ) -> Result<World, AllocError>
     ensures keeps { KeepsAsked asked.old asked.new }
-    ensures imports { IfOk result (λ w. AddsImports asked.old.types asked.old.asks.items classes.now taken.now.entries asked.new.types w.imports) }
+    ensures imports { IfOk result (λ w. MakesImports asked.old classes.now taken.now.entries asked.new w.imports) }
 {
     let mut world = bare_world(alloc, None);
     let imports = &mut world.imports;
@@ -235,7 +235,7 @@ fn outers_of_classes(
     ensures merges { IfOk result (λ o. MergesLabelled asked.old.types asked.old.asks.items classes.now.labels.items) }
     ensures outers { IfOk result (OutersOf asked.old.types asked.old.asks.items classes.now asked.new.types) }
     ensures free { OnOk result (HasNoneLabelled asked.old.types asked.old.asks.items classes.now.labels.items) }
-    ensures refused { IfErr result (λ e. IfConflict e (RefusesAll asked.old.types asked.old.asks.items classes.now.labels.items)) }
+    ensures refused { IfErr result (λ e. IfConflict e (RefusesIn asked.old classes.now)) }
 {
     let taken = all_taken(alloc, &mut asked.types, &asked.asks, &classes.labels)?;
     outers_kept(alloc, asked, classes, &taken)

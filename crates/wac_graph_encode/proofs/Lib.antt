@@ -19,3 +19,4 @@ pub mod RootedDefinitions
 pub mod Beginning
 pub mod Nested
 pub mod Preparing
+pub mod Refusing

@@ -1,14 +1,14 @@
 -- What is nested in entries.
 use Rattle.std.specs.Prelude.{filter_map}
 use Rattle.std.specs.List.{AllZip, cons_option, list_any}
-use Rattle.std.proofs.Common.{◌≡◌, ℕ, Bool, true, false, true≢false, IsTrue, List, [], ◌∷◌, ◌++◌, map, fold, Option, Some, None, IsSome, Result, Ok, Err, IfOk, ◌⊎◌, inl, inr, refl, sym, ap, subst, ◌∙◌, if◌then◌else◌}
-use Rattle.std.proofs.lemmas.Option.{none-some, same_Some}
+use Rattle.std.proofs.Common.{◌≡◌, ℕ, Bool, true, false, true≢false, List, [], ◌∷◌, ◌++◌, map, Option, Some, None, IsSome, ◌⊎◌, inl, inr, refl, sym, ap, subst, ◌∙◌, if◌then◌else◌}
+use Rattle.std.proofs.lemmas.Option.{none-some}
 use Rattle.std.proofs.lemmas.List.{map-append, append-nil}
-use Rattle.wac_types_base.specs.Entries.{Name, AreDistinct, names_of}
+use Rattle.wac_types_base.specs.Entries.{Name, AreDistinct}
 use Rattle.wac_types_base.specs.Graph.{Among}
 use Rattle.wac_types_base.proofs.Adding.{Among-left, Among-right}
 use Rattle.wac_types_names.specs.Packaged.{Packaged}
-use Rattle.wac_types_names.specs.Keys.{Key, package_key}
+use Rattle.wac_types_names.specs.Keys.{package_key}
 use Rattle.wac_graph_bytes.specs.declared.entry.Entry.{Entry as CodeEntry}
 use Rattle.wac_graph_bytes.specs.Entries.{Entry, Core, Nested, Instantiate, Aliased, Typed, Imported, Exported, Declarations, End, CoreThen, TypeThen, ComponentTypeThen, InstanceTypeThen, AliasThen, ImportThen, ExportThen}
 use Rattle.wac_graph_bytes.specs.Views.{view, declarations_of}
@@ -26,7 +26,7 @@ use Rattle.wac_graph_asks.specs.Asked.{package_ids, with_id, with_ids}
 use Rattle.wac_graph_asks.proofs.ByNode.{entry_there}
 use Rattle.wac_graph_asks.proofs.Origins.{node_among, among_mapped}
 use Rattle.wac_graph_encode.specs.declared.root.Root.{Root}
-use Rattle.wac_graph_encode.specs.Encoding.{nested_in, nested_at, bytes_in, bytes_of, IsInstantiated, NestsPackages}
+use Rattle.wac_graph_encode.specs.Encoding.{nested_in, nested_at, bytes_in, bytes_of, NestsPackages}
 use Rattle.wac_graph_encode.specs.Finished.{AreSpelled, NestsBytes}
 use Rattle.wac_graph_encode.specs.Nesting.{NestsBehind}
 use Rattle.wac_graph_encode.specs.Writing.{AddsEntry, AddsExports, IsExportOf}

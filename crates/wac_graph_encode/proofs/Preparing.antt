@@ -1,8 +1,6 @@
 -- What is asked of a graph is prepared, and its bytes mean the graph's wiring.
-use Rattle.std.specs.Prelude.{filter_map, fold, if◌then◌else◌}
-use Rattle.std.specs.List.{AllZip, list_any}
-use Rattle.std.proofs.Common.{◌≡◌, ℕ, Bool, true, false, List, [], ◌∷◌, ◌++◌, map, Option, Some, None, IsSome, Result, Ok, Err, IfOk, ◌⊎◌, inl, inr, refl, sym, ap, subst, ◌∙◌}
-use Rattle.std.proofs.lemmas.Option.{none-some}
+use Rattle.std.specs.List.{AllZip}
+use Rattle.std.proofs.Common.{◌≡◌, ℕ, true, true≢false, List, [], ◌∷◌, map, Option, Some, None, IsSome, Result, Ok, Err, IfOk, inl, inr, refl, sym, ap, subst, ◌∙◌}
 use Rattle.std.specs.declared.alloc.Global.{Global}
 use Rattle.std.specs.declared.vec.Vec.{Vec}
 use Rattle.wac_types_base.specs.declared.item.ItemKind.{ItemKind}
@@ -11,29 +9,27 @@ use Rattle.wac_types_base.specs.Entries.{names_of}
 use Rattle.wac_types_base.specs.Graph.{Among}
 use Rattle.wac_types_base.specs.Collection.{IsAcyclic, Grows}
 use Rattle.wac_types_base.specs.Stated.{stated_of}
-use Rattle.wac_types_base.specs.Tree.{tree}
 use Rattle.wac_types_base.proofs.Telling.{tree_stated}
 use Rattle.wac_types_names.specs.Packaged.{Packaged}
 use Rattle.wac_graph_bytes.specs.Typing.{Worlds}
 use Rattle.wac_graph_core.specs.declared.ids.PackageId.{PackageId}
-use Rattle.wac_graph_core.specs.contracts.ids.PackageIdPartialEq.TheImpl.{eq-value}
 use Rattle.wac_graph_core.specs.Nodes.{NodeData}
 use Rattle.wac_graph_core.specs.Graph.{Graph, IsGraph, node_at, package_of, package_if, package_made, instantiated}
-use Rattle.wac_graph_scopes.proofs.OrderLaws.{among-either}
 use Rattle.wac_graph_asks.specs.declared.asks.Asked.{Asked}
 use Rattle.wac_graph_asks.specs.declared.asks.Definition.{Definition}
 use Rattle.wac_graph_asks.specs.declared.outers.Outers.{Outers}
 use Rattle.wac_graph_asks.specs.Graphs.{nodes_of}
-use Rattle.wac_graph_asks.specs.Asked.{package_ids, with_id, with_ids, placed_in, KeepsAsked, IsAsked}
-use Rattle.wac_graph_asks.specs.Outers.{IsOuters, AnswersOuters}
+use Rattle.wac_graph_asks.specs.Asked.{package_ids, with_ids, placed_in, KeepsAsked, IsAsked}
+use Rattle.wac_graph_asks.specs.Outers.{AnswersOuters}
 use Rattle.wac_graph_asks.proofs.Asking.{copy_kept}
 use Rattle.wac_graph_asks.proofs.ByNode.{entry_there}
 use Rattle.wac_graph_asks.proofs.Lasting.{outers_stay}
+use Rattle.wac_graph_causes.specs.Alike.{AreHeld}
 use Rattle.wac_graph_encode.specs.declared.options.EncodeOptions.{EncodeOptions}
 use Rattle.wac_graph_encode.specs.Beginning.{AreTold}
-use Rattle.wac_graph_encode.specs.Defining.{IsToWrite, AreToWrite}
+use Rattle.wac_graph_encode.specs.Defining.{AreToWrite}
 use Rattle.wac_graph_encode.specs.Encoding.{AreTrueOf}
-use Rattle.wac_graph_encode.specs.Formed.{IsFormed, AreFormed, FormsAll}
+use Rattle.wac_graph_encode.specs.Formed.{IsFormed, AreFormed}
 use Rattle.wac_graph_encode.specs.Finished.{IsPrepared, MeansAsked, MeansNested, NestsSo}
 use Rattle.wac_graph_encode.specs.Nesting.{IsTold}
 use Rattle.wac_graph_encode.proofs.Nested.{with_among, nests_packages}
@@ -46,7 +42,7 @@ module _ (g : Graph) (sound : IsGraph g) (finite_types : IsAcyclic g.types) (w :
   told_at k n id at of = go (package_of g id) refl ((sound.nodes k n at).of id of)
     where
       go : (o : Option Packaged) → package_of g id ≡ o → IsSome o → IsTold g w id
-      go None e s = absurd s
+      go None e s = absurd (true≢false (sym s))
       go (Some p) e s =
           let made : instantiated g k ≡ Some p = ap (package_made g) at ∙ ap (package_if g) of ∙ e in
           record {
@@ -92,7 +88,7 @@ module _ (g : Graph) (a : Asked) (o : Outers) (h : IsPrepared g a o) where
     pub means_nested : {E : Type 0} (options : EncodeOptions) (new : Asked) (definitions : Vec Definition Global) (r : Result (Vec ℕ Global) E) → Grows a.types new.types → new.packages ≡ a.packages
         → AreFormed g.types new.types a.definitions.items definitions.items → MeansAsked g new o definitions.items options r → NestsSo options.define_components g (names_of new.packages.entries) r → IfOk r (λ bytes. MeansNested g options bytes.items)
     means_nested options new definitions (Err e) grows packages formed means nests = tt
-    means_nested options new definitions (Ok bytes) grows packages formed means nests define =
+    means_nested options new definitions (Ok bytes) grows packages formed means nests = λ define.
         let ids : names_of new.packages.entries ≡ with_ids [] (package_ids g) = ap (λ p. names_of p.entries) packages ∙ h.packages in
         record {
           nests = nests_packages g sound (names_of new.packages.entries) bytes.items ids (nests define);
@@ -100,6 +96,13 @@ module _ (g : Graph) (a : Asked) (o : Outers) (h : IsPrepared g a o) where
               means define (outers_stay _ a.types new.types h.acyclic grows o.world o.called.items h.outers, to_write new.types definitions.items formed) w
               (all_told g sound finite_types w true_of (names_of new.packages.entries) ids);
         }
+
+-- it is still held once types are added
+pub held_prepared : (g : Graph) (a : Asked) (o : Outers) → IsPrepared g a o → (new : Asked) → Grows a.types new.types → new.packages ≡ a.packages → AreHeld g new o
+held_prepared g a o h new grows packages = record {
+  packages = ap (λ p. names_of p.entries) packages ∙ h.packages;
+  imports = outers_stay _ a.types new.types h.acyclic grows o.world o.called.items h.outers;
+}
 
 pub prepared : (g : Graph) (old new : Asked) (o : Outers) → IsAsked g old → KeepsAsked old new → AnswersOuters old new o → IsPrepared g new o
 prepared g old new o asked keeps answers = record {

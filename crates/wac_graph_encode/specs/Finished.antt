@@ -74,12 +74,12 @@ MeansAsked g asked outers xs options r =
 -- ---- once all is asked
 
 -- All that the graph asks has outer imports, and its definitions have copies, in one collection.
-pub record IsPrepared (g : Graph) (asked : Asked) (outers : Outers) : Type 0 where
-  pub acyclic : IsAcyclic asked.types
-  pub packages : names_of asked.packages.entries ≡ with_ids [] (package_ids g)
-  pub definitions : map (placed_in g.types) asked.definitions.items ≡ (composition_of g).definitions
-  pub copies : AreCopied g.types asked.types asked.definitions.items
-  pub outers : IsOuters g asked.types outers.world outers.called.items
+pub record IsPrepared (g : Graph) (a : Asked) (o : Outers) : Type 0 where
+  pub acyclic : IsAcyclic a.types
+  pub packages : names_of a.packages.entries ≡ with_ids [] (package_ids g)
+  pub definitions : map (placed_in g.types) a.definitions.items ≡ (composition_of g).definitions
+  pub copies : AreCopied g.types a.types a.definitions.items
+  pub outers : IsOuters g a.types o.world o.called.items
 
 -- where packages are nested: those that are instantiated are, each once and unchanged, and the bytes mean the graph's wiring
 pub record IsComposed (g : Graph) (bytes : List ℕ) : Type 0 where
@@ -88,3 +88,7 @@ pub record IsComposed (g : Graph) (bytes : List ℕ) : Type 0 where
 
 abbrev pub MeansNested : Graph → EncodeOptions → List ℕ → Type 0
 MeansNested g options bytes = options.define_components ≡ true → IsComposed g bytes
+
+-- once it is prepared
+abbrev pub PreparedMeans : Graph → Asked → Outers → EncodeOptions → List ℕ → Type 0
+PreparedMeans g a o options bytes = IsPrepared g a o → MeansNested g options bytes

@@ -1,4 +1,3 @@
-pub mod Acyclic
 pub mod Encoding
 pub mod Formed
 pub mod Standing
@@ -8,3 +7,4 @@ pub mod Writing
 pub mod Rooting
 pub mod Nesting
 pub mod Beginning
+pub mod Refused

@@ -1,6 +1,6 @@
 -- Packages that are nested at the root of a component.
 pub use Rattle.wac_graph_encode.specs.Encoding.{bytes_in, bytes_of}
-use Rattle.std.specs.Prelude.{◌≡◌, ℕ, ◌+◌, List, [], ◌∷◌, length, map, Option, None, Some, Result, OnOk, true, if◌then◌else◌}
+use Rattle.std.specs.Prelude.{◌≡◌, ℕ, ◌+◌, List, [], ◌∷◌, length, map, Some, Result, OnOk, true, if◌then◌else◌}
 use Rattle.indexmap.specs.IndexMap.{insert_entry, insert_all}
 use Rattle.wac_types_base.specs.declared.item.ItemKind.{ItemKind}
 use Rattle.wac_types_base.specs.Entries.{names_of}

@@ -6,14 +6,13 @@ ghost use Rattle.wac_types_base.specs.Collection.{Stands};
 ghost use Rattle.wac_types_base.specs.Entries.{names_of};
 ghost use Rattle.wac_graph_bytes.specs.Views.{view};
 ghost use Rattle.wac_graph_core.specs.Graph.{Graph};
-ghost use Rattle.wac_graph_asks.specs.Asked.{KeepsAsked};
+ghost use Rattle.wac_graph_asks.specs.Asked.{IsAsked, KeepsAsked};
 ghost use Rattle.wac_graph_asks.specs.AskedUses.{CopiesStand};
 ghost use Rattle.wac_graph_asks.specs.Outers.{AnswersOuters};
-ghost use Rattle.wac_graph_encode.specs.Acyclic.{IsNoCycle};
-ghost use Rattle.wac_graph_encode.specs.Finished.{AreSpelled, IsPrepared, MeansAsked, MeansNested, MeansWired, NestsSo, NestsWired};
+ghost use Rattle.wac_graph_causes.specs.Acyclic.{IsNoCycle};
+ghost use Rattle.wac_graph_encode.specs.Refused.{HasNoneAlike, HasNoneClashing, IsErrorFor, IsFree, IsRefusedFor};
+ghost use Rattle.wac_graph_encode.specs.Finished.{AreSpelled, IsPrepared, MeansAsked, MeansNested, MeansWired, NestsSo, NestsWired, PreparedMeans};
 
-use crate::conflicts::{check_implicit, check_names, check_writable};
-use crate::errors::{EncodeError, Refusal, error_of};
 use crate::forms::written_definitions;
 use crate::instances::Wired;
 use crate::options::{EncodeOptions, Encoded};
@@ -23,6 +22,10 @@ use std::alloc::{AllocError, Global};
 use wac_graph_asks::asks::{Asked, Definition, asked_by};
 use wac_graph_asks::outers::{Outers, outers_of};
 use wac_graph_bytes::{Entry, SortNames, push_component};
+use wac_graph_causes::errors::{EncodeError, Refusal, Unwritten, error_of};
+use wac_graph_causes::implicit::check_implicit;
+use wac_graph_causes::names::check_names;
+use wac_graph_causes::writable::check_writable;
 use wac_graph_core::CompositionGraph;
 use wac_graph_scopes::imports::Importing;
 use wac_types_base::{Types, WorldId};
@@ -33,7 +36,7 @@ fn bytes_of_entries(
     entries: &[Entry],
     names: &[SortNames],
     options: &EncodeOptions,
-) -> Result<Vec<u8>, Refusal>
+) -> Result<Vec<u8>, Unwritten>
     ensures { IfOk result (λ bytes. AreSpelled (map view entries.now) bytes.items) }
 {
     let mut bytes = Vec::new(alloc);
@@ -43,7 +46,7 @@ fn bytes_of_entries(
 }
 
 /// The bytes of a composition, where nothing of it is written yet.
-fn bytes_wired(writing: Writing<'_>, wired: &mut Wired<'_>) -> Result<Vec<u8>, Refusal>
+fn bytes_wired(writing: Writing<'_>, wired: &mut Wired<'_>) -> Result<Vec<u8>, Unwritten>
     requires { wired.old.outers ≡ [] }
     ensures means { MeansWired writing.entry wired.old result }
     ensures nests { NestsWired writing.entry wired.old result }
@@ -62,7 +65,7 @@ fn bytes_of(
     outers: &Outers,
     definitions: &[Definition],
     options: &EncodeOptions,
-) -> Result<Vec<u8>, Refusal>
+) -> Result<Vec<u8>, Unwritten>
     ensures means { MeansAsked graph.now asked.now outers.now definitions.now options.now result }
     ensures nests { NestsSo options.now.define_components graph.now (names_of asked.now.packages.entries) result }
 {
@@ -90,7 +93,7 @@ fn world_of(
     outers: &Outers,
     definitions: &[Definition],
     number: u64,
-) -> Result<(Types, WorldId), Refusal>
+) -> Result<(Types, WorldId), Unwritten>
     ensures number { IfOk result (λ p. p.0.number ≡ number) }
     ensures stands { IfOk result (λ p. Stands p.0 (ItemKind.Component p.1)) }
 {
@@ -98,7 +101,7 @@ fn world_of(
     let world = composed_world(alloc, graph, asked, outers, definitions, &mut types)?;
     match world {
         Some(id) => Ok((types, id)),
-        None => Err(Refusal::TooLarge),
+        None => Err(Unwritten::TooLarge),
     }
 }
 
@@ -110,14 +113,23 @@ fn bytes_asked(
     outers: &Outers,
 ) -> Result<(Vec<u8>, Vec<Definition>), Refusal>
     requires { CopiesStand asked.old.types asked.old.definitions.items }
-    ensures { IfOk result (λ p. IsPrepared graph.now asked.old outers.now → MeansNested graph.now options.now p.0.items) }
+    ensures means { IfOk result (λ p. PreparedMeans graph.now asked.old outers.now options.now p.0.items) }
+    ensures apart { OnOk result (IsPrepared graph.now asked.old outers.now → HasNoneAlike options.now graph.now) }
+    ensures refused { IfErr result (λ e. IsPrepared graph.now asked.old outers.now → IsRefusedFor options.now graph.now e) }
 {
     graph.see_sound();
     graph.types().see_acyclic();
     let alloc = graph.alloc();
     let definitions = written_definitions(alloc, &mut asked.types, &asked.definitions)?;
     let bytes = bytes_of(graph, asked, outers, &definitions, options)?;
-    check_names(alloc, graph, asked, outers, options)?;
+    check_names(
+        alloc,
+        graph,
+        asked,
+        outers,
+        options.define_components,
+        options.validate,
+    )?;
     Ok((bytes, definitions))
 }
 
@@ -130,7 +142,9 @@ fn encoded_asked(
     number: u64,
 ) -> Result<Encoded, Refusal>
     requires { CopiesStand asked.old.types asked.old.definitions.items }
-    ensures means { IfOk result (λ e. IsPrepared graph.now asked.old outers.now → MeansNested graph.now options.now e.bytes.items) }
+    ensures means { IfOk result (λ e. PreparedMeans graph.now asked.old outers.now options.now e.bytes.items) }
+    ensures apart { OnOk result (IsPrepared graph.now asked.old outers.now → HasNoneAlike options.now graph.now) }
+    ensures refused { IfErr result (λ e. IsPrepared graph.now asked.old outers.now → IsRefusedFor options.now graph.now e) }
     ensures number { IfOk result (λ e. e.types.number ≡ number) }
     ensures stands { IfOk result (λ e. Stands e.types (ItemKind.Component e.world)) }
 {
@@ -152,11 +166,13 @@ fn outers_checked(
 ) -> Result<Outers, Refusal>
     ensures keeps { OnOk result (KeepsAsked asked.old asked.new) }
     ensures outers { IfOk result (AnswersOuters asked.old asked.new) }
+    ensures free { OnOk result (IsAsked graph.now asked.old → HasNoneClashing graph.now) }
+    ensures refused { IfErr result (λ e. IsAsked graph.now asked.old → IsRefusedFor options.now graph.now e) }
 {
     let alloc = graph.alloc();
-    check_implicit(alloc, graph, &asked.asks)?;
+    check_implicit(alloc, graph, asked)?;
     let outers = outers_of(alloc, asked)?;
-    check_writable(alloc, graph, asked, &outers, options)?;
+    check_writable(alloc, graph, asked, &outers, options.define_components)?;
     Ok(outers)
 }
 
@@ -167,6 +183,8 @@ fn encoded(
     numbers: (u64, u64),
 ) -> Result<Encoded, Refusal>
     ensures means { IfOk result (λ e. MeansNested graph.now options.now e.bytes.items) }
+    ensures free { OnOk result (IsFree options.now graph.now) }
+    ensures refused { IfErr result (IsRefusedFor options.now graph.now) }
     ensures number { IfOk result (λ e. e.types.number ≡ numbers.1) }
     ensures stands { IfOk result (λ e. Stands e.types (ItemKind.Component e.world)) }
 {
@@ -192,6 +210,8 @@ pub trait EncodeGraph {
     /// The bytes of the composition.
     fn encode(&self, options: EncodeOptions) -> Result<Vec<u8>, EncodeError>
         ensures means { IfOk result (λ bytes. MeansNested (graph self.now) options bytes.items) }
+        ensures free { OnOk result (IsFree options (graph self.now)) }
+        ensures refused { IfErr result (IsErrorFor options (graph self.now)) }
         ensures acyclic { IfErr result IsNoCycle };
 
     /// The bytes of the composition, and the world that is true of them, in a collection of the second number. The
@@ -202,6 +222,8 @@ pub trait EncodeGraph {
         numbers: (u64, u64),
     ) -> Result<Encoded, EncodeError>
         ensures means { IfOk result (λ e. MeansNested (graph self.now) options e.bytes.items) }
+        ensures free { OnOk result (IsFree options (graph self.now)) }
+        ensures refused { IfErr result (IsErrorFor options (graph self.now)) }
         ensures number { IfOk result (λ e. e.types.number ≡ numbers.1) }
         ensures stands { IfOk result (λ e. Stands e.types (ItemKind.Component e.world)) }
         ensures acyclic { IfErr result IsNoCycle };

@@ -11,13 +11,13 @@ ghost use Rattle.wac_graph_scopes.specs.Items.{sort_of};
 ghost use Rattle.wac_graph_encode.specs.Beginning.{IsBare};
 ghost use Rattle.wac_graph_encode.specs.Writing.{Finishes, AddsArgument, AddsCalled, AddsEntry, AddsExport, AddsExports, AddsGiven, AddsNeeded, AddsOnly, AllStand, AreCalled, AreGivenIn, Below, GivesUnder, IfYes, IsAliasAt, IsSameRoot, KeepsNodes, KeepsWritten, PassesAll, UpTo, UpToOne, WritesInstance, WritesNode, exported_as, noted, NestsNoMore};
 
-use crate::errors::Refusal;
 use crate::labels::names_of_nodes;
 use crate::root::{Root, push_entry};
 use indexmap::IndexMap;
 use std::alloc::{AllocError, Global};
 use wac_graph_asks::nodes::{Arguments, import_name, kind_of, package_of, world_at};
 use wac_graph_bytes::{Entry, Export, NamedIndex, Sort, SortNames};
+use wac_graph_causes::errors::Unwritten;
 use wac_graph_core::{CompositionGraph, NodeId, PackageId};
 use wac_graph_scopes::imports::{Called, SortIndex};
 use wac_graph_scopes::parts::{import_at, import_count};
@@ -329,7 +329,7 @@ impl<'a> Wired<'a> {
     }
 
     /// Writes an alias, where its source stands.
-    fn alias(&mut self, node: NodeId) -> Result<Option<SortIndex>, Refusal>
+    fn alias(&mut self, node: NodeId) -> Result<Option<SortIndex>, Unwritten>
         ensures writes { WritesNode node self.old self.new result }
         ensures same { OnOk result (IsSameRoot self.old self.new) }
         ensures nodes { OnOk result (self.new.root.nodes ≡ self.old.root.nodes) }
@@ -364,7 +364,7 @@ impl<'a> Wired<'a> {
     }
 
     /// Writes an instance, where its arguments stand.
-    fn instance(&mut self, id: PackageId, bound: &Arguments) -> Result<Option<SortIndex>, Refusal>
+    fn instance(&mut self, id: PackageId, bound: &Arguments) -> Result<Option<SortIndex>, Unwritten>
         ensures writes { WritesInstance id bound.now self.old self.new result }
         ensures same { OnOk result (IsSameRoot self.old self.new) }
         ensures nodes { OnOk result (self.new.root.nodes ≡ self.old.root.nodes) }
@@ -384,7 +384,7 @@ impl<'a> Wired<'a> {
     }
 
     /// Writes a node, where all stands that it needs.
-    fn written(&mut self, node: NodeId, bound: &Arguments) -> Result<Option<SortIndex>, Refusal>
+    fn written(&mut self, node: NodeId, bound: &Arguments) -> Result<Option<SortIndex>, Unwritten>
         requires { AreArguments self.old.graph.now node bound.now }
         ensures writes { WritesNode node self.old self.new result }
         ensures same { OnOk result (IsSameRoot self.old self.new) }
@@ -413,7 +413,7 @@ impl<'a> Wired<'a> {
     /// Writes a node behind those that it needs, unless it stands. No path of nodes is longer than there are nodes,
     /// since none needs itself, so the depth that is left lasts.
     #[cycle(nodes)]
-    fn write_node(&mut self, node: NodeId, depth: usize) -> Result<(), Refusal>
+    fn write_node(&mut self, node: NodeId, depth: usize) -> Result<(), Unwritten>
         ensures writes { KeepsWritten self.old self.new result }
         ensures keeps { OnOk result (KeepsNodes self.old self.new) }
         ensures only { OnOk result (AddsOnly (UpTo node) self.old self.new) }
@@ -428,7 +428,12 @@ impl<'a> Wired<'a> {
 
     /// Writes a node behind those that it needs.
     #[cycle(nodes)]
-    fn write_bound(&mut self, node: NodeId, bound: &Arguments, depth: usize) -> Result<(), Refusal>
+    fn write_bound(
+        &mut self,
+        node: NodeId,
+        bound: &Arguments,
+        depth: usize,
+    ) -> Result<(), Unwritten>
         requires bound { AreArguments self.old.graph.now node bound.now }
         requires new { Among node (names_of (noted self.old)) → ⊥ }
         ensures writes { KeepsWritten self.old self.new result }
@@ -448,7 +453,7 @@ impl<'a> Wired<'a> {
         node: NodeId,
         bound: &Arguments,
         depth: usize,
-    ) -> Result<(), Refusal>
+    ) -> Result<(), Unwritten>
         requires { AreArguments self.old.graph.now node bound.now }
         ensures writes { KeepsWritten self.old self.new result }
         ensures keeps { OnOk result (KeepsNodes self.old self.new) }
@@ -460,7 +465,7 @@ impl<'a> Wired<'a> {
 
     /// Writes nodes behind those that they need.
     #[cycle(nodes)]
-    fn write_each(&mut self, nodes: &[NodeId], depth: usize) -> Result<(), Refusal>
+    fn write_each(&mut self, nodes: &[NodeId], depth: usize) -> Result<(), Unwritten>
         ensures writes { KeepsWritten self.old self.new result }
         ensures keeps { OnOk result (KeepsNodes self.old self.new) }
         ensures only { OnOk result (AddsOnly (UpToOne nodes.now) self.old self.new) }
@@ -472,7 +477,7 @@ impl<'a> Wired<'a> {
     }
 
     /// Writes a node where those that it needs stand.
-    fn write_itself(&mut self, node: NodeId, bound: &Arguments) -> Result<(), Refusal>
+    fn write_itself(&mut self, node: NodeId, bound: &Arguments) -> Result<(), Unwritten>
         requires bound { AreArguments self.old.graph.now node bound.now }
         requires new { Among node (names_of (noted self.old)) → ⊥ }
         ensures writes { KeepsWritten self.old self.new result }
@@ -486,12 +491,12 @@ impl<'a> Wired<'a> {
                 Ok(())
             }
             // Each node that others need stands by now: imports are outer imports, definitions are written.
-            None => Err(Refusal::TooLarge),
+            None => Err(Unwritten::TooLarge),
         }
     }
 
     /// Writes all nodes, each behind those that it needs.
-    fn write_nodes(&mut self) -> Result<(), Refusal>
+    fn write_nodes(&mut self) -> Result<(), Unwritten>
         ensures writes { KeepsWritten self.old self.new result }
         ensures keeps { OnOk result (KeepsNodes self.old self.new) }
         ensures all { OnOk result (AllStand self.new.graph.now (noted self.new)) }
@@ -504,7 +509,7 @@ impl<'a> Wired<'a> {
     }
 
     /// Writes all that stands behind the root's types and imports; the names of nodes.
-    pub(crate) fn write_all(&mut self, called: &[Called]) -> Result<Vec<SortNames>, Refusal>
+    pub(crate) fn write_all(&mut self, called: &[Called]) -> Result<Vec<SortNames>, Unwritten>
         requires { self.old.outers ≡ [] }
         ensures finishes { Finishes called.now self.old self.new result }
         ensures nests { OnOk result (NestsNoMore self.old.root self.new.root) }

@@ -1,10 +1,8 @@
 //! The bytes and the world of a composition graph.
 #![tactic(auto)]
 
-mod conflicts;
 mod copying;
 pub mod encode;
-pub mod errors;
 mod forms;
 mod instances;
 mod labels;
@@ -15,8 +13,8 @@ mod without_uses;
 mod world;
 
 pub use encode::EncodeGraph;
-pub use errors::{EncodeError, ValidationFault};
 pub use laws::finished_entries_are_wired;
 pub use options::{EncodeOptions, Encoded};
 pub use wac_graph_asks::{asks_once_are_all_asks, first_name_of_a_definition, graphs_are_composed};
 pub use wac_graph_bytes::Processor;
+pub use wac_graph_causes::{EncodeError, ValidationFault};

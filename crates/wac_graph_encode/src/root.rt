@@ -19,14 +19,14 @@ ghost use Rattle.wac_graph_encode.specs.Defining.{AddsDefinitions, WritesDefinit
 ghost use Rattle.wac_graph_encode.specs.Beginning.{Begins, BeginsRoot, NestsThese};
 ghost use Rattle.wac_graph_encode.specs.Nesting.{NestsAll, NestsBehind, NestsIfDefined, NestsOne, bytes_of};
 
-use crate::conflicts::dependency_name;
-use crate::errors::{Refusal, not_written};
 use crate::options::EncodeOptions;
 use indexmap::IndexMap;
 use std::alloc::{AllocError, Global};
 use wac_graph_asks::asks::Definition;
 use wac_graph_asks::nodes::package_at;
 use wac_graph_bytes::{Alias, Declaration, Description, Entry, NamedIndex, Sort};
+use wac_graph_causes::errors::{Unwritten, not_written};
+use wac_graph_causes::names::dependency_name;
 use wac_graph_core::{CompositionGraph, NodeId, PackageId};
 use wac_graph_scopes::imports::{ImportScope, Importing, SortIndex};
 use wac_graph_scopes::items::ItemScope;
@@ -69,12 +69,12 @@ impl Drop for Root {
 }
 
 /// The number after this one.
-pub(crate) fn next_index(index: u32) -> Result<u32, Refusal>
+pub(crate) fn next_index(index: u32) -> Result<u32, Unwritten>
     ensures { IfOk result (λ next. next ≡ index + 1) }
 {
     match index.checked_add(1) {
         Some(next) => Ok(next),
-        None => Err(Refusal::TooLarge),
+        None => Err(Unwritten::TooLarge),
     }
 }
 
@@ -100,7 +100,7 @@ fn write_outer(
     all: Importing<'_>,
     scope: &mut ImportScope,
     at: usize,
-) -> Result<(), Refusal>
+) -> Result<(), Unwritten>
     ensures { WritesImport all.entry at scope.old scope.new result }
 {
     match scope.write_import(alloc, all, at) {
@@ -115,7 +115,7 @@ fn write_in_order(
     all: Importing<'_>,
     scope: &mut ImportScope,
     order: &[usize],
-) -> Result<(), Refusal>
+) -> Result<(), Unwritten>
     ensures { WritesInOrder all.entry order.now scope.old scope.new result }
 {
     for at in order {
@@ -125,7 +125,7 @@ fn write_in_order(
 }
 
 /// Writes the outer imports.
-fn write_outers(alloc: Global, all: Importing<'_>, scope: &mut ImportScope) -> Result<(), Refusal>
+fn write_outers(alloc: Global, all: Importing<'_>, scope: &mut ImportScope) -> Result<(), Unwritten>
     ensures { WritesOuters all.entry scope.old scope.new result }
 {
     scope.begin(alloc, all)?;
@@ -141,7 +141,7 @@ fn write_type(
     all: Importing<'_>,
     name: &str,
     item: ItemKind,
-) -> Result<Description, Refusal>
+) -> Result<Description, Unwritten>
     ensures item { WritesItem all.entry item scope.old scope.new result }
     ensures own { HasEntry item → WritesOwn all.entry scope.old scope.new result }
 {
@@ -162,7 +162,7 @@ fn write_definition(
     all: Importing<'_>,
     known: &mut KnownTypes,
     definition: &Definition,
-) -> Result<Description, Refusal>
+) -> Result<Description, Unwritten>
     ensures { WritesDefinition graph.now all.entry definition.now scope.old known.old scope.new known.new result }
 {
     graph.see_sound();
@@ -219,7 +219,7 @@ fn add_definition(
     all: Importing<'_>,
     definition: &Definition,
     defined: &mut Defined,
-) -> Result<(), Refusal>
+) -> Result<(), Unwritten>
     ensures { AddsDefinitions graph.now all.entry (definition.now ∷ []) scope.old defined.old scope.new defined.new result }
 {
     let description = write_definition(graph, scope, all, &mut defined.known, definition)?;
@@ -239,7 +239,7 @@ fn add_definitions(
     all: Importing<'_>,
     definitions: &[Definition],
     defined: &mut Defined,
-) -> Result<(), Refusal>
+) -> Result<(), Unwritten>
     ensures { AddsDefinitions graph.now all.entry definitions.now scope.old defined.old scope.new defined.new result }
 {
     for definition in definitions {
@@ -255,7 +255,7 @@ fn write_definitions(
     scope: &mut ImportScope,
     all: Importing<'_>,
     definitions: &[Definition],
-) -> Result<IndexMap<NodeId, SortIndex>, Refusal>
+) -> Result<IndexMap<NodeId, SortIndex>, Unwritten>
     ensures { IfOk result (λ nodes. WritesDefinitions graph.now all.entry definitions.now scope.old scope.new nodes.entries) }
 {
     let mut defined = Defined::new(graph.alloc());
@@ -269,7 +269,7 @@ fn import_item(
     scope: &mut ImportScope,
     all: Importing<'_>,
     item: Item<'_>,
-) -> Result<u32, Refusal> {
+) -> Result<u32, Unwritten> {
     let description = write_type(alloc, scope, all, item.name, item.kind)?;
     match scope.import(alloc, all.types, item, description) {
         Ok(place) => Ok(place.index),
@@ -285,7 +285,7 @@ fn import_package(
     id: PackageId,
     world: WorldId,
     packages: &mut IndexMap<PackageId, u32>,
-) -> Result<(), Refusal> {
+) -> Result<(), Unwritten> {
     let alloc = graph.alloc();
     let name = dependency_name(alloc, graph, id)?;
     let item = Item {
@@ -304,7 +304,7 @@ fn import_packages(
     all: Importing<'_>,
     worlds: &IndexMap<PackageId, WorldId>,
     packages: &mut IndexMap<PackageId, u32>,
-) -> Result<(), Refusal> {
+) -> Result<(), Unwritten> {
     for (id, world) in worlds.iter() {
         import_package(graph, scope, all, *id, *world, packages)?;
     }
@@ -366,7 +366,12 @@ fn push_nested(alloc: Global, entries: &mut Vec<Entry>, bytes: &[u8]) -> Result<
 }
 
 /// Nests a package of those bytes behind what is written.
-fn nest_package(alloc: Global, root: &mut Root, id: PackageId, bytes: &[u8]) -> Result<(), Refusal>
+fn nest_package(
+    alloc: Global,
+    root: &mut Root,
+    id: PackageId,
+    bytes: &[u8],
+) -> Result<(), Unwritten>
     ensures { OnOk result (NestsOne id bytes.now root.old root.new) }
 {
     let index = root.counts.components;
@@ -381,7 +386,7 @@ fn nest_packages(
     graph: &CompositionGraph,
     worlds: &IndexMap<PackageId, WorldId>,
     root: &mut Root,
-) -> Result<(), Refusal>
+) -> Result<(), Unwritten>
     ensures { OnOk result (NestsAll graph.now (names_of worlds.now.entries) root.old root.new) }
 {
     for id in worlds.keys() {
@@ -451,7 +456,7 @@ fn set_count(counts: &mut Counts, sort: Sort, next: u32)
 }
 
 /// The index of one more thing of a sort.
-fn count_one(counts: &mut Counts, sort: Sort) -> Result<u32, Refusal>
+fn count_one(counts: &mut Counts, sort: Sort) -> Result<u32, Unwritten>
     ensures index { IfOk result (λ k. k ≡ counted counts.old sort) }
     ensures counts { OnOk result (CountsOne sort counts.old counts.new) }
 {
@@ -463,7 +468,7 @@ fn count_one(counts: &mut Counts, sort: Sort) -> Result<u32, Refusal>
 
 impl Root {
     /// Adds an entry that adds one thing of a sort.
-    fn add(&mut self, entry: Entry, sort: Sort) -> Result<SortIndex, Refusal>
+    fn add(&mut self, entry: Entry, sort: Sort) -> Result<SortIndex, Unwritten>
         ensures { IfOk result (AddsIndex self.old self.new (view entry) sort) }
     {
         push_entry(&mut self.entries, entry)?;
@@ -478,7 +483,7 @@ impl Root {
         sort: Sort,
         instance: u32,
         name: &str,
-    ) -> Result<SortIndex, Refusal>
+    ) -> Result<SortIndex, Unwritten>
         ensures { IfOk result (AddsIndex self.old self.new (Aliased (ExportAlias sort instance name.now)) sort) }
     {
         let name = String::from_str(alloc, name)?;
@@ -490,7 +495,7 @@ impl Root {
         &mut self,
         component: u32,
         arguments: Vec<NamedIndex>,
-    ) -> Result<SortIndex, Refusal>
+    ) -> Result<SortIndex, Unwritten>
         ensures { IfOk result (AddsInstance self.old self.new component arguments.items) }
     {
         self.add(Entry::Instantiate(component, arguments), Sort::Instance)
@@ -526,7 +531,7 @@ fn nest_behind(
     worlds: &IndexMap<PackageId, WorldId>,
     scope: &mut ImportScope,
     root: &mut Root,
-) -> Result<(), Refusal>
+) -> Result<(), Unwritten>
     ensures { OnOk result (NestsBehind graph.now (names_of worlds.now.entries) scope.old root.old root.new) }
 {
     take_scope(graph.alloc(), scope, root)?;
@@ -540,7 +545,7 @@ fn import_before(
     all: Importing<'_>,
     scope: &mut ImportScope,
     root: &mut Root,
-) -> Result<(), Refusal> {
+) -> Result<(), Unwritten> {
     import_packages(graph, scope, all, worlds, &mut root.packages)?;
     take_scope(graph.alloc(), scope, root)?;
     Ok(())
@@ -551,7 +556,7 @@ fn write_packages(
     writing: Writing<'_>,
     scope: &mut ImportScope,
     root: &mut Root,
-) -> Result<(), Refusal>
+) -> Result<(), Unwritten>
     ensures nests { NestsIfDefined writing.entry scope.old root.old root.new result }
     ensures begins { Begins writing.entry scope.old root.old root.new result }
 {
@@ -563,7 +568,7 @@ fn write_packages(
 }
 
 /// Writes the types and the imports of a composition in a scope, and takes them with its packages.
-fn write_in(writing: Writing<'_>, scope: &mut ImportScope, root: &mut Root) -> Result<(), Refusal>
+fn write_in(writing: Writing<'_>, scope: &mut ImportScope, root: &mut Root) -> Result<(), Unwritten>
     requires { IsNewScope scope.old }
     ensures begins { BeginsRoot writing.entry root.old root.new result }
     ensures nests { NestsThese writing.entry root.old root.new result }
@@ -583,7 +588,7 @@ fn write_in(writing: Writing<'_>, scope: &mut ImportScope, root: &mut Root) -> R
 }
 
 /// Writes the types, the imports and the packages of a composition.
-pub(crate) fn write_root(writing: Writing<'_>, root: &mut Root) -> Result<(), Refusal>
+pub(crate) fn write_root(writing: Writing<'_>, root: &mut Root) -> Result<(), Unwritten>
     ensures begins { BeginsRoot writing.entry root.old root.new result }
     ensures nests { NestsThese writing.entry root.old root.new result }
 {

@@ -4,7 +4,7 @@ ghost use Rattle.std.specs.Prelude.{◌≡◌, IfOk, Some};
 ghost use Rattle.wac_types_base.specs.declared.item.ItemKind.{ItemKind};
 ghost use Rattle.wac_types_base.specs.Collection.{Stands};
 ghost use Rattle.wac_graph_core.specs.Graph.{Graph};
-ghost use Rattle.wac_graph_encode.specs.Acyclic.{IsNoCycle};
+ghost use Rattle.wac_graph_causes.specs.Acyclic.{IsNoCycle};
 ghost use Rattle.wac_graph_encode.specs.Finished.{MeansNested};
 ghost use Rattle.wac_parser_resolve.specs.Resolved.{graph_of};
 ghost use Rattle.wac_parser_encode.specs.Processing.{IsProcessed};

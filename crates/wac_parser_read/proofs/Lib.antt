@@ -1,6 +1,0 @@
-pub mod Behind
-pub mod Tried
-pub mod TextLaws
-pub mod Types
-pub mod Whiles
-pub mod Tokens

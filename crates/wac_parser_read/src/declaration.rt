@@ -8,43 +8,51 @@ ghost use Rattle.wac_parser_tree.specs.Trees as t;
 ghost use Rattle.wac_parser_tree.specs.Views.{view_ty, view_variant_case, view_variant_decl, view_field, view_record_decl, view_flag, view_flags_decl, view_enum_case, view_enum_decl, view_type_alias_kind, view_type_alias, view_type_decl, view_item_type_decl};
 ghost use Rattle.wac_parser_grammar.specs.Rules.{left};
 ghost use Rattle.wac_parser_grammar.specs.Reads.{Reads};
-ghost use Rattle.wac_parser_grammar.specs.Ahead as ahead;
 ghost use Rattle.wac_parser_grammar.specs.Declarations as grammar;
 
-use crate::base::{ended, none_of, optional, parse_token, sees, sees_any};
-use crate::lookahead::Lookahead;
-use crate::parse::{Parse, Peek, parse_delimited};
-use crate::text::{doc_comments, ident};
-use crate::value_type::{ALIAS_FIRST, FUNC_FIRST, TYPE_FIRST};
+use crate::parse::{Parse, parse_delimited};
 use std::alloc::Global;
 use wac_parser_grammar::{DeclaredType, Error, MemberKind, ParseResult};
 use wac_parser_lexer::{Lexer, Token};
+use wac_parser_terms::{
+    FUNC_FIRST, ITEM_TYPE_DECL_FIRST, Peek, TYPE_DECL_FIRST, TYPE_FIRST, doc_comments, ended,
+    ident, none_of, optional, parse_token, sees, sees_any,
+};
 use wac_parser_tree::{
     EnumCase, EnumDecl, Field, Flag, FlagsDecl, FuncType, ItemTypeDecl, NamedType, RecordDecl,
     ResourceDecl, Type, TypeAlias, TypeAliasKind, TypeDecl, VariantCase, VariantDecl,
 };
 
-/// The tokens with which a declaration of a document begins.
-pub(crate) const TYPE_DECL_FIRST: [Token; 5] = [
-    Token::VariantKeyword,
-    Token::RecordKeyword,
-    Token::FlagsKeyword,
-    Token::EnumKeyword,
-    Token::TypeKeyword,
-];
-
-/// The tokens with which a declaration of an interface or a world begins.
-pub(crate) const ITEM_TYPE_DECL_FIRST: [Token; 6] = [
-    Token::ResourceKeyword,
-    Token::VariantKeyword,
-    Token::RecordKeyword,
-    Token::FlagsKeyword,
-    Token::EnumKeyword,
-    Token::TypeKeyword,
+/// The tokens with which what an alias names begins.
+const ALIAS_FIRST: [Token; 24] = [
+    Token::AsyncKeyword,
+    Token::FuncKeyword,
+    Token::U8Keyword,
+    Token::S8Keyword,
+    Token::U16Keyword,
+    Token::S16Keyword,
+    Token::U32Keyword,
+    Token::S32Keyword,
+    Token::U64Keyword,
+    Token::S64Keyword,
+    Token::F32Keyword,
+    Token::F64Keyword,
+    Token::CharKeyword,
+    Token::BoolKeyword,
+    Token::StringKeyword,
+    Token::TupleKeyword,
+    Token::ListKeyword,
+    Token::OptionKeyword,
+    Token::ResultKeyword,
+    Token::BorrowKeyword,
+    Token::StreamKeyword,
+    Token::FutureKeyword,
+    Token::ErrorContextKeyword,
+    Token::Ident,
 ];
 
 /// The members of a declaration in braces, at least one. Each begins with its name.
-#[tactic(auto, using(crate::proofs::Behind::places))]
+#[tactic(auto, using(wac_parser_terms::proofs::Places::places))]
 fn members<'a, T: Parse<'a> + Peek>(
     alloc: Global,
     lexer: &mut Lexer<'a>,
@@ -70,7 +78,7 @@ fn members<'a, T: Parse<'a> + Peek>(
 }
 
 /// The type of a case in parentheses, or none.
-#[tactic(auto, using(crate::proofs::Behind::places), unfolding(wac_parser_grammar::specs::Declarations::case_type))]
+#[tactic(auto, using(wac_parser_terms::proofs::Places::places), unfolding(wac_parser_grammar::specs::Declarations::case_type))]
 fn case_type<'a>(alloc: Global, lexer: &mut Lexer<'a>) -> ParseResult<Option<Type<'a>>>
     ensures value { Reads (option_map view_ty) grammar.case_type lexer.old result lexer.new }
     ensures keeps { OnOk result (left lexer.new ≤ left lexer.old) }
@@ -83,16 +91,6 @@ fn case_type<'a>(alloc: Global, lexer: &mut Lexer<'a>) -> ParseResult<Option<Typ
     Ok(Some(ty))
 }
 
-impl<'a> Peek for VariantCase<'a> {
-    ghost first = { k.Ident ∷ [] };
-
-    fn peek(lookahead: &mut Lookahead) -> bool
-        ensures { ahead.Tries (k.Ident ∷ []) lookahead.old result lookahead.new }
-    {
-        lookahead.peek(Token::Ident)
-    }
-}
-
 impl<'a> Parse<'a> for VariantCase<'a> {
     ghost Plain = { t.VariantCase };
 
@@ -100,22 +98,12 @@ impl<'a> Parse<'a> for VariantCase<'a> {
 
     ghost rule = { grammar.variant_case };
 
-    #[tactic(auto, using(crate::proofs::Behind::places), unfolding(wac_parser_grammar::specs::Declarations::variant_case))]
+    #[tactic(auto, using(wac_parser_terms::proofs::Places::places), unfolding(wac_parser_grammar::specs::Declarations::variant_case))]
     fn parse(alloc: Global, lexer: &mut Lexer<'a>) -> ParseResult<VariantCase<'a>> {
         let docs = doc_comments(alloc, lexer)?;
         let id = ident(lexer)?;
         let ty = case_type(alloc, lexer)?;
         Ok(VariantCase { docs, id, ty })
-    }
-}
-
-impl<'a> Peek for VariantDecl<'a> {
-    ghost first = { k.VariantKeyword ∷ [] };
-
-    fn peek(lookahead: &mut Lookahead) -> bool
-        ensures { ahead.Tries (k.VariantKeyword ∷ []) lookahead.old result lookahead.new }
-    {
-        lookahead.peek(Token::VariantKeyword)
     }
 }
 
@@ -126,23 +114,13 @@ impl<'a> Parse<'a> for VariantDecl<'a> {
 
     ghost rule = { grammar.variant_decl };
 
-    #[tactic(auto, using(crate::proofs::Behind::places), unfolding(wac_parser_grammar::specs::Declarations::variant_decl, wac_parser_grammar::specs::Declarations::variant_cases))]
+    #[tactic(auto, using(wac_parser_terms::proofs::Places::places), unfolding(wac_parser_grammar::specs::Declarations::variant_decl, wac_parser_grammar::specs::Declarations::variant_cases))]
     fn parse(alloc: Global, lexer: &mut Lexer<'a>) -> ParseResult<VariantDecl<'a>> {
         let docs = doc_comments(alloc, lexer)?;
         parse_token(lexer, Token::VariantKeyword)?;
         let id = ident(lexer)?;
         let cases = members(alloc, lexer, DeclaredType::Variant, MemberKind::Case)?;
         Ok(VariantDecl { docs, id, cases })
-    }
-}
-
-impl<'a> Peek for Field<'a> {
-    ghost first = { k.Ident ∷ [] };
-
-    fn peek(lookahead: &mut Lookahead) -> bool
-        ensures { ahead.Tries (k.Ident ∷ []) lookahead.old result lookahead.new }
-    {
-        lookahead.peek(Token::Ident)
     }
 }
 
@@ -153,7 +131,7 @@ impl<'a> Parse<'a> for Field<'a> {
 
     ghost rule = { grammar.field };
 
-    #[tactic(auto, using(crate::proofs::Behind::places), unfolding(wac_parser_grammar::specs::Declarations::field))]
+    #[tactic(auto, using(wac_parser_terms::proofs::Places::places), unfolding(wac_parser_grammar::specs::Declarations::field))]
     fn parse(alloc: Global, lexer: &mut Lexer<'a>) -> ParseResult<Field<'a>> {
         let docs = doc_comments(alloc, lexer)?;
         let named = NamedType::parse(alloc, lexer)?;
@@ -165,16 +143,6 @@ impl<'a> Parse<'a> for Field<'a> {
     }
 }
 
-impl<'a> Peek for RecordDecl<'a> {
-    ghost first = { k.RecordKeyword ∷ [] };
-
-    fn peek(lookahead: &mut Lookahead) -> bool
-        ensures { ahead.Tries (k.RecordKeyword ∷ []) lookahead.old result lookahead.new }
-    {
-        lookahead.peek(Token::RecordKeyword)
-    }
-}
-
 impl<'a> Parse<'a> for RecordDecl<'a> {
     ghost Plain = { t.RecordDecl };
 
@@ -182,23 +150,13 @@ impl<'a> Parse<'a> for RecordDecl<'a> {
 
     ghost rule = { grammar.record_decl };
 
-    #[tactic(auto, using(crate::proofs::Behind::places), unfolding(wac_parser_grammar::specs::Declarations::record_decl, wac_parser_grammar::specs::Declarations::record_fields))]
+    #[tactic(auto, using(wac_parser_terms::proofs::Places::places), unfolding(wac_parser_grammar::specs::Declarations::record_decl, wac_parser_grammar::specs::Declarations::record_fields))]
     fn parse(alloc: Global, lexer: &mut Lexer<'a>) -> ParseResult<RecordDecl<'a>> {
         let docs = doc_comments(alloc, lexer)?;
         parse_token(lexer, Token::RecordKeyword)?;
         let id = ident(lexer)?;
         let fields = members(alloc, lexer, DeclaredType::Record, MemberKind::Field)?;
         Ok(RecordDecl { docs, id, fields })
-    }
-}
-
-impl<'a> Peek for Flag<'a> {
-    ghost first = { k.Ident ∷ [] };
-
-    fn peek(lookahead: &mut Lookahead) -> bool
-        ensures { ahead.Tries (k.Ident ∷ []) lookahead.old result lookahead.new }
-    {
-        lookahead.peek(Token::Ident)
     }
 }
 
@@ -209,21 +167,11 @@ impl<'a> Parse<'a> for Flag<'a> {
 
     ghost rule = { grammar.flag };
 
-    #[tactic(auto, using(crate::proofs::Behind::places), unfolding(wac_parser_grammar::specs::Declarations::flag))]
+    #[tactic(auto, using(wac_parser_terms::proofs::Places::places), unfolding(wac_parser_grammar::specs::Declarations::flag))]
     fn parse(alloc: Global, lexer: &mut Lexer<'a>) -> ParseResult<Flag<'a>> {
         let docs = doc_comments(alloc, lexer)?;
         let id = ident(lexer)?;
         Ok(Flag { docs, id })
-    }
-}
-
-impl<'a> Peek for FlagsDecl<'a> {
-    ghost first = { k.FlagsKeyword ∷ [] };
-
-    fn peek(lookahead: &mut Lookahead) -> bool
-        ensures { ahead.Tries (k.FlagsKeyword ∷ []) lookahead.old result lookahead.new }
-    {
-        lookahead.peek(Token::FlagsKeyword)
     }
 }
 
@@ -234,23 +182,13 @@ impl<'a> Parse<'a> for FlagsDecl<'a> {
 
     ghost rule = { grammar.flags_decl };
 
-    #[tactic(auto, using(crate::proofs::Behind::places), unfolding(wac_parser_grammar::specs::Declarations::flags_decl, wac_parser_grammar::specs::Declarations::flags_members))]
+    #[tactic(auto, using(wac_parser_terms::proofs::Places::places), unfolding(wac_parser_grammar::specs::Declarations::flags_decl, wac_parser_grammar::specs::Declarations::flags_members))]
     fn parse(alloc: Global, lexer: &mut Lexer<'a>) -> ParseResult<FlagsDecl<'a>> {
         let docs = doc_comments(alloc, lexer)?;
         parse_token(lexer, Token::FlagsKeyword)?;
         let id = ident(lexer)?;
         let flags = members(alloc, lexer, DeclaredType::Flags, MemberKind::Flag)?;
         Ok(FlagsDecl { docs, id, flags })
-    }
-}
-
-impl<'a> Peek for EnumCase<'a> {
-    ghost first = { k.Ident ∷ [] };
-
-    fn peek(lookahead: &mut Lookahead) -> bool
-        ensures { ahead.Tries (k.Ident ∷ []) lookahead.old result lookahead.new }
-    {
-        lookahead.peek(Token::Ident)
     }
 }
 
@@ -261,21 +199,11 @@ impl<'a> Parse<'a> for EnumCase<'a> {
 
     ghost rule = { grammar.enum_case };
 
-    #[tactic(auto, using(crate::proofs::Behind::places), unfolding(wac_parser_grammar::specs::Declarations::enum_case))]
+    #[tactic(auto, using(wac_parser_terms::proofs::Places::places), unfolding(wac_parser_grammar::specs::Declarations::enum_case))]
     fn parse(alloc: Global, lexer: &mut Lexer<'a>) -> ParseResult<EnumCase<'a>> {
         let docs = doc_comments(alloc, lexer)?;
         let id = ident(lexer)?;
         Ok(EnumCase { docs, id })
-    }
-}
-
-impl<'a> Peek for EnumDecl<'a> {
-    ghost first = { k.EnumKeyword ∷ [] };
-
-    fn peek(lookahead: &mut Lookahead) -> bool
-        ensures { ahead.Tries (k.EnumKeyword ∷ []) lookahead.old result lookahead.new }
-    {
-        lookahead.peek(Token::EnumKeyword)
     }
 }
 
@@ -286,7 +214,7 @@ impl<'a> Parse<'a> for EnumDecl<'a> {
 
     ghost rule = { grammar.enum_decl };
 
-    #[tactic(auto, using(crate::proofs::Behind::places), unfolding(wac_parser_grammar::specs::Declarations::enum_decl, wac_parser_grammar::specs::Declarations::enum_cases))]
+    #[tactic(auto, using(wac_parser_terms::proofs::Places::places), unfolding(wac_parser_grammar::specs::Declarations::enum_decl, wac_parser_grammar::specs::Declarations::enum_cases))]
     fn parse(alloc: Global, lexer: &mut Lexer<'a>) -> ParseResult<EnumDecl<'a>> {
         let docs = doc_comments(alloc, lexer)?;
         parse_token(lexer, Token::EnumKeyword)?;
@@ -303,7 +231,7 @@ impl<'a> Parse<'a> for TypeAliasKind<'a> {
 
     ghost rule = { grammar.type_alias_kind };
 
-    #[tactic(auto, using(crate::proofs::Behind::places), unfolding(wac_parser_grammar::specs::Declarations::type_alias_kind))]
+    #[tactic(auto, using(wac_parser_terms::proofs::Places::places), unfolding(wac_parser_grammar::specs::Declarations::type_alias_kind))]
     fn parse(alloc: Global, lexer: &mut Lexer<'a>) -> ParseResult<TypeAliasKind<'a>> {
         if sees_any(lexer, &FUNC_FIRST) {
             return Ok(TypeAliasKind::Func(FuncType::parse(alloc, lexer)?));
@@ -315,16 +243,6 @@ impl<'a> Parse<'a> for TypeAliasKind<'a> {
     }
 }
 
-impl<'a> Peek for TypeAlias<'a> {
-    ghost first = { k.TypeKeyword ∷ [] };
-
-    fn peek(lookahead: &mut Lookahead) -> bool
-        ensures { ahead.Tries (k.TypeKeyword ∷ []) lookahead.old result lookahead.new }
-    {
-        lookahead.peek(Token::TypeKeyword)
-    }
-}
-
 impl<'a> Parse<'a> for TypeAlias<'a> {
     ghost Plain = { t.TypeAlias };
 
@@ -332,7 +250,7 @@ impl<'a> Parse<'a> for TypeAlias<'a> {
 
     ghost rule = { grammar.type_alias };
 
-    #[tactic(auto, using(crate::proofs::Behind::places), unfolding(wac_parser_grammar::specs::Declarations::type_alias))]
+    #[tactic(auto, using(wac_parser_terms::proofs::Places::places), unfolding(wac_parser_grammar::specs::Declarations::type_alias))]
     fn parse(alloc: Global, lexer: &mut Lexer<'a>) -> ParseResult<TypeAlias<'a>> {
         let docs = doc_comments(alloc, lexer)?;
         parse_token(lexer, Token::TypeKeyword)?;
@@ -343,16 +261,6 @@ impl<'a> Parse<'a> for TypeAlias<'a> {
     }
 }
 
-impl<'a> Peek for TypeDecl<'a> {
-    ghost first = { grammar.type_decl_first };
-
-    fn peek(lookahead: &mut Lookahead) -> bool
-        ensures { ahead.Tries (grammar.type_decl_first) lookahead.old result lookahead.new }
-    {
-        lookahead.peek_any(&TYPE_DECL_FIRST)
-    }
-}
-
 impl<'a> Parse<'a> for TypeDecl<'a> {
     ghost Plain = { t.TypeDecl };
 
@@ -360,7 +268,7 @@ impl<'a> Parse<'a> for TypeDecl<'a> {
 
     ghost rule = { grammar.type_decl };
 
-    #[tactic(auto, using(crate::proofs::Behind::places), unfolding(wac_parser_grammar::specs::Declarations::type_decl))]
+    #[tactic(auto, using(wac_parser_terms::proofs::Places::places), unfolding(wac_parser_grammar::specs::Declarations::type_decl))]
     fn parse(alloc: Global, lexer: &mut Lexer<'a>) -> ParseResult<TypeDecl<'a>> {
         if sees(lexer, Token::VariantKeyword) {
             return Ok(TypeDecl::Variant(VariantDecl::parse(alloc, lexer)?));
@@ -381,16 +289,6 @@ impl<'a> Parse<'a> for TypeDecl<'a> {
     }
 }
 
-impl<'a> Peek for ItemTypeDecl<'a> {
-    ghost first = { grammar.item_type_decl_first };
-
-    fn peek(lookahead: &mut Lookahead) -> bool
-        ensures { ahead.Tries (grammar.item_type_decl_first) lookahead.old result lookahead.new }
-    {
-        lookahead.peek_any(&ITEM_TYPE_DECL_FIRST)
-    }
-}
-
 impl<'a> Parse<'a> for ItemTypeDecl<'a> {
     ghost Plain = { t.ItemTypeDecl };
 
@@ -398,7 +296,7 @@ impl<'a> Parse<'a> for ItemTypeDecl<'a> {
 
     ghost rule = { grammar.item_type_decl };
 
-    #[tactic(auto, using(crate::proofs::Behind::places), unfolding(wac_parser_grammar::specs::Declarations::item_type_decl))]
+    #[tactic(auto, using(wac_parser_terms::proofs::Places::places), unfolding(wac_parser_grammar::specs::Declarations::item_type_decl))]
     fn parse(alloc: Global, lexer: &mut Lexer<'a>) -> ParseResult<ItemTypeDecl<'a>> {
         if sees(lexer, Token::ResourceKeyword) {
             return Ok(ItemTypeDecl::Resource(ResourceDecl::parse(alloc, lexer)?));

@@ -1,63 +1,26 @@
 //! Documents.
 
-ghost use Rattle.std.specs.Prelude.{◌≡◌, ◌∷◌, [], ◌<◌, ◌≤◌, OnOk};
-ghost use Rattle.wac_parser_read.specs.Views.{view_all};
+ghost use Rattle.std.specs.Prelude.{◌≡◌, ◌<◌, ◌≤◌, OnOk};
+ghost use Rattle.wac_parser_terms.specs.Views.{view_all};
 ghost use Rattle.wac_parser_grammar.specs.Rules.{all_of};
-ghost use Rattle.wac_parser_lexer.specs.declared.token.Token.TheVariants as k;
 ghost use Rattle.wac_parser_tree.specs.Trees as t;
 ghost use Rattle.wac_parser_tree.specs.Views.{view_type_statement, view_statement, view_package_directive, view_document};
 ghost use Rattle.wac_parser_grammar.specs.Rules.{Rule, left};
 ghost use Rattle.wac_parser_grammar.specs.Reads.{Reads, ReadsSource};
-ghost use Rattle.wac_parser_grammar.specs.Ahead as ahead;
 ghost use Rattle.wac_parser_grammar.specs.Documents as grammar;
 
-use crate::base::{none_of, parse_token, sees, sees_any};
-use crate::declaration::TYPE_DECL_FIRST;
-use crate::lookahead::Lookahead;
-use crate::parse::{Parse, Peek, parse_optional};
-use crate::text::doc_comments;
+use crate::parse::{Parse, parse_optional};
 use std::alloc::Global;
 use wac_parser_grammar::{Error, ParseResult};
 use wac_parser_lexer::{Lexer, Token};
+use wac_parser_terms::{
+    STATEMENT_FIRST, TYPE_DECL_FIRST, TYPE_STATEMENT_FIRST, doc_comments, none_of, parse_token,
+    sees, sees_any,
+};
 use wac_parser_tree::{
     Document, ExportStatement, ImportStatement, InterfaceDecl, LetStatement, PackageDirective,
     PackageName, Statement, TypeDecl, TypeStatement, WorldDecl,
 };
-
-/// The tokens with which a declaration begins.
-const TYPE_STATEMENT_FIRST: [Token; 7] = [
-    Token::InterfaceKeyword,
-    Token::WorldKeyword,
-    Token::VariantKeyword,
-    Token::RecordKeyword,
-    Token::FlagsKeyword,
-    Token::EnumKeyword,
-    Token::TypeKeyword,
-];
-
-/// The tokens with which a statement begins.
-const STATEMENT_FIRST: [Token; 10] = [
-    Token::ImportKeyword,
-    Token::LetKeyword,
-    Token::ExportKeyword,
-    Token::InterfaceKeyword,
-    Token::WorldKeyword,
-    Token::VariantKeyword,
-    Token::RecordKeyword,
-    Token::FlagsKeyword,
-    Token::EnumKeyword,
-    Token::TypeKeyword,
-];
-
-impl<'a> Peek for TypeStatement<'a> {
-    ghost first = { grammar.type_statement_first };
-
-    fn peek(lookahead: &mut Lookahead) -> bool
-        ensures { ahead.Tries (grammar.type_statement_first) lookahead.old result lookahead.new }
-    {
-        lookahead.peek_any(&TYPE_STATEMENT_FIRST)
-    }
-}
 
 impl<'a> Parse<'a> for TypeStatement<'a> {
     ghost Plain = { t.TypeStatement };
@@ -66,7 +29,7 @@ impl<'a> Parse<'a> for TypeStatement<'a> {
 
     ghost rule = { grammar.type_statement };
 
-    #[tactic(auto, using(crate::proofs::Behind::places), unfolding(wac_parser_grammar::specs::Documents::type_statement))]
+    #[tactic(auto, using(wac_parser_terms::proofs::Places::places), unfolding(wac_parser_grammar::specs::Documents::type_statement))]
     fn parse(alloc: Global, lexer: &mut Lexer<'a>) -> ParseResult<TypeStatement<'a>> {
         if sees(lexer, Token::InterfaceKeyword) {
             return Ok(TypeStatement::Interface(InterfaceDecl::parse(alloc, lexer)?));
@@ -81,16 +44,6 @@ impl<'a> Parse<'a> for TypeStatement<'a> {
     }
 }
 
-impl<'a> Peek for Statement<'a> {
-    ghost first = { grammar.statement_first };
-
-    fn peek(lookahead: &mut Lookahead) -> bool
-        ensures { ahead.Tries (grammar.statement_first) lookahead.old result lookahead.new }
-    {
-        lookahead.peek_any(&STATEMENT_FIRST)
-    }
-}
-
 impl<'a> Parse<'a> for Statement<'a> {
     ghost Plain = { t.Statement };
 
@@ -98,7 +51,7 @@ impl<'a> Parse<'a> for Statement<'a> {
 
     ghost rule = { grammar.statement };
 
-    #[tactic(auto, using(crate::proofs::Behind::places), unfolding(wac_parser_grammar::specs::Documents::statement))]
+    #[tactic(auto, using(wac_parser_terms::proofs::Places::places), unfolding(wac_parser_grammar::specs::Documents::statement))]
     fn parse(alloc: Global, lexer: &mut Lexer<'a>) -> ParseResult<Statement<'a>> {
         if sees(lexer, Token::ImportKeyword) {
             return Ok(Statement::Import(ImportStatement::parse(alloc, lexer)?));
@@ -116,16 +69,6 @@ impl<'a> Parse<'a> for Statement<'a> {
     }
 }
 
-impl<'a> Peek for PackageDirective<'a> {
-    ghost first = { k.PackageKeyword ∷ [] };
-
-    fn peek(lookahead: &mut Lookahead) -> bool
-        ensures { ahead.Tries (k.PackageKeyword ∷ []) lookahead.old result lookahead.new }
-    {
-        lookahead.peek(Token::PackageKeyword)
-    }
-}
-
 impl<'a> Parse<'a> for PackageDirective<'a> {
     ghost Plain = { t.PackageDirective };
 
@@ -133,7 +76,7 @@ impl<'a> Parse<'a> for PackageDirective<'a> {
 
     ghost rule = { grammar.package_directive };
 
-    #[tactic(auto, using(crate::proofs::Behind::places), unfolding(wac_parser_grammar::specs::Documents::package_directive, wac_parser_grammar::specs::Documents::targets))]
+    #[tactic(auto, using(wac_parser_terms::proofs::Places::places), unfolding(wac_parser_grammar::specs::Documents::package_directive, wac_parser_grammar::specs::Documents::targets))]
     fn parse(alloc: Global, lexer: &mut Lexer<'a>) -> ParseResult<PackageDirective<'a>> {
         parse_token(lexer, Token::PackageKeyword)?;
         let package = PackageName::parse(alloc, lexer)?;

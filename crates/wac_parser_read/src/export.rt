@@ -1,26 +1,22 @@
 //! Exports.
 
 ghost use Rattle.wac_parser_grammar.specs.Places.{IsBehind};
-ghost use Rattle.std.specs.Prelude.{◌≡◌, ◌∷◌, [], ◌<◌, ◌≤◌, OnOk};
-ghost use Rattle.wac_parser_lexer.specs.declared.token.Token.TheVariants as k;
+ghost use Rattle.std.specs.Prelude.{◌≡◌, ◌<◌, ◌≤◌, OnOk};
 ghost use Rattle.wac_parser_tree.specs.Trees as t;
 ghost use Rattle.wac_parser_tree.specs.Views.{view_export_options, view_export_statement};
 ghost use Rattle.wac_parser_grammar.specs.Rules.{left};
 ghost use Rattle.wac_parser_grammar.specs.Reads.{Reads};
-ghost use Rattle.wac_parser_grammar.specs.Ahead as ahead;
 ghost use Rattle.wac_parser_grammar.specs.Documents as grammar;
 
-use crate::base::{parse_token, sees};
-use crate::lookahead::Lookahead;
-use crate::parse::{Parse, Peek};
-use crate::text::doc_comments;
+use crate::parse::Parse;
 use std::alloc::Global;
 use wac_parser_grammar::ParseResult;
 use wac_parser_lexer::{Lexer, Token};
+use wac_parser_terms::{doc_comments, parse_token, sees};
 use wac_parser_tree::{ExportOptions, ExportStatement, Expr, ExternName};
 
 /// How an expression is exported.
-#[tactic(auto, using(crate::proofs::Behind::places), unfolding(wac_parser_grammar::specs::Documents::export_options))]
+#[tactic(auto, using(wac_parser_terms::proofs::Places::places), unfolding(wac_parser_grammar::specs::Documents::export_options))]
 fn export_options<'a>(alloc: Global, lexer: &mut Lexer<'a>) -> ParseResult<ExportOptions<'a>>
     ensures value { Reads view_export_options grammar.export_options lexer.old result lexer.new }
     ensures keeps { OnOk result (left lexer.new ≤ left lexer.old) }
@@ -36,16 +32,6 @@ fn export_options<'a>(alloc: Global, lexer: &mut Lexer<'a>) -> ParseResult<Expor
     Ok(ExportOptions::None)
 }
 
-impl<'a> Peek for ExportStatement<'a> {
-    ghost first = { k.ExportKeyword ∷ [] };
-
-    fn peek(lookahead: &mut Lookahead) -> bool
-        ensures { ahead.Tries (k.ExportKeyword ∷ []) lookahead.old result lookahead.new }
-    {
-        lookahead.peek(Token::ExportKeyword)
-    }
-}
-
 impl<'a> Parse<'a> for ExportStatement<'a> {
     ghost Plain = { t.ExportStatement };
 
@@ -53,7 +39,7 @@ impl<'a> Parse<'a> for ExportStatement<'a> {
 
     ghost rule = { grammar.export_statement };
 
-    #[tactic(auto, using(crate::proofs::Behind::places), unfolding(wac_parser_grammar::specs::Documents::export_statement))]
+    #[tactic(auto, using(wac_parser_terms::proofs::Places::places), unfolding(wac_parser_grammar::specs::Documents::export_statement))]
     fn parse(alloc: Global, lexer: &mut Lexer<'a>) -> ParseResult<ExportStatement<'a>> {
         let docs = doc_comments(alloc, lexer)?;
         parse_token(lexer, Token::ExportKeyword)?;

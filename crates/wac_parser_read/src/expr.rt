@@ -1,320 +1,24 @@
-//! Expressions.
-#![tactic(auto, using(crate::proofs::Behind::places))]
+//! Expressions and their parts.
+#![tactic(auto, using(wac_parser_terms::proofs::Places::places))]
 
 ghost use Rattle.wac_parser_grammar.specs.Places.{IsBehind};
-ghost use Rattle.std.specs.Prelude.{◌≡◌, ◌∷◌, [], ◌+◌, ◌<◌, ◌≤◌, ◌^◌, true, map, IfOk, OnOk};
-ghost use Rattle.wac_parser_lexer.specs.declared.token.Token.TheVariants as k;
+ghost use Rattle.std.specs.Prelude.{◌≡◌, ◌<◌, ◌≤◌, OnOk};
 ghost use Rattle.wac_parser_tree.specs.Trees as t;
-ghost use Rattle.wac_parser_tree.specs.Accessors.{postfix_expr_span};
-ghost use Rattle.wac_parser_tree.specs.Views.{view_expr, view_primary_expr, view_new_expr, view_nested_expr, view_instantiation_argument, view_named_instantiation_argument, view_instantiation_argument_name, view_access_expr, view_named_access_expr, view_postfix_expr};
-ghost use Rattle.wac_parser_read.specs.Views.{view_all};
-ghost use Rattle.wac_parser_grammar.specs.Rules.{left, list_of, while_of};
-ghost use Rattle.wac_parser_grammar.specs.Reads.{Reads};
-ghost use Rattle.wac_parser_grammar.specs.Ahead as ahead;
+ghost use Rattle.wac_parser_tree.specs.Views.{view_expr, view_primary_expr, view_new_expr, view_nested_expr, view_instantiation_argument, view_named_instantiation_argument, view_instantiation_argument_name, view_access_expr, view_named_access_expr};
 ghost use Rattle.wac_parser_grammar.specs.Expressions as grammar;
 
-use crate::base::{behind, none_of, parse_token, sees, sees_any, too_deep};
-use crate::lookahead::Lookahead;
-use crate::parse::{Parse, Peek, expect_value};
-use crate::text::ident;
-use crate::value_type::{MAX_LEVELS, through};
+use crate::parse::Parse;
 use std::alloc::Global;
-use wac_parser_grammar::{Error, ParseResult};
-use wac_parser_lexer::{Lexer, SourceSpan, Token};
+use wac_parser_grammar::ParseResult;
+use wac_parser_lexer::{Lexer, Token};
+use wac_parser_terms::{
+    MAX_LEVELS, NAME_FIRST, access_expr, argument_value, expr_within, instantiation_argument,
+    named_access_expr, nested_expr, new_expr, none_of, primary_expr, sees,
+};
 use wac_parser_tree::{
     AccessExpr, Expr, Ident, InstantiationArgument, InstantiationArgumentName, NamedAccessExpr,
-    NamedInstantiationArgument, NestedExpr, NewExpr, PackageName, PostfixExpr, PrimaryExpr, String,
+    NamedInstantiationArgument, NestedExpr, NewExpr, PrimaryExpr, String,
 };
-
-/// The tokens with which an expression begins.
-const EXPR_FIRST: [Token; 3] = [Token::NewKeyword, Token::OpenParen, Token::Ident];
-
-/// The tokens with which an access begins.
-const POSTFIX_FIRST: [Token; 2] = [Token::Dot, Token::OpenBracket];
-
-/// The tokens with which an argument begins.
-const ARGUMENT_FIRST: [Token; 3] = [Token::Ellipsis, Token::Ident, Token::String];
-
-/// The tokens with which a name begins that may be a string.
-pub(crate) const NAME_FIRST: [Token; 2] = [Token::Ident, Token::String];
-
-/// An expression nested no deeper than so many levels.
-#[cycle(expr)]
-fn expr_within<'a>(alloc: Global, lexer: &mut Lexer<'a>, levels: usize) -> ParseResult<Expr<'a>>
-    ensures value { Reads view_expr (grammar.expr levels) lexer.old result lexer.new }
-    ensures takes { OnOk result (left lexer.new < left lexer.old) }
-    ensures goes_on { IsBehind lexer.new lexer.old }
-{
-    if levels == 0 {
-        return Err(too_deep(lexer, &EXPR_FIRST));
-    }
-    expr_level(alloc, lexer, levels - 1)
-}
-
-#[cycle(expr)]
-#[tactic(auto, using(crate::proofs::Behind::places), unfolding(wac_parser_grammar::specs::Expressions::expr_level))]
-fn expr_level<'a>(alloc: Global, lexer: &mut Lexer<'a>, inside: usize) -> ParseResult<Expr<'a>>
-    ensures value { Reads view_expr (grammar.expr_level (grammar.expr inside)) lexer.old result lexer.new }
-    ensures takes { OnOk result (left lexer.new < left lexer.old) }
-    ensures goes_on { IsBehind lexer.new lexer.old }
-{
-    let primary = primary_expr(alloc, lexer, inside)?;
-    let (postfix, span) = postfix_exprs(alloc, lexer, primary.span())?;
-    Ok(Expr {
-        span,
-        primary,
-        postfix,
-    })
-}
-
-#[cycle(expr)]
-#[tactic(auto, using(crate::proofs::Behind::places), unfolding(wac_parser_grammar::specs::Expressions::primary_expr))]
-fn primary_expr<'a>(
-    alloc: Global,
-    lexer: &mut Lexer<'a>,
-    inside: usize,
-) -> ParseResult<PrimaryExpr<'a>>
-    ensures value { Reads view_primary_expr (grammar.primary_expr (grammar.expr inside)) lexer.old result lexer.new }
-    ensures takes { OnOk result (left lexer.new < left lexer.old) }
-    ensures goes_on { IsBehind lexer.new lexer.old }
-{
-    if sees(lexer, Token::NewKeyword) {
-        return Ok(PrimaryExpr::New(new_expr(alloc, lexer, inside)?));
-    }
-    if sees(lexer, Token::OpenParen) {
-        return Ok(PrimaryExpr::Nested(nested_expr(alloc, lexer, inside)?));
-    }
-    if sees(lexer, Token::Ident) {
-        return Ok(PrimaryExpr::Ident(Ident::parse(alloc, lexer)?));
-    }
-    Err(none_of(lexer, &EXPR_FIRST))
-}
-
-#[cycle(expr)]
-#[tactic(auto, using(crate::proofs::Behind::places), unfolding(wac_parser_grammar::specs::Expressions::nested_expr))]
-fn nested_expr<'a>(
-    alloc: Global,
-    lexer: &mut Lexer<'a>,
-    inside: usize,
-) -> ParseResult<NestedExpr<'a>>
-    ensures value { Reads view_nested_expr (grammar.nested_expr (grammar.expr inside)) lexer.old result lexer.new }
-    ensures takes { OnOk result (left lexer.new < left lexer.old) }
-    ensures goes_on { IsBehind lexer.new lexer.old }
-{
-    let start = parse_token(lexer, Token::OpenParen)?;
-    let inner = Box::new(alloc, expr_within(alloc, lexer, inside)?)?;
-    let close = parse_token(lexer, Token::CloseParen)?;
-    Ok(NestedExpr {
-        span: through(start, close),
-        inner,
-    })
-}
-
-#[cycle(expr)]
-#[tactic(auto, using(crate::proofs::Behind::places), unfolding(wac_parser_grammar::specs::Expressions::new_expr))]
-fn new_expr<'a>(alloc: Global, lexer: &mut Lexer<'a>, inside: usize) -> ParseResult<NewExpr<'a>>
-    ensures value { Reads view_new_expr (grammar.new_expr (grammar.expr inside)) lexer.old result lexer.new }
-    ensures takes { OnOk result (left lexer.new < left lexer.old) }
-    ensures goes_on { IsBehind lexer.new lexer.old }
-{
-    let start = parse_token(lexer, Token::NewKeyword)?;
-    let package = PackageName::parse(alloc, lexer)?;
-    parse_token(lexer, Token::OpenBrace)?;
-    let arguments = arguments(alloc, lexer, inside)?;
-    let close = parse_token(lexer, Token::CloseBrace)?;
-    Ok(NewExpr {
-        span: through(start, close),
-        package,
-        arguments,
-    })
-}
-
-/// The arguments up to a closing brace.
-#[cycle(expr)]
-fn arguments<'a>(
-    alloc: Global,
-    lexer: &mut Lexer<'a>,
-    inside: usize,
-) -> ParseResult<Vec<InstantiationArgument<'a>>>
-    ensures value { Reads (view_all view_instantiation_argument) (list_of (grammar.instantiation_argument (grammar.expr inside)) grammar.argument_first k.CloseBrace true) lexer.old result lexer.new }
-    ensures keeps { OnOk result (left lexer.new ≤ left lexer.old) }
-    ensures goes_on { IsBehind lexer.new lexer.old }
-{
-    let mut items = Vec::new(alloc);
-    'items: while !sees(lexer, Token::CloseBrace) {
-        expect_value::<InstantiationArgument<'_>>(lexer, Token::CloseBrace)?;
-        items.push(instantiation_argument(alloc, lexer, inside)?)?;
-        behind(lexer, Token::CloseBrace, true)?;
-    }
-    Ok(items)
-}
-
-#[cycle(expr)]
-#[tactic(auto, using(crate::proofs::Behind::places), unfolding(wac_parser_grammar::specs::Expressions::instantiation_argument))]
-fn instantiation_argument<'a>(
-    alloc: Global,
-    lexer: &mut Lexer<'a>,
-    inside: usize,
-) -> ParseResult<InstantiationArgument<'a>>
-    ensures value { Reads view_instantiation_argument (grammar.instantiation_argument (grammar.expr inside)) lexer.old result lexer.new }
-    ensures takes { OnOk result (left lexer.new < left lexer.old) }
-    ensures goes_on { IsBehind lexer.new lexer.old }
-{
-    if sees(lexer, Token::Ellipsis) {
-        return spread_or_fill(alloc, lexer);
-    }
-    if sees(lexer, Token::Ident) {
-        return ident_argument(alloc, lexer, inside);
-    }
-    if sees(lexer, Token::String) {
-        return string_argument(alloc, lexer, inside);
-    }
-    Err(none_of(lexer, &ARGUMENT_FIRST))
-}
-
-/// `...`, with an identifier behind it or not.
-#[tactic(auto, using(crate::proofs::Behind::places), unfolding(wac_parser_grammar::specs::Expressions::spread_or_fill))]
-fn spread_or_fill<'a>(
-    alloc: Global,
-    lexer: &mut Lexer<'a>,
-) -> ParseResult<InstantiationArgument<'a>>
-    ensures value { Reads view_instantiation_argument grammar.spread_or_fill lexer.old result lexer.new }
-    ensures takes { OnOk result (left lexer.new < left lexer.old) }
-    ensures goes_on { IsBehind lexer.new lexer.old }
-{
-    let span = parse_token(lexer, Token::Ellipsis)?;
-    if sees_any(lexer, &[Token::Comma, Token::CloseBrace]) {
-        return Ok(InstantiationArgument::Fill(span));
-    }
-    Ok(InstantiationArgument::Spread(Ident::parse(alloc, lexer)?))
-}
-
-/// An identifier, which a colon makes the name of an argument.
-#[cycle(expr)]
-#[tactic(auto, using(crate::proofs::Behind::places), unfolding(wac_parser_grammar::specs::Expressions::ident_argument))]
-fn ident_argument<'a>(
-    alloc: Global,
-    lexer: &mut Lexer<'a>,
-    inside: usize,
-) -> ParseResult<InstantiationArgument<'a>>
-    ensures value { Reads view_instantiation_argument (grammar.ident_argument (grammar.expr inside)) lexer.old result lexer.new }
-    ensures takes { OnOk result (left lexer.new < left lexer.old) }
-    ensures goes_on { IsBehind lexer.new lexer.old }
-{
-    let id = Ident::parse(alloc, lexer)?;
-    if !sees(lexer, Token::Colon) {
-        return Ok(InstantiationArgument::Inferred(id));
-    }
-    let name = InstantiationArgumentName::Ident(id);
-    Ok(InstantiationArgument::Named(argument_value(alloc, lexer, name, inside)?))
-}
-
-/// A string, which only a colon makes an argument.
-#[cycle(expr)]
-#[tactic(auto, using(crate::proofs::Behind::places), unfolding(wac_parser_grammar::specs::Expressions::string_argument))]
-fn string_argument<'a>(
-    alloc: Global,
-    lexer: &mut Lexer<'a>,
-    inside: usize,
-) -> ParseResult<InstantiationArgument<'a>>
-    ensures value { Reads view_instantiation_argument (grammar.string_argument (grammar.expr inside)) lexer.old result lexer.new }
-    ensures takes { OnOk result (left lexer.new < left lexer.old) }
-    ensures goes_on { IsBehind lexer.new lexer.old }
-{
-    let string = String::parse(alloc, lexer)?;
-    if !sees(lexer, Token::Colon) {
-        return Err(Error::Expected {
-            expected: Token::Ident,
-            found: Some(Token::String),
-            span: string.span,
-        });
-    }
-    let name = InstantiationArgumentName::String(string);
-    Ok(InstantiationArgument::Named(argument_value(alloc, lexer, name, inside)?))
-}
-
-/// The colon and the expression behind the name of an argument.
-#[cycle(expr)]
-#[tactic(auto, using(crate::proofs::Behind::places), unfolding(wac_parser_grammar::specs::Expressions::argument_value))]
-fn argument_value<'a>(
-    alloc: Global,
-    lexer: &mut Lexer<'a>,
-    name: InstantiationArgumentName<'a>,
-    inside: usize,
-) -> ParseResult<NamedInstantiationArgument<'a>>
-    ensures value { Reads view_named_instantiation_argument (grammar.argument_value (grammar.expr inside) (view_instantiation_argument_name name.entry)) lexer.old result lexer.new }
-    ensures takes { OnOk result (left lexer.new < left lexer.old) }
-    ensures goes_on { IsBehind lexer.new lexer.old }
-{
-    parse_token(lexer, Token::Colon)?;
-    let expr = expr_within(alloc, lexer, inside)?;
-    Ok(NamedInstantiationArgument { name, expr })
-}
-
-#[tactic(auto, using(crate::proofs::Behind::places), unfolding(wac_parser_grammar::specs::Expressions::postfix_expr))]
-fn postfix_expr<'a>(alloc: Global, lexer: &mut Lexer<'a>) -> ParseResult<PostfixExpr<'a>>
-    ensures value { Reads view_postfix_expr grammar.postfix_expr lexer.old result lexer.new }
-    ensures small { IfOk result (λ p. (postfix_expr_span (view_postfix_expr p)).offset + (postfix_expr_span (view_postfix_expr p)).length < 2 ^ 64) }
-    ensures takes { OnOk result (left lexer.new < left lexer.old) }
-    ensures goes_on { IsBehind lexer.new lexer.old }
-{
-    if sees(lexer, Token::Dot) {
-        return Ok(PostfixExpr::Access(access_expr(lexer)?));
-    }
-    Ok(PostfixExpr::NamedAccess(named_access_expr(alloc, lexer)?))
-}
-
-#[tactic(auto, using(crate::proofs::Behind::places), unfolding(wac_parser_grammar::specs::Expressions::access_expr))]
-fn access_expr<'a>(lexer: &mut Lexer<'a>) -> ParseResult<AccessExpr<'a>>
-    ensures value { Reads view_access_expr grammar.access_expr lexer.old result lexer.new }
-    ensures small { IfOk result (λ p. p.span.offset + p.span.length < 2 ^ 64) }
-    ensures takes { OnOk result (left lexer.new < left lexer.old) }
-    ensures goes_on { IsBehind lexer.new lexer.old }
-{
-    let start = parse_token(lexer, Token::Dot)?;
-    let id = ident(lexer)?;
-    Ok(AccessExpr {
-        span: through(start, id.span),
-        id,
-    })
-}
-
-#[tactic(auto, using(crate::proofs::Behind::places), unfolding(wac_parser_grammar::specs::Expressions::named_access_expr))]
-fn named_access_expr<'a>(alloc: Global, lexer: &mut Lexer<'a>) -> ParseResult<NamedAccessExpr<'a>>
-    ensures value { Reads view_named_access_expr grammar.named_access_expr lexer.old result lexer.new }
-    ensures small { IfOk result (λ p. p.span.offset + p.span.length < 2 ^ 64) }
-    ensures takes { OnOk result (left lexer.new < left lexer.old) }
-    ensures goes_on { IsBehind lexer.new lexer.old }
-{
-    let start = parse_token(lexer, Token::OpenBracket)?;
-    let string = String::parse(alloc, lexer)?;
-    let close = parse_token(lexer, Token::CloseBracket)?;
-    Ok(NamedAccessExpr {
-        span: through(start, close),
-        string,
-    })
-}
-
-/// The accesses behind an expression, and the span from its start to the last one's end.
-fn postfix_exprs<'a>(
-    alloc: Global,
-    lexer: &mut Lexer<'a>,
-    start: SourceSpan,
-) -> ParseResult<(Vec<PostfixExpr<'a>>, SourceSpan)>
-    ensures value { Reads (λ p. view_all view_postfix_expr p.0) (while_of grammar.postfix_expr grammar.postfix_first) lexer.old result lexer.new }
-    ensures span { IfOk result (λ p. p.1 ≡ grammar.spanning start (map view_postfix_expr p.0.items)) }
-    ensures keeps { OnOk result (left lexer.new ≤ left lexer.old) }
-    ensures goes_on { IsBehind lexer.new lexer.old }
-{
-    let mut postfix = Vec::new(alloc);
-    let mut span = start;
-    'postfix: while sees_any(lexer, &POSTFIX_FIRST) {
-        let access = postfix_expr(alloc, lexer)?;
-        span = through(span, access.span());
-        postfix.push(access)?;
-    }
-    Ok((postfix, span))
-}
 
 impl<'a> Parse<'a> for Expr<'a> {
     ghost Plain = { t.Expr };
@@ -323,7 +27,7 @@ impl<'a> Parse<'a> for Expr<'a> {
 
     ghost rule = { grammar.expression };
 
-    #[tactic(auto, using(crate::proofs::Behind::places), unfolding(wac_parser_grammar::specs::Expressions::expression))]
+    #[tactic(auto, using(wac_parser_terms::proofs::Places::places), unfolding(wac_parser_grammar::specs::Expressions::expression))]
     fn parse(alloc: Global, lexer: &mut Lexer<'a>) -> ParseResult<Expr<'a>> {
         expr_within(alloc, lexer, MAX_LEVELS)
     }
@@ -341,16 +45,6 @@ impl<'a> Parse<'a> for PrimaryExpr<'a> {
     }
 }
 
-impl<'a> Peek for NewExpr<'a> {
-    ghost first = { k.NewKeyword ∷ [] };
-
-    fn peek(lookahead: &mut Lookahead) -> bool
-        ensures { ahead.Tries (k.NewKeyword ∷ []) lookahead.old result lookahead.new }
-    {
-        lookahead.peek(Token::NewKeyword)
-    }
-}
-
 impl<'a> Parse<'a> for NewExpr<'a> {
     ghost Plain = { t.NewExpr };
 
@@ -360,16 +54,6 @@ impl<'a> Parse<'a> for NewExpr<'a> {
 
     fn parse(alloc: Global, lexer: &mut Lexer<'a>) -> ParseResult<NewExpr<'a>> {
         new_expr(alloc, lexer, MAX_LEVELS - 1)
-    }
-}
-
-impl<'a> Peek for NestedExpr<'a> {
-    ghost first = { k.OpenParen ∷ [] };
-
-    fn peek(lookahead: &mut Lookahead) -> bool
-        ensures { ahead.Tries (k.OpenParen ∷ []) lookahead.old result lookahead.new }
-    {
-        lookahead.peek(Token::OpenParen)
     }
 }
 
@@ -385,16 +69,6 @@ impl<'a> Parse<'a> for NestedExpr<'a> {
     }
 }
 
-impl<'a> Peek for InstantiationArgument<'a> {
-    ghost first = { grammar.argument_first };
-
-    fn peek(lookahead: &mut Lookahead) -> bool
-        ensures { ahead.Tries (grammar.argument_first) lookahead.old result lookahead.new }
-    {
-        lookahead.peek_any(&ARGUMENT_FIRST)
-    }
-}
-
 impl<'a> Parse<'a> for InstantiationArgument<'a> {
     ghost Plain = { t.InstantiationArgument };
 
@@ -407,16 +81,6 @@ impl<'a> Parse<'a> for InstantiationArgument<'a> {
     }
 }
 
-impl<'a> Peek for NamedInstantiationArgument<'a> {
-    ghost first = { grammar.name_first };
-
-    fn peek(lookahead: &mut Lookahead) -> bool
-        ensures { ahead.Tries (grammar.name_first) lookahead.old result lookahead.new }
-    {
-        lookahead.peek_any(&NAME_FIRST)
-    }
-}
-
 impl<'a> Parse<'a> for NamedInstantiationArgument<'a> {
     ghost Plain = { t.NamedInstantiationArgument };
 
@@ -424,20 +88,10 @@ impl<'a> Parse<'a> for NamedInstantiationArgument<'a> {
 
     ghost rule = { grammar.named_argument (grammar.expr 127) };
 
-    #[tactic(auto, using(crate::proofs::Behind::places), unfolding(wac_parser_grammar::specs::Expressions::named_argument))]
+    #[tactic(auto, using(wac_parser_terms::proofs::Places::places), unfolding(wac_parser_grammar::specs::Expressions::named_argument))]
     fn parse(alloc: Global, lexer: &mut Lexer<'a>) -> ParseResult<NamedInstantiationArgument<'a>> {
         let name = InstantiationArgumentName::parse(alloc, lexer)?;
         argument_value(alloc, lexer, name, MAX_LEVELS - 1)
-    }
-}
-
-impl<'a> Peek for InstantiationArgumentName<'a> {
-    ghost first = { grammar.name_first };
-
-    fn peek(lookahead: &mut Lookahead) -> bool
-        ensures { ahead.Tries (grammar.name_first) lookahead.old result lookahead.new }
-    {
-        lookahead.peek_any(&NAME_FIRST)
     }
 }
 
@@ -448,7 +102,7 @@ impl<'a> Parse<'a> for InstantiationArgumentName<'a> {
 
     ghost rule = { grammar.argument_name };
 
-    #[tactic(auto, using(crate::proofs::Behind::places), unfolding(wac_parser_grammar::specs::Expressions::argument_name))]
+    #[tactic(auto, using(wac_parser_terms::proofs::Places::places), unfolding(wac_parser_grammar::specs::Expressions::argument_name))]
     fn parse(alloc: Global, lexer: &mut Lexer<'a>) -> ParseResult<InstantiationArgumentName<'a>> {
         if sees(lexer, Token::Ident) {
             return Ok(InstantiationArgumentName::Ident(Ident::parse(alloc, lexer)?));
@@ -457,16 +111,6 @@ impl<'a> Parse<'a> for InstantiationArgumentName<'a> {
             return Ok(InstantiationArgumentName::String(String::parse(alloc, lexer)?));
         }
         Err(none_of(lexer, &NAME_FIRST))
-    }
-}
-
-impl<'a> Peek for AccessExpr<'a> {
-    ghost first = { k.Dot ∷ [] };
-
-    fn peek(lookahead: &mut Lookahead) -> bool
-        ensures { ahead.Tries (k.Dot ∷ []) lookahead.old result lookahead.new }
-    {
-        lookahead.peek(Token::Dot)
     }
 }
 
@@ -482,16 +126,6 @@ impl<'a> Parse<'a> for AccessExpr<'a> {
     }
 }
 
-impl<'a> Peek for NamedAccessExpr<'a> {
-    ghost first = { k.OpenBracket ∷ [] };
-
-    fn peek(lookahead: &mut Lookahead) -> bool
-        ensures { ahead.Tries (k.OpenBracket ∷ []) lookahead.old result lookahead.new }
-    {
-        lookahead.peek(Token::OpenBracket)
-    }
-}
-
 impl<'a> Parse<'a> for NamedAccessExpr<'a> {
     ghost Plain = { t.NamedAccessExpr };
 
@@ -499,7 +133,7 @@ impl<'a> Parse<'a> for NamedAccessExpr<'a> {
 
     ghost rule = { grammar.named_access_expr };
 
-    fn parse(alloc: Global, lexer: &mut Lexer<'a>) -> ParseResult<NamedAccessExpr<'a>> {
-        named_access_expr(alloc, lexer)
+    fn parse(_alloc: Global, lexer: &mut Lexer<'a>) -> ParseResult<NamedAccessExpr<'a>> {
+        named_access_expr(lexer)
     }
 }

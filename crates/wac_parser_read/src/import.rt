@@ -1,22 +1,17 @@
 //! Imports.
 
-ghost use Rattle.std.specs.Prelude.{◌≡◌, ◌∷◌, [], ◌<◌, ◌≤◌, OnOk};
-ghost use Rattle.wac_parser_lexer.specs.declared.token.Token.TheVariants as k;
+ghost use Rattle.std.specs.Prelude.{◌≡◌, ◌<◌, ◌≤◌, OnOk};
 ghost use Rattle.wac_parser_tree.specs.Trees as t;
 ghost use Rattle.wac_parser_tree.specs.Views.{view_extern_name, view_import_type, view_import_statement};
-ghost use Rattle.wac_parser_grammar.specs.Ahead as ahead;
-ghost use Rattle.wac_parser_grammar.specs.Expressions.{name_first};
 ghost use Rattle.wac_parser_grammar.specs.Documents as grammar;
 
-use crate::base::{ended, none_of, parse_token, sees, sees_any};
-use crate::expr::NAME_FIRST;
-use crate::lookahead::Lookahead;
-use crate::parse::{Parse, Peek, parse_optional};
-use crate::text::{doc_comments, ident};
-use crate::value_type::FUNC_FIRST;
+use crate::parse::{Parse, parse_optional};
 use std::alloc::Global;
 use wac_parser_grammar::ParseResult;
 use wac_parser_lexer::{Lexer, Token};
+use wac_parser_terms::{
+    FUNC_FIRST, NAME_FIRST, doc_comments, ended, ident, none_of, parse_token, sees, sees_any,
+};
 use wac_parser_tree::{
     ExternName, FuncType, Ident, ImportStatement, ImportType, InlineInterface, PackagePath, String,
 };
@@ -30,16 +25,6 @@ const IMPORT_TYPE_FIRST: [Token; 5] = [
     Token::Ident,
 ];
 
-impl<'a> Peek for ExternName<'a> {
-    ghost first = { name_first };
-
-    fn peek(lookahead: &mut Lookahead) -> bool
-        ensures { ahead.Tries (name_first) lookahead.old result lookahead.new }
-    {
-        lookahead.peek_any(&NAME_FIRST)
-    }
-}
-
 impl<'a> Parse<'a> for ExternName<'a> {
     ghost Plain = { t.ExternName };
 
@@ -47,7 +32,7 @@ impl<'a> Parse<'a> for ExternName<'a> {
 
     ghost rule = { grammar.extern_name };
 
-    #[tactic(auto, using(crate::proofs::Behind::places), unfolding(wac_parser_grammar::specs::Documents::extern_name))]
+    #[tactic(auto, using(wac_parser_terms::proofs::Places::places), unfolding(wac_parser_grammar::specs::Documents::extern_name))]
     fn parse(alloc: Global, lexer: &mut Lexer<'a>) -> ParseResult<ExternName<'a>> {
         if sees(lexer, Token::Ident) {
             return Ok(ExternName::Ident(Ident::parse(alloc, lexer)?));
@@ -66,7 +51,7 @@ impl<'a> Parse<'a> for ImportType<'a> {
 
     ghost rule = { grammar.import_type };
 
-    #[tactic(auto, using(crate::proofs::Behind::places), unfolding(wac_parser_grammar::specs::Documents::import_type))]
+    #[tactic(auto, using(wac_parser_terms::proofs::Places::places), unfolding(wac_parser_grammar::specs::Documents::import_type))]
     fn parse(alloc: Global, lexer: &mut Lexer<'a>) -> ParseResult<ImportType<'a>> {
         if sees_any(lexer, &FUNC_FIRST) {
             return Ok(ImportType::Func(FuncType::parse(alloc, lexer)?));
@@ -84,16 +69,6 @@ impl<'a> Parse<'a> for ImportType<'a> {
     }
 }
 
-impl<'a> Peek for ImportStatement<'a> {
-    ghost first = { k.ImportKeyword ∷ [] };
-
-    fn peek(lookahead: &mut Lookahead) -> bool
-        ensures { ahead.Tries (k.ImportKeyword ∷ []) lookahead.old result lookahead.new }
-    {
-        lookahead.peek(Token::ImportKeyword)
-    }
-}
-
 impl<'a> Parse<'a> for ImportStatement<'a> {
     ghost Plain = { t.ImportStatement };
 
@@ -101,7 +76,7 @@ impl<'a> Parse<'a> for ImportStatement<'a> {
 
     ghost rule = { grammar.import_statement };
 
-    #[tactic(auto, using(crate::proofs::Behind::places), unfolding(wac_parser_grammar::specs::Documents::import_statement, wac_parser_grammar::specs::Documents::import_name))]
+    #[tactic(auto, using(wac_parser_terms::proofs::Places::places), unfolding(wac_parser_grammar::specs::Documents::import_statement, wac_parser_grammar::specs::Documents::import_name))]
     fn parse(alloc: Global, lexer: &mut Lexer<'a>) -> ParseResult<ImportStatement<'a>> {
         let docs = doc_comments(alloc, lexer)?;
         parse_token(lexer, Token::ImportKeyword)?;

@@ -1,49 +1,22 @@
 //! Interfaces.
 
-ghost use Rattle.std.specs.Prelude.{◌≡◌, ◌∷◌, [], ◌<◌, ◌≤◌, OnOk};
-ghost use Rattle.wac_parser_lexer.specs.declared.token.Token.TheVariants as k;
+ghost use Rattle.std.specs.Prelude.{◌≡◌, ◌<◌, ◌≤◌, OnOk};
 ghost use Rattle.wac_parser_tree.specs.Trees as t;
 ghost use Rattle.wac_parser_tree.specs.Views.{view_use_path, view_use_item, view_use, view_interface_export, view_interface_item, view_interface_decl, view_inline_interface};
-ghost use Rattle.wac_parser_grammar.specs.Ahead as ahead;
 ghost use Rattle.wac_parser_grammar.specs.Worlds as grammar;
 
-use crate::base::{ended, none_of, parse_token, sees, sees_any};
-use crate::declaration::ITEM_TYPE_DECL_FIRST;
-use crate::lookahead::Lookahead;
-use crate::parse::{Parse, Peek, braced, parse_optional};
-use crate::text::{doc_comments, ident};
+use crate::parse::{Parse, braced, parse_optional};
 use std::alloc::Global;
 use wac_parser_grammar::ParseResult;
 use wac_parser_lexer::{Lexer, Token};
+use wac_parser_terms::{
+    INTERFACE_ITEM_FIRST, ITEM_TYPE_DECL_FIRST, PATH_FIRST, doc_comments, ended, ident, none_of,
+    parse_token, sees, sees_any,
+};
 use wac_parser_tree::{
     FuncTypeRef, Ident, InlineInterface, InterfaceDecl, InterfaceExport, InterfaceItem,
     ItemTypeDecl, PackagePath, Use, UseItem, UsePath,
 };
-
-/// The tokens with which a path begins.
-pub(crate) const PATH_FIRST: [Token; 2] = [Token::PackagePath, Token::Ident];
-
-/// The tokens with which an item of an interface begins.
-const INTERFACE_ITEM_FIRST: [Token; 8] = [
-    Token::UseKeyword,
-    Token::Ident,
-    Token::ResourceKeyword,
-    Token::VariantKeyword,
-    Token::RecordKeyword,
-    Token::FlagsKeyword,
-    Token::EnumKeyword,
-    Token::TypeKeyword,
-];
-
-impl<'a> Peek for UsePath<'a> {
-    ghost first = { grammar.path_first };
-
-    fn peek(lookahead: &mut Lookahead) -> bool
-        ensures { ahead.Tries (grammar.path_first) lookahead.old result lookahead.new }
-    {
-        lookahead.peek_any(&PATH_FIRST)
-    }
-}
 
 impl<'a> Parse<'a> for UsePath<'a> {
     ghost Plain = { t.UsePath };
@@ -52,7 +25,7 @@ impl<'a> Parse<'a> for UsePath<'a> {
 
     ghost rule = { grammar.use_path };
 
-    #[tactic(auto, using(crate::proofs::Behind::places), unfolding(wac_parser_grammar::specs::Worlds::use_path))]
+    #[tactic(auto, using(wac_parser_terms::proofs::Places::places), unfolding(wac_parser_grammar::specs::Worlds::use_path))]
     fn parse(alloc: Global, lexer: &mut Lexer<'a>) -> ParseResult<UsePath<'a>> {
         if sees(lexer, Token::PackagePath) {
             return Ok(UsePath::Package(PackagePath::parse(alloc, lexer)?));
@@ -64,16 +37,6 @@ impl<'a> Parse<'a> for UsePath<'a> {
     }
 }
 
-impl<'a> Peek for UseItem<'a> {
-    ghost first = { k.Ident ∷ [] };
-
-    fn peek(lookahead: &mut Lookahead) -> bool
-        ensures { ahead.Tries (k.Ident ∷ []) lookahead.old result lookahead.new }
-    {
-        lookahead.peek(Token::Ident)
-    }
-}
-
 impl<'a> Parse<'a> for UseItem<'a> {
     ghost Plain = { t.UseItem };
 
@@ -81,21 +44,11 @@ impl<'a> Parse<'a> for UseItem<'a> {
 
     ghost rule = { grammar.use_item };
 
-    #[tactic(auto, using(crate::proofs::Behind::places), unfolding(wac_parser_grammar::specs::Worlds::use_item, wac_parser_grammar::specs::Worlds::use_as))]
+    #[tactic(auto, using(wac_parser_terms::proofs::Places::places), unfolding(wac_parser_grammar::specs::Worlds::use_item, wac_parser_grammar::specs::Worlds::use_as))]
     fn parse(alloc: Global, lexer: &mut Lexer<'a>) -> ParseResult<UseItem<'a>> {
         let id = ident(lexer)?;
         let as_id = parse_optional(alloc, lexer, Token::AsKeyword)?;
         Ok(UseItem { id, as_id })
-    }
-}
-
-impl<'a> Peek for Use<'a> {
-    ghost first = { k.UseKeyword ∷ [] };
-
-    fn peek(lookahead: &mut Lookahead) -> bool
-        ensures { ahead.Tries (k.UseKeyword ∷ []) lookahead.old result lookahead.new }
-    {
-        lookahead.peek(Token::UseKeyword)
     }
 }
 
@@ -106,7 +59,7 @@ impl<'a> Parse<'a> for Use<'a> {
 
     ghost rule = { grammar.use_types };
 
-    #[tactic(auto, using(crate::proofs::Behind::places), unfolding(wac_parser_grammar::specs::Worlds::use_types, wac_parser_grammar::specs::Worlds::use_items))]
+    #[tactic(auto, using(wac_parser_terms::proofs::Places::places), unfolding(wac_parser_grammar::specs::Worlds::use_types, wac_parser_grammar::specs::Worlds::use_items))]
     fn parse(alloc: Global, lexer: &mut Lexer<'a>) -> ParseResult<Use<'a>> {
         let docs = doc_comments(alloc, lexer)?;
         parse_token(lexer, Token::UseKeyword)?;
@@ -118,16 +71,6 @@ impl<'a> Parse<'a> for Use<'a> {
     }
 }
 
-impl<'a> Peek for InterfaceExport<'a> {
-    ghost first = { k.Ident ∷ [] };
-
-    fn peek(lookahead: &mut Lookahead) -> bool
-        ensures { ahead.Tries (k.Ident ∷ []) lookahead.old result lookahead.new }
-    {
-        lookahead.peek(Token::Ident)
-    }
-}
-
 impl<'a> Parse<'a> for InterfaceExport<'a> {
     ghost Plain = { t.InterfaceExport };
 
@@ -135,23 +78,13 @@ impl<'a> Parse<'a> for InterfaceExport<'a> {
 
     ghost rule = { grammar.interface_export };
 
-    #[tactic(auto, using(crate::proofs::Behind::places), unfolding(wac_parser_grammar::specs::Worlds::interface_export))]
+    #[tactic(auto, using(wac_parser_terms::proofs::Places::places), unfolding(wac_parser_grammar::specs::Worlds::interface_export))]
     fn parse(alloc: Global, lexer: &mut Lexer<'a>) -> ParseResult<InterfaceExport<'a>> {
         let docs = doc_comments(alloc, lexer)?;
         let id = ident(lexer)?;
         parse_token(lexer, Token::Colon)?;
         let ty = ended(FuncTypeRef::parse(alloc, lexer)?, lexer, Token::Semicolon)?;
         Ok(InterfaceExport { docs, id, ty })
-    }
-}
-
-impl<'a> Peek for InterfaceItem<'a> {
-    ghost first = { grammar.interface_item_first };
-
-    fn peek(lookahead: &mut Lookahead) -> bool
-        ensures { ahead.Tries (grammar.interface_item_first) lookahead.old result lookahead.new }
-    {
-        lookahead.peek_any(&INTERFACE_ITEM_FIRST)
     }
 }
 
@@ -162,7 +95,7 @@ impl<'a> Parse<'a> for InterfaceItem<'a> {
 
     ghost rule = { grammar.interface_item };
 
-    #[tactic(auto, using(crate::proofs::Behind::places), unfolding(wac_parser_grammar::specs::Worlds::interface_item))]
+    #[tactic(auto, using(wac_parser_terms::proofs::Places::places), unfolding(wac_parser_grammar::specs::Worlds::interface_item))]
     fn parse(alloc: Global, lexer: &mut Lexer<'a>) -> ParseResult<InterfaceItem<'a>> {
         if sees(lexer, Token::UseKeyword) {
             let types = Use::parse(alloc, lexer)?;
@@ -178,16 +111,6 @@ impl<'a> Parse<'a> for InterfaceItem<'a> {
     }
 }
 
-impl<'a> Peek for InterfaceDecl<'a> {
-    ghost first = { k.InterfaceKeyword ∷ [] };
-
-    fn peek(lookahead: &mut Lookahead) -> bool
-        ensures { ahead.Tries (k.InterfaceKeyword ∷ []) lookahead.old result lookahead.new }
-    {
-        lookahead.peek(Token::InterfaceKeyword)
-    }
-}
-
 impl<'a> Parse<'a> for InterfaceDecl<'a> {
     ghost Plain = { t.InterfaceDecl };
 
@@ -195,23 +118,13 @@ impl<'a> Parse<'a> for InterfaceDecl<'a> {
 
     ghost rule = { grammar.interface_decl };
 
-    #[tactic(auto, using(crate::proofs::Behind::places), unfolding(wac_parser_grammar::specs::Worlds::interface_decl, wac_parser_grammar::specs::Worlds::interface_items))]
+    #[tactic(auto, using(wac_parser_terms::proofs::Places::places), unfolding(wac_parser_grammar::specs::Worlds::interface_decl, wac_parser_grammar::specs::Worlds::interface_items))]
     fn parse(alloc: Global, lexer: &mut Lexer<'a>) -> ParseResult<InterfaceDecl<'a>> {
         let docs = doc_comments(alloc, lexer)?;
         parse_token(lexer, Token::InterfaceKeyword)?;
         let id = ident(lexer)?;
         let items = braced(alloc, lexer, false)?;
         Ok(InterfaceDecl { docs, id, items })
-    }
-}
-
-impl<'a> Peek for InlineInterface<'a> {
-    ghost first = { k.InterfaceKeyword ∷ [] };
-
-    fn peek(lookahead: &mut Lookahead) -> bool
-        ensures { ahead.Tries (k.InterfaceKeyword ∷ []) lookahead.old result lookahead.new }
-    {
-        lookahead.peek(Token::InterfaceKeyword)
     }
 }
 
@@ -222,7 +135,7 @@ impl<'a> Parse<'a> for InlineInterface<'a> {
 
     ghost rule = { grammar.inline_interface };
 
-    #[tactic(auto, using(crate::proofs::Behind::places), unfolding(wac_parser_grammar::specs::Worlds::inline_interface, wac_parser_grammar::specs::Worlds::interface_items))]
+    #[tactic(auto, using(wac_parser_terms::proofs::Places::places), unfolding(wac_parser_grammar::specs::Worlds::inline_interface, wac_parser_grammar::specs::Worlds::interface_items))]
     fn parse(alloc: Global, lexer: &mut Lexer<'a>) -> ParseResult<InlineInterface<'a>> {
         parse_token(lexer, Token::InterfaceKeyword)?;
         let items = braced(alloc, lexer, false)?;

@@ -1,32 +1,18 @@
 //! Names for expressions.
 
-ghost use Rattle.std.specs.Prelude.{◌≡◌, ◌∷◌, [], ◌<◌, ◌≤◌, OnOk};
-ghost use Rattle.wac_parser_lexer.specs.declared.token.Token.TheVariants as k;
+ghost use Rattle.std.specs.Prelude.{◌≡◌, ◌<◌, ◌≤◌, OnOk};
 ghost use Rattle.wac_parser_tree.specs.Trees as t;
 ghost use Rattle.wac_parser_tree.specs.Views.{view_let_statement};
 ghost use Rattle.wac_parser_grammar.specs.Rules.{left};
 ghost use Rattle.wac_parser_grammar.specs.Reads.{Reads};
-ghost use Rattle.wac_parser_grammar.specs.Ahead as ahead;
 ghost use Rattle.wac_parser_grammar.specs.Documents as grammar;
 
-use crate::base::{ended, parse_token};
-use crate::lookahead::Lookahead;
-use crate::parse::{Parse, Peek};
-use crate::text::{doc_comments, ident};
+use crate::parse::Parse;
 use std::alloc::Global;
 use wac_parser_grammar::ParseResult;
 use wac_parser_lexer::{Lexer, Token};
+use wac_parser_terms::{doc_comments, ended, ident, parse_token};
 use wac_parser_tree::{Expr, LetStatement};
-
-impl<'a> Peek for LetStatement<'a> {
-    ghost first = { k.LetKeyword ∷ [] };
-
-    fn peek(lookahead: &mut Lookahead) -> bool
-        ensures { ahead.Tries (k.LetKeyword ∷ []) lookahead.old result lookahead.new }
-    {
-        lookahead.peek(Token::LetKeyword)
-    }
-}
 
 impl<'a> Parse<'a> for LetStatement<'a> {
     ghost Plain = { t.LetStatement };
@@ -35,7 +21,7 @@ impl<'a> Parse<'a> for LetStatement<'a> {
 
     ghost rule = { grammar.let_statement };
 
-    #[tactic(auto, using(crate::proofs::Behind::places), unfolding(wac_parser_grammar::specs::Documents::let_statement))]
+    #[tactic(auto, using(wac_parser_terms::proofs::Places::places), unfolding(wac_parser_grammar::specs::Documents::let_statement))]
     fn parse(alloc: Global, lexer: &mut Lexer<'a>) -> ParseResult<LetStatement<'a>> {
         let docs = doc_comments(alloc, lexer)?;
         parse_token(lexer, Token::LetKeyword)?;

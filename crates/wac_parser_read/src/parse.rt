@@ -1,9 +1,8 @@
 //! What can be parsed, and lists of it.
-#![tactic(auto, using(crate::proofs::Behind::places))]
+#![tactic(auto, using(wac_parser_terms::proofs::Places::places))]
 
 ghost use Rattle.wac_parser_grammar.specs.Places.{IsBehind};
-ghost use Rattle.std.specs.Prelude.{◌≡◌, ◌∷◌, [], ◌<◌, ◌≤◌, Bool, false, true, OnOk, OnErr, IfErr, if◌then◌else◌, List, map};
-ghost use Rattle.wac_parser_lexer.specs.declared.token.Token.{Token};
+ghost use Rattle.std.specs.Prelude.{◌≡◌, ◌∷◌, [], ◌<◌, ◌≤◌, Bool, false, true, OnOk, OnErr, IfErr, map};
 ghost use Rattle.wac_parser_lexer.specs.Items.{Input};
 ghost use Rattle.wac_parser_grammar.specs.Ahead as ahead;
 ghost use Rattle.wac_parser_grammar.specs.Faults.{Fault, fault_of};
@@ -12,21 +11,10 @@ ghost use Rattle.std.specs.Option.{option_map};
 ghost use Rattle.wac_parser_grammar.specs.Reads.{Reads};
 ghost use Rattle.wac_parser_grammar.specs.Declarations.{body};
 
-use crate::base::{behind, optional, parse_token, sees};
-use crate::lookahead::Lookahead;
 use std::alloc::Global;
 use wac_parser_grammar::{Error, ParseResult};
 use wac_parser_lexer::{Lexer, Token};
-
-/// A part of a document that is known by its first token.
-pub trait Peek {
-    /// The tokens with which such a part begins, in the order in which they are tried.
-    ghost first: { List Token };
-
-    /// Tries the tokens with which such a part begins, and answers whether one of them comes next.
-    fn peek(lookahead: &mut Lookahead) -> bool
-        ensures { ahead.Tries first lookahead.old result lookahead.new };
-}
+use wac_parser_terms::{Lookahead, Peek, behind, optional, parse_token, sees};
 
 /// A part of a document.
 pub trait Parse<'a>: Sized + Drop {

@@ -1,38 +1,22 @@
 //! Declarations of resources.
 
 ghost use Rattle.wac_parser_grammar.specs.Places.{IsBehind};
-ghost use Rattle.std.specs.Prelude.{◌≡◌, ◌∷◌, [], ◌<◌, ◌≤◌, OnOk};
-ghost use Rattle.wac_parser_lexer.specs.declared.token.Token.TheVariants as k;
+ghost use Rattle.std.specs.Prelude.{◌≡◌, ◌<◌, ◌≤◌, OnOk};
 ghost use Rattle.wac_parser_tree.specs.Trees as t;
 ghost use Rattle.wac_parser_tree.specs.Views.{view_constructor, view_method, view_resource_method, view_resource_decl};
-ghost use Rattle.wac_parser_read.specs.Views.{view_all};
+ghost use Rattle.wac_parser_terms.specs.Views.{view_all};
 ghost use Rattle.wac_parser_grammar.specs.Rules.{left};
 ghost use Rattle.wac_parser_grammar.specs.Reads.{Reads};
-ghost use Rattle.wac_parser_grammar.specs.Ahead as ahead;
 ghost use Rattle.wac_parser_grammar.specs.Declarations as grammar;
 
-use crate::base::{ended, none_of, parse_token, sees};
-use crate::lookahead::Lookahead;
-use crate::parse::{Parse, Peek, braced};
-use crate::text::{doc_comments, ident};
-use crate::value_type::func_params;
+use crate::parse::{Parse, braced};
 use std::alloc::Global;
 use wac_parser_grammar::ParseResult;
 use wac_parser_lexer::{Lexer, Token};
+use wac_parser_terms::{
+    METHOD_FIRST, doc_comments, ended, func_params, ident, none_of, parse_token, sees,
+};
 use wac_parser_tree::{Constructor, FuncType, Method, ResourceDecl, ResourceMethod};
-
-/// The tokens with which a method begins.
-const METHOD_FIRST: [Token; 2] = [Token::ConstructorKeyword, Token::Ident];
-
-impl<'a> Peek for Constructor<'a> {
-    ghost first = { k.ConstructorKeyword ∷ [] };
-
-    fn peek(lookahead: &mut Lookahead) -> bool
-        ensures { ahead.Tries (k.ConstructorKeyword ∷ []) lookahead.old result lookahead.new }
-    {
-        lookahead.peek(Token::ConstructorKeyword)
-    }
-}
 
 impl<'a> Parse<'a> for Constructor<'a> {
     ghost Plain = { t.Constructor };
@@ -41,7 +25,7 @@ impl<'a> Parse<'a> for Constructor<'a> {
 
     ghost rule = { grammar.constructor };
 
-    #[tactic(auto, using(crate::proofs::Behind::places), unfolding(wac_parser_grammar::specs::Declarations::constructor))]
+    #[tactic(auto, using(wac_parser_terms::proofs::Places::places), unfolding(wac_parser_grammar::specs::Declarations::constructor))]
     fn parse(alloc: Global, lexer: &mut Lexer<'a>) -> ParseResult<Constructor<'a>> {
         let docs = doc_comments(alloc, lexer)?;
         let span = parse_token(lexer, Token::ConstructorKeyword)?;
@@ -52,7 +36,7 @@ impl<'a> Parse<'a> for Constructor<'a> {
 }
 
 /// Takes `static` where it comes next, and answers whether it did.
-#[tactic(auto, using(crate::proofs::Behind::places), unfolding(wac_parser_grammar::specs::Declarations::static_mark))]
+#[tactic(auto, using(wac_parser_terms::proofs::Places::places), unfolding(wac_parser_grammar::specs::Declarations::static_mark))]
 fn static_mark(lexer: &mut Lexer<'_>) -> ParseResult<bool>
     ensures value { Reads (λ x. x) grammar.static_mark lexer.old result lexer.new }
     ensures keeps { OnOk result (left lexer.new ≤ left lexer.old) }
@@ -65,16 +49,6 @@ fn static_mark(lexer: &mut Lexer<'_>) -> ParseResult<bool>
     Ok(true)
 }
 
-impl<'a> Peek for Method<'a> {
-    ghost first = { k.Ident ∷ [] };
-
-    fn peek(lookahead: &mut Lookahead) -> bool
-        ensures { ahead.Tries (k.Ident ∷ []) lookahead.old result lookahead.new }
-    {
-        lookahead.peek(Token::Ident)
-    }
-}
-
 impl<'a> Parse<'a> for Method<'a> {
     ghost Plain = { t.Method };
 
@@ -82,7 +56,7 @@ impl<'a> Parse<'a> for Method<'a> {
 
     ghost rule = { grammar.method };
 
-    #[tactic(auto, using(crate::proofs::Behind::places), unfolding(wac_parser_grammar::specs::Declarations::method))]
+    #[tactic(auto, using(wac_parser_terms::proofs::Places::places), unfolding(wac_parser_grammar::specs::Declarations::method))]
     fn parse(alloc: Global, lexer: &mut Lexer<'a>) -> ParseResult<Method<'a>> {
         let docs = doc_comments(alloc, lexer)?;
         let id = ident(lexer)?;
@@ -98,16 +72,6 @@ impl<'a> Parse<'a> for Method<'a> {
     }
 }
 
-impl<'a> Peek for ResourceMethod<'a> {
-    ghost first = { grammar.method_first };
-
-    fn peek(lookahead: &mut Lookahead) -> bool
-        ensures { ahead.Tries (grammar.method_first) lookahead.old result lookahead.new }
-    {
-        lookahead.peek_any(&METHOD_FIRST)
-    }
-}
-
 impl<'a> Parse<'a> for ResourceMethod<'a> {
     ghost Plain = { t.ResourceMethod };
 
@@ -115,7 +79,7 @@ impl<'a> Parse<'a> for ResourceMethod<'a> {
 
     ghost rule = { grammar.resource_method };
 
-    #[tactic(auto, using(crate::proofs::Behind::places), unfolding(wac_parser_grammar::specs::Declarations::resource_method))]
+    #[tactic(auto, using(wac_parser_terms::proofs::Places::places), unfolding(wac_parser_grammar::specs::Declarations::resource_method))]
     fn parse(alloc: Global, lexer: &mut Lexer<'a>) -> ParseResult<ResourceMethod<'a>> {
         if sees(lexer, Token::ConstructorKeyword) {
             return Ok(ResourceMethod::Constructor(Constructor::parse(alloc, lexer)?));
@@ -128,7 +92,7 @@ impl<'a> Parse<'a> for ResourceMethod<'a> {
 }
 
 /// A semicolon, or methods in braces.
-#[tactic(auto, using(crate::proofs::Behind::places), unfolding(wac_parser_grammar::specs::Declarations::resource_methods))]
+#[tactic(auto, using(wac_parser_terms::proofs::Places::places), unfolding(wac_parser_grammar::specs::Declarations::resource_methods))]
 fn resource_methods<'a>(
     alloc: Global,
     lexer: &mut Lexer<'a>,
@@ -147,16 +111,6 @@ fn resource_methods<'a>(
     braced(alloc, lexer, false)
 }
 
-impl<'a> Peek for ResourceDecl<'a> {
-    ghost first = { k.ResourceKeyword ∷ [] };
-
-    fn peek(lookahead: &mut Lookahead) -> bool
-        ensures { ahead.Tries (k.ResourceKeyword ∷ []) lookahead.old result lookahead.new }
-    {
-        lookahead.peek(Token::ResourceKeyword)
-    }
-}
-
 impl<'a> Parse<'a> for ResourceDecl<'a> {
     ghost Plain = { t.ResourceDecl };
 
@@ -164,7 +118,7 @@ impl<'a> Parse<'a> for ResourceDecl<'a> {
 
     ghost rule = { grammar.resource_decl };
 
-    #[tactic(auto, using(crate::proofs::Behind::places), unfolding(wac_parser_grammar::specs::Declarations::resource_decl))]
+    #[tactic(auto, using(wac_parser_terms::proofs::Places::places), unfolding(wac_parser_grammar::specs::Declarations::resource_decl))]
     fn parse(alloc: Global, lexer: &mut Lexer<'a>) -> ParseResult<ResourceDecl<'a>> {
         let docs = doc_comments(alloc, lexer)?;
         parse_token(lexer, Token::ResourceKeyword)?;

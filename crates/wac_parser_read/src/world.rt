@@ -1,26 +1,22 @@
 //! Worlds.
 
 ghost use Rattle.wac_parser_grammar.specs.Places.{IsBehind};
-ghost use Rattle.std.specs.Prelude.{◌≡◌, ◌∷◌, [], ◌<◌, ◌≤◌, OnOk};
-ghost use Rattle.wac_parser_lexer.specs.declared.token.Token.TheVariants as k;
+ghost use Rattle.std.specs.Prelude.{◌≡◌, ◌<◌, ◌≤◌, OnOk};
 ghost use Rattle.wac_parser_tree.specs.Trees as t;
 ghost use Rattle.wac_parser_tree.specs.Views.{view_ident, view_extern_type, view_named_world_item, view_world_item_path, view_world_import, view_world_export, view_world_ref, view_world_include_item, view_world_include, view_world_item, view_world_decl};
-ghost use Rattle.wac_parser_read.specs.Views.{view_all};
+ghost use Rattle.wac_parser_terms.specs.Views.{view_all};
 ghost use Rattle.wac_parser_grammar.specs.Rules.{left};
 ghost use Rattle.wac_parser_grammar.specs.Reads.{Reads};
-ghost use Rattle.wac_parser_grammar.specs.Ahead as ahead;
 ghost use Rattle.wac_parser_grammar.specs.Worlds as grammar;
 
-use crate::base::{ended, none_of, optional, parse_token, sees, sees_any};
-use crate::declaration::ITEM_TYPE_DECL_FIRST;
-use crate::interface::PATH_FIRST;
-use crate::lookahead::Lookahead;
-use crate::parse::{Parse, Peek, braced};
-use crate::text::{doc_comments, ident};
-use crate::value_type::FUNC_FIRST;
+use crate::parse::{Parse, braced};
 use std::alloc::Global;
 use wac_parser_grammar::ParseResult;
 use wac_parser_lexer::{Lexer, Token};
+use wac_parser_terms::{
+    FUNC_FIRST, ITEM_TYPE_DECL_FIRST, PATH_FIRST, WORLD_ITEM_FIRST, doc_comments, ended, ident,
+    none_of, optional, parse_token, sees, sees_any,
+};
 use wac_parser_tree::{
     ExternType, FuncType, Ident, InlineInterface, ItemTypeDecl, NamedWorldItem, PackagePath, Use,
     WorldDecl, WorldExport, WorldImport, WorldInclude, WorldIncludeItem, WorldItem, WorldItemPath,
@@ -35,20 +31,6 @@ const EXTERN_TYPE_FIRST: [Token; 4] = [
     Token::InterfaceKeyword,
 ];
 
-/// The tokens with which an item of a world begins.
-const WORLD_ITEM_FIRST: [Token; 10] = [
-    Token::UseKeyword,
-    Token::ImportKeyword,
-    Token::ExportKeyword,
-    Token::IncludeKeyword,
-    Token::ResourceKeyword,
-    Token::VariantKeyword,
-    Token::RecordKeyword,
-    Token::FlagsKeyword,
-    Token::EnumKeyword,
-    Token::TypeKeyword,
-];
-
 impl<'a> Parse<'a> for ExternType<'a> {
     ghost Plain = { t.ExternType };
 
@@ -56,7 +38,7 @@ impl<'a> Parse<'a> for ExternType<'a> {
 
     ghost rule = { grammar.extern_type };
 
-    #[tactic(auto, using(crate::proofs::Behind::places), unfolding(wac_parser_grammar::specs::Worlds::extern_type))]
+    #[tactic(auto, using(wac_parser_terms::proofs::Places::places), unfolding(wac_parser_grammar::specs::Worlds::extern_type))]
     fn parse(alloc: Global, lexer: &mut Lexer<'a>) -> ParseResult<ExternType<'a>> {
         if sees(lexer, Token::Ident) {
             return Ok(ExternType::Ident(Ident::parse(alloc, lexer)?));
@@ -72,7 +54,7 @@ impl<'a> Parse<'a> for ExternType<'a> {
 }
 
 /// The colon and the type behind the name of an item.
-#[tactic(auto, using(crate::proofs::Behind::places), unfolding(wac_parser_grammar::specs::Worlds::item_type))]
+#[tactic(auto, using(wac_parser_terms::proofs::Places::places), unfolding(wac_parser_grammar::specs::Worlds::item_type))]
 fn item_type<'a>(
     alloc: Global,
     lexer: &mut Lexer<'a>,
@@ -87,16 +69,6 @@ fn item_type<'a>(
     Ok(NamedWorldItem { id, ty })
 }
 
-impl<'a> Peek for NamedWorldItem<'a> {
-    ghost first = { k.Ident ∷ [] };
-
-    fn peek(lookahead: &mut Lookahead) -> bool
-        ensures { ahead.Tries (k.Ident ∷ []) lookahead.old result lookahead.new }
-    {
-        lookahead.peek(Token::Ident)
-    }
-}
-
 impl<'a> Parse<'a> for NamedWorldItem<'a> {
     ghost Plain = { t.NamedWorldItem };
 
@@ -104,7 +76,7 @@ impl<'a> Parse<'a> for NamedWorldItem<'a> {
 
     ghost rule = { grammar.named_world_item };
 
-    #[tactic(auto, using(crate::proofs::Behind::places), unfolding(wac_parser_grammar::specs::Worlds::named_world_item))]
+    #[tactic(auto, using(wac_parser_terms::proofs::Places::places), unfolding(wac_parser_grammar::specs::Worlds::named_world_item))]
     fn parse(alloc: Global, lexer: &mut Lexer<'a>) -> ParseResult<NamedWorldItem<'a>> {
         let id = ident(lexer)?;
         item_type(alloc, lexer, id)
@@ -112,7 +84,7 @@ impl<'a> Parse<'a> for NamedWorldItem<'a> {
 }
 
 /// An identifier, which a colon makes the name of an item.
-#[tactic(auto, using(crate::proofs::Behind::places), unfolding(wac_parser_grammar::specs::Worlds::ident_path))]
+#[tactic(auto, using(wac_parser_terms::proofs::Places::places), unfolding(wac_parser_grammar::specs::Worlds::ident_path))]
 fn ident_path<'a>(alloc: Global, lexer: &mut Lexer<'a>) -> ParseResult<WorldItemPath<'a>>
     ensures value { Reads view_world_item_path grammar.ident_path lexer.old result lexer.new }
     ensures takes { OnOk result (left lexer.new < left lexer.old) }
@@ -132,7 +104,7 @@ impl<'a> Parse<'a> for WorldItemPath<'a> {
 
     ghost rule = { grammar.world_item_path };
 
-    #[tactic(auto, using(crate::proofs::Behind::places), unfolding(wac_parser_grammar::specs::Worlds::world_item_path))]
+    #[tactic(auto, using(wac_parser_terms::proofs::Places::places), unfolding(wac_parser_grammar::specs::Worlds::world_item_path))]
     fn parse(alloc: Global, lexer: &mut Lexer<'a>) -> ParseResult<WorldItemPath<'a>> {
         if sees(lexer, Token::PackagePath) {
             return Ok(WorldItemPath::Package(PackagePath::parse(alloc, lexer)?));
@@ -144,16 +116,6 @@ impl<'a> Parse<'a> for WorldItemPath<'a> {
     }
 }
 
-impl<'a> Peek for WorldImport<'a> {
-    ghost first = { k.ImportKeyword ∷ [] };
-
-    fn peek(lookahead: &mut Lookahead) -> bool
-        ensures { ahead.Tries (k.ImportKeyword ∷ []) lookahead.old result lookahead.new }
-    {
-        lookahead.peek(Token::ImportKeyword)
-    }
-}
-
 impl<'a> Parse<'a> for WorldImport<'a> {
     ghost Plain = { t.WorldImport };
 
@@ -161,22 +123,12 @@ impl<'a> Parse<'a> for WorldImport<'a> {
 
     ghost rule = { grammar.world_import };
 
-    #[tactic(auto, using(crate::proofs::Behind::places), unfolding(wac_parser_grammar::specs::Worlds::world_import))]
+    #[tactic(auto, using(wac_parser_terms::proofs::Places::places), unfolding(wac_parser_grammar::specs::Worlds::world_import))]
     fn parse(alloc: Global, lexer: &mut Lexer<'a>) -> ParseResult<WorldImport<'a>> {
         let docs = doc_comments(alloc, lexer)?;
         parse_token(lexer, Token::ImportKeyword)?;
         let path = ended(WorldItemPath::parse(alloc, lexer)?, lexer, Token::Semicolon)?;
         Ok(WorldImport { docs, path })
-    }
-}
-
-impl<'a> Peek for WorldExport<'a> {
-    ghost first = { k.ExportKeyword ∷ [] };
-
-    fn peek(lookahead: &mut Lookahead) -> bool
-        ensures { ahead.Tries (k.ExportKeyword ∷ []) lookahead.old result lookahead.new }
-    {
-        lookahead.peek(Token::ExportKeyword)
     }
 }
 
@@ -187,7 +139,7 @@ impl<'a> Parse<'a> for WorldExport<'a> {
 
     ghost rule = { grammar.world_export };
 
-    #[tactic(auto, using(crate::proofs::Behind::places), unfolding(wac_parser_grammar::specs::Worlds::world_export))]
+    #[tactic(auto, using(wac_parser_terms::proofs::Places::places), unfolding(wac_parser_grammar::specs::Worlds::world_export))]
     fn parse(alloc: Global, lexer: &mut Lexer<'a>) -> ParseResult<WorldExport<'a>> {
         let docs = doc_comments(alloc, lexer)?;
         parse_token(lexer, Token::ExportKeyword)?;
@@ -203,7 +155,7 @@ impl<'a> Parse<'a> for WorldRef<'a> {
 
     ghost rule = { grammar.world_ref };
 
-    #[tactic(auto, using(crate::proofs::Behind::places), unfolding(wac_parser_grammar::specs::Worlds::world_ref))]
+    #[tactic(auto, using(wac_parser_terms::proofs::Places::places), unfolding(wac_parser_grammar::specs::Worlds::world_ref))]
     fn parse(alloc: Global, lexer: &mut Lexer<'a>) -> ParseResult<WorldRef<'a>> {
         if sees(lexer, Token::PackagePath) {
             return Ok(WorldRef::Package(PackagePath::parse(alloc, lexer)?));
@@ -215,16 +167,6 @@ impl<'a> Parse<'a> for WorldRef<'a> {
     }
 }
 
-impl<'a> Peek for WorldIncludeItem<'a> {
-    ghost first = { k.Ident ∷ [] };
-
-    fn peek(lookahead: &mut Lookahead) -> bool
-        ensures { ahead.Tries (k.Ident ∷ []) lookahead.old result lookahead.new }
-    {
-        lookahead.peek(Token::Ident)
-    }
-}
-
 impl<'a> Parse<'a> for WorldIncludeItem<'a> {
     ghost Plain = { t.WorldIncludeItem };
 
@@ -232,7 +174,7 @@ impl<'a> Parse<'a> for WorldIncludeItem<'a> {
 
     ghost rule = { grammar.world_include_item };
 
-    #[tactic(auto, using(crate::proofs::Behind::places), unfolding(wac_parser_grammar::specs::Worlds::world_include_item))]
+    #[tactic(auto, using(wac_parser_terms::proofs::Places::places), unfolding(wac_parser_grammar::specs::Worlds::world_include_item))]
     fn parse(_alloc: Global, lexer: &mut Lexer<'a>) -> ParseResult<WorldIncludeItem<'a>> {
         let from = ident(lexer)?;
         parse_token(lexer, Token::AsKeyword)?;
@@ -242,7 +184,7 @@ impl<'a> Parse<'a> for WorldIncludeItem<'a> {
 }
 
 /// The names that change behind a `with`, or none.
-#[tactic(auto, using(crate::proofs::Behind::places), unfolding(wac_parser_grammar::specs::Worlds::include_with, wac_parser_grammar::specs::Worlds::include_items))]
+#[tactic(auto, using(wac_parser_terms::proofs::Places::places), unfolding(wac_parser_grammar::specs::Worlds::include_with, wac_parser_grammar::specs::Worlds::include_items))]
 fn include_with<'a>(alloc: Global, lexer: &mut Lexer<'a>) -> ParseResult<Vec<WorldIncludeItem<'a>>>
     ensures value { Reads (view_all view_world_include_item) grammar.include_with lexer.old result lexer.new }
     ensures keeps { OnOk result (left lexer.new ≤ left lexer.old) }
@@ -254,16 +196,6 @@ fn include_with<'a>(alloc: Global, lexer: &mut Lexer<'a>) -> ParseResult<Vec<Wor
     Ok(Vec::new(alloc))
 }
 
-impl<'a> Peek for WorldInclude<'a> {
-    ghost first = { k.IncludeKeyword ∷ [] };
-
-    fn peek(lookahead: &mut Lookahead) -> bool
-        ensures { ahead.Tries (k.IncludeKeyword ∷ []) lookahead.old result lookahead.new }
-    {
-        lookahead.peek(Token::IncludeKeyword)
-    }
-}
-
 impl<'a> Parse<'a> for WorldInclude<'a> {
     ghost Plain = { t.WorldInclude };
 
@@ -271,7 +203,7 @@ impl<'a> Parse<'a> for WorldInclude<'a> {
 
     ghost rule = { grammar.world_include };
 
-    #[tactic(auto, using(crate::proofs::Behind::places), unfolding(wac_parser_grammar::specs::Worlds::world_include))]
+    #[tactic(auto, using(wac_parser_terms::proofs::Places::places), unfolding(wac_parser_grammar::specs::Worlds::world_include))]
     fn parse(alloc: Global, lexer: &mut Lexer<'a>) -> ParseResult<WorldInclude<'a>> {
         let docs = doc_comments(alloc, lexer)?;
         parse_token(lexer, Token::IncludeKeyword)?;
@@ -282,16 +214,6 @@ impl<'a> Parse<'a> for WorldInclude<'a> {
     }
 }
 
-impl<'a> Peek for WorldItem<'a> {
-    ghost first = { grammar.world_item_first };
-
-    fn peek(lookahead: &mut Lookahead) -> bool
-        ensures { ahead.Tries (grammar.world_item_first) lookahead.old result lookahead.new }
-    {
-        lookahead.peek_any(&WORLD_ITEM_FIRST)
-    }
-}
-
 impl<'a> Parse<'a> for WorldItem<'a> {
     ghost Plain = { t.WorldItem };
 
@@ -299,7 +221,7 @@ impl<'a> Parse<'a> for WorldItem<'a> {
 
     ghost rule = { grammar.world_item };
 
-    #[tactic(auto, using(crate::proofs::Behind::places), unfolding(wac_parser_grammar::specs::Worlds::world_item))]
+    #[tactic(auto, using(wac_parser_terms::proofs::Places::places), unfolding(wac_parser_grammar::specs::Worlds::world_item))]
     fn parse(alloc: Global, lexer: &mut Lexer<'a>) -> ParseResult<WorldItem<'a>> {
         if sees(lexer, Token::UseKeyword) {
             return Ok(WorldItem::Use(Use::parse(alloc, lexer)?));
@@ -320,16 +242,6 @@ impl<'a> Parse<'a> for WorldItem<'a> {
     }
 }
 
-impl<'a> Peek for WorldDecl<'a> {
-    ghost first = { k.WorldKeyword ∷ [] };
-
-    fn peek(lookahead: &mut Lookahead) -> bool
-        ensures { ahead.Tries (k.WorldKeyword ∷ []) lookahead.old result lookahead.new }
-    {
-        lookahead.peek(Token::WorldKeyword)
-    }
-}
-
 impl<'a> Parse<'a> for WorldDecl<'a> {
     ghost Plain = { t.WorldDecl };
 
@@ -337,7 +249,7 @@ impl<'a> Parse<'a> for WorldDecl<'a> {
 
     ghost rule = { grammar.world_decl };
 
-    #[tactic(auto, using(crate::proofs::Behind::places), unfolding(wac_parser_grammar::specs::Worlds::world_decl, wac_parser_grammar::specs::Worlds::world_items))]
+    #[tactic(auto, using(wac_parser_terms::proofs::Places::places), unfolding(wac_parser_grammar::specs::Worlds::world_decl, wac_parser_grammar::specs::Worlds::world_items))]
     fn parse(alloc: Global, lexer: &mut Lexer<'a>) -> ParseResult<WorldDecl<'a>> {
         let docs = doc_comments(alloc, lexer)?;
         parse_token(lexer, Token::WorldKeyword)?;

@@ -1,13 +1,17 @@
 -- What is answered of a document over packages.
-use Rattle.std.proofs.Common.{◌≡◌, Option, Ok, Err, sym, subst, inl, inr}
+use Rattle.std.proofs.Common.{◌≡◌, ℕ, List, Option, Result, Ok, Err, IfOk, sym, subst, trans, inl, inr}
 use Rattle.wac_types_base.specs.declared.ids.WorldId.{WorldId}
 use Rattle.wac_types_base.specs.Stated.{Stated}
 use Rattle.wac_graph_core.specs.Graph.{Graph}
+use Rattle.wac_graph_encode.specs.declared.options.EncodeOptions.{EncodeOptions}
+use Rattle.wac_graph_encode.specs.declared.options.Encoded.{Encoded}
+use Rattle.wac_graph_encode.specs.Finished.{MeansNested}
 use Rattle.wac_parser_refusals.specs.declared.error.Error.{Error}
 use Rattle.wac_parser_refusals.specs.Outcomes.{IsHeld}
 use Rattle.wac_parser_resolve.specs.Ascribing.{State}
 use Rattle.wac_parser_resolve.specs.InDocuments.{IsBuilt, IsErrorOf}
 use Rattle.wac_parser_resolve.specs.InTargets.{HoldsTarget}
+use Rattle.wac_workspace.specs.Composing.{IsMeant, MeansSaid}
 use Rattle.wac_workspace.specs.declared.errors.ComposeError.{ComposeError}
 use Rattle.wac_workspace.specs.declared.errors.ComposeError.TheVariants as error
 use Rattle.wac_workspace.specs.Faults.{IsResolving}
@@ -49,3 +53,12 @@ late_afterwards q (error.Target x) a h = a
 late_afterwards q error.KeyTaken a h = absurd h
 late_afterwards q error.BytesTaken a h = absurd h
 late_afterwards q error.Memory a h = tt
+
+-- the bytes of a graph that holds what is resolved
+pub meant : {E : Type 0} (q : Resolves) (g : Graph) (r : Result Encoded E) (options : EncodeOptions) → IsGraphOf q g → IfOk r (λ e. MeansNested g options e.bytes.items) → IfOk r (λ e. MeansSaid options q e.bytes.items)
+meant q g (Ok e) options holds h = λ define. record { graph = g; holds = holds; component = h define }
+meant q g (Err f) options holds h = tt
+
+-- likewise with names tested, and under a name
+pub meant_named : (a b : EncodeOptions) (q : Resolves) (xs ys : List ℕ) → a.define_components ≡ b.define_components → ys ≡ xs → MeansSaid a q xs → MeansSaid b q ys
+meant_named a b q xs ys same bytes h = λ define. subst (λ (zs : List ℕ). IsMeant q zs) (sym bytes) (h (trans same define))

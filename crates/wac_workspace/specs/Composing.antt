@@ -6,6 +6,8 @@ use Rattle.wac_types_base.specs.declared.item.ItemKind.{ItemKind}
 use Rattle.wac_types_base.specs.Collection.{Stands}
 use Rattle.wac_types_names.specs.Keys.{Key}
 use Rattle.wac_graph_core.specs.Graph.{Graph}
+use Rattle.wac_graph_encode.specs.declared.options.EncodeOptions.{EncodeOptions}
+use Rattle.wac_graph_encode.specs.Finished.{IsComposed as IsComponentOf}
 use Rattle.wac_parser_tree.specs.Trees.{Document}
 use Rattle.wac_parser_grammar.specs.Documents.{document}
 use Rattle.wac_parser_grammar.specs.Reads.{read_source}
@@ -59,6 +61,29 @@ pub record IsOutput (next : ℕ) (ps : Handed) (source : List ℕ) (o : Output) 
   pub key : output_key o ≡ directive_key tree
   pub number : o.types.number ≡ next + 2
   pub stands : Stands o.types (ItemKind.Component o.world)
+
+-- The bytes are a component of a graph that holds what is resolved: its packages are nested, each once and unchanged, and the bytes
+-- mean its wiring.
+pub record IsMeant (q : Resolves) (bytes : List ℕ) : Type 0 where
+  pub graph : Graph
+  pub holds : IsGraphOf q graph
+  pub component : IsComponentOf graph bytes
+
+-- so it is, with components defined, of what is resolved, and of a document over these packages
+abbrev pub MeansSaid : EncodeOptions → Resolves → List ℕ → Type 0
+MeansSaid options q bytes = options.define_components ≡ true → IsMeant q bytes
+
+abbrev pub MeansDocument : EncodeOptions → Document → Handed → List ℕ → Type 0
+MeansDocument options d ps bytes = MeansSaid options (resolved d ps) bytes
+
+-- likewise of the document that a source is
+pub record IsMeantBy (ps : Handed) (source : List ℕ) (bytes : List ℕ) : Type 0 where
+  pub tree : Document
+  pub read : IsDocument source tree
+  pub meant : IsMeant (resolved tree ps) bytes
+
+abbrev pub MeansSource : EncodeOptions → Handed → List ℕ → List ℕ → Type 0
+MeansSource options ps source bytes = options.define_components ≡ true → IsMeantBy ps source bytes
 
 -- The source is composed: three numbers are taken, and the output is kept.
 pub record IsComposed (old new : Held) (source : List ℕ) (define : Bool) (o : Output) : Type 0 where

@@ -42,6 +42,7 @@ IsAfterwards e = ⊥
 -- a component under the name and the version of a package
 pub record IsNamed (p : PackageName) (e : Encoded) (o : Output) : Type 0 where
   pub key : output_key o ≡ (p.name, p.version)
+  pub bytes : o.bytes ≡ e.bytes
   pub types : o.types ≡ e.types
   pub world : o.world ≡ e.world
 

@@ -11,7 +11,8 @@ ghost use Rattle.wac_parser_resolve.specs.Knowing.{handed_list};
 ghost use Rattle.wac_parser_resolve.specs.Meeting.{resolved};
 ghost use Rattle.wac_parser_resolve.specs.Resolved.{graph_of, target_of};
 ghost use Rattle.wac_parser_resolve.specs.Targeting.{IsTarget};
-ghost use Rattle.wac_workspace.specs.Composing.{greatest, IsUnmade, IsOutput, IsGraphed, IsUnresolved};
+ghost use Rattle.wac_graph_encode.specs.Finished.{MeansNested};
+ghost use Rattle.wac_workspace.specs.Composing.{greatest, IsUnmade, IsOutput, IsGraphed, IsUnresolved, MeansDocument, MeansSource};
 ghost use Rattle.wac_workspace.specs.Packages.{AreApart};
 ghost use Rattle.wac_workspace.specs.View.{HasWorld};
 ghost use Rattle.wac_workspace.specs.Resolving.{handed, IsGraphOf, IsAccepted, IsLate, IsOfResolving};
@@ -144,6 +145,7 @@ fn encode_resolved<'d, D: Drop>(
 ) -> Result<Encoded, ComposeError>
     requires { IsTarget (graph_of resolution) (target_of resolution) }
     ensures encoded { IfOk result (IsEncoded numbers.output) }
+    ensures means { IfOk result (λ e. MeansNested (graph_of resolution.entry) options e.bytes.items) }
     ensures late { IfErr result IsAfterwards }
 {
     let encoded = resolution.encode_world(options, (numbers.merging, numbers.output))?;
@@ -168,6 +170,7 @@ fn encode_document(
     options: EncodeOptions,
 ) -> Result<Encoded, ComposeError>
     ensures encoded { IfOk result (IsEncoded numbers.output) }
+    ensures means { IfOk result (λ e. MeansDocument options (view_document document.now) (handed_list «packages».now) e.bytes.items) }
     ensures accepted { IfOk result (λ _. IsAccepted (resolved (view_document document.now) (handed_list «packages».now))) }
     ensures late { IfErr result (IsLate (resolved (view_document document.now) (handed_list «packages».now))) }
 {
@@ -196,7 +199,9 @@ fn output_of(
 }
 
 /// The options, with names tested.
-fn validated(options: EncodeOptions) -> EncodeOptions {
+fn validated(options: EncodeOptions) -> EncodeOptions
+    ensures { result.define_components ≡ options.define_components }
+{
     EncodeOptions {
         define_components: options.define_components,
         validate: true,
@@ -213,6 +218,7 @@ fn compose_document(
     options: EncodeOptions,
 ) -> Result<(Output, u64), ComposeError>
     ensures output { IfOk result (λ r. IsOf next (view_package_name document.now.directive.«package») r.0) }
+    ensures means { IfOk result (λ r. MeansDocument options (view_document document.now) (handed_list «packages».now) r.0.bytes.items) }
     ensures accepted { IfOk result (λ _. IsAccepted (resolved (view_document document.now) (handed_list «packages».now))) }
     ensures after { IfOk result (λ r. r.1 ≡ next + 3) }
     ensures refused { IfErr result (IsUnencoded next (resolved (view_document document.now) (handed_list «packages».now))) }
@@ -263,6 +269,7 @@ trait ComposeDocument: Sized + Drop {
         options: EncodeOptions,
     ) -> Result<(Output, u64), ComposeError>
         ensures output { IfOk result (λ r. IsOf next (stated self.now).directive.«package» r.0) }
+        ensures means { IfOk result (λ r. MeansDocument options (stated self.now) (handed_list «packages».now) r.0.bytes.items) }
         ensures accepted { IfOk result (λ _. IsAccepted (resolved (stated self.now) (handed_list «packages».now))) }
         ensures after { IfOk result (λ r. r.1 ≡ next + 3) }
         ensures refused { IfErr result (IsUnencoded next (resolved (stated self.now) (handed_list «packages».now))) };
@@ -299,6 +306,7 @@ fn compose_whole<D: ComposeDocument>(
     options: EncodeOptions,
 ) -> Result<(Output, u64), ComposeError>
     ensures output { IfOk result (λ r. IsOf next (D.stated document).directive.«package» r.0) }
+    ensures means { IfOk result (λ r. MeansDocument options (D.stated document) (handed_list «packages».now) r.0.bytes.items) }
     ensures accepted { IfOk result (λ _. IsAccepted (resolved (D.stated document) (handed_list «packages».now))) }
     ensures after { IfOk result (λ r. r.1 ≡ next + 3) }
     ensures refused { IfErr result (IsUnencoded next (resolved (D.stated document) (handed_list «packages».now))) }
@@ -328,6 +336,7 @@ fn compose_source(
     options: EncodeOptions,
 ) -> Result<(Output, u64), ComposeError>
     ensures output { IfOk result (λ r. IsOutput next (handed_list «packages».now) source.now r.0) }
+    ensures means { IfOk result (λ r. MeansSource options (handed_list «packages».now) source.now r.0.bytes.items) }
     ensures after { IfOk result (λ r. r.1 ≡ next + 3) }
     ensures refused { IfErr result (IsUnmade next (handed_list «packages».now) source.now) }
 {
@@ -346,6 +355,7 @@ fn compose_over(
     requires worlds { All HasWorld entries.now }
     requires apart { AreApart entries.now }
     ensures output { IfOk result (λ r. IsOutput next (handed entries.now) source.now r.0) }
+    ensures means { IfOk result (λ r. MeansSource options (handed entries.now) source.now r.0.bytes.items) }
     ensures after { IfOk result (λ r. r.1 ≡ next + 3) }
     ensures refused { IfErr result (IsUnmade next (handed entries.now) source.now) }
 {
@@ -370,7 +380,7 @@ fn source_graph(
 impl Workspace {
     ghost use Rattle.std.specs.Prelude.{◌≡◌, IfOk, IfErr, OnErr};
     ghost use Rattle.wac_workspace.specs.Resolving.{handed};
-    ghost use Rattle.wac_workspace.specs.Composing.{greatest, IsComposed, IsRefused, IsGraphed, IsUnresolved};
+    ghost use Rattle.wac_workspace.specs.Composing.{greatest, IsComposed, IsRefused, IsGraphed, IsUnresolved, MeansSource};
 
     /// The graph of the document that the source is, over the packages: to look at, with nothing registered. The number of
     /// its collection is the greatest `u64`, which no output has.
@@ -388,6 +398,7 @@ impl Workspace {
     /// are offsets in the source, in bytes.
     pub fn compose(&mut self, source: &str, options: EncodeOptions) -> Result<Output, ComposeError>
         ensures composed { IfOk result (IsComposed self.old self.new source.now options.define_components) }
+        ensures means { IfOk result (λ o. MeansSource options (handed self.old.packages) source.now o.bytes.items) }
         ensures refused { IfErr result (IsRefused self.old source.now options.define_components) }
         ensures kept { OnErr result (self.new ≡ self.old) }
     {

@@ -1,18 +1,34 @@
-use Rattle.std.proofs.Common.{List, Ok, refl, sym, subst}
+use Rattle.std.proofs.Common.{ℕ, List, Result, Ok, refl, sym, subst}
+use Rattle.std.specs.declared.alloc.Global.{Global}
+use Rattle.std.specs.declared.vec.Vec.{Vec}
 use Rattle.wac_types_base.specs.Collection.{IsAcyclic}
 use Rattle.wac_graph_asks.specs.declared.asks.Definition.{Definition}
-use Rattle.wac_graph_encode.specs.Finished.{MeansAsked}
+use Rattle.wac_graph_asks.proofs.TakingMore.{again_err}
+use Rattle.wac_graph_causes.specs.declared.errors.Unwritten.{Unwritten}
+use Rattle.wac_graph_encode.specs.Finished.{IsPrepared, MeansAsked}
 use Rattle.wac_graph_encode.specs.Formed.{AreCopied, AreFormed}
-use Rattle.wac_graph_encode.proofs.Preparing.{means_nested}
+use Rattle.wac_graph_encode.specs.Refused.{IsRefusedFor}
+use Rattle.wac_graph_encode.proofs.Preparing.{held_prepared, means_nested}
+use Rattle.wac_graph_encode.proofs.Refusing.{alike_refused}
 use Rattle.wac_graph_encode.proofs.encode.bytes_asked.Goals as goal
 
-pub returns : goal.returns
-returns c = λ prepared.
+pub returns-clause-means : goal.returns-clause-means
+returns-clause-means c = λ prepared.
     let g = c.args.graph.now in
     let old = c.args.asked.now in
     let new = record old { types = c.written_definitions.new.types } in
     let made = c.in_ok-definitions.definitions in
     let copied = subst (λ (xs : List Definition). AreCopied g.types old.types xs) (sym c.deref.ensures.value) prepared.copies in
     let formed = subst (λ (xs : List Definition). AreFormed g.types new.types xs made.items) c.deref.ensures.value (c.in_ok-definitions.ensures.forms g.types copied) in
-    let means = subst (λ (xs : List Definition). MeansAsked g new c.args.outers.now xs c.args.options.now (Ok c.in_ok-bytes.bytes)) c.deref-2.ensures.value c.in_ok-bytes.ensures.means in
-    means_nested g old c.args.outers.now prepared c.see_sound.ensures (subst IsAcyclic c.types.ensures c.see_acyclic.ensures) c.args.options.now new made (Ok c.in_ok-bytes.bytes) c.in_ok-definitions.ensures.grows refl formed means c.in_ok-bytes.ensures.nests
+    let bytes : Result (Vec ℕ Global) Unwritten = Ok c.in_ok-bytes.bytes in
+    let means = subst (λ (xs : List Definition). MeansAsked g new c.args.outers.now xs c.args.options.now bytes) c.deref-2.ensures.value c.in_ok-bytes.ensures.means in
+    means_nested g old c.args.outers.now prepared c.see_sound.ensures (subst IsAcyclic c.types.ensures c.see_acyclic.ensures) c.args.options.now new made bytes c.in_ok-definitions.ensures.grows refl formed means c.in_ok-bytes.ensures.nests
+
+pub returns-clause-apart : goal.returns-clause-apart
+returns-clause-apart c = λ prepared. c.in_ok-check_names.ensures.none (held_prepared c.args.graph.now c.args.asked.now c.args.outers.now prepared (record c.args.asked.now { types = c.written_definitions.new.types }) c.in_ok-definitions.ensures.grows refl)
+
+pub returns-in_err-check_names-clause-refused : goal.returns-in_err-check_names-clause-refused
+returns-in_err-check_names-clause-refused c =
+    again_err c.from_residual-in_err-check_names.result (λ e. IsPrepared c.args.graph.now c.args.asked.now c.args.outers.now → IsRefusedFor c.args.options.now c.args.graph.now e) c.in_err-check_names.field-0.0 c.from_residual-in_err-check_names.ensures.1
+    (λ prepared. alike_refused c.args.options.now c.args.graph.now c.in_err-check_names.field-0.0 (c.in_err-check_names.ensures.cause
+    (held_prepared c.args.graph.now c.args.asked.now c.args.outers.now prepared (record c.args.asked.now { types = c.written_definitions.new.types }) c.in_ok-definitions.ensures.grows refl)))

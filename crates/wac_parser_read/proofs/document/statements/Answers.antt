@@ -4,7 +4,7 @@ use Rattle.std.proofs.lemmas.List.{map-append, length-append}
 use Rattle.wac_parser_tree.specs.Views.{view_statement}
 use Rattle.wac_parser_grammar.specs.Rules.{left, read_all}
 use Rattle.wac_parser_grammar.specs.Documents.{statement}
-use Rattle.wac_parser_read.proofs.Whiles.{test_item, goes_all, While-more, While-ends, While-fails, item_ahead, item_left}
+use Rattle.wac_parser_terms.proofs.Whiles.{test_item, goes_all, While-more, While-ends, While-fails, item_ahead, item_left}
 use Rattle.wac_parser_read.proofs.document.statements.Goals as goal
 
 pub returns-in_err-parse : goal.returns-in_err-parse

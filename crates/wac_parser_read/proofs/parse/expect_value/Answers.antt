@@ -1,5 +1,5 @@
 use Rattle.std.proofs.Common.{sym, ◌∙◌}
-use Rattle.wac_parser_read.proofs.Tried.{first_missed, begins_same, said_behind, some_behind}
+use Rattle.wac_parser_terms.proofs.Tried.{first_missed, begins_same, said_behind, some_behind}
 use Rattle.wac_parser_read.proofs.parse.expect_value.Goals as goal
 
 pub returns-then-peek-clause-some : goal.returns-then-peek-clause-some

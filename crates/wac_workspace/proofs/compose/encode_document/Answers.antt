@@ -1,11 +1,16 @@
-use Rattle.std.proofs.Common.{subst}
+use Rattle.std.proofs.Common.{Option, refl, subst}
 use Rattle.std.proofs.lemmas.Result.{err_from_is_err_and}
 use Rattle.wac_parser_tree.specs.declared.document.Document.{Document}
 use Rattle.wac_parser_tree.specs.Views.{view_document}
-use Rattle.wac_parser_resolve.specs.InDocuments.{IsErrorOf}
+use Rattle.wac_types_base.specs.Stated.{Stated}
+use Rattle.wac_parser_refusals.specs.Outcomes.{IsHeld}
+use Rattle.wac_parser_resolve.specs.Ascribing.{State}
+use Rattle.wac_parser_resolve.specs.InDocuments.{IsBuilt, IsErrorOf}
+use Rattle.wac_parser_resolve.specs.InTargets.{HoldsTarget}
+use Rattle.wac_parser_resolve.specs.Resolved.{graph_of, target_of}
 use Rattle.wac_parser_resolve.specs.Knowing.{handed_list}
 use Rattle.wac_parser_resolve.specs.Meeting.{resolved}
-use Rattle.wac_workspace.proofs.Resolved.{late_resolving}
+use Rattle.wac_workspace.proofs.Resolved.{graph_held, late_resolving, meant}
 use Rattle.wac_workspace.proofs.compose.encode_document.Goals as goal
 
 pub returns-in_err-resolution-clause-late : goal.returns-in_err-resolution-clause-late
@@ -15,3 +20,11 @@ returns-in_err-resolution-clause-late c =
     let told = subst (λ (d : Document). IsErrorOf (resolved (view_document d) ps) f) c.new.ensures c.in_err-resolution.ensures.outcome in
     let p = err_from_is_err_and c.from_residual-in_err-resolution.result c.from_residual-in_err-resolution.ensures.1 in
     rw p.1 (late_resolving (resolved (view_document c.args.document.now) ps) f p.0 told p.2)
+
+pub returns-clause-means : goal.returns-clause-means
+returns-clause-means c =
+    let ps = handed_list c.args.«packages».now in
+    let q = resolved (view_document c.args.document.now) ps in
+    let r = c.in_ok-resolution.resolution in
+    let built = subst (λ (d : Document). IsHeld (λ (s : State × Option Stated) b. IsBuilt (graph_of b) s.0 × HoldsTarget (graph_of b).types s.1 (target_of b)) (resolved (view_document d) ps) r) c.new.ensures c.in_ok-resolution.ensures.outcome in
+    meant q (graph_of r) c.encode_resolved.result c.args.options (graph_held graph_of target_of q r (graph_of r) refl built) c.encode_resolved.ensures.means

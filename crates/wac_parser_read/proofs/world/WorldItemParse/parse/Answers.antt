@@ -1,4 +1,4 @@
-use Rattle.wac_parser_read.proofs.Behind.{stays}
+use Rattle.wac_parser_terms.proofs.Places.{stays}
 use Rattle.wac_parser_read.proofs.world.WorldItemParse.parse.Goals as goal
 
 pub returns-clause-goes_on : goal.returns-clause-goes_on

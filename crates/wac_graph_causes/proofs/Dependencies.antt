@@ -1,0 +1,179 @@
+-- The names under which packages are imported: those of a graph's composition, each once.
+use Rattle.std.specs.Prelude.{◌&&◌, ◌||◌, bytes_eq, codes, filter_map, map}
+use Rattle.std.specs.Bool.{Decides, one_answer}
+use Rattle.std.specs.List.{cons_option, list_any}
+use Rattle.std.specs.Cmp.Derive.{both_true}
+use Rattle.std.proofs.Common.{rules, ◌≡◌, ◌==◌, ℕ, Bool, true, false, true≢false, List, [], ◌∷◌, ◌++◌, append_assoc, take, slice_get, ◌+◌, Option, Some, None, IsSome, IsTrue, ◌↔◌, refl, sym, ap, subst, ◌∙◌, inl, inr}
+use Rattle.std.proofs.lemmas.Bool.{and_parts}
+use Rattle.std.proofs.lemmas.List.{append-nil}
+use Rattle.std.proofs.lemmas.Option.{same_Some}
+use Rattle.std.proofs.lemmas.Slice.Eq.{bytes_eq-Decides}
+use Rattle.std.proofs.lemmas.Bool.Decides.{Decides-eqb, Decides-like}
+use Rattle.semver.specs.Parse.{Parts}
+use Rattle.wac_types_base.specs.declared.item.ItemKind.{ItemKind}
+use Rattle.wac_types_base.specs.Entries.{Name, names_of}
+use Rattle.wac_types_base.specs.Graph.{Among}
+use Rattle.wac_types_base.proofs.Loops.{mapped_next, names-with_values, map-get}
+use Rattle.wac_types_base.proofs.Looked.{take-one_more}
+use Rattle.wac_types_names.specs.Packaged.{Packaged}
+use Rattle.wac_types_names.specs.Keys.{Key, package_key}
+use Rattle.wac_graph_core.specs.declared.ids.PackageId.{PackageId}
+use Rattle.wac_graph_core.specs.contracts.ids.PackageIdPartialEq.TheImpl.{eq-value}
+use Rattle.wac_graph_core.specs.Nodes.{NodeData}
+use Rattle.wac_graph_core.specs.Graph.{Graph, IsGraph, package_of, package_if}
+use Rattle.wac_composition.specs.Composition.{Made}
+use Rattle.wac_composition.specs.Asks.{asks_of}
+use Rattle.wac_composition.specs.OuterImports.{outer_imports}
+use Rattle.wac_composition.specs.Tests.{options_agree}
+use Rattle.wac_composition.specs.Conflicts.{version_name, dependency_name, same_parts, same_key, each_once, dependencies_of, import_names}
+use Rattle.wac_graph_scopes.specs.Parts.{imports_of}
+use Rattle.wac_graph_asks.specs.declared.asks.Asked.{Asked}
+use Rattle.wac_graph_asks.specs.declared.outers.Outers.{Outers}
+use Rattle.wac_graph_asks.specs.Graphs.{nodes_of, made_with, composition_of}
+use Rattle.wac_graph_asks.specs.Asked.{package_ids, with_id, with_ids}
+use Rattle.wac_graph_asks.proofs.ByNode.{entry_there}
+use Rattle.wac_graph_causes.specs.Alike.{AreHeld, dependency_of, package_name, dependency_names, outer_names, names_imported}
+
+-- ---- keys are the same
+
+parts_only : (p q : Parts) → same_parts p q ≡ true → p ≡ q
+parts_only p q e =
+    let a = and_parts ((p.0 == q.0) && (p.1 == q.1) && (p.2 == q.2) && bytes_eq p.3 q.3) (bytes_eq p.4 q.4) e in
+    let b = and_parts ((p.0 == q.0) && (p.1 == q.1) && (p.2 == q.2)) (bytes_eq p.3 q.3) a.0 in
+    let c = and_parts ((p.0 == q.0) && (p.1 == q.1)) (p.2 == q.2) b.0 in
+    let d = and_parts (p.0 == q.0) (p.1 == q.1) c.0 in
+    let major = (Decides-eqb p.0 q.0).0 d.0 in
+    let minor = (Decides-eqb p.1 q.1).0 d.1 in
+    let patch = (Decides-eqb p.2 q.2).0 c.1 in
+    let pre = (bytes_eq-Decides p.3 q.3).0 b.1 in
+    let build = (bytes_eq-Decides p.4 q.4).0 a.1 in
+    λ i. (major i, minor i, patch i, pre i, build i)
+
+parts_itself : (p : Parts) → same_parts p p ≡ true
+parts_itself p =
+    both_true (both_true (both_true (both_true ((Decides-eqb p.0 p.0).1 refl) ((Decides-eqb p.1 p.1).1 refl)) ((Decides-eqb p.2 p.2).1 refl)) ((bytes_eq-Decides p.3 p.3).1 refl)) ((bytes_eq-Decides p.4 p.4).1 refl)
+
+versions_only : (o p : Option Parts) → options_agree same_parts o p ≡ true → o ≡ p
+versions_only None None e = refl
+versions_only (Some x) (Some y) e = ap Some (parts_only x y e)
+versions_only None (Some y) e = absurd (cc e)
+versions_only (Some x) None e = absurd (cc e)
+
+versions_itself : (o : Option Parts) → options_agree same_parts o o ≡ true
+versions_itself None = refl
+versions_itself (Some x) = parts_itself x
+
+keys_only : (j k : Key) → same_key j k ≡ true → j ≡ k
+keys_only j k e =
+    let h = and_parts (bytes_eq j.0 k.0) (options_agree same_parts j.1 k.1) e in
+    let name = (bytes_eq-Decides j.0 k.0).0 h.0 in
+    let version = versions_only j.1 k.1 h.1 in
+    λ i. (name i, version i)
+
+keys_itself : (k : Key) → same_key k k ≡ true
+keys_itself k = both_true ((bytes_eq-Decides k.0 k.0).1 refl) (versions_itself k.1)
+
+keys_decide : (j k : Key) → Decides (same_key j k) (j ≡ k)
+keys_decide j k = (keys_only j k, λ e. subst (λ (x : Key). same_key j x ≡ true) e (keys_itself j))
+
+same_ids : (i j : PackageId) → IsTrue (eq-value.it i j) ↔ (i ≡ j)
+same_ids i j = search rules
+
+ids_decide : (i j : PackageId) → Decides (eq-value.it i j) (i ≡ j)
+ids_decide i j = ((same_ids i j).0, (same_ids i j).1)
+
+any_last : {X : Type 0} (t : X → Bool) (xs : List X) (x : X) → list_any t (xs ++ x ∷ []) ≡ (t x || list_any t xs)
+any_last t [] x = refl
+any_last t (y ∷ xs) x = go (t y) (t x) (any_last t xs x)
+  where
+    go : (a b : Bool) → list_any t (xs ++ x ∷ []) ≡ (b || list_any t xs) → (a || list_any t (xs ++ x ∷ [])) ≡ (b || (a || list_any t xs))
+    go true true h = refl
+    go true false h = refl
+    go false true h = h
+    go false false h = h
+
+module _ (g : Graph) (sound : IsGraph g) where
+  -- two ids of packages are the same exactly where the keys are
+  same_by_key : (i j : PackageId) (p q : Packaged) → package_of g i ≡ Some p → package_of g j ≡ Some q → eq-value.it i j ≡ same_key (package_key p) (package_key q)
+  same_by_key i j p q a b =
+      one_answer _ _ (ids_decide i j)
+      (Decides-like _ (λ e. sound.packages.once i j p q a b e) (λ e. ap package_key (same_Some p q (sym a ∙ ap (package_of g) e ∙ b))) (keys_decide (package_key p) (package_key q)))
+
+  -- these ids are those of the packages with these keys
+  abbrev AreOf : List PackageId → List Key → Type 0
+  AreOf ids keys = (i : PackageId) (p : Packaged) → package_of g i ≡ Some p → list_any (eq-value.it i) ids ≡ list_any (same_key (package_key p)) keys
+
+  of_more : (ids : List PackageId) (keys : List Key) (j : PackageId) (q : Packaged) → package_of g j ≡ Some q → AreOf ids keys → AreOf (ids ++ j ∷ []) (package_key q ∷ keys)
+  of_more ids keys j q b h i p a =
+      any_last (eq-value.it i) ids j ∙ ap (λ t. t || list_any (eq-value.it i) ids) (same_by_key i j p q a b) ∙ ap (λ t. same_key (package_key p) (package_key q) || t) (h i p a)
+
+  dependency_is : (i : PackageId) (p : Packaged) → package_of g i ≡ Some p → dependency_of g i ≡ dependency_name (package_key p)
+  dependency_is i p a =
+      ap (λ o. codes "unlocked-dep=<" ++ (package_name o ++ codes ">")) a ∙ ap (λ l. codes "unlocked-dep=<" ++ l) (append_assoc p.name (version_name p.version) (codes ">"))
+
+  abbrev ids_in : List (ℕ × NodeData) → List PackageId
+  ids_in es = filter_map (λ e. e.1.of) es
+
+  abbrev made_in : List (ℕ × NodeData) → List (Made ℕ ℕ)
+  made_in es = filter_map (λ e. made_with g e.0 (package_if g e.1.of)) es
+
+  -- the names of the packages of these nodes, behind those of others
+  abbrev AreNamed : List (ℕ × NodeData) → Type 0
+  AreNamed es = (ids : List PackageId) (keys : List Key) → AreOf ids keys → map (dependency_of g) (with_ids ids (ids_in es)) ≡ map (dependency_of g) ids ++ names_of (each_once keys (made_in es))
+
+  module _ (e : ℕ × NodeData) (es : List (ℕ × NodeData)) (rest : AreNamed es) (ids : List PackageId) (keys : List Key) (h : AreOf ids keys) where
+    new_named : (i : PackageId) (p : Packaged) → package_of g i ≡ Some p
+        → map (dependency_of g) (with_ids (ids ++ i ∷ []) (ids_in es)) ≡ map (dependency_of g) ids ++ dependency_name (package_key p) ∷ names_of (each_once (package_key p ∷ keys) (made_in es))
+    new_named i p a =
+        let more = names_of (each_once (package_key p ∷ keys) (made_in es)) in
+        rest (ids ++ i ∷ []) (package_key p ∷ keys) (of_more ids keys i p a h)
+        ∙ ap (λ l. l ++ more) (mapped_next (dependency_of g) ids i)
+        ∙ append_assoc (map (dependency_of g) ids) (dependency_of g i ∷ []) more
+        ∙ ap (λ n. map (dependency_of g) ids ++ n ∷ more) (dependency_is i p a)
+
+    named_once : (i : PackageId) (p : Packaged) → package_of g i ≡ Some p → (b : Bool) → list_any (eq-value.it i) ids ≡ b → list_any (same_key (package_key p)) keys ≡ b
+        → map (dependency_of g) (with_ids (with_id ids i) (ids_in es)) ≡ map (dependency_of g) ids ++ names_of (each_once keys (cons_option (made_with g e.0 (Some p)) (made_in es)))
+    named_once i p a true s t = rw (s, t) (rest ids keys h)
+    named_once i p a false s t = rw (s, t) (new_named i p a)
+
+    package_named : (i : PackageId) (o : Option Packaged) → package_of g i ≡ o → IsSome o
+        → map (dependency_of g) (with_ids (with_id ids i) (ids_in es)) ≡ map (dependency_of g) ids ++ names_of (each_once keys (cons_option (made_with g e.0 o) (made_in es)))
+    package_named i None a s = absurd (true≢false (sym s))
+    package_named i (Some p) a s = named_once i p a (list_any (eq-value.it i) ids) refl (sym (h i p a))
+
+    node_named : (o : Option PackageId) → ((i : PackageId) → o ≡ Some i → IsSome (package_of g i))
+        → map (dependency_of g) (with_ids ids (cons_option o (ids_in es))) ≡ map (dependency_of g) ids ++ names_of (each_once keys (cons_option (made_with g e.0 (package_if g o)) (made_in es)))
+    node_named None stands = rest ids keys h
+    node_named (Some i) stands = package_named i (package_of g i) refl (stands i refl)
+
+  all_named : (es : List (ℕ × NodeData)) → ((e : ℕ × NodeData) → Among e es → (i : PackageId) → e.1.of ≡ Some i → IsSome (package_of g i)) → AreNamed es
+  all_named [] stand ids keys h = sym (append-nil (map (dependency_of g) ids))
+  all_named (e ∷ es) stand ids keys h = node_named e es (all_named es (λ d m. stand d (inr m))) ids keys h e.1.of (stand e (inl refl))
+
+  packages_named : map (dependency_of g) (with_ids [] (package_ids g)) ≡ names_of (each_once [] (composition_of g).made)
+  packages_named = all_named (nodes_of g) (λ e m i q. (sound.nodes e.0 e.1 (entry_there g.nodes e m)).of i q) [] [] (λ i p a. refl)
+
+  module _ (asked : Asked) (outers : Outers) (h : AreHeld g asked outers) where
+    outers_named : outer_names asked outers ≡ names_of (outer_imports (asks_of (composition_of g)))
+    outers_named = sym (names-with_values _ (imports_of asked.types outers.world)) ∙ ap names_of h.imports.imports
+
+    dependencies_named : (define : Bool) → dependency_names define g asked ≡ names_of (dependencies_of define (composition_of g))
+    dependencies_named true = refl
+    dependencies_named false = ap (map (dependency_of g)) h.packages ∙ packages_named
+
+    pub imports_named : (define : Bool) → names_imported define g asked outers ≡ import_names define (composition_of g)
+    imports_named define =
+        ap (λ l. l ++ dependency_names define g asked) outers_named ∙ ap (λ l. names_of (outer_imports (asks_of (composition_of g))) ++ l) (dependencies_named define)
+
+-- ---- names are pushed one after another
+
+module _ {X : Type 0} (f : X → Name) (names : List Name) where
+  pub names_pushed : {all : List Name} (new : List Name) (xs rest : List X) (x : X) → new ≡ names ++ f x ∷ [] → xs ≡ x ∷ rest → names ++ map f xs ≡ all → new ++ map f rest ≡ all
+  names_pushed new xs rest x e s h = ap (λ l. l ++ map f rest) e ∙ append_assoc names (f x ∷ []) (map f rest) ∙ ap (λ l. names ++ map f l) (sym s) ∙ h
+
+  pub none_pushed : {all : List Name} (xs : List X) → xs ≡ [] → names ++ map f xs ≡ all → names ≡ all
+  none_pushed xs e h = sym (append-nil names) ∙ ap (λ l. names ++ map f l) (sym e) ∙ h
+
+pub outer_next : (base old new : List Name) (xs : List (Name × ItemKind)) (i : ℕ) (e : Name × ItemKind) → slice_get xs i ≡ Some e → old ≡ base ++ take i (names_of xs) → new ≡ old ++ e.0 ∷ [] → new ≡ base ++ take (i + 1) (names_of xs)
+outer_next base old new xs i e at h is =
+    is ∙ ap (λ l. l ++ e.0 ∷ []) h ∙ append_assoc base (take i (names_of xs)) (e.0 ∷ []) ∙ ap (λ l. base ++ l) (sym (take-one_more (names_of xs) i e.0 (map-get (λ x. x.0) xs i e at)))

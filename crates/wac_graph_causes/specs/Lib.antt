@@ -1,0 +1,5 @@
+pub mod Acyclic
+pub mod Refusals
+pub mod Firsts
+pub mod Implicit
+pub mod Alike

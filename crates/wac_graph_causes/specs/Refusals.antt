@@ -1,0 +1,30 @@
+-- The refusals that faults below are, and the errors that refusals are.
+use Rattle.wac_graph_bytes.specs.declared.fault.SizeError.{SizeError}
+use Rattle.wac_graph_asks.specs.declared.faults.OuterError.{OuterError}
+use Rattle.wac_graph_causes.specs.declared.errors.Refusal.{Refusal}
+use Rattle.wac_graph_causes.specs.declared.errors.Unwritten.{Unwritten}
+use Rattle.wac_graph_causes.specs.declared.errors.EncodeError.{EncodeError}
+
+abbrev pub outer_refusal : OuterError → Refusal
+outer_refusal (OuterError.ExplicitImportConflict name first second) = Refusal.ExplicitImportConflict name first second
+outer_refusal (OuterError.ImportTypeMergeConflict name first second source) = Refusal.ImportTypeMergeConflict name first second source
+outer_refusal OuterError.TooLarge = Refusal.TooLarge
+outer_refusal OuterError.Memory = Refusal.Memory
+
+abbrev pub size_fault : SizeError → Unwritten
+size_fault SizeError.TooLarge = Unwritten.TooLarge
+size_fault SizeError.Memory = Unwritten.Memory
+
+abbrev pub unwritten_refusal : Unwritten → Refusal
+unwritten_refusal (Unwritten.TypeCannotBeWritten name) = Refusal.TypeCannotBeWritten name
+unwritten_refusal Unwritten.TooLarge = Refusal.TooLarge
+unwritten_refusal Unwritten.Memory = Refusal.Memory
+
+abbrev pub refusal_shown : Refusal → EncodeError
+refusal_shown (Refusal.ImplicitImportConflict import instantiation key name) = EncodeError.ImplicitImportConflict import instantiation key name
+refusal_shown (Refusal.ExplicitImportConflict name first second) = EncodeError.ExplicitImportConflict name first second
+refusal_shown (Refusal.ImportTypeMergeConflict name first second source) = EncodeError.ImportTypeMergeConflict name first second source
+refusal_shown (Refusal.TypeCannotBeWritten name) = EncodeError.TypeCannotBeWritten name
+refusal_shown Refusal.TooLarge = EncodeError.TooLarge
+refusal_shown (Refusal.ValidationFailure source) = EncodeError.ValidationFailure source
+refusal_shown Refusal.Memory = EncodeError.Memory

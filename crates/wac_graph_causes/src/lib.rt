@@ -1,0 +1,9 @@
+//! Why a composition graph cannot be written.
+#![tactic(auto)]
+
+pub mod errors;
+pub mod implicit;
+pub mod names;
+pub mod writable;
+
+pub use errors::{EncodeError, ValidationFault};

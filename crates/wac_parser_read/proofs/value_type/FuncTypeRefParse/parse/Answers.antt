@@ -1,5 +1,0 @@
-use Rattle.wac_parser_read.proofs.Behind.{stays}
-use Rattle.wac_parser_read.proofs.value_type.FuncTypeRefParse.parse.Goals as goal
-
-pub returns-clause-goes_on : goal.returns-clause-goes_on
-returns-clause-goes_on c = stays _

@@ -1,0 +1,6 @@
+pub mod Places
+pub mod Tried
+pub mod TextLaws
+pub mod Types
+pub mod Whiles
+pub mod Tokens

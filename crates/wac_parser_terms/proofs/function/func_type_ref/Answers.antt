@@ -1,0 +1,5 @@
+use Rattle.wac_parser_terms.proofs.Places.{stays}
+use Rattle.wac_parser_terms.proofs.function.func_type_ref.Goals as goal
+
+pub returns-clause-goes_on : goal.returns-clause-goes_on
+returns-clause-goes_on c = stays _
