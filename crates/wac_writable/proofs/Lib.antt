@@ -1,1 +1,10 @@
 pub mod CoreItems
+pub mod PartsStated
+pub mod UnnamedLaws
+pub mod ItemLaws
+pub mod HolderLaws
+pub mod ValueLaws
+pub mod SimpleLaws
+pub mod InterfaceLaws
+pub mod RootLaws
+pub mod GivenLaws

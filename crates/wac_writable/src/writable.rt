@@ -1,5 +1,17 @@
 //! Which types cannot be written.
 
+ghost use Rattle.std.specs.Prelude.{◌≡◌, is_some, IfSome, OnOk, IfOk};
+ghost use Rattle.wac_types_base.specs.declared.item.ValueType.{ValueType};
+ghost use Rattle.wac_types_base.specs.declared.item.ItemKind.{ItemKind};
+ghost use Rattle.wac_types_base.specs.declared.item.«Type».{«Type» as TypeKind};
+ghost use Rattle.wac_types_base.specs.Collection.{Stands};
+ghost use Rattle.wac_writable.specs.Holders.{Keeps, resource_in};
+ghost use Rattle.wac_writable.specs.Values.{IsHandleOf, TellsRoot, TellsUnused, TellsValue, TellsPlaces, value_in_slot};
+ghost use Rattle.wac_writable.specs.Items.{IsSimple, module_unwritable};
+ghost use Rattle.wac_writable.specs.Tests.{TellsPlain, TellsOf, TellsUngiven, TellsTested, TellsExports, TellsInterface};
+ghost use Rattle.wac_writable.specs.Tests.{is_tested, wrapped_in, stands_in};
+ghost use Rattle.wac_writable.specs.Tests.{TellsFirst, TellsOuter, TellsUnwrapped, TellsGivenBy};
+
 use crate::holder::{Holder, is_same_item};
 use crate::modules::is_writable_module;
 use crate::unnamed::Unnamed;
@@ -30,7 +42,9 @@ enum Which {
     TypesOnly,
 }
 
-fn is_tested(which: Which, kind: ItemKind) -> bool {
+fn is_tested(which: Which, kind: ItemKind) -> bool
+    ensures { result ≡ is_tested which kind }
+{
     match which {
         Which::All => true,
         Which::TypesOnly => matches!(kind, ItemKind::Ty(_)),
@@ -40,7 +54,10 @@ fn is_tested(which: Which, kind: ItemKind) -> bool {
 // ---- values
 
 /// Whether a handle's resource does not stand there.
-fn handle_fails(test: Test<'_>, holder: &Holder, id: ResourceId) -> bool {
+fn handle_fails(test: Test<'_>, holder: &Holder, id: ResourceId) -> bool
+    ensures { TellsRoot test.entry.types.now holder.now id result }
+{
+    test.types.see_acyclic();
     !holder.has_root(root_name(test.types, id))
 }
 
@@ -50,40 +67,67 @@ fn unused_fails(
     holder: &Holder,
     ty: ValueType,
     fails: bool,
-) -> Result<bool, AllocError> {
+) -> Result<bool, AllocError>
+    ensures { IfOk result (TellsUnused test.entry.types.now holder.now ty fails) }
+{
     if !fails {
         return Ok(false);
     }
-    let item = ItemKind::Ty(Type::Value(ty));
-    let is_used = holder.has_value(test.alloc, test.types, item)?;
+    let is_used = holder.has_value(test.alloc, test.types, ty)?;
     Ok(!is_used)
+}
+
+/// Whether a handle fails, that is none that is used.
+fn unused_handle_fails(
+    test: Test<'_>,
+    holder: &Holder,
+    ty: ValueType,
+    id: ResourceId,
+) -> Result<bool, AllocError>
+    requires { IsHandleOf ty id }
+    ensures { IfOk result (TellsValue test.entry.types.now holder.now ty) }
+{
+    test.types.see_acyclic();
+    let fails = handle_fails(test, holder, id);
+    unused_fails(test, holder, ty, fails)
+}
+
+/// The value type in a place.
+fn value_in_place(place: Option<ItemKind>) -> Option<ValueType>
+    ensures { result ≡ value_in_slot place }
+{
+    match place {
+        Some(ItemKind::Value(ty)) => Some(ty),
+        _ => None,
+    }
 }
 
 /// Whether a value type fails: a resource, not inside a used type, whose root does not stand there.
 #[cycle(values)]
-fn value_fails(test: Test<'_>, holder: &mut Holder, ty: ValueType) -> Result<bool, AllocError> {
+fn value_fails(test: Test<'_>, holder: &mut Holder, ty: ValueType) -> Result<bool, AllocError>
+    ensures keeps { OnOk result (Keeps test.entry.types.now holder.old holder.new) }
+    ensures fails { IfOk result (TellsValue test.entry.types.now holder.old ty) }
+{
+    test.types.see_acyclic();
     match ty {
         ValueType::Primitive(_) => Ok(false),
-        ValueType::Own(id) => {
-            let fails = handle_fails(test, holder, id);
-            unused_fails(test, holder, ty, fails)
-        }
-        ValueType::Borrow(id) => {
-            let fails = handle_fails(test, holder, id);
-            unused_fails(test, holder, ty, fails)
-        }
-        ValueType::Defined(id) => defined_fails(test, holder, ty, id),
+        ValueType::Own(id) => unused_handle_fails(test, holder, ty, id),
+        ValueType::Borrow(id) => unused_handle_fails(test, holder, ty, id),
+        ValueType::Defined(id) => defined_fails(test, holder, id),
     }
 }
 
-/// The same of a defined type of that id, which is tested once.
+/// The same of a defined type, which is tested once.
 #[cycle(values)]
-fn defined_fails(
-    test: Test<'_>,
-    holder: &mut Holder,
-    ty: ValueType,
-    id: DefinedTypeId,
-) -> Result<bool, AllocError> {
+fn defined_fails(test: Test<'_>, holder: &mut Holder, id: DefinedTypeId) -> Result<bool, AllocError>
+    ensures keeps { OnOk result (Keeps test.entry.types.now holder.old holder.new) }
+    ensures fails { IfOk result (TellsValue test.entry.types.now holder.old (ValueType.Defined id)) }
+{
+    test.types.see_acyclic();
+    let ty = ValueType::Defined(id);
+    if !test.types.has(ItemKind::Value(ty)) {
+        return Ok(true);
+    }
     if let Some(fails) = holder.tested(id) {
         return Ok(fails);
     }
@@ -95,17 +139,18 @@ fn defined_fails(
 
 /// Whether a value type in a place fails.
 #[cycle(values)]
-fn places_fail(test: Test<'_>, holder: &mut Holder, kind: ItemKind) -> Result<bool, AllocError> {
+fn places_fail(test: Test<'_>, holder: &mut Holder, kind: ItemKind) -> Result<bool, AllocError>
+    ensures keeps { OnOk result (Keeps test.entry.types.now holder.old holder.new) }
+    ensures fails { IfOk result (TellsPlaces test.entry.types.now holder.old kind) }
+{
     if !test.types.has(kind) {
         return Ok(true);
     }
     let mut at: u128 = 0;
     while let Some(place) = test.types.place(kind, at) {
-        if let Some(child) = place {
-            if let ItemKind::Value(ty) = child {
-                if value_fails(test, holder, ty)? {
-                    return Ok(true);
-                }
+        if let Some(ty) = value_in_place(place) {
+            if value_fails(test, holder, ty)? {
+                return Ok(true);
             }
         }
         at += 1;
@@ -115,20 +160,36 @@ fn places_fail(test: Test<'_>, holder: &mut Holder, kind: ItemKind) -> Result<bo
 
 // ---- items
 
-/// Whether a resource item fails that no use gives: it has another name than its own and no alias, or its root does
+/// Whether a resource item fails: it has no alias, another name than its own, and no use gives it, or its root does
 /// not stand there.
-fn resource_fails(test: Test<'_>, holder: &Holder, item: Item<'_>, id: ResourceId) -> bool {
+fn resource_fails(
+    test: Test<'_>,
+    holder: &Holder,
+    item: Item<'_>,
+    id: ResourceId,
+) -> Result<bool, AllocError>
+    requires { item.kind ≡ ItemKind.Ty (TypeKind.Resource id) }
+    ensures { IfOk result (TellsOf test.entry holder.now item.entry) }
+{
+    test.types.see_acyclic();
     if !test.types.has(ItemKind::Ty(Type::Resource(id))) {
-        return true;
+        return Ok(true);
     }
     let resource = test.types.resource(id);
-    match resource.alias {
-        Some(_) => handle_fails(test, holder, id),
-        None => !resource.name.is(item.name),
+    if resource.alias.is_some() {
+        return Ok(handle_fails(test, holder, id));
     }
+    if item.name == resource.name.as_str() {
+        return Ok(false);
+    }
+    let is_given = holder.gives(test.alloc, test.types, item)?;
+    Ok(!is_given)
 }
 
-fn module_fails(test: Test<'_>, id: ModuleTypeId) -> bool {
+fn module_fails(test: Test<'_>, id: ModuleTypeId) -> bool
+    ensures { Stands test.entry.types.now (ItemKind.Module id) → result ≡ module_unwritable test.entry.types.now id }
+{
+    test.types.see_acyclic();
     !test.types.has(ItemKind::Module(id)) || !is_writable_module(test.types.module_type(id))
 }
 
@@ -138,31 +199,45 @@ fn type_fails(
     holder: &mut Holder,
     item: Item<'_>,
     ty: Type,
-) -> Result<bool, AllocError> {
+) -> Result<bool, AllocError>
+    requires { item.kind ≡ ItemKind.Ty ty }
+    ensures keeps { OnOk result (Keeps test.entry.types.now holder.old holder.new) }
+    ensures fails { IfOk result (λ b. IsSimple item.entry.kind → TellsOf test.entry holder.old item.entry b) }
+{
+    test.types.see_acyclic();
     match ty {
-        Type::Resource(id) => {
-            let given = holder.gives(test.alloc, test.types, item)?;
-            Ok(!given && resource_fails(test, holder, item, id))
-        }
+        Type::Resource(id) => resource_fails(test, holder, item, id),
         Type::Func(id) => places_fail(test, holder, ItemKind::Func(id)),
         Type::Value(ty) => value_fails(test, holder, ty),
-        _ => Ok(true),
+        Type::Interface(_) => Ok(true),
+        Type::World(_) => Ok(true),
+        Type::Module(_) => Ok(true),
     }
 }
 
 /// The same of an item.
-fn simple_fails(test: Test<'_>, holder: &mut Holder, item: Item<'_>) -> Result<bool, AllocError> {
+fn simple_fails(test: Test<'_>, holder: &mut Holder, item: Item<'_>) -> Result<bool, AllocError>
+    ensures keeps { OnOk result (Keeps test.entry.types.now holder.old holder.new) }
+    ensures fails { IfOk result (λ b. IsSimple item.entry.kind → TellsOf test.entry holder.old item.entry b) }
+{
+    test.types.see_acyclic();
     match item.kind {
         ItemKind::Ty(ty) => type_fails(test, holder, item, ty),
         ItemKind::Func(id) => places_fail(test, holder, ItemKind::Func(id)),
+        ItemKind::Instance(_) => Ok(true),
+        ItemKind::Component(_) => Ok(true),
         ItemKind::Module(id) => Ok(module_fails(test, id)),
-        _ => Ok(true),
+        ItemKind::Value(_) => Ok(true),
     }
 }
 
 /// Whether an item fails, in what holds it.
 #[cycle(items)]
-fn item_fails(test: Test<'_>, holder: &mut Holder, item: Item<'_>) -> Result<bool, AllocError> {
+fn item_fails(test: Test<'_>, holder: &mut Holder, item: Item<'_>) -> Result<bool, AllocError>
+    ensures keeps { OnOk result (Keeps test.entry.types.now holder.old holder.new) }
+    ensures fails { IfOk result (TellsPlain test.entry item.entry.kind (TellsOf test.entry holder.old item.entry)) }
+{
+    test.types.see_acyclic();
     if let Some(id) = interface_of(test.types, item.kind) {
         return interface_fails(test, id, Which::All);
     }
@@ -174,11 +249,31 @@ fn item_fails(test: Test<'_>, holder: &mut Holder, item: Item<'_>) -> Result<boo
 
 /// Whether an item fails, in what holds it, that no use gives.
 #[cycle(items)]
-fn ungiven_fails(test: Test<'_>, holder: &mut Holder, item: Item<'_>) -> Result<bool, AllocError> {
+fn ungiven_fails(test: Test<'_>, holder: &mut Holder, item: Item<'_>) -> Result<bool, AllocError>
+    ensures keeps { OnOk result (Keeps test.entry.types.now holder.old holder.new) }
+    ensures fails { IfOk result (TellsPlain test.entry item.entry.kind (TellsUngiven test.entry holder.old item.entry)) }
+{
     if holder.gives(test.alloc, test.types, item)? {
         return Ok(false);
     }
     item_fails(test, holder, item)
+}
+
+/// The same of one that is tested.
+#[cycle(items)]
+fn tested_fails(
+    test: Test<'_>,
+    holder: &mut Holder,
+    item: Item<'_>,
+    which: Which,
+) -> Result<bool, AllocError>
+    ensures keeps { OnOk result (Keeps test.entry.types.now holder.old holder.new) }
+    ensures fails { IfOk result (TellsPlain test.entry item.entry.kind (TellsTested test.entry holder.old which item.entry)) }
+{
+    if !is_tested(which, item.kind) {
+        return Ok(false);
+    }
+    ungiven_fails(test, holder, item)
 }
 
 /// Whether an export of an interface fails that no use gives.
@@ -188,10 +283,12 @@ fn exports_fail(
     holder: &mut Holder,
     id: InterfaceId,
     which: Which,
-) -> Result<bool, AllocError> {
+) -> Result<bool, AllocError>
+    ensures { IfOk result (TellsPlain test.entry (ItemKind.Instance id) (TellsExports test.entry holder.old which id)) }
+{
     for at in 0..export_count(test.types, id) {
         if let Some(item) = export_at(test.types, id, at) {
-            if is_tested(which, item.kind) && ungiven_fails(test, holder, item)? {
+            if tested_fails(test, holder, item, which)? {
                 return Ok(true);
             }
         }
@@ -200,7 +297,9 @@ fn exports_fail(
 }
 
 #[cycle(items)]
-fn interface_fails(test: Test<'_>, id: InterfaceId, which: Which) -> Result<bool, AllocError> {
+fn interface_fails(test: Test<'_>, id: InterfaceId, which: Which) -> Result<bool, AllocError>
+    ensures { IfOk result (TellsPlain test.entry (ItemKind.Instance id) (TellsInterface test.entry which id)) }
+{
     if test.unnamed.is_found(id) {
         return Ok(true);
     }
@@ -210,21 +309,40 @@ fn interface_fails(test: Test<'_>, id: InterfaceId, which: Which) -> Result<bool
 
 // ---- component types
 
+fn is_resource_item(kind: ItemKind) -> bool
+    ensures { result ≡ is_some (resource_in kind) }
+{
+    matches!(kind, ItemKind::Ty(Type::Resource(_)))
+}
+
+/// Whether one item stands for another that is used: a resource with its tree.
+fn stands_for(test: Test<'_>, item: ItemKind, there: Option<ItemKind>) -> Result<bool, AllocError>
+    requires item { Stands test.types.now item }
+    requires there { IfSome there (Stands test.types.now) }
+    ensures { IfOk result (λ b. b ≡ stands_in test.entry.types.now item there) }
+{
+    test.types.see_acyclic();
+    let Some(there) = there else {
+        return Ok(false);
+    };
+    if is_resource_item(item) {
+        return is_same_item(test.alloc, test.types, item, there);
+    }
+    Ok(true)
+}
+
 /// Whether the import of a used interface gives what is used; a resource as itself.
-fn gives_used(test: Test<'_>, import: ItemKind, used: Use<'_>) -> Result<bool, AllocError> {
+fn gives_used(test: Test<'_>, import: ItemKind, used: Use<'_>) -> Result<bool, AllocError>
+    ensures { IfOk result (TellsGivenBy test.entry import used.entry) }
+{
+    test.types.see_acyclic();
     let Some(item) = export_named(test.types, used.interface, used.there) else {
         return Ok(true);
     };
     let Some(id) = interface_of(test.types, import) else {
         return Ok(false);
     };
-    match export_named(test.types, id, used.there) {
-        None => Ok(false),
-        Some(there) => match item {
-            ItemKind::Ty(Type::Resource(_)) => is_same_item(test.alloc, test.types, item, there),
-            _ => Ok(true),
-        },
-    }
+    stands_for(test, item, export_named(test.types, id, used.there))
 }
 
 /// A component type whose items use interfaces.
@@ -473,7 +591,9 @@ fn first_that_fails(
     test: Test<'_>,
     holder: &mut Holder,
     world: WorldId,
-) -> Result<Option<usize>, AllocError> {
+) -> Result<Option<usize>, AllocError>
+    ensures { IfOk result (TellsFirst test.entry holder.old world) }
+{
     for at in 0..import_count(test.types, world) {
         if let Some(item) = import_at(test.types, world, at) {
             if item_fails(test, holder, item)? {
@@ -485,7 +605,9 @@ fn first_that_fails(
 }
 
 /// The first outer import whose type cannot be written: its place.
-pub fn unwritable_outer(test: Test<'_>, world: WorldId) -> Result<Option<usize>, AllocError> {
+pub fn unwritable_outer(test: Test<'_>, world: WorldId) -> Result<Option<usize>, AllocError>
+    ensures { IfOk result (TellsOuter test.entry world) }
+{
     let mut holder = Holder::of_world(test.alloc, test.types, world)?;
     first_that_fails(test, &mut holder, world)
 }
@@ -505,7 +627,9 @@ fn wrapped_fails(test: Test<'_>, id: InterfaceId) -> Result<bool, AllocError> {
 }
 
 /// The interface with identifier that a definition is.
-fn wrapped_interface(types: &Types, kind: ItemKind) -> Option<InterfaceId> {
+fn wrapped_interface(types: &Types, kind: ItemKind) -> Option<InterfaceId>
+    ensures { result ≡ wrapped_in types.now kind }
+{
     match kind {
         ItemKind::Ty(ty) => match ty {
             Type::Interface(id) => match identifier(types, id) {
@@ -523,7 +647,10 @@ pub fn is_unwritable_definition(
     test: Test<'_>,
     outers: &mut Holder,
     item: Item<'_>,
-) -> Result<bool, AllocError> {
+) -> Result<bool, AllocError>
+    ensures keeps { OnOk result (Keeps test.entry.types.now outers.old outers.new) }
+    ensures fails { IfOk result (TellsUnwrapped test.entry outers.old item.entry) }
+{
     match wrapped_interface(test.types, item.kind) {
         Some(id) => wrapped_fails(test, id),
         None => item_fails(test, outers, item),

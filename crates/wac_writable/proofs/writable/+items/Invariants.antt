@@ -1,6 +1,12 @@
-use Rattle.std.proofs.Common.{◌+◌, ◌*◌}
+use Rattle.std.proofs.Common.{◌≡◌, ◌+◌, ◌*◌, drop}
+use Rattle.std.specs.List.{list_any}
 use Rattle.wac_types_base.specs.declared.item.ItemKind.{ItemKind}
 use Rattle.wac_types_base.specs.Collection.{size_of}
+use Rattle.wac_composition.specs.Writable.{Holder as Held}
+use Rattle.wac_graph_scopes.specs.Parts.{exports_of as exports_in}
+use Rattle.wac_writable.specs.Unnamed.{KnowsAll}
+use Rattle.wac_writable.specs.Holders.{Holds, Keeps}
+use Rattle.wac_writable.specs.Tests.{HasNoWorld, exports_unwritable, tested_unwritable}
 use Rattle.wac_writable.proofs.writable.+items.Given as goal
 
 abbrev pub decreases-item_fails : goal.decreases-item_fails
@@ -56,6 +62,15 @@ decreases-items_of_world_fail l = 16 * size_of l.test.types.now (ItemKind.Compon
 
 abbrev pub decreases-ungiven_fails : goal.decreases-ungiven_fails
 decreases-ungiven_fails l = 16 * size_of l.test.types.now l.item.kind + 10
+
+abbrev pub decreases-tested_fails : goal.decreases-tested_fails
+decreases-tested_fails l = 16 * size_of l.test.types.now l.item.kind + 11
+
+-- the exports that are left decide
+abbrev pub invariant-exports_fail-loop-at : goal.invariant-exports_fail-loop-at
+invariant-exports_fail-loop-at l =
+    Keeps l.test.types.now l.fn.holder l.holder × (KnowsAll l.test.types.now l.test.unnamed.now → HasNoWorld l.test.types.now (ItemKind.Instance l.id) → (h : Held) → Holds l.test.types.now l.fn.holder h
+    → exports_unwritable l.test.types.now l.test.is_outer l.which l.id h ≡ list_any (tested_unwritable l.test.types.now l.test.is_outer l.which h) (drop l.at (exports_in l.test.types.now l.id)))
 
 abbrev pub decreases-use_itself_fails : goal.decreases-use_itself_fails
 decreases-use_itself_fails l = 16 * size_of l.test.types.now (ItemKind.Instance l.used.interface) + 9

@@ -1,0 +1,208 @@
+-- Interfaces that cannot be written, by their items.
+use Rattle.std.proofs.Common.{◌≡◌, ◌||◌, ◌⊎◌, ◌+◌, ℕ, Bool, true, false, List, [], ◌∷◌, drop, Some, None, inl, inr, refl, sym, ap, ◌∙◌, subst, slice_get}
+use Rattle.std.specs.Prelude.{not}
+use Rattle.std.specs.Bool.{Decides}
+use Rattle.std.specs.List.{list_any}
+use Rattle.std.proofs.lemmas.Bool.Decides.{Decides-and, Decides-or, Decides-not, Decides-like}
+use Rattle.wac_types_base.specs.declared.ids.InterfaceId.{InterfaceId}
+use Rattle.wac_types_base.specs.declared.ids.WorldId.{WorldId}
+use Rattle.wac_types_base.specs.declared.item.ItemKind.{ItemKind}
+use Rattle.wac_types_base.specs.declared.item.«Type».{«Type» as TypeKind}
+use Rattle.wac_types_base.specs.declared.defined.Interface.{Interface}
+use Rattle.wac_types_base.specs.Entries.{Name, with_values}
+use Rattle.wac_types_base.specs.Record.{Collection}
+use Rattle.wac_types_base.specs.Graph.{Among}
+use Rattle.wac_types_base.specs.Collection.{Stands, IsAcyclic, item_node, labelled, interface_entry, type_of, used, items}
+use Rattle.wac_types_base.specs.Reaching.{here, below}
+use Rattle.wac_types_base.specs.Stated.{Stated, stated_of, kind_of, shape_kind, IsInstance, IsInterface, uses_of, exports_of}
+use Rattle.wac_types_base.proofs.Adding.{Among-right}
+use Rattle.wac_types_base.proofs.Looked.{among-get}
+use Rattle.wac_types_base.proofs.Slots.{entry_at-is}
+use Rattle.wac_types_base.proofs.Standing.{interface_found}
+use Rattle.wac_types_base.proofs.Telling.{stated_step, typed_node, kind_stated}
+use Rattle.wac_types_base.proofs.GraphLemmas.{is_there}
+use Rattle.wac_composition.specs.Writable.{is_given, some_unnamed}
+use Rattle.wac_composition.specs.Writable.{Holder as Held}
+use Rattle.wac_composition.specs.NotWritten.{IsGiven, CannotBeWritten, a_value, core_items, module_as_type, renamed, an_alias, a_function, a_function_type, a_value_type, an_instance, an_interface, a_component, a_world, ItemsFail, unnamed, an_item}
+use Rattle.wac_composition.proofs.NotWritten.{any_decides, given_decides}
+use Rattle.wac_composition.proofs.NotFound.{written_decides}
+use Rattle.wac_composition.proofs.Lists.{mapped_among, among_mapped}
+use Rattle.wac_graph_scopes.specs.Parts.{exports_of as exports_in, IsOfInterface, IsOfWorld}
+use Rattle.wac_graph_scopes.proofs.PartLaws.{exports_there, exports_missing}
+use Rattle.wac_writable.specs.declared.writable.Which.{Which}
+use Rattle.wac_writable.specs.Holders.{interface_holder}
+use Rattle.wac_writable.specs.Items.{item_unwritable, IsOfSomeWorld}
+use Rattle.wac_writable.specs.Tests.{HasNoWorld, tested_unwritable, exports_unwritable, interface_unwritable}
+use Rattle.wac_writable.proofs.UnnamedLaws.{any_at}
+use Rattle.wac_writable.proofs.ItemLaws.{both_decide}
+use Rattle.wac_writable.proofs.PartsStated.{stands_or_not, exports_are}
+
+-- ---- what reaches no world
+
+slot_among : (es : List (Name × ItemKind)) (n : Name) (k : ItemKind) → Among (n, k) es → Among (Some k) (items es)
+slot_among [] n k m = absurd m
+slot_among (e ∷ es) n k (inl s) = inl (ap (λ (p : Name × ItemKind). Some p.1) s)
+slot_among (e ∷ es) n k (inr m) = inr (slot_among es n k m)
+
+module _ (c : Collection) where
+  interface_node : (id : InterfaceId) (i : Interface) → slice_get c.interfaces id.index ≡ Some i → id.collection ≡ c.number → item_node c (ItemKind.Instance id) ≡ Some (interface_entry i)
+  unfolding item_node
+  interface_node id i at own = entry_at-is interface_entry c.number c.interfaces id.collection id.index i at own
+
+  -- an export of an interface that reaches no world reaches none
+  pub export_plain : (id : InterfaceId) (at : ℕ) (n : Name) (k : ItemKind) → slice_get (exports_in c id) at ≡ Some (n, k) → HasNoWorld c (ItemKind.Instance id) → HasNoWorld c k
+  export_plain id at n k e none r = elim (stands_or_not c (ItemKind.Instance id)) [
+    | inl s ↦
+        let f = interface_found c id s in
+        let m = among-get (exports_in c id) at (n, k) e in
+        none (below (interface_node id f.value f.at f.own) (Among-right (Some k) (used f.value.uses) (items f.value.exports) (slot_among f.value.exports n k (subst (Among (n, k)) (exports_there c id f.value f.at f.own) m))) r)
+    | inr h ↦ let l : slice_get (exports_in c id) at ≡ None = ap (λ l. slice_get l at) (exports_missing c id h) in absurd (let z : ⊥ = cc (l, e) in z)
+  ]
+
+  no_world_instance : (id : InterfaceId) → IsOfSomeWorld (ItemKind.Instance id) → ⊥
+  no_world_instance id w = w.1
+
+  typed_plain : (id : InterfaceId) → HasNoWorld c (ItemKind.Ty (TypeKind.Interface id)) → HasNoWorld c (ItemKind.Instance id)
+  unfolding item_node
+  typed_plain id none (here w) = no_world_instance id w
+  typed_plain id none (below e m r) = none (below (ap (labelled type_of) e) m r)
+
+  pub interface_plain : (k : ItemKind) (id : InterfaceId) → IsOfInterface k id → HasNoWorld c k → HasNoWorld c (ItemKind.Instance id)
+  interface_plain (ItemKind.Instance i) id e none = subst (λ i. HasNoWorld c (ItemKind.Instance i)) e none
+  interface_plain (ItemKind.Ty (TypeKind.Interface i)) id e none = typed_plain id (subst (λ i. HasNoWorld c (ItemKind.Ty (TypeKind.Interface i))) e none)
+  interface_plain (ItemKind.Ty (TypeKind.Resource r)) id e none = absurd e
+  interface_plain (ItemKind.Ty (TypeKind.Func f)) id e none = absurd e
+  interface_plain (ItemKind.Ty (TypeKind.Value v)) id e none = absurd e
+  interface_plain (ItemKind.Ty (TypeKind.World w)) id e none = absurd e
+  interface_plain (ItemKind.Ty (TypeKind.Module m)) id e none = absurd e
+  interface_plain (ItemKind.Func f) id e none = absurd e
+  interface_plain (ItemKind.Component w) id e none = absurd e
+  interface_plain (ItemKind.Module m) id e none = absurd e
+  interface_plain (ItemKind.Value v) id e none = absurd e
+
+  pub no_world_there : (k : ItemKind) (w : WorldId) → IsOfWorld k w → HasNoWorld c k → ⊥
+  no_world_there k w e none = none (here (w, e))
+
+-- ---- loops over items
+
+module _ (c : Collection) (o : Bool) (which : Which) (h : Held) (es : List (Name × ItemKind)) (i : ℕ) (n : Name) (k : ItemKind) (b : Bool) (at : slice_get es i ≡ Some (n, k)) (is : b ≡ list_any (tested_unwritable c o which h) (drop i es)) where
+  pub item_settles : tested_unwritable c o which h (n, k) ≡ true → true ≡ b
+  item_settles t = sym (is ∙ any_at (tested_unwritable c o which h) es i (n, k) at ∙ ap (λ y. y || list_any (tested_unwritable c o which h) (drop (i + 1) es)) t)
+
+  pub item_leaves : tested_unwritable c o which h (n, k) ≡ false → b ≡ list_any (tested_unwritable c o which h) (drop (i + 1) es)
+  item_leaves f = is ∙ any_at (tested_unwritable c o which h) es i (n, k) at ∙ ap (λ y. y || list_any (tested_unwritable c o which h) (drop (i + 1) es)) f
+
+-- ---- interfaces
+
+module _ (o : Bool) (h : Held) (n : Name) where
+  instance_reason : {x : Stated} → kind_of x ≡ IsInstance → CannotBeWritten o h n x → ItemsFail o (uses_of x) (exports_of x)
+  instance_reason e (a_value k) = absurd (let z : ⊥ = cc (e, k) in z)
+  instance_reason e (core_items m s f) = absurd (let q = ap shape_kind s in let z : ⊥ = cc (e, q) in z)
+  instance_reason e (module_as_type k) = absurd (let z : ⊥ = cc (e, k) in z)
+  instance_reason e (renamed r s f g) = absurd (let q = ap shape_kind s in let z : ⊥ = cc (e, q) in z)
+  instance_reason e (an_alias r s f) = absurd (let q = ap shape_kind s in let z : ⊥ = cc (e, q) in z)
+  instance_reason e (a_function k m d) = absurd (let z : ⊥ = cc (e, k) in z)
+  instance_reason e (a_function_type k m d) = absurd (let z : ⊥ = cc (e, k) in z)
+  instance_reason e (a_value_type k d) = absurd (let z : ⊥ = cc (e, k) in z)
+  instance_reason e (an_instance k f) = f
+  instance_reason e (an_interface k f) = f
+  instance_reason e (a_component k f) = absurd (let z : ⊥ = cc (e, k) in z)
+  instance_reason e (a_world k f) = absurd (let z : ⊥ = cc (e, k) in z)
+
+  interface_reason : {x : Stated} → kind_of x ≡ IsInterface → CannotBeWritten o h n x → ItemsFail o (uses_of x) (exports_of x)
+  interface_reason e (a_value k) = absurd (let z : ⊥ = cc (e, k) in z)
+  interface_reason e (core_items m s f) = absurd (let q = ap shape_kind s in let z : ⊥ = cc (e, q) in z)
+  interface_reason e (module_as_type k) = absurd (let z : ⊥ = cc (e, k) in z)
+  interface_reason e (renamed r s f g) = absurd (let q = ap shape_kind s in let z : ⊥ = cc (e, q) in z)
+  interface_reason e (an_alias r s f) = absurd (let q = ap shape_kind s in let z : ⊥ = cc (e, q) in z)
+  interface_reason e (a_function k m d) = absurd (let z : ⊥ = cc (e, k) in z)
+  interface_reason e (a_function_type k m d) = absurd (let z : ⊥ = cc (e, k) in z)
+  interface_reason e (a_value_type k d) = absurd (let z : ⊥ = cc (e, k) in z)
+  interface_reason e (an_instance k f) = f
+  interface_reason e (an_interface k f) = f
+  interface_reason e (a_component k f) = absurd (let z : ⊥ = cc (e, k) in z)
+  interface_reason e (a_world k f) = absurd (let z : ⊥ = cc (e, k) in z)
+
+module _ (c : Collection) (a : IsAcyclic c) (o : Bool) where
+  abbrev SomeItem : Held → List (Name × Stated) → Type 0
+  SomeItem h es = (n : Name) × (x : Stated) × Among (n, x) es × (IsGiven h n x → ⊥) × CannotBeWritten o h n x
+
+  pub items_decide : (h : Held) (es : List (Name × ItemKind)) → Decides (list_any (tested_unwritable c o Which.All h) es) (SomeItem h (with_values (stated_of c) es))
+  items_decide h es =
+      Decides-like (list_any (tested_unwritable c o Which.All h) es)
+      (λ p. (p.0.0, stated_of c p.0.1, among_mapped (λ (e : Name × ItemKind). (e.0, stated_of c e.1)) es p.0 p.1, p.2.0, p.2.1))
+      back
+      (any_decides (tested_unwritable c o Which.All h) (λ e. (IsGiven h e.0 (stated_of c e.1) → ⊥) × CannotBeWritten o h e.0 (stated_of c e.1)) es
+      (λ e m. Decides-and (not (is_given h e.0 (stated_of c e.1))) (item_unwritable c o e.0 e.1 h) (Decides-not (is_given h e.0 (stated_of c e.1)) (given_decides h e.0 (stated_of c e.1))) (written_decides o h e.0 (stated_of c e.1))))
+    where
+      back : SomeItem h (with_values (stated_of c) es) → (e : Name × ItemKind) × Among e es × ((IsGiven h e.0 (stated_of c e.1) → ⊥) × CannotBeWritten o h e.0 (stated_of c e.1))
+      back (n, x, m, g, f) =
+          let p = mapped_among (λ (e : Name × ItemKind). (e.0, stated_of c e.1)) es (n, x) m in
+          (p.0, p.1, subst (λ (y : Name × Stated). (IsGiven h y.0 y.1 → ⊥) × CannotBeWritten o h y.0 y.1) p.2 (g, f))
+
+  module _ (id : InterfaceId) where
+    abbrev x : Stated
+    x = stated_of c (ItemKind.Instance id)
+
+    fails_decide : Decides (interface_unwritable c o Which.All id) (ItemsFail o (uses_of x) (exports_of x))
+    fails_decide =
+        Decides-like (interface_unwritable c o Which.All id) to from
+        (Decides-or (some_unnamed (uses_of x)) (exports_unwritable c o Which.All id (interface_holder x)) (λ e. e, λ e. e)
+        (subst (λ l. Decides (exports_unwritable c o Which.All id (interface_holder x)) (SomeItem (interface_holder x) l)) (sym (exports_are c a id)) (items_decide (interface_holder x) (exports_in c id))))
+      where
+        to : (some_unnamed (uses_of x) ≡ true) ⊎ SomeItem (interface_holder x) (exports_of x) → ItemsFail o (uses_of x) (exports_of x)
+        to (inl e) = unnamed e
+        to (inr (n, y, m, g, f)) = an_item m g f
+
+        from : ItemsFail o (uses_of x) (exports_of x) → (some_unnamed (uses_of x) ≡ true) ⊎ SomeItem (interface_holder x) (exports_of x)
+        from (unnamed e) = inl e
+        from (an_item {n = n} {x = y} m g f) = inr (n, y, m, g, f)
+
+    instance_unwritable : (n : Name) (h : Held) → Stands c (ItemKind.Instance id) → interface_unwritable c o Which.All id ≡ item_unwritable c o n (ItemKind.Instance id) h
+    instance_unwritable n h s =
+        let k = kind_stated c a (ItemKind.Instance id) s in
+        both_decide (interface_unwritable c o Which.All id) (item_unwritable c o n (ItemKind.Instance id) h)
+        (Decides-like (interface_unwritable c o Which.All id) (λ f. an_instance k f) (instance_reason o h n k) fails_decide) (written_decides o h n x)
+
+    type_stands : Stands c (ItemKind.Ty (TypeKind.Interface id)) → Stands c (ItemKind.Instance id)
+    unfolding item_node
+    type_stands s = let t = typed_node c (ItemKind.Ty (TypeKind.Interface id)) (ItemKind.Instance id) refl s in is_there _ t.0 t.1
+
+    abbrev y : Stated
+    y = stated_of c (ItemKind.Ty (TypeKind.Interface id))
+
+    type_node_is : (i : Interface) → item_node c (ItemKind.Instance id) ≡ Some (interface_entry i) → item_node c (ItemKind.Ty (TypeKind.Interface id)) ≡ Some (type_of (interface_entry i).0, (interface_entry i).1)
+    unfolding item_node
+    type_node_is i e = ap (labelled type_of) e
+
+    same_uses : Stands c (ItemKind.Ty (TypeKind.Interface id)) → uses_of x ≡ uses_of y
+    same_uses s =
+        let f = interface_found c id (type_stands s) in
+        let e = interface_node c id f.value f.at f.own in
+        ap uses_of (stated_step c a (ItemKind.Instance id) (interface_entry f.value) e) ∙ sym (ap uses_of (stated_step c a (ItemKind.Ty (TypeKind.Interface id)) (type_of (interface_entry f.value).0, (interface_entry f.value).1) (type_node_is f.value e)))
+
+    pub same_exports : Stands c (ItemKind.Ty (TypeKind.Interface id)) → exports_of x ≡ exports_of y
+    same_exports s =
+        let f = interface_found c id (type_stands s) in
+        let e = interface_node c id f.value f.at f.own in
+        ap exports_of (stated_step c a (ItemKind.Instance id) (interface_entry f.value) e) ∙ sym (ap exports_of (stated_step c a (ItemKind.Ty (TypeKind.Interface id)) (type_of (interface_entry f.value).0, (interface_entry f.value).1) (type_node_is f.value e)))
+
+    interface_type_unwritable : (n : Name) (h : Held) → Stands c (ItemKind.Ty (TypeKind.Interface id)) → interface_unwritable c o Which.All id ≡ item_unwritable c o n (ItemKind.Ty (TypeKind.Interface id)) h
+    interface_type_unwritable n h s =
+        let k = kind_stated c a (ItemKind.Ty (TypeKind.Interface id)) s in
+        let d = subst (λ us. Decides (interface_unwritable c o Which.All id) (ItemsFail o us (exports_of y))) (same_uses s) (subst (λ es. Decides (interface_unwritable c o Which.All id) (ItemsFail o (uses_of x) es)) (same_exports s) fails_decide) in
+        both_decide (interface_unwritable c o Which.All id) (item_unwritable c o n (ItemKind.Ty (TypeKind.Interface id)) h)
+        (Decides-like (interface_unwritable c o Which.All id) (λ f. an_interface k f) (interface_reason o h n k) d) (written_decides o h n y)
+
+  pub interface_item : (k : ItemKind) (id : InterfaceId) (n : Name) (h : Held) → IsOfInterface k id → Stands c k → interface_unwritable c o Which.All id ≡ item_unwritable c o n k h
+  interface_item (ItemKind.Instance i) id n h e s = ap (λ i. interface_unwritable c o Which.All i) (sym e) ∙ instance_unwritable i n h s
+  interface_item (ItemKind.Ty (TypeKind.Interface i)) id n h e s = ap (λ i. interface_unwritable c o Which.All i) (sym e) ∙ interface_type_unwritable i n h s
+  interface_item (ItemKind.Ty (TypeKind.Resource r)) id n h e s = absurd e
+  interface_item (ItemKind.Ty (TypeKind.Func f)) id n h e s = absurd e
+  interface_item (ItemKind.Ty (TypeKind.Value v)) id n h e s = absurd e
+  interface_item (ItemKind.Ty (TypeKind.World w)) id n h e s = absurd e
+  interface_item (ItemKind.Ty (TypeKind.Module m)) id n h e s = absurd e
+  interface_item (ItemKind.Func f) id n h e s = absurd e
+  interface_item (ItemKind.Component w) id n h e s = absurd e
+  interface_item (ItemKind.Module m) id n h e s = absurd e
+  interface_item (ItemKind.Value v) id n h e s = absurd e

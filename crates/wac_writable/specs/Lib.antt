@@ -1,0 +1,5 @@
+pub mod Unnamed
+pub mod Holders
+pub mod Values
+pub mod Items
+pub mod Tests
