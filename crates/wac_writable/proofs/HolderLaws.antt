@@ -27,6 +27,7 @@ use Rattle.wac_composition.proofs.Lists.{among_split}
 use Rattle.wac_graph_scopes.specs.Parts.{exports_of as exports_in, IsUseAt}
 use Rattle.wac_graph_scopes.specs.declared.parts.Use.{Use}
 use Rattle.wac_types_fit.proofs.Items.{value_at-among}
+use Rattle.wac_graph_scopes.proofs.HandleLaws.{take_zero}
 use Rattle.wac_graph_scopes.proofs.PartLaws.{exports_there, exports_missing, export_stands}
 use Rattle.wac_writable.specs.declared.holder.Holder.{Holder}
 use Rattle.wac_writable.specs.Holders.{Shows, Holds, IsFilled, AddsRoots, KnowsValues, fresh_roots, named_roots, with_use, is_used_as}
@@ -45,10 +46,6 @@ take_all [] zero h = refl
 take_all [] (suc i) h = refl
 take_all (y ∷ ys) zero h = absurd (omega arith)
 take_all (y ∷ ys) (suc i) h = ap (λ l. y ∷ l) (take_all ys i (omega arith))
-
-pub take_none : {X : Type 0} (xs : List X) → take 0 xs ≡ []
-take_none [] = refl
-take_none (y ∷ ys) = refl
 
 or_false : (b : Bool) → b ≡ (b || false)
 or_false true = refl
@@ -138,7 +135,7 @@ module _ (c : Collection) where
       (subst (AddsRoots c s (with_values (stated_of c) (take at es) ++ (n, stated_of c k) ∷ [])) (sym is) (adds_next s t (with_values (stated_of c) (take at es)) n k h))
 
   pub adds_first : (s : Holder) (es : List (Name × ItemKind)) → AddsRoots c s (with_values (stated_of c) (take 0 es)) s
-  adds_first s es = subst (λ l. AddsRoots c s (with_values (stated_of c) l) s) (sym (take_none es)) (adds_none s)
+  adds_first s es = subst (λ l. AddsRoots c s (with_values (stated_of c) l) s) (sym (take_zero es)) (adds_none s)
 
   pub adds_all : (s t : Holder) (es : List (Name × ItemKind)) (at : ℕ) (xs : List (Name × Stated)) → length es ≤ at → xs ≡ with_values (stated_of c) es → AddsRoots c s (with_values (stated_of c) (take at es)) t → AddsRoots c s xs t
   adds_all s t es at xs past is h = subst (λ l. AddsRoots c s l t) (ap (with_values (stated_of c)) (take_all es at past) ∙ sym is) h
@@ -245,7 +242,7 @@ module _ (c : Collection) (a : IsAcyclic c) where
       mapped (Some k) = refl
 
   pub filled_first : (s : Holder) (us : List (Name × UsedType)) → IsFilled c s (holder [] []) → IsFilled c s (holder (stated_uses c (take 0 us)) [])
-  filled_first s us h = subst (λ l. IsFilled c s (holder (stated_uses c l) [])) (sym (take_none us)) h
+  filled_first s us h = subst (λ l. IsFilled c s (holder (stated_uses c l) [])) (sym (take_zero us)) h
 
   -- one more of a list of uses
   pub filled_at : (us : List (Name × UsedType)) (at : ℕ) (u : Use) (s t : Holder) → AreDistinct (names_of us) → IsUseAt us at u → IsFilled c s (holder (stated_uses c (take at us)) [])

@@ -192,10 +192,6 @@ module _ (c : Collection) (a : IsAcyclic c) where
   pub adds_other : (k : ItemKind) (s : Holder) → resource_in k ≡ None → s ≡ record s { roots = resource_roots c k s.roots }
   adds_other k s e = ap (λ b. record s { roots = if b then put_name s.roots (root_name (stated_of c k)) else s.roots }) (sym (other_kind k e))
 
-pub if_ok_map : {T E : Type 0} {P Q : T → Type 0} (r : Result T E) → ((x : T) → P x → Q x) → IfOk r P → IfOk r Q
-if_ok_map (Ok x) f h = f x h
-if_ok_map (Err e) f h = tt
-
 pub if_ok_all : {T E : Type 0} {Q : T → Type 0} (r : Result T E) → ((x : T) → Q x) → IfOk r Q
 if_ok_all (Ok x) f = f x
 if_ok_all (Err e) f = tt

@@ -1,5 +1,6 @@
 use Rattle.std.proofs.Common.{refl}
-use Rattle.wac_writable.proofs.ItemLaws.{same_itself, no_fit, back_fits, if_ok_map}
+use Rattle.wac_graph_scopes.proofs.HandleLaws.{if_ok_map}
+use Rattle.wac_writable.proofs.ItemLaws.{same_itself, no_fit, back_fits}
 use Rattle.wac_writable.proofs.holder.is_same_item.Goals as goal
 
 pub returns-then-is_same : goal.returns-then-is_same

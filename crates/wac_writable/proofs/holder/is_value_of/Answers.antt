@@ -1,7 +1,8 @@
 use Rattle.std.proofs.Common.{sym, ◌∙◌}
 use Rattle.wac_types_base.specs.declared.item.ItemKind.{ItemKind}
 use Rattle.wac_types_base.specs.Stated.{stated_of}
-use Rattle.wac_writable.proofs.ItemLaws.{used_value, value_item_stands, used_no_value, if_ok_map}
+use Rattle.wac_graph_scopes.proofs.HandleLaws.{if_ok_map}
+use Rattle.wac_writable.proofs.ItemLaws.{used_value, value_item_stands, used_no_value}
 use Rattle.wac_writable.proofs.holder.is_value_of.Goals as goal
 
 pub returns-in-Some : goal.returns-in-Some

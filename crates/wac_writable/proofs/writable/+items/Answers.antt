@@ -3,7 +3,8 @@ use Rattle.wac_graph_scopes.specs.Parts.{exports_of as exports_in}
 use Rattle.wac_writable.specs.Holders.{Keeps}
 use Rattle.wac_writable.specs.Tests.{exports_unwritable}
 use Rattle.wac_writable.proofs.UnnamedLaws.{no_gap}
-use Rattle.wac_writable.proofs.ItemLaws.{if_ok_map, if_ok_all}
+use Rattle.wac_graph_scopes.proofs.HandleLaws.{if_ok_map}
+use Rattle.wac_writable.proofs.ItemLaws.{if_ok_all}
 use Rattle.wac_writable.proofs.ValueLaws.{keeps_on}
 use Rattle.wac_writable.proofs.InterfaceLaws.{export_plain, interface_plain, no_world_there, item_settles, item_leaves, interface_item}
 use Rattle.wac_writable.proofs.writable.+items.Goals.{exports_fail-in-Some+in_ok-tested_fails+else-branch, exports_fail-in_default}

@@ -1,5 +1,5 @@
 use Rattle.std.proofs.Common.{sym, ◌∙◌}
-use Rattle.wac_writable.proofs.ItemLaws.{if_ok_map}
+use Rattle.wac_graph_scopes.proofs.HandleLaws.{if_ok_map}
 use Rattle.wac_writable.proofs.GivenLaws.{takes_nothing, gives_nothing, gives_by}
 use Rattle.wac_writable.proofs.writable.gives_used.Goals as goal
 

@@ -1,6 +1,6 @@
 use Rattle.std.proofs.Common.{◌∙◌}
 use Rattle.wac_types_base.specs.declared.item.ItemKind.{ItemKind}
-use Rattle.wac_writable.proofs.ItemLaws.{if_ok_map}
+use Rattle.wac_graph_scopes.proofs.HandleLaws.{if_ok_map}
 use Rattle.wac_writable.proofs.SimpleLaws.{of_kind, func_unwritable, value_unwritable, module_item, no_simple_instance, no_simple_component}
 use Rattle.wac_writable.proofs.writable.simple_fails.Goals as goal
 

@@ -2,7 +2,7 @@ use Rattle.std.proofs.Common.{sym, ap, ◌∙◌, subst}
 use Rattle.std.specs.Prelude.{IfSome}
 use Rattle.wac_types_base.specs.Collection.{Stands}
 use Rattle.wac_writable.specs.Tests.{stands_in}
-use Rattle.wac_writable.proofs.ItemLaws.{if_ok_map}
+use Rattle.wac_graph_scopes.proofs.HandleLaws.{if_ok_map}
 use Rattle.wac_writable.proofs.GivenLaws.{stands_resource, stands_other}
 use Rattle.wac_writable.proofs.writable.stands_for.Goals as goal
 

@@ -1,7 +1,7 @@
 use Rattle.std.proofs.Common.{ap, ◌∙◌}
 use Rattle.wac_types_base.specs.declared.item.ItemKind.{ItemKind}
 use Rattle.wac_types_base.specs.declared.item.«Type».{«Type» as TypeKind}
-use Rattle.wac_writable.proofs.ItemLaws.{if_ok_map}
+use Rattle.wac_graph_scopes.proofs.HandleLaws.{if_ok_map}
 use Rattle.wac_writable.proofs.SimpleLaws.{of_kind, func_stands, func_type_unwritable, value_stands, value_type_unwritable, module_type_unwritable, no_simple_interface, no_simple_world}
 use Rattle.wac_writable.proofs.writable.type_fails.Goals as goal
 

@@ -1,6 +1,6 @@
 use Rattle.std.proofs.Common.{sym, ap, ◌∙◌}
 use Rattle.wac_writable.specs.Values.{fails_unused}
-use Rattle.wac_writable.proofs.ItemLaws.{if_ok_map}
+use Rattle.wac_graph_scopes.proofs.HandleLaws.{if_ok_map}
 use Rattle.wac_writable.proofs.ValueLaws.{handle_is, handle_resource}
 use Rattle.wac_writable.proofs.writable.unused_handle_fails.Goals as goal
 

@@ -1,7 +1,7 @@
 use Rattle.wac_types_base.specs.declared.item.ItemKind.{ItemKind}
 use Rattle.wac_types_base.specs.Stated.{stated_of}
 use Rattle.wac_composition.specs.NotWritten.{component_holder}
-use Rattle.wac_writable.proofs.ItemLaws.{if_ok_map}
+use Rattle.wac_graph_scopes.proofs.HandleLaws.{if_ok_map}
 use Rattle.wac_writable.proofs.writable.unwritable_outer.Goals as goal
 
 pub returns : goal.returns

@@ -1,6 +1,6 @@
 use Rattle.std.proofs.Common.{sym, ◌∙◌}
 use Rattle.wac_types_base.specs.Stated.{stated_of}
-use Rattle.wac_writable.proofs.ItemLaws.{if_ok_map}
+use Rattle.wac_graph_scopes.proofs.HandleLaws.{if_ok_map}
 use Rattle.wac_writable.proofs.HolderLaws.{gives_some, gives_none, value_stands}
 use Rattle.wac_writable.proofs.holder.Holder.gives.Goals as goal
 
