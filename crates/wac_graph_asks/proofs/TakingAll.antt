@@ -24,6 +24,7 @@ use Rattle.wac_merging.specs.Labelled.{labelled, each_label, with_label, AreKept
 use Rattle.wac_merging.proofs.Taking.{taken_stays}
 use Rattle.wac_merging.proofs.Labels.{one_more_labelled}
 use Rattle.wac_merging.proofs.Well.{stated_are_well}
+use Rattle.wac_graph_scopes.proofs.HandleLaws.{take_zero}
 use Rattle.wac_graph_asks.specs.declared.asks.Ask.{Ask as HeldAsk}
 use Rattle.wac_graph_asks.specs.declared.asks.Asking.{Asking as HeldAsking}
 use Rattle.wac_graph_asks.specs.declared.taken.Taken.{Taken}
@@ -157,12 +158,8 @@ none_taken d held xs ls nx nl taken none = record {
   no_more = λ l is. ap (λ (ys : List (Ask ℕ)). labelled l ys ls) nx;
 }
 
-take_none : {X : Type 0} (xs : List X) → take 0 xs ≡ []
-take_none [] = refl
-take_none (x ∷ xs) = refl
-
 pub so_far_first : (c : Collection) → IsAcyclic c → (held : List HeldAsk) (labels : List ℕ) (taken : List (ℕ × Taken)) → taken ≡ [] → SoFar c held labels 0 c taken
-so_far_first c acyclic held labels taken none = (Grows-refl c acyclic, λ sound many. none_taken c held (take 0 (asks_in c held)) (take 0 labels) (take_none (asks_in c held)) (take_none labels) taken none)
+so_far_first c acyclic held labels taken none = (Grows-refl c acyclic, λ sound many. none_taken c held (take 0 (asks_in c held)) (take 0 labels) (take_zero (asks_in c held)) (take_zero labels) taken none)
 
 pub so_far_next : (c : Collection) → IsAcyclic c → (held : List HeldAsk) (labels : List ℕ) (m l : ℕ) (d e : Collection) (old new : List (ℕ × Taken)) → m < length held → l ≡ label_at labels m → SoFar c held labels m d old → Takes d held m l old e new → Grows d e
     → SoFar c held labels (m + 1) e new

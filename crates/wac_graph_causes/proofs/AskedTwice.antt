@@ -143,7 +143,7 @@ clash_is_cause g a named h first =
 
 -- ---- what asks for an instance is one
 
-from_filtered : {X Y : Type 0} (p : X → Option Y) (xs : List X) (y : Y) → Among y (filter_map p xs) → (x : X) × Among x xs × (p x ≡ Some y)
+pub from_filtered : {X Y : Type 0} (p : X → Option Y) (xs : List X) (y : Y) → Among y (filter_map p xs) → (x : X) × Among x xs × (p x ≡ Some y)
 from_filtered p [] y m = absurd m
 from_filtered {X} {Y} p (x ∷ xs) y m = go (p x) refl m (from_filtered p xs y)
   where

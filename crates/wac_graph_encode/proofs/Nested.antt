@@ -31,7 +31,7 @@ use Rattle.wac_graph_encode.specs.Finished.{AreSpelled, NestsBytes}
 use Rattle.wac_graph_encode.specs.Nesting.{NestsBehind}
 use Rattle.wac_graph_encode.specs.Writing.{AddsEntry, AddsExports, IsExportOf}
 use Rattle.wac_graph_encode.proofs.Entries.{same_package}
-use Rattle.wac_graph_encode.proofs.RootedDefinitions.{from_filtered}
+use Rattle.wac_graph_causes.proofs.AskedTwice.{from_filtered}
 
 -- ---- lists of entries
 

@@ -33,7 +33,8 @@ use Rattle.wac_graph_encode.specs.Formed.{IsFormed, AreFormed}
 use Rattle.wac_graph_encode.specs.Finished.{IsPrepared, MeansAsked, MeansNested, NestsSo}
 use Rattle.wac_graph_encode.specs.Nesting.{IsTold}
 use Rattle.wac_graph_encode.proofs.Nested.{with_among, nests_packages}
-use Rattle.wac_graph_encode.proofs.RootedDefinitions.{from_filtered, nodes_of_definitions}
+use Rattle.wac_graph_causes.proofs.AskedTwice.{from_filtered}
+use Rattle.wac_graph_encode.proofs.RootedDefinitions.{nodes_of_definitions}
 
 -- ---- the packages
 

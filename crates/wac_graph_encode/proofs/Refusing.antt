@@ -1,5 +1,5 @@
 -- Refusals are for the first cause.
-use Rattle.std.proofs.Common.{◌≡◌, ℕ, [], Some, None, Result, Ok, Err, IfErr, ap, ◌∙◌}
+use Rattle.std.proofs.Common.{◌≡◌, ℕ, [], Some, None, Result, Ok, Err, ap, ◌∙◌}
 use Rattle.wac_graph_core.specs.Graph.{Graph}
 use Rattle.wac_composition.specs.Asks.{asks_of}
 use Rattle.wac_composition.specs.Classes.{spelling}
@@ -15,10 +15,6 @@ use Rattle.wac_graph_causes.specs.Implicit.{implicit_cause, IsImplicit}
 use Rattle.wac_graph_causes.specs.Alike.{IsAlike}
 use Rattle.wac_graph_encode.specs.declared.options.EncodeOptions.{EncodeOptions}
 use Rattle.wac_graph_encode.specs.Refused.{cause_in, IsRefusedFor}
-
-pub if_err : {T E : Type 0} {P Q : E → Type 0} (r : Result T E) → ((e : E) → P e → Q e) → IfErr r P → IfErr r Q
-if_err (Ok x) f h = tt
-if_err (Err e) f h = f e h
 
 module _ (options : EncodeOptions) (g : Graph) where
   -- an import that is asked by its name and by an instance comes first

@@ -1,7 +1,5 @@
 -- Definitions that are written stand for their nodes.
 use Rattle.indexmap.specs.IndexMap.{insert_entry}
-use Rattle.std.specs.List.{cons_option}
-use Rattle.std.specs.Prelude.{filter_map}
 use Rattle.std.proofs.Common.{Result, Ok, Err, IfOk, ◌≡◌, ℕ, true, List, [], ◌∷◌, map, Option, Some, None, slice_get, refl, sym, ap, subst, ◌∙◌, inl, inr}
 use Rattle.std.proofs.lemmas.Option.{none-some, same_Some}
 use Rattle.wac_types_base.specs.declared.item.ItemKind.{ItemKind}
@@ -42,22 +40,13 @@ use Rattle.wac_graph_asks.specs.Wirings.{written_tree}
 use Rattle.wac_graph_asks.specs.Asked.{placed_in}
 use Rattle.wac_graph_asks.proofs.ByNode.{entry_there}
 use Rattle.wac_composition.proofs.Lists.{among_mapped}
+use Rattle.wac_graph_causes.proofs.AskedTwice.{from_filtered}
 use Rattle.wac_graph_encode.specs.Standing.{StandsAt}
 use Rattle.wac_graph_encode.specs.Formed.{HasForm}
 use Rattle.wac_graph_encode.proofs.FormKinds.{own_form, form_entry}
 use Rattle.wac_graph_encode.proofs.Entries.{same_node}
 use Rattle.wac_graph_encode.proofs.Nesting.{inserted_among}
 use Rattle.wac_graph_encode.specs.Defining.{IsNodeOf, IsToWrite, AreToWrite, HoldsDefinitions, DefinesIn}
-
-filtered_further : {X Y : Type 0} (p : X → Option Y) (x : X) (xs : List X) (y : Y) → (Among y (filter_map p xs) → (z : X) × Among z xs × (p z ≡ Some y)) → (o : Option Y) → p x ≡ o → Among y (cons_option o (filter_map p xs))
-    → (z : X) × Among z (x ∷ xs) × (p z ≡ Some y)
-filtered_further p x xs y rest None e m = let r = rest m in (r.0, inr r.1, r.2)
-filtered_further p x xs y rest (Some v) e (inl same) = (x, inl refl, e ∙ ap Some (sym same))
-filtered_further p x xs y rest (Some v) e (inr m) = let r = rest m in (r.0, inr r.1, r.2)
-
-pub from_filtered : {X Y : Type 0} (p : X → Option Y) (xs : List X) (y : Y) → Among y (filter_map p xs) → (x : X) × Among x xs × (p x ≡ Some y)
-from_filtered p [] y m = absurd m
-from_filtered p (x ∷ xs) y m = filtered_further p x xs y (from_filtered p xs y) (p x) refl m
 
 module _ (g : Graph) where
   node_of : (x : Definition) → Among (placed_in g.types x) (composition_of g).definitions → IsNodeOf g x

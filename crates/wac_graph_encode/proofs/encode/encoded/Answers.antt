@@ -2,7 +2,7 @@ use Rattle.std.proofs.lemmas.Result.{IfOk-weaker, on_ok_weaker}
 use Rattle.wac_graph_encode.specs.Finished.{IsPrepared, MeansNested}
 use Rattle.wac_graph_encode.proofs.Forming.{copies_stand}
 use Rattle.wac_graph_encode.proofs.Preparing.{prepared}
-use Rattle.wac_graph_encode.proofs.Refusing.{if_err}
+use Rattle.wac_graph_scopes.proofs.RefusedLaws.{if_err_map}
 use Rattle.wac_graph_encode.proofs.encode.encoded.Goals as goal
 
 pub encoded_asked-requires : goal.encoded_asked-requires
@@ -23,4 +23,4 @@ pub returns-clause-free : goal.returns-clause-free
 returns-clause-free c = on_ok_weaker c.encoded_asked.result (λ apart. record { clashing = c.in_ok-outers.ensures.free c.in_ok-asked.ensures; alike = apart (ready c) }) c.encoded_asked.ensures.apart
 
 pub returns-clause-refused : goal.returns-clause-refused
-returns-clause-refused c = if_err c.encoded_asked.result (λ e h. h (ready c)) c.encoded_asked.ensures.refused
+returns-clause-refused c = if_err_map c.encoded_asked.result (λ e h. h (ready c)) c.encoded_asked.ensures.refused
