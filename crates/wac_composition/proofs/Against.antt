@@ -6,6 +6,7 @@ use Rattle.std.proofs.Common.{◌≡◌, List, [], ◌∷◌, ◌++◌, append_a
 use Rattle.wac_types_base.specs.Entries.{Name}
 use Rattle.wac_types_base.specs.Graph.{Among}
 use Rattle.wac_types_base.specs.Stated.{Stated, Kind, IsFunction, IsInstance, IsComponent, IsModule, IsValue, IsResource, IsFunctionType, IsValueType, IsInterface, IsWorld, IsModuleType, kind_of}
+use Rattle.wac_types_base.proofs.Lists.{among_mapped}
 use Rattle.wac_composition.specs.Composition.{Placed, Composition}
 use Rattle.wac_composition.specs.Asks.{Asking, ByName, ToFill, ToUse, Ask, asks_of}
 use Rattle.wac_composition.specs.Classes.{class, spelling}
@@ -16,7 +17,7 @@ use Rattle.wac_composition.specs.Circles.{as_written}
 use Rattle.wac_composition.specs.Conflicts.{Cause, Unwritable, or_else, first_found, implicit_with, implicit_by, implicit_conflict, merge_cause, merge_fails, those_in, merge_conflict, cause_at, placed, unwritable_cause, circle_cause, dependencies_of, first_cause}
 use Rattle.wac_composition.specs.Against.{IsUnmerged, StandsAgainst, asked_twice, import_unmerged, ask_unmerged, alias_of_value, outer_import, in_circle, definition, imported_package, FirstStands}
 use Rattle.wac_composition.proofs.NotFound.{written_decides}
-use Rattle.wac_composition.proofs.Lists.{mapped_among, among_mapped}
+use Rattle.wac_composition.proofs.Lists.{mapped_among}
 
 -- ---- the first that is found
 

@@ -12,6 +12,7 @@ use Rattle.semver.specs.Parse.{Parts}
 use Rattle.wac_types_base.specs.Entries.{Name}
 use Rattle.wac_types_base.specs.Graph.{Among}
 use Rattle.wac_types_base.specs.Stated.{kind_of, identifier_of}
+use Rattle.wac_types_base.proofs.Lists.{among_mapped}
 use Rattle.wac_types_names.specs.Tracks.{before_at, version_of}
 use Rattle.wac_types_names.specs.Versions.{version_cmp}
 use Rattle.wac_types_names.proofs.VersionOrder.{greater_trans, not_above_self}
@@ -25,7 +26,7 @@ use Rattle.wac_composition.proofs.Again.{asking_twice}
 use Rattle.wac_composition.proofs.Closures.{any_among, among_any, filter_among, among_filter, filter_same, closed}
 use Rattle.wac_composition.proofs.OuterClasses.{itself as joined_itself, turned, class_is, class_itself}
 use Rattle.wac_composition.proofs.ClassLaws.{in_class_linked, linked_in_class}
-use Rattle.wac_composition.proofs.Lists.{among_mapped, mapped_among}
+use Rattle.wac_composition.proofs.Lists.{mapped_among}
 use Rattle.wac_types_fit.proofs.Caching.{found-among}
 
 -- ---- later names

@@ -31,9 +31,10 @@ use Rattle.wac_composition.proofs.Merged.{all_met}
 use Rattle.wac_composition.proofs.Straight.{outer_straight}
 use Rattle.wac_composition.proofs.Unused.{made_world, without_same, zero_plus}
 use Rattle.wac_composition.proofs.AskedAgain.{among_first}
-use Rattle.wac_composition.proofs.Lists.{among_mapped, flat_among}
+use Rattle.wac_composition.proofs.Lists.{flat_among}
 use Rattle.wac_types_base.proofs.Looked.{among-get}
 use Rattle.wac_types_base.proofs.Adding.{Among-right}
+use Rattle.wac_types_base.proofs.Lists.{among_mapped}
 
 -- ---- maps of named items
 

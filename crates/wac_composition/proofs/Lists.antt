@@ -1,16 +1,9 @@
 -- Elements of lists that are joined or mapped.
 use Rattle.std.specs.List.{flat_map}
-use Rattle.std.proofs.Common.{◌≡◌, List, [], ◌∷◌, ◌++◌, map, ◌⊎◌, inl, inr, refl, ap, subst}
+use Rattle.std.proofs.Common.{◌≡◌, List, [], ◌∷◌, map, inl, inr, refl, subst}
 use Rattle.wac_types_base.specs.Graph.{Among}
 use Rattle.wac_types_base.proofs.Adding.{Among-left, Among-right}
-
-pub among_split : {X : Type 0} (c : X) (xs ys : List X) → Among c (xs ++ ys) → Among c xs ⊎ Among c ys
-among_split c [] ys m = inr m
-among_split c (x ∷ xs) ys (inl e) = inl (inl e)
-among_split c (x ∷ xs) ys (inr m) = elim (among_split c xs ys m) [
-  | inl a ↦ inl (inr a)
-  | inr b ↦ inr b
-]
+use Rattle.wac_types_base.proofs.Lists.{among_split}
 
 pub among_flat : {X Y : Type 0} (f : X → List Y) (xs : List X) (y : Y) → Among y (flat_map f xs) → (x : X) × Among x xs × Among y (f x)
 among_flat f [] y m = absurd m
@@ -28,8 +21,3 @@ pub mapped_among : {X Y : Type 0} (f : X → Y) (xs : List X) (y : Y) → Among 
 mapped_among f [] y m = absurd m
 mapped_among f (x ∷ xs) y (inl e) = (x, inl refl, e)
 mapped_among f (x ∷ xs) y (inr m) = let r = mapped_among f xs y m in (r.0, inr r.1, r.2)
-
-pub among_mapped : {X Y : Type 0} (f : X → Y) (xs : List X) (x : X) → Among x xs → Among (f x) (map f xs)
-among_mapped f [] x m = m
-among_mapped f (y ∷ xs) x (inl e) = inl (ap f e)
-among_mapped f (y ∷ xs) x (inr m) = inr (among_mapped f xs x m)

@@ -19,9 +19,10 @@ use Rattle.wac_composition.specs.NotWritten.{IsGiven, HasRoot, Dangles, has_item
 use Rattle.wac_composition.proofs.Closures.{filter_among}
 use Rattle.wac_composition.proofs.KeptFits.{folded_firsts}
 use Rattle.wac_composition.proofs.NotWritten.{any_decides, has_decides, trees_decide, given_decides, resource_decides, value_decides, any_value_decides, stated_again}
-use Rattle.wac_composition.proofs.Lists.{among_split, among_flat, flat_among, mapped_among, among_mapped}
+use Rattle.wac_composition.proofs.Lists.{among_flat, flat_among, mapped_among}
 use Rattle.wac_types_base.proofs.Adding.{Among-left, Among-right}
 use Rattle.wac_types_base.proofs.Made.{firsts, first_names, drop_firsts, only_firsts}
+use Rattle.wac_types_base.proofs.Lists.{among_mapped, among_split}
 
 -- ---- what is found of an item
 

@@ -1,10 +1,11 @@
 -- Packages that are apart: one more of them, and the worlds that are stated of them.
-use Rattle.std.proofs.Common.{◌≡◌, ℕ, List, [], ◌∷◌, ◌++◌, map, Bool, true, false, if◌then◌else◌, Option, string_bytes, refl, sym, ap, ◌∙◌, subst, inl, inr, ◌⊎◌}
+use Rattle.std.proofs.Common.{◌≡◌, ℕ, List, [], ◌∷◌, ◌++◌, map, Bool, true, false, if◌then◌else◌, Option, string_bytes, refl, sym, ap, ◌∙◌, subst, inl, inr}
 use Rattle.std.proofs.lemmas.List.{map-append}
 use Rattle.std.specs.Option.{option_map}
 use Rattle.semver.specs.Identifiers.{parts_of}
 use Rattle.wac_types_base.specs.Graph.{Among}
 use Rattle.wac_types_base.specs.Entries.{Name}
+use Rattle.wac_types_base.proofs.Lists.{among_last}
 use Rattle.wac_graph_bytes.specs.Wirings.{OfBytes}
 use Rattle.wac_graph_bytes.specs.Typing.{same_name}
 use Rattle.wac_graph_bytes.proofs.Distinct.{same_name_decides}
@@ -14,12 +15,6 @@ use Rattle.wac_first.specs.PackageView.{package_view}
 use Rattle.wac_first.specs.WorkspaceView.{held}
 use Rattle.wac_first.specs.Packages.{VersionParts, Package, HasKey, HasBytes, AreApart}
 use Rattle.wac_first.specs.FirstMeaning.{AreTrue, stated_worlds, instance_tree}
-
-among_last : {X : Type 0} (x y : X) (xs : List X) → Among x (xs ++ y ∷ []) → Among x xs ⊎ (x ≡ y)
-among_last x y [] (inl e) = inr e
-among_last x y [] (inr a) = absurd a
-among_last x y (z ∷ zs) (inl e) = inl (inl e)
-among_last x y (z ∷ zs) (inr a) = elim (among_last x y zs a) [ inl h ↦ inl (inr h) | inr e ↦ inr e ]
 
 -- one more package, whose key and bytes are no other's
 pub apart_push : (ps : List Package) (p : Package) → AreApart ps → ((q : Package) → Among q ps → ((q.name ≡ p.name) × (q.version ≡ p.version) → ⊥) × (q.bytes ≡ p.bytes → ⊥)) → AreApart (ps ++ p ∷ [])

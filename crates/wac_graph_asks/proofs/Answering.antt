@@ -2,7 +2,6 @@
 use Rattle.std.specs.Map.{keys_of}
 use Rattle.std.specs.Option.{option_map}
 use Rattle.std.proofs.Common.{◌≡◌, ℕ, true, true≢false, List, [], map, is_some, Option, Some, None, Result, Ok, Err, IsOk, IfOk, IfErr, OnOk, slice_get, refl, sym, ap, subst, ◌∙◌}
-use Rattle.std.proofs.lemmas.Option.{none-some, same_Some, slice_get-map}
 use Rattle.std.proofs.lemmas.Result.{IfOk-weaker, on_ok_weaker}
 use Rattle.std.proofs.lemmas.List.{length-map}
 use Rattle.wac_types_base.specs.declared.ids.WorldId.{WorldId}
@@ -16,6 +15,7 @@ use Rattle.wac_types_base.specs.Tree.{tree}
 use Rattle.wac_types_base.specs.Fits.{Fits}
 use Rattle.wac_types_base.proofs.Looked.{among-get}
 use Rattle.wac_types_base.proofs.Loops.{map-get}
+use Rattle.wac_types_base.proofs.Lists.{from_place}
 use Rattle.wac_types_written.specs.Forms.{stated_items}
 use Rattle.wac_graph_core.specs.Graph.{Graph}
 use Rattle.wac_graph_scopes.specs.Parts.{imports_of}
@@ -57,13 +57,6 @@ use Rattle.wac_graph_asks.proofs.TakingMore.{if_conflict}
 
 -- ---- of asks as they are held
 
-pub there_mapped : {X Y : Type 0} (f : X → Y) (xs : List X) (i : ℕ) (y : Y) → slice_get (map f xs) i ≡ Some y → (x : X) × (slice_get xs i ≡ Some x) × (f x ≡ y)
-there_mapped {X} f xs i y e = go (slice_get xs i) refl
-  where
-    go : (o : Option X) → slice_get xs i ≡ o → (x : X) × (slice_get xs i ≡ Some x) × (f x ≡ y)
-    go None q = absurd (none-some y (sym (ap (option_map f) q) ∙ sym (slice_get-map f xs i) ∙ e))
-    go (Some x) q = (x, q, same_Some _ _ (sym (ap (option_map f) q) ∙ sym (slice_get-map f xs i) ∙ e))
-
 module _ (c : Collection) (held : List HeldAsk) (labels : List ℕ) (are : AreLabels (asks_in c held) labels) (merged : AreMerged (asks_in c held)) (d : Collection) (world : WorldId) (called : List Called)
     (imports : AreImports d (asks_in c held) labels (each_label labels) (imports_of d world)) (names : AreCalled held labels called) where
   abbrev asks : List (Ask ℕ)
@@ -85,7 +78,7 @@ module _ (c : Collection) (held : List HeldAsk) (labels : List ℕ) (are : AreLa
   all_called : (one : Called) → Among one called → IsCalled asks d world one
   all_called one m =
       let n = names.each one m in
-      let o = there_mapped (λ (e : ℕ × (Name × ItemKind)). e.0) imports.outers one.at n.label (ap (λ ls. slice_get ls one.at) imports.of_labels ∙ n.at) in
+      let o = from_place (λ (e : ℕ × (Name × ItemKind)). e.0) imports.outers one.at n.label (ap (λ ls. slice_get ls one.at) imports.of_labels ∙ n.at) in
       let e = o.0.1 in
       let import = imports.each_is n.label e (subst (λ l. Among (l, e) imports.outers) o.2 (among-get imports.outers one.at o.0 o.1)) in
       let there : slice_get (imports_of d world) one.at ≡ Some e = ap (λ es. slice_get es one.at) (sym imports.are) ∙ map-get (λ (x : ℕ × (Name × ItemKind)). x.1) imports.outers one.at o.0 o.1 in

@@ -9,7 +9,8 @@ use Rattle.wac_types_base.specs.Graph.{Among}
 use Rattle.wac_types_base.specs.Stated.{stated_of}
 use Rattle.wac_types_base.proofs.Standing.{world_found}
 use Rattle.wac_types_base.proofs.Stating.{imports_stated, value_with}
-use Rattle.wac_types_fit.proofs.Items.{differs, value_at-among, name-among}
+use Rattle.wac_types_base.proofs.Lists.{value_named}
+use Rattle.wac_types_fit.proofs.Items.{differs}
 use Rattle.wac_graph_core.specs.declared.edge.Edge.{Edge}
 use Rattle.wac_graph_core.specs.Nodes.{NodeData}
 use Rattle.wac_graph_core.specs.Edges.{argument_edge, HasArgument}
@@ -66,9 +67,6 @@ passed_is es i (x ∷ ns) n a m = go (first_argument es i x) refl m (passed_is e
     go None e h later = later h
     go (Some b) e (inl s) later = ap (λ p. first_argument es i p.0) s ∙ e ∙ ap (λ p. Some p.1) (sym s)
     go (Some b) e (inr h) later = later h
-
-pub named_among : {T : Type 0} (xs : List (Name × T)) (n : Name) (v : T) → value_at xs n ≡ Some v → Among n (names_of xs)
-named_among xs n v e = name-among xs n v (value_at-among xs n v e)
 
 pub nothing_there : {X : Type 0} (o : Option X) → is_some o ≡ false → o ≡ None
 nothing_there None e = refl
@@ -133,7 +131,7 @@ module _ (g : Graph) (k : ℕ) where
         (sym (value_with (stated_of g.types) v.value.imports n) ∙ sym (ap (λ l. value_at l n) (imports_stated g.types finite_types fills.of.ty v.value v.at v.own)) ∙ fills.import) in
         let names : import_names g (instantiated g k) ≡ names_of v.value.imports = ap (import_names g) fills.is ∙ ap world_names v.at in
         subst (λ ns. Among (n, a) (passed_list g.edges k ns)) (sym names)
-        (passed_among g.edges k (names_of v.value.imports) n a (named_among v.value.imports n item.0 item.1) (first_is (first_argument g.edges k n) refl))
+        (passed_among g.edges k (names_of v.value.imports) n a (value_named v.value.imports n item.0 item.1) (first_is (first_argument g.edges k n) refl))
       where
         first_is : (o : Option ℕ) → first_argument g.edges k n ≡ o → first_argument g.edges k n ≡ Some a
         first_is None e = absurd (no_argument g.edges k a n e h)

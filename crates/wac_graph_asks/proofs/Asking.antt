@@ -11,9 +11,10 @@ use Rattle.wac_types_base.specs.declared.item.«Type».{«Type» as TypeKind}
 use Rattle.wac_types_base.specs.Record.{Collection}
 use Rattle.wac_types_base.specs.Graph.{Among}
 use Rattle.wac_types_base.specs.Collection.{Stands, Grows}
-use Rattle.wac_types_base.specs.Stated.{Stated, stated_in, stated_of}
+use Rattle.wac_types_base.specs.Stated.{Stated}
 use Rattle.wac_types_base.proofs.Adding.{Grows-refl, Grows-trans}
 use Rattle.wac_types_base.proofs.Copying.{IsCopy-kept}
+use Rattle.wac_types_base.proofs.Stating.{stated_kept}
 use Rattle.wac_graph_core.specs.declared.ids.PackageId.{PackageId}
 use Rattle.wac_graph_core.specs.contracts.ids.PackageIdPartialEq.TheImpl.{eq-value}
 use Rattle.wac_graph_core.specs.Graph.{Graph}
@@ -28,16 +29,13 @@ use Rattle.wac_graph_asks.specs.Asked.{with_id, with_ids, IsWorldOf, placed_in, 
 
 -- ---- in a collection that has grown
 
-pub kept : (c d : Collection) → Grows c d → (k : ItemKind) → Stands c k → stated_of d k ≡ stated_of c k
-kept c d grows k s = ap stated_in (grows.keep k s)
-
 abbrev ask_of : HeldAsk → Stated → Ask ℕ
 ask_of a x = record { asking = asking_of a.asking; by = a.by; name = a.name; item = x }
 
 pub asks_kept : (c d : Collection) → Grows c d → (asks : List HeldAsk) → ((a : HeldAsk) → Among a asks → Stands c a.item) → asks_in d asks ≡ asks_in c asks
 asks_kept c d grows [] s = refl
 asks_kept c d grows (a ∷ asks) s =
-    ap (λ x. ask_of a x ∷ asks_in d asks) (kept c d grows a.item (s a (inl refl))) ∙ ap (λ l. ask_in c a ∷ l) (asks_kept c d grows asks (λ b m. s b (inr m)))
+    ap (λ x. ask_of a x ∷ asks_in d asks) (stated_kept c d grows a.item (s a (inl refl))) ∙ ap (λ l. ask_in c a ∷ l) (asks_kept c d grows asks (λ b m. s b (inr m)))
 
 pub copy_kept : (c d e : Collection) → Grows d e → (t : TypeKind) (o : Option ItemKind) → HasCopy c d t o → HasCopy c e t o
 copy_kept c d e grows t (Some k) h = (h.0, IsCopy-kept c d e (ItemKind.Ty t) k grows h.1, h.2)

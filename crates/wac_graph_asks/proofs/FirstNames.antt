@@ -1,10 +1,11 @@
 -- The first name that each node is exported under.
 use Rattle.std.specs.Map.{lookup}
 use Rattle.std.specs.Prelude.{unwrap_or}
-use Rattle.std.proofs.Common.{rules, ◌≡◌, ◌≢◌, ◌⊎◌, ◌↔◌, IsTrue, ◌==◌, ℕ, zero, suc, ◌+◌, Bool, true, false, true≢false, is_some, cond, List, [], ◌∷◌, drop, length, ◌≤◌, slice_get, Option, Some, None, refl, sym, ap, ◌∙◌, inl, inr, arith}
+use Rattle.std.proofs.Common.{rules, ◌≡◌, ◌≢◌, ◌⊎◌, ◌↔◌, IsTrue, ◌==◌, ℕ, ◌+◌, Bool, true, false, true≢false, is_some, cond, List, [], ◌∷◌, drop, length, ◌≤◌, slice_get, Option, Some, None, refl, sym, ap, ◌∙◌, inl, inr}
 use Rattle.wac_types_base.specs.Entries.{Name}
 use Rattle.wac_types_base.proofs.Used.{drop_next}
 use Rattle.wac_types_base.proofs.Replacing.{same_number}
+use Rattle.wac_types_base.proofs.Lists.{drop_all}
 use Rattle.wac_graph_core.specs.contracts.ids.NodeIdPartialEq.TheImpl.{eq-value}
 use Rattle.wac_graph_core.proofs.Found.{eq_same, eq_false}
 use Rattle.wac_graph_asks.specs.Graphs.{first_export}
@@ -68,11 +69,5 @@ next_named es fs exports i n j h at named k = go (node_cases k j)
         ap (λ o. unwrap_or o (first_export (drop (i + 1) exports) k)) (named.others k other)
         ∙ ap (λ b. unwrap_or (lookup (eq-value.it k) es) (cond b n (first_export (drop (i + 1) exports) k))) (sym (eq_false j k (λ same. other (sym same)))) ∙ before
 
-none_left : {X : Type 0} (xs : List X) (i : ℕ) → length xs ≤ i → drop i xs ≡ []
-none_left [] zero l = refl
-none_left [] (suc i) l = refl
-none_left (x ∷ xs) zero l = absurd (omega arith)
-none_left (x ∷ xs) (suc i) l = none_left xs i (omega arith)
-
 pub all_named : (es : List (ℕ × Name)) (exports : List (Name × ℕ)) (i : ℕ) → length exports ≤ i → GetsFirst es (drop i exports) exports → (k : ℕ) → unwrap_or (lookup (eq-value.it k) es) [] ≡ first_export exports k
-all_named es exports i all h k = sym (ap (λ l. unwrap_or (lookup (eq-value.it k) es) (first_export l k)) (none_left exports i all)) ∙ h k
+all_named es exports i all h k = sym (ap (λ l. unwrap_or (lookup (eq-value.it k) es) (first_export l k)) (drop_all exports i all)) ∙ h k

@@ -1,43 +1,13 @@
 -- Joining each ask with the first that has its word puts all that have one word together.
-use Rattle.std.proofs.Common.{◌≡◌, ◌≢◌, ℕ, ◌+◌, ◌<◌, Bool, true, false, cond, List, [], ◌∷◌, ◌++◌, Option, Some, None, inl, inr, refl, sym, ap, subst, ◌∙◌, arith, length, length-append}
+use Rattle.std.proofs.Common.{◌≡◌, ◌≢◌, ℕ, ◌+◌, ◌<◌, List, [], ◌∷◌, ◌++◌, Option, Some, None, inl, inr, sym, ap, subst, ◌∙◌, arith, length, length-append}
 use Rattle.std.proofs.lemmas.List.{get_or_push, get_or_past}
 use Rattle.std.proofs.Math.ListN.{get_or-append}
-use Rattle.std.specs.Prelude.{◌==◌, ◌⊎◌}
-use Rattle.std.specs.Cmp.Lexicographic.{pointwise}
 use Rattle.std.proofs.lemmas.Bool.{cases_eq, cases_lt}
 use Rattle.std.proofs.lemmas.Option.{none-some, same_Some}
-use Rattle.std.proofs.lemmas.Slice.Eq.{bytes_eq-Decides}
 use Rattle.wac_types_base.specs.Entries.{Name, value_at, put_entry}
+use Rattle.wac_types_base.proofs.Lists.{put_else, put_is, name_tested}
 use Rattle.wac_graph_asks.specs.Joining.{label_at, there, AreTogether, JoinsBy}
 use Rattle.wac_graph_asks.proofs.Roots.{meets_itself, meets_back, meets_through, leads_as, leads_once}
-
--- ---- what is put under a name
-
-tested : (m n : Name) → ((m ≡ n) × (pointwise ◌==◌ m n ≡ true)) ⊎ ((m ≢ n) × (pointwise ◌==◌ m n ≡ false))
-tested m n = go (pointwise ◌==◌ m n) refl
-  where
-    go : (b : Bool) → pointwise ◌==◌ m n ≡ b → ((m ≡ n) × (pointwise ◌==◌ m n ≡ true)) ⊎ ((m ≢ n) × (pointwise ◌==◌ m n ≡ false))
-    go true e = inl ((bytes_eq-Decides m n).0 e, e)
-    go false e = inr (λ w. absurd (cc (sym e ∙ (bytes_eq-Decides m n).1 w)), e)
-
-put_is : {T : Type 0} (es : List (Name × T)) (n : Name) (v : T) → value_at (put_entry es n v) n ≡ Some v
-put_is [] n v = ap (λ b. cond b (Some v) None) ((bytes_eq-Decides n n).1 refl)
-put_is (e ∷ es) n v = go (put_is es n v) (pointwise ◌==◌ n e.0) refl
-  where
-    go : value_at (put_entry es n v) n ≡ Some v → (b : Bool) → pointwise ◌==◌ n e.0 ≡ b → value_at (cond b ((e.0, v) ∷ es) (e ∷ put_entry es n v)) n ≡ Some v
-    go h true q = ap (λ b. cond b (Some v) (value_at es n)) q
-    go h false q = ap (λ b. cond b (Some e.1) (value_at (put_entry es n v) n)) q ∙ h
-
-put_else : {T : Type 0} (es : List (Name × T)) (n m : Name) (v : T) → m ≢ n → value_at (put_entry es n v) m ≡ value_at es m
-put_else [] n m v d = elim (tested m n) [ inl h ↦ absurd (d h.0) | inr h ↦ ap (λ b. cond b (Some v) None) h.1 ]
-put_else (e ∷ es) n m v d = go (put_else es n m v d) (pointwise ◌==◌ n e.0) refl
-  where
-    go : value_at (put_entry es n v) m ≡ value_at es m → (b : Bool) → pointwise ◌==◌ n e.0 ≡ b → value_at (cond b ((e.0, v) ∷ es) (e ∷ put_entry es n v)) m ≡ value_at (e ∷ es) m
-    go h true q = elim (tested m e.0) [
-      | inl w ↦ absurd (d (w.0 ∙ sym ((bytes_eq-Decides n e.0).0 q)))
-      | inr w ↦ ap (λ b. cond b (Some v) (value_at es m)) w.1 ∙ sym (ap (λ b. cond b (Some e.1) (value_at es m)) w.1)
-    ]
-    go h false q = ap (λ o. cond (pointwise ◌==◌ m e.0) (Some e.1) o) h
 
 -- ---- firsts
 
@@ -85,7 +55,7 @@ module _ (word : ℕ → Option Name) (at : ℕ) (firsts after : List (Name × �
     ];
   }
   firsts_after kept f (Some x) e (inr h) = record {
-    before = λ w i v. elim (tested w x) [
+    before = λ w i v. elim (name_tested w x) [
       | inl d ↦
           let same = same_Some at i (sym (put_is firsts x at) ∙ ap (value_at (put_entry firsts x at)) (sym d.0) ∙ subst (λ m. value_at m w ≡ Some i) h.1 v) in
           omega (arith, same)
@@ -93,7 +63,7 @@ module _ (word : ℕ → Option Name) (at : ℕ) (firsts after : List (Name × �
           let b = f.before w i (sym (put_else firsts x w at d.0) ∙ subst (λ m. value_at m w ≡ Some i) h.1 v) in
           omega (arith, b)
     ];
-    has = λ w i v. elim (tested w x) [
+    has = λ w i v. elim (name_tested w x) [
       | inl d ↦
           let same = same_Some at i (sym (put_is firsts x at) ∙ ap (value_at (put_entry firsts x at)) (sym d.0) ∙ subst (λ m. value_at m w ≡ Some i) h.1 v) in
           ap word (sym same) ∙ e ∙ ap Some (sym d.0)

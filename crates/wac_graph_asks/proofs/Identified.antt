@@ -20,6 +20,7 @@ use Rattle.wac_types_base.specs.Collection.{Stands, IsAcyclic, depth, rows, item
 use Rattle.wac_types_base.specs.Stated.{kind_of, stated_in, stated_of, identifier_of}
 use Rattle.wac_types_base.proofs.Slots.{entry_at-is}
 use Rattle.wac_types_base.proofs.Telling.{item_kind, kind_stated, stated_step}
+use Rattle.wac_types_base.proofs.Lists.{not_some}
 use Rattle.wac_types_names.specs.Tracks.{read_version}
 use Rattle.wac_composition.specs.Names.{version_test, is_interface_name}
 use Rattle.wac_composition.specs.Classes.{is_instance}
@@ -45,18 +46,14 @@ interface_named n =
       ],
     )
 
--- ---- what does not stand states nothing
-
-nothing : {A : Type 0} (o : Option A) → (IsSome o → ⊥) → o ≡ None
-nothing None h = refl
-nothing (Some x) h = absurd (h refl)
+-- ---- what does not stand states not_some
 
 no_unfolding : (c : Collection) (k : ItemKind) → (Stands c k → ⊥) → unfolding_of c k ≡ None
 unfolding unfolding_of whole
 no_unfolding c k h =
     let g = item_node c in
     let e : depth c ≡ suc (length (rows c) + 1) = omega arith in
-    ap (λ n. whole g n k) e ∙ ap (λ o. grow o (whole g (length (rows c) + 1))) (nothing (g k) h)
+    ap (λ n. whole g n k) e ∙ ap (λ o. grow o (whole g (length (rows c) + 1))) (not_some (g k) h)
 
 stated_nothing : (c : Collection) (k : ItemKind) → (Stands c k → ⊥) → stated_of c k ≡ node alias no_more
 stated_nothing c k h = ap stated_in (no_unfolding c k h)
@@ -88,7 +85,7 @@ asked_instance c a id b = elim (stands_or_not c (ItemKind.Instance id)) [
     go true o e = sym e
     go false o e = refl
 
--- of nothing else one is asked
+-- of not_some else one is asked
 abbrev pub IsNoInstance : ItemKind → Type 0
 IsNoInstance (ItemKind.Instance id) = ⊥
 IsNoInstance k = Unit {0}

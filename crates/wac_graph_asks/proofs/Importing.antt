@@ -12,8 +12,10 @@ use Rattle.wac_types_base.specs.Collection.{Grows}
 use Rattle.wac_types_base.specs.Stated.{stated_of}
 use Rattle.wac_types_base.proofs.Adding.{Grows-trans}
 use Rattle.wac_types_base.proofs.Looked.{put_entry-new}
+use Rattle.wac_types_base.proofs.Lists.{among_split}
+use Rattle.wac_types_base.proofs.Stating.{stated_kept}
 use Rattle.wac_graph_core.proofs.Found.{eq_same, eq_false}
-use Rattle.wac_graph_scopes.proofs.OrderLaws.{among-either, distinct-append, distinct-apart}
+use Rattle.wac_graph_scopes.proofs.OrderLaws.{distinct-append, distinct-apart}
 use Rattle.wac_composition.specs.Asks.{Ask}
 use Rattle.wac_composition.specs.Classes.{spelled}
 use Rattle.wac_composition.specs.Merging.{identified}
@@ -32,7 +34,6 @@ use Rattle.wac_graph_asks.specs.AsksIn.{ask_in, asks_in}
 use Rattle.wac_graph_asks.specs.Named.{SpellsClass}
 use Rattle.wac_graph_asks.specs.Takes.{IsTakenOf, AreTaken}
 use Rattle.wac_graph_asks.specs.Imported.{IsImport, AreImports, AddsImport, AreClassed, AddsImports}
-use Rattle.wac_graph_asks.proofs.Asking.{kept}
 
 -- ---- labels, each once
 
@@ -88,7 +89,7 @@ module _ (asks : List (Ask ℕ)) (labels : List ℕ) where
   import_stays : (d e : Collection) → Grows d e → (as_ : List (Ask ℕ)) (x : Name × ItemKind) → IsImport d as_ x → IsImport e as_ x
   import_stays d e g as_ x h = record {
     stands = g.stand x.1 h.stands;
-    outer = h.outer ∙ ap (λ s. Some (x.0, s)) (sym (kept d e g x.1 h.stands));
+    outer = h.outer ∙ ap (λ s. Some (x.0, s)) (sym (stated_kept d e g x.1 h.stands));
   }
 
   pub imports_stay : (d e : Collection) → Grows d e → (each : List ℕ) (imports : List (Name × ItemKind)) → AreImports d asks labels each imports → AreImports e asks labels each imports
@@ -124,7 +125,7 @@ module _ (asks : List (Ask ℕ)) (labels : List ℕ) where
       outers = h.outers ++ (l, x) ∷ [];
       of_labels = map-append (λ (e : ℕ × (Name × ItemKind)). e.0) h.outers ((l, x) ∷ []) ∙ ap (λ ls. ls ++ l ∷ []) h.of_labels;
       are = map-append (λ (e : ℕ × (Name × ItemKind)). e.1) h.outers ((l, x) ∷ []) ∙ ap (λ es. es ++ x ∷ []) h.are;
-      each_is = λ k e m. elim (among-either (k, e) h.outers ((l, x) ∷ []) m) [
+      each_is = λ k e m. elim (among_split (k, e) h.outers ((l, x) ∷ []) m) [
         | inl o ↦ h.each_is k e o
         | inr (inl s) ↦ subst (λ (y : ℕ × (Name × ItemKind)). IsImport d (labelled y.0 asks labels) y.1) (sym s) own
         | inr (inr n) ↦ absurd n

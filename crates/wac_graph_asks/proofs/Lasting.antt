@@ -9,7 +9,8 @@ use Rattle.wac_types_base.specs.Collection.{Stands, IsAcyclic, Grows}
 use Rattle.wac_types_base.specs.Stated.{Stated, stated_of, imports_of as stated_imports}
 use Rattle.wac_types_base.proofs.Loops.{map-get, names-with_values}
 use Rattle.wac_types_base.proofs.Standing.{world_found}
-use Rattle.wac_types_base.proofs.Stating.{imports_stated}
+use Rattle.wac_types_base.proofs.Stating.{imports_stated, stated_kept}
+use Rattle.wac_types_base.proofs.Lists.{from_place}
 use Rattle.wac_types_written.specs.Forms.{stated_items}
 use Rattle.wac_graph_scopes.specs.Parts.{imports_of}
 use Rattle.wac_graph_scopes.specs.declared.imports.Called.{Called}
@@ -17,8 +18,6 @@ use Rattle.wac_graph_scopes.proofs.PartLaws.{imports_there}
 use Rattle.wac_composition.specs.Asks.{Ask}
 use Rattle.wac_composition.specs.Classes.{spelling}
 use Rattle.wac_graph_asks.specs.Outers.{IsCalled, AreOuters}
-use Rattle.wac_graph_asks.proofs.Asking.{kept}
-use Rattle.wac_graph_asks.proofs.Answering.{there_mapped}
 
 -- what the imports of a world state is what the world states of them
 world_imports : (c : Collection) → IsAcyclic c → (w : WorldId) → Stands c (ItemKind.Component w) → stated_items c (imports_of c w) ≡ stated_imports (stated_of c (ItemKind.Component w))
@@ -31,7 +30,7 @@ module _ (asks : List (Ask ℕ)) (c d : Collection) (acyclic : IsAcyclic c) (g :
   stands = g.stand (ItemKind.Component world) h.stands
 
   same : stated_items d (imports_of d world) ≡ stated_items c (imports_of c world)
-  same = world_imports d g.acyclic world stands ∙ ap stated_imports (kept c d g (ItemKind.Component world) h.stands) ∙ sym (world_imports c acyclic world h.stands)
+  same = world_imports d g.acyclic world stands ∙ ap stated_imports (stated_kept c d g (ItemKind.Component world) h.stands) ∙ sym (world_imports c acyclic world h.stands)
 
   same_names : names_of (imports_of d world) ≡ names_of (imports_of c world)
   same_names = sym (names-with_values (stated_of d) (imports_of d world)) ∙ ap names_of same ∙ names-with_values (stated_of c) (imports_of c world)
@@ -39,7 +38,7 @@ module _ (asks : List (Ask ℕ)) (c d : Collection) (acyclic : IsAcyclic c) (g :
   still_called : (one : Called) → IsCalled asks c world one → IsCalled asks d world one
   still_called one k =
       let at = ap (λ es. slice_get es one.at) same ∙ map-get (λ (x : Name × ItemKind). (x.0, stated_of c x.1)) (imports_of c world) one.at (spelling asks one.name, k.0) k.1 in
-      let x = there_mapped (λ (x : Name × ItemKind). (x.0, stated_of d x.1)) (imports_of d world) one.at (spelling asks one.name, stated_of c k.0) at in
+      let x = from_place (λ (x : Name × ItemKind). (x.0, stated_of d x.1)) (imports_of d world) one.at (spelling asks one.name, stated_of c k.0) at in
       (x.0.1, x.1 ∙ ap (λ (p : Name × Stated). Some (p.0, x.0.1)) x.2)
 
   pub outers_stay : AreOuters asks d world called

@@ -2,7 +2,7 @@
 use Rattle.std.proofs.Common.{◌≡◌, ℕ, ◌+◌, ◌<◌, true, List, [], ◌∷◌, ◌++◌, map, Option, Some, None, inl, inr, refl, sym, ap, subst, ◌∙◌, arith, length, length-append, slice_get}
 use Rattle.std.proofs.lemmas.List.{length-map}
 use Rattle.std.specs.Prelude.{◌⊎◌, option_map}
-use Rattle.std.proofs.lemmas.Option.{none-some, same_Some, slice_get-map, slice_get_within, slice_get-get_or, slice_get_cases}
+use Rattle.std.proofs.lemmas.Option.{none-some, same_Some, slice_get-map, slice_get_within, slice_get-get_or}
 use Rattle.std.proofs.lemmas.Slice.Eq.{bytes_eq-Decides}
 use Rattle.semver.specs.Parse.{Parts}
 use Rattle.wac_names.proofs.NameKinds.{or_parts, or_left}
@@ -11,6 +11,7 @@ use Rattle.wac_types_base.specs.Entries.{Name}
 use Rattle.wac_types_base.specs.Graph.{Among}
 use Rattle.wac_types_base.proofs.Looked.{among-get}
 use Rattle.wac_types_base.proofs.Walking.{slice_get-Among}
+use Rattle.wac_types_base.proofs.Lists.{there_is}
 use Rattle.wac_types_names.specs.Tracks.{lookup_key, AreCompatible}
 use Rattle.wac_composition.specs.Asks.{Ask}
 use Rattle.wac_composition.specs.Classes.{same_text, identifier_asked, joined, Linked, itself, joined_to}
@@ -26,9 +27,6 @@ use Rattle.wac_graph_asks.proofs.Roots.{meets_back, meets_through, leads_before,
 use Rattle.wac_graph_asks.proofs.Firsts.{AreFirsts, no_firsts, joins_keep, firsts_after, firsts_sound, firsts_kept, words_together, joins_as_many, none_together, together_next, next_together}
 
 -- ---- places in lists
-
-pub get_at : {X : Type 0} (xs : List X) (i : ℕ) → i < length xs → (x : X) × (slice_get xs i ≡ Some x)
-get_at xs i l = elim (slice_get_cases xs i).1 [ inl h ↦ (h.0, h.2) | inr h ↦ absurd (omega (arith, l, h.0)) ]
 
 -- ---- asks are joined where they share a word
 
@@ -89,7 +87,7 @@ module _ {A : Type 0} (asks : List (Ask A)) (ws : List Words) (are : ws ≡ map 
   LinkedAt i j = (a b : Ask A) → slice_get asks i ≡ Some a → slice_get asks j ≡ Some b → Linked asks a b
 
   ask_at : (i : ℕ) → i < length ws → (a : Ask A) × (slice_get asks i ≡ Some a)
-  ask_at i l = get_at asks i (subst (λ (n : ℕ). i < n) (ap length are ∙ length-map asks words_of) l)
+  ask_at i l = there_is asks i (subst (λ (n : ℕ). i < n) (ap length are ∙ length-map asks words_of) l)
 
   linked_through : (i j k : ℕ) → j < length ws → LinkedAt i j → LinkedAt j k → LinkedAt i k
   linked_through i j k l h g a c e d = let b = ask_at j l in links_go_on asks a b.0 c (h a b.0 e b.1) (g b.0 c b.1 d)
@@ -225,7 +223,7 @@ labels_settled asks old new j s = record { as_many = s.as_many ∙ j.as_many; ea
         let top = label_at new i in
         let led = s.each i within in
         let below = leads_before (label_at old) i top led in
-        let b = get_at asks top (omega (arith, l, below)) in
+        let b = there_is asks top (omega (arith, l, below)) in
         let stays : LeadsTo (label_at old) top top = there (leads_end (label_at old) i top led) in (
           top,
           slice_get-get_or new i i in_new,

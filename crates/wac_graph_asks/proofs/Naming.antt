@@ -16,15 +16,14 @@ use Rattle.wac_types_base.proofs.Adding.{Among-left}
 use Rattle.wac_types_base.proofs.Looked.{among-get}
 use Rattle.wac_types_base.proofs.Replacing.{same_number}
 use Rattle.wac_types_base.proofs.Walking.{slice_get-Among}
-use Rattle.wac_graph_core.proofs.Found.{eq_same, Among-end}
+use Rattle.wac_types_base.proofs.Lists.{among_split, there_is, last_among}
+use Rattle.wac_graph_core.proofs.Found.{eq_same}
 use Rattle.wac_graph_scopes.specs.declared.imports.Called.{Called}
-use Rattle.wac_graph_scopes.proofs.OrderLaws.{among-either}
 use Rattle.wac_composition.proofs.Closures.{any_among}
 use Rattle.wac_merging.specs.Labelled.{with_label, each_label}
 use Rattle.wac_graph_asks.specs.declared.asks.Ask.{Ask as HeldAsk}
 use Rattle.wac_graph_asks.specs.Joining.{label_at}
 use Rattle.wac_graph_asks.specs.Imported.{NamesAsk, AddsName, AddsNames}
-use Rattle.wac_graph_asks.proofs.TakingAll.{there_is}
 
 -- ---- each label is among the labels
 
@@ -40,7 +39,7 @@ own_with ls l = go (list_any (λ x. x == l) ls) refl
   where
     go : (b : Bool) → list_any (λ x. x == l) ls ≡ b → Among l (if b then ls else ls ++ l ∷ [])
     go true e = let a = any_among (λ x. x == l) ls e in subst (λ m. Among m ls) (same_number a.0 l a.2) a.1
-    go false e = Among-end ls l
+    go false e = last_among ls l
 
 among_each : (ls ms : List ℕ) (l : ℕ) → Among l ls ⊎ Among l ms → Among l (fold with_label ls ms)
 among_each ls [] l (inl k) = k
@@ -105,7 +104,7 @@ module _ (held : List HeldAsk) (labels : List ℕ) where
       h = so_far many are
 
       each : (one : Called) → Among one new → NamesAsk held labels one
-      each one m = elim (among-either one old (record { name = ask.name; at = added.0 } ∷ []) (subst (Among one) added.2 m)) [
+      each one m = elim (among_split one old (record { name = ask.name; at = added.0 } ∷ []) (subst (Among one) added.2 m)) [
         | inl k ↦ h.each one k
         | inr (inl s) ↦ subst (NamesAsk held labels) (sym s) (record { place = at; ask = ask; label = l; there = there; named = refl; of_label = label; at = ap (λ ks. slice_get ks added.0) (sym are) ∙ added.1 })
         | inr (inr k) ↦ absurd k
@@ -120,7 +119,7 @@ module _ (held : List HeldAsk) (labels : List ℕ) where
         | inr l ↦
             let same : i ≡ at = omega (arith, lt, l) in
             let own : ask ≡ a = same_Some _ _ (sym there ∙ ap (slice_get held) (sym same) ∙ e) in
-            subst (λ (x : HeldAsk). Among x.name (map (λ (x : Called). x.name) old ++ ask.name ∷ [])) own (Among-end (map (λ (x : Called). x.name) old) ask.name)
+            subst (λ (x : HeldAsk). Among x.name (map (λ (x : Called). x.name) old ++ ask.name ∷ [])) own (last_among (map (λ (x : Called). x.name) old) ask.name)
       ])
 
   pub called_all : (keys : List ℕ) (at : ℕ) (called : List Called) → length held ≤ at → CalledSoFar keys at called → AddsNames held labels keys called

@@ -4,6 +4,7 @@ use Rattle.std.specs.Map.{lookup, keys_of}
 use Rattle.std.specs.Prelude.{option_map, option_to_list}
 use Rattle.std.proofs.Common.{rules, ◌≡◌, ◌↔◌, IsTrue, ◌||◌, ℕ, Bool, true, false, true≢false, cond, List, [], ◌∷◌, ◌++◌, Option, Some, None, refl, sym, ap, subst, ◌∙◌, inl, inr}
 use Rattle.std.proofs.lemmas.Option.{none-some, same_Some}
+use Rattle.wac_types_fit.proofs.ItemKinds.{not_component}
 use Rattle.wac_types_base.specs.declared.ids.WorldId.{WorldId}
 use Rattle.wac_types_base.specs.declared.item.ItemKind.{ItemKind}
 use Rattle.wac_types_base.specs.declared.item.«Type».{«Type» as TypeKind}
@@ -12,7 +13,7 @@ use Rattle.wac_types_base.specs.Entries.{Name}
 use Rattle.wac_types_base.specs.Graph.{Among}
 use Rattle.wac_types_base.specs.Collection.{Stands, IsAcyclic, Grows}
 use Rattle.wac_types_base.specs.Copying.{IsCopy}
-use Rattle.wac_types_base.specs.Stated.{IsComponent, stated_in, stated_of, kind_of}
+use Rattle.wac_types_base.specs.Stated.{stated_in, stated_of, kind_of}
 use Rattle.wac_types_base.proofs.Telling.{item_kind, kind_stated}
 use Rattle.wac_types_names.specs.Packaged.{Packaged}
 use Rattle.wac_graph_core.specs.declared.ids.PackageId.{PackageId}
@@ -64,22 +65,9 @@ lookup_missing (x ∷ es) id e = go (eq-value.it id x.0) e (lookup_missing es id
 
 -- ---- a copy of a world is a world
 
-not_world : (k : ItemKind) → ((w : WorldId) → k ≡ ItemKind.Component w → ⊥) → item_kind k ≡ IsComponent → ⊥
-not_world (ItemKind.Component w) h e = h w refl
-not_world (ItemKind.Ty (TypeKind.Resource r)) h e = absurd (cc e)
-not_world (ItemKind.Ty (TypeKind.Func r)) h e = absurd (cc e)
-not_world (ItemKind.Ty (TypeKind.Value r)) h e = absurd (cc e)
-not_world (ItemKind.Ty (TypeKind.Interface r)) h e = absurd (cc e)
-not_world (ItemKind.Ty (TypeKind.World r)) h e = absurd (cc e)
-not_world (ItemKind.Ty (TypeKind.Module r)) h e = absurd (cc e)
-not_world (ItemKind.Func r) h e = absurd (cc e)
-not_world (ItemKind.Instance r) h e = absurd (cc e)
-not_world (ItemKind.Module r) h e = absurd (cc e)
-not_world (ItemKind.Value r) h e = absurd (cc e)
-
 pub world_copied : (c d : Collection) → IsAcyclic c → IsAcyclic d → (w : WorldId) (k : ItemKind) → Stands c (ItemKind.Component w) → IsCopy c d (ItemKind.Component w) k → ((x : WorldId) → k ≡ ItemKind.Component x → ⊥) → ⊥
 world_copied c d a b w k stands copy h =
-    not_world k h (sym (kind_stated d b k copy.stands) ∙ ap (λ o. kind_of (stated_in o)) copy.same ∙ kind_stated c a (ItemKind.Component w) stands)
+    not_component k h (sym (kind_stated d b k copy.stands) ∙ ap (λ o. kind_of (stated_in o)) copy.same ∙ kind_stated c a (ItemKind.Component w) stands)
 
 module _ (g : Graph) where
   -- ---- an import

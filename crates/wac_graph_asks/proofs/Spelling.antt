@@ -15,6 +15,7 @@ use Rattle.semver.specs.Parse.{Parts}
 use Rattle.wac_types_base.specs.Entries.{Name}
 use Rattle.wac_types_base.specs.Graph.{Among}
 use Rattle.wac_types_base.proofs.Looked.{among-get}
+use Rattle.wac_types_base.proofs.Lists.{there_is}
 use Rattle.wac_types_names.specs.Tracks.{lookup_key, IsLater}
 use Rattle.wac_types_names.specs.Versions.{version_cmp}
 use Rattle.wac_composition.specs.Asks.{Ask}
@@ -29,7 +30,6 @@ use Rattle.wac_composition.proofs.NamesBack.{later_on_track}
 use Rattle.wac_graph_asks.specs.Words.{Words, words_of, is_later_on, track_of, respelled}
 use Rattle.wac_graph_asks.specs.Joining.{label_at}
 use Rattle.wac_graph_asks.specs.Classed.{IsFirstLinked, AreLabels, IsSpelledAt, AreSpellings}
-use Rattle.wac_graph_asks.proofs.Linking.{get_at}
 
 -- ---- a later name, by the tracks
 
@@ -205,7 +205,7 @@ module _ {A : Type 0} (asks : List (Ask A)) (a : Ask A) (there : Among a asks) w
 
     no_earlier : (k : ℕ) → k < first → label_at labels k ≢ first
     no_earlier k l e =
-        let c = get_at asks k (omega (arith, l, slice_get_within asks first a at)) in
+        let c = there_is asks k (omega (arith, l, slice_get_within asks first a at)) in
         let h = are.each k c.0 c.1 in
         let same : h.0 ≡ first = sym (kept_label k h.0 h.1) ∙ e in
         h.2.none_before k c.0 (omega (arith, l, same)) c.1 itself
@@ -288,7 +288,7 @@ module _ {A : Type 0} (asks : List (Ask A)) (a : Ask A) (there : Among a asks) w
       spelled_so_far : (n : ℕ) → n ≤ length asks → Spells (leader ws labels first n) (so_far n)
       unfolding so_far
       spelled_so_far zero l = record { ask = a; stands = at; linked = itself; is = refl }
-      spelled_so_far (suc n) l = let c = get_at asks n (omega (arith, l)) in next_spells n (spelled_so_far n (omega (arith, l))) c.0 c.1
+      spelled_so_far (suc n) l = let c = there_is asks n (omega (arith, l)) in next_spells n (spelled_so_far n (omega (arith, l))) c.0 c.1
 
       so_far_all : so_far (length asks) ≡ spelled (class asks a)
       unfolding so_far

@@ -13,6 +13,8 @@ use Rattle.wac_types_base.proofs.Adding.{Grows-refl, Grows-trans}
 use Rattle.wac_types_base.proofs.Looked.{among-get, take-one_more}
 use Rattle.wac_types_base.proofs.Loops.{map-get, take-all}
 use Rattle.wac_types_base.proofs.Replacing.{same_number}
+use Rattle.wac_types_base.proofs.Lists.{there_is}
+use Rattle.wac_types_base.proofs.Stating.{stated_kept}
 use Rattle.wac_graph_core.proofs.Found.{eq_same, eq_false}
 use Rattle.wac_composition.specs.Asks.{Ask}
 use Rattle.wac_composition.specs.Merging.{kept as kept_of}
@@ -31,7 +33,6 @@ use Rattle.wac_graph_asks.specs.declared.taken.Taken.{Taken}
 use Rattle.wac_graph_asks.specs.AsksIn.{asking_of, ask_in, asks_in}
 use Rattle.wac_graph_asks.specs.Joining.{label_at}
 use Rattle.wac_graph_asks.specs.Takes.{pair_in, TakesFirst, TakesMore, TakesOne, Takes, IsTakenOf, AreTaken, AreSound, TakesAll, conflict_by, conflict_of, RefusesOne, RefusesAt, RefusesAsk, RefusesAll}
-use Rattle.wac_graph_asks.proofs.Asking.{kept}
 use Rattle.wac_graph_asks.proofs.TakingMore.{own_entry, other_entry, keys_with}
 
 -- a list around one of its places
@@ -40,17 +41,12 @@ split_there [] i x e = absurd (none-some x e)
 split_there (y ∷ xs) zero x e = ap (λ z. z ∷ xs) (same_Some y x e)
 split_there (y ∷ xs) (suc i) x e = ap (λ zs. y ∷ zs) (split_there xs i x e)
 
-pub there_is : {X : Type 0} (xs : List X) (i : ℕ) → i < length xs → (x : X) × (slice_get xs i ≡ Some x)
-there_is [] i lt = absurd (omega arith)
-there_is (x ∷ xs) zero lt = (x, refl)
-there_is (x ∷ xs) (suc i) lt = there_is xs i (omega arith)
-
 module _ (c : Collection) (acyclic : IsAcyclic c) (held : List HeldAsk) (sound : AreSound c held) where
   held_stands : (at : ℕ) (x : HeldAsk) → slice_get held at ≡ Some x → Stands c x.item
   held_stands at x there = sound.stand x (among-get held at x there)
 
   ask_kept : (d e : Collection) → Grows c d → Grows d e → (at : ℕ) (x : HeldAsk) → slice_get held at ≡ Some x → ask_in e x ≡ ask_in d x
-  ask_kept d e g h at x there = ap (λ s. record { asking = asking_of x.asking; by = x.by; name = x.name; item = s }) (kept d e h x.item (g.stand x.item (held_stands at x there)))
+  ask_kept d e g h at x there = ap (λ s. record { asking = asking_of x.asking; by = x.by; name = x.name; item = s }) (stated_kept d e h x.item (g.stand x.item (held_stands at x there)))
 
   stays : (d e : Collection) → Grows c d → Grows d e → (asks : List (Ask ℕ)) (one : Taken) → IsTakenOf d held asks one → IsTakenOf e held asks one
   stays d e g h asks one t = record {
@@ -65,12 +61,12 @@ module _ (c : Collection) (acyclic : IsAcyclic c) (held : List HeldAsk) (sound :
   first_among d asks one t = subst (λ (xs : List (Ask ℕ)). Among (pair_in d t.first) (asked_in xs)) (sym t.begins) (inl refl)
 
   well_in : (d : Collection) → Grows c d → (at : ℕ) (x : HeldAsk) → slice_get held at ≡ Some x → IsWell (stated_of d x.item)
-  well_in d g at x there = subst IsWell (sym (kept c d g x.item (held_stands at x there))) (stated_are_well c x.item acyclic sound.differ (held_stands at x there))
+  well_in d g at x there = subst IsWell (sym (stated_kept c d g x.item (held_stands at x there))) (stated_are_well c x.item acyclic sound.differ (held_stands at x there))
 
   -- the asks of the ask's label, and it behind them
   asked_with : (d : Collection) → Grows c d → (at : ℕ) (x : HeldAsk) → slice_get held at ≡ Some x → (asks : List (Ask ℕ)) → asked_in (asks ++ ask_in c x ∷ []) ≡ asked_in asks ++ pair_in d x ∷ []
   asked_with d g at x there asks =
-      map-append (λ (a : Ask ℕ). (a.name, a.item)) asks (ask_in c x ∷ []) ∙ ap (λ s. asked_in asks ++ (x.name, s) ∷ []) (sym (kept c d g x.item (held_stands at x there)))
+      map-append (λ (a : Ask ℕ). (a.name, a.item)) asks (ask_in c x ∷ []) ∙ ap (λ s. asked_in asks ++ (x.name, s) ∷ []) (sym (stated_kept c d g x.item (held_stands at x there)))
 
   own_labelled : (xs : List (Ask ℕ)) (ls : List ℕ) → length ls ≡ length xs → (l : ℕ) (a : Ask ℕ) → labelled l (xs ++ a ∷ []) (ls ++ l ∷ []) ≡ labelled l xs ls ++ a ∷ []
   own_labelled xs ls many l a = one_more_labelled xs ls a l l many ∙ ap (λ b. if b then labelled l xs ls ++ a ∷ [] else labelled l xs ls) (eq_same l)

@@ -16,6 +16,7 @@ use Rattle.wac_graph_bytes.specs.Wirings.{Source, Absent, Outer, Inst, Projectio
 use Rattle.wac_graph_bytes.specs.Typing.{◌>>=◌, Meaning, Item, Made, Part, Known, Code, Scope, space, with_one, with_core, found, found_at, Worlds, item_of, item_tree, part_of, export_named, item_of_sort, described, module_tree, type_of, alias_sort, alias_of, same_name}
 use Rattle.wac_graph_bytes.specs.Meaning.{source_of, tag_of, arguments_of, Listed, makes, adds, imports_one, exports_one, states, State, start, step, steps, source_at, instantiation, Means}
 use Rattle.wac_names.proofs.Parts.{some_of}
+use Rattle.wac_names.proofs.NameForms.{all_weaker}
 use Rattle.wac_graph_bytes.proofs.Steps.{bind_some, some_is, states_keeps, core_kept}
 use Rattle.wac_types_base.proofs.Walking.{some_place}
 use Rattle.wac_types_base.proofs.GraphLemmas.{is_there}
@@ -299,10 +300,6 @@ named_plain (Inst k) p = tt
 named_plain (Projection s n) p = p
 named_plain (Bundle f) p = p
 named_plain (Definition t) p = tt
-
-all_weaker : {X : Type 0} {P Q : X → Type 0} → ((x : X) → P x → Q x) → (xs : List X) → AllByRecursion P xs → AllByRecursion Q xs
-all_weaker h [] a = tt
-all_weaker h (x ∷ xs) a = (h x a.0, all_weaker h xs a.1)
 
 module _ (w : Worlds) (bytes : List ℕ) (v : Wiring ℕ) (m : Means w bytes v) where
   abbrev l : Listed

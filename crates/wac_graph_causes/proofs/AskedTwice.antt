@@ -1,7 +1,7 @@
 -- The first ask of an instance under the name of an import, in a graph's composition.
-use Rattle.std.specs.Prelude.{◌⊎◌, bytes_eq, filter_map, find, is_some, map, not, filter}
+use Rattle.std.specs.Prelude.{◌⊎◌, bytes_eq, find, is_some, map, not, filter}
 use Rattle.std.specs.Bool.{one_answer}
-use Rattle.std.specs.List.{cons_option, flat_map}
+use Rattle.std.specs.List.{flat_map}
 use Rattle.std.specs.Cmp.Lexicographic.{bytes_decides}
 use Rattle.std.proofs.Common.{◌≡◌, ℕ, Bool, true, false, cond, List, [], ◌∷◌, ◌++◌, Option, Some, None, option_map, IsSome, refl, sym, ap, subst, ◌∙◌, inl, inr}
 use Rattle.std.proofs.lemmas.Bool.Decides.{Decides-like}
@@ -12,13 +12,14 @@ use Rattle.wac_types_base.specs.Entries.{Name, value_at}
 use Rattle.wac_types_base.specs.Graph.{Among}
 use Rattle.wac_types_base.specs.Record.{Collection}
 use Rattle.wac_types_base.specs.Stated.{Stated, imports_of}
+use Rattle.wac_types_base.proofs.Lists.{among_mapped, among_split, from_filtered}
 use Rattle.wac_types_names.specs.Packaged.{Packaged}
 use Rattle.wac_graph_core.specs.Nodes.{NodeData}
 use Rattle.wac_graph_core.specs.Graph.{Graph, package_if, package_made, instantiated}
 use Rattle.wac_composition.specs.Composition.{Placed, Made}
 use Rattle.wac_composition.specs.Asks.{Asking, ByName, ToFill, ToUse, Ask, explicit_ask, filled_asks, named_asks, asks_to_use}
 use Rattle.wac_composition.specs.Conflicts.{or_else, first_found, implicit_with, implicit_by, implicit_conflict}
-use Rattle.wac_composition.proofs.Lists.{among_split, among_flat, mapped_among, among_mapped}
+use Rattle.wac_composition.proofs.Lists.{among_flat, mapped_among}
 use Rattle.wac_graph_asks.specs.declared.asks.Asking.{Asking as HeldAsking}
 use Rattle.wac_graph_asks.specs.declared.asks.Ask.{Ask as HeldAsk}
 use Rattle.wac_graph_asks.specs.declared.asks.Asked.{Asked}
@@ -142,15 +143,6 @@ clash_is_cause g a named h first =
     ∙ sym (conflict_without c.imports (named_asks c) (asks_to_use c) (all_to_use c))
 
 -- ---- what asks for an instance is one
-
-pub from_filtered : {X Y : Type 0} (p : X → Option Y) (xs : List X) (y : Y) → Among y (filter_map p xs) → (x : X) × Among x xs × (p x ≡ Some y)
-from_filtered p [] y m = absurd m
-from_filtered {X} {Y} p (x ∷ xs) y m = go (p x) refl m (from_filtered p xs y)
-  where
-    go : (o : Option Y) → p x ≡ o → Among y (cons_option o (filter_map p xs)) → (Among y (filter_map p xs) → (z : X) × Among z xs × (p z ≡ Some y)) → (z : X) × Among z (x ∷ xs) × (p z ≡ Some y)
-    go None e m rest = let r = rest m in (r.0, inr r.1, r.2)
-    go (Some z) e (inl s) rest = (x, inl refl, e ∙ ap Some (sym s))
-    go (Some z) e (inr m) rest = let r = rest m in (r.0, inr r.1, r.2)
 
 made_some : (g : Graph) (k : ℕ) (o : Option Packaged) (m : Made ℕ ℕ) → made_with g k o ≡ Some m → (m.by ≡ k) × IsSome o
 made_some g k None m e = absurd (none-some _ e)

@@ -1,11 +1,12 @@
 -- Asks of instances under the names of imports, one after another.
 use Rattle.std.specs.Prelude.{string_bytes}
-use Rattle.std.proofs.Common.{◌≡◌, ℕ, zero, suc, ◌+◌, ◌≤◌, List, [], ◌∷◌, ◌++◌, take, drop, length, slice_get, Option, Some, None, refl, sym, ap, subst, ◌∙◌, arith}
+use Rattle.std.proofs.Common.{◌≡◌, ℕ, ◌+◌, ◌≤◌, List, [], ◌∷◌, ◌++◌, take, drop, length, slice_get, Option, Some, None, refl, sym, ap, subst, ◌∙◌}
 use Rattle.std.proofs.lemmas.Grind.{flat_map-append}
 use Rattle.std.proofs.lemmas.List.{append-nil}
 use Rattle.wac_types_base.specs.Entries.{Name}
 use Rattle.wac_types_base.proofs.Looked.{take-one_more}
 use Rattle.wac_types_base.proofs.Used.{drop_next}
+use Rattle.wac_types_base.proofs.Lists.{drop_all}
 use Rattle.wac_types_names.specs.Packaged.{Packaged}
 use Rattle.wac_graph_core.specs.declared.ids.PackageId.{PackageId}
 use Rattle.wac_graph_core.specs.Nodes.{NodeData}
@@ -60,12 +61,6 @@ tells_as g o p Refusal.Memory h t = tt
 
 -- ---- asks are checked
 
-pub left_none : {X : Type 0} (xs : List X) (i : ℕ) → length xs ≤ i → drop i xs ≡ []
-left_none [] zero l = refl
-left_none [] (suc i) l = refl
-left_none (x ∷ xs) zero l = absurd (omega arith)
-left_none (x ∷ xs) (suc i) l = left_none xs i (omega arith)
-
 module _ (imports : List (Name × ℕ)) (asks : List Ask) (i : ℕ) where
   abbrev pub ClashesLeft : Type 0
   ClashesLeft = first_clash imports (drop i asks) ≡ first_clash imports asks
@@ -78,4 +73,4 @@ module _ (imports : List (Name × ℕ)) (asks : List Ask) (i : ℕ) where
       tells_as g (clash imports a) (first_clash imports asks) e (λ c is. sym h ∙ ap (first_clash imports) (drop_next asks i a at) ∙ ap (λ o. or_else o (first_clash imports (drop (i + 1) asks))) is) t
 
   pub clash_nowhere : length asks ≤ i → ClashesLeft → first_clash imports asks ≡ None
-  clash_nowhere all h = sym h ∙ ap (first_clash imports) (left_none asks i all)
+  clash_nowhere all h = sym h ∙ ap (first_clash imports) (drop_all asks i all)

@@ -8,10 +8,10 @@ use Rattle.std.proofs.lemmas.Option.{none-some, same_Some, slice_get_within}
 use Rattle.wac_types_base.specs.Entries.{Name, value_at}
 use Rattle.wac_types_base.proofs.Looked.{take-one_more}
 use Rattle.wac_types_base.proofs.Used.{drop_next}
+use Rattle.wac_types_base.proofs.Lists.{drop_all}
 use Rattle.wac_composition.specs.Conflicts.{or_else, lower, alike, twins}
 use Rattle.wac_graph_causes.specs.Firsts.{AddsFirst, AreFirst}
 use Rattle.wac_graph_causes.specs.Alike.{likeness, places_from, AreTwinsAt}
-use Rattle.wac_graph_causes.proofs.Clashes.{left_none}
 use Rattle.wac_graph_causes.proofs.Firsts.{more_first}
 
 -- ---- what names share
@@ -127,7 +127,7 @@ module _ (v : Bool) (names : List Name) where
         }
 
   pub no_twins : (at : ℕ) (firsts : List (Name × ℕ)) → length names ≤ at → TwinsLeft at firsts → twins (alike v) [] names ≡ None
-  no_twins at firsts all h = sym h.left ∙ ap (twins (alike v) (take at names)) (left_none names at all)
+  no_twins at firsts all h = sym h.left ∙ ap (twins (alike v) (take at names)) (drop_all names at all)
 
 -- ---- copies of both
 

@@ -1,5 +1,5 @@
 -- What definitions reach has an index below a bound.
-use Rattle.std.proofs.Common.{◌≡◌, ◌<◌, ◌≤◌, ℕ, zero, suc, not, List, [], ◌∷◌, ◌++◌, drop, Some, length, slice_get, refl, sym, ap, subst, ◌∙◌, inr, arith, append-nil}
+use Rattle.std.proofs.Common.{◌≡◌, ◌<◌, ◌≤◌, ℕ, not, List, [], ◌∷◌, ◌++◌, drop, Some, length, slice_get, refl, sym, ap, subst, ◌∙◌, arith, append-nil}
 use Rattle.std.specs.Prelude.{Result, Ok, Err}
 use Rattle.std.specs.Result.{OnOk, OnErr, IfOk}
 use Rattle.std.specs.FinMap as map
@@ -23,6 +23,7 @@ use Rattle.wac_types_base.proofs.GraphLemmas.{value_of}
 use Rattle.wac_types_base.proofs.Slots.{stands_typed_interface, stands_typed_world}
 use Rattle.wac_types_base.proofs.Standing.{interface_found, world_found}
 use Rattle.wac_types_base.proofs.Walking.{child_smaller, slice_get-Among}
+use Rattle.wac_types_base.proofs.Lists.{among_drop}
 use Rattle.wac_types_names.specs.Packaged.{Packaged}
 use Rattle.wac_types_names.specs.Packages.{AddsInterfaceOf}
 use Rattle.wac_graph_core.specs.Nodes.{NodeData, Role}
@@ -34,12 +35,6 @@ use Rattle.wac_graph_core.proofs.Gathering.{none_in}
 use Rattle.wac_graph_core.proofs.GraphSteps.{no_node}
 use Rattle.wac_graph_core.proofs.NodeSteps.{each_node, stayed}
 use Rattle.wac_graph_core.proofs.Reached.{same_own, stands_within}
-
-among_drop : {X : Type 0} (n : ℕ) (xs : List X) (x : X) → Among x (drop n xs) → Among x xs
-among_drop zero [] x m = m
-among_drop (suc n) [] x m = m
-among_drop zero (y ∷ xs) x m = m
-among_drop (suc n) (y ∷ xs) x m = inr (among_drop n xs x m)
 
 -- ---- in a collection, and in a longer one
 

@@ -7,6 +7,7 @@ use Rattle.wac_types_base.specs.declared.item.«Type».{«Type» as TypeKind}
 use Rattle.wac_types_base.specs.Collection.{Stands}
 use Rattle.wac_types_base.specs.Entries.{Name, value_at}
 use Rattle.wac_types_base.specs.Graph.{Among}
+use Rattle.wac_types_base.proofs.Lists.{last_among}
 use Rattle.wac_graph_core.specs.declared.edge.Edge.{Edge}
 use Rattle.wac_graph_core.specs.declared.edge.Label.{Label}
 use Rattle.wac_graph_core.specs.declared.edge.Follow.{Follow}
@@ -17,7 +18,7 @@ use Rattle.wac_graph_core.specs.Graph.{Graph, node_at, NodeStands, EdgeStands, A
 use Rattle.wac_graph_core.specs.Defining.{UsesType, Depends, IsDependencyOf, DefinesType, MayDefine, IsUsedBy, IsUserOf, ItemsStand}
 use Rattle.wac_graph_core.proofs.Depending.{AddsEach}
 use Rattle.wac_graph_core.proofs.NodeMap.{get-insert_same}
-use Rattle.wac_graph_core.proofs.Found.{Among-front, Among-end}
+use Rattle.wac_graph_core.proofs.Found.{Among-front}
 use Rattle.wac_graph_core.proofs.NodeSteps.{kept_at, new_at, each_node, AreOnce-insert, IsAbove-fresh, some_there}
 use Rattle.wac_graph_core.proofs.EdgeSteps.{edge_from, edge_to, edge_label, IsAcyclic-by, AreKeyed-by}
 use Rattle.wac_graph_core.proofs.GraphSteps.{AreWired-by, same_places, same_stated}
@@ -61,7 +62,7 @@ module _ (g : Graph) (es : List Edge) (k : ℕ) (t : TypeKind) (name : Name) (fr
   told_new : (j : ℕ) (n : Name) → j ≡ k → Some name ≡ Some n → Among (n, j) (g.exports ++ (name, k) ∷ [])
   told_new j n here told =
       let same : name ≡ n = cc in
-      subst (λ n. Among (n, j) (g.exports ++ (name, k) ∷ [])) same (subst (λ j. Among (name, j) (g.exports ++ (name, k) ∷ [])) (sym here) (Among-end g.exports (name, k)))
+      subst (λ n. Among (n, j) (g.exports ++ (name, k) ∷ [])) same (subst (λ j. Among (name, j) (g.exports ++ (name, k) ∷ [])) (sym here) (last_among g.exports (name, k)))
 
   defined_exports : AreExports g.nodes g.exports → AreExports (map.insert g.nodes k (defined_node t name)) (g.exports ++ (name, k) ∷ [])
   defined_exports is =

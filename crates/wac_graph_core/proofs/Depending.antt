@@ -1,10 +1,11 @@
 -- Edges of dependencies that are added one after another.
 use Rattle.std.proofs.Common.{◌≡◌, ◌⊎◌, ℕ, ◌+◌, ◌<◌, ◌≤◌, true, List, [], ◌∷◌, ◌++◌, length, take, get_or, sym, ap, subst, ◌∙◌, inl, inr}
 use Rattle.wac_types_base.specs.Graph.{Among}
+use Rattle.wac_types_base.proofs.Lists.{last_among}
 use Rattle.std.proofs.lemmas.List.{take_more, take_all}
 use Rattle.wac_graph_core.specs.declared.edge.Edge.{Edge}
 use Rattle.wac_graph_core.specs.Edges.{has, AreEdges}
-use Rattle.wac_graph_core.proofs.Found.{Among-front, Among-end}
+use Rattle.wac_graph_core.proofs.Found.{Among-front}
 use Rattle.wac_graph_core.proofs.Walks.{has-push, has-kept, has_pushed}
 use Rattle.wac_types_fit.proofs.Items.{Among-last}
 
@@ -32,7 +33,7 @@ module _ (made : ℕ → Edge) where
   back old mid ks k e d so is (inl h) = Among-front mid e d ((so d).1 (inl h))
   back old mid ks k e d so is (inr r) = elim (has-push ks k r.0 r.1) [
     | inl there ↦ Among-front mid e d ((so d).1 (inr (r.0, there, r.2)))
-    | inr same ↦ subst (λ d. Among d (mid ++ e ∷ [])) (is ∙ ap made same ∙ sym r.2) (Among-end mid e)
+    | inr same ↦ subst (λ d. Among d (mid ++ e ∷ [])) (is ∙ ap made same ∙ sym r.2) (last_among mid e)
   ]
 
   pub one_more_made : (old mid new : List Edge) (ks : List ℕ) (k : ℕ) (e : Edge) → AddsEach old mid ks → e ≡ made k → new ≡ mid ++ e ∷ [] → AddsEach old new (ks ++ k ∷ [])

@@ -11,11 +11,12 @@ use Rattle.wac_types_base.specs.Entries.{Name, value_at, names_of, AreDistinct}
 use Rattle.wac_types_base.specs.Graph.{Among}
 use Rattle.wac_types_base.proofs.Adding.{All-among}
 use Rattle.wac_types_base.proofs.Copying.{Among-All}
+use Rattle.wac_types_base.proofs.Lists.{last_among}
 use Rattle.wac_graph_core.specs.Nodes.{NodeData}
 use Rattle.wac_graph_core.specs.Graph.{Graph, node_at, NodeStands, AreExports, IsGraph}
 use Rattle.wac_graph_core.specs.Exporting.{place_of}
 use Rattle.wac_graph_core.proofs.NodeMap.{get-insert_same}
-use Rattle.wac_graph_core.proofs.Found.{same_name, Among-front, Among-end}
+use Rattle.wac_graph_core.proofs.Found.{same_name, Among-front}
 use Rattle.wac_graph_core.proofs.NodeSteps.{new_at, each_node, AreOnce-below, IsBelow-written, IsAbove-written, some_there}
 use Rattle.wac_graph_core.proofs.GraphSteps.{AreWired-by, NodeStands-kept, same_places, same_stated}
 use Rattle.wac_types_fit.proofs.Items.{Among-last}
@@ -243,7 +244,7 @@ IsGraph-exported g k o name at none is =
     told_new : (j : ℕ) (x : NodeData) (n : Name) → j ≡ k → Some name ≡ Some n → Among (n, j) (g.exports ++ (name, k) ∷ [])
     told_new j x n here told =
         let same : name ≡ n = cc in
-        subst (λ n. Among (n, j) (g.exports ++ (name, k) ∷ [])) same (subst (λ j. Among (name, j) (g.exports ++ (name, k) ∷ [])) (sym here) (Among-end g.exports (name, k)))
+        subst (λ n. Among (n, j) (g.exports ++ (name, k) ∷ [])) same (subst (λ j. Among (name, j) (g.exports ++ (name, k) ∷ [])) (sym here) (last_among g.exports (name, k)))
 
 -- an export is taken away
 pub IsGraph-unexported : (g : Graph) (k : ℕ) (o : NodeData) (name : Name) (i : ℕ) → node_at g k ≡ Some o → slice_get g.exports i ≡ Some (name, k) → IsGraph g

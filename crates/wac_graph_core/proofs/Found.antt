@@ -13,6 +13,7 @@ use Rattle.wac_graph_core.specs.declared.edge.Label.{Label}
 use Rattle.wac_graph_core.specs.Edges.{alias_edge, argument_edge, HasAlias, HasArgument, AreEdges, has, Stays}
 use Rattle.wac_graph_core.specs.Walking.{is_alias, is_argument, first_alias, first_argument, first_source, source_by, is_passed, is_apart}
 use Rattle.wac_types_base.proofs.Replacing.{same_number}
+use Rattle.wac_types_base.proofs.Lists.{among_filtered, last_among}
 use Rattle.wac_types_fit.proofs.Items.{Among-last}
 
 pub eq_same : (a : ℕ) → (a == a) ≡ true
@@ -105,26 +106,13 @@ Among-front [] x y m = absurd m
 Among-front (z ∷ xs) x y (inl e) = inl e
 Among-front (z ∷ xs) x y (inr m) = inr (Among-front xs x y m)
 
-pub Among-end : {X : Type 0} (xs : List X) (x : X) → Among x (xs ++ x ∷ [])
-Among-end [] x = inl refl
-Among-end (z ∷ xs) x = inr (Among-end xs x)
-
 pub added : (old new : List Edge) (e : Edge) → new ≡ old ++ e ∷ [] → AreEdges new (λ d. Among d old ⊎ (d ≡ e))
 added old new e is =
     subst (λ es. AreEdges es (λ d. Among d old ⊎ (d ≡ e))) (sym is) (λ d. (Among-last old e d, back d))
   where
     back : (d : Edge) → Among d old ⊎ (d ≡ e) → Among d (old ++ e ∷ [])
     back d (inl m) = Among-front old e d m
-    back d (inr same) = subst (λ d. Among d (old ++ e ∷ [])) (sym same) (Among-end old e)
-
-filtered_at : {X : Type 0} (p : X → Bool) (b : Bool) (x d : X) (xs : List X) → p x ≡ b → (Among d (filter p xs) → Among d xs × (p d ≡ true)) → Among d (cond b (x ∷ filter p xs) (filter p xs)) → Among d (x ∷ xs) × (p d ≡ true)
-filtered_at p true x d xs is ih (inl s) = (inl s, ap p s ∙ is)
-filtered_at p true x d xs is ih (inr m) = (inr (ih m).0, (ih m).1)
-filtered_at p false x d xs is ih m = (inr (ih m).0, (ih m).1)
-
-pub filtered : {X : Type 0} (p : X → Bool) (xs : List X) (d : X) → Among d (filter p xs) → Among d xs × (p d ≡ true)
-filtered p [] d m = absurd m
-filtered p (x ∷ xs) d m = filtered_at p (p x) x d xs refl (filtered p xs d) m
+    back d (inr same) = subst (λ d. Among d (old ++ e ∷ [])) (sym same) (last_among old e)
 
 passes_at : {X : Type 0} (p : X → Bool) (b : Bool) (x d : X) (xs : List X) → p x ≡ b → (Among d xs → Among d (filter p xs)) → p d ≡ true → Among d (x ∷ xs) → Among d (cond b (x ∷ filter p xs) (filter p xs))
 passes_at p true x d xs is ih h (inl s) = inl s
@@ -139,7 +127,7 @@ passes p (x ∷ xs) d h m = passes_at p (p x) x d xs refl (passes p xs d h) h m
 pub dropped : (old new : List Edge) (p : Edge → Bool) (P : Edge → Type 0) → new ≡ filter p old → ((d : Edge) → p d ≡ true → P d) → ((d : Edge) → P d → p d ≡ true) → AreEdges new (λ d. Among d old × P d)
 dropped old new p P is sound complete =
     subst (λ es. AreEdges es (λ d. Among d old × P d)) (sym is)
-    (λ d. (λ m. ((filtered p old d m).0, sound d (filtered p old d m).1), λ m. passes p old d (complete d m.1) m.0))
+    (λ d. (λ m. ((among_filtered p old d m).0, sound d (among_filtered p old d m).1), λ m. passes p old d (complete d m.1) m.0))
 
 passed_here : (a i : ℕ) (n : Name) (d : Edge) → d ≡ argument_edge a i n → is_passed a i n d ≡ true
 passed_here a i n d same = ap (is_passed a i n) same ∙ both_true (eq_same a) (both_true (eq_same i) (same_name n))

@@ -9,15 +9,16 @@ use Rattle.wac_graph_core.specs.declared.edge.Follow.{Follow}
 use Rattle.wac_graph_core.specs.Edges.{alias_edge, argument_edge, HasAlias, HasArgument, has, follows, Reaches, at_start, along, IsReached}
 use Rattle.wac_graph_core.specs.Walking.{first_alias, first_argument, first_source, first_new, is_argument, PassesAs}
 use Rattle.wac_graph_core.specs.Spans.{LeadsAs}
-use Rattle.wac_graph_core.proofs.Found.{eq_same, filtered, passes, alias_found, no_alias, argument_found, no_argument, source_found, no_source}
+use Rattle.wac_graph_core.proofs.Found.{eq_same, passes, alias_found, no_alias, argument_found, no_argument, source_found, no_source}
 use Rattle.wac_graph_core.proofs.Passing.{first_other}
 use Rattle.wac_graph_core.proofs.Walks.{new_none, closed_at}
 use Rattle.wac_types_base.proofs.Replacing.{same_number}
+use Rattle.wac_types_base.proofs.Lists.{among_filtered}
 
 -- an edge with that end stands among the one and the other
 pub among_same : (end : Edge → ℕ) (k : ℕ) (xs ys : List Edge) → LeadsAs end k xs ys → (e : Edge) → end e ≡ k → Among e ys → Among e xs
 among_same end k xs ys same e is at =
-    (filtered (λ d. end d == k) xs e (subst (Among e) same (passes (λ d. end d == k) ys e (ap (λ n. n == k) is ∙ eq_same k) at))).0
+    (among_filtered (λ d. end d == k) xs e (subst (Among e) same (passes (λ d. end d == k) ys e (ap (λ n. n == k) is ∙ eq_same k) at))).0
 
 module _ (es fs : List Edge) where
   pub alias_led : (o : Option ℕ) (i : ℕ) (n : Name) → LeadsAs (λ e. e.from) i es fs → o ≡ first_alias fs i n → IfSome o (λ k. HasAlias es i n k)

@@ -1,14 +1,11 @@
 -- Names that are known to be there.
-use Rattle.std.proofs.Common.{◌≡◌, ◌==◌, ◌||◌, ℕ, Bool, true, false, not, List, [], ◌∷◌, ◌++◌, Option, Some, None, cond, refl, ap, ◌∙◌, inl, inr}
+use Rattle.std.proofs.Common.{◌≡◌, ◌==◌, ◌||◌, ℕ, Bool, true, false, List, [], ◌∷◌, ◌++◌, Option, Some, None, cond, refl, ap, ◌∙◌, inl, inr}
 use Rattle.std.specs.Cmp.Lexicographic.{pointwise}
 use Rattle.wac_types_base.specs.Entries.{Name, has_name, put_name, value_at}
+use Rattle.wac_types_base.proofs.Telling.{or_true}
 use Rattle.wac_types_fit.proofs.Items.{value_at-among, Among-last}
 use Rattle.wac_graph_core.specs.Named.{HasNames}
 use Rattle.wac_graph_core.proofs.Found.{same_name}
-
-or_true : (b : Bool) → (b || true) ≡ true
-or_true true = refl
-or_true false = refl
 
 last_there : (ns : List Name) (m : Name) → has_name (ns ++ m ∷ []) m ≡ true
 last_there [] m = ap (λ b. b || false) (same_name m)
@@ -39,10 +36,6 @@ named_one_more ns ms m xs k is known n j at =
           let name : n ≡ m = ap (λ x. x.0) same in
           ap (has_name (put_name ns m)) name ∙ put_there (has_name ns m) ns m refl
     ]
-
-pub not_true_false : (b : Bool) → not b ≡ true → b ≡ false
-not_true_false true h = absurd (cc (h))
-not_true_false false h = refl
 
 pub missing : (ns : List Name) (xs : List (Name × ℕ)) (n : Name) → HasNames (Some ns) xs → has_name ns n ≡ false → value_at xs n ≡ None
 missing ns xs n known away = by (value_at xs n) refl

@@ -5,6 +5,7 @@ use Rattle.std.proofs.lemmas.Bool.{cases_eq}
 use Rattle.std.specs.FinMap as map
 use Rattle.wac_types_base.specs.Entries.{Name, names_of, AreDistinct}
 use Rattle.wac_types_base.specs.Graph.{Among}
+use Rattle.wac_types_base.proofs.Lists.{among_filtered, not_true}
 use Rattle.wac_graph_core.specs.declared.edge.Edge.{Edge}
 use Rattle.wac_graph_core.specs.declared.edge.Follow.{Follow}
 use Rattle.wac_graph_core.specs.declared.ids.PackageId.{PackageId}
@@ -15,7 +16,7 @@ use Rattle.wac_graph_core.specs.Graph.{Graph, node_at, instantiated, package_if,
 use Rattle.wac_graph_core.specs.Removing.{IsClosed}
 use Rattle.wac_graph_core.proofs.NodeMap.{get-remove_same, get-remove_other, same_shown}
 use Rattle.wac_graph_core.proofs.Walks.{has_pushed}
-use Rattle.wac_graph_core.proofs.Found.{eq_false, filtered, passes}
+use Rattle.wac_graph_core.proofs.Found.{eq_false, passes}
 use Rattle.wac_graph_core.proofs.NodeSteps.{get-retained, staying, stays_at, stayed, IsBelow-staying, AreOnce-below}
 use Rattle.wac_graph_core.proofs.EdgeSteps.{IsAcyclic-by, AreKeyed-sub}
 
@@ -74,10 +75,6 @@ distinct_in p (x ∷ xs) d = by_test (p x) (distinct_in p xs d.1)
     by_test true ih = (λ m. d.0 (name_in p xs x.0 m), ih)
     by_test false ih = ih
 
-not_false : (b : Bool) → not b ≡ true → b ≡ false
-not_false true h = absurd (cc (h))
-not_false false h = refl
-
 false_not : (b : Bool) → b ≡ false → not b ≡ true
 false_not b h = ap not h
 
@@ -86,8 +83,8 @@ AreExports-staying m xs gone is =
     record {
       distinct = distinct_in (stays_exported gone) xs is.distinct;
       stand = λ n k at.
-          let f = filtered (stays_exported gone) xs (n, k) at in
-          subst IsSome (sym (stays_at m gone k (not_false (has gone k) f.1))) (is.stand n k f.0);
+          let f = among_filtered (stays_exported gone) xs (n, k) at in
+          subst IsSome (sym (stays_at m gone k (not_true (has gone k) f.1))) (is.stand n k f.0);
       named = λ k x n at told.
           let s = stayed m gone k x at in
           passes (stays_exported gone) xs (n, k) (false_not (has gone k) s.0) (is.named k x n s.1 told);

@@ -7,6 +7,7 @@ use Rattle.std.proofs.lemmas.List.{map-append, append-nil}
 use Rattle.wac_types_base.specs.Entries.{Name, AreDistinct}
 use Rattle.wac_types_base.specs.Graph.{Among}
 use Rattle.wac_types_base.proofs.Adding.{Among-left, Among-right}
+use Rattle.wac_types_base.proofs.Lists.{among_split, from_filtered}
 use Rattle.wac_types_names.specs.Packaged.{Packaged}
 use Rattle.wac_types_names.specs.Keys.{package_key}
 use Rattle.wac_graph_bytes.specs.declared.entry.Entry.{Entry as CodeEntry}
@@ -19,7 +20,7 @@ use Rattle.wac_graph_core.specs.Graph.{Graph, IsGraph, node_at, package_of, pack
 use Rattle.wac_graph_scopes.specs.declared.imports.SortIndex.{SortIndex}
 use Rattle.wac_graph_scopes.specs.declared.imports.ImportScope.{ImportScope}
 use Rattle.wac_graph_scopes.specs.Roots.{root_entries}
-use Rattle.wac_graph_scopes.proofs.OrderLaws.{among-either, distinct-append}
+use Rattle.wac_graph_scopes.proofs.OrderLaws.{distinct-append}
 use Rattle.wac_composition.proofs.Closures.{any_among, among_any}
 use Rattle.wac_graph_asks.specs.Graphs.{nodes_of}
 use Rattle.wac_graph_asks.specs.Asked.{package_ids, with_id, with_ids}
@@ -31,7 +32,6 @@ use Rattle.wac_graph_encode.specs.Finished.{AreSpelled, NestsBytes}
 use Rattle.wac_graph_encode.specs.Nesting.{NestsBehind}
 use Rattle.wac_graph_encode.specs.Writing.{AddsEntry, AddsExports, IsExportOf}
 use Rattle.wac_graph_encode.proofs.Entries.{same_package}
-use Rattle.wac_graph_causes.proofs.AskedTwice.{from_filtered}
 
 -- ---- lists of entries
 
@@ -99,7 +99,7 @@ with_among ids (x ∷ more) id m = elim (with_among (with_id ids x) more id m) [
   where
     one : (b : Bool) → Among id (if b then ids else ids ++ x ∷ []) → Among id ids ⊎ Among id (x ∷ more)
     one true k = inl k
-    one false k = elim (among-either id ids (x ∷ []) k) [ inl a ↦ inl a | inr (inl e) ↦ inr (inl e) | inr (inr n) ↦ absurd n ]
+    one false k = elim (among_split id ids (x ∷ []) k) [ inl a ↦ inl a | inr (inl e) ↦ inr (inl e) | inr (inr n) ↦ absurd n ]
 
 module _ (g : Graph) where
   with_stays : (ids more : List PackageId) (id : PackageId) → Among id ids → Among id (with_ids ids more)

@@ -10,6 +10,7 @@ use Rattle.wac_types_base.specs.Graph.{Among}
 use Rattle.wac_types_base.specs.Collection.{IsAcyclic, Grows}
 use Rattle.wac_types_base.specs.Stated.{stated_of}
 use Rattle.wac_types_base.proofs.Telling.{tree_stated}
+use Rattle.wac_types_base.proofs.Lists.{from_filtered}
 use Rattle.wac_types_names.specs.Packaged.{Packaged}
 use Rattle.wac_graph_bytes.specs.Typing.{Worlds}
 use Rattle.wac_graph_core.specs.declared.ids.PackageId.{PackageId}
@@ -33,7 +34,6 @@ use Rattle.wac_graph_encode.specs.Formed.{IsFormed, AreFormed}
 use Rattle.wac_graph_encode.specs.Finished.{IsPrepared, MeansAsked, MeansNested, NestsSo}
 use Rattle.wac_graph_encode.specs.Nesting.{IsTold}
 use Rattle.wac_graph_encode.proofs.Nested.{with_among, nests_packages}
-use Rattle.wac_graph_causes.proofs.AskedTwice.{from_filtered}
 use Rattle.wac_graph_encode.proofs.RootedDefinitions.{nodes_of_definitions}
 
 -- ---- the packages

@@ -13,6 +13,7 @@ use Rattle.wac_types_base.proofs.Telling.{item_kind, kind_stated}
 use Rattle.wac_types_fit.specs.Trees.{tree_in}
 use Rattle.wac_types_base.specs.Stated.{stated_of, kind_of}
 use Rattle.wac_types_base.specs.Tree.{Tree, tree}
+use Rattle.wac_types_base.proofs.Lists.{among_mapped, from_filtered}
 use Rattle.wac_types_written.specs.Written.{written_definition}
 use Rattle.wac_graph_bytes.specs.declared.value.Sort.{Sort}
 use Rattle.wac_graph_bytes.specs.declared.value.Sort.TheVariants as sort
@@ -39,8 +40,6 @@ use Rattle.wac_graph_asks.specs.Graphs.{composition_of, definition_by, nodes_of}
 use Rattle.wac_graph_asks.specs.Wirings.{written_tree}
 use Rattle.wac_graph_asks.specs.Asked.{placed_in}
 use Rattle.wac_graph_asks.proofs.ByNode.{entry_there}
-use Rattle.wac_composition.proofs.Lists.{among_mapped}
-use Rattle.wac_graph_causes.proofs.AskedTwice.{from_filtered}
 use Rattle.wac_graph_encode.specs.Standing.{StandsAt}
 use Rattle.wac_graph_encode.specs.Formed.{HasForm}
 use Rattle.wac_graph_encode.proofs.FormKinds.{own_form, form_entry}

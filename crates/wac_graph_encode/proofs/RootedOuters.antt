@@ -13,6 +13,7 @@ use Rattle.wac_types_base.specs.Tree.{Tree, tree}
 use Rattle.wac_types_base.specs.Fits.{Fits}
 use Rattle.wac_types_base.proofs.Adding.{Among-left}
 use Rattle.wac_types_base.proofs.Stating.{value_with}
+use Rattle.wac_types_base.proofs.Lists.{value_named}
 use Rattle.wac_types_fit.specs.Trees.{tree_in}
 use Rattle.wac_types_fit.proofs.Items.{value_at-among}
 use Rattle.wac_types_fit.proofs.Ordering.{tree_in_order}
@@ -32,7 +33,6 @@ use Rattle.wac_composition.specs.OuterImports.{outer_imports}
 use Rattle.wac_graph_asks.specs.Graphs.{composition_of, import_by, nodes_of, item_of}
 use Rattle.wac_graph_asks.specs.Outers.{IsOuters}
 use Rattle.wac_graph_asks.specs.Wirings.{asked_trees}
-use Rattle.wac_graph_asks.proofs.Arguments.{named_among}
 use Rattle.wac_composition.proofs.Clashing.{name_found}
 use Rattle.wac_graph_asks.proofs.Origins.{node_among, among_mapped}
 use Rattle.wac_graph_encode.specs.Standing.{spelled, IsOuterAt}
@@ -96,7 +96,7 @@ module _ (g : Graph) (sound : IsGraph g) (finite_types : IsAcyclic g.types) (c :
       none_asked : value_at h.writing.inside.imports n ≡ None → (v : Option ItemKind) → value_at (imports_of c world) n ≡ v → option_map tree (option_map (stated_of c) v) ≡ None
       none_asked e None f = refl
       none_asked e (Some k) f =
-          let there : Among n (names_of h.writing.inside.imports) = subst (λ l. Among n l) (sym h.writing.imports) (all n (named_among (imports_of c world) n k f)) in
+          let there : Among n (names_of h.writing.inside.imports) = subst (λ l. Among n l) (sym h.writing.imports) (all n (value_named (imports_of c world) n k f)) in
           absurd (true≢false (ap is_none (sym e) ∙ name_found h.writing.inside.imports n there))
 
       go : (v : Option Tree) → value_at h.writing.inside.imports n ≡ v → value_at h.writing.inside.imports n ≡ asked_trees g n

@@ -7,6 +7,7 @@ use Rattle.wac_types_base.specs.Graph.{Among}
 use Rattle.wac_types_base.specs.Stated.{Stated, stated_of}
 use Rattle.wac_types_base.specs.Tree.{Tree, tree}
 use Rattle.wac_types_base.proofs.Loops.{names-with_values}
+use Rattle.wac_types_base.proofs.Lists.{last_among}
 use Rattle.wac_types_fit.proofs.TreeLaws.{Fits-refl}
 use Rattle.wac_types_fit.proofs.Ordering.{tree_in_order}
 use Rattle.wac_types_names.specs.Packaged.{Packaged}
@@ -26,7 +27,7 @@ use Rattle.wac_graph_core.specs.declared.ids.PackageId.{PackageId}
 use Rattle.wac_graph_core.specs.Nodes.{NodeData, Role}
 use Rattle.wac_graph_core.specs.Graph.{Graph, IsGraph, node_at, instantiated, package_if, package_made, package_of, item_import}
 use Rattle.wac_graph_core.specs.GraphWiring as wired
-use Rattle.wac_graph_core.proofs.Found.{Among-front, Among-end}
+use Rattle.wac_graph_core.proofs.Found.{Among-front}
 use Rattle.wac_graph_scopes.specs.declared.imports.SortIndex.{SortIndex}
 use Rattle.wac_graph_scopes.specs.Parts.{imports_of}
 use Rattle.wac_graph_scopes.proofs.OrderLaws.{distinct-append}
@@ -157,7 +158,7 @@ module _ (g : Graph) (is : IsGraph g) (worlds : Worlds) (define : Bool) (asked :
       sort = ap sort_of item_is;
       source = Inst k;
       denotes = wired.instance x there ((is.nodes k x there).only id of_is);
-      written = Among-end h.order k;
+      written = last_among h.order k;
       meaning = made;
       at = last_of sort.Instance made st.scope (standing.counted c sort.Instance) (index_is worlds es st c sort.Instance h.counts h.reads);
       means = ap (λ (j : ℕ). Some (Inst j)) number_is;

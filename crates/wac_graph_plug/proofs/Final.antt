@@ -32,7 +32,6 @@ use Rattle.wac_graph_plug.specs.Plugging.{AreMatches}
 use Rattle.wac_graph_plug.specs.Steps.{Grown, ExportsOne, ExportsAll, exported_none, exported_next}
 use Rattle.wac_graph_plug.specs.Stops.{part_in, part_of, world_of, worlds_of, Plugs, socket_exports, IsPlugged}
 use Rattle.wac_graph_plug.specs.Wired.{Part, export_for, or_later, bound_from, if_there, bound_source, socket_instance, plug_instance, plug_at, instance_at, plugged}
-use Rattle.wac_graph_plug.proofs.Near.{value_named, value_none}
 use Rattle.wac_graph_plug.proofs.Growing.{Grown-refl, Grown-trans, Grown-alias, Grown-instance, Grown-export, Grown-exports, same_package, same_world, worlds_same}
 use Rattle.wac_graph_plug.proofs.State.{Bound, imports_of_all, State, no_argument}
 use Rattle.wac_graph_plug.proofs.Causes.{Grown-each, first_state, all_distinct, each_state}
@@ -41,7 +40,8 @@ use Rattle.wac_graph_plug.proofs.Made.{PlugAt, BoundAt, EachMade, AllMade, each_
 use Rattle.wac_graph_plug.proofs.Exporting.{alias_here}
 use Rattle.wac_graph_core.proofs.ExportSteps.{among_name}
 use Rattle.wac_types_base.proofs.Replacing.{same_number}
-use Rattle.wac_graph_core.proofs.Found.{eq_false, same_name, Among-front, Among-end}
+use Rattle.wac_types_base.proofs.Lists.{last_among, value_none, value_named}
+use Rattle.wac_graph_core.proofs.Found.{eq_false, same_name, Among-front}
 use Rattle.wac_types_fit.proofs.Items.{Among-last}
 
 -- ---- exports
@@ -86,13 +86,13 @@ exported_all {s} (exported_next {ns = ns} {n = n} {f = f} {g = g} {h = h} rest o
         | inl old ↦ elim (r.found m k old) [ inl older ↦ inl older | inr x ↦ inr (Among-front ns n m x.0, grown.edges (alias_edge s k m) x.1) ]
         | inr same ↦
             inr (
-              subst (λ x. Among x (ns ++ n ∷ [])) (sym (ap (λ (p : Name × ℕ). p.0) same)) (Among-end ns n),
+              subst (λ x. Among x (ns ++ n ∷ [])) (sym (ap (λ (p : Name × ℕ). p.0) same)) (last_among ns n),
               subst (λ (p : Name × ℕ). HasAlias h.edges s p.0 p.1) (sym same) (subst (Among (alias_edge s one.alias n)) (sym edges) (alias_here g one.middle s n one.alias one.aliased)),
             )
       ];
       all = λ m at. elim (Among-last ns n m at) [
         | inl old ↦ let x = r.all m old in (x.0, subst (Among (m, x.0)) (sym exports) (Among-front g.exports (n, one.alias) (m, x.0) x.1))
-        | inr same ↦ (one.alias, subst (Among (m, one.alias)) (sym exports) (subst (λ x. Among (x, one.alias) (g.exports ++ (n, one.alias) ∷ [])) (sym same) (Among-end g.exports (n, one.alias))))
+        | inr same ↦ (one.alias, subst (Among (m, one.alias)) (sym exports) (subst (λ x. Among (x, one.alias) (g.exports ++ (n, one.alias) ∷ [])) (sym same) (last_among g.exports (n, one.alias))))
       ];
     }
 

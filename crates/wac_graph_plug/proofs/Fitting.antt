@@ -21,7 +21,6 @@ use Rattle.wac_types_base.proofs.Stating.{imports_stated, exports_stated, instan
 use Rattle.wac_graph_core.proofs.Stating.{instance_type_exports}
 use Rattle.wac_graph_plug.specs.declared.matching.Match.{Match}
 use Rattle.wac_graph_plug.specs.Plugging.{Matches, AreMatchesOf, no_exports, matched, passed}
-use Rattle.wac_graph_plug.proofs.Gathered.{names_with}
 use Rattle.wac_types_names.proofs.TrackLaws.{name_among}
 use Rattle.wac_types_fit.proofs.Items.{among-value_at}
 

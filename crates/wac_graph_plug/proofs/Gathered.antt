@@ -1,5 +1,5 @@
 -- The matches of a plug, export by export.
-use Rattle.std.proofs.Common.{◌≡◌, ◌⊎◌, ℕ, ◌+◌, ◌<◌, ◌≤◌, List, [], ◌∷◌, ◌++◌, length, map, take, Option, Some, None, slice_get, refl, sym, ap, subst, ◌∙◌, inl, inr}
+use Rattle.std.proofs.Common.{◌≡◌, ◌⊎◌, ℕ, ◌+◌, ◌<◌, ◌≤◌, List, [], ◌∷◌, ◌++◌, length, map, take, Option, Some, None, slice_get, sym, ap, subst, ◌∙◌, inl, inr}
 use Rattle.std.proofs.lemmas.Option.{same_Some}
 use Rattle.std.proofs.lemmas.List.{take_all, map-append}
 use Rattle.std.specs.Option.{option_map}
@@ -12,16 +12,13 @@ use Rattle.wac_types_base.specs.Fits.{Fits}
 use Rattle.wac_types_base.proofs.Looked.{take-one_more}
 use Rattle.wac_types_fit.specs.Trees.{Fit, tree_in}
 use Rattle.wac_types_base.proofs.Stating.{value_with}
+use Rattle.wac_types_base.proofs.Loops.{names-with_values}
 use Rattle.wac_graph_plug.specs.declared.matching.Match.{Match}
 use Rattle.wac_graph_plug.specs.Plugging.{Finds, Matches, AreMatchesOf, no_exports, matched, passed}
 use Rattle.wac_graph_plug.specs.Lookups.{IsMatchOf, with_match}
 use Rattle.wac_graph_plug.proofs.Near.{finds_once}
 
 -- ---- names with other values
-
-pub names_with : {T U : Type 0} (f : T → U) (xs : List (Name × T)) → names_of (with_values f xs) ≡ names_of xs
-names_with f [] = refl
-names_with f (x ∷ xs) = ap (λ ns. x.0 ∷ ns) (names_with f xs)
 
 -- ---- one export
 
@@ -30,10 +27,10 @@ module _ (c : Collection) (xs : List (Name × ItemKind)) (e : Name) (given : Ite
   asked_in = with_values (stated_of c) xs
 
   found_in : (i : Name) → Finds (names_of xs) e i → Finds (names_of asked_in) e i
-  found_in i f = subst (λ ns. Finds ns e i) (sym (names_with (stated_of c) xs)) f
+  found_in i f = subst (λ ns. Finds ns e i) (sym (names-with_values (stated_of c) xs)) f
 
   found_out : (i : Name) → Finds (names_of asked_in) e i → Finds (names_of xs) e i
-  found_out i f = subst (λ ns. Finds ns e i) (names_with (stated_of c) xs) f
+  found_out i f = subst (λ ns. Finds ns e i) (names-with_values (stated_of c) xs) f
 
   asked_at : (i : Name) (asked : ItemKind) → value_at xs i ≡ Some asked → value_at asked_in i ≡ Some (stated_of c asked)
   asked_at i asked at = value_with (stated_of c) xs i ∙ ap (option_map (stated_of c)) at

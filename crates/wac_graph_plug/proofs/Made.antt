@@ -23,8 +23,9 @@ use Rattle.wac_graph_plug.proofs.State.{Bound, State, IsPlug, no_argument, insta
 use Rattle.wac_graph_plug.proofs.Passing.{bound_of, all_bound, exports_in, IsPlug-instance, passes_all_state}
 use Rattle.wac_graph_plug.proofs.Causes.{Grown-all}
 use Rattle.wac_types_fit.proofs.Items.{Among-last}
-use Rattle.wac_graph_core.proofs.Found.{Among-front, Among-end}
+use Rattle.wac_graph_core.proofs.Found.{Among-front}
 use Rattle.wac_types_base.proofs.Copying.{last_place}
+use Rattle.wac_types_base.proofs.Lists.{last_among}
 
 -- the same instances, the same exports, and arguments for one node more at most
 pub record Quiet (s : ℕ) (g h : Graph) : Type 0 where
@@ -338,6 +339,6 @@ each_made {s} sp (plugged_next {ids = ids} {id = id} {mss = mss} {ms = ms} {g = 
         record {
           made = r.made ++ Some x.plug ∷ [];
           done = r.done ++ all_bound x.plug ms;
-          state = (passes_all_state s x.plug sp x.made.of apart r.done x.passed st2 plug (d ms (Among-end mss ms))).0;
+          state = (passes_all_state s x.plug sp x.made.of apart r.done x.passed st2 plug (d ms (last_among mss ms))).0;
           each = made_in g s ids mss r.made r.done id r.each h ms x apart;
         }

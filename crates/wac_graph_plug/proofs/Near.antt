@@ -11,6 +11,7 @@ use Rattle.wac_types_names.specs.Tracks.{AreCompatible, ShareTrack}
 use Rattle.wac_graph_plug.specs.Plugging.{IsAloneOnTrack, Finds}
 use Rattle.wac_graph_plug.specs.Lookups.{IsNear, IsNext, NoneNear}
 use Rattle.wac_types_base.proofs.Walking.{some_place}
+use Rattle.wac_types_base.proofs.Lists.{value_none, value_named}
 use Rattle.wac_graph_core.proofs.Found.{same_name}
 
 -- ---- the search
@@ -55,23 +56,6 @@ same_place (x ∷ xs) (suc i) (suc j) n k l d a b = ap suc (same_place xs i j n 
 
 eq_same : (a : ℕ) → (a == a) ≡ true
 eq_same a = grind (arith, nat_tests)
-
-pub value_named : {T : Type 0} (xs : List (Name × T)) (n : Name) (k : T) → value_at xs n ≡ Some k → Among n (names_of xs)
-value_named [] n k e = absurd (cc (e))
-value_named (x ∷ xs) n k e = by_test (pointwise ◌==◌ n x.0) refl (value_named xs n k) e
-  where
-    by_test : (b : Bool) → pointwise ◌==◌ n x.0 ≡ b → (value_at xs n ≡ Some k → Among n (names_of xs)) → cond b (Some x.1) (value_at xs n) ≡ Some k → Among n (names_of (x ∷ xs))
-    by_test true is later h = inl (same_text n x.0 (sym is))
-    by_test false is later h = inr (later h)
-
-pub value_none : {T : Type 0} (xs : List (Name × T)) (n : Name) → value_at xs n ≡ None → Among n (names_of xs) → ⊥
-value_none [] n e m = absurd m
-value_none (x ∷ xs) n e m = by_test (pointwise ◌==◌ n x.0) refl (value_none xs n) e m
-  where
-    by_test : (b : Bool) → pointwise ◌==◌ n x.0 ≡ b → (value_at xs n ≡ None → Among n (names_of xs) → ⊥) → cond b (Some x.1) (value_at xs n) ≡ None → Among n (names_of (x ∷ xs)) → ⊥
-    by_test true is later h m = absurd (cc (h))
-    by_test false is later h (inl same) = absurd (cc (ap (pointwise ◌==◌ n) (sym same) ∙ same_name n, is))
-    by_test false is later h (inr m) = later h m
 
 pub value_at_place : (xs : List (Name × ItemKind)) (at : ℕ) (n : Name) (k : ItemKind) → AreDistinct (names_of xs) → slice_get xs at ≡ Some (n, k) → value_at xs n ≡ Some k
 value_at_place [] at n k d e = absurd (cc (e))

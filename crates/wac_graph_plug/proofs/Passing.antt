@@ -19,8 +19,9 @@ use Rattle.wac_graph_plug.specs.Steps.{Grown, StaysNode, Passes, PassesAll, pass
 use Rattle.wac_graph_plug.proofs.Growing.{Grown-alias, Grown-instance, Grown-set, ContainsNode-grown}
 use Rattle.wac_graph_plug.proofs.State.{Bound, imports_of_all, State, IsPlug, distinct_front, no_argument, no_alias, alias_name, instantiated-grown, State-instance, State-alias, State-set, apart_from_new, nothing_from}
 use Rattle.wac_types_fit.proofs.Items.{Among-last}
-use Rattle.wac_graph_core.proofs.Found.{Among-front, Among-end}
+use Rattle.wac_graph_core.proofs.Found.{Among-front}
 use Rattle.wac_types_base.proofs.Loops.{mapped_next}
+use Rattle.wac_types_base.proofs.Lists.{last_among}
 
 abbrev pub bound_of : ℕ → Match → Bound
 bound_of p m = record { plug = p; export = m.export; import = m.import }
@@ -64,7 +65,7 @@ module _ (s p : ℕ) (sp pp : Packaged) (apart : p ≢ s) where
     State-alias g h s sp done st p k e apart made (plug_there g es is),
     IsPlug-grown g h p pp es (es ++ e ∷ []) (Grown-alias g h p e k (inr made)) (λ n j m. elim ((made.edges (alias_edge p j n)).0 m) [
       | inl old ↦ Among-front es e n (is.aliases n j old)
-      | inr same ↦ subst (λ x. Among x (es ++ e ∷ [])) (sym (ap (λ l. alias_name l n) (edge_label same))) (Among-end es e)
+      | inr same ↦ subst (λ x. Among x (es ++ e ∷ [])) (sym (ap (λ l. alias_name l n) (edge_label same))) (last_among es e)
     ]) is,
   )
 

@@ -1,5 +1,5 @@
 -- Why a match is not passed: its import has got an argument before.
-use Rattle.std.proofs.Common.{◌≡◌, ◌≢◌, ◌⊎◌, ℕ, Bool, true, false, ◌==◌, cond, List, [], ◌∷◌, ◌++◌, map, Option, Some, None, IsSome, refl, sym, ap, subst, ◌∙◌, inl, inr, arith}
+use Rattle.std.proofs.Common.{◌≡◌, ◌≢◌, ◌⊎◌, ℕ, Bool, true, false, ◌==◌, cond, List, [], ◌∷◌, ◌++◌, Option, Some, None, IsSome, refl, sym, ap, subst, ◌∙◌, arith}
 use Rattle.std.proofs.lemmas.Option.{same_Some}
 use Rattle.std.specs.Prelude.{string_bytes}
 use Rattle.wac_types_base.specs.declared.item.ItemKind.{ItemKind}
@@ -30,11 +30,7 @@ use Rattle.wac_graph_plug.proofs.State.{Bound, imports_of_all, State, IsPlug, ap
 use Rattle.wac_graph_plug.proofs.Passing.{alias_made, alias_state}
 use Rattle.wac_graph_plug.proofs.Fitting.{Fitting}
 use Rattle.wac_types_base.proofs.Replacing.{same_number}
-
-among_mapped : {X Y : Type 0} (f : X → Y) (xs : List X) (x : X) → Among x xs → Among (f x) (map f xs)
-among_mapped f [] x at = absurd at
-among_mapped f (y ∷ xs) x (inl e) = inl (ap f e)
-among_mapped f (y ∷ xs) x (inr at) = inr (among_mapped f xs x at)
+use Rattle.wac_types_base.proofs.Lists.{among_mapped}
 
 -- ---- nothing is reached from the socket
 

@@ -18,8 +18,9 @@ use Rattle.wac_graph_plug.specs.declared.matching.Match.{Match}
 use Rattle.wac_graph_plug.specs.Steps.{Grown, Passes, PassesAll, passed_none, passed_next}
 use Rattle.wac_graph_plug.proofs.Growing.{Grown-alias, Grown-instance, Grown-set, ContainsNode-grown}
 use Rattle.wac_types_fit.proofs.Items.{Among-last}
-use Rattle.wac_graph_core.proofs.Found.{Among-front, Among-end}
+use Rattle.wac_graph_core.proofs.Found.{Among-front}
 use Rattle.wac_types_base.proofs.Loops.{mapped_next}
+use Rattle.wac_types_base.proofs.Lists.{last_among}
 
 -- an export of a plug's instance that is passed
 pub record Bound : Type 0 where
@@ -60,7 +61,7 @@ pub distinct_front : (ns : List Name) (n : Name) → AreDistinct (ns ++ n ∷ []
 distinct_front [] n d = (tt, λ m. m)
 distinct_front (m ∷ ns) n d =
     let r = distinct_front ns n d.1 in
-    ((λ at. d.0 (Among-front ns n m at), r.0), λ at. elim at [ inl same ↦ d.0 (subst (λ x. Among x (ns ++ n ∷ [])) same (Among-end ns n)) | inr later ↦ r.1 later ])
+    ((λ at. d.0 (Among-front ns n m at), r.0), λ at. elim at [ inl same ↦ d.0 (subst (λ x. Among x (ns ++ n ∷ [])) same (last_among ns n)) | inr later ↦ r.1 later ])
 
 pub among_map : {X Y : Type 0} (f : X → Y) (xs : List X) (y : Y) → Among y (map f xs) → (x : X) × Among x xs × (f x ≡ y)
 among_map f [] y m = absurd m
@@ -183,7 +184,7 @@ module _ (g h : Graph) (s : ℕ) (sp : Packaged) (done : List Bound) (st : State
         bound = λ m a at. elim ((made.edges (argument_edge a s m)).0 at) [
           | inl old ↦ let r = st.bound m a old in (r.0, Among-front done one r.0 r.1, r.2, (made.edges (alias_edge r.0.plug a r.0.export)).1 (inl r.3))
           | inr same ↦
-              (one, Among-end done one, sym (ap (λ l. argument_name l n) (edge_label same)), subst (λ j. HasAlias h.edges p e j) (sym (edge_from same)) ((made.edges (alias_edge p k e)).1 (inl aliased)))
+              (one, last_among done one, sym (ap (λ l. argument_name l n) (edge_label same)), subst (λ j. HasAlias h.edges p e j) (sym (edge_from same)) ((made.edges (alias_edge p k e)).1 (inl aliased)))
         ];
         complete = λ b m. elim (Among-last done one b m) [
           | inl old ↦

@@ -10,13 +10,14 @@ use Rattle.wac_types_base.specs.Graph.{Among}
 use Rattle.wac_types_base.specs.Entries.{Name, names_of, value_at, AreDistinct}
 use Rattle.wac_types_base.specs.Tree.{Tree, Fields, no_fields, field, instance}
 use Rattle.wac_types_base.specs.Fits.{FieldsFit, instance_fits}
+use Rattle.wac_types_base.proofs.Lists.{joined}
 use Rattle.wac_types_fit.specs.Trees.{tree_in}
 use Rattle.wac_types_fit.specs.Lookups.{found, lookup}
 use Rattle.wac_types_fit.specs.Ordered.{InOrder, AllInOrder}
 use Rattle.wac_types_fit.proofs.Looking.{looked-has, has-looked, all_given}
 use Rattle.wac_types_fit.proofs.Ordering.{AllInOrder-put, named_in_order}
 use Rattle.wac_types_fit.proofs.TreeLaws.{Fits-refl, anti}
-use Rattle.wac_types_fit.proofs.Items.{joined, value_at-among, among-value_at, name-among, looked_in, ordered_in}
+use Rattle.wac_types_fit.proofs.Items.{value_at-among, among-value_at, name-among, looked_in, ordered_in}
 use Rattle.wac_types_fit.proofs.Unfolded as unfolded
 use Rattle.wac_graph_bytes.specs.Typing.{get_at, get, fields_in, some_if, instance_by}
 use Rattle.wac_graph_bytes.proofs.Looked.{get_in}

@@ -22,6 +22,7 @@ use Rattle.wac_types_base.proofs.Adding.{Among-left, Among-right, guarded-some}
 use Rattle.wac_types_base.proofs.Replacing.{slice_get-set_same, slice_get-set_other}
 use Rattle.wac_types_base.proofs.Standing.{world_found}
 use Rattle.wac_types_base.proofs.Slots.{stands_typed_world}
+use Rattle.wac_types_base.proofs.Lists.{among_split}
 use Rattle.wac_types_fit.specs.Trees.{tree_in}
 use Rattle.wac_types_fit.proofs.Items.{Among-last, looked_in}
 use Rattle.wac_types_fit.proofs.ItemKinds.{kind_is}
@@ -53,7 +54,7 @@ use Rattle.wac_graph_scopes.proofs.ItemLaws.{used_on, item_exchanged, ItemsGo-re
 use Rattle.wac_graph_scopes.proofs.UsedLaws.{plain_item}
 use Rattle.wac_graph_scopes.proofs.PartLaws.{imports_there, world_exports_there, name_at}
 use Rattle.wac_graph_scopes.proofs.FieldLaws.{same_look, written_fields}
-use Rattle.wac_graph_scopes.proofs.OrderLaws.{apart, among-either, distinct-append, distinct-apart}
+use Rattle.wac_graph_scopes.proofs.OrderLaws.{apart, distinct-append, distinct-apart}
 use Rattle.wac_graph_scopes.specs.Orders.{IsOrder}
 use Rattle.wac_graph_scopes.proofs.WritingLaws.{writes_on, writes_more, value_here}
 
@@ -249,7 +250,7 @@ one_name n None x = absurd x
 
 pub named_place : (ns : List Name) (ks : List ℕ) (n : Name) → Among n (names_at ns ks) → (k : ℕ) × Among k ks × (slice_get ns k ≡ Some n)
 named_place ns [] n m = absurd m
-named_place ns (k ∷ ks) n m = elim (among-either n (option_to_list (slice_get ns k)) (names_at ns ks) m) [
+named_place ns (k ∷ ks) n m = elim (among_split n (option_to_list (slice_get ns k)) (names_at ns ks) m) [
   | inl a ↦ (k, inl refl, one_name n (slice_get ns k) a)
   | inr b ↦ let r = named_place ns ks n b in (r.0, inr r.1, r.2)
 ]
@@ -365,7 +366,7 @@ module _ (ns : List Name) (sources others : List ℕ) (o : IsOrder (length ns) s
 -- the next of them is new
 pub next_new : (ns : List Name) (order : List ℕ) (imported : List Name) (i k : ℕ) → AreDistinct ns → AreDistinct order → ((j : ℕ) → Among j order → IsNewAt ns j imported) → slice_get order i ≡ Some k
     → IsNewAt ns k (imported ++ names_at ns (take i order))
-next_new ns order imported i k d e new at n there among = elim (among-either n imported (names_at ns (take i order)) among) [
+next_new ns order imported i k d e new at n there among = elim (among_split n imported (names_at ns (take i order)) among) [
   | inl a ↦ new k (among-get order i k at) n there a
   | inr b ↦
       let p = named_place ns (take i order) n b in

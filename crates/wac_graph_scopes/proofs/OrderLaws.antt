@@ -9,20 +9,16 @@ use Rattle.std.proofs.lemmas.List.{append-nil}
 use Rattle.wac_types_base.specs.Graph.{Among}
 use Rattle.wac_types_base.specs.Entries.{AreDistinct}
 use Rattle.wac_types_base.proofs.Adding.{Among-left, Among-right}
+use Rattle.wac_types_base.proofs.Lists.{among_split}
 use Rattle.wac_graph_scopes.specs.declared.imports.Importing.{Importing}
 use Rattle.wac_graph_scopes.specs.declared.order.Turn.{Turn}
 use Rattle.wac_graph_scopes.specs.Imports.{all_imports}
 use Rattle.wac_graph_scopes.specs.Orders.{IsOrder, IsBegun, Puts, AreTurns, EarlyFirst, SourcesFirst}
 
-pub among-either : {X : Type 0} (x : X) (xs ys : List X) → Among x (xs ++ ys) → Among x xs ⊎ Among x ys
-among-either x [] ys m = inr m
-among-either x (y ∷ xs) ys (inl e) = inl (inl e)
-among-either x (y ∷ xs) ys (inr m) = elim (among-either x xs ys m) [ inl a ↦ inl (inr a) | inr b ↦ inr b ]
-
 pub distinct-append : {X : Type 0} (xs ys : List X) → AreDistinct xs → AreDistinct ys → ((x : X) → Among x xs → Among x ys → ⊥) → AreDistinct (xs ++ ys)
 distinct-append [] ys d e h = e
 distinct-append (x ∷ xs) ys d e h = (
-  λ m. elim (among-either x xs ys m) [ inl a ↦ d.0 a | inr b ↦ h x (inl refl) b ],
+  λ m. elim (among_split x xs ys m) [ inl a ↦ d.0 a | inr b ↦ h x (inl refl) b ],
   distinct-append xs ys d.1 e (λ y a b. h y (inr a) b),
 )
 
@@ -57,8 +53,8 @@ module _ (old mid new : List Bool) (order between ordered : List ℕ) where
     more = a.more ++ b.more;
     behind = b.behind ∙ ap (λ l. l ++ b.more) a.behind ∙ append_assoc order a.more b.more;
     len = b.len ∙ a.len;
-    fresh = λ k m h. elim (among-either k a.more b.more m) [ inl x ↦ a.fresh k x h | inr y ↦ b.fresh k y (a.kept k h) ];
-    done = λ k m. elim (among-either k a.more b.more m) [ inl x ↦ b.kept k (a.done k x) | inr y ↦ b.done k y ];
+    fresh = λ k m h. elim (among_split k a.more b.more m) [ inl x ↦ a.fresh k x h | inr y ↦ b.fresh k y (a.kept k h) ];
+    done = λ k m. elim (among_split k a.more b.more m) [ inl x ↦ b.kept k (a.done k x) | inr y ↦ b.done k y ];
     kept = λ k h. b.kept k (a.kept k h);
     only = λ k h. elim (b.only k h) [ inl x ↦ elim (a.only k x) [ inl y ↦ inl y | inr z ↦ inr (Among-left k a.more b.more z) ] | inr y ↦ inr (Among-right k a.more b.more y) ];
     distinct = distinct-append a.more b.more a.distinct b.distinct (λ k x y. b.fresh k y (a.done k x));
@@ -71,8 +67,8 @@ puts_last old begun new order ordered last at was now len kept only p e = record
   more = p.more ++ at ∷ [];
   behind = e ∙ ap (λ l. l ++ at ∷ []) p.behind ∙ append_assoc order p.more (at ∷ []);
   len = p.len ∙ len;
-  fresh = λ k m h. elim (among-either k p.more (at ∷ []) m) [ inl x ↦ p.fresh k x (kept k h) | inr y ↦ elim y [ inl q ↦ was (subst (IsBegun old) q h) | inr z ↦ z ] ];
-  done = λ k m. elim (among-either k p.more (at ∷ []) m) [ inl x ↦ p.done k x | inr y ↦ elim y [ inl q ↦ subst (IsBegun new) (sym q) (p.kept at now) | inr z ↦ absurd z ] ];
+  fresh = λ k m h. elim (among_split k p.more (at ∷ []) m) [ inl x ↦ p.fresh k x (kept k h) | inr y ↦ elim y [ inl q ↦ was (subst (IsBegun old) q h) | inr z ↦ z ] ];
+  done = λ k m. elim (among_split k p.more (at ∷ []) m) [ inl x ↦ p.done k x | inr y ↦ elim y [ inl q ↦ subst (IsBegun new) (sym q) (p.kept at now) | inr z ↦ absurd z ] ];
   kept = λ k h. p.kept k (kept k h);
   only = λ k h. elim (p.only k h) [ inl x ↦ elim (only k x) [ inl y ↦ inl y | inr q ↦ inr (Among-right k p.more (at ∷ []) (inl q)) ] | inr y ↦ inr (Among-left k p.more (at ∷ []) y) ];
   distinct = distinct-append p.more (at ∷ []) p.distinct ((λ m. m), tt) (λ k x y. elim y [ inl q ↦ p.fresh k x (subst (IsBegun begun) (sym q) now) | inr z ↦ z ]);
@@ -132,7 +128,7 @@ module _ (turns : List Turn) (old mid new : List Bool) (sources others : List �
   by_turn k Turn.Others e lt = all_done k (rest k e (omega (arith, lt, a.len)))
 
   in_time : (k : ℕ) → Among k (a.more ++ b.more) → k < length turns
-  in_time k m = elim (among-either k a.more b.more m) [
+  in_time k m = elim (among_split k a.more b.more m) [
     | inl x ↦ omega (arith, slice_get_within mid k true (a.done k x), a.len, len)
     | inr y ↦ omega (arith, slice_get_within new k true (b.done k y), b.len, a.len, len)
   ]

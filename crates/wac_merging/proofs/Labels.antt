@@ -12,6 +12,7 @@ use Rattle.wac_types_base.specs.Entries.{Name, value_at}
 use Rattle.wac_types_base.specs.Graph.{Among}
 use Rattle.wac_types_base.specs.Stated.{Stated}
 use Rattle.wac_types_base.proofs.Looked.{among-get}
+use Rattle.wac_types_base.proofs.Lists.{among_split}
 use Rattle.wac_composition.specs.Asks.{Ask}
 use Rattle.wac_composition.specs.Classes.{joined, Linked, class}
 use Rattle.wac_composition.specs.OuterImports.{with_new, outer_of, outers_from}
@@ -19,7 +20,6 @@ use Rattle.wac_composition.proofs.Closures.{any_among, among_any, filter_among, 
 use Rattle.wac_composition.proofs.OuterClasses.{itself, turned, class_is, class_itself, class_by_spelling, spelled_outer}
 use Rattle.wac_composition.proofs.Clashing.{value_among}
 use Rattle.wac_composition.proofs.ClassLaws.{in_class_linked, linked_in_class}
-use Rattle.wac_types_merge.proofs.Tracks.{Among-either}
 use Rattle.wac_merging.specs.Labelled.{with_label, labelled, LabelClasses, Class_is_labelled, Outers_are_labelled, One_more_labelled}
 use Rattle.wac_merging.specs.Outers.{Outers_differ}
 
@@ -200,7 +200,7 @@ module _ {A : Type 0} where
         where
           by : (b : Bool) → AreOfAsks (if b then ls else ls ++ l ∷ [])
           by true = h
-          by false = λ m k. elim (Among-either m ls (l ∷ []) k) [
+          by false = λ m k. elim (among_split m ls (l ∷ []) k) [
             | inl r ↦ h m r
             | inr (inl e) ↦ (a, subst (IsAt a) (sym e) i)
             | inr (inr r) ↦ absurd r

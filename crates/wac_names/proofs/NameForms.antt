@@ -50,7 +50,7 @@ all_decided t P d (w ∷ parts) = (
   λ a. and_from _ _ ((d w).1 a.0) ((all_decided t P d parts).1 a.1),
 )
 
-all_weaker : {X : Type 0} {P Q : X → Type 0} → ((x : X) → P x → Q x) → (xs : List X) → AllByRecursion P xs → AllByRecursion Q xs
+pub all_weaker : {X : Type 0} {P Q : X → Type 0} → ((x : X) → P x → Q x) → (xs : List X) → AllByRecursion P xs → AllByRecursion Q xs
 all_weaker h [] a = tt
 all_weaker h (x ∷ xs) a = (h x a.0, all_weaker h xs a.1)
 

@@ -16,6 +16,7 @@ use Rattle.wac_types_base.specs.Entries.{Name}
 use Rattle.wac_types_base.specs.Stated.{Stated, stated_of, kind_of, desc, as_type, over}
 use Rattle.wac_types_base.proofs.Slots.{stands_typed_func}
 use Rattle.wac_types_base.proofs.Telling.{child_stands, item_kind, kind_stated, resource_node, stated_step, untyped_stated}
+use Rattle.wac_types_base.proofs.Stating.{stated_kept}
 use Rattle.wac_parser_tree.specs.Trees as t
 use Rattle.wac_parser_refusals.specs.declared.refusal.Refusal.{Refusal}
 use Rattle.wac_parser_refusals.specs.Causes.{Answer, ◌>>=◌, pure, InvalidAliasType}
@@ -23,7 +24,7 @@ use Rattle.wac_parser_refusals.specs.Outcomes.{IsHeld, IsRefusal, Refuses}
 use Rattle.wac_parser_declare.specs.Aliases.{IsOwner, stated_resource}
 use Rattle.wac_parser_declare.specs.Declarations.{alias_by, alias_of, owner_of, resource_alias_of}
 use Rattle.wac_parser_declare.specs.Holding.{Holds, IsFunc, IsType, stated_value}
-use Rattle.wac_parser_declare.proofs.Kept.{entry_holds, labelled_holds, stated-kept}
+use Rattle.wac_parser_declare.proofs.Kept.{entry_holds, labelled_holds}
 use Rattle.wac_parser_declare.proofs.Named.{typed_holds}
 
 -- ---- owners
@@ -49,7 +50,7 @@ module _ (c : Collection) (a : IsAcyclic c) (r : ResourceId) (x : Resource) (at 
 
 slot-kept : (c d : Collection) → Grows c d → (x : Slot) → SlotStands c x → option_map (stated_of d) x ≡ option_map (stated_of c) x
 slot-kept c d g None s = refl
-slot-kept c d g (Some k) s = ap Some (stated-kept c d g k s)
+slot-kept c d g (Some k) s = ap Some (stated_kept c d g k s)
 
 -- another name of a resource
 pub resource_alias_held : (c d : Collection) → Grows c d → (n : Name) (r i : ResourceId) (o : Option InterfaceId) → Stands c (ItemKind.Ty (TypeKind.Resource r)) → SlotStands c (option_map ItemKind.Instance o) → IsOwner c r o
@@ -59,20 +60,20 @@ resource_alias_held c d g n r i o stands owner is node =
     let k = ItemKind.Ty (TypeKind.Resource r) in
     let x = option_map ItemKind.Instance o in
     entry_holds d g.acyclic (ItemKind.Ty (TypeKind.Resource i)) (s.resource_alias n) (Some k ∷ x ∷ []) (Some (stated_resource c r) ∷ owner_of (stated_resource c r) ∷ []) node
-    (ap (λ y. Some y ∷ option_map (stated_of d) x ∷ []) (stated-kept c d g k stands)
+    (ap (λ y. Some y ∷ option_map (stated_of d) x ∷ []) (stated_kept c d g k stands)
     ∙ ap (λ y. Some (stated_resource c r) ∷ y ∷ []) (slot-kept c d g x owner ∙ is))
 
 -- another name of a value type
 pub value_alias_held : (c d : Collection) → Grows c d → (v w : ValueType) → Stands c (ItemKind.Value v) → item_node d (ItemKind.Value w) ≡ Some (s.alias, value_slot v ∷ []) → IsType d (alias_of (stated_value c v)) (TypeKind.Value w)
 value_alias_held c d g v w stands node =
     typed_holds d g.acyclic (over s.alias (Some (stated_value c v) ∷ [])) w
-    (entry_holds d g.acyclic (ItemKind.Value w) s.alias (value_slot v ∷ []) (Some (stated_value c v) ∷ []) node (ap (λ y. Some y ∷ []) (stated-kept c d g (ItemKind.Value v) stands)))
+    (entry_holds d g.acyclic (ItemKind.Value w) s.alias (value_slot v ∷ []) (Some (stated_value c v) ∷ []) node (ap (λ y. Some y ∷ []) (stated_kept c d g (ItemKind.Value v) stands)))
 
 places-kept : (c d : Collection) → Grows c d → (xs : List Slot) → ((j : ItemKind) → Among (Some j) xs → Stands c j) → map (option_map (stated_of d)) xs ≡ map (option_map (stated_of c)) xs
 places-kept c d g [] h = refl
 places-kept c d g (None ∷ xs) h = ap (λ os. None ∷ os) (places-kept c d g xs (λ j m. h j (inr m)))
 places-kept c d g (Some k ∷ xs) h =
-    ap (λ y. Some y ∷ map (option_map (stated_of d)) xs) (stated-kept c d g k (h k (inl refl)))
+    ap (λ y. Some y ∷ map (option_map (stated_of d)) xs) (stated_kept c d g k (h k (inl refl)))
     ∙ ap (λ os. Some (stated_of c k) ∷ os) (places-kept c d g xs (λ j m. h j (inr m)))
 
 -- the type item of a function type

@@ -13,14 +13,14 @@ use Rattle.wac_types_base.specs.declared.defined.World.{World}
 use Rattle.wac_types_base.specs.declared.ids.InterfaceId.{InterfaceId}
 use Rattle.wac_types_base.specs.declared.ids.WorldId.{WorldId}
 use Rattle.wac_types_base.specs.Record.{Collection}
-use Rattle.wac_types_base.specs.Collection.{Entry, IsAcyclic, Shape, Slot, Stands, borrow_of, defined_entry, entry_at, func_entry, interface_entry, item_node, items, labelled, module_entry, own_of, primitive, resource_entry, resource_entry_at, type_of, use_names, used, value_node, world_entry}
+use Rattle.wac_types_base.specs.Collection.{Entry, IsAcyclic, Slot, Stands, borrow_of, defined_entry, func_entry, interface_entry, item_node, items, labelled, module_entry, own_of, primitive, resource_entry, resource_entry_at, type_of, use_names, used, value_node, world_entry}
 use Rattle.wac_types_base.specs.Entries.{Name, names_of, value_at, with_values}
 use Rattle.wac_types_base.specs.Stated.{Stated, exports_of, imports_of, only_places, parts_at, row, stated_entry, stated_of, untyped_shape, with_names}
-use Rattle.wac_types_base.proofs.Adding.{guarded-some, labelled-some, option_map-some}
+use Rattle.wac_types_base.proofs.Adding.{guarded-some, option_map-some}
 use Rattle.wac_types_base.proofs.GraphLemmas.{value_of}
 use Rattle.wac_types_base.proofs.Made.{drop_firsts, exports_are, first_names, only_firsts, row_places}
 use Rattle.wac_types_base.proofs.Slots.{entry_at-is}
-use Rattle.wac_types_base.proofs.Telling.{stated_step}
+use Rattle.wac_types_base.proofs.Telling.{stated_step, entry_from, labelled_kind}
 use Rattle.wac_parser_declare.specs.InUses.{AreExports, IsExport, stated_interface}
 use Rattle.wac_parser_declare.proofs.Kept.{value_at-with_values}
 
@@ -129,17 +129,6 @@ HasNone e = (os : List (Option (Stated × ⊤))) → (parts_at (untyped_shape e.
 plain_none : (e : Entry) → IsPlain e → HasNone e
 plain_none e p os = ap (λ s. (parts_at s os).exports) p.0 ∙ p.1 os
 
-made_from : {E : Type 0} (f : E → Entry) (P : Entry → Type 0) → ((x : E) → P (f x)) → (n : ℕ) (es : List E) (col i : ℕ) (e : Entry) → entry_at f n es col i ≡ Some e → P e
-made_from f P h n es col i e is =
-    let g = guarded-some _ _ e is in
-    let m = option_map-some f (slice_get es i) e g.1 in
-    subst P (sym m.2) (h m.0)
-
-labelled_from : (l : Shape → Shape) (P Q : Entry → Type 0) → ((e : Entry) → P e → Q (l e.0, e.1)) → (o : Option Entry) → ((e : Entry) → o ≡ Some e → P e) → (e : Entry) → labelled l o ≡ Some e → Q e
-labelled_from l P Q step o h e is =
-    let m = labelled-some l o e is in
-    subst Q (sym m.2) (step m.0 (h m.0 m.1))
-
 defined_plain : (x : DefinedType) → IsPlain (defined_entry x)
 defined_plain (DefinedType.Tuple ts) = (refl, λ os. refl)
 defined_plain (DefinedType.List t) = (refl, λ os. refl)
@@ -163,9 +152,9 @@ AnyEntry e = Unit {0}
 
 value_plain : (c : Collection) (v : ValueType) (e : Entry) → value_node c v ≡ Some e → IsPlain e
 value_plain c (ValueType.Primitive p) e is = let same : (primitive p, []) ≡ e = cc is in subst IsPlain same (refl, λ os. refl)
-value_plain c (ValueType.Borrow r) e is = labelled_from borrow_of AnyEntry IsPlain (λ e h. (refl, λ os. refl)) _ (λ e h. tt) e is
-value_plain c (ValueType.Own r) e is = labelled_from own_of AnyEntry IsPlain (λ e h. (refl, λ os. refl)) _ (λ e h. tt) e is
-value_plain c (ValueType.Defined d) e is = made_from defined_entry IsPlain defined_plain c.number c.defined_types d.collection d.index e is
+value_plain c (ValueType.Borrow r) e is = labelled_kind borrow_of AnyEntry IsPlain (λ e h. (refl, λ os. refl)) _ (λ e h. tt) e is
+value_plain c (ValueType.Own r) e is = labelled_kind own_of AnyEntry IsPlain (λ e h. (refl, λ os. refl)) _ (λ e h. tt) e is
+value_plain c (ValueType.Defined d) e is = entry_from defined_entry IsPlain defined_plain c.number c.defined_types d.collection d.index e is
 
 -- neither an interface nor a world, nor the type of one
 record NoExports (k : ItemKind) : Type 0 where
@@ -175,20 +164,20 @@ record NoExports (k : ItemKind) : Type 0 where
   component : (i : WorldId) → k ≡ ItemKind.Component i → ⊥
 
 typed_none : (o : Option Entry) → ((e : Entry) → o ≡ Some e → IsPlain e) → (e : Entry) → labelled type_of o ≡ Some e → HasNone e
-typed_none o h e is = labelled_from type_of IsPlain HasNone (λ e p os. p.1 os) o h e is
+typed_none o h e is = labelled_kind type_of IsPlain HasNone (λ e p os. p.1 os) o h e is
 
 entry_none : (c : Collection) (k : ItemKind) → NoExports k → (e : Entry) → item_node c k ≡ Some e → HasNone e
 unfolding item_node
-entry_none c (ItemKind.Ty (TypeKind.Resource r)) n e is = plain_none e (made_from resource_entry IsPlain (λ x. resource_plain x.name x.alias) c.number c.resources r.collection r.index e is)
-entry_none c (ItemKind.Ty (TypeKind.Func f)) n e is = typed_none _ (λ e is. made_from func_entry IsPlain (λ x. (refl, λ os. refl)) c.number c.func_types f.collection f.index e is) e is
+entry_none c (ItemKind.Ty (TypeKind.Resource r)) n e is = plain_none e (entry_from resource_entry IsPlain (λ x. resource_plain x.name x.alias) c.number c.resources r.collection r.index e is)
+entry_none c (ItemKind.Ty (TypeKind.Func f)) n e is = typed_none _ (λ e is. entry_from func_entry IsPlain (λ x. (refl, λ os. refl)) c.number c.func_types f.collection f.index e is) e is
 entry_none c (ItemKind.Ty (TypeKind.Value v)) n e is = typed_none _ (value_plain c v) e is
 entry_none c (ItemKind.Ty (TypeKind.Interface i)) n e is = absurd (n.interface i refl)
 entry_none c (ItemKind.Ty (TypeKind.World i)) n e is = absurd (n.world i refl)
-entry_none c (ItemKind.Ty (TypeKind.Module m)) n e is = typed_none _ (λ e is. made_from module_entry IsPlain (λ x. (refl, λ os. refl)) c.number c.modules m.collection m.index e is) e is
-entry_none c (ItemKind.Func f) n e is = plain_none e (made_from func_entry IsPlain (λ x. (refl, λ os. refl)) c.number c.func_types f.collection f.index e is)
+entry_none c (ItemKind.Ty (TypeKind.Module m)) n e is = typed_none _ (λ e is. entry_from module_entry IsPlain (λ x. (refl, λ os. refl)) c.number c.modules m.collection m.index e is) e is
+entry_none c (ItemKind.Func f) n e is = plain_none e (entry_from func_entry IsPlain (λ x. (refl, λ os. refl)) c.number c.func_types f.collection f.index e is)
 entry_none c (ItemKind.Instance i) n e is = absurd (n.instance i refl)
 entry_none c (ItemKind.Component i) n e is = absurd (n.component i refl)
-entry_none c (ItemKind.Module m) n e is = plain_none e (made_from module_entry IsPlain (λ x. (refl, λ os. refl)) c.number c.modules m.collection m.index e is)
+entry_none c (ItemKind.Module m) n e is = plain_none e (entry_from module_entry IsPlain (λ x. (refl, λ os. refl)) c.number c.modules m.collection m.index e is)
 entry_none c (ItemKind.Value v) n e is = plain_none e (value_plain c v e is)
 
 module _ (c : Collection) (a : IsAcyclic c) where

@@ -14,6 +14,7 @@ use Rattle.wac_types_base.specs.Collection.{Grows, IsAcyclic, Stands, item_node}
 use Rattle.wac_types_base.specs.Entries.{Name, with_values, value_at}
 use Rattle.wac_types_base.specs.Stated.{Stated, Used, borrow, leaf, own, stated_of}
 use Rattle.wac_types_base.proofs.Telling.{stated_step}
+use Rattle.wac_types_base.proofs.Stating.{stated_kept}
 use Rattle.wac_parser_tree.specs.Trees as t
 use Rattle.wac_parser_tree.specs.Trees.{Span}
 use Rattle.wac_parser_refusals.specs.declared.refusal.Refusal.{Refusal}
@@ -28,7 +29,7 @@ use Rattle.wac_parser_declare.specs.Held.{BodyStands, stated_body, stated_use}
 use Rattle.wac_parser_declare.specs.Holding.{AddsNew, ItemsStand, UsesStand, meant_by, scope_of, self_params, stated_if}
 use Rattle.wac_parser_declare.specs.InBodies.{is_method, receiver_of}
 use Rattle.wac_parser_declare.specs.Scope.{Meant, Scope, bind, has, taken}
-use Rattle.wac_parser_declare.proofs.Kept.{labelled_holds, scope-kept, stated-kept, value_at-with_values, with_values-more, with_values-same}
+use Rattle.wac_parser_declare.proofs.Kept.{labelled_holds, scope-kept, value_at-with_values, with_values-more, with_values-same}
 use Rattle.wac_parser_declare.proofs.Members.{has-with_values}
 use Rattle.wac_parser_lexer.proofs.SymbolLaws.{neither}
 
@@ -81,10 +82,10 @@ uses-kept : (c d : Collection) → Grows c d → (us : List (Name × UsedType)) 
 uses-kept c d g [] s = refl
 uses-kept c d g (u ∷ us) s =
     let P : Stated → Used = λ x. record { name = u.0; there = u.1.name; interface = x } in
-    ap (λ x. P x ∷ map (stated_use d) us) (stated-kept c d g (ItemKind.Instance u.1.interface) s.0) ∙ ap (λ xs. stated_use c u ∷ xs) (uses-kept c d g us s.1)
+    ap (λ x. P x ∷ map (stated_use d) us) (stated_kept c d g (ItemKind.Instance u.1.interface) s.0) ∙ ap (λ xs. stated_use c u ∷ xs) (uses-kept c d g us s.1)
 
 items-kept : (c d : Collection) → Grows c d → (xs : List (Name × ItemKind)) → ItemsStand c xs → with_values (stated_of d) xs ≡ with_values (stated_of c) xs
-items-kept c d g xs s = with_values-same (Stands c) (stated_of d) (stated_of c) (λ k h. stated-kept c d g k h) xs s
+items-kept c d g xs s = with_values-same (Stands c) (stated_of d) (stated_of c) (λ k h. stated_kept c d g k h) xs s
 
 pub body-kept : (c d : Collection) → Grows c d → (b : Body) → BodyStands c b → stated_body d b ≡ stated_body c b
 body-kept c d g b s =

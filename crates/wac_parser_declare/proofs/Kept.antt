@@ -7,10 +7,11 @@ use Rattle.wac_types_base.specs.Record.{Collection}
 use Rattle.wac_types_base.specs.Graph.{Among}
 use Rattle.wac_types_base.specs.Collection.{Shape, Slot, SlotStands, Stands, IsAcyclic, Grows, item_node, labelled, value_slot, option_slot}
 use Rattle.wac_types_base.specs.Entries.{Name, with_values, value_at, values_of}
-use Rattle.wac_types_base.specs.Stated.{Stated, stated_of, stated_in, over, relabelled}
+use Rattle.wac_types_base.specs.Stated.{Stated, stated_of, over, relabelled}
 use Rattle.wac_types_base.proofs.GraphLemmas.{value_of, is_there}
 use Rattle.wac_types_base.proofs.Copying.{Among-All}
 use Rattle.wac_types_base.proofs.Telling.{stated_step}
+use Rattle.wac_types_base.proofs.Stating.{stated_kept}
 use Rattle.wac_parser_declare.specs.declared.scope.Binding.{Binding}
 use Rattle.wac_parser_declare.specs.Scope.{Meant}
 use Rattle.wac_parser_declare.specs.Holding.{Holds, IsValueIf, AreValues, StandsIf, AllStand, EachStands, AreEntries, ValueStands, BindingStands, NamesStand, stated_value, stated_if, stated_row, meant_by, scope_of}
@@ -73,11 +74,8 @@ value_places c (v ∷ vs) = ap (λ os. Some (stated_value c v) ∷ os) (value_pl
 
 -- ---- while a collection grows
 
-pub stated-kept : (c d : Collection) → Grows c d → (k : ItemKind) → Stands c k → stated_of d k ≡ stated_of c k
-stated-kept c d g k s = ap stated_in (g.keep k s)
-
 pub Holds-kept : (c d : Collection) → Grows c d → (t : Stated) (k : ItemKind) → Holds c t k → Holds d t k
-Holds-kept c d g t k h = record { stands = g.stand k h.stands; same = stated-kept c d g k h.stands ∙ h.same }
+Holds-kept c d g t k h = record { stands = g.stand k h.stands; same = stated_kept c d g k h.stands ∙ h.same }
 
 pub StandsIf-kept : (c d : Collection) → Grows c d → (o : Option ValueType) → StandsIf c o → StandsIf d o
 StandsIf-kept c d g None s = tt
@@ -85,7 +83,7 @@ StandsIf-kept c d g (Some v) s = g.stand (ItemKind.Value v) s
 
 pub stated_if-kept : (c d : Collection) → Grows c d → (o : Option ValueType) → StandsIf c o → stated_if d o ≡ stated_if c o
 stated_if-kept c d g None s = refl
-stated_if-kept c d g (Some v) s = ap Some (stated-kept c d g (ItemKind.Value v) s)
+stated_if-kept c d g (Some v) s = ap Some (stated_kept c d g (ItemKind.Value v) s)
 
 pub IsValueIf-kept : (c d : Collection) → Grows c d → (t : Option Stated) (o : Option ValueType) → IsValueIf c t o → IsValueIf d t o
 IsValueIf-kept c d g t o h = record { stands = StandsIf-kept c d g o h.stands; same = stated_if-kept c d g o h.stands ∙ h.same }
@@ -96,7 +94,7 @@ AllStand-kept c d g (v ∷ vs) s = (g.stand (ItemKind.Value v) s.0, AllStand-kep
 
 stated_row-kept : (c d : Collection) → Grows c d → (vs : List ValueType) → AllStand c vs → stated_row d vs ≡ stated_row c vs
 stated_row-kept c d g [] s = refl
-stated_row-kept c d g (v ∷ vs) s = rw (stated-kept c d g (ItemKind.Value v) s.0, stated_row-kept c d g vs s.1) refl
+stated_row-kept c d g (v ∷ vs) s = rw (stated_kept c d g (ItemKind.Value v) s.0, stated_row-kept c d g vs s.1) refl
 
 pub AreValues-kept : (c d : Collection) → Grows c d → (ts : List (Option Stated)) (vs : List ValueType) → AreValues c ts vs → AreValues d ts vs
 AreValues-kept c d g ts vs h = record { stand = AllStand-kept c d g vs h.stand; same = stated_row-kept c d g vs h.stand ∙ h.same }
@@ -168,7 +166,7 @@ module _ {V T : Type 0} where
 meant-kept : (c d : Collection) → Grows c d → (b : Binding) → BindingStands c b → meant_by d b ≡ meant_by c b
 meant-kept c d g b s =
     let P : Stated → Meant = λ x. record { item = x; span = b.span } in
-    ap P (stated-kept c d g b.kind s)
+    ap P (stated_kept c d g b.kind s)
 
 pub scope-kept : (c d : Collection) → Grows c d → (bs : List (Name × Binding)) → NamesStand c bs → scope_of d bs ≡ scope_of c bs
 scope-kept c d g bs s = with_values-same (BindingStands c) (meant_by d) (meant_by c) (meant-kept c d g) bs s

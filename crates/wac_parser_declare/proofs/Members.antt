@@ -1,7 +1,5 @@
 -- One more member of a map, and what functions state.
-use Rattle.std.proofs.Common.{◌≡◌, List, [], ◌∷◌, ◌++◌, map, All, Option, Some, None, is_some, option_map, Bool, true, false, Ok, Err, refl, sym, ap, subst, ◌∙◌, if◌then◌else◌, ◌==◌, inl, inr}
-use Rattle.std.specs.Cmp.Lexicographic.{pointwise}
-use Rattle.std.proofs.lemmas.Slice.Eq.{bytes_eq-Decides}
+use Rattle.std.proofs.Common.{◌≡◌, List, [], ◌∷◌, ◌++◌, map, All, Option, Some, None, is_some, option_map, Bool, true, false, Ok, Err, refl, sym, ap, subst, ◌∙◌, if◌then◌else◌}
 use Rattle.wac_types_base.specs.declared.item.ValueType.{ValueType}
 use Rattle.wac_types_base.specs.declared.item.ItemKind.{ItemKind}
 use Rattle.wac_types_base.specs.declared.item.«Type».{«Type» as TypeKind}
@@ -9,7 +7,7 @@ use Rattle.wac_types_base.specs.declared.ids.FuncTypeId.{FuncTypeId}
 use Rattle.wac_types_base.specs.Record.{Collection}
 use Rattle.wac_types_base.specs.Collection as s
 use Rattle.wac_types_base.specs.Collection.{Shape, Slot, SlotStands, Stands, IsAcyclic, Grows, item_node, func_entry, value_slot, option_slot}
-use Rattle.wac_types_base.specs.Entries.{Name, with_values, value_at, names_of, values_of, IsNew}
+use Rattle.wac_types_base.specs.Entries.{Name, with_values, value_at, names_of, values_of}
 use Rattle.wac_types_base.specs.Stated.{Stated, stated_of, kind_of, desc, func_of, names, filled, contains_borrow}
 use Rattle.wac_types_base.proofs.Loops.{names-with_values, mapped_next}
 use Rattle.wac_types_base.proofs.Telling.{item_kind, kind_stated, untyped_stated}
@@ -26,25 +24,14 @@ use Rattle.wac_parser_declare.specs.Declarations.{add_member, member, no_borrow,
 use Rattle.wac_parser_refusals.specs.Outcomes.{IsHeld, IsRefusal, Refuses, Tells}
 use Rattle.wac_parser_declare.specs.Holding.{AddsNew, IsValue, IsValueIf, IsFunc, NamesStand, StandsIf, AreEntries, EachStands, ValueStands, AreNamedValues, AreCases, scope_of, self_params, stated_value, stated_if}
 use Rattle.wac_parser_refusals.proofs.Outcomes.{then_refused, after_refused}
-use Rattle.wac_parser_declare.proofs.Kept.{entry_holds, children, both_stand, named_values_stand, option_stands, option_places, IsValueIf-kept, StandsIf-kept, scope-kept, stated-kept, stated_if-kept, AreEntries-kept, EachStands-more, with_values-more, value_at-with_values}
+use Rattle.wac_parser_declare.proofs.Kept.{entry_holds, children, both_stand, named_values_stand, option_stands, option_places, IsValueIf-kept, StandsIf-kept, scope-kept, stated_if-kept, AreEntries-kept, EachStands-more, with_values-more, value_at-with_values}
 use Rattle.wac_types_base.proofs.Standing.{is_some-option_map}
+use Rattle.wac_types_base.proofs.Stating.{stated_kept}
 
 -- ---- names
 
 pub has-with_values : {V T : Type 0} (f : V → T) (es : List (Name × V)) (n : Name) → has (with_values f es) n ≡ is_some (value_at es n)
 has-with_values f es n = ap is_some (value_at-with_values f es n) ∙ is_some-option_map f (value_at es n)
-
-equal_names : (n m : Name) → n ≡ m → pointwise ◌==◌ n m ≡ true
-equal_names n m e = (bytes_eq-Decides n m).1 e
-
-absent_by : {V : Type 0} (b : Bool) (v : V) (o : Option V) → is_some (if b then Some v else o) ≡ false → (b ≡ false) × (is_some o ≡ false)
-absent_by true v o h = absurd (cc h)
-absent_by false v o h = (refl, h)
-
-pub new_name : {V : Type 0} (es : List (Name × V)) (n : Name) → is_some (value_at es n) ≡ false → IsNew n es
-new_name [] n h m = absurd m
-new_name (e ∷ es) n h (inl is) = let p = absent_by (pointwise ◌==◌ n e.0) e.1 (value_at es n) h in absurd (cc (p.0, equal_names n e.0 is))
-new_name (e ∷ es) n h (inr m) = new_name es n (absent_by (pointwise ◌==◌ n e.0) e.1 (value_at es n) h).1 m
 
 -- ---- one more member
 
@@ -91,7 +78,7 @@ module _ {V T B : Type 0} (P Q : V → Type 0) (g k : V → T) (keep : (v : V) �
 pub value_added : {B : Type 0} (c d : Collection) → Grows c d → (es fs : List (Name × ValueType)) (i : t.Ident) (f : Fault) (q : Answer Stated) (v : ValueType) (u : B) → EachStands (ValueStands c) es → IsHeld (IsValue d) q v
     → is_some (value_at es i.string) ≡ false → fs ≡ es ++ (i.string, v) ∷ [] → IsHeld (λ xs w. AreNamedValues d xs fs) (member (with_values (stated_value c) es) i f q) u
 value_added c d g es fs i f q v u stand h absent is =
-    member_added (ValueStands c) (ValueStands d) (stated_value c) (stated_value d) (λ v s. g.stand (ItemKind.Value v) s) (λ v s. stated-kept c d g (ItemKind.Value v) s) (IsValue d) (λ t v h. (h.stands, h.same)) es fs i f q v u stand h absent is
+    member_added (ValueStands c) (ValueStands d) (stated_value c) (stated_value d) (λ v s. g.stand (ItemKind.Value v) s) (λ v s. stated_kept c d g (ItemKind.Value v) s) (IsValue d) (λ t v h. (h.stands, h.same)) es fs i f q v u stand h absent is
 
 -- one more case
 pub case_added : {B : Type 0} (c d : Collection) → Grows c d → (es fs : List (Name × Option ValueType)) (i : t.Ident) (f : Fault) (q : Answer (Option Stated)) (o : Option ValueType) (u : B) → EachStands (StandsIf c) es → IsHeld (IsValueIf d) q o
@@ -148,7 +135,7 @@ pub func_children : (c : Collection) (es : List (Name × ValueType)) (o : Option
 func_children c es o h r = children c _ (both_stand c (map value_slot (values_of es)) (option_slot o ∷ []) (named_values_stand c es h) (option_stands c o r, tt))
 
 pub named_values-kept : (c d : Collection) → Grows c d → (ps : List (Name × Stated)) (es : List (Name × ValueType)) → AreNamedValues c ps es → AreNamedValues d ps es
-named_values-kept c d g ps es h = AreEntries-kept (ValueStands c) (ValueStands d) (stated_value c) (stated_value d) (λ v s. g.stand (ItemKind.Value v) s) (λ v s. stated-kept c d g (ItemKind.Value v) s) ps es h
+named_values-kept c d g ps es h = AreEntries-kept (ValueStands c) (ValueStands d) (stated_value c) (stated_value d) (λ v s. g.stand (ItemKind.Value v) s) (λ v s. stated_kept c d g (ItemKind.Value v) s) ps es h
 
 pub held_stand : {B : Type 0} (c : Collection) (q : Answer (List (Name × Stated))) (es : List (Name × ValueType)) (u : B) → IsHeld (λ xs w. AreNamedValues c xs es) q u → EachStands (ValueStands c) es
 held_stand c (Ok ps) es u h = h.stand

@@ -32,8 +32,9 @@ use Rattle.wac_parser_declare.proofs.Kept.{SlotsStand, children, cases_stand, na
 use Rattle.wac_types_base.proofs.GraphLemmas.{is_there}
 use Rattle.wac_parser_declare.proofs.Known.{same_refl, same_trans}
 use Rattle.wac_parser_declare.proofs.Values.{sought, binding_stands, value_stands, maybe_stands}
-use Rattle.wac_parser_declare.proofs.Members.{func_children, new_name}
+use Rattle.wac_parser_declare.proofs.Members.{func_children}
 use Rattle.wac_types_base.proofs.Replacing.{labelled_there}
+use Rattle.wac_types_base.proofs.Lists.{no_value}
 
 -- ---- entries
 
@@ -198,7 +199,7 @@ pub ruleset standing = (stay, typed, held)
 
 pub ruleset paths = (standing, interface_exports, world_exports, found_stands, meant_stands)
 
-pub ruleset adding = (added_new, added_stands, new_name)
+pub ruleset adding = (added_new, added_stands, no_value)
 
 pub ruleset functions = (standing, adding, EachStands-kept, EachStands-more, func_children, found_stands)
 

@@ -14,6 +14,7 @@ use Rattle.wac_types_base.specs.Collection.{Grows, Stands, empty}
 use Rattle.wac_types_base.specs.Entries.{Name}
 use Rattle.wac_types_base.proofs.GraphLemmas.{value_of}
 use Rattle.wac_types_base.specs.Stated.{Stated, stated_of}
+use Rattle.wac_types_base.proofs.Stating.{stated_kept}
 use Rattle.wac_types_names.specs.Packaged.{Packaged}
 use Rattle.wac_types_names.specs.contracts.package.Package as package_row
 use Rattle.wac_types_names.specs.Keys.{Key, package_key}
@@ -33,7 +34,6 @@ use Rattle.wac_parser_refusals.specs.Causes.{Fault, present}
 use Rattle.wac_parser_refusals.specs.Outcomes.{IsHeld, IsRefusal, Refuses}
 use Rattle.wac_parser_declare.specs.Packages.{SamePackages}
 use Rattle.wac_parser_declare.specs.Scope.{is_key, same_version}
-use Rattle.wac_parser_declare.proofs.Kept.{stated-kept}
 use Rattle.wac_parser_resolve.specs.declared.packages.GraphTypes.{GraphTypes}
 use Rattle.wac_parser_resolve.specs.Knowing.{Gets, IsPackage, SameWorlds, all_known, beside, handed_under, held_under, known_of, wiring_of, world_in}
 use Rattle.wac_parser_resolve.specs.Keeping.{Keeps}
@@ -160,7 +160,7 @@ world_kept c d g (p ∷ ps) s k =
   where
     here : (o : Option Packaged) → p.held ≡ o → held_under d k o ≡ held_under c k o
     here None is = refl
-    here (Some q) is = ap (λ (t : Stated). cond (is_key k (package_key q)) (Some t) None) (stated-kept c d g (ItemKind.Component q.ty) (s zero p q refl is))
+    here (Some q) is = ap (λ (t : Stated). cond (is_key k (package_key q)) (Some t) None) (stated_kept c d g (ItemKind.Component q.ty) (s zero p q refl is))
 
 -- ---- graphs
 
@@ -314,7 +314,7 @@ module _ (g h i j : Graph) (p : Packaged) (world : WorldId) (k : Key) (w : State
   world_is : stated_of j.types (ItemKind.Component p.ty) ≡ w
   world_is =
       ap (λ (c : Collection). stated_of c (ItemKind.Component p.ty)) types_same ∙ ap (λ (x : WorldId). stated_of i.types (ItemKind.Component x)) of
-      ∙ stated-kept h.types i.types then.grows (ItemKind.Component world) stands ∙ copied
+      ∙ stated_kept h.types i.types then.grows (ItemKind.Component world) stands ∙ copied
 
   pub package_registered : IsPackage j k w id
   package_registered = record { held = p; there = put_there i.places j.places id p reg.put; key = keyed; world = world_is }

@@ -5,6 +5,7 @@ use Rattle.std.specs.Cmp.Lexicographic.{pointwise}
 use Rattle.std.proofs.Common.{◌≡◌, ℕ, zero, suc, ◌<◌, ◌≤◌, List, [], ◌∷◌, ◌++◌, Bool, true, false, Option, Some, None, ◌⊎◌, inl, inr, length, refl, sym, ap, subst, ◌∙◌, arith}
 use Rattle.wac_types_base.specs.Entries.{Name, value_at}
 use Rattle.wac_types_base.specs.Graph.{Among}
+use Rattle.wac_types_base.proofs.Lists.{first_of}
 use Rattle.wac_parser_resolve.specs.Ascribing.{Origin, imported, instance, projected, defined}
 
 -- each instance that the origin names is below this number
@@ -67,10 +68,6 @@ module _ {A : Type 0} where
   slice_there [] i h = absurd (omega (arith, h))
   slice_there (y ∷ xs) zero h = (y, refl)
   slice_there (y ∷ xs) (suc i) h = slice_there xs i (omega (arith, h))
-
-abbrev first_of : {V : Type 0} → Option V → Option V → Option V
-first_of (Some x) o = Some x
-first_of None o = o
 
 value_append : {V : Type 0} (xs : List (Name × V)) (m : Name) (v : V) (n : Name) → value_at (xs ++ (m, v) ∷ []) n ≡ first_of (value_at xs n) (value_at ((m, v) ∷ []) n)
 value_append [] m v n = refl

@@ -1,7 +1,7 @@
 -- What is made of proper types is proper, and so is what is read of one.
 use Rattle.std.specs.Prelude.{drop, option_map, ⊤}
 use Rattle.std.proofs.lemmas.Option.{none-some, same_Some}
-use Rattle.std.proofs.Common.{◌≡◌, ℕ, zero, suc, ◌+◌, List, [], ◌∷◌, ◌++◌, length, Bool, true, false, true≢false, Option, Some, None, inl, inr, refl, sym, ap, subst, ◌∙◌}
+use Rattle.std.proofs.Common.{◌≡◌, ◌+◌, List, [], ◌∷◌, ◌++◌, length, Bool, true, false, true≢false, Option, Some, None, inl, inr, refl, sym, ap, subst, ◌∙◌}
 use Rattle.wac_types_base.specs.Entries.{Name, value_at}
 use Rattle.wac_types_base.specs.Graph.{Wholes, node, no_more, more, hole, Among}
 use Rattle.wac_types_base.specs.Collection.{Shape, primitive, tuple, list, fixed_size_list, option, result, variant, record_of, flags, enum, alias, stream, future, resource, resource_alias, func, interface, world, module_type, type_of, borrow_of, own_of}
@@ -9,8 +9,9 @@ use Rattle.wac_types_base.specs.Stated.{Stated, places_in, with_names, names, fi
 use Rattle.wac_types_base.specs.Tree.{Tree, Fields, trees, tree, tree_at}
 use Rattle.wac_composition.specs.Classes.{is_instance}
 use Rattle.wac_composition.specs.Sound.{IsStraight, an_instance, no_instance}
-use Rattle.wac_composition.proofs.Lists.{among_split, mapped_among}
+use Rattle.wac_composition.proofs.Lists.{mapped_among}
 use Rattle.wac_types_base.proofs.Made.{row_places}
+use Rattle.wac_types_base.proofs.Lists.{among_split, among_drop}
 use Rattle.wac_parser_resolve.specs.Proper.{NoInstance, NamesNoInstance, Proper, proper}
 use Rattle.wac_types_fit.proofs.Items.{value_at-among}
 
@@ -73,11 +74,6 @@ with_among (n ∷ ns) (None ∷ os) e m = inr (with_among ns os e m)
 with_among {A = A} (n ∷ ns) (Some x ∷ os) e (inl q) = inl (ap (λ (f : Name × A). Some f.1) q)
 with_among (n ∷ ns) (Some x ∷ os) e (inr m) = inr (with_among ns os e m)
 
-drop_among : {X : Type 0} (k : ℕ) (xs : List X) (x : X) → Among x (drop k xs) → Among x xs
-drop_among zero xs x m = m
-drop_among (suc k) [] x m = absurd m
-drop_among (suc k) (y ∷ ys) x m = inr (drop_among k ys x m)
-
 uses_among : {A : Type 0} (us : List (Name × Option Name)) (os : List (Option (Stated × A))) (u : Used × A) → Among u (uses_from us os) → Among (Some (u.0.interface, u.1)) os
 uses_among [] os u m = absurd m
 uses_among (v ∷ us) [] u m = absurd m
@@ -105,12 +101,12 @@ pub in_places : {A : Type 0} (s : Shape) (os : List (Option (Stated × A))) → 
 in_places (interface i us es) os = record {
   uses = uses_among us os;
   imports = λ e m. absurd m;
-  exports = λ e m. drop_among (length us) os (Some e.1) (with_among es (drop (length us) os) e m);
+  exports = λ e m. among_drop (length us) os (Some e.1) (with_among es (drop (length us) os) e m);
 }
 in_places (world i us is es) os = record {
   uses = uses_among us os;
-  imports = λ e m. drop_among (length us) os (Some e.1) (with_among is (drop (length us) os) e m);
-  exports = λ e m. drop_among (length us + length is) os (Some e.1) (with_among es (drop (length us + length is) os) e m);
+  imports = λ e m. among_drop (length us) os (Some e.1) (with_among is (drop (length us) os) e m);
+  exports = λ e m. among_drop (length us + length is) os (Some e.1) (with_among es (drop (length us + length is) os) e m);
 }
 in_places (primitive p) os = no_parts os
 in_places tuple os = no_parts os

@@ -1,16 +1,17 @@
 -- What a composition of proper types asks is proper.
-use Rattle.std.specs.Prelude.{map, not, is_some, filter, filter_map, option_map}
+use Rattle.std.specs.Prelude.{map, not, is_some, filter, option_map}
 use Rattle.std.proofs.lemmas.Option.{none-some, same_Some}
-use Rattle.std.specs.List.{flat_map, cons_option}
-use Rattle.std.proofs.Common.{◌≡◌, List, [], ◌∷◌, ◌++◌, Option, Some, None, inl, inr, refl, sym, ap, subst, ◌∙◌}
+use Rattle.std.specs.List.{flat_map}
+use Rattle.std.proofs.Common.{◌≡◌, List, ◌∷◌, ◌++◌, Option, Some, None, inl, inr, refl, sym, subst}
 use Rattle.wac_types_base.specs.Entries.{Name, value_at}
 use Rattle.wac_types_base.specs.Graph.{Wholes, node, no_more, more, hole, Among}
 use Rattle.wac_types_base.specs.Collection.{Shape, primitive, tuple, list, fixed_size_list, option, result, variant, record_of, flags, enum, alias, stream, future, resource, resource_alias, func, interface, world, module_type, type_of, borrow_of, own_of}
 use Rattle.wac_types_base.specs.Stated.{Stated, Kind, IsFunction, IsInstance, IsComponent, IsModule, IsValue, IsResource, IsFunctionType, IsValueType, IsInterface, IsWorld, IsModuleType, Used, parts_at, folded_row, places_in, imports_of, uses_of, kind_of, identifier_of}
+use Rattle.wac_types_base.proofs.Lists.{among_split, from_filtered}
 use Rattle.wac_composition.specs.Composition.{Placed, Made, Composition}
 use Rattle.wac_composition.specs.Asks.{Ask, ToFill, ToUse, below_use, below_parts, used_at, used_by, used_by_kind, used_by_definition, explicit_ask, filled_asks, asked_for, named_asks, asks_of}
 use Rattle.wac_composition.proofs.Closures.{filter_among}
-use Rattle.wac_composition.proofs.Lists.{among_split, mapped_among, among_flat}
+use Rattle.wac_composition.proofs.Lists.{mapped_among, among_flat}
 use Rattle.wac_parser_resolve.specs.Proper.{Proper}
 use Rattle.wac_parser_resolve.proofs.Proper.{below, in_places, AllPlaces, imports_proper, uses_proper}
 
@@ -112,15 +113,6 @@ used_of_kind IsValueType n x h y m = absurd m
 used_of_kind IsModuleType n x h y m = absurd m
 
 -- ---- asks
-
-pub from_filtered : {X Y : Type 0} (f : X → Option Y) (xs : List X) (y : Y) → Among y (filter_map f xs) → (x : X) × Among x xs × (f x ≡ Some y)
-from_filtered f [] y m = absurd m
-from_filtered {X = X} {Y = Y} f (x ∷ xs) y m = go (from_filtered f xs y) (f x) refl m
-  where
-    go : (Among y (filter_map f xs) → (z : X) × Among z xs × (f z ≡ Some y)) → (o : Option Y) → f x ≡ o → Among y (cons_option o (filter_map f xs)) → (z : X) × Among z (x ∷ xs) × (f z ≡ Some y)
-    go rest None q n = let r = rest n in (r.0, inr r.1, r.2)
-    go rest (Some v) q (inl e) = (x, inl refl, q ∙ ap Some (sym e))
-    go rest (Some v) q (inr n) = let r = rest n in (r.0, inr r.1, r.2)
 
 module _ {A : Type 0} where
   abbrev AllAsks : List (Ask A) → Type 0

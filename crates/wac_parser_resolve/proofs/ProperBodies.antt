@@ -8,6 +8,7 @@ use Rattle.wac_types_base.specs.declared.item.ExternKind.{ExternKind}
 use Rattle.wac_types_base.specs.Entries.{Name, value_at}
 use Rattle.wac_types_base.specs.Collection as s
 use Rattle.wac_types_base.specs.Stated.{Stated, Kind, IsFunction, IsInstance, IsComponent, IsModule, IsValue, IsResource, IsFunctionType, IsValueType, IsInterface, IsWorld, IsModuleType, kind_of, desc, untyped, as_type, own, leaf, Used, interface_of, world_of, exports_of, imports_of, identifier_of}
+use Rattle.wac_types_base.proofs.Lists.{from_filtered}
 use Rattle.wac_types_names.specs.Keys.{Key}
 use Rattle.wac_parser_tree.specs.Trees as t
 use Rattle.wac_parser_tree.specs.Trees.{Span}
@@ -26,7 +27,6 @@ use Rattle.wac_parser_resolve.proofs.Numbers.{each_more, value_more}
 use Rattle.wac_parser_resolve.proofs.Sound.{present_is}
 use Rattle.wac_parser_resolve.proofs.Proper.{leaf_proper, typed_proper, own_proper, borrow_proper, untyped_proper, AllItems, AllUses, exports_proper, imports_proper, item_proper, if_some, if_none, interface_proper, world_proper}
 use Rattle.wac_parser_resolve.proofs.ProperTypes.{typed_is, ScopeProper, named_proper, more_items, no_items, function_proper, free_proper, func_ref_proper, IsDeclared, variant_declared, record_declared, flags_declared, enum_declared, type_decl_proper, alias_in_body}
-use Rattle.wac_parser_resolve.proofs.ProperAsks.{from_filtered}
 
 -- ---- packages
 

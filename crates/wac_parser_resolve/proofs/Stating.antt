@@ -44,11 +44,11 @@ use Rattle.wac_parser_resolve.proofs.Turns.{turn_map}
 use Rattle.std.specs.Prelude.{option_map, is_some, ⊤, false}
 use Rattle.wac_types_base.specs.Entries.{put_entry}
 use Rattle.wac_types_base.proofs.Looked.{put_entry-new}
+use Rattle.wac_types_base.proofs.Lists.{no_value}
 use Rattle.wac_parser_refusals.specs.Causes.{◌>>◌, pure}
 use Rattle.wac_parser_refusals.specs.Outcomes.{IsHeld}
 use Rattle.wac_parser_declare.specs.Scope.{Meant, Scope, bind, taken}
 use Rattle.wac_parser_declare.proofs.Kept.{EachStands-more, value_at-with_values, with_values-more}
-use Rattle.wac_parser_declare.proofs.Members.{new_name}
 use Rattle.wac_parser_resolve.specs.Ascribing as stated
 use Rattle.wac_parser_resolve.specs.Ascribing.{bound}
 use Rattle.wac_parser_resolve.proofs.Items.{of_item}
@@ -394,7 +394,7 @@ module _ (own : t.PackageName) (b : Held) (s : State) (said : IsSaid own b s) (d
 
     said_after : IsOfKind g k (λ x. x ≡ kind) → value_at (root_scope s) i.string ≡ None → IsSaid own after named_so
     said_after kept e =
-        let new = put_entry-new b.nodes i.string k (new_name b.nodes i.string (nameless e)) in
+        let new = put_entry-new b.nodes i.string k (no_value b.nodes i.string (nameless e)) in
         let first = subst (λ (xs : List (Name × ℕ)). IsSaid own (with_names (b.names ++ (i.string, binding) ∷ []) xs) named_so) (sym (put ∙ new)) (said_named kept e) in
         let both = subst (λ (xs : List (Name × Binding)). IsSaid own (with_names xs es) named_so) (sym now) first in
         said_within own (with_names bs es) h named_so inner none within both

@@ -2,6 +2,7 @@ pub mod GraphLemmas
 pub mod Relation
 pub mod Looked
 pub mod Loops
+pub mod Lists
 pub mod Adding
 pub mod Standing
 pub mod Walking

@@ -103,7 +103,7 @@ has-not (m ∷ ms) n h =
 pub put_name-new : (ms : List (List ℕ)) (n : List ℕ) → (Among n ms → ⊥) → put_name ms n ≡ ms ++ n ∷ []
 put_name-new ms n h = rw (has-not ms n h) refl
 
-among-take : {X : Type 0} (x : X) (xs : List X) (i : ℕ) → Among x (take i xs) → Among x xs
+pub among-take : {X : Type 0} (x : X) (xs : List X) (i : ℕ) → Among x (take i xs) → Among x xs
 among-take x [] zero m = m
 among-take x [] (suc i) m = m
 among-take x (y ∷ xs) zero m = absurd m

@@ -12,8 +12,8 @@ use Rattle.wac_types_base.specs.declared.defined.Interface.{Interface}
 use Rattle.wac_types_base.specs.declared.defined.World.{World}
 use Rattle.wac_types_base.specs.Record.{Collection}
 use Rattle.wac_types_base.specs.Entries.{Name, names_of, value_at, with_values}
-use Rattle.wac_types_base.specs.Collection.{Slot, IsAcyclic, item_node, interface_entry, world_entry, interface, world, use_names, used, items}
-use Rattle.wac_types_base.specs.Stated.{Stated, row, over, stated_of, stated_entry, Used, names, filled, names_used, used_places, with_names, uses_from, only_places, first_parts, exports_of, imports_of, uses_of, interface_of, world_of}
+use Rattle.wac_types_base.specs.Collection.{Slot, Stands, IsAcyclic, Grows, item_node, interface_entry, world_entry, interface, world, use_names, used, items}
+use Rattle.wac_types_base.specs.Stated.{Stated, row, over, stated_in, stated_of, stated_entry, Used, names, filled, names_used, used_places, with_names, uses_from, only_places, first_parts, exports_of, imports_of, uses_of, interface_of, world_of}
 use Rattle.wac_types_base.proofs.Slots.{entry_at-is}
 use Rattle.wac_types_base.proofs.Telling.{stated_step}
 
@@ -206,3 +206,8 @@ pub import_stated : (c : Collection) (id : WorldId) (x : World) (n : Name) (k : 
     → value_at (imports_of (stated_of c (ItemKind.Component id))) n ≡ Some (stated_of c k)
 import_stated c id x n k acyclic at own is =
     ap (λ l. value_at l n) (imports_stated c acyclic id x at own) ∙ value_with (stated_of c) x.imports n ∙ ap (option_map (stated_of c)) is
+
+-- ---- in a collection that grows
+
+pub stated_kept : (c d : Collection) → Grows c d → (k : ItemKind) → Stands c k → stated_of d k ≡ stated_of c k
+stated_kept c d grows k stands = ap stated_in (grows.keep k stands)

@@ -149,7 +149,7 @@ pub borrows_in_places : (c : Collection) (x : DefinedType) → contains_borrow (
 unfolding contains_borrow
 borrows_in_places c x = borrows_defined x (folded_row borrows_at (row (map (option_map (stated_of c)) (defined_entry x).1))) ∙ any_slots c (defined_entry x).1
 
-or_true : (b : Bool) → (b || true) ≡ true
+pub or_true : (b : Bool) → (b || true) ≡ true
 or_true true = refl
 or_true false = refl
 
@@ -211,7 +211,7 @@ item_kind (ItemKind.Module m) = IsModule
 item_kind (ItemKind.Value v) = IsValue
 
 -- every entry that an id gives is that of an entry there
-entry_from : {E : Type 0} (f : E → Entry) (P : Entry → Type 0) → ((x : E) → P (f x)) → (n : ℕ) (es : List E) (col i : ℕ) (e : Entry) → entry_at f n es col i ≡ Some e → P e
+pub entry_from : {E : Type 0} (f : E → Entry) (P : Entry → Type 0) → ((x : E) → P (f x)) → (n : ℕ) (es : List E) (col i : ℕ) (e : Entry) → entry_at f n es col i ≡ Some e → P e
 entry_from f P h n es col i e is =
     let g = guarded-some _ _ e is in
     let m = option_map-some f (slice_get es i) e g.1 in
@@ -235,7 +235,7 @@ defined_label (DefinedType.Alias t) = (refl, refl)
 defined_label (DefinedType.Stream o) = (refl, refl)
 defined_label (DefinedType.Future o) = (refl, refl)
 
-labelled_kind : (l : Shape → Shape) (P Q : Entry → Type 0) → ((e : Entry) → P e → Q (l e.0, e.1)) → (o : Option Entry) → ((e : Entry) → o ≡ Some e → P e) → (e : Entry) → labelled l o ≡ Some e → Q e
+pub labelled_kind : (l : Shape → Shape) (P Q : Entry → Type 0) → ((e : Entry) → P e → Q (l e.0, e.1)) → (o : Option Entry) → ((e : Entry) → o ≡ Some e → P e) → (e : Entry) → labelled l o ≡ Some e → Q e
 labelled_kind l P Q step o h e is =
     let m = labelled-some l o e is in
     subst Q (sym m.2) (step m.0 (h m.0 m.1))

@@ -17,7 +17,8 @@ use Rattle.wac_types_fit.specs.Checking.{HasAll, LacksOne, module_tree, import_a
 use Rattle.wac_types_base.proofs.Looked.{take-one_more}
 use Rattle.wac_types_base.proofs.Used.{drop_next}
 use Rattle.wac_types_base.proofs.Loops.{take-all}
-use Rattle.wac_types_fit.proofs.Items.{value_at-among, among-value_at, joined, name-among, Among-last}
+use Rattle.wac_types_base.proofs.Lists.{joined}
+use Rattle.wac_types_fit.proofs.Items.{value_at-among, among-value_at, name-among, Among-last}
 use Rattle.wac_types_fit.proofs.Ordering.{IsKeyOrder, name_order, pair_order}
 
 -- ---- the entries by ascending keys are the same entries

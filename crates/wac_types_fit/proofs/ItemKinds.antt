@@ -263,7 +263,7 @@ not_instance (ItemKind.Instance f) h e = h f refl
 not_instance (ItemKind.Ty t) h e = no_type t IsInstance refl e
 not_instance k h e = absurd (cc e)
 
-not_component : (k : ItemKind) → ((f : WorldId) → k ≡ ItemKind.Component f → ⊥) → item_kind k ≡ IsComponent → ⊥
+pub not_component : (k : ItemKind) → ((f : WorldId) → k ≡ ItemKind.Component f → ⊥) → item_kind k ≡ IsComponent → ⊥
 not_component (ItemKind.Component f) h e = h f refl
 not_component (ItemKind.Ty t) h e = no_type t IsComponent refl e
 not_component k h e = absurd (cc e)

@@ -20,6 +20,7 @@ use Rattle.wac_types_base.proofs.Adding.{option_map-some, Among-left, Among-righ
 use Rattle.wac_types_base.proofs.Looked.{take-one_more}
 use Rattle.wac_types_base.proofs.Walking.{slice_get-Among, child_smaller}
 use Rattle.wac_types_base.proofs.Slots.{slots_interface, slots_world}
+use Rattle.wac_types_base.proofs.Lists.{joined}
 use Rattle.wac_types_fit.specs.Ordered.{InOrder, AllInOrder}
 use Rattle.wac_types_fit.specs.Lookups.{lookup}
 use Rattle.wac_types_fit.specs.Trees.{tree_in, Fit, IsInside}
@@ -30,9 +31,6 @@ use Rattle.wac_types_fit.proofs.Ordering.{AllInOrder-put, named_in_order}
 use Rattle.wac_types_fit.proofs.Unfolded.{fields_in, instance_tree, component_tree}
 
 -- ---- looking up
-
-pub joined : {A B : Type 0} (a b : A × B) → a.0 ≡ b.0 → a.1 ≡ b.1 → a ≡ b
-joined a b p q = λ i. (p i, q i)
 
 value_is : {T : Type 0} (b : Bool) (n : Name) (k : T) (x : Name × T) (es : List (Name × T)) (o : Option T) → pointwise ◌==◌ n x.0 ≡ b → (o ≡ Some k → Among (n, k) es) → (if b then Some x.1 else o) ≡ Some k → Among (n, k) (x ∷ es)
 value_is true n k x es o e h f = let v : x.1 ≡ k = cc f in inl (joined (n, k) x ((bytes_eq-Decides n x.0).0 e) (sym v))

@@ -12,7 +12,7 @@ use Rattle.wac_types_fit.proofs.Ordering.{never, IsKeyOrder, name_order, pair_or
 -- ---- reflexive
 
 -- a larger map still has what is asked
-more_fields : {xs ys : Fields} {m : Name} {u : Tree} → FieldsFit xs ys → FieldsFit (field m u xs) ys
+pub more_fields : {xs ys : Fields} {m : Name} {u : Tree} → FieldsFit xs ys → FieldsFit (field m u xs) ys
 more_fields none_asked = none_asked
 more_fields (one_asked h f r) = one_asked (at_later h) f (more_fields r)
 

@@ -27,6 +27,7 @@ use Rattle.wac_types_base.proofs.Standing.{defined_found}
 use Rattle.wac_types_base.proofs.Slots.{slots_func, slots_defined}
 use Rattle.wac_types_base.proofs.Telling.{value_places, entry_size}
 use Rattle.wac_types_base.proofs.GraphLemmas.{value_of}
+use Rattle.wac_types_base.proofs.Lists.{none_test}
 use Rattle.std.proofs.lemmas.Option.{slice_get-map}
 use Rattle.wac_types_fit.specs.Trees.{tree_in, SameTree}
 use Rattle.wac_types_fit.specs.Checking.{value_in, HoldsValues, ValueStands, value_tree, place_trees}
@@ -403,12 +404,6 @@ module _ (c d : Collection) (j k : ItemKind) (hc : HoldsValues c j) (hd : HoldsV
 
   pub place_missing : (i : ℕ) (u : Slot) → slice_get (slots_of c j) i ≡ None → slice_get (slots_of d k) i ≡ Some u → place_trees c j ≡ place_trees d k → ⊥
   place_missing i u p q h = absurd (cc (no_place_tree c j i p, ap (λ l. slice_get l i) h, place_tree d k hd i u q))
-
-none_test : {X : Type 0} (o : Option X) (b : Bool) → is_some o ≡ not b → (b ≡ true → o ≡ None) × (((x : X) → o ≡ Some x → ⊥) → b ≡ true)
-none_test None true e = (λ h. refl, λ h. refl)
-none_test None false e = absurd (cc e)
-none_test (Some x) true e = absurd (cc e)
-none_test (Some x) false e = (λ h. absurd (cc h), λ h. absurd (h x refl))
 
 -- at the end of the one, the other ends where they agree
 pub ends_decided : (c d : Collection) (j k : ItemKind) → HoldsValues c j → HoldsValues d k → (n : ℕ) (o : Option Slot) (b : Bool) → slice_get (slots_of c j) n ≡ None → o ≡ slice_get (slots_of d k) n → is_some o ≡ not b → ((i : ℕ) → i < n → slice_get (place_trees c j) i ≡ slice_get (place_trees d k) i) → IsTrue b ↔ (place_trees c j ≡ place_trees d k)

@@ -25,8 +25,9 @@ use Rattle.wac_types_merge.specs.Merging.{Ask, tree_asked, HasFamily, IsAsked, H
 use Rattle.wac_types_merge.specs.Steps.{HasClash, LieOutside, IsMerged}
 use Rattle.wac_types_merge.proofs.Grown.{tree_kept, copied_tree}
 use Rattle.wac_types_merge.proofs.Plain.{family_plain, plain_meet}
-use Rattle.wac_types_merge.proofs.Tracks.{greater_before, Among-either, apart_more, apart_set, set_among}
+use Rattle.wac_types_merge.proofs.Tracks.{greater_before, apart_more, apart_set, set_among}
 use Rattle.wac_types_base.proofs.Looked.{among-get}
+use Rattle.wac_types_base.proofs.Lists.{among_split}
 
 -- ---- where the track of a name stands
 
@@ -86,7 +87,7 @@ module _ (old new : Imports) (a : Ask) (acyclic : IsAcyclic a.types) (stands : S
     only P p l (inr n) = absurd n
 
     either : (P : Import → Type 0) → ((l : Import) → Among l old.kept → P l) → P m → (l : Import) → Among l new.kept → P l
-    either P h p l n = elim (Among-either l old.kept (m ∷ []) (subst (Among l) kept n)) [ inl k ↦ h l k | inr k ↦ only P p l k ]
+    either P h p l n = elim (among_split l old.kept (m ∷ []) (subst (Among l) kept n)) [ inl k ↦ h l k | inr k ↦ only P p l k ]
 
     pub first_sound : AreSound new
     first_sound = record {

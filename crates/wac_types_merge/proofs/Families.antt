@@ -1,5 +1,5 @@
 -- What the tests of the families rest on.
-use Rattle.std.proofs.Common.{◌≡◌, ℕ, ◌+◌, ◌<◌, ◌≤◌, List, [], ◌∷◌, ◌++◌, length, map, Option, Some, None, IsSome, Bool, IsTrue, ◌↔◌, refl, sym, ap, subst, ◌∙◌, ◌⊎◌, inl, inr, arith, below_more}
+use Rattle.std.proofs.Common.{◌≡◌, ℕ, ◌+◌, ◌<◌, ◌≤◌, List, [], ◌∷◌, ◌++◌, length, Option, Some, None, IsSome, Bool, IsTrue, ◌↔◌, refl, sym, ap, subst, ◌∙◌, ◌⊎◌, inl, inr, arith, below_more}
 use Rattle.std.specs.Prelude.{slice_get, is_some}
 use Rattle.std.specs.Option.{option_map}
 use Rattle.wac_types_base.specs.declared.item.ItemKind.{ItemKind}
@@ -23,6 +23,7 @@ use Rattle.wac_types_base.proofs.Adding.{Among-left}
 use Rattle.wac_types_base.proofs.Slots.{slots_interface, slots_world, slots_resource, stands_borrow, stands_own, stands_typed_value}
 use Rattle.wac_types_base.proofs.Standing.{resource_found}
 use Rattle.wac_types_base.proofs.Walking.{slice_get-Among, child_smaller}
+use Rattle.wac_types_base.proofs.Lists.{among_mapped}
 use Rattle.wac_types_fit.specs.Trees.{IsInside}
 use Rattle.wac_types_merge.specs.Families.{IsUnnamedIn, IsUsedBy, used_directly, used_further, UsesSuch, owner, owner_in, owner_of, value_owner}
 
@@ -49,11 +50,6 @@ module _ {X : Type 0} (xs : List X) (Q : X → Type 0) where
 
 -- ---- uses
 
-map_among : {X Y : Type 0} (f : X → Y) (xs : List X) (x : X) → Among x xs → Among (f x) (map f xs)
-map_among f [] x m = absurd m
-map_among f (y ∷ xs) x (inl e) = inl (ap f e)
-map_among f (y ∷ xs) x (inr m) = inr (map_among f xs x m)
-
 use_of : (us : List UsedType) (j : InterfaceId) → Among j (used_interfaces us) → (u : UsedType) × Among u us × (u.interface ≡ j)
 use_of [] j m = absurd m
 use_of (x ∷ us) j (inl e) = (x, inl refl, sym e)
@@ -63,14 +59,14 @@ use_of (x ∷ us) j (inr m) = let r = use_of us j m in (r.0, inr r.1, r.2)
 pub use_inside : (c : Collection) → IsAcyclic c → (i : InterfaceId) (x : Interface) → Stands c (ItemKind.Instance i) → slice_get c.interfaces i.index ≡ Some x → i.collection ≡ c.number → (u : UsedType) → Among u (values_of x.uses) → IsInside c (ItemKind.Instance u.interface) (ItemKind.Instance i)
 use_inside c a i x s at own u m =
     let slot = Some (ItemKind.Instance u.interface) in
-    let here = Among-left slot (used x.uses) (items x.exports) (map_among (λ (v : UsedType). Some (ItemKind.Instance v.interface)) (values_of x.uses) u m) in
+    let here = Among-left slot (used x.uses) (items x.exports) (among_mapped (λ (v : UsedType). Some (ItemKind.Instance v.interface)) (values_of x.uses) u m) in
     let p = slice_get-Among (interface_entry x).1 slot here in
     child_smaller c a (ItemKind.Instance i) s p.0 (ItemKind.Instance u.interface) (subst (λ l. slice_get l p.0 ≡ Some slot) (sym (slots_interface c i x at own)) p.2)
 
 pub world_use_inside : (c : Collection) → IsAcyclic c → (i : WorldId) (x : World) → Stands c (ItemKind.Component i) → slice_get c.worlds i.index ≡ Some x → i.collection ≡ c.number → (u : UsedType) → Among u (values_of x.uses) → IsInside c (ItemKind.Instance u.interface) (ItemKind.Component i)
 world_use_inside c a i x s at own u m =
     let slot = Some (ItemKind.Instance u.interface) in
-    let here = Among-left slot (used x.uses) (items x.imports ++ items x.exports) (map_among (λ (v : UsedType). Some (ItemKind.Instance v.interface)) (values_of x.uses) u m) in
+    let here = Among-left slot (used x.uses) (items x.imports ++ items x.exports) (among_mapped (λ (v : UsedType). Some (ItemKind.Instance v.interface)) (values_of x.uses) u m) in
     let p = slice_get-Among (world_entry x).1 slot here in
     child_smaller c a (ItemKind.Component i) s p.0 (ItemKind.Instance u.interface) (subst (λ l. slice_get l p.0 ≡ Some slot) (sym (slots_world c i x at own)) p.2)
 
@@ -79,7 +75,7 @@ abbrev pub IsUnnamed : Collection → UsedType → Type 0
 IsUnnamed c u = identifier_in (slice_get c.interfaces u.interface.index) ≡ None
 
 pub unnamed_there : (c : Collection) (us : List UsedType) (u : UsedType) → Among u us → IsUnnamed c u → IsUnnamedIn c us
-unnamed_there c us u m e = (u.interface, map_among (λ (v : UsedType). v.interface) us u m, e)
+unnamed_there c us u m e = (u.interface, among_mapped (λ (v : UsedType). v.interface) us u m, e)
 
 pub all_named : (c : Collection) (us : List UsedType) → ((u : UsedType) → Among u us → IsUnnamed c u → ⊥) → IsUnnamedIn c us → ⊥
 all_named c us h n =
@@ -95,7 +91,7 @@ Leads c target u = StateSame c u.interface target ⊎ UsesSuch c u.interface tar
 
 module _ (c : Collection) (target i : InterfaceId) (x : Interface) (at : slice_get c.interfaces i.index ≡ Some x) where
   pub use_in : (u : UsedType) → Among u (values_of x.uses) → Among u.interface (uses_in (slice_get c.interfaces i.index))
-  use_in u m = subst (λ o. Among u.interface (uses_in o)) (sym at) (map_among (λ (v : UsedType). v.interface) (values_of x.uses) u m)
+  use_in u m = subst (λ o. Among u.interface (uses_in o)) (sym at) (among_mapped (λ (v : UsedType). v.interface) (values_of x.uses) u m)
 
   pub leads_there : (u : UsedType) → Among u (values_of x.uses) → Leads c target u → UsesSuch c i target
   leads_there u m (inl e) = (u.interface, used_directly (use_in u m), e)

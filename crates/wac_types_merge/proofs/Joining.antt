@@ -13,6 +13,7 @@ use Rattle.wac_types_base.specs.Collection.{Stands, SlotStands, Grows}
 use Rattle.wac_types_base.specs.Tree.{instance}
 use Rattle.wac_types_base.proofs.Looked.{take-one_more, distinct-before}
 use Rattle.wac_types_base.proofs.Loops.{map-append, map-take, map-get}
+use Rattle.wac_types_base.proofs.Lists.{among_split, first_of, value_none}
 use Rattle.wac_types_fit.specs.Lookups.{lookup}
 use Rattle.wac_types_fit.specs.Meets.{IsMeet}
 use Rattle.wac_types_fit.specs.Trees.{tree_in}
@@ -22,19 +23,14 @@ use Rattle.wac_types_fit.proofs.Meeting.{Joins, fields_meet}
 use Rattle.wac_types_fit.proofs.Unfolded.{fields_in}
 use Rattle.wac_types_merge.specs.Interfaces.{if_new, new_in, AllStand, SlotInside, JoinedIn, AreJoined}
 use Rattle.wac_types_merge.proofs.Grown.{tree_kept, slot_kept, inside_kept}
-use Rattle.wac_types_merge.proofs.Tracks.{Among-either}
 
 -- ---- look-ups
 
-abbrev either : {T : Type 0} → Option T → Option T → Option T
-either None p = p
-either (Some x) p = Some x
-
-either_test : {T : Type 0} (t : Bool) (v : T) (o p q : Option T) → o ≡ either p q → (if t then Some v else o) ≡ either (if t then Some v else p) q
+either_test : {T : Type 0} (t : Bool) (v : T) (o p q : Option T) → o ≡ first_of p q → (if t then Some v else o) ≡ first_of (if t then Some v else p) q
 either_test true v o p q h = refl
 either_test false v o p q h = h
 
-value_at-append : {T : Type 0} (es fs : List (Name × T)) (n : Name) → value_at (es ++ fs) n ≡ either (value_at es n) (value_at fs n)
+value_at-append : {T : Type 0} (es fs : List (Name × T)) (n : Name) → value_at (es ++ fs) n ≡ first_of (value_at es n) (value_at fs n)
 value_at-append [] fs n = refl
 value_at-append (e ∷ es) fs n = either_test (pointwise ◌==◌ n e.0) e.1 (value_at (es ++ fs) n) (value_at es n) (value_at fs n) (value_at-append es fs n)
 
@@ -92,15 +88,6 @@ added_more es fs first all after i n v at e f =
     f ∙ ap (λ l. l ++ if_new es n v) e ∙ append_assoc first (new_in es (take i fs)) (if_new es n v)
     ∙ ap (λ l. first ++ l) (sym (new-append es (take i fs) n v) ∙ ap (new_in es) (sym (take-one_more fs i (n, v) at)))
 
-none_behind : {T : Type 0} (b : Bool) (v : T) (o : Option T) → (if b then Some v else o) ≡ None → o ≡ None
-none_behind true v o h = absurd (cc h)
-none_behind false v o h = h
-
-no_name : {T : Type 0} (es : List (Name × T)) (n : Name) → value_at es n ≡ None → Among n (names_of es) → ⊥
-no_name [] n e m = m
-no_name (x ∷ es) n e (inl is) = let same : pointwise ◌==◌ n x.0 ≡ true = (bytes_eq-Decides n x.0).1 is in absurd (cc (rw same at e))
-no_name (x ∷ es) n e (inr m) = no_name es n (none_behind (pointwise ◌==◌ n x.0) x.1 (value_at es n) e) m
-
 new_names : {T : Type 0} (b : Bool) (f : Name × T) (rs fs : List (Name × T)) (n : Name) → (Among n (names_of rs) → Among n (names_of fs)) → Among n (names_of (if b then rs else f ∷ rs)) → Among n (names_of (f ∷ fs))
 new_names true f rs fs n h m = inr (h m)
 new_names false f rs fs n h (inl e) = inl e
@@ -114,8 +101,8 @@ names_new es (f ∷ fs) n m = new_names (is_some (value_at es f.0)) f (new_in es
 pub added_new : {T : Type 0} (es fs first all : List (Name × T)) (i : ℕ) (n : Name) (v : T) → slice_get fs i ≡ Some (n, v) → AreDistinct (names_of fs) → names_of first ≡ names_of es → all ≡ first ++ new_in es (take i fs) → value_at es n ≡ None → IsNew n all
 added_new es fs first all i n v at apart same e none m =
     let is : names_of all ≡ names_of first ++ names_of (new_in es (take i fs)) = ap names_of e ∙ map-append (λ x. x.0) first (new_in es (take i fs)) in
-    elim (Among-either n (names_of first) (names_of (new_in es (take i fs))) (subst (Among n) is m)) [
-      | inl k ↦ no_name es n none (subst (Among n) same k)
+    elim (among_split n (names_of first) (names_of (new_in es (take i fs))) (subst (Among n) is m)) [
+      | inl k ↦ value_none es n none (subst (Among n) same k)
       | inr k ↦ distinct-before (names_of fs) i n apart (map-get (λ x. x.0) fs i (n, v) at) (subst (Among n) (map-take (λ x. x.0) fs i) (names_new es (take i fs) n k))
     ]
 
@@ -204,15 +191,15 @@ joined_new c fs d es gs i n k at apart h m =
 -- ---- the meet
 
 module _ (c d e : Collection) (g : Grows c d) (h : Grows d e) (f : Grows c e) where
-  joins_at : (o p r z q : Option ItemKind) → JoinedAt c o p d r → SlotStands c p → (o ≡ None → q ≡ p) → z ≡ either r q → Joins (option_map (tree_in c) o) (option_map (tree_in c) p) (option_map (tree_in e) z)
+  joins_at : (o p r z q : Option ItemKind) → JoinedAt c o p d r → SlotStands c p → (o ≡ None → q ≡ p) → z ≡ first_of r q → Joins (option_map (tree_in c) o) (option_map (tree_in c) p) (option_map (tree_in e) z)
   joins_at None p r z q j s new is =
-      let only : z ≡ p = is ∙ ap (λ x. either x q) j ∙ new refl in
+      let only : z ≡ p = is ∙ ap (λ x. first_of x q) j ∙ new refl in
       ap (option_map (tree_in e)) only ∙ slot_kept c e f p s
   joins_at (Some k) None r z q j s new is =
-      let only : z ≡ Some j.0 = is ∙ ap (λ x. either x q) j.1 in
+      let only : z ≡ Some j.0 = is ∙ ap (λ x. first_of x q) j.1 in
       ap (option_map (tree_in e)) only ∙ ap Some (tree_kept d e h j.0 j.2.0 ∙ j.2.1)
   joins_at (Some k) (Some b) r z q j s new is =
-      let only : z ≡ Some j.0 = is ∙ ap (λ x. either x q) j.1 in
+      let only : z ≡ Some j.0 = is ∙ ap (λ x. first_of x q) j.1 in
       (tree_in d j.0, ap (option_map (tree_in e)) only ∙ ap Some (tree_kept d e h j.0 j.2.stands), j.2.meet)
 
   found_stands : (fs : List (Name × ItemKind)) (n : Name) (o : Option ItemKind) → AllStand c fs → value_at fs n ≡ o → SlotStands c o

@@ -28,9 +28,10 @@ use Rattle.wac_types_merge.specs.Imports.{Imports, AreSound, AreApart, IsIdentif
 use Rattle.wac_types_merge.specs.Merging.{Ask, ask_for, tree_asked, HasFamily, FirstAsked, AskedAgain, IsAsked, IsRefused}
 use Rattle.wac_types_merge.specs.Lists.{AllPlain, AllWit, LieIn, IsImportOf, Merges, none_yet, AreAsked, one_more_asked, Lent, ask_of, asks_of, AsksStand, IsListRefused}
 use Rattle.wac_types_merge.proofs.Grown.{tree_kept, stated_kept, copied_tree}
-use Rattle.wac_types_merge.proofs.Tracks.{not_later, greater_before, greater_asked, greater_still, greater_than_asked, on_track_with, same_or_not, last_among, Among-either, one_place, Elsewhere, set_among, set_there, other_there}
+use Rattle.wac_types_merge.proofs.Tracks.{not_later, greater_before, greater_asked, greater_still, greater_than_asked, on_track_with, same_or_not, one_place, Elsewhere, set_among, set_there, other_there}
 use Rattle.wac_types_base.proofs.Looked.{among-get}
 use Rattle.wac_types_base.proofs.Used.{place_or}
+use Rattle.wac_types_base.proofs.Lists.{among_split, last_among}
 
 -- ---- those of a list
 
@@ -77,7 +78,7 @@ one_member P x y p (inl e) = subst P (sym e) p
 one_member P x y p (inr m) = absurd m
 
 all_more : {X : Type 0} (P : X → Type 0) (xs : List X) (x : X) → ((y : X) → Among y xs → P y) → P x → (y : X) → Among y (xs ++ x ∷ []) → P y
-all_more P xs x h p y m = elim (Among-either y xs (x ∷ []) m) [ inl n ↦ h y n | inr n ↦ one_member P x y p n ]
+all_more P xs x h p y m = elim (among_split y xs (x ∷ []) m) [ inl n ↦ h y n | inr n ↦ one_member P x y p n ]
 
 abbrev Plain : Ask → Type 0
 Plain a = IsPlainItem a.types a.kind
@@ -156,13 +157,13 @@ module _ (asks : List Ask) (old new : Imports) (a : Ask) (sound : AreSound old) 
     }
 
     first_each : (m : Import) → Among m (old.kept ++ f.added ∷ []) → (on : List Ask) × IsImportOf new.types (asks ++ a ∷ []) m on
-    first_each m n = elim (Among-either m old.kept (f.added ∷ []) n) [
+    first_each m n = elim (among_split m old.kept (f.added ∷ []) n) [
       | inl k ↦ not_asked m k (f.alone m k)
       | inr k ↦ one_member (λ (x : Import). (on : List Ask) × IsImportOf new.types (asks ++ a ∷ []) x on) f.added m (a ∷ [], first_import) k
     ]
 
     first_found : (b : Ask) → Among b (asks ++ a ∷ []) → (m : Import) × Among m (old.kept ++ f.added ∷ []) × AreCompatible m.name b.name
-    first_found b n = elim (Among-either b asks (a ∷ []) n) [
+    first_found b n = elim (among_split b asks (a ∷ []) n) [
       | inl k ↦ let was = h.none_lost b k in (was.0, Among-left was.0 old.kept (f.added ∷ []) was.1, was.2)
       | inr k ↦ one_member (λ (x : Ask). (m : Import) × Among m (old.kept ++ f.added ∷ []) × AreCompatible m.name x.name) a b (f.added, last_among old.kept f.added, inl f.name) k
     ]
@@ -217,7 +218,7 @@ module _ (asks : List Ask) (old new : Imports) (a : Ask) (sound : AreSound old) 
     found_old b m i at c (inr n) = (m, other_there old.kept g.at g.after m (record { place = i; other = n; there = at }), c)
 
     again_found : (b : Ask) → Among b (asks ++ a ∷ []) → Found b
-    again_found b n = elim (Among-either b asks (a ∷ []) n) [
+    again_found b n = elim (among_split b asks (a ∷ []) n) [
       | inl k ↦ let was = h.none_lost b k in let p = slice_get-Among old.kept was.0 was.1 in found_old b was.0 p.0 p.2 was.2 (same_or_not g.at p.0)
       | inr k ↦ one_member Found a b (g.after, set_there old.kept g.at g.before g.after g.beside.there, greater_asked g.before.name a.name g.after.name g.beside.track g.name) k
     ]

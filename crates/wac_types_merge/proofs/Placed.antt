@@ -25,8 +25,8 @@ use Rattle.wac_types_fit.proofs.Unfolded.{fields_in, instance_tree, interface_no
 use Rattle.wac_types_merge.specs.Interfaces.{new_in, merged_interface, IsAt, renamed, IsRenamed, AllStand, UsesStand, MeetIn, AreJoined}
 use Rattle.wac_types_merge.proofs.Grown.{tree_kept}
 use Rattle.wac_types_merge.proofs.Joining.{merged_meet}
-use Rattle.wac_types_merge.proofs.Tracks.{Among-either}
 use Rattle.wac_types_base.proofs.Replacing.{labelled_there}
+use Rattle.wac_types_base.proofs.Lists.{among_split}
 use Rattle.wac_types_fit.proofs.Items.{as_slot}
 
 pub added_at : (c d : Collection) (x : Interface) (i : InterfaceId) → d ≡ record c { interfaces = c.interfaces ++ x ∷ [] } → i ≡ record { collection = c.number; index = length c.interfaces } → IsAt d i x
@@ -50,7 +50,7 @@ item_slots c (e ∷ es) h s (inr m) = item_slots c es (λ n k a. h n k (inr a)) 
 
 pub all_children : (c : Collection) (x : Interface) → UsesStand c x.uses → AllStand c x.exports → HasChildren c (interface_entry x)
 all_children c x u e =
-    Among-All (SlotStands c) (interface_entry x).1 (λ s m. elim (Among-either s (used x.uses) (items x.exports) m) [ inl n ↦ used_slots c x.uses u s n | inr n ↦ item_slots c x.exports e s n ])
+    Among-All (SlotStands c) (interface_entry x).1 (λ s m. elim (among_split s (used x.uses) (items x.exports) m) [ inl n ↦ used_slots c x.uses u s n | inr n ↦ item_slots c x.exports e s n ])
 
 new_among : {T : Type 0} (b : Bool) (f : Name × T) (rs fs : List (Name × T)) (x : Name × T) → (Among x rs → Among x fs) → Among x (if b then rs else f ∷ rs) → Among x (f ∷ fs)
 new_among true f rs fs x h m = inr (h m)
@@ -64,8 +64,8 @@ new-among es (f ∷ fs) x m = new_among (is_some (value_at es f.0)) f (new_in es
 pub merged_children : (c : Collection) (x y : Interface) (both : List (Name × ItemKind)) → UsesStand c x.uses → UsesStand c y.uses → AllStand c both → AllStand c y.exports → HasChildren c (interface_entry (merged_interface x y both))
 merged_children c x y both u v b e =
     all_children c (merged_interface x y both)
-    (λ n t m. elim (Among-either (n, t) x.uses (new_in x.uses y.uses) m) [ inl k ↦ u n t k | inr k ↦ v n t (new-among x.uses y.uses (n, t) k) ])
-    (λ n t m. elim (Among-either (n, t) both (new_in x.exports y.exports) m) [ inl k ↦ b n t k | inr k ↦ e n t (new-among x.exports y.exports (n, t) k) ])
+    (λ n t m. elim (among_split (n, t) x.uses (new_in x.uses y.uses) m) [ inl k ↦ u n t k | inr k ↦ v n t (new-among x.uses y.uses (n, t) k) ])
+    (λ n t m. elim (among_split (n, t) both (new_in x.exports y.exports) m) [ inl k ↦ b n t k | inr k ↦ e n t (new-among x.exports y.exports (n, t) k) ])
 
 used_among : (us : List (Name × UsedType)) (n : Name) (u : UsedType) → Among (n, u) us → Among (Some (ItemKind.Instance u.interface)) (used us)
 used_among [] n u m = absurd m

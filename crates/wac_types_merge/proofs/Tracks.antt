@@ -15,6 +15,7 @@ use Rattle.wac_types_names.proofs.VersionOrder.{greater_trans, not_above_self}
 use Rattle.wac_types_merge.specs.declared.family.Import.{Import}
 use Rattle.wac_types_merge.specs.Imports.{AreApart, IsGreater}
 use Rattle.wac_types_base.proofs.Looked.{among-get}
+use Rattle.wac_types_base.proofs.Lists.{among_split}
 
 -- ---- later names
 
@@ -65,20 +66,11 @@ on_track_with m n (inr t) h = is_there (lookup_key n) (t.0, t.2) t.4
 
 -- ---- imports apart
 
-pub last_among : {X : Type 0} (xs : List X) (x : X) → Among x (xs ++ x ∷ [])
-last_among [] x = inl refl
-last_among (y ∷ xs) x = inr (last_among xs x)
-
-pub Among-either : {X : Type 0} (x : X) (xs ys : List X) → Among x (xs ++ ys) → Among x xs ⊎ Among x ys
-Among-either x [] ys m = inr m
-Among-either x (z ∷ xs) ys (inl e) = inl (inl e)
-Among-either x (z ∷ xs) ys (inr m) = elim (Among-either x xs ys m) [ inl n ↦ inl (inr n) | inr n ↦ inr n ]
-
 -- one more import, on a track of its own
 pub apart_more : (ms : List Import) (x : Import) → AreApart ms → ((m : Import) → Among m ms → AreCompatible m.name x.name → ⊥) → AreApart (ms ++ x ∷ [])
 apart_more [] x a h = (λ l m c. absurd m, tt)
 apart_more (m ∷ ms) x a h = (
-  (λ l k c. elim (Among-either l ms (x ∷ []) k) [
+  (λ l k c. elim (among_split l ms (x ∷ []) k) [
     | inl n ↦ a.0 l n c
     | inr n ↦ last_only l n (λ e. h m (inl refl) (subst (λ (z : Import). AreCompatible m.name z.name) e c))
   ]),

@@ -14,7 +14,7 @@ use Rattle.wac_types_base.specs.declared.defined.Interface.{Interface}
 use Rattle.wac_types_base.specs.Record.{Collection}
 use Rattle.wac_types_base.specs.Entries.{Name, value_at, with_values}
 use Rattle.wac_types_base.specs.Collection.{Shape, Entry, SlotStands, Stands, IsAcyclic, Grows, item_node, labelled, type_of, borrow_of, own_of, defined_entry, resource_entry, resource_entry_at, func_entry, interface_entry, world_entry, module_entry}
-use Rattle.wac_types_base.specs.Stated.{Stated, Used, Kind, IsInstance, IsInterface, stated_in, stated_of, stated_entry, shape_kind, kind_of, uses_of, exports_of, identifier_of}
+use Rattle.wac_types_base.specs.Stated.{Stated, Used, Kind, IsInstance, IsInterface, stated_of, stated_entry, shape_kind, kind_of, uses_of, exports_of, identifier_of}
 use Rattle.wac_types_base.proofs.GraphLemmas.{value_of}
 use Rattle.wac_types_base.proofs.Adding.{labelled-some}
 use Rattle.wac_types_base.proofs.Slots.{entry_at-is, stands_typed_func, stands_typed_interface, stands_typed_value, stands_typed_world, stands_typed_module}
@@ -22,7 +22,7 @@ use Rattle.wac_types_base.proofs.Standing.{defined_found, resource_found, func_f
 use Rattle.wac_types_base.proofs.Telling.{stated_step}
 use Rattle.wac_types_base.proofs.Looked.{take-one_more}
 use Rattle.wac_types_base.proofs.Loops.{map-append}
-use Rattle.wac_types_base.proofs.Stating.{stated_uses, interface_uses, interface_exports, interface_stated, value_with}
+use Rattle.wac_types_base.proofs.Stating.{stated_uses, interface_uses, interface_exports, interface_stated, value_with, stated_kept}
 use Rattle.wac_types_merge.specs.Interfaces.{new_in, joined, merged_interface, IsAt, AllStand, UsesStand}
 use Rattle.wac_types_merge.specs.United.{by_name, AreBoth, Unites, the_first, of_instances, ExportsUnite, none_united, one_alone, one_united, UnitesIn, OtherUnites, ItemsUnite, InterfacesUnite}
 use Rattle.wac_types_merge.proofs.Placed.{uses_stand, exports_stand}
@@ -61,9 +61,6 @@ used_as c n u = record { name = n; there = u.name; interface = stated_of c (Item
 named_uses : (c : Collection) (us : List (Name × UsedType)) → by_name (stated_uses c us) ≡ map (named_by (used_as c)) us
 named_uses c [] = refl
 named_uses c (u ∷ us) = ap (λ l. (u.0, used_as c u.0 u.1) ∷ l) (named_uses c us)
-
-stated_kept : (c d : Collection) → Grows c d → (k : ItemKind) → Stands c k → stated_of d k ≡ stated_of c k
-stated_kept c d g k s = ap stated_in (g.keep k s)
 
 used_kept : (c d : Collection) → Grows c d → (us : List (Name × UsedType)) → UsesStand c us → map (named_by (used_as d)) us ≡ map (named_by (used_as c)) us
 used_kept c d g [] s = refl

@@ -1,5 +1,5 @@
 -- What a map gives for a name, from the places of its names.
-use Rattle.std.proofs.Common.{◌≡◌, ℕ, zero, suc, ◌<◌, List, [], ◌∷◌, length, map, refl, sym, ap, ◌∙◌, subst, arith, inl, inr}
+use Rattle.std.proofs.Common.{◌≡◌, ℕ, zero, suc, ◌<◌, List, [], ◌∷◌, length, map, sym, ap, ◌∙◌, subst, arith, inl, inr}
 use Rattle.std.specs.Prelude.{Option, Some, None, slice_get}
 use Rattle.std.specs.List.{AllByRecursion}
 use Rattle.std.proofs.lemmas.List.{length-map}
@@ -8,18 +8,13 @@ use Rattle.wac_types_base.specs.Graph.{Among}
 use Rattle.wac_types_base.specs.Entries.{Name, IsNew, names_of}
 use Rattle.wac_types_base.proofs.Walking.{slice_get-Among, some_place}
 use Rattle.wac_types_base.proofs.Loops.{map-get}
+use Rattle.wac_types_base.proofs.Lists.{from_place}
 use Rattle.wac_types_names.specs.declared.spelling.Spelling.{Spelling}
 use Rattle.wac_types_names.specs.Tracks.{lookup_key, IsOnTrack}
 use Rattle.wac_types_names.specs.Versions.{version_cmp}
 use Rattle.wac_types_names.specs.NameMaps.{by_name, Gives, exactly, on_track, nothing, IsExact, IsLatestOn, the_latest, no_latest}
 use Rattle.wac_types_names.specs.Spellings.{entries_with, kept_track, IsRead, IsKept, IsBestPlace}
 use Rattle.wac_types_names.proofs.Maps.{name_of, names-entries_with, pair_of}
-
--- what a place of an image comes from
-from_place : {X Y : Type 0} (f : X → Y) (xs : List X) (i : ℕ) (y : Y) → slice_get (map f xs) i ≡ Some y → (x : X) × (slice_get xs i ≡ Some x) × (f x ≡ y)
-from_place f [] i y e = absurd (cc e)
-from_place f (x ∷ xs) zero y e = (x, refl, cc e)
-from_place f (x ∷ xs) (suc i) y e = from_place f xs i y e
 
 read_at : (ss : List Spelling) (i : ℕ) (s : Spelling) → AllByRecursion IsRead ss → slice_get ss i ≡ Some s → IsRead s
 read_at [] i s h e = absurd (cc e)

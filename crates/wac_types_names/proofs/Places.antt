@@ -1,23 +1,8 @@
 -- Where a byte stands first.
-use Rattle.std.proofs.Common.{◌≡◌, ℕ, ◌+◌, ◌≤◌, Bool, true, false, cond, List, [], ◌∷◌, ◌++◌, length, refl, sym, ap, ◌∙◌, arith, inl, inr}
-use Rattle.std.specs.Prelude.{◌==◌, not, nat_lt, Option, Some, None}
+use Rattle.std.proofs.Common.{◌≡◌, ℕ, ◌+◌, ◌≤◌, Bool, true, false, cond, List, [], ◌∷◌, ◌++◌, length, refl, arith}
+use Rattle.std.specs.Prelude.{◌==◌, not}
 use Rattle.std.specs.List.{AllByRecursion, position_or_len}
-use Rattle.std.proofs.lemmas.Bool.{cases_lt, lt-ltb}
 use Rattle.std.proofs.lemmas.Bool.Decides.{Decides-eqb}
-
-abbrev pub some_of : {A : Type 0} → A → Option A
-some_of x = Some x
-
-some_none : (n : ℕ) → some_of n ≡ None → ⊥
-some_none n e = cc
-
--- no position is the length
-pub none_len : (n len : ℕ) → n ≤ len → cond (nat_lt n len) (some_of n) None ≡ None → n ≡ len
-none_len n len le e =
-    elim (cases_lt n len) [
-      | inl lt ↦ absurd (some_none n (sym (ap (λ b. cond b (some_of n) None) (lt-ltb n len lt)) ∙ e))
-      | inr ge ↦ omega (arith, le, ge)
-    ]
 
 abbrev pub NoByte : ℕ → List ℕ → Type 0
 NoByte c w = AllByRecursion (λ b. (b == c) ≡ false) w

@@ -18,7 +18,7 @@ use Rattle.wac_types_base.specs.declared.defined.World.{World}
 use Rattle.wac_types_base.specs.declared.core_types.ModuleType.{ModuleType}
 use Rattle.wac_types_base.specs.Record.{Collection}
 use Rattle.wac_types_base.specs.Collection.{Shape, Stands, item_node, labelled, primitive, type_of, borrow_of, own_of, defined_entry, resource_entry, func_entry, interface_entry, world_entry, module_entry}
-use Rattle.wac_types_base.specs.Stated.{Kind, IsFunction, IsComponent, IsModule, IsValue, IsResource, IsFunctionType, IsValueType, IsInterface, IsWorld, IsModuleType, shape_kind}
+use Rattle.wac_types_base.specs.Stated.{Kind, IsFunction, IsModule, IsValue, IsResource, IsFunctionType, IsValueType, IsInterface, IsWorld, IsModuleType, shape_kind}
 use Rattle.wac_types_base.proofs.GraphLemmas.{value_of}
 use Rattle.wac_types_base.proofs.Slots.{entry_at-is, stands_borrow, stands_own, stands_typed_value}
 use Rattle.wac_types_base.proofs.Standing.{resource_found, defined_found}
@@ -116,19 +116,6 @@ item_not_func (ItemKind.Instance x) h e = cc e
 item_not_func (ItemKind.Component x) h e = cc e
 item_not_func (ItemKind.Module x) h e = cc e
 item_not_func (ItemKind.Value x) h e = cc e
-
-pub item_not_component : (k : ItemKind) → ((x : WorldId) → k ≡ ItemKind.Component x → ⊥) → item_kind k ≡ IsComponent → ⊥
-item_not_component (ItemKind.Ty (TypeKind.Resource x)) h e = cc e
-item_not_component (ItemKind.Ty (TypeKind.Func x)) h e = cc e
-item_not_component (ItemKind.Ty (TypeKind.Value x)) h e = cc e
-item_not_component (ItemKind.Ty (TypeKind.Interface x)) h e = cc e
-item_not_component (ItemKind.Ty (TypeKind.World x)) h e = cc e
-item_not_component (ItemKind.Ty (TypeKind.Module x)) h e = cc e
-item_not_component (ItemKind.Func x) h e = cc e
-item_not_component (ItemKind.Instance x) h e = cc e
-item_not_component (ItemKind.Component x) h e = h x refl
-item_not_component (ItemKind.Module x) h e = cc e
-item_not_component (ItemKind.Value x) h e = cc e
 
 pub item_not_module : (k : ItemKind) → ((x : ModuleTypeId) → k ≡ ItemKind.Module x → ⊥) → item_kind k ≡ IsModule → ⊥
 item_not_module (ItemKind.Ty (TypeKind.Resource x)) h e = cc e

@@ -1,17 +1,12 @@
 -- Lists that are compared one by one.
-use Rattle.std.proofs.Common.{◌≡◌, ℕ, ◌+◌, ◌<◌, ◌≤◌, List, [], ◌∷◌, map, length, Bool, true, false, IsTrue, ◌↔◌, Some, slice_get, get_or, refl, sym, ap, ◌∙◌, arith, below_more}
+use Rattle.std.proofs.Common.{◌≡◌, ℕ, ◌+◌, ◌<◌, ◌≤◌, List, [], ◌∷◌, map, length, Bool, true, false, IsTrue, ◌↔◌, Some, slice_get, refl, sym, ap, ◌∙◌, arith, below_more}
 use Rattle.std.proofs.lemmas.List.{length-map}
-use Rattle.std.proofs.lemmas.Option.{slice_get-get_or}
 use Rattle.wac_types_base.specs.declared.defined.UsedType.{UsedType}
 use Rattle.wac_types_base.specs.Entries.{Name, names_of, values_of}
 use Rattle.wac_types_base.specs.Collection.{use_names}
 use Rattle.wac_types_base.proofs.Loops.{map-get}
 use Rattle.wac_types_fit.proofs.ValueTrees.{same_lengths}
 use Rattle.wac_types_same.specs.Same.{names_taken}
-
--- what is read at a place within
-pub at_place : {X : Type 0} (xs : List X) (i : ℕ) (x : X) → i < length xs → x ≡ get_or xs i x → slice_get xs i ≡ Some x
-at_place xs i x lt e = slice_get-get_or xs i x lt ∙ ap Some (sym e)
 
 module _ {X Y : Type 0} (f : X → Y) (xs ys : List X) where
   abbrev AgreeAt : ℕ → Type 0

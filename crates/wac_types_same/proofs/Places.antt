@@ -1,5 +1,5 @@
 -- What the places of two items state.
-use Rattle.std.proofs.Common.{◌≡◌, ℕ, ◌<◌, List, map, Option, Some, None, is_some, Bool, true, false, not, IsTrue, ◌↔◌, slice_get, refl, sym, ap, ◌∙◌, arith}
+use Rattle.std.proofs.Common.{◌≡◌, ℕ, ◌<◌, List, map, Option, Some, None, is_some, Bool, not, IsTrue, ◌↔◌, slice_get, sym, ap, ◌∙◌, arith}
 use Rattle.std.proofs.lemmas.Option.{slice_get-map}
 use Rattle.std.specs.Option.{option_map}
 use Rattle.wac_types_base.specs.declared.item.ItemKind.{ItemKind}
@@ -11,6 +11,7 @@ use Rattle.wac_types_base.proofs.GraphLemmas.{value_of}
 use Rattle.wac_types_base.proofs.Telling.{stated_step, size_stated}
 use Rattle.wac_types_base.proofs.Made.{row_places}
 use Rattle.wac_types_base.proofs.Walking.{child_smaller}
+use Rattle.wac_types_base.proofs.Lists.{none_test}
 use Rattle.wac_types_fit.proofs.ValueTrees.{same_to_end}
 use Rattle.wac_types_same.specs.Same.{label_in, label_of, slot_stated, places_stated}
 
@@ -19,12 +20,6 @@ slot_size c None = 0
 slot_size c (Some k) = size_of c k
 
 -- ---- lists of what is said of entries
-
-none_test : {X : Type 0} (o : Option X) (b : Bool) → is_some o ≡ not b → (b ≡ true → o ≡ None) × (((x : X) → o ≡ Some x → ⊥) → b ≡ true)
-none_test None true e = (λ h. refl, λ h. refl)
-none_test None false e = absurd (cc e)
-none_test (Some x) true e = absurd (cc e)
-none_test (Some x) false e = (λ h. absurd (cc h), λ h. absurd (h x refl))
 
 module _ {X Y : Type 0} (f : X → Y) (xs ys : List X) where
   module _ (i : ℕ) (x : X) (p : slice_get xs i ≡ Some x) where

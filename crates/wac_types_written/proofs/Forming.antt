@@ -1,5 +1,5 @@
 -- What is made of the parts of an interface or a world is the form of it.
-use Rattle.std.proofs.Common.{◌≡◌, ℕ, zero, suc, ◌+◌, List, [], ◌∷◌, ◌++◌, map, take, Option, Some, None, slice_get, refl, sym, ap, subst, ◌∙◌, inl, inr}
+use Rattle.std.proofs.Common.{◌≡◌, ℕ, suc, ◌+◌, List, [], ◌∷◌, ◌++◌, map, take, Option, Some, None, slice_get, refl, sym, ap, subst, ◌∙◌, inl, inr}
 use Rattle.wac_types_base.specs.declared.item.«Type».{«Type» as TypeKind}
 use Rattle.wac_types_base.specs.declared.item.ItemKind.{ItemKind}
 use Rattle.wac_types_base.specs.declared.ids.InterfaceId.{InterfaceId}
@@ -171,14 +171,6 @@ written_names (u ∷ us) = ap (λ l. u.name ∷ l) (written_names us)
 pub use_name_new : (c : Collection) (us all : List (Name × UsedType)) (i : ℕ) (n : Name) (u : UsedType) → AreDistinct (names_of us) → UsesWritten c (take i us) all → slice_get us i ≡ Some (n, u) → IsNew n all
 use_name_new c us all i n u d w at =
     place_new us i n u all d at (sym (use_names c all) ∙ ap (map (λ (u : Used). u.name)) w.state ∙ written_names (stated_uses c (take i us)) ∙ use_names c (take i us))
-
--- what stands at the front
-pub front_among : {X : Type 0} (x : X) (xs : List X) (i : ℕ) → Among x (take i xs) → Among x xs
-front_among x [] zero m = m
-front_among x [] (suc i) m = m
-front_among x (y ∷ xs) zero m = absurd m
-front_among x (y ∷ xs) (suc i) (inl e) = inl e
-front_among x (y ∷ xs) (suc i) (inr m) = inr (front_among x xs i m)
 
 -- ---- what has no world in it
 

@@ -1,5 +1,5 @@
 -- What ids state, and what stands in their entries.
-use Rattle.std.proofs.Common.{◌≡◌, ℕ, suc, List, [], ◌∷◌, ◌++◌, Option, Some, None, slice_get, refl, sym, ap, subst, ◌∙◌, inl, inr}
+use Rattle.std.proofs.Common.{◌≡◌, suc, List, [], ◌∷◌, ◌++◌, Option, Some, None, slice_get, refl, sym, ap, subst, ◌∙◌, inl, inr}
 use Rattle.wac_types_base.specs.declared.item.ValueType.{ValueType}
 use Rattle.wac_types_base.specs.declared.item.«Type».{«Type» as TypeKind}
 use Rattle.wac_types_base.specs.declared.item.ItemKind.{ItemKind}
@@ -13,15 +13,14 @@ use Rattle.wac_types_base.specs.declared.defined.World.{World}
 use Rattle.wac_types_base.specs.Record.{Collection}
 use Rattle.wac_types_base.specs.Entries.{Name}
 use Rattle.wac_types_base.specs.Graph.{Among}
-use Rattle.wac_types_base.specs.Collection.{Shape, primitive, Entry, Slot, SlotStands, HasChildren, Stands, IsAcyclic, item_node, value_node, labelled, entry_at, size_of, defined_entry, resource_entry, resource_entry_at, func_entry, interface_entry, world_entry, module_entry, used, items, type_of, borrow_of, own_of}
+use Rattle.wac_types_base.specs.Collection.{Shape, primitive, Entry, Slot, SlotStands, HasChildren, Stands, IsAcyclic, item_node, value_node, labelled, size_of, defined_entry, resource_entry, resource_entry_at, func_entry, interface_entry, world_entry, module_entry, used, items, type_of, borrow_of, own_of}
 use Rattle.wac_types_base.specs.Stated.{stated_of, stated_entry, interface_of, world_of, relabelled, as_type}
 use Rattle.wac_types_base.proofs.GraphLemmas.{value_of, is_there}
-use Rattle.wac_types_base.proofs.Adding.{guarded-some, labelled-some, option_map-some}
 use Rattle.wac_types_base.proofs.Copying.{Among-All}
 use Rattle.wac_types_base.proofs.Replacing.{labelled_there}
 use Rattle.wac_types_base.proofs.Slots.{entry_at-is}
 use Rattle.wac_types_base.proofs.Stating as base
-use Rattle.wac_types_base.proofs.Telling.{child_stands, entry_size, row_size, stated_step}
+use Rattle.wac_types_base.proofs.Telling.{child_stands, entry_size, row_size, stated_step, entry_from, labelled_kind}
 use Rattle.wac_types_written.specs.Forms.{ItemsStand, UsesStand, stated_items, stated_use, stated_uses}
 use Rattle.wac_types_written.specs.Written.{dependencies, written}
 use Rattle.wac_types_written.proofs.Depending.{IsNoInterface, nothing_depends}
@@ -164,15 +163,6 @@ IsOther (ItemKind.Ty (TypeKind.Interface i)) = ⊥
 IsOther (ItemKind.Ty (TypeKind.World w)) = ⊥
 IsOther k = Unit {0}
 
-from_entry : {E : Type 0} (f : E → Entry) (P : Entry → Type 0) → ((x : E) → P (f x)) → (n : ℕ) (es : List E) (col i : ℕ) (e : Entry) → entry_at f n es col i ≡ Some e → P e
-from_entry f P h n es col i e is =
-    let g = guarded-some _ _ e is in
-    let m = option_map-some f (slice_get es i) e g.1 in
-    subst P (sym m.2) (h m.0)
-
-from_label : (l : Shape → Shape) (P Q : Entry → Type 0) → ((e : Entry) → P e → Q (l e.0, e.1)) → (o : Option Entry) → ((e : Entry) → o ≡ Some e → P e) → (e : Entry) → labelled l o ≡ Some e → Q e
-from_label l P Q step o h e is = let m = labelled-some l o e is in subst Q (sym m.2) (step m.0 (h m.0 m.1))
-
 -- neither an interface nor a world, as a thing and as a type
 record IsLeaf (e : Entry) : Type 0 where
   plain : IsPlain e.0
@@ -204,9 +194,9 @@ any_entry e = Unit {0}
 module _ (c : Collection) where
   value_leaf : (v : ValueType) (e : Entry) → value_node c v ≡ Some e → IsLeaf e
   value_leaf (ValueType.Primitive p) e is = let same : (primitive p, []) ≡ e = cc is in subst IsLeaf same (record { plain = tt; inside = tt; alone = tt; typed = tt })
-  value_leaf (ValueType.Borrow r) e is = from_label borrow_of (λ e. Unit {0}) IsLeaf (λ e h. record { plain = tt; inside = tt; alone = tt; typed = tt }) _ (λ e h. tt) e is
-  value_leaf (ValueType.Own r) e is = from_label own_of (λ e. Unit {0}) IsLeaf (λ e h. record { plain = tt; inside = tt; alone = tt; typed = tt }) _ (λ e h. tt) e is
-  value_leaf (ValueType.Defined d) e is = from_entry defined_entry IsLeaf defined_leaf c.number c.defined_types d.collection d.index e is
+  value_leaf (ValueType.Borrow r) e is = labelled_kind borrow_of (λ e. Unit {0}) IsLeaf (λ e h. record { plain = tt; inside = tt; alone = tt; typed = tt }) _ (λ e h. tt) e is
+  value_leaf (ValueType.Own r) e is = labelled_kind own_of (λ e. Unit {0}) IsLeaf (λ e h. record { plain = tt; inside = tt; alone = tt; typed = tt }) _ (λ e h. tt) e is
+  value_leaf (ValueType.Defined d) e is = entry_from defined_entry IsLeaf defined_leaf c.number c.defined_types d.collection d.index e is
 
   abbrev Both : Entry → Type 0
   Both e = IsPlain e.0 × IsNoInterface e.0
@@ -220,24 +210,24 @@ module _ (c : Collection) where
   other_shape : (k : ItemKind) → IsOther k → (e : Entry) → item_node c k ≡ Some e → Both e
   unfolding item_node
   other_shape (ItemKind.Value v) h e is = both e (value_leaf v e is)
-  other_shape (ItemKind.Func f) h e is = from_entry func_entry Both (λ x. (tt, tt)) c.number c.func_types f.collection f.index e is
-  other_shape (ItemKind.Module m) h e is = from_entry module_entry Both (λ x. (tt, tt)) c.number c.modules m.collection m.index e is
+  other_shape (ItemKind.Func f) h e is = entry_from func_entry Both (λ x. (tt, tt)) c.number c.func_types f.collection f.index e is
+  other_shape (ItemKind.Module m) h e is = entry_from module_entry Both (λ x. (tt, tt)) c.number c.modules m.collection m.index e is
   other_shape (ItemKind.Instance i) h e is = absurd h
   other_shape (ItemKind.Component w) h e is = absurd h
   other_shape (ItemKind.Ty (TypeKind.Interface i)) h e is = absurd h
   other_shape (ItemKind.Ty (TypeKind.World w)) h e is = absurd h
-  other_shape (ItemKind.Ty (TypeKind.Resource r)) h e is = from_entry resource_entry Both (λ x. both (resource_entry x) (resource_leaf x.name x.alias)) c.number c.resources r.collection r.index e is
-  other_shape (ItemKind.Ty (TypeKind.Func f)) h e is = from_label type_of IsLeaf Both both_typed _ (from_entry func_entry IsLeaf (λ x. record { plain = tt; inside = tt; alone = tt; typed = tt }) c.number c.func_types f.collection f.index) e is
-  other_shape (ItemKind.Ty (TypeKind.Value v)) h e is = from_label type_of IsLeaf Both both_typed _ (value_leaf v) e is
-  other_shape (ItemKind.Ty (TypeKind.Module m)) h e is = from_label type_of IsLeaf Both both_typed _ (from_entry module_entry IsLeaf (λ x. record { plain = tt; inside = tt; alone = tt; typed = tt }) c.number c.modules m.collection m.index) e is
+  other_shape (ItemKind.Ty (TypeKind.Resource r)) h e is = entry_from resource_entry Both (λ x. both (resource_entry x) (resource_leaf x.name x.alias)) c.number c.resources r.collection r.index e is
+  other_shape (ItemKind.Ty (TypeKind.Func f)) h e is = labelled_kind type_of IsLeaf Both both_typed _ (entry_from func_entry IsLeaf (λ x. record { plain = tt; inside = tt; alone = tt; typed = tt }) c.number c.func_types f.collection f.index) e is
+  other_shape (ItemKind.Ty (TypeKind.Value v)) h e is = labelled_kind type_of IsLeaf Both both_typed _ (value_leaf v) e is
+  other_shape (ItemKind.Ty (TypeKind.Module m)) h e is = labelled_kind type_of IsLeaf Both both_typed _ (entry_from module_entry IsLeaf (λ x. record { plain = tt; inside = tt; alone = tt; typed = tt }) c.number c.modules m.collection m.index) e is
 
   component_shape : (w : WorldId) (e : Entry) → item_node c (ItemKind.Component w) ≡ Some e → IsNoInterface e.0
   unfolding item_node
-  component_shape w e is = from_entry world_entry (λ e. IsNoInterface e.0) (λ x. tt) c.number c.worlds w.collection w.index e is
+  component_shape w e is = entry_from world_entry (λ e. IsNoInterface e.0) (λ x. tt) c.number c.worlds w.collection w.index e is
 
   world_type_shape : (w : WorldId) (e : Entry) → item_node c (ItemKind.Ty (TypeKind.World w)) ≡ Some e → IsNoInterface e.0
   unfolding item_node
-  world_type_shape w e is = from_label type_of (λ e. IsNoInterface (type_of e.0)) (λ e. IsNoInterface e.0) (λ e h. h) _ (from_entry world_entry (λ e. IsNoInterface (type_of e.0)) (λ x. tt) c.number c.worlds w.collection w.index) e is
+  world_type_shape w e is = labelled_kind type_of (λ e. IsNoInterface (type_of e.0)) (λ e. IsNoInterface e.0) (λ e h. h) _ (entry_from world_entry (λ e. IsNoInterface (type_of e.0)) (λ x. tt) c.number c.worlds w.collection w.index) e is
 
   module _ (a : IsAcyclic c) where
     -- it is written as it is

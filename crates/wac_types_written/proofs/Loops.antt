@@ -35,15 +35,6 @@ filter_more p xs i x at is = ap (filter p) (take-one_more xs i x at) ∙ filter_
 pub filter_same : {X : Type 0} (p : X → Bool) (xs : List X) (i : ℕ) (x : X) → slice_get xs i ≡ Some x → p x ≡ false → filter p (take (i + 1) xs) ≡ filter p (take i xs)
 filter_same p xs i x at is = ap (filter p) (take-one_more xs i x at) ∙ filter_last p (take i xs) x ∙ ap (λ b. filter p (take i xs) ++ (if b then x ∷ [] else [])) is ∙ append-nil (filter p (take i xs))
 
-pub filter_among : {X : Type 0} (p : X → Bool) (xs : List X) (x : X) → Among x (filter p xs) → Among x xs × (p x ≡ true)
-filter_among p [] x m = absurd m
-filter_among p (y ∷ xs) x m = by_test (p y) refl (filter_among p xs x) m
-  where
-    by_test : (b : Bool) → p y ≡ b → (Among x (filter p xs) → Among x xs × (p x ≡ true)) → Among x (if b then y ∷ filter p xs else filter p xs) → Among x (y ∷ xs) × (p x ≡ true)
-    by_test true e h (inl i) = (inl i, ap p i ∙ e)
-    by_test true e h (inr n) = let r = h n in (inr r.0, r.1)
-    by_test false e h n = let r = h n in (inr r.0, r.1)
-
 -- a name among the filtered is one of the unfiltered
 pub filter_names : {T : Type 0} (p : Name × T → Bool) (es : List (Name × T)) (n : Name) → Among n (names_of (filter p es)) → Among n (names_of es)
 filter_names p [] n m = absurd m

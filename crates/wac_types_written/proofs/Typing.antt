@@ -17,13 +17,14 @@ use Rattle.wac_types_base.specs.Stated.{Stated, kind_of, interface_of, world_of,
 use Rattle.wac_types_base.proofs.Looked.{take-one_more}
 use Rattle.wac_types_base.proofs.Loops.{map-append, names-with_values}
 use Rattle.wac_types_base.proofs.Telling.{item_kind, kind_stated}
+use Rattle.wac_types_base.proofs.Lists.{among_filtered}
 use Rattle.wac_types_written.specs.Components.{AddsMissing, AreApart, AreMissing, component_of, not_imported}
 use Rattle.wac_types_written.specs.Forms.{FoundStand, IsOf, ItemsStand, UsesStand, is_type_item, stated_found, stated_items, stated_uses, type_items}
 use Rattle.wac_types_written.specs.Walked.{AreUsed, below_items, below_uses}
 use Rattle.wac_types_written.specs.Written.{dependencies, is_type, missing_uses, types_only, used_by_world, used_through, with_firsts}
 use Rattle.wac_types_written.proofs.Growing.{items_kept, stated_kept, uses_kept}
 use Rattle.wac_types_written.proofs.Ids.{interface_states}
-use Rattle.wac_types_written.proofs.Loops.{filter_among, filter_last, filter_names, place_new}
+use Rattle.wac_types_written.proofs.Loops.{filter_last, filter_names, place_new}
 use Rattle.wac_types_written.proofs.Parts.{interface_exports, interface_uses, world_exports, world_imports, world_uses}
 use Rattle.wac_types_written.proofs.Walking.{found_with}
 
@@ -57,7 +58,7 @@ types_filtered c a (x ∷ xs) h =
     by_test false e = e
 
 pub types_stand : (c : Collection) (xs : List (Name × ItemKind)) → ItemsStand c xs → ItemsStand c (type_items xs)
-types_stand c xs h x m = h x (filter_among (λ x. is_type_item x.1) xs x m).0
+types_stand c xs h x m = h x (among_filtered (λ x. is_type_item x.1) xs x m).0
 
 -- the interface of these parts in a larger collection is that with its types alone
 pub only_types : (c d : Collection) → IsAcyclic c → Grows c d → (id : InterfaceId) (i : Interface) → slice_get c.interfaces id.index ≡ Some i → id.collection ≡ c.number → UsesStand c i.uses → ItemsStand c i.exports
@@ -127,7 +128,7 @@ pub missing_next : (c d e : Collection) (used : List (Name × InterfaceId)) (imp
 missing_next c d e used imports all more i n id g h stand m at s added =
     let p : Name × InterfaceId → Bool = λ e. not (is_some (value_at imports e.0)) in
     let one : List (Name × InterfaceId) = filter p ((n, id) ∷ []) in
-    let one_stands : FoundStand c one = λ y k. subst (λ (z : Name × InterfaceId). Stands c (ItemKind.Instance z.1)) (sym (only_one (filter_among p ((n, id) ∷ []) y k).0)) s in
+    let one_stands : FoundStand c one = λ y k. subst (λ (z : Name × InterfaceId). Stands c (ItemKind.Instance z.1)) (sym (only_one (among_filtered p ((n, id) ∷ []) y k).0)) s in
     record {
       stand = added.stand;
       are = added.are ∙ ap (λ l. l ++ with_values types_only (stated_found d one)) (items_kept d e h all m.stand ∙ m.are)

@@ -1,15 +1,12 @@
 -- Steps of a walk over the interfaces that are used.
-use Rattle.std.proofs.Common.{◌≡◌, ℕ, List, [], ◌∷◌, ◌++◌, Some, None, is_some, Bool, true, false, ◌==◌, nat_eq, cond, if◌then◌else◌, slice_get, refl, sym, ap, subst, ◌∙◌, inl, inr}
+use Rattle.std.proofs.Common.{◌≡◌, ℕ, List, [], ◌∷◌, ◌++◌, Some, None, is_some, Bool, true, false, nat_eq, cond, if◌then◌else◌, slice_get, refl, sym, ap, subst, ◌∙◌, inl, inr}
 use Rattle.std.specs.HashSet.{contains, Updates}
-use Rattle.std.specs.Cmp.Lexicographic.{pointwise}
-use Rattle.std.proofs.lemmas.Slice.Eq.{bytes_eq-Decides}
 use Rattle.std.proofs.lemmas.Bool.{eqb-true}
 use Rattle.wac_types_base.specs.declared.item.ItemKind.{ItemKind}
 use Rattle.wac_types_base.specs.declared.ids.InterfaceId.{InterfaceId}
 use Rattle.wac_types_base.specs.declared.defined.Interface.{Interface}
 use Rattle.wac_types_base.specs.Record.{Collection}
-use Rattle.wac_types_base.specs.Entries.{Name, IsNew, names_of, value_at, with_values}
-use Rattle.wac_types_base.specs.Graph.{Among}
+use Rattle.wac_types_base.specs.Entries.{Name, value_at, with_values}
 use Rattle.wac_types_base.specs.Collection.{IsAcyclic, Stands}
 use Rattle.wac_types_base.specs.Copies.{interface_at}
 use Rattle.wac_types_base.specs.Stated.{Stated, identifier_of, stated_of}
@@ -28,16 +25,6 @@ found_with {T} {U} f (e ∷ es) n = by_test _ (found_with f es n)
     by_test : (b : Bool) → is_some (value_at (with_values f es) n) ≡ is_some (value_at es n) → is_some (if b then Some (f e.1) else value_at (with_values f es) n) ≡ is_some (if b then Some e.1 else value_at es n)
     by_test true h = refl
     by_test false h = h
-
--- a name with no value is new
-pub no_value : {T : Type 0} (es : List (Name × T)) (n : Name) → is_some (value_at es n) ≡ false → IsNew n es
-no_value [] n h m = m
-no_value {T} (e ∷ es) n h m = by_test (pointwise ◌==◌ n e.0) refl h (no_value es n) m
-  where
-    by_test : (b : Bool) → pointwise ◌==◌ n e.0 ≡ b → is_some (if b then Some e.1 else value_at es n) ≡ false → (is_some (value_at es n) ≡ false → IsNew n es) → Among n (names_of (e ∷ es)) → ⊥
-    by_test true q h k m = absurd (cc h)
-    by_test false q h k (inl p) = let t = (bytes_eq-Decides n e.0).1 p in absurd (cc (q, t))
-    by_test false q h k (inr m) = k h m
 
 module _ (c : Collection) where
   -- what was found before is found, so what was walked was

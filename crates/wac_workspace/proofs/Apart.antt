@@ -1,15 +1,10 @@
 -- Packages that are apart, and one more of them.
-use Rattle.std.proofs.Common.{◌≡◌, ◌≢◌, ℕ, List, [], ◌∷◌, ◌++◌, true, false, Bool, refl, sym, ap, ◌∙◌, subst, inl, inr, ◌⊎◌}
+use Rattle.std.proofs.Common.{◌≡◌, ◌≢◌, ℕ, List, [], ◌∷◌, ◌++◌, true, false, Bool, refl, sym, ap, ◌∙◌, subst, inl, inr}
 use Rattle.wac_types_base.specs.Graph.{Among}
+use Rattle.wac_types_base.proofs.Lists.{among_last}
 use Rattle.wac_workspace.specs.declared.entries.Entry.{Entry}
 use Rattle.wac_types_names.specs.Keys.{Key}
 use Rattle.wac_workspace.specs.Packages.{key_of, HasKey, HasBytes, HasHanded, IsApart, AreApart, Made, IsMade}
-
-among_last : {X : Type 0} (x y : X) (xs : List X) → Among x (xs ++ y ∷ []) → Among x xs ⊎ (x ≡ y)
-among_last x y [] (inl e) = inr e
-among_last x y [] (inr a) = absurd a
-among_last x y (z ∷ zs) (inl e) = inl (inl e)
-among_last x y (z ∷ zs) (inr a) = elim (among_last x y zs a) [ inl h ↦ inl (inr h) | inr e ↦ inr e ]
 
 -- one more package, which is apart from each
 pub apart_push : (ps : List Entry) (p : Entry) → AreApart ps → ((q : Entry) → Among q ps → IsApart p q) → AreApart (ps ++ p ∷ [])

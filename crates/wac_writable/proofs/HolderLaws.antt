@@ -1,5 +1,5 @@
 -- What a holder has, one use and one item after the other.
-use Rattle.std.proofs.Common.{◌≡◌, ℕ, zero, suc, ◌+◌, ◌≤◌, ◌==◌, Bool, true, false, true≢false, ◌||◌, ◌&&◌, List, [], ◌∷◌, ◌++◌, map, take, drop, length, Option, Some, None, inl, inr, refl, sym, ap, ◌∙◌, subst, slice_get, unwrap_or, arith}
+use Rattle.std.proofs.Common.{◌≡◌, ℕ, zero, suc, ◌+◌, ◌≤◌, ◌==◌, Bool, true, false, true≢false, ◌||◌, ◌&&◌, List, [], ◌∷◌, ◌++◌, map, take, drop, length, Option, Some, None, inl, inr, refl, sym, ap, ◌∙◌, subst, slice_get, unwrap_or}
 use Rattle.std.specs.Prelude.{filter, filter_map, option_map, bytes_eq, if◌then◌else◌}
 use Rattle.std.specs.List.{list_any, cons_option}
 use Rattle.std.specs.Cmp.Lexicographic.{pointwise}
@@ -19,11 +19,12 @@ use Rattle.wac_types_base.specs.Stated.{Stated, Used, kind_of, stated_of, export
 use Rattle.wac_types_base.specs.Tree.{tree}
 use Rattle.wac_types_base.proofs.Standing.{interface_found}
 use Rattle.wac_types_base.proofs.Stating.{stated_uses, value_with}
-use Rattle.wac_types_base.proofs.Looked.{put_entry-new, among-get}
+use Rattle.wac_types_base.proofs.Looked.{put_entry-new, among-get, take-one_more}
+use Rattle.wac_types_base.proofs.Lists.{among_split}
+use Rattle.wac_types_base.proofs.Loops.{names-with_values, take-all}
 use Rattle.wac_composition.specs.Tests.{same_tree}
 use Rattle.wac_composition.specs.Writable.{is_resource, is_fresh, root_of, taken, there_of, holder, with_roots, is_taken_as, is_given, is_used_value}
 use Rattle.wac_composition.specs.Writable.{Holder as Held}
-use Rattle.wac_composition.proofs.Lists.{among_split}
 use Rattle.wac_graph_scopes.specs.Parts.{exports_of as exports_in, IsUseAt}
 use Rattle.wac_graph_scopes.specs.declared.parts.Use.{Use}
 use Rattle.wac_types_fit.proofs.Items.{value_at-among}
@@ -36,17 +37,6 @@ use Rattle.wac_writable.proofs.PartsStated.{exports_are, stands_or_not}
 
 -- ---- lists
 
-pub take_next : {X : Type 0} (xs : List X) (i : ℕ) (x : X) → slice_get xs i ≡ Some x → take (i + 1) xs ≡ take i xs ++ x ∷ []
-take_next [] i x e = absurd (cc e)
-take_next (y ∷ ys) zero x e = let s : y ≡ x = cc e in ap (λ z. z ∷ []) s
-take_next (y ∷ ys) (suc i) x e = let n : suc i + 1 ≡ suc (i + 1) = omega arith in ap (λ n. take n (y ∷ ys)) n ∙ ap (λ l. y ∷ l) (take_next ys i x e)
-
-pub take_all : {X : Type 0} (xs : List X) (i : ℕ) → length xs ≤ i → take i xs ≡ xs
-take_all [] zero h = refl
-take_all [] (suc i) h = refl
-take_all (y ∷ ys) zero h = absurd (omega arith)
-take_all (y ∷ ys) (suc i) h = ap (λ l. y ∷ l) (take_all ys i (omega arith))
-
 or_false : (b : Bool) → b ≡ (b || false)
 or_false true = refl
 or_false false = refl
@@ -54,10 +44,6 @@ or_false false = refl
 or_assoc : (a b c : Bool) → ((a || b) || c) ≡ (a || (b || c))
 or_assoc true b c = refl
 or_assoc false b c = refl
-
-names_with : {T U : Type 0} (f : T → U) (xs : List (Name × T)) → names_of (with_values f xs) ≡ names_of xs
-names_with f [] = refl
-names_with f (x ∷ xs) = ap (λ l. x.0 ∷ l) (names_with f xs)
 
 -- a name at a place is none of those before, where names are distinct
 not_before : {T : Type 0} (xs : List (Name × T)) (i : ℕ) (x : Name × T) → AreDistinct (names_of xs) → slice_get xs i ≡ Some x → Among x.0 (names_of (take i xs)) → ⊥
@@ -131,14 +117,14 @@ module _ (c : Collection) where
   pub adds_at : (s t u : Holder) (es : List (Name × ItemKind)) (at : ℕ) (n : Name) (k : ItemKind) → slice_get es at ≡ Some (n, k) → AddsRoots c s (with_values (stated_of c) (take at es)) t
       → u ≡ record t { roots = named_roots c n k t.roots } → AddsRoots c s (with_values (stated_of c) (take (at + 1) es)) u
   adds_at s t u es at n k e h is =
-      subst (λ l. AddsRoots c s l u) (sym (ap (with_values (stated_of c)) (take_next es at (n, k) e) ∙ with_next (take at es) (n, k)))
+      subst (λ l. AddsRoots c s l u) (sym (ap (with_values (stated_of c)) (take-one_more es at (n, k) e) ∙ with_next (take at es) (n, k)))
       (subst (AddsRoots c s (with_values (stated_of c) (take at es) ++ (n, stated_of c k) ∷ [])) (sym is) (adds_next s t (with_values (stated_of c) (take at es)) n k h))
 
   pub adds_first : (s : Holder) (es : List (Name × ItemKind)) → AddsRoots c s (with_values (stated_of c) (take 0 es)) s
   adds_first s es = subst (λ l. AddsRoots c s (with_values (stated_of c) l) s) (sym (take_zero es)) (adds_none s)
 
   pub adds_all : (s t : Holder) (es : List (Name × ItemKind)) (at : ℕ) (xs : List (Name × Stated)) → length es ≤ at → xs ≡ with_values (stated_of c) es → AddsRoots c s (with_values (stated_of c) (take at es)) t → AddsRoots c s xs t
-  adds_all s t es at xs past is h = subst (λ l. AddsRoots c s l t) (ap (with_values (stated_of c)) (take_all es at past) ∙ sym is) h
+  adds_all s t es at xs past is h = subst (λ l. AddsRoots c s l t) (ap (with_values (stated_of c)) (take-all es at past) ∙ sym is) h
 
 -- ---- uses
 
@@ -180,7 +166,7 @@ module _ (c : Collection) (a : IsAcyclic c) where
     is_new : Among u.0 (names_of s.used) → ⊥
     is_new m =
         new (subst (Among u.0) (uses_names us) (taken_names (stated_uses c us) u.0
-        (subst (λ l. Among u.0 (names_of l)) h.shows.used (subst (Among u.0) (sym (names_with (stated_of c) s.used)) m))))
+        (subst (λ l. Among u.0 (names_of l)) h.shows.used (subst (Among u.0) (sym (names-with_values (stated_of c) s.used)) m))))
 
     filled_none : IsFilled c s (more [])
     filled_none = subst (λ l. IsFilled c s (record { used = l; roots = map root_of (filter (λ e. is_resource (kind_of e.1)) l) })) (sym (append-nil (filter_map taken (stated_uses c us)))) h
@@ -251,12 +237,12 @@ module _ (c : Collection) (a : IsAcyclic c) where
       let o = value_at (exports_in c e.1.interface) (unwrap_or e.1.name e.0) in
       let taken_is : t ≡ with_use c s e.0 o = same ∙ ap (λ n. with_use c s n (value_at (exports_in c u.interface) u.there.now)) is.name ∙ ap (λ n. with_use c s e.0 (value_at (exports_in c u.interface) n)) is.there
       ∙ ap (λ i. with_use c s e.0 (value_at (exports_in c i) (unwrap_or e.1.name e.0))) is.interface in
-      subst (λ l. IsFilled c t (holder (stated_uses c l) [])) (sym (take_next us at e there))
+      subst (λ l. IsFilled c t (holder (stated_uses c l) [])) (sym (take-one_more us at e there))
       (subst (λ t. IsFilled c t (holder (stated_uses c (take at us ++ e ∷ [])) [])) (sym taken_is)
       (filled_next (take at us) e s h (not_before us at e distinct there) o (λ k q. export_item_stands e.1.interface (unwrap_or e.1.name e.0) k q) (takes e)))
 
   pub filled_all : (us : List (Name × UsedType)) (at : ℕ) (s : Holder) (xs : List Used) → length us ≤ at → xs ≡ stated_uses c us → IsFilled c s (holder (stated_uses c (take at us)) []) → IsFilled c s (holder xs [])
-  filled_all us at s xs past is h = subst (λ l. IsFilled c s (holder l [])) (ap (stated_uses c) (take_all us at past) ∙ sym is) h
+  filled_all us at s xs past is h = subst (λ l. IsFilled c s (holder l [])) (ap (stated_uses c) (take-all us at past) ∙ sym is) h
 
 -- ---- whole holders
 

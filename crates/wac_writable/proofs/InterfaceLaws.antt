@@ -21,12 +21,13 @@ use Rattle.wac_types_base.proofs.Slots.{entry_at-is}
 use Rattle.wac_types_base.proofs.Standing.{interface_found}
 use Rattle.wac_types_base.proofs.Telling.{stated_step, typed_node, kind_stated}
 use Rattle.wac_types_base.proofs.GraphLemmas.{is_there}
+use Rattle.wac_types_base.proofs.Lists.{among_mapped}
 use Rattle.wac_composition.specs.Writable.{is_given, some_unnamed}
 use Rattle.wac_composition.specs.Writable.{Holder as Held}
 use Rattle.wac_composition.specs.NotWritten.{IsGiven, CannotBeWritten, a_value, core_items, module_as_type, renamed, an_alias, a_function, a_function_type, a_value_type, an_instance, an_interface, a_component, a_world, ItemsFail, unnamed, an_item}
 use Rattle.wac_composition.proofs.NotWritten.{any_decides, given_decides}
 use Rattle.wac_composition.proofs.NotFound.{written_decides}
-use Rattle.wac_composition.proofs.Lists.{mapped_among, among_mapped}
+use Rattle.wac_composition.proofs.Lists.{mapped_among}
 use Rattle.wac_graph_scopes.specs.Parts.{exports_of as exports_in, IsOfInterface, IsOfWorld}
 use Rattle.wac_graph_scopes.proofs.PartLaws.{exports_there, exports_missing}
 use Rattle.wac_writable.specs.declared.writable.Which.{Which}

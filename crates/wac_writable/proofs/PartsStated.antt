@@ -10,22 +10,19 @@ use Rattle.wac_types_base.specs.Collection.{Stands, IsAcyclic, depth, rows, item
 use Rattle.wac_types_base.specs.Stated.{stated_in, stated_of, uses_of, imports_of, exports_of, identifier_of}
 use Rattle.wac_types_base.proofs.Standing.{interface_found, world_found}
 use Rattle.wac_types_base.proofs.Stating.{stated_uses, interface_stated, world_stated, interface_uses, world_uses, instance_exports_stated, imports_stated, exports_stated}
+use Rattle.wac_types_base.proofs.Lists.{not_some}
 use Rattle.wac_graph_scopes.specs.Parts.{interface_in, identifier_in}
 use Rattle.wac_graph_scopes.specs.Parts.{exports_of as exports_in, uses_of as uses_in, world_uses_of as world_uses_in, imports_of as imports_in, world_exports_of as world_exports_in}
 use Rattle.wac_graph_scopes.proofs.PartLaws.{uses_there, uses_missing, exports_there, exports_missing, identifier_there, identifier_missing, world_uses_there, world_uses_missing, imports_there, imports_missing, world_exports_there, world_exports_missing}
 
--- ---- what does not stand states nothing
-
-nothing : {A : Type 0} (o : Option A) → (IsSome o → ⊥) → o ≡ None
-nothing None h = refl
-nothing (Some x) h = absurd (h refl)
+-- ---- what does not stand states not_some
 
 no_unfolding : (c : Collection) (k : ItemKind) → (Stands c k → ⊥) → unfolding_of c k ≡ None
 unfolding unfolding_of whole
 no_unfolding c k h =
     let g = item_node c in
     let e : depth c ≡ suc (length (rows c) + 1) = omega arith in
-    ap (λ n. whole g n k) e ∙ ap (λ o. grow o (whole g (length (rows c) + 1))) (nothing (g k) h)
+    ap (λ n. whole g n k) e ∙ ap (λ o. grow o (whole g (length (rows c) + 1))) (not_some (g k) h)
 
 pub stated_nothing : (c : Collection) (k : ItemKind) → (Stands c k → ⊥) → stated_of c k ≡ node alias no_more
 stated_nothing c k h = ap stated_in (no_unfolding c k h)

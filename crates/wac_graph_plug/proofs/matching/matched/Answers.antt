@@ -2,8 +2,9 @@ use Rattle.std.proofs.Common.{◌≡◌, Some, sym, subst, ◌∙◌}
 use Rattle.std.proofs.lemmas.Bool.{both_ways}
 use Rattle.wac_types_base.specs.Entries.{Name, names_of, with_values}
 use Rattle.wac_types_base.specs.Stated.{stated_of}
+use Rattle.wac_types_base.proofs.Lists.{value_none}
 use Rattle.wac_graph_plug.specs.Plugging.{Finds, Matches}
-use Rattle.wac_graph_plug.proofs.Near.{value_none, finds_there}
+use Rattle.wac_graph_plug.proofs.Near.{finds_there}
 use Rattle.wac_graph_plug.proofs.Gathered.{is_match, no_fit, no_find}
 use Rattle.wac_graph_plug.proofs.matching.matched.Goals as goal
 

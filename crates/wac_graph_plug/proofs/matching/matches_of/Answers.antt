@@ -5,8 +5,9 @@ use Rattle.wac_types_base.specs.Stated.{stated_of, exports_of}
 use Rattle.wac_types_names.proofs.Copied.{export_stands}
 use Rattle.wac_graph_plug.specs.Plugging.{AreMatchesOf, no_exports}
 use Rattle.wac_graph_core.proofs.Items.{import_stands}
-use Rattle.wac_graph_plug.proofs.Gathered.{next_gathered, all_matched, names_with}
+use Rattle.wac_graph_plug.proofs.Gathered.{next_gathered, all_matched}
 use Rattle.wac_types_base.proofs.Stating.{imports_stated, exports_stated}
+use Rattle.wac_types_base.proofs.Loops.{names-with_values}
 use Rattle.wac_graph_plug.proofs.matching.matches_of.Goals as goal
 
 pub loop-at-init : goal.loop-at-init
@@ -37,4 +38,4 @@ returns-clause-matches c =
 pub returns-clause-distinct : goal.returns-clause-distinct
 returns-clause-distinct c =
     subst (λ l. AreDistinct (names_of l)) (sym (exports_stated c.args.types.now c.world.ensures.acyclic c.args.plug c.world.result.now c.world.ensures.entry c.world.ensures.own))
-    (subst AreDistinct (sym (names_with (stated_of c.args.types.now) c.world.result.now.exports)) c.len-at-end.ensures.distinct)
+    (subst AreDistinct (sym (names-with_values (stated_of c.args.types.now) c.world.result.now.exports)) c.len-at-end.ensures.distinct)

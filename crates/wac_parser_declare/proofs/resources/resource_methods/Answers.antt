@@ -4,6 +4,7 @@ use Rattle.wac_types_base.specs.declared.item.ItemKind.{ItemKind}
 use Rattle.wac_types_base.specs.declared.item.«Type».{«Type» as TypeKind}
 use Rattle.wac_types_base.specs.Stated.{Stated}
 use Rattle.wac_types_base.proofs.Adding.{Grows-trans}
+use Rattle.wac_types_base.proofs.Stating.{stated_kept}
 use Rattle.wac_parser_tree.specs.declared.declaration.ResourceMethod.{ResourceMethod}
 use Rattle.wac_parser_tree.specs.Views.{view_resource_method}
 use Rattle.wac_parser_refusals.specs.Causes.{Answer, each}
@@ -14,7 +15,6 @@ use Rattle.wac_parser_declare.specs.Bodies as stated
 use Rattle.wac_parser_declare.specs.Bodies.{resource_method}
 use Rattle.wac_parser_declare.specs.Held.{stated_body}
 use Rattle.wac_parser_declare.specs.InBodies.{IsBody}
-use Rattle.wac_parser_declare.proofs.Kept.{stated-kept}
 use Rattle.wac_parser_declare.proofs.Known.{same_trans}
 use Rattle.wac_parser_declare.proofs.Loops.{each_next, each_refused_whole, each_ends}
 use Rattle.wac_parser_declare.proofs.Members.{refused_over}
@@ -33,7 +33,7 @@ loop-method-preserved g c =
     let here : IsHeld k (resource_method n x found (view_resource_method (get_or items c.loop-method.method-index c.method-item.result))) tt =
     subst (λ (m : ResourceMethod). IsHeld k (resource_method n x found (view_resource_method m)) tt) c.method-item.is
     (subst (λ (y : Stated). IsHeld k (resource_method n y found (view_resource_method c.method-item.result)) tt)
-    (stated-kept old mid c.loop-method.invariant.grows (ItemKind.Ty (TypeKind.Resource c.args.owner.id)) c.requires.owner) c.in_ok-resource_method.ensures.outcome) in
+    (stated_kept old mid c.loop-method.invariant.grows (ItemKind.Ty (TypeKind.Resource c.args.owner.id)) c.requires.owner) c.in_ok-resource_method.ensures.outcome) in
     let next = each_next (resource_method n x) view_resource_method items c.loop-method.method-index k found c.method-item.result tt c.loop-method-test.true here in
     record {
       grows = Grows-trans _ _ _ c.loop-method.invariant.grows c.in_ok-resource_method.ensures.grows;
@@ -55,7 +55,7 @@ returns-in_err-resource_method-clause-outcome g c =
     refused_outcome (λ (y : stated.Body) (u : ⊤). IsBody new y c.resource_method.new.body) all _ _ c.from_residual.ensures.1
     (each_refused_whole (resource_method n x) view_resource_method items c.loop-method.method-index all found c.method-item.result _ c.loop-method.invariant.rest c.loop-method-test.true c.method-item.is
     (refused_over (λ (y : Stated). resource_method n y found (view_resource_method c.method-item.result)) (stated_resource mid c.args.owner.id) x _
-    (stated-kept old mid c.loop-method.invariant.grows (ItemKind.Ty (TypeKind.Resource c.args.owner.id)) c.requires.owner) c.in_err-resource_method.ensures.outcome))
+    (stated_kept old mid c.loop-method.invariant.grows (ItemKind.Ty (TypeKind.Resource c.args.owner.id)) c.requires.owner) c.in_err-resource_method.ensures.outcome))
 
 pub returns-clause-outcome : goal.returns-clause-outcome
 returns-clause-outcome g c =

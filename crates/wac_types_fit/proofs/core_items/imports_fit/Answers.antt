@@ -5,7 +5,6 @@ use Rattle.wac_types_base.specs.Entries.{Name}
 use Rattle.wac_types_base.proofs.PairNames.{pair-place}
 use Rattle.wac_types_fit.specs.Frames.{joined_name}
 use Rattle.wac_types_fit.specs.Checking.{import_at}
-use Rattle.wac_types_fit.proofs.Items.{joined}
 use Rattle.wac_types_fit.proofs.CoreItems.{has_more, has_all_of}
 use Rattle.std.specs.Prelude.{option_map, option_copied}
 use Rattle.wac_types_fit.specs.Errors.{words_of}
@@ -14,6 +13,7 @@ use Rattle.wac_types_fit.proofs.CoreItems.{among-import_at}
 use Rattle.wac_types_fit.proofs.Worded.{core_called}
 use Rattle.wac_types_fit.proofs.core_items.imports_fit.Goals as goal
 use Rattle.wac_types_base.proofs.Looked.{among-get}
+use Rattle.wac_types_base.proofs.Lists.{joined}
 
 pub returns-in-Err-clause-no : goal.returns-in-Err-clause-no
 returns-in-Err-clause-no c ss e =

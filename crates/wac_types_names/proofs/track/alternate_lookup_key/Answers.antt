@@ -2,7 +2,7 @@ use Rattle.std.proofs.Common.{◌∙◌, sym, ap, lit<, List, ℕ, take, Some, N
 use Rattle.std.specs.Option.{option_map}
 use Rattle.std.proofs.lemmas.Str.Pattern.{split_once_first}
 use Rattle.semver.specs.Identifiers.{parts_of}
-use Rattle.wac_types_names.proofs.Places.{some_of}
+use Rattle.wac_names.proofs.Parts.{some_of}
 use Rattle.wac_types_names.proofs.TrackTexts.{no_at, no_key, no_track, on_track}
 use Rattle.wac_types_names.proofs.track.alternate_lookup_key.Goals as goal
 

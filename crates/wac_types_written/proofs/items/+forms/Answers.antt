@@ -10,14 +10,14 @@ use Rattle.wac_types_base.specs.Collection.{Stands, items, size_of, used}
 use Rattle.wac_types_base.specs.Entries.{IsNew, Name}
 use Rattle.wac_types_base.specs.Stated.{stated_of}
 use Rattle.wac_types_base.proofs.Adding.{Grows-refl, Grows-trans}
-use Rattle.wac_types_base.proofs.Looked.{among-get}
+use Rattle.wac_types_base.proofs.Looked.{among-get, among-take}
 use Rattle.wac_types_base.proofs.Loops.{take-all}
 use Rattle.wac_types_base.proofs.Slots.{stands_typed_interface, stands_typed_world}
 use Rattle.wac_types_base.proofs.Telling.{row_size}
 use Rattle.wac_types_written.specs.Forms.{AreWritten, IsOf, ItemsStand, UsesStand, UsesWritten}
 use Rattle.wac_types_written.specs.Written.{written}
 use Rattle.wac_types_written.proofs.Adding.{interface_added}
-use Rattle.wac_types_written.proofs.Forming.{front_among, interface_formed, interface_type_formed, interface_type_size, item_name_new, other_item, other_type, items_next, items_none, use_name_new, uses_next, uses_none, world_formed, world_parts_size, world_type_formed, world_type_size}
+use Rattle.wac_types_written.proofs.Forming.{interface_formed, interface_type_formed, interface_type_size, item_name_new, other_item, other_type, items_next, items_none, use_name_new, uses_next, uses_none, world_formed, world_parts_size, world_type_formed, world_type_size}
 use Rattle.wac_types_written.proofs.Growing.{forms_kept, items_size_kept, items_stand_kept, size_kept, stated_kept, uses_stand_kept}
 use Rattle.wac_types_written.proofs.Ids.{interface_children, interface_exports_stand, interface_uses_stand, other_written, world_exports_stand, world_imports_stand, world_uses_stand}
 use Rattle.wac_types_written.proofs.Stepping.{item_size, parts_size, use_size}
@@ -144,7 +144,7 @@ form_items-loop-at-preserved t c =
     record {
       written = subst (AreWritten c.form_item.new.types (take (c.loop-at.at + 1) c.args.items.now)) (sym c.in_ok-push.ensures.ok)
           (items_next c.loop-at.types c.form_item.new.types c.in_ok-form.ensures.grows c.args.items.now c.loop-at.all c.loop-at.at c.entry.result.0.now (string_bytes c.in_ok-from_str.field-0) c.entry.result.1.now c.in_ok-form.form own c.entry.ensures
-          (own e (among-get c.args.items.now c.loop-at.at e c.entry.ensures)) c.in_ok-from_str.ensures.ok c.loop-at.invariant.written (λ x m. own x (front_among x c.args.items.now c.loop-at.at m)) c.in_ok-form.ensures.written);
+          (own e (among-get c.args.items.now c.loop-at.at e c.entry.ensures)) c.in_ok-from_str.ensures.ok c.loop-at.invariant.written (λ x m. own x (among-take x c.args.items.now c.loop-at.at m)) c.in_ok-form.ensures.written);
       forms = c.in_ok-form.ensures.forms;
       grows = Grows-trans c.args.types.now c.loop-at.types c.form_item.new.types g c.in_ok-form.ensures.grows;
     }
@@ -158,7 +158,7 @@ form_uses-loop-at-preserved t c =
     record {
       written = subst (UsesWritten c.form_interface.new.types (take (c.loop-at.at + 1) c.args.uses.now)) (sym c.in_ok-push.ensures.ok)
           (uses_next c.loop-at.types c.form_interface.new.types c.in_ok-interface.ensures.grows c.args.uses.now c.loop-at.all c.loop-at.at c.entry.result.0.now (string_bytes c.in_ok-from_str.field-0) c.entry.result.1.now c.in_ok-used.used c.entry.ensures
-          (own e (among-get c.args.uses.now c.loop-at.at e c.entry.ensures)) c.in_ok-from_str.ensures.ok c.loop-at.invariant.written (λ x m. own x (front_among x c.args.uses.now c.loop-at.at m))
+          (own e (among-get c.args.uses.now c.loop-at.at e c.entry.ensures)) c.in_ok-from_str.ensures.ok c.loop-at.invariant.written (λ x m. own x (among-take x c.args.uses.now c.loop-at.at m))
           (ap (λ (u : UsedType). u.name) made) (subst (λ (i : InterfaceId). IsOf c.form_interface.new.types (written (stated_of c.loop-at.types (ItemKind.Instance c.entry.result.1.now.interface))) (ItemKind.Instance i)) (sym (ap (λ (u : UsedType). u.interface) made)) c.in_ok-interface.ensures.written));
       forms = c.in_ok-interface.ensures.forms;
       grows = Grows-trans c.args.types.now c.loop-at.types c.form_interface.new.types g c.in_ok-interface.ensures.grows;

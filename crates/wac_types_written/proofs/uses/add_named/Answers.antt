@@ -1,7 +1,8 @@
 use Rattle.std.proofs.Common.{◌≡◌, ◌∙◌, ap, false, is_some, refl, subst, sym, true}
 use Rattle.std.specs.Prelude.{string_bytes}
 use Rattle.wac_types_base.specs.Entries.{IsNew, value_at}
-use Rattle.wac_types_written.proofs.Walking.{no_value, walks_named, walks_new, walks_unnamed}
+use Rattle.wac_types_base.proofs.Lists.{no_value}
+use Rattle.wac_types_written.proofs.Walking.{walks_named, walks_new, walks_unnamed}
 use Rattle.wac_types_written.proofs.uses.add_named.Goals as goal
 
 pub returns-in_default : goal.returns-in_default

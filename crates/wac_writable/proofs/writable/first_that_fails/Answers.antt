@@ -1,10 +1,10 @@
 use Rattle.std.proofs.Common.{inl, refl, sym, ap, ◌∙◌, subst, arith}
 use Rattle.std.specs.List.{list_any}
+use Rattle.wac_types_base.proofs.Loops.{take-all}
 use Rattle.wac_graph_scopes.specs.Parts.{imports_of as imports_in}
 use Rattle.wac_writable.specs.Holders.{Keeps}
 use Rattle.wac_writable.specs.Tests.{import_unwritable}
 use Rattle.wac_writable.proofs.UnnamedLaws.{no_gap}
-use Rattle.wac_writable.proofs.HolderLaws.{take_all}
 use Rattle.wac_writable.proofs.ValueLaws.{keeps_on}
 use Rattle.wac_writable.proofs.RootLaws.{none_taken, none_next}
 use Rattle.wac_writable.proofs.writable.first_that_fails.Goals.{in-Some+in_ok-item_fails+else-branch, in_default}
@@ -37,4 +37,4 @@ pub returns : goal.returns
 returns c ka none h w =
     let C = c.args.test.types.now in
     let l = c.import_count-at-end.ensures.len in
-    ap (list_any (import_unwritable c.args.test h)) (sym (take_all (imports_in C c.args.world) c.loop-at.at (omega (arith, l, c.loop-at-test.false)))) ∙ c.loop-at.invariant.1 ka none h w
+    ap (list_any (import_unwritable c.args.test h)) (sym (take-all (imports_in C c.args.world) c.loop-at.at (omega (arith, l, c.loop-at-test.false)))) ∙ c.loop-at.invariant.1 ka none h w

@@ -1,6 +1,6 @@
 use Rattle.std.proofs.Common.{◌≡◌, sym, ap, ◌∙◌}
 use Rattle.wac_types_base.specs.Entries.{value_at, put_entry}
-use Rattle.wac_run.proofs.FileLaws.{put_is, put_else}
+use Rattle.wac_types_base.proofs.Lists.{put_else, put_is}
 use Rattle.wac_run.proofs.files.MemoryFilesFiles.write.Goals as goal
 
 pub returns-clause-written : goal.returns-clause-written
