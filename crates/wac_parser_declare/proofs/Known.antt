@@ -1,11 +1,11 @@
 -- What is known of packages stays, and so does where a document stands.
-use Rattle.std.proofs.Common.{refl, sym, ◌∙◌}
+use Rattle.std.proofs.Common.{refl, sym, ap, ◌∙◌}
 use Rattle.wac_types_base.specs.Record.{Collection}
 use Rattle.wac_types_base.specs.Collection.{Grows}
 use Rattle.wac_parser_declare.specs.declared.scope.Context.{Context as Place}
 use Rattle.wac_parser_declare.specs.Holding.{NamesStand}
 use Rattle.wac_parser_declare.specs.InPaths.{StandsIn}
-use Rattle.wac_parser_declare.specs.Packages.{Known, SamePackages}
+use Rattle.wac_parser_declare.specs.Packages.{Known, SamePackages, world_if}
 use Rattle.wac_parser_declare.specs.Scope.{Context}
 use Rattle.wac_parser_declare.proofs.Kept.{scope-kept}
 
@@ -18,4 +18,4 @@ same_trans f g h p q = record { same = λ k. q.same k ∙ p.same k; rest = λ k.
 -- a document stands where it stood while its collection grows
 pub stands_in_stays : (x : Context) (at : Place) (c d : Collection) (f g : Known) → Grows c d → SamePackages f g → NamesStand c at.root.now → StandsIn x at c f → StandsIn x at d g
 stands_in_stays x at c d f g grows same names s =
-    record { own = s.own; root = s.root ∙ sym (scope-kept c d grows at.root.now names); packages = λ k. s.packages k ∙ sym (same.same k) }
+    record { own = s.own; root = s.root ∙ sym (scope-kept c d grows at.root.now names); packages = λ k. s.packages k ∙ ap world_if (sym (same.same k)) }

@@ -27,8 +27,8 @@ use Rattle.wac_parser_declare.specs.Held.{holder_of, stated_body}
 use Rattle.wac_parser_declare.specs.Holding.{Holds, scope_of}
 use Rattle.wac_parser_declare.specs.InBodies.{IsBody}
 use Rattle.wac_parser_declare.specs.InUses.{AnInterface}
-use Rattle.wac_parser_declare.specs.Packages.{Known, named_package}
-use Rattle.wac_parser_declare.specs.Scope.{Context, Path, definitions, foreign_export, from_definitions, from_root, in_package, own_export, own_path, package_path, path_item, path_span, path_text, use_path, world_path, world_under}
+use Rattle.wac_parser_declare.specs.Packages.{Known, named_package, world_if}
+use Rattle.wac_parser_declare.specs.Scope.{Context, Path, definitions, foreign_export, from_definitions, from_root, in_package, own_export, own_path, package_path, path_item, path_span, path_text, use_path, world_path, package_under}
 use Rattle.wac_parser_declare.specs.Worlds.{world_at, world_by}
 
 -- ---- segments
@@ -54,7 +54,7 @@ IsForeignRest c p first k is r = (i : Segment) → i.0 ≡ first → IsOutcome (
 pub record StandsIn (x : Context) (at : Place) (c : Collection) (known : Known) : Type 0 where
   pub own : x.own ≡ view_package_name at.own.now
   pub root : x.root ≡ scope_of c at.root.now
-  pub packages : (k : Key) → world_under x.packages k ≡ known.worlds k
+  pub packages : (k : Key) → package_under x.packages k ≡ world_if (known.packages k)
 
 abbrev pub IsOwnPath : PackagePath → Place → Collection → Result ItemKind Refusal → Type 0
 IsOwnPath p at c r = (x : Context) → x.root ≡ scope_of c at.root.now → IsOutcome (Holds c) (from_root x (segment_spans (view_package_path p))) r

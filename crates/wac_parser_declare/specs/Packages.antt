@@ -1,6 +1,6 @@
 -- What is known of packages, and what a package defines.
 use base.Stored.{Gv}
-use Rattle.std.specs.Prelude.{◌≡◌, ℕ, Option, option_map, Result}
+use Rattle.std.specs.Prelude.{◌≡◌, ℕ, List, Option, option_map, Result}
 use Rattle.wac_types_base.specs.declared.item.ItemKind.{ItemKind}
 use Rattle.wac_types_base.specs.Record.{Collection}
 use Rattle.wac_types_base.specs.Collection.{SlotStands}
@@ -16,19 +16,27 @@ use Rattle.wac_parser_refusals.specs.Causes.{Answer, ◌>>=◌, UnknownPackage, 
 use Rattle.wac_parser_refusals.specs.Outcomes.{IsOutcome}
 use Rattle.wac_parser_declare.specs.Scope.{definitions}
 
--- the world of the package of each key, if there is one, and a code of all else that holds the collection
+-- what a package has: its world and its bytes
+pub record Content : Type 0 where
+  pub world : Stated
+  pub bytes : List ℕ
+
+-- what the package of each key has, if there is one, and a code of all else that holds the collection
 pub record Known : Type 0 where
-  pub worlds : Key → Option Stated
+  pub packages : Key → Option Content
   pub rest : ℕ → Gv
 
--- the package of each key has the world that it had, and nothing else is touched
+abbrev pub world_if : Option Content → Option Stated
+world_if o = option_map (λ (c : Content). c.world) o
+
+-- the package of each key has what it had, and nothing else is touched
 pub record SamePackages (f g : Known) : Type 0 where
-  pub same : (k : Key) → g.worlds k ≡ f.worlds k
+  pub same : (k : Key) → g.packages k ≡ f.packages k
   pub rest : (k : ℕ) → g.rest k ≡ f.rest k
 
 -- the world of the package that a path names
 abbrev pub named_package : Known → t.PackagePath → Answer Stated
-named_package known p = present (known.worlds (p.name, p.version)) (UnknownPackage p.name) (package_name_span p)
+named_package known p = present (world_if (known.packages (p.name, p.version))) (UnknownPackage p.name) (package_name_span p)
 
 -- what that package defines under a name, if it does
 abbrev pub defined_in : Known → t.PackagePath → Name → Answer (Option Stated)

@@ -66,13 +66,13 @@ same_version v w = false
 abbrev pub is_key : Key → Key → Bool
 is_key a b = pointwise ◌==◌ a.0 b.0 && same_version a.1 b.1
 
--- the world of the first package of this key
-abbrev pub world_under : List (Key × Stated) → Key → Option Stated
-world_under [] k = None
-world_under (p ∷ ps) k = cond (is_key k p.0) (Some p.1) (world_under ps k)
+-- what the first package of this key has
+abbrev pub package_under : {V : Type 0} → List (Key × V) → Key → Option V
+package_under [] k = None
+package_under (p ∷ ps) k = cond (is_key k p.0) (Some p.1) (package_under ps k)
 
 abbrev pub world_of_package : List (Key × Stated) → Key → Span → Answer Stated
-world_of_package ps k s = present (world_under ps k) (UnknownPackage k.0) s
+world_of_package ps k s = present (package_under ps k) (UnknownPackage k.0) s
 
 -- an export that is the type of a world with one export, under an interface name, means the type of that export
 abbrev pub is_instance_or_component : Kind → Bool

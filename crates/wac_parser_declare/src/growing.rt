@@ -83,7 +83,7 @@ pub trait PackagedTypes: GrowingTypes {
 impl GrowingTypes for Types {
     ghost collection = { λ c. c };
 
-    ghost packages = { λ c. record { worlds = λ k. None; rest = λ k. coded_ℕ.code 0 } };
+    ghost packages = { λ c. record { packages = λ k. None; rest = λ k. coded_ℕ.code 0 } };
 
     fn types(&self) -> &Types {
         self

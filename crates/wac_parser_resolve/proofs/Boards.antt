@@ -18,7 +18,7 @@ use Rattle.wac_parser_refusals.specs.Causes.{Answer, Fault, ◌>>◌, present, p
 use Rattle.wac_parser_refusals.specs.Outcomes.{IsHeld, IsOutcome, IsRefusal, Refuses}
 use Rattle.wac_parser_refusals.proofs.Outcomes.{memory_refusal}
 use Rattle.wac_parser_declare.specs.Packages.{SamePackages}
-use Rattle.wac_parser_declare.specs.Scope.{world_under}
+use Rattle.wac_parser_declare.specs.Scope.{package_under}
 use Rattle.wac_parser_resolve.specs.declared.board.Board.{Board}
 use Rattle.wac_parser_resolve.specs.declared.packages.GraphTypes.{GraphTypes}
 use Rattle.wac_parser_resolve.specs.declared.root.Root.{Root}
@@ -68,7 +68,7 @@ module _ (root : Root) (b c : Board) where
   pub on_within : IsWithin b.types.graph c.types.graph → c.types.packages ≡ b.types.packages → (s q : State) → IsOn root b s → Alike s q → Says c.types.graph c.instances.noted.items root.nodes.now q → IsOn root c q
   on_within within same s q on alike says = record {
     says = says;
-    known = λ k. known_within b.types c.types within same k ∙ on.known k ∙ ap (λ ps. world_under ps k) (sym alike.packages);
+    known = λ k. known_within b.types c.types within same k ∙ on.known k ∙ ap (λ ps. package_under ps k) (sym alike.packages);
     own = ap (λ (p : t.PackageName). p.name) alike.own ∙ on.own;
   }
 

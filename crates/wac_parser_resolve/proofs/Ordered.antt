@@ -17,7 +17,7 @@ use Rattle.wac_composition.specs.Conflicts.{first_cause, name_cause}
 use Rattle.wac_composition.proofs.Bound.{uses_project}
 use Rattle.wac_parser_tree.specs.Trees as t
 use Rattle.wac_parser_refusals.specs.Causes.{Answer, ◌>>◌}
-use Rattle.wac_parser_declare.specs.Scope.{world_under}
+use Rattle.wac_parser_declare.specs.Scope.{package_under}
 use Rattle.wac_parser_resolve.specs.Ascribing.{Origin, imported, instance, projected, defined, Denoted, Made, Bound, State}
 use Rattle.wac_parser_resolve.specs.Saying.{statements}
 use Rattle.wac_parser_resolve.specs.Meeting.{target, resolved}
@@ -170,4 +170,4 @@ pub known : Packages_are_known
 known d ps define x e k m q =
     let s = said d ps define x e in
     let r = numbered_is zero s.state.made k m (ap (λ (y : Composition Asker ℕ). slice_get y.made k) (sym s.is) ∙ q) in
-    subst (λ (y : c.Made Asker ℕ). world_under ps y.key ≡ Some y.world) (sym r.is) (s.sound.made k r.made r.there).known
+    subst (λ (y : c.Made Asker ℕ). package_under ps y.key ≡ Some y.world) (sym r.is) (s.sound.made k r.made r.there).known

@@ -14,7 +14,7 @@ use Rattle.wac_parser_tree.specs.Trees as t
 use Rattle.wac_parser_tree.specs.Trees.{Span}
 use Rattle.wac_parser_tree.specs.Segments.{Segment, segment_spans, package_name_span}
 use Rattle.wac_parser_refusals.specs.Causes.{Answer, Fault, ◌>>=◌, pure, unless_clear, present, each, UnknownPackage, PackageMissingExport, PackagePathMissingExport, UndefinedInterfaceType, NotInterfaceValueType, UseConflict, NotInterface, DuplicateResourceConstructor, DuplicateResourceMethod, DuplicateWorldItem, WorldIncludeConflict}
-use Rattle.wac_parser_declare.specs.Scope.{Scope, Context, Meant, Path, in_package, at_root, has, named, taken, bind, is_key, world_under, world_of_package, is_interface_name, is_instance_or_component, only_export, definition_by, definitions, use_path, world_path, joined, own_path, package_path, segment_ident, from_root, from_definitions, path_item, at_path, path_text, path_span, identifier}
+use Rattle.wac_parser_declare.specs.Scope.{Scope, Context, Meant, Path, in_package, at_root, has, named, taken, bind, is_key, package_under, world_of_package, is_interface_name, is_instance_or_component, only_export, definition_by, definitions, use_path, world_path, joined, own_path, package_path, segment_ident, from_root, from_definitions, path_item, at_path, path_text, path_span, identifier}
 use Rattle.wac_parser_declare.specs.Declarations.{function, func_ref, variant_decl, record_decl, flags_decl, enum_decl, type_alias}
 use Rattle.wac_parser_declare.specs.Bodies.{Items, Body, no_body, Holder, usable, local_name, with_use, is_used, use_one, is_interface, interface_at, use_types, with_item, add_type, method_name, constructor_name, method_kind, self_of, add_constructor, has_method, add_method, resource_method, resource_decl, added, item_type}
 use Rattle.wac_parser_declare.specs.Interfaces.{export_item, exporting, interface_body, inline_interface, interface_decl}
@@ -30,16 +30,16 @@ use Rattle.wac_parser_resolve.proofs.ProperTypes.{typed_is, ScopeProper, named_p
 
 -- ---- packages
 
-pub under_proper : (ps : List (Key × Stated)) (k : Key) (w : Stated) → AreProper ps → world_under ps k ≡ Some w → Proper w
+pub under_proper : (ps : List (Key × Stated)) (k : Key) (w : Stated) → AreProper ps → package_under ps k ≡ Some w → Proper w
 under_proper [] k w h e = absurd (none-some _ e)
 under_proper (p ∷ ps) k w h e = go (under_proper ps k w (λ q m. h q (inr m))) (is_key k p.0) e
   where
-    go : (world_under ps k ≡ Some w → Proper w) → (b : Bool) → cond b (Some p.1) (world_under ps k) ≡ Some w → Proper w
+    go : (package_under ps k ≡ Some w → Proper w) → (b : Bool) → cond b (Some p.1) (package_under ps k) ≡ Some w → Proper w
     go rest true q = subst Proper (same_Some _ _ q) (h p (inl refl))
     go rest false q = rest q
 
 pub package_proper : (ps : List (Key × Stated)) (k : Key) (z : Span) (w : Stated) → AreProper ps → Ok w ≡ world_of_package ps k z → Proper w
-package_proper ps k z w h e = under_proper ps k w h (present_is (world_under ps k) (UnknownPackage k.0) z w e)
+package_proper ps k z w h e = under_proper ps k w h (present_is (package_under ps k) (UnknownPackage k.0) z w e)
 
 only_proper : (es : List (Name × Stated)) (x : Stated) → AllItems es → only_export es ≡ Some x → Proper x
 only_proper [] x h e = absurd (none-some _ e)

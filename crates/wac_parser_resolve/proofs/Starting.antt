@@ -11,7 +11,7 @@ use Rattle.wac_graph_core.specs.Graph.{Graph, instantiated, node_at, package_mad
 use Rattle.wac_parser_tree.specs.Trees as t
 use Rattle.wac_parser_tree.specs.Trees.{Span}
 use Rattle.wac_parser_declare.specs.Holding.{NamesStand, scope_of}
-use Rattle.wac_parser_declare.specs.Scope.{world_under}
+use Rattle.wac_parser_declare.specs.Scope.{package_under}
 use Rattle.wac_parser_declare.specs.declared.scope.Binding.{Binding}
 use Rattle.wac_parser_resolve.specs.declared.state.State.{State as Held}
 use Rattle.wac_parser_resolve.specs.Ascribing.{start}
@@ -49,7 +49,7 @@ module _ (c : Collection) where
 
 -- the state of the code that is new
 pub starts_bare : (b : Held) (c : Collection) (d : t.Document) (ps : List (Key × Stated)) → b.board.types.graph ≡ with_types c → b.board.instances.noted.items ≡ [] → b.names ≡ [] → b.nodes ≡ []
-    → b.imports.noted.items ≡ [] → b.exports.noted.items ≡ [] → ((k : Key) → handed_under b.board.types k ≡ world_under ps k) → IsSaid d.directive.«package» b (start d ps)
+    → b.imports.noted.items ≡ [] → b.exports.noted.items ≡ [] → ((k : Key) → handed_under b.board.types k ≡ package_under ps k) → IsSaid d.directive.«package» b (start d ps)
 starts_bare b c d ps graph instances names nodes imports exports handed = record {
   board = record {
     says = subst (λ (g : Graph). Says g b.board.instances.noted.items b.nodes (start d ps)) (sym graph)

@@ -8,13 +8,13 @@ use Rattle.wac_composition.specs.Composition.{Placed, Composition}
 use Rattle.wac_composition.specs.Sound.{IsWired}
 use Rattle.wac_composition.specs.Wired.{composed_wiring}
 use Rattle.wac_parser_tree.specs.Trees as t
-use Rattle.wac_parser_declare.specs.Scope.{world_under}
+use Rattle.wac_parser_declare.specs.Scope.{package_under}
 use Rattle.wac_parser_resolve.specs.Proper.{AreProper}
 use Rattle.wac_parser_resolve.specs.Ascribed.{Asker, ascribed}
 
 -- each instance is of a package handed in, with the world of that package
 abbrev pub Packages_are_known : Type 0
-Packages_are_known = (d : t.Document) (ps : List (Key × Stated)) (define : Bool) (x : Composition Asker ℕ × Option Stated) → Ok x ≡ ascribed define d ps → (k : ℕ) (m : c.Made Asker ℕ) → slice_get x.0.made k ≡ Some m → world_under ps m.key ≡ Some m.world
+Packages_are_known = (d : t.Document) (ps : List (Key × Stated)) (define : Bool) (x : Composition Asker ℕ × Option Stated) → Ok x ≡ ascribed define d ps → (k : ℕ) (m : c.Made Asker ℕ) → slice_get x.0.made k ≡ Some m → package_under ps m.key ≡ Some m.world
 
 -- an instance's sources name earlier instances, and the exports' instances that are there
 abbrev pub Wirings_are_ordered : Type 0

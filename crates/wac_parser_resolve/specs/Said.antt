@@ -10,7 +10,7 @@ use Rattle.wac_graph_core.specs.Graph.{Graph, node_at}
 use Rattle.wac_parser_tree.specs.Trees as t
 use Rattle.wac_parser_tree.specs.Trees.{Span}
 use Rattle.wac_parser_declare.specs.Holding.{NamesStand, scope_of}
-use Rattle.wac_parser_declare.specs.Scope.{world_under}
+use Rattle.wac_parser_declare.specs.Scope.{package_under}
 use Rattle.wac_parser_resolve.specs.declared.board.Board.{Board}
 use Rattle.wac_parser_resolve.specs.declared.state.State.{State as Held}
 use Rattle.wac_parser_resolve.specs.Ascribing.{Bound, Denoted, Import, State, root_scope}
@@ -23,7 +23,7 @@ use Rattle.wac_parser_resolve.specs.Knowing.{known_in}
 -- the graph with its instances, over the names of the root and the packages that are known, in a document of this package
 pub record IsOnBoard (name : Name) (names : List (Name × ℕ)) (b : Board) (s : State) : Type 0 where
   pub says : Says b.types.graph b.instances.noted.items names s
-  pub known : (k : Key) → known_in b.types k ≡ world_under s.packages k
+  pub known : (k : Key) → known_in b.types k ≡ package_under s.packages k
   pub own : s.own.name ≡ name
 
 -- what is denoted, over what is said then

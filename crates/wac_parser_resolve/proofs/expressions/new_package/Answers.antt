@@ -9,7 +9,7 @@ use Rattle.wac_parser_tree.specs.Views.{view_package_name}
 use Rattle.wac_parser_refusals.specs.Causes.{UnknownPackage, present}
 use Rattle.wac_parser_refusals.specs.Outcomes.{IsOutcome}
 use Rattle.wac_parser_refusals.proofs.Outcomes.{refused_outcome}
-use Rattle.wac_parser_declare.specs.Scope.{world_of_package, world_under}
+use Rattle.wac_parser_declare.specs.Scope.{world_of_package, package_under}
 use Rattle.wac_parser_resolve.specs.declared.board.Board.{Board}
 use Rattle.wac_parser_resolve.specs.Denoting.{new_package}
 use Rattle.wac_parser_resolve.specs.InInstances.{key_of}
@@ -32,7 +32,7 @@ returns-clause-outcome c s on =
     let k = key_of p in
     let key : named_key c.args.name.now.name.now c.as_ref.result ≡ k = ap (λ (v : Option Version). (c.args.name.now.name.now, option_map parts_of v)) c.as_ref.ensures.value in
     package_outcome (IsPackage c.package.new.self.graph k) (UnknownPackage p.name) p.span (λ w id h. (on_keeps c.args.root c.args.board.now b c.see_sound.ensures c.in_ok-id.ensures.keeps c.in_ok-id.ensures.packages refl s on, h))
-    (bytes_eq p.name s.own.name) (known_in c.args.board.now.types k) (world_under s.packages k) (Ok c.in_ok-id.id) other (on.known k)
+    (bytes_eq p.name s.own.name) (known_in c.args.board.now.types k) (package_under s.packages k) (Ok c.in_ok-id.id) other (on.known k)
     (subst (λ (x : Key). IsOutcome (IsPackage c.package.new.self.graph x) (present (known_in c.args.board.now.types x) (UnknownPackage x.0) p.span) (Ok c.in_ok-id.id)) key c.in_ok-id.ensures.outcome)
 
 pub returns-in_err-id-clause-outcome : goal.returns-in_err-id-clause-outcome
@@ -43,5 +43,5 @@ returns-in_err-id-clause-outcome c s on =
     let key : named_key c.args.name.now.name.now c.as_ref.result ≡ k = ap (λ (v : Option Version). (c.args.name.now.name.now, option_map parts_of v)) c.as_ref.ensures.value in
     let H : Stated → PackageId → Type 0 = IsPackage c.package.new.self.graph k in
     refused_outcome _ (new_package s p) c.from_residual.result c.in_err-id.field-0.0 c.from_residual.ensures.1
-    (package_outcome H (UnknownPackage p.name) p.span (λ w id h. h) (bytes_eq p.name s.own.name) (known_in c.args.board.now.types k) (world_under s.packages k) (Err c.in_err-id.field-0.0) other (on.known k)
+    (package_outcome H (UnknownPackage p.name) p.span (λ w id h. h) (bytes_eq p.name s.own.name) (known_in c.args.board.now.types k) (package_under s.packages k) (Err c.in_err-id.field-0.0) other (on.known k)
     (subst (λ (x : Key). IsOutcome (IsPackage c.package.new.self.graph x) (present (known_in c.args.board.now.types x) (UnknownPackage x.0) p.span) (Err c.in_err-id.field-0.0)) key c.in_err-id.ensures.outcome))
