@@ -1,5 +1,5 @@
 -- What expressions stand on, while the graph grows.
-use Rattle.std.proofs.Common.{◌≡◌, ℕ, suc, List, [], ◌∷◌, ◌++◌, length, Bool, true, false, Option, Some, None, IsSome, Result, Ok, Err, refl, sym, ap, subst, ◌∙◌}
+use Rattle.std.proofs.Common.{◌≡◌, ℕ, suc, List, [], ◌∷◌, ◌++◌, length, Bool, true, false, cond, Option, Some, None, IsSome, Result, Ok, Err, refl, sym, ap, subst, ◌∙◌}
 use Rattle.std.specs.Prelude.{⊤, find, not, slice_get}
 use Rattle.wac_types_base.specs.declared.item.ItemKind.{ItemKind}
 use Rattle.wac_types_base.specs.declared.ids.WorldId.{WorldId}
@@ -17,19 +17,19 @@ use Rattle.wac_parser_refusals.specs.declared.refusal.Refusal.{Refusal}
 use Rattle.wac_parser_refusals.specs.Causes.{Answer, Fault, ◌>>◌, present, pure, unless_clear}
 use Rattle.wac_parser_refusals.specs.Outcomes.{IsHeld, IsOutcome, IsRefusal, Refuses}
 use Rattle.wac_parser_refusals.proofs.Outcomes.{memory_refusal}
-use Rattle.wac_parser_declare.specs.Packages.{SamePackages}
-use Rattle.wac_parser_declare.specs.Scope.{package_under}
+use Rattle.wac_parser_declare.specs.Packages.{Content, SamePackages, world_if}
+use Rattle.wac_parser_declare.specs.Scope.{is_key, package_under}
 use Rattle.wac_parser_resolve.specs.declared.board.Board.{Board}
 use Rattle.wac_parser_resolve.specs.declared.packages.GraphTypes.{GraphTypes}
 use Rattle.wac_parser_resolve.specs.declared.root.Root.{Root}
-use Rattle.wac_parser_resolve.specs.Ascribing.{Made, State}
+use Rattle.wac_parser_resolve.specs.Ascribing.{Made, State, worlds_of}
 use Rattle.wac_parser_resolve.specs.Denoting as stated
 use Rattle.wac_parser_resolve.specs.Denoting.{none_missing, with_made}
 use Rattle.wac_parser_resolve.specs.Holding.{HasItem, InTurn, IsMade, Says}
 use Rattle.wac_parser_resolve.specs.InArguments.{imported_by}
 use Rattle.wac_parser_resolve.specs.InInstances.{Denoting, IsOn, SaysMade, instances_of, makes}
 use Rattle.wac_parser_resolve.specs.Keeping.{Keeps}
-use Rattle.wac_parser_resolve.specs.Knowing.{all_known, handed_under, known_in, world_in}
+use Rattle.wac_parser_resolve.specs.Knowing.{all_known, handed_under, known_in, content_in}
 use Rattle.wac_parser_resolve.specs.Later.{IsWithin, Later}
 use Rattle.wac_parser_resolve.proofs.Alike.{Alike}
 use Rattle.wac_parser_resolve.proofs.Nodes.{holds_stays}
@@ -40,7 +40,7 @@ use Rattle.wac_parser_resolve.proofs.Turns.{names_more, turn_last}
 
 -- ---- packages
 
-known_there : (c d : Collection) (ps qs : List Place) → d ≡ c → qs ≡ ps → (k : Key) → world_in d qs k ≡ world_in c ps k
+known_there : (c d : Collection) (ps qs : List Place) → d ≡ c → qs ≡ ps → (k : Key) → content_in d qs k ≡ content_in c ps k
 known_there c d ps qs p q k = cc (p, q)
 
 pub known_within : (g h : GraphTypes) → IsWithin g.graph h.graph → h.packages ≡ g.packages → (k : Key) → known_in h k ≡ known_in g k
@@ -51,6 +51,18 @@ known_within g h within same k =
   where
     handed_by : h.packages ≡ g.packages → handed_under h k ≡ handed_under g k
     handed_by e = ap (λ p. handed_under (record { graph = g.graph; packages = p }) k) e
+
+-- the world of a package, among those of all
+world_under : (ps : List (Key × Content)) (k : Key) → package_under (worlds_of ps) k ≡ world_if (package_under ps k)
+world_under [] k = refl
+world_under (p ∷ ps) k = by_test (is_key k p.0) (world_under ps k)
+  where
+    by_test : (b : Bool) → package_under (worlds_of ps) k ≡ world_if (package_under ps k) → cond b (Some p.1.world) (package_under (worlds_of ps) k) ≡ world_if (cond b (Some p.1) (package_under ps k))
+    by_test true h = refl
+    by_test false h = h
+
+pub world_known : (ps : List (Key × Content)) (k : Key) (o : Option Content) → o ≡ package_under ps k → world_if o ≡ package_under (worlds_of ps) k
+world_known ps k o e = ap world_if e ∙ sym (world_under ps k)
 
 -- ---- boards
 

@@ -1,8 +1,10 @@
 -- What a document has said, as callers see it.
-use Rattle.std.proofs.Common.{◌≡◌, Option, Ok, Err, sym, subst}
+use Rattle.std.proofs.Common.{◌≡◌, Option, Ok, Err, refl, sym, ap, subst, ◌∙◌}
+use Rattle.std.specs.Option.{option_or}
 use Rattle.wac_types_base.specs.declared.ids.WorldId.{WorldId}
 use Rattle.wac_types_base.specs.Stated.{Stated}
-use Rattle.wac_graph_core.specs.Graph.{Graph}
+use Rattle.wac_types_names.specs.Keys.{package_key}
+use Rattle.wac_graph_core.specs.Graph.{Graph, IsGraph}
 use Rattle.wac_parser_tree.specs.Trees as t
 use Rattle.wac_parser_refusals.specs.declared.error.Error.{Error}
 use Rattle.wac_parser_refusals.specs.declared.refusal.Refusal.{Refusal}
@@ -13,10 +15,12 @@ use Rattle.wac_parser_resolve.specs.declared.state.State.{State as Held}
 use Rattle.wac_parser_resolve.specs.Ascribing.{State}
 use Rattle.wac_parser_resolve.specs.InDocuments.{IsBuilt, IsErrorOf}
 use Rattle.wac_parser_resolve.specs.InTargets.{HoldsTarget}
+use Rattle.wac_parser_resolve.specs.Knowing.{handed_under}
 use Rattle.wac_parser_resolve.specs.Said.{IsSaid}
+use Rattle.wac_parser_resolve.proofs.Knowing.{known_package}
 
-pub built : (p : t.PackageName) (b : Held) (s : State) → IsSaid p b s → IsBuilt b.board.types.graph s
-built p b s said = record {
+pub built : (p : t.PackageName) (b : Held) (s : State) → IsGraph b.board.types.graph → IsSaid p b s → IsBuilt b.board.types.graph s
+built p b s sound said = record {
   instances = b.board.instances.noted.items;
   names = b.nodes;
   says = said.board.says;
@@ -26,6 +30,8 @@ built p b s said = record {
   definitions = said.definitions;
   exported = b.exports.noted.items;
   exports = said.exports;
+  packages = λ id q at.
+      sym (said.board.known (package_key q)) ∙ ap (λ o. option_or o (handed_under b.board.types (package_key q))) (known_package b.board.types.graph sound id q (package_key q) at refl);
 }
 
 pub error_told : {A : Type 0} (q : Answer A) (e : Refusal) (f : Error) → cause_of f ≡ cause_in e → IsRefusal q e → IsErrorOf q f

@@ -16,6 +16,7 @@ use Rattle.wac_composition.specs.Sound.{HasType, of_import, of_instance, of_expo
 use Rattle.wac_composition.proofs.FitBack.{fits_decides}
 use Rattle.wac_composition.proofs.Bound.{wired}
 use Rattle.wac_composition.proofs.Lists.{mapped_among}
+use Rattle.wac_parser_declare.specs.Packages.{Content}
 use Rattle.wac_parser_resolve.specs.Ascribing.{Origin, imported, instance, projected, defined, Denoted, Made, State}
 use Rattle.wac_parser_resolve.specs.Denoting.{compared_by}
 use Rattle.wac_parser_resolve.specs.Ascribed.{Asker, origin_in, made_in, placed_import, placed_definition, exported_in, composition}
@@ -38,7 +39,7 @@ given_fits g o x asked (an_instance k m s) e = (fits_decides x asked).0 e
 given_fits g o x asked (an_export p z n y h k v) e = (fits_decides x asked).0 e
 given_fits g o x asked (a_definition n y m) e = (fits_decides (written_definition y) asked).0 e
 
-module _ (ps : List (Key × Stated)) (g : State) (sound : Sound ps g) (regular : IsRegular (composition g)) where
+module _ (ps : List (Key × Content)) (g : State) (sound : Sound ps g) (regular : IsRegular (composition g)) where
   has_type : (o : Origin) (x : Stated) → Has g o x → HasType (composition g) (origin_in o) x
   has_type o x (an_import i m) = of_import (placed_import i) (among_mapped placed_import g.imports i m)
   has_type o x (an_instance k m e) = let r = numbered_at zero g.made k m e in of_instance k (made_in r.0 m) r.1

@@ -44,7 +44,7 @@ use Rattle.wac_parser_resolve.specs.Denoting.{instance_identifier, or_else, spok
 use Rattle.wac_parser_resolve.specs.Holding.{AreNamed, Denotes, HasItem, InTurn, IsNamed, Says}
 use Rattle.wac_parser_resolve.specs.InExports.{DenotesIn, IsBoundTo, IsDefinitionIn, is_defined, export_cause, ident_of, left_to_export}
 use Rattle.wac_parser_resolve.specs.InExpressions.{SaysThat}
-use Rattle.wac_parser_resolve.specs.Knowing.{handed_under, world_in}
+use Rattle.wac_parser_resolve.specs.Knowing.{handed_under, content_in}
 use Rattle.wac_parser_resolve.specs.Later.{AddsNone, Inner, IsWithin, Later}
 use Rattle.wac_parser_resolve.specs.Said.{AreExported, IsAsked, IsDeclared, IsNoted, IsSaid, last_noted}
 use Rattle.wac_parser_resolve.specs.Saying.{export_left, export_name, export_one, export_span, exported, is_exportable, new_export, no_definition, written_name}
@@ -92,8 +92,8 @@ module _ (own : t.PackageName) (b : Held) (h : Graph) (spans : Spans) (s : State
     board = record {
       says = says;
       known = λ k.
-          ap (λ (c : Collection). option_or (world_in c h.places k) (handed_under b.board.types k)) within.types
-          ∙ ap (λ ps. option_or (world_in g.types ps k) (handed_under b.board.types k)) within.places ∙ said.board.known k;
+          ap (λ (c : Collection). option_or (content_in c h.places k) (handed_under b.board.types k)) within.types
+          ∙ ap (λ ps. option_or (content_in g.types ps k) (handed_under b.board.types k)) within.places ∙ said.board.known k;
       own = said.board.own;
     };
     own = said.own;

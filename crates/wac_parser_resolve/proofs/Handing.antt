@@ -4,25 +4,25 @@ use Rattle.std.specs.Borrow.{Bor}
 use Rattle.std.specs.List.{IsDistinct, AllByRecursion}
 use Rattle.std.specs.Map.{keys_of, lookup}
 use Rattle.std.specs.Option.{option_and_then}
-use Rattle.wac_types_base.specs.Stated.{Stated}
 use Rattle.semver.specs.declared.Version.{Version}
 use Rattle.wac_types_names.specs.declared.package.BorrowedPackageKey.{BorrowedPackageKey}
 use Rattle.wac_types_names.specs.contracts.package.BorrowedPackageKeyPartialEq.TheImpl as key_eq
 use Rattle.wac_types_names.specs.Keys.{Key, borrowed_key}
+use Rattle.wac_parser_declare.specs.Packages.{Content}
 use Rattle.wac_parser_declare.specs.Scope.{is_key, package_under}
 use Rattle.wac_parser_resolve.specs.declared.packages.PackageRef.{PackageRef}
-use Rattle.wac_parser_resolve.specs.Knowing.{handed_entries, handed_world, with_handed}
+use Rattle.wac_parser_resolve.specs.Knowing.{handed_entries, handed_content, with_handed}
 use Rattle.wac_parser_resolve.proofs.Knowing.{key_same}
 
 abbrev Handed : Type 0
 Handed = BorrowedPackageKey × PackageRef
 
 module _ (k : Key) where
-  under_more : (o : Option Stated) (l : Key) (ps : List (Key × Stated)) → is_key k l ≡ false → package_under (with_handed o l ps) k ≡ package_under ps k
+  under_more : (o : Option Content) (l : Key) (ps : List (Key × Content)) → is_key k l ≡ false → package_under (with_handed o l ps) k ≡ package_under ps k
   under_more None l ps e = refl
   under_more (Some w) l ps e = ap (λ b. cond b (Some w) (package_under ps k)) e
 
-  under_here : (o : Option Stated) (l : Key) (ps : List (Key × Stated)) → is_key k l ≡ true → package_under ps k ≡ None → package_under (with_handed o l ps) k ≡ o
+  under_here : (o : Option Content) (l : Key) (ps : List (Key × Content)) → is_key k l ≡ true → package_under ps k ≡ None → package_under (with_handed o l ps) k ≡ o
   under_here None l ps e none = none
   under_here (Some w) l ps e none = ap (λ b. cond b (Some w) (package_under ps k)) e
 
@@ -38,21 +38,21 @@ module _ (k : Key) where
 
     none_under : (e : BorrowedPackageKey) (es : List Handed) → is_key k (borrowed_key e) ≡ true → AllByRecursion (λ y. eq e y ≡ false) (keys_of es) → package_under (handed_entries es) k ≡ None
     none_under e [] own all = refl
-    none_under e (f ∷ es) own all = under_more (handed_world f.1) (borrowed_key f.0) (handed_entries es) (other e f.0 own all.0) ∙ none_under e es own all.1
+    none_under e (f ∷ es) own all = under_more (handed_content f.1) (borrowed_key f.0) (handed_entries es) (other e f.0 own all.0) ∙ none_under e es own all.1
 
-    pub handed_same : (es : List Handed) → IsDistinct eq (keys_of es) → option_and_then handed_world (lookup (λ key. is_key k (borrowed_key key)) es) ≡ package_under (handed_entries es) k
+    pub handed_same : (es : List Handed) → IsDistinct eq (keys_of es) → option_and_then handed_content (lookup (λ key. is_key k (borrowed_key key)) es) ≡ package_under (handed_entries es) k
     unfolding IsDistinct
     handed_same [] d = refl
     handed_same (e ∷ es) d = by (handed_same es d.1) (is_key k (borrowed_key e.0)) refl
       where
-        by : option_and_then handed_world (lookup (λ key. is_key k (borrowed_key key)) es) ≡ package_under (handed_entries es) k → (b : Bool) → is_key k (borrowed_key e.0) ≡ b
-            → option_and_then handed_world (lookup (λ key. is_key k (borrowed_key key)) (e ∷ es)) ≡ package_under (handed_entries (e ∷ es)) k
+        by : option_and_then handed_content (lookup (λ key. is_key k (borrowed_key key)) es) ≡ package_under (handed_entries es) k → (b : Bool) → is_key k (borrowed_key e.0) ≡ b
+            → option_and_then handed_content (lookup (λ key. is_key k (borrowed_key key)) (e ∷ es)) ≡ package_under (handed_entries (e ∷ es)) k
         by rest true t =
-            ap (λ b. option_and_then handed_world (cond b (Some e.1) (lookup (λ key. is_key k (borrowed_key key)) es))) t
-            ∙ sym (under_here (handed_world e.1) (borrowed_key e.0) (handed_entries es) t (none_under e.0 es t d.0))
+            ap (λ b. option_and_then handed_content (cond b (Some e.1) (lookup (λ key. is_key k (borrowed_key key)) es))) t
+            ∙ sym (under_here (handed_content e.1) (borrowed_key e.0) (handed_entries es) t (none_under e.0 es t d.0))
         by rest false t =
-            ap (λ b. option_and_then handed_world (cond b (Some e.1) (lookup (λ key. is_key k (borrowed_key key)) es))) t ∙ rest
-            ∙ sym (under_more (handed_world e.1) (borrowed_key e.0) (handed_entries es) t)
+            ap (λ b. option_and_then handed_content (cond b (Some e.1) (lookup (λ key. is_key k (borrowed_key key)) es))) t ∙ rest
+            ∙ sym (under_more (handed_content e.1) (borrowed_key e.0) (handed_entries es) t)
 
 -- ---- keys that are equal
 

@@ -32,10 +32,10 @@ use Rattle.wac_parser_tree.specs.Trees.{Span}
 use Rattle.wac_parser_refusals.specs.declared.refusal.Refusal.{Refusal}
 use Rattle.wac_parser_refusals.specs.Causes.{Fault, present}
 use Rattle.wac_parser_refusals.specs.Outcomes.{IsHeld, IsRefusal, Refuses}
-use Rattle.wac_parser_declare.specs.Packages.{SamePackages}
+use Rattle.wac_parser_declare.specs.Packages.{Content, SamePackages}
 use Rattle.wac_parser_declare.specs.Scope.{is_key, same_version}
 use Rattle.wac_parser_resolve.specs.declared.packages.GraphTypes.{GraphTypes}
-use Rattle.wac_parser_resolve.specs.Knowing.{Gets, IsPackage, SameWorlds, all_known, beside, handed_under, held_under, known_of, wiring_of, world_in}
+use Rattle.wac_parser_resolve.specs.Knowing.{Gets, IsPackage, SameContents, all_known, beside, content_of, handed_under, held_under, known_of, wiring_of, content_in}
 use Rattle.wac_parser_resolve.specs.Keeping.{Keeps}
 use Rattle.wac_parser_resolve.proofs.Keeping.{Keeps-enlarged, keeping, put_there}
 
@@ -81,86 +81,90 @@ key_refl a = and_from (pointwise ◌==◌ a.0 a.0) _ (bytes_same a.0) (version_r
 
 -- ---- places
 
--- a place holds a package of the key, with this world
-pub record IsFound (c : Collection) (k : Key) (ps : List Place) (w : Stated) : Type 0 where
+-- a place holds a package of the key, which has this
+pub record IsFound (c : Collection) (k : Key) (ps : List Place) (w : Content) : Type 0 where
   pub at : ℕ
   pub place : Place
   pub there : slice_get ps at ≡ Some place
   pub held : Packaged
   pub is : place.held ≡ Some held
   pub key : is_key k (package_key held) ≡ true
-  pub world : stated_of c (ItemKind.Component held.ty) ≡ w
+  pub world : content_of c held ≡ w
 
 module _ (c : Collection) (k : Key) where
-  further : (p : Place) (ps : List Place) (w : Stated) → IsFound c k ps w → IsFound c k (p ∷ ps) w
+  further : (p : Place) (ps : List Place) (w : Content) → IsFound c k ps w → IsFound c k (p ∷ ps) w
   further p ps w f = record { at = suc f.at; place = f.place; there = f.there; held = f.held; is = f.is; key = f.key; world = f.world }
 
-  keyed_found : (p : Place) (ps : List Place) (w : Stated) → (world_in c ps k ≡ Some w → IsFound c k ps w) → (q : Packaged) (b : Bool) → p.held ≡ Some q → is_key k (package_key q) ≡ b
-      → option_or (cond b (Some (stated_of c (ItemKind.Component q.ty))) None) (world_in c ps k) ≡ Some w → IsFound c k (p ∷ ps) w
-  keyed_found p ps w rest q true is key e = let same : stated_of c (ItemKind.Component q.ty) ≡ w = cc e in record { at = zero; place = p; there = refl; held = q; is = is; key = key; world = same }
+  keyed_found : (p : Place) (ps : List Place) (w : Content) → (content_in c ps k ≡ Some w → IsFound c k ps w) → (q : Packaged) (b : Bool) → p.held ≡ Some q → is_key k (package_key q) ≡ b
+      → option_or (cond b (Some (content_of c q)) None) (content_in c ps k) ≡ Some w → IsFound c k (p ∷ ps) w
+  keyed_found p ps w rest q true is key e = let same : content_of c q ≡ w = cc e in record { at = zero; place = p; there = refl; held = q; is = is; key = key; world = same }
   keyed_found p ps w rest q false is key e = further p ps w (rest e)
 
-  held_found : (p : Place) (ps : List Place) (w : Stated) → (world_in c ps k ≡ Some w → IsFound c k ps w) → (o : Option Packaged) → p.held ≡ o → option_or (held_under c k o) (world_in c ps k) ≡ Some w → IsFound c k (p ∷ ps) w
+  held_found : (p : Place) (ps : List Place) (w : Content) → (content_in c ps k ≡ Some w → IsFound c k ps w) → (o : Option Packaged) → p.held ≡ o → option_or (held_under c k o) (content_in c ps k) ≡ Some w → IsFound c k (p ∷ ps) w
   held_found p ps w rest None is e = further p ps w (rest e)
   held_found p ps w rest (Some q) is e = keyed_found p ps w rest q (is_key k (package_key q)) is refl e
 
-  pub world_found : (ps : List Place) (w : Stated) → world_in c ps k ≡ Some w → IsFound c k ps w
+  pub world_found : (ps : List Place) (w : Content) → content_in c ps k ≡ Some w → IsFound c k ps w
   world_found [] w e = absurd (cc e)
   world_found (p ∷ ps) w e = held_found p ps w (world_found ps w) p.held refl e
 
-  neither : (o p : Option Stated) → option_or o p ≡ None → p ≡ None
+  neither : (o p : Option Content) → option_or o p ≡ None → p ≡ None
   neither None p e = e
   neither (Some w) p e = absurd (cc e)
 
-  pub no_world : (ps : List Place) (i : ℕ) (p : Place) (q : Packaged) → world_in c ps k ≡ None → slice_get ps i ≡ Some p → p.held ≡ Some q → is_key k (package_key q) ≡ true → ⊥
+  pub no_world : (ps : List Place) (i : ℕ) (p : Place) (q : Packaged) → content_in c ps k ≡ None → slice_get ps i ≡ Some p → p.held ≡ Some q → is_key k (package_key q) ≡ true → ⊥
   no_world [] i p q e at is key = cc at
   no_world (x ∷ ps) zero p q e at is key =
       let same : x ≡ p = cc at in
       let held : x.held ≡ Some q = ap (λ (y : Place). y.held) same ∙ is in
-      let chosen : option_or (cond true (Some (stated_of c (ItemKind.Component q.ty))) None) (world_in c ps k) ≡ None =
-      subst (λ (b : Bool). option_or (cond b (Some (stated_of c (ItemKind.Component q.ty))) None) (world_in c ps k) ≡ None) key
-      (subst (λ (o : Option Packaged). option_or (held_under c k o) (world_in c ps k) ≡ None) held e) in
+      let chosen : option_or (cond true (Some (content_of c q)) None) (content_in c ps k) ≡ None =
+      subst (λ (b : Bool). option_or (cond b (Some (content_of c q)) None) (content_in c ps k) ≡ None) key
+      (subst (λ (o : Option Packaged). option_or (held_under c k o) (content_in c ps k) ≡ None) held e) in
       cc chosen
-  no_world (x ∷ ps) (suc i) p q e at is key = no_world ps i p q (neither (held_under c k x.held) (world_in c ps k) e) at is key
+  no_world (x ∷ ps) (suc i) p q e at is key = no_world ps i p q (neither (held_under c k x.held) (content_in c ps k) e) at is key
 
   -- one more package, in the last place or in an empty one
-  pub world_last : (ps : List Place) (p : Place) → world_in c (ps ++ p ∷ []) k ≡ option_or (world_in c ps k) (held_under c k p.held)
+  pub world_last : (ps : List Place) (p : Place) → content_in c (ps ++ p ∷ []) k ≡ option_or (content_in c ps k) (held_under c k p.held)
   world_last [] p = none_behind (held_under c k p.held)
     where
-      none_behind : (o : Option Stated) → option_or o None ≡ o
+      none_behind : (o : Option Content) → option_or o None ≡ o
       none_behind None = refl
       none_behind (Some w) = refl
   world_last (x ∷ ps) p = ap (option_or (held_under c k x.held)) (world_last ps p) ∙ grouped (held_under c k x.held)
     where
-      grouped : (o : Option Stated) → option_or o (option_or (world_in c ps k) (held_under c k p.held)) ≡ option_or (option_or o (world_in c ps k)) (held_under c k p.held)
+      grouped : (o : Option Content) → option_or o (option_or (content_in c ps k) (held_under c k p.held)) ≡ option_or (option_or o (content_in c ps k)) (held_under c k p.held)
       grouped None = refl
       grouped (Some w) = refl
 
-  pub world_set_other : (ps : List Place) (i : ℕ) (x p : Place) → slice_get ps i ≡ Some x → x.held ≡ None → held_under c k p.held ≡ None → world_in c (slice_set ps i p) k ≡ world_in c ps k
+  pub world_set_other : (ps : List Place) (i : ℕ) (x p : Place) → slice_get ps i ≡ Some x → x.held ≡ None → held_under c k p.held ≡ None → content_in c (slice_set ps i p) k ≡ content_in c ps k
   world_set_other [] i x p at empty none = absurd (cc at)
   world_set_other (y ∷ ps) zero x p at empty none =
       let same : y ≡ x = cc at in
-      ap (λ (o : Option Stated). option_or o (world_in c ps k)) none ∙ sym (ap (λ (o : Option Packaged). option_or (held_under c k o) (world_in c ps k)) (ap (λ (z : Place). z.held) same ∙ empty))
+      ap (λ (o : Option Content). option_or o (content_in c ps k)) none ∙ sym (ap (λ (o : Option Packaged). option_or (held_under c k o) (content_in c ps k)) (ap (λ (z : Place). z.held) same ∙ empty))
   world_set_other (y ∷ ps) (suc i) x p at empty none = ap (option_or (held_under c k y.held)) (world_set_other ps i x p at empty none)
 
-  pub world_set : (ps : List Place) (i : ℕ) (x p : Place) (w : Stated) → slice_get ps i ≡ Some x → world_in c ps k ≡ None → held_under c k p.held ≡ Some w → world_in c (slice_set ps i p) k ≡ Some w
+  pub world_set : (ps : List Place) (i : ℕ) (x p : Place) (w : Content) → slice_get ps i ≡ Some x → content_in c ps k ≡ None → held_under c k p.held ≡ Some w → content_in c (slice_set ps i p) k ≡ Some w
   world_set [] i x p w at none some = absurd (cc at)
-  world_set (y ∷ ps) zero x p w at none some = ap (λ (o : Option Stated). option_or o (world_in c ps k)) some
-  world_set (y ∷ ps) (suc i) x p w at none some = passed (held_under c k y.held) none (world_set ps i x p w at (neither (held_under c k y.held) (world_in c ps k) none) some)
+  world_set (y ∷ ps) zero x p w at none some = ap (λ (o : Option Content). option_or o (content_in c ps k)) some
+  world_set (y ∷ ps) (suc i) x p w at none some = passed (held_under c k y.held) none (world_set ps i x p w at (neither (held_under c k y.held) (content_in c ps k) none) some)
     where
-      passed : (o : Option Stated) → option_or o (world_in c ps k) ≡ None → world_in c (slice_set ps i p) k ≡ Some w → option_or o (world_in c (slice_set ps i p) k) ≡ Some w
+      passed : (o : Option Content) → option_or o (content_in c ps k) ≡ None → content_in c (slice_set ps i p) k ≡ Some w → option_or o (content_in c (slice_set ps i p) k) ≡ Some w
       passed None h rest = rest
       passed (Some v) h rest = absurd (cc h)
 
+-- over a collection that grew
+pub content_kept : (c d : Collection) → Grows c d → (p : Packaged) → Stands c (ItemKind.Component p.ty) → content_of d p ≡ content_of c p
+content_kept c d g p s = ap (λ (w : Stated). record { world = w; bytes = p.bytes }) (stated_kept c d g (ItemKind.Component p.ty) s)
+
 -- the same places over a collection that grew
-pub world_kept : (c d : Collection) → Grows c d → (ps : List Place) → ((i : ℕ) (p : Place) (q : Packaged) → slice_get ps i ≡ Some p → p.held ≡ Some q → Stands c (ItemKind.Component q.ty)) → (k : Key) → world_in d ps k ≡ world_in c ps k
+pub world_kept : (c d : Collection) → Grows c d → (ps : List Place) → ((i : ℕ) (p : Place) (q : Packaged) → slice_get ps i ≡ Some p → p.held ≡ Some q → Stands c (ItemKind.Component q.ty)) → (k : Key) → content_in d ps k ≡ content_in c ps k
 world_kept c d g [] s k = refl
 world_kept c d g (p ∷ ps) s k =
-    ap (λ (o : Option Stated). option_or o (world_in d ps k)) (here p.held refl) ∙ ap (option_or (held_under c k p.held)) (world_kept c d g ps (λ i x q at is. s (suc i) x q at is) k)
+    ap (λ (o : Option Content). option_or o (content_in d ps k)) (here p.held refl) ∙ ap (option_or (held_under c k p.held)) (world_kept c d g ps (λ i x q at is. s (suc i) x q at is) k)
   where
     here : (o : Option Packaged) → p.held ≡ o → held_under d k o ≡ held_under c k o
     here None is = refl
-    here (Some q) is = ap (λ (t : Stated). cond (is_key k (package_key q)) (Some t) None) (stated_kept c d g (ItemKind.Component q.ty) (s zero p q refl is))
+    here (Some q) is = ap (λ (t : Content). cond (is_key k (package_key q)) (Some t) None) (content_kept c d g q (s zero p q refl is))
 
 -- ---- graphs
 
@@ -174,13 +178,13 @@ package_at ps i p q at is = in_held ps (id_at i p) q (record { place = p; there 
 pub held_worlds : (g : Graph) → IsGraph g → (i : ℕ) (p : Place) (q : Packaged) → slice_get g.places i ≡ Some p → p.held ≡ Some q → Stands g.types (ItemKind.Component q.ty)
 held_worlds g s i p q at is = (s.packages.stand (id_at i p) q (package_at g.places i p q at is)).world
 
-pub known_enlarged : (g h : Graph) → IsGraph g → Enlarges g h → SameWorlds (known_of g) (known_of h)
+pub known_enlarged : (g h : Graph) → IsGraph g → Enlarges g h → SameContents (known_of g) (known_of h)
 known_enlarged g h s e = record {
-  same = λ k. ap (λ (ps : List Place). world_in h.types ps k) (ap (λ (x : Graph). x.places) e.same) ∙ world_kept g.types h.types e.grows g.places (held_worlds g s) k;
+  same = λ k. ap (λ (ps : List Place). content_in h.types ps k) (ap (λ (x : Graph). x.places) e.same) ∙ world_kept g.types h.types e.grows g.places (held_worlds g s) k;
 }
 
 -- the package of an id is the one that is known of its key
-pub known_package : (g : Graph) → IsGraph g → (id : PackageId) (p : Packaged) (k : Key) → package_of g id ≡ Some p → package_key p ≡ k → known_of g k ≡ Some (stated_of g.types (ItemKind.Component p.ty))
+pub known_package : (g : Graph) → IsGraph g → (id : PackageId) (p : Packaged) (k : Key) → package_of g id ≡ Some p → package_key p ≡ k → known_of g k ≡ Some (content_of g.types p)
 known_package g s id p k at key = found (known_of g k) refl
   where
     h : Held g.places id p
@@ -189,7 +193,7 @@ known_package g s id p k at key = found (known_of g k) refl
     keyed : is_key k (package_key p) ≡ true
     keyed = subst (λ (x : Key). is_key x (package_key p) ≡ true) key (key_refl (package_key p))
 
-    found : (o : Option Stated) → known_of g k ≡ o → o ≡ Some (stated_of g.types (ItemKind.Component p.ty))
+    found : (o : Option Content) → known_of g k ≡ o → o ≡ Some (content_of g.types p)
     found None is = absurd (no_world g.types k g.places id.place h.place p is h.there h.held keyed)
     found (Some w) is =
         let f = world_found g.types k g.places w is in
@@ -197,42 +201,42 @@ known_package g s id p k at key = found (known_of g k) refl
         let one : id_at f.at f.place ≡ id = s.packages.once (id_at f.at f.place) id f.held p there at (sym (key_same k (package_key f.held) f.key) ∙ sym key) in
         let same : Some f.held ≡ Some p = sym there ∙ ap (package_in g.places) one ∙ at in
         let held : f.held ≡ p = cc same in
-        ap Some (sym f.world ∙ ap (λ (q : Packaged). stated_of g.types (ItemKind.Component q.ty)) held)
+        ap Some (sym f.world ∙ ap (λ (q : Packaged). content_of g.types q) held)
 
 -- a key that no package has
 pub unknown_key : (g : Graph) (k : Key) → NoKey g k → known_of g k ≡ None
 unknown_key g k none = found (known_of g k) refl
   where
-    found : (o : Option Stated) → known_of g k ≡ o → o ≡ None
+    found : (o : Option Content) → known_of g k ≡ o → o ≡ None
     found None is = refl
     found (Some w) is =
         let f = world_found g.types k g.places w is in
         absurd (none (id_at f.at f.place) f.held (package_at g.places f.at f.place f.held f.there f.is) (sym (key_same k (package_key f.held) f.key)))
 
 -- a package that is registered
-pub known_registered : (g h : Graph) (p : Packaged) (id : PackageId) → Registers g h p id → Gets g h (package_key p) (stated_of h.types (ItemKind.Component p.ty))
+pub known_registered : (g h : Graph) (p : Packaged) (id : PackageId) → Registers g h p id → Gets g h (package_key p) (content_of h.types p)
 known_registered g h p id r =
     let types : h.types ≡ g.types = ap (λ (x : Graph). x.types) r.made in
-    let own : held_under g.types (package_key p) (Some p) ≡ Some (stated_of g.types (ItemKind.Component p.ty)) =
-    ap (λ (b : Bool). cond b (Some (stated_of g.types (ItemKind.Component p.ty))) None) (key_refl (package_key p)) in
+    let own : held_under g.types (package_key p) (Some p) ≡ Some (content_of g.types p) =
+    ap (λ (b : Bool). cond b (Some (content_of g.types p)) None) (key_refl (package_key p)) in
     record {
-      own = subst (λ (c : Collection). world_in c h.places (package_key p) ≡ Some (stated_of c (ItemKind.Component p.ty))) (sym types)
+      own = subst (λ (c : Collection). content_in c h.places (package_key p) ≡ Some (content_of c p)) (sym types)
           (put_own h.places r.put (unknown_key g (package_key p) r.none) own);
-      others = λ k apart. ap (λ (c : Collection). world_in c h.places k) types
-          ∙ put_other h.places r.put k (ap (λ (b : Bool). cond b (Some (stated_of g.types (ItemKind.Component p.ty))) None) apart);
+      others = λ k apart. ap (λ (c : Collection). content_in c h.places k) types
+          ∙ put_other h.places r.put k (ap (λ (b : Bool). cond b (Some (content_of g.types p)) None) apart);
     }
   where
-    put_own : (qs : List Place) → PutsPlace g.places id p qs → world_in g.types g.places (package_key p) ≡ None → held_under g.types (package_key p) (Some p) ≡ Some (stated_of g.types (ItemKind.Component p.ty))
-        → world_in g.types qs (package_key p) ≡ Some (stated_of g.types (ItemKind.Component p.ty))
+    put_own : (qs : List Place) → PutsPlace g.places id p qs → content_in g.types g.places (package_key p) ≡ None → held_under g.types (package_key p) (Some p) ≡ Some (content_of g.types p)
+        → content_in g.types qs (package_key p) ≡ Some (content_of g.types p)
     put_own qs (put_last n) none own =
-        world_last g.types (package_key p) g.places (held_place 0 p) ∙ ap (λ (o : Option Stated). option_or o (held_under g.types (package_key p) (Some p))) none ∙ own
-    put_own qs (put_free f) none own = world_set g.types (package_key p) g.places id.place f.place (held_place id.generation p) (stated_of g.types (ItemKind.Component p.ty)) f.there none own
+        world_last g.types (package_key p) g.places (held_place 0 p) ∙ ap (λ (o : Option Content). option_or o (held_under g.types (package_key p) (Some p))) none ∙ own
+    put_own qs (put_free f) none own = world_set g.types (package_key p) g.places id.place f.place (held_place id.generation p) (content_of g.types p) f.there none own
 
-    put_other : (qs : List Place) → PutsPlace g.places id p qs → (k : Key) → held_under g.types k (Some p) ≡ None → world_in g.types qs k ≡ world_in g.types g.places k
+    put_other : (qs : List Place) → PutsPlace g.places id p qs → (k : Key) → held_under g.types k (Some p) ≡ None → content_in g.types qs k ≡ content_in g.types g.places k
     put_other qs (put_last n) k none =
-        world_last g.types k g.places (held_place 0 p) ∙ ap (option_or (world_in g.types g.places k)) none ∙ none_behind (world_in g.types g.places k)
+        world_last g.types k g.places (held_place 0 p) ∙ ap (option_or (content_in g.types g.places k)) none ∙ none_behind (content_in g.types g.places k)
       where
-        none_behind : (o : Option Stated) → option_or o None ≡ o
+        none_behind : (o : Option Content) → option_or o None ≡ o
         none_behind None = refl
         none_behind (Some w) = refl
     put_other qs (put_free f) k none = world_set_other g.types k g.places id.place f.place (held_place id.generation p) f.there f.free.empty none
@@ -285,15 +289,15 @@ module _ (g h : Graph) (same : (k : ℕ) → beside h k ≡ beside g k) where
 -- what a graph and the packages handed in know, over a collection that grew
 pub known_grown : (g : GraphTypes) (h : Graph) → IsGraph g.graph → Enlarges g.graph h → SamePackages (all_known g) (all_known (record { graph = h; packages = g.packages }))
 known_grown g h s e = record {
-  same = λ k. ap (λ (o : Option Stated). option_or o (handed_under g k)) ((known_enlarged g.graph h s e).same k);
+  same = λ k. ap (λ (o : Option Content). option_or o (handed_under g k)) ((known_enlarged g.graph h s e).same k);
   rest = beside_kept g.graph h s (Keeps-enlarged g.graph h e);
 }
 
 -- where no package is new
-pub known_same : (g : GraphTypes) (h : Graph) → IsGraph g.graph → Keeps g.graph h → SameWorlds (known_of g.graph) (known_of h) → SamePackages (all_known g) (all_known (record { graph = h; packages = g.packages }))
-known_same g h s keeps same = record { same = λ k. ap (λ (o : Option Stated). option_or o (handed_under g k)) (same.same k); rest = beside_kept g.graph h s keeps }
+pub known_same : (g : GraphTypes) (h : Graph) → IsGraph g.graph → Keeps g.graph h → SameContents (known_of g.graph) (known_of h) → SamePackages (all_known g) (all_known (record { graph = h; packages = g.packages }))
+known_same g h s keeps same = record { same = λ k. ap (λ (o : Option Content). option_or o (handed_under g k)) (same.same k); rest = beside_kept g.graph h s keeps }
 
-pub worlds_trans : (f g h : Key → Option Stated) → SameWorlds f g → SameWorlds g h → SameWorlds f h
+pub worlds_trans : (f g h : Key → Option Content) → SameContents f g → SameContents g h → SameContents f h
 worlds_trans f g h p q = record { same = λ k. q.same k ∙ p.same k }
 
 -- ---- a package of a key
@@ -307,7 +311,7 @@ err_gives (Ok x) q f = tt
 err_gives (Err e) q f = f q
 
 module _ (g h i j : Graph) (p : Packaged) (world : WorldId) (k : Key) (w : Stated) (s : IsGraph g) (t : IsGraph h) (first : Enlarges g h) (then : Enlarges h i) (stands : Stands h.types (ItemKind.Component world))
-    (copied : stated_of h.types (ItemKind.Component world) ≡ w) (of : p.ty ≡ world) (keyed : package_key p ≡ k) (id : PackageId) (reg : Registers i j p id) where
+    (copied : stated_of h.types (ItemKind.Component world) ≡ w) (of : p.ty ≡ world) (keyed : package_key p ≡ k) (bs : List ℕ) (same : p.bytes ≡ bs) (id : PackageId) (reg : Registers i j p id) where
   types_same : j.types ≡ i.types
   types_same = ap (λ (x : Graph). x.types) reg.made
 
@@ -319,26 +323,32 @@ module _ (g h i j : Graph) (p : Packaged) (world : WorldId) (k : Key) (w : State
   pub package_registered : IsPackage j k w id
   package_registered = record { held = p; there = put_there i.places j.places id p reg.put; key = keyed; world = world_is }
 
-  pub gets_registered : Gets g j k w
+  abbrev content : Content
+  content = record { world = w; bytes = bs }
+
+  content_is : content_of j.types p ≡ content
+  content_is = λ i. record { world = world_is i; bytes = same i }
+
+  pub gets_registered : Gets g j k content
   gets_registered =
       let got = known_registered i j p id reg in
       let one = known_enlarged g h s first in
       let two = known_enlarged h i t then in
       record {
-        own = ap (known_of j) (sym keyed) ∙ got.own ∙ ap Some world_is;
+        own = ap (known_of j) (sym keyed) ∙ got.own ∙ ap Some content_is;
         others = λ l apart. got.others l (ap (is_key l) keyed ∙ apart) ∙ two.same l ∙ one.same l;
       }
 
 -- packages are known as before where a package that was handed in was registered
-pub known_more : (g : GraphTypes) (h : Graph) (k : Key) (w : Stated) → IsGraph g.graph → Keeps g.graph h → Gets g.graph h k w → known_of g.graph k ≡ None → handed_under g k ≡ Some w
+pub known_more : (g : GraphTypes) (h : Graph) (k : Key) (w : Content) → IsGraph g.graph → Keeps g.graph h → Gets g.graph h k w → known_of g.graph k ≡ None → handed_under g k ≡ Some w
     → SamePackages (all_known g) (all_known (record { graph = h; packages = g.packages }))
 known_more g h k w s keeps gets none handed = record { same = λ l. tested l (is_key l k) refl; rest = beside_kept g.graph h s keeps }
   where
     tested : (l : Key) (b : Bool) → is_key l k ≡ b → option_or (known_of h l) (handed_under g l) ≡ option_or (known_of g.graph l) (handed_under g l)
-    tested l false apart = ap (λ (o : Option Stated). option_or o (handed_under g l)) (gets.others l apart)
+    tested l false apart = ap (λ (o : Option Content). option_or o (handed_under g l)) (gets.others l apart)
     tested l true same =
-        let now : option_or (known_of h k) (handed_under g k) ≡ Some w = ap (λ (o : Option Stated). option_or o (handed_under g k)) gets.own in
-        let before : option_or (known_of g.graph k) (handed_under g k) ≡ Some w = ap (λ (o : Option Stated). option_or o (handed_under g k)) none ∙ handed in
+        let now : option_or (known_of h k) (handed_under g k) ≡ Some w = ap (λ (o : Option Content). option_or o (handed_under g k)) gets.own in
+        let before : option_or (known_of g.graph k) (handed_under g k) ≡ Some w = ap (λ (o : Option Content). option_or o (handed_under g k)) none ∙ handed in
         subst (λ (x : Key). option_or (known_of h x) (handed_under g x) ≡ option_or (known_of g.graph x) (handed_under g x)) (sym (key_same l k same)) (now ∙ sym before)
 
 module _ (f : Fault) (s : Span) where

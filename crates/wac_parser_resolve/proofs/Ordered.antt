@@ -17,12 +17,13 @@ use Rattle.wac_composition.specs.Conflicts.{first_cause, name_cause}
 use Rattle.wac_composition.proofs.Bound.{uses_project}
 use Rattle.wac_parser_tree.specs.Trees as t
 use Rattle.wac_parser_refusals.specs.Causes.{Answer, ◌>>◌}
+use Rattle.wac_parser_declare.specs.Packages.{Content}
 use Rattle.wac_parser_declare.specs.Scope.{package_under}
-use Rattle.wac_parser_resolve.specs.Ascribing.{Origin, imported, instance, projected, defined, Denoted, Made, Bound, State}
+use Rattle.wac_parser_resolve.specs.Ascribing.{Origin, imported, instance, projected, defined, Denoted, Made, Bound, State, worlds_of}
 use Rattle.wac_parser_resolve.specs.Saying.{statements}
 use Rattle.wac_parser_resolve.specs.Meeting.{target, resolved}
 use Rattle.wac_parser_resolve.specs.Ascribed.{Asker, origin_in, argument_in, made_in, numbered, exported_in, composition, unless_cause, ascribed}
-use Rattle.wac_parser_resolve.specs.Laws.{Packages_are_known, Wirings_are_ordered}
+use Rattle.wac_parser_resolve.specs.Laws.{Packages_are_known, Packages_stay, Wirings_are_ordered}
 use Rattle.wac_parser_resolve.proofs.Answers.{err_ok, ok_of, then_ok, ok_is}
 use Rattle.wac_parser_resolve.proofs.Numbers.{Below, slice_below, slice_there}
 use Rattle.wac_parser_resolve.proofs.Sound.{Sound, has_below, statements_sound}
@@ -84,7 +85,7 @@ export_is (e ∷ es) n = go (export_is es n) (pointwise ◌==◌ n e.0)
 
 -- ---- the wiring of what the statements say
 
-module _ (ps : List (Key × Stated)) (g : State) (sound : Sound ps g) (tag_of : Key → Tag) where
+module _ (ps : List (Key × Content)) (g : State) (sound : Sound ps g) (tag_of : Key → Tag) where
   abbrev x : Composition Asker ℕ
   x = composition g
 
@@ -134,7 +135,7 @@ module _ (ps : List (Key × Stated)) (g : State) (sound : Sound ps g) (tag_of : 
 
 -- ---- a document
 
-pub record Said (define : Bool) (d : t.Document) (ps : List (Key × Stated)) (x : Composition Asker ℕ) : Type 0 where
+pub record Said (define : Bool) (d : t.Document) (ps : List (Key × Content)) (x : Composition Asker ℕ) : Type 0 where
   pub state : State
   pub statements : Ok state ≡ statements d ps
   pub sound : Sound ps state
@@ -146,7 +147,7 @@ no_cause : {A : Type 0} (o : Option (cause.Cause Asker)) (q : Answer A) (r : A) 
 no_cause None q r e = refl
 no_cause (Some c) q r e = absurd (err_ok _ r e)
 
-pub said : (d : t.Document) (ps : List (Key × Stated)) (define : Bool) (x : Composition Asker ℕ × Option Stated) → Ok x ≡ ascribed define d ps → Said define d ps x.0
+pub said : (d : t.Document) (ps : List (Key × Content)) (define : Bool) (x : Composition Asker ℕ × Option Stated) → Ok x ≡ ascribed define d ps → Said define d ps x.0
 said d ps define x e =
     let r = ok_of (resolved d ps) _ x e in
     let a = then_ok (unless_cause (first_cause define (composition r.0.0))) _ x r.2 in
@@ -170,4 +171,10 @@ pub known : Packages_are_known
 known d ps define x e k m q =
     let s = said d ps define x e in
     let r = numbered_is zero s.state.made k m (ap (λ (y : Composition Asker ℕ). slice_get y.made k) (sym s.is) ∙ q) in
-    subst (λ (y : c.Made Asker ℕ). package_under ps y.key ≡ Some y.world) (sym r.is) (s.sound.made k r.made r.there).known
+    subst (λ (y : c.Made Asker ℕ). package_under (worlds_of ps) y.key ≡ Some y.world) (sym r.is) (s.sound.made k r.made r.there).known
+
+pub stay : Packages_stay
+stay d ps r e =
+    let g = ok_of (statements d ps) _ r (sym e) in
+    let w = ok_of (target g.0 d.directive.targets) _ r g.2 in
+    ap (λ (q : State × Option Stated). q.0.packages) (ok_is r (g.0, w.0) w.2) ∙ (statements_sound ps d g.0 (sym g.1)).same

@@ -24,7 +24,7 @@ use Rattle.wac_parser_refusals.specs.Causes.{Answer, pure, unless_clear, present
 use Rattle.wac_parser_declare.specs.Scope.{Meant, bind}
 use Rattle.wac_parser_declare.specs.Worlds.{type_statement}
 use Rattle.wac_parser_declare.proofs.Kept.{value_at-with_values}
-use Rattle.wac_parser_resolve.specs.Ascribing.{Origin, imported, defined, Denoted, Made, Import, Bound, State, start, meant_by, root_scope, context, denoted_by, bound, is_projection, same_origin, speak_of}
+use Rattle.wac_parser_resolve.specs.Ascribing.{Origin, imported, defined, Denoted, Made, Import, Bound, State, start, meant_by, root_scope, context, denoted_by, bound, is_projection, same_origin, speak_of, worlds_of}
 use Rattle.wac_parser_tree.specs.Accessors.{argument_name_span as argument_span, postfix_expr_span as postfix_span, primary_expr_span as primary_span}
 use Rattle.wac_parser_resolve.specs.Denoting.{Given, needs_instance, export_named, access_by, spoken as spoken_of, access, accesses, add_given, inferred_name, argument_name, left_names, spread_given, spread_all, spread_one, spreads_of, argument_fits, complete, is_filled, is_last, with_made, finished, new_package, denote, primary, nested, new_instance, arguments, one_argument, named_argument}
 use Rattle.wac_parser_resolve.specs.Saying.{asked, import_name, import_called, not_imported, is_extern_name, is_exportable, no_definition, new_export, export_name, written_name, with_import, import_statement, not_exported, with_definition, declaration, declared_id, export_as, exported, export_one, export_left, expr_span, statement, statements}
@@ -168,11 +168,11 @@ promoted IsResource x h = h
 promoted IsValueType x h = h
 promoted IsModuleType x h = h
 
-module _ (ps : Packages) (packages : AreProper ps) where
+module _ (ps : Packages) (packages : AreProper (worlds_of ps)) where
   module _ (g : State) (s : Sound ps g) (f : Formed g) where
     has_proper : (o : Origin) (x : Stated) → Has g o x → Proper x
     has_proper o x (an_import i m) = f.imports i m
-    has_proper o x (an_instance k m e) = instance_proper m.world (under_proper ps m.key m.world packages (s.made k m e).known)
+    has_proper o x (an_instance k m e) = instance_proper m.world (under_proper (worlds_of ps) m.key m.world packages (s.made k m e).known)
     has_proper o x (an_export p z n y h k e) = item_proper (exports_of z) n y (exports_proper z (has_proper p z h)) e
     has_proper o x (a_definition n y m) = (f.definitions (n, y) m).is
 
@@ -184,7 +184,7 @@ module _ (ps : Packages) (packages : AreProper ps) where
         go (Some b) q r = subst (λ (x : Meant). Proper x.item) (same_Some _ _ r) (has_proper b.denoted.origin b.denoted.item (s.root n b q))
 
     context_proper : ContextProper (context g)
-    context_proper = record { packages = subst AreProper (sym s.same) packages; root = root_proper }
+    context_proper = record { packages = subst (λ qs. AreProper (worlds_of qs)) (sym s.same) packages; root = root_proper }
 
     asked_proper : (x : t.ImportType) (y : Stated) → Ok y ≡ asked g x → Proper y
     asked_proper (t.ImportType.package_path p) y e = path_proper (context g) p y context_proper e
@@ -309,7 +309,7 @@ typed_definition (node l ts) y =
     by_kind (kind_of (node l ts)) (identifier_of (node l ts)) (written (node l ts))
     (subst (λ z. IsDefinition (tree (written_at z (folded_row written_at ts)))) (sym y.1) (written_is y.0 (folded_row written_at ts)))
 
-pub is_regular : (ps : Packages) → AreProper ps → (g : State) → Sound ps g → Formed g → IsRegular (composition g)
+pub is_regular : (ps : Packages) → AreProper (worlds_of ps) → (g : State) → Sound ps g → Formed g → IsRegular (composition g)
 is_regular ps packages g sound f = record {
   straight = λ a m. straight a.item (asks_proper (composition g)
       (λ i n. let r = mapped_among placed_import g.imports i n in subst (λ (x : Placed Asker). Proper x.item) (sym r.2) (f.imports r.0 r.1))

@@ -16,9 +16,10 @@ use Rattle.wac_parser_tree.specs.Trees as t
 use Rattle.wac_parser_tree.specs.Trees.{Span}
 use Rattle.wac_parser_refusals.specs.declared.error.InstanceOperation.{InstanceOperation}
 use Rattle.wac_parser_refusals.specs.Causes.{Answer, Fault, ◌>>◌, pure, unless_clear, present, each, UndefinedName, UnknownPackage, MissingComponentImport, MismatchedInstantiationArg, FillArgumentNotLast, DuplicateInstantiationArg, InvalidExternName, ExportRequiresAs, NotAnInstance}
+use Rattle.wac_parser_declare.specs.Packages.{Content}
 use Rattle.wac_parser_declare.specs.Scope.{package_under, bind}
 use Rattle.wac_parser_declare.specs.Worlds.{type_statement}
-use Rattle.wac_parser_resolve.specs.Ascribing.{Origin, imported, instance, projected, defined, Denoted, Made, Import, Bound, State, start, root_scope, context, denoted_by, bound, projection, is_projection, same_origin, speak_of}
+use Rattle.wac_parser_resolve.specs.Ascribing.{Origin, imported, instance, projected, defined, Denoted, Made, Import, Bound, State, start, root_scope, context, denoted_by, bound, projection, is_projection, same_origin, speak_of, worlds_of}
 use Rattle.wac_parser_tree.specs.Accessors.{argument_name_span as argument_span, postfix_expr_span as postfix_span, primary_expr_span as primary_span}
 use Rattle.wac_parser_resolve.specs.Denoting.{Given, given_names, needs_instance, export_by, export_named, access_by, spoken, access, accesses, add_given, inferred_name, argument_name, left_names, spread_given, spread_all, spread_one, spreads_of, compared_by, argument_fits, complete, is_filled, is_last, with_made, finished, new_package, denote, primary, nested, new_instance, arguments, one_argument, named_argument}
 use Rattle.wac_parser_resolve.specs.Matching.{matched}
@@ -27,7 +28,7 @@ use Rattle.wac_parser_resolve.proofs.Answers.{err_ok, ok_of, then_ok, ok_is, eac
 use Rattle.wac_parser_resolve.proofs.Numbers.{Below, slice_more, slice_kept, slice_last, slice_below, value_more, among_more, among_last, each_more}
 
 abbrev pub Packages : Type 0
-Packages = List (Key × Stated)
+Packages = List (Key × Content)
 
 -- what an origin is, with the type by which steps from it go, in what was said
 pub data Has (g : State) : Origin → Stated → Type 0 where
@@ -62,7 +63,7 @@ has_more g h w o x (a_definition n y m) = a_definition n y (w.definitions (n, y)
 
 -- the instance of this number is of a package handed in, and is passed what is there, comes before it and fits
 pub record IsMadeOk (ps : Packages) (g : State) (i : ℕ) (m : Made) : Type 0 where
-  pub known : package_under ps m.key ≡ Some m.world
+  pub known : package_under (worlds_of ps) m.key ≡ Some m.world
   pub has : (n : Name) (d : Denoted) → value_at m.arguments n ≡ Some d → HasThat g d
   pub before : (n : Name) (d : Denoted) → value_at m.arguments n ≡ Some d → Below i d.origin
   pub fit : (n : Name) (d : Denoted) → value_at m.arguments n ≡ Some d → (x : Stated) → value_at (imports_of m.world) n ≡ Some x → fits (compared_by d.origin d.item) x ≡ true
@@ -298,7 +299,7 @@ module _ (ps : Packages) where
         grows = w;
       }
 
-  finished_denotes : (g : State) (p : t.PackageName) (w : Stated) (gs : List Given) (b : Bool) (r : State × Denoted) → Sound ps g → AllThere g gs → package_under ps (p.name, p.version) ≡ Some w → Ok r ≡ finished g p w gs b → Denotes g r
+  finished_denotes : (g : State) (p : t.PackageName) (w : Stated) (gs : List Given) (b : Bool) (r : State × Denoted) → Sound ps g → AllThere g gs → package_under (worlds_of ps) (p.name, p.version) ≡ Some w → Ok r ≡ finished g p w gs b → Denotes g r
   finished_denotes g p w gs b r s there known e =
       let u = first_ok (each (argument_fits (p.name, p.version) w) tt gs) _ r e in
       let x = then_ok (each (argument_fits (p.name, p.version) w) tt gs) _ r e in
@@ -313,10 +314,10 @@ module _ (ps : Packages) where
       } in
       subst (Denotes g) (sym (ok_is r (with_made g m) y)) (record { comes = record_made g m s ok; has = an_instance (length g.made) m (slice_last g.made m) })
 
-  known_package : (g : State) (p : t.PackageName) (w : Stated) → Sound ps g → Ok w ≡ new_package g p → package_under ps (p.name, p.version) ≡ Some w
+  known_package : (g : State) (p : t.PackageName) (w : Stated) → Sound ps g → Ok w ≡ new_package g p → package_under (worlds_of ps) (p.name, p.version) ≡ Some w
   known_package g p w s e =
       let x = then_ok (unless_clear (bytes_eq p.name g.own.name) (UnknownPackage p.name) p.span) _ w e in
-      subst (λ qs. package_under qs (p.name, p.version) ≡ Some w) s.same (present_is (package_under g.packages (p.name, p.version)) (UnknownPackage p.name) p.span w x)
+      subst (λ qs. package_under (worlds_of qs) (p.name, p.version) ≡ Some w) s.same (present_is (package_under (worlds_of g.packages) (p.name, p.version)) (UnknownPackage p.name) p.span w x)
 
   -- ---- expressions
 

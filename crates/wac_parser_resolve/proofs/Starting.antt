@@ -10,6 +10,7 @@ use Rattle.wac_graph_core.specs.Nodes.{NodeData}
 use Rattle.wac_graph_core.specs.Graph.{Graph, instantiated, node_at, package_made, with_types}
 use Rattle.wac_parser_tree.specs.Trees as t
 use Rattle.wac_parser_tree.specs.Trees.{Span}
+use Rattle.wac_parser_declare.specs.Packages.{Content}
 use Rattle.wac_parser_declare.specs.Holding.{NamesStand, scope_of}
 use Rattle.wac_parser_declare.specs.Scope.{package_under}
 use Rattle.wac_parser_declare.specs.declared.scope.Binding.{Binding}
@@ -29,7 +30,7 @@ module _ (c : Collection) where
   no_instance : (k : ℕ) → IsSome (instantiated bare k) → ⊥
   no_instance k s = let none : IsSome (package_made bare None) = subst (λ (o : Option NodeData). IsSome (package_made bare o)) (map.get-empty nat_cmp k) s in absurd (cc none)
 
-  pub nothing_said : (names : List (Name × ℕ)) (d : t.Document) (ps : List (Key × Stated)) → names ≡ [] → Says bare [] names (start d ps)
+  pub nothing_said : (names : List (Name × ℕ)) (d : t.Document) (ps : List (Key × Content)) → names ≡ [] → Says bare [] names (start d ps)
   nothing_said names d ps none = subst (λ (ns : List (Name × ℕ)). Says bare [] ns (start d ps)) (sym none) (record {
     apart = tt;
     made = tt;
@@ -48,7 +49,7 @@ module _ (c : Collection) where
   nothing_exported = record { are = tt; noted = tt }
 
 -- the state of the code that is new
-pub starts_bare : (b : Held) (c : Collection) (d : t.Document) (ps : List (Key × Stated)) → b.board.types.graph ≡ with_types c → b.board.instances.noted.items ≡ [] → b.names ≡ [] → b.nodes ≡ []
+pub starts_bare : (b : Held) (c : Collection) (d : t.Document) (ps : List (Key × Content)) → b.board.types.graph ≡ with_types c → b.board.instances.noted.items ≡ [] → b.names ≡ [] → b.nodes ≡ []
     → b.imports.noted.items ≡ [] → b.exports.noted.items ≡ [] → ((k : Key) → handed_under b.board.types k ≡ package_under ps k) → IsSaid d.directive.«package» b (start d ps)
 starts_bare b c d ps graph instances names nodes imports exports handed = record {
   board = record {

@@ -26,14 +26,14 @@ use Rattle.wac_parser_tree.specs.Trees.{Span}
 use Rattle.std.specs.Option.{option_or}
 use Rattle.wac_parser_declare.specs.declared.scope.Binding.{Binding}
 use Rattle.wac_parser_declare.specs.Holding.{BindingStands, Holds, NamesStand, meant_by, scope_of}
-use Rattle.wac_parser_declare.specs.Packages.{SamePackages}
+use Rattle.wac_parser_declare.specs.Packages.{Content, SamePackages}
 use Rattle.wac_parser_declare.proofs.Kept.{EachStands-kept, Holds-kept, with_values-same}
 use Rattle.wac_parser_resolve.specs.declared.board.Board.{Board}
 use Rattle.wac_parser_resolve.specs.declared.packages.GraphTypes.{GraphTypes}
 use Rattle.wac_parser_resolve.specs.declared.state.State.{State as Held}
 use Rattle.wac_parser_resolve.specs.Ascribing.{Bound, Denoted, Import, Made, Origin, State, defined, imported, instance, projected, root_scope}
 use Rattle.wac_parser_resolve.specs.Holding.{AreNamed, Denotes, HasItem, IsDefinition, IsExported, IsMade, IsNamed, IsNode, Says}
-use Rattle.wac_parser_resolve.specs.Knowing.{all_known, handed_under, known_in, world_in}
+use Rattle.wac_parser_resolve.specs.Knowing.{all_known, handed_under, known_in, content_in}
 use Rattle.wac_parser_resolve.specs.Later.{AddsNone, Inner, IsMore, IsWithin, Later, first_name}
 use Rattle.wac_parser_resolve.specs.Said.{AreAsked, AreDeclared, AreExported, IsAsked, IsDeclared, IsNoted, IsOnBoard, IsSaid, last_noted}
 use Rattle.wac_parser_resolve.proofs.Growing.{as_it_was}
@@ -298,7 +298,7 @@ with_types b x = record b { board = record b.board { types = x } }
 
 pub known_within : (x : GraphTypes) (h : Graph) → IsWithin x.graph h → (k : Key) → known_in (with_graph x h) k ≡ known_in x k
 known_within x h w k =
-    ap (λ (o : Option Stated). option_or o (handed_under x k)) (ap (λ (y : Collection). world_in y h.places k) w.types ∙ ap (λ ps. world_in x.graph.types ps k) w.places)
+    ap (λ (o : Option Content). option_or o (handed_under x k)) (ap (λ (y : Collection). content_in y h.places k) w.types ∙ ap (λ ps. content_in x.graph.types ps k) w.places)
 
 -- what was said stays said where nodes get names
 pub said_within : (own : t.PackageName) (b : Held) (h : Graph) (s : State) → Inner b.board.types.graph h → AddsNone b.board.types.graph h → IsWithin b.board.types.graph h

@@ -11,6 +11,7 @@ use Rattle.wac_composition.specs.Conflicts.{first_cause, name_cause}
 use Rattle.wac_parser_tree.specs.Trees as t
 use Rattle.wac_parser_tree.specs.Trees.{Span}
 use Rattle.wac_parser_refusals.specs.Causes.{Answer, Cause, ◌>>=◌, ◌>>◌, pure, ImportConflict, ExplicitImportConflict, InstantiationArgMergeFailure, TypeCannotBeWritten, ValidationFailure}
+use Rattle.wac_parser_declare.specs.Packages.{Content}
 use Rattle.wac_parser_resolve.specs.Ascribing.{Origin, imported, instance, projected, defined, Denoted, Made, Import, Bound, State, own_name}
 use Rattle.wac_parser_resolve.specs.Meeting.{resolved}
 
@@ -96,7 +97,7 @@ unless_cause (Some x) = Err (cause_said x)
 -- ---- a document
 
 -- what a document composes, and the world that it targets, or the first cause
-abbrev pub ascribed : (define : Bool) → t.Document → List (Key × Stated) → Answer (Composition Asker ℕ × Option Stated)
+abbrev pub ascribed : (define : Bool) → t.Document → List (Key × Content) → Answer (Composition Asker ℕ × Option Stated)
 ascribed define d ps = do
   r ← resolved d ps
   unless_cause (first_cause define (composition r.0))

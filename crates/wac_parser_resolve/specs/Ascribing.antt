@@ -7,6 +7,7 @@ use Rattle.wac_types_names.specs.Keys.{Key}
 use Rattle.wac_parser_tree.specs.Trees as t
 use Rattle.wac_parser_tree.specs.Trees.{Span}
 use Rattle.wac_parser_refusals.specs.Causes.{Answer, ◌>>◌, pure, present, UndefinedName}
+use Rattle.wac_parser_declare.specs.Packages.{Content}
 use Rattle.wac_parser_declare.specs.Scope.{Scope, Context, Meant, bind}
 
 -- where something comes from, by the names that import statements and declarations have
@@ -45,7 +46,7 @@ pub record Bound : Type 0 where
 -- what the statements so far have said
 pub record State : Type 0 where
   pub own : t.PackageName
-  pub packages : List (Key × Stated)
+  pub packages : List (Key × Content)
   pub root : List (Name × Bound)
   pub imports : List Import
   pub made : List Made
@@ -55,7 +56,7 @@ pub record State : Type 0 where
   pub exports : List (Name × Bound)
 
 -- nothing yet
-abbrev pub start : t.Document → List (Key × Stated) → State
+abbrev pub start : t.Document → List (Key × Content) → State
 start d ps = record { own = d.directive.«package»; packages = ps; root = []; imports = []; made = []; aliases = []; definitions = []; exports = [] }
 
 abbrev pub meant_by : Bound → Meant
@@ -65,8 +66,12 @@ meant_by b = record { item = b.denoted.item; span = b.span }
 abbrev pub root_scope : State → Scope
 root_scope g = with_values meant_by g.root
 
+-- the packages with their worlds alone
+abbrev pub worlds_of : List (Key × Content) → List (Key × Stated)
+worlds_of ps = with_values (λ (x : Content). x.world) ps
+
 abbrev pub context : State → Context
-context g = record { own = g.own; packages = g.packages; root = root_scope g }
+context g = record { own = g.own; packages = worlds_of g.packages; root = root_scope g }
 
 -- what a name of the root denotes
 abbrev pub denoted_by : State → t.Ident → Answer Denoted

@@ -13,7 +13,7 @@ use Rattle.wac_parser_refusals.specs.declared.error.InstanceOperation.{InstanceO
 use Rattle.wac_parser_refusals.specs.Causes.{Answer, ◌>>=◌, ◌>>◌, pure, refuse, unless_clear, present, each, UnknownPackage, NotAnInstance, MissingInstanceExport, MissingComponentImport, MismatchedInstantiationArg, DuplicateInstantiationArg, MissingInstantiationArg, FillArgumentNotLast, SpreadInstantiationNoMatch}
 use Rattle.wac_parser_declare.specs.Scope.{world_of_package}
 use Rattle.wac_parser_resolve.specs.Matching.{matched}
-use Rattle.wac_parser_resolve.specs.Ascribing.{Origin, instance, defined, Denoted, Made, State, denoted_by, projection, own_name, speak_of}
+use Rattle.wac_parser_resolve.specs.Ascribing.{Origin, instance, defined, Denoted, Made, State, denoted_by, projection, own_name, speak_of, worlds_of}
 
 -- an operation asks for an instance
 abbrev pub asks_instance : Stated → InstanceOperation → Span → Answer ⊤
@@ -153,7 +153,7 @@ finished g p w gs filled = do
 
 -- the world of the package that a `new` names: never the document's own
 abbrev pub new_package : State → t.PackageName → Answer Stated
-new_package g p = unless_clear (bytes_eq p.name g.own.name) (UnknownPackage p.name) p.span >> world_of_package g.packages (p.name, p.version) p.span
+new_package g p = unless_clear (bytes_eq p.name g.own.name) (UnknownPackage p.name) p.span >> world_of_package (worlds_of g.packages) (p.name, p.version) p.span
 
 -- ---- expressions
 

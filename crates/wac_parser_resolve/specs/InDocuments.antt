@@ -1,11 +1,14 @@
 -- What is answered of a whole document: what it says and targets, over the packages that are handed in, or its first cause.
-use Rattle.std.specs.Prelude.{ℕ, List, Option, Result, Ok, Err}
+use Rattle.std.specs.Prelude.{◌≡◌, ℕ, List, Option, Some, Result, Ok, Err}
 use Rattle.indexmap.specs.IndexMap.{IndexMap}
 use Rattle.wac_types_base.specs.declared.ids.WorldId.{WorldId}
 use Rattle.wac_types_base.specs.Entries.{Name, names_of}
 use Rattle.wac_types_base.specs.Stated.{Stated}
 use Rattle.wac_types_names.specs.declared.package.BorrowedPackageKey.{BorrowedPackageKey}
-use Rattle.wac_graph_core.specs.Graph.{Graph}
+use Rattle.wac_types_names.specs.Keys.{package_key}
+use Rattle.wac_types_names.specs.Packaged.{Packaged}
+use Rattle.wac_graph_core.specs.declared.ids.PackageId.{PackageId}
+use Rattle.wac_graph_core.specs.Graph.{Graph, package_of}
 use Rattle.wac_parser_tree.specs.Trees as t
 use Rattle.wac_parser_tree.specs.Trees.{Span}
 use Rattle.wac_parser_tree.specs.declared.document.Document.{Document}
@@ -15,13 +18,14 @@ use Rattle.wac_parser_refusals.specs.declared.refusal.Refusal.{Refusal}
 use Rattle.wac_parser_refusals.specs.Causes.{Answer}
 use Rattle.wac_parser_refusals.specs.Outcomes.{IsHeld, IsMemory, IsOutcome, Tells}
 use Rattle.wac_parser_refusals.specs.Views.{cause_of}
+use Rattle.wac_parser_declare.specs.Scope.{package_under}
 use Rattle.wac_parser_resolve.specs.declared.packages.PackageRef.{PackageRef}
 use Rattle.wac_parser_resolve.specs.declared.resolver.Said.{Said}
 use Rattle.wac_parser_resolve.specs.declared.state.State.{State as Held}
 use Rattle.wac_parser_resolve.specs.Ascribing.{State, start}
 use Rattle.wac_parser_resolve.specs.Holding.{Says}
 use Rattle.wac_parser_resolve.specs.InTargets.{HoldsTarget}
-use Rattle.wac_parser_resolve.specs.Knowing.{handed_list}
+use Rattle.wac_parser_resolve.specs.Knowing.{content_of, handed_list}
 use Rattle.wac_parser_resolve.specs.Meeting.{resolved}
 use Rattle.wac_parser_resolve.specs.Said.{AreAsked, AreDeclared, AreExported, IsSaid}
 
@@ -34,7 +38,7 @@ Starts m b = (d : t.Document) → IsSaid d.directive.«package» b (start d (han
 -- ---- what callers see
 
 -- the graph holds what is said: instances with the places of their packages, the nodes of the root's names, imports with the places of their names and identifiers,
--- definitions, and exports with the places of their names
+-- definitions, and exports with the places of their names; each of its packages is one that was handed in, with its world and its bytes
 pub record IsBuilt (g : Graph) (s : State) : Type 0 where
   pub instances : List (ℕ × Span)
   pub names : List (Name × ℕ)
@@ -45,6 +49,7 @@ pub record IsBuilt (g : Graph) (s : State) : Type 0 where
   pub definitions : AreDeclared g s.definitions
   pub exported : List (ℕ × Span)
   pub exports : AreExported g (names_of instances) exported s.exports
+  pub packages : (id : PackageId) (p : Packaged) → package_of g id ≡ Some p → package_under s.packages (package_key p) ≡ Some (content_of g.types p)
 
 -- the error names the cause; want of memory may always be answered
 abbrev pub IsErrorOf : {A : Type 0} → Answer A → Error → Type 0

@@ -244,9 +244,9 @@ abbrev pub world_in_type : TypeKind → Option WorldId
 world_in_type (TypeKind.World id) = Some id
 world_in_type ty = None
 
-abbrev pub world_in : ItemKind → Option WorldId
-world_in (ItemKind.Ty ty) = world_in_type ty
-world_in k = None
+abbrev pub content_in : ItemKind → Option WorldId
+content_in (ItemKind.Ty ty) = world_in_type ty
+content_in k = None
 
 abbrev pub IsTargetWorld : PackagePath → PackageName → Held → Held → Result WorldId Refusal → Type 0
 IsTargetWorld p own old new r = (s : State) → IsSaid (view_package_name own) old s

@@ -26,7 +26,7 @@ use Rattle.wac_parser_refusals.specs.declared.refusal.Refusal.{Refusal}
 use Rattle.wac_parser_refusals.specs.Causes.{UnknownPackage, present}
 use Rattle.wac_parser_refusals.specs.Outcomes.{IsOutcome}
 use Rattle.wac_parser_tree.specs.Trees.{Span}
-use Rattle.wac_parser_declare.specs.Packages.{HoldsIf, Known}
+use Rattle.wac_parser_declare.specs.Packages.{Content, HoldsIf, Known, world_if}
 use Rattle.wac_parser_declare.specs.Scope.{definition_by, definitions, is_key, only_export}
 use Rattle.wac_parser_resolve.specs.declared.packages.GraphTypes.{GraphTypes}
 use Rattle.wac_parser_resolve.specs.declared.packages.PackageRef.{PackageRef}
@@ -37,21 +37,25 @@ key_of n v = (n, option_map parts_of (option_copied v))
 
 -- ---- the packages of a graph
 
--- the world of a package that has the key
-abbrev pub held_under : Collection → Key → Option Packaged → Option Stated
+-- what a package has, its world in this collection
+abbrev pub content_of : Collection → Packaged → Content
+content_of c p = record { world = stated_of c (ItemKind.Component p.ty); bytes = p.bytes }
+
+-- what a package has that has the key
+abbrev pub held_under : Collection → Key → Option Packaged → Option Content
 held_under c k None = None
-held_under c k (Some p) = cond (is_key k (package_key p)) (Some (stated_of c (ItemKind.Component p.ty))) None
+held_under c k (Some p) = cond (is_key k (package_key p)) (Some (content_of c p)) None
 
-abbrev pub world_in : Collection → List Place → Key → Option Stated
-world_in c [] k = None
-world_in c (p ∷ ps) k = option_or (held_under c k p.held) (world_in c ps k)
+abbrev pub content_in : Collection → List Place → Key → Option Content
+content_in c [] k = None
+content_in c (p ∷ ps) k = option_or (held_under c k p.held) (content_in c ps k)
 
-abbrev pub known_of : Graph → Key → Option Stated
-known_of g = world_in g.types g.places
+abbrev pub known_of : Graph → Key → Option Content
+known_of g = content_in g.types g.places
 
--- the package of this key has this world, each other the one that it had
-pub record Gets (old new : Graph) (key : Key) (w : Stated) : Type 0 where
-  pub own : known_of new key ≡ Some w
+-- the package of this key has this, each other what it had
+pub record Gets (old new : Graph) (key : Key) (x : Content) : Type 0 where
+  pub own : known_of new key ≡ Some x
   pub others : (k : Key) → is_key k key ≡ false → known_of new k ≡ known_of old k
 
 -- the package of an id has this key and this world
@@ -66,27 +70,30 @@ pub record IsPackage (g : Graph) (k : Key) (w : Stated) (id : PackageId) : Type 
 abbrev pub stated_handed : PackageRef → Stated
 stated_handed p = stated_of p.types.now (ItemKind.Component p.«package».now.ty)
 
--- the world, where it stands in its collection
-abbrev pub handed_world : PackageRef → Option Stated
-handed_world p = cond (is_some (item_node p.types.now (ItemKind.Component p.«package».now.ty))) (Some (stated_handed p)) None
+abbrev pub lent_content : PackageRef → Content
+lent_content p = content_of p.types.now p.«package».now
 
-abbrev pub handed_under : GraphTypes → Key → Option Stated
-handed_under g k = option_and_then handed_world (get_by (λ key. is_key k (borrowed_key key)) g.packages.now)
+-- what it has, where its world stands in its collection
+abbrev pub handed_content : PackageRef → Option Content
+handed_content p = cond (is_some (item_node p.types.now (ItemKind.Component p.«package».now.ty))) (Some (lent_content p)) None
 
-abbrev pub with_handed : Option Stated → Key → List (Key × Stated) → List (Key × Stated)
+abbrev pub handed_under : GraphTypes → Key → Option Content
+handed_under g k = option_and_then handed_content (get_by (λ key. is_key k (borrowed_key key)) g.packages.now)
+
+abbrev pub with_handed : Option Content → Key → List (Key × Content) → List (Key × Content)
 with_handed None k ps = ps
-with_handed (Some w) k ps = (k, w) ∷ ps
+with_handed (Some x) k ps = (k, x) ∷ ps
 
-abbrev pub handed_entries : List (BorrowedPackageKey × PackageRef) → List (Key × Stated)
+abbrev pub handed_entries : List (BorrowedPackageKey × PackageRef) → List (Key × Content)
 handed_entries [] = []
-handed_entries (e ∷ es) = with_handed (handed_world e.1) (borrowed_key e.0) (handed_entries es)
+handed_entries (e ∷ es) = with_handed (handed_content e.1) (borrowed_key e.0) (handed_entries es)
 
--- each with its world, in order
-abbrev pub handed_list : {S : Type 0} → IndexMap BorrowedPackageKey PackageRef S → List (Key × Stated)
+-- each with its world and its bytes, in order
+abbrev pub handed_list : {S : Type 0} → IndexMap BorrowedPackageKey PackageRef S → List (Key × Content)
 handed_list m = handed_entries m.entries
 
 -- the graph's come first
-abbrev pub known_in : GraphTypes → Key → Option Stated
+abbrev pub known_in : GraphTypes → Key → Option Content
 known_in g k = option_or (known_of g.graph k) (handed_under g k)
 
 -- ---- what is beside them
@@ -101,17 +108,17 @@ beside g k = (coded× graph_row.the_row.coded (coded_option package_row.the_row.
 
 -- what is known of packages, and all else that the graph holds
 abbrev pub all_known : GraphTypes → Known
-all_known g = record { worlds = known_in g; rest = beside g.graph }
+all_known g = record { packages = known_in g; rest = beside g.graph }
 
--- the package of each key has the world that it had
-pub record SameWorlds (f g : Key → Option Stated) : Type 0 where
+-- the package of each key has what it had
+pub record SameContents (f g : Key → Option Content) : Type 0 where
   pub same : (k : Key) → g k ≡ f k
 
 -- ---- one package
 
 -- the package of a key, or the refusal of one that nobody knows
 abbrev pub IsPackageOf : GraphTypes → Key → Span → Graph → Result PackageId Refusal → Type 0
-IsPackageOf g key s new r = IsOutcome (IsPackage new key) (present (known_in g key) (UnknownPackage key.0) s) r
+IsPackageOf g key s new r = IsOutcome (IsPackage new key) (present (world_if (known_in g key)) (UnknownPackage key.0) s) r
 
 -- ---- definitions
 

@@ -8,19 +8,26 @@ use Rattle.wac_composition.specs.Composition.{Placed, Composition}
 use Rattle.wac_composition.specs.Sound.{IsWired}
 use Rattle.wac_composition.specs.Wired.{composed_wiring}
 use Rattle.wac_parser_tree.specs.Trees as t
+use Rattle.wac_parser_declare.specs.Packages.{Content}
 use Rattle.wac_parser_declare.specs.Scope.{package_under}
+use Rattle.wac_parser_resolve.specs.Ascribing.{State, worlds_of}
+use Rattle.wac_parser_resolve.specs.Meeting.{resolved}
 use Rattle.wac_parser_resolve.specs.Proper.{AreProper}
 use Rattle.wac_parser_resolve.specs.Ascribed.{Asker, ascribed}
 
 -- each instance is of a package handed in, with the world of that package
 abbrev pub Packages_are_known : Type 0
-Packages_are_known = (d : t.Document) (ps : List (Key × Stated)) (define : Bool) (x : Composition Asker ℕ × Option Stated) → Ok x ≡ ascribed define d ps → (k : ℕ) (m : c.Made Asker ℕ) → slice_get x.0.made k ≡ Some m → package_under ps m.key ≡ Some m.world
+Packages_are_known = (d : t.Document) (ps : List (Key × Content)) (define : Bool) (x : Composition Asker ℕ × Option Stated) → Ok x ≡ ascribed define d ps → (k : ℕ) (m : c.Made Asker ℕ) → slice_get x.0.made k ≡ Some m → package_under (worlds_of ps) m.key ≡ Some m.world
+
+-- what is said stays over the packages that are handed in
+abbrev pub Packages_stay : Type 0
+Packages_stay = (d : t.Document) (ps : List (Key × Content)) (r : State × Option Stated) → resolved d ps ≡ Ok r → r.0.packages ≡ ps
 
 -- an instance's sources name earlier instances, and the exports' instances that are there
 abbrev pub Wirings_are_ordered : Type 0
-Wirings_are_ordered = (d : t.Document) (ps : List (Key × Stated)) (define : Bool) (x : Composition Asker ℕ × Option Stated) → Ok x ≡ ascribed define d ps → (tag_of : Key → Tag) → IsOrdered (composed_wiring tag_of x.0)
+Wirings_are_ordered = (d : t.Document) (ps : List (Key × Content)) (define : Bool) (x : Composition Asker ℕ × Option Stated) → Ok x ≡ ascribed define d ps → (tag_of : Key → Tag) → IsOrdered (composed_wiring tag_of x.0)
 
 -- what an accepted document ascribes over packages with proper worlds is wired: each import of each instance is bound once, to what
 -- fits it and was there before, and the world that is handed out is true
 abbrev pub Documents_are_wired : Type 0
-Documents_are_wired = (d : t.Document) (ps : List (Key × Stated)) (define : Bool) (x : Composition Asker ℕ × Option Stated) → AreProper ps → Ok x ≡ ascribed define d ps → (tag_of : Key → Tag) → IsWired tag_of x.0
+Documents_are_wired = (d : t.Document) (ps : List (Key × Content)) (define : Bool) (x : Composition Asker ℕ × Option Stated) → AreProper (worlds_of ps) → Ok x ≡ ascribed define d ps → (tag_of : Key → Tag) → IsWired tag_of x.0

@@ -10,6 +10,7 @@ use Rattle.wac_composition.specs.Classes.{is_instance}
 use Rattle.wac_parser_tree.specs.Trees as t
 use Rattle.wac_parser_tree.specs.Trees.{Span}
 use Rattle.wac_parser_refusals.specs.Causes.{Answer, Fault, ◌>>=◌, ◌>>◌, pure, refuse, unless_clear, each, NotWorld, TypeCannotBeWritten, ImportNotInTarget, TargetMismatch, MissingTargetExport}
+use Rattle.wac_parser_declare.specs.Packages.{Content}
 use Rattle.wac_parser_declare.specs.Scope.{path_item}
 use Rattle.wac_parser_resolve.specs.Ascribing.{Import, Made, Bound, State, context}
 use Rattle.wac_parser_resolve.specs.Denoting.{or_else}
@@ -92,5 +93,5 @@ target g (Some p) = target_world g p >>= λ w. target_met g p w >> pure (Some w)
 -- ---- a document
 
 -- what the statements say, and the world of the directive, which they meet by the types that they ask
-abbrev pub resolved : t.Document → List (Key × Stated) → Answer (State × Option Stated)
+abbrev pub resolved : t.Document → List (Key × Content) → Answer (State × Option Stated)
 resolved d ps = statements d ps >>= λ g. target g d.directive.targets >>= λ w. pure (g, w)

@@ -7,6 +7,7 @@ use Rattle.wac_composition.specs.Conflicts.{name_cause}
 use Rattle.wac_composition.specs.Against.{StandsAgainst}
 use Rattle.wac_parser_tree.specs.Trees as t
 use Rattle.wac_parser_refusals.specs.Causes.{Cause}
+use Rattle.wac_parser_declare.specs.Packages.{Content}
 use Rattle.wac_parser_resolve.specs.Ascribing.{State}
 use Rattle.wac_parser_resolve.specs.Meeting.{resolved}
 use Rattle.wac_parser_resolve.specs.Ascribed.{Asker, composition, cause_said, ascribed}
@@ -17,5 +18,5 @@ pub data IsRefusedFor (define : Bool) (g : State) : Cause → Type 0 where
 
 -- what its statements or its target are refused for, or such a cause
 abbrev pub Refusals_stand : Type 0
-Refusals_stand = (d : t.Document) (ps : List (Key × Stated)) (define : Bool) (x : Cause) → ascribed define d ps ≡ Err x
+Refusals_stand = (d : t.Document) (ps : List (Key × Content)) (define : Bool) (x : Cause) → ascribed define d ps ≡ Err x
     → (resolved d ps ≡ Err x) ⊎ ((r : State × Option Stated) × (resolved d ps ≡ Ok r) × IsRefusedFor define r.0 x)

@@ -11,6 +11,7 @@ use Rattle.wac_composition.specs.Examples.{plain_func, named_instance, older, ne
 use Rattle.wac_parser_tree.specs.Trees as t
 use Rattle.wac_parser_tree.specs.Trees.{Span}
 use Rattle.wac_parser_refusals.specs.Causes.{Answer, Fault}
+use Rattle.wac_parser_declare.specs.Packages.{Content}
 use Rattle.wac_parser_resolve.specs.Ascribed.{Asker, ascribed}
 
 -- ---- words
@@ -67,8 +68,12 @@ refusal f a b = Err (record { fault = f; span = Some (sp a b) })
 abbrev pub from_g_to_h : Stated → Stated
 from_g_to_h f = world_of None [] ((codes "g", f) ∷ []) ((codes "h", plain_func) ∷ [])
 
-abbrev pub handed : List (Key × Stated)
-handed = (key (codes "p:p"), passing) ∷ (key (codes "q:q"), from_g_to_h plain_func) ∷ []
+-- no row looks at bytes
+abbrev pub package_at : Name → Stated → Key × Content
+package_at n w = (key n, record { world = w; bytes = [] })
+
+abbrev pub handed : List (Key × Content)
+handed = package_at (codes "p:p") passing ∷ package_at (codes "q:q") (from_g_to_h plain_func) ∷ []
 
 -- ---- what is compared: outer imports; each instance's package and what is passed to it; exports
 
@@ -79,7 +84,7 @@ abbrev pub summary : Answer (Composition Asker ℕ × Option Stated) → Answer 
 summary (Err x) = Err x
 summary (Ok x) = Ok (outer_imports (asks_of x.0), map (λ m. (m.key, m.arguments)) x.0.made, map (λ e. (e.0, e.1)) x.0.exports)
 
-abbrev pub said : t.Document → List (Key × Stated) → Answer Summary
+abbrev pub said : t.Document → List (Key × Content) → Answer Summary
 said d ps = summary (ascribed true d ps)
 
 -- ---- documents
@@ -106,10 +111,10 @@ two_versions = document (codes "w:w")
     ∷ let_at (codes "y") 42 (new_at 46 15 (codes "c:y") 50 (fill_at 56 ∷ [])) ∷ [])
 
 -- c:x imports the older version with `f`, c:y the newer with these
-abbrev pub versions : List (Name × Stated) → List (Key × Stated)
+abbrev pub versions : List (Name × Stated) → List (Key × Content)
 versions es =
-    (key (codes "c:x"), importing ((older, named_instance older ((codes "f", plain_func) ∷ [])) ∷ []))
-    ∷ (key (codes "c:y"), importing ((newer, named_instance newer es) ∷ [])) ∷ []
+    package_at (codes "c:x") (importing ((older, named_instance older ((codes "f", plain_func) ∷ [])) ∷ []))
+    ∷ package_at (codes "c:y") (importing ((newer, named_instance newer es) ∷ [])) ∷ []
 
 -- package a:b; export x;
 abbrev pub unknown_name : t.Document
@@ -137,5 +142,5 @@ named_by_identifier = document (codes "c:c")
 abbrev pub identified : Name
 identified = codes "a:b/i@1.0.0"
 
-abbrev pub exporting_identified : List (Key × Stated)
-exporting_identified = (key (codes "s:s"), world_of None [] [] ((identified, named_instance identified []) ∷ [])) ∷ []
+abbrev pub exporting_identified : List (Key × Content)
+exporting_identified = package_at (codes "s:s") (world_of None [] [] ((identified, named_instance identified []) ∷ [])) ∷ []

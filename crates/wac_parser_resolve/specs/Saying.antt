@@ -11,6 +11,7 @@ use Rattle.wac_parser_tree.specs.Trees as t
 use Rattle.wac_parser_tree.specs.Trees.{Span}
 use Rattle.wac_parser_refusals.specs.declared.error.InstanceOperation.{InstanceOperation}
 use Rattle.wac_parser_refusals.specs.Causes.{Answer, ◌>>=◌, ◌>>◌, pure, refuse, unless_clear, present, each, DuplicateExternName, InvalidExternName, DeclarationConflict, ExportRequiresAs, ExportConflict, SpreadExportNoEffect}
+use Rattle.wac_parser_declare.specs.Packages.{Content}
 use Rattle.wac_parser_declare.specs.Scope.{named, path_item}
 use Rattle.wac_parser_declare.specs.Declarations.{free}
 use Rattle.wac_parser_declare.specs.Interfaces.{inline_interface}
@@ -182,5 +183,5 @@ statement g (t.Statement.let_ x) = denote g x.expr >>= λ r. bound r.0 x.id r.1
 statement g (t.Statement.export x) = denote g x.expr >>= λ r. export_as r.0 (expr_span x.expr) r.1 x.options
 
 -- what a document's statements say, in order
-abbrev pub statements : t.Document → List (Key × Stated) → Answer State
+abbrev pub statements : t.Document → List (Key × Content) → Answer State
 statements d ps = each statement (start d ps) d.statements

@@ -18,7 +18,7 @@ mod targets;
 ghost use Rattle.wac_types_base.specs.declared.item.ItemKind.{ItemKind};
 ghost use Rattle.wac_types_base.specs.Record.{Collection};
 ghost use Rattle.wac_types_base.specs.Stated.{stated_of};
-ghost use Rattle.wac_parser_resolve.specs.Laws.{Packages_are_known, Wirings_are_ordered, Documents_are_wired};
+ghost use Rattle.wac_parser_resolve.specs.Laws.{Packages_are_known, Packages_stay, Wirings_are_ordered, Documents_are_wired};
 ghost use Rattle.wac_parser_resolve.specs.Proper.{Proper};
 ghost use Rattle.wac_parser_resolve.specs.Refused.{Refusals_stand};
 ghost use Rattle.wac_parser_resolve.specs.RowLaws.{Says_one, Says_missing, Says_passed, Says_mismatched, Says_merged, Says_unmerged, Says_unknown, Says_own, Says_conflict, Says_no_name, Says_identified};
@@ -45,6 +45,11 @@ pub fn examples()
 /// Each instance that a document makes is of a package handed in.
 pub fn packages_are_known()
     ensures { Packages_are_known }
+{}
+
+/// What is said of a document stays over the packages handed in.
+pub fn packages_stay()
+    ensures { Packages_stay }
 {}
 
 /// In an ascribed wiring an instance's sources name earlier instances alone.

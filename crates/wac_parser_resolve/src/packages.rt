@@ -17,7 +17,7 @@ ghost use Rattle.wac_graph_core.specs.Types.{Enlarges};
 ghost use Rattle.wac_parser_declare.specs.Packages.{SamePackages};
 ghost use Rattle.wac_parser_declare.specs.Scope as scope;
 ghost use Rattle.wac_parser_resolve.specs.Keeping.{Keeps};
-ghost use Rattle.wac_parser_resolve.specs.Knowing.{Gets, IsDefinedBy, IsDefinedIn, IsOnlyExport, IsPackage, IsPackageOf, IsTypeOf, SameWorlds, all_known, handed_under, key_of, known_of, stated_handed};
+ghost use Rattle.wac_parser_resolve.specs.Knowing.{Gets, IsDefinedBy, IsDefinedIn, IsOnlyExport, IsPackage, IsPackageOf, IsTypeOf, SameContents, all_known, handed_under, key_of, known_of, lent_content, stated_handed};
 
 use indexmap::IndexMap;
 use semver::Version;
@@ -116,6 +116,7 @@ fn make_package(
 ) -> Result<Package, AllocError>
     requires { Stands graph.old.types (Item.Component world) }
     ensures key { IfOk result (λ p. package_key p ≡ (key_of name.now version.entry)) }
+    ensures bytes { IfOk result (λ p. p.bytes ≡ bytes.items) }
     ensures world { IfOk result (λ p. p.ty ≡ world) }
     ensures stands { IfOk result (PackageStands graph.new.types) }
     ensures enlarges { Enlarges graph.old graph.new }
@@ -148,8 +149,8 @@ fn register(
     requires stands { Stands handed.types.now (Item.Component handed.«package».now.ty) }
     requires none { NoKey graph.old (key_of name.now version) }
     ensures registered { IfOk result (IsPackage graph.new (key_of name.now version.entry) (stated_handed handed.entry)) }
-    ensures gets { OnOk result (Gets graph.old graph.new (key_of name.now version.entry) (stated_handed handed.entry)) }
-    ensures same { OnErr result (SameWorlds (known_of graph.old) (known_of graph.new)) }
+    ensures gets { OnOk result (Gets graph.old graph.new (key_of name.now version.entry) (lent_content handed.entry)) }
+    ensures same { OnErr result (SameContents (known_of graph.old) (known_of graph.new)) }
     ensures keeps { Keeps graph.old graph.new }
 {
     graph.see_sound();
@@ -262,7 +263,7 @@ fn definition_in(
 impl<'a> GraphTypes<'a> {
     /// The package that is handed in under a key, where its world stands.
     fn handed(&self, name: &str, version: Option<&Version>) -> Option<PackageRef<'a>>
-        ensures world { option_map stated_handed result ≡ handed_under self.now (key_of name.now version.entry) }
+        ensures content { option_map lent_content result ≡ handed_under self.now (key_of name.now version.entry) }
         ensures stands { IfSome result (λ p. Stands p.types.now (Item.Component p.«package».now.ty)) }
     {
         let key = BorrowedPackageKey::from_name_and_version(name, version);

@@ -4,7 +4,7 @@ use Rattle.wac_types_base.specs.declared.item.ItemKind.{ItemKind}
 use Rattle.wac_types_base.specs.declared.ids.WorldId.{WorldId}
 use Rattle.wac_types_base.specs.Stated.{stated_of}
 use Rattle.wac_graph_core.specs.Graph.{Graph}
-use Rattle.wac_parser_resolve.specs.Knowing.{SameWorlds, key_of, known_of, stated_handed}
+use Rattle.wac_parser_resolve.specs.Knowing.{SameContents, key_of, known_of, stated_handed}
 use Rattle.wac_parser_resolve.proofs.Keeping.{Keeps-by, Keeps-enlarged, Keeps-trans}
 use Rattle.wac_parser_resolve.proofs.Knowing.{err_gives, gets_registered, known_enlarged, ok_gives, package_registered, worlds_trans}
 use Rattle.wac_parser_resolve.proofs.packages.register.Goals as goal
@@ -15,7 +15,7 @@ returns-clause-registered c =
     let made = c.in_ok-package.ensures in
     ok_map c.add_package.result
     (λ id reg. package_registered c.args.graph.now c.copy_world.new.graph c.make_package.new.graph c.add_package.new.graph c.in_ok-package.«package» c.in_ok-world.world (key_of c.args.name.now c.args.version) (stated_handed c.args.handed)
-    c.see_sound.ensures c.see_sound-2.ensures first.enlarges made.enlarges first.stands (first.copied ∙ ap (λ (w : WorldId). stated_of c.args.handed.types.now (ItemKind.Component w)) c.ty.ensures) made.world made.key id reg)
+    c.see_sound.ensures c.see_sound-2.ensures first.enlarges made.enlarges first.stands (first.copied ∙ ap (λ (w : WorldId). stated_of c.args.handed.types.now (ItemKind.Component w)) c.ty.ensures) made.world made.key c.args.handed.«package».now.bytes (made.bytes ∙ BYTES) id reg)
     c.add_package.ensures.registered
 
 pub returns-clause-gets : goal.returns-clause-gets
@@ -24,12 +24,12 @@ returns-clause-gets c =
     let made = c.in_ok-package.ensures in
     ok_gives c.add_package.result c.add_package.ensures.registered
     (λ id reg. gets_registered c.args.graph.now c.copy_world.new.graph c.make_package.new.graph c.add_package.new.graph c.in_ok-package.«package» c.in_ok-world.world (key_of c.args.name.now c.args.version) (stated_handed c.args.handed)
-    c.see_sound.ensures c.see_sound-2.ensures first.enlarges made.enlarges first.stands (first.copied ∙ ap (λ (w : WorldId). stated_of c.args.handed.types.now (ItemKind.Component w)) c.ty.ensures) made.world made.key id reg)
+    c.see_sound.ensures c.see_sound-2.ensures first.enlarges made.enlarges first.stands (first.copied ∙ ap (λ (w : WorldId). stated_of c.args.handed.types.now (ItemKind.Component w)) c.ty.ensures) made.world made.key c.args.handed.«package».now.bytes (made.bytes ∙ BYTES) id reg)
 
 pub returns-clause-same : goal.returns-clause-same
 returns-clause-same c =
     err_gives c.add_package.result c.add_package.ensures.kept
-    (λ kept. subst (λ (g : Graph). SameWorlds (known_of c.args.graph.now) (known_of g)) (sym kept)
+    (λ kept. subst (λ (g : Graph). SameContents (known_of c.args.graph.now) (known_of g)) (sym kept)
     (worlds_trans _ _ _ (known_enlarged c.args.graph.now c.copy_world.new.graph c.see_sound.ensures c.in_ok-world.ensures.enlarges)
     (known_enlarged c.copy_world.new.graph c.make_package.new.graph c.see_sound-2.ensures c.in_ok-package.ensures.enlarges)))
 

@@ -23,7 +23,7 @@ returns-clause-outcome c =
     let b = c.say_document.new.state in
     let said = c.come_to.result in
     held_map (HoldsDocument own b) (λ (q : State × Option Stated) (x : Said). IsBuilt x.graph q.0 × HoldsTarget x.graph.types q.1 x.target) (resolved d ps) c.in_ok-target.target said
-    (λ q h. holds_as b.board.types.graph said.graph c.in_ok-target.target said.target q c.come_to.ensures.graph c.come_to.ensures.target (built (view_package_name own) b q.0 h.0, h.1))
+    (λ q h. holds_as b.board.types.graph said.graph c.in_ok-target.target said.target q c.come_to.ensures.graph c.come_to.ensures.target (built (view_package_name own) b q.0 c.see_sound.ensures h.0, h.1))
     (c.in_ok-target.ensures.outcome (start d ps) (c.new-state.ensures.starts d))
 
 pub returns-in_err-target-clause-outcome : goal.returns-in_err-target-clause-outcome

@@ -1,6 +1,7 @@
 use Rattle.std.proofs.Common.{sym}
 use Rattle.wac_parser_refusals.proofs.Outcomes.{refused_outcome}
 use Rattle.wac_parser_declare.specs.Holding.{IsType}
+use Rattle.wac_parser_resolve.proofs.Boards.{world_known}
 use Rattle.wac_parser_resolve.proofs.Stating.{said_grows}
 use Rattle.wac_parser_tree.specs.Views.{view_type_statement}
 use Rattle.wac_parser_declare.specs.Worlds.{type_statement}
@@ -16,7 +17,7 @@ returns-clause-said c own s said = said_grows own c.args.state.now c.type_statem
 pub returns-in_err-ty-clause-outcome : goal.returns-in_err-ty-clause-outcome
 returns-in_err-ty-clause-outcome c s said =
     refused_outcome (IsType c.type_statement.new.types.graph.types) (type_statement (context s) (view_type_statement c.args.statement.now)) _ _ c.from_residual.ensures.1
-    (c.in_err-ty.ensures.outcome (context s) (record { own = said.own; root = sym said.scope; packages = λ k. sym (said.board.known k) }))
+    (c.in_err-ty.ensures.outcome (context s) (record { own = said.own; root = sym said.scope; packages = λ k. sym (world_known s.packages k _ (said.board.known k)) }))
 
 pub returns-clause-outcome : goal.returns-clause-outcome
-returns-clause-outcome c s said = c.in_ok-ty.ensures.outcome (context s) (record { own = said.own; root = sym said.scope; packages = λ k. sym (said.board.known k) })
+returns-clause-outcome c s said = c.in_ok-ty.ensures.outcome (context s) (record { own = said.own; root = sym said.scope; packages = λ k. sym (world_known s.packages k _ (said.board.known k)) })
