@@ -7,18 +7,18 @@ use Rattle.wac_types_base.specs.declared.item.ItemKind.{ItemKind}
 use Rattle.wac_types_base.specs.Record.{Collection}
 use Rattle.wac_types_base.specs.Collection.{item_node}
 use Rattle.wac_types_base.specs.Graph.{Among}
-use Rattle.wac_types_base.specs.Stated.{Stated, stated_of}
 use Rattle.wac_types_names.specs.declared.package.BorrowedPackageKey.{BorrowedPackageKey}
 use Rattle.wac_types_names.specs.contracts.package.BorrowedPackageKeyPartialEq.TheImpl as key_eq
 use Rattle.wac_types_names.specs.Keys.{borrowed_key}
 use Rattle.wac_types_names.specs.Packaged.{Packaged}
+use Rattle.wac_parser_declare.specs.Packages.{Content}
 use Rattle.wac_parser_resolve.specs.declared.packages.PackageRef.{PackageRef}
-use Rattle.wac_parser_resolve.specs.Knowing.{handed_entries, handed_world, with_handed}
+use Rattle.wac_parser_resolve.specs.Knowing.{content_of, handed_content, handed_entries, with_handed}
 use Rattle.wac_parser_resolve.proofs.Knowing.{key_same}
 use Rattle.wac_workspace.specs.declared.entries.Entry.{Entry}
 use Rattle.wac_workspace.specs.Getting.{IsRefTo}
 use Rattle.wac_workspace.specs.Packages.{key_of, AreApart}
-use Rattle.wac_workspace.specs.Resolving.{handed, world_of}
+use Rattle.wac_workspace.specs.Resolving.{content, handed}
 use Rattle.wac_workspace.specs.View.{HasWorld}
 use Rattle.wac_workspace.proofs.Searching.{among_at}
 
@@ -67,14 +67,14 @@ apart_at (e ∷ es) zero d h apart q a = absurd a
 apart_at (e ∷ es) (suc i) d h apart q (inl s) = λ same. (apart.0 (get_or es i d) (among_at (λ (x : Entry). x ≡ x) es i d (omega (arith, h)))).keys (sym same ∙ ap key_of s)
 apart_at (e ∷ es) (suc i) d h apart q (inr a) = apart_at es i d (omega (arith, h)) apart.1 q a
 
-seen : Collection → Packaged → Option Stated
-seen c p = cond (is_some (item_node c (ItemKind.Component p.ty))) (Some (stated_of c (ItemKind.Component p.ty))) None
+seen : Collection → Packaged → Option Content
+seen c p = cond (is_some (item_node c (ItemKind.Component p.ty))) (Some (content_of c p)) None
 
-handed_here : (p : Lent) (e : Entry) → IsLent p e → HasWorld e → handed_world p.1 ≡ Some (world_of e)
+handed_here : (p : Lent) (e : Entry) → IsLent p e → HasWorld e → handed_content p.1 ≡ Some (content e)
 unfolding seen
-handed_here p e h w = (λ j. seen (h.1.types j) (h.1.«package» j)) ∙ ap (λ b. cond b (Some (world_of e)) None) w
+handed_here p e h w = (λ j. seen (h.1.types j) (h.1.«package» j)) ∙ ap (λ b. cond b (Some (content e)) None) w
 
--- a document sees each with its world
+-- a document sees each with its world and its bytes
 pub handed_told : (ps : List Lent) (es : List Entry) → AreLent ps es → ((q : Entry) → Among q es → HasWorld q) → handed_entries ps ≡ handed es
 handed_told [] [] h w = refl
 handed_told [] (x ∷ es) h w = absurd h

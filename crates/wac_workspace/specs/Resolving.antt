@@ -1,31 +1,31 @@
 -- A document over the packages of a workspace: it has a graph, or a first cause.
 use Rattle.std.specs.Prelude.{List, [], ◌∷◌, Option, Ok, Err}
-use Rattle.wac_types_base.specs.declared.item.ItemKind.{ItemKind}
-use Rattle.wac_types_base.specs.Stated.{Stated, stated_of}
+use Rattle.wac_types_base.specs.Stated.{Stated}
 use Rattle.wac_types_names.specs.Keys.{Key}
 use Rattle.wac_graph_core.specs.Graph.{Graph}
 use Rattle.wac_parser_refusals.specs.declared.error.Error.{Error}
 use Rattle.wac_parser_refusals.specs.Causes.{Answer}
 use Rattle.wac_parser_refusals.specs.Outcomes.{IsHeld, Tells}
 use Rattle.wac_parser_refusals.specs.Views.{cause_of}
+use Rattle.wac_parser_declare.specs.Packages.{Content}
 use Rattle.wac_parser_resolve.specs.Ascribing.{State}
 use Rattle.wac_parser_resolve.specs.InDocuments.{IsBuilt, IsErrorOf}
+use Rattle.wac_parser_resolve.specs.Knowing.{content_of}
 use Rattle.wac_workspace.specs.declared.entries.Entry.{Entry}
 use Rattle.wac_workspace.specs.declared.errors.ComposeError.{ComposeError}
 use Rattle.wac_workspace.specs.declared.errors.ComposeError.TheVariants as error
 use Rattle.wac_workspace.specs.Packages.{key_of}
 
--- the tree of a package's world
-abbrev pub world_of : Entry → Stated
-world_of e = stated_of e.types (ItemKind.Component e.package.ty)
-
--- packages as a document sees them: each key with its world, in order
+-- packages as a document sees them: each key with its world and its bytes, in order
 abbrev pub Handed : Type 0
-Handed = List (Key × Stated)
+Handed = List (Key × Content)
+
+abbrev pub content : Entry → Content
+content e = content_of e.types e.package
 
 abbrev pub handed : List Entry → Handed
 handed [] = []
-handed (e ∷ es) = (key_of e, world_of e) ∷ handed es
+handed (e ∷ es) = (key_of e, content e) ∷ handed es
 
 -- what a document says and targets, or its first cause
 abbrev pub Resolves : Type 0
