@@ -14,8 +14,8 @@ use Rattle.wac_types_base.specs.Stated.{Stated, folded, folded_row, places_of, w
 use Rattle.wac_types_base.specs.Tree.{tree}
 use Rattle.wac_composition.specs.Tests.{same_tree}
 use Rattle.wac_types_written.specs.Written.{is_type}
-use Rattle.wac_composition.specs.Writable.{Holder, is_resource, is_fresh, root_of, is_given, stated_at, value_fails, Test, Needed, Found, some_unnamed, Item, plain, some_fails, used_of, interface_fails, type_items, needed_from, below_use, below_items, all_needed, stands_as, is_given_by, use_fails, with_roots, holder, world_holder, world_fails, any_value, simple, found_interface, found_at, unwritable, item_in, writable_module}
-use Rattle.wac_composition.specs.NotWritten.{IsGiven, HasRoot, Dangles, has_items, Needs, a_use, under_use, under_item, IsImported, type_exports, component_holder, CannotBeWritten, a_value, core_items, module_as_type, renamed, an_alias, a_function, a_function_type, a_value_type, an_instance, an_interface, a_component, a_world, ItemsFail, unnamed, an_item, ComponentFails, unnamed_use, not_imported, not_added, an_import, an_export}
+use Rattle.wac_composition.specs.Writable.{Holder, is_resource, is_fresh, root_of, is_given, stated_at, value_fails, Test, Needed, Found, some_unnamed, Item, plain, some_fails, used_of, interface_fails, type_items, needed_from, below_use, below_items, all_needed, stands_as, is_given_by, use_fails, with_roots, holder, world_holder, world_fails, any_value, simple, found_interface, found_at, unwritable, item_in, writable_module, given_in, has_items}
+use Rattle.wac_composition.specs.NotWritten.{IsGiven, HasRoot, Dangles, Needs, a_use, under_use, under_item, IsImported, type_exports, component_holder, CannotBeWritten, a_value, core_items, module_as_type, renamed, an_alias, a_function, a_function_type, a_value_type, an_instance, an_interface, a_component, a_world, ItemsFail, unnamed, an_item, ComponentFails, unnamed_use, not_imported, not_added, an_import, an_export}
 use Rattle.wac_composition.proofs.Closures.{filter_among}
 use Rattle.wac_composition.proofs.KeptFits.{folded_firsts}
 use Rattle.wac_composition.proofs.NotWritten.{any_decides, has_decides, trees_decide, given_decides, resource_decides, value_decides, any_value_decides, stated_again}
@@ -276,10 +276,10 @@ module _ (p : Parts Found) (fu : UsesFound p.uses) (fi : ItemsFound p.imports) (
       go : (o : Option (Stated × Found)) → value_at (plain p.imports) n ≡ option_map (λ x. x.0) o → Decides (is_given_by o u) (IsImported (plain p.imports) n u)
       go None e = (λ q. absurd (true≢false (sym q)), λ h. absurd (none-some _ (sym e ∙ h.there)))
       go (Some x) e =
-          let d = stands (item_in u.interface u) (item_in x.0 u) in (
+          let d = stands (item_in u.interface u) (given_in x.0 u) in (
             λ q. record { interface = x.0; there = e; item = d.0 q },
             λ h. let s : x.0 ≡ h.interface = same_Some _ _ (sym e ∙ h.there) in
-                d.1 (λ z r. let w = h.item z r in (w.0, ap (λ i. item_in i u) s ∙ w.1, w.2)),
+                d.1 (λ z r. let w = h.item z r in (w.0, ap (λ i. given_in i u) s ∙ w.1, w.2)),
           )
 
   module _ (o : Bool) where

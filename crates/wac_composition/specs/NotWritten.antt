@@ -8,7 +8,7 @@ use Rattle.wac_types_base.specs.Collection.{Shape, resource, resource_alias, mod
 use Rattle.wac_types_base.specs.Stated.{Stated, Kind, IsFunction, IsInstance, IsComponent, IsValue, IsResource, IsFunctionType, IsValueType, IsInterface, IsWorld, IsModuleType, Used, shape_of, places_of, kind_of, untyped, uses_of, imports_of, exports_of, identifier_of, root_name}
 use Rattle.wac_types_base.specs.Tree.{tree}
 use Rattle.wac_types_written.specs.Written.{is_type}
-use Rattle.wac_composition.specs.Writable.{Holder, writable_module, item_in, is_fresh, root_of, holder, with_roots, some_unnamed, unwritable}
+use Rattle.wac_composition.specs.Writable.{Holder, writable_module, has_items, item_in, given_in, is_fresh, root_of, holder, with_roots, some_unnamed, unwritable}
 
 -- ---- what stands in a holder
 
@@ -51,22 +51,17 @@ pub data Dangles (h : Holder) : Stated → Type 0 where
 
 -- ---- what is used
 
-abbrev pub has_items : Kind → Bool
-has_items IsInstance = true
-has_items IsInterface = true
-has_items k = false
-
 -- these uses and items need that use: it is one of them, or below an interface that is used or an item
 pub data Needs : List Used → List (Name × Stated) → Used → Type 0 where
   a_use : {us : List Used} {es : List (Name × Stated)} {u : Used} → Among u us → Needs us es u
   under_use : {us : List Used} {es : List (Name × Stated)} {v : Used} (u : Used) → Among u us → has_items (kind_of u.interface) ≡ true → Needs (uses_of u.interface) (exports_of u.interface) v → Needs us es v
   under_item : {us : List Used} {es : List (Name × Stated)} {v : Used} (n : Name) (x : Stated) → Among (n, x) es → has_items (kind_of x) ≡ true → Needs (uses_of x) (exports_of x) v → Needs us es v
 
--- an import of that name has the item that the use takes, a resource with its tree
+-- an instance that is imported under that name has the item that the use takes, a resource with its tree
 pub record IsImported (is : List (Name × Stated)) (n : Name) (u : Used) : Type 0 where
   pub interface : Stated
   pub there : value_at is n ≡ Some interface
-  pub item : (x : Stated) → item_in u.interface u ≡ Some x → (y : Stated) × (item_in interface u ≡ Some y) × (kind_of x ≡ IsResource → tree x ≡ tree y)
+  pub item : (x : Stated) → item_in u.interface u ≡ Some x → (y : Stated) × (given_in interface u ≡ Some y) × (kind_of x ≡ IsResource → tree x ≡ tree y)
 
 abbrev pub type_exports : Stated → List (Name × Stated)
 type_exports x = filter (λ e. is_type (kind_of e.1)) (exports_of x)

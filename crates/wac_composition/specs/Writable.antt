@@ -1,5 +1,5 @@
 -- Which types cannot be written.
-use Rattle.std.specs.Prelude.{Bool, true, false, not, ◌&&◌, ◌||◌, List, [], ◌∷◌, ◌++◌, map, Option, Some, None, is_none, option_map, filter, filter_map, bytes_eq, unwrap_or}
+use Rattle.std.specs.Prelude.{Bool, true, false, not, ◌&&◌, ◌||◌, List, [], ◌∷◌, ◌++◌, map, Option, Some, None, is_none, option_map, filter, filter_map, bytes_eq, unwrap_or, if◌then◌else◌}
 use Rattle.std.specs.List.{flat_map, list_all, list_any}
 use Rattle.wac_types_base.specs.declared.core_types.HeapType.{HeapType}
 use Rattle.wac_types_base.specs.declared.core_types.CoreRefType.{CoreRefType}
@@ -9,7 +9,7 @@ use Rattle.wac_types_base.specs.declared.core_types.CoreExtern.{CoreExtern}
 use Rattle.wac_types_base.specs.declared.core_types.ModuleType.{ModuleType}
 use Rattle.wac_types_base.specs.Entries.{Name, value_at, has_name}
 use Rattle.wac_types_base.specs.Collection.{Shape, resource, resource_alias, func, interface, world, module_type, type_of, own_of, borrow_of}
-use Rattle.wac_types_base.specs.Stated.{Stated, Kind, IsValue, IsValueType, IsResource, IsInterface, Parts, parts_at, Used, folded, kind_of, untyped, over, world_of, exports_of, identifier_of, root_name}
+use Rattle.wac_types_base.specs.Stated.{Stated, Kind, IsInstance, IsValue, IsValueType, IsResource, IsInterface, Parts, parts_at, Used, folded, kind_of, untyped, over, world_of, exports_of, identifier_of, root_name}
 use Rattle.wac_types_base.specs.Tree.{tree}
 use Rattle.wac_composition.specs.Tests.{same_tree}
 use Rattle.wac_composition.specs.Merging.{reached}
@@ -54,6 +54,15 @@ there_of u = unwrap_or u.there u.name
 
 abbrev pub item_in : Stated → Used → Option Stated
 item_in i u = value_at (exports_of i) (there_of u)
+
+abbrev pub has_items : Kind → Bool
+has_items IsInstance = true
+has_items IsInterface = true
+has_items k = false
+
+-- what an import has there: only one that is an instance, or an interface as a type, has items
+abbrev pub given_in : Stated → Used → Option Stated
+given_in x u = if has_items (kind_of x) then item_in x u else None
 
 abbrev pub taken : Used → Option (Name × Stated)
 taken u = option_map (λ x. (u.name, x)) (item_in u.interface u)
@@ -177,7 +186,7 @@ stands_as (Some x) (Some y) = not (is_resource (kind_of x)) || same_tree (tree x
 
 abbrev pub is_given_by : Option (Stated × Found) → Used → Bool
 is_given_by None u = false
-is_given_by (Some x) u = stands_as (item_in u.interface u) (item_in x.0 u)
+is_given_by (Some x) u = stands_as (item_in u.interface u) (given_in x.0 u)
 
 -- a use that the imports do not give: in an outer import it fails; in a definition the interface is added, unless the name is there
 abbrev pub use_fails : Parts Found → Bool → Needed → Bool
