@@ -6,12 +6,13 @@ pub use wac_graph_core::{
     AliasError, ArgumentIter, CompositionGraph, DefineTypeError, ExportError, ImportError,
     ImportIter, InstantiationArgumentError, NameError, Node, NodeId, NodeIdIter, NodeIter,
     NodeKind, PackageId, PackageIter, RegisterPackageError, TypesMut, UnexportError,
-    one_wiring_of_a_graph,
+    laws, one_wiring_of_a_graph,
 };
 pub use wac_graph_encode::{
     EncodeError, EncodeGraph, EncodeOptions, Encoded, Processor, ValidationFault,
 };
 pub use wac_graph_plug::{PlugError, PlugFault, plug};
+pub use wac_types as types;
 
 #[cfg(test)]
 mod tests;

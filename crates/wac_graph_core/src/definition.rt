@@ -116,7 +116,7 @@ impl CompositionGraph {
         if !valid {
             return Err(DefineTypeError::InvalidExternName {
                 name: own,
-                source: NameError::NoKind,
+                source: NameError::InvalidName,
             });
         }
         match self.get_export(name) {

@@ -83,7 +83,7 @@ impl CompositionGraph {
         if !valid {
             return Err(ExportError::InvalidExportName {
                 name: own,
-                source: NameError::NoKind,
+                source: NameError::InvalidName,
             });
         }
         let last = Text::new(String::from_str(self.alloc, name)?);

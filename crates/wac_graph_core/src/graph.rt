@@ -194,7 +194,7 @@ impl CompositionGraph {
         if !valid {
             return Err(ImportError::InvalidImportName {
                 name: own,
-                source: NameError::NoKind,
+                source: NameError::InvalidName,
             });
         }
         let node = Node::new(NodeKind::Import(own), None, kind);

@@ -6,5 +6,5 @@ use thiserror::Error;
 #[derive(Clone, Copy, Debug, PartialEq, Eq, Error)]
 pub enum NameError {
     #[error("not a label, an interface, a dependency, a URL or a hash")]
-    NoKind,
+    InvalidName,
 }

@@ -192,7 +192,7 @@ fn add_interface(
     ensures body { OnOk result (BodyStands types.now body.new) }
 {
     let Some(id) = &types.interface(interface).id else {
-        return Err(unwritable(alloc, owner.world, None));
+        return Err(unwritable(alloc, owner.world));
     };
     let slot = Slot {
         world: owner.world,

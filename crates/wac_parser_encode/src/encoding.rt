@@ -73,10 +73,7 @@ fn fault_of<D>(resolution: &Resolved<'_, D>, fault: EncodeError) -> Error
             instantiation: resolution.asker_span(first),
             source,
         },
-        EncodeError::TypeCannotBeWritten { name } => Error::TypeCannotBeWritten {
-            name,
-            span: None,
-        },
+        EncodeError::TypeCannotBeWritten { name } => Error::TypeCannotBeWritten { name },
         EncodeError::TooLarge => Error::TooLarge,
         EncodeError::ValidationFailure { source } => alike(source),
         EncodeError::GraphContainsCycle { .. } => unreachable!(),

@@ -8,10 +8,11 @@ ghost use Rattle.wac_parser_tree.specs.Views.{view_type_statement, view_statemen
 ghost use Rattle.wac_parser_grammar.specs.Rules.{Rule, left};
 ghost use Rattle.wac_parser_grammar.specs.Reads.{Reads, ReadsSource};
 ghost use Rattle.wac_parser_grammar.specs.Documents as grammar;
+ghost use Rattle.wac_parser_read.specs.Parsing.{Parses};
 
 use crate::parse::{Parse, parse_optional};
 use std::alloc::Global;
-use wac_parser_grammar::{Error, ParseResult};
+use wac_parser_grammar::{Error, ParseResult, documents_are_their_forms};
 use wac_parser_lexer::{Lexer, Token};
 use wac_parser_terms::{
     STATEMENT_FIRST, TYPE_DECL_FIRST, TYPE_STATEMENT_FIRST, doc_comments, none_of, parse_token,
@@ -112,6 +113,14 @@ fn document<'a>(alloc: Global, lexer: &mut Lexer<'a>) -> ParseResult<Document<'a
     })
 }
 
+/// The document of a whole source.
+fn whole_document(alloc: Global, source: &str) -> ParseResult<Document<'_>>
+    ensures { ReadsSource view_document grammar.document source.now result }
+{
+    let mut lexer = Lexer::new(source)?;
+    document(alloc, &mut lexer)
+}
+
 /// The parse of a whole source.
 pub trait ParseDocument<'a>: Sized + Drop {
     /// The document that a source spells.
@@ -133,8 +142,12 @@ impl<'a> ParseDocument<'a> for Document<'a> {
 
     ghost rule = { grammar.document };
 
-    fn parse(alloc: Global, source: &'a str) -> ParseResult<Document<'a>> {
-        let mut lexer = Lexer::new(source)?;
-        document(alloc, &mut lexer)
+    /// Parses a source: the document that it spells, or why it spells none.
+    fn parse(alloc: Global, source: &'a str) -> ParseResult<Document<'a>>
+        ensures read { ReadsSource view_document grammar.document source.now result }
+        ensures parsed { Parses source.now result }
+    {
+        documents_are_their_forms();
+        whole_document(alloc, source)
     }
 }

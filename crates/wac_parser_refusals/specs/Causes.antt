@@ -87,6 +87,7 @@ pub data Fault : Type 0 where
   DuplicateFlag : Name → Name → Fault
   -- the name, the kind of the function
   DuplicateParameter : Name → FuncKind → Fault
+  DuplicateResult : Name → FuncKind → Fault
   BorrowInResult : Fault
 
 -- a fault, and where it stands if it has a place

@@ -45,7 +45,7 @@ cause_of (error.ImportNotInTarget name world span) = maybe_at (Fault.ImportNotIn
 cause_of (error.MissingTargetExport name kind world span) = at_place (Fault.MissingTargetExport (string_bytes name) kind.now (string_bytes world)) span
 cause_of (error.TargetMismatch kind name world span source) = maybe_at (Fault.TargetMismatch kind (string_bytes name) (string_bytes world)) span
 cause_of (error.ValidationFailure kind first second) = anywhere (Fault.ValidationFailure kind (string_bytes first) (string_bytes second))
-cause_of (error.TypeCannotBeWritten name span) = maybe_at (Fault.TypeCannotBeWritten (string_bytes name)) span
+cause_of (error.TypeCannotBeWritten name) = anywhere (Fault.TypeCannotBeWritten (string_bytes name))
 cause_of error.TooLarge = anywhere Fault.TooLarge
 cause_of (error.NotFuncOrInterface name kind span) = at_place (Fault.NotFuncOrInterface (string_bytes name) kind.now) span
 cause_of (error.NotInterface name kind span) = at_place (Fault.NotInterface (string_bytes name) kind.now) span
@@ -68,6 +68,7 @@ cause_of (error.DuplicateRecordField field name span) = at_place (Fault.Duplicat
 cause_of (error.DuplicateEnumCase case name span) = at_place (Fault.DuplicateEnumCase (string_bytes case) (string_bytes name)) span
 cause_of (error.DuplicateFlag flag name span) = at_place (Fault.DuplicateFlag (string_bytes flag) (string_bytes name)) span
 cause_of (error.DuplicateParameter name kind span) = at_place (Fault.DuplicateParameter (string_bytes name) kind) span
+cause_of (error.DuplicateResult name kind span) = at_place (Fault.DuplicateResult (string_bytes name) kind) span
 cause_of (error.BorrowInResult span) = at_place Fault.BorrowInResult span
 cause_of error.Memory = None
 

@@ -381,12 +381,7 @@ fn debug_output<W: fmt::Write>(
             ("first", first),
             ("second", second),
         )?,
-        Error::TypeCannotBeWritten { name, span } => two(
-            f,
-            "TypeCannotBeWritten",
-            ("name", name),
-            ("span", span),
-        )?,
+        Error::TypeCannotBeWritten { name } => one(f, "TypeCannotBeWritten", ("name", name))?,
         Error::TooLarge => f.write_str("TooLarge")?,
         Error::Memory => f.write_str("Memory")?,
         _other => return Ok(false),
@@ -591,6 +586,13 @@ fn debug_member<W: fmt::Write>(
         Error::DuplicateParameter { name, kind, span } => three(
             f,
             "DuplicateParameter",
+            ("name", name),
+            ("kind", kind),
+            ("span", span),
+        )?,
+        Error::DuplicateResult { name, kind, span } => three(
+            f,
+            "DuplicateResult",
             ("name", name),
             ("kind", kind),
             ("span", span),

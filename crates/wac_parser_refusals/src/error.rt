@@ -291,8 +291,6 @@ pub enum Error {
     TypeCannotBeWritten {
         /// The name.
         name: String,
-        /// Where the fault stands.
-        span: Option<SourceSpan>,
     },
     /// A count, an index or a size is too large.
     TooLarge,
@@ -491,6 +489,15 @@ pub enum Error {
         /// Where the fault stands.
         span: SourceSpan,
     },
+    /// A function has two results of one name. No document is refused for it: a function has one result, without a name.
+    DuplicateResult {
+        /// The name.
+        name: String,
+        /// What it is.
+        kind: FuncKind,
+        /// Where the fault stands.
+        span: SourceSpan,
+    },
     /// A function returns a borrow.
     BorrowInResult {
         /// Where the fault stands.
@@ -576,11 +583,14 @@ impl Error {
             | Error::DuplicateEnumCase { span, .. }
             | Error::DuplicateFlag { span, .. }
             | Error::DuplicateParameter { span, .. }
+            | Error::DuplicateResult { span, .. }
             | Error::BorrowInResult { span, .. } => Some(*span),
             Error::ImportNotInTarget { span, .. }
-            | Error::TargetMismatch { span, .. }
-            | Error::TypeCannotBeWritten { span, .. } => *span,
-            Error::ValidationFailure { .. } | Error::TooLarge | Error::Memory => None,
+            | Error::TargetMismatch { span, .. } => *span,
+            Error::ValidationFailure { .. }
+            | Error::TypeCannotBeWritten { .. }
+            | Error::TooLarge
+            | Error::Memory => None,
         }
     }
 }

@@ -3,7 +3,7 @@
 ghost use Rattle.std.specs.Prelude.{◌≡◌, IfOk, is_some, option_map, string_bytes};
 ghost use Rattle.wac_parser_refusals.specs.Causes as fault;
 ghost use Rattle.wac_parser_refusals.specs.Outcomes.{Refuses};
-ghost use Rattle.wac_parser_refusals.specs.Views.{Names, maybe_at};
+ghost use Rattle.wac_parser_refusals.specs.Views.{Names, anywhere};
 
 use crate::error::Error;
 use crate::refusal::Refusal;
@@ -189,13 +189,13 @@ pub fn not_func_or_interface(
 }
 
 /// A refusal of a type that has no written form.
-pub fn unwritable(alloc: Global, name: &str, span: Option<SourceSpan>) -> Refusal
-    ensures { Names result (maybe_at (fault.TypeCannotBeWritten name.now) span) }
+pub fn unwritable(alloc: Global, name: &str) -> Refusal
+    ensures { Names result (anywhere (fault.TypeCannotBeWritten name.now)) }
 {
     let Ok(name) = String::from_str(alloc, name) else {
         return Refusal::Memory;
     };
-    Refusal::named(alloc, Error::TypeCannotBeWritten { name, span })
+    Refusal::named(alloc, Error::TypeCannotBeWritten { name })
 }
 
 /// A refusal of a type that its interface lacks.

@@ -347,7 +347,7 @@ fn tell_output<W: fmt::Write>(
         Error::ValidationFailure { .. } => f.write_str(
             "the encoding of the graph failed validation",
         )?,
-        Error::TypeCannotBeWritten { name, .. } => write_three(
+        Error::TypeCannotBeWritten { name } => write_three(
             f,
             "a type of `",
             name.as_str(),
@@ -554,6 +554,14 @@ fn tell_member<W: fmt::Write>(
             "duplicate ",
             func_word(*kind),
             " parameter `",
+            name.as_str(),
+            "`",
+        )?,
+        Error::DuplicateResult { kind, name, .. } => write_five(
+            f,
+            "duplicate ",
+            func_word(*kind),
+            " result `",
             name.as_str(),
             "`",
         )?,

@@ -29,7 +29,7 @@ use Rattle.wac_parser_tree.specs.Views.{view_package_path}
 use Rattle.wac_parser_refusals.specs.declared.refusal.Refusal.{Refusal}
 use Rattle.wac_parser_refusals.specs.Causes.{Answer, Fault, MissingTargetExport, TargetMismatch, TypeCannotBeWritten, each, pure, refuse, unless_clear, ◌>>◌}
 use Rattle.wac_parser_refusals.specs.Outcomes.{IsHeld, IsMemory, IsRefusal}
-use Rattle.wac_parser_refusals.specs.Views.{Names, cause_in, maybe_at}
+use Rattle.wac_parser_refusals.specs.Views.{Names, anywhere, cause_in, maybe_at}
 use Rattle.wac_parser_refusals.proofs.Outcomes.{memory_refusal}
 use Rattle.wac_parser_declare.proofs.Exports.{component_imports}
 use Rattle.wac_parser_declare.proofs.Members.{told}
@@ -216,7 +216,7 @@ module _ (g : Graph) (acyclic : IsAcyclic g.types) (w : WorldId) (x : World) (at
   target = stated_of g.types (ItemKind.Component w)
 
   -- the uses that have no names
-  pub unnamed_refused : (e : Refusal) → ids.by_identifier g.types [] (ids.implicit_interfaces g.types x) ≡ None → Names e (maybe_at (TypeCannotBeWritten p.string) None) → IsRefusal (stated.target_met s p target) e
+  pub unnamed_refused : (e : Refusal) → ids.by_identifier g.types [] (ids.implicit_interfaces g.types x) ≡ None → Names e (anywhere (TypeCannotBeWritten p.string)) → IsRefusal (stated.target_met s p target) e
   unnamed_refused e none named = by (uses_are_named target) (uses_unnamed g.types acyclic w x at own has none)
     where
       rest : Answer ⊤
@@ -230,7 +230,7 @@ module _ (g : Graph) (acyclic : IsAcyclic g.types) (w : WorldId) (x : World) (at
       → IsFaultOf path fault e → IsRefusal (stated.target_met s p target) e
   fault_refused TargetError.Memory path e same none h = memory_refusal (stated.target_met s p target) e (subst (λ (f : Refusal). IsMemory (cause_in f)) (sym h) tt)
   fault_refused TargetError.UsedWithoutIdentifier path e same none h =
-      unnamed_refused e (none refl) (subst (λ (q : t.PackagePath). Names e (maybe_at (TypeCannotBeWritten q.string) None)) (sym same) h)
+      unnamed_refused e (none refl) (subst (λ (q : t.PackagePath). Names e (anywhere (TypeCannotBeWritten q.string))) (sym same) h)
 
 -- the graph that holds what was said
 module _ (g : Graph) (is : IsGraph g) (acyclic : IsAcyclic g.types) (tg : Target) (es : List (Name × ItemKind)) (s : State) (p : t.PackagePath) (w : Stated) (of : IsTargetFor tg g.types es p w)

@@ -27,7 +27,7 @@ use Rattle.wac_parser_tree.specs.declared.import.PackagePath.{PackagePath}
 use Rattle.wac_parser_tree.specs.Views.{view_package_name, view_package_path, view_statement}
 use Rattle.wac_parser_refusals.specs.declared.refusal.Refusal.{Refusal}
 use Rattle.wac_parser_refusals.specs.Causes.{Answer, Cause, Fault, ◌>>=◌, each, pure, refuse, ImportNotInTarget, MissingTargetExport, TargetMismatch, TypeCannotBeWritten}
-use Rattle.wac_parser_refusals.specs.Views.{Names, maybe_at}
+use Rattle.wac_parser_refusals.specs.Views.{Names, anywhere, maybe_at}
 use Rattle.wac_parser_refusals.specs.Outcomes.{IsOutcome}
 use Rattle.wac_parser_declare.specs.Holding.{Holds}
 use Rattle.wac_parser_resolve.specs.declared.state.State.{State as Held}
@@ -210,7 +210,7 @@ MeetsTarget tg g imports instances spans es r = (ids : List (ℕ × Span)) (name
 
 abbrev pub IsFaultOf : PackagePath → TargetError → Refusal → Type 0
 IsFaultOf p TargetError.Memory e = e ≡ Refusal.Memory
-IsFaultOf p TargetError.UsedWithoutIdentifier e = Names e (maybe_at (TypeCannotBeWritten p.string.now) None)
+IsFaultOf p TargetError.UsedWithoutIdentifier e = Names e (anywhere (TypeCannotBeWritten p.string.now))
 
 -- what the nodes that are noted say meets the world, or the first cause why it does not
 abbrev pub IsTargetMet : PackagePath → Graph → List (ℕ × Span) → List (ℕ × Span) → List (ℕ × Span) → WorldId → Result ⊤ Refusal → Type 0
@@ -244,9 +244,9 @@ abbrev pub world_in_type : TypeKind → Option WorldId
 world_in_type (TypeKind.World id) = Some id
 world_in_type ty = None
 
-abbrev pub content_in : ItemKind → Option WorldId
-content_in (ItemKind.Ty ty) = world_in_type ty
-content_in k = None
+abbrev pub world_in : ItemKind → Option WorldId
+world_in (ItemKind.Ty ty) = world_in_type ty
+world_in k = None
 
 abbrev pub IsTargetWorld : PackagePath → PackageName → Held → Held → Result WorldId Refusal → Type 0
 IsTargetWorld p own old new r = (s : State) → IsSaid (view_package_name own) old s

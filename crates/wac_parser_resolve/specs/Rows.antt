@@ -69,11 +69,11 @@ abbrev pub from_g_to_h : Stated → Stated
 from_g_to_h f = world_of None [] ((codes "g", f) ∷ []) ((codes "h", plain_func) ∷ [])
 
 -- no row looks at bytes
-abbrev pub package_at : Name → Stated → Key × Content
-package_at n w = (key n, record { world = w; bytes = [] })
+abbrev pub plain_package : Name → Stated → Key × Content
+plain_package n w = (key n, record { world = w; bytes = [] })
 
 abbrev pub handed : List (Key × Content)
-handed = package_at (codes "p:p") passing ∷ package_at (codes "q:q") (from_g_to_h plain_func) ∷ []
+handed = plain_package (codes "p:p") passing ∷ plain_package (codes "q:q") (from_g_to_h plain_func) ∷ []
 
 -- ---- what is compared: outer imports; each instance's package and what is passed to it; exports
 
@@ -113,8 +113,8 @@ two_versions = document (codes "w:w")
 -- c:x imports the older version with `f`, c:y the newer with these
 abbrev pub versions : List (Name × Stated) → List (Key × Content)
 versions es =
-    package_at (codes "c:x") (importing ((older, named_instance older ((codes "f", plain_func) ∷ [])) ∷ []))
-    ∷ package_at (codes "c:y") (importing ((newer, named_instance newer es) ∷ [])) ∷ []
+    plain_package (codes "c:x") (importing ((older, named_instance older ((codes "f", plain_func) ∷ [])) ∷ []))
+    ∷ plain_package (codes "c:y") (importing ((newer, named_instance newer es) ∷ [])) ∷ []
 
 -- package a:b; export x;
 abbrev pub unknown_name : t.Document
@@ -143,4 +143,4 @@ abbrev pub identified : Name
 identified = codes "a:b/i@1.0.0"
 
 abbrev pub exporting_identified : List (Key × Content)
-exporting_identified = package_at (codes "s:s") (world_of None [] [] ((identified, named_instance identified []) ∷ [])) ∷ []
+exporting_identified = plain_package (codes "s:s") (world_of None [] [] ((identified, named_instance identified []) ∷ [])) ∷ []

@@ -8,7 +8,7 @@ ghost use Rattle.wac_parser_tree.specs.Trees as t;
 ghost use Rattle.wac_parser_tree.specs.Views.{view_document};
 ghost use Rattle.wac_parser_resolve.specs.InDocuments.{IsResolved, IsSaidOf};
 ghost use Rattle.wac_parser_resolve.specs.InStatements.{StaysSaid};
-ghost use Rattle.wac_parser_resolve.specs.InTargets.{AreNotedAll, AreStanding, HasSaid, IsDocumentSaid, IsTargetOf, IsTargetWorld, MayBeTarget, StateMeets, content_in, world_in_type};
+ghost use Rattle.wac_parser_resolve.specs.InTargets.{AreNotedAll, AreStanding, HasSaid, IsDocumentSaid, IsTargetOf, IsTargetWorld, MayBeTarget, StateMeets, world_in, world_in_type};
 ghost use Rattle.wac_parser_resolve.specs.Later.{SameNumber};
 ghost use Rattle.wac_parser_resolve.specs.Resolved.{asked_of, document_of, graph_of, graph_said, target_of, target_said};
 ghost use Rattle.wac_parser_resolve.specs.Standing.{IsSound};
@@ -135,7 +135,7 @@ fn world_type(ty: Type, types: &Types) -> Option<WorldId>
 fn world_item(kind: ItemKind, types: &Types) -> Option<WorldId>
     requires { Stands types.now kind }
     ensures stands { IfSome result (λ id. Stands types.now (ItemKind.Component id)) }
-    ensures is { result ≡ content_in kind }
+    ensures is { result ≡ world_in kind }
 {
     match kind {
         ItemKind::Ty(ty) => world_type(ty, types),

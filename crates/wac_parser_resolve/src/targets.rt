@@ -371,7 +371,7 @@ fn implicit_fault(alloc: Global, path: &PackagePath<'_>, fault: TargetError) -> 
 {
     match fault {
         TargetError::Memory => Refusal::Memory,
-        TargetError::UsedWithoutIdentifier => unwritable(alloc, path.string, None),
+        TargetError::UsedWithoutIdentifier => unwritable(alloc, path.string),
     }
 }
 

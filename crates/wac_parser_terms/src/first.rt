@@ -20,7 +20,7 @@ use wac_parser_tree::{
     FlagsDecl, FuncType, Ident, ImportStatement, InlineInterface, InstantiationArgument,
     InstantiationArgumentName, InterfaceDecl, InterfaceExport, InterfaceItem, ItemTypeDecl,
     LetStatement, Method, NamedAccessExpr, NamedInstantiationArgument, NamedType, NamedWorldItem,
-    NestedExpr, NewExpr, PackageDirective, RecordDecl, ResourceDecl, ResourceMethod, Statement,
+    NestedExpr, NewExpr, PackageDirective, PackagePath, RecordDecl, ResourceDecl, ResourceMethod, Statement,
     String, Type, TypeAlias, TypeDecl, TypeStatement, Use, UseItem, UsePath, VariantCase,
     VariantDecl, WorldDecl, WorldExport, WorldImport, WorldInclude, WorldIncludeItem, WorldItem,
 };
@@ -311,6 +311,16 @@ impl<'a> Peek for ResourceDecl<'a> {
         ensures { ahead.Tries (k.ResourceKeyword ∷ []) lookahead.old result lookahead.new }
     {
         lookahead.peek(Token::ResourceKeyword)
+    }
+}
+
+impl<'a> Peek for PackagePath<'a> {
+    ghost first = { k.PackagePath ∷ [] };
+
+    fn peek(lookahead: &mut Lookahead) -> bool
+        ensures { ahead.Tries (k.PackagePath ∷ []) lookahead.old result lookahead.new }
+    {
+        lookahead.peek(Token::PackagePath)
     }
 }
 

@@ -18,7 +18,7 @@ pub use wac_types_merge::{
 };
 pub use wac_types_names::{
     BorrowedKey, BorrowedPackageKey, NameMap, NameMapError, NameMapIntern, NameMapNoIntern,
-    Package, PackageKey, alternate_lookup_key, are_semver_compatible, compatible_names,
+    Package, PackageKey, alternate_lookup_key, are_semver_compatible, compatible_names, examples,
     one_name_a_version, order_of_insertion, same_key,
 };
 

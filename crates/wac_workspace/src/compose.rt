@@ -129,7 +129,6 @@ fn test_target(
         Err(TargetError::UsedWithoutIdentifier) => Err(ComposeError::Resolution(
             ResolutionError::TypeCannotBeWritten {
                 name: String::from_str(alloc, name)?,
-                span: None,
             },
         )),
     }

@@ -1,0 +1,5 @@
+use Rattle.wac_parser_read.proofs.Parsing.{parsed}
+use Rattle.wac_parser_read.proofs.document.DocumentParseDocument.parse.Goals as goal
+
+pub returns-clause-parsed : goal.returns-clause-parsed
+returns-clause-parsed c = parsed c.documents_are_their_forms.ensures c.args.source.now c.whole_document.result c.whole_document.ensures
