@@ -52,6 +52,58 @@ fn source_text(graph: &CompositionGraph, node: NodeId) -> Result<String, AllocEr
     }
 }
 
+/// The package of which a node is an instance.
+fn made_of(graph: &CompositionGraph, node: NodeId) -> Result<&str> {
+    ensure!(graph.contains_node(node), "the node does not stand");
+    let Some(id) = graph[node].package() else {
+        bail!("the node is no instance");
+    };
+    ensure!(graph.contains_package(id), "the package does not stand");
+    Ok(graph[id].name())
+}
+
+/// An argument that is an alias: the instance's package and import, and the package and export that are passed.
+fn push_argument(
+    told: &mut String,
+    graph: &CompositionGraph,
+    instance: NodeId,
+    (name, argument): (&str, NodeId),
+) -> Result<()> {
+    let Some((from, export)) = graph.get_alias_source(argument) else {
+        bail!("the argument is no alias");
+    };
+    let (to, from) = (made_of(graph, instance)?, made_of(graph, from)?);
+    Ok(write!(told, " {to} {name} = {from} {export}")?)
+}
+
+/// The arguments of a node.
+fn push_arguments(told: &mut String, graph: &CompositionGraph, node: NodeId) -> Result<()> {
+    ensure!(graph.contains_node(node), "the node does not stand");
+    for passed in graph.get_instantiation_arguments(node) {
+        push_argument(told, graph, node, passed)?;
+    }
+    Ok(())
+}
+
+/// What is passed to all instances.
+fn passed_text(graph: &CompositionGraph) -> Result<String> {
+    let mut told = String::from_str(graph.alloc(), "passed")?;
+    for node in graph.node_ids() {
+        push_arguments(&mut told, graph, node)?;
+    }
+    Ok(told)
+}
+
+/// What a graph imports: explicit imports, and those that instances leave open.
+fn imports_text(graph: &CompositionGraph) -> Result<String, AllocError> {
+    let mut told = String::from_str(graph.alloc(), "imports")?;
+    for (name, _, node) in graph.imports() {
+        let how = if node.is_some() { "explicit" } else { "open" };
+        write!(told, " {name} {how}")?;
+    }
+    Ok(told)
+}
+
 /// What is asked of a node that stands.
 fn answer_of_node(graph: &CompositionGraph, node: NodeId, what: &str) -> Result<String> {
     let alloc = graph.alloc();
@@ -80,8 +132,8 @@ fn answer_of_name(graph: &CompositionGraph, node: NodeId, what: &str) -> Result<
     }
 }
 
-/// What a line asks: `export NAME`, `exported NAME`, `package NAME`, `registered NAME`, `nodes`, `first_node`, `packaged`; or
-/// of a node `node`, `standing`, `source`, `import_name`, `export_name`, `name` and `argued`.
+/// What a line asks: `export NAME`, `exported NAME`, `package NAME`, `registered NAME`, `nodes`, `first_node`, `packaged`,
+/// `imports`, `arguments`; or of a node `node`, `standing`, `source`, `import_name`, `export_name`, `name` and `argued`.
 pub(crate) fn answer(
     graph: &CompositionGraph,
     named: &Named,
@@ -99,6 +151,8 @@ pub(crate) fn answer(
         }
         "nodes" => Ok(count_text(graph)?),
         "first_node" => Ok(number_text(alloc, graph.node_ids().next())?),
+        "imports" => Ok(imports_text(graph)?),
+        "arguments" => passed_text(graph),
         "packaged" => Ok(yes_or_no(alloc, graph.packages().next().is_some())?),
         _ => answer_of_name(graph, named.node(name)?, what),
     }

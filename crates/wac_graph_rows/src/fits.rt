@@ -4,7 +4,10 @@ use anyhow::{Result, bail, ensure};
 use std::alloc::{AllocError, Global};
 use wac_row_graphs::{item_named, type_named, word_at, words_of};
 use wac_types_base::{ExternKind, ItemKind, NamedMap, Types, WorldId};
-use wac_types_fit::{SubtypeChecker, SubtypeError, new_cache, validate_target};
+use wac_types_fit::{
+    SubtypeChecker, SubtypeError, TargetValidationReport, TargetValidationResult, new_cache,
+    validate_target,
+};
 
 /// The item of a word: `type.NAME` is the type of an item, and any other word an item's name.
 fn item_of(items: &NamedMap<ItemKind>, word: &str) -> Result<ItemKind> {
@@ -65,7 +68,43 @@ fn world_of(item: ItemKind) -> Result<WorldId> {
     }
 }
 
-/// How many imports, exports and types of a component differ from its target.
+/// The names of a report: of imports and exports that are lacking, and of those whose types differ.
+fn push_lacking(told: &mut String, report: &TargetValidationReport) -> Result<(), AllocError> {
+    told.push_str("imports")?;
+    for name in report.imports_not_in_target() {
+        write!(told, " {name}")?;
+    }
+    told.push_str(", exports")?;
+    Ok(())
+}
+
+fn push_missing(told: &mut String, report: &TargetValidationReport) -> Result<(), AllocError> {
+    for (name, _) in report.missing_exports() {
+        write!(told, " {name}")?;
+    }
+    told.push_str(", types")?;
+    Ok(())
+}
+
+fn push_differing(told: &mut String, report: &TargetValidationReport) -> Result<(), AllocError> {
+    for (name, kind, _) in report.mismatched_types() {
+        write!(told, " {kind} {name}")?;
+    }
+    Ok(())
+}
+
+/// How a component differs from its target, and that the report, as an answer, is a refusal.
+fn push_differences(told: &mut String, report: TargetValidationReport) -> Result<(), AllocError> {
+    push_lacking(told, &report)?;
+    push_missing(told, &report)?;
+    push_differing(told, &report)?;
+    match TargetValidationResult::from(report) {
+        Ok(()) => told.push_str(": met\n"),
+        Err(_) => told.push_str(": refused\n"),
+    }
+}
+
+/// Whether a component meets its target, and how it differs.
 fn push_report(
     alloc: Global,
     types: &Types,
@@ -82,12 +121,7 @@ fn push_report(
     );
     match validate_target(alloc, types, target, component)? {
         Ok(()) => told.push_str("met\n")?,
-        Err(report) => {
-            let imports = report.imports_not_in_target().count();
-            let exports = report.missing_exports().count();
-            let types = report.mismatched_types().count();
-            writeln!(told, "imports {imports}, exports {exports}, types {types}")?;
-        }
+        Err(report) => push_differences(told, report)?,
     }
     Ok(())
 }
