@@ -1,4 +1,4 @@
-//! What is kept of no asks, and of two whose resources have an owner that is not the interface used, but states the
+//! What is kept of no asks, and of two, one after another and in a list, whose resources have an owner that is not the interface used, but states the
 //! same. What is kept of several otherwise are rows of `wac_graph_rows`.
 
 use super::types::{add_func, add_interface, add_resource, one, resource, text};
@@ -69,6 +69,21 @@ fn count_of_two(alloc: Global, types: &Types, a: ItemKind, b: ItemKind) -> Optio
     }
 }
 
+/// The same of both asks in one list.
+fn count_at_once(alloc: Global, types: &Types, a: ItemKind, b: ItemKind) -> Option<usize> {
+    if !types.has(a) || !types.has(b) {
+        return None;
+    }
+    match aggregate_all(
+        alloc,
+        7,
+        &[("a:b/i@0.2.0", types, a), ("a:b/i@0.2.1", types, b)],
+    ) {
+        Err(_) => None,
+        Ok(both) => Some(both.imports().count()),
+    }
+}
+
 #[test]
 fn owners_that_state_what_is_used_merge(rt: HostRuntime) -> Result<(), Fail> {
     let alloc = rt.alloc();
@@ -91,5 +106,6 @@ fn owners_that_state_what_is_used_merge(rt: HostRuntime) -> Result<(), Fail> {
     let second = asked(alloc, "a:b/i@0.2.1", used, owned, "g", func)?;
     let second = ItemKind::Instance(add_interface(&rt, &mut types, second)?);
     assert_eq!(rt; count_of_two(alloc, &types, first, second), Some(1));
+    assert_eq!(rt; count_at_once(alloc, &types, first, second), Some(1));
     Ok(())
 }
