@@ -89,6 +89,7 @@ module _ {A : Type 0} where
   abbrev pub merge_fails : Ask A → List (Ask A) → Option (Cause A)
   merge_fails a as_ = if is_some (kept (asked_in as_)) then None else merge_cause a.asking a as_
 
+  -- of these asks, those of a class; by their names, since all asks of one name are in one class
   abbrev pub those_in : List (Ask A) → List (Ask A) → List (Ask A)
   those_in cs as_ = filter (λ a. list_any (λ c. bytes_eq a.name c.name) cs) as_
 

@@ -46,6 +46,7 @@ placed_import i = record { by = by_import i; name = i.name; item = i.item }
 abbrev pub placed_definition : Name × Stated → Placed Asker
 placed_definition d = record { by = by_definition; name = d.0; item = d.1 }
 
+-- aliases are projections alone (`speak_of`), which have a name
 abbrev pub alias_in : Denoted → Name × Stated
 alias_in d = (unwrap_or (own_name d.origin) [], d.item)
 
@@ -68,6 +69,7 @@ asker_span (by_import i) = Some i.span
 asker_span (by_instance k s) = Some s
 asker_span by_definition = None
 
+-- who asks under a name is an import statement or a `new`, and both have a place: a definition asks nothing
 abbrev pub span_or_none : Option Span → Span
 span_or_none None = record { offset = 0; length = 0 }
 span_or_none (Some s) = s
@@ -78,6 +80,7 @@ merge_span (by_import i) = Some i.id_span
 merge_span (by_instance k s) = Some s
 merge_span by_definition = None
 
+-- what an instance leaves open is asked by its `new`, so there is a key
 abbrev pub asker_key : Asker → Key
 asker_key (by_instance k s) = k
 asker_key a = ([], None)

@@ -108,7 +108,7 @@ abbrev pub is_projection : Origin → Bool
 is_projection (projected o n) = true
 is_projection o = false
 
--- an export of an instance is spoken of
+-- an export of an instance is spoken of: each is listed once, as the graph has one alias of it
 abbrev pub speak_of : State → Denoted → State
 speak_of g d =
     if not (is_projection d.origin) || list_any (λ (e : Denoted). same_origin e.origin d.origin) g.aliases then g
