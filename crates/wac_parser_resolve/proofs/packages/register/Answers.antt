@@ -15,7 +15,7 @@ returns-clause-registered c =
     let made = c.in_ok-package.ensures in
     ok_map c.add_package.result
     (λ id reg. package_registered c.args.graph.now c.copy_world.new.graph c.make_package.new.graph c.add_package.new.graph c.in_ok-package.«package» c.in_ok-world.world (key_of c.args.name.now c.args.version) (stated_handed c.args.handed)
-    c.see_sound.ensures c.see_sound-2.ensures first.enlarges made.enlarges first.stands (first.copied ∙ ap (λ (w : WorldId). stated_of c.args.handed.types.now (ItemKind.Component w)) c.ty.ensures) made.world made.key c.args.handed.«package».now.bytes (made.bytes ∙ BYTES) id reg)
+    c.see_sound.ensures c.see_sound-2.ensures first.enlarges made.enlarges first.stands (first.copied ∙ ap (λ (w : WorldId). stated_of c.args.handed.types.now (ItemKind.Component w)) c.ty.ensures) made.world made.key c.args.handed.«package».now.bytes (made.bytes ∙ (c.in_ok-bytes.ensures.items ∙ c.bytes.ensures)) id reg)
     c.add_package.ensures.registered
 
 pub returns-clause-gets : goal.returns-clause-gets
@@ -24,7 +24,7 @@ returns-clause-gets c =
     let made = c.in_ok-package.ensures in
     ok_gives c.add_package.result c.add_package.ensures.registered
     (λ id reg. gets_registered c.args.graph.now c.copy_world.new.graph c.make_package.new.graph c.add_package.new.graph c.in_ok-package.«package» c.in_ok-world.world (key_of c.args.name.now c.args.version) (stated_handed c.args.handed)
-    c.see_sound.ensures c.see_sound-2.ensures first.enlarges made.enlarges first.stands (first.copied ∙ ap (λ (w : WorldId). stated_of c.args.handed.types.now (ItemKind.Component w)) c.ty.ensures) made.world made.key c.args.handed.«package».now.bytes (made.bytes ∙ BYTES) id reg)
+    c.see_sound.ensures c.see_sound-2.ensures first.enlarges made.enlarges first.stands (first.copied ∙ ap (λ (w : WorldId). stated_of c.args.handed.types.now (ItemKind.Component w)) c.ty.ensures) made.world made.key c.args.handed.«package».now.bytes (made.bytes ∙ (c.in_ok-bytes.ensures.items ∙ c.bytes.ensures)) id reg)
 
 pub returns-clause-same : goal.returns-clause-same
 returns-clause-same c =
