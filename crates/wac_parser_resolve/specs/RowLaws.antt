@@ -3,7 +3,7 @@ use Rattle.std.specs.Prelude.{◌≡◌, [], ◌∷◌, Ok, codes}
 use Rattle.wac_composition.specs.Composition as c
 use Rattle.wac_composition.specs.Examples.{plain_func, func_of_number, named_instance, passing, newer, wider}
 use Rattle.wac_parser_refusals.specs.Causes.{MissingInstantiationArg, MismatchedInstantiationArg, InstantiationArgMergeFailure, UndefinedName, UnknownPackage, ImportConflict, ExportRequiresAs}
-use Rattle.wac_parser_resolve.specs.Rows.{sp, key, refusal, said, handed, from_g_to_h, one_instance, nothing_given, one_into_another, two_versions, versions, unknown_name, own_package, asked_and_filled, no_name_to_export, named_by_identifier, identified, exporting_identified}
+use Rattle.wac_parser_resolve.specs.Rows.{sp, key, plain_package, refusal, said, handed, from_g_to_h, one_instance, nothing_given, one_into_another, two_versions, versions, unknown_name, own_package, asked_and_filled, no_name_to_export, named_by_identifier, identified, exporting_identified}
 
 -- one outer import, one instance, one export
 abbrev pub Says_one : Type 0
@@ -18,7 +18,7 @@ Says_passed = said one_into_another handed
     ≡ Ok ((codes "f", plain_func) ∷ [], (key (codes "p:p"), []) ∷ (key (codes "q:q"), (codes "g", c.projected (c.instance 0) (codes "g")) ∷ []) ∷ [], (codes "h", c.projected (c.instance 1) (codes "h")) ∷ [])
 
 abbrev pub Says_mismatched : Type 0
-Says_mismatched = said one_into_another ((key (codes "p:p"), passing) ∷ (key (codes "q:q"), from_g_to_h func_of_number) ∷ []) ≡ refusal (MismatchedInstantiationArg (codes "g")) 56 1
+Says_mismatched = said one_into_another (plain_package (codes "p:p") passing ∷ plain_package (codes "q:q") (from_g_to_h func_of_number) ∷ []) ≡ refusal (MismatchedInstantiationArg (codes "g")) 56 1
 
 -- two versions are one outer import
 abbrev pub Says_merged : Type 0
