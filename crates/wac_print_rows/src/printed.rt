@@ -9,7 +9,7 @@ use wac_parser_tree::Document;
 // What owns a document is generic in its type: a proof then need not take the whole tree of types apart.
 
 /// Documents that are printed, and that can be cloned.
-pub(crate) trait PrintDocument: Sized + Drop {
+pub(crate) trait PrintDocument: Sized {
     /// The printed text of the document over its source, with this unit of indentation.
     fn print(&self, alloc: Global, source: &str, unit: &str) -> Result<Vec<u8>, PrintError>;
 
@@ -53,10 +53,10 @@ fn text_of<D: PrintDocument>(
 }
 
 /// The text of a clone of a document.
-fn text_of_clone<D: PrintDocument>(
+fn text_of_clone<'s, D: ParseDocument<'s> + PrintDocument>(
     document: &D,
     alloc: Global,
-    source: &str,
+    source: &'s str,
     unit: &str,
 ) -> Result<String> {
     let copy = document.copied(alloc)?;

@@ -1,9 +1,11 @@
 //! What comes of a row: its document is parsed, and what the row asks for is told.
 
-use crate::printed::printed;
+use crate::printed::{PrintDocument, printed};
 use crate::values::values;
 use anyhow::{Result, bail};
 use std::alloc::Global;
+use wac_parser_print::DocumentValue;
+use wac_parser_read::ParseDocument;
 use wac_parser_tree::Document;
 use wac_rows::{Part, Row, RowTeller};
 
@@ -26,18 +28,24 @@ fn unit_named(name: &str) -> Result<&'static str> {
     }
 }
 
+/// What comes of a row, by documents of this type.
+fn told<'s, D: ParseDocument<'s> + PrintDocument + DocumentValue>(
+    row: &Row<'s>,
+    alloc: Global,
+) -> Result<String> {
+    for part in &row.parts {
+        let source = source_of(part);
+        match part.kind {
+            "prints" => return printed::<D>(source, alloc, unit_named(part.name)?),
+            "value" => return values::<D>(source, alloc, &row.parts),
+            _ => {}
+        }
+    }
+    bail!("a row of no known part")
+}
+
 impl RowTeller for Printer {
     fn tell(&self, alloc: Global, row: &Row<'_>) -> Result<String> {
-        for part in &row.parts {
-            let source = source_of(part);
-            match part.kind {
-                "prints" => {
-                    return printed::<Document<'_>>(source, alloc, unit_named(part.name)?);
-                }
-                "value" => return values::<Document<'_>>(source, alloc, &row.parts),
-                _ => {}
-            }
-        }
-        bail!("a row of no known part")
+        told::<Document<'_>>(row, alloc)
     }
 }
