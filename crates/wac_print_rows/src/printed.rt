@@ -64,7 +64,7 @@ fn text_of_clone<'s, D: ParseDocument<'s> + PrintDocument>(
 }
 
 /// The text that a source's document and a clone of it print as.
-pub(crate) fn printed<'s, D: ParseDocument<'s> + PrintDocument>(
+fn text_twice<'s, D: ParseDocument<'s> + PrintDocument>(
     source: &'s str,
     alloc: Global,
     unit: &str,
@@ -74,4 +74,9 @@ pub(crate) fn printed<'s, D: ParseDocument<'s> + PrintDocument>(
     let again = text_of_clone(&document, alloc, source, unit)?;
     ensure!(again.as_str() == text.as_str(), "a clone prints otherwise");
     Ok(text)
+}
+
+/// The text that the document of a source prints as, and a clone of it.
+pub(crate) fn printed(source: &str, alloc: Global, unit: &str) -> Result<String> {
+    text_twice::<Document<'_>>(source, alloc, unit)
 }

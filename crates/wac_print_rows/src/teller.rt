@@ -1,12 +1,9 @@
 //! What comes of a row: its document is parsed, and what the row asks for is told.
 
-use crate::printed::{PrintDocument, printed};
+use crate::printed::printed;
 use crate::values::values;
 use anyhow::{Result, bail};
 use std::alloc::Global;
-use wac_parser_print::DocumentValue;
-use wac_parser_read::ParseDocument;
-use wac_parser_tree::Document;
 use wac_rows::{Part, Row, RowTeller};
 
 /// Prints the document of a row. The first part that is known has the source: `prints` with a unit of indentation, or `value`
@@ -28,24 +25,16 @@ fn unit_named(name: &str) -> Result<&'static str> {
     }
 }
 
-/// What comes of a row, by documents of this type.
-fn told<'s, D: ParseDocument<'s> + PrintDocument + DocumentValue>(
-    row: &Row<'s>,
-    alloc: Global,
-) -> Result<String> {
-    for part in &row.parts {
-        let source = source_of(part);
-        match part.kind {
-            "prints" => return printed::<D>(source, alloc, unit_named(part.name)?),
-            "value" => return values::<D>(source, alloc, &row.parts),
-            _ => {}
-        }
-    }
-    bail!("a row of no known part")
-}
-
 impl RowTeller for Printer {
     fn tell(&self, alloc: Global, row: &Row<'_>) -> Result<String> {
-        told::<Document<'_>>(row, alloc)
+        for part in &row.parts {
+            let source = source_of(part);
+            match part.kind {
+                "prints" => return printed(source, alloc, unit_named(part.name)?),
+                "value" => return values(source, alloc, &row.parts),
+                _ => {}
+            }
+        }
+        bail!("a row of no known part")
     }
 }

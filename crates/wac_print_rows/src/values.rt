@@ -5,6 +5,7 @@ use serde_json::Value;
 use std::alloc::Global;
 use wac_parser_print::DocumentValue;
 use wac_parser_read::ParseDocument;
+use wac_parser_tree::Document;
 use wac_rows::Part;
 
 /// The value of a source's document.
@@ -41,11 +42,7 @@ fn told_of(alloc: Global, value: &Value, parts: &[Part<'_>]) -> Result<String> {
 }
 
 /// What stands otherwise in the value of a source's document, and how much stands as stated.
-pub(crate) fn values<'s, D: ParseDocument<'s> + DocumentValue>(
-    source: &'s str,
-    alloc: Global,
-    parts: &[Part<'_>],
-) -> Result<String> {
-    let value = value_of::<D>(source, alloc)?;
+pub(crate) fn values(source: &str, alloc: Global, parts: &[Part<'_>]) -> Result<String> {
+    let value = value_of::<Document<'_>>(source, alloc)?;
     told_of(alloc, &value, parts)
 }
