@@ -6,7 +6,8 @@ use wac_parser_print::{DocumentPrinter, PrintError};
 use wac_parser_read::ParseDocument;
 use wac_parser_tree::Document;
 
-// What owns a document is generic in its type: a proof then need not take the whole tree of types apart.
+// What owns a document is generic in its type, and the type is named where the text that it borrows comes first, as a document
+// does where it is lent: a proof then need not take the whole tree of types apart.
 
 /// Documents that are printed, and that can be cloned.
 pub(crate) trait PrintDocument: Sized {
