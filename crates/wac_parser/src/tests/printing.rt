@@ -1,8 +1,7 @@
-//! Sources with the texts and the values that they have: rows of data, each read by one function.
+//! Printers whose writers fail, and places behind the source. The texts and values of documents are rows of
+//! `wac_print_rows`.
 
-mod forms;
 mod sinks;
-mod values;
 
 use self::sinks::Sink;
 use crate::lexer::SourceSpan;
@@ -10,27 +9,20 @@ use crate::{
     Document, DocumentPrinter, Ident, PackageDirective, PackageName, PackagePath, ParseDocument,
     PrintError, Type,
 };
-use std::alloc::Global;
 use std::process::Abort;
 use std::test::Fail;
 
 // What owns a document is generic in its type, and named where no document is there yet: a proof then need not take the
 // whole tree of types apart. For the same reason `show` has its tree where the printer's method has it, behind the printer.
 
-/// A tree that is printed, and that can be cloned.
+/// A tree that is printed.
 trait Shown: Sized {
     fn show(printer: &mut DocumentPrinter<'_, Sink>, tree: &Self) -> Result<(), PrintError>;
-
-    fn copied(&self, alloc: Global) -> Result<Self, Fail>;
 }
 
 impl<'s> Shown for Document<'s> {
     fn show(printer: &mut DocumentPrinter<'_, Sink>, tree: &Self) -> Result<(), PrintError> {
         printer.document(tree)
-    }
-
-    fn copied(&self, alloc: Global) -> Result<Self, Fail> {
-        Ok(self.clone(alloc)?)
     }
 }
 
@@ -39,58 +31,6 @@ fn printed<T: Shown>(tree: &T, source: &str, space: &str, sink: Sink) -> Result<
     let mut printer = DocumentPrinter::new(sink, source, Some(space));
     T::show(&mut printer, tree)?;
     Ok(printer.into_writer())
-}
-
-/// The text of a tree.
-fn text_of<T: Shown>(tree: &T, alloc: Global, source: &str, space: &str) -> Result<String, Fail> {
-    let sink = printed(tree, source, space, Sink::new(alloc, usize::MAX, 0, false))?;
-    Ok(String::from_str(alloc, std::str::from_utf8(&sink.taken)?)?)
-}
-
-/// The texts of a source's tree and of a clone of it.
-fn texts_of<'s, D: ParseDocument<'s> + Shown>(
-    source: &'s str,
-    alloc: Global,
-    space: &str,
-) -> Result<(String, String), Fail> {
-    let tree = D::parse(alloc, source)?;
-    let text = text_of(&tree, alloc, source, space)?;
-    let copy = tree.copied(alloc)?;
-    let again = text_of(&copy, alloc, source, space)?;
-    Ok((text, again))
-}
-
-/// The source's tree and a clone of it have this text.
-fn expect_twice(
-    rt: &(impl Abort + AllocGlobal),
-    source: &str,
-    space: &str,
-    wanted: &str,
-) -> Result<(), Fail> {
-    let (text, again) = texts_of::<Document<'_>>(source, rt.alloc(), space)?;
-    assert_eq!(rt; text.as_str(), wanted, "of {source:?}");
-    assert_eq!(rt; again.as_str(), wanted, "of a clone of {source:?}");
-    Ok(())
-}
-
-/// The source prints as this text, two blanks a level, and so does a clone of its tree.
-fn prints(rt: &(impl Abort + AllocGlobal), source: &str, text: &str) -> Result<(), Fail> {
-    expect_twice(rt, source, "  ", text)
-}
-
-/// The statements print as this text, behind a directive.
-fn prints_as(rt: &(impl Abort + AllocGlobal), source: &str, text: &str) -> Result<(), Fail> {
-    let source = format!(in rt.alloc(); "package a:b; {source}")?;
-    let text = format!(in rt.alloc(); "package a:b;\n\n{text}\n")?;
-    prints(rt, source.as_str(), text.as_str())
-}
-
-/// Each row's statements print as its text.
-fn expect_rows(rt: &(impl Abort + AllocGlobal), rows: &[(&str, &str)]) -> Result<(), Fail> {
-    for (source, text) in rows {
-        prints_as(rt, source, text)?;
-    }
-    Ok(())
 }
 
 /// The document of the original's test of printing, with comments of both kinds.
@@ -158,18 +98,6 @@ let x = new foo:bar {};
 /// Doc comment #10!
 export x as "foo";
 "#;
-
-#[test]
-fn document_roundtrip(rt: HostRuntime) -> Result<(), Fail> {
-    expect_twice(&rt, SOURCE, "    ", TEXT)?;
-    expect_twice(&rt, TEXT, "    ", TEXT)
-}
-
-#[test]
-fn another_unit_of_indentation(rt: HostRuntime) -> Result<(), Fail> {
-    let text = TEXT.replace(rt.alloc(), "    ", "\t")?;
-    expect_twice(&rt, SOURCE, "\t", text.as_str())
-}
 
 /// A write that fails, and one that takes nothing: each call behind it is refused, and nothing more is written.
 fn expect_refusals<T: Shown>(tree: &T, rt: &impl Abort, sink: Sink) {
