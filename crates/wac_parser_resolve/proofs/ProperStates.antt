@@ -313,7 +313,7 @@ pub is_regular : (ps : Packages) → AreProper (worlds_of ps) → (g : State) �
 is_regular ps packages g sound f = record {
   straight = λ a m. straight a.item (asks_proper (composition g)
       (λ i n. let r = mapped_among placed_import g.imports i n in subst (λ (x : Placed Asker). Proper x.item) (sym r.2) (f.imports r.0 r.1))
-      (numbered_world zero g.made (λ j x e. under_proper ps x.key x.world packages (sound.made j x e).known))
+      (numbered_world zero g.made (λ j x e. under_proper (worlds_of ps) x.key x.world packages (sound.made j x e).known))
       (λ d n. let r = mapped_among placed_definition g.definitions d n in subst (λ (x : Placed Asker). Proper x.item) (sym r.2) (f.definitions r.0 r.1).is) a m);
   types = λ d m. let r = mapped_among placed_definition g.definitions d m in
       subst (λ (x : Placed Asker). (is_type (kind_of x.item) ≡ true) × IsDefinition (tree (written_definition x.item))) (sym r.2)
