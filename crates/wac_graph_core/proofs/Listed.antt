@@ -1,7 +1,8 @@
 -- The nodes of a map one after another, by rising index.
-use Rattle.std.proofs.Common.{◌≡◌, ◌↔◌, ℕ, ◌<◌, Bool, true, false, List, [], ◌∷◌, ◌++◌, Some, cond, refl, sym, ap, subst, ◌∙◌, inl, inr, arith, IsSome}
+use Rattle.std.proofs.Common.{◌≡◌, ◌↔◌, ℕ, ◌<◌, Bool, true, false, List, [], ◌∷◌, ◌++◌, Option, Some, cond, refl, sym, ap, subst, ◌∙◌, inl, inr, arith, IsSome}
 use Rattle.std.specs.Prelude.{T, ◌&&◌}
 use Rattle.std.proofs.lemmas.Bool.{cases_eq}
+use Rattle.std.proofs.lemmas.Option.{same_Some}
 use Rattle.std.specs.Ordering.{nat_cmp, eq_by_cmp, is_lt}
 use Rattle.std.specs.Cmp.{nat_cmp_total, nat_cmp_is, ranked}
 use Rattle.std.specs.declared.cmp.Ordering.{Ordering}
@@ -39,13 +40,16 @@ found k x (e ∷ es) rising (inr rest) =
     let low : e.0 < k = first_below e.0 k x es parts.0 rest in
     ap (λ b. cond b (Some e.1) (find nat_cmp k es)) (apart k e.0 (λ same. absurd (omega (arith, low, same)))) ∙ found k x es parts.1 rest
 
+first_is : (b : Bool) (y x : NodeData) (o : Option NodeData) → b ≡ true → cond b (Some y) o ≡ Some x → y ≡ x
+first_is true y x o is at = same_Some y x at
+first_is false y x o is at = absurd (cc is)
+
 listed : (k : ℕ) (x : NodeData) (es : List (ℕ × NodeData)) → find nat_cmp k es ≡ Some x → Among (k, x) es
 listed k x [] at = absurd (cc at)
 listed k x (e ∷ es) at = elim (cases_eq k e.0) [
   | inl same ↦
       let here : eq_by_cmp nat_cmp k e.0 ≡ true = subst (λ j. eq_by_cmp nat_cmp k j ≡ true) same (tied k) in
-      let own : Some e.1 ≡ Some x = sym (ap (λ b. cond b (Some e.1) (find nat_cmp k es)) here) ∙ at in
-      let node : e.1 ≡ x = cc own in
+      let node : e.1 ≡ x = first_is (eq_by_cmp nat_cmp k e.0) e.1 x (find nat_cmp k es) here at in
       inl (ap (λ j. (j, x)) same ∙ ap (λ y. (e.0, y)) (sym node))
   | inr other ↦ inr (listed k x es (sym (ap (λ b. cond b (Some e.1) (find nat_cmp k es)) (apart k e.0 other)) ∙ at))
 ]

@@ -246,14 +246,7 @@ impl Nodes {
         let mut without = TypeSet::new(alloc);
         let mut found = Vec::new(alloc);
         for (id, node) in self.entries() {
-            gather_reaching(
-                &mut found,
-                node,
-                id,
-                types,
-                wanted,
-                &mut without,
-            )?;
+            gather_reaching(&mut found, node, id, types, wanted, &mut without)?;
         }
         Ok(found)
     }

@@ -1,6 +1,5 @@
-use Rattle.std.proofs.Common.{◌≡◌, [], refl, inr, sym, ap, ◌∙◌}
-use Rattle.std.specs.FinMap as map
-use Rattle.wac_graph_core.specs.Nodes.{NodeData, Role}
+use Rattle.std.proofs.Common.{◌≡◌, [], refl, inr, ◌∙◌}
+use Rattle.wac_graph_core.specs.Nodes.{Role}
 use Rattle.wac_graph_core.proofs.Gathering.{gathering_first, gathering_next, gathering_at, gathering_none}
 use Rattle.wac_graph_core.proofs.nodes.Nodes.find_import.Goals as goal
 
