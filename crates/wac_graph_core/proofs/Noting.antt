@@ -63,22 +63,16 @@ unfailed (Ok x) P h e = h
 unfailed (Err x) P h e = absurd (cc e)
 
 pub both_noted : (old new : Noted) (x : NodeData) (id : ℕ) → NotesImport old.imports x new.imports → NotesType old.types x id new.types → IsNodeNoted (Some old) x id (Some new)
-both_noted old new x id names types = record {
-  added = λ nodes known. record {
-    imports = λ j n is. elim (new_at nodes id x j is.node is.there) [
-      | inl own ↦ names.added n (ap (λ (y : NodeData). y.role) own.1 ∙ is.role)
-      | inr other ↦ names.kept n (known.imports j n (record { node = is.node; there = other.1; role = is.role }))
-    ];
-    types = λ j t is. elim (new_at nodes id x j is.node is.there) [
-      | inl own ↦ types.added t (ap (λ (y : NodeData). y.role) own.1 ∙ is.role) (ap (λ (y : NodeData). y.item_kind) own.1 ∙ is.type) ∙ ap Some (sym own.0)
-      | inr other ↦ types.kept t j (known.types j t (record { node = is.node; there = other.1; role = is.role; type = is.type }))
-    ];
-  };
-  kept = λ nodes known. record { imports = λ j n is. names.kept n (known.imports j n is); types = λ j t is. types.kept t j (known.types j t is) };
+both_noted old new x id names types = λ nodes known. record {
+  imports = λ j n is. elim (new_at nodes id x j is.node is.there) [
+    | inl own ↦ names.added n (ap (λ (y : NodeData). y.role) own.1 ∙ is.role)
+    | inr other ↦ names.kept n (known.imports j n (record { node = is.node; there = other.1; role = is.role }))
+  ];
+  types = λ j t is. elim (new_at nodes id x j is.node is.there) [
+    | inl own ↦ types.added t (ap (λ (y : NodeData). y.role) own.1 ∙ is.role) (ap (λ (y : NodeData). y.item_kind) own.1 ∙ is.type) ∙ ap Some (sym own.0)
+    | inr other ↦ types.kept t j (known.types j t (record { node = is.node; there = other.1; role = is.role; type = is.type }))
+  ];
 }
-
-pub nothing_noted : (old : Option Noted) (x : NodeData) (id : ℕ) → IsNodeNoted old x id None
-nothing_noted old x id = record { added = λ nodes known. tt; kept = λ nodes known. tt }
 
 -- ---- nodes
 
