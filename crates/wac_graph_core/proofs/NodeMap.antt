@@ -38,10 +38,6 @@ module _ {T : Type 0} where
   pub get-remove_other : (m : FinMap nat_cmp T) (k q : ℕ) → q ≢ k → map.get (map.remove m k) q ≡ map.get m q
   get-remove_other m k q ne = map.get-remove nat_cmp_total m k q ∙ ap (λ b. cond b None (map.get m q)) (apart q k ne)
 
-pub nothing_there : {A : Type 0} (o : Option A) → None ≡ o → IsSome o → ⊥
-nothing_there None e h = absurd (cc h)
-nothing_there (Some x) e h = absurd (cc e)
-
 -- ---- slots
 
 find_below : (q first : ℕ) (slots : List (Option NodeData)) → q < first → find nat_cmp q (entries_from first slots) ≡ None
@@ -66,7 +62,7 @@ find_slot first (Some v ∷ rest) (suc at) =
     ∙ ap (λ q. find nat_cmp q (entries_from (first + 1) rest)) shift ∙ find_slot (first + 1) rest at
 
 -- what is found under an index is what is in its slot
-pub get-slots : (slots : List (Option NodeData)) (k : ℕ) → map.get (nodes_in slots) k ≡ get_or slots k None
+get-slots : (slots : List (Option NodeData)) (k : ℕ) → map.get (nodes_in slots) k ≡ get_or slots k None
 get-slots slots k =
     let start : k ≡ 0 + k = omega arith in
     map.get-from_entries nat_cmp_total (entries_from 0 slots) k ∙ ap (λ q. find nat_cmp q (entries_from 0 slots)) start ∙ find_slot 0 slots k
@@ -91,11 +87,11 @@ pushed_other slots o q ne = elim (cases_lt q (length slots)) [
 ]
 
 -- a node is put behind all others
-pub nodes_pushed : (slots : List (Option NodeData)) (x : NodeData) → nodes_in (slots ++ Some x ∷ []) ≡ map.insert (nodes_in slots) (length slots) x
+nodes_pushed : (slots : List (Option NodeData)) (x : NodeData) → nodes_in (slots ++ Some x ∷ []) ≡ map.insert (nodes_in slots) (length slots) x
 nodes_pushed slots x = slots_insert slots (slots ++ Some x ∷ []) (length slots) x (get_or_push slots (Some x) None (length slots) refl) (pushed_other slots (Some x))
 
 -- a node is written in its place
-pub nodes_written : (slots : List (Option NodeData)) (k : ℕ) (x : NodeData) → k < length slots → nodes_in (set slots k (Some x)) ≡ map.insert (nodes_in slots) k x
+nodes_written : (slots : List (Option NodeData)) (k : ℕ) (x : NodeData) → k < length slots → nodes_in (set slots k (Some x)) ≡ map.insert (nodes_in slots) k x
 nodes_written slots k x within = slots_insert slots (set slots k (Some x)) k x (get_or-set_same slots k (Some x) None within) (λ q ne. get_or-set_other slots k q (Some x) None ne)
 
 emptied : (slots : List (Option NodeData)) (k : ℕ) → get_or (set slots k None) k None ≡ None
@@ -105,7 +101,7 @@ emptied slots k = elim (cases_lt k (length slots)) [
 ]
 
 -- a slot is emptied
-pub nodes_removed : (slots : List (Option NodeData)) (k : ℕ) → nodes_in (set slots k None) ≡ map.remove (nodes_in slots) k
+nodes_removed : (slots : List (Option NodeData)) (k : ℕ) → nodes_in (set slots k None) ≡ map.remove (nodes_in slots) k
 nodes_removed slots k = same_shown _ _ (λ q. elim (cases_eq q k) [
   | inl e ↦ ap (map.get (nodes_in (set slots k None))) e ∙ get-slots (set slots k None) k ∙ emptied slots k ∙ sym (get-remove_same (nodes_in slots) k) ∙ ap (map.get (map.remove (nodes_in slots) k)) (sym e)
   | inr ne ↦ get-slots (set slots k None) q ∙ get_or-set_other slots k q None None ne ∙ sym (get-slots slots q) ∙ sym (get-remove_other (nodes_in slots) k q ne)
@@ -122,9 +118,20 @@ slot_within slots k there = elim (cases_lt k (length slots)) [
   | inr past ↦ absurd (cc (subst IsSome (get_or_past slots k None past) there))
 ]
 
-pub slots_below : (slots : List (Option NodeData)) → AreBelow (nodes_in slots) (length slots)
+slots_below : (slots : List (Option NodeData)) → AreBelow (nodes_in slots) (length slots)
 slots_below slots j there = slot_within slots j (subst IsSome (get-slots slots j) there)
 
+-- ---- a node is added behind all slots
+
+module _ (slots : List (Option NodeData)) (nodes : NodeMap) (k : ℕ) (sees : nodes_in slots ≡ nodes) (index : k ≡ length slots) where
+  pub added_above : AreBelow nodes k
+  added_above = subst (AreBelow nodes) (sym index) (subst (λ m. AreBelow m (length slots)) sees (slots_below slots))
+
+  pub nodes_added : (new : List (Option NodeData)) (x : NodeData) → new ≡ slots ++ Some x ∷ [] → nodes_in new ≡ map.insert nodes k x
+  nodes_added new x added =
+      ap nodes_in added ∙ nodes_pushed slots x ∙ ap (λ m. map.insert m (length slots) x) sees ∙ ap (λ j. map.insert nodes j x) (sym index)
+
+-- an index above those of all nodes is free
 pub below_free : (nodes : NodeMap) (k : ℕ) → AreBelow nodes k → map.get nodes k ≡ None
 below_free nodes k below = by_option (map.get nodes k) refl
   where
