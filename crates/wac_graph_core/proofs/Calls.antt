@@ -11,12 +11,13 @@ use Rattle.wac_graph_core.specs.declared.ids.PackageId.{PackageId}
 use Rattle.wac_graph_core.specs.declared.edge.Edge.{Edge}
 use Rattle.wac_graph_core.specs.declared.edge.Follow.{Follow}
 use Rattle.wac_graph_core.specs.Nodes.{NodeData, Role, plain_node}
-use Rattle.wac_graph_core.specs.NodeMaps.{NodeMap, NoImport}
+use Rattle.wac_graph_core.specs.NodeMaps.{NodeMap, NoImport, AreBelow}
 use Rattle.wac_graph_core.specs.Edges.{alias_edge, argument_edge, HasAlias, HasArgument, AreEdges, Reaches, IsReached, has, Stays}
 use Rattle.wac_graph_core.specs.Graph.{Graph, node_at, ContainsNode, package_of, IsExport, IsArgument, IsGraph}
 use Rattle.wac_graph_core.specs.Steps.{IsExternName, AddsEdge, Imports, Instantiates, Aliases, NodeFits, SetsArgument, UnsetsArgument}
 use Rattle.wac_graph_core.specs.Exporting.{IsExportName, Exports, IsTold, Unexports, Names, place_of}
 use Rattle.wac_graph_core.specs.Removing.{TakesNodes}
+use Rattle.wac_graph_core.proofs.NodeMap.{below_free}
 use Rattle.wac_graph_core.proofs.ExportSteps.{IsGraph-named, IsGraph-exported, IsGraph-unexported, place_found, place_none, one_named}
 use Rattle.wac_types_base.proofs.Looked.{among-get}
 
@@ -36,24 +37,25 @@ refuted b P d is p = differ b (d.1 p) is
     differ b p q = absurd (cc (p, q))
 
 module _ (g : Graph) where
-  pub import_step : (ns : NodeMap) (k : ℕ) (name : Name) (kind : ItemKind) (n : NodeData) → ns ≡ map.insert g.nodes k n → n ≡ plain_node (Role.Imported name) None kind → NoImport g.nodes name → IsExternName name → node_at g k ≡ None
+  pub import_step : (ns : NodeMap) (k : ℕ) (name : Name) (kind : ItemKind) (n : NodeData) → ns ≡ map.insert g.nodes k n → n ≡ plain_node (Role.Imported name) None kind → NoImport g.nodes name → IsExternName name → AreBelow g.nodes k
       → Imports g (record g { nodes = ns }) name kind k
-  import_step ns k name kind n added node none valid free =
-      record { none = none; valid = valid; free = free; made = ap (λ m. record g { nodes = m }) (added ∙ ap (map.insert g.nodes k) node) }
+  import_step ns k name kind n added node none valid above =
+      record { none = none; valid = valid; above = above; free = below_free g.nodes k above; made = ap (λ m. record g { nodes = m }) (added ∙ ap (map.insert g.nodes k) node) }
 
-  pub instance_step : (ns : NodeMap) (k : ℕ) (id : PackageId) (p : Packaged) (n : NodeData) → ns ≡ map.insert g.nodes k n → n ≡ plain_node Role.Instance (Some id) (ItemKind.Instance p.instance_type) → package_of g id ≡ Some p → node_at g k ≡ None
+  pub instance_step : (ns : NodeMap) (k : ℕ) (id : PackageId) (p : Packaged) (n : NodeData) → ns ≡ map.insert g.nodes k n → n ≡ plain_node Role.Instance (Some id) (ItemKind.Instance p.instance_type) → package_of g id ≡ Some p → AreBelow g.nodes k
       → Instantiates g (record g { nodes = ns }) id k
-  instance_step ns k id p n added node at free =
-      record { of = p; is = at; free = free; made = ap (λ m. record g { nodes = m }) (added ∙ ap (map.insert g.nodes k) node) }
+  instance_step ns k id p n added node at above =
+      record { of = p; is = at; above = above; free = below_free g.nodes k above; made = ap (λ m. record g { nodes = m }) (added ∙ ap (map.insert g.nodes k) node) }
 
   pub alias_step : (ns : NodeMap) (es : List Edge) (i k : ℕ) (n : Name) (item : ItemKind) (x : NodeData) (e : Edge) → ns ≡ map.insert g.nodes k x → x ≡ plain_node Role.Aliased None item → AddsEdge g.edges es e → e ≡ alias_edge i k n
-      → ((j : ℕ) → HasAlias g.edges i n j → ⊥) → IsExport g i n item → node_at g k ≡ None → Aliases g (record g { nodes = ns; edges = es }) i n k
-  alias_step ns es i k n item x e added node adds edge none export free =
+      → ((j : ℕ) → HasAlias g.edges i n j → ⊥) → IsExport g i n item → AreBelow g.nodes k → Aliases g (record g { nodes = ns; edges = es }) i n k
+  alias_step ns es i k n item x e added node adds edge none export above =
       inr (record {
         none = none;
         item = item;
         export = export;
-        free = free;
+        above = above;
+        free = below_free g.nodes k above;
         edges = subst (AddsEdge g.edges es) edge adds;
         made = ap (λ m. record g { nodes = m; edges = es }) (added ∙ ap (map.insert g.nodes k) node);
       })

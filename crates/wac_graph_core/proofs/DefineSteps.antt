@@ -12,7 +12,7 @@ use Rattle.wac_graph_core.specs.declared.edge.Edge.{Edge}
 use Rattle.wac_graph_core.specs.declared.edge.Label.{Label}
 use Rattle.wac_graph_core.specs.declared.edge.Follow.{Follow}
 use Rattle.wac_graph_core.specs.Nodes.{NodeData, IsResource, defined_node}
-use Rattle.wac_graph_core.specs.NodeMaps.{NodeMap, NoDefinition, IsDefinition, AreThose}
+use Rattle.wac_graph_core.specs.NodeMaps.{NodeMap, AreBelow, NoDefinition, IsDefinition, AreThose}
 use Rattle.wac_graph_core.specs.Edges.{alias_edge, argument_edge, dependency_edge, follows, has}
 use Rattle.wac_graph_core.specs.Graph.{Graph, node_at, NodeStands, EdgeStands, AreExports, IsGraph}
 use Rattle.wac_graph_core.specs.Defining.{UsesType, Depends, IsDependencyOf, DefinesType, MayDefine, IsUsedBy, IsUserOf, ItemsStand}
@@ -207,13 +207,14 @@ module _ (g : Graph) (k : ℕ) (t : TypeKind) (name : Name) (free : node_at g k 
   is_there xs d (inl at) = keeps_edges d at
   is_there xs d (inr r) = joined xs d r
 
-  pub define_step : (ns : NodeMap) (xs : List (Name × ℕ)) (own : Name) → ns ≡ m → xs ≡ g.exports ++ (name, k) ∷ [] → MayDefine g name t own → DefinesType g (record g { nodes = ns; edges = es; exports = xs }) name t k
-  define_step ns xs own nodes exports may =
+  pub define_step : (ns : NodeMap) (xs : List (Name × ℕ)) (own : Name) → AreBelow g.nodes k → ns ≡ m → xs ≡ g.exports ++ (name, k) ∷ [] → MayDefine g name t own → DefinesType g (record g { nodes = ns; edges = es; exports = xs }) name t k
+  define_step ns xs own above nodes exports may =
       subst (λ ns. DefinesType g (record g { nodes = ns; edges = es; exports = xs }) name t k) (sym nodes)
       (record {
         definable = may.definable;
         valid = may.valid;
         unexported = may.unexported;
+        above = above;
         free = free;
         edges = λ d. (is_added xs d, is_there xs d);
         made = ap (λ ys. record g { nodes = m; edges = es; exports = ys }) exports;

@@ -1,4 +1,5 @@
 pub mod NodeMap
+pub mod Listed
 pub mod Walks
 pub mod Found
 pub mod NodeSteps

@@ -1,30 +1,30 @@
 -- What is known of nodes as they come and go.
-use Rattle.std.proofs.Common.{◌≡◌, ◌≢◌, ◌+◌, ◌<◌, ◌≤◌, ◌++◌, ◌∷◌, [], take, length, get_or, true, IfNone, IsSome, ℕ, List, Option, Some, None, false, refl, sym, ap, subst, ◌∙◌, inl, inr}
-use Rattle.std.specs.Prelude.{Result, Ok, Err}
+use Rattle.std.proofs.Common.{◌≡◌, ◌≢◌, ◌+◌, ◌<◌, ◌≤◌, ◌++◌, ◌∷◌, [], take, length, get_or, set, true, IfNone, IsSome, ℕ, List, Option, Some, None, false, refl, sym, ap, subst, ◌∙◌, inl, inr}
+use Rattle.std.specs.Prelude.{Result, Ok, Err, option_map}
 use Rattle.std.specs.Result.{OnOk, is_err}
 use Rattle.std.proofs.lemmas.Bool.{cases_eq}
 use Rattle.std.proofs.lemmas.List.{take_more, take_all}
 use Rattle.std.proofs.lemmas.Option.{slice_get-get_or}
 use Rattle.std.specs.FinMap as map
-use Rattle.slab.specs.Slab.{Slab, get, with_value}
-use Rattle.slab.proofs.SlabLemmas.{Updates-with_value}
 use Rattle.wac_types_base.specs.declared.item.ItemKind.{ItemKind}
 use Rattle.wac_types_base.specs.declared.item.«Type».{«Type» as TypeKind}
 use Rattle.wac_types_base.specs.declared.ids.DefinedTypeId.{DefinedTypeId}
 use Rattle.wac_types_base.specs.Graph.{Among}
 use Rattle.wac_types_base.specs.Visiting.{defined_in}
+use Rattle.wac_types_base.proofs.GraphLemmas.{value_of}
 use Rattle.wac_types_base.proofs.Looked.{among-get}
 use Rattle.wac_types_fit.proofs.Items.{Among-last}
 use Rattle.wac_types_base.specs.Entries.{Name, has_name, put_name}
 use Rattle.wac_graph_core.specs.declared.noted.Noted.{Noted}
 use Rattle.wac_graph_core.specs.Nodes.{NodeData, Role}
 use Rattle.wac_graph_core.specs.NodeMaps.{NodeMap, NoImport, IsDefinition, NoDefinition, AreThose}
+use Rattle.wac_graph_core.specs.Slots.{nodes_in}
 use Rattle.wac_graph_core.specs.Edges.{has}
 use Rattle.wac_graph_core.specs.Defining.{DefinesMarked}
 use Rattle.wac_graph_core.specs.TypeMaps.{node_of, Maps}
 use Rattle.wac_graph_core.specs.Noted.{Notes, HasNotes, NotesImport, NotesType, IsNodeNoted, IsNodeForgotten, TellsDefinition, DefinesOwn, AddsDefinition}
 use Rattle.wac_graph_core.proofs.GraphSteps.{no_node}
-use Rattle.wac_graph_core.proofs.NodeMap.{shown, get-shown, shown_insert, get-remove_same, get-remove_other}
+use Rattle.wac_graph_core.proofs.NodeMap.{nodes_changed, get-remove_same, get-remove_other}
 use Rattle.wac_graph_core.proofs.NodeSteps.{new_at}
 use Rattle.wac_graph_core.proofs.Naming.{put_there, put_kept}
 use Rattle.wac_graph_core.proofs.TypeSets.{type_cases}
@@ -63,22 +63,16 @@ unfailed (Ok x) P h e = h
 unfailed (Err x) P h e = absurd (cc e)
 
 pub both_noted : (old new : Noted) (x : NodeData) (id : ℕ) → NotesImport old.imports x new.imports → NotesType old.types x id new.types → IsNodeNoted (Some old) x id (Some new)
-both_noted old new x id names types = record {
-  added = λ nodes known. record {
-    imports = λ j n is. elim (new_at nodes id x j is.node is.there) [
-      | inl own ↦ names.added n (ap (λ (y : NodeData). y.role) own.1 ∙ is.role)
-      | inr other ↦ names.kept n (known.imports j n (record { node = is.node; there = other.1; role = is.role }))
-    ];
-    types = λ j t is. elim (new_at nodes id x j is.node is.there) [
-      | inl own ↦ types.added t (ap (λ (y : NodeData). y.role) own.1 ∙ is.role) (ap (λ (y : NodeData). y.item_kind) own.1 ∙ is.type) ∙ ap Some (sym own.0)
-      | inr other ↦ types.kept t j (known.types j t (record { node = is.node; there = other.1; role = is.role; type = is.type }))
-    ];
-  };
-  kept = λ nodes known. record { imports = λ j n is. names.kept n (known.imports j n is); types = λ j t is. types.kept t j (known.types j t is) };
+both_noted old new x id names types = λ nodes known. record {
+  imports = λ j n is. elim (new_at nodes id x j is.node is.there) [
+    | inl own ↦ names.added n (ap (λ (y : NodeData). y.role) own.1 ∙ is.role)
+    | inr other ↦ names.kept n (known.imports j n (record { node = is.node; there = other.1; role = is.role }))
+  ];
+  types = λ j t is. elim (new_at nodes id x j is.node is.there) [
+    | inl own ↦ types.added t (ap (λ (y : NodeData). y.role) own.1 ∙ is.role) (ap (λ (y : NodeData). y.item_kind) own.1 ∙ is.type) ∙ ap Some (sym own.0)
+    | inr other ↦ types.kept t j (known.types j t (record { node = is.node; there = other.1; role = is.role; type = is.type }))
+  ];
 }
-
-pub nothing_noted : (old : Option Noted) (x : NodeData) (id : ℕ) → IsNodeNoted old x id None
-nothing_noted old x id = record { added = λ nodes known. tt; kept = λ nodes known. tt }
 
 -- ---- nodes
 
@@ -134,11 +128,13 @@ kept_set old k y n at role item j x is = elim (new_at old k n j x is) [
   | inr other ↦ (x, other.1, refl, refl)
 ]
 
--- a node is written in its place
-pub known_set : (o : Option Noted) (s : Slab NodeData) (k : ℕ) (y n : NodeData) → Some y ≡ get s k → n.role ≡ y.role → n.item_kind ≡ y.item_kind → HasNotes o (shown s) → HasNotes o (shown (with_value s k n))
-known_set o s k y n at role item known =
-    subst (HasNotes o) (sym (shown_insert s (with_value s k n) k n (Updates-with_value s k n (subst IsSome at refl))))
-    (known_kept o (shown s) (map.insert (shown s) k n) (kept_set (shown s) k y n (get-shown s k ∙ sym at) (sym role) (sym item)) known)
+-- a node is changed in its place, but not what it is
+pub known_changed : (o : Option Noted) (slots : List (Option NodeData)) (nodes : NodeMap) (i k : ℕ) (old new : Option NodeData) (F : NodeData → NodeData) → ((x : NodeData) → x.role ≡ (F x).role) → ((x : NodeData) → x.item_kind ≡ (F x).item_kind)
+    → nodes_in slots ≡ nodes → i ≡ k → IsSome (map.get nodes k) → old ≡ get_or slots i old → new ≡ option_map F old → HasNotes o (nodes_in slots) → HasNotes o (nodes_in (set slots i new))
+known_changed o slots nodes i k old new F role item sees index there read is known =
+    let x = value_of (map.get nodes k) there in
+    subst (HasNotes o) (sym (nodes_changed slots nodes i k sees index there old new F read is x.0 x.1))
+    (known_kept o nodes (map.insert nodes k (F x.0)) (kept_set nodes k x.0 (F x.0) x.1 (role x.0) (item x.0)) (subst (HasNotes o) sees known))
 
 -- ---- what is noted
 

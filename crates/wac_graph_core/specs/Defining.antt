@@ -12,7 +12,7 @@ use Rattle.wac_types_base.specs.Visiting.{defined_in}
 use Rattle.wac_graph_core.specs.declared.edge.Edge.{Edge}
 use Rattle.wac_graph_core.specs.declared.errors.DefineTypeError.{DefineTypeError}
 use Rattle.wac_graph_core.specs.Nodes.{NodeData, Role, IsResource, defined_node}
-use Rattle.wac_graph_core.specs.NodeMaps.{NodeMap, IsDefinition, NoDefinition}
+use Rattle.wac_graph_core.specs.NodeMaps.{NodeMap, AreBelow, IsDefinition, NoDefinition}
 use Rattle.wac_graph_core.specs.Edges.{AreEdges, dependency_edge}
 use Rattle.wac_graph_core.specs.Graph.{Graph, node_at}
 use Rattle.wac_graph_core.specs.Steps.{IsExternName}
@@ -50,6 +50,7 @@ pub record DefinesType (old new : Graph) (n : Name) (t : TypeKind) (k : ℕ) : T
   pub definable : IsDefinable old t
   pub valid : IsExternName n
   pub unexported : value_at old.exports n ≡ None
+  pub above : AreBelow old.nodes k
   pub free : node_at old k ≡ None
   pub edges : AreEdges new.edges (λ d. Among d old.edges ⊎ IsDependencyOf new k d)
   pub made : new ≡ record old { nodes = map.insert old.nodes k (defined_node t n); edges = new.edges; exports = old.exports ++ (n, k) ∷ [] }

@@ -1,6 +1,7 @@
 pub mod Nodes
 pub mod NodeView
 pub mod NodeMaps
+pub mod Slots
 pub mod Edges
 pub mod Walking
 pub mod Graph

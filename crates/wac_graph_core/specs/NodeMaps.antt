@@ -1,5 +1,5 @@
 -- Nodes under their indexes.
-use Rattle.std.specs.Prelude.{◌≡◌, ◌↔◌, ◌⊎◌, ℕ, List, [], ◌∷◌, ◌++◌, true, Some}
+use Rattle.std.specs.Prelude.{◌≡◌, ◌↔◌, ◌⊎◌, ◌<◌, ℕ, List, [], ◌∷◌, ◌++◌, true, Some, IsSome}
 use Rattle.std.specs.Ordering.{nat_cmp}
 use Rattle.std.specs.FinMap as map
 use Rattle.wac_types_base.specs.declared.item.ItemKind.{ItemKind}
@@ -10,6 +10,10 @@ use Rattle.wac_graph_core.specs.Edges.{has}
 
 abbrev pub NodeMap : Type 0
 NodeMap = map.FinMap nat_cmp NodeData
+
+-- the index is above those of all nodes
+abbrev pub AreBelow : NodeMap → ℕ → Type 0
+AreBelow nodes k = (j : ℕ) → IsSome (map.get nodes j) → j < k
 
 -- the node is an import of this name
 pub record IsImport (nodes : NodeMap) (k : ℕ) (n : Name) : Type 0 where

@@ -38,10 +38,9 @@ pub record NotesType (old : List (TypeKind × ℕ)) (x : NodeData) (id : ℕ) (n
   pub kept : (t : TypeKind) (k : ℕ) → node_of old t ≡ Some k → node_of new t ≡ Some k
   pub added : (t : TypeKind) → x.role ≡ Role.Defined → x.item_kind ≡ ItemKind.Ty t → node_of new t ≡ Some id
 
--- what is known of nodes is known of them with one more, and of them alone
-pub record IsNodeNoted (old : Option Noted) (x : NodeData) (id : ℕ) (new : Option Noted) : Type 0 where
-  pub added : (nodes : NodeMap) → HasNotes old nodes → HasNotes new (map.insert nodes id x)
-  pub kept : (nodes : NodeMap) → HasNotes old nodes → HasNotes new nodes
+-- what is known of nodes is known of them with one more
+abbrev pub IsNodeNoted : Option Noted → NodeData → ℕ → Option Noted → Type 0
+IsNodeNoted old x id new = (nodes : NodeMap) → HasNotes old nodes → HasNotes new (map.insert nodes id x)
 
 -- what is known of nodes is known of them with one less
 abbrev pub IsNodeForgotten : Option Noted → NodeData → Option Noted → Type 0

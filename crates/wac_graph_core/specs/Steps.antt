@@ -1,5 +1,5 @@
 -- What each call does to a graph. Edges are read as a set.
-use Rattle.std.specs.Prelude.{◌≡◌, ◌≢◌, ◌⊎◌, ◌↔◌, ◌<◌, ℕ, List, [], ◌∷◌, Some, None}
+use Rattle.std.specs.Prelude.{◌≡◌, ◌≢◌, ◌⊎◌, ℕ, List, [], ◌∷◌, Some, None}
 use Rattle.std.specs.FinMap as map
 use Rattle.wac_types_base.specs.declared.item.ItemKind.{ItemKind}
 use Rattle.wac_types_base.specs.Entries.{Name}
@@ -14,9 +14,9 @@ use Rattle.wac_graph_core.specs.declared.ids.PackageId.{PackageId}
 use Rattle.wac_graph_core.specs.declared.edge.Edge.{Edge}
 use Rattle.wac_graph_core.specs.declared.edge.Follow.{Follow}
 use Rattle.wac_graph_core.specs.Nodes.{NodeData, Role, plain_node}
-use Rattle.wac_graph_core.specs.NodeMaps.{NoImport}
+use Rattle.wac_graph_core.specs.NodeMaps.{NoImport, AreBelow}
 use Rattle.wac_graph_core.specs.Edges.{AreEdges, HasAlias, HasArgument, alias_edge, argument_edge, Reaches}
-use Rattle.wac_graph_core.specs.Graph.{Graph, node_at, ContainsNode, package_of, IsExport, IsArgument, passed}
+use Rattle.wac_graph_core.specs.Graph.{Graph, node_at, package_of, IsExport, IsArgument, passed}
 
 -- the text is the name of an import or an export
 abbrev pub IsExternName : Name → Type 0
@@ -34,14 +34,11 @@ AddsEdge old new e = AreEdges new (λ d. Among d old ⊎ (d ≡ e))
 
 -- ---- nodes
 
--- the indexes below the number have nodes, and no others
-abbrev pub AreFirst : Graph → ℕ → Type 0
-AreFirst g m = (k : ℕ) → ContainsNode g k ↔ (k < m)
-
 -- an import of this name
 pub record Imports (old new : Graph) (n : Name) (kind : ItemKind) (k : ℕ) : Type 0 where
   pub none : NoImport old.nodes n
   pub valid : IsExternName n
+  pub above : AreBelow old.nodes k
   pub free : node_at old k ≡ None
   pub made : new ≡ with_node old k (plain_node (Role.Imported n) None kind)
 
@@ -49,6 +46,7 @@ pub record Imports (old new : Graph) (n : Name) (kind : ItemKind) (k : ℕ) : Ty
 pub record Instantiates (old new : Graph) (id : PackageId) (k : ℕ) : Type 0 where
   pub of : Packaged
   pub is : package_of old id ≡ Some of
+  pub above : AreBelow old.nodes k
   pub free : node_at old k ≡ None
   pub made : new ≡ with_node old k (plain_node Role.Instance (Some id) (ItemKind.Instance of.instance_type))
 
@@ -62,6 +60,7 @@ pub record AliasesAnew (old new : Graph) (i : ℕ) (n : Name) (k : ℕ) : Type 0
   pub none : (j : ℕ) → HasAlias old.edges i n j → ⊥
   pub item : ItemKind
   pub export : IsExport old i n item
+  pub above : AreBelow old.nodes k
   pub free : node_at old k ≡ None
   pub edges : AddsEdge old.edges new.edges (alias_edge i k n)
   pub made : new ≡ with_edges (with_node old k (plain_node Role.Aliased None item)) new.edges

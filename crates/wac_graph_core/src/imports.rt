@@ -9,8 +9,7 @@ ghost use Rattle.wac_graph_core.specs.Imports.{unbound_imports, imports_of};
 use crate::edge::{Edge, argument_found, edges_to};
 use crate::graph::CompositionGraph;
 use crate::ids::{NodeId, PackageId};
-use crate::node::Node;
-use slab::Iter;
+use crate::slots::SlotIter;
 use std::marker::Model;
 use wac_types_base::ItemKind;
 use wac_types_names::Package;
@@ -18,7 +17,7 @@ use wac_types_names::Package;
 /// The explicit imports among nodes, seen as the list of those that are left.
 #[derive(Drop)]
 struct ExplicitIter<'a> {
-    entries: Iter<'a, Node>,
+    entries: SlotIter<'a>,
 }
 
 impl<'a> Model for ExplicitIter<'a> {
@@ -40,9 +39,9 @@ impl<'a> Iterator for ExplicitIter<'a> {
     ghost remaining = { item_count (λ rest. rest) };
 
     fn next(&mut self) -> Option<(&'a str, ItemKind, Option<NodeId>)> {
-        while let Some((key, node)) = self.entries.next() {
+        while let Some((id, node)) = self.entries.next() {
             if let Some(name) = node.import_name() {
-                return Some((name, node.item_kind(), Some(NodeId::new(key))));
+                return Some((name, node.item_kind(), Some(id)));
             }
         }
         None
@@ -112,7 +111,7 @@ impl<'a> Iterator for UnboundIter<'a> {
 struct FilledIter<'a> {
     graph: &'a CompositionGraph,
     unbound: UnboundIter<'a>,
-    entries: Iter<'a, Node>,
+    entries: SlotIter<'a>,
 }
 
 impl<'a> Model for FilledIter<'a> {
@@ -137,8 +136,8 @@ impl<'a> Iterator for FilledIter<'a> {
         if let Some(import) = self.unbound.next() {
             return Some(import);
         }
-        while let Some((key, node)) = self.entries.next() {
-            self.unbound = self.graph.unbound_imports(NodeId::new(key), node.package());
+        while let Some((id, node)) = self.entries.next() {
+            self.unbound = self.graph.unbound_imports(id, node.package());
             if let Some(import) = self.unbound.next() {
                 return Some(import);
             }

@@ -11,14 +11,14 @@ use crate::graph::CompositionGraph;
 use crate::ids::NodeId;
 use crate::node::Node;
 use crate::package::Place;
-use slab::Iter;
+use crate::slots::SlotIter;
 use std::marker::Model;
 use wac_types_names::Package;
 
 /// The nodes, by rising index, seen as the list of those that are left.
 #[derive(Drop)]
 pub struct NodeIter<'a> {
-    entries: Iter<'a, Node>,
+    entries: SlotIter<'a>,
 }
 
 impl<'a> Model for NodeIter<'a> {
@@ -48,7 +48,7 @@ impl<'a> Iterator for NodeIter<'a> {
 /// The ids of the nodes, by rising index, seen as the list of those that are left.
 #[derive(Drop)]
 pub struct NodeIdIter<'a> {
-    entries: Iter<'a, Node>,
+    entries: SlotIter<'a>,
 }
 
 impl<'a> Model for NodeIdIter<'a> {
@@ -68,7 +68,7 @@ impl<'a> Iterator for NodeIdIter<'a> {
 
     fn next(&mut self) -> Option<NodeId> {
         match self.entries.next() {
-            Some((key, _)) => Some(NodeId::new(key)),
+            Some((id, _)) => Some(id),
             None => None,
         }
     }

@@ -1,13 +1,16 @@
 //! Laws over the definitions alone: each is the contract of a function without a body.
 
-ghost use Rattle.std.specs.Prelude.{◌≡◌, ◌<◌, ℕ, List, None};
+ghost use Rattle.std.specs.Prelude.{◌≡◌, ◌++◌, ◌∷◌, [], ℕ, List};
+ghost use Rattle.std.specs.FinMap as map;
 ghost use Rattle.wac_types_base.specs.declared.item.ItemKind.{ItemKind};
 ghost use Rattle.wac_types_base.specs.Entries.{Name};
 ghost use Rattle.wac_types_base.specs.Graph.{Among};
 ghost use Rattle.wac_graph_core.specs.declared.ids.PackageId.{PackageId as PackageName};
+ghost use Rattle.wac_graph_core.specs.Nodes.{NodeData};
+ghost use Rattle.wac_graph_core.specs.NodeMaps.{AreBelow};
 ghost use Rattle.wac_graph_core.specs.Edges.{AreEdges};
-ghost use Rattle.wac_graph_core.specs.Graph.{Graph, IsGraph, node_at, ContainsNode, ContainsPackage};
-ghost use Rattle.wac_graph_core.specs.Steps.{AreFirst, Aliases, AddsArgument, UnsetsArgument, with_edges};
+ghost use Rattle.wac_graph_core.specs.Graph.{Graph, IsGraph, ContainsPackage};
+ghost use Rattle.wac_graph_core.specs.Steps.{Aliases, AddsArgument, UnsetsArgument, with_node, with_edges};
 ghost use Rattle.wac_graph_core.specs.Packages.{PlacesGrow, IsStale};
 
 /// An alias made twice is one node.
@@ -25,7 +28,7 @@ pub fn stale_ids_stay_stale()
     ensures { (g h : Graph) (id : PackageName) → PlacesGrow g.places h.places → IsStale g id → IsStale h id × (ContainsPackage h id → ⊥) }
 {}
 
-/// Where the indexes below a number have nodes and no others, the id of a new node is above all of them.
-pub fn new_ids_are_above()
-    ensures { (g : Graph) (m j k : ℕ) → AreFirst g m → ContainsNode g j → node_at g k ≡ None → j < k }
+/// A node whose id is above all others is listed behind them.
+pub fn new_nodes_are_last()
+    ensures { (g : Graph) (k : ℕ) (x : NodeData) → AreBelow g.nodes k → map.entries (with_node g k x).nodes ≡ map.entries g.nodes ++ (k, x) ∷ [] }
 {}

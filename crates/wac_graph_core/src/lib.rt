@@ -22,6 +22,7 @@ mod package;
 mod reach;
 mod registry;
 mod remove;
+mod slots;
 mod spans;
 mod type_map;
 mod type_set;

@@ -4,12 +4,11 @@ ghost use Rattle.std.specs.Prelude.{◌≡◌, ◌≢◌, None, Some, IfOk, OnOk
 ghost use Rattle.std.specs.Option.{option_copied};
 ghost use Rattle.std.specs.Ordering.{nat_cmp};
 ghost use Rattle.std.specs.FinMap as map;
-ghost use Rattle.slab.specs.Slab.{entries};
 ghost use Rattle.std.specs.Bool.{Decides};
 ghost use Rattle.wac_types_base.specs.Collection.{Stands};
 ghost use Rattle.wac_graph_core.specs.Edges.{has};
 ghost use Rattle.wac_graph_core.specs.Nodes.{NodeData, Role};
-ghost use Rattle.wac_graph_core.specs.NodeMaps.{IsImport, NoImport, IsDefinition, NoDefinition, AreThose, AreInstances, AddsIf};
+ghost use Rattle.wac_graph_core.specs.NodeMaps.{AreBelow, IsImport, NoImport, IsDefinition, NoDefinition, AreThose, AreInstances, AddsIf};
 ghost use Rattle.wac_graph_core.specs.Defining.{IsUsedBy, IsUserOf, ItemsStand, DefinesMarked, DefinesReaching};
 ghost use Rattle.wac_graph_core.specs.Noted.{KnowsTypes, TellsDefinition, AddsDefinition};
 ghost use Rattle.wac_graph_core.specs.Reaching.{IsWithout};
@@ -18,18 +17,18 @@ use crate::ids::{NodeId, PackageId};
 use crate::node::Node;
 use crate::noted::{Noted, defined_type, none_noted, with_node, without_node};
 use crate::reach::{defined_of, is_marked, mark_reached, reaches};
+use crate::slots::{SlotIter, export_at, name_at, take_at};
 use crate::type_map::TypeMap;
 use crate::type_set::TypeSet;
-use slab::{Iter, Slab};
 use std::alloc::{AllocError, Global};
 use std::marker::Model;
 use wac_types_base::replace::is_same;
 use wac_types_base::{DefinedTypeId, ItemKind, Text, Type, Types};
 
-/// Nodes under indexes that it picks.
+/// Nodes under indexes that it picks. They rise: a new node is put behind all others, and a slot that was emptied stays so.
 #[derive(Drop)]
 pub struct Nodes {
-    slab: Slab<Node>,
+    slots: Vec<Option<Node>>,
     /// None where memory was wanting: then each node is looked at.
     noted: Option<Noted>,
 }
@@ -37,7 +36,7 @@ pub struct Nodes {
 impl Model for Nodes {
     ghost use Rattle.std.specs.Ordering.{nat_cmp};
     ghost use Rattle.std.specs.FinMap as map;
-    ghost use Rattle.slab.specs.Slab.{entries};
+    ghost use Rattle.wac_graph_core.specs.Slots.{nodes_in};
     ghost use Rattle.wac_graph_core.specs.Nodes.{NodeData};
 
     ghost Value = { map.FinMap nat_cmp NodeData };
@@ -47,7 +46,7 @@ impl Model for Nodes {
 
     ghost coded = { map.code coded_ℕ node.the_row.coded };
 
-    ghost view = { λ s. map.from_entries (entries s.slab) };
+    ghost view = { λ s. nodes_in s.slots.items };
 
     ghost use Rattle.wac_graph_core.specs.NotedView.{AreNoted};
 
@@ -60,7 +59,7 @@ impl Nodes {
         ensures { result ≡ map.empty }
     {
         Nodes {
-            slab: Slab::new(alloc),
+            slots: Vec::new(alloc),
             noted: Some(none_noted(alloc)),
         }
     }
@@ -69,20 +68,25 @@ impl Nodes {
     pub(crate) fn get(&self, id: NodeId) -> Option<&Node>
         ensures { option_copied result ≡ map.get self.now id }
     {
-        self.slab.get(id.index())
+        match self.slots.get(id.index()) {
+            Some(slot) => slot.as_ref(),
+            None => None,
+        }
     }
 
-    /// Adds a node under an index that is free.
+    /// Adds a node under an index above those of all others.
     pub(crate) fn insert(&mut self, node: Node) -> Result<NodeId, AllocError>
+        ensures above { IfOk result (λ id. AreBelow self.old id) }
         ensures free { IfOk result (λ id. map.get self.old id ≡ None) }
         ensures added { IfOk result (λ id. self.new ≡ map.insert self.old id node) }
         ensures err { OnErr result (self.new ≡ self.old) }
     {
-        let next = NodeId::new(self.slab.vacant_key());
+        self.slots.reserve(1)?;
+        let id = NodeId::new(self.slots.len());
         let noted = self.noted.take();
-        self.noted = with_node(noted, &node, next);
-        let key = self.slab.insert(node)?;
-        Ok(NodeId::new(key))
+        self.noted = with_node(noted, &node, id);
+        self.slots.push_reserved(Some(node));
+        Ok(id)
     }
 
     /// Takes the node of an index away.
@@ -90,7 +94,7 @@ impl Nodes {
         ensures value { result ≡ map.get self.old id }
         ensures removed { self.new ≡ map.remove self.old id }
     {
-        let node = self.slab.try_remove(id.index())?;
+        let node = take_at(&mut self.slots, id.index())?;
         let noted = self.noted.take();
         self.noted = without_node(noted, &node);
         Some(node)
@@ -101,10 +105,7 @@ impl Nodes {
         requires { IsSome (map.get self.old id) }
         ensures { (n : NodeData) → map.get self.old id ≡ Some n → self.new ≡ map.insert self.old id (record n { name = Some name }) }
     {
-        match self.slab.get_mut(id.index()) {
-            Some(node) => node.set_name(name),
-            None => unreachable!(),
-        }
+        name_at(&mut self.slots[id.index()], name);
     }
 
     /// Writes the name that a node is exported under.
@@ -112,10 +113,7 @@ impl Nodes {
         requires { IsSome (map.get self.old id) }
         ensures { (n : NodeData) → map.get self.old id ≡ Some n → self.new ≡ map.insert self.old id (record n { export = name }) }
     {
-        match self.slab.get_mut(id.index()) {
-            Some(node) => node.set_export(name),
-            None => unreachable!(),
-        }
+        export_at(&mut self.slots[id.index()], name);
     }
 
     /// Takes the nodes of these indexes away.
@@ -145,9 +143,9 @@ impl Nodes {
         if self.lacks_import(name) {
             return None;
         }
-        for (key, node) in self.slab.iter() {
+        for (id, node) in self.entries() {
             if is_import(node, name) {
-                return Some(NodeId::new(key));
+                return Some(id);
             }
         }
         None
@@ -158,8 +156,8 @@ impl Nodes {
         ensures { IfOk result (λ v. AreInstances self.now of v.items) }
     {
         let mut found = Vec::new(alloc);
-        for (key, node) in self.slab.iter() {
-            gather(&mut found, node, NodeId::new(key), of)?;
+        for (id, node) in self.entries() {
+            gather(&mut found, node, id, of)?;
         }
         Ok(found)
     }
@@ -204,8 +202,8 @@ impl Nodes {
         ensures { IfOk result (λ v. AreThose self.now (DefinesMarked marks.now) v.items) }
     {
         let mut found = Vec::new(alloc);
-        for (key, node) in self.slab.iter() {
-            gather_marked(&mut found, node, NodeId::new(key), marks)?;
+        for (id, node) in self.entries() {
+            gather_marked(&mut found, node, id, marks)?;
         }
         Ok(found)
     }
@@ -247,15 +245,8 @@ impl Nodes {
     {
         let mut without = TypeSet::new(alloc);
         let mut found = Vec::new(alloc);
-        for (key, node) in self.slab.iter() {
-            gather_reaching(
-                &mut found,
-                node,
-                NodeId::new(key),
-                types,
-                wanted,
-                &mut without,
-            )?;
+        for (id, node) in self.entries() {
+            gather_reaching(&mut found, node, id, types, wanted, &mut without)?;
         }
         Ok(found)
     }
@@ -276,11 +267,11 @@ impl Nodes {
         }
     }
 
-    /// The indexes with their nodes, by rising index.
-    pub(crate) fn entries(&self) -> Iter<'_, Node>
+    /// The ids with their nodes, by rising index.
+    pub(crate) fn entries(&self) -> SlotIter<'_>
         ensures { result ≡ map.entries self.now }
     {
-        self.slab.iter()
+        SlotIter::new(self.slots.as_slice())
     }
 
     /// The definition of a type, found by the type.
@@ -307,9 +298,9 @@ impl Nodes {
         ensures found { IfSome result (λ k. IsDefinition self.now k (ItemKind.Ty ty)) }
         ensures none { IfNone result (NoDefinition self.now (ItemKind.Ty ty)) }
     {
-        for (key, node) in self.slab.iter() {
+        for (id, node) in self.entries() {
             if is_definition(node, ItemKind::Ty(ty)) {
-                return Some(NodeId::new(key));
+                return Some(id);
             }
         }
         None

@@ -33,4 +33,4 @@ returns-clause-aliased c =
     (ap (alias_edge c.args.instance c.in_ok-id.id) (c.new-name.ensures ∙ c.in_ok-from_str.ensures.ok))
     c.in_default.ensures.none
     (subst (λ g. IsExport g c.args.instance c.args.export.now c.in_ok-item.item) (sym c.self.view_is) c.in_ok-item.ensures.found)
-    c.in_ok-id.ensures.free)
+    c.in_ok-id.ensures.above)

@@ -50,4 +50,4 @@ returns-clause-defined c =
     let may = subst (λ g. MayDefine g c.args.name.now c.args.ty (string_bytes c.in-Ok.own)) (sym c.self.view_is) c.in-Ok.ensures.found in
     subst (λ g. DefinesType g (record (graph c.self.inside) { nodes = c.insert.new.self; edges = c.depended_by.new.edges.items; exports = c.push_reserved.new.self.items }) c.args.name.now c.args.ty k) c.self.view_is
     (define_step (graph c.self.inside) k c.args.ty c.args.name.now c.in_ok-id.ensures.free c.in_ok-sources.sources.items c.in_ok-targets.targets.items used users c.depend_on.new.edges.items c.depended_by.new.edges.items first second
-    c.insert.new.self c.push_reserved.new.self.items (string_bytes c.in-Ok.own) nodes exports may)
+    c.insert.new.self c.push_reserved.new.self.items (string_bytes c.in-Ok.own) c.in_ok-id.ensures.above nodes exports may)

@@ -23,7 +23,7 @@ returns-clause-imported c =
     subst (λ g. Imports g (record (graph c.self.inside) { nodes = c.insert.new.self }) c.args.name.now c.args.kind c.in_ok-id.id) c.self.view_is
     (import_step (graph c.self.inside) c.insert.new.self c.in_ok-id.id c.args.name.now c.args.kind c.new-node.result c.in_ok-id.ensures.added
     (c.new-node.ensures ∙ ap (λ n. plain_node (Role.Imported n) None c.args.kind) c.in_ok-own.ensures.ok)
-    c.in_default.ensures.none (c.in_ok-valid.ensures.0 c.if-not-valid.false) c.in_ok-id.ensures.free)
+    c.in_default.ensures.none (c.in_ok-valid.ensures.0 c.if-not-valid.false) c.in_ok-id.ensures.above)
 
 pub returns-then-not-valid-clause-refused : goal.returns-then-not-valid-clause-refused
 returns-then-not-valid-clause-refused c =

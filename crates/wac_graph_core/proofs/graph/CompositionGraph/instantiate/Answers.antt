@@ -22,4 +22,4 @@ returns-clause-instantiated c =
     subst (λ g. Instantiates g (record (graph c.self.inside) { nodes = c.insert.new.self }) c.args.«package» c.in_ok-id.id) c.self.view_is
     (instance_step (graph c.self.inside) c.insert.new.self c.in_ok-id.id c.args.«package» c.«package».result.now c.new-node.result c.in_ok-id.ensures.added
     (c.new-node.ensures ∙ ap (λ i. plain_node Role.Instance (Some c.args.«package») (ItemKind.Instance i)) c.instance_type-instance.ensures)
-    (ap (λ g. package_of g c.args.«package») c.self.view_is ∙ c.«package».ensures) c.in_ok-id.ensures.free)
+    (ap (λ g. package_of g c.args.«package») c.self.view_is ∙ c.«package».ensures) c.in_ok-id.ensures.above)

@@ -1,39 +1,25 @@
-use Rattle.std.proofs.Common.{arith, ap, inl, inr, sym, ◌∙◌, refl}
-use Rattle.std.specs.FinMap as map
-use Rattle.slab.proofs.SlabLemmas.{Contains-cons, Contains-cons_cases, Contains-entries}
-use Rattle.wac_graph_core.proofs.NodeMap.{get-shown}
+use Rattle.std.proofs.Common.{◌≡◌, [], refl, inr, ◌∙◌}
+use Rattle.wac_graph_core.specs.Nodes.{Role}
+use Rattle.wac_graph_core.proofs.Gathering.{gathering_first, gathering_next, gathering_at, gathering_none}
 use Rattle.wac_graph_core.proofs.nodes.Nodes.find_import.Goals as goal
 
-pub loop-key-init : goal.loop-key-init
-loop-key-init c =
-    let left = c.into_iter-key-iterator.ensures.into_iter_gives ∙ c.iter-key-items.ensures.rest in (
-      tt,
-      tt,
-      λ key x found named. rw left ((Contains-entries c.self.inside.slab key x).1 (sym (get-shown c.self.inside.slab key) ∙ ap (λ m. map.get m key) c.self.view_is ∙ found)),
-      λ key x there. ap (λ m. map.get m key) (sym c.self.view_is) ∙ get-shown c.self.inside.slab key ∙ (Contains-entries c.self.inside.slab key x).0 (rw left at there),
-    )
+pub loop-id-init : goal.loop-id-init
+loop-id-init c = (tt, tt, gathering_first c.args.self.now _ [] _ refl (c.into_iter-id-iterator.ensures.into_iter_gives ∙ c.entries-id-items.ensures))
 
 pub returns-then-is_import-clause-found : goal.returns-then-is_import-clause-found
-returns-then-is_import-clause-found c =
-    let at = c.in-Some.ensures.steps in
-    let first = c.loop-key.invariant.3 c.in-Some.key c.in-Some.node.now (rw at (0, omega arith, refl)) in
-    record {
-      node = c.in-Some.node.now;
-      there = ap (map.get c.args.self.now) c.new.ensures ∙ first;
-      role = c.is_import.ensures.0 c.if-is_import.true;
-    }
+returns-then-is_import-clause-found c = record {
+  node = c.in-Some.node.now;
+  there = gathering_at c.args.self.now _ [] c.in-Some.id c.in-Some.node.now _ _ c.in-Some.ensures.steps c.loop-id.invariant.2;
+  role = c.is_import.ensures.0 c.if-is_import.true;
+}
 
-pub loop-key-preserved : goal.loop-key-preserved
-loop-key-preserved c =
-    let at = c.in-Some.ensures.steps in (
-      tt,
-      tt,
-      λ key x found named. elim (Contains-cons_cases _ _ _ (rw at at (c.loop-key.invariant.2 key x found named))) [
-        | inl same ↦ absurd (cc (c.is_import.ensures.1 (ap (λ e. e.1.role) same ∙ named), c.if-is_import.false))
-        | inr rest ↦ rest
-      ],
-      λ key x there. c.loop-key.invariant.3 key x (rw at (Contains-cons _ _ _ there)),
-    )
+pub loop-id-preserved : goal.loop-id-preserved
+loop-id-preserved c =
+    let other : c.in-Some.node.now.role ≡ Role.Imported c.args.name.now → ⊥ = λ named. absurd (cc (c.is_import.ensures.1 named, c.if-is_import.false)) in
+    (tt, tt, gathering_next c.args.self.now _ [] [] c.in-Some.id c.in-Some.node.now _ _ c.in-Some.ensures.steps (inr (other, refl)) c.loop-id.invariant.2)
+
+pub returns-clause-none : goal.returns-clause-none
+returns-clause-none c = λ k is. gathering_none c.args.self.now _ _ c.in-None.ensures.steps.0 c.loop-id.invariant.2 k is.node is.there is.role
 
 pub returns-then-lacks_import-clause-none : goal.returns-then-lacks_import-clause-none
 returns-then-lacks_import-clause-none c = c.lacks_import.ensures c.if-lacks_import.true

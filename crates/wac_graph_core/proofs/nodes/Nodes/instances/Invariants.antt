@@ -1,14 +1,10 @@
-use Rattle.std.proofs.Common.{◌≡◌, ◌⊎◌, ℕ, Some, true, Contains}
-use Rattle.std.specs.FinMap as map
-use Rattle.wac_graph_core.specs.Nodes.{NodeData}
-use Rattle.wac_graph_core.specs.Edges.{has}
+use Rattle.std.proofs.Common.{◌≡◌, Some}
+use Rattle.wac_graph_core.proofs.Gathering.{IsGathering}
 use Rattle.wac_graph_core.proofs.nodes.Nodes.instances.Given as goal
 
--- each instance is in the list, or among the entries that are left; each entry left is one of the map; the list has instances alone
-abbrev pub invariant-loop-key : goal.invariant-loop-key
-invariant-loop-key l =
-    (goal.iterator-loop-key).can_next l.key-iterator ×
-    (goal.iterator-loop-key).is_finite l.key-iterator ×
-    ((key : ℕ) (x : NodeData) → map.get l.self key ≡ Some x → x.of ≡ Some l.of → (has l.found.items key ≡ true) ⊎ Contains l.key-iterator (key, x)) ×
-    ((key : ℕ) (x : NodeData) → Contains l.key-iterator (key, x) → map.get l.self key ≡ Some x) ×
-    ((key : ℕ) → has l.found.items key ≡ true → (x : NodeData) × (map.get l.self key ≡ Some x) × (x.of ≡ Some l.of))
+-- the instances among the nodes so far are gathered
+abbrev pub invariant-loop-id : goal.invariant-loop-id
+invariant-loop-id l =
+    (goal.iterator-loop-id).can_next l.id-iterator
+    × (goal.iterator-loop-id).is_finite l.id-iterator
+    × IsGathering l.self (λ x. x.of ≡ Some l.of) l.found.items l.id-iterator

@@ -1,13 +1,12 @@
-use Rattle.std.proofs.Common.{◌≡◌, ℕ, Some, Contains}
-use Rattle.wac_graph_core.specs.Nodes.{NodeData, Role}
-use Rattle.std.specs.FinMap as map
+use Rattle.std.proofs.Common.{◌≡◌, []}
 use Rattle.wac_types_base.specs.declared.item.ItemKind.{ItemKind}
+use Rattle.wac_graph_core.specs.Nodes.{Role}
+use Rattle.wac_graph_core.proofs.Gathering.{IsGathering}
 use Rattle.wac_graph_core.proofs.nodes.Nodes.search_definition.Given as goal
 
--- each definition of the type is among the entries that are left, and each entry left is one of the map
-abbrev pub invariant-loop-key : goal.invariant-loop-key
-invariant-loop-key l =
-    (goal.iterator-loop-key).can_next l.key-iterator ×
-    (goal.iterator-loop-key).is_finite l.key-iterator ×
-    ((key : ℕ) (x : NodeData) → map.get l.self key ≡ Some x → (x.role ≡ Role.Defined) × (x.item_kind ≡ ItemKind.Ty l.ty) → Contains l.key-iterator (key, x)) ×
-    ((key : ℕ) (x : NodeData) → Contains l.key-iterator (key, x) → map.get l.self key ≡ Some x)
+-- no definition of the type was among the nodes so far
+abbrev pub invariant-loop-id : goal.invariant-loop-id
+invariant-loop-id l =
+    (goal.iterator-loop-id).can_next l.id-iterator
+    × (goal.iterator-loop-id).is_finite l.id-iterator
+    × IsGathering l.self (λ x. (x.role ≡ Role.Defined) × (x.item_kind ≡ ItemKind.Ty l.ty)) [] l.id-iterator

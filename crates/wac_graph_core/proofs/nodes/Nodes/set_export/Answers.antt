@@ -1,21 +1,19 @@
-use Rattle.std.proofs.Common.{ap, sym, ◌∙◌}
-use Rattle.std.specs.FinMap as map
-use Rattle.slab.specs.Slab.{get}
+use Rattle.std.proofs.Common.{◌<◌, refl, sym, subst}
 use Rattle.wac_graph_core.specs.Nodes.{NodeData}
-use Rattle.wac_graph_core.proofs.NodeMap.{get-shown, shown_set, nothing_there}
-use Rattle.wac_graph_core.proofs.Noting.{known_set}
+use Rattle.wac_graph_core.proofs.NodeMap.{index_within, nodes_changed}
+use Rattle.wac_graph_core.proofs.Noting.{known_changed}
 use Rattle.wac_graph_core.proofs.nodes.Nodes.set_export.Goals as goal
 
-pub returns : goal.returns
-returns c = λ n at.
-    shown_set c.self.inside.slab c.args.self.now c.args.id c.index.result c.in-Some.node.now n c.set_export.new.self (λ (x : NodeData). record x { export = c.args.name }) c.set_export.ensures c.self.view_is c.index.ensures c.in-Some.ensures.value at
+pub index_mut-requires : goal.index_mut-requires
+index_mut-requires c =
+    subst (λ n. c.index.result < n) (sym c.self.inside.slots.ok.0) (index_within c.self.inside.slots.items c.args.self.now c.index.result c.args.id c.self.view_is c.index.ensures c.requires)
 
-pub unreachable-requires : goal.unreachable-requires
-unreachable-requires c =
-    let none = c.in-None.ensures.value ∙ ap (get c.self.inside.slab) c.index.ensures ∙ sym (get-shown c.self.inside.slab c.args.id) ∙ ap (λ m. map.get m c.args.id) c.self.view_is in
-    nothing_there (map.get c.args.self.now c.args.id) none c.requires
+pub returns : goal.returns
+returns c =
+    nodes_changed c.self.inside.slots.items c.args.self.now c.index.result c.args.id c.self.view_is c.index.ensures c.requires
+    c.index_mut.result.now c.export_at.new.slot (λ (x : NodeData). record x { export = c.args.name }) c.index_mut.ensures.value c.export_at.ensures
 
 pub invariant_of-self : goal.invariant_of-self
 invariant_of-self c =
-    known_set c.self.inside.noted c.self.inside.slab c.index.result c.in-Some.node.now c.set_export.new.self c.in-Some.ensures.value
-    (ap (λ (x : NodeData). x.role) c.set_export.ensures) (ap (λ (x : NodeData). x.item_kind) c.set_export.ensures) c.self.invariant
+    known_changed c.self.inside.noted c.self.inside.slots.items c.args.self.now c.index.result c.args.id c.index_mut.result.now c.export_at.new.slot (λ (x : NodeData). record x { export = c.args.name })
+    (λ x. refl) (λ x. refl) c.self.view_is c.index.ensures c.requires c.index_mut.ensures.value c.export_at.ensures c.self.invariant
