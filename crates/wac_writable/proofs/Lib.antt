@@ -8,3 +8,8 @@ pub mod SimpleLaws
 pub mod InterfaceLaws
 pub mod RootLaws
 pub mod GivenLaws
+pub mod UseLaws
+pub mod GiverLaws
+pub mod TypesLaws
+pub mod WorldLaws
+pub mod WalkLaws
