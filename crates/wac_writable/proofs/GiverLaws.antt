@@ -104,9 +104,9 @@ module _ (t : Test) where
         by (inl o) = true≢false (sym o ∙ e)
         by (inr f) = k.fine.each id (any_among id g.fine.keys h) f
 
-    pub types_added : t.is_outer ≡ false → Decides false (TypesFail t.is_outer (at id)) → AddedFails t.is_outer (at id) → ⊥
-    types_added e d (inl o) = true≢false (sym o ∙ e)
-    types_added e d (inr f) = not_from_Decides false d refl f
+    pub types_added : t.is_outer ≡ false → (TypesFail t.is_outer (at id) → ⊥) → AddedFails t.is_outer (at id) → ⊥
+    types_added e n (inl o) = true≢false (sym o ∙ e)
+    types_added e n (inr f) = n f
 
     pub goes_fine : (d : Giver) → KnowsBelow t 0 g → (TypesFail t.is_outer (at id) → ⊥) → d.world ≡ g.world → d.seen.keys ≡ g.seen.keys → d.fine.keys ≡ insert_key eq-value.it g.fine.keys id → Goes t g d
     goes_fine d k n w s e = record {

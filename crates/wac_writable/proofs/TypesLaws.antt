@@ -1,5 +1,5 @@
 -- Interfaces whose types cannot be written.
-use Rattle.std.proofs.Common.{◌≡◌, ◌⊎◌, ◌&&◌, Bool, true, false, true≢false, List, [], ◌∷◌, map, filter, Option, Some, None, inl, inr, refl, sym, ap, ◌∙◌, subst, if◌then◌else◌}
+use Rattle.std.proofs.Common.{◌≡◌, ◌⊎◌, ◌&&◌, ◌||◌, Bool, true, false, true≢false, List, [], ◌∷◌, ◌++◌, map, filter, Option, Some, None, inl, inr, refl, sym, ap, ◌∙◌, subst, if◌then◌else◌}
 use Rattle.std.specs.Prelude.{not, bytes_eq, filter_map}
 use Rattle.std.specs.Bool.{Decides}
 use Rattle.std.specs.List.{list_any}
@@ -53,14 +53,14 @@ fresh_types (e ∷ es) = by (is_type (kind_of e.1)) refl (fresh_types es)
     by true q r = ap (λ l. if is_fresh e then e ∷ l else l) r
     by false q r = r ∙ sym (ap (λ b. if b && bytes_eq e.0 (root_name e.1) then e ∷ filter is_fresh es else filter is_fresh es) (no_resource (kind_of e.1) q))
 
+abbrev holder_with : List Used → List (Name × Stated) → Held
+holder_with us fresh = record {
+  used = filter_map taken us;
+  roots = map root_of fresh ++ map root_of (filter (λ e. is_resource (kind_of e.1)) (filter_map taken us));
+}
+
 pub types_holder : (x : Stated) → interface_holder x ≡ holder (uses_of x) (type_exports x)
-types_holder x = sym (λ i. holder_with (fresh_types (exports_of x) i))
-  where
-    abbrev holder_with : List (Name × Stated) → Held
-    holder_with fresh = record {
-      used = filter_map taken (uses_of x);
-      roots = map root_of fresh ++ map root_of (filter (λ e. is_resource (kind_of e.1)) (filter_map taken (uses_of x)));
-    }
+types_holder x = sym (ap (holder_with (uses_of x)) (fresh_types (exports_of x)))
 
 -- ---- types among items
 
@@ -100,7 +100,7 @@ module _ (c : Collection) (a : IsAcyclic c) where
         (Decides-and (not (is_given h e.0 (stated_of c e.1))) (item_unwritable c o e.0 e.1 h) (Decides-not (is_given h e.0 (stated_of c e.1)) (given_decides h e.0 (stated_of c e.1))) (written_decides o h e.0 (stated_of c e.1)))))
       where
         to : ((e : Name × ItemKind) × Among e es × ((is_tested Which.TypesOnly e.1 ≡ true) × ((IsGiven h e.0 (stated_of c e.1) → ⊥) × CannotBeWritten o h e.0 (stated_of c e.1)))) → SomeItem c a o h (filter is_type_item (with_values (stated_of c) es))
-        to (e, m, (k, g, f)) = (e.0, stated_of c e.1, among_filter is_type_item (with_values (stated_of c) es) (stated_entry e) (among_mapped stated_entry es e m) (same_test e m ∙ k), g, f)
+        to (e, m, (k, (g, f))) = (e.0, stated_of c e.1, among_filter is_type_item (with_values (stated_of c) es) (stated_entry e) (among_mapped stated_entry es e m) (same_test e m ∙ k), g, f)
 
         back : SomeItem c a o h (filter is_type_item (with_values (stated_of c) es)) → (e : Name × ItemKind) × Among e es × ((is_tested Which.TypesOnly e.1 ≡ true) × ((IsGiven h e.0 (stated_of c e.1) → ⊥) × CannotBeWritten o h e.0 (stated_of c e.1)))
         back (n, x, m, g, f) =

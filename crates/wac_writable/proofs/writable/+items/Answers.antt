@@ -1,4 +1,4 @@
-use Rattle.std.proofs.Common.{◌+◌, ◌||◌, ◌++◌, true≢false, inl, inr, refl, sym, ap, ◌∙◌, subst, arith}
+use Rattle.std.proofs.Common.{◌+◌, ◌||◌, ◌++◌, false, true≢false, inl, inr, refl, sym, ap, ◌∙◌, subst, arith}
 use Rattle.std.specs.Bool.{Decides}
 use Rattle.std.proofs.lemmas.Bool.Decides.{Decides-at, not_from_Decides}
 use Rattle.wac_types_base.specs.declared.item.ItemKind.{ItemKind}
@@ -22,7 +22,7 @@ use Rattle.wac_writable.proofs.GiverLaws.{was_there, goes_nowhere, knows_after, 
 use Rattle.wac_writable.proofs.WalkLaws.{UsesPassed, ItemsPassed, uses_start, use_fails_here, use_passes_here, uses_end, items_start, item_fails_here, item_passes_here, items_end}
 use Rattle.wac_writable.proofs.WorldLaws.{needed_fails, items_left, world_items_decide, world_item}
 use Rattle.wac_writable.proofs.writable.+items.Goals.{exports_fail-in-Some+in_ok-tested_fails+else-branch, exports_fail-in_default, imports_fail-in-Some+in_ok-ungiven_fails+else-branch, imports_fail-in_default, world_exports_fail-in-Some+in_ok-item_fails+else-branch, world_exports_fail-in_default}
-use Rattle.wac_writable.proofs.writable.+items.Goals.{direct_fails-in-Some+in_ok-use_fails+else-branch, direct_fails-in_default, world_uses_fail-in-Some+in_ok-use_fails+else-branch, world_uses_fail-in_default, uses_fail-in-Some-export_at+in_ok-uses_fail+else-branch, uses_fail-in_default-export_at}
+use Rattle.wac_writable.proofs.writable.+items.Goals.{direct_fails-in-Some+in_ok-use_fails+else-branch, direct_fails-in_default, world_uses_fail-in-Some+in_ok-use_fails+else-branch, world_uses_fail-in_default, uses_fail-in-Some-export_at+in_ok-uses_fail+else-branch-2, uses_fail-in_default-export_at}
 use Rattle.wac_writable.proofs.writable.+items.Goals.{uses_of_imports_fail-in-Some+in_ok-uses_fail+else-branch, uses_of_imports_fail-in_default, uses_of_exports_fail-in-Some+in_ok-uses_fail+else-branch, uses_of_exports_fail-in_default}
 use Rattle.wac_writable.proofs.writable.+items.Goals as goal
 
@@ -59,13 +59,13 @@ item_fails-returns-in-Some-world_of-clause-fails t c =
 
 -- ---- a used interface
 
-pub types_fail-returns-then-is_outer : goal.types_fail-returns-then-is_outer
-types_fail-returns-then-is_outer t c =
-    beside_yes c.args.test c.args.giver.now c.args.giver.now 0 (λ is. AddedFails c.args.test.is_outer (instance_of c.args.test.types.now c.args.id)) (λ ka k. inl c.if-is_outer.true)
+pub types_fail-returns-then-test : goal.types_fail-returns-then-test
+types_fail-returns-then-test t c =
+    beside_yes c.args.test c.args.giver.now c.args.giver.now 0 (λ is. AddedFails c.args.test.is_outer (instance_of c.args.test.types.now c.args.id)) (λ ka k. inl c.if-test.true)
 
 pub types_fail-returns-then-contains : goal.types_fail-returns-then-contains
 types_fail-returns-then-contains t c ka k = (
-  found_fine c.args.test c.args.id c.args.giver.now c.if-is_outer.false k (sym c.contains.ensures ∙ c.if-contains.true),
+  found_fine c.args.test c.args.id c.args.giver.now c.if-test.false k (sym c.contains.ensures ∙ c.if-contains.true),
   λ e. goes_nowhere c.args.test 0 c.args.giver.now k,
 )
 
@@ -81,7 +81,7 @@ types_fail-returns t c ka k =
     let C = c.args.test.types.now in
     let o = c.args.test.is_outer in
     let n = not_from_Decides _ (types_decide C c.see_acyclic.ensures o c.args.id) (sym (c.in_ok-interface_fails.ensures ka) ∙ c.if-branch.false) in (
-      tells_no (types_added c.args.test c.args.id c.if-is_outer.false n),
+      tells_no (types_added c.args.test c.args.id c.args.giver.now c.if-test.false n),
       λ e. goes_fine c.args.test c.args.id c.args.giver.now (record c.args.giver.now { fine = c.insert.new.self }) k n refl refl c.in_ok-insert.ensures.keys,
     )
 
@@ -285,13 +285,13 @@ uses_fail-returns-then-branch-2 t c =
 
 pub uses_fail-loop-at-preserved : goal.uses_fail-loop-at-preserved
 uses_fail-loop-at-preserved t c = elim c.match-export_at.branch [
-  | uses_fail-in-Some-export_at+in_ok-uses_fail+else-branch b ↦
+  | uses_fail-in-Some-export_at+in_ok-uses_fail+else-branch-2 b ↦
       let T = c.args.test in
       let C = T.types.now in
       let same = c.in-Some.ensures.size in
       let less = b.in-Some-export_at.ensures.inside.1 in
       subst (λ g. ItemsPassed T c.args.giver.now g (size_of C c.args.kind) (exports_in C c.in-Some.id) (c.loop-at.at + 1)) (sym b.giver-is)
-      (item_passes_here T c.args.giver.now (size_of C c.args.kind) c.loop-at.giver b.uses_fail.new.giver (exports_in C c.in-Some.id) c.loop-at.at b.in-Some-export_at.item.name.now b.in-Some-export_at.item.kind b.in-Some-export_at.ensures.entry _ (omega (arith, same, less)) c.loop-at.invariant b.in_ok-uses_fail.ensures b.if-branch.false)
+      (item_passes_here T c.args.giver.now (size_of C c.args.kind) c.loop-at.giver b.uses_fail.new.giver (exports_in C c.in-Some.id) c.loop-at.at b.in-Some-export_at.item.name.now b.in-Some-export_at.item.kind b.in-Some-export_at.ensures.entry _ (omega (arith, same, less)) c.loop-at.invariant b.in_ok-uses_fail.ensures b.if-branch-2.false)
   | uses_fail-in_default-export_at b ↦ absurd (no_gap (exports_in c.args.test.types.now c.in-Some.id) c.loop-at.at c.export_count-at-end.result c.loop-at-test.true c.export_count-at-end.ensures.len b.in_default-export_at.ensures.none)
 ]
 
@@ -334,11 +334,8 @@ imports_fail-loop-at-preserved t c = elim c.match-import_at.branch [
 
 -- ---- exports of a world
 
-pub world_exports_fail-returns-then-branch-clause-keeps : goal.world_exports_fail-returns-then-branch-clause-keeps
-world_exports_fail-returns-then-branch-clause-keeps t c = keeps_on c.args.test.types.now c.args.holder.now c.loop-at.holder c.item_fails.new.holder c.loop-at.invariant.0 c.in_ok-item_fails.ensures.keeps
-
-pub world_exports_fail-returns-then-branch-clause-fails : goal.world_exports_fail-returns-then-branch-clause-fails
-world_exports_fail-returns-then-branch-clause-fails t c ka h w =
+pub world_exports_fail-returns-then-branch : goal.world_exports_fail-returns-then-branch
+world_exports_fail-returns-then-branch t c ka h w =
     let C = c.args.test.types.now in
     item_settles (λ e. item_unwritable C c.args.test.is_outer e.0 e.1 h) (world_exports_in C c.args.id) c.loop-at.at (c.in-Some.item.name.now, c.in-Some.item.kind) (some_unwritable C c.args.test.is_outer h (world_exports_in C c.args.id)) c.in-Some.ensures.entry (c.loop-at.invariant.1 ka h w)
     (sym (c.in_ok-item_fails.ensures.fails ka c.in-Some.ensures.inside.0 h (c.loop-at.invariant.0 C (inl refl) h w)) ∙ c.if-branch.true)
@@ -403,7 +400,7 @@ pub all_items_fail-returns : goal.all_items_fail-returns
 all_items_fail-returns t c =
     let C = c.args.test.types.now in
     if_ok_map c.world_exports_fail.result (λ b f ka h w. f ka h (c.in_ok-imports_fail.ensures.keeps C (inl refl) h w)
-    ∙ sym (ap (λ b. b || some_unwritable C c.args.test.is_outer h (world_exports_in C c.args.id)) (sym (c.in_ok-imports_fail.ensures.fails ka h w) ∙ c.if-branch.false))) c.world_exports_fail.ensures.fails
+    ∙ sym (ap (λ b. b || some_unwritable C c.args.test.is_outer h (world_exports_in C c.args.id)) (sym (c.in_ok-imports_fail.ensures.fails ka h w) ∙ c.if-branch.false))) c.world_exports_fail.ensures
 
 pub items_of_world_fail-returns : goal.items_of_world_fail-returns
 items_of_world_fail-returns t c = if_ok_map c.all_items_fail.result (λ b f ka. f ka (component_holder (component_of c.args.test.types.now c.args.id)) c.in_ok-holder.ensures) c.all_items_fail.ensures

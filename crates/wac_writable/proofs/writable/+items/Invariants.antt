@@ -100,7 +100,7 @@ invariant-world_uses_fail-loop-at l =
 -- none of the items so far needs one that does
 abbrev pub invariant-uses_fail-loop-at : goal.invariant-uses_fail-loop-at
 invariant-uses_fail-loop-at l =
-    Passed l.test l.fn.giver l.giver (size_of l.test.types.now l.kind) (λ is. NoneOf (ItemNeeds l.test.is_outer is l.test.types.now) (take l.at (exports_in l.test.types.now l.id)))
+    Passed l.test l.fn.giver l.giver (size_of l.test.types.now l.fn.kind) (λ is. NoneOf (ItemNeeds l.test.is_outer is l.test.types.now) (take l.at (exports_in l.test.types.now l.id)))
 
 abbrev pub invariant-uses_of_imports_fail-loop-at : goal.invariant-uses_of_imports_fail-loop-at
 invariant-uses_of_imports_fail-loop-at l =

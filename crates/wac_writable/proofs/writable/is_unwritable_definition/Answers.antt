@@ -14,8 +14,8 @@ returns-in-Some-clause-fails c =
     let d = defined_inside T.types.now c.see_acyclic.ensures c.args.item.kind c.in-Some.id s c.in-Some.ensures in
     component_test T.is_outer h c.args.item.name.now (wrapped d.1.0 (instance_of T.types.now c.in-Some.id)) b refl (f ka d.0 d.1.0) ∙ ap (λ y. unwritable y c.args.item.name.now h T.is_outer) (sym d.1.1)) c.wrapped_fails.ensures
 
-pub returns-in_default-clause-fails : goal.returns-in_default-clause-fails
-returns-in_default-clause-fails c =
+pub returns-in-None-clause-fails : goal.returns-in-None-clause-fails
+returns-in-None-clause-fails c =
     let T = c.args.test in
     if_ok_map c.item_fails.result (λ b f ka s h w. f ka s h w
-    ∙ ap (λ y. unwritable y c.args.item.name.now h T.is_outer) (sym (defined_as_it_is T.types.now c.see_acyclic.ensures c.args.item.kind s c.in_default.ensures))) c.item_fails.ensures.fails
+    ∙ ap (λ y. unwritable y c.args.item.name.now h T.is_outer) (sym (defined_as_it_is T.types.now c.see_acyclic.ensures c.args.item.kind s c.in-None.ensures))) c.item_fails.ensures.fails
