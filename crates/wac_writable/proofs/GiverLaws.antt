@@ -1,8 +1,8 @@
 -- What a walk over uses remembers.
-use Rattle.std.proofs.Common.{rules, ◌≡◌, ◌↔◌, IsTrue, ◌⊎◌, ℕ, ◌+◌, ◌<◌, ◌≤◌, Bool, true, false, true≢false, not, ◌||◌, List, [], ◌∷◌, ◌++◌, Option, Some, None, Bor, option_copied, inl, inr, refl, sym, ap, ◌∙◌, subst, arith, if◌then◌else◌}
+use Rattle.std.proofs.Common.{◌≡◌, ◌⊎◌, ℕ, ◌+◌, ◌<◌, ◌≤◌, Bool, true, false, true≢false, not, ◌||◌, List, [], ◌∷◌, ◌++◌, Option, Some, None, inl, inr, refl, sym, ap, ◌∙◌, subst, arith, if◌then◌else◌}
 use Rattle.std.specs.Bool.{Decides}
 use Rattle.std.specs.List.{list_any}
-use Rattle.std.proofs.lemmas.Bool.Decides.{Decides-like, not_from_Decides}
+use Rattle.std.proofs.lemmas.Bool.Decides.{Decides-like}
 use Rattle.std.proofs.lemmas.Option.{none-some, same_Some}
 use Rattle.indexmap.specs.IndexSet.{insert_key}
 use Rattle.wac_types_base.specs.declared.ids.InterfaceId.{InterfaceId}
@@ -10,10 +10,9 @@ use Rattle.wac_types_base.specs.declared.ids.WorldId.{WorldId}
 use Rattle.wac_types_base.specs.declared.item.ItemKind.{ItemKind}
 use Rattle.wac_types_base.specs.contracts.ids.InterfaceIdPartialEq.TheImpl.{eq-value}
 use Rattle.wac_types_base.specs.Entries.{Name}
-use Rattle.wac_types_base.specs.Record.{Collection}
 use Rattle.wac_types_base.specs.Graph.{Among}
 use Rattle.wac_types_base.specs.Collection.{size_of}
-use Rattle.wac_types_base.specs.Stated.{Stated, Used, identifier_of}
+use Rattle.wac_types_base.specs.Stated.{Stated, identifier_of}
 use Rattle.wac_types_base.proofs.Lists.{among_last}
 use Rattle.wac_composition.specs.NotWritten.{IsImported}
 use Rattle.wac_graph_scopes.specs.declared.parts.Use.{Use}
@@ -21,7 +20,7 @@ use Rattle.wac_writable.specs.declared.writable.Test.{Test}
 use Rattle.wac_writable.specs.declared.writable.Giver.{Giver}
 use Rattle.wac_writable.specs.Unnamed.{KnowsAll}
 use Rattle.wac_writable.specs.Tests.{used_of}
-use Rattle.wac_writable.specs.Uses.{TypesFail, AddedFails, UseFails, NeededBy, FailsAt}
+use Rattle.wac_writable.specs.Uses.{TypesFail, AddedFails, UseFails}
 use Rattle.wac_writable.specs.Givers.{instance_of, imports_by, NeedsFailing, AllFine, KnowsBelow, Goes, TellsBeside}
 use Rattle.wac_writable.proofs.UnnamedLaws.{same_id}
 use Rattle.wac_writable.proofs.UseLaws.{tells_yes, tells_no}

@@ -505,11 +505,7 @@ fn world_uses_fail(test: Test<'_>, giver: &mut Giver, id: WorldId) -> Result<boo
 
 /// The same of those of a world's imports.
 #[cycle(items)]
-fn uses_of_imports_fail(
-    test: Test<'_>,
-    giver: &mut Giver,
-    id: WorldId,
-) -> Result<bool, AllocError>
+fn uses_of_imports_fail(test: Test<'_>, giver: &mut Giver, id: WorldId) -> Result<bool, AllocError>
     ensures { IfOk result (TellsUsesOfImports test.entry giver.old giver.new id) }
 {
     test.types.see_acyclic();
@@ -525,11 +521,7 @@ fn uses_of_imports_fail(
 
 /// The same of those of a world's exports.
 #[cycle(items)]
-fn uses_of_exports_fail(
-    test: Test<'_>,
-    giver: &mut Giver,
-    id: WorldId,
-) -> Result<bool, AllocError>
+fn uses_of_exports_fail(test: Test<'_>, giver: &mut Giver, id: WorldId) -> Result<bool, AllocError>
     ensures { IfOk result (TellsUsesOfExports test.entry giver.old giver.new id) }
 {
     test.types.see_acyclic();
@@ -562,11 +554,7 @@ fn imports_fail(test: Test<'_>, holder: &mut Holder, id: WorldId) -> Result<bool
 
 /// Whether an export of a world fails.
 #[cycle(items)]
-fn world_exports_fail(
-    test: Test<'_>,
-    holder: &mut Holder,
-    id: WorldId,
-) -> Result<bool, AllocError>
+fn world_exports_fail(test: Test<'_>, holder: &mut Holder, id: WorldId) -> Result<bool, AllocError>
     ensures { IfOk result (TellsFound test.entry (TellsWorldExports test.entry holder.old id)) }
 {
     test.types.see_acyclic();

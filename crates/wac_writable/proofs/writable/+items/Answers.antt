@@ -96,7 +96,7 @@ use_itself_fails-returns-in_default t c ka k = (
 pub use_itself_fails-returns-then-branch : goal.use_itself_fails-returns-then-branch
 use_itself_fails-returns-then-branch t c ka k = (
   tells_no (imported_passes c.args.test c.args.used (imports_by c.args.test.types.now c.args.giver.now.world) c.in-Some.name.now
-    (identifier_is c.args.test.types.now c.see_acyclic.ensures c.args.used.interface ∙ sym c.in-Some.ensures) (c.in_ok-gives.ensures.0 c.if-branch.true)),
+      (identifier_is c.args.test.types.now c.see_acyclic.ensures c.args.used.interface ∙ sym c.in-Some.ensures) (c.in_ok-gives.ensures.0 c.if-branch.true)),
   λ e. goes_nowhere c.args.test 0 c.args.giver.now k,
 )
 
@@ -305,10 +305,12 @@ uses_fail-returns t c =
     let l = c.export_count-at-end.ensures.len in
     beside_no T c.args.giver.now c.loop-at.giver (size_of C c.args.kind) (λ is. NeededBy T.is_outer is (stated_of C c.args.kind))
     (λ ka k.
-      let x = c.in_ok-direct_fails.ensures ka (knows_after T _ _ c.args.giver.now c.args.giver.now (omega (arith, same)) k (goes_nowhere T _ c.args.giver.now k)) in
-      let v = c.loop-at.invariant ka k in
-      (v.0, none_of_parts T.is_outer _ C c.args.kind c.in-Some.id p (not_from_Decides _ x.0 c.if-branch.false)
-        (items_passed T.is_outer _ C (exports_in C c.in-Some.id) c.loop-at.at (exports_of (instance_of C c.in-Some.id)) (exports_are C a c.in-Some.id) (omega (arith, l, c.loop-at-test.false)) v.1)))
+    let x = c.in_ok-direct_fails.ensures ka (knows_after T _ _ c.args.giver.now c.args.giver.now (omega (arith, same)) k (goes_nowhere T _ c.args.giver.now k)) in
+    let v = c.loop-at.invariant ka k in (
+      v.0,
+      none_of_parts T.is_outer _ C c.args.kind c.in-Some.id p (not_from_Decides _ x.0 c.if-branch.false)
+          (items_passed T.is_outer _ C (exports_in C c.in-Some.id) c.loop-at.at (exports_of (instance_of C c.in-Some.id)) (exports_are C a c.in-Some.id) (omega (arith, l, c.loop-at-test.false)) v.1),
+    ))
 
 -- ---- imports of a world
 
@@ -367,9 +369,9 @@ all_uses_fail-returns-then-branch-2 t c =
     let n = size_of T.types.now (ItemKind.Component c.args.id) in
     beside_yes T c.args.giver.now c.uses_of_imports_fail.new.giver n (λ is. WorldNeeds T.is_outer is x)
     (λ ka k.
-      let g = (c.in_ok-world_uses_fail.ensures ka k).1 c.if-branch.false in
-      let y = tells_after T c.args.giver.now c.world_uses_fail.new.giver c.uses_of_imports_fail.new.giver n n (λ is. SomeItem T.is_outer is (imports_of x)) _ ka k (omega arith) g c.in_ok-uses_of_imports_fail.ensures in
-      item_needed T.is_outer _ (uses_of x) (imports_of x ++ exports_of x) (item_left T.is_outer _ (imports_of x) (exports_of x) (y.0.0 c.if-branch-2.true)))
+    let g = (c.in_ok-world_uses_fail.ensures ka k).1 c.if-branch.false in
+    let y = tells_after T c.args.giver.now c.world_uses_fail.new.giver c.uses_of_imports_fail.new.giver n n (λ is. SomeItem T.is_outer is (imports_of x)) _ ka k (omega arith) g c.in_ok-uses_of_imports_fail.ensures in
+    item_needed T.is_outer _ (uses_of x) (imports_of x ++ exports_of x) (item_left T.is_outer _ (imports_of x) (exports_of x) (y.0.0 c.if-branch-2.true)))
 
 pub all_uses_fail-returns : goal.all_uses_fail-returns
 all_uses_fail-returns t c =

@@ -1,5 +1,4 @@
 use Rattle.std.proofs.Common.{refl, sym, ap, ◌∙◌}
-use Rattle.wac_types_base.specs.Stated.{stated_of}
 use Rattle.wac_composition.specs.Writable.{unwritable}
 use Rattle.wac_graph_scopes.proofs.HandleLaws.{if_ok_map}
 use Rattle.wac_writable.specs.Tests.{wrapped}
