@@ -12,7 +12,7 @@ use Rattle.wac_types_base.specs.Entries.{Name, with_values}
 use Rattle.wac_types_base.specs.Record.{Collection}
 use Rattle.wac_types_base.specs.Graph.{Among}
 use Rattle.wac_types_base.specs.Collection.{Stands, IsAcyclic, item_node, labelled, interface_entry, type_of}
-use Rattle.wac_types_base.specs.Stated.{Stated, stated_of, kind_of, shape_kind, IsInstance, IsInterface, untyped, uses_of, exports_of, identifier_of}
+use Rattle.wac_types_base.specs.Stated.{Stated, stated_of, kind_of, IsInstance, IsInterface, untyped, uses_of, exports_of, identifier_of}
 use Rattle.wac_types_base.proofs.Slots.{entry_at-is}
 use Rattle.wac_types_base.proofs.Standing.{interface_found}
 use Rattle.wac_types_base.proofs.Telling.{item_kind, stated_step, typed_node, kind_stated, untyped_stated}
@@ -20,7 +20,7 @@ use Rattle.wac_types_base.proofs.GraphLemmas.{is_there}
 use Rattle.wac_types_base.proofs.Lists.{among_mapped}
 use Rattle.wac_composition.specs.Writable.{has_items, is_given, some_unnamed}
 use Rattle.wac_composition.specs.Writable.{Holder as Held}
-use Rattle.wac_composition.specs.NotWritten.{IsGiven, CannotBeWritten, a_value, core_items, module_as_type, renamed, an_alias, a_function, a_function_type, a_value_type, an_instance, an_interface, a_component, a_world, ItemsFail, unnamed, an_item}
+use Rattle.wac_composition.specs.NotWritten.{IsGiven, CannotBeWritten, an_instance, an_interface, ItemsFail, unnamed, an_item}
 use Rattle.wac_composition.proofs.NotWritten.{any_decides, given_decides}
 use Rattle.wac_composition.proofs.NotFound.{written_decides}
 use Rattle.wac_composition.proofs.Lists.{mapped_among}
@@ -31,6 +31,7 @@ use Rattle.wac_writable.specs.Items.{item_unwritable}
 use Rattle.wac_writable.specs.Tests.{tested_unwritable, exports_unwritable, interface_unwritable}
 use Rattle.wac_writable.proofs.UnnamedLaws.{any_at}
 use Rattle.wac_writable.proofs.ItemLaws.{both_decide}
+use Rattle.wac_writable.proofs.ReasonLaws.{reason_of}
 use Rattle.wac_writable.proofs.PartsStated.{stated_nothing, stands_or_not, exports_are}
 
 -- ---- loops over items
@@ -44,35 +45,6 @@ module _ {X : Type 0} (p : X → Bool) (xs : List X) (i : ℕ) (x : X) (b : Bool
   item_leaves f = is ∙ any_at p xs i x at ∙ ap (λ y. y || list_any p (drop (i + 1) xs)) f
 
 -- ---- interfaces
-
-module _ (o : Bool) (h : Held) (n : Name) where
-  instance_reason : {x : Stated} → kind_of x ≡ IsInstance → CannotBeWritten o h n x → ItemsFail o (uses_of x) (exports_of x)
-  instance_reason e (a_value k) = absurd (let z : ⊥ = cc (e, k) in z)
-  instance_reason e (core_items m s f) = absurd (let q = ap shape_kind s in let z : ⊥ = cc (e, q) in z)
-  instance_reason e (module_as_type k) = absurd (let z : ⊥ = cc (e, k) in z)
-  instance_reason e (renamed r s f g) = absurd (let q = ap shape_kind s in let z : ⊥ = cc (e, q) in z)
-  instance_reason e (an_alias r s f) = absurd (let q = ap shape_kind s in let z : ⊥ = cc (e, q) in z)
-  instance_reason e (a_function k m d) = absurd (let z : ⊥ = cc (e, k) in z)
-  instance_reason e (a_function_type k m d) = absurd (let z : ⊥ = cc (e, k) in z)
-  instance_reason e (a_value_type k d) = absurd (let z : ⊥ = cc (e, k) in z)
-  instance_reason e (an_instance k f) = f
-  instance_reason e (an_interface k f) = f
-  instance_reason e (a_component k f) = absurd (let z : ⊥ = cc (e, k) in z)
-  instance_reason e (a_world k f) = absurd (let z : ⊥ = cc (e, k) in z)
-
-  interface_reason : {x : Stated} → kind_of x ≡ IsInterface → CannotBeWritten o h n x → ItemsFail o (uses_of x) (exports_of x)
-  interface_reason e (a_value k) = absurd (let z : ⊥ = cc (e, k) in z)
-  interface_reason e (core_items m s f) = absurd (let q = ap shape_kind s in let z : ⊥ = cc (e, q) in z)
-  interface_reason e (module_as_type k) = absurd (let z : ⊥ = cc (e, k) in z)
-  interface_reason e (renamed r s f g) = absurd (let q = ap shape_kind s in let z : ⊥ = cc (e, q) in z)
-  interface_reason e (an_alias r s f) = absurd (let q = ap shape_kind s in let z : ⊥ = cc (e, q) in z)
-  interface_reason e (a_function k m d) = absurd (let z : ⊥ = cc (e, k) in z)
-  interface_reason e (a_function_type k m d) = absurd (let z : ⊥ = cc (e, k) in z)
-  interface_reason e (a_value_type k d) = absurd (let z : ⊥ = cc (e, k) in z)
-  interface_reason e (an_instance k f) = f
-  interface_reason e (an_interface k f) = f
-  interface_reason e (a_component k f) = absurd (let z : ⊥ = cc (e, k) in z)
-  interface_reason e (a_world k f) = absurd (let z : ⊥ = cc (e, k) in z)
 
 interface_node : (c : Collection) (id : InterfaceId) (i : Interface) → slice_get c.interfaces id.index ≡ Some i → id.collection ≡ c.number → item_node c (ItemKind.Instance id) ≡ Some (interface_entry i)
 unfolding item_node
@@ -117,7 +89,7 @@ module _ (c : Collection) (a : IsAcyclic c) (o : Bool) where
     instance_unwritable n h s =
         let k = kind_stated c a (ItemKind.Instance id) s in
         both_decide (interface_unwritable c o Which.All id) (item_unwritable c o n (ItemKind.Instance id) h)
-        (Decides-like (interface_unwritable c o Which.All id) (λ f. an_instance k f) (instance_reason o h n k) fails_decide) (written_decides o h n x)
+        (Decides-like (interface_unwritable c o Which.All id) (λ f. an_instance k f) (reason_of o h n x IsInstance k) fails_decide) (written_decides o h n x)
 
     pub type_stands : Stands c (ItemKind.Ty (TypeKind.Interface id)) → Stands c (ItemKind.Instance id)
     unfolding item_node
@@ -153,7 +125,7 @@ module _ (c : Collection) (a : IsAcyclic c) (o : Bool) where
         let k = kind_stated c a (ItemKind.Ty (TypeKind.Interface id)) s in
         let d = subst (λ us. Decides (interface_unwritable c o Which.All id) (ItemsFail o us (exports_of y))) (same_uses s) (subst (λ es. Decides (interface_unwritable c o Which.All id) (ItemsFail o (uses_of x) es)) (same_exports s) fails_decide) in
         both_decide (interface_unwritable c o Which.All id) (item_unwritable c o n (ItemKind.Ty (TypeKind.Interface id)) h)
-        (Decides-like (interface_unwritable c o Which.All id) (λ f. an_interface k f) (interface_reason o h n k) d) (written_decides o h n y)
+        (Decides-like (interface_unwritable c o Which.All id) (λ f. an_interface k f) (reason_of o h n y IsInterface k) d) (written_decides o h n y)
 
   pub interface_item : (k : ItemKind) (id : InterfaceId) (n : Name) (h : Held) → IsOfInterface k id → Stands c k → interface_unwritable c o Which.All id ≡ item_unwritable c o n k h
   interface_item (ItemKind.Instance i) id n h e s = ap (λ i. interface_unwritable c o Which.All i) (sym e) ∙ instance_unwritable i n h s

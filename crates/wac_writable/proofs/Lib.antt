@@ -5,6 +5,7 @@ pub mod ItemLaws
 pub mod HolderLaws
 pub mod ValueLaws
 pub mod SimpleLaws
+pub mod ReasonLaws
 pub mod InterfaceLaws
 pub mod RootLaws
 pub mod GivenLaws

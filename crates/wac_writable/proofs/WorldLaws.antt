@@ -12,7 +12,7 @@ use Rattle.wac_types_base.specs.Entries.{Name, with_values}
 use Rattle.wac_types_base.specs.Record.{Collection}
 use Rattle.wac_types_base.specs.Graph.{Among}
 use Rattle.wac_types_base.specs.Collection.{Stands, IsAcyclic, item_node, labelled, world_entry, type_of}
-use Rattle.wac_types_base.specs.Stated.{Stated, Used, stated_of, kind_of, shape_kind, IsComponent, IsWorld, IsInterface, uses_of, imports_of, exports_of, identifier_of}
+use Rattle.wac_types_base.specs.Stated.{Stated, Used, stated_of, kind_of, IsComponent, IsWorld, IsInterface, uses_of, imports_of, exports_of, identifier_of}
 use Rattle.wac_types_base.proofs.Slots.{entry_at-is}
 use Rattle.wac_types_base.proofs.Standing.{world_found}
 use Rattle.wac_types_base.proofs.Telling.{item_kind, stated_step, typed_node, kind_stated}
@@ -20,7 +20,7 @@ use Rattle.wac_types_base.proofs.GraphLemmas.{value_of, is_there}
 use Rattle.wac_types_base.proofs.Lists.{among_mapped}
 use Rattle.wac_composition.specs.Writable.{is_fresh, root_of, holder, with_roots, some_unnamed, unwritable, in_component, as_defined}
 use Rattle.wac_composition.specs.Writable.{Holder as Held}
-use Rattle.wac_composition.specs.NotWritten.{IsGiven, Needs, IsImported, component_holder, CannotBeWritten, a_value, core_items, module_as_type, renamed, an_alias, a_function, a_function_type, a_value_type, an_instance, an_interface, a_component, a_world, ComponentFails, unnamed_use, not_imported, not_added, an_import, an_export}
+use Rattle.wac_composition.specs.NotWritten.{IsGiven, Needs, IsImported, component_holder, CannotBeWritten, a_component, a_world, ComponentFails, unnamed_use, not_imported, not_added, an_import, an_export}
 use Rattle.wac_composition.proofs.NotWritten.{any_decides}
 use Rattle.wac_composition.proofs.NotFound.{written_decides}
 use Rattle.wac_composition.proofs.Lists.{mapped_among}
@@ -31,6 +31,7 @@ use Rattle.wac_writable.specs.Tests.{interface_unwritable, some_ungiven, some_un
 use Rattle.wac_writable.specs.Uses.{AddedFails, UseFails, NeededBy, SomeUse, SomeItem as SomeItemNeeds}
 use Rattle.wac_writable.specs.Givers.{WorldNeeds}
 use Rattle.wac_writable.proofs.ItemLaws.{both_decide}
+use Rattle.wac_writable.proofs.ReasonLaws.{reason_of}
 use Rattle.wac_writable.proofs.PartsStated.{imports_are, world_exports_are, identifier_is}
 use Rattle.wac_writable.proofs.InterfaceLaws.{items_decide, interface_item, type_stands, same_identifier, untyped_interface}
 use Rattle.wac_writable.proofs.UseLaws.{needed_split, item_needed}
@@ -38,39 +39,11 @@ use Rattle.wac_writable.proofs.UseLaws.{needed_split, item_needed}
 -- ---- why a component type cannot be written
 
 module _ (o : Bool) (h : Held) (n : Name) where
-  component_reason : {x : Stated} → kind_of x ≡ IsComponent → CannotBeWritten o h n x → ComponentFails o x
-  component_reason e (a_value k) = absurd (let z : ⊥ = cc (e, k) in z)
-  component_reason e (core_items m s f) = absurd (let q = ap shape_kind s in let z : ⊥ = cc (e, q) in z)
-  component_reason e (module_as_type k) = absurd (let z : ⊥ = cc (e, k) in z)
-  component_reason e (renamed r s f g) = absurd (let q = ap shape_kind s in let z : ⊥ = cc (e, q) in z)
-  component_reason e (an_alias r s f) = absurd (let q = ap shape_kind s in let z : ⊥ = cc (e, q) in z)
-  component_reason e (a_function k m d) = absurd (let z : ⊥ = cc (e, k) in z)
-  component_reason e (a_function_type k m d) = absurd (let z : ⊥ = cc (e, k) in z)
-  component_reason e (a_value_type k d) = absurd (let z : ⊥ = cc (e, k) in z)
-  component_reason e (an_instance k f) = absurd (let z : ⊥ = cc (e, k) in z)
-  component_reason e (an_interface k f) = absurd (let z : ⊥ = cc (e, k) in z)
-  component_reason e (a_component k f) = f
-  component_reason e (a_world k f) = f
-
-  world_reason : {x : Stated} → kind_of x ≡ IsWorld → CannotBeWritten o h n x → ComponentFails o x
-  world_reason e (a_value k) = absurd (let z : ⊥ = cc (e, k) in z)
-  world_reason e (core_items m s f) = absurd (let q = ap shape_kind s in let z : ⊥ = cc (e, q) in z)
-  world_reason e (module_as_type k) = absurd (let z : ⊥ = cc (e, k) in z)
-  world_reason e (renamed r s f g) = absurd (let q = ap shape_kind s in let z : ⊥ = cc (e, q) in z)
-  world_reason e (an_alias r s f) = absurd (let q = ap shape_kind s in let z : ⊥ = cc (e, q) in z)
-  world_reason e (a_function k m d) = absurd (let z : ⊥ = cc (e, k) in z)
-  world_reason e (a_function_type k m d) = absurd (let z : ⊥ = cc (e, k) in z)
-  world_reason e (a_value_type k d) = absurd (let z : ⊥ = cc (e, k) in z)
-  world_reason e (an_instance k f) = absurd (let z : ⊥ = cc (e, k) in z)
-  world_reason e (an_interface k f) = absurd (let z : ⊥ = cc (e, k) in z)
-  world_reason e (a_component k f) = f
-  world_reason e (a_world k f) = f
-
   pub component_test : (x : Stated) (b : Bool) → kind_of x ≡ IsComponent → Decides b (ComponentFails o x) → b ≡ unwritable x n h o
-  component_test x b k d = both_decide b (unwritable x n h o) (Decides-like b (λ f. a_component k f) (component_reason k) d) (written_decides o h n x)
+  component_test x b k d = both_decide b (unwritable x n h o) (Decides-like b (λ f. a_component k f) (reason_of o h n x IsComponent k) d) (written_decides o h n x)
 
   world_test : (x : Stated) (b : Bool) → kind_of x ≡ IsWorld → Decides b (ComponentFails o x) → b ≡ unwritable x n h o
-  world_test x b k d = both_decide b (unwritable x n h o) (Decides-like b (λ f. a_world k f) (world_reason k) d) (written_decides o h n x)
+  world_test x b k d = both_decide b (unwritable x n h o) (Decides-like b (λ f. a_world k f) (reason_of o h n x IsWorld k) d) (written_decides o h n x)
 
 -- what fails by its parts fails with the same parts
 fails_with : (o : Bool) (v w : Stated) → uses_of v ≡ uses_of w → imports_of v ≡ imports_of w → exports_of v ≡ exports_of w → ComponentFails o v → ComponentFails o w
