@@ -121,7 +121,7 @@ fn value_fails(test: Test<'_>, holder: &mut Holder, ty: ValueType) -> Result<boo
     }
 }
 
-/// The same of a defined type, which is tested once.
+/// Whether a defined type fails: it is tested once.
 #[cycle(values)]
 fn defined_fails(test: Test<'_>, holder: &mut Holder, id: DefinedTypeId) -> Result<bool, AllocError>
     ensures keeps { OnOk result (Keeps test.entry.types.now holder.old holder.new) }
@@ -219,7 +219,7 @@ fn type_fails(
     }
 }
 
-/// The same of an item.
+/// Whether an item fails that is of no interface and of no world.
 fn simple_fails(test: Test<'_>, holder: &mut Holder, item: Item<'_>) -> Result<bool, AllocError>
     ensures keeps { OnOk result (Keeps test.entry.types.now holder.old holder.new) }
     ensures fails { IfOk result (λ b. IsSimple item.entry.kind → TellsOf test.entry holder.old item.entry b) }
@@ -263,7 +263,7 @@ fn ungiven_fails(test: Test<'_>, holder: &mut Holder, item: Item<'_>) -> Result<
     item_fails(test, holder, item)
 }
 
-/// The same of one that is tested.
+/// Whether an item fails, in what holds it, that is tested and that no use gives.
 #[cycle(items)]
 fn tested_fails(
     test: Test<'_>,
@@ -300,6 +300,7 @@ fn exports_fail(
     Ok(false)
 }
 
+/// Whether an interface cannot be written with the items that are tested.
 #[cycle(items)]
 fn interface_fails(test: Test<'_>, id: InterfaceId, which: Which) -> Result<bool, AllocError>
     ensures { IfOk result (TellsFound test.entry (TellsInterface test.entry which id)) }
@@ -432,7 +433,7 @@ fn use_itself_fails(test: Test<'_>, giver: &mut Giver, used: Use<'_>) -> Result<
     types_fail(test, giver, used.interface)
 }
 
-/// The same of a use, and of the uses of its interface, which are looked at once.
+/// Whether a use fails, or one that its interface needs, which is walked once.
 #[cycle(items)]
 fn use_fails(test: Test<'_>, giver: &mut Giver, used: Use<'_>) -> Result<bool, AllocError>
     ensures { IfOk result (TellsAt test.entry giver.old giver.new used.entry) }
@@ -449,7 +450,7 @@ fn use_fails(test: Test<'_>, giver: &mut Giver, used: Use<'_>) -> Result<bool, A
     }
 }
 
-/// The same of the uses of an interface itself.
+/// Whether one fails that an interface uses, or that such a one needs.
 #[cycle(items)]
 fn direct_fails(test: Test<'_>, giver: &mut Giver, id: InterfaceId) -> Result<bool, AllocError>
     ensures { IfOk result (TellsDirect test.entry giver.old giver.new id) }
@@ -465,7 +466,7 @@ fn direct_fails(test: Test<'_>, giver: &mut Giver, id: InterfaceId) -> Result<bo
     Ok(false)
 }
 
-/// The same of those of an item.
+/// Whether one fails that an item needs: by the uses of its interface, or by an export of it.
 #[cycle(items)]
 fn uses_fail(test: Test<'_>, giver: &mut Giver, kind: ItemKind) -> Result<bool, AllocError>
     ensures { IfOk result (TellsNeeded test.entry giver.old giver.new kind) }
@@ -487,7 +488,7 @@ fn uses_fail(test: Test<'_>, giver: &mut Giver, kind: ItemKind) -> Result<bool, 
     Ok(false)
 }
 
-/// The same of those of a world itself.
+/// Whether one fails that a world uses, or that such a one needs.
 #[cycle(items)]
 fn world_uses_fail(test: Test<'_>, giver: &mut Giver, id: WorldId) -> Result<bool, AllocError>
     ensures { IfOk result (TellsWorldUses test.entry giver.old giver.new id) }
@@ -503,7 +504,7 @@ fn world_uses_fail(test: Test<'_>, giver: &mut Giver, id: WorldId) -> Result<boo
     Ok(false)
 }
 
-/// The same of those of a world's imports.
+/// Whether a use fails that an import of a world needs.
 #[cycle(items)]
 fn uses_of_imports_fail(test: Test<'_>, giver: &mut Giver, id: WorldId) -> Result<bool, AllocError>
     ensures { IfOk result (TellsUsesOfImports test.entry giver.old giver.new id) }
@@ -519,7 +520,7 @@ fn uses_of_imports_fail(test: Test<'_>, giver: &mut Giver, id: WorldId) -> Resul
     Ok(false)
 }
 
-/// The same of those of a world's exports.
+/// Whether a use fails that an export of a world needs.
 #[cycle(items)]
 fn uses_of_exports_fail(test: Test<'_>, giver: &mut Giver, id: WorldId) -> Result<bool, AllocError>
     ensures { IfOk result (TellsUsesOfExports test.entry giver.old giver.new id) }
@@ -568,7 +569,7 @@ fn world_exports_fail(test: Test<'_>, holder: &mut Holder, id: WorldId) -> Resul
     Ok(false)
 }
 
-/// Whether a use of a world or of its items fails, among those that its imports do not give.
+/// Whether a use fails that a world or one of its items needs.
 #[cycle(items)]
 fn all_uses_fail(test: Test<'_>, giver: &mut Giver, id: WorldId) -> Result<bool, AllocError>
     ensures { IfOk result (TellsAllUses test.entry giver.old giver.new id) }
@@ -583,7 +584,7 @@ fn all_uses_fail(test: Test<'_>, giver: &mut Giver, id: WorldId) -> Result<bool,
     uses_of_exports_fail(test, giver, id)
 }
 
-/// The same of a world whose uses are looked at afresh.
+/// Whether a use fails that a world or one of its items needs, beside its own imports.
 #[cycle(items)]
 fn uses_of_world_fail(test: Test<'_>, id: WorldId) -> Result<bool, AllocError>
     ensures { IfOk result (TellsUsesOfWorld test.entry id) }
@@ -592,7 +593,7 @@ fn uses_of_world_fail(test: Test<'_>, id: WorldId) -> Result<bool, AllocError>
     all_uses_fail(test, &mut giver, id)
 }
 
-/// Whether an item of a world fails in what holds it.
+/// Whether an import of a world fails that no use gives, or an export, in what holds them.
 #[cycle(items)]
 fn all_items_fail(test: Test<'_>, holder: &mut Holder, id: WorldId) -> Result<bool, AllocError>
     ensures { IfOk result (TellsFound test.entry (TellsItems test.entry holder.old id)) }
@@ -603,7 +604,7 @@ fn all_items_fail(test: Test<'_>, holder: &mut Holder, id: WorldId) -> Result<bo
     world_exports_fail(test, holder, id)
 }
 
-/// Whether an item of a world fails.
+/// Whether an import of a world fails that no use gives, or an export.
 #[cycle(items)]
 fn items_of_world_fail(test: Test<'_>, id: WorldId) -> Result<bool, AllocError>
     ensures { IfOk result (TellsFound test.entry (TellsItemsOfWorld test.entry id)) }
@@ -612,6 +613,7 @@ fn items_of_world_fail(test: Test<'_>, id: WorldId) -> Result<bool, AllocError>
     all_items_fail(test, &mut holder, id)
 }
 
+/// Whether a component type cannot be written.
 #[cycle(items)]
 fn world_fails(test: Test<'_>, id: WorldId) -> Result<bool, AllocError>
     ensures { IfOk result (TellsFound test.entry (TellsWorld test.entry id)) }
@@ -654,7 +656,7 @@ pub fn unwritable_outer(test: Test<'_>, world: WorldId) -> Result<Option<usize>,
     first_that_fails(test, &mut holder, world)
 }
 
-/// Whether a use of an interface inside a component type of its own fails.
+/// Whether a use fails that an interface needs inside a component type of its own, which imports nothing.
 fn wrapped_uses_fail(test: Test<'_>, id: InterfaceId) -> Result<bool, AllocError>
     ensures { IfOk result (TellsWrappedUses test.entry id) }
 {
