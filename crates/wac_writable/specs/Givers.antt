@@ -39,7 +39,7 @@ module _ (t : Test) where
   pub record AllFine (ids : List InterfaceId) : Type 0 where
     pub each : (i : InterfaceId) → Among i ids → TypesFail t.is_outer (instance_of t.types.now i) → ⊥
 
-  -- those that are fine are; of those that were seen none below this size needs a use that fails
+  -- the types of what is called fine do not fail, and nothing that was seen, below this size, needs a use that fails
   pub record KnowsBelow (size : ℕ) (g : Giver) : Type 0 where
     pub fine : AllFine g.fine.keys
     pub seen : (i : InterfaceId) → Among i g.seen.keys → size_of t.types.now (ItemKind.Instance i) < size → NeedsFailing g.world i → ⊥
@@ -52,7 +52,8 @@ module _ (t : Test) where
 
 -- ---- answers
 
--- whether this is so beside the imports, where what is remembered below a size is true; if it is not, that stays so
+-- Whether this is so beside a giver's imports, where what it remembers is true below a size. If it is not so, all that it learnt
+-- meanwhile is true.
 abbrev pub TellsBeside : Test → Giver → Giver → ℕ → (List (Name × Stated) → Type 0) → Bool → Type 0
 TellsBeside t old new size P b =
     KnowsAll t.types.now t.unnamed.now → KnowsBelow t size old → Decides b (P (imports_by t.types.now old.world)) × (b ≡ false → Goes t old new)

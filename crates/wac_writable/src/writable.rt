@@ -240,6 +240,7 @@ fn simple_fails(test: Test<'_>, holder: &mut Holder, item: Item<'_>) -> Result<b
 fn item_fails(test: Test<'_>, holder: &mut Holder, item: Item<'_>) -> Result<bool, AllocError>
     ensures keeps { OnOk result (Keeps test.entry.types.now holder.old holder.new) }
     ensures fails { IfOk result (TellsFound test.entry (TellsOf test.entry holder.old item.entry)) }
+    ensures simple { IfOk result (λ b. IsSimple item.entry.kind → TellsOf test.entry holder.old item.entry b) }
 {
     test.types.see_acyclic();
     if let Some(id) = interface_of(test.types, item.kind) {
@@ -699,6 +700,7 @@ pub fn is_unwritable_definition(
 ) -> Result<bool, AllocError>
     ensures keeps { OnOk result (Keeps test.entry.types.now outers.old outers.new) }
     ensures fails { IfOk result (TellsFound test.entry (TellsDefinition test.entry outers.old item.entry)) }
+    ensures simple { IfOk result (λ b. IsSimple item.entry.kind → TellsDefinition test.entry outers.old item.entry b) }
 {
     test.types.see_acyclic();
     match wrapped_interface(test.types, item.kind) {

@@ -14,6 +14,7 @@ use Rattle.wac_writable.specs.Uses.{AddedFails, NeededBy, FailsAt, SomeUse, Some
 use Rattle.wac_writable.specs.Givers.{instance_of, component_of, imports_by, NeedsFailing, WorldNeeds}
 use Rattle.wac_writable.proofs.PartsStated.{uses_are, exports_are, identifier_is, world_uses_are, imports_are, world_exports_are}
 use Rattle.wac_writable.proofs.UnnamedLaws.{no_gap}
+use Rattle.wac_writable.proofs.ItemLaws.{if_ok_all}
 use Rattle.wac_writable.proofs.ValueLaws.{keeps_on}
 use Rattle.wac_writable.proofs.InterfaceLaws.{item_settles, item_leaves, interface_item, has_parts, has_none}
 use Rattle.wac_writable.proofs.TypesLaws.{types_decide}
@@ -50,6 +51,12 @@ item_fails-returns-in-Some-clause-fails t c =
     let C = c.args.test.types.now in
     if_ok_map c.interface_fails.result (λ b f ka s h w. f ka
     ∙ interface_item C c.see_acyclic.ensures c.args.test.is_outer c.args.item.kind c.in-Some.id c.args.item.name.now h c.in-Some.ensures.kind s) c.interface_fails.ensures
+
+pub item_fails-returns-in-Some-clause-simple : goal.item_fails-returns-in-Some-clause-simple
+item_fails-returns-in-Some-clause-simple t c = if_ok_all c.interface_fails.result (λ b i. absurd (i.no_interface c.in-Some.id c.in-Some.ensures.kind))
+
+pub item_fails-returns-in-Some-world_of-clause-simple : goal.item_fails-returns-in-Some-world_of-clause-simple
+item_fails-returns-in-Some-world_of-clause-simple t c = if_ok_all c.world_fails.result (λ b i. absurd (i.no_world c.in-Some-world_of.id c.in-Some-world_of.ensures.kind))
 
 pub item_fails-returns-in-Some-world_of-clause-fails : goal.item_fails-returns-in-Some-world_of-clause-fails
 item_fails-returns-in-Some-world_of-clause-fails t c =
