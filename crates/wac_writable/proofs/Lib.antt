@@ -5,6 +5,12 @@ pub mod ItemLaws
 pub mod HolderLaws
 pub mod ValueLaws
 pub mod SimpleLaws
+pub mod ReasonLaws
 pub mod InterfaceLaws
 pub mod RootLaws
 pub mod GivenLaws
+pub mod UseLaws
+pub mod GiverLaws
+pub mod TypesLaws
+pub mod WorldLaws
+pub mod WalkLaws

@@ -96,7 +96,7 @@ module _ (c : Collection) (us : List (Name × UsedType)) (at : ℕ) (u : Use) (i
 
 -- ---- what is remembered
 
-same_id : (a b : InterfaceId) → IsTrue (eq-value.it a b) ↔ (a ≡ b)
+pub same_id : (a b : InterfaceId) → IsTrue (eq-value.it a b) ↔ (a ≡ b)
 same_id a b = search rules
 
 id_cases : (a b : InterfaceId) → (eq-value.it a b ≡ false) ⊎ (a ≡ b)

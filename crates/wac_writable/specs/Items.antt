@@ -16,10 +16,6 @@ use Rattle.wac_graph_scopes.specs.Parts.{IsOfInterface, IsOfWorld}
 abbrev pub item_unwritable : Collection → Bool → Name → ItemKind → Held → Bool
 item_unwritable c outer n k h = unwritable (stated_of c k) n h outer
 
--- a component, or a world as a type
-abbrev pub IsOfSomeWorld : ItemKind → Type 0
-IsOfSomeWorld k = (w : WorldId) × IsOfWorld k w
-
 -- an item that is of no interface and of no world
 pub record IsSimple (k : ItemKind) : Type 0 where
   pub no_interface : (i : InterfaceId) → IsOfInterface k i → ⊥

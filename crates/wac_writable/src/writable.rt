@@ -1,6 +1,6 @@
 //! Which types cannot be written.
 
-ghost use Rattle.std.specs.Prelude.{◌≡◌, is_some, IfSome, OnOk, IfOk};
+ghost use Rattle.std.specs.Prelude.{◌≡◌, [], is_some, IfSome, OnOk, IfOk};
 ghost use Rattle.wac_types_base.specs.declared.item.ValueType.{ValueType};
 ghost use Rattle.wac_types_base.specs.declared.item.ItemKind.{ItemKind};
 ghost use Rattle.wac_types_base.specs.declared.item.«Type».{«Type» as TypeKind};
@@ -8,9 +8,13 @@ ghost use Rattle.wac_types_base.specs.Collection.{Stands};
 ghost use Rattle.wac_writable.specs.Holders.{Keeps, resource_in};
 ghost use Rattle.wac_writable.specs.Values.{IsHandleOf, TellsRoot, TellsUnused, TellsValue, TellsPlaces, value_in_slot};
 ghost use Rattle.wac_writable.specs.Items.{IsSimple, module_unwritable};
-ghost use Rattle.wac_writable.specs.Tests.{TellsPlain, TellsOf, TellsUngiven, TellsTested, TellsExports, TellsInterface};
-ghost use Rattle.wac_writable.specs.Tests.{is_tested, wrapped_in, stands_in};
-ghost use Rattle.wac_writable.specs.Tests.{TellsFirst, TellsOuter, TellsUnwrapped, TellsGivenBy};
+ghost use Rattle.wac_writable.specs.Tests.{TellsFound, TellsOf, TellsUngiven, TellsTested, TellsExports, TellsInterface};
+ghost use Rattle.wac_writable.specs.Tests.{is_tested, wrapped_in, stands_in, TellsGivenBy};
+ghost use Rattle.wac_writable.specs.Tests.{TellsImports, TellsWorldExports, TellsItems, TellsItemsOfWorld, TellsWorld};
+ghost use Rattle.wac_writable.specs.Tests.{TellsFirst, TellsOuter, TellsWrapped, TellsDefinition, TellsPackage};
+ghost use Rattle.wac_writable.specs.Givers.{TellsImported, TellsAdded, TellsUse, TellsAt, TellsDirect, TellsNeeded};
+ghost use Rattle.wac_writable.specs.Givers.{TellsWorldUses, TellsUsesOfImports, TellsUsesOfExports, TellsAllUses};
+ghost use Rattle.wac_writable.specs.Givers.{TellsUsesOfWorld, TellsWrappedUses};
 
 use crate::holder::{Holder, is_same_item};
 use crate::modules::is_writable_module;
@@ -117,7 +121,7 @@ fn value_fails(test: Test<'_>, holder: &mut Holder, ty: ValueType) -> Result<boo
     }
 }
 
-/// The same of a defined type, which is tested once.
+/// Whether a defined type fails: it is tested once.
 #[cycle(values)]
 fn defined_fails(test: Test<'_>, holder: &mut Holder, id: DefinedTypeId) -> Result<bool, AllocError>
     ensures keeps { OnOk result (Keeps test.entry.types.now holder.old holder.new) }
@@ -215,7 +219,7 @@ fn type_fails(
     }
 }
 
-/// The same of an item.
+/// Whether an item fails that is of no interface and of no world.
 fn simple_fails(test: Test<'_>, holder: &mut Holder, item: Item<'_>) -> Result<bool, AllocError>
     ensures keeps { OnOk result (Keeps test.entry.types.now holder.old holder.new) }
     ensures fails { IfOk result (λ b. IsSimple item.entry.kind → TellsOf test.entry holder.old item.entry b) }
@@ -235,7 +239,8 @@ fn simple_fails(test: Test<'_>, holder: &mut Holder, item: Item<'_>) -> Result<b
 #[cycle(items)]
 fn item_fails(test: Test<'_>, holder: &mut Holder, item: Item<'_>) -> Result<bool, AllocError>
     ensures keeps { OnOk result (Keeps test.entry.types.now holder.old holder.new) }
-    ensures fails { IfOk result (TellsPlain test.entry item.entry.kind (TellsOf test.entry holder.old item.entry)) }
+    ensures fails { IfOk result (TellsFound test.entry (TellsOf test.entry holder.old item.entry)) }
+    ensures simple { IfOk result (λ b. IsSimple item.entry.kind → TellsOf test.entry holder.old item.entry b) }
 {
     test.types.see_acyclic();
     if let Some(id) = interface_of(test.types, item.kind) {
@@ -251,7 +256,7 @@ fn item_fails(test: Test<'_>, holder: &mut Holder, item: Item<'_>) -> Result<boo
 #[cycle(items)]
 fn ungiven_fails(test: Test<'_>, holder: &mut Holder, item: Item<'_>) -> Result<bool, AllocError>
     ensures keeps { OnOk result (Keeps test.entry.types.now holder.old holder.new) }
-    ensures fails { IfOk result (TellsPlain test.entry item.entry.kind (TellsUngiven test.entry holder.old item.entry)) }
+    ensures fails { IfOk result (TellsFound test.entry (TellsUngiven test.entry holder.old item.entry)) }
 {
     if holder.gives(test.alloc, test.types, item)? {
         return Ok(false);
@@ -259,7 +264,7 @@ fn ungiven_fails(test: Test<'_>, holder: &mut Holder, item: Item<'_>) -> Result<
     item_fails(test, holder, item)
 }
 
-/// The same of one that is tested.
+/// Whether an item fails, in what holds it, that is tested and that no use gives.
 #[cycle(items)]
 fn tested_fails(
     test: Test<'_>,
@@ -268,7 +273,7 @@ fn tested_fails(
     which: Which,
 ) -> Result<bool, AllocError>
     ensures keeps { OnOk result (Keeps test.entry.types.now holder.old holder.new) }
-    ensures fails { IfOk result (TellsPlain test.entry item.entry.kind (TellsTested test.entry holder.old which item.entry)) }
+    ensures fails { IfOk result (TellsFound test.entry (TellsTested test.entry holder.old which item.entry)) }
 {
     if !is_tested(which, item.kind) {
         return Ok(false);
@@ -284,7 +289,7 @@ fn exports_fail(
     id: InterfaceId,
     which: Which,
 ) -> Result<bool, AllocError>
-    ensures { IfOk result (TellsPlain test.entry (ItemKind.Instance id) (TellsExports test.entry holder.old which id)) }
+    ensures { IfOk result (TellsFound test.entry (TellsExports test.entry holder.old which id)) }
 {
     for at in 0..export_count(test.types, id) {
         if let Some(item) = export_at(test.types, id, at) {
@@ -296,9 +301,10 @@ fn exports_fail(
     Ok(false)
 }
 
+/// Whether an interface cannot be written with the items that are tested.
 #[cycle(items)]
 fn interface_fails(test: Test<'_>, id: InterfaceId, which: Which) -> Result<bool, AllocError>
-    ensures { IfOk result (TellsPlain test.entry (ItemKind.Instance id) (TellsInterface test.entry which id)) }
+    ensures { IfOk result (TellsFound test.entry (TellsInterface test.entry which id)) }
 {
     if test.unnamed.is_found(id) {
         return Ok(true);
@@ -366,7 +372,11 @@ impl Drop for Giver {
 }
 
 impl Giver {
-    fn new(alloc: Global, world: Option<WorldId>) -> Self {
+    fn new(alloc: Global, world: Option<WorldId>) -> Self
+        ensures world { result.world ≡ world }
+        ensures seen { result.seen.keys ≡ [] }
+        ensures fine { result.fine.keys ≡ [] }
+    {
         Giver {
             world,
             seen: IndexSet::new(alloc),
@@ -375,7 +385,10 @@ impl Giver {
     }
 
     /// Whether its imports give what is used.
-    fn gives(&self, test: Test<'_>, used: Use<'_>, name: &str) -> Result<bool, AllocError> {
+    fn gives(&self, test: Test<'_>, used: Use<'_>, name: &str) -> Result<bool, AllocError>
+        ensures { IfOk result (TellsImported test.entry self.now.world name.now used.entry) }
+    {
+        test.types.see_acyclic();
         match self.world {
             Some(world) => match import_named(test.types, world, name) {
                 Some(import) => gives_used(test, import, used),
@@ -388,24 +401,30 @@ impl Giver {
 
 /// Whether a used interface fails that a component type would import: its types are tested once.
 #[cycle(items)]
-fn types_fail(test: Test<'_>, giver: &mut Giver, id: InterfaceId) -> Result<bool, AllocError> {
+fn types_fail(test: Test<'_>, giver: &mut Giver, id: InterfaceId) -> Result<bool, AllocError>
+    ensures { IfOk result (TellsAdded test.entry giver.old giver.new id) }
+{
+    test.types.see_acyclic();
     if test.is_outer {
         return Ok(true);
     }
     if giver.fine.contains(&id) {
         return Ok(false);
     }
-    let fails = interface_fails(test, id, Which::TypesOnly)?;
-    if !fails {
-        let _ = giver.fine.insert(id)?;
+    if interface_fails(test, id, Which::TypesOnly)? {
+        return Ok(true);
     }
-    Ok(fails)
+    let _ = giver.fine.insert(id)?;
+    Ok(false)
 }
 
 /// Whether a use fails that a component type's imports do not give: in an outer import each; else where the used
 /// interface has types that fail. So that a name with another item adds nothing.
 #[cycle(items)]
-fn use_itself_fails(test: Test<'_>, giver: &mut Giver, used: Use<'_>) -> Result<bool, AllocError> {
+fn use_itself_fails(test: Test<'_>, giver: &mut Giver, used: Use<'_>) -> Result<bool, AllocError>
+    ensures { IfOk result (TellsUse test.entry giver.old giver.new used.entry) }
+{
+    test.types.see_acyclic();
     let Some(name) = identifier(test.types, used.interface) else {
         return Ok(false);
     };
@@ -415,9 +434,12 @@ fn use_itself_fails(test: Test<'_>, giver: &mut Giver, used: Use<'_>) -> Result<
     types_fail(test, giver, used.interface)
 }
 
-/// The same of a use, and of the uses of its interface, which are looked at once.
+/// Whether a use fails, or one that its interface needs, which is walked once.
 #[cycle(items)]
-fn use_fails(test: Test<'_>, giver: &mut Giver, used: Use<'_>) -> Result<bool, AllocError> {
+fn use_fails(test: Test<'_>, giver: &mut Giver, used: Use<'_>) -> Result<bool, AllocError>
+    ensures { IfOk result (TellsAt test.entry giver.old giver.new used.entry) }
+{
+    test.types.see_acyclic();
     if use_itself_fails(test, giver, used)? {
         return Ok(true);
     }
@@ -429,9 +451,12 @@ fn use_fails(test: Test<'_>, giver: &mut Giver, used: Use<'_>) -> Result<bool, A
     }
 }
 
-/// The same of the uses of an interface itself.
+/// Whether one fails that an interface uses, or that such a one needs.
 #[cycle(items)]
-fn direct_fails(test: Test<'_>, giver: &mut Giver, id: InterfaceId) -> Result<bool, AllocError> {
+fn direct_fails(test: Test<'_>, giver: &mut Giver, id: InterfaceId) -> Result<bool, AllocError>
+    ensures { IfOk result (TellsDirect test.entry giver.old giver.new id) }
+{
+    test.types.see_acyclic();
     for at in 0..use_count(test.types, id) {
         if let Some(used) = use_at(test.types, id, at) {
             if use_fails(test, giver, used)? {
@@ -442,9 +467,12 @@ fn direct_fails(test: Test<'_>, giver: &mut Giver, id: InterfaceId) -> Result<bo
     Ok(false)
 }
 
-/// The same of those of an item.
+/// Whether one fails that an item needs: by the uses of its interface, or by an export of it.
 #[cycle(items)]
-fn uses_fail(test: Test<'_>, giver: &mut Giver, kind: ItemKind) -> Result<bool, AllocError> {
+fn uses_fail(test: Test<'_>, giver: &mut Giver, kind: ItemKind) -> Result<bool, AllocError>
+    ensures { IfOk result (TellsNeeded test.entry giver.old giver.new kind) }
+{
+    test.types.see_acyclic();
     let Some(id) = interface_of(test.types, kind) else {
         return Ok(false);
     };
@@ -461,9 +489,12 @@ fn uses_fail(test: Test<'_>, giver: &mut Giver, kind: ItemKind) -> Result<bool, 
     Ok(false)
 }
 
-/// The same of those of a world itself.
+/// Whether one fails that a world uses, or that such a one needs.
 #[cycle(items)]
-fn world_uses_fail(test: Test<'_>, giver: &mut Giver, id: WorldId) -> Result<bool, AllocError> {
+fn world_uses_fail(test: Test<'_>, giver: &mut Giver, id: WorldId) -> Result<bool, AllocError>
+    ensures { IfOk result (TellsWorldUses test.entry giver.old giver.new id) }
+{
+    test.types.see_acyclic();
     for at in 0..world_use_count(test.types, id) {
         if let Some(used) = world_use_at(test.types, id, at) {
             if use_fails(test, giver, used)? {
@@ -474,13 +505,12 @@ fn world_uses_fail(test: Test<'_>, giver: &mut Giver, id: WorldId) -> Result<boo
     Ok(false)
 }
 
-/// The same of those of a world's imports.
+/// Whether a use fails that an import of a world needs.
 #[cycle(items)]
-fn uses_of_imports_fail(
-    test: Test<'_>,
-    giver: &mut Giver,
-    id: WorldId,
-) -> Result<bool, AllocError> {
+fn uses_of_imports_fail(test: Test<'_>, giver: &mut Giver, id: WorldId) -> Result<bool, AllocError>
+    ensures { IfOk result (TellsUsesOfImports test.entry giver.old giver.new id) }
+{
+    test.types.see_acyclic();
     for at in 0..import_count(test.types, id) {
         if let Some(item) = import_at(test.types, id, at) {
             if uses_fail(test, giver, item.kind)? {
@@ -491,13 +521,12 @@ fn uses_of_imports_fail(
     Ok(false)
 }
 
-/// The same of those of a world's exports.
+/// Whether a use fails that an export of a world needs.
 #[cycle(items)]
-fn uses_of_exports_fail(
-    test: Test<'_>,
-    giver: &mut Giver,
-    id: WorldId,
-) -> Result<bool, AllocError> {
+fn uses_of_exports_fail(test: Test<'_>, giver: &mut Giver, id: WorldId) -> Result<bool, AllocError>
+    ensures { IfOk result (TellsUsesOfExports test.entry giver.old giver.new id) }
+{
+    test.types.see_acyclic();
     for at in 0..world_export_count(test.types, id) {
         if let Some(item) = world_export_at(test.types, id, at) {
             if uses_fail(test, giver, item.kind)? {
@@ -510,7 +539,11 @@ fn uses_of_exports_fail(
 
 /// Whether an import of a world fails that no use gives.
 #[cycle(items)]
-fn imports_fail(test: Test<'_>, holder: &mut Holder, id: WorldId) -> Result<bool, AllocError> {
+fn imports_fail(test: Test<'_>, holder: &mut Holder, id: WorldId) -> Result<bool, AllocError>
+    ensures keeps { OnOk result (Keeps test.entry.types.now holder.old holder.new) }
+    ensures fails { IfOk result (TellsFound test.entry (TellsImports test.entry holder.old id)) }
+{
+    test.types.see_acyclic();
     for at in 0..import_count(test.types, id) {
         if let Some(item) = import_at(test.types, id, at) {
             if ungiven_fails(test, holder, item)? {
@@ -523,11 +556,10 @@ fn imports_fail(test: Test<'_>, holder: &mut Holder, id: WorldId) -> Result<bool
 
 /// Whether an export of a world fails.
 #[cycle(items)]
-fn world_exports_fail(
-    test: Test<'_>,
-    holder: &mut Holder,
-    id: WorldId,
-) -> Result<bool, AllocError> {
+fn world_exports_fail(test: Test<'_>, holder: &mut Holder, id: WorldId) -> Result<bool, AllocError>
+    ensures { IfOk result (TellsFound test.entry (TellsWorldExports test.entry holder.old id)) }
+{
+    test.types.see_acyclic();
     for at in 0..world_export_count(test.types, id) {
         if let Some(item) = world_export_at(test.types, id, at) {
             if item_fails(test, holder, item)? {
@@ -538,9 +570,12 @@ fn world_exports_fail(
     Ok(false)
 }
 
-/// Whether a use of a world or of its items fails, among those that its imports do not give.
+/// Whether a use fails that a world or one of its items needs.
 #[cycle(items)]
-fn all_uses_fail(test: Test<'_>, giver: &mut Giver, id: WorldId) -> Result<bool, AllocError> {
+fn all_uses_fail(test: Test<'_>, giver: &mut Giver, id: WorldId) -> Result<bool, AllocError>
+    ensures { IfOk result (TellsAllUses test.entry giver.old giver.new id) }
+{
+    test.types.see_acyclic();
     if world_uses_fail(test, giver, id)? {
         return Ok(true);
     }
@@ -550,31 +585,41 @@ fn all_uses_fail(test: Test<'_>, giver: &mut Giver, id: WorldId) -> Result<bool,
     uses_of_exports_fail(test, giver, id)
 }
 
-/// The same of a world whose uses are looked at afresh.
+/// Whether a use fails that a world or one of its items needs, beside its own imports.
 #[cycle(items)]
-fn uses_of_world_fail(test: Test<'_>, id: WorldId) -> Result<bool, AllocError> {
+fn uses_of_world_fail(test: Test<'_>, id: WorldId) -> Result<bool, AllocError>
+    ensures { IfOk result (TellsUsesOfWorld test.entry id) }
+{
     let mut giver = Giver::new(test.alloc, Some(id));
     all_uses_fail(test, &mut giver, id)
 }
 
-/// Whether an item of a world fails in what holds it.
+/// Whether an import of a world fails that no use gives, or an export, in what holds them.
 #[cycle(items)]
-fn all_items_fail(test: Test<'_>, holder: &mut Holder, id: WorldId) -> Result<bool, AllocError> {
+fn all_items_fail(test: Test<'_>, holder: &mut Holder, id: WorldId) -> Result<bool, AllocError>
+    ensures { IfOk result (TellsFound test.entry (TellsItems test.entry holder.old id)) }
+{
     if imports_fail(test, holder, id)? {
         return Ok(true);
     }
     world_exports_fail(test, holder, id)
 }
 
-/// Whether an item of a world fails.
+/// Whether an import of a world fails that no use gives, or an export.
 #[cycle(items)]
-fn items_of_world_fail(test: Test<'_>, id: WorldId) -> Result<bool, AllocError> {
+fn items_of_world_fail(test: Test<'_>, id: WorldId) -> Result<bool, AllocError>
+    ensures { IfOk result (TellsFound test.entry (TellsItemsOfWorld test.entry id)) }
+{
     let mut holder = Holder::of_world(test.alloc, test.types, id)?;
     all_items_fail(test, &mut holder, id)
 }
 
+/// Whether a component type cannot be written.
 #[cycle(items)]
-fn world_fails(test: Test<'_>, id: WorldId) -> Result<bool, AllocError> {
+fn world_fails(test: Test<'_>, id: WorldId) -> Result<bool, AllocError>
+    ensures { IfOk result (TellsFound test.entry (TellsWorld test.entry id)) }
+{
+    test.types.see_acyclic();
     if test.unnamed.is_found_of_world(test.types, id) {
         return Ok(true);
     }
@@ -612,14 +657,19 @@ pub fn unwritable_outer(test: Test<'_>, world: WorldId) -> Result<Option<usize>,
     first_that_fails(test, &mut holder, world)
 }
 
-/// Whether a use of an interface inside a component type of its own fails.
-fn wrapped_uses_fail(test: Test<'_>, id: InterfaceId) -> Result<bool, AllocError> {
+/// Whether a use fails that an interface needs inside a component type of its own, which imports nothing.
+fn wrapped_uses_fail(test: Test<'_>, id: InterfaceId) -> Result<bool, AllocError>
+    ensures { IfOk result (TellsWrappedUses test.entry id) }
+{
     let mut giver = Giver::new(test.alloc, None);
     uses_fail(test, &mut giver, ItemKind::Instance(id))
 }
 
 /// Whether an interface cannot be written inside a component type of its own.
-fn wrapped_fails(test: Test<'_>, id: InterfaceId) -> Result<bool, AllocError> {
+fn wrapped_fails(test: Test<'_>, id: InterfaceId) -> Result<bool, AllocError>
+    ensures { IfOk result (TellsFound test.entry (TellsWrapped test.entry id)) }
+{
+    test.types.see_acyclic();
     if wrapped_uses_fail(test, id)? {
         return Ok(true);
     }
@@ -649,8 +699,10 @@ pub fn is_unwritable_definition(
     item: Item<'_>,
 ) -> Result<bool, AllocError>
     ensures keeps { OnOk result (Keeps test.entry.types.now outers.old outers.new) }
-    ensures fails { IfOk result (TellsUnwrapped test.entry outers.old item.entry) }
+    ensures fails { IfOk result (TellsFound test.entry (TellsDefinition test.entry outers.old item.entry)) }
+    ensures simple { IfOk result (λ b. IsSimple item.entry.kind → TellsDefinition test.entry outers.old item.entry b) }
 {
+    test.types.see_acyclic();
     match wrapped_interface(test.types, item.kind) {
         Some(id) => wrapped_fails(test, id),
         None => item_fails(test, outers, item),
@@ -658,6 +710,9 @@ pub fn is_unwritable_definition(
 }
 
 /// Whether a package's world cannot be written as the type of an import.
-pub fn is_unwritable_package(test: Test<'_>, world: WorldId) -> Result<bool, AllocError> {
+pub fn is_unwritable_package(test: Test<'_>, world: WorldId) -> Result<bool, AllocError>
+    ensures { IfOk result (TellsFound test.entry (TellsPackage test.entry world)) }
+{
+    test.types.see_acyclic();
     world_fails(test, world)
 }

@@ -1,12 +1,14 @@
-use Rattle.std.proofs.Common.{◌≡◌, ◌+◌, ◌*◌, drop}
+use Rattle.std.proofs.Common.{◌≡◌, ◌+◌, ◌*◌, take, drop}
 use Rattle.std.specs.List.{list_any}
 use Rattle.wac_types_base.specs.declared.item.ItemKind.{ItemKind}
 use Rattle.wac_types_base.specs.Collection.{size_of}
 use Rattle.wac_composition.specs.Writable.{Holder as Held}
-use Rattle.wac_graph_scopes.specs.Parts.{exports_of as exports_in}
+use Rattle.wac_graph_scopes.specs.Parts.{exports_of as exports_in, uses_of as uses_in, world_uses_of as world_uses_in, imports_of as imports_in, world_exports_of as world_exports_in}
 use Rattle.wac_writable.specs.Unnamed.{KnowsAll}
 use Rattle.wac_writable.specs.Holders.{Holds, Keeps}
-use Rattle.wac_writable.specs.Tests.{HasNoWorld, exports_unwritable, tested_unwritable}
+use Rattle.wac_writable.specs.Tests.{exports_unwritable, tested_unwritable, some_ungiven, some_unwritable}
+use Rattle.wac_writable.proofs.UseLaws.{NoneOf, FailsIn, ItemNeeds}
+use Rattle.wac_writable.proofs.GiverLaws.{Passed}
 use Rattle.wac_writable.proofs.writable.+items.Given as goal
 
 abbrev pub decreases-item_fails : goal.decreases-item_fails
@@ -66,11 +68,44 @@ decreases-ungiven_fails l = 16 * size_of l.test.types.now l.item.kind + 10
 abbrev pub decreases-tested_fails : goal.decreases-tested_fails
 decreases-tested_fails l = 16 * size_of l.test.types.now l.item.kind + 11
 
+abbrev pub decreases-use_itself_fails : goal.decreases-use_itself_fails
+decreases-use_itself_fails l = 16 * size_of l.test.types.now (ItemKind.Instance l.used.interface) + 9
+
 -- the exports that are left decide
 abbrev pub invariant-exports_fail-loop-at : goal.invariant-exports_fail-loop-at
 invariant-exports_fail-loop-at l =
-    Keeps l.test.types.now l.fn.holder l.holder × (KnowsAll l.test.types.now l.test.unnamed.now → HasNoWorld l.test.types.now (ItemKind.Instance l.id) → (h : Held) → Holds l.test.types.now l.fn.holder h
+    Keeps l.test.types.now l.fn.holder l.holder × (KnowsAll l.test.types.now l.test.unnamed.now → (h : Held) → Holds l.test.types.now l.fn.holder h
     → exports_unwritable l.test.types.now l.test.is_outer l.which l.id h ≡ list_any (tested_unwritable l.test.types.now l.test.is_outer l.which h) (drop l.at (exports_in l.test.types.now l.id)))
 
-abbrev pub decreases-use_itself_fails : goal.decreases-use_itself_fails
-decreases-use_itself_fails l = 16 * size_of l.test.types.now (ItemKind.Instance l.used.interface) + 9
+-- the imports that are left decide, and the exports of a world
+abbrev pub invariant-imports_fail-loop-at : goal.invariant-imports_fail-loop-at
+invariant-imports_fail-loop-at l =
+    Keeps l.test.types.now l.fn.holder l.holder × (KnowsAll l.test.types.now l.test.unnamed.now → (h : Held) → Holds l.test.types.now l.fn.holder h
+    → some_ungiven l.test.types.now l.test.is_outer h (imports_in l.test.types.now l.id) ≡ some_ungiven l.test.types.now l.test.is_outer h (drop l.at (imports_in l.test.types.now l.id)))
+
+abbrev pub invariant-world_exports_fail-loop-at : goal.invariant-world_exports_fail-loop-at
+invariant-world_exports_fail-loop-at l =
+    Keeps l.test.types.now l.fn.holder l.holder × (KnowsAll l.test.types.now l.test.unnamed.now → (h : Held) → Holds l.test.types.now l.fn.holder h
+    → some_unwritable l.test.types.now l.test.is_outer h (world_exports_in l.test.types.now l.id) ≡ some_unwritable l.test.types.now l.test.is_outer h (drop l.at (world_exports_in l.test.types.now l.id)))
+
+-- none of the uses so far fails, or needs one that does
+abbrev pub invariant-direct_fails-loop-at : goal.invariant-direct_fails-loop-at
+invariant-direct_fails-loop-at l =
+    Passed l.test l.fn.giver l.giver (size_of l.test.types.now (ItemKind.Instance l.id)) (λ is. NoneOf (FailsIn l.test.is_outer is l.test.types.now) (take l.at (uses_in l.test.types.now l.id)))
+
+abbrev pub invariant-world_uses_fail-loop-at : goal.invariant-world_uses_fail-loop-at
+invariant-world_uses_fail-loop-at l =
+    Passed l.test l.fn.giver l.giver (size_of l.test.types.now (ItemKind.Component l.id)) (λ is. NoneOf (FailsIn l.test.is_outer is l.test.types.now) (take l.at (world_uses_in l.test.types.now l.id)))
+
+-- none of the items so far needs one that does
+abbrev pub invariant-uses_fail-loop-at : goal.invariant-uses_fail-loop-at
+invariant-uses_fail-loop-at l =
+    Passed l.test l.fn.giver l.giver (size_of l.test.types.now l.fn.kind) (λ is. NoneOf (ItemNeeds l.test.is_outer is l.test.types.now) (take l.at (exports_in l.test.types.now l.id)))
+
+abbrev pub invariant-uses_of_imports_fail-loop-at : goal.invariant-uses_of_imports_fail-loop-at
+invariant-uses_of_imports_fail-loop-at l =
+    Passed l.test l.fn.giver l.giver (size_of l.test.types.now (ItemKind.Component l.id)) (λ is. NoneOf (ItemNeeds l.test.is_outer is l.test.types.now) (take l.at (imports_in l.test.types.now l.id)))
+
+abbrev pub invariant-uses_of_exports_fail-loop-at : goal.invariant-uses_of_exports_fail-loop-at
+invariant-uses_of_exports_fail-loop-at l =
+    Passed l.test l.fn.giver l.giver (size_of l.test.types.now (ItemKind.Component l.id)) (λ is. NoneOf (ItemNeeds l.test.is_outer is l.test.types.now) (take l.at (world_exports_in l.test.types.now l.id)))

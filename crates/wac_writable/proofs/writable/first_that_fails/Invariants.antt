@@ -4,11 +4,11 @@ use Rattle.wac_composition.specs.Writable.{Holder as Held}
 use Rattle.wac_graph_scopes.specs.Parts.{imports_of as imports_in}
 use Rattle.wac_writable.specs.Unnamed.{KnowsAll}
 use Rattle.wac_writable.specs.Holders.{Holds, Keeps}
-use Rattle.wac_writable.specs.Tests.{ImportsHaveNoWorld, import_unwritable}
+use Rattle.wac_writable.specs.Tests.{import_unwritable}
 use Rattle.wac_writable.proofs.writable.first_that_fails.Given as goal
 
 -- none before can be written not
 abbrev pub invariant-loop-at : goal.invariant-loop-at
 invariant-loop-at l =
-    Keeps l.test.types.now l.fn.holder l.holder × (KnowsAll l.test.types.now l.test.unnamed.now → ImportsHaveNoWorld l.test.types.now l.world → (h : Held) → Holds l.test.types.now l.fn.holder h
+    Keeps l.test.types.now l.fn.holder l.holder × (KnowsAll l.test.types.now l.test.unnamed.now → (h : Held) → Holds l.test.types.now l.fn.holder h
     → list_any (import_unwritable l.test h) (take l.at (imports_in l.test.types.now l.world)) ≡ false)

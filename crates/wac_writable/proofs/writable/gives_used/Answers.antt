@@ -4,14 +4,14 @@ use Rattle.wac_writable.proofs.GivenLaws.{takes_nothing, gives_nothing, gives_by
 use Rattle.wac_writable.proofs.writable.gives_used.Goals as goal
 
 pub returns-in_default : goal.returns-in_default
-returns-in_default c s w = takes_nothing c.args.test.types.now c.see_acyclic.ensures c.args.used c.args.import c.in_default.ensures.value
+returns-in_default c s = takes_nothing c.args.test.types.now c.see_acyclic.ensures c.args.used c.args.import c.in_default.ensures.value
 
 pub returns-in_default-interface_of : goal.returns-in_default-interface_of
-returns-in_default-interface_of c s w =
-    gives_nothing c.args.test.types.now c.see_acyclic.ensures c.args.used c.args.import c.in-Some.item c.in-Some.ensures.value s (c.in_default-interface_of.ensures.none s) (λ i e. w (i, e))
+returns-in_default-interface_of c s =
+    gives_nothing c.args.test.types.now c.see_acyclic.ensures c.args.used c.args.import c.in-Some.item c.in-Some.ensures.value c.in_default-interface_of.ensures.none
 
 pub returns : goal.returns
 returns c =
     let C = c.args.test.types.now in
-    if_ok_map c.stands_for.result (λ b f s w. f
+    if_ok_map c.stands_for.result (λ b f s. f
     ∙ sym (gives_by C c.see_acyclic.ensures c.args.used c.args.import c.in-Some.item c.in-Some-interface_of.id c.export_named-2.result c.in-Some.ensures.value c.in-Some-interface_of.ensures.kind s c.export_named-2.ensures.value)) c.stands_for.ensures

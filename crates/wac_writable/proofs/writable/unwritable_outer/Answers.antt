@@ -5,4 +5,4 @@ use Rattle.wac_graph_scopes.proofs.HandleLaws.{if_ok_map}
 use Rattle.wac_writable.proofs.writable.unwritable_outer.Goals as goal
 
 pub returns : goal.returns
-returns c = if_ok_map c.first_that_fails.result (λ o f ka none. f ka none (component_holder (stated_of c.args.test.types.now (ItemKind.Component c.args.world))) c.in_ok-holder.ensures) c.first_that_fails.ensures
+returns c = if_ok_map c.first_that_fails.result (λ o f ka. f ka (component_holder (stated_of c.args.test.types.now (ItemKind.Component c.args.world))) c.in_ok-holder.ensures) c.first_that_fails.ensures
