@@ -31,6 +31,9 @@ imports_by c (Some w) = imports_of (component_of c w)
 -- ---- what is remembered
 
 module _ (t : Test) where
+  abbrev pub size_in : InterfaceId → ℕ
+  size_in i = size_of t.types.now (ItemKind.Instance i)
+
   -- a use fails that this interface needs, beside the imports of a world
   abbrev pub NeedsFailing : Option WorldId → InterfaceId → Type 0
   NeedsFailing w i = NeededBy t.is_outer (imports_by t.types.now w) (instance_of t.types.now i)
@@ -42,7 +45,7 @@ module _ (t : Test) where
   -- the types of what is called fine do not fail, and nothing that was seen, below this size, needs a use that fails
   pub record KnowsBelow (size : ℕ) (g : Giver) : Type 0 where
     pub fine : AllFine g.fine.keys
-    pub seen : (i : InterfaceId) → Among i g.seen.keys → size_of t.types.now (ItemKind.Instance i) < size → NeedsFailing g.world i → ⊥
+    pub seen : (i : InterfaceId) → Among i g.seen.keys → size_in i < size → NeedsFailing g.world i → ⊥
 
   -- each that was seen meanwhile needs none that fails
   pub record Goes (old new : Giver) : Type 0 where
@@ -56,7 +59,8 @@ module _ (t : Test) where
 -- meanwhile is true.
 abbrev pub TellsBeside : Test → Giver → Giver → ℕ → (List (Name × Stated) → Type 0) → Bool → Type 0
 TellsBeside t old new size P b =
-    KnowsAll t.types.now t.unnamed.now → KnowsBelow t size old → Decides b (P (imports_by t.types.now old.world)) × (b ≡ false → Goes t old new)
+    KnowsAll t.types.now t.unnamed.now → KnowsBelow t size old
+    → Decides b (P (imports_by t.types.now old.world)) × (b ≡ false → Goes t old new)
 
 -- whether a use is given
 abbrev pub TellsImported : Test → Option WorldId → Name → Use → Bool → Type 0
@@ -73,22 +77,24 @@ TellsUse t old new u b = TellsBeside t old new 0 (λ is. UseFails t.is_outer is 
 -- or one that its interface needs
 abbrev pub TellsAt : Test → Giver → Giver → Use → Bool → Type 0
 TellsAt t old new u b =
-    TellsBeside t old new (size_of t.types.now (ItemKind.Instance u.interface) + 1) (λ is. FailsAt t.is_outer is (used_of t.types.now u)) b
+    TellsBeside t old new (size_in t u.interface + 1) (λ is. FailsAt t.is_outer is (used_of t.types.now u)) b
 
 -- whether one fails that an interface uses, or that such a one needs
 abbrev pub TellsDirect : Test → Giver → Giver → InterfaceId → Bool → Type 0
 TellsDirect t old new i b =
-    TellsBeside t old new (size_of t.types.now (ItemKind.Instance i)) (λ is. SomeUse t.is_outer is (uses_of (instance_of t.types.now i))) b
+    TellsBeside t old new (size_in t i) (λ is. SomeUse t.is_outer is (uses_of (instance_of t.types.now i))) b
 
 -- whether one fails that an item needs
 abbrev pub TellsNeeded : Test → Giver → Giver → ItemKind → Bool → Type 0
-TellsNeeded t old new k b = TellsBeside t old new (size_of t.types.now k) (λ is. NeededBy t.is_outer is (stated_of t.types.now k)) b
+TellsNeeded t old new k b =
+    TellsBeside t old new (size_of t.types.now k) (λ is. NeededBy t.is_outer is (stated_of t.types.now k)) b
 
 -- ---- of a world
 
 -- of what a world has
 abbrev pub TellsOfWorld : Test → Giver → Giver → WorldId → (List (Name × Stated) → Stated → Type 0) → Bool → Type 0
-TellsOfWorld t old new w P b = TellsBeside t old new (size_of t.types.now (ItemKind.Component w)) (λ is. P is (component_of t.types.now w)) b
+TellsOfWorld t old new w P b =
+    TellsBeside t old new (size_of t.types.now (ItemKind.Component w)) (λ is. P is (component_of t.types.now w)) b
 
 abbrev pub TellsWorldUses : Test → Giver → Giver → WorldId → Bool → Type 0
 TellsWorldUses t old new w b = TellsOfWorld t old new w (λ is x. SomeUse t.is_outer is (uses_of x)) b
@@ -109,7 +115,8 @@ TellsAllUses t old new w b = TellsOfWorld t old new w (WorldNeeds t.is_outer) b
 -- beside its own
 abbrev pub TellsUsesOfWorld : Test → WorldId → Bool → Type 0
 TellsUsesOfWorld t w b =
-    KnowsAll t.types.now t.unnamed.now → Decides b (WorldNeeds t.is_outer (imports_of (component_of t.types.now w)) (component_of t.types.now w))
+    KnowsAll t.types.now t.unnamed.now
+    → Decides b (WorldNeeds t.is_outer (imports_of (component_of t.types.now w)) (component_of t.types.now w))
 
 -- whether one fails that an interface needs where nothing is imported
 abbrev pub TellsWrappedUses : Test → InterfaceId → Bool → Type 0

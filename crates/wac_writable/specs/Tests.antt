@@ -86,14 +86,16 @@ abbrev pub TellsImports : Test → Holder → WorldId → Bool → Type 0
 TellsImports t s w b = (h : Held) → Holds t.types.now s h → b ≡ some_ungiven t.types.now t.is_outer h (imports_in t.types.now w)
 
 abbrev pub TellsWorldExports : Test → Holder → WorldId → Bool → Type 0
-TellsWorldExports t s w b = (h : Held) → Holds t.types.now s h → b ≡ some_unwritable t.types.now t.is_outer h (world_exports_in t.types.now w)
+TellsWorldExports t s w b =
+    (h : Held) → Holds t.types.now s h → b ≡ some_unwritable t.types.now t.is_outer h (world_exports_in t.types.now w)
 
 abbrev pub TellsItems : Test → Holder → WorldId → Bool → Type 0
 TellsItems t s w b = (h : Held) → Holds t.types.now s h → b ≡ items_unwritable t.types.now t.is_outer w h
 
 -- beside its own
 abbrev pub TellsItemsOfWorld : Test → WorldId → Bool → Type 0
-TellsItemsOfWorld t w b = b ≡ items_unwritable t.types.now t.is_outer w (component_holder (stated_of t.types.now (ItemKind.Component w)))
+TellsItemsOfWorld t w b =
+    b ≡ items_unwritable t.types.now t.is_outer w (component_holder (stated_of t.types.now (ItemKind.Component w)))
 
 -- whether a component type cannot be written
 abbrev pub TellsWorld : Test → WorldId → Bool → Type 0
@@ -112,7 +114,8 @@ import_unwritable t h e = item_unwritable t.types.now t.is_outer e.0 e.1 h
 -- the place of the first import that cannot be written in what the holder has
 abbrev pub TellsFirst : Test → Holder → WorldId → Option ℕ → Type 0
 TellsFirst t s w o =
-    KnowsAll t.types.now t.unnamed.now → (h : Held) → Holds t.types.now s h → IsFirst (import_unwritable t h) (imports_in t.types.now w) o
+    KnowsAll t.types.now t.unnamed.now → (h : Held) → Holds t.types.now s h
+    → IsFirst (import_unwritable t h) (imports_in t.types.now w) o
 
 -- the place of the first that cannot be written beside all of them
 abbrev pub TellsOuter : Test → WorldId → Option ℕ → Type 0
@@ -132,16 +135,19 @@ wrapped_in c k = None
 -- whether a component type cannot be written that has an interface alone, under any name
 abbrev pub TellsWrapped : Test → InterfaceId → Bool → Type 0
 TellsWrapped t i b =
-    Stands t.types.now (ItemKind.Instance i) → (n : Name) → Decides b (ComponentFails t.is_outer (wrapped n (stated_of t.types.now (ItemKind.Instance i))))
+    Stands t.types.now (ItemKind.Instance i) → (n : Name)
+    → Decides b (ComponentFails t.is_outer (wrapped n (stated_of t.types.now (ItemKind.Instance i))))
 
 -- whether the item, as it is defined, cannot be written in what the holder has
 abbrev pub TellsDefinition : Test → Holder → Item → Bool → Type 0
-TellsDefinition t s x b = TellsIn t.types.now s x.kind (λ h. unwritable (as_defined (stated_of t.types.now x.kind)) x.name.now h t.is_outer) b
+TellsDefinition t s x b =
+    TellsIn t.types.now s x.kind (λ h. unwritable (as_defined (stated_of t.types.now x.kind)) x.name.now h t.is_outer) b
 
 -- whether a component type that stands cannot be written, under any name and in anything
 abbrev pub TellsPackage : Test → WorldId → Bool → Type 0
 TellsPackage t w b =
-    Stands t.types.now (ItemKind.Component w) → (n : Name) (h : Held) → b ≡ item_unwritable t.types.now t.is_outer n (ItemKind.Component w) h
+    Stands t.types.now (ItemKind.Component w) → (n : Name) (h : Held)
+    → b ≡ item_unwritable t.types.now t.is_outer n (ItemKind.Component w) h
 
 -- ---- uses
 
