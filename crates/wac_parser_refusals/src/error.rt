@@ -585,8 +585,7 @@ impl Error {
             | Error::DuplicateParameter { span, .. }
             | Error::DuplicateResult { span, .. }
             | Error::BorrowInResult { span, .. } => Some(*span),
-            Error::ImportNotInTarget { span, .. }
-            | Error::TargetMismatch { span, .. } => *span,
+            Error::ImportNotInTarget { span, .. } | Error::TargetMismatch { span, .. } => *span,
             Error::ValidationFailure { .. }
             | Error::TypeCannotBeWritten { .. }
             | Error::TooLarge

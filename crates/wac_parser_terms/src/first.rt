@@ -20,9 +20,10 @@ use wac_parser_tree::{
     FlagsDecl, FuncType, Ident, ImportStatement, InlineInterface, InstantiationArgument,
     InstantiationArgumentName, InterfaceDecl, InterfaceExport, InterfaceItem, ItemTypeDecl,
     LetStatement, Method, NamedAccessExpr, NamedInstantiationArgument, NamedType, NamedWorldItem,
-    NestedExpr, NewExpr, PackageDirective, PackagePath, RecordDecl, ResourceDecl, ResourceMethod, Statement,
-    String, Type, TypeAlias, TypeDecl, TypeStatement, Use, UseItem, UsePath, VariantCase,
-    VariantDecl, WorldDecl, WorldExport, WorldImport, WorldInclude, WorldIncludeItem, WorldItem,
+    NestedExpr, NewExpr, PackageDirective, PackagePath, RecordDecl, ResourceDecl, ResourceMethod,
+    Statement, String, Type, TypeAlias, TypeDecl, TypeStatement, Use, UseItem, UsePath,
+    VariantCase, VariantDecl, WorldDecl, WorldExport, WorldImport, WorldInclude, WorldIncludeItem,
+    WorldItem,
 };
 
 /// The tokens with which a declaration of a document begins.
