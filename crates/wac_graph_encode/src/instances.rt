@@ -289,6 +289,15 @@ fn push_exports(
     Ok(())
 }
 
+/// As many steps as lead from node to node: one more than there are nodes.
+fn depth_of(graph: &CompositionGraph) -> usize {
+    let mut depth = 1usize;
+    for _ in graph.node_ids() {
+        depth = depth.saturating_add(1);
+    }
+    depth
+}
+
 impl<'a> Wired<'a> {
     /// Nothing is written yet.
     pub(crate) fn new(alloc: Global, graph: &'a CompositionGraph) -> Self
@@ -501,7 +510,7 @@ impl<'a> Wired<'a> {
         ensures keeps { OnOk result (KeepsNodes self.old self.new) }
         ensures all { OnOk result (AllStand self.new.graph.now (noted self.new)) }
     {
-        let depth = self.graph.node_ids().count().saturating_add(1);
+        let depth = depth_of(self.graph);
         for node in self.graph.node_ids() {
             self.write_node(node, depth)?;
         }
