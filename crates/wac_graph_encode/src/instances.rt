@@ -289,13 +289,13 @@ fn push_exports(
     Ok(())
 }
 
-/// As many steps as lead from node to node: one more than there are nodes.
-fn depth_of(graph: &CompositionGraph) -> usize {
-    let mut depth = 1usize;
+/// How many nodes a graph has.
+fn node_count(graph: &CompositionGraph) -> usize {
+    let mut count = 0usize;
     for _ in graph.node_ids() {
-        depth = depth.saturating_add(1);
+        count = count.saturating_add(1);
     }
-    depth
+    count
 }
 
 impl<'a> Wired<'a> {
@@ -510,7 +510,7 @@ impl<'a> Wired<'a> {
         ensures keeps { OnOk result (KeepsNodes self.old self.new) }
         ensures all { OnOk result (AllStand self.new.graph.now (noted self.new)) }
     {
-        let depth = depth_of(self.graph);
+        let depth = node_count(self.graph).saturating_add(1);
         for node in self.graph.node_ids() {
             self.write_node(node, depth)?;
         }
