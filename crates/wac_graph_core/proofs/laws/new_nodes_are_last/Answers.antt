@@ -2,4 +2,4 @@ use Rattle.wac_graph_core.proofs.Listed.{listed_last}
 use Rattle.wac_graph_core.proofs.laws.new_nodes_are_last.Goals as goal
 
 pub returns : goal.returns
-returns c = λ g k x below. listed_last g.nodes k x below
+returns c = listed_last
