@@ -35,6 +35,7 @@ use Rattle.wac_composition.proofs.Lists.{flat_among}
 use Rattle.wac_types_base.proofs.Looked.{among-get}
 use Rattle.wac_types_base.proofs.Adding.{Among-right}
 use Rattle.wac_types_base.proofs.Lists.{among_mapped}
+use Rattle.wac_graph_bytes.proofs.Replace.{Uses-project}
 
 -- ---- maps of named items
 
@@ -130,14 +131,6 @@ no_type Kind.IsModuleType a b = true≢false (sym a)
 straight_instance : (x : Stated) (xs : Fields) → IsStraight x → tree x ≡ Tree.instance xs → (is_instance (kind_of x) ≡ true) × ((n : Name) (y : Stated) → Among (n, y) (exports_of x) → IsStraight y)
 straight_instance x xs (an_instance e h) q = (e, h)
 straight_instance x xs (no_instance f) q = absurd (f xs q)
-
-pub uses_project : {I : Type 0} (P : I → Type 0) (s : Source I) (n : Name) → Uses P s → Uses P (project s n)
-uses_project P Absent n u = tt
-uses_project P (Outer m) n u = u
-uses_project P (Inst k) n u = u
-uses_project P (Projection s m) n u = u
-uses_project P (Bundle f) n u = u n
-uses_project P (Definition t) n u = u
 
 -- ---- exports, as what stands under names
 
@@ -331,13 +324,13 @@ module _ {A : Type 0} (tag_of : Key → Tag) (c : Composition A ℕ) (define : B
   uses_there : (o : Origin ℕ) (x : Stated) → HasType c o x → Uses There (source_of asks o)
   uses_there o x (of_import i m) = tt
   uses_there o x (of_instance k m e) = got_there k m e
-  uses_there o x (of_export p y n z h i e) = uses_project There (source_of asks p) n (uses_there p y h)
+  uses_there o x (of_export p y n z h i e) = Uses-project There (source_of asks p) n (uses_there p y h)
   uses_there o x (of_definition y k d) = tt
 
   uses_before : (k : ℕ) (o : Origin ℕ) (x : Stated) → HasType c o x → IsBefore k o → Uses (λ j. (j < k) × There j) (source_of asks o)
   uses_before k o x (of_import i m) b = tt
   uses_before k o x (of_instance j m e) b = (b, got_there j m e)
-  uses_before k o x (of_export p y n z h i e) b = uses_project (λ j. (j < k) × There j) (source_of asks p) n (uses_before k p y h b)
+  uses_before k o x (of_export p y n z h i e) b = Uses-project (λ j. (j < k) × There j) (source_of asks p) n (uses_before k p y h b)
   uses_before k o x (of_definition y t d) b = tt
 
   argument_before : (k : ℕ) (m : Made A ℕ) (n : Name) → slice_get c.made k ≡ Some m → (v : Option Stated) → value_at (imports_of m.world) n ≡ v → (o : Option (Origin ℕ)) → value_at m.arguments n ≡ o

@@ -9,6 +9,7 @@ pub mod ClassLaws
 pub mod NamesBack
 pub mod FitBack
 pub mod Renamed
+pub mod Alike
 pub mod Clashing
 pub mod Unused
 pub mod Straight

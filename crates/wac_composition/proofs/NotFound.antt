@@ -22,7 +22,7 @@ use Rattle.wac_composition.proofs.NotWritten.{any_decides, has_decides, trees_de
 use Rattle.wac_composition.proofs.Lists.{among_flat, flat_among, mapped_among}
 use Rattle.wac_types_base.proofs.Adding.{Among-left, Among-right}
 use Rattle.wac_types_base.proofs.Made.{firsts, first_names, drop_firsts, only_firsts}
-use Rattle.wac_types_base.proofs.Lists.{among_mapped, among_split}
+use Rattle.wac_types_base.proofs.Lists.{among_mapped, among_split, always}
 
 -- ---- what is found of an item
 
@@ -425,9 +425,6 @@ simply x t e d = record {
   only = λ m a. absurd a;
   all = λ q. absurd (true≢false (sym q ∙ e));
 }
-
-always : {P : Type 0} → P → Decides true P
-always p = (λ e. p, λ q. refl)
 
 value_found : (s : Shape) (ts : Wholes Shape) → shape_kind s ≡ IsValue → IsFound (node s ts) (simple (λ n h outer. true))
 value_found s ts e = simply (node s ts) (λ n h outer. true) (ap has_items e) (λ o h n. always (a_value e))

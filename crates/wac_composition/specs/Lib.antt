@@ -19,3 +19,4 @@ pub mod Outlines
 pub mod OuterLaws
 pub mod Examples
 pub mod Renaming
+pub mod Alike

@@ -26,6 +26,7 @@ ghost use Rattle.wac_composition.specs.Composition.{Composition};
 ghost use Rattle.wac_composition.specs.Against.{FirstStands};
 ghost use Rattle.wac_composition.specs.Again.{Asked_again, Asked_by_identifier, Asking_twice};
 ghost use Rattle.wac_composition.specs.Renaming.{KeepsMeaning};
+ghost use Rattle.wac_composition.specs.Alike.{IsAlike, MeansAlike};
 ghost use Rattle.wac_composition.specs.Sound.{IsSound, IsWired};
 ghost use Rattle.wac_composition.specs.Worlds.{composed_world, used_world, source_of};
 ghost use Rattle.wac_types_written.specs.Written.{without_uses};
@@ -107,6 +108,11 @@ pub fn causes_stand<A, I>()
 /// and the same world, and what stands against it is the same.
 pub fn names_do_not_matter<A, B, I, J>()
     ensures { (f : A → B) (g : I → J) (c : Composition A I) → KeepsMeaning f g c }
+{}
+
+/// The order in which an instance's arguments stand does not matter.
+pub fn order_does_not_matter<A, I>()
+    ensures { (c d : Composition A I) → IsAlike c d → MeansAlike c d }
 {}
 
 /// In a composition that speaks of what is there alone, whose arguments fit, and that nothing stands against, each import

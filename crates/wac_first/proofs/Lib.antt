@@ -10,4 +10,3 @@ pub mod LabelLaws
 pub mod FirstSame
 pub mod InstanceTrees
 pub mod Wired
-pub mod StreamLaws

@@ -10,4 +10,3 @@ pub mod StoredKeys
 pub mod FirstMeaning
 pub mod FaultViews
 pub mod Composing
-pub mod Streaming

@@ -1,8 +1,6 @@
 //! The first language, over a workspace that holds `p:p` or nothing.
 
 mod memory;
-mod streams;
-mod streams_tests;
 
 use std::alloc::Global;
 use std::test::Fail;

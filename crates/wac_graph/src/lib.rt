@@ -13,6 +13,3 @@ pub use wac_graph_encode::{
 };
 pub use wac_graph_plug::{PlugError, PlugFault, plug};
 pub use wac_types as types;
-
-#[cfg(test)]
-mod tests;

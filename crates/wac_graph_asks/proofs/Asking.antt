@@ -5,6 +5,8 @@ use Rattle.std.proofs.Common.{◌≡◌, ℕ, true, false, List, [], ◌∷◌, 
 use Rattle.std.proofs.lemmas.List.{map-append, append-nil}
 use Rattle.std.proofs.lemmas.List.Sums.{fold-append}
 use Rattle.std.proofs.lemmas.Grind.{flat_map-append}
+use Rattle.std.specs.declared.alloc.Global.{Global}
+use Rattle.std.specs.declared.vec.Vec.{Vec}
 use Rattle.wac_types_base.specs.declared.ids.WorldId.{WorldId}
 use Rattle.wac_types_base.specs.declared.item.ItemKind.{ItemKind}
 use Rattle.wac_types_base.specs.declared.item.«Type».{«Type» as TypeKind}
@@ -25,7 +27,7 @@ use Rattle.wac_graph_asks.specs.declared.asks.Ask.{Ask as HeldAsk}
 use Rattle.wac_graph_asks.specs.declared.asks.Definition.{Definition}
 use Rattle.wac_graph_asks.specs.declared.asks.Asked.{Asked}
 use Rattle.wac_graph_asks.specs.AsksIn.{asking_of, ask_in, asks_in}
-use Rattle.wac_graph_asks.specs.Asked.{with_id, with_ids, IsWorldOf, placed_in, HasCopy, IsHeld, Adds}
+use Rattle.wac_graph_asks.specs.Asked.{with_id, with_ids, IsWorldOf, placed_in, HasCopy, IsHeld, KeepsAsked, Adds}
 
 -- ---- in a collection that has grown
 
@@ -44,6 +46,15 @@ copy_kept c d e grows t None h = h
 module _ (g : Graph) where
   world_kept : (c d : Collection) → Grows c d → (id : PackageId) (w : WorldId) → IsWorldOf g c id w → IsWorldOf g d id w
   world_kept c d grows id w h = record { held = h.held; is = h.is; copy = IsCopy-kept g.types c d (ItemKind.Component h.held.ty) (ItemKind.Component w) grows h.copy }
+
+  -- once types are added
+  pub held_kept : (a b : Asked) → IsHeld g a → KeepsAsked a b → IsHeld g b
+  held_kept a b h keeps = record {
+    acyclic = keeps.grows.acyclic;
+    items = λ x m. keeps.grows.stand x.item (h.items x (subst (λ (v : Vec HeldAsk Global). Among x v.items) keeps.asks m));
+    worlds = λ id w m. world_kept a.types b.types keeps.grows id w (h.worlds id w (subst (λ l. Among (id, w) l) (ap (λ p. p.entries) keeps.packages) m));
+    copies = λ d m. copy_kept g.types a.types b.types keeps.grows d.ty d.copy (h.copies d (subst (λ (v : Vec Definition Global). Among d v.items) keeps.definitions m));
+  }
 
   -- ---- one step
 

@@ -19,12 +19,9 @@ use Rattle.wac_graph_asks.specs.Graphs.{nodes_of, import_by, made_with, definiti
 use Rattle.wac_graph_asks.specs.Reads.{package_id_of}
 use Rattle.wac_graph_asks.specs.Asked.{package_ids}
 use Rattle.wac_graph_asks.specs.AskedNodes.{filled_by, imported_at, made_at, defined_at, import_asks, instance_asks, instance_ids, definitions_at}
+use Rattle.wac_graph_core.proofs.Listed.{both_parts}
 
 -- ---- an entry is found under its key
-
-both : (a b : Bool) → T (a && b) → T a × T b
-both true b p = (tt, p)
-both false b p = absurd p
 
 not_both : (r : Ordering) → T (is_lt r) → is_eq r ≡ true → ⊥
 not_both Ordering.Less p e = absurd (true≢false (sym e))
@@ -40,15 +37,15 @@ module _ {X : Type 0} where
       go false q = refl
       go true q =
           let is : k ≡ x.0 = sym (same_number e.0 k (sym (unsigned_tied e.0 k) ∙ q)) ∙ ap (λ p. p.0) same in
-          absurd (not_both (nat_cmp k x.0) (both _ _ b).0 (ap (λ n. eq_by_cmp nat_cmp k n) (sym is) ∙ tied k))
-  other_key k (x ∷ es) b e (inr m) = other_key k es (both _ _ b).1 e m
+          absurd (not_both (nat_cmp k x.0) (both_parts _ _ b).0 (ap (λ n. eq_by_cmp nat_cmp k n) (sym is) ∙ tied k))
+  other_key k (x ∷ es) b e (inr m) = other_key k es (both_parts _ _ b).1 e m
 
   entry_found : (es : List (ℕ × X)) → T (is_sorted nat_cmp es) → (e : ℕ × X) → Among e es → find nat_cmp e.0 es ≡ Some e.1
   entry_found [] s e m = absurd m
   entry_found (x ∷ es) s e (inl same) =
       ap (λ b. cond b (Some x.1) (find nat_cmp e.0 es)) (ap (λ p. eq_by_cmp nat_cmp p.0 x.0) same ∙ tied x.0) ∙ ap (λ p. Some p.1) (sym same)
   entry_found (x ∷ es) s e (inr m) =
-      ap (λ b. cond b (Some x.1) (find nat_cmp e.0 es)) (other_key x.0 es (both _ _ s).0 e m) ∙ entry_found es (both _ _ s).1 e m
+      ap (λ b. cond b (Some x.1) (find nat_cmp e.0 es)) (other_key x.0 es (both_parts _ _ s).0 e m) ∙ entry_found es (both_parts _ _ s).1 e m
 
   pub entry_there : (m : FinMap nat_cmp X) (e : ℕ × X) → Among e (finite.entries m) → finite.get m e.0 ≡ Some e.1
   entry_there m e a = finite.get-entries m e.0 ∙ entry_found (finite.entries m) (finite.entries_sorted m) e a

@@ -24,6 +24,7 @@ use Rattle.wac_types_base.proofs.Lists.{not_some}
 use Rattle.wac_types_names.specs.Tracks.{read_version}
 use Rattle.wac_composition.specs.Names.{version_test, is_interface_name}
 use Rattle.wac_composition.specs.Classes.{is_instance}
+use Rattle.wac_writable.proofs.PartsStated.{stands_or_not, no_unfolding, stated_nothing}
 
 -- ---- names of interfaces
 
@@ -46,18 +47,6 @@ interface_named n =
       ],
     )
 
--- ---- what does not stand states not_some
-
-no_unfolding : (c : Collection) (k : ItemKind) → (Stands c k → ⊥) → unfolding_of c k ≡ None
-unfolding unfolding_of whole
-no_unfolding c k h =
-    let g = item_node c in
-    let e : depth c ≡ suc (length (rows c) + 1) = omega arith in
-    ap (λ n. whole g n k) e ∙ ap (λ o. grow o (whole g (length (rows c) + 1))) (not_some (g k) h)
-
-stated_nothing : (c : Collection) (k : ItemKind) → (Stands c k → ⊥) → stated_of c k ≡ node alias no_more
-stated_nothing c k h = ap stated_in (no_unfolding c k h)
-
 -- ---- identifiers
 
 pub no_identifier : (c : Collection) (k : ItemKind) → (Stands c k → ⊥) → identifier_of (stated_of c k) ≡ None
@@ -66,13 +55,6 @@ no_identifier c k h = ap identifier_of (stated_nothing c k h)
 pub identifier_is : (c : Collection) → IsAcyclic c → (id : InterfaceId) (i : Interface) → slice_get c.interfaces id.index ≡ Some i → id.collection ≡ c.number → identifier_of (stated_of c (ItemKind.Instance id)) ≡ i.id
 unfolding item_node
 identifier_is c a id i at own = ap identifier_of (stated_step c a (ItemKind.Instance id) (interface_entry i) (entry_at-is interface_entry c.number c.interfaces id.collection id.index i at own))
-
-stands_or_not : (c : Collection) (k : ItemKind) → Stands c k ⊎ (Stands c k → ⊥)
-stands_or_not c k = go (item_node c k)
-  where
-    go : {A : Type 0} (o : Option A) → IsSome o ⊎ (IsSome o → ⊥)
-    go None = inr (λ h. true≢false (sym h))
-    go (Some x) = inl refl
 
 -- the identifier of an instance is asked under the name of an interface
 pub asked_instance : (c : Collection) → IsAcyclic c → (id : InterfaceId) (b : Bool) → (if is_instance (kind_of (stated_of c (ItemKind.Instance id))) && b then identifier_of (stated_of c (ItemKind.Instance id)) else None) ≡ (if b then identifier_of (stated_of c (ItemKind.Instance id)) else None)

@@ -36,7 +36,7 @@ use Rattle.wac_graph_asks.proofs.Asking.{adds_nothing, adds_then, adds_as, adds_
 
 -- ---- packages that are there
 
-same_id : (a b : PackageId) → IsTrue (eq-value.it a b) ↔ (a ≡ b)
+pub same_id : (a b : PackageId) → IsTrue (eq-value.it a b) ↔ (a ≡ b)
 same_id a b = search rules
 
 lookup_among : (es : List (PackageId × WorldId)) (id : PackageId) (w : WorldId) → lookup (eq-value.it id) es ≡ Some w → Among (id, w) es

@@ -44,11 +44,11 @@ one_if : Bool → ℕ
 one_if true = 1
 one_if false = 0
 
-count : (Edge → Bool) → List Edge → ℕ
+pub count : (Edge → Bool) → List Edge → ℕ
 count p [] = 0
 count p (e ∷ es) = one_if (p e) + count p es
 
-count_most : (p : Edge → Bool) (es : List Edge) → count p es ≤ length es
+pub count_most : (p : Edge → Bool) (es : List Edge) → count p es ≤ length es
 unfolding count one_if
 count_most p [] = omega arith
 count_most p (e ∷ es) = go (count_most p es) (p e)
@@ -146,26 +146,26 @@ map_twice f h [] = refl
 map_twice f h (x ∷ xs) = ap (λ l. h (f x) ∷ l) (map_twice f h xs)
 
 module _ (g : Graph) (sound : IsGraph g) (finite_types : IsFinite g.types) where
-  abbrev spell : Name → Name
+  abbrev pub spell : Name → Name
   spell = spelling (asks_of (composition_of g))
 
   abbrev Denotes : ℕ → Source ℕ → Type 0
   Denotes = w.Denotes spell (written_tree g) g
 
-  abbrev source : Origin ℕ → Source ℕ
+  abbrev pub source : Origin ℕ → Source ℕ
   source = source_of (asks_of (composition_of g))
 
-  abbrev rank : ℕ → ℕ
+  abbrev pub rank : ℕ → ℕ
   rank = sound.acyclic.0
 
   -- the edges from below a node
-  abbrev starts_below : ℕ → Edge → Bool
+  abbrev pub starts_below : ℕ → Edge → Bool
   starts_below r e = ltb (rank e.from) r
 
-  abbrev below : ℕ → ℕ
+  abbrev pub below : ℕ → ℕ
   below k = count (starts_below (rank k)) g.edges
 
-  fewer : (i k : ℕ) (n : Name) → HasAlias g.edges i n k → below i < below k
+  pub fewer : (i k : ℕ) (n : Name) → HasAlias g.edges i n k → below i < below k
   fewer i k n h =
       let rise : rank i < rank k = sound.acyclic.1.rises (alias_edge i k n) h refl in
       count_more (starts_below (rank i)) (starts_below (rank k))
@@ -180,14 +180,14 @@ module _ (g : Graph) (sound : IsGraph g) (finite_types : IsFinite g.types) where
           go false e = refl
 
   -- the alias edge into a node is the one that is found
-  alias_is : (i k : ℕ) (n : Name) → HasAlias g.edges i n k → first_source g.edges k ≡ Some (i, n)
+  pub alias_is : (i k : ℕ) (n : Name) → HasAlias g.edges i n k → first_source g.edges k ≡ Some (i, n)
   alias_is i k n h = go (first_source g.edges k) refl
     where
       go : (o : Option (ℕ × Name)) → first_source g.edges k ≡ o → o ≡ Some (i, n)
       go None e = absurd (no_source g.edges k i n e h)
       go (Some x) e = let same = sound.keyed.one_source x.0 i k x.1 n (source_found g.edges k x.0 x.1 e) h in λ j. Some (same.0 j, same.1 j)
 
-  at_node : (from : ℕ → Origin ℕ) (k : ℕ) (x : NodeData) (r : Role) → node_at g k ≡ Some x → x.role ≡ r → origin_at g from k (node_at g k) ≡ origin_by g from k r x
+  pub at_node : (from : ℕ → Origin ℕ) (k : ℕ) (x : NodeData) (r : Role) → node_at g k ≡ Some x → x.role ≡ r → origin_at g from k (node_at g k) ≡ origin_by g from k r x
   at_node from k x r e is = ap (origin_at g from k) e ∙ ap (λ r. origin_by g from k r x) is
 
   -- what a node denotes is the source that its origin is
@@ -202,7 +202,7 @@ module _ (g : Graph) (sound : IsGraph g) (finite_types : IsFinite g.types) where
       ap (λ u. project u n) (within d i t (omega (arith, b, l)) f)
       ∙ ap source (sym (at_node (origin_within g (suc d)) k x.0 Role.Aliased x.1 x.2 ∙ ap (export_of (origin_within g (suc d)) k) (alias_is i k n h)))
 
-  denoted : (k : ℕ) (s : Source ℕ) → Denotes k s → s ≡ source (origin_of g k)
+  pub denoted : (k : ℕ) (s : Source ℕ) → Denotes k s → s ≡ source (origin_of g k)
   denoted k s f = within (length g.edges) k s (count_most (starts_below (rank k)) g.edges) f
 
   -- ---- instances
@@ -255,7 +255,7 @@ module _ (g : Graph) (sound : IsGraph g) (finite_types : IsFinite g.types) where
           denoted a s (subst (λ j. Denotes j s) same d)
       go (Some a) e s (w.outer none) = absurd (none a (argument_found g.edges k a n e))
 
-  given_is : (k : ℕ) (p : Packaged) (x : Instantiation ℕ) → instantiated g k ≡ Some p → w.IsInstance spell (written_tree g) g k p x → (n : Name) → x.args n ≡ argument_source (λ key. OfBytes p.bytes) (composition_of g) (made_of k p) n
+  pub given_is : (k : ℕ) (p : Packaged) (x : Instantiation ℕ) → instantiated g k ≡ Some p → w.IsInstance spell (written_tree g) g k p x → (n : Name) → x.args n ≡ argument_source (λ key. OfBytes p.bytes) (composition_of g) (made_of k p) n
   given_is k p x e is n = go (item_import g.types p.ty n) refl
     where
       go : (o : Option ItemKind) → item_import g.types p.ty n ≡ o → x.args n ≡ argument_source (λ key. OfBytes p.bytes) (composition_of g) (made_of k p) n
@@ -266,7 +266,7 @@ module _ (g : Graph) (sound : IsGraph g) (finite_types : IsFinite g.types) where
 
   -- ---- the wiring
 
-  export_is : (n : Name) → value_at (map (λ e. (e.0, e.1)) (composition_of g).exports) n ≡ option_map (origin_of g) (value_at g.exports n)
+  pub export_is : (n : Name) → value_at (map (λ e. (e.0, e.1)) (composition_of g).exports) n ≡ option_map (origin_of g) (value_at g.exports n)
   export_is n = ap (λ l. value_at l n) (map_twice (λ e. (e.0, origin_of g e.1, item_at g e.1)) (λ e. (e.0, e.1)) g.exports) ∙ value_mapped (origin_of g) g.exports n
 
   pub composed : (W : Wiring ℕ) → IsGraphWiring g W → IsComposed g W

@@ -26,19 +26,10 @@ use Rattle.wac_graph_asks.specs.declared.asks.Asking.{Asking as HeldAsking}
 use Rattle.wac_graph_asks.specs.declared.asks.Ask.{Ask as HeldAsk}
 use Rattle.wac_graph_asks.specs.AskedUses.{all_with_used, used_directly, used_by_world, used_by_items, use_asks}
 use Rattle.wac_graph_asks.proofs.Using.{instance_uses, interface_uses, identified, interface_definition_uses, world_definition_uses, world_uses_again, other_definition_uses}
+use Rattle.wac_writable.proofs.UnnamedLaws.{same_id}
+use Rattle.wac_writable.proofs.GiverLaws.{any_among}
 
 -- ---- what was seen
-
-same_id : (a b : InterfaceId) → IsTrue (eq-value.it a b) ↔ (a ≡ b)
-same_id a b = search rules
-
-any_among : (id : InterfaceId) (ids : List InterfaceId) → list_any (eq-value.it id) ids ≡ true → Among id ids
-any_among id [] h = absurd (true≢false (sym h))
-any_among id (x ∷ ids) h = go (eq-value.it id x) refl h (any_among id ids)
-  where
-    go : (b : Bool) → eq-value.it id x ≡ b → (b || list_any (eq-value.it id) ids) ≡ true → (list_any (eq-value.it id) ids ≡ true → Among id ids) → Among id (x ∷ ids)
-    go true e h later = inl ((same_id id x).0 e)
-    go false e h later = inr (later h)
 
 module _ (id : InterfaceId) (old new : List InterfaceId) (is_new : Bool) (added : is_new ≡ not (list_any (eq-value.it id) old)) (keys : new ≡ insert_key eq-value.it old id) where
   pub was_seen : is_new ≡ false → (new ≡ old) × Among id old

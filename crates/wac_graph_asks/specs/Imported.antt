@@ -3,6 +3,7 @@ use Rattle.std.specs.Prelude.{◌≡◌, ℕ, List, [], ◌∷◌, ◌++◌, map
 use Rattle.std.specs.Map.{keys_of}
 use Rattle.wac_types_base.specs.declared.ids.WorldId.{WorldId}
 use Rattle.wac_types_base.specs.declared.item.ItemKind.{ItemKind}
+use Rattle.wac_types_base.specs.declared.defined.World.{World}
 use Rattle.wac_types_base.specs.Record.{Collection}
 use Rattle.wac_types_base.specs.Entries.{Name, AreDistinct, names_of, values_of, put_entry}
 use Rattle.wac_types_base.specs.Graph.{Among}
@@ -60,6 +61,11 @@ AddsImports c held classes taken d imports =
 
 abbrev pub MakesImports : (old : Asked) → Classes → List (ℕ × Taken) → (new : Asked) → List (Name × ItemKind) → Type 0
 MakesImports old classes taken new imports = AddsImports old.types old.asks.items classes taken new.types imports
+
+-- a world uses nothing and exports nothing
+pub record ImportsAlone (w : World) : Type 0 where
+  pub uses : w.uses ≡ []
+  pub exports : w.exports ≡ []
 
 -- the world's imports are those
 abbrev pub MakesWorld : (old : Asked) → Classes → List (ℕ × Taken) → (new : Asked) → WorldId → Type 0

@@ -1,5 +1,5 @@
 -- The outer imports of a graph, as the imports of a world.
-use Rattle.std.specs.Prelude.{◌≡◌, ℕ, List, map, Some, slice_get}
+use Rattle.std.specs.Prelude.{◌≡◌, ℕ, List, [], map, Some, slice_get}
 use Rattle.wac_types_base.specs.declared.ids.WorldId.{WorldId}
 use Rattle.wac_types_base.specs.declared.item.ItemKind.{ItemKind}
 use Rattle.wac_types_base.specs.Record.{Collection}
@@ -8,7 +8,7 @@ use Rattle.wac_types_base.specs.Graph.{Among}
 use Rattle.wac_types_base.specs.Collection.{Stands}
 use Rattle.wac_types_written.specs.Forms.{stated_items}
 use Rattle.wac_graph_core.specs.Graph.{Graph}
-use Rattle.wac_graph_scopes.specs.Parts.{imports_of}
+use Rattle.wac_graph_scopes.specs.Parts.{world_uses_of, imports_of, world_exports_of}
 use Rattle.wac_graph_scopes.specs.declared.imports.Called.{Called}
 use Rattle.wac_composition.specs.Asks.{Ask, asks_of}
 use Rattle.wac_composition.specs.Classes.{spelling}
@@ -40,3 +40,8 @@ IsOuters g c world called = AreOuters (asks_of (composition_of g)) c world calle
 -- they are those of any graph that asks so
 abbrev pub AnswersOuters : (old new : Asked) → Outers → Type 0
 AnswersOuters old new o = (g : Graph) → IsAsked g old → IsOuters g new.types o.world o.called.items
+
+-- the world uses nothing and exports nothing
+pub record HasImportsAlone (c : Collection) (world : WorldId) : Type 0 where
+  pub uses : world_uses_of c world ≡ []
+  pub exports : world_exports_of c world ≡ []

@@ -4,6 +4,8 @@ ghost use Rattle.std.specs.Prelude.{◌≡◌, [], IsOk, IfOk, IfSome};
 ghost use Rattle.wac_types_base.specs.declared.item.ItemKind.{ItemKind};
 ghost use Rattle.wac_types_base.specs.Collection.{Grows, Stands};
 ghost use Rattle.wac_graph_scopes.specs.Parts.{imports_of};
+ghost use Rattle.wac_graph_asks.specs.Imported.{ImportsAlone};
+ghost use Rattle.wac_graph_asks.specs.Outers.{HasImportsAlone};
 
 use std::alloc::{AllocError, Global};
 use wac_types_base::{
@@ -47,7 +49,8 @@ pub fn bare_interface(alloc: Global, id: Option<Text>) -> Interface {
 
 /// A world of that identifier, in which nothing stands.
 pub fn bare_world(alloc: Global, id: Option<Text>) -> World
-    ensures { result.imports ≡ [] }
+    ensures imports { result.imports ≡ [] }
+    ensures alone { ImportsAlone result }
 {
     World {
         id,
@@ -74,6 +77,7 @@ pub fn add_interface(
 pub fn add_world(types: &mut Types, world: World) -> Result<Option<WorldId>, AllocError>
     ensures stands { IfOk result (λ o. IfSome o (λ w. Stands types.new (ItemKind.Component w))) }
     ensures imports { IfOk result (λ o. IfSome o (λ w. imports_of types.new w ≡ world.imports)) }
+    ensures alone { IfOk result (λ o. IfSome o (λ w. ImportsAlone world → HasImportsAlone types.new w)) }
     ensures grows { Grows types.old types.new }
 {
     types.see_acyclic();

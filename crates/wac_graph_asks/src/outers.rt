@@ -10,8 +10,9 @@ ghost use Rattle.wac_merging.specs.Kept.{Spells};
 ghost use Rattle.wac_graph_asks.specs.Asked.{KeepsAsked};
 ghost use Rattle.wac_graph_asks.specs.Named.{SpellsClass};
 ghost use Rattle.wac_graph_asks.specs.Takes.{ConflictsFor, HasNoConflict, HasNoneLabelled, IfConflict, IsNoConflict, Merges, MergesLabelled};
-ghost use Rattle.wac_graph_asks.specs.Imported.{AddsImport, AddsImports, AddsName, AddsNames, CallsNames, MakesImports, MakesWorld, OutersOf, RefusesIn};
-ghost use Rattle.wac_graph_asks.specs.Outers.{AnswersOuters};
+ghost use Rattle.wac_graph_asks.specs.Imported.{AddsImport, AddsImports, AddsName, AddsNames, CallsNames, ImportsAlone};
+ghost use Rattle.wac_graph_asks.specs.Imported.{MakesImports, MakesWorld, OutersOf, RefusesIn};
+ghost use Rattle.wac_graph_asks.specs.Outers.{AnswersOuters, HasImportsAlone};
 
 use crate::asks::{Ask, Asked};
 use crate::classes::{Classes, classes_of, has_track, place_at};
@@ -173,6 +174,7 @@ fn world_kept(
 ) -> Result<World, AllocError>
     ensures keeps { KeepsAsked asked.old asked.new }
     ensures imports { IfOk result (λ w. MakesImports asked.old classes.now taken.now.entries asked.new w.imports) }
+    ensures alone { IfOk result ImportsAlone }
 {
     let mut world = bare_world(alloc, None);
     let imports = &mut world.imports;
@@ -197,6 +199,7 @@ fn outer_world(
     ensures keeps { KeepsAsked asked.old asked.new }
     ensures stands { IfOk result (λ w. Stands asked.new.types (ItemKind.Component w)) }
     ensures imports { IfOk result (MakesWorld asked.old classes.now taken.now.entries asked.new) }
+    ensures alone { IfOk result (HasImportsAlone asked.new.types) }
     ensures no_conflict { IfErr result IsNoConflict }
 {
     let world = world_kept(alloc, asked, classes, taken)?;
@@ -216,6 +219,7 @@ fn outers_kept(
     ensures keeps { KeepsAsked asked.old asked.new }
     ensures stands { IfOk result (λ o. Stands asked.new.types (ItemKind.Component o.world)) }
     ensures imports { IfOk result (λ o. MakesWorld asked.old classes.now taken.now.entries asked.new o.world) }
+    ensures alone { IfOk result (λ o. HasImportsAlone asked.new.types o.world) }
     ensures called { IfOk result (λ o. CallsNames asked.old.asks.items classes.now taken.now.entries o.called.items) }
     ensures no_conflict { IfErr result IsNoConflict }
 {
@@ -234,6 +238,7 @@ fn outers_of_classes(
     ensures stands { IfOk result (λ o. Stands asked.new.types (ItemKind.Component o.world)) }
     ensures merges { IfOk result (λ o. MergesLabelled asked.old.types asked.old.asks.items classes.now.labels.items) }
     ensures outers { IfOk result (OutersOf asked.old.types asked.old.asks.items classes.now asked.new.types) }
+    ensures alone { IfOk result (λ o. HasImportsAlone asked.new.types o.world) }
     ensures free { OnOk result (HasNoneLabelled asked.old.types asked.old.asks.items classes.now.labels.items) }
     ensures refused { IfErr result (λ e. IfConflict e (RefusesIn asked.old classes.now)) }
 {
@@ -247,6 +252,7 @@ pub fn outers_of(alloc: Global, asked: &mut Asked) -> Result<Outers, OuterError>
     ensures stands { IfOk result (λ o. Stands asked.new.types (ItemKind.Component o.world)) }
     ensures merges { IfOk result (λ o. Merges asked.old) }
     ensures outers { IfOk result (AnswersOuters asked.old asked.new) }
+    ensures alone { IfOk result (λ o. HasImportsAlone asked.new.types o.world) }
     ensures free { OnOk result (HasNoConflict asked.old) }
     ensures refused { IfErr result (λ e. IfConflict e (ConflictsFor asked.old)) }
 {

@@ -45,7 +45,7 @@ uses_any h (Projection s n) = uses_any h s
 uses_any h (Bundle f) = λ n. uses_any h (f n)
 uses_any h (Definition t) = tt
 
-Uses-project : {I : Type 0} (P : I → Type 0) (s : Source I) (n : Name) → Uses P s → Uses P (project s n)
+pub Uses-project : {I : Type 0} (P : I → Type 0) (s : Source I) (n : Name) → Uses P s → Uses P (project s n)
 Uses-project P Absent n u = tt
 Uses-project P (Outer m) n u = tt
 Uses-project P (Inst k) n u = u

@@ -12,7 +12,7 @@ use Rattle.wac_types_base.specs.Entries.{Name, value_at}
 use Rattle.wac_types_base.specs.Graph.{Among}
 use Rattle.wac_types_base.specs.Record.{Collection}
 use Rattle.wac_types_base.specs.Stated.{Stated, imports_of}
-use Rattle.wac_types_base.proofs.Lists.{among_mapped, among_split, from_filtered}
+use Rattle.wac_types_base.proofs.Lists.{among_mapped, among_split, from_filtered, bytes_turned}
 use Rattle.wac_types_names.specs.Packaged.{Packaged}
 use Rattle.wac_graph_core.specs.Nodes.{NodeData}
 use Rattle.wac_graph_core.specs.Graph.{Graph, package_if, package_made, instantiated}
@@ -91,12 +91,9 @@ module _ (g : Graph) (a : Asked) (h : IsAsked g a) where
 
 -- ---- what is found under a name
 
-names_turned : (m n : Name) → bytes_eq m n ≡ bytes_eq n m
-names_turned m n = one_answer _ _ (bytes_decides m n) (Decides-like _ sym sym (bytes_decides n m))
-
 import_found : (is : List (Placed ℕ)) (n : Name) → value_at (under_names is) n ≡ option_map (λ i. i.by) (find (λ i. bytes_eq i.name n) is)
 import_found [] n = refl
-import_found (i ∷ is) n = ap (λ b. cond b (Some i.by) (value_at (under_names is) n)) (names_turned n i.name) ∙ go (bytes_eq i.name n) (import_found is n)
+import_found (i ∷ is) n = ap (λ b. cond b (Some i.by) (value_at (under_names is) n)) (bytes_turned n i.name) ∙ go (bytes_eq i.name n) (import_found is n)
   where
     go : (b : Bool) → value_at (under_names is) n ≡ option_map (λ i. i.by) (find (λ i. bytes_eq i.name n) is)
         → cond b (Some i.by) (value_at (under_names is) n) ≡ option_map (λ i. i.by) (cond b (Some i) (find (λ i. bytes_eq i.name n) is))

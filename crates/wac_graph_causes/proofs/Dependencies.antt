@@ -13,7 +13,9 @@ use Rattle.semver.specs.Parse.{Parts}
 use Rattle.wac_types_base.specs.declared.item.ItemKind.{ItemKind}
 use Rattle.wac_types_base.specs.Entries.{Name, names_of}
 use Rattle.wac_types_base.specs.Graph.{Among}
-use Rattle.wac_types_base.proofs.Loops.{mapped_next, names-with_values, map-get}
+use Rattle.wac_types_base.specs.Stated.{stated_of}
+use Rattle.wac_types_base.proofs.Lists.{joined}
+use Rattle.wac_types_base.proofs.Loops.{mapped_next, names-with_values, map-get, map-map}
 use Rattle.wac_types_base.proofs.Looked.{take-one_more}
 use Rattle.wac_types_names.specs.Packaged.{Packaged}
 use Rattle.wac_types_names.specs.Keys.{Key, package_key}
@@ -33,6 +35,8 @@ use Rattle.wac_graph_asks.specs.Graphs.{nodes_of, made_with, composition_of}
 use Rattle.wac_graph_asks.specs.Asked.{package_ids, with_id, with_ids}
 use Rattle.wac_graph_asks.proofs.ByNode.{entry_there}
 use Rattle.wac_graph_causes.specs.Alike.{AreHeld, dependency_of, package_name, dependency_names, outer_names, names_imported}
+use Rattle.wac_graph_causes.specs.Unwritable.{package_world, dependency_at}
+use Rattle.wac_graph_asks.proofs.NodeAsks.{same_id}
 
 -- ---- keys are the same
 
@@ -76,11 +80,8 @@ keys_itself k = both_true ((bytes_eq-Decides k.0 k.0).1 refl) (versions_itself k
 keys_decide : (j k : Key) → Decides (same_key j k) (j ≡ k)
 keys_decide j k = (keys_only j k, λ e. subst (λ (x : Key). same_key j x ≡ true) e (keys_itself j))
 
-same_ids : (i j : PackageId) → IsTrue (eq-value.it i j) ↔ (i ≡ j)
-same_ids i j = search rules
-
 ids_decide : (i j : PackageId) → Decides (eq-value.it i j) (i ≡ j)
-ids_decide i j = ((same_ids i j).0, (same_ids i j).1)
+ids_decide i j = ((same_id i j).0, (same_id i j).1)
 
 any_last : {X : Type 0} (t : X → Bool) (xs : List X) (x : X) → list_any t (xs ++ x ∷ []) ≡ (t x || list_any t xs)
 any_last t [] x = refl
@@ -107,9 +108,12 @@ module _ (g : Graph) (sound : IsGraph g) where
   of_more ids keys j q b h i p a =
       any_last (eq-value.it i) ids j ∙ ap (λ t. t || list_any (eq-value.it i) ids) (same_by_key i j p q a b) ∙ ap (λ t. same_key (package_key p) (package_key q) || t) (h i p a)
 
-  dependency_is : (i : PackageId) (p : Packaged) → package_of g i ≡ Some p → dependency_of g i ≡ dependency_name (package_key p)
-  dependency_is i p a =
+  name_is : (i : PackageId) (p : Packaged) → package_of g i ≡ Some p → dependency_of g i ≡ dependency_name (package_key p)
+  name_is i p a =
       ap (λ o. codes "unlocked-dep=<" ++ (package_name o ++ codes ">")) a ∙ ap (λ l. codes "unlocked-dep=<" ++ l) (append_assoc p.name (version_name p.version) (codes ">"))
+
+  dependency_is : (i : PackageId) (p : Packaged) → package_of g i ≡ Some p → dependency_at g i ≡ (dependency_name (package_key p), stated_of g.types (ItemKind.Component p.ty))
+  dependency_is i p a = joined _ _ (name_is i p a) (ap (package_world g) a)
 
   abbrev ids_in : List (ℕ × NodeData) → List PackageId
   ids_in es = filter_map (λ e. e.1.of) es
@@ -117,41 +121,44 @@ module _ (g : Graph) (sound : IsGraph g) where
   abbrev made_in : List (ℕ × NodeData) → List (Made ℕ ℕ)
   made_in es = filter_map (λ e. made_with g e.0 (package_if g e.1.of)) es
 
-  -- the names of the packages of these nodes, behind those of others
-  abbrev AreNamed : List (ℕ × NodeData) → Type 0
-  AreNamed es = (ids : List PackageId) (keys : List Key) → AreOf ids keys → map (dependency_of g) (with_ids ids (ids_in es)) ≡ map (dependency_of g) ids ++ names_of (each_once keys (made_in es))
+  -- the packages of these nodes, behind others
+  abbrev AreListed : List (ℕ × NodeData) → Type 0
+  AreListed es = (ids : List PackageId) (keys : List Key) → AreOf ids keys → map (dependency_at g) (with_ids ids (ids_in es)) ≡ map (dependency_at g) ids ++ each_once keys (made_in es)
 
-  module _ (e : ℕ × NodeData) (es : List (ℕ × NodeData)) (rest : AreNamed es) (ids : List PackageId) (keys : List Key) (h : AreOf ids keys) where
-    new_named : (i : PackageId) (p : Packaged) → package_of g i ≡ Some p
-        → map (dependency_of g) (with_ids (ids ++ i ∷ []) (ids_in es)) ≡ map (dependency_of g) ids ++ dependency_name (package_key p) ∷ names_of (each_once (package_key p ∷ keys) (made_in es))
-    new_named i p a =
-        let more = names_of (each_once (package_key p ∷ keys) (made_in es)) in
+  module _ (e : ℕ × NodeData) (es : List (ℕ × NodeData)) (rest : AreListed es) (ids : List PackageId) (keys : List Key) (h : AreOf ids keys) where
+    new_listed : (i : PackageId) (p : Packaged) → package_of g i ≡ Some p
+        → map (dependency_at g) (with_ids (ids ++ i ∷ []) (ids_in es)) ≡ map (dependency_at g) ids ++ (dependency_name (package_key p), stated_of g.types (ItemKind.Component p.ty)) ∷ each_once (package_key p ∷ keys) (made_in es)
+    new_listed i p a =
+        let more = each_once (package_key p ∷ keys) (made_in es) in
         rest (ids ++ i ∷ []) (package_key p ∷ keys) (of_more ids keys i p a h)
-        ∙ ap (λ l. l ++ more) (mapped_next (dependency_of g) ids i)
-        ∙ append_assoc (map (dependency_of g) ids) (dependency_of g i ∷ []) more
-        ∙ ap (λ n. map (dependency_of g) ids ++ n ∷ more) (dependency_is i p a)
+        ∙ ap (λ l. l ++ more) (mapped_next (dependency_at g) ids i)
+        ∙ append_assoc (map (dependency_at g) ids) (dependency_at g i ∷ []) more
+        ∙ ap (λ n. map (dependency_at g) ids ++ n ∷ more) (dependency_is i p a)
 
-    named_once : (i : PackageId) (p : Packaged) → package_of g i ≡ Some p → (b : Bool) → list_any (eq-value.it i) ids ≡ b → list_any (same_key (package_key p)) keys ≡ b
-        → map (dependency_of g) (with_ids (with_id ids i) (ids_in es)) ≡ map (dependency_of g) ids ++ names_of (each_once keys (cons_option (made_with g e.0 (Some p)) (made_in es)))
-    named_once i p a true s t = rw (s, t) (rest ids keys h)
-    named_once i p a false s t = rw (s, t) (new_named i p a)
+    listed_once : (i : PackageId) (p : Packaged) → package_of g i ≡ Some p → (b : Bool) → list_any (eq-value.it i) ids ≡ b → list_any (same_key (package_key p)) keys ≡ b
+        → map (dependency_at g) (with_ids (with_id ids i) (ids_in es)) ≡ map (dependency_at g) ids ++ each_once keys (cons_option (made_with g e.0 (Some p)) (made_in es))
+    listed_once i p a true s t = rw (s, t) (rest ids keys h)
+    listed_once i p a false s t = rw (s, t) (new_listed i p a)
 
-    package_named : (i : PackageId) (o : Option Packaged) → package_of g i ≡ o → IsSome o
-        → map (dependency_of g) (with_ids (with_id ids i) (ids_in es)) ≡ map (dependency_of g) ids ++ names_of (each_once keys (cons_option (made_with g e.0 o) (made_in es)))
-    package_named i None a s = absurd (true≢false (sym s))
-    package_named i (Some p) a s = named_once i p a (list_any (eq-value.it i) ids) refl (sym (h i p a))
+    package_listed : (i : PackageId) (o : Option Packaged) → package_of g i ≡ o → IsSome o
+        → map (dependency_at g) (with_ids (with_id ids i) (ids_in es)) ≡ map (dependency_at g) ids ++ each_once keys (cons_option (made_with g e.0 o) (made_in es))
+    package_listed i None a s = absurd (true≢false (sym s))
+    package_listed i (Some p) a s = listed_once i p a (list_any (eq-value.it i) ids) refl (sym (h i p a))
 
-    node_named : (o : Option PackageId) → ((i : PackageId) → o ≡ Some i → IsSome (package_of g i))
-        → map (dependency_of g) (with_ids ids (cons_option o (ids_in es))) ≡ map (dependency_of g) ids ++ names_of (each_once keys (cons_option (made_with g e.0 (package_if g o)) (made_in es)))
-    node_named None stands = rest ids keys h
-    node_named (Some i) stands = package_named i (package_of g i) refl (stands i refl)
+    node_listed : (o : Option PackageId) → ((i : PackageId) → o ≡ Some i → IsSome (package_of g i))
+        → map (dependency_at g) (with_ids ids (cons_option o (ids_in es))) ≡ map (dependency_at g) ids ++ each_once keys (cons_option (made_with g e.0 (package_if g o)) (made_in es))
+    node_listed None stands = rest ids keys h
+    node_listed (Some i) stands = package_listed i (package_of g i) refl (stands i refl)
 
-  all_named : (es : List (ℕ × NodeData)) → ((e : ℕ × NodeData) → Among e es → (i : PackageId) → e.1.of ≡ Some i → IsSome (package_of g i)) → AreNamed es
-  all_named [] stand ids keys h = sym (append-nil (map (dependency_of g) ids))
-  all_named (e ∷ es) stand ids keys h = node_named e es (all_named es (λ d m. stand d (inr m))) ids keys h e.1.of (stand e (inl refl))
+  all_listed : (es : List (ℕ × NodeData)) → ((e : ℕ × NodeData) → Among e es → (i : PackageId) → e.1.of ≡ Some i → IsSome (package_of g i)) → AreListed es
+  all_listed [] stand ids keys h = sym (append-nil (map (dependency_at g) ids))
+  all_listed (e ∷ es) stand ids keys h = node_listed e es (all_listed es (λ d m. stand d (inr m))) ids keys h e.1.of (stand e (inl refl))
+
+  pub packages_listed : map (dependency_at g) (with_ids [] (package_ids g)) ≡ each_once [] (composition_of g).made
+  packages_listed = all_listed (nodes_of g) (λ e m i q. (sound.nodes e.0 e.1 (entry_there g.nodes e m)).of i q) [] [] (λ i p a. refl)
 
   packages_named : map (dependency_of g) (with_ids [] (package_ids g)) ≡ names_of (each_once [] (composition_of g).made)
-  packages_named = all_named (nodes_of g) (λ e m i q. (sound.nodes e.0 e.1 (entry_there g.nodes e m)).of i q) [] [] (λ i p a. refl)
+  packages_named = sym (map-map (λ e. e.0) (dependency_at g) (with_ids [] (package_ids g))) ∙ ap names_of packages_listed
 
   module _ (asked : Asked) (outers : Outers) (h : AreHeld g asked outers) where
     outers_named : outer_names asked outers ≡ names_of (outer_imports (asks_of (composition_of g)))

@@ -4,3 +4,9 @@ pub mod AskedTwice
 pub mod Twins
 pub mod Dependencies
 pub mod Alike
+pub mod FirstCauses
+pub mod AliasCauses
+pub mod OuterCauses
+pub mod DefinitionCauses
+pub mod PackageCauses
+pub mod AllCauses

@@ -3,3 +3,4 @@ pub mod Refusals
 pub mod Firsts
 pub mod Implicit
 pub mod Alike
+pub mod Unwritable

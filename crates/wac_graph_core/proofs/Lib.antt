@@ -1,5 +1,7 @@
 pub mod NodeMap
+pub mod Made
 pub mod Listed
+pub mod Rising
 pub mod Walks
 pub mod Found
 pub mod NodeSteps

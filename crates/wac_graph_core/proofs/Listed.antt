@@ -14,7 +14,7 @@ use Rattle.wac_graph_core.specs.Nodes.{NodeData}
 use Rattle.wac_graph_core.specs.NodeMaps.{NodeMap, AreBelow}
 use Rattle.wac_graph_core.proofs.NodeMap.{tied, apart}
 
-both_parts : (a b : Bool) → T (a && b) → T a × T b
+pub both_parts : (a b : Bool) → T (a && b) → T a × T b
 both_parts true b h = (tt, h)
 both_parts false b h = absurd h
 
@@ -26,7 +26,7 @@ is_less k j h = by_rank (nat_cmp k j) refl h
     by_rank Ordering.Equal e h = absurd h
     by_rank Ordering.Greater e h = absurd h
 
-first_below : (k j : ℕ) (x : NodeData) (es : List (ℕ × NodeData)) → T (below_all nat_cmp k es) → Among (j, x) es → k < j
+pub first_below : (k j : ℕ) (x : NodeData) (es : List (ℕ × NodeData)) → T (below_all nat_cmp k es) → Among (j, x) es → k < j
 first_below k j x [] low m = absurd m
 first_below k j x (e ∷ es) low (inl same) = subst (λ i. k < i) (sym (ap (λ (p : ℕ × NodeData). p.0) same)) (is_less k e.0 (both_parts _ _ low).0)
 first_below k j x (e ∷ es) low (inr rest) = first_below k j x es (both_parts _ _ low).1 rest

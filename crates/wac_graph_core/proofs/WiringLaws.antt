@@ -19,7 +19,7 @@ use Rattle.wac_graph_core.proofs.Found.{argument_found, no_argument}
 paired : (x : Name × ℕ) (n : Name) (k : ℕ) → n ≡ x.0 → k ≡ x.1 → (n, k) ≡ x
 paired x n k p q = λ i. (p i, q i)
 
-found_at : (b : Bool) (x : Name × ℕ) (es : List (Name × ℕ)) (n : Name) (k : ℕ) → pointwise ◌==◌ n x.0 ≡ b → (value_at es n ≡ Some k → Among (n, k) es) → cond b (Some x.1) (value_at es n) ≡ Some k → Among (n, k) (x ∷ es)
+pub found_at : (b : Bool) (x : Name × ℕ) (es : List (Name × ℕ)) (n : Name) (k : ℕ) → pointwise ◌==◌ n x.0 ≡ b → (value_at es n ≡ Some k → Among (n, k) es) → cond b (Some x.1) (value_at es n) ≡ Some k → Among (n, k) (x ∷ es)
 found_at true x es n k is ih e = inl (paired x n k (same_text n x.0 (sym is)) (sym (same_Some _ _ e)))
 found_at false x es n k is ih e = inr (ih e)
 

@@ -4,6 +4,7 @@ use Rattle.std.specs.Ordering.{nat_cmp}
 use Rattle.std.specs.FinMap as map
 use Rattle.wac_types_base.specs.declared.item.ItemKind.{ItemKind}
 use Rattle.wac_types_base.specs.Entries.{Name}
+use Rattle.wac_types_base.specs.Graph.{Among}
 use Rattle.wac_graph_core.specs.declared.ids.PackageId.{PackageId}
 use Rattle.wac_graph_core.specs.Nodes.{NodeData, Role}
 use Rattle.wac_graph_core.specs.Edges.{has}
@@ -14,6 +15,15 @@ NodeMap = map.FinMap nat_cmp NodeData
 -- the index is above those of all nodes
 abbrev pub AreBelow : NodeMap → ℕ → Type 0
 AreBelow nodes k = (j : ℕ) → IsSome (map.get nodes j) → j < k
+
+-- each index is below those behind it
+abbrev pub Rises : List ℕ → Type 0
+Rises [] = Unit {0}
+Rises (k ∷ ks) = ((j : ℕ) → Among j ks → k < j) × Rises ks
+
+-- the node, once it is in, is listed behind all others
+abbrev pub IsListedLast : NodeMap → ℕ → NodeData → Type 0
+IsListedLast nodes k x = map.entries (map.insert nodes k x) ≡ map.entries nodes ++ (k, x) ∷ []
 
 -- the node is an import of this name
 pub record IsImport (nodes : NodeMap) (k : ℕ) (n : Name) : Type 0 where

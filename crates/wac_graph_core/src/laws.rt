@@ -7,7 +7,7 @@ ghost use Rattle.wac_types_base.specs.Entries.{Name};
 ghost use Rattle.wac_types_base.specs.Graph.{Among};
 ghost use Rattle.wac_graph_core.specs.declared.ids.PackageId.{PackageId as PackageName};
 ghost use Rattle.wac_graph_core.specs.Nodes.{NodeData};
-ghost use Rattle.wac_graph_core.specs.NodeMaps.{NodeMap, AreBelow};
+ghost use Rattle.wac_graph_core.specs.NodeMaps.{NodeMap, AreBelow, IsListedLast};
 ghost use Rattle.wac_graph_core.specs.Edges.{AreEdges};
 ghost use Rattle.wac_graph_core.specs.Graph.{Graph, IsGraph, ContainsPackage};
 ghost use Rattle.wac_graph_core.specs.Steps.{Aliases, AddsArgument, UnsetsArgument, with_edges};
@@ -30,5 +30,5 @@ pub fn stale_ids_stay_stale()
 
 /// A node whose id is above all others is listed behind them.
 pub fn new_nodes_are_last()
-    ensures { (m : NodeMap) (k : ℕ) (x : NodeData) → AreBelow m k → map.entries (map.insert m k x) ≡ map.entries m ++ (k, x) ∷ [] }
+    ensures { (m : NodeMap) (k : ℕ) (x : NodeData) → AreBelow m k → IsListedLast m k x }
 {}

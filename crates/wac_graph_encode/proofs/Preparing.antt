@@ -21,11 +21,12 @@ use Rattle.wac_graph_asks.specs.declared.asks.Definition.{Definition}
 use Rattle.wac_graph_asks.specs.declared.outers.Outers.{Outers}
 use Rattle.wac_graph_asks.specs.Graphs.{nodes_of}
 use Rattle.wac_graph_asks.specs.Asked.{package_ids, with_ids, placed_in, KeepsAsked, IsAsked}
-use Rattle.wac_graph_asks.specs.Outers.{AnswersOuters}
-use Rattle.wac_graph_asks.proofs.Asking.{copy_kept}
+use Rattle.wac_graph_asks.specs.Outers.{AnswersOuters, HasImportsAlone}
+use Rattle.wac_graph_asks.proofs.Asking.{copy_kept, held_kept}
 use Rattle.wac_graph_asks.proofs.ByNode.{entry_there}
 use Rattle.wac_graph_asks.proofs.Lasting.{outers_stay}
 use Rattle.wac_graph_causes.specs.Alike.{AreHeld}
+use Rattle.wac_graph_causes.specs.Unwritable.{IsWhole}
 use Rattle.wac_graph_encode.specs.declared.options.EncodeOptions.{EncodeOptions}
 use Rattle.wac_graph_encode.specs.Beginning.{AreTold}
 use Rattle.wac_graph_encode.specs.Defining.{AreToWrite}
@@ -112,4 +113,13 @@ prepared g old new o asked keeps answers = record {
   definitions = ap (λ (v : Vec Definition Global). map (placed_in g.types) v.items) keeps.definitions ∙ asked.definitions;
   copies = λ x m. copy_kept g.types old.types new.types keeps.grows x.ty x.copy (asked.held.copies x (subst (λ (v : Vec Definition Global). Among x v.items) keeps.definitions m));
   outers = answers g asked;
+}
+
+-- all of it is held, with the outer imports alone in their world
+pub whole : (g : Graph) (old new : Asked) (o : Outers) → IsAsked g old → KeepsAsked old new → AnswersOuters old new o → HasImportsAlone new.types o.world → IsWhole g new o
+whole g old new o asked keeps answers alone = record {
+  all = record { packages = ap (λ p. names_of p.entries) keeps.packages ∙ asked.packages; imports = answers g asked };
+  held = held_kept g old new asked.held keeps;
+  definitions = ap (λ (v : Vec Definition Global). map (placed_in g.types) v.items) keeps.definitions ∙ asked.definitions;
+  alone = alone;
 }

@@ -22,6 +22,7 @@ use Rattle.wac_graph_asks.specs.Graphs.{composition_of}
 use Rattle.wac_graph_asks.specs.Asked.{package_ids, with_ids, placed_in}
 use Rattle.wac_graph_asks.specs.Outers.{IsOuters}
 use Rattle.wac_graph_asks.specs.Wirings.{IsGraphWiring, asked_trees}
+use Rattle.wac_graph_causes.specs.declared.errors.Refusal.{Refusal}
 use Rattle.wac_graph_encode.specs.declared.options.EncodeOptions.{EncodeOptions}
 use Rattle.wac_graph_encode.specs.declared.instances.Wired.{Wired}
 use Rattle.wac_graph_encode.specs.declared.root.Writing.{Writing}
@@ -29,6 +30,7 @@ use Rattle.wac_graph_encode.specs.Standing.{IsFinished}
 use Rattle.wac_graph_encode.specs.Defining.{AreToWrite}
 use Rattle.wac_graph_encode.specs.Encoding.{nested_in, bytes_of, NestsPackages, MeansGraph, MeansWiring}
 use Rattle.wac_graph_encode.specs.Formed.{AreCopied}
+use Rattle.wac_graph_encode.specs.Refused.{HasNoneUnwritten, IsRefusedFor}
 use Rattle.wac_graph_encode.specs.Beginning.{AreTold, IsBare, IsToBegin}
 
 -- Entries that are finished over the outer imports that the graph asks, with the packages nested, state each wiring of the graph.
@@ -92,3 +94,7 @@ MeansNested g options bytes = options.define_components ≡ true → IsComposed 
 -- once it is prepared
 abbrev pub PreparedMeans : Graph → Asked → Outers → EncodeOptions → List ℕ → Type 0
 PreparedMeans g a o options bytes = IsPrepared g a o → MeansNested g options bytes
+
+-- and its types can be written
+abbrev pub RefusesPrepared : Graph → Asked → Outers → EncodeOptions → Refusal → Type 0
+RefusesPrepared g a o options e = IsPrepared g a o → HasNoneUnwritten options g → IsRefusedFor options g e

@@ -1,7 +1,8 @@
 -- Why a graph is refused, and what does not stand against one that is encoded.
 use Rattle.std.specs.Prelude.{◌≡◌, ℕ, Option, Some, None, string_bytes}
+use Rattle.wac_types_base.specs.Entries.{Name}
 use Rattle.wac_graph_core.specs.Graph.{Graph}
-use Rattle.wac_composition.specs.Conflicts.{Cause, ImplicitImport, ExplicitImport, ImportTypes, first_cause}
+use Rattle.wac_composition.specs.Conflicts.{Cause, ImplicitImport, ExplicitImport, ImportTypes, Unwritable, first_cause}
 use Rattle.wac_graph_asks.specs.Graphs.{composition_of}
 use Rattle.wac_graph_asks.specs.Takes.{conflict_in}
 use Rattle.wac_graph_causes.specs.declared.errors.EncodeError.{EncodeError}
@@ -9,6 +10,7 @@ use Rattle.wac_graph_causes.specs.declared.errors.Refusal.{Refusal}
 use Rattle.wac_graph_causes.specs.Refusals.{refusal_shown}
 use Rattle.wac_graph_causes.specs.Implicit.{IsKeyOf, implicit_cause}
 use Rattle.wac_graph_causes.specs.Alike.{names_told, alike_cause}
+use Rattle.wac_graph_causes.specs.Unwritable.{unwritten_cause}
 use Rattle.wac_graph_encode.specs.declared.options.EncodeOptions.{EncodeOptions}
 
 module _ (options : EncodeOptions) (g : Graph) where
@@ -16,12 +18,21 @@ module _ (options : EncodeOptions) (g : Graph) where
   abbrev pub cause_in : Option (Cause ℕ)
   cause_in = first_cause options.define_components (composition_of g)
 
-  -- The error tells the first cause, or the first names that are alike. Of a type that cannot be written, of sizes and of memory
-  -- nothing is said.
+  -- each type of the composition can be written by itself
+  abbrev pub HasNoneUnwritten : Type 0
+  HasNoneUnwritten = unwritten_cause options.define_components g ≡ None
+
+  -- where one cannot, the first cause is that the type under this name cannot
+  abbrev pub IsUnwritable : Name → Type 0
+  IsUnwritable n = (c : Cause ℕ) → unwritten_cause options.define_components g ≡ Some c → cause_in ≡ Some (Unwritable n)
+
+  -- The error tells the first cause, or the first names that are alike. Of types that cannot be written since imports use each
+  -- other in a circle, of sizes and of memory nothing is said.
   abbrev pub IsErrorFor : EncodeError → Type 0
   IsErrorFor (EncodeError.ImplicitImportConflict import instantiation key n) = (cause_in ≡ Some (ImplicitImport (string_bytes n) import instantiation)) × IsKeyOf g instantiation key
   IsErrorFor (EncodeError.ExplicitImportConflict n first second) = cause_in ≡ Some (ExplicitImport (string_bytes n) first second)
   IsErrorFor (EncodeError.ImportTypeMergeConflict n first second source) = cause_in ≡ Some (ImportTypes (string_bytes n) first second)
+  IsErrorFor (EncodeError.TypeCannotBeWritten n) = IsUnwritable (string_bytes n)
   IsErrorFor (EncodeError.ValidationFailure fault) = alike_cause options.define_components options.validate g ≡ Some (names_told fault)
   IsErrorFor (EncodeError.GraphContainsCycle node) = ⊥
   IsErrorFor e = Unit {0}
@@ -37,7 +48,8 @@ pub record HasNoneClashing (g : Graph) : Type 0 where
   pub implicit : implicit_cause g ≡ None
   pub conflict : conflict_in g ≡ None
 
--- and no names are alike
+-- and each type can be written, and no names are alike
 pub record IsFree (options : EncodeOptions) (g : Graph) : Type 0 where
   pub clashing : HasNoneClashing g
+  pub written : HasNoneUnwritten options g
   pub alike : HasNoneAlike options g

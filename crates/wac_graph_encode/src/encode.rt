@@ -10,8 +10,9 @@ ghost use Rattle.wac_graph_asks.specs.Asked.{IsAsked, KeepsAsked};
 ghost use Rattle.wac_graph_asks.specs.AskedUses.{CopiesStand};
 ghost use Rattle.wac_graph_asks.specs.Outers.{AnswersOuters};
 ghost use Rattle.wac_graph_causes.specs.Acyclic.{IsNoCycle};
-ghost use Rattle.wac_graph_encode.specs.Refused.{HasNoneAlike, HasNoneClashing, IsErrorFor, IsFree, IsRefusedFor};
-ghost use Rattle.wac_graph_encode.specs.Finished.{AreSpelled, IsPrepared, MeansAsked, MeansNested, MeansWired, NestsSo, NestsWired, PreparedMeans};
+ghost use Rattle.wac_graph_encode.specs.Refused.{HasNoneAlike, HasNoneClashing, HasNoneUnwritten, IsErrorFor, IsFree, IsRefusedFor};
+ghost use Rattle.wac_graph_encode.specs.Finished.{AreSpelled, IsPrepared, MeansAsked, MeansNested, MeansWired, NestsSo, NestsWired};
+ghost use Rattle.wac_graph_encode.specs.Finished.{PreparedMeans, RefusesPrepared};
 
 use crate::forms::written_definitions;
 use crate::instances::Wired;
@@ -115,7 +116,7 @@ fn bytes_asked(
     requires { CopiesStand asked.old.types asked.old.definitions.items }
     ensures means { IfOk result (λ p. PreparedMeans graph.now asked.old outers.now options.now p.0.items) }
     ensures apart { OnOk result (IsPrepared graph.now asked.old outers.now → HasNoneAlike options.now graph.now) }
-    ensures refused { IfErr result (λ e. IsPrepared graph.now asked.old outers.now → IsRefusedFor options.now graph.now e) }
+    ensures refused { IfErr result (RefusesPrepared graph.now asked.old outers.now options.now) }
 {
     graph.see_sound();
     graph.types().see_acyclic();
@@ -144,7 +145,7 @@ fn encoded_asked(
     requires { CopiesStand asked.old.types asked.old.definitions.items }
     ensures means { IfOk result (λ e. PreparedMeans graph.now asked.old outers.now options.now e.bytes.items) }
     ensures apart { OnOk result (IsPrepared graph.now asked.old outers.now → HasNoneAlike options.now graph.now) }
-    ensures refused { IfErr result (λ e. IsPrepared graph.now asked.old outers.now → IsRefusedFor options.now graph.now e) }
+    ensures refused { IfErr result (RefusesPrepared graph.now asked.old outers.now options.now) }
     ensures number { IfOk result (λ e. e.types.number ≡ number) }
     ensures stands { IfOk result (λ e. Stands e.types (ItemKind.Component e.world)) }
 {
@@ -167,6 +168,7 @@ fn outers_checked(
     ensures keeps { OnOk result (KeepsAsked asked.old asked.new) }
     ensures outers { IfOk result (AnswersOuters asked.old asked.new) }
     ensures free { OnOk result (IsAsked graph.now asked.old → HasNoneClashing graph.now) }
+    ensures written { OnOk result (IsAsked graph.now asked.old → HasNoneUnwritten options.now graph.now) }
     ensures refused { IfErr result (λ e. IsAsked graph.now asked.old → IsRefusedFor options.now graph.now e) }
 {
     let alloc = graph.alloc();

@@ -164,10 +164,6 @@ none_of (m ∷ ms) l b is same none = absurd (cc (is, ap has_match same, none))
 pub some_of : (ms l : List Match) (b : Bool) → b ≡ has_match l → l ≡ ms → b ≡ true → ms ≢ []
 some_of ms l b is same some e = absurd (cc (is, ap has_match (same ∙ e), some))
 
-pub made_stands : (g h : Graph) (id : PackageId) (k : ℕ) → Instantiates g h id k → ContainsNode h k
-made_stands g h id k made =
-    subst IsSome (sym (ap (λ (x : Graph). node_at x k) made.made ∙ get-insert_same g.nodes k (plain_node Role.Instance (Some id) (ItemKind.Instance made.of.instance_type)))) refl
-
 -- an item that is read with any default
 pub own_default : {X : Type 0} (xs : List X) (i : ℕ) (d e : X) → i < length xs → get_or xs i d ≡ get_or xs i e
 own_default [] i d e within = absurd (omega (arith, within))

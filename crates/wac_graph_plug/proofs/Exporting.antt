@@ -34,9 +34,3 @@ an_instance g k n has is =
     let none : item_export g.types has.1.node.item_kind n ≡ None = ap (λ (x : NodeData). item_export g.types x.item_kind n) (sym same) ∙ no_export_of g.types is.node.item_kind n is.kind in
     absurd (cc (none, has.1.kind))
 
-pub alias_here : (g h : Graph) (i : ℕ) (n : Name) (k : ℕ) → Aliases g h i n k → HasAlias h.edges i n k
-alias_here g h i n k (inl again) = subst (Among (alias_edge i k n)) (sym (ap (λ (x : Graph). x.edges) again.same)) again.there
-alias_here g h i n k (inr made) = (made.edges (alias_edge i k n)).1 (inr refl)
-
-pub alias_stands : (g h : Graph) (i : ℕ) (n : Name) (k : ℕ) → IsGraph h → Aliases g h i n k → ContainsNode h k
-alias_stands g h i n k is a = (is.wired.edges (alias_edge i k n) (alias_here g h i n k a)).to

@@ -37,7 +37,8 @@ use Rattle.wac_graph_plug.proofs.State.{Bound, imports_of_all, State, no_argumen
 use Rattle.wac_graph_plug.proofs.Causes.{Grown-each, first_state, all_distinct, each_state}
 use Rattle.wac_graph_plug.proofs.Passing.{bound_of}
 use Rattle.wac_graph_plug.proofs.Made.{PlugAt, BoundAt, EachMade, AllMade, each_made, quiet_alias}
-use Rattle.wac_graph_plug.proofs.Exporting.{alias_here}
+use Rattle.wac_graph_core.proofs.Made.{alias_here}
+use Rattle.wac_graph_core.proofs.WiringLaws.{found_at as entry_at}
 use Rattle.wac_graph_core.proofs.ExportSteps.{among_name}
 use Rattle.wac_types_base.proofs.Replacing.{same_number}
 use Rattle.wac_types_base.proofs.Lists.{last_among, value_none, value_named}
@@ -97,10 +98,6 @@ exported_all {s} (exported_next {ns = ns} {n = n} {f = f} {g = g} {h = h} rest o
     }
 
 -- ---- lists
-
-entry_at : (b : Bool) (x : Name × ℕ) (es : List (Name × ℕ)) (n : Name) (k : ℕ) → pointwise ◌==◌ n x.0 ≡ b → (value_at es n ≡ Some k → Among (n, k) es) → cond b (Some x.1) (value_at es n) ≡ Some k → Among (n, k) (x ∷ es)
-entry_at true x es n k is ih e = let same : x.1 ≡ k = same_Some _ _ e in inl (λ i. (same_text n x.0 (sym is) i, sym same i))
-entry_at false x es n k is ih e = inr (ih e)
 
 part_at : (g : Graph) (ids : List PackageId) (p : ℕ) (id : PackageId) → slice_get ids p ≡ Some id → slice_get (map (part_of g) ids) p ≡ Some (part_of g id)
 part_at g [] p id e = absurd (cc (e))

@@ -29,14 +29,10 @@ use Rattle.wac_graph_plug.proofs.Growing.{Grown-alias}
 use Rattle.wac_graph_plug.proofs.State.{Bound, imports_of_all, State, IsPlug, apart_from_new}
 use Rattle.wac_graph_plug.proofs.Passing.{alias_made, alias_state}
 use Rattle.wac_graph_plug.proofs.Fitting.{Fitting}
-use Rattle.wac_types_base.proofs.Replacing.{same_number}
+use Rattle.wac_types_base.proofs.Replacing.{same_number, only_one}
 use Rattle.wac_types_base.proofs.Lists.{among_mapped}
 
 -- ---- nothing is reached from the socket
-
-only_one : (s j : ℕ) (b : Bool) → (s == j) ≡ b → cond b true false ≡ true → j ≡ s
-only_one s j true is h = sym (same_number s j is)
-only_one s j false is h = absurd (cc (h))
 
 module _ (es : List Edge) (s : ℕ) (quiet : (n : Name) (k : ℕ) → HasAlias es s n k → ⊥) (loose : (i : ℕ) (n : Name) → HasArgument es i n s → ⊥) where
   leads_nowhere : (e : Edge) (l : Label) → Among e es → e.from ≡ s → e.label ≡ l → follows Follow.Flow l ≡ true → ⊥

@@ -53,17 +53,9 @@ use Rattle.wac_graph_scopes.proofs.ItemLaws.{ItemsGo-refl, ItemsGo-trans, types_
 use Rattle.wac_graph_scopes.proofs.UsedLaws.{root_of, plain_item}
 use Rattle.wac_graph_scopes.proofs.FieldLaws.{written_instance, no_names}
 use Rattle.wac_graph_scopes.proofs.OrderLaws.{distinct-append}
+use Rattle.wac_types_base.proofs.Lists.{not_among}
 
 -- ---- names
-
-pub not_among : (ms : List Name) (n : Name) → has_name ms n ≡ false → Among n ms → ⊥
-not_among [] n e m = m
-not_among (x ∷ ms) n e (inl same) = absurd (cc (e, ap (λ (b : Bool). b || has_name ms n) ((bytes_eq-Decides n x).1 same)))
-not_among (x ∷ ms) n e (inr m) = not_among ms n (rest (pointwise ◌==◌ n x) e) m
-  where
-    rest : (b : Bool) → (b || has_name ms n) ≡ false → has_name ms n ≡ false
-    rest true h = absurd (cc h)
-    rest false h = h
 
 pub among_has : (ms : List Name) (n : Name) → has_name ms n ≡ true → Among n ms
 among_has [] n e = absurd (cc e)

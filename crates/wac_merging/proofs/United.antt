@@ -18,6 +18,7 @@ use Rattle.wac_composition.specs.Merging.{is_interface, both, merged_with, merge
 use Rattle.wac_composition.proofs.KeptFits.{both_is, if_is}
 use Rattle.wac_composition.proofs.Again.{merging, more_uses, more_exports, merged_of, merge_made, merge_typed, merge_other, none_merging, no_both}
 use Rattle.wac_merging.proofs.Well.{IsMade, made_instance, made_interface, made_other}
+use Rattle.wac_types_base.proofs.Lists.{bytes_turned}
 
 -- ---- kinds
 
@@ -65,15 +66,6 @@ new_exports es (f ∷ fs) =
     by : (b : Bool) → new_in es fs ≡ new_of es fs → cond b (new_in es fs) (f ∷ new_in es fs) ≡ cond (not b) (f ∷ new_of es fs) (new_of es fs)
     by true e = e
     by false e = ap (λ l. f ∷ l) e
-
-bytes_turned : (m n : Name) → bytes_eq m n ≡ bytes_eq n m
-bytes_turned m n = go (bytes_eq m n) refl (bytes_eq n m) refl
-  where
-    go : (a : Bool) → bytes_eq m n ≡ a → (b : Bool) → bytes_eq n m ≡ b → a ≡ b
-    go true p true q = refl
-    go false p false q = refl
-    go true p false q = absurd (true≢false (sym ((bytes_eq-Decides n m).1 (sym ((bytes_eq-Decides m n).0 p))) ∙ q))
-    go false p true q = absurd (true≢false (sym ((bytes_eq-Decides m n).1 (sym ((bytes_eq-Decides n m).0 q))) ∙ p))
 
 has_named : (us : List Used) (n : Name) → is_some (value_at (by_name us) n) ≡ has_use us n
 has_named [] n = refl

@@ -53,6 +53,3 @@ pub mod laws {
         refusals_stand, stated_types_are_proper, wirings_are_ordered,
     };
 }
-
-#[cfg(test)]
-mod tests;

@@ -1,6 +1,6 @@
 //! Resolved documents as components.
 
-ghost use Rattle.std.specs.Prelude.{◌≡◌, IfOk, Some};
+ghost use Rattle.std.specs.Prelude.{◌≡◌, IfErr, IfOk, Some};
 ghost use Rattle.wac_types_base.specs.declared.item.ItemKind.{ItemKind};
 ghost use Rattle.wac_types_base.specs.Collection.{Stands};
 ghost use Rattle.wac_graph_core.specs.Graph.{Graph};
@@ -8,9 +8,11 @@ ghost use Rattle.wac_graph_causes.specs.Acyclic.{IsNoCycle};
 ghost use Rattle.wac_graph_encode.specs.Finished.{MeansNested};
 ghost use Rattle.wac_parser_resolve.specs.Resolved.{graph_of};
 ghost use Rattle.wac_parser_encode.specs.Processing.{IsProcessed};
+ghost use Rattle.wac_parser_encode.specs.Meaning.{MeansResolved};
 
 use std::alloc::{AllocError, Global};
 use wac_graph_bytes::Processor;
+use wac_graph_core::CompositionGraph;
 use wac_graph_encode::{EncodeError, EncodeGraph, EncodeOptions, Encoded, ValidationFault};
 use wac_parser_refusals::{Error, ResolutionResult};
 use wac_parser_resolve::Resolved;
@@ -104,6 +106,40 @@ fn with_processor(alloc: Global, options: EncodeOptions) -> Result<EncodeOptions
     })
 }
 
+/// The component of a graph.
+fn encoded_bytes(graph: &CompositionGraph, options: EncodeOptions) -> Result<Vec<u8>, EncodeError>
+    ensures means { IfOk result (λ bytes. MeansNested graph.now options bytes.items) }
+    ensures ascribed { IfOk result (λ bytes. MeansResolved graph.now options bytes.items) }
+    ensures acyclic { IfErr result IsNoCycle }
+{
+    graph.see_sound();
+    graph.types().see_acyclic();
+    match with_processor(graph.alloc(), options) {
+        Ok(options) => graph.encode(options),
+        Err(_) => Err(EncodeError::Memory),
+    }
+}
+
+/// The component of a graph, and its world in a collection of the second number.
+fn encoded_world(
+    graph: &CompositionGraph,
+    options: EncodeOptions,
+    numbers: (u64, u64),
+) -> Result<Encoded, EncodeError>
+    ensures means { IfOk result (λ e. MeansNested graph.now options e.bytes.items) }
+    ensures ascribed { IfOk result (λ e. MeansResolved graph.now options e.bytes.items) }
+    ensures number { IfOk result (λ e. e.types.number ≡ numbers.1) }
+    ensures stands { IfOk result (λ e. Stands e.types (ItemKind.Component e.world)) }
+    ensures acyclic { IfErr result IsNoCycle }
+{
+    graph.see_sound();
+    graph.types().see_acyclic();
+    match with_processor(graph.alloc(), options) {
+        Ok(options) => graph.encode_world(options, numbers),
+        Err(_) => Err(EncodeError::Memory),
+    }
+}
+
 /// Encoding of resolved documents.
 pub trait EncodeResolution {
     /// The graph of the document.
@@ -111,12 +147,14 @@ pub trait EncodeResolution {
 
     /// The component of the graph.
     fn encode(&self, options: EncodeOptions) -> ResolutionResult<Vec<u8>>
-        ensures means { IfOk result (λ bytes. MeansNested (graph self.now) options bytes.items) };
+        ensures means { IfOk result (λ bytes. MeansNested (graph self.now) options bytes.items) }
+        ensures ascribed { IfOk result (λ bytes. MeansResolved (graph self.now) options bytes.items) };
 
     /// The component of the graph, and the world that is true of it, in a collection of the second number. The first is
     /// that of the collection in which imports are merged.
     fn encode_world(&self, options: EncodeOptions, numbers: (u64, u64)) -> ResolutionResult<Encoded>
         ensures means { IfOk result (λ e. MeansNested (graph self.now) options e.bytes.items) }
+        ensures ascribed { IfOk result (λ e. MeansResolved (graph self.now) options e.bytes.items) }
         ensures number { IfOk result (λ e. e.types.number ≡ numbers.1) }
         ensures stands { IfOk result (λ e. Stands e.types (ItemKind.Component e.world)) };
 }
@@ -125,9 +163,7 @@ impl<'d, D> EncodeResolution for Resolved<'d, D> {
     ghost graph = { graph_of };
 
     fn encode(&self, options: EncodeOptions) -> ResolutionResult<Vec<u8>> {
-        let graph = self.graph();
-        let options = with_processor(graph.alloc(), options)?;
-        match graph.encode(options) {
+        match encoded_bytes(self.graph(), options) {
             Ok(bytes) => Ok(bytes),
             Err(fault) => Err(fault_of(self, fault)),
         }
@@ -138,9 +174,7 @@ impl<'d, D> EncodeResolution for Resolved<'d, D> {
         options: EncodeOptions,
         numbers: (u64, u64),
     ) -> ResolutionResult<Encoded> {
-        let graph = self.graph();
-        let options = with_processor(graph.alloc(), options)?;
-        match graph.encode_world(options, numbers) {
+        match encoded_world(self.graph(), options, numbers) {
             Ok(encoded) => Ok(encoded),
             Err(fault) => Err(fault_of(self, fault)),
         }

@@ -26,6 +26,7 @@ use Rattle.wac_parser_resolve.proofs.Alike.{Alike, alike_accesses, alike_refl, a
 use Rattle.wac_parser_resolve.proofs.Nodes.{same_alias}
 use Rattle.wac_parser_resolve.proofs.Stating.{carries_later, nothing_inner, said_carried, with_board, with_made}
 use Rattle.wac_parser_resolve.proofs.Turns.{any_among, turn_back}
+use Rattle.wac_graph_core.proofs.Rising.{rises_apart}
 
 -- ---- steps
 
@@ -145,7 +146,7 @@ module _ (g : Graph) (is : IsGraph g) (noted : List (ℕ × Span)) (names : List
   by_origin d k (projected o n) e a =
       let z = (is.wired.edges (alias_edge a.0 k n) a.3).alias n refl in
       let spoke = turn_back (Denotes g ms) s.aliases says.aliases.nodes k says.aliases.are (says.aliases.all k z.0 z.1 z.2) in
-      let thing = same_alias g is ms says.apart spoke.0.origin o n a.0 k spoke.2.node a.3 a.1 a.2 in
+      let thing = same_alias g is ms (rises_apart ms says.rising) spoke.0.origin o n a.0 k spoke.2.node a.3 a.1 a.2 in
       let any = any_among (λ (y : Denoted). same_origin y.origin (projected o n)) s.aliases spoke.0 spoke.1 thing in
       ap (λ (p : Origin). speak_of s (record { origin = p; item = d.item })) e
       ∙ spoken_by (record { origin = projected o n; item = d.item }) (list_any (λ (y : Denoted). same_origin y.origin (projected o n)) s.aliases) any

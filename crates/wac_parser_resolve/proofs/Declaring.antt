@@ -43,7 +43,8 @@ use Rattle.wac_parser_resolve.proofs.Numbers.{among_last, among_more}
 use Rattle.wac_parser_resolve.proofs.Rooted.{AreFound, both_found}
 use Rattle.wac_parser_resolve.proofs.Stating.{Carries, asked_carried, carries_later, declared_carried, known_within, named_carried, names_carried, node_back, none_defined, noted_carried, scope_carried, with_graph, with_types}
 use Rattle.wac_parser_resolve.proofs.Staying.{says_stay}
-use Rattle.wac_parser_resolve.proofs.Turns.{turn_map, turn_more, turn_on, turn_within}
+use Rattle.wac_parser_resolve.proofs.Turns.{turn_map, turn_more, turn_on, turn_within, turn_back}
+use Rattle.wac_graph_core.proofs.Rising.{rises_apart, rises_more}
 
 -- ---- a name that is new
 
@@ -120,10 +121,10 @@ module _ (own : t.PackageName) (b : Held) (s : State) (said : IsSaid own b s) (i
   place_of k None is f e tells = absurd f
   place_of k (Some p) is f e tells =
       let at = turn_on (IsNoted g ms) s.exports b.exports.noted.items (i.string, p) said.exports.noted (value_at-among s.exports i.string p is) in
-      let thing = one_thing g sound ms said.board.says.apart p.denoted.origin p.denoted.origin k f.node f.node in
+      let thing = one_thing g sound ms (rises_apart ms said.board.says.rising) p.denoted.origin p.denoted.origin k f.node f.node in
       let own_node : at.0.0 ≡ k = same_node g sound ms p.denoted.origin p.denoted.origin at.0.0 k thing at.2.denotes.node f.node in
       let place : export_span s p ≡ unwrap_or (last_noted b.exports.noted.items k) i.span =
-      export_place g sound ms said.board.says.apart p.denoted.origin k f.node s.exports b.exports.noted.items p.span i.span at.0 said.exports.noted at.1 own_node in
+      export_place g sound ms (rises_apart ms said.board.says.rising) p.denoted.origin k f.node s.exports b.exports.noted.items p.span i.span at.0 said.exports.noted at.1 own_node in
       subst (λ (z : Span). Tells (cause_in e) (record { fault = DeclarationConflict i.string z; span = Some i.span })) (sym place) tells
 
   pub definition_refused : (fault : DefineTypeError) (e : Refusal) → DefineRefused g i.string ty fault → Names e (definition_cause g b.exports.noted.items i fault) → IsRefusal (declaration s i x) e
@@ -208,7 +209,7 @@ module _ (own : t.PackageName) (b : Held) (s : State) (said : IsSaid own b s) (i
 
     asked_on : AreAsked h noted (ids ++ (k, i.span) ∷ []) s.imports
     asked_on = record {
-      apart = said.imports.apart;
+      rising = said.imports.rising;
       are = turn_within (IsAsked g ids) (IsAsked h (ids ++ (k, i.span) ∷ [])) s.imports noted
           (λ j e m a. asked_carried g h ms ms c ids (ids ++ (k, i.span) ∷ []) j e (last_other ids k e.0 i.span (other e.0 a.import.node a.import.there)) a) said.imports.are;
       all = λ j m a. said.imports.all j m (import_old j m a);
@@ -217,6 +218,8 @@ module _ (own : t.PackageName) (b : Held) (s : State) (said : IsSaid own b s) (i
     declared_on : AreDeclared h (s.definitions ++ (i.string, x) ∷ [])
     declared_on = record {
       nodes = said.definitions.nodes ++ k ∷ [];
+      rising = rises_more said.definitions.nodes k said.definitions.rising
+          (λ j m. let a = turn_back (IsDeclared g) s.definitions said.definitions.nodes j said.definitions.are m in made.above j (subst IsSome (sym a.2.definition.there) refl));
       are = turn_more (IsDeclared h) s.definitions said.definitions.nodes (i.string, x) k
           (turn_map (IsDeclared g) (IsDeclared h) (declared_carried g h ms ms c) s.definitions said.definitions.nodes said.definitions.are)
           (record { definition = is_definition; item = item_there });
@@ -244,7 +247,7 @@ module _ (own : t.PackageName) (b : Held) (s : State) (said : IsSaid own b s) (i
         let says = says_stay g h later (none_defined g h i.string ty k made) b.board.instances.noted.items b.nodes s said.board.says in
         record {
           board = record {
-            says = record { apart = says.apart; made = says.made; all = says.all; aliases = says.aliases; root = says.root };
+            says = record { rising = says.rising; made = says.made; all = says.all; aliases = says.aliases; root = says.root };
             known = λ j. known_within b.board.types h within j ∙ said.board.known j;
             own = said.board.own;
           };

@@ -56,6 +56,7 @@ use Rattle.wac_parser_resolve.proofs.Nodes.{denotes_stays, item_stays, names_sta
 use Rattle.wac_parser_resolve.proofs.Rooted.{AreFound, both_found}
 use Rattle.wac_parser_resolve.proofs.Staying.{says_stay}
 use Rattle.wac_parser_resolve.proofs.Turns.{turn_map, turn_more, turn_on}
+use Rattle.wac_graph_core.proofs.Rising.{rises_apart}
 
 -- ---- what is said, on a graph that grew
 
@@ -100,12 +101,13 @@ module _ (own : t.PackageName) (b : Held) (h : Graph) (spans : Spans) (s : State
     stand = subst (λ (c : Collection). NamesStand c b.names) (sym within.types) said.stand;
     scope = ap (λ (c : Collection). scope_of c b.names) within.types ∙ said.scope;
     imports = record {
-      apart = said.imports.apart;
+      rising = said.imports.rising;
       are = turn_map (IsAsked g b.ids.noted.items) (IsAsked h b.ids.noted.items) (asked_stays l) s.imports b.imports.noted.items said.imports.are;
       all = λ k n x. said.imports.all k n (imports k n x);
     };
     definitions = record {
       nodes = said.definitions.nodes;
+      rising = said.definitions.rising;
       are = turn_map (IsDeclared g) (IsDeclared h) (declared_stays l) s.definitions said.definitions.nodes said.definitions.are;
       all = λ k x at r. let y = back k x at r in said.definitions.all k y.0 y.1 y.2;
     };
@@ -160,7 +162,7 @@ module _ (g h : Graph) (k : ℕ) (n : Name) (step : Exports g h k n) where
 
 module _ (h : Graph) (noted : List (ℕ × Span)) (names : List (Name × ℕ)) (s : State) (es : List (Name × Bound)) where
   says_with : Says h noted names s → Says h noted names (record s { exports = es })
-  says_with x = record { apart = x.apart; made = x.made; all = x.all; aliases = x.aliases; root = x.root }
+  says_with x = record { rising = x.rising; made = x.made; all = x.all; aliases = x.aliases; root = x.root }
 
 module _ (own : t.PackageName) (b : Held) (h : Graph) (spans : Spans) (k : ℕ) (n : Name) (s : State) (d : Denoted) (at : Span) where
   abbrev more : List (Name × Bound)
@@ -268,7 +270,7 @@ module _ (own : t.PackageName) (b : Held) (u : State) (said : IsSaid own b u) (i
   earlier_place n x j other at dn =
       let g = b.board.types.graph in
       let ns = names_of b.board.instances.noted.items in
-      let apart = said.board.says.apart in
+      let apart = rises_apart (names_of b.board.instances.noted.items) said.board.says.rising in
       let a = value_among u.exports n x at in
       let y = turn_on (IsNoted g ns) u.exports b.exports.noted.items a.0 said.exports.noted a.1 in
       let o = x.denoted.origin in

@@ -15,11 +15,7 @@ use Rattle.wac_graph_core.specs.Steps.{Instantiates, SetsArgument}
 use Rattle.wac_graph_core.proofs.NodeMap.{get-insert_same}
 use Rattle.wac_parser_resolve.specs.declared.arguments.Given.{Given}
 use Rattle.wac_parser_resolve.specs.Standing.{AreThere, IsFresh, AreApart}
-use Rattle.wac_types_base.proofs.Replacing.{same_number}
-
-only_one : (s j : ℕ) (b : Bool) → (s == j) ≡ b → cond b true false ≡ true → j ≡ s
-only_one s j true is h = sym (same_number s j is)
-only_one s j false is h = absurd (cc (h))
+use Rattle.wac_types_base.proofs.Replacing.{same_number, only_one}
 
 module _ (es : List Edge) (s : ℕ) (quiet : (e : Edge) → Among e es → e.from ≡ s → ⊥) where
   pub only_start : {j : ℕ} → Reaches Follow.Flow es (s ∷ []) j → j ≡ s

@@ -15,6 +15,7 @@ use Rattle.wac_parser_resolve.specs.Denoting as stated
 use Rattle.wac_parser_resolve.specs.Denoting.{add_given, given_names}
 use Rattle.wac_parser_resolve.specs.Holding.{AreGiven, InTurn, IsGiven, names_given}
 use Rattle.wac_parser_resolve.proofs.Turns.{distinct_more, turn_more, none_by}
+use Rattle.wac_types_base.proofs.Lists.{not_among}
 
 -- ---- names
 
@@ -30,9 +31,6 @@ pub among_has : (ns : List Name) (n : Name) → Among n ns → has_name ns n ≡
 among_has [] n m = absurd m
 among_has (k ∷ ns) n (inl e) = or_left (pointwise ◌==◌ n k) (has_name ns n) ((bytes_decides n k).1 e)
 among_has (k ∷ ns) n (inr m) = or_right (pointwise ◌==◌ n k) (has_name ns n) (among_has ns n m)
-
-pub not_among : (ns : List Name) (n : Name) → has_name ns n ≡ false → Among n ns → ⊥
-not_among ns n e m = absurd (cc (sym (among_has ns n m) ∙ e))
 
 pub has_not : (ns : List Name) (n : Name) → (Among n ns → ⊥) → has_name ns n ≡ false
 has_not [] n h = refl

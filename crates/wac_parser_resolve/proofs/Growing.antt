@@ -19,6 +19,7 @@ use Rattle.wac_graph_core.specs.Graph.{Graph, node_at, ContainsNode, package_in,
 use Rattle.wac_graph_core.specs.Steps.{Imports, Instantiates, Aliases, SetsArgument}
 use Rattle.wac_graph_core.specs.Defining.{DefinesType}
 use Rattle.wac_graph_core.specs.Exporting.{Exports, Names}
+use Rattle.wac_graph_core.proofs.Made.{import_there, instance_there, definition_there}
 use Rattle.wac_graph_core.proofs.NodeMap.{get-insert_same, get-insert_other}
 use Rattle.std.proofs.lemmas.Bool.{cases_eq}
 use Rattle.wac_graph_core.proofs.NodeSteps.{IsAbove, IsAbove-fresh, IsAbove-written, IsAbove-same, some_there}
@@ -282,27 +283,6 @@ within_set g h i n a s = elim s.step [
   | inl keep ↦ within_same g h keep.same
   | inr add ↦ record { types = ap (λ (x : Graph). x.types) add.made; places = ap (λ (x : Graph). x.places) add.made }
 ]
-
--- ---- what is made stands
-
-there : (h : Graph) (m : NodeMap) (k : ℕ) (n : NodeData) → h.nodes ≡ map.insert m k n → ContainsNode h k
-there h m k n nodes = subst IsSome (sym (ap (λ l. map.get l k) nodes ∙ get-insert_same m k n)) refl
-
-pub import_there : (g h : Graph) (n : Name) (kind : ItemKind) (k : ℕ) → Imports g h n kind k → ContainsNode h k
-import_there g h n kind k s = there h g.nodes k (plain_node (Role.Imported n) None kind) (ap (λ (x : Graph). x.nodes) s.made)
-
-pub instance_there : (g h : Graph) (id : PackageId) (k : ℕ) → Instantiates g h id k → ContainsNode h k
-instance_there g h id k s = there h g.nodes k (plain_node Role.Instance (Some id) (ItemKind.Instance s.of.instance_type)) (ap (λ (x : Graph). x.nodes) s.made)
-
-pub definition_there : (g h : Graph) (n : Name) (t : TypeKind) (k : ℕ) → DefinesType g h n t k → ContainsNode h k
-definition_there g h n t k s = there h g.nodes k (defined_node t n) (ap (λ (x : Graph). x.nodes) s.made)
-
-alias_here : (g h : Graph) (i : ℕ) (n : Name) (k : ℕ) → Aliases g h i n k → HasAlias h.edges i n k
-alias_here g h i n k (inl again) = subst (Among (alias_edge i k n)) (sym (ap (λ (x : Graph). x.edges) again.same)) again.there
-alias_here g h i n k (inr made) = (made.edges (alias_edge i k n)).1 (inr refl)
-
-pub alias_there : (g h : Graph) (i : ℕ) (n : Name) (k : ℕ) → IsGraph h → Aliases g h i n k → ContainsNode h k
-alias_there g h i n k is a = (is.wired.edges (alias_edge i k n) (alias_here g h i n k a)).to
 
 -- ---- what stands in a graph
 

@@ -56,7 +56,7 @@ module _ (k : Key) where
 
 -- ---- keys that are equal
 
-abbrev KeyEq : BorrowedPackageKey → BorrowedPackageKey → Bool
+abbrev pub KeyEq : BorrowedPackageKey → BorrowedPackageKey → Bool
 KeyEq = key_eq.eq-value.it
 
 versions_same : (n m : Bor (List ℕ)) (v w : Option (Bor Version)) → is_key (borrowed_key (record { name = n; version = v })) (borrowed_key (record { name = m; version = w })) ≡ true

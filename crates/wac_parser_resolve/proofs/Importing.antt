@@ -1,5 +1,5 @@
 -- Import statements: the names that they may have, the place of an earlier import, and what is said behind one.
-use Rattle.std.proofs.Common.{◌≡◌, ◌≢◌, ◌⊎◌, ℕ, List, [], ◌∷◌, ◌++◌, Bool, true, false, not, ◌&&◌, ◌==◌, if◌then◌else◌, Option, Some, None, inl, inr, refl, sym, ap, subst, ◌∙◌}
+use Rattle.std.proofs.Common.{◌≡◌, ◌≢◌, ◌⊎◌, ℕ, List, [], ◌∷◌, ◌++◌, Bool, true, false, not, ◌&&◌, ◌==◌, if◌then◌else◌, Option, Some, None, inl, inr, refl, sym, ap, subst, ◌∙◌, ◌<◌, IsSome}
 use Rattle.std.specs.Prelude.{Result, ⊤, bytes_eq, codes, cond, is_none, is_some, option_map, string_bytes, unwrap_or}
 use Rattle.std.specs.Bool.{Decides}
 use Rattle.std.specs.List.{AllByRecursion, list_any}
@@ -20,7 +20,7 @@ use Rattle.std.proofs.lemmas.Bool.{or_right, not_from_false, not-true, false_fro
 use Rattle.wac_names.proofs.NameKinds.{or_left, or_parts}
 use Rattle.wac_graph_core.specs.declared.errors.ImportError.{ImportError}
 use Rattle.wac_graph_core.specs.Nodes.{NodeData, Role, plain_node}
-use Rattle.wac_graph_core.specs.NodeMaps.{IsImport, NoImport}
+use Rattle.wac_graph_core.specs.NodeMaps.{IsImport, NoImport, Rises}
 use Rattle.wac_graph_core.specs.Graph.{Graph, IsGraph, node_at}
 use Rattle.wac_graph_core.specs.Refusals.{ImportRefused}
 use Rattle.wac_graph_core.specs.Steps.{Imports, IsExternName}
@@ -48,7 +48,8 @@ use Rattle.wac_parser_resolve.proofs.Instances.{among_named}
 use Rattle.wac_parser_resolve.proofs.Numbers.{among_last, among_more}
 use Rattle.wac_parser_resolve.proofs.Stating.{Carries, all_declared, all_exported, asked_carried, carries_later, known_within, names_carried, node_back, none_imported, scope_carried, with_graph, with_types}
 use Rattle.wac_parser_resolve.proofs.Staying.{says_stay}
-use Rattle.wac_parser_resolve.proofs.Turns.{distinct_more, names_more, turn_back, turn_more, turn_within}
+use Rattle.wac_parser_resolve.proofs.Turns.{names_more, turn_back, turn_more, turn_within}
+use Rattle.wac_graph_core.proofs.Rising.{rises_apart, rises_more}
 
 -- ---- names of imports and definitions
 
@@ -233,7 +234,7 @@ module _ (own : t.PackageName) (b : Held) (s : State) (said : IsSaid own b s) (x
 
   pub import_refused : IsGraph g → (fault : ImportError) (e : Refusal) → ImportRefused g n.string fault → Names e (import_cause b.imports.noted.items n.span (is_none x.name) fault) → IsRefusal (import_of s x n item) e
   import_refused sound (ImportError.ImportAlreadyExists m k) e r names =
-      let c = called_in g b.ids.noted.items n.string sound k r.1 s.imports b.imports.noted.items said.imports.are said.imports.apart (said.imports.all k n.string r.1) in
+      let c = called_in g b.ids.noted.items n.string sound k r.1 s.imports b.imports.noted.items said.imports.are (rises_apart (names_of b.imports.noted.items) said.imports.rising) (said.imports.all k n.string r.1) in
       let one_told = told e (record { fault = DuplicateExternName (string_bytes m) ExternKind.Import (unwrap_or (last_noted b.imports.noted.items k) n.span) (is_none x.name); span = Some n.span }) names in
       let two = subst (λ (y : Name). Tells (cause_in e) (record { fault = DuplicateExternName y ExternKind.Import (unwrap_or (last_noted b.imports.noted.items k) n.span) (is_none x.name); span = Some n.span })) r.0 one_told in
       refused_by (Some c.earlier) (is_extern_name n.string) e c.called refl
@@ -294,18 +295,18 @@ module _ (own : t.PackageName) (b : Held) (s : State) (said : IsSaid own b s) (x
     abbrev ids : List (ℕ × Span)
     ids = b.ids.noted.items
 
-    fresh_one : Among k (names_of noted) → ⊥
-    fresh_one m =
-        let e = among_named noted k m in
+    below : (j : ℕ) → Among j (names_of noted) → j < k
+    below j m =
+        let e = among_named noted j m in
         let a = turn_back (IsAsked g ids) s.imports noted e.0 said.imports.are e.1 in
-        other e.0 a.0 a.2.import (sym e.2)
+        made.above j (subst (λ (i : ℕ). IsSome (node_at g i)) e.2 (subst IsSome (sym a.2.import.there) refl))
 
     c : Carries g h ms ms
     c = carries_later g h later ms ms (λ i j e. e)
 
     asked_more : AreAsked h (noted ++ (k, n.span) ∷ []) (ids ++ (k, x.id.span) ∷ []) (s.imports ++ one ∷ [])
     asked_more = record {
-      apart = subst AreDistinct (sym (names_more noted (k, n.span))) (distinct_more (names_of noted) k said.imports.apart fresh_one);
+      rising = subst Rises (sym (names_more noted (k, n.span))) (rises_more (names_of noted) k said.imports.rising below);
       are = turn_more (IsAsked h (ids ++ (k, x.id.span) ∷ [])) s.imports noted one (k, n.span)
           (turn_within (IsAsked g ids) (IsAsked h (ids ++ (k, x.id.span) ∷ [])) s.imports noted
           (λ i e m a. asked_carried g h ms ms c ids (ids ++ (k, x.id.span) ∷ []) i e (last_other ids k e.0 x.id.span (other e i a.import)) a) said.imports.are)
@@ -327,7 +328,7 @@ module _ (own : t.PackageName) (b : Held) (s : State) (said : IsSaid own b s) (x
         let says = says_stay g h later (none_imported g h n.string kind k made) b.board.instances.noted.items b.nodes s said.board.says in
         record {
           board = record {
-            says = record { apart = says.apart; made = says.made; all = says.all; aliases = says.aliases; root = says.root };
+            says = record { rising = says.rising; made = says.made; all = says.all; aliases = says.aliases; root = says.root };
             known = λ j. known_within b.board.types h within j ∙ said.board.known j;
             own = said.board.own;
           };

@@ -1,11 +1,11 @@
 -- A new instance, and what is passed to it.
-use Rattle.std.proofs.Common.{◌≡◌, ◌≢◌, ◌⊎◌, ℕ, List, [], ◌∷◌, ◌++◌, Option, Some, None, IsSome, inl, inr, refl, sym, ap, subst, ◌∙◌}
+use Rattle.std.proofs.Common.{◌≡◌, ◌≢◌, ◌⊎◌, ℕ, List, [], ◌∷◌, ◌++◌, Option, Some, None, IsSome, inl, inr, refl, sym, ap, subst, ◌∙◌, ◌<◌}
 use Rattle.std.specs.Prelude.{slice_get}
 use Rattle.std.specs.FinMap as map
 use Rattle.wac_types_base.specs.declared.item.ItemKind.{ItemKind}
 use Rattle.wac_types_base.specs.Record.{Collection}
 use Rattle.wac_types_base.specs.Collection.{Stands}
-use Rattle.wac_types_base.specs.Entries.{AreDistinct, Name, names_of}
+use Rattle.wac_types_base.specs.Entries.{Name, names_of}
 use Rattle.wac_types_base.specs.Graph.{Among}
 use Rattle.wac_types_base.specs.Stated.{Stated, instance_type, stated_of}
 use Rattle.wac_types_names.specs.Packaged.{Packaged}
@@ -27,7 +27,9 @@ use Rattle.wac_parser_resolve.proofs.Growing.{Later-instance}
 use Rattle.wac_parser_resolve.proofs.Nodes.{denotes_stays, exported_stays, names_stay}
 use Rattle.wac_parser_resolve.proofs.Numbers.{among_last, among_more, slice_kept}
 use Rattle.wac_parser_resolve.proofs.Staying.{made_on}
-use Rattle.wac_parser_resolve.proofs.Turns.{distinct_more, names_more, turn_back, turn_map, turn_more}
+use Rattle.wac_parser_resolve.proofs.Turns.{names_more, turn_back, turn_map, turn_more}
+use Rattle.wac_graph_core.proofs.Rising.{rises_more}
+use Rattle.wac_graph_core.specs.NodeMaps.{Rises}
 
 -- ---- names of lists
 
@@ -80,6 +82,13 @@ module _ (g h : Graph) (is : IsGraph g) (id : PackageId) (i : ℕ) (s : Instanti
     | inr e ↦ inr (subst IsSome (sym (ap (package_made g) e.1)) (subst IsSome (places y.of) x))
   ]
 
+  instance_stands : (j : ℕ) → IsSome (instantiated g j) → IsSome (node_at g j)
+  instance_stands j x = by (node_at g j) refl x
+    where
+      by : (o : Option NodeData) → node_at g j ≡ o → IsSome (package_made g o) → IsSome (node_at g j)
+      by None at x = absurd (cc x)
+      by (Some y) at x = subst IsSome (sym at) refl
+
   -- nothing is passed to it
   no_argument : (n : Name) (a : ℕ) → HasArgument h.edges i n a → ⊥
   no_argument n a x =
@@ -96,12 +105,11 @@ module _ (g h : Graph) (is : IsGraph g) (id : PackageId) (i : ℕ) (s : Instanti
     more : IsMore ms ns
     more = more_one noted (i, at)
 
-    not_noted : Among i ms → ⊥
-    not_noted m =
-        let e = among_named noted i m in
+    below : (j : ℕ) → Among j ms → j < i
+    below j m =
+        let e = among_named noted j m in
         let b = turn_back (IsMade g ms) st.made noted e.0 says.made e.1 in
-        let is : instantiated g i ≡ Some b.2.of = subst (λ (j : ℕ). instantiated g j ≡ Some b.2.of) e.2 b.2.is in
-        absurd (cc (sym is ∙ ap (package_made g) s.free))
+        s.above j (subst (λ (l : ℕ). IsSome (node_at g l)) e.2 (instance_stands e.0.0 (subst IsSome (sym b.2.is) refl)))
 
     same_package : held_as.held ≡ s.of
     same_package = let e : Some held_as.held ≡ Some s.of = sym held_as.there ∙ s.is in cc e
@@ -137,12 +145,14 @@ module _ (g h : Graph) (is : IsGraph g) (id : PackageId) (i : ℕ) (s : Instanti
 
     pub instance_says : SaysMade h noted i names st (bare k w at)
     instance_says = record {
-      apart = subst (λ (xs : List ℕ). AreDistinct xs) (sym (names_more noted (i, at))) (distinct_more ms i says.apart not_noted);
+      rising = subst Rises (sym (names_more noted (i, at))) (rises_more ms i says.rising below);
       made = turn_more (IsMade h ns) st.made noted (bare k w at) (i, at)
           (turn_map (IsMade g ms) (IsMade h ns) (λ m e a. made_on g h later ms ns more m e (λ b n x. argument_back e.0 b n x) a) st.made noted says.made) new_made;
       all = λ j x. subst (Among j) (sym (names_more noted (i, at))) (all_at j (instance_by j (node_at h j) refl x));
       aliases = record {
         nodes = says.aliases.nodes;
+        rising = says.aliases.rising;
+        only = λ j m. let a = says.aliases.only j m in (a.0, a.1, subst (Among (alias_edge a.0 j a.1)) (sym edges) a.2);
         are = turn_map (Denotes g ms) (Denotes h ns) (denotes_stays g h later ms ns more) st.aliases says.aliases.nodes says.aliases.are;
         all = λ j x at r. aliased j x r (node_back j x at);
         exports = λ j b n x. exported_stays g h later j b n (says.aliases.exports j b n (subst (Among (alias_edge j b n)) edges x));

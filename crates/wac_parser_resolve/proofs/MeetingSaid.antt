@@ -48,6 +48,7 @@ use Rattle.wac_parser_resolve.proofs.MeetingUses.{uses_unnamed}
 use Rattle.wac_parser_resolve.proofs.Rooted.{AreFound, both_found}
 use Rattle.wac_parser_resolve.proofs.TargetMet.{passed_has}
 use Rattle.wac_parser_resolve.proofs.Declaring.{noted_span}
+use Rattle.wac_graph_core.proofs.Rising.{rises_apart}
 
 -- ---- tests, one after another
 
@@ -253,7 +254,7 @@ module _ (g : Graph) (is : IsGraph g) (acyclic : IsAcyclic g.types) (tg : Target
       let asks = each (λ u a. import_by p a (stated.given_by w a.name)) tt (wanted s) in
       named_same (asks >> each (λ u e. export_by s p e.0 e.1 (value_at s.exports e.0)) tt (exports_of w)) (uses_are_named w) of.named
       ∙ ap (λ (xs : List (Name × Stated)). asks >> each (λ u e. export_by s p e.0 e.1 (value_at s.exports e.0)) tt xs) of.exports
-      ∙ ap (λ (q : Answer ⊤). asks >> q) (exports_same g is acyclic tg p of.path s w of.gives (names_of ms) says.apart spans exported es)
+      ∙ ap (λ (q : Answer ⊤). asks >> q) (exports_same g is acyclic tg p of.path s w of.gives (names_of ms) (rises_apart (names_of ms) says.rising) spans exported es)
       ∙ ap (λ (q : Answer ⊤). q >> exports) (wanted_same g is acyclic tg p of.path s w of.gives is_ ids_ ms names asked says)
 
   pub statements_refused : (e : Refusal) → IsRefusal statements e → IsRefusal (stated.target_met s p w) e

@@ -14,7 +14,7 @@ use Rattle.wac_composition.specs.Composition as c
 use Rattle.wac_composition.specs.Composition.{Composition}
 use Rattle.wac_composition.specs.Conflicts as cause
 use Rattle.wac_composition.specs.Conflicts.{first_cause, name_cause}
-use Rattle.wac_composition.proofs.Bound.{uses_project}
+use Rattle.wac_graph_bytes.proofs.Replace.{Uses-project}
 use Rattle.wac_parser_tree.specs.Trees as t
 use Rattle.wac_parser_refusals.specs.Causes.{Answer, ◌>>◌}
 use Rattle.wac_parser_declare.specs.Packages.{Content}
@@ -60,7 +60,7 @@ module _ (P : ℕ → Type 0) (asks : List (Ask Asker)) where
   origin_uses : (k : ℕ) → ((j : ℕ) → j < k → P j) → (o : Origin) → Below k o → Uses P (source_of asks (origin_in o))
   origin_uses k h (imported n) b = tt
   origin_uses k h (instance j) b = h j b
-  origin_uses k h (projected o n) b = uses_project P (source_of asks (origin_in o)) n (origin_uses k h o b)
+  origin_uses k h (projected o n) b = Uses-project P (source_of asks (origin_in o)) n (origin_uses k h o b)
   origin_uses k h (defined n x) b = tt
 
 -- what is passed under a name

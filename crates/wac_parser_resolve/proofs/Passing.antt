@@ -51,6 +51,7 @@ use Rattle.wac_parser_resolve.proofs.Nodes.{RoleTold, denotes_stays, exported_st
 use Rattle.wac_parser_resolve.proofs.Numbers.{among_last}
 use Rattle.wac_parser_resolve.proofs.Staying.{made_on}
 use Rattle.wac_parser_resolve.proofs.Turns.{names_more, turn_last, turn_map, turn_more, turn_within}
+use Rattle.wac_graph_core.proofs.Rising.{rises_apart}
 
 -- ---- values under names
 
@@ -232,7 +233,7 @@ module _ (g : Graph) (is : IsGraph g) (acyclic : IsAcyclic g.types) (noted : Lis
 
     -- those made before are others
     other : (e : ℕ × Span) → Among e noted → e.0 ≡ i → ⊥
-    other e t is = not_last noted i m.span says.apart e t is
+    other e t is = not_last noted i m.span (rises_apart (names_of (noted ++ (i, m.span) ∷ [])) says.rising) e t is
 
     old_back : (e : ℕ × Span) → Among e noted → (b : ℕ) (x : Name) → HasArgument h.edges e.0 x b → HasArgument g.edges e.0 x b
     old_back e t b x q = elim (argument_cases e.0 b x q) [ inl old ↦ old | inr fresh ↦ absurd (other e t fresh.0) ]
@@ -267,12 +268,14 @@ module _ (g : Graph) (is : IsGraph g) (acyclic : IsAcyclic g.types) (noted : Lis
 
     pub argument_says : SaysMade h noted i names s (with_argument m a)
     argument_says = record {
-      apart = says.apart;
+      rising = says.rising;
       made = turn_more (IsMade h ms) s.made noted (with_argument m a) (i, m.span)
           (turn_within (IsMade g ms) (IsMade h ms) s.made noted (λ x e t y. made_on g h later ms ms (λ j z q. q) x e (old_back e t) y) split.0) own_made;
       all = λ j x. says.all j (subst IsSome (made_same j) x);
       aliases = record {
         nodes = says.aliases.nodes;
+        rising = says.aliases.rising;
+        only = λ j x. let b = says.aliases.only j x in (b.0, b.1, (as_it_was g h later.stays).edges (alias_edge b.0 j b.1) b.2);
         are = turn_map (Denotes g ms) (Denotes h ms) stay s.aliases says.aliases.nodes says.aliases.are;
         all = λ j x at r. says.aliases.all j x (ap (λ l. map.get l j) (sym nodes) ∙ at) r;
         exports = λ j b x e. exported_stays g h later j b x (says.aliases.exports j b x (alias_back j b x e));

@@ -9,6 +9,7 @@ use Rattle.wac_types_base.specs.Entries.{Name, names_of, value_at}
 use Rattle.wac_types_base.specs.Collection.{IsAcyclic}
 use Rattle.wac_types_base.specs.Graph.{Among}
 use Rattle.wac_types_base.specs.Stated.{Stated, kind_of, exports_of, stated_of}
+use Rattle.wac_types_base.proofs.Lists.{among_last as last_or}
 use Rattle.wac_composition.specs.Classes.{is_instance}
 use Rattle.wac_graph_core.specs.declared.ids.PackageId.{PackageId}
 use Rattle.wac_graph_core.specs.declared.edge.Label.{Label}
@@ -35,6 +36,7 @@ use Rattle.wac_parser_resolve.proofs.Items.{one_item, stated_once, is_one, expor
 use Rattle.wac_parser_resolve.proofs.Nodes.{alias_of_instance, denotes_stays, exported_stays, holds_stays, kind_stays, made_stays, names_stay, node_stays, same_alias, same_node}
 use Rattle.wac_parser_resolve.proofs.Numbers.{among_last, among_more}
 use Rattle.wac_parser_resolve.proofs.Turns.{any_among, any_none, turn_back, turn_map, turn_more, turn_on}
+use Rattle.wac_graph_core.proofs.Rising.{rises_apart, rises_more}
 
 -- ---- instances, while nothing is passed
 
@@ -87,7 +89,7 @@ module _ (g : Graph) (is : IsGraph g) (noted : List (ℕ × Span)) (names : List
       let at : value_at (exports_of d.item) n ≡ Some x.item = subst (λ (t : Stated). value_at (exports_of t) n ≡ Some x.item) from x.at in
       let both = one_item g i (Holds g.types d.item) (λ y. graph.is_instance y ≡ true) dn.item kind in
       let proj = projection d n x.item in
-      let thing = same_alias g is ms says.apart spoke.0.origin d.origin n i k spoke.2.node e dn.node kind in
+      let thing = same_alias g is ms (rises_apart ms says.rising) spoke.0.origin d.origin n i k spoke.2.node e dn.node kind in
       let any = any_among (λ (y : Denoted). same_origin y.origin (projected d.origin n)) s.aliases spoke.0 spoke.1 thing in
       let same : speak_of s proj ≡ s = spoken_by s proj (list_any (λ (y : Denoted). same_origin y.origin (projected d.origin n)) s.aliases) any in
       record {
@@ -197,6 +199,12 @@ module _ (g : Graph) (is : IsGraph g) (noted : List (ℕ × Span)) (names : List
         denotes_item : HasItem h i d.item
         denotes_item = (denotes_stays g h later ms ms (λ j x q. q) d i dn).item
 
+    only_aliases : (j : ℕ) → Among j (says.aliases.nodes ++ k ∷ []) → (l : ℕ) × (m : Name) × HasAlias h.edges l m j
+    only_aliases j x = elim (last_or j k says.aliases.nodes x) [
+      | inl old ↦ let a = says.aliases.only j old in (a.0, a.1, (made.edges (alias_edge a.0 j a.1)).1 (inl a.2))
+      | inr e ↦ (i, n, subst (λ (l : ℕ). HasAlias h.edges i n l) (sym e) edge)
+    ]
+
     all_aliases : (j : ℕ) (x : NodeData) → node_at h j ≡ Some x → x.role ≡ Role.Aliased → Among j (says.aliases.nodes ++ k ∷ [])
     all_aliases j x at r = elim (node_back j x at) [
       | inl e ↦ subst (λ (y : ℕ). Among y (says.aliases.nodes ++ k ∷ [])) (sym e.0) (among_last says.aliases.nodes k)
@@ -205,13 +213,16 @@ module _ (g : Graph) (is : IsGraph g) (noted : List (ℕ × Span)) (names : List
 
     says_more : Says h noted names (record s { aliases = s.aliases ++ proj ∷ [] })
     says_more = record {
-      apart = says.apart;
+      rising = says.rising;
       made = turn_map (IsMade g ms) (IsMade h ms) (made_kept g h later (λ j a m x. argument_back j a m x) ms) s.made noted says.made;
       all = λ j x. says.all j (instance_back j x);
       aliases = record {
         nodes = says.aliases.nodes ++ k ∷ [];
+        rising = rises_more says.aliases.nodes k says.aliases.rising
+            (λ j m. let a = turn_back (Denotes g ms) s.aliases says.aliases.nodes j says.aliases.are m in made.above j (subst IsSome (sym a.2.item.there) refl));
         are = turn_more (Denotes h ms) s.aliases says.aliases.nodes proj k
             (turn_map (Denotes g ms) (Denotes h ms) (denotes_stays g h later ms ms (λ j x q. q)) s.aliases says.aliases.nodes says.aliases.are) denoted;
+        only = only_aliases;
         all = all_aliases;
         exports = λ j b m x. elim ((made.edges (alias_edge j b m)).0 x) [
           | inl old ↦ exported_stays g h later j b m (says.aliases.exports j b m old)

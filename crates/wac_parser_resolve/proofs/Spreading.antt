@@ -37,7 +37,8 @@ use Rattle.wac_parser_resolve.specs.Denoting.{export_named, given_names, left_na
 use Rattle.wac_parser_resolve.specs.Holding.{AreGiven, IsGiven, Says}
 use Rattle.wac_parser_resolve.specs.InArguments.{AreLeft, SaysGiven, imported_by, names_left, own_spread}
 use Rattle.wac_parser_resolve.specs.Later.{Later}
-use Rattle.wac_parser_resolve.proofs.Giving.{given_more, has_not, not_among, one_more, same_names}
+use Rattle.wac_parser_resolve.proofs.Giving.{given_more, has_not, one_more, same_names}
+use Rattle.wac_types_base.proofs.Lists.{not_among}
 use Rattle.wac_parser_resolve.proofs.Nodes.{denotes_stays}
 use Rattle.wac_parser_resolve.proofs.Turns.{turn_map}
 

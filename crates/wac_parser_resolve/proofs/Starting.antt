@@ -32,18 +32,18 @@ module _ (c : Collection) where
 
   pub nothing_said : (names : List (Name × ℕ)) (d : t.Document) (ps : List (Key × Content)) → names ≡ [] → Says bare [] names (start d ps)
   nothing_said names d ps none = subst (λ (ns : List (Name × ℕ)). Says bare [] ns (start d ps)) (sym none) (record {
-    apart = tt;
+    rising = tt;
     made = tt;
     all = λ k x. absurd (no_instance k x);
-    aliases = record { nodes = []; are = tt; all = λ k x at r. absurd (no_node k x at); exports = λ i k n x. absurd x };
+    aliases = record { nodes = []; rising = tt; only = λ k m. absurd m; are = tt; all = λ k x at r. absurd (no_node k x at); exports = λ i k n x. absurd x };
     root = tt;
   })
 
   pub nothing_asked : (ids : List (ℕ × Span)) → AreAsked bare [] ids []
-  nothing_asked ids = record { apart = tt; are = tt; all = λ k n i. absurd (no_node k i.node i.there) }
+  nothing_asked ids = record { rising = tt; are = tt; all = λ k n i. absurd (no_node k i.node i.there) }
 
   pub nothing_declared : AreDeclared bare []
-  nothing_declared = record { nodes = []; are = tt; all = λ k x at r. absurd (no_node k x at) }
+  nothing_declared = record { nodes = []; rising = tt; are = tt; all = λ k x at r. absurd (no_node k x at) }
 
   pub nothing_exported : AreExported bare [] [] []
   nothing_exported = record { are = tt; noted = tt }

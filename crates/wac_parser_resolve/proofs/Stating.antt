@@ -194,11 +194,13 @@ module _ (g h : Graph) (grows : Grows g.types h.types) (nodes_same : h.nodes ≡
   says_grown noted names s says =
       let ms = names_of noted in
       record {
-        apart = says.apart;
+        rising = says.rising;
         made = turn_map (IsMade g ms) (IsMade h ms) (made_grown ms) s.made noted says.made;
         all = λ k x. says.all k (subst IsSome (made k) x);
         aliases = record {
           nodes = says.aliases.nodes;
+          rising = says.aliases.rising;
+          only = λ k m. let a = says.aliases.only k m in (a.0, a.1, subst (Among (alias_edge a.0 k a.1)) (sym edges) a.2);
           are = turn_map (Denotes g ms) (Denotes h ms) (denotes_grown ms) s.aliases says.aliases.nodes says.aliases.are;
           all = λ k x at r. says.aliases.all k x (sym (at_same k) ∙ at) r;
           exports = λ i k n e. exported_grown i k n (says.aliases.exports i k n (subst (Among (alias_edge i k n)) edges e));
@@ -247,7 +249,7 @@ module _ (g h : Graph) (ms ns : List ℕ) (c : Carries g h ms ns) where
 
   pub all_asked : (noted ids : List (ℕ × Span)) (is : List Import) → ((k : ℕ) (n : Name) → IsImport h.nodes k n → IsImport g.nodes k n) → AreAsked g noted ids is → AreAsked h noted ids is
   all_asked noted ids is back a = record {
-    apart = a.apart;
+    rising = a.rising;
     are = turn_map (IsAsked g ids) (IsAsked h ids) (λ i e x. asked_carried ids ids i e refl x) is noted a.are;
     all = λ k n x. a.all k n (back k n x);
   }
@@ -255,6 +257,7 @@ module _ (g h : Graph) (ms ns : List ℕ) (c : Carries g h ms ns) where
   pub all_declared : (ds : List (Name × Stated)) → ((k : ℕ) (x : NodeData) → node_at h k ≡ Some x → x.role ≡ Role.Defined → (y : NodeData) × (node_at g k ≡ Some y) × (y.role ≡ Role.Defined)) → AreDeclared g ds → AreDeclared h ds
   all_declared ds back a = record {
     nodes = a.nodes;
+    rising = a.rising;
     are = turn_map (IsDeclared g) (IsDeclared h) declared_carried ds a.nodes a.are;
     all = λ k x at r. let y = back k x at r in a.all k y.0 y.1 y.2;
   }
@@ -370,7 +373,7 @@ module _ (own : t.PackageName) (b : Held) (s : State) (said : IsSaid own b s) (d
       record {
         board = record {
           says = record {
-            apart = said.board.says.apart;
+            rising = said.board.says.rising;
             made = said.board.says.made;
             all = said.board.says.all;
             aliases = said.board.says.aliases;

@@ -45,11 +45,13 @@ module _ (g h : Graph) (l : Later g h) (none : AddsNone g h) where
   says_stay noted names s says =
       let ms = names_of noted in
       record {
-        apart = says.apart;
+        rising = says.rising;
         made = turn_map (IsMade g ms) (IsMade h ms) (λ m e a. made_on g h l ms ms (λ i k x. x) m e (λ b n x. none.arguments e.0 b n x) a) s.made noted says.made;
         all = λ k x. says.all k (none.instances k x);
         aliases = record {
           nodes = says.aliases.nodes;
+          rising = says.aliases.rising;
+          only = λ k m. let a = says.aliases.only k m in (a.0, a.1, (as_it_was g h l.stays).edges (alias_edge a.0 k a.1) a.2);
           are = turn_map (Denotes g ms) (Denotes h ms) (denotes_stays g h l ms ms (λ i k x. x)) s.aliases says.aliases.nodes says.aliases.are;
           all = λ k x at r. let y = none.aliased k x at r in says.aliases.all k y.0 y.1 y.2;
           exports = λ i k n x. exported_stays g h l i k n (says.aliases.exports i k n (none.aliases i k n x));

@@ -9,7 +9,7 @@ use Rattle.wac_types_base.specs.Stated.{Stated, exports_of}
 use Rattle.wac_types_names.specs.Packaged.{Packaged}
 use Rattle.wac_types_names.specs.Keys.{package_key}
 use Rattle.wac_graph_core.specs.Nodes.{NodeData, Role}
-use Rattle.wac_graph_core.specs.NodeMaps.{IsImport}
+use Rattle.wac_graph_core.specs.NodeMaps.{IsImport, Rises}
 use Rattle.wac_graph_core.specs.Edges.{HasAlias, HasArgument}
 use Rattle.wac_graph_core.specs.Graph.{Graph, IsOfKind, instantiated, is_instance, node_at}
 use Rattle.wac_parser_tree.specs.Trees.{Span}
@@ -81,10 +81,12 @@ pub record IsExported (g : Graph) (i : ℕ) (n : Name) (k : ℕ) : Type 0 where
   pub at : value_at (exports_of from) n ≡ Some item
   pub there : HasItem g k item
 
--- the aliases are those that were spoken of, and no others
+-- the aliases are those that were spoken of, in the order of their nodes, and no others
 pub record AreSpoken (g : Graph) (ms : List ℕ) (ds : List Denoted) : Type 0 where
   pub nodes : List ℕ
+  pub rising : Rises nodes
   pub are : InTurn (Denotes g ms) ds nodes
+  pub only : (k : ℕ) → Among k nodes → (i : ℕ) × (n : Name) × HasAlias g.edges i n k
   pub all : (k : ℕ) (x : NodeData) → node_at g k ≡ Some x → x.role ≡ Role.Aliased → Among k nodes
   pub exports : (i k : ℕ) (n : Name) → HasAlias g.edges i n k → IsExported g i n k
 
@@ -117,7 +119,7 @@ pub record AreGiven (g : Graph) (ms : List ℕ) (as_ : List stated.Given) (xs : 
 
 -- the graph holds the instances, which are noted with their places, the aliases and the names of the root
 pub record Says (g : Graph) (noted : List (ℕ × Span)) (names : List (Name × ℕ)) (s : State) : Type 0 where
-  pub apart : AreDistinct (names_of noted)
+  pub rising : Rises (names_of noted)
   pub made : InTurn (IsMade g (names_of noted)) s.made noted
   pub all : (k : ℕ) → IsSome (instantiated g k) → Among k (names_of noted)
   pub aliases : AreSpoken g (names_of noted) s.aliases

@@ -1,11 +1,11 @@
 -- What the code's state holds of what was said: the graph, the nodes and items of the root's names, and where things stand.
 use Rattle.std.specs.Prelude.{◌≡◌, ◌==◌, ℕ, List, [], ◌∷◌, Option, Some, None, if◌then◌else◌}
-use Rattle.wac_types_base.specs.Entries.{AreDistinct, Name, names_of}
+use Rattle.wac_types_base.specs.Entries.{Name, names_of}
 use Rattle.wac_types_base.specs.Graph.{Among}
 use Rattle.wac_types_base.specs.Stated.{Stated}
 use Rattle.wac_types_names.specs.Keys.{Key}
 use Rattle.wac_graph_core.specs.Nodes.{NodeData, Role}
-use Rattle.wac_graph_core.specs.NodeMaps.{IsImport}
+use Rattle.wac_graph_core.specs.NodeMaps.{IsImport, Rises}
 use Rattle.wac_graph_core.specs.Graph.{Graph, node_at}
 use Rattle.wac_parser_tree.specs.Trees as t
 use Rattle.wac_parser_tree.specs.Trees.{Span}
@@ -47,9 +47,9 @@ pub record IsAsked (g : Graph) (ids : List (ℕ × Span)) (i : Import) (e : ℕ 
   pub span : e.1 ≡ i.span
   pub id : last_noted ids e.0 ≡ Some i.id_span
 
--- the imports of the graph are those of the statements, in order, each a node of its own
+-- the imports of the graph are those of the statements, in the order of their nodes
 pub record AreAsked (g : Graph) (noted ids : List (ℕ × Span)) (is : List Import) : Type 0 where
-  pub apart : AreDistinct (names_of noted)
+  pub rising : Rises (names_of noted)
   pub are : InTurn (IsAsked g ids) is noted
   pub all : (k : ℕ) (n : Name) → IsImport g.nodes k n → Among k (names_of noted)
 
@@ -58,9 +58,10 @@ pub record IsDeclared (g : Graph) (d : Name × Stated) (k : ℕ) : Type 0 where
   pub definition : IsDefinition g k d.0
   pub item : HasItem g k d.1
 
--- the definitions of the graph are those that are declared, in order
+-- the definitions of the graph are those that are declared, in the order of their nodes
 pub record AreDeclared (g : Graph) (ds : List (Name × Stated)) : Type 0 where
   pub nodes : List ℕ
+  pub rising : Rises nodes
   pub are : InTurn (IsDeclared g) ds nodes
   pub all : (k : ℕ) (x : NodeData) → node_at g k ≡ Some x → x.role ≡ Role.Defined → Among k nodes
 

@@ -50,7 +50,7 @@ impl Spaces {
     /// The type of an export of a nested component goes by the export's source.
     fn unknown(&mut self, source: &Source) -> Result<usize, ReadError> {
         let text = source.text(self.alloc)?;
-        Ok(self.node(Kind::Unknown, text, Vec::new(self.alloc))?)
+        self.node(Kind::Unknown, text, Vec::new(self.alloc))
     }
 
     fn outer_alias(&mut self, cursor: &mut Cursor<'_>, sort: Sort) -> Result<(), ReadError> {

@@ -1,30 +1,33 @@
 //! Each export's chain, down to handed packages and outer imports.
 
-use super::told::tell_path;
+use super::told::{Text, tell_named, tell_numbered, tell_path, tell_root};
 use super::types::text_if;
-use super::{Inner, Item, Made, ReadError, Root, Source, WholeReading};
+use super::{Inner, Item, Made, ReadError, Root, Source, WholeReading, keep};
 use std::alloc::Global;
 
 impl WholeReading {
     /// For each export, as `g = leaf 0(f = import f).g`. An instance that is used twice reads as two that are alike: the
     /// numbers of [`WholeReading::text`] tell them apart.
     pub fn chains(&self, alloc: Global) -> Result<Vec<String>, ReadError> {
+        let told = self.told(alloc)?;
+        let mut chains = Vec::new(alloc);
+        for export in &self.exports {
+            keep(&mut chains, export_chain(alloc, export, &told)?)?;
+        }
+        Ok(chains)
+    }
+
+    /// The text of each instance. None where it is made of itself.
+    fn told(&self, alloc: Global) -> Result<Vec<Option<String>>, ReadError> {
         let mut told = Vec::new(alloc);
         for _ in &self.instances {
-            told.push(None)?;
+            keep(&mut told, None)?;
         }
         // Each round tells at least one instance more, as none goes round in a circle.
         for _ in &self.instances {
             self.tell_more(alloc, &mut told)?;
         }
-        let mut chains = Vec::new(alloc);
-        for export in &self.exports {
-            match chain(alloc, &export.source, &told)? {
-                Some(text) => chains.push(format!(in alloc; "{} = {text}", export.name)?)?,
-                None => return Err(ReadError::At(0, "a circle of instances")),
-            }
-        }
-        Ok(chains)
+        Ok(told)
     }
 
     fn tell_more(&self, alloc: Global, told: &mut Vec<Option<String>>) -> Result<(), ReadError> {
@@ -38,67 +41,73 @@ impl WholeReading {
     }
 }
 
+fn export_chain(
+    alloc: Global,
+    export: &Item,
+    told: &Vec<Option<String>>,
+) -> Result<String, ReadError> {
+    let mut text = Text::new(alloc);
+    tell_named(&mut text, export.name.as_str(), " = ");
+    if chain(&mut text, &export.source, told) {
+        text.finish()
+    } else {
+        Err(ReadError::At(0, "a circle of instances"))
+    }
+}
+
 /// An instance's text, where those that it is made of have theirs.
 fn instance_chain(
     alloc: Global,
     inner: &Inner,
     told: &Vec<Option<String>>,
 ) -> Result<Option<String>, ReadError> {
-    let Some(of) = made_chain(alloc, inner, told)? else {
-        return Ok(None);
-    };
-    let items = match &inner.made {
-        Made::Composition(exports) => exports,
-        Made::Leaf(_) | Made::Imported => &inner.arguments,
-    };
-    match chains_of(alloc, items, told)? {
-        Some(inside) => Ok(Some(format!(in alloc; "{of}({inside})")?)),
-        None => Ok(None),
+    let mut text = Text::new(alloc);
+    if tell_inner(&mut text, inner, told) {
+        Ok(Some(text.finish()?))
+    } else {
+        Ok(None)
     }
 }
 
-/// What an instance is made of.
-fn made_chain(
-    alloc: Global,
-    inner: &Inner,
-    told: &Vec<Option<String>>,
-) -> Result<Option<String>, ReadError> {
+/// Writes an instance's text; whether those that it is made of have theirs.
+fn tell_inner(text: &mut Text, inner: &Inner, told: &Vec<Option<String>>) -> bool {
     match &inner.made {
-        Made::Leaf(leaf) => Ok(Some(format!(in alloc; "leaf {leaf}")?)),
-        Made::Composition(_) => Ok(Some(String::from_str(alloc, "composition")?)),
-        Made::Imported => chain(alloc, &inner.of, told),
+        Made::Composition(exports) => {
+            text.push("composition");
+            chains_of(text, exports, told)
+        }
+        Made::Leaf(leaf) => {
+            tell_numbered(text, "leaf ", *leaf);
+            chains_of(text, &inner.arguments, told)
+        }
+        Made::Imported => {
+            chain(text, &inner.of, told) && chains_of(text, &inner.arguments, told)
+        }
     }
 }
 
-/// `a = import f, b = leaf 0().g`
-fn chains_of(
-    alloc: Global,
-    items: &Vec<Item>,
-    told: &Vec<Option<String>>,
-) -> Result<Option<String>, ReadError> {
-    let mut text = String::new(alloc);
+/// `(a = import f, b = leaf 0().g)`
+fn chains_of(text: &mut Text, items: &Vec<Item>, told: &Vec<Option<String>>) -> bool {
+    text.push("(");
     for (i, item) in items.iter().enumerate() {
-        let Some(source) = chain(alloc, &item.source, told)? else {
-            return Ok(None);
-        };
-        let comma = text_if(i > 0, ", ");
-        write!(text, "{comma}{} = {source}", item.name)?;
+        tell_named(text, text_if(i > 0, ", "), item.name.as_str());
+        text.push(" = ");
+        if !chain(text, &item.source, told) {
+            return false;
+        }
     }
-    Ok(Some(text))
+    text.push(")");
+    true
 }
 
-fn chain(
-    alloc: Global,
-    source: &Source,
-    told: &Vec<Option<String>>,
-) -> Result<Option<String>, ReadError> {
-    let Root::Instance(number) = &source.root else {
-        return Ok(Some(source.text(alloc)?));
-    };
-    let mut text = match told.get(*number) {
-        Some(Some(instance)) => instance.clone()?,
-        _ => return Ok(None),
-    };
-    tell_path(&mut text, &source.path)?;
-    Ok(Some(text))
+fn chain(text: &mut Text, source: &Source, told: &Vec<Option<String>>) -> bool {
+    match &source.root {
+        Root::Instance(number) => match told.get(*number) {
+            Some(Some(instance)) => text.push(instance.as_str()),
+            _ => return false,
+        },
+        root => tell_root(text, root),
+    }
+    tell_path(text, &source.path);
+    true
 }

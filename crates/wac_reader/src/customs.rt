@@ -1,7 +1,7 @@
 //! What the custom sections `producers` and `component-name` say; offsets in errors are of the section's contents.
 
 use super::cursor::Cursor;
-use super::{Custom, ReadError, Reading, Sort};
+use super::{Custom, ReadError, Reading, Sort, keep};
 use std::alloc::Global;
 
 /// What processed the component.
@@ -21,9 +21,12 @@ pub struct DebugName {
 
 impl Reading {
     fn customs_of(&self, name: &str) -> Option<&Custom> {
-        self.customs
-            .iter()
-            .find(|custom| custom.name.as_str() == name)
+        for custom in &self.customs {
+            if custom.name.as_str() == name {
+                return Some(custom);
+            }
+        }
+        None
     }
 
     /// What the section `producers` says: one field, `processed-by`. None without that section.
@@ -57,7 +60,7 @@ fn push_processors(
         return cursor.fault("another field before here");
     }
     for _ in 0..cursor.unsigned()? {
-        processors.push(read_processor(alloc, cursor)?)?;
+        keep(processors, read_processor(alloc, cursor)?)?;
     }
     at_end(cursor)
 }
@@ -94,7 +97,7 @@ fn push_names(
     for _ in 0..cursor.unsigned()? {
         let index = cursor.unsigned()?;
         let name = cursor.name(alloc)?;
-        names.push(DebugName { sort, index, name })?;
+        keep(names, DebugName { sort, index, name })?;
     }
     at_end(cursor)
 }

@@ -1,7 +1,7 @@
 //! Reading down: nested compositions are read too, until handed packages and outer imports are left.
 
 use super::entries::item_of;
-use super::{Import, Instance, Item, ReadError, Reading, Root, Source, read};
+use super::{Import, Instance, Item, ReadError, Reading, Root, Source, keep, read};
 use std::alloc::{AllocError, Global};
 
 /// What an instance of the whole is made of.
@@ -76,12 +76,10 @@ impl<'a> Whole<'a> {
             instances: self.instances.len(),
             given,
         };
-        for bytes in &level.components {
-            self.components.push(bytes.clone()?)?;
-        }
+        self.components.extend_from_slice(&level.components)?;
         for instance in &level.instances {
             let inner = place.placed_instance(self.alloc, instance)?;
-            self.instances.push(inner)?;
+            keep(&mut self.instances, inner)?;
         }
         place.placed_all(self.alloc, &level.exports)
     }
@@ -104,8 +102,8 @@ impl<'a> Whole<'a> {
         };
         let arguments = inner.arguments.clone()?;
         let of = self.settle(&inner.of)?;
-        let made = match of.root {
-            Root::Component(n) if of.path.is_empty() => self.made(n, arguments)?,
+        let made = match &of.root {
+            Root::Component(n) if of.path.is_empty() => self.made(*n, arguments)?,
             _ => Made::Imported,
         };
         if let Some(inner) = self.instances.get_mut(number) {
@@ -159,7 +157,7 @@ impl<'a> Whole<'a> {
     fn settle_all(&self, items: &Vec<Item>) -> Result<Vec<Item>, ReadError> {
         let mut settled = Vec::new(self.alloc);
         for item in items {
-            settled.push(with_source(item, self.settle(&item.source)?)?)?;
+            keep(&mut settled, with_source(item, self.settle(&item.source)?)?)?;
         }
         Ok(settled)
     }
@@ -182,7 +180,7 @@ impl<'a> Whole<'a> {
     fn settle_instances(&self) -> Result<Vec<Inner>, ReadError> {
         let mut instances = Vec::new(self.alloc);
         for inner in &self.instances {
-            instances.push(self.settle_inner(inner)?)?;
+            keep(&mut instances, self.settle_inner(inner)?)?;
         }
         Ok(instances)
     }
@@ -199,23 +197,20 @@ impl<'a> Whole<'a> {
 impl Place {
     /// A level's source, in the whole's numbers.
     fn placed(&self, source: &Source) -> Result<Source, ReadError> {
-        let mut placed = source.clone()?;
-        match (&source.root, &self.given) {
-            (Root::Instance(n), _) => {
-                placed.root = Root::Instance(self.instances.wrapping_add(*n));
-            }
-            (Root::Component(n), _) => {
-                placed.root = Root::Component(self.components.wrapping_add(*n));
-            }
-            (Root::Import(name), Some(given)) => {
-                let Some(item) = item_of(given, name.as_str()) else {
-                    return Err(ReadError::At(0, "an import without an argument"));
-                };
-                return Ok(extended(&item.source, &source.path)?);
-            }
-            _ => {}
+        if let (Root::Import(name), Some(given)) = (&source.root, &self.given) {
+            return argument_of(given, name.as_str(), &source.path);
         }
+        let mut placed = source.clone()?;
+        self.place_root(&mut placed.root);
         Ok(placed)
+    }
+
+    fn place_root(&self, root: &mut Root) {
+        match root {
+            Root::Instance(number) => *number = self.instances.wrapping_add(*number),
+            Root::Component(number) => *number = self.components.wrapping_add(*number),
+            Root::Import(_) | Root::Type(_) => {}
+        }
     }
 
     fn placed_instance(&self, alloc: Global, instance: &Instance) -> Result<Inner, ReadError> {
@@ -229,7 +224,7 @@ impl Place {
     fn placed_all(&self, alloc: Global, items: &Vec<Item>) -> Result<Vec<Item>, ReadError> {
         let mut placed = Vec::new(alloc);
         for item in items {
-            placed.push(with_source(item, self.placed(&item.source)?)?)?;
+            keep(&mut placed, with_source(item, self.placed(&item.source)?)?)?;
         }
         Ok(placed)
     }
@@ -245,11 +240,17 @@ fn leaf_of(leaves: &[&[u8]], bytes: &[u8]) -> Option<usize> {
     None
 }
 
-fn extended(source: &Source, path: &[String]) -> Result<Source, AllocError> {
-    let mut longer = source.clone()?;
-    for name in path {
-        longer.path.push(name.clone()?)?;
+/// Where an import's path leads, by the argument of its name.
+fn argument_of(given: &Vec<Item>, name: &str, path: &[String]) -> Result<Source, ReadError> {
+    match item_of(given, name) {
+        Some(item) => extended(&item.source, path),
+        None => Err(ReadError::At(0, "an import without an argument")),
     }
+}
+
+fn extended(source: &Source, path: &[String]) -> Result<Source, ReadError> {
+    let mut longer = source.clone()?;
+    longer.path.extend_from_slice(path)?;
     Ok(longer)
 }
 

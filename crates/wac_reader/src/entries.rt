@@ -2,11 +2,11 @@
 
 use super::cursor::Cursor;
 use super::names::{is_export_name, is_import_name};
+use super::told::numbered;
 use super::{
     Custom, Import, Instance, Item, Kind, Level, Member, ReadError, Root, Sort, Source, Spaces,
-    Thing,
+    Thing, keep,
 };
-use std::alloc::AllocError;
 
 impl Level {
     /// All sections that are left.
@@ -25,11 +25,10 @@ impl Level {
     /// The section of that id, to the end of its contents.
     fn section(&mut self, cursor: &mut Cursor<'_>, id: u8) -> Result<(), ReadError> {
         match id {
-            0 => self.custom(cursor)?,
-            4 => self.nested(cursor)?,
-            3 | 5 | 6 | 7 | 10 | 11 => self.entries(cursor, id)?,
-            _ => return cursor.fault("a section of another id"),
-        }
+            0 => self.custom(cursor),
+            4 => self.nested(cursor),
+            _ => self.entries(cursor, id),
+        }?;
         if cursor.is_empty() {
             Ok(())
         } else {
@@ -59,16 +58,15 @@ impl Level {
     fn custom(&mut self, cursor: &mut Cursor<'_>) -> Result<(), ReadError> {
         let name = cursor.name(self.spaces.alloc)?;
         let contents = cursor.rest().to_vec(self.spaces.alloc)?;
-        self.reading.customs.push(Custom { name, contents })?;
-        Ok(())
+        keep(&mut self.reading.customs, Custom { name, contents })
     }
 
     fn nested(&mut self, cursor: &mut Cursor<'_>) -> Result<(), ReadError> {
         let alloc = self.spaces.alloc;
         let bytes = cursor.rest().to_vec(alloc)?;
         let number = self.reading.components.len();
-        self.reading.components.push(bytes)?;
-        let text = format!(in alloc; "component {number}")?;
+        keep(&mut self.reading.components, bytes)?;
+        let text = numbered(alloc, "component ", number)?;
         let ty = self.spaces.node(Kind::Unknown, text, Vec::new(alloc))?;
         self.spaces
             .add_root(cursor, Sort::Component, Root::Component(number), ty)
@@ -79,7 +77,7 @@ impl Level {
         cursor.exactly(0x00, "an instance that is no component's")?;
         let (instance, ty) = self.spaces.instance(cursor)?;
         let number = self.reading.instances.len();
-        self.reading.instances.push(instance)?;
+        keep(&mut self.reading.instances, instance)?;
         self.spaces
             .add_root(cursor, Sort::Instance, Root::Instance(number), ty)
     }
@@ -88,14 +86,12 @@ impl Level {
         let name = cursor.extern_name()?;
         let (sort, ty) = self.spaces.import(cursor, name)?;
         let import = self.spaces.described_import(cursor, name, sort, ty)?;
-        self.reading.imports.push(import)?;
-        Ok(())
+        keep(&mut self.reading.imports, import)
     }
 
     fn export_entry(&mut self, cursor: &mut Cursor<'_>) -> Result<(), ReadError> {
         let item = self.spaces.export(cursor)?;
-        self.reading.exports.push(item)?;
-        Ok(())
+        keep(&mut self.reading.exports, item)
     }
 }
 
@@ -136,7 +132,7 @@ impl Spaces {
         let mut arguments = Vec::new(self.alloc);
         for _ in 0..cursor.unsigned()? {
             let argument = self.argument(cursor, &arguments)?;
-            arguments.push(argument)?;
+            keep(&mut arguments, argument)?;
         }
         Ok(arguments)
     }
@@ -150,11 +146,11 @@ impl Spaces {
             return cursor.fault("two arguments of one name");
         }
         let thing = self.find(cursor, sort, index)?;
-        Ok(self.item(name, thing)?)
+        self.item(name, thing)
     }
 
     /// What stands at an index, under a name.
-    fn item(&self, name: &str, thing: &Thing) -> Result<Item, AllocError> {
+    fn item(&self, name: &str, thing: &Thing) -> Result<Item, ReadError> {
         Ok(Item {
             name: String::from_str(self.alloc, name)?,
             sort: thing.sort,
@@ -248,7 +244,7 @@ impl Spaces {
                 return cursor.fault("an import in an instance type");
             }
         }
-        self.declare(cursor, "import", name, sort, ty)
+        self.declare(cursor, "import ", name, sort, ty)
     }
 
     /// An export of a component type or an instance type.
@@ -257,7 +253,7 @@ impl Spaces {
         let (sort, ty) = self.description(cursor, name)?;
         self.new_export(cursor, name, sort, ty)?;
         self.add_import(cursor, sort, name, ty)?;
-        self.declare(cursor, "export", name, sort, ty)
+        self.declare(cursor, "export ", name, sort, ty)
     }
 
     /// Writes a declaration into the innermost scope's text.
@@ -270,11 +266,10 @@ impl Spaces {
         ty: usize,
     ) -> Result<(), ReadError> {
         let text = self.described(cursor, sort, ty)?;
-        let Some(inner) = self.scopes.last_mut() else {
-            return cursor.fault("no scope");
-        };
-        write!(inner.text, "{word} {name}: {text}; ")?;
-        Ok(())
+        match self.scopes.last_mut() {
+            Some(inner) => push_all(&mut inner.text, &[word, name, ": ", text.as_str(), "; "]),
+            None => cursor.fault("no scope"),
+        }
     }
 
     /// The name is an import's, and no other import of the innermost scope has it.
@@ -285,11 +280,10 @@ impl Spaces {
         let Some(inner) = self.scopes.last_mut() else {
             return cursor.fault("no scope");
         };
-        if inner.imports.iter().any(|other| other.as_str() == name) {
+        if has_name(&inner.imports, name) {
             return cursor.fault("two imports of one name");
         }
-        inner.imports.push(String::from_str(self.alloc, name)?)?;
-        Ok(())
+        keep(&mut inner.imports, String::from_str(self.alloc, name)?)
     }
 
     /// The name is an export's, and no other export of the innermost scope has it.
@@ -310,17 +304,43 @@ impl Spaces {
             return cursor.fault("two exports of one name");
         }
         let name = String::from_str(self.alloc, name)?;
-        inner.exports.push(Member { name, sort, ty })?;
-        Ok(())
+        keep(&mut inner.exports, Member { name, sort, ty })
     }
+}
+
+/// Writes the parts, one after another.
+fn push_all(text: &mut String, parts: &[&str]) -> Result<(), ReadError> {
+    for part in parts {
+        text.push_str(*part)?;
+    }
+    Ok(())
+}
+
+fn has_name(names: &Vec<String>, name: &str) -> bool {
+    for other in names {
+        if other.as_str() == name {
+            return true;
+        }
+    }
+    false
 }
 
 /// What goes under that name.
 pub fn item_of<'i>(items: &'i Vec<Item>, name: &str) -> Option<&'i Item> {
-    items.iter().find(|item| item.name.as_str() == name)
+    for item in items {
+        if item.name.as_str() == name {
+            return Some(item);
+        }
+    }
+    None
 }
 
 /// The export of that name.
 pub fn member_of<'m>(members: &'m Vec<Member>, name: &str) -> Option<&'m Member> {
-    members.iter().find(|member| member.name.as_str() == name)
+    for member in members {
+        if member.name.as_str() == name {
+            return Some(member);
+        }
+    }
+    None
 }

@@ -11,6 +11,7 @@ mod down;
 mod entries;
 mod names;
 mod told;
+mod type_text;
 mod types;
 mod wiring;
 
@@ -187,6 +188,14 @@ pub fn read(alloc: Global, bytes: &[u8]) -> Result<Reading, ReadError> {
     Ok(level.reading)
 }
 
+/// Adds an item to a list.
+fn keep<T: Drop>(list: &mut Vec<T>, item: T) -> Result<(), ReadError> {
+    match list.push(item) {
+        Ok(()) => Ok(()),
+        Err(_) => Err(ReadError::Memory),
+    }
+}
+
 fn new_scope(alloc: Global, kind: Kind, left: u32) -> Scope {
     Scope {
         kind,
@@ -226,14 +235,27 @@ impl Source {
     }
 }
 
+/// What stands at an index of a sort.
+fn nth_of(things: &Vec<Thing>, sort: Sort, index: u32) -> Option<&Thing> {
+    let mut left = index;
+    for thing in things {
+        if thing.sort == sort {
+            if left == 0 {
+                return Some(thing);
+            }
+            left -= 1;
+        }
+    }
+    None
+}
+
 impl Spaces {
     /// Adds one index to its sort's space in the innermost scope.
     fn add(&mut self, thing: Thing, cursor: &Cursor<'_>) -> Result<(), ReadError> {
-        let Some(inner) = self.scopes.last_mut() else {
-            return cursor.fault("no scope");
-        };
-        inner.things.push(thing)?;
-        Ok(())
+        match self.scopes.last_mut() {
+            Some(inner) => keep(&mut inner.things, thing),
+            None => cursor.fault("no scope"),
+        }
     }
 
     /// What stands at an index of a sort, in the scope so many scopes further out.
@@ -247,8 +269,7 @@ impl Spaces {
         let Some(scope) = self.scopes.iter().rev().nth(count as usize) else {
             return cursor.fault("no such scope");
         };
-        let mut of_sort = scope.things.iter().filter(|thing| thing.sort == sort);
-        match of_sort.nth(index as usize) {
+        match nth_of(&scope.things, sort, index) {
             Some(thing) => Ok(thing),
             None => cursor.fault("index out of range"),
         }
@@ -265,19 +286,17 @@ impl Spaces {
     }
 
     /// The number of a new type.
-    fn node(
-        &mut self,
-        kind: Kind,
-        text: String,
-        exports: Vec<Member>,
-    ) -> Result<usize, AllocError> {
+    fn node(&mut self, kind: Kind, text: String, exports: Vec<Member>) -> Result<usize, ReadError> {
         let number = self.nodes.len();
-        self.nodes.push(Node {
+        let node = Node {
             kind,
             text,
             exports,
-        })?;
-        Ok(number)
+        };
+        match keep(&mut self.nodes, node) {
+            Ok(()) => Ok(number),
+            Err(fault) => Err(fault),
+        }
     }
 
     fn kind_of(&self, ty: usize) -> Kind {

@@ -2,119 +2,192 @@
 
 use super::types::text_if;
 use super::{Custom, Import, Inner, Item, Made, ReadError, Reading, Root, Source, WholeReading};
-use std::alloc::{AllocError, Global};
+use std::alloc::Global;
+
+/// A text while it is written. Where memory ran out, [`Text::finish`] says so.
+#[derive(Drop)]
+pub struct Text {
+    text: String,
+    is_cut: bool,
+}
+
+impl Text {
+    pub fn new(alloc: Global) -> Self {
+        Text {
+            text: String::new(alloc),
+            is_cut: false,
+        }
+    }
+
+    pub fn push(&mut self, part: &str) {
+        if self.text.push_str(part).is_err() {
+            self.is_cut = true;
+        }
+    }
+
+    pub fn push_number(&mut self, number: usize) {
+        if write!(self.text, "{number}").is_err() {
+            self.is_cut = true;
+        }
+    }
+
+    pub fn finish(self) -> Result<String, ReadError> {
+        if self.is_cut {
+            Err(ReadError::Memory)
+        } else {
+            Ok(self.text)
+        }
+    }
+}
+
+/// What stands inside, between its front and its back.
+pub fn between(alloc: Global, front: &str, inside: &str, back: &str) -> Result<String, ReadError> {
+    let mut text = Text::new(alloc);
+    text.push(front);
+    text.push(inside);
+    text.push(back);
+    text.finish()
+}
+
+/// As `component 0`.
+pub fn numbered(alloc: Global, word: &str, number: usize) -> Result<String, ReadError> {
+    let mut text = Text::new(alloc);
+    tell_numbered(&mut text, word, number);
+    text.finish()
+}
 
 /// Writes `import f`, `#0`, `component 0` or `type list<u8>`.
-pub fn tell_root(text: &mut String, root: &Root) -> Result<(), AllocError> {
+pub fn tell_root(text: &mut Text, root: &Root) {
     match root {
-        Root::Import(name) => write!(text, "import {name}"),
-        Root::Instance(number) => write!(text, "#{number}"),
-        Root::Component(number) => write!(text, "component {number}"),
-        Root::Type(tree) => write!(text, "type {tree}"),
+        Root::Import(name) => tell_named(text, "import ", name.as_str()),
+        Root::Instance(number) => tell_numbered(text, "#", *number),
+        Root::Component(number) => tell_numbered(text, "component ", *number),
+        Root::Type(tree) => tell_named(text, "type ", tree.as_str()),
     }
+}
+
+pub fn tell_named(text: &mut Text, word: &str, name: &str) {
+    text.push(word);
+    text.push(name);
+}
+
+pub fn tell_numbered(text: &mut Text, word: &str, number: usize) {
+    text.push(word);
+    text.push_number(number);
 }
 
 /// Writes the names of a path, as `.f.g`.
-pub fn tell_path(text: &mut String, path: &[String]) -> Result<(), AllocError> {
+pub fn tell_path(text: &mut Text, path: &[String]) {
     for name in path {
-        write!(text, ".{name}")?;
+        tell_named(text, ".", name.as_str());
     }
-    Ok(())
 }
 
-fn tell_source(text: &mut String, source: &Source) -> Result<(), AllocError> {
-    tell_root(text, &source.root)?;
-    tell_path(text, &source.path)
+fn tell_source(text: &mut Text, source: &Source) {
+    tell_root(text, &source.root);
+    tell_path(text, &source.path);
 }
 
 impl Source {
     /// `import f`, `#0.g` (an instance's export), `component 0`, `type list<u8>`.
     pub fn text(&self, alloc: Global) -> Result<String, ReadError> {
-        let mut text = String::new(alloc);
-        tell_source(&mut text, self)?;
-        Ok(text)
+        let mut text = Text::new(alloc);
+        tell_source(&mut text, self);
+        text.finish()
     }
 }
 
 impl Reading {
     /// As `import f: func()`, `#0 = component 0 (f = import f)`, `export g = #0.g`, `custom producers`.
     pub fn text(&self, alloc: Global) -> Result<String, ReadError> {
-        let mut text = String::new(alloc);
-        tell_reading(&mut text, self)?;
-        Ok(text)
+        let mut text = Text::new(alloc);
+        tell_reading(&mut text, self);
+        text.finish()
     }
 }
 
 impl WholeReading {
     /// As `import f: func()`, `#0 = leaf 1 (f = import f)`, `#1 = composition (f = #0.g)`, `export g = #0.g`.
     pub fn text(&self, alloc: Global) -> Result<String, ReadError> {
-        let mut text = String::new(alloc);
-        tell_whole(&mut text, self)?;
-        Ok(text)
+        let mut text = Text::new(alloc);
+        tell_whole(&mut text, self);
+        text.finish()
     }
 }
 
-fn tell_reading(text: &mut String, reading: &Reading) -> Result<(), AllocError> {
-    tell_imports(text, &reading.imports)?;
+fn tell_reading(text: &mut Text, reading: &Reading) {
+    tell_imports(text, &reading.imports);
     for (number, instance) in reading.instances.iter().enumerate() {
-        write!(text, "#{number} = ")?;
-        tell_source(text, &instance.of)?;
-        tell_items(text, &instance.arguments)?;
+        tell_instance(text, number);
+        tell_source(text, &instance.of);
+        tell_items(text, &instance.arguments);
     }
-    tell_exports(text, &reading.exports)?;
-    tell_customs(text, &reading.customs)
+    tell_exports(text, &reading.exports);
+    tell_customs(text, &reading.customs);
 }
 
-fn tell_whole(text: &mut String, whole: &WholeReading) -> Result<(), AllocError> {
-    tell_imports(text, &whole.imports)?;
+fn tell_whole(text: &mut Text, whole: &WholeReading) {
+    tell_imports(text, &whole.imports);
     for (number, inner) in whole.instances.iter().enumerate() {
-        write!(text, "#{number} = ")?;
-        tell_made(text, inner)?;
-        tell_items(text, &inner.arguments)?;
+        tell_instance(text, number);
+        tell_made(text, inner);
+        tell_items(text, &inner.arguments);
     }
-    tell_exports(text, &whole.exports)
+    tell_exports(text, &whole.exports);
 }
 
-fn tell_made(text: &mut String, inner: &Inner) -> Result<(), AllocError> {
+/// Writes `#0 = `.
+pub fn tell_instance(text: &mut Text, number: usize) {
+    tell_numbered(text, "#", number);
+    text.push(" = ");
+}
+
+fn tell_made(text: &mut Text, inner: &Inner) {
     match &inner.made {
-        Made::Leaf(leaf) => write!(text, "leaf {leaf}"),
+        Made::Leaf(leaf) => tell_numbered(text, "leaf ", *leaf),
         Made::Imported => tell_source(text, &inner.of),
-        Made::Composition(_) => text.push_str("composition"),
+        Made::Composition(_) => text.push("composition"),
     }
 }
 
-pub fn tell_imports(text: &mut String, imports: &[Import]) -> Result<(), AllocError> {
+pub fn tell_imports(text: &mut Text, imports: &[Import]) {
     for import in imports {
-        writeln!(text, "import {}: {}", import.name, import.ty)?;
+        tell_named(text, "import ", import.name.as_str());
+        tell_named(text, ": ", import.ty.as_str());
+        text.push("\n");
     }
-    Ok(())
 }
 
-fn tell_items(text: &mut String, items: &[Item]) -> Result<(), AllocError> {
-    text.push_str(" (")?;
+fn tell_items(text: &mut Text, items: &[Item]) {
+    text.push(" (");
     for (i, item) in items.iter().enumerate() {
-        let comma = text_if(i > 0, ", ");
-        write!(text, "{comma}{} = ", item.name)?;
-        tell_source(text, &item.source)?;
+        tell_named(text, text_if(i > 0, ", "), item.name.as_str());
+        text.push(" = ");
+        tell_source(text, &item.source);
     }
-    text.push_str(")\n")
+    text.push(")\n");
 }
 
-fn tell_exports(text: &mut String, exports: &[Item]) -> Result<(), AllocError> {
+/// Writes `export g = `.
+pub fn tell_export(text: &mut Text, name: &str) {
+    tell_named(text, "export ", name);
+    text.push(" = ");
+}
+
+fn tell_exports(text: &mut Text, exports: &[Item]) {
     for export in exports {
-        write!(text, "export {} = ", export.name)?;
-        tell_source(text, &export.source)?;
+        tell_export(text, export.name.as_str());
+        tell_source(text, &export.source);
         if let Some(stated) = &export.stated {
-            write!(text, " as {stated}")?;
+            tell_named(text, " as ", stated.as_str());
         }
-        text.push_str("\n")?;
+        text.push("\n");
     }
-    Ok(())
 }
 
-fn tell_customs(text: &mut String, customs: &[Custom]) -> Result<(), AllocError> {
+fn tell_customs(text: &mut Text, customs: &[Custom]) {
     for custom in customs {
-        writeln!(text, "custom {}", custom.name)?;
+        tell_named(text, "custom ", custom.name.as_str());
+        text.push("\n");
     }
-    Ok(())
 }

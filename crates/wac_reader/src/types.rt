@@ -1,8 +1,9 @@
 //! Types: each is read as its tree's text.
 
 use super::cursor::Cursor;
-use super::{Kind, Member, ReadError, Root, Sort, Source, Spaces, Thing, new_scope};
-use std::alloc::Global;
+use super::told::between;
+use super::type_text::TypeText;
+use super::{Kind, Member, ReadError, Root, Sort, Source, Spaces, Thing, keep, new_scope};
 
 /// The primitive type of that byte.
 fn primitive(byte: u8) -> Option<&'static str> {
@@ -53,8 +54,7 @@ impl Spaces {
             _ => return self.defined(cursor, tag),
         };
         let left = cursor.unsigned()?;
-        self.scopes.push(new_scope(self.alloc, kind, left))?;
-        Ok(())
+        keep(&mut self.scopes, new_scope(self.alloc, kind, left))
     }
 
     /// Reads the innermost scope's next declaration, or ends that scope.
@@ -77,11 +77,11 @@ impl Spaces {
             return cursor.fault("no scope");
         };
         let word = if ended.kind == Kind::Component {
-            "component"
+            "component { "
         } else {
-            "instance"
+            "instance { "
         };
-        let text = format!(in self.alloc; "{word} {{ {}}}", ended.text)?;
+        let text = between(self.alloc, word, ended.text.as_str(), "}")?;
         self.add_type(cursor, ended.kind, text, ended.exports)
     }
 
@@ -105,8 +105,10 @@ impl Spaces {
 
     /// A core type: a module's.
     pub fn core_type_entry(&mut self, cursor: &mut Cursor<'_>) -> Result<(), ReadError> {
-        let text = cursor.module_type(self.alloc)?;
-        self.add_type(cursor, Kind::Module, text, Vec::new(self.alloc))
+        let mut text = TypeText::new(self.alloc, *cursor);
+        text.module_type(self.alloc);
+        *cursor = text.cursor;
+        self.add_type(cursor, Kind::Module, text.finish()?, Vec::new(self.alloc))
     }
 
     fn declaration(&mut self, cursor: &mut Cursor<'_>) -> Result<(), ReadError> {
@@ -122,49 +124,82 @@ impl Spaces {
 
     /// A type without declarations, after its first byte.
     fn defined(&mut self, cursor: &mut Cursor<'_>, tag: u8) -> Result<(), ReadError> {
-        let (kind, text) = match tag {
-            0x40 => (Kind::Func, self.func(cursor, "func")?),
-            0x43 => (Kind::Func, self.func(cursor, "async func")?),
-            _ => (Kind::Value, self.defined_value(cursor, tag)?),
-        };
-        self.add_type(cursor, kind, text, Vec::new(self.alloc))
+        let mut text = TypeText::new(self.alloc, *cursor);
+        let kind = self.write_defined(&mut text, tag);
+        *cursor = text.cursor;
+        self.add_type(cursor, kind, text.finish()?, Vec::new(self.alloc))
     }
 
-    fn defined_value(&self, cursor: &mut Cursor<'_>, tag: u8) -> Result<String, ReadError> {
-        match primitive(tag) {
-            Some(word) => Ok(String::from_str(self.alloc, word)?),
-            None => self.compound(cursor, tag),
+    fn write_defined(&self, text: &mut TypeText<'_>, tag: u8) -> Kind {
+        match tag {
+            0x40 => {
+                self.func(text, "func(");
+                Kind::Func
+            }
+            0x43 => {
+                self.func(text, "async func(");
+                Kind::Func
+            }
+            _ => {
+                self.defined_value(text, tag);
+                Kind::Value
+            }
         }
     }
 
-    fn compound(&self, cursor: &mut Cursor<'_>, tag: u8) -> Result<String, ReadError> {
+    fn defined_value(&self, text: &mut TypeText<'_>, tag: u8) {
+        match primitive(tag) {
+            Some(word) => text.push(word),
+            None => self.compound(text, tag),
+        }
+    }
+
+    fn compound(&self, text: &mut TypeText<'_>, tag: u8) {
         match tag {
-            0x72 => self.record(cursor),
-            0x71 => self.variant(cursor),
-            0x70 => self.one(cursor, "list"),
-            0x6b => self.one(cursor, "option"),
-            0x67 => self.fixed_size_list(cursor),
-            0x6f => self.tuple(cursor),
-            0x6e => cursor.labels(self.alloc, "flags"),
-            0x6d => cursor.labels(self.alloc, "enum"),
-            0x6a => self.result_type(cursor),
-            0x69 => self.handle(cursor, "own"),
-            0x68 => self.handle(cursor, "borrow"),
-            0x66 => self.at_most_one(cursor, "stream"),
-            0x65 => self.at_most_one(cursor, "future"),
-            _ => cursor.fault("no type before here"),
+            0x72 => self.record(text),
+            0x71 => self.variant(text),
+            0x70 => self.one(text, "list<"),
+            0x6b => self.one(text, "option<"),
+            0x67 => self.fixed_size_list(text),
+            0x6f => self.tuple(text),
+            0x6e => text.labels("flags"),
+            0x6d => text.labels("enum"),
+            0x6a => self.result_type(text),
+            0x69 => self.handle(text, "own<"),
+            0x68 => self.handle(text, "borrow<"),
+            0x66 => self.at_most_one(text, "stream<"),
+            0x65 => self.at_most_one(text, "future<"),
+            _ => text.refuse("no type before here"),
         }
     }
 
     /// A primitive type, or the index of a value type.
-    fn value_type(&self, cursor: &mut Cursor<'_>) -> Result<&str, ReadError> {
-        if let Some(word) = cursor.peek().and_then(primitive) {
-            let _ = cursor.byte()?;
-            return Ok(word);
+    fn value(&self, text: &mut TypeText<'_>) {
+        match text.cursor.peek().and_then(primitive) {
+            Some(word) => {
+                let _ = text.byte();
+                text.push(word);
+            }
+            None => self.indexed_value(text),
         }
-        let index = cursor.index_as_type()?;
+    }
+
+    fn indexed_value(&self, text: &mut TypeText<'_>) {
+        match text.cursor.index_as_type() {
+            Ok(index) => self.write_type(text, index, Kind::Value),
+            Err(fault) => text.fail(fault),
+        }
+    }
+
+    /// Writes the type at that index, of that kind.
+    fn write_type(&self, text: &mut TypeText<'_>, index: u32, kind: Kind) {
+        let read = self.text_at(&text.cursor, index, kind);
+        text.push_read(read);
+    }
+
+    fn text_at(&self, cursor: &Cursor<'_>, index: u32, kind: Kind) -> Result<&str, ReadError> {
         let ty = self.find(cursor, Sort::Type, index)?.ty;
-        self.expect_kind(cursor, ty, Kind::Value)?;
+        self.expect_kind(cursor, ty, kind)?;
         self.text_of(cursor, ty)
     }
 
@@ -179,107 +214,118 @@ impl Spaces {
     }
 
     /// `00`, or `01` and a type; `_` where none stands.
-    fn optional_type(&self, cursor: &mut Cursor<'_>) -> Result<&str, ReadError> {
-        match cursor.byte()? {
-            0x00 => Ok("_"),
-            0x01 => self.value_type(cursor),
-            _ => cursor.fault("neither 00 nor 01 before here"),
+    fn optional_type(&self, text: &mut TypeText<'_>) {
+        match text.byte() {
+            0x00 => text.push("_"),
+            0x01 => self.value(text),
+            _ => text.refuse("neither 00 nor 01 before here"),
         }
     }
 
     /// Names with types, as `a: u8, b: string`.
-    fn fields(&self, cursor: &mut Cursor<'_>) -> Result<String, ReadError> {
-        let mut text = String::new(self.alloc);
-        for i in 0..cursor.unsigned()? {
-            let name = cursor.label()?;
-            let ty = self.value_type(cursor)?;
-            let comma = text_if(i > 0, ", ");
-            write!(text, "{comma}{name}: {ty}")?;
+    fn fields(&self, text: &mut TypeText<'_>) {
+        for i in 0..text.number() {
+            if text.has_fault() {
+                break;
+            }
+            text.push(text_if(i > 0, ", "));
+            text.label();
+            text.push(": ");
+            self.value(text);
         }
-        Ok(text)
     }
 
-    fn record(&self, cursor: &mut Cursor<'_>) -> Result<String, ReadError> {
-        let fields = self.fields(cursor)?;
-        Ok(format!(in self.alloc; "record {{ {fields} }}")?)
+    fn record(&self, text: &mut TypeText<'_>) {
+        text.push("record { ");
+        self.fields(text);
+        text.push(" }");
     }
 
-    fn variant(&self, cursor: &mut Cursor<'_>) -> Result<String, ReadError> {
-        let mut text = String::from_str(self.alloc, "variant {")?;
-        for i in 0..cursor.unsigned()? {
-            text.push_str(text_if(i > 0, ","))?;
-            self.case(cursor, &mut text)?;
+    fn variant(&self, text: &mut TypeText<'_>) {
+        text.push("variant {");
+        for i in 0..text.number() {
+            if text.has_fault() {
+                break;
+            }
+            text.push(if i > 0 { ", " } else { " " });
+            self.case(text);
         }
-        text.push_str(" }")?;
-        Ok(text)
+        text.push(" }");
     }
 
-    fn case(&self, cursor: &mut Cursor<'_>, text: &mut String) -> Result<(), ReadError> {
-        let name = cursor.label()?;
-        let ty = self.optional_type(cursor)?;
-        cursor.exactly(0x00, "a case with more")?;
-        write!(text, " {name}({ty})")?;
-        Ok(())
+    fn case(&self, text: &mut TypeText<'_>) {
+        text.label();
+        text.push("(");
+        self.optional_type(text);
+        text.exactly(0x00, "a case with more");
+        text.push(")");
     }
 
-    fn one(&self, cursor: &mut Cursor<'_>, word: &str) -> Result<String, ReadError> {
-        let ty = self.value_type(cursor)?;
-        Ok(format!(in self.alloc; "{word}<{ty}>")?)
+    fn one(&self, text: &mut TypeText<'_>, word: &str) {
+        text.push(word);
+        self.value(text);
+        text.push(">");
     }
 
-    fn fixed_size_list(&self, cursor: &mut Cursor<'_>) -> Result<String, ReadError> {
-        let ty = self.value_type(cursor)?;
-        let length = cursor.unsigned()?;
-        Ok(format!(in self.alloc; "list<{ty}, {length}>")?)
+    fn fixed_size_list(&self, text: &mut TypeText<'_>) {
+        text.push("list<");
+        self.value(text);
+        text.push(", ");
+        let length = text.number();
+        text.push_number(u64::from(length));
+        text.push(">");
     }
 
-    fn tuple(&self, cursor: &mut Cursor<'_>) -> Result<String, ReadError> {
-        let mut text = String::from_str(self.alloc, "tuple<")?;
-        for i in 0..cursor.unsigned()? {
-            let ty = self.value_type(cursor)?;
-            let comma = text_if(i > 0, ", ");
-            write!(text, "{comma}{ty}")?;
+    fn tuple(&self, text: &mut TypeText<'_>) {
+        text.push("tuple<");
+        for i in 0..text.number() {
+            if text.has_fault() {
+                break;
+            }
+            text.push(text_if(i > 0, ", "));
+            self.value(text);
         }
-        text.push_str(">")?;
-        Ok(text)
+        text.push(">");
     }
 
-    fn result_type(&self, cursor: &mut Cursor<'_>) -> Result<String, ReadError> {
-        let ok = self.optional_type(cursor)?;
-        let err = self.optional_type(cursor)?;
-        Ok(format!(in self.alloc; "result<{ok}, {err}>")?)
+    fn result_type(&self, text: &mut TypeText<'_>) {
+        text.push("result<");
+        self.optional_type(text);
+        text.push(", ");
+        self.optional_type(text);
+        text.push(">");
     }
 
-    fn handle(&self, cursor: &mut Cursor<'_>, word: &str) -> Result<String, ReadError> {
-        let ty = self.indexed(cursor, Sort::Type)?.ty;
-        self.expect_kind(cursor, ty, Kind::Resource)?;
-        let resource = self.text_of(cursor, ty)?;
-        Ok(format!(in self.alloc; "{word}<{resource}>")?)
+    fn handle(&self, text: &mut TypeText<'_>, word: &str) {
+        text.push(word);
+        let index = text.number();
+        self.write_type(text, index, Kind::Resource);
+        text.push(">");
     }
 
-    fn at_most_one(&self, cursor: &mut Cursor<'_>, word: &str) -> Result<String, ReadError> {
-        let ty = self.optional_type(cursor)?;
-        Ok(format!(in self.alloc; "{word}<{ty}>")?)
+    fn at_most_one(&self, text: &mut TypeText<'_>, word: &str) {
+        text.push(word);
+        self.optional_type(text);
+        text.push(">");
     }
 
     /// `func(a: u8) -> u8`.
-    fn func(&self, cursor: &mut Cursor<'_>, word: &str) -> Result<String, ReadError> {
-        let params = self.fields(cursor)?;
-        match self.func_result(cursor)? {
-            Some(ty) => Ok(format!(in self.alloc; "{word}({params}) -> {ty}")?),
-            None => Ok(format!(in self.alloc; "{word}({params})")?),
-        }
+    fn func(&self, text: &mut TypeText<'_>, word: &str) {
+        text.push(word);
+        self.fields(text);
+        text.push(")");
+        self.func_result(text);
     }
 
     /// A function's result, where it has one.
-    fn func_result(&self, cursor: &mut Cursor<'_>) -> Result<Option<&str>, ReadError> {
-        match cursor.byte()? {
-            0x00 => Ok(Some(self.value_type(cursor)?)),
-            0x01 => {
-                cursor.exactly(0x00, "results with names")?;
-                Ok(None)
+    fn func_result(&self, text: &mut TypeText<'_>) {
+        match text.byte() {
+            0x00 => {
+                text.push(" -> ");
+                self.value(text);
             }
-            _ => cursor.fault("neither 00 nor 01 before here"),
+            0x01 => text.exactly(0x00, "results with names"),
+            _ => text.refuse("neither 00 nor 01 before here"),
         }
     }
 
@@ -307,8 +353,8 @@ impl Spaces {
         match cursor.byte()? {
             0x00 => Ok(self.indexed(cursor, Sort::Type)?.ty),
             0x01 => {
-                let text = format!(in self.alloc; "resource {name}")?;
-                Ok(self.node(Kind::Resource, text, Vec::new(self.alloc))?)
+                let text = between(self.alloc, "resource ", name, "")?;
+                self.node(Kind::Resource, text, Vec::new(self.alloc))
             }
             _ => cursor.fault("no bound of a type before here"),
         }
@@ -322,23 +368,7 @@ impl Spaces {
         ty: usize,
     ) -> Result<String, ReadError> {
         let text = self.text_of(cursor, ty)?;
-        if sort == Sort::Type && self.kind_of(ty) != Kind::Resource {
-            return Ok(format!(in self.alloc; "type {text}")?);
-        }
-        Ok(String::from_str(self.alloc, text)?)
-    }
-}
-
-impl Cursor<'_> {
-    /// Names, as `enum { a, b }`.
-    fn labels(&mut self, alloc: Global, word: &str) -> Result<String, ReadError> {
-        let mut text = format!(in alloc; "{word} {{")?;
-        for i in 0..self.unsigned()? {
-            let name = self.label()?;
-            let comma = text_if(i > 0, ",");
-            write!(text, "{comma} {name}")?;
-        }
-        text.push_str(" }")?;
-        Ok(text)
+        let is_value = sort == Sort::Type && self.kind_of(ty) != Kind::Resource;
+        between(self.alloc, text_if(is_value, "type "), text, "")
     }
 }

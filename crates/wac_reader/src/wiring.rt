@@ -1,7 +1,10 @@
 //! What is read down, as text: outer imports, the instances of handed components, and exports. Compositions are told by
 //! what they give alone.
 
-use super::told::{tell_imports, tell_path, tell_root};
+use super::told::{
+    Text, tell_export, tell_imports, tell_instance, tell_named, tell_numbered, tell_path, tell_root,
+};
+use super::types::text_if;
 use super::{Inner, Item, Made, ReadError, Root, Source, WholeReading, read_down};
 use std::alloc::{AllocError, Global};
 
@@ -59,22 +62,22 @@ impl Told<'_> {
     }
 
     /// `import f`, `#0.g`, `type list<u8>`.
-    fn plain(&self, text: &mut String, source: &Source) -> Result<(), AllocError> {
+    fn plain(&self, text: &mut Text, source: &Source) {
         match &source.root {
-            Root::Instance(number) => write!(text, "#{}", self.number(*number))?,
-            root => tell_root(text, root)?,
+            Root::Instance(number) => tell_numbered(text, "#", self.number(*number)),
+            root => tell_root(text, root),
         }
-        tell_path(text, &source.path)
+        tell_path(text, &source.path);
     }
 
     /// The same, or `{ g = #0.g }` for a bundle.
     #[cycle(bundles)]
-    fn source(&self, text: &mut String, source: &Source, depth: u8) -> Result<(), AllocError> {
+    fn source(&self, text: &mut Text, source: &Source, depth: u8) {
         if depth > 0 && source.path.is_empty() {
             if let Some(items) = self.exports_of(source) {
-                text.push_str("{ ")?;
-                self.items(text, items, depth - 1)?;
-                return text.push_str(" }");
+                text.push("{ ");
+                self.items(text, items, depth - 1);
+                return text.push(" }");
             }
         }
         self.plain(text, source)
@@ -82,49 +85,46 @@ impl Told<'_> {
 
     /// `a = import f, b = #0.g`.
     #[cycle(bundles)]
-    fn items(&self, text: &mut String, items: &Vec<Item>, depth: u8) -> Result<(), AllocError> {
+    fn items(&self, text: &mut Text, items: &Vec<Item>, depth: u8) {
         for (at, item) in items.iter().enumerate() {
-            if at > 0 {
-                text.push_str(", ")?;
-            }
-            write!(text, "{} = ", item.name)?;
-            self.source(text, &item.source, depth)?;
+            tell_named(text, text_if(at > 0, ", "), item.name.as_str());
+            text.push(" = ");
+            self.source(text, &item.source, depth);
         }
-        Ok(())
     }
 
     /// A line for each instance that is no composition, as `#0 = p:p (f = import f)`.
-    fn instances(&self, text: &mut String, leaves: &[Leaf]) -> Result<(), ReadError> {
+    fn instances(&self, text: &mut Text, leaves: &[Leaf]) -> Result<(), ReadError> {
         for (number, inner) in self.whole.instances.iter().enumerate() {
             if !matches!(inner.made, Made::Composition(_)) {
-                write!(text, "#{} = ", self.number(number))?;
+                tell_instance(text, self.number(number));
                 self.made(text, inner, leaves)?;
-                text.push_str(" (")?;
-                self.items(text, &inner.arguments, DEPTH)?;
-                text.push_str(")\n")?;
+                text.push(" (");
+                self.items(text, &inner.arguments, DEPTH);
+                text.push(")\n");
             }
         }
         Ok(())
     }
 
     /// A leaf's key, or where an imported component comes from.
-    fn made(&self, text: &mut String, inner: &Inner, leaves: &[Leaf]) -> Result<(), ReadError> {
-        let Made::Leaf(leaf) = &inner.made else {
-            return Ok(self.source(text, &inner.of, 0)?);
-        };
-        match leaves.get(*leaf) {
-            Some(leaf) => Ok(text.push_str(leaf.key.as_str())?),
-            None => Err(ReadError::At(0, "no such leaf")),
-        }
-    }
-
-    fn exports(&self, text: &mut String) -> Result<(), AllocError> {
-        for export in &self.whole.exports {
-            write!(text, "export {} = ", export.name)?;
-            self.source(text, &export.source, DEPTH)?;
-            text.push('\n')?;
+    fn made(&self, text: &mut Text, inner: &Inner, leaves: &[Leaf]) -> Result<(), ReadError> {
+        match &inner.made {
+            Made::Leaf(leaf) => match leaves.get(*leaf) {
+                Some(leaf) => text.push(leaf.key.as_str()),
+                None => return Err(ReadError::At(0, "no such leaf")),
+            },
+            _ => self.source(text, &inner.of, 0),
         }
         Ok(())
+    }
+
+    fn exports(&self, text: &mut Text) {
+        for export in &self.whole.exports {
+            tell_export(text, export.name.as_str());
+            self.source(text, &export.source, DEPTH);
+            text.push("\n");
+        }
     }
 }
 
@@ -136,18 +136,14 @@ fn bytes_of(alloc: Global, leaves: &[Leaf]) -> Result<Vec<&[u8]>, AllocError> {
     Ok(bytes)
 }
 
-fn tell_whole(
-    alloc: Global,
-    text: &mut String,
-    whole: &WholeReading,
-    leaves: &[Leaf],
-) -> Result<(), ReadError> {
-    tell_imports(text, &whole.imports)?;
+fn tell_whole(alloc: Global, whole: &WholeReading, leaves: &[Leaf]) -> Result<String, ReadError> {
+    let mut text = Text::new(alloc);
+    tell_imports(&mut text, &whole.imports);
     let numbers = numbers_of(alloc, whole)?;
     let told = Told { whole, numbers };
-    told.instances(text, leaves)?;
-    told.exports(text)?;
-    Ok(())
+    told.instances(&mut text, leaves)?;
+    told.exports(&mut text);
+    text.finish()
 }
 
 /// Tells the wiring of a component, read down to the leaves.
@@ -159,5 +155,7 @@ pub fn tell(
 ) -> Result<(), ReadError> {
     let handed = bytes_of(alloc, leaves)?;
     let whole = read_down(alloc, bytes, &handed)?;
-    tell_whole(alloc, text, &whole, leaves)
+    let told = tell_whole(alloc, &whole, leaves)?;
+    text.push_str(told.as_str())?;
+    Ok(())
 }

@@ -1,5 +1,6 @@
 //! Types as lines, each of which may name those before it:
-//! `func NAME params P=V ..`, `record NAME fields F=V ..`, `type NAME V` (another name of a value type),
+//! `func NAME params P=V ..`, `record NAME fields F=V ..`, `type NAME V` (another name of a value type), `list NAME V`,
+//! `option NAME V`, `pair NAME V V` (a tuple),
 //! `resource NAME TEXT of RESOURCE in INTERFACE`, `interface NAME as TEXT uses R=I .. exports E=ITEM ..`,
 //! `world NAME as TEXT uses R=I .. imports I=ITEM .. exports E=ITEM ..`, `value NAME V` (the item of a value),
 //! `typed NAME ITEM` (the type of an interface, a world or a function), `module NAME HEAP` and
@@ -14,8 +15,8 @@ use anyhow::{Result, bail, ensure};
 use std::alloc::Global;
 use wac_graph_core::CompositionGraph;
 use wac_types_base::{
-    DefinedType, FuncType, Interface, InterfaceId, ItemKind, NamedMap, PrimitiveType, Record,
-    Resource, ResourceAlias, Text, Type, UsedType, ValueType, World,
+    DefinedType, FuncType, Interface, InterfaceId, ItemKind, Items, ModuleType, NamedMap,
+    PrimitiveType, Record, Resource, ResourceAlias, Text, Type, UsedType, ValueType, World,
 };
 
 /// The primitive types that lines name.
@@ -89,14 +90,47 @@ fn identifier_in(alloc: Global, words: &[&str]) -> Result<Option<Text>> {
     }
 }
 
-fn add_func(graph: &mut CompositionGraph, params: NamedMap<ValueType>) -> Result<ItemKind> {
-    let func = FuncType {
-        params,
+/// The function type that a line says.
+pub fn func_of(alloc: Global, items: &NamedMap<ItemKind>, words: &[&str]) -> Result<FuncType> {
+    Ok(FuncType {
+        params: values_behind(alloc, items, words, "params")?,
         result: None,
         is_async: false,
-    };
+    })
+}
+
+fn add_func(graph: &mut CompositionGraph, func: FuncType) -> Result<ItemKind> {
     ensure!(graph.types().has_ids_of(&func), "an id does not stand");
     Ok(ItemKind::Func(graph.types_mut().add_func_type(func)?))
+}
+
+/// The pair of two value types.
+fn pair_of(alloc: Global, first: ValueType, second: ValueType) -> Result<DefinedType> {
+    let pair = Vec::from_slice(alloc, &[first, second])?;
+    Ok(DefinedType::Tuple(Items::from_vec(pair)))
+}
+
+/// The defined type that a line says.
+pub fn defined_of(
+    alloc: Global,
+    items: &NamedMap<ItemKind>,
+    words: &[&str],
+) -> Result<DefinedType> {
+    let of = word_at(words, 2);
+    match word_at(words, 0) {
+        "record" => {
+            let fields = values_behind(alloc, items, words, "fields")?;
+            Ok(DefinedType::Record(Record { fields }))
+        }
+        "type" => Ok(DefinedType::Alias(value_named(items, of)?)),
+        "list" => Ok(DefinedType::List(value_named(items, of)?)),
+        "option" => Ok(DefinedType::Option(value_named(items, of)?)),
+        "pair" => {
+            let second = value_named(items, word_at(words, 3))?;
+            pair_of(alloc, value_named(items, of)?, second)
+        }
+        _ => bail!("no such line of types"),
+    }
 }
 
 fn add_defined(graph: &mut CompositionGraph, ty: DefinedType) -> Result<ItemKind> {
@@ -120,23 +154,28 @@ fn alias_in(items: &NamedMap<ItemKind>, words: &[&str]) -> Result<Option<Resourc
     }))
 }
 
-fn add_resource(
-    graph: &mut CompositionGraph,
-    items: &NamedMap<ItemKind>,
-    words: &[&str],
-) -> Result<ItemKind> {
+/// The resource that a line says.
+pub fn resource_of(alloc: Global, items: &NamedMap<ItemKind>, words: &[&str]) -> Result<Resource> {
     let alias = alias_in(items, words)?;
-    let name = String::from_str(graph.alloc(), word_at(words, 2))?;
-    let resource = Resource {
+    let name = String::from_str(alloc, word_at(words, 2))?;
+    Ok(Resource {
         name: Text::new(name),
         alias,
-    };
+    })
+}
+
+fn add_resource(graph: &mut CompositionGraph, resource: Resource) -> Result<ItemKind> {
     ensure!(graph.types().has_ids_of(&resource), "an id does not stand");
     let id = graph.types_mut().add_resource(resource)?;
     Ok(ItemKind::Ty(Type::Resource(id)))
 }
 
-fn interface_of(alloc: Global, items: &NamedMap<ItemKind>, words: &[&str]) -> Result<Interface> {
+/// The interface that a line says.
+pub fn interface_of(
+    alloc: Global,
+    items: &NamedMap<ItemKind>,
+    words: &[&str],
+) -> Result<Interface> {
     let uses = uses_in(alloc, items, words)?;
     let exports = items_behind(alloc, items, words, "exports")?;
     Ok(Interface {
@@ -152,7 +191,8 @@ fn add_interface(graph: &mut CompositionGraph, interface: Interface) -> Result<I
     Ok(ItemKind::Instance(id))
 }
 
-fn world_of(alloc: Global, items: &NamedMap<ItemKind>, words: &[&str]) -> Result<World> {
+/// The world that a line says.
+pub fn world_of(alloc: Global, items: &NamedMap<ItemKind>, words: &[&str]) -> Result<World> {
     let inner = interface_of(alloc, items, words)?;
     let imports = items_behind(alloc, items, words, "imports")?;
     Ok(World {
@@ -169,13 +209,15 @@ fn add_world(graph: &mut CompositionGraph, world: World) -> Result<ItemKind> {
     Ok(ItemKind::Component(id))
 }
 
-/// Adds a module type: `module` by its heap type, `memories` by its memories.
-fn add_module(graph: &mut CompositionGraph, words: &[&str]) -> Result<ItemKind> {
-    let alloc = graph.alloc();
-    let module = match word_at(words, 0) {
-        "module" => module_of(alloc, word_at(words, 2))?,
-        _ => memories_of(alloc, words)?,
-    };
+/// The module type that a line says: `module` by its heap type, `memories` by its memories.
+pub fn module_type_of(alloc: Global, words: &[&str]) -> Result<ModuleType> {
+    match word_at(words, 0) {
+        "module" => Ok(module_of(alloc, word_at(words, 2))?),
+        _ => memories_of(alloc, words),
+    }
+}
+
+fn add_module(graph: &mut CompositionGraph, module: ModuleType) -> Result<ItemKind> {
     Ok(ItemKind::Module(graph.types_mut().add_module_type(module)?))
 }
 
@@ -187,17 +229,9 @@ fn add_value(
 ) -> Result<ItemKind> {
     let alloc = graph.alloc();
     match word_at(words, 0) {
-        "record" => {
-            let fields = values_behind(alloc, items, words, "fields")?;
-            add_defined(graph, DefinedType::Record(Record { fields }))
-        }
-        "type" => {
-            let of = value_named(items, word_at(words, 2))?;
-            add_defined(graph, DefinedType::Alias(of))
-        }
         "typed" => Ok(ItemKind::Ty(type_named(items, word_at(words, 2))?)),
         "value" => Ok(ItemKind::Value(value_named(items, word_at(words, 2))?)),
-        _ => bail!("no such line of types"),
+        _ => add_defined(graph, defined_of(alloc, items, words)?),
     }
 }
 
@@ -209,11 +243,11 @@ fn add_item(
 ) -> Result<ItemKind> {
     let alloc = graph.alloc();
     match word_at(words, 0) {
-        "func" => add_func(graph, values_behind(alloc, items, words, "params")?),
-        "resource" => add_resource(graph, items, words),
+        "func" => add_func(graph, func_of(alloc, items, words)?),
+        "resource" => add_resource(graph, resource_of(alloc, items, words)?),
         "interface" => add_interface(graph, interface_of(alloc, items, words)?),
         "world" => add_world(graph, world_of(alloc, items, words)?),
-        "module" | "memories" => add_module(graph, words),
+        "module" | "memories" => add_module(graph, module_type_of(alloc, words)?),
         _ => add_value(graph, items, words),
     }
 }

@@ -69,7 +69,7 @@ pub(crate) fn resource_named(items: &NamedMap<ItemKind>, name: &str) -> Result<R
 }
 
 /// The value type of a word: `u32`, `own.RESOURCE`, `borrow.RESOURCE`, or a name.
-pub(crate) fn value_named(items: &NamedMap<ItemKind>, word: &str) -> Result<ValueType> {
+pub fn value_named(items: &NamedMap<ItemKind>, word: &str) -> Result<ValueType> {
     if let Some(("own", name)) = word.split_once('.') {
         return Ok(ValueType::Own(resource_named(items, name)?));
     }

@@ -21,6 +21,3 @@ pub use wac_types_names::{
     Package, PackageKey, alternate_lookup_key, are_semver_compatible, compatible_names, examples,
     one_name_a_version, order_of_insertion, same_key,
 };
-
-#[cfg(test)]
-mod tests;

@@ -1,11 +1,12 @@
 -- Elements of lists that are joined, mapped, cut and filtered, and what is found under a name.
-use Rattle.std.proofs.Common.{◌≡◌, ◌≢◌, ℕ, zero, suc, ◌+◌, ◌<◌, ◌≤◌, List, [], ◌∷◌, ◌++◌, map, length, take, drop, Option, Some, None, IsSome, is_some, filter, Bool, true, false, not, cond, if◌then◌else◌, slice_get, ◌⊎◌, inl, inr, refl, sym, ap, ◌∙◌, arith}
-use Rattle.std.specs.Prelude.{◌==◌, filter_map}
+use Rattle.std.proofs.Common.{◌≡◌, ◌≢◌, ℕ, zero, suc, ◌+◌, ◌<◌, ◌≤◌, List, [], ◌∷◌, ◌++◌, map, length, take, drop, Option, Some, None, IsSome, is_some, filter, Bool, true, false, true≢false, not, cond, if◌then◌else◌, slice_get, ◌⊎◌, inl, inr, refl, sym, ap, ◌∙◌, arith}
+use Rattle.std.specs.Prelude.{◌==◌, ◌||◌, bytes_eq, filter_map}
+use Rattle.std.specs.Bool.{Decides}
 use Rattle.std.specs.Cmp.Lexicographic.{pointwise}
 use Rattle.std.specs.List.{cons_option}
 use Rattle.std.proofs.lemmas.Slice.Eq.{bytes_eq-Decides}
 use Rattle.wac_types_base.specs.Graph.{Among}
-use Rattle.wac_types_base.specs.Entries.{Name, names_of, value_at, put_entry, IsNew}
+use Rattle.wac_types_base.specs.Entries.{Name, names_of, has_name, value_at, put_entry, IsNew}
 
 -- ---- elements
 
@@ -143,3 +144,29 @@ value_named (x ∷ es) n v e = elim (name_tested n x.0) [
   | inl h ↦ inl h.0
   | inr h ↦ inr (value_named es n v (sym (ap (λ b. cond b (Some x.1) (value_at es n)) h.1) ∙ e))
 ]
+
+-- ---- tests
+
+-- what holds is told by true
+pub always : {P : Type 0} → P → Decides true P
+always p = (λ e. p, λ q. refl)
+
+-- two texts are alike either way round
+pub bytes_turned : (m n : Name) → bytes_eq m n ≡ bytes_eq n m
+bytes_turned m n = go (bytes_eq m n) refl (bytes_eq n m) refl
+  where
+    go : (a : Bool) → bytes_eq m n ≡ a → (b : Bool) → bytes_eq n m ≡ b → a ≡ b
+    go true p true q = refl
+    go false p false q = refl
+    go true p false q = absurd (true≢false (sym ((bytes_eq-Decides n m).1 (sym ((bytes_eq-Decides m n).0 p))) ∙ q))
+    go false p true q = absurd (true≢false (sym ((bytes_eq-Decides m n).1 (sym ((bytes_eq-Decides n m).0 q))) ∙ p))
+
+-- a name that is not found is not among the names
+pub not_among : (ms : List Name) (n : Name) → has_name ms n ≡ false → Among n ms → ⊥
+not_among [] n e m = m
+not_among (x ∷ ms) n e (inl same) = absurd (cc (e, ap (λ (b : Bool). b || has_name ms n) ((bytes_eq-Decides n x).1 same)))
+not_among (x ∷ ms) n e (inr m) = not_among ms n (rest (pointwise ◌==◌ n x) e) m
+  where
+    rest : (b : Bool) → (b || has_name ms n) ≡ false → has_name ms n ≡ false
+    rest true q = absurd (cc q)
+    rest false q = q

@@ -1,5 +1,5 @@
 -- Replacing a node's entry, where none of the new children leads back to it.
-use Rattle.std.proofs.Common.{◌≡◌, ℕ, zero, suc, ◌+◌, ◌<◌, List, [], ◌∷◌, length, Option, Some, None, IsSome, Bool, true, false, refl, sym, ap, subst, ◌∙◌, ◌⊎◌, inl, inr, arith, slice_get, slice_set, ◌==◌, if◌then◌else◌, length-append, length-set}
+use Rattle.std.proofs.Common.{◌≡◌, ℕ, zero, suc, ◌+◌, ◌<◌, List, [], ◌∷◌, length, Option, Some, None, IsSome, Bool, true, false, refl, sym, ap, subst, ◌∙◌, ◌⊎◌, inl, inr, arith, slice_get, slice_set, ◌==◌, cond, if◌then◌else◌, length-append, length-set}
 use Rattle.std.proofs.lemmas.List.{length-map}
 use Rattle.std.proofs.lemmas.Bool.Decides.{nat_tests}
 use Rattle.std.specs.Option.{option_map}
@@ -82,6 +82,11 @@ guarded-same false o p h = refl
 
 pub same_number : (a b : ℕ) → (a == b) ≡ true → a ≡ b
 same_number a b h = grind (arith, nat_tests)
+
+-- a number that a test lets through is the one that it asks for
+pub only_one : (s j : ℕ) (b : Bool) → (s == j) ≡ b → cond b true false ≡ true → j ≡ s
+only_one s j true is h = sym (same_number s j is)
+only_one s j false is h = absurd (cc (h))
 
 pub number_same : (a b : ℕ) → a ≡ b → (a == b) ≡ true
 number_same a b h = grind (arith, nat_tests)

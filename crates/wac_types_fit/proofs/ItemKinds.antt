@@ -273,7 +273,7 @@ not_module (ItemKind.Module f) h e = h f refl
 not_module (ItemKind.Ty t) h e = no_type t IsModule refl e
 not_module k h e = absurd (cc e)
 
-not_value : (k : ItemKind) → ((f : ValueType) → k ≡ ItemKind.Value f → ⊥) → item_kind k ≡ IsValue → ⊥
+pub not_value : (k : ItemKind) → ((f : ValueType) → k ≡ ItemKind.Value f → ⊥) → item_kind k ≡ IsValue → ⊥
 not_value (ItemKind.Value f) h e = h f refl
 not_value (ItemKind.Ty t) h e = no_type t IsValue refl e
 not_value k h e = absurd (cc e)

@@ -17,7 +17,9 @@ use Rattle.semver.proofs.Grammar.{version_parts-sound}
 use Rattle.wac_names.proofs.NameForms.{none_len}
 use Rattle.wac_types_base.specs.Entries.{Name}
 use Rattle.wac_types_names.specs.Tracks.{read_version, is_at, version_of, track_text, key_with, key_from, lookup_key}
-use Rattle.wac_types_names.proofs.Places.{NoByte, first_place, place_le}
+use Rattle.wac_types_names.proofs.Places.{NoByte}
+use Rattle.wac_names.proofs.NameForms.{place_le}
+use Rattle.wac_names.proofs.NameForms.{first_place}
 
 abbrev pub ok_of : {T E : Type 0} → T → Result T E
 ok_of x = Ok x

@@ -23,7 +23,7 @@ use Rattle.wac_types_base.proofs.GraphLemmas.{value_of}
 use Rattle.wac_types_base.proofs.Slots.{entry_at-is, stands_borrow, stands_own, stands_typed_value}
 use Rattle.wac_types_base.proofs.Standing.{resource_found, defined_found}
 use Rattle.wac_types_base.proofs.Telling.{item_kind, label_kind}
-use Rattle.wac_types_fit.proofs.ItemKinds.{is_type}
+use Rattle.wac_types_fit.proofs.ItemKinds.{is_type, not_value}
 use Rattle.wac_types_same.specs.Same.{label_in, label_of}
 use Rattle.wac_types_same.proofs.Lists.{said_no}
 
@@ -129,19 +129,6 @@ item_not_module (ItemKind.Instance x) h e = cc e
 item_not_module (ItemKind.Component x) h e = cc e
 item_not_module (ItemKind.Module x) h e = h x refl
 item_not_module (ItemKind.Value x) h e = cc e
-
-pub item_not_value : (k : ItemKind) → ((x : ValueType) → k ≡ ItemKind.Value x → ⊥) → item_kind k ≡ IsValue → ⊥
-item_not_value (ItemKind.Ty (TypeKind.Resource x)) h e = cc e
-item_not_value (ItemKind.Ty (TypeKind.Func x)) h e = cc e
-item_not_value (ItemKind.Ty (TypeKind.Value x)) h e = cc e
-item_not_value (ItemKind.Ty (TypeKind.Interface x)) h e = cc e
-item_not_value (ItemKind.Ty (TypeKind.World x)) h e = cc e
-item_not_value (ItemKind.Ty (TypeKind.Module x)) h e = cc e
-item_not_value (ItemKind.Func x) h e = cc e
-item_not_value (ItemKind.Instance x) h e = cc e
-item_not_value (ItemKind.Component x) h e = cc e
-item_not_value (ItemKind.Module x) h e = cc e
-item_not_value (ItemKind.Value x) h e = h x refl
 
 pub type_not_resource : (t : TypeKind) → ((x : ResourceId) → t ≡ TypeKind.Resource x → ⊥) → item_kind (ItemKind.Ty t) ≡ IsResource → ⊥
 type_not_resource (TypeKind.Resource x) h e = h x refl

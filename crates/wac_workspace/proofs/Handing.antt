@@ -8,12 +8,12 @@ use Rattle.wac_types_base.specs.Record.{Collection}
 use Rattle.wac_types_base.specs.Collection.{item_node}
 use Rattle.wac_types_base.specs.Graph.{Among}
 use Rattle.wac_types_names.specs.declared.package.BorrowedPackageKey.{BorrowedPackageKey}
-use Rattle.wac_types_names.specs.contracts.package.BorrowedPackageKeyPartialEq.TheImpl as key_eq
 use Rattle.wac_types_names.specs.Keys.{borrowed_key}
 use Rattle.wac_types_names.specs.Packaged.{Packaged}
 use Rattle.wac_parser_declare.specs.Packages.{Content}
 use Rattle.wac_parser_resolve.specs.declared.packages.PackageRef.{PackageRef}
 use Rattle.wac_parser_resolve.specs.Knowing.{content_of, handed_content, handed_entries, with_handed}
+use Rattle.wac_parser_resolve.proofs.Handing.{KeyEq}
 use Rattle.wac_parser_resolve.proofs.Knowing.{key_same}
 use Rattle.wac_workspace.specs.declared.entries.Entry.{Entry}
 use Rattle.wac_workspace.specs.Getting.{IsRefTo}
@@ -21,9 +21,6 @@ use Rattle.wac_workspace.specs.Packages.{key_of, AreApart}
 use Rattle.wac_workspace.specs.Resolving.{content, handed}
 use Rattle.wac_workspace.specs.View.{HasWorld}
 use Rattle.wac_workspace.proofs.Searching.{among_at}
-
-abbrev KeyEq : BorrowedPackageKey → BorrowedPackageKey → Bool
-KeyEq = key_eq.eq-value.it
 
 abbrev pub Lent : Type 0
 Lent = BorrowedPackageKey × PackageRef

@@ -1,21 +1,24 @@
 -- What is answered of a document over packages.
-use Rattle.std.proofs.Common.{◌≡◌, ℕ, List, Option, Result, Ok, Err, IfOk, sym, subst, ◌∙◌, inl, inr}
+use Rattle.std.proofs.Common.{◌≡◌, ℕ, List, Option, Result, Ok, Err, IfOk, true, refl, sym, subst, ◌∙◌, inl, inr}
 use Rattle.wac_types_base.specs.declared.ids.WorldId.{WorldId}
 use Rattle.wac_types_base.specs.Stated.{Stated}
 use Rattle.wac_graph_core.specs.Graph.{Graph}
 use Rattle.wac_graph_encode.specs.declared.options.EncodeOptions.{EncodeOptions}
 use Rattle.wac_graph_encode.specs.declared.options.Encoded.{Encoded}
 use Rattle.wac_graph_encode.specs.Finished.{MeansNested}
+use Rattle.wac_parser_tree.specs.Trees as t
 use Rattle.wac_parser_refusals.specs.declared.error.Error.{Error}
 use Rattle.wac_parser_refusals.specs.Outcomes.{IsHeld}
 use Rattle.wac_parser_resolve.specs.Ascribing.{State}
 use Rattle.wac_parser_resolve.specs.InDocuments.{IsBuilt, IsErrorOf}
 use Rattle.wac_parser_resolve.specs.InTargets.{HoldsTarget}
-use Rattle.wac_workspace.specs.Composing.{IsMeant, MeansSaid}
+use Rattle.wac_parser_resolve.specs.Meeting.{resolved}
+use Rattle.wac_parser_encode.specs.Meaning.{MeansResolved}
+use Rattle.wac_workspace.specs.Composing.{IsAscribed, IsMeant, MeansSaid}
 use Rattle.wac_workspace.specs.declared.errors.ComposeError.{ComposeError}
 use Rattle.wac_workspace.specs.declared.errors.ComposeError.TheVariants as error
 use Rattle.wac_workspace.specs.Faults.{IsResolving}
-use Rattle.wac_workspace.specs.Resolving.{Resolves, IsAccepted, IsGraphOf, IsLate, IsOfResolving, NamesFirst}
+use Rattle.wac_workspace.specs.Resolving.{Handed, Resolves, IsAccepted, IsGraphOf, IsLate, IsOfResolving, NamesFirst}
 use Rattle.wac_workspace.specs.Steps.{IsAfterwards}
 
 pub accepted : {B : Type 0} (holds : State × Option Stated → B → Type 0) (q : Resolves) (b : B) → IsHeld holds q b → IsAccepted q
@@ -55,9 +58,15 @@ late_afterwards q error.BytesTaken a h = absurd h
 late_afterwards q error.Memory a h = tt
 
 -- the bytes of a graph that holds what is resolved
-pub meant : {E : Type 0} (q : Resolves) (g : Graph) (r : Result Encoded E) (options : EncodeOptions) → IsGraphOf q g → IfOk r (λ e. MeansNested g options e.bytes.items) → IfOk r (λ e. MeansSaid options q e.bytes.items)
-meant q g (Ok e) options holds h = λ define. record { graph = g; holds = holds; component = h define }
-meant q g (Err f) options holds h = tt
+pub meant : {E : Type 0} (d : t.Document) (ps : Handed) (g : Graph) (r : Result Encoded E) (options : EncodeOptions) → IsGraphOf (resolved d ps) g → IfOk r (λ e. MeansNested g options e.bytes.items)
+    → IfOk r (λ e. MeansResolved g options e.bytes.items) → IfOk r (λ e. MeansSaid options (resolved d ps) e.bytes.items)
+unfolding MeansResolved IsAscribed
+meant d ps g (Ok e) options holds nested said = λ define. record { ascribed = by define (resolved d ps) refl holds; graph = g; holds = holds; component = nested define }
+  where
+    by : options.define_components ≡ true → (q : Resolves) → resolved d ps ≡ q → IsGraphOf q g → IsAscribed q e.bytes.items
+    by define (Ok s) is h = said define d ps s is h
+    by define (Err c) is h = absurd h
+meant d ps g (Err f) options holds nested said = tt
 
 -- likewise with names tested, and under a name
 pub meant_named : (a b : EncodeOptions) (q : Resolves) (xs ys : List ℕ) → a.define_components ≡ b.define_components → ys ≡ xs → MeansSaid a q xs → MeansSaid b q ys

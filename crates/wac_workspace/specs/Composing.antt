@@ -14,6 +14,7 @@ use Rattle.wac_parser_grammar.specs.Reads.{read_source}
 use Rattle.wac_parser_grammar.specs.Faults.{fault_of}
 use Rattle.wac_parser_resolve.specs.InDocuments.{IsErrorOf}
 use Rattle.wac_parser_resolve.specs.Meeting.{resolved}
+use Rattle.wac_parser_encode.specs.Meaning.{MeansAscribed}
 use Rattle.wac_workspace.specs.declared.output.Output.{Output}
 use Rattle.wac_workspace.specs.declared.errors.ComposeError.{ComposeError}
 use Rattle.wac_workspace.specs.declared.errors.ComposeError.TheVariants as error
@@ -62,9 +63,15 @@ pub record IsOutput (next : ℕ) (ps : Handed) (source : List ℕ) (o : Output) 
   pub number : o.types.number ≡ next + 2
   pub stands : Stands o.types (ItemKind.Component o.world)
 
--- The bytes are a component of a graph that holds what is resolved: its packages are nested, each once and unchanged, and the bytes
--- mean its wiring.
+-- the bytes mean the wiring that is ascribed over the packages handed in
+unfoldable pub IsAscribed : Resolves → List ℕ → Type 0
+IsAscribed (Ok s) bytes = MeansAscribed s.0 bytes
+IsAscribed (Err c) bytes = ⊥
+
+-- The bytes mean what is ascribed, and are a component of a graph that holds it: its packages are nested, each once and unchanged,
+-- and nothing else is.
 pub record IsMeant (q : Resolves) (bytes : List ℕ) : Type 0 where
+  pub ascribed : IsAscribed q bytes
   pub graph : Graph
   pub holds : IsGraphOf q graph
   pub component : IsComponentOf graph bytes
@@ -82,7 +89,7 @@ pub record IsMeantBy (ps : Handed) (source : List ℕ) (bytes : List ℕ) : Type
   pub read : IsDocument source tree
   pub meant : IsMeant (resolved tree ps) bytes
 
-abbrev pub MeansSource : EncodeOptions → Handed → List ℕ → List ℕ → Type 0
+unfoldable pub MeansSource : EncodeOptions → Handed → List ℕ → List ℕ → Type 0
 MeansSource options ps source bytes = options.define_components ≡ true → IsMeantBy ps source bytes
 
 -- The source is composed: three numbers are taken, and the output is kept.

@@ -12,6 +12,7 @@ ghost use Rattle.wac_parser_resolve.specs.Meeting.{resolved};
 ghost use Rattle.wac_parser_resolve.specs.Resolved.{graph_of, target_of};
 ghost use Rattle.wac_parser_resolve.specs.Targeting.{IsTarget};
 ghost use Rattle.wac_graph_encode.specs.Finished.{MeansNested};
+ghost use Rattle.wac_parser_encode.specs.Meaning.{MeansResolved};
 ghost use Rattle.wac_workspace.specs.Composing.{greatest, IsUnmade, IsOutput, IsGraphed, IsUnresolved, MeansDocument, MeansSource};
 ghost use Rattle.wac_workspace.specs.Packages.{AreApart};
 ghost use Rattle.wac_workspace.specs.View.{HasWorld};
@@ -145,6 +146,7 @@ fn encode_resolved<'d, D: Drop>(
     requires { IsTarget (graph_of resolution) (target_of resolution) }
     ensures encoded { IfOk result (IsEncoded numbers.output) }
     ensures means { IfOk result (λ e. MeansNested (graph_of resolution.entry) options e.bytes.items) }
+    ensures ascribed { IfOk result (λ e. MeansResolved (graph_of resolution.entry) options e.bytes.items) }
     ensures late { IfErr result IsAfterwards }
 {
     let encoded = resolution.encode_world(options, (numbers.merging, numbers.output))?;
@@ -327,6 +329,7 @@ fn graph_of_whole<D: ComposeDocument>(
 }
 
 /// What a source is composed to, by the next three numbers, over these packages, and the number behind.
+#[tactic(auto, unfolding(crate::specs::Composing::MeansSource))]
 fn compose_source(
     source: &str,
     alloc: Global,

@@ -23,7 +23,8 @@ use Rattle.wac_writable.specs.Tests.{used_of}
 use Rattle.wac_writable.specs.Uses.{TypesFail, AddedFails, UseFails}
 use Rattle.wac_writable.specs.Givers.{instance_of, imports_by, NeedsFailing, AllFine, KnowsBelow, Goes, TellsBeside}
 use Rattle.wac_writable.proofs.UnnamedLaws.{same_id}
-use Rattle.wac_writable.proofs.UseLaws.{tells_yes, tells_no}
+use Rattle.wac_writable.proofs.UseLaws.{tells_no}
+use Rattle.wac_types_base.proofs.Lists.{always}
 
 -- ---- sets of interfaces
 
@@ -84,7 +85,7 @@ module _ (t : Test) where
       (subst (λ w. Decides r (P (beside w))) g.world x.0, λ e. goes_then a b d g (x.1 e))
 
   pub beside_yes : (a d : Giver) (n : ℕ) (P : List (Name × Stated) → Type 0) → (KnowsAll t.types.now t.unnamed.now → KnowsBelow t n a → P (beside a.world)) → TellsBeside t a d n P true
-  beside_yes a d n P f ka k = (tells_yes (f ka k), λ e. absurd (true≢false e))
+  beside_yes a d n P f ka k = (always (f ka k), λ e. absurd (true≢false e))
 
   pub beside_no : (a d : Giver) (n : ℕ) (P : List (Name × Stated) → Type 0) → (KnowsAll t.types.now t.unnamed.now → KnowsBelow t n a → Goes t a d × (P (beside a.world) → ⊥)) → TellsBeside t a d n P false
   beside_no a d n P f ka k = let x = f ka k in (tells_no x.1, λ e. x.0)

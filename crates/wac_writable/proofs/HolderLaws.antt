@@ -260,8 +260,8 @@ module _ (c : Collection) where
     knows = untested_knows t.tested.entries (holder us es) (ap (λ m. m.entries) g.tested ∙ f.untested);
   }
 
-  pub holds_world : (us : List Used) (is es : List (Name × Stated)) (s t u : Holder) → IsFilled c s (holder us []) → AddsRoots c s is t → AddsRoots c t es u → Holds c u (with_roots (holder us is) (fresh_roots es))
-  holds_world us is es s t u f g h =
+  pub filled_world : (us : List Used) (is es : List (Name × Stated)) (s t u : Holder) → IsFilled c s (holder us []) → AddsRoots c s is t → AddsRoots c t es u → IsFilled c u (with_roots (holder us is) (fresh_roots es))
+  filled_world us is es s t u f g h =
       let i = holds_interface us is s t f g in
       record {
         shows = record {
@@ -269,8 +269,11 @@ module _ (c : Collection) where
           stand = λ n k m. i.shows.stand n k (subst (Among (n, k)) h.used m);
           roots = λ n. h.roots n ∙ ap (λ b. b || has_name (fresh_roots es) n) (i.shows.roots n) ∙ sym (has_append (holder us is).roots (fresh_roots es) n);
         };
-        knows = untested_knows u.tested.entries (with_roots (holder us is) (fresh_roots es)) (ap (λ m. m.entries) (h.tested ∙ g.tested) ∙ f.untested);
+        untested = ap (λ m. m.entries) (h.tested ∙ g.tested) ∙ f.untested;
       }
+
+  pub filled_holds : (s : Holder) (h : Held) → IsFilled c s h → Holds c s h
+  filled_holds s h f = record { shows = f.shows; knows = untested_knows s.tested.entries h f.untested }
 
   pub starts_empty : (s : Holder) → s.used ≡ [] → s.roots ≡ [] → s.tested.entries ≡ [] → IsFilled c s (holder [] [])
   starts_empty s a b d = record { shows = record { used = ap (with_values (stated_of c)) a; stand = λ n k m. absurd (subst (Among (n, k)) a m); roots = λ n. ap (λ l. has_name l n) b }; untested = d }

@@ -15,9 +15,9 @@ use Rattle.wac_graph_scopes.specs.Parts.{interface_in, identifier_in}
 use Rattle.wac_graph_scopes.specs.Parts.{exports_of as exports_in, uses_of as uses_in, world_uses_of as world_uses_in, imports_of as imports_in, world_exports_of as world_exports_in}
 use Rattle.wac_graph_scopes.proofs.PartLaws.{uses_there, uses_missing, exports_there, exports_missing, identifier_there, identifier_missing, world_uses_there, world_uses_missing, imports_there, imports_missing, world_exports_there, world_exports_missing}
 
--- ---- what does not stand states not_some
+-- ---- what does not stand states nothing
 
-no_unfolding : (c : Collection) (k : ItemKind) → (Stands c k → ⊥) → unfolding_of c k ≡ None
+pub no_unfolding : (c : Collection) (k : ItemKind) → (Stands c k → ⊥) → unfolding_of c k ≡ None
 unfolding unfolding_of whole
 no_unfolding c k h =
     let g = item_node c in

@@ -13,7 +13,7 @@ use Rattle.wac_types_base.specs.Graph.{Among}
 use Rattle.wac_types_base.specs.Stated.{Stated, Used, kind_of, stated_of, uses_of, exports_of, identifier_of, IsResource}
 use Rattle.wac_types_base.specs.Tree.{tree}
 use Rattle.wac_types_base.proofs.Adding.{Among-left, Among-right}
-use Rattle.wac_types_base.proofs.Lists.{among_last, among_mapped, among_split}
+use Rattle.wac_types_base.proofs.Lists.{among_last, among_mapped, among_split, always}
 use Rattle.wac_types_base.proofs.Looked.{among-get, take-one_more}
 use Rattle.wac_types_base.proofs.Loops.{take-all}
 use Rattle.wac_types_base.proofs.Stating.{used_of as used_at, stated_uses}
@@ -30,9 +30,6 @@ use Rattle.wac_writable.specs.Uses.{AddedFails, UseFails, SomeNeeded, NeededBy, 
 use Rattle.wac_writable.proofs.InterfaceLaws.{HasParts}
 
 -- ---- tests
-
-pub tells_yes : {P : Type 0} → P → Decides true P
-tells_yes p = (λ e. p, λ q. refl)
 
 pub tells_no : {P : Type 0} → (P → ⊥) → Decides false P
 tells_no n = (λ e. absurd (true≢false (sym e)), λ p. absurd (n p))

@@ -287,9 +287,9 @@ impl Holder {
         Ok(holder)
     }
 
-    /// What stands in a component type.
+    /// What stands in a component type, where no value type is tested yet.
     pub fn of_world(alloc: Global, types: &Types, id: WorldId) -> Result<Self, AllocError>
-        ensures { IfOk result (λ s. Holds types.now s (component_holder (stated_of types.now (ItemKind.Component id)))) }
+        ensures { IfOk result (λ s. IsFilled types.now s (component_holder (stated_of types.now (ItemKind.Component id)))) }
     {
         let mut holder = Holder::new(alloc);
         holder.add_world_uses(types, id)?;

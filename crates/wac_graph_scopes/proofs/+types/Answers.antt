@@ -13,7 +13,8 @@ use Rattle.wac_graph_scopes.specs.Items.{Describes, ItemsWritten, StatesInstance
 use Rattle.wac_graph_scopes.proofs.HandleLaws.{if_ok_map}
 use Rattle.wac_graph_scopes.proofs.PartLaws.{exports_there, name_at}
 use Rattle.wac_graph_scopes.proofs.ItemLaws.{used_deeper, export_follows}
-use Rattle.wac_graph_scopes.proofs.WritingLaws.{writes_none, writes_more, states_instance, instance_described, interface_stands, instance_reads, component_reads, type_given, instance_declared, component_declared, described_entry, no_entry, take_or, all_taken, put_there, put_keeps, not_among, among_has, value_here}
+use Rattle.wac_graph_scopes.proofs.WritingLaws.{writes_none, writes_more, states_instance, instance_described, interface_stands, instance_reads, component_reads, type_given, instance_declared, component_declared, described_entry, no_entry, take_or, all_taken, put_there, put_keeps, among_has, value_here}
+use Rattle.wac_types_base.proofs.Lists.{not_among}
 use Rattle.std.proofs.Common.{get_or}
 use Rattle.std.proofs.lemmas.List.{take_all}
 use Rattle.std.proofs.lemmas.Option.{slice_get-get_or}

@@ -1,6 +1,7 @@
-use Rattle.std.proofs.Common.{List, OnOk, subst}
+use Rattle.std.proofs.Common.{List, OnOk, sym, subst}
+use Rattle.std.proofs.lemmas.Result.{IfOk-weaker}
 use Rattle.wac_graph_asks.specs.declared.asks.Ask.{Ask}
-use Rattle.wac_graph_asks.specs.Imported.{AddsImports}
+use Rattle.wac_graph_asks.specs.Imported.{AddsImports, ImportsAlone}
 use Rattle.wac_graph_asks.proofs.Answering.{filled_so}
 use Rattle.wac_graph_asks.proofs.outers.world_kept.Goals as goal
 
@@ -8,3 +9,8 @@ pub returns-clause-imports : goal.returns-clause-imports
 returns-clause-imports c =
     filled_so c.filled.result _ c.add_imports-added.result (λ w. AddsImports c.args.asked.now.types c.args.asked.now.asks.items c.args.classes.now c.args.taken.now.entries c.add_imports-added.new.types w.imports) c.filled.ensures.value c.filled.ensures.added
     (subst (λ (xs : List Ask). OnOk c.add_imports-added.result (AddsImports c.args.asked.now.types xs c.args.classes.now c.args.taken.now.entries c.add_imports-added.new.types c.add_imports-added.new.imports)) c.deref.ensures.value c.add_imports-added.ensures.adds)
+
+pub returns-clause-alone : goal.returns-clause-alone
+returns-clause-alone c =
+    IfOk-weaker c.filled.result _ _
+    (λ w is. subst ImportsAlone (sym is) (record { uses = c.bare_world-world.ensures.alone.uses; exports = c.bare_world-world.ensures.alone.exports })) c.filled.ensures.value

@@ -5,11 +5,11 @@ use Rattle.wac_types_base.specs.Collection.{IsAcyclic}
 use Rattle.wac_graph_asks.specs.declared.asks.Definition.{Definition}
 use Rattle.wac_graph_asks.proofs.TakingMore.{again_err}
 use Rattle.wac_graph_causes.specs.declared.errors.Unwritten.{Unwritten}
-use Rattle.wac_graph_encode.specs.Finished.{IsPrepared, MeansAsked}
+use Rattle.wac_graph_causes.specs.Refusals.{unwritten_refusal}
+use Rattle.wac_graph_encode.specs.Finished.{MeansAsked, RefusesPrepared}
 use Rattle.wac_graph_encode.specs.Formed.{AreCopied, AreFormed}
-use Rattle.wac_graph_encode.specs.Refused.{IsRefusedFor}
 use Rattle.wac_graph_encode.proofs.Preparing.{held_prepared, means_nested}
-use Rattle.wac_graph_encode.proofs.Refusing.{alike_refused}
+use Rattle.wac_graph_encode.proofs.Refusing.{alike_refused, unwritten_refused}
 use Rattle.wac_graph_encode.proofs.encode.bytes_asked.Goals as goal
 
 pub returns-clause-means : goal.returns-clause-means
@@ -27,8 +27,13 @@ returns-clause-means c = λ prepared.
 pub returns-clause-apart : goal.returns-clause-apart
 returns-clause-apart c = λ prepared. c.in_ok-check_names.ensures.none (held_prepared c.args.graph.now c.args.asked.now c.args.outers.now prepared (record c.args.asked.now { types = c.written_definitions.new.types }) c.in_ok-definitions.ensures.grows refl)
 
+pub returns-in_err-bytes-clause-refused : goal.returns-in_err-bytes-clause-refused
+returns-in_err-bytes-clause-refused c =
+    again_err c.from_residual-in_err-bytes.result (RefusesPrepared c.args.graph.now c.args.asked.now c.args.outers.now c.args.options.now) (unwritten_refusal c.in_err-bytes.field-0.0) c.from_residual-in_err-bytes.ensures.1
+    (λ prepared none. unwritten_refused c.args.options.now c.args.graph.now c.in_err-bytes.field-0.0 none)
+
 pub returns-in_err-check_names-clause-refused : goal.returns-in_err-check_names-clause-refused
 returns-in_err-check_names-clause-refused c =
-    again_err c.from_residual-in_err-check_names.result (λ e. IsPrepared c.args.graph.now c.args.asked.now c.args.outers.now → IsRefusedFor c.args.options.now c.args.graph.now e) c.in_err-check_names.field-0.0 c.from_residual-in_err-check_names.ensures.1
-    (λ prepared. alike_refused c.args.options.now c.args.graph.now c.in_err-check_names.field-0.0 (c.in_err-check_names.ensures.cause
+    again_err c.from_residual-in_err-check_names.result (RefusesPrepared c.args.graph.now c.args.asked.now c.args.outers.now c.args.options.now) c.in_err-check_names.field-0.0 c.from_residual-in_err-check_names.ensures.1
+    (λ prepared none. alike_refused c.args.options.now c.args.graph.now c.in_err-check_names.field-0.0 (c.in_err-check_names.ensures.cause
     (held_prepared c.args.graph.now c.args.asked.now c.args.outers.now prepared (record c.args.asked.now { types = c.written_definitions.new.types }) c.in_ok-definitions.ensures.grows refl)))

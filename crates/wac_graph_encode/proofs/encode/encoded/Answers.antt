@@ -20,7 +20,7 @@ returns-clause-means c =
     (λ e h. h (ready c)) c.encoded_asked.ensures.means
 
 pub returns-clause-free : goal.returns-clause-free
-returns-clause-free c = on_ok_weaker c.encoded_asked.result (λ apart. record { clashing = c.in_ok-outers.ensures.free c.in_ok-asked.ensures; alike = apart (ready c) }) c.encoded_asked.ensures.apart
+returns-clause-free c = on_ok_weaker c.encoded_asked.result (λ apart. record { clashing = c.in_ok-outers.ensures.free c.in_ok-asked.ensures; written = c.in_ok-outers.ensures.written c.in_ok-asked.ensures; alike = apart (ready c) }) c.encoded_asked.ensures.apart
 
 pub returns-clause-refused : goal.returns-clause-refused
-returns-clause-refused c = if_err_map c.encoded_asked.result (λ e h. h (ready c)) c.encoded_asked.ensures.refused
+returns-clause-refused c = if_err_map c.encoded_asked.result (λ e h. h (ready c) (c.in_ok-outers.ensures.written c.in_ok-asked.ensures)) c.encoded_asked.ensures.refused

@@ -4,14 +4,14 @@ use Rattle.wac_graph_core.specs.Steps.{Aliases}
 use Rattle.wac_graph_core.specs.Exporting.{ExportRefused}
 use Rattle.wac_graph_plug.specs.Steps.{Grown, ExportsOne}
 use Rattle.wac_graph_plug.proofs.Growing.{Grown-same, Grown-trans, Grown-alias, Grown-export}
-use Rattle.wac_graph_plug.proofs.Exporting.{alias_stands}
+use Rattle.wac_graph_core.proofs.Made.{alias_there}
 use Rattle.wac_graph_plug.proofs.plugging.export_one.Goals as goal
 
 pub returns-in_err-node-clause-grown : goal.returns-in_err-node-clause-grown
 returns-in_err-node-clause-grown c = Grown-same c.args.graph.now c.alias.new.graph c.in_err-node.ensures.kept
 
 pub export-requires : goal.export-requires
-export-requires c = alias_stands c.args.graph.now c.alias.new.graph c.args.socket c.args.name.now c.in_ok-node.node c.see_sound.ensures c.in_ok-node.ensures.aliased
+export-requires c = alias_there c.args.graph.now c.alias.new.graph c.args.socket c.args.name.now c.in_ok-node.node c.see_sound.ensures c.in_ok-node.ensures.aliased
 
 pub returns-in-Ok-clause-exported : goal.returns-in-Ok-clause-exported
 returns-in-Ok-clause-exported c = record { alias = c.in_ok-node.node; middle = c.alias.new.graph; aliased = c.in_ok-node.ensures.aliased; exported = c.in-Ok.ensures.exported }

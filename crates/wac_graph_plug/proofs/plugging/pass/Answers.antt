@@ -6,7 +6,7 @@ use Rattle.wac_graph_core.specs.Refusals.{ArgumentRefused}
 use Rattle.wac_graph_plug.specs.declared.matching.Match.{Match}
 use Rattle.wac_graph_plug.specs.Steps.{Grown, Passes}
 use Rattle.wac_graph_plug.proofs.Growing.{Grown-same, Grown-trans, Grown-alias, Grown-set, Grown-passes, ContainsNode-grown}
-use Rattle.wac_graph_plug.proofs.Exporting.{alias_stands}
+use Rattle.wac_graph_core.proofs.Made.{alias_there}
 use Rattle.wac_graph_plug.proofs.plugging.pass.Goals as goal
 
 pub returns-in_err-argument-clause-grown : goal.returns-in_err-argument-clause-grown
@@ -18,7 +18,7 @@ set_instantiation_argument-requires-clause-instantiation c =
 
 pub set_instantiation_argument-requires-clause-argument : goal.set_instantiation_argument-requires-clause-argument
 set_instantiation_argument-requires-clause-argument c =
-    alias_stands c.args.graph.now c.alias.new.graph c.args.plug c.as_str.result.now c.in_ok-argument.argument c.see_sound.ensures c.in_ok-argument.ensures.aliased
+    alias_there c.args.graph.now c.alias.new.graph c.args.plug c.as_str.result.now c.in_ok-argument.argument c.see_sound.ensures c.in_ok-argument.ensures.aliased
 
 pub returns-in-Ok-clause-passed : goal.returns-in-Ok-clause-passed
 returns-in-Ok-clause-passed c =

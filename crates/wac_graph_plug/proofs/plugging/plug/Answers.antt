@@ -9,7 +9,8 @@ use Rattle.wac_graph_plug.specs.declared.errors.PlugError.{PlugError}
 use Rattle.wac_graph_plug.specs.Steps.{ExportsAll}
 use Rattle.wac_graph_plug.specs.Stops.{PlugsAll, StopsAll, StopsExporting, socket_exports}
 use Rattle.wac_graph_plug.proofs.Growing.{Grown-trans, Grown-instance, ContainsPackage-grown, HasExport-grown}
-use Rattle.wac_graph_plug.proofs.Calls.{world_is, name_has, made_stands}
+use Rattle.wac_graph_core.proofs.Made.{instance_there}
+use Rattle.wac_graph_plug.proofs.Calls.{world_is, name_has}
 use Rattle.wac_graph_plug.proofs.Final.{is_plugged}
 use Rattle.wac_graph_plug.proofs.Whole.{refused_stop, cause_stop, refused_none, refused_export, cause_export, plugs_whole}
 use Rattle.wac_graph_plug.proofs.plugging.plug.Goals as goal
@@ -26,7 +27,7 @@ plug_each-requires-clause-plugs c =
 
 pub plug_each-requires-clause-instance : goal.plug_each-requires-clause-instance
 plug_each-requires-clause-instance c =
-    made_stands c.args.graph.now c.instantiate.new.self c.args.socket c.in_ok-instance.instance c.in_ok-instance.ensures.instantiated
+    instance_there c.args.graph.now c.instantiate.new.self c.args.socket c.in_ok-instance.instance c.in_ok-instance.ensures.instantiated
 
 pub returns-in-Err-clause-refused : goal.returns-in-Err-clause-refused
 returns-in-Err-clause-refused c =

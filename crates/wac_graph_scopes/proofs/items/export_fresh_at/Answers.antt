@@ -1,7 +1,8 @@
 use Rattle.std.proofs.Common.{[], refl}
 use Rattle.wac_types_fit.specs.Trees.{tree_in}
 use Rattle.wac_graph_scopes.specs.Parts.{exports_of}
-use Rattle.wac_graph_scopes.proofs.WritingLaws.{writes_more, not_among, value_here}
+use Rattle.wac_graph_scopes.proofs.WritingLaws.{writes_more, value_here}
+use Rattle.wac_types_base.proofs.Lists.{not_among}
 use Rattle.wac_graph_scopes.proofs.items.export_fresh_at.Goals as goal
 
 pub returns-in_ok-add_name-in-Some : goal.returns-in_ok-add_name-in-Some

@@ -1,7 +1,8 @@
 use Rattle.std.proofs.Common.{refl}
 use Rattle.wac_types_fit.specs.Trees.{tree_in}
 use Rattle.wac_graph_scopes.specs.Parts.{world_exports_of}
-use Rattle.wac_graph_scopes.proofs.WritingLaws.{not_among, value_here}
+use Rattle.wac_graph_scopes.proofs.WritingLaws.{value_here}
+use Rattle.wac_types_base.proofs.Lists.{not_among}
 use Rattle.wac_graph_scopes.proofs.ImportLaws.{world_exports}
 use Rattle.wac_graph_scopes.proofs.worlds.export_fresh_at.Goals as goal
 

@@ -5,7 +5,8 @@ use Rattle.wac_graph_core.specs.Graph.{Graph}
 use Rattle.wac_graph_core.specs.Refusals.{AliasRefused}
 use Rattle.wac_parser_resolve.specs.Denoting.{export_named, needs_instance}
 use Rattle.wac_parser_resolve.specs.Holding.{HasItem}
-use Rattle.wac_parser_resolve.proofs.Growing.{Inner-alias, alias_there, within_alias}
+use Rattle.wac_graph_core.proofs.Made.{alias_there}
+use Rattle.wac_parser_resolve.proofs.Growing.{Inner-alias, within_alias}
 use Rattle.wac_parser_resolve.proofs.Rooted.{unspoken_refused}
 use Rattle.wac_parser_resolve.proofs.Speaking.{alias_held}
 use Rattle.wac_parser_resolve.proofs.calls.alias.Goals as goal

@@ -1,4 +1,5 @@
-use Rattle.wac_parser_resolve.proofs.Growing.{Inner-instance, instance_there}
+use Rattle.wac_graph_core.proofs.Made.{instance_there}
+use Rattle.wac_parser_resolve.proofs.Growing.{Inner-instance}
 use Rattle.wac_parser_resolve.proofs.Fresh.{fresh_instance}
 use Rattle.wac_parser_resolve.proofs.Instances.{instance_item, instance_says}
 use Rattle.wac_parser_resolve.proofs.calls.instantiate.Goals as goal

@@ -4,7 +4,8 @@ use Rattle.wac_types_base.specs.Stated.{IsFunction, IsInstance, IsComponent, IsM
 use Rattle.wac_types_base.proofs.Telling.{item_kind}
 use Rattle.wac_types_fit.proofs.ItemKinds.{is_type, types_are_types, not_instance, not_type, not_component}
 use Rattle.wac_types_same.specs.Same.{label_of}
-use Rattle.wac_types_same.proofs.EqualLabels.{through_same, func_label, instance_label, component_label, module_label, item_other, type_other, item_not_func, item_not_module, item_not_value}
+use Rattle.wac_types_same.proofs.EqualLabels.{through_same, func_label, instance_label, component_label, module_label, item_other, type_other, item_not_func, item_not_module}
+use Rattle.wac_types_fit.proofs.ItemKinds.{not_value}
 use Rattle.wac_types_same.proofs.same.same_labels.Goals as goal
 
 pub returns-in-Func-b : goal.returns-in-Func-b
@@ -51,4 +52,4 @@ pub returns-in_default-b-4 : goal.returns-in_default-b-4
 returns-in_default-b-4 c = item_other c.args.types.now c.args.a c.args.b c.requires.first c.requires.second IsModule (ap item_kind c.in-Module.is) (item_not_module c.args.b c.in_default-b-4.not-Module)
 
 pub returns-in_default-b-5 : goal.returns-in_default-b-5
-returns-in_default-b-5 c = item_other c.args.types.now c.args.a c.args.b c.requires.first c.requires.second IsValue (ap item_kind c.in-Value.is) (item_not_value c.args.b c.in_default-b-5.not-Value)
+returns-in_default-b-5 c = item_other c.args.types.now c.args.a c.args.b c.requires.first c.requires.second IsValue (ap item_kind c.in-Value.is) (not_value c.args.b c.in_default-b-5.not-Value)

@@ -24,7 +24,9 @@ returns-in_err-resolution-clause-late c =
 pub returns-clause-means : goal.returns-clause-means
 returns-clause-means c =
     let ps = handed_list c.args.«packages».now in
-    let q = resolved (view_document c.args.document.now) ps in
+    let d = view_document c.args.document.now in
+    let q = resolved d ps in
     let r = c.in_ok-resolution.resolution in
     let built = subst (λ (d : Document). IsHeld (λ (s : State × Option Stated) b. IsBuilt (graph_of b) s.0 × HoldsTarget (graph_of b).types s.1 (target_of b)) (resolved (view_document d) ps) r) c.new.ensures c.in_ok-resolution.ensures.outcome in
-    meant q (graph_of r) c.encode_resolved.result c.args.options (graph_held graph_of target_of q r (graph_of r) refl built) c.encode_resolved.ensures.means
+    meant d ps (graph_of r) c.encode_resolved.result c.args.options (graph_held graph_of target_of q r (graph_of r) refl built) c.encode_resolved.ensures.means
+    c.encode_resolved.ensures.ascribed

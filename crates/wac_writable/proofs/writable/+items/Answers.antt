@@ -14,11 +14,13 @@ use Rattle.wac_writable.specs.Uses.{AddedFails, NeededBy, FailsAt, SomeUse, Some
 use Rattle.wac_writable.specs.Givers.{instance_of, component_of, imports_by, NeedsFailing, WorldNeeds}
 use Rattle.wac_writable.proofs.PartsStated.{uses_are, exports_are, identifier_is, world_uses_are, imports_are, world_exports_are}
 use Rattle.wac_writable.proofs.UnnamedLaws.{no_gap}
+use Rattle.wac_writable.proofs.HolderLaws.{filled_holds}
 use Rattle.wac_writable.proofs.ItemLaws.{if_ok_all}
 use Rattle.wac_writable.proofs.ValueLaws.{keeps_on}
 use Rattle.wac_writable.proofs.InterfaceLaws.{item_settles, item_leaves, interface_item, has_parts, has_none}
 use Rattle.wac_writable.proofs.TypesLaws.{types_decide}
-use Rattle.wac_writable.proofs.UseLaws.{tells_yes, tells_no, none_first, ItemNeeds, needed_decides, items_passed, use_needed, item_needed, item_left, world_needed, use_of_parts, item_of_parts, none_of_parts}
+use Rattle.wac_writable.proofs.UseLaws.{tells_no, none_first, ItemNeeds, needed_decides, items_passed, use_needed, item_needed, item_left, world_needed, use_of_parts, item_of_parts, none_of_parts}
+use Rattle.wac_types_base.proofs.Lists.{always}
 use Rattle.wac_writable.proofs.GiverLaws.{was_there, goes_nowhere, knows_after, tells_after, beside_yes, beside_no, found_fine, types_added, goes_fine, unnamed_passes, imported_passes, by_types, seen_before, knows_new, goes_new, goes_seen, knows_none}
 use Rattle.wac_writable.proofs.WalkLaws.{UsesPassed, ItemsPassed, uses_start, use_fails_here, use_passes_here, uses_end, items_start, item_fails_here, item_passes_here, items_end}
 use Rattle.wac_writable.proofs.WorldLaws.{needed_fails, items_left, world_items_decide, world_item}
@@ -412,15 +414,15 @@ all_items_fail-returns t c =
     ∙ sym (ap (λ b. b || some_unwritable C c.args.test.is_outer h (world_exports_in C c.args.id)) (sym (c.in_ok-imports_fail.ensures.fails ka h w) ∙ c.if-branch.false))) c.world_exports_fail.ensures
 
 pub items_of_world_fail-returns : goal.items_of_world_fail-returns
-items_of_world_fail-returns t c = if_ok_map c.all_items_fail.result (λ b f ka. f ka (component_holder (component_of c.args.test.types.now c.args.id)) c.in_ok-holder.ensures) c.all_items_fail.ensures
+items_of_world_fail-returns t c = if_ok_map c.all_items_fail.result (λ b f ka. f ka (component_holder (component_of c.args.test.types.now c.args.id)) (filled_holds c.args.test.types.now c.in_ok-holder.holder _ c.in_ok-holder.ensures)) c.all_items_fail.ensures
 
 -- ---- a world
 
 pub world_fails-returns-then-is_found_of_world : goal.world_fails-returns-then-is_found_of_world
-world_fails-returns-then-is_found_of_world t c ka = tells_yes (unnamed_use (sym (c.is_found_of_world.ensures ka) ∙ c.if-is_found_of_world.true))
+world_fails-returns-then-is_found_of_world t c ka = always (unnamed_use (sym (c.is_found_of_world.ensures ka) ∙ c.if-is_found_of_world.true))
 
 pub world_fails-returns-then-branch : goal.world_fails-returns-then-branch
-world_fails-returns-then-branch t c ka = tells_yes (needed_fails c.args.test.is_outer (component_of c.args.test.types.now c.args.id) ((c.in_ok-uses_of_world_fail.ensures ka).0 c.if-branch.true))
+world_fails-returns-then-branch t c ka = always (needed_fails c.args.test.is_outer (component_of c.args.test.types.now c.args.id) ((c.in_ok-uses_of_world_fail.ensures ka).0 c.if-branch.true))
 
 pub world_fails-returns : goal.world_fails-returns
 world_fails-returns t c =

@@ -1,11 +1,11 @@
 use Rattle.std.proofs.lemmas.Bool.Decides.{not_from_Decides}
 use Rattle.wac_graph_scopes.proofs.HandleLaws.{if_ok_map}
-use Rattle.wac_writable.proofs.UseLaws.{tells_yes}
+use Rattle.wac_types_base.proofs.Lists.{always}
 use Rattle.wac_writable.proofs.WorldLaws.{wrapped_needs, wrapped_items}
 use Rattle.wac_writable.proofs.writable.wrapped_fails.Goals as goal
 
 pub returns-then-branch : goal.returns-then-branch
-returns-then-branch c ka s n = tells_yes (wrapped_needs c.args.test.types.now c.see_acyclic.ensures c.args.test.is_outer c.args.id n ((c.in_ok-wrapped_uses_fail.ensures ka).0 c.if-branch.true))
+returns-then-branch c ka s n = always (wrapped_needs c.args.test.types.now c.see_acyclic.ensures c.args.test.is_outer c.args.id n ((c.in_ok-wrapped_uses_fail.ensures ka).0 c.if-branch.true))
 
 pub returns : goal.returns
 returns c =

@@ -1,3 +1,0 @@
-mod names;
-mod sections;
-mod tables;

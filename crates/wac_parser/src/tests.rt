@@ -1,4 +1,0 @@
-mod parsers;
-mod printing;
-mod tokens;
-mod trees;

@@ -1,0 +1,5 @@
+pub mod Places
+pub mod Origins
+pub mod Listing
+pub mod Tied
+pub mod Wired

@@ -1,0 +1,231 @@
+-- The wiring of a graph that holds what was said is the ascribed one.
+use Rattle.std.specs.Prelude.{slice_get, unwrap_or, option_map, is_some, map, cond, Ok}
+use Rattle.std.proofs.lemmas.Option.{same_Some, none-some}
+use Rattle.std.proofs.Common.{◌≡◌, ℕ, zero, suc, List, [], ◌∷◌, Bool, true, false, Option, Some, None, IsSome, refl, sym, ap, subst, ◌∙◌}
+use Rattle.wac_types_base.specs.declared.item.ItemKind.{ItemKind}
+use Rattle.wac_types_base.specs.Collection.{IsAcyclic}
+use Rattle.wac_types_base.specs.Entries.{Name, names_of, value_at}
+use Rattle.wac_types_base.specs.Graph.{Among}
+use Rattle.wac_types_base.specs.Stated.{Stated, imports_of, stated_of}
+use Rattle.wac_types_base.specs.Tree.{tree}
+use Rattle.wac_types_names.specs.Packaged.{Packaged}
+use Rattle.wac_types_names.specs.Keys.{Key, package_key}
+use Rattle.wac_types_fit.proofs.Items.{value_at-among}
+use Rattle.wac_graph_bytes.specs.Wirings.{Tag, OfBytes, Source, Absent, Outer, Inst, Definition, Instantiation, Wiring, Same, project, rename, renamed as moved}
+use Rattle.wac_graph_bytes.proofs.Replace.{replace-project}
+use Rattle.wac_graph_core.specs.Graph.{Graph, IsGraph, instantiated}
+use Rattle.wac_graph_core.specs.Walking.{first_argument}
+use Rattle.wac_composition.specs.Composition as c
+use Rattle.wac_composition.specs.Asks.{asks_of}
+use Rattle.wac_composition.specs.Classes.{spelling}
+use Rattle.wac_composition.specs.Conflicts.{first_cause, name_cause}
+use Rattle.wac_composition.specs.OuterImports.{outer_imports}
+use Rattle.wac_composition.specs.Renaming.{origin_renamed, cause_renamed, renamed, KeepsMeaning}
+use Rattle.wac_composition.specs.Alike.{MeansAlike}
+use Rattle.wac_composition.specs.Worlds.{composed_world, source_of}
+use Rattle.wac_composition.specs.Wired.{argument_source, export_source, instantiation, source_for}
+use Rattle.wac_composition.proofs.Alike.{means_alike}
+use Rattle.wac_composition.proofs.Renamed.{keeps_meaning}
+use Rattle.wac_graph_asks.specs.Graphs.{composition_of, origin_of, arguments_to}
+use Rattle.wac_graph_asks.specs.Wirings.{IsGraphWiring}
+use Rattle.wac_graph_asks.proofs.Origins.{argument_is, denoted, given_is, made_of, package_stands, value_mapped}
+use Rattle.wac_parser_tree.specs.Trees as t
+use Rattle.wac_parser_tree.specs.Trees.{Span}
+use Rattle.wac_parser_declare.specs.Packages.{Content}
+use Rattle.wac_parser_resolve.specs.Ascribed.{Asker, argument_in, composition, exported_in, made_in, numbered, origin_in}
+use Rattle.wac_parser_resolve.specs.Ascribing.{Bound, Denoted, Made, State}
+use Rattle.wac_parser_resolve.specs.Holding.{InTurn, IsMade}
+use Rattle.wac_parser_resolve.specs.InDocuments.{IsBuilt}
+use Rattle.wac_parser_resolve.specs.Meeting.{resolved, target}
+use Rattle.wac_parser_resolve.specs.Saying.{statements}
+use Rattle.wac_parser_resolve.proofs.Answers.{ok_is, ok_of}
+use Rattle.wac_parser_resolve.proofs.Ordered.{numbered_is, numbered_at}
+use Rattle.wac_parser_resolve.proofs.Rooted.{AreFound, both_found}
+use Rattle.wac_parser_resolve.proofs.Sound.{Sound, statements_sound}
+use Rattle.wac_parser_resolve.proofs.Turns.{slice_among}
+use Rattle.wac_parser_ascribed.specs.Tied.{place_of, bytes_of, handed_tag, ascribed_wiring, IsAscribed, Graphs_are_ascribed}
+use Rattle.wac_parser_ascribed.proofs.Origins.{has_states, node_of, origin_is}
+use Rattle.wac_parser_ascribed.proofs.Places.{at_place, place_is}
+use Rattle.wac_parser_ascribed.proofs.Tied.{ms, ms_apart, asker, number, alike, not_passed, passed_is}
+
+-- ---- lists
+
+turn_at : {A B : Type 0} (R : A → B → Type 0) (xs : List A) (ys : List B) (i : ℕ) (x : A) → InTurn R xs ys → slice_get xs i ≡ Some x → (y : B) × (slice_get ys i ≡ Some y) × R x y
+turn_at R [] ys i x t e = absurd (none-some _ e)
+turn_at R (z ∷ xs) [] i x t e = absurd t
+turn_at R (z ∷ xs) (y ∷ ys) zero x t e = (y, refl, subst (λ w. R w y) (same_Some _ _ e) t.0)
+turn_at R (z ∷ xs) (y ∷ ys) (suc i) x t e = turn_at R xs ys i x t.1 e
+
+turn_from : {A B : Type 0} (R : A → B → Type 0) (xs : List A) (ys : List B) (i : ℕ) (y : B) → InTurn R xs ys → slice_get ys i ≡ Some y → (x : A) × (slice_get xs i ≡ Some x) × R x y
+turn_from R xs [] i y t e = absurd (none-some _ e)
+turn_from R [] (z ∷ ys) i y t e = absurd t
+turn_from R (x ∷ xs) (z ∷ ys) zero y t e = (x, refl, subst (R x) (same_Some _ _ e) t.0)
+turn_from R (x ∷ xs) (z ∷ ys) (suc i) y t e = turn_from R xs ys i y t.1 e
+
+-- the numbers of what stands at a place
+name_at : {T : Type 0} (es : List (ℕ × T)) (i : ℕ) (e : ℕ × T) → slice_get es i ≡ Some e → slice_get (names_of es) i ≡ Some e.0
+name_at [] i e q = absurd (none-some _ q)
+name_at (x ∷ es) zero e q = ap (λ p. Some p.0) (same_Some _ _ q)
+name_at (x ∷ es) (suc i) e q = name_at es i e q
+
+named_at : {T : Type 0} (es : List (ℕ × T)) (i k : ℕ) → slice_get (names_of es) i ≡ Some k → (e : ℕ × T) × (slice_get es i ≡ Some e) × (e.0 ≡ k)
+named_at [] i k q = absurd (none-some _ q)
+named_at (x ∷ es) zero k q = (x, refl, same_Some _ _ q)
+named_at (x ∷ es) (suc i) k q = named_at es i k q
+
+exported_at : (xs : List (Name × Bound)) (n : Name) → value_at (map (λ (e : Name × c.Origin ℕ × Stated). (e.0, e.1)) (map exported_in xs)) n ≡ option_map (λ (b : Bound). origin_in b.denoted.origin) (value_at xs n)
+exported_at xs n = ap (λ l. value_at l n) (mapped xs) ∙ value_mapped (λ (b : Bound). origin_in b.denoted.origin) xs n
+  where
+    mapped : (xs : List (Name × Bound)) → map (λ (e : Name × c.Origin ℕ × Stated). (e.0, e.1)) (map exported_in xs) ≡ map {B = Name × c.Origin ℕ} (λ (x : Name × Bound). (x.0, origin_in x.1.denoted.origin)) xs
+    mapped [] = refl
+    mapped (x ∷ xs) = ap (λ l. (x.0, origin_in x.1.denoted.origin) ∷ l) (mapped xs)
+
+module _ (g : Graph) (sound : IsGraph g) (acyclic : IsAcyclic g.types) (s : State) (b : IsBuilt g s) (ps : List (Key × Content)) (said : Sound ps s) where
+  abbrev who : ℕ → Asker
+  who = asker g sound acyclic s b ps said
+
+  abbrev nodes : List ℕ
+  nodes = ms g sound acyclic s b ps said
+
+  abbrev node : ℕ → ℕ
+  node = node_of g sound acyclic nodes
+
+  abbrev keeps : KeepsMeaning who (place_of nodes) (composition_of g)
+  keeps = keeps_meaning who (place_of nodes) (composition_of g)
+
+  tied : MeansAlike (renamed who (place_of nodes) (composition_of g)) (composition s)
+  tied = means_alike (renamed who (place_of nodes) (composition_of g)) (composition s) (alike g sound acyclic s b ps said)
+
+  outers : outer_imports (asks_of (composition s)) ≡ outer_imports (asks_of (composition_of g))
+  outers = ap outer_imports (sym tied.asks) ∙ keeps.outers
+
+  spelled : (n : Name) → spelling (asks_of (composition s)) n ≡ spelling (asks_of (composition_of g)) n
+  spelled n = ap (λ l. spelling l n) (sym tied.asks) ∙ keeps.spelled n
+
+  -- ---- sources
+
+  source_moved : (o : c.Origin ℕ) → source_of (asks_of (composition_of g)) (origin_renamed node o) ≡ rename node (source_of (asks_of (composition s)) o)
+  source_moved (c.imported n) = ap Outer (sym (spelled n))
+  source_moved (c.instance k) = refl
+  source_moved (c.projected o n) =
+      ap (λ u. project u n) (source_moved o) ∙ sym (replace-project Outer (λ k. Inst (node k)) (source_of (asks_of (composition s)) o) n)
+  source_moved (c.defined x) = refl
+
+  module _ (W : Wiring ℕ) (is : IsGraphWiring g W) where
+    -- ---- what an instance is given
+
+    given_at : (tag other : Key → Tag) (i k : ℕ) (m : Made) (e : ℕ × Span) → e.0 ≡ k → slice_get s.made i ≡ Some m → IsMade g nodes m e → (n : Name)
+        → source_for tag (composition_of g) (option_map (origin_of g) (first_argument g.edges k n)) n ≡ rename node (source_for other (composition s) (option_map (λ (d : Denoted). origin_in d.origin) (value_at m.arguments n)) n)
+    given_at tag other i k m e same here a n = by (value_at m.arguments n) refl
+      where
+        by : (o : Option Denoted) → value_at m.arguments n ≡ o
+            → source_for tag (composition_of g) (option_map (origin_of g) (first_argument g.edges k n)) n ≡ rename node (source_for other (composition s) (option_map (λ (d : Denoted). origin_in d.origin) o) n)
+        by None v =
+            ap (λ (o : Option ℕ). source_for tag (composition_of g) (option_map (origin_of g) o) n) (not_passed g sound acyclic s b ps said k m e same a n v)
+            ∙ ap Outer (sym (spelled n))
+        by (Some d) v =
+            let p = passed_is g sound acyclic s b ps said k m e same a n d v in
+            let states = has_states g s d.origin d.item p.0 ((said.made i m here).has n d v) p.2.item in
+            ap (λ (o : Option ℕ). source_for tag (composition_of g) (option_map (origin_of g) o) n) p.1
+            ∙ ap (source_of (asks_of (composition_of g))) (origin_is g sound acyclic nodes d.origin p.0 p.2.node states)
+            ∙ source_moved (origin_in d.origin)
+
+    -- the instance of a node, with the bytes that were handed in
+    abbrev IsInstanceOf : ℕ → ℕ → Made → Type 0
+    IsInstanceOf j k m = W.at k ≡ Some (moved node (instantiation (handed_tag s.packages) (composition s) (made_in j m)))
+
+    instance_of : (i j k : ℕ) (m : Made) (e : ℕ × Span) → e.0 ≡ k → slice_get s.made i ≡ Some m → IsMade g nodes m e → IsInstanceOf j k m
+    instance_of i j k m e same here a =
+        let made : instantiated g k ≡ Some a.of = subst (λ l. instantiated g l ≡ Some a.of) same a.is in
+        let x = is.instances k a.of made in
+        let id = package_stands g sound acyclic k a.of made in
+        let handed = b.packages id.0 a.of id.1 in
+        let tag : x.0.tag ≡ handed_tag s.packages m.key = x.2.tag ∙ sym (ap (λ o. OfBytes (bytes_of o)) handed) ∙ ap (handed_tag s.packages) a.key in
+        let args : (n : Name) → x.0.args n ≡ rename node (argument_source (handed_tag s.packages) (composition s) (made_in j m) n) = λ n.
+        given_is g sound acyclic k a.of x.0 made x.2 n
+        ∙ ap (λ (w : Stated). cond (is_some (value_at (imports_of w) n)) (source_for (λ key. OfBytes a.of.bytes) (composition_of g) (value_at (made_of g sound acyclic k a.of).arguments n) n) Absent) a.world.same
+        ∙ ap (λ (o : Option (c.Origin ℕ)). cond (is_some (value_at (imports_of m.world) n)) (source_for (λ key. OfBytes a.of.bytes) (composition_of g) o n) Absent) (argument_is g sound acyclic k n)
+        ∙ passed (is_some (value_at (imports_of m.world) n)) _ _ (given_at (λ key. OfBytes a.of.bytes) (handed_tag s.packages) i k m e same here a n)
+        ∙ ap (λ (o : Option (c.Origin ℕ)). rename node (cond (is_some (value_at (imports_of m.world) n)) (source_for (handed_tag s.packages) (composition s) o n) Absent)) (sym (value_mapped (λ (d : Denoted). origin_in d.origin) m.arguments n)) in
+        x.1 ∙ (λ l. Some (record { tag = tag l; args = λ n. args n l }))
+      where
+        passed : (t : Bool) (u v : Source ℕ) → u ≡ rename node v → cond t u Absent ≡ rename node (cond t v Absent)
+        passed true u v h = h
+        passed false u v h = refl
+
+    -- ---- the same
+
+    there : (i : ℕ) (x : Instantiation ℕ) → (ascribed_wiring s).at i ≡ Some x → (place_of nodes (node i) ≡ i) × (W.at (node i) ≡ Some (moved node x))
+    there i x q = by (slice_get (numbered zero s.made) i) refl q
+      where
+        by : (o : Option (c.Made Asker ℕ)) → slice_get (numbered zero s.made) i ≡ o → option_map (instantiation (handed_tag s.packages) (composition s)) o ≡ Some x → (place_of nodes (node i) ≡ i) × (W.at (node i) ≡ Some (moved node x))
+        by None r q = absurd (none-some _ q)
+        by (Some y) r q =
+            let m = numbered_is zero s.made i y r in
+            let e = turn_at (IsMade g nodes) s.made b.instances i m.made b.says.made m.there in
+            let at : slice_get nodes i ≡ Some e.0.0 = name_at b.instances i e.0 e.1 in
+            let number : node i ≡ e.0.0 = ap (λ (o : Option ℕ). unwrap_or o zero) at in
+            let here = instance_of i m.number e.0.0 m.made e.0 refl m.there e.2 in
+            let same : instantiation (handed_tag s.packages) (composition s) (made_in m.number m.made) ≡ x = ap (instantiation (handed_tag s.packages) (composition s)) (sym m.is) ∙ same_Some _ _ q in (
+              ap (place_of nodes) number ∙ place_is nodes i e.0.0 (ms_apart g sound acyclic s b ps said) at,
+              ap W.at number ∙ here ∙ ap (λ z. Some (moved node z)) same,
+            )
+
+    back : (j : ℕ) (y : Instantiation ℕ) → W.at j ≡ Some y → (x : Instantiation ℕ) × ((ascribed_wiring s).at (place_of nodes j) ≡ Some x) × (node (place_of nodes j) ≡ j)
+    back j y q = by (instantiated g j) refl
+      where
+        by : (o : Option Packaged) → instantiated g j ≡ o → (x : Instantiation ℕ) × ((ascribed_wiring s).at (place_of nodes j) ≡ Some x) × (node (place_of nodes j) ≡ j)
+        by None r = absurd (none-some _ (sym (is.no_other j r) ∙ q))
+        by (Some p) r =
+            let at = at_place nodes j (b.says.all j (subst IsSome (sym r) refl)) in
+            let e = named_at b.instances (place_of nodes j) j at in
+            let m = turn_from (IsMade g nodes) s.made b.instances (place_of nodes j) e.0 b.says.made e.1 in
+            let n = numbered_at zero s.made (place_of nodes j) m.0 m.1 in (
+              instantiation (handed_tag s.packages) (composition s) (made_in n.0 m.0),
+              ap (option_map (instantiation (handed_tag s.packages) (composition s))) n.1,
+              ap (λ (o : Option ℕ). unwrap_or o zero) at,
+            )
+
+    exports : (n : Name) → rename node ((ascribed_wiring s).exports n) ≡ W.exports n
+    exports n =
+        ap (λ o. rename node (export_source (handed_tag s.packages) (composition s) o)) (exported_at s.exports n)
+        ∙ by (value_at s.exports n) (value_at g.exports n) refl refl (both_found g nodes s.exports g.exports n b.exports.are)
+      where
+        by : (o : Option Bound) (p : Option ℕ) → value_at s.exports n ≡ o → value_at g.exports n ≡ p → AreFound g nodes o p
+            → rename node (export_source (handed_tag s.packages) (composition s) (option_map (λ (d : Bound). origin_in d.denoted.origin) o)) ≡ W.exports n
+        by None None x y f = sym (is.no_export n y)
+        by None (Some k) x y f = absurd f
+        by (Some d) None x y f = absurd f
+        by (Some d) (Some k) x y f =
+            let states = has_states g s d.denoted.origin d.denoted.item k (said.exports (n, d) (value_at-among s.exports n d x)) f.item in
+            sym (denoted g sound acyclic k (W.exports n) (is.exported n k y)
+            ∙ ap (source_of (asks_of (composition_of g))) (origin_is g sound acyclic nodes d.denoted.origin k f.node states)
+            ∙ source_moved (origin_in d.denoted.origin))
+
+    same : Same (ascribed_wiring s) W
+    same = record {
+      to = node;
+      from = place_of nodes;
+      outers = λ n. ap (λ l. option_map tree (value_at l n)) outers ∙ sym (is.outers n);
+      there = there;
+      back = back;
+      exports = exports;
+    }
+
+  pub is_ascribed : IsAscribed g s
+  is_ascribed = record {
+    asker = who;
+    number = place_of nodes;
+    alike = alike g sound acyclic s b ps said;
+    cause = λ define. sym (tied.cause define) ∙ keeps.cause define;
+    names = λ define validate. sym (tied.names define validate) ∙ keeps.names define validate;
+    world = sym tied.world ∙ keeps.world;
+    wired = λ W is. same W is;
+  }
+
+pub ascribed : Graphs_are_ascribed
+ascribed d ps r g e sound acyclic b =
+    let x = ok_of (statements d ps) _ r (sym e) in
+    let w = ok_of (target x.0 d.directive.targets) _ r x.2 in
+    let state : r.0 ≡ x.0 = ap (λ (q : State × Option Stated). q.0) (ok_is r (x.0, w.0) w.2) in
+    is_ascribed g sound acyclic r.0 b ps (subst (Sound ps) (sym state) (statements_sound ps d x.0 (sym x.1)))

@@ -1,0 +1,73 @@
+-- What the graph of a resolved document has to do with what the document ascribes.
+use Rattle.std.specs.Prelude.{◌≡◌, ◌==◌, ℕ, zero, suc, Bool, List, [], ◌∷◌, Option, Some, None, Ok, option_map, if◌then◌else◌}
+use Rattle.wac_types_base.specs.Collection.{IsAcyclic}
+use Rattle.wac_types_base.specs.Stated.{Stated}
+use Rattle.wac_types_names.specs.Keys.{Key}
+use Rattle.wac_graph_bytes.specs.Wirings.{Tag, OfBytes, Wiring, Same}
+use Rattle.wac_graph_core.specs.Graph.{Graph, IsGraph}
+use Rattle.wac_composition.specs.Alike.{IsAlike}
+use Rattle.wac_composition.specs.Conflicts.{first_cause, name_cause}
+use Rattle.wac_composition.specs.Renaming.{cause_renamed, renamed}
+use Rattle.wac_composition.specs.Wired.{composed_wiring}
+use Rattle.wac_composition.specs.Worlds.{composed_world}
+use Rattle.wac_graph_asks.specs.Graphs.{composition_of}
+use Rattle.wac_graph_asks.specs.Wirings.{IsGraphWiring}
+use Rattle.wac_parser_tree.specs.Trees as t
+use Rattle.wac_parser_declare.specs.Packages.{Content}
+use Rattle.wac_parser_declare.specs.Scope.{package_under}
+use Rattle.wac_parser_resolve.specs.Ascribed.{Asker, by_import, by_instance, by_definition, composition}
+use Rattle.wac_parser_resolve.specs.Ascribing.{Import, Made, State}
+use Rattle.wac_parser_resolve.specs.InDocuments.{IsBuilt}
+use Rattle.wac_parser_resolve.specs.Meeting.{resolved}
+
+-- ---- nodes and what they stand for
+
+-- the place of a number among them
+abbrev pub place_of : List ℕ → ℕ → ℕ
+place_of [] k = zero
+place_of (j ∷ js) k = if j == k then zero else suc (place_of js k)
+
+-- what stands at that place of another list
+abbrev pub beside : {A : Type 0} → List ℕ → List A → ℕ → Option A
+beside [] xs k = None
+beside (j ∷ js) [] k = None
+beside (j ∷ js) (x ∷ xs) k = if j == k then Some x else beside js xs k
+
+abbrev pub asker_by : Option Import → Option Made → Asker
+asker_by (Some i) m = by_import i
+asker_by None (Some m) = by_instance m.key m.span
+asker_by None None = by_definition
+
+-- who asks in the document what a node asks, where these nodes are its imports and its instances
+abbrev pub asker_of : (imports instances : List ℕ) → State → ℕ → Asker
+asker_of imports instances s k = asker_by (beside imports s.imports k) (beside instances s.made k)
+
+-- ---- the packages handed in
+
+abbrev pub bytes_of : Option Content → List ℕ
+bytes_of None = []
+bytes_of (Some x) = x.bytes
+
+-- an instance is made of the bytes that were handed in under its key
+abbrev pub handed_tag : List (Key × Content) → Key → Tag
+handed_tag ps k = OfBytes (bytes_of (package_under ps k))
+
+-- the wiring that a document ascribes over the packages that are handed in, where they are nested
+abbrev pub ascribed_wiring : State → Wiring ℕ
+ascribed_wiring s = composed_wiring (handed_tag s.packages) (composition s)
+
+-- ---- the tie
+
+-- With those who ask in the document for nodes, and numbers for instances, the graph is the composition that the document
+-- ascribes: what stands against the one stands against the other, their worlds are one, and so are their wirings.
+pub record IsAscribed (g : Graph) (s : State) : Type 0 where
+  pub asker : ℕ → Asker
+  pub number : ℕ → ℕ
+  pub alike : IsAlike (renamed asker number (composition_of g)) (composition s)
+  pub cause : (define : Bool) → first_cause define (composition s) ≡ option_map (cause_renamed asker) (first_cause define (composition_of g))
+  pub names : (define validate : Bool) → name_cause define validate (composition s) ≡ option_map (cause_renamed asker) (name_cause define validate (composition_of g))
+  pub world : composed_world (composition s) ≡ composed_world (composition_of g)
+  pub wired : (W : Wiring ℕ) → IsGraphWiring g W → Same (ascribed_wiring s) W
+
+abbrev pub Graphs_are_ascribed : Type 0
+Graphs_are_ascribed = (d : t.Document) (ps : List (Key × Content)) (r : State × Option Stated) (g : Graph) → resolved d ps ≡ Ok r → IsGraph g → IsAcyclic g.types → IsBuilt g r.0 → IsAscribed g r.0

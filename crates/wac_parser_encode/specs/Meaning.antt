@@ -1,0 +1,35 @@
+-- What the bytes of a resolved document mean: the wiring that its text says, over the packages that were handed in.
+use Rattle.std.specs.Prelude.{◌≡◌, ℕ, true, List, Option, Some, Ok}
+use Rattle.wac_types_base.specs.Graph.{Among}
+use Rattle.wac_types_base.specs.Stated.{Stated, instance_type}
+use Rattle.wac_types_base.specs.Tree.{tree}
+use Rattle.wac_types_names.specs.Keys.{Key}
+use Rattle.wac_graph_bytes.specs.Meaning.{Means}
+use Rattle.wac_graph_bytes.specs.Typing.{Worlds}
+use Rattle.wac_graph_bytes.specs.Wirings.{Wiring, Same}
+use Rattle.wac_graph_core.specs.Graph.{Graph}
+use Rattle.wac_graph_encode.specs.declared.options.EncodeOptions.{EncodeOptions}
+use Rattle.wac_parser_tree.specs.Trees as t
+use Rattle.wac_parser_declare.specs.Packages.{Content}
+use Rattle.wac_parser_resolve.specs.Ascribing.{Made, State}
+use Rattle.wac_parser_resolve.specs.InDocuments.{IsBuilt}
+use Rattle.wac_parser_resolve.specs.Meeting.{resolved}
+use Rattle.wac_parser_ascribed.specs.Tied.{handed_tag, ascribed_wiring}
+
+-- the worlds say of each package that is instantiated what its stated world says
+abbrev pub AreTrueOf : State → Worlds → Type 0
+AreTrueOf s worlds = (m : Made) → Among m s.made → worlds (handed_tag s.packages m.key) ≡ Some (tree (instance_type m.world))
+
+-- In these worlds the bytes mean the wiring that is ascribed, but for the numbers of instances.
+pub record MeansIn (s : State) (worlds : Worlds) (bytes : List ℕ) : Type 0 where
+  pub meant : Wiring ℕ
+  pub means : Means worlds bytes meant
+  pub same : Same (ascribed_wiring s) meant
+
+-- so it is in all worlds that are true of the packages
+abbrev pub MeansAscribed : State → List ℕ → Type 0
+MeansAscribed s bytes = (worlds : Worlds) → AreTrueOf s worlds → MeansIn s worlds bytes
+
+-- Where packages are nested, so it is of each document that the graph is built from.
+unfoldable pub MeansResolved : Graph → EncodeOptions → List ℕ → Type 0
+MeansResolved g options bytes = options.define_components ≡ true → (d : t.Document) (ps : List (Key × Content)) (r : State × Option Stated) → resolved d ps ≡ Ok r → IsBuilt g r.0 → MeansAscribed r.0 bytes

@@ -1,0 +1,81 @@
+//! The trees of documents, and their clones.
+
+use anyhow::{Result, ensure};
+use std::alloc::{AllocError, Global};
+use std::fmt::Debug;
+use wac_parser_read::ParseDocument;
+use wac_parser_tree::Document;
+
+// What owns a document is generic in its type, and the type is named where the text that it borrows comes first, as a document
+// does where it is lent: a proof then need not take the whole tree of types apart.
+
+/// Documents that can be cloned.
+pub(crate) trait CopyDocument: Sized {
+    fn copied(&self, alloc: Global) -> Result<Self, AllocError>;
+}
+
+impl<'s> CopyDocument for Document<'s> {
+    fn copied(&self, alloc: Global) -> Result<Self, AllocError> {
+        self.clone(alloc)
+    }
+}
+
+/// The text of a tree by `Debug`.
+fn shown<D: Debug>(tree: &D, alloc: Global) -> Result<String, AllocError> {
+    format!(in alloc; "{tree:?}")
+}
+
+/// The text of a clone of a tree, which a clone of that clone has too.
+fn clone_shown<'s, D: ParseDocument<'s> + CopyDocument + Debug>(
+    tree: &D,
+    alloc: Global,
+) -> Result<String> {
+    let copy = tree.copied(alloc)?;
+    let text = shown(&copy, alloc)?;
+    let again = copy.copied(alloc)?;
+    ensure!(
+        shown(&again, alloc)?.as_str() == text.as_str(),
+        "a clone of a clone is another tree"
+    );
+    Ok(text)
+}
+
+/// The text of a tree, which its clones have too.
+fn tree_shown<'s, D: ParseDocument<'s> + CopyDocument + Debug>(
+    tree: &D,
+    alloc: Global,
+) -> Result<String> {
+    let text = shown(tree, alloc)?;
+    let copied = clone_shown::<D>(tree, alloc)?;
+    ensure!(copied.as_str() == text.as_str(), "a clone is another tree");
+    Ok(text)
+}
+
+fn shown_of<'s, D: ParseDocument<'s> + CopyDocument + Debug>(
+    source: &'s str,
+    alloc: Global,
+) -> Result<String> {
+    match D::parse(alloc, source) {
+        Ok(tree) => tree_shown::<D>(&tree, alloc),
+        Err(fault) => Ok(shown(&fault, alloc)?),
+    }
+}
+
+/// The tree of a source by `Debug`, or the fault. Its clones are alike.
+pub(crate) fn tree(source: &str, alloc: Global) -> Result<String> {
+    shown_of::<Document<'_>>(source, alloc)
+}
+
+fn clones_of<'s, D: ParseDocument<'s> + CopyDocument + Debug>(
+    source: &'s str,
+    alloc: Global,
+) -> Result<String> {
+    let tree = D::parse(alloc, source)?;
+    let _text = tree_shown::<D>(&tree, alloc)?;
+    Ok(String::from_str(alloc, "alike")?)
+}
+
+/// That the tree of a source and its clones are alike.
+pub(crate) fn clones(source: &str, alloc: Global) -> Result<String> {
+    clones_of::<Document<'_>>(source, alloc)
+}

@@ -1,4 +1,0 @@
-mod fit;
-mod merging;
-mod names;
-mod types;
