@@ -21,7 +21,7 @@ use Rattle.wac_composition.specs.Asks.{ToFill, Ask, explicit_ask, filled_asks, n
 use Rattle.wac_composition.specs.Classes.{is_instance, spelling}
 use Rattle.wac_composition.specs.OuterImports.{outer_imports}
 use Rattle.wac_composition.specs.Conflicts.{first_cause}
-use Rattle.wac_types_written.specs.Written.{is_type, found_in, without_at, written_definition}
+use Rattle.wac_types_written.specs.Written.{bare_world, formed_at, is_type, found_in, written_definition}
 use Rattle.wac_composition.specs.Worlds.{then_in, final_type, source_of, exported_type, world_exports, used_world, composed_world}
 use Rattle.wac_composition.specs.Wired.{source_for, argument_source, instantiation, export_source, composed_wiring}
 use Rattle.wac_composition.specs.Sound.{fields_of, maps_of, IsStraight, an_instance, no_instance, HasType, of_import, of_instance, of_export, of_definition, given_as, IsBefore, IsSound, IsMade, IsWired}
@@ -367,7 +367,7 @@ module _ {A : Type 0} (tag_of : Key → Tag) (c : Composition A ℕ) (define : B
 
   maps_same : Tree.component (fields_of (imports_of (composed_world c))) (fields_of (exports_of (composed_world c))) ≡ Tree.component (fields_of outers) (fields_of exports)
   maps_same =
-      let p = parts_at (world None [] (names outers) (names exports)) (folded_row without_at (row (filled outers ++ filled exports))) in
+      let p = parts_at (world None [] (names outers) (names exports)) (folded_row (formed_at bare_world) (row (filled outers ++ filled exports))) in
       sym (made_maps p.identifier (found_in p.imports) (found_in p.exports)) ∙ without_same (used_world c) ∙ made_world None outers exports
 
   are_outers : AreOuters outs (fields_of outers)

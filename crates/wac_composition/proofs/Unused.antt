@@ -3,10 +3,10 @@ use Rattle.std.specs.Prelude.{drop, option_map}
 use Rattle.std.proofs.Common.{◌≡◌, ℕ, zero, suc, ◌+◌, List, [], ◌∷◌, ◌++◌, map, length, Option, Some, None, refl, sym, ap, ◌∙◌, arith}
 use Rattle.wac_types_base.specs.Entries.{Name}
 use Rattle.wac_types_base.specs.Graph.{Wholes, node, no_more, more, hole}
-use Rattle.wac_types_base.specs.Collection.{Shape, world, type_of}
+use Rattle.wac_types_base.specs.Collection.{Shape, interface, world, type_of}
 use Rattle.wac_types_base.specs.Stated.{Stated, row, folded_row, places_in, with_names, names, filled, first_parts, parts_at, world_of}
 use Rattle.wac_types_base.specs.Tree.{Row, component, type_item, put, fields, past, tree_at, tree, trees}
-use Rattle.wac_types_written.specs.Written.{found_in, world_without, without_at, without_uses}
+use Rattle.wac_types_written.specs.Written.{bare_world, formed_at, found_in, made_of, without_uses}
 use Rattle.wac_composition.specs.Sound.{fields_of}
 use Rattle.wac_composition.proofs.KeptFits.{folded_firsts, fields_behind, row_again}
 use Rattle.wac_types_base.proofs.Made.{firsts}
@@ -103,29 +103,31 @@ drop_more (suc j) k (x ∷ xs) = drop_more j k xs ∙ ap (λ n. drop n (x ∷ xs
 
 -- ---- all kinds
 
-world_same : (i : Option Name) (us : List (Name × Option Name)) (is es : List Name) (ts : Wholes Shape) → RowSame (folded_row without_at ts)
-    → tree (world_without (parts_at (world i us is es) (folded_row without_at ts))) ≡ tree (node (world i us is es) ts)
+world_same : (i : Option Name) (us : List (Name × Option Name)) (is es : List Name) (ts : Wholes Shape) → RowSame (folded_row (formed_at bare_world) ts)
+    → tree (made_of bare_world (parts_at (world i us is es) (folded_row (formed_at bare_world) ts))) ≡ tree (node (world i us is es) ts)
 world_same i us is es ts h =
-    let os = folded_row without_at ts in
+    let os = folded_row (formed_at bare_world) ts in
     let one : fields_of (found_in (with_names is (drop (length us) os))) ≡ fields is (past us (trees ts)) =
-    found_same (with_names is (drop (length us) os)) (names_same is (drop (length us) os) (drop_same (length us) os h)) ∙ sym (fields_behind is us os ts (folded_firsts without_at ts)) in
+    found_same (with_names is (drop (length us) os)) (names_same is (drop (length us) os) (drop_same (length us) os h)) ∙ sym (fields_behind is us os ts (folded_firsts (formed_at bare_world) ts)) in
     let two : fields_of (found_in (with_names es (drop (length us + length is) os))) ≡ fields es (past is (past us (trees ts))) =
     found_same (with_names es (drop (length us + length is) os)) (names_same es (drop (length us + length is) os) (drop_same (length us + length is) os h))
     ∙ ap (λ l. fields_of (first_parts (with_names es l))) (sym (drop_more (length us) (length is) os))
-    ∙ sym (fields_behind es is (drop (length us) os) (behind us ts) (firsts_behind us os ts (folded_firsts without_at ts)))
+    ∙ sym (fields_behind es is (drop (length us) os) (behind us ts) (firsts_behind us os ts (folded_firsts (formed_at bare_world) ts)))
     ∙ ap (λ r. fields es (past is r)) (sym (past_is us ts)) in
     made_world i (found_in (with_names is (drop (length us) os))) (found_in (with_names es (drop (length us + length is) os))) ∙ (λ j. component (one j) (two j))
 
-same_at : (s : Shape) (ts : Wholes Shape) → RowSame (folded_row without_at ts) → tree (without_at s (folded_row without_at ts)) ≡ tree (node s ts)
+same_at : (s : Shape) (ts : Wholes Shape) → RowSame (folded_row (formed_at bare_world) ts) → tree (formed_at bare_world s (folded_row (formed_at bare_world) ts)) ≡ tree (node s ts)
 same_at (world i us is es) ts h = world_same i us is es ts h
 same_at (type_of (world i us is es)) ts h = ap type_item (world_same i us is es ts h)
-same_at s ts h = ap (tree_at s) (row_same (folded_row without_at ts) h ∙ ap (λ os. trees (row os)) (folded_firsts without_at ts) ∙ ap trees (row_again ts))
+same_at (interface i us es) ts h = ap (tree_at (interface i us es)) (row_same (folded_row (formed_at bare_world) ts) h ∙ ap (λ os. trees (row os)) (folded_firsts (formed_at bare_world) ts) ∙ ap trees (row_again ts))
+same_at (type_of (interface i us es)) ts h = ap (tree_at (type_of (interface i us es))) (row_same (folded_row (formed_at bare_world) ts) h ∙ ap (λ os. trees (row os)) (folded_firsts (formed_at bare_world) ts) ∙ ap trees (row_again ts))
+same_at s ts h = ap (tree_at s) (ap (λ os. trees (row os)) (folded_firsts (formed_at bare_world) ts) ∙ ap trees (row_again ts))
 
 mutual
   pub without_same : (x : Stated) → tree (without_uses x) ≡ tree x
   without_same (node s ts) = same_at s ts (rows_same ts)
 
-  rows_same : (ts : Wholes Shape) → RowSame (folded_row without_at ts)
+  rows_same : (ts : Wholes Shape) → RowSame (folded_row (formed_at bare_world) ts)
   rows_same no_more = tt
   rows_same (hole ts) = rows_same ts
   rows_same (more t ts) = (without_same t, rows_same ts)

@@ -24,14 +24,12 @@ use Rattle.wac_composition.specs.Classes.{is_instance}
 use Rattle.wac_composition.specs.Sound.{fields_of}
 use Rattle.wac_composition.proofs.KeptFits.{fields_looked, instance_tree}
 use Rattle.wac_graph_scopes.specs.Items.{sort_of}
+use Rattle.wac_types_fit.proofs.TreeLaws.{fits_instance}
 
 -- ---- what fits a tree has its label
 
 only_rigid : (u : Tree) (s : Shape) (r : Row) → Fits u (rigid s r) → u ≡ rigid s r
 only_rigid u s r rigid_fits = refl
-
-of_instance : (u : Tree) (xs : Fields) → Fits u (instance xs) → (ys : Fields) × (u ≡ instance ys) × FieldsFit ys xs
-of_instance u xs (instance_fits {xs = ys} f) = (ys, refl, f)
 
 of_component : (u : Tree) (js fs : Fields) → Fits u (component js fs) → (is : Fields) × (es : Fields) × (u ≡ component is es)
 of_component u js fs (component_fits {is = is} {es = es} f g) = (is, es, refl)
@@ -60,7 +58,7 @@ module _ (c : Collection) (acyclic : IsAcyclic c) where
   instance_sorts : (id : _) (u : Tree) → Stands c (ItemKind.Instance id) → Fits u (tree_in c (ItemKind.Instance id)) → Sorts sort.Instance u
   instance_sorts id u stands f =
       let x = interface_found c id stands in
-      let v = of_instance u _ (subst (Fits u) (unfolded.instance_tree c acyclic id x.value x.at x.own) f) in
+      let v = fits_instance u _ (subst (Fits u) (unfolded.instance_tree c acyclic id x.value x.at x.own) f) in
       (instance v.0, ap (as_sort sort.Instance) v.1)
 
   component_sorts : (id : _) (u : Tree) → Stands c (ItemKind.Component id) → Fits u (tree_in c (ItemKind.Component id)) → Sorts sort.Component u
@@ -104,7 +102,7 @@ pub record Gives (n : Name) (t : Tree) (y : Stated) : Type 0 where
 
 pub gives_export : (t : Tree) (x y : Stated) (n : Name) → is_instance (kind_of x) ≡ true → InOrder t → Fits t (tree x) → value_at (exports_of x) n ≡ Some y → Gives n t y
 gives_export t x y n one order fits at =
-    let f = of_instance t (fields_of (exports_of x)) (subst (Fits t) (instance_tree x one) fits) in
+    let f = fits_instance t (fields_of (exports_of x)) (subst (Fits t) (instance_tree x one) fits) in
     let h : HasField n (tree y) (fields_of (exports_of x)) = looked-has n (tree y) (fields_of (exports_of x)) (fields_looked (exports_of x) n ∙ ap (option_map tree) at) in
     let g = given f.0 (fields_of (exports_of x)) n (tree y) f.2 h in
     let o : AllInOrder f.0 = subst InOrder f.1 order in

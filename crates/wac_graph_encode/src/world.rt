@@ -5,7 +5,7 @@ ghost use Rattle.wac_types_base.specs.declared.item.ItemKind.{ItemKind};
 ghost use Rattle.wac_types_base.specs.Collection.{Stands, Grows};
 
 use crate::copying::Copies;
-use crate::without_uses::without_uses;
+use crate::without_uses::handed_out;
 use indexmap::IndexMap;
 use std::alloc::{AllocError, Global};
 use wac_graph_asks::asks::{Asked, Definition};
@@ -14,7 +14,6 @@ use wac_graph_asks::nodes::{import_name, kind_of};
 use wac_graph_asks::outers::Outers;
 use wac_graph_core::{CompositionGraph, NodeId};
 use wac_graph_scopes::parts::{export_named, import_at, import_count};
-use wac_types_base::copy::copy_item;
 use wac_types_base::{ItemKind, NamedMap, Types, World, WorldId};
 use wac_writable::maps::insert_under;
 
@@ -293,27 +292,6 @@ fn own_world(
     }
 }
 
-/// A world in another collection.
-fn copied(
-    alloc: Global,
-    types: &Types,
-    world: WorldId,
-    to: &mut Types,
-) -> Result<Option<WorldId>, AllocError>
-    ensures stands { IfOk result (λ o. IfSome o (λ w. Stands to.new (ItemKind.Component w))) }
-    ensures grows { Grows to.old to.new }
-{
-    to.see_acyclic();
-    let kind = ItemKind::Component(world);
-    if !types.has(kind) {
-        return Ok(None);
-    }
-    match copy_item(alloc, types, kind, to)? {
-        ItemKind::Component(copy) => Ok(Some(copy)),
-        _ => Ok(None),
-    }
-}
-
 /// The world of a composition, in a collection of its own.
 pub(crate) fn composed_world(
     alloc: Global,
@@ -328,9 +306,6 @@ pub(crate) fn composed_world(
 {
     to.see_acyclic();
     let world = own_world(graph, asked, outers, definitions)?;
-    let kind = ItemKind::Component(world);
-    match without_uses(alloc, &mut asked.types, kind)? {
-        ItemKind::Component(world) => copied(alloc, &asked.types, world, to),
-        _ => Ok(None),
-    }
+    let world = handed_out(alloc, &mut asked.types, world, to)?;
+    Ok(world)
 }

@@ -22,7 +22,7 @@ use Rattle.wac_types_base.proofs.Telling.{item_kind, resource_source}
 use Rattle.wac_types_fit.specs.Trees.{tree_in, Fit}
 use Rattle.wac_types_fit.specs.Checking.{IsFlat}
 use Rattle.wac_types_fit.proofs.Unfolded.{root_tree, source_tree, type_value}
-use Rattle.wac_types_fit.proofs.ItemKinds.{tree_kind, is_type, IsFlatTree, fits_flat, flat_is, kind_is}
+use Rattle.wac_types_fit.proofs.ItemKinds.{tree_kind, is_type, IsFlatTree, fits_flat, flat_is, kind_is, flat_fits}
 use Rattle.wac_types_base.specs.declared.item.PrimitiveType.{PrimitiveType}
 use Rattle.wac_graph_bytes.specs.declared.value.Sort.TheVariants as sort
 use Rattle.wac_graph_bytes.specs.declared.value.ValueType.TheVariants.{Primitive, Index}
@@ -119,15 +119,6 @@ used_flat (ItemKind.Instance f) u = absurd u
 used_flat (ItemKind.Component f) u = absurd u
 used_flat (ItemKind.Module f) u = absurd u
 used_flat (ItemKind.Value v) u = absurd u
-
-flat_fits : (t u : Tree) → IsFlatTree u → Fits t u → t ≡ u
-flat_fits t u f rigid_fits = refl
-flat_fits t u f own_fits = refl
-flat_fits t u f borrow_fits = refl
-flat_fits t u f (instance_fits g) = absurd f
-flat_fits t u f (component_fits g h) = absurd f
-flat_fits t u f (module_fits g h) = absurd f
-flat_fits t u f (type_fits {t = v} {u = x} g) = ap type_item (flat_fits v x f g)
 
 module _ (c : Collection) (acyclic : IsAcyclic c) (j k : ItemKind) where
   pub used_fits : IsUsedKind j → Stands c j → Fit c j c k → tree_in c j ≡ tree_in c k

@@ -3,7 +3,7 @@ use Rattle.std.proofs.Common.{◌≡◌, Option, Some, refl, sym, ap, subst, ◌
 use Rattle.wac_types_base.specs.Entries.{Name}
 use Rattle.wac_types_base.specs.Tree.{Tree, instance, Fields, no_fields, field}
 use Rattle.wac_types_base.specs.Fits.{HasField, at_first, at_later, Fits, FieldsFit, instance_fits, none_asked, one_asked}
-use Rattle.wac_types_fit.proofs.TreeLaws.{Fits-refl, Fits-trans, more_fields}
+use Rattle.wac_types_fit.proofs.TreeLaws.{Fits-refl, Fits-trans, more_fields, fits_instance}
 use Rattle.wac_types_fit.proofs.Looking.{given}
 use Rattle.wac_graph_bytes.specs.Wirings.{Source, Absent, Outer, Inst, Projection, Bundle, Definition, project, replace, rename, Uses}
 use Rattle.wac_graph_bytes.proofs.Replace.{replace-project, Uses-weaker, uses_any}
@@ -12,8 +12,6 @@ use Rattle.wac_nesting.specs.Given.{World, HasNone, HasTree, Gives, Provides}
 -- ---- maps of trees
 
 -- an instance that fits another is one of exports that fit
-fits_instance : (v : Tree) (xs : Fields) → Fits v (instance xs) → (ys : Fields) × (v ≡ instance ys) × FieldsFit ys xs
-fits_instance v xs (instance_fits {xs = ys} f) = (ys, refl, f)
 
 -- ---- projections
 

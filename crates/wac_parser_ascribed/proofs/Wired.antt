@@ -39,7 +39,7 @@ use Rattle.wac_parser_resolve.specs.InDocuments.{IsBuilt}
 use Rattle.wac_parser_resolve.specs.Meeting.{resolved, target}
 use Rattle.wac_parser_resolve.specs.Saying.{statements}
 use Rattle.wac_parser_resolve.proofs.Answers.{ok_is, ok_of}
-use Rattle.wac_parser_resolve.proofs.Ordered.{numbered_is, numbered_at}
+use Rattle.wac_parser_resolve.proofs.Ordered.{numbered_is, numbered_at, export_is}
 use Rattle.wac_parser_resolve.proofs.Rooted.{AreFound, both_found}
 use Rattle.wac_parser_resolve.proofs.Sound.{Sound, statements_sound}
 use Rattle.wac_parser_resolve.proofs.Turns.{slice_among}
@@ -72,13 +72,6 @@ named_at : {T : Type 0} (es : List (ℕ × T)) (i k : ℕ) → slice_get (names_
 named_at [] i k q = absurd (none-some _ q)
 named_at (x ∷ es) zero k q = (x, refl, same_Some _ _ q)
 named_at (x ∷ es) (suc i) k q = named_at es i k q
-
-exported_at : (xs : List (Name × Bound)) (n : Name) → value_at (map (λ (e : Name × c.Origin ℕ × Stated). (e.0, e.1)) (map exported_in xs)) n ≡ option_map (λ (b : Bound). origin_in b.denoted.origin) (value_at xs n)
-exported_at xs n = ap (λ l. value_at l n) (mapped xs) ∙ value_mapped (λ (b : Bound). origin_in b.denoted.origin) xs n
-  where
-    mapped : (xs : List (Name × Bound)) → map (λ (e : Name × c.Origin ℕ × Stated). (e.0, e.1)) (map exported_in xs) ≡ map {B = Name × c.Origin ℕ} (λ (x : Name × Bound). (x.0, origin_in x.1.denoted.origin)) xs
-    mapped [] = refl
-    mapped (x ∷ xs) = ap (λ l. (x.0, origin_in x.1.denoted.origin) ∷ l) (mapped xs)
 
 module _ (g : Graph) (sound : IsGraph g) (acyclic : IsAcyclic g.types) (s : State) (b : IsBuilt g s) (ps : List (Key × Content)) (said : Sound ps s) where
   abbrev who : ℕ → Asker
@@ -188,7 +181,7 @@ module _ (g : Graph) (sound : IsGraph g) (acyclic : IsAcyclic g.types) (s : Stat
 
     exports : (n : Name) → rename node ((ascribed_wiring s).exports n) ≡ W.exports n
     exports n =
-        ap (λ o. rename node (export_source (handed_tag s.packages) (composition s) o)) (exported_at s.exports n)
+        ap (λ o. rename node (export_source (handed_tag s.packages) (composition s) o)) (export_is s.exports n)
         ∙ by (value_at s.exports n) (value_at g.exports n) refl refl (both_found g nodes s.exports g.exports n b.exports.are)
       where
         by : (o : Option Bound) (p : Option ℕ) → value_at s.exports n ≡ o → value_at g.exports n ≡ p → AreFound g nodes o p

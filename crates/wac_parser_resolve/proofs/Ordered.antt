@@ -74,7 +74,7 @@ argument_is (a ∷ as_) n = go (argument_is as_ n) (pointwise ◌==◌ n a.0)
     go rest false = rest
 
 -- what is exported under a name
-export_is : (es : List (Name × Bound)) (n : Name) → value_at (map (λ (e : Name × c.Origin ℕ × Stated). (e.0, e.1)) (map exported_in es)) n ≡ option_map (λ (b : Bound). origin_in b.denoted.origin) (value_at es n)
+pub export_is : (es : List (Name × Bound)) (n : Name) → value_at (map (λ (e : Name × c.Origin ℕ × Stated). (e.0, e.1)) (map exported_in es)) n ≡ option_map (λ (b : Bound). origin_in b.denoted.origin) (value_at es n)
 export_is [] n = refl
 export_is (e ∷ es) n = go (export_is es n) (pointwise ◌==◌ n e.0)
   where

@@ -52,6 +52,7 @@ use Rattle.wac_parser_resolve.proofs.Numbers.{among_last}
 use Rattle.wac_parser_resolve.proofs.Staying.{made_on}
 use Rattle.wac_parser_resolve.proofs.Turns.{names_more, turn_last, turn_map, turn_more, turn_within}
 use Rattle.wac_graph_core.proofs.Rising.{rises_apart}
+use Rattle.wac_types_fit.proofs.Unfolded.{tree_as_stated}
 
 -- ---- values under names
 
@@ -123,10 +124,6 @@ module _ (g : Graph) (is : IsGraph g) (ms : List ℕ) (d : Denoted) (a : ℕ) (d
       let two : dn.item.node ≡ x = same_Some _ _ (sym dn.item.there ∙ at) in
       let stated : stated_of g.types x.item_kind ≡ d.item = ap (λ (y : NodeData). stated_of g.types y.item_kind) (sym two) ∙ dn.item.kind.same in
       ap (passed_as x.role) stated ∙ compared_same g d.origin x.role d.item (subst (λ (y : NodeData). RoleTold d.origin y.role) one r.2)
-
-tree_is : (c : Collection) (k : ItemKind) → tree_in c k ≡ tree (stated_of c k)
-unfolding tree_in
-tree_is c k = refl
 
 -- ---- one argument
 
@@ -287,7 +284,7 @@ module _ (g : Graph) (is : IsGraph g) (acyclic : IsAcyclic g.types) (noted : Lis
     fit_here =
         let f = add.fits in
         let is_passed : passed g.types f.node ≡ compared_by a.denoted.origin a.denoted.item = passed_is g is ms a.denoted one.node given.denotes f.node f.there in
-        (fits_decides (compared_by a.denoted.origin a.denoted.item) (stated_of g.types sets.item)).1 (subst (λ (x : Stated). Fits (tree x) (tree (stated_of g.types sets.item))) is_passed (subst (Fits (tree (passed g.types f.node))) (tree_is g.types sets.item) f.fits))
+        (fits_decides (compared_by a.denoted.origin a.denoted.item) (stated_of g.types sets.item)).1 (subst (λ (x : Stated). Fits (tree x) (tree (stated_of g.types sets.item))) is_passed (subst (Fits (tree (passed g.types f.node))) (tree_as_stated g.types sets.item) f.fits))
 
   pub argument_held : (h : Graph) → SetsArgument g h i n one.node → IsHeld (λ (u v : ⊤). SaysMade h noted i names s (with_argument m a)) (argument_fits m.key m.world tt a) tt
   argument_held h sets = elim sets.step [

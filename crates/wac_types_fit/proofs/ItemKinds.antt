@@ -104,6 +104,16 @@ IsFlatTree (handle_own t) = Unit {0}
 IsFlatTree (handle_borrow t) = Unit {0}
 IsFlatTree (type_item t) = IsFlatTree t
 
+-- what fits a flat tree is that tree
+pub flat_fits : (t u : Tree) → IsFlatTree u → Fits t u → t ≡ u
+flat_fits t u f rigid_fits = refl
+flat_fits t u f own_fits = refl
+flat_fits t u f borrow_fits = refl
+flat_fits t u f (instance_fits g) = absurd f
+flat_fits t u f (component_fits g h) = absurd f
+flat_fits t u f (module_fits g h) = absurd f
+flat_fits t u f (type_fits {t = v} {u = x} g) = ap type_item (flat_fits v x f g)
+
 function_flat : (t : Tree) → tree_kind t ≡ IsFunction → IsFlatTree t
 function_flat (rigid s r) e = tt
 function_flat (handle_own t) e = tt
@@ -253,7 +263,7 @@ types_are_types (TypeKind.Module r) = refl
 no_type : (t : TypeKind) (k : Kind) → is_type k ≡ false → item_kind (ItemKind.Ty t) ≡ k → ⊥
 no_type t k h e = absurd (cc (types_are_types t, ap is_type e, h))
 
-not_func : (k : ItemKind) → ((f : FuncTypeId) → k ≡ ItemKind.Func f → ⊥) → item_kind k ≡ IsFunction → ⊥
+pub not_func : (k : ItemKind) → ((f : FuncTypeId) → k ≡ ItemKind.Func f → ⊥) → item_kind k ≡ IsFunction → ⊥
 not_func (ItemKind.Func f) h e = h f refl
 not_func (ItemKind.Ty t) h e = no_type t IsFunction refl e
 not_func k h e = absurd (cc e)
@@ -268,7 +278,7 @@ not_component (ItemKind.Component f) h e = h f refl
 not_component (ItemKind.Ty t) h e = no_type t IsComponent refl e
 not_component k h e = absurd (cc e)
 
-not_module : (k : ItemKind) → ((f : ModuleTypeId) → k ≡ ItemKind.Module f → ⊥) → item_kind k ≡ IsModule → ⊥
+pub not_module : (k : ItemKind) → ((f : ModuleTypeId) → k ≡ ItemKind.Module f → ⊥) → item_kind k ≡ IsModule → ⊥
 not_module (ItemKind.Module f) h e = h f refl
 not_module (ItemKind.Ty t) h e = no_type t IsModule refl e
 not_module k h e = absurd (cc e)

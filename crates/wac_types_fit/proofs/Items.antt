@@ -8,6 +8,7 @@ use Rattle.wac_types_base.specs.declared.item.ItemKind.{ItemKind}
 use Rattle.wac_types_base.specs.declared.item.ExternKind.{ExternKind}
 use Rattle.wac_types_base.specs.declared.defined.Interface.{Interface}
 use Rattle.wac_types_base.specs.declared.defined.World.{World}
+use Rattle.wac_types_base.specs.declared.defined.UsedType.{UsedType}
 use Rattle.wac_types_base.specs.declared.ids.InterfaceId.{InterfaceId}
 use Rattle.wac_types_base.specs.declared.ids.WorldId.{WorldId}
 use Rattle.wac_types_base.specs.Record.{Collection}
@@ -207,3 +208,10 @@ mutual
   misses_no side ss xs ys a b (item_missing {n = n} {u = u} e g) f = lacks n u xs ys a e g f
   misses_no side ss xs ys a b (item_differs {n = n} {t = t} {u = u} {ss = rest} e g h) f =
       disagree_no rest t u (inside n t xs a e) (inside n u ys b g) h (at_name n t u xs ys a e g f)
+
+-- ---- the interface of a used type is a child
+
+pub used_among : (us : List (Name × UsedType)) (n : Name) (u : UsedType) → Among (n, u) us → Among (Some (ItemKind.Instance u.interface)) (used us)
+used_among [] n u m = absurd m
+used_among (x ∷ us) n u (inl e) = inl (ap (λ v. Some (ItemKind.Instance v.1.interface)) e)
+used_among (x ∷ us) n u (inr m) = inr (used_among us n u m)

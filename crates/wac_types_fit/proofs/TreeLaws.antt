@@ -153,3 +153,8 @@ mutual
               (rest_fits m u ys xs (subst (λ k. IsBelowFields k xs) d.0 a.0) s))
         ]
       ]
+
+-- ---- what fits an instance
+
+pub fits_instance : (v : Tree) (xs : Fields) → Fits v (instance xs) → (ys : Fields) × (v ≡ instance ys) × FieldsFit ys xs
+fits_instance v xs (instance_fits {xs = ys} f) = (ys, refl, f)

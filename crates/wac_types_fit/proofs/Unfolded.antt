@@ -220,3 +220,8 @@ module _ (c : Collection) (acyclic : IsAcyclic c) where
 
   pub module_tree : (id : ModuleTypeId) (x : ModuleType) → slice_get c.modules id.index ≡ Some x → id.collection ≡ c.number → tree_in c (ItemKind.Module id) ≡ core_module (ascending pair_cmp x.imports) (ascending name_cmp x.exports)
   module_tree id x at own = tree_step c acyclic (ItemKind.Module id) (module_entry x) (module_node c id x at own)
+
+-- the tree of an item is that of what is stated of it
+pub tree_as_stated : (c : Collection) (k : ItemKind) → tree_in c k ≡ tree (stated_of c k)
+unfolding tree_in
+tree_as_stated c k = refl

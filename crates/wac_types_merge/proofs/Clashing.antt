@@ -24,25 +24,16 @@ use Rattle.wac_types_fit.specs.Trees.{tree_in}
 use Rattle.wac_types_fit.specs.Checking.{IsFlat}
 use Rattle.wac_types_fit.proofs.Looking.{looked-has, has-looked, in_order-at, given}
 use Rattle.wac_types_fit.proofs.Items.{looked_in}
-use Rattle.wac_types_fit.proofs.ItemKinds.{IsFlatTree, flat_is, fits_kind, kind_is, not_instance, not_type, not_interface_type, types_are_types, is_type}
+use Rattle.wac_types_fit.proofs.ItemKinds.{IsFlatTree, flat_is, fits_kind, kind_is, not_instance, not_type, not_interface_type, types_are_types, is_type, flat_fits}
 use Rattle.wac_types_fit.proofs.Unfolded.{fields_in, instance_tree, component_tree, module_tree, type_world, type_module}
 use Rattle.wac_types_merge.specs.Interfaces.{IsAt, ClashIn, ClashUnlessFit, OtherClash, ItemsClash}
 use Rattle.wac_types_merge.proofs.Grown.{tree_kept}
 
 -- ---- trees without parts
 
-only_same : (x t : Tree) → IsFlatTree t → Fits x t → x ≡ t
-only_same x (rigid s r) f rigid_fits = refl
-only_same x (handle_own t) f own_fits = refl
-only_same x (handle_borrow t) f borrow_fits = refl
-only_same x (instance xs) f g = absurd f
-only_same x (component is es) f g = absurd f
-only_same x (core_module is es) f g = absurd f
-only_same x (type_item t) f (type_fits {t = w} g) = ap type_item (only_same w t f g)
-
 module _ (c : Collection) (a : IsAcyclic c) (j k : ItemKind) (s : Stands c j) where
   pub flat_apart : IsFlat j → ClashUnlessFit c j k
-  flat_apart f wider p x o g h = wider (subst (λ t. Fits t (tree_in c k)) (only_same x (tree_in c j) (flat_is c a j f s) g) h)
+  flat_apart f wider p x o g h = wider (subst (λ t. Fits t (tree_in c k)) (flat_fits x (tree_in c j) (flat_is c a j f s) g) h)
 
   pub kinds_apart : Stands c k → (item_kind j ≡ item_kind k → ⊥) → ClashUnlessFit c j k
   kinds_apart r h wider p x o f g =

@@ -27,7 +27,7 @@ use Rattle.wac_types_merge.proofs.Grown.{tree_kept}
 use Rattle.wac_types_merge.proofs.Joining.{merged_meet}
 use Rattle.wac_types_base.proofs.Replacing.{labelled_there}
 use Rattle.wac_types_base.proofs.Lists.{among_split}
-use Rattle.wac_types_fit.proofs.Items.{as_slot}
+use Rattle.wac_types_fit.proofs.Items.{as_slot, used_among}
 
 pub added_at : (c d : Collection) (x : Interface) (i : InterfaceId) → d ≡ record c { interfaces = c.interfaces ++ x ∷ [] } → i ≡ record { collection = c.number; index = length c.interfaces } → IsAt d i x
 added_at c d x i e is =
@@ -66,11 +66,6 @@ merged_children c x y both u v b e =
     all_children c (merged_interface x y both)
     (λ n t m. elim (among_split (n, t) x.uses (new_in x.uses y.uses) m) [ inl k ↦ u n t k | inr k ↦ v n t (new-among x.uses y.uses (n, t) k) ])
     (λ n t m. elim (among_split (n, t) both (new_in x.exports y.exports) m) [ inl k ↦ b n t k | inr k ↦ e n t (new-among x.exports y.exports (n, t) k) ])
-
-used_among : (us : List (Name × UsedType)) (n : Name) (u : UsedType) → Among (n, u) us → Among (Some (ItemKind.Instance u.interface)) (used us)
-used_among [] n u m = absurd m
-used_among (x ∷ us) n u (inl e) = inl (ap (λ v. Some (ItemKind.Instance v.1.interface)) e)
-used_among (x ∷ us) n u (inr m) = inr (used_among us n u m)
 
 -- what an interface that is there holds stands
 module _ (c : Collection) (a : IsAcyclic c) (i : InterfaceId) (x : Interface) (h : IsAt c i x) where

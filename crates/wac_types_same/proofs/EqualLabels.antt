@@ -104,32 +104,6 @@ not_defined (ValueType.Defined x) h e = h x refl
 
 -- ---- kinds of items
 
-pub item_not_func : (k : ItemKind) → ((x : FuncTypeId) → k ≡ ItemKind.Func x → ⊥) → item_kind k ≡ IsFunction → ⊥
-item_not_func (ItemKind.Ty (TypeKind.Resource x)) h e = cc e
-item_not_func (ItemKind.Ty (TypeKind.Func x)) h e = cc e
-item_not_func (ItemKind.Ty (TypeKind.Value x)) h e = cc e
-item_not_func (ItemKind.Ty (TypeKind.Interface x)) h e = cc e
-item_not_func (ItemKind.Ty (TypeKind.World x)) h e = cc e
-item_not_func (ItemKind.Ty (TypeKind.Module x)) h e = cc e
-item_not_func (ItemKind.Func x) h e = h x refl
-item_not_func (ItemKind.Instance x) h e = cc e
-item_not_func (ItemKind.Component x) h e = cc e
-item_not_func (ItemKind.Module x) h e = cc e
-item_not_func (ItemKind.Value x) h e = cc e
-
-pub item_not_module : (k : ItemKind) → ((x : ModuleTypeId) → k ≡ ItemKind.Module x → ⊥) → item_kind k ≡ IsModule → ⊥
-item_not_module (ItemKind.Ty (TypeKind.Resource x)) h e = cc e
-item_not_module (ItemKind.Ty (TypeKind.Func x)) h e = cc e
-item_not_module (ItemKind.Ty (TypeKind.Value x)) h e = cc e
-item_not_module (ItemKind.Ty (TypeKind.Interface x)) h e = cc e
-item_not_module (ItemKind.Ty (TypeKind.World x)) h e = cc e
-item_not_module (ItemKind.Ty (TypeKind.Module x)) h e = cc e
-item_not_module (ItemKind.Func x) h e = cc e
-item_not_module (ItemKind.Instance x) h e = cc e
-item_not_module (ItemKind.Component x) h e = cc e
-item_not_module (ItemKind.Module x) h e = h x refl
-item_not_module (ItemKind.Value x) h e = cc e
-
 pub type_not_resource : (t : TypeKind) → ((x : ResourceId) → t ≡ TypeKind.Resource x → ⊥) → item_kind (ItemKind.Ty t) ≡ IsResource → ⊥
 type_not_resource (TypeKind.Resource x) h e = h x refl
 type_not_resource (TypeKind.Func x) h e = cc e

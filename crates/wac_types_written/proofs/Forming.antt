@@ -18,71 +18,72 @@ use Rattle.wac_types_base.proofs.Slots.{stands_typed_interface, stands_typed_wor
 use Rattle.wac_types_base.proofs.Standing.{interface_found, world_found}
 use Rattle.wac_types_base.proofs.Telling.{item_kind, kind_stated, row_size, size_stated}
 use Rattle.wac_types_written.specs.Components.{component_of}
-use Rattle.wac_types_written.specs.Forms.{AreWritten, IsOf, ItemsStand, UsesStand, UsesWritten, stated_items, stated_use, stated_uses, written_use}
-use Rattle.wac_types_written.specs.Written.{as_component_type, wrapped, written, written_by, written_definition}
-use Rattle.wac_types_written.proofs.Growing.{items_kept, items_written_kept, stated_kept, uses_kept, uses_written_kept}
+use Rattle.wac_types_written.specs.Forms.{AreFormed, IsOf, ItemsStand, UsesFormed, UsesStand, formed_use, stated_items, stated_use, stated_uses}
+use Rattle.wac_types_written.specs.Written.{WorldMaker, as_component_type, formed, wrapped, written, written_by, written_definition}
+use Rattle.wac_types_written.proofs.Growing.{items_formed_kept, items_kept, stated_kept, uses_formed_kept, uses_kept}
 use Rattle.wac_types_written.proofs.Ids.{IsOther, interface_states, interface_type_stands, interface_type_states, world_size, world_states, world_type_stands, world_type_states}
 use Rattle.wac_types_written.proofs.Loops.{place_new}
-use Rattle.wac_types_written.proofs.Shapes.{interface_type_written, interface_written, world_type_written, world_written}
+use Rattle.wac_types_written.proofs.Shapes.{interface_by_parts, interface_type_by_parts, world_by_parts, world_type_by_parts}
 use Rattle.wac_types_written.proofs.Stepping.{row_append}
 use Rattle.wac_types_written.proofs.Typing.{items_stand_both}
 
 -- ---- maps in a larger collection
 
-items_formed : (c d e : Collection) → Grows c d → Grows d e → (xs ys : List (Name × ItemKind)) → ItemsStand c xs → AreWritten d xs ys → stated_items e ys ≡ with_values written (stated_items c xs)
-items_formed c d e g h xs ys s w = items_kept d e h ys w.stand ∙ w.state ∙ ap (with_values written) (items_kept c d g xs s)
+items_formed : (make : WorldMaker) (c d e : Collection) → Grows c d → Grows d e → (xs ys : List (Name × ItemKind)) → ItemsStand c xs → AreFormed make d xs ys → stated_items e ys ≡ with_values (formed make) (stated_items c xs)
+items_formed make c d e g h xs ys s w = items_kept d e h ys w.stand ∙ w.state ∙ ap (with_values (formed make)) (items_kept c d g xs s)
 
-uses_formed : (c d e : Collection) → Grows c d → Grows d e → (us vs : List (Name × UsedType)) → UsesStand c us → UsesWritten d us vs → stated_uses e vs ≡ map written_use (stated_uses c us)
-uses_formed c d e g h us vs s w = uses_kept d e h vs w.stand ∙ w.state ∙ ap (map written_use) (uses_kept c d g us s)
+uses_formed : (make : WorldMaker) (c d e : Collection) → Grows c d → Grows d e → (us vs : List (Name × UsedType)) → UsesStand c us → UsesFormed make d us vs → stated_uses e vs ≡ map (formed_use make) (stated_uses c us)
+uses_formed make c d e g h us vs s w = uses_kept d e h vs w.stand ∙ w.state ∙ ap (map (formed_use make)) (uses_kept c d g us s)
 
 -- ---- interfaces and worlds
 
-module _ (c : Collection) (a : IsAcyclic c) where
+module _ (make : WorldMaker) (c : Collection) (a : IsAcyclic c) where
   pub interface_formed : (d e f : Collection) → Grows c d → Grows d e → Grows e f → (id : InterfaceId) (i : Interface) → slice_get c.interfaces id.index ≡ Some i → id.collection ≡ c.number
-      → (n : Option Name) (us vs : List (Name × UsedType)) (xs ys : List (Name × ItemKind)) → n ≡ i.id → us ≡ i.uses → xs ≡ i.exports → UsesStand c us → ItemsStand c xs → UsesWritten d us vs → AreWritten e xs ys
-      → interface_of n (stated_uses f vs) (stated_items f ys) ≡ written (stated_of c (ItemKind.Instance id))
+      → (n : Option Name) (us vs : List (Name × UsedType)) (xs ys : List (Name × ItemKind)) → n ≡ i.id → us ≡ i.uses → xs ≡ i.exports → UsesStand c us → ItemsStand c xs → UsesFormed make d us vs → AreFormed make e xs ys
+      → interface_of n (stated_uses f vs) (stated_items f ys) ≡ formed make (stated_of c (ItemKind.Instance id))
   interface_formed d e f g h k id i at own n us vs xs ys ni ui xi us_stand xs_stand uw xw =
-      (λ j. interface_of n (uses_formed c d f g (Grows-trans d e f h k) us vs us_stand uw j) (items_formed c e f (Grows-trans c d e g h) k xs ys xs_stand xw j))
-      ∙ sym (interface_written n (stated_uses c us) (stated_items c xs))
-      ∙ (λ j. written (interface_of (ni j) (stated_uses c (ui j)) (stated_items c (xi j))))
-      ∙ ap written (sym (interface_states c a id i at own))
+      (λ j. interface_of n (uses_formed make c d f g (Grows-trans d e f h k) us vs us_stand uw j) (items_formed make c e f (Grows-trans c d e g h) k xs ys xs_stand xw j))
+      ∙ sym (interface_by_parts make n (stated_uses c us) (stated_items c xs))
+      ∙ (λ j. formed make (interface_of (ni j) (stated_uses c (ui j)) (stated_items c (xi j))))
+      ∙ ap (formed make) (sym (interface_states c a id i at own))
 
   pub world_formed : (d e f h : Collection) → Grows c d → Grows d e → Grows e f → (id : WorldId) (w : World) → slice_get c.worlds id.index ≡ Some w → id.collection ≡ c.number
       → (n : Option Name) (us vs : List (Name × UsedType)) (is js xs ys : List (Name × ItemKind)) → n ≡ w.id → us ≡ w.uses → is ≡ w.imports → xs ≡ w.exports → UsesStand c us → ItemsStand c is → ItemsStand c xs
-      → UsesWritten d us vs → AreWritten e is js → AreWritten f xs ys → component_of f n vs js ys ≡ written (stated_of c (ItemKind.Component id))
+      → UsesFormed make d us vs → AreFormed make e is js → AreFormed make f xs ys → make n (stated_uses f vs) (stated_items f js) (stated_items f ys) ≡ formed make (stated_of c (ItemKind.Component id))
   world_formed d e f h g k l id w at own n us vs is js xs ys nw uw iw xw us_stand is_stand xs_stand uu ii xx =
-      (λ j. as_component_type (world_of n (uses_formed c d f g (Grows-trans d e f k l) us vs us_stand uu j) (items_formed c e f (Grows-trans c d e g k) l is js is_stand ii j) (items_last j)))
-      ∙ sym (world_written n (stated_uses c us) (stated_items c is) (stated_items c xs))
-      ∙ (λ j. written (world_of (nw j) (stated_uses c (uw j)) (stated_items c (iw j)) (stated_items c (xw j))))
-      ∙ ap written (sym (world_states c a id w at own))
+      (λ j. make n (uses_formed make c d f g (Grows-trans d e f k l) us vs us_stand uu j) (items_formed make c e f (Grows-trans c d e g k) l is js is_stand ii j) (items_last j))
+      ∙ sym (world_by_parts make n (stated_uses c us) (stated_items c is) (stated_items c xs))
+      ∙ (λ j. formed make (world_of (nw j) (stated_uses c (uw j)) (stated_items c (iw j)) (stated_items c (xw j))))
+      ∙ ap (formed make) (sym (world_states c a id w at own))
     where
-      items_last : stated_items f ys ≡ with_values written (stated_items c xs)
-      items_last = xx.state ∙ ap (with_values written) (items_kept c f (Grows-trans c d f g (Grows-trans d e f k l)) xs xs_stand)
+      items_last : stated_items f ys ≡ with_values (formed make) (stated_items c xs)
+      items_last = xx.state ∙ ap (with_values (formed make)) (items_kept c f (Grows-trans c d f g (Grows-trans d e f k l)) xs xs_stand)
 
   -- ---- types of them
 
-  pub interface_type_formed : (d : Collection) → IsAcyclic d → (id form : InterfaceId) → Stands c (ItemKind.Instance id) → IsOf d (written (stated_of c (ItemKind.Instance id))) (ItemKind.Instance form) → IsOf d (written (stated_of c (ItemKind.Ty (TypeKind.Interface id)))) (ItemKind.Ty (TypeKind.Interface form))
+  pub interface_type_formed : (d : Collection) → IsAcyclic d → (id form : InterfaceId) → Stands c (ItemKind.Instance id) → IsOf d (formed make (stated_of c (ItemKind.Instance id))) (ItemKind.Instance form) → IsOf d (formed make (stated_of c (ItemKind.Ty (TypeKind.Interface id)))) (ItemKind.Ty (TypeKind.Interface form))
   interface_type_formed d b id form s h =
       let f = interface_found c id s in
       let e = interface_states c a id f.value f.at f.own in
       record {
         stands = interface_type_stands d form h.stands;
-        states = interface_type_states d b form h.stands ∙ ap as_type (h.states ∙ ap written e)
-            ∙ sym (interface_type_written f.value.id (stated_uses c f.value.uses) (stated_items c f.value.exports)) ∙ ap (λ x. written (as_type x)) (sym e)
-            ∙ ap written (sym (interface_type_states c a id s));
+        states = interface_type_states d b form h.stands ∙ ap as_type (h.states ∙ ap (formed make) e)
+            ∙ sym (interface_type_by_parts make f.value.id (stated_uses c f.value.uses) (stated_items c f.value.exports)) ∙ ap (λ x. formed make (as_type x)) (sym e)
+            ∙ ap (formed make) (sym (interface_type_states c a id s));
       }
 
-  pub world_type_formed : (d : Collection) → IsAcyclic d → (id form : WorldId) → Stands c (ItemKind.Component id) → IsOf d (written (stated_of c (ItemKind.Component id))) (ItemKind.Component form) → IsOf d (written (stated_of c (ItemKind.Ty (TypeKind.World id)))) (ItemKind.Ty (TypeKind.World form))
+  pub world_type_formed : (d : Collection) → IsAcyclic d → (id form : WorldId) → Stands c (ItemKind.Component id) → IsOf d (formed make (stated_of c (ItemKind.Component id))) (ItemKind.Component form) → IsOf d (formed make (stated_of c (ItemKind.Ty (TypeKind.World id)))) (ItemKind.Ty (TypeKind.World form))
   world_type_formed d b id form s h =
       let f = world_found c id s in
       let e = world_states c a id f.value f.at f.own in
       record {
         stands = world_type_stands d form h.stands;
-        states = world_type_states d b form h.stands ∙ ap as_type (h.states ∙ ap written e)
-            ∙ sym (world_type_written f.value.id (stated_uses c f.value.uses) (stated_items c f.value.imports) (stated_items c f.value.exports)) ∙ ap (λ x. written (as_type x)) (sym e)
-            ∙ ap written (sym (world_type_states c a id s));
+        states = world_type_states d b form h.stands ∙ ap as_type (h.states ∙ ap (formed make) e)
+            ∙ sym (world_type_by_parts make f.value.id (stated_uses c f.value.uses) (stated_items c f.value.imports) (stated_items c f.value.exports)) ∙ ap (λ x. formed make (as_type x)) (sym e)
+            ∙ ap (formed make) (sym (world_type_states c a id s));
       }
 
+module _ (c : Collection) (a : IsAcyclic c) where
   -- ---- sizes
 
   same_nodes : (f : Shape → Shape) (x : Stated) → nodes (relabelled f x) ≡ nodes x
@@ -104,47 +105,47 @@ module _ (c : Collection) (a : IsAcyclic c) where
 
 -- ---- one more of a loop
 
-pub items_none : (c : Collection) → AreWritten c [] []
-items_none c = record { stand = λ x m. absurd m; state = refl }
+pub items_none : (make : WorldMaker) (c : Collection) → AreFormed make c [] []
+items_none make c = record { stand = λ x m. absurd m; state = refl }
 
-pub uses_none : (c : Collection) → UsesWritten c [] []
-uses_none c = record { stand = λ x m. absurd m; state = refl }
+pub uses_none : (make : WorldMaker) (c : Collection) → UsesFormed make c [] []
+uses_none make c = record { stand = λ x m. absurd m; state = refl }
 
 with_interface : Name → Option Name → Stated → Used
 with_interface n o x = record { name = n; there = o; interface = x }
 
-pub items_next : (d e : Collection) → Grows d e → (xs all : List (Name × ItemKind)) (i : ℕ) (n m : Name) (k form : ItemKind) → ItemsStand d xs → slice_get xs i ≡ Some (n, k) → Stands d k → m ≡ n → AreWritten d (take i xs) all → ItemsStand d (take i xs)
-    → IsOf e (written (stated_of d k)) form → AreWritten e (take (i + 1) xs) (all ++ (m, form) ∷ [])
-items_next d e g xs all i n m k form s at sk name w front is =
-    let v = items_written_kept d e g (take i xs) all front w in
+pub items_next : (make : WorldMaker) (d e : Collection) → Grows d e → (xs all : List (Name × ItemKind)) (i : ℕ) (n m : Name) (k form : ItemKind) → ItemsStand d xs → slice_get xs i ≡ Some (n, k) → Stands d k → m ≡ n → AreFormed make d (take i xs) all → ItemsStand d (take i xs)
+    → IsOf e (formed make (stated_of d k)) form → AreFormed make e (take (i + 1) xs) (all ++ (m, form) ∷ [])
+items_next make d e g xs all i n m k form s at sk name w front is =
+    let v = items_formed_kept make d e g (take i xs) all front w in
     let one : List (Name × ItemKind) = (m, form) ∷ [] in
     record {
       stand = items_stand_both e all one v.stand (λ y j. subst (λ (z : Name × ItemKind). Stands e z.1) (sym (only_one j)) is.stands);
       state = map-append (λ (x : Name × ItemKind). (x.0, stated_of e x.1)) all one ∙ ap (λ l. l ++ (m, stated_of e form) ∷ []) v.state
-          ∙ (λ j. with_values written (stated_items e (take i xs)) ++ (name j, (is.states ∙ ap written (sym (stated_kept d e g k sk))) j) ∷ [])
-          ∙ sym (map-append (λ (x : Name × Stated). (x.0, written x.1)) (stated_items e (take i xs)) ((n, stated_of e k) ∷ []))
-          ∙ ap (with_values written) (sym (map-one_more (λ (x : Name × ItemKind). (x.0, stated_of e x.1)) xs i (n, k) at));
+          ∙ (λ j. with_values (formed make) (stated_items e (take i xs)) ++ (name j, (is.states ∙ ap (formed make) (sym (stated_kept d e g k sk))) j) ∷ [])
+          ∙ sym (map-append (λ (x : Name × Stated). (x.0, formed make x.1)) (stated_items e (take i xs)) ((n, stated_of e k) ∷ []))
+          ∙ ap (with_values (formed make)) (sym (map-one_more (λ (x : Name × ItemKind). (x.0, stated_of e x.1)) xs i (n, k) at));
     }
   where
     only_one : {y : Name × ItemKind} → Among y ((m, form) ∷ []) → y ≡ (m, form)
     only_one (inl e) = e
     only_one (inr k) = absurd k
 
-pub uses_next : (d e : Collection) → Grows d e → (us all : List (Name × UsedType)) (i : ℕ) (n m : Name) (u v : UsedType) → slice_get us i ≡ Some (n, u) → Stands d (ItemKind.Instance u.interface) → m ≡ n → UsesWritten d (take i us) all → UsesStand d (take i us)
-    → v.name ≡ u.name → IsOf e (written (stated_of d (ItemKind.Instance u.interface))) (ItemKind.Instance v.interface) → UsesWritten e (take (i + 1) us) (all ++ (m, v) ∷ [])
-uses_next d e g us all i n m u v at su name w front there is =
-    let k = uses_written_kept d e g (take i us) all front w in
+pub uses_next : (make : WorldMaker) (d e : Collection) → Grows d e → (us all : List (Name × UsedType)) (i : ℕ) (n m : Name) (u v : UsedType) → slice_get us i ≡ Some (n, u) → Stands d (ItemKind.Instance u.interface) → m ≡ n → UsesFormed make d (take i us) all → UsesStand d (take i us)
+    → v.name ≡ u.name → IsOf e (formed make (stated_of d (ItemKind.Instance u.interface))) (ItemKind.Instance v.interface) → UsesFormed make e (take (i + 1) us) (all ++ (m, v) ∷ [])
+uses_next make d e g us all i n m u v at su name w front there is =
+    let k = uses_formed_kept make d e g (take i us) all front w in
     let one : List (Name × UsedType) = (m, v) ∷ [] in
     record {
       stand = uses_stand_both all one k.stand (λ y j. subst (λ (z : Name × UsedType). Stands e (ItemKind.Instance z.1.interface)) (sym (only_one j)) is.stands);
       state = map-append (stated_use e) all one ∙ ap (λ l. l ++ stated_use e (m, v) ∷ []) k.state
-          ∙ (λ j. map written_use (stated_uses e (take i us)) ++ with_interface_path j ∷ [])
-          ∙ sym (map-append written_use (stated_uses e (take i us)) (stated_use e (n, u) ∷ []))
-          ∙ ap (map written_use) (sym (map-one_more (stated_use e) us i (n, u) at));
+          ∙ (λ j. map (formed_use make) (stated_uses e (take i us)) ++ with_interface_path j ∷ [])
+          ∙ sym (map-append (formed_use make) (stated_uses e (take i us)) (stated_use e (n, u) ∷ []))
+          ∙ ap (map (formed_use make)) (sym (map-one_more (stated_use e) us i (n, u) at));
     }
   where
-    with_interface_path : stated_use e (m, v) ≡ written_use (stated_use e (n, u))
-    with_interface_path = λ j. record { name = name j; there = there j; interface = (is.states ∙ ap written (sym (stated_kept d e g (ItemKind.Instance u.interface) su))) j }
+    with_interface_path : stated_use e (m, v) ≡ formed_use make (stated_use e (n, u))
+    with_interface_path = λ j. record { name = name j; there = there j; interface = (is.states ∙ ap (formed make) (sym (stated_kept d e g (ItemKind.Instance u.interface) su))) j }
 
     only_one : {y : Name × UsedType} → Among y ((m, v) ∷ []) → y ≡ (m, v)
     only_one (inl e) = e
@@ -156,21 +157,21 @@ uses_next d e g us all i n m u v at su name w front there is =
     uses_stand_both (y ∷ xs) ys h k x (inr m) = uses_stand_both xs ys (λ z n. h z (inr n)) k x m
 
 -- its name is new
-pub item_name_new : (c : Collection) (xs all : List (Name × ItemKind)) (i : ℕ) (n : Name) (k : ItemKind) → AreDistinct (names_of xs) → AreWritten c (take i xs) all → slice_get xs i ≡ Some (n, k) → IsNew n all
-item_name_new c xs all i n k d w at =
-    place_new xs i n k all d at (sym (names-with_values (stated_of c) all) ∙ ap names_of w.state ∙ names-with_values written (stated_items c (take i xs)) ∙ names-with_values (stated_of c) (take i xs))
+pub item_name_new : (make : WorldMaker) (c : Collection) (xs all : List (Name × ItemKind)) (i : ℕ) (n : Name) (k : ItemKind) → AreDistinct (names_of xs) → AreFormed make c (take i xs) all → slice_get xs i ≡ Some (n, k) → IsNew n all
+item_name_new make c xs all i n k d w at =
+    place_new xs i n k all d at (sym (names-with_values (stated_of c) all) ∙ ap names_of w.state ∙ names-with_values (formed make) (stated_items c (take i xs)) ∙ names-with_values (stated_of c) (take i xs))
 
 use_names : (c : Collection) (us : List (Name × UsedType)) → map (λ (u : Used). u.name) (stated_uses c us) ≡ names_of us
 use_names c [] = refl
 use_names c (u ∷ us) = ap (λ l. u.0 ∷ l) (use_names c us)
 
-written_names : (us : List Used) → map (λ (u : Used). u.name) (map written_use us) ≡ map (λ (u : Used). u.name) us
-written_names [] = refl
-written_names (u ∷ us) = ap (λ l. u.name ∷ l) (written_names us)
+formed_names : (make : WorldMaker) (us : List Used) → map (λ (u : Used). u.name) (map (formed_use make) us) ≡ map (λ (u : Used). u.name) us
+formed_names make [] = refl
+formed_names make (u ∷ us) = ap (λ l. u.name ∷ l) (formed_names make us)
 
-pub use_name_new : (c : Collection) (us all : List (Name × UsedType)) (i : ℕ) (n : Name) (u : UsedType) → AreDistinct (names_of us) → UsesWritten c (take i us) all → slice_get us i ≡ Some (n, u) → IsNew n all
-use_name_new c us all i n u d w at =
-    place_new us i n u all d at (sym (use_names c all) ∙ ap (map (λ (u : Used). u.name)) w.state ∙ written_names (stated_uses c (take i us)) ∙ use_names c (take i us))
+pub use_name_new : (make : WorldMaker) (c : Collection) (us all : List (Name × UsedType)) (i : ℕ) (n : Name) (u : UsedType) → AreDistinct (names_of us) → UsesFormed make c (take i us) all → slice_get us i ≡ Some (n, u) → IsNew n all
+use_name_new make c us all i n u d w at =
+    place_new us i n u all d at (sym (use_names c all) ∙ ap (map (λ (u : Used). u.name)) w.state ∙ formed_names make (stated_uses c (take i us)) ∙ use_names c (take i us))
 
 -- ---- what has no world in it
 

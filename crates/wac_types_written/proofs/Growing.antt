@@ -11,8 +11,8 @@ use Rattle.wac_types_base.specs.Copies.{interface_at, world_at}
 use Rattle.wac_types_base.specs.Stated.{Stated, Used, stated_of, stated_in}
 use Rattle.wac_types_base.proofs.Telling.{row_size}
 use Rattle.wac_types_written.specs.declared.forms.Forms.{Forms}
-use Rattle.wac_types_written.specs.Written.{written}
-use Rattle.wac_types_written.specs.Forms.{AreForms, AreWritten, EachWritten, IsOf, IsWritten, ItemsStand, UsesStand, UsesWritten, stated_items, stated_use, stated_uses, written_use}
+use Rattle.wac_types_written.specs.Written.{WorldMaker, formed}
+use Rattle.wac_types_written.specs.Forms.{AreFormed, AreForms, EachFormed, IsFormed, IsOf, ItemsStand, UsesFormed, UsesStand, formed_use, stated_items, stated_use, stated_uses}
 
 module _ (c d : Collection) (g : Grows c d) where
   pub stated_kept : (k : ItemKind) → Stands c k → stated_of d k ≡ stated_of c k
@@ -42,24 +42,6 @@ module _ (c d : Collection) (g : Grows c d) where
   pub of_kept : (x : Stated) (k : ItemKind) → IsOf c x k → IsOf d x k
   of_kept x k h = record { stands = g.stand k h.stands; states = stated_kept k h.stands ∙ h.states }
 
-  pub written_kept : (k j : ItemKind) → Stands c k → IsWritten c k j → IsWritten d k j
-  written_kept k j s h = record { stands = g.stand j h.stands; states = stated_kept j h.stands ∙ h.states ∙ ap written (sym (stated_kept k s)) }
-
-  pub items_written_kept : (xs ys : List (Name × ItemKind)) → ItemsStand c xs → AreWritten c xs ys → AreWritten d xs ys
-  items_written_kept xs ys s h = record { stand = items_stand_kept ys h.stand; state = items_kept ys h.stand ∙ h.state ∙ ap (with_values written) (sym (items_kept xs s)) }
-
-  pub uses_written_kept : (us vs : List (Name × UsedType)) → UsesStand c us → UsesWritten c us vs → UsesWritten d us vs
-  uses_written_kept us vs s h = record { stand = uses_stand_kept vs h.stand; state = uses_kept vs h.stand ∙ h.state ∙ ap (map written_use) (sym (uses_kept us s)) }
-
-  each_kept : {S : Type 0} (kind : ℕ → ℕ → ItemKind) (t : HashMap ℕ ℕ S) → EachWritten c kind t → EachWritten d kind t
-  each_kept kind t h = record {
-    stand = λ i j e. subst (λ n. Stands d (kind n i)) (sym g.number) (g.stand (kind c.number i) (h.stand i j e));
-    written = λ i j e. subst (λ n. IsWritten d (kind n i) (kind n j)) (sym g.number) (written_kept (kind c.number i) (kind c.number j) (h.stand i j e) (h.written i j e));
-  }
-
-  pub forms_kept : (f : Forms) → AreForms c f → AreForms d f
-  forms_kept f h = record { interfaces = each_kept interface_at f.interfaces h.interfaces; worlds = each_kept world_at f.worlds h.worlds }
-
   pub used_size_kept : (us : List (Name × UsedType)) → UsesStand c us → row_size d (used us) ≡ row_size c (used us)
   used_size_kept [] h = refl
   used_size_kept (u ∷ us) h =
@@ -71,3 +53,22 @@ module _ (c d : Collection) (g : Grows c d) where
   items_size_kept (x ∷ xs) h =
       ap (λ y. nodes y + row_size d (items xs)) (stated_kept x.1 (h x (inl refl)))
       ∙ ap (λ n. nodes (stated_of c x.1) + n) (items_size_kept xs (λ y m. h y (inr m)))
+
+module _ (make : WorldMaker) (c d : Collection) (g : Grows c d) where
+  pub formed_kept : (k j : ItemKind) → Stands c k → IsFormed make c k j → IsFormed make d k j
+  formed_kept k j s h = record { stands = g.stand j h.stands; states = stated_kept c d g j h.stands ∙ h.states ∙ ap (formed make) (sym (stated_kept c d g k s)) }
+
+  pub items_formed_kept : (xs ys : List (Name × ItemKind)) → ItemsStand c xs → AreFormed make c xs ys → AreFormed make d xs ys
+  items_formed_kept xs ys s h = record { stand = items_stand_kept c d g ys h.stand; state = items_kept c d g ys h.stand ∙ h.state ∙ ap (with_values (formed make)) (sym (items_kept c d g xs s)) }
+
+  pub uses_formed_kept : (us vs : List (Name × UsedType)) → UsesStand c us → UsesFormed make c us vs → UsesFormed make d us vs
+  uses_formed_kept us vs s h = record { stand = uses_stand_kept c d g vs h.stand; state = uses_kept c d g vs h.stand ∙ h.state ∙ ap (map (formed_use make)) (sym (uses_kept c d g us s)) }
+
+  each_kept : {S : Type 0} (kind : ℕ → ℕ → ItemKind) (t : HashMap ℕ ℕ S) → EachFormed make c kind t → EachFormed make d kind t
+  each_kept kind t h = record {
+    stand = λ i j e. subst (λ n. Stands d (kind n i)) (sym g.number) (g.stand (kind c.number i) (h.stand i j e));
+    formed = λ i j e. subst (λ n. IsFormed make d (kind n i) (kind n j)) (sym g.number) (formed_kept (kind c.number i) (kind c.number j) (h.stand i j e) (h.formed i j e));
+  }
+
+  pub forms_kept : (f : Forms) → AreForms make c f → AreForms make d f
+  forms_kept f h = record { interfaces = each_kept interface_at f.interfaces h.interfaces; worlds = each_kept world_at f.worlds h.worlds }

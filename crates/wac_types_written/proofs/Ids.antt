@@ -22,9 +22,9 @@ use Rattle.wac_types_base.proofs.Slots.{entry_at-is}
 use Rattle.wac_types_base.proofs.Stating as base
 use Rattle.wac_types_base.proofs.Telling.{child_stands, entry_size, row_size, stated_step, entry_from, labelled_kind}
 use Rattle.wac_types_written.specs.Forms.{ItemsStand, UsesStand, stated_items, stated_use, stated_uses}
-use Rattle.wac_types_written.specs.Written.{dependencies, written}
+use Rattle.wac_types_written.specs.Written.{WorldMaker, dependencies, formed}
 use Rattle.wac_types_written.proofs.Depending.{IsNoInterface, nothing_depends}
-use Rattle.wac_types_written.proofs.Shapes.{IsInside, IsPlain, plain_same}
+use Rattle.wac_types_written.proofs.Shapes.{IsInside, IsPlain, plain_formed}
 
 -- ---- entries
 
@@ -230,12 +230,12 @@ module _ (c : Collection) where
   world_type_shape w e is = labelled_kind type_of (λ e. IsNoInterface (type_of e.0)) (λ e. IsNoInterface e.0) (λ e h. h) _ (entry_from world_entry (λ e. IsNoInterface (type_of e.0)) (λ x. tt) c.number c.worlds w.collection w.index) e is
 
   module _ (a : IsAcyclic c) where
-    -- it is written as it is
-    pub other_written : (k : ItemKind) → Stands c k → IsOther k → written (stated_of c k) ≡ stated_of c k
-    other_written k s h =
+    -- it stays as it is
+    pub other_formed : (make : WorldMaker) (k : ItemKind) → Stands c k → IsOther k → formed make (stated_of c k) ≡ stated_of c k
+    other_formed make k s h =
         let v = value_of _ s in
         let e = stated_step c a k v.0 v.1 in
-        ap written e ∙ plain_same v.0.0 _ (other_shape k h v.0 v.1).0 ∙ sym e
+        ap (formed make) e ∙ plain_formed make v.0.0 _ (other_shape k h v.0 v.1).0 ∙ sym e
 
     no_dependencies : (k : ItemKind) → Stands c k → ((e : Entry) → item_node c k ≡ Some e → IsNoInterface e.0) → dependencies (stated_of c k) ≡ []
     no_dependencies k s h = let v = value_of _ s in ap dependencies (stated_step c a k v.0 v.1) ∙ nothing_depends v.0.0 _ (h v.0 v.1)

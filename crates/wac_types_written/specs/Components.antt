@@ -9,7 +9,7 @@ use Rattle.wac_types_base.specs.Entries.{Name, names_of, value_at, with_values}
 use Rattle.wac_types_base.specs.Graph.{Among}
 use Rattle.wac_types_base.specs.Stated.{Stated, world_of}
 use Rattle.wac_types_written.specs.Forms.{IsOf, ItemsStand, stated_found, stated_items, stated_uses}
-use Rattle.wac_types_written.specs.Written.{as_component_type, types_only}
+use Rattle.wac_types_written.specs.Written.{WorldMaker, as_component_type, types_only}
 
 -- the interfaces that no import is named as
 abbrev pub not_imported : List (Name × ItemKind) → List (Name × InterfaceId) → List (Name × InterfaceId)
@@ -35,6 +35,12 @@ abbrev pub component_of : Collection → Option Name → List (Name × UsedType)
     → List (Name × ItemKind) → Stated
 component_of c id uses imports exports =
     as_component_type (world_of id (stated_uses c uses) (stated_items c imports) (stated_items c exports))
+
+-- the world is made of these
+abbrev pub IsMadeOf : WorldMaker → Collection → Collection → Option Name → List (Name × UsedType) → List (Name × ItemKind)
+    → List (Name × ItemKind) → WorldId → Type 0
+IsMadeOf make old new id uses imports exports w =
+    IsOf new (make id (stated_uses old uses) (stated_items old imports) (stated_items old exports)) (ItemKind.Component w)
 
 -- the world is that component type
 abbrev pub IsComponentOf : Collection → Collection → Option Name → List (Name × UsedType) → List (Name × ItemKind)

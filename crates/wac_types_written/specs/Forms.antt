@@ -12,7 +12,8 @@ use Rattle.wac_types_base.specs.Collection.{Stands}
 use Rattle.wac_types_base.specs.Stated.{Stated, Used, stated_of}
 use Rattle.wac_types_base.specs.Copies.{interface_at, world_at}
 use Rattle.wac_types_written.specs.declared.forms.Forms.{Forms}
-use Rattle.wac_types_written.specs.Written.{written, written_definition, used_through}
+use Rattle.wac_types_written.specs.declared.worlds.WorldForm.{WorldForm}
+use Rattle.wac_types_written.specs.Written.{WorldMaker, bare_world, component_type, formed, used_through, without_uses, written_definition}
 
 -- ---- items
 
@@ -21,17 +22,26 @@ pub record IsOf (c : Collection) (x : Stated) (k : ItemKind) : Type 0 where
   pub stands : Stands c k
   pub states : stated_of c k ≡ x
 
--- the item is what the other is, with each world in it as a component type
-abbrev pub IsWritten : Collection → ItemKind → ItemKind → Type 0
-IsWritten c k j = IsOf c (written (stated_of c k)) j
+-- what is made of each world
+abbrev pub maker : WorldForm → WorldMaker
+maker WorldForm.ComponentType = component_type
+maker WorldForm.WithoutUses = bare_world
+
+-- the item is what the other is, with what is made of each world in it
+abbrev pub IsFormed : WorldMaker → Collection → ItemKind → ItemKind → Type 0
+IsFormed make c k j = IsOf c (formed make (stated_of c k)) j
 
 -- the same, as the other was before the collection grew
-abbrev pub IsWrittenOf : Collection → Collection → ItemKind → ItemKind → Type 0
-IsWrittenOf old new k j = IsOf new (written (stated_of old k)) j
+abbrev pub IsFormedOf : WorldMaker → Collection → Collection → ItemKind → ItemKind → Type 0
+IsFormedOf make old new k j = IsOf new (formed make (stated_of old k)) j
 
 -- the item is what a definition of the other is written as
 abbrev pub IsDefinitionOf : Collection → Collection → ItemKind → ItemKind → Type 0
 IsDefinitionOf old new k j = IsOf new (written_definition (stated_of old k)) j
+
+-- the item is what the other was, with each world in it without its uses
+abbrev pub IsWithoutUses : Collection → Collection → ItemKind → ItemKind → Type 0
+IsWithoutUses old new k j = IsOf new (without_uses (stated_of old k)) j
 
 abbrev pub is_type_item : ItemKind → Bool
 is_type_item (ItemKind.Ty t) = true
@@ -57,27 +67,28 @@ stated_use c u = record { name = u.0; there = u.1.name; interface = stated_of c 
 abbrev pub stated_uses : Collection → List (Name × UsedType) → List Used
 stated_uses c us = map (stated_use c) us
 
--- the items under their names, each with its worlds as component types
-pub record AreWritten (c : Collection) (xs ys : List (Name × ItemKind)) : Type 0 where
+-- the items under their names, each with what is made of its worlds
+pub record AreFormed (make : WorldMaker) (c : Collection) (xs ys : List (Name × ItemKind)) : Type 0 where
   pub stand : ItemsStand c ys
-  pub state : stated_items c ys ≡ with_values written (stated_items c xs)
+  pub state : stated_items c ys ≡ with_values (formed make) (stated_items c xs)
 
-abbrev pub written_use : Used → Used
-written_use u = record { name = u.name; there = u.there; interface = written u.interface }
+abbrev pub formed_use : WorldMaker → Used → Used
+formed_use make u = record { name = u.name; there = u.there; interface = formed make u.interface }
 
-pub record UsesWritten (c : Collection) (us vs : List (Name × UsedType)) : Type 0 where
+pub record UsesFormed (make : WorldMaker) (c : Collection) (us vs : List (Name × UsedType)) : Type 0 where
   pub stand : UsesStand c vs
-  pub state : stated_uses c vs ≡ map written_use (stated_uses c us)
+  pub state : stated_uses c vs ≡ map (formed_use make) (stated_uses c us)
 
 -- ---- what became of interfaces and worlds
 
-pub record EachWritten {S : Type 0} (c : Collection) (kind : ℕ → ℕ → ItemKind) (t : HashMap ℕ ℕ S) : Type 0 where
+pub record EachFormed {S : Type 0} (make : WorldMaker) (c : Collection) (kind : ℕ → ℕ → ItemKind) (t : HashMap ℕ ℕ S)
+    : Type 0 where
   pub stand : (i j : ℕ) → get nat_eq t i ≡ Some j → Stands c (kind c.number i)
-  pub written : (i j : ℕ) → get nat_eq t i ≡ Some j → IsWritten c (kind c.number i) (kind c.number j)
+  pub formed : (i j : ℕ) → get nat_eq t i ≡ Some j → IsFormed make c (kind c.number i) (kind c.number j)
 
-pub record AreForms (c : Collection) (f : Forms) : Type 0 where
-  pub interfaces : EachWritten c interface_at f.interfaces
-  pub worlds : EachWritten c world_at f.worlds
+pub record AreForms (make : WorldMaker) (c : Collection) (f : Forms) : Type 0 where
+  pub interfaces : EachFormed make c interface_at f.interfaces
+  pub worlds : EachFormed make c world_at f.worlds
 
 -- ---- interfaces that are used
 

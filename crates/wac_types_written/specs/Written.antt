@@ -79,22 +79,46 @@ over_found s os = over s (map (option_map (λ x. x.1)) os)
 abbrev pub over_own : Shape → List (Option (Stated × Stated)) → Stated
 over_own s os = over s (map (option_map (λ x. x.0)) os)
 
--- ---- written forms
+-- ---- forms of worlds
 
-abbrev pub world_with : Parts Stated → Stated
-world_with p = world_of p.identifier (map used_with p.uses) (found_in p.imports) (found_in p.exports)
+-- what is made of a world's identifier, uses, imports and exports
+abbrev pub WorldMaker : Type 0
+WorldMaker = Option Name → List Used → List (Name × Stated) → List (Name × Stated) → Stated
+
+abbrev pub made_of : WorldMaker → Parts Stated → Stated
+made_of make p = make p.identifier (map used_with p.uses) (found_in p.imports) (found_in p.exports)
 
 -- values, functions and resources have no world in them; the owner of a resource is not in it
+abbrev pub formed_at : WorldMaker → Shape → List (Option (Stated × Stated)) → Stated
+formed_at make (interface i us es) os = over_found (interface i us es) os
+formed_at make (world i us is es) os = made_of make (parts_at (world i us is es) os)
+formed_at make (type_of (interface i us es)) os = over_found (type_of (interface i us es)) os
+formed_at make (type_of (world i us is es)) os = as_type (made_of make (parts_at (world i us is es) os))
+formed_at make s os = over_own s os
+
+-- each world in it, the inner ones first, as it is made of its parts
+abbrev pub formed : WorldMaker → Stated → Stated
+formed make = folded (formed_at make)
+
+-- without its uses
+abbrev pub bare_world : WorldMaker
+bare_world i us is es = world_of i [] is es
+
+-- each world in it without its uses: no world of an output's collection has uses of its own
+abbrev pub without_uses : Stated → Stated
+without_uses = formed bare_world
+
+-- ---- written forms
+
+abbrev pub component_type : WorldMaker
+component_type i us is es = as_component_type (world_of i us is es)
+
 abbrev pub written_at : Shape → List (Option (Stated × Stated)) → Stated
-written_at (interface i us es) os = over_found (interface i us es) os
-written_at (world i us is es) os = as_component_type (world_with (parts_at (world i us is es) os))
-written_at (type_of (interface i us es)) os = over_found (type_of (interface i us es)) os
-written_at (type_of (world i us is es)) os = as_type (as_component_type (world_with (parts_at (world i us is es) os)))
-written_at s os = over_own s os
+written_at = formed_at component_type
 
 -- each world in it as a component type
 abbrev pub written : Stated → Stated
-written = folded written_at
+written = formed component_type
 
 -- a component type with this one export
 abbrev pub wrapped : Name → Stated → Stated
@@ -108,16 +132,3 @@ written_by k i x = x
 -- the form in which a definition is written
 abbrev pub written_definition : Stated → Stated
 written_definition x = written_by (kind_of x) (identifier_of x) (written x)
-
--- ---- no world of an output's collection has uses of its own
-
-abbrev pub world_without : Parts Stated → Stated
-world_without p = world_of p.identifier [] (found_in p.imports) (found_in p.exports)
-
-abbrev pub without_at : Shape → List (Option (Stated × Stated)) → Stated
-without_at (world i us is es) os = world_without (parts_at (world i us is es) os)
-without_at (type_of (world i us is es)) os = as_type (world_without (parts_at (world i us is es) os))
-without_at s os = over_found s os
-
-abbrev pub without_uses : Stated → Stated
-without_uses = folded without_at

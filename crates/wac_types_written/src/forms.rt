@@ -3,8 +3,9 @@
 ghost use Rattle.std.specs.Prelude.{IfSome, OnOk};
 ghost use Rattle.wac_types_base.specs.declared.item.ItemKind.{ItemKind};
 ghost use Rattle.wac_types_base.specs.Collection.{Stands};
-ghost use Rattle.wac_types_written.specs.Forms.{AreForms, IsWritten};
+ghost use Rattle.wac_types_written.specs.Forms.{AreForms, IsFormed, maker};
 
+use crate::worlds::WorldForm;
 use std::alloc::{AllocError, Global};
 use std::collections::HashMap;
 use wac_types_base::{InterfaceId, Types, WorldId};
@@ -18,10 +19,11 @@ pub(crate) struct Forms {
 
 impl Forms {
     /// Nothing yet.
-    pub(crate) fn new(alloc: Global, types: &Types) -> Self
-        ensures { AreForms types.now result }
+    pub(crate) fn new(alloc: Global, types: &Types, worlds: WorldForm) -> Self
+        ensures { AreForms (maker worlds) types.now result }
     {
         let _ = types;
+        let _ = worlds;
         Forms {
             interfaces: HashMap::new(alloc),
             worlds: HashMap::new(alloc),
@@ -29,11 +31,17 @@ impl Forms {
     }
 
     /// What became of an interface.
-    pub(crate) fn interface(&self, types: &Types, id: InterfaceId) -> Option<InterfaceId>
+    pub(crate) fn interface(
+        &self,
+        types: &Types,
+        id: InterfaceId,
+        worlds: WorldForm,
+    ) -> Option<InterfaceId>
         requires stands { Stands types.now (ItemKind.Instance id) }
-        requires forms { AreForms types.now self.now }
-        ensures { IfSome result (λ i. IsWritten types.now (ItemKind.Instance id) (ItemKind.Instance i)) }
+        requires forms { AreForms (maker worlds) types.now self.now }
+        ensures { IfSome result (λ i. IsFormed (maker worlds) types.now (ItemKind.Instance id) (ItemKind.Instance i)) }
     {
+        let _ = worlds;
         let index = *self.interfaces.get(&id.index)?;
         Some(InterfaceId {
             collection: types.number(),
@@ -42,11 +50,12 @@ impl Forms {
     }
 
     /// What became of a world.
-    pub(crate) fn world(&self, types: &Types, id: WorldId) -> Option<WorldId>
+    pub(crate) fn world(&self, types: &Types, id: WorldId, worlds: WorldForm) -> Option<WorldId>
         requires stands { Stands types.now (ItemKind.Component id) }
-        requires forms { AreForms types.now self.now }
-        ensures { IfSome result (λ w. IsWritten types.now (ItemKind.Component id) (ItemKind.Component w)) }
+        requires forms { AreForms (maker worlds) types.now self.now }
+        ensures { IfSome result (λ w. IsFormed (maker worlds) types.now (ItemKind.Component id) (ItemKind.Component w)) }
     {
+        let _ = worlds;
         let index = *self.worlds.get(&id.index)?;
         Some(WorldId {
             collection: types.number(),
@@ -60,13 +69,15 @@ impl Forms {
         types: &Types,
         id: InterfaceId,
         form: InterfaceId,
+        worlds: WorldForm,
     ) -> Result<(), AllocError>
         requires stands { Stands types.now (ItemKind.Instance id) }
-        requires written { IsWritten types.now (ItemKind.Instance id) (ItemKind.Instance form) }
-        requires forms { AreForms types.now self.old }
-        ensures { OnOk result (AreForms types.now self.new) }
+        requires formed { IsFormed (maker worlds) types.now (ItemKind.Instance id) (ItemKind.Instance form) }
+        requires forms { AreForms (maker worlds) types.now self.old }
+        ensures { OnOk result (AreForms (maker worlds) types.now self.new) }
     {
         let _ = types;
+        let _ = worlds;
         let _ = self.interfaces.insert(id.index, form.index)?;
         Ok(())
     }
@@ -77,13 +88,15 @@ impl Forms {
         types: &Types,
         id: WorldId,
         form: WorldId,
+        worlds: WorldForm,
     ) -> Result<(), AllocError>
         requires stands { Stands types.now (ItemKind.Component id) }
-        requires written { IsWritten types.now (ItemKind.Component id) (ItemKind.Component form) }
-        requires forms { AreForms types.now self.old }
-        ensures { OnOk result (AreForms types.now self.new) }
+        requires formed { IsFormed (maker worlds) types.now (ItemKind.Component id) (ItemKind.Component form) }
+        requires forms { AreForms (maker worlds) types.now self.old }
+        ensures { OnOk result (AreForms (maker worlds) types.now self.new) }
     {
         let _ = types;
+        let _ = worlds;
         let _ = self.worlds.insert(id.index, form.index)?;
         Ok(())
     }

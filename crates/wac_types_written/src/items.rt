@@ -1,16 +1,17 @@
-//! Items in the form in which they are written.
+//! Items, with their worlds in a form.
 
 ghost use Rattle.std.specs.Prelude.{IfOk, OnOk};
 ghost use Rattle.wac_types_base.specs.declared.item.ItemKind.{ItemKind as Kind};
 ghost use Rattle.wac_types_base.specs.declared.item.«Type».{«Type» as TypeKind};
 ghost use Rattle.wac_types_base.specs.Collection.{Grows, Stands};
 ghost use Rattle.wac_types_base.specs.Stated.{stated_of};
-ghost use Rattle.wac_types_written.specs.Forms.{AreForms, AreWritten, IsDefinitionOf, IsOf, IsWrittenOf, ItemsStand, UsesStand, UsesWritten};
+ghost use Rattle.wac_types_written.specs.Forms.{AreFormed, AreForms, IsDefinitionOf, IsFormedOf, IsOf, IsWithoutUses, ItemsStand, UsesFormed, UsesStand, maker};
 ghost use Rattle.wac_types_written.specs.Written as form;
 
 use crate::components::add_component_type;
 use crate::forms::Forms;
 use crate::maps::{copy_interface, copy_text, copy_world, use_of};
+use crate::worlds::{WorldForm, add_formed_world};
 use std::alloc::{AllocError, Global};
 use wac_types_base::{
     Interface, InterfaceId, ItemKind, NamedMap, Text, Type, Types, UsedType, WorldId,
@@ -22,19 +23,20 @@ fn form_items(
     types: &mut Types,
     alloc: Global,
     items: &NamedMap<ItemKind>,
+    worlds: WorldForm,
     forms: &mut Forms,
 ) -> Result<NamedMap<ItemKind>, AllocError>
     requires stand { ItemsStand types.old items.now }
-    requires forms { AreForms types.old forms.old }
-    ensures written { IfOk result (AreWritten types.new items.now) }
-    ensures forms { OnOk result (AreForms types.new forms.new) }
+    requires forms { AreForms (maker worlds) types.old forms.old }
+    ensures formed { IfOk result (AreFormed (maker worlds) types.new items.now) }
+    ensures forms { OnOk result (AreForms (maker worlds) types.new forms.new) }
     ensures grows { Grows types.old types.new }
 {
     types.see_acyclic();
     let mut all = NamedMap::new(alloc);
     for at in 0..items.len() {
         let (name, item) = items.entry(at);
-        let form = form_item(types, alloc, *item, forms)?;
+        let form = form_item(types, alloc, *item, worlds, forms)?;
         all.push(String::from_str(alloc, name)?, form)?;
     }
     Ok(all)
@@ -46,19 +48,20 @@ fn form_uses(
     types: &mut Types,
     alloc: Global,
     uses: &NamedMap<UsedType>,
+    worlds: WorldForm,
     forms: &mut Forms,
 ) -> Result<NamedMap<UsedType>, AllocError>
     requires stand { UsesStand types.old uses.now }
-    requires forms { AreForms types.old forms.old }
-    ensures written { IfOk result (UsesWritten types.new uses.now) }
-    ensures forms { OnOk result (AreForms types.new forms.new) }
+    requires forms { AreForms (maker worlds) types.old forms.old }
+    ensures formed { IfOk result (UsesFormed (maker worlds) types.new uses.now) }
+    ensures forms { OnOk result (AreForms (maker worlds) types.new forms.new) }
     ensures grows { Grows types.old types.new }
 {
     types.see_acyclic();
     let mut all = NamedMap::new(alloc);
     for at in 0..uses.len() {
         let (name, used) = uses.entry(at);
-        let interface = form_interface(types, alloc, used.interface, forms)?;
+        let interface = form_interface(types, alloc, used.interface, worlds, forms)?;
         let used = use_of(used, interface)?;
         all.push(String::from_str(alloc, name)?, used)?;
     }
@@ -71,18 +74,19 @@ fn new_interface(
     types: &mut Types,
     alloc: Global,
     id: InterfaceId,
+    worlds: WorldForm,
     forms: &mut Forms,
 ) -> Result<InterfaceId, AllocError>
     requires stands { Stands types.old (Kind.Instance id) }
-    requires forms { AreForms types.old forms.old }
-    ensures written { IfOk result (λ i. IsWrittenOf types.old types.new (Kind.Instance id) (Kind.Instance i)) }
-    ensures forms { OnOk result (AreForms types.new forms.new) }
+    requires forms { AreForms (maker worlds) types.old forms.old }
+    ensures formed { IfOk result (λ i. IsFormedOf (maker worlds) types.old types.new (Kind.Instance id) (Kind.Instance i)) }
+    ensures forms { OnOk result (AreForms (maker worlds) types.new forms.new) }
     ensures grows { Grows types.old types.new }
 {
     types.see_acyclic();
     let own = copy_interface(alloc, types.interface(id))?;
-    let uses = form_uses(types, alloc, &own.uses, forms)?;
-    let exports = form_items(types, alloc, &own.exports, forms)?;
+    let uses = form_uses(types, alloc, &own.uses, worlds, forms)?;
+    let exports = form_items(types, alloc, &own.exports, worlds, forms)?;
     let name = copy_text(&own.id)?;
     types.see_acyclic();
     let form = types.add_interface(Interface {
@@ -99,44 +103,46 @@ fn form_interface(
     types: &mut Types,
     alloc: Global,
     id: InterfaceId,
+    worlds: WorldForm,
     forms: &mut Forms,
 ) -> Result<InterfaceId, AllocError>
     requires stands { Stands types.old (Kind.Instance id) }
-    requires forms { AreForms types.old forms.old }
-    ensures written { IfOk result (λ i. IsWrittenOf types.old types.new (Kind.Instance id) (Kind.Instance i)) }
-    ensures forms { OnOk result (AreForms types.new forms.new) }
+    requires forms { AreForms (maker worlds) types.old forms.old }
+    ensures formed { IfOk result (λ i. IsFormedOf (maker worlds) types.old types.new (Kind.Instance id) (Kind.Instance i)) }
+    ensures forms { OnOk result (AreForms (maker worlds) types.new forms.new) }
     ensures grows { Grows types.old types.new }
 {
     types.see_acyclic();
-    if let Some(form) = forms.interface(types, id) {
+    if let Some(form) = forms.interface(types, id, worlds) {
         return Ok(form);
     }
-    let form = new_interface(types, alloc, id, forms)?;
-    forms.keep_interface(types, id, form)?;
+    let form = new_interface(types, alloc, id, worlds, forms)?;
+    forms.keep_interface(types, id, form, worlds)?;
     Ok(form)
 }
 
-/// What becomes of a world: a component type of what its parts became.
+/// What becomes of a world: one of what its parts became.
 #[cycle(forms)]
 fn new_world(
     types: &mut Types,
     alloc: Global,
     id: WorldId,
+    worlds: WorldForm,
     forms: &mut Forms,
 ) -> Result<WorldId, AllocError>
     requires stands { Stands types.old (Kind.Component id) }
-    requires forms { AreForms types.old forms.old }
-    ensures written { IfOk result (λ w. IsWrittenOf types.old types.new (Kind.Component id) (Kind.Component w)) }
-    ensures forms { OnOk result (AreForms types.new forms.new) }
+    requires forms { AreForms (maker worlds) types.old forms.old }
+    ensures formed { IfOk result (λ w. IsFormedOf (maker worlds) types.old types.new (Kind.Component id) (Kind.Component w)) }
+    ensures forms { OnOk result (AreForms (maker worlds) types.new forms.new) }
     ensures grows { Grows types.old types.new }
 {
     types.see_acyclic();
     let own = copy_world(alloc, types.world(id))?;
-    let uses = form_uses(types, alloc, &own.uses, forms)?;
-    let imports = form_items(types, alloc, &own.imports, forms)?;
-    let exports = form_items(types, alloc, &own.exports, forms)?;
+    let uses = form_uses(types, alloc, &own.uses, worlds, forms)?;
+    let imports = form_items(types, alloc, &own.imports, worlds, forms)?;
+    let exports = form_items(types, alloc, &own.exports, worlds, forms)?;
     let name = copy_text(&own.id)?;
-    let form = add_component_type(types, alloc, name, &uses, &imports, exports)?;
+    let form = add_formed_world(types, alloc, worlds, name, &uses, imports, exports)?;
     Ok(form)
 }
 
@@ -146,20 +152,21 @@ fn form_world(
     types: &mut Types,
     alloc: Global,
     id: WorldId,
+    worlds: WorldForm,
     forms: &mut Forms,
 ) -> Result<WorldId, AllocError>
     requires stands { Stands types.old (Kind.Component id) }
-    requires forms { AreForms types.old forms.old }
-    ensures written { IfOk result (λ w. IsWrittenOf types.old types.new (Kind.Component id) (Kind.Component w)) }
-    ensures forms { OnOk result (AreForms types.new forms.new) }
+    requires forms { AreForms (maker worlds) types.old forms.old }
+    ensures formed { IfOk result (λ w. IsFormedOf (maker worlds) types.old types.new (Kind.Component id) (Kind.Component w)) }
+    ensures forms { OnOk result (AreForms (maker worlds) types.new forms.new) }
     ensures grows { Grows types.old types.new }
 {
     types.see_acyclic();
-    if let Some(form) = forms.world(types, id) {
+    if let Some(form) = forms.world(types, id, worlds) {
         return Ok(form);
     }
-    let form = new_world(types, alloc, id, forms)?;
-    forms.keep_world(types, id, form)?;
+    let form = new_world(types, alloc, id, worlds, forms)?;
+    forms.keep_world(types, id, form, worlds)?;
     Ok(form)
 }
 
@@ -169,22 +176,23 @@ fn form_type(
     types: &mut Types,
     alloc: Global,
     ty: Type,
+    worlds: WorldForm,
     forms: &mut Forms,
 ) -> Result<Type, AllocError>
     requires stands { Stands types.old (Kind.Ty ty) }
-    requires forms { AreForms types.old forms.old }
-    ensures written { IfOk result (λ f. IsWrittenOf types.old types.new (Kind.Ty ty) (Kind.Ty f)) }
-    ensures forms { OnOk result (AreForms types.new forms.new) }
+    requires forms { AreForms (maker worlds) types.old forms.old }
+    ensures formed { IfOk result (λ f. IsFormedOf (maker worlds) types.old types.new (Kind.Ty ty) (Kind.Ty f)) }
+    ensures forms { OnOk result (AreForms (maker worlds) types.new forms.new) }
     ensures grows { Grows types.old types.new }
 {
     types.see_acyclic();
     match ty {
         Type::Interface(id) => {
-            let form = form_interface(types, alloc, id, forms)?;
+            let form = form_interface(types, alloc, id, worlds, forms)?;
             Ok(Type::Interface(form))
         }
         Type::World(id) => {
-            let form = form_world(types, alloc, id, forms)?;
+            let form = form_world(types, alloc, id, worlds, forms)?;
             Ok(Type::World(form))
         }
         _ => Ok(ty),
@@ -197,26 +205,27 @@ fn form_item(
     types: &mut Types,
     alloc: Global,
     item: ItemKind,
+    worlds: WorldForm,
     forms: &mut Forms,
 ) -> Result<ItemKind, AllocError>
     requires stands { Stands types.old item }
-    requires forms { AreForms types.old forms.old }
-    ensures written { IfOk result (IsWrittenOf types.old types.new item) }
-    ensures forms { OnOk result (AreForms types.new forms.new) }
+    requires forms { AreForms (maker worlds) types.old forms.old }
+    ensures formed { IfOk result (IsFormedOf (maker worlds) types.old types.new item) }
+    ensures forms { OnOk result (AreForms (maker worlds) types.new forms.new) }
     ensures grows { Grows types.old types.new }
 {
     types.see_acyclic();
     match item {
         ItemKind::Instance(id) => {
-            let form = form_interface(types, alloc, id, forms)?;
+            let form = form_interface(types, alloc, id, worlds, forms)?;
             Ok(ItemKind::Instance(form))
         }
         ItemKind::Component(id) => {
-            let form = form_world(types, alloc, id, forms)?;
+            let form = form_world(types, alloc, id, worlds, forms)?;
             Ok(ItemKind::Component(form))
         }
         ItemKind::Ty(ty) => {
-            let form = form_type(types, alloc, ty, forms)?;
+            let form = form_type(types, alloc, ty, worlds, forms)?;
             Ok(ItemKind::Ty(form))
         }
         _ => Ok(item),
@@ -229,8 +238,23 @@ pub fn written(alloc: Global, types: &mut Types, item: ItemKind) -> Result<ItemK
     ensures written { IfOk result (IsOf types.new (form.written (stated_of types.old item))) }
     ensures grows { Grows types.old types.new }
 {
-    let mut forms = Forms::new(alloc, types);
-    let form = form_item(types, alloc, item, &mut forms)?;
+    let mut forms = Forms::new(alloc, types, WorldForm::ComponentType);
+    let form = form_item(types, alloc, item, WorldForm::ComponentType, &mut forms)?;
+    Ok(form)
+}
+
+/// An item with each world in it without its uses.
+pub fn without_uses(
+    alloc: Global,
+    types: &mut Types,
+    item: ItemKind,
+) -> Result<ItemKind, AllocError>
+    requires { Stands types.old item }
+    ensures without { IfOk result (IsWithoutUses types.old types.new item) }
+    ensures grows { Grows types.old types.new }
+{
+    let mut forms = Forms::new(alloc, types, WorldForm::WithoutUses);
+    let form = form_item(types, alloc, item, WorldForm::WithoutUses, &mut forms)?;
     Ok(form)
 }
 
@@ -266,8 +290,8 @@ fn written_interface(
 {
     types.see_acyclic();
     let name = copy_text(&types.interface(id).id)?;
-    let mut forms = Forms::new(alloc, types);
-    let form = form_interface(types, alloc, id, &mut forms)?;
+    let mut forms = Forms::new(alloc, types, WorldForm::ComponentType);
+    let form = form_interface(types, alloc, id, WorldForm::ComponentType, &mut forms)?;
     match name {
         None => Ok(ItemKind::Ty(Type::Interface(form))),
         Some(name) => {
@@ -285,8 +309,8 @@ fn written_world(types: &mut Types, alloc: Global, id: WorldId) -> Result<ItemKi
 {
     types.see_acyclic();
     let name = copy_text(&types.world(id).id)?;
-    let mut forms = Forms::new(alloc, types);
-    let form = form_world(types, alloc, id, &mut forms)?;
+    let mut forms = Forms::new(alloc, types, WorldForm::ComponentType);
+    let form = form_world(types, alloc, id, WorldForm::ComponentType, &mut forms)?;
     match name {
         None => Ok(ItemKind::Ty(Type::World(form))),
         Some(name) => {

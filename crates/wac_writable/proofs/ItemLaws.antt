@@ -31,10 +31,6 @@ use Rattle.wac_writable.proofs.PartsStated.{stated_nothing, stands_or_not}
 
 -- ---- one tree
 
-pub tree_here : (c : Collection) (k : ItemKind) → tree_in c k ≡ tree (stated_of c k)
-unfolding tree_in
-tree_here c k = refl
-
 pub both_decide : (a b : Bool) {P : Type 0} → Decides a P → Decides b P → a ≡ b
 both_decide true true d e = refl
 both_decide false false d e = refl

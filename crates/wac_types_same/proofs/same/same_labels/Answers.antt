@@ -2,9 +2,9 @@ use Rattle.std.proofs.Common.{ap, ◌∙◌}
 use Rattle.wac_types_base.specs.Collection.{func_entry, interface_entry, world_entry, module_entry}
 use Rattle.wac_types_base.specs.Stated.{IsFunction, IsInstance, IsComponent, IsModule, IsValue}
 use Rattle.wac_types_base.proofs.Telling.{item_kind}
-use Rattle.wac_types_fit.proofs.ItemKinds.{is_type, types_are_types, not_instance, not_type, not_component}
+use Rattle.wac_types_fit.proofs.ItemKinds.{is_type, types_are_types, not_instance, not_type, not_component, not_func, not_module}
 use Rattle.wac_types_same.specs.Same.{label_of}
-use Rattle.wac_types_same.proofs.EqualLabels.{through_same, func_label, instance_label, component_label, module_label, item_other, type_other, item_not_func, item_not_module}
+use Rattle.wac_types_same.proofs.EqualLabels.{through_same, func_label, instance_label, component_label, module_label, item_other, type_other}
 use Rattle.wac_types_fit.proofs.ItemKinds.{not_value}
 use Rattle.wac_types_same.proofs.same.same_labels.Goals as goal
 
@@ -40,7 +40,7 @@ pub returns-in_default : goal.returns-in_default
 returns-in_default c = type_other c.args.types.now c.args.a c.args.b c.requires.first c.requires.second (ap (λ k. is_type (item_kind k)) c.in-Ty.is ∙ types_are_types c.in-Ty.s) (not_type c.args.b c.in_default.not-Ty)
 
 pub returns-in_default-b : goal.returns-in_default-b
-returns-in_default-b c = item_other c.args.types.now c.args.a c.args.b c.requires.first c.requires.second IsFunction (ap item_kind c.in-Func.is) (item_not_func c.args.b c.in_default-b.not-Func)
+returns-in_default-b c = item_other c.args.types.now c.args.a c.args.b c.requires.first c.requires.second IsFunction (ap item_kind c.in-Func.is) (not_func c.args.b c.in_default-b.not-Func)
 
 pub returns-in_default-b-2 : goal.returns-in_default-b-2
 returns-in_default-b-2 c = item_other c.args.types.now c.args.a c.args.b c.requires.first c.requires.second IsInstance (ap item_kind c.in-Instance.is) (not_instance c.args.b c.in_default-b-2.not-Instance)
@@ -49,7 +49,7 @@ pub returns-in_default-b-3 : goal.returns-in_default-b-3
 returns-in_default-b-3 c = item_other c.args.types.now c.args.a c.args.b c.requires.first c.requires.second IsComponent (ap item_kind c.in-Component.is) (not_component c.args.b c.in_default-b-3.not-Component)
 
 pub returns-in_default-b-4 : goal.returns-in_default-b-4
-returns-in_default-b-4 c = item_other c.args.types.now c.args.a c.args.b c.requires.first c.requires.second IsModule (ap item_kind c.in-Module.is) (item_not_module c.args.b c.in_default-b-4.not-Module)
+returns-in_default-b-4 c = item_other c.args.types.now c.args.a c.args.b c.requires.first c.requires.second IsModule (ap item_kind c.in-Module.is) (not_module c.args.b c.in_default-b-4.not-Module)
 
 pub returns-in_default-b-5 : goal.returns-in_default-b-5
 returns-in_default-b-5 c = item_other c.args.types.now c.args.a c.args.b c.requires.first c.requires.second IsValue (ap item_kind c.in-Value.is) (not_value c.args.b c.in_default-b-5.not-Value)

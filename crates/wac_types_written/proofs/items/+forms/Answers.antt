@@ -1,4 +1,4 @@
-use Rattle.std.proofs.Common.{◌≡◌, ◌≤◌, ◌+◌, ◌∙◌, ap, arith, length, subst, sym, take, [], Some}
+use Rattle.std.proofs.Common.{◌≡◌, ◌≤◌, ◌+◌, ◌∙◌, ap, arith, length, subst, sym, take, []}
 use Rattle.std.specs.Prelude.{string_bytes}
 use Rattle.wac_types_base.specs.declared.item.«Type».{«Type» as TypeKind}
 use Rattle.wac_types_base.specs.declared.item.ItemKind.{ItemKind}
@@ -14,12 +14,12 @@ use Rattle.wac_types_base.proofs.Looked.{among-get, among-take}
 use Rattle.wac_types_base.proofs.Loops.{take-all}
 use Rattle.wac_types_base.proofs.Slots.{stands_typed_interface, stands_typed_world}
 use Rattle.wac_types_base.proofs.Telling.{row_size}
-use Rattle.wac_types_written.specs.Forms.{AreWritten, IsOf, ItemsStand, UsesStand, UsesWritten}
-use Rattle.wac_types_written.specs.Written.{written}
+use Rattle.wac_types_written.specs.Forms.{AreFormed, IsOf, ItemsStand, UsesFormed, UsesStand, maker}
+use Rattle.wac_types_written.specs.Written.{formed}
 use Rattle.wac_types_written.proofs.Adding.{interface_added}
 use Rattle.wac_types_written.proofs.Forming.{interface_formed, interface_type_formed, interface_type_size, item_name_new, other_item, other_type, items_next, items_none, use_name_new, uses_next, uses_none, world_formed, world_parts_size, world_type_formed, world_type_size}
 use Rattle.wac_types_written.proofs.Growing.{forms_kept, items_size_kept, items_stand_kept, size_kept, stated_kept, uses_stand_kept}
-use Rattle.wac_types_written.proofs.Ids.{interface_children, interface_exports_stand, interface_uses_stand, other_written, world_exports_stand, world_imports_stand, world_uses_stand}
+use Rattle.wac_types_written.proofs.Ids.{interface_children, interface_exports_stand, interface_uses_stand, other_formed, world_exports_stand, world_imports_stand, world_uses_stand}
 use Rattle.wac_types_written.proofs.Stepping.{item_size, parts_size, use_size}
 use Rattle.wac_types_written.proofs.items.+forms.Goals as goal
 
@@ -32,9 +32,9 @@ form_interface-new_interface-requires t c = (omega (arith, c.decreases), (c.requ
 pub form_interface-keep_interface-requires-clause-stands : goal.form_interface-keep_interface-requires-clause-stands
 form_interface-keep_interface-requires-clause-stands t c = c.in_ok-form.ensures.grows.stand (ItemKind.Instance c.args.id) c.requires.stands
 
-pub form_interface-keep_interface-requires-clause-written : goal.form_interface-keep_interface-requires-clause-written
-form_interface-keep_interface-requires-clause-written t c =
-    subst (λ x. IsOf c.new_interface.new.types x (ItemKind.Instance c.in_ok-form.form)) (ap written (sym (stated_kept c.args.types.now c.new_interface.new.types c.in_ok-form.ensures.grows (ItemKind.Instance c.args.id) c.requires.stands))) c.in_ok-form.ensures.written
+pub form_interface-keep_interface-requires-clause-formed : goal.form_interface-keep_interface-requires-clause-formed
+form_interface-keep_interface-requires-clause-formed t c =
+    subst (λ x. IsOf c.new_interface.new.types x (ItemKind.Instance c.in_ok-form.form)) (ap (formed (maker c.args.worlds)) (sym (stated_kept c.args.types.now c.new_interface.new.types c.in_ok-form.ensures.grows (ItemKind.Instance c.args.id) c.requires.stands))) c.in_ok-form.ensures.formed
 
 pub form_world-returns-in-Some-clause-grows : goal.form_world-returns-in-Some-clause-grows
 form_world-returns-in-Some-clause-grows t c = Grows-refl c.args.types.now c.see_acyclic.ensures
@@ -45,9 +45,9 @@ form_world-new_world-requires t c = (omega (arith, c.decreases), (c.requires.sta
 pub form_world-keep_world-requires-clause-stands : goal.form_world-keep_world-requires-clause-stands
 form_world-keep_world-requires-clause-stands t c = c.in_ok-form.ensures.grows.stand (ItemKind.Component c.args.id) c.requires.stands
 
-pub form_world-keep_world-requires-clause-written : goal.form_world-keep_world-requires-clause-written
-form_world-keep_world-requires-clause-written t c =
-    subst (λ x. IsOf c.new_world.new.types x (ItemKind.Component c.in_ok-form.form)) (ap written (sym (stated_kept c.args.types.now c.new_world.new.types c.in_ok-form.ensures.grows (ItemKind.Component c.args.id) c.requires.stands))) c.in_ok-form.ensures.written
+pub form_world-keep_world-requires-clause-formed : goal.form_world-keep_world-requires-clause-formed
+form_world-keep_world-requires-clause-formed t c =
+    subst (λ x. IsOf c.new_world.new.types x (ItemKind.Component c.in_ok-form.form)) (ap (formed (maker c.args.worlds)) (sym (stated_kept c.args.types.now c.new_world.new.types c.in_ok-form.ensures.grows (ItemKind.Component c.args.id) c.requires.stands))) c.in_ok-form.ensures.formed
 
 pub form_item-form_interface-requires : goal.form_item-form_interface-requires
 form_item-form_interface-requires t c =
@@ -61,24 +61,24 @@ form_item-form_world-requires t c =
     let e = ap (λ k. size_of c.args.types.now k) c.in-Component.is in
     (omega (arith, e, c.decreases), (s, c.requires.forms))
 
-pub form_item-returns-in_ok-form-in-Instance-clause-written : goal.form_item-returns-in_ok-form-in-Instance-clause-written
-form_item-returns-in_ok-form-in-Instance-clause-written t c =
-    subst (λ k. IsOf c.form_interface.new.types (written (stated_of c.args.types.now k)) (ItemKind.Instance c.in_ok-form-in-Instance.form)) (sym c.in-Instance.is) c.in_ok-form-in-Instance.ensures.written
+pub form_item-returns-in_ok-form-in-Instance-clause-formed : goal.form_item-returns-in_ok-form-in-Instance-clause-formed
+form_item-returns-in_ok-form-in-Instance-clause-formed t c =
+    subst (λ k. IsOf c.form_interface.new.types (formed (maker c.args.worlds) (stated_of c.args.types.now k)) (ItemKind.Instance c.in_ok-form-in-Instance.form)) (sym c.in-Instance.is) c.in_ok-form-in-Instance.ensures.formed
 
-pub form_item-returns-in_ok-form-in-Component-clause-written : goal.form_item-returns-in_ok-form-in-Component-clause-written
-form_item-returns-in_ok-form-in-Component-clause-written t c =
-    subst (λ k. IsOf c.form_world.new.types (written (stated_of c.args.types.now k)) (ItemKind.Component c.in_ok-form-in-Component.form)) (sym c.in-Component.is) c.in_ok-form-in-Component.ensures.written
+pub form_item-returns-in_ok-form-in-Component-clause-formed : goal.form_item-returns-in_ok-form-in-Component-clause-formed
+form_item-returns-in_ok-form-in-Component-clause-formed t c =
+    subst (λ k. IsOf c.form_world.new.types (formed (maker c.args.worlds) (stated_of c.args.types.now k)) (ItemKind.Component c.in_ok-form-in-Component.form)) (sym c.in-Component.is) c.in_ok-form-in-Component.ensures.formed
 
 pub form_items-loop-at-init : goal.form_items-loop-at-init
 form_items-loop-at-init t c = record {
-  written = subst (AreWritten c.args.types.now []) (sym c.new-all.ensures) (items_none c.args.types.now);
+  formed = subst (AreFormed (maker c.args.worlds) c.args.types.now []) (sym c.new-all.ensures) (items_none (maker c.args.worlds) c.args.types.now);
   forms = c.requires.forms;
   grows = Grows-refl c.args.types.now c.see_acyclic.ensures;
 }
 
 pub form_uses-loop-at-init : goal.form_uses-loop-at-init
 form_uses-loop-at-init t c = record {
-  written = subst (UsesWritten c.args.types.now []) (sym c.new-all.ensures) (uses_none c.args.types.now);
+  formed = subst (UsesFormed (maker c.args.worlds) c.args.types.now []) (sym c.new-all.ensures) (uses_none (maker c.args.worlds) c.args.types.now);
   forms = c.requires.forms;
   grows = Grows-refl c.args.types.now c.see_acyclic.ensures;
 }
@@ -130,11 +130,11 @@ form_uses-returns-in_err-push-clause-grows t c = Grows-trans c.args.types.now c.
 
 pub form_items-push-requires : goal.form_items-push-requires
 form_items-push-requires t c =
-    subst (λ n. IsNew n c.loop-at.all) (sym c.in_ok-from_str.ensures.ok) (item_name_new c.loop-at.types c.args.items.now c.loop-at.all c.loop-at.at c.entry.result.0.now c.entry.result.1.now c.len-at-end.ensures.distinct c.loop-at.invariant.written c.entry.ensures)
+    subst (λ n. IsNew n c.loop-at.all) (sym c.in_ok-from_str.ensures.ok) (item_name_new (maker c.args.worlds) c.loop-at.types c.args.items.now c.loop-at.all c.loop-at.at c.entry.result.0.now c.entry.result.1.now c.len-at-end.ensures.distinct c.loop-at.invariant.formed c.entry.ensures)
 
 pub form_uses-push-requires : goal.form_uses-push-requires
 form_uses-push-requires t c =
-    subst (λ n. IsNew n c.loop-at.all) (sym c.in_ok-from_str.ensures.ok) (use_name_new c.loop-at.types c.args.uses.now c.loop-at.all c.loop-at.at c.entry.result.0.now c.entry.result.1.now c.len-at-end.ensures.distinct c.loop-at.invariant.written c.entry.ensures)
+    subst (λ n. IsNew n c.loop-at.all) (sym c.in_ok-from_str.ensures.ok) (use_name_new (maker c.args.worlds) c.loop-at.types c.args.uses.now c.loop-at.all c.loop-at.at c.entry.result.0.now c.entry.result.1.now c.len-at-end.ensures.distinct c.loop-at.invariant.formed c.entry.ensures)
 
 pub form_items-loop-at-preserved : goal.form_items-loop-at-preserved
 form_items-loop-at-preserved t c =
@@ -142,9 +142,9 @@ form_items-loop-at-preserved t c =
     let g = c.loop-at.invariant.grows in
     let own = items_stand_kept c.args.types.now c.loop-at.types g c.args.items.now c.requires.stand in
     record {
-      written = subst (AreWritten c.form_item.new.types (take (c.loop-at.at + 1) c.args.items.now)) (sym c.in_ok-push.ensures.ok)
-          (items_next c.loop-at.types c.form_item.new.types c.in_ok-form.ensures.grows c.args.items.now c.loop-at.all c.loop-at.at c.entry.result.0.now (string_bytes c.in_ok-from_str.field-0) c.entry.result.1.now c.in_ok-form.form own c.entry.ensures
-          (own e (among-get c.args.items.now c.loop-at.at e c.entry.ensures)) c.in_ok-from_str.ensures.ok c.loop-at.invariant.written (λ x m. own x (among-take x c.args.items.now c.loop-at.at m)) c.in_ok-form.ensures.written);
+      formed = subst (AreFormed (maker c.args.worlds) c.form_item.new.types (take (c.loop-at.at + 1) c.args.items.now)) (sym c.in_ok-push.ensures.ok)
+          (items_next (maker c.args.worlds) c.loop-at.types c.form_item.new.types c.in_ok-form.ensures.grows c.args.items.now c.loop-at.all c.loop-at.at c.entry.result.0.now (string_bytes c.in_ok-from_str.field-0) c.entry.result.1.now c.in_ok-form.form own c.entry.ensures
+          (own e (among-get c.args.items.now c.loop-at.at e c.entry.ensures)) c.in_ok-from_str.ensures.ok c.loop-at.invariant.formed (λ x m. own x (among-take x c.args.items.now c.loop-at.at m)) c.in_ok-form.ensures.formed);
       forms = c.in_ok-form.ensures.forms;
       grows = Grows-trans c.args.types.now c.loop-at.types c.form_item.new.types g c.in_ok-form.ensures.grows;
     }
@@ -156,23 +156,23 @@ form_uses-loop-at-preserved t c =
     let own = uses_stand_kept c.args.types.now c.loop-at.types g c.args.uses.now c.requires.stand in
     let made : c.in_ok-used.used ≡ record { interface = c.in_ok-interface.interface; name = c.entry.result.1.now.name } = c.in_ok-used.ensures in
     record {
-      written = subst (UsesWritten c.form_interface.new.types (take (c.loop-at.at + 1) c.args.uses.now)) (sym c.in_ok-push.ensures.ok)
-          (uses_next c.loop-at.types c.form_interface.new.types c.in_ok-interface.ensures.grows c.args.uses.now c.loop-at.all c.loop-at.at c.entry.result.0.now (string_bytes c.in_ok-from_str.field-0) c.entry.result.1.now c.in_ok-used.used c.entry.ensures
-          (own e (among-get c.args.uses.now c.loop-at.at e c.entry.ensures)) c.in_ok-from_str.ensures.ok c.loop-at.invariant.written (λ x m. own x (among-take x c.args.uses.now c.loop-at.at m))
-          (ap (λ (u : UsedType). u.name) made) (subst (λ (i : InterfaceId). IsOf c.form_interface.new.types (written (stated_of c.loop-at.types (ItemKind.Instance c.entry.result.1.now.interface))) (ItemKind.Instance i)) (sym (ap (λ (u : UsedType). u.interface) made)) c.in_ok-interface.ensures.written));
+      formed = subst (UsesFormed (maker c.args.worlds) c.form_interface.new.types (take (c.loop-at.at + 1) c.args.uses.now)) (sym c.in_ok-push.ensures.ok)
+          (uses_next (maker c.args.worlds) c.loop-at.types c.form_interface.new.types c.in_ok-interface.ensures.grows c.args.uses.now c.loop-at.all c.loop-at.at c.entry.result.0.now (string_bytes c.in_ok-from_str.field-0) c.entry.result.1.now c.in_ok-used.used c.entry.ensures
+          (own e (among-get c.args.uses.now c.loop-at.at e c.entry.ensures)) c.in_ok-from_str.ensures.ok c.loop-at.invariant.formed (λ x m. own x (among-take x c.args.uses.now c.loop-at.at m))
+          (ap (λ (u : UsedType). u.name) made) (subst (λ (i : InterfaceId). IsOf c.form_interface.new.types (formed (maker c.args.worlds) (stated_of c.loop-at.types (ItemKind.Instance c.entry.result.1.now.interface))) (ItemKind.Instance i)) (sym (ap (λ (u : UsedType). u.interface) made)) c.in_ok-interface.ensures.formed));
       forms = c.in_ok-interface.ensures.forms;
       grows = Grows-trans c.args.types.now c.loop-at.types c.form_interface.new.types g c.in_ok-interface.ensures.grows;
     }
 
-pub form_items-returns-clause-written : goal.form_items-returns-clause-written
-form_items-returns-clause-written t c =
+pub form_items-returns-clause-formed : goal.form_items-returns-clause-formed
+form_items-returns-clause-formed t c =
     let whole : length c.args.items.now ≤ c.loop-at.at = omega (arith, c.loop-at-test.false, c.len-at-end.ensures.len) in
-    subst (λ l. AreWritten c.loop-at.types l c.loop-at.all) (take-all c.args.items.now c.loop-at.at whole) c.loop-at.invariant.written
+    subst (λ l. AreFormed (maker c.args.worlds) c.loop-at.types l c.loop-at.all) (take-all c.args.items.now c.loop-at.at whole) c.loop-at.invariant.formed
 
-pub form_uses-returns-clause-written : goal.form_uses-returns-clause-written
-form_uses-returns-clause-written t c =
+pub form_uses-returns-clause-formed : goal.form_uses-returns-clause-formed
+form_uses-returns-clause-formed t c =
     let whole : length c.args.uses.now ≤ c.loop-at.at = omega (arith, c.loop-at-test.false, c.len-at-end.ensures.len) in
-    subst (λ l. UsesWritten c.loop-at.types l c.loop-at.all) (take-all c.args.uses.now c.loop-at.at whole) c.loop-at.invariant.written
+    subst (λ l. UsesFormed (maker c.args.worlds) c.loop-at.types l c.loop-at.all) (take-all c.args.uses.now c.loop-at.at whole) c.loop-at.invariant.formed
 
 pub new_interface-returns-in_err-own-clause-grows : goal.new_interface-returns-in_err-own-clause-grows
 new_interface-returns-in_err-own-clause-grows t c = Grows-refl c.args.types.now c.see_acyclic.ensures
@@ -207,7 +207,7 @@ new_interface-returns-in_err-name-clause-grows t c = Grows-trans c.args.types.no
 pub new_interface-add_interface-requires : goal.new_interface-add_interface-requires
 new_interface-add_interface-requires t c =
     interface_children c.form_items.new.types (record { id = c.in_ok-name.name; uses = c.in_ok-uses.uses; exports = c.in_ok-exports.exports })
-    (uses_stand_kept c.form_uses.new.types c.form_items.new.types c.in_ok-exports.ensures.grows c.in_ok-uses.uses c.in_ok-uses.ensures.written.stand) c.in_ok-exports.ensures.written.stand
+    (uses_stand_kept c.form_uses.new.types c.form_items.new.types c.in_ok-exports.ensures.grows c.in_ok-uses.uses c.in_ok-uses.ensures.formed.stand) c.in_ok-exports.ensures.formed.stand
 
 pub new_interface-returns-in_err-exports-clause-grows : goal.new_interface-returns-in_err-exports-clause-grows
 new_interface-returns-in_err-exports-clause-grows t c = Grows-trans c.args.types.now c.form_uses.new.types c.form_items.new.types c.in_ok-uses.ensures.grows c.in_err-exports.ensures.grows
@@ -216,23 +216,23 @@ pub new_interface-returns-in_err-form-clause-grows : goal.new_interface-returns-
 new_interface-returns-in_err-form-clause-grows t c =
     Grows-trans c.args.types.now c.form_uses.new.types c.add_interface.new.self c.in_ok-uses.ensures.grows (Grows-trans c.form_uses.new.types c.form_items.new.types c.add_interface.new.self c.in_ok-exports.ensures.grows c.in_err-form.ensures.grows)
 
-pub new_interface-returns-clause-written : goal.new_interface-returns-clause-written
-new_interface-returns-clause-written t c =
+pub new_interface-returns-clause-formed : goal.new_interface-returns-clause-formed
+new_interface-returns-clause-formed t c =
     let types = c.args.types.now in
     let i = c.interface.ensures in
     let x = c.interface.result.now in
     let e = c.in_ok-form.ensures in
     interface_added c.form_items.new.types c.add_interface.new.self e.grows (record { id = c.in_ok-name.name; uses = c.in_ok-uses.uses; exports = c.in_ok-exports.exports }) c.in_ok-form.form
-    (written (stated_of types (ItemKind.Instance c.args.id))) e.added e.id
-    (interface_formed types i.acyclic c.form_uses.new.types c.form_items.new.types c.add_interface.new.self c.in_ok-uses.ensures.grows c.in_ok-exports.ensures.grows e.grows c.args.id x i.entry i.own
+    (formed (maker c.args.worlds) (stated_of types (ItemKind.Instance c.args.id))) e.added e.id
+    (interface_formed (maker c.args.worlds) types i.acyclic c.form_uses.new.types c.form_items.new.types c.add_interface.new.self c.in_ok-uses.ensures.grows c.in_ok-exports.ensures.grows e.grows c.args.id x i.entry i.own
     c.in_ok-name.name c.in_ok-own.own.uses c.in_ok-uses.uses c.in_ok-own.own.exports c.in_ok-exports.exports (c.in_ok-name.ensures ∙ ap (λ (y : Interface). y.id) c.in_ok-own.ensures)
     ((ap (λ (y : Interface). y.uses) c.in_ok-own.ensures)) ((ap (λ (y : Interface). y.exports) c.in_ok-own.ensures))
     (subst (UsesStand types) (sym (ap (λ (y : Interface). y.uses) c.in_ok-own.ensures)) (interface_uses_stand types i.acyclic c.args.id c.interface.result.now i.entry i.own))
     (subst (ItemsStand types) (sym (ap (λ (y : Interface). y.exports) c.in_ok-own.ensures)) (interface_exports_stand types i.acyclic c.args.id c.interface.result.now i.entry i.own))
-    c.in_ok-uses.ensures.written c.in_ok-exports.ensures.written)
+    c.in_ok-uses.ensures.formed c.in_ok-exports.ensures.formed)
 
 pub new_interface-returns-clause-forms : goal.new_interface-returns-clause-forms
-new_interface-returns-clause-forms t c = forms_kept c.form_items.new.types c.add_interface.new.self c.in_ok-form.ensures.grows c.form_items.new.forms c.in_ok-exports.ensures.forms
+new_interface-returns-clause-forms t c = forms_kept (maker c.args.worlds) c.form_items.new.types c.add_interface.new.self c.in_ok-form.ensures.grows c.form_items.new.forms c.in_ok-exports.ensures.forms
 
 pub new_interface-returns-clause-grows : goal.new_interface-returns-clause-grows
 new_interface-returns-clause-grows t c =
@@ -271,14 +271,14 @@ new_world-form_items-requires-2 t c =
     let k = items_size_kept types c.form_items.new.types g c.in_ok-own.own.exports stand in
     (omega (arith, s, e, k, c.decreases), (items_stand_kept types c.form_items.new.types g c.in_ok-own.own.exports stand, c.in_ok-imports.ensures.forms))
 
-pub new_world-add_component_type-requires-clause-uses : goal.new_world-add_component_type-requires-clause-uses
-new_world-add_component_type-requires-clause-uses t c = uses_stand_kept c.form_uses.new.types c.form_items-2.new.types (Grows-trans c.form_uses.new.types c.form_items.new.types c.form_items-2.new.types c.in_ok-imports.ensures.grows c.in_ok-exports.ensures.grows) c.in_ok-uses.uses c.in_ok-uses.ensures.written.stand
+pub new_world-add_formed_world-requires-clause-uses : goal.new_world-add_formed_world-requires-clause-uses
+new_world-add_formed_world-requires-clause-uses t c = uses_stand_kept c.form_uses.new.types c.form_items-2.new.types (Grows-trans c.form_uses.new.types c.form_items.new.types c.form_items-2.new.types c.in_ok-imports.ensures.grows c.in_ok-exports.ensures.grows) c.in_ok-uses.uses c.in_ok-uses.ensures.formed.stand
 
-pub new_world-add_component_type-requires-clause-imports : goal.new_world-add_component_type-requires-clause-imports
-new_world-add_component_type-requires-clause-imports t c = items_stand_kept c.form_items.new.types c.form_items-2.new.types c.in_ok-exports.ensures.grows c.in_ok-imports.imports c.in_ok-imports.ensures.written.stand
+pub new_world-add_formed_world-requires-clause-imports : goal.new_world-add_formed_world-requires-clause-imports
+new_world-add_formed_world-requires-clause-imports t c = items_stand_kept c.form_items.new.types c.form_items-2.new.types c.in_ok-exports.ensures.grows c.in_ok-imports.imports c.in_ok-imports.ensures.formed.stand
 
-pub new_world-add_component_type-requires-clause-exports : goal.new_world-add_component_type-requires-clause-exports
-new_world-add_component_type-requires-clause-exports t c = c.in_ok-exports.ensures.written.stand
+pub new_world-add_formed_world-requires-clause-exports : goal.new_world-add_formed_world-requires-clause-exports
+new_world-add_formed_world-requires-clause-exports t c = c.in_ok-exports.ensures.formed.stand
 
 pub new_world-returns-in_err-imports-clause-grows : goal.new_world-returns-in_err-imports-clause-grows
 new_world-returns-in_err-imports-clause-grows t c = Grows-trans c.args.types.now c.form_uses.new.types c.form_items.new.types c.in_ok-uses.ensures.grows c.in_err-imports.ensures.grows
@@ -293,33 +293,33 @@ new_world-returns-in_err-name-clause-grows t c =
 
 pub new_world-returns-in_err-form-clause-grows : goal.new_world-returns-in_err-form-clause-grows
 new_world-returns-in_err-form-clause-grows t c =
-    Grows-trans c.args.types.now c.form_uses.new.types c.add_component_type.new.types c.in_ok-uses.ensures.grows
-    (Grows-trans c.form_uses.new.types c.form_items.new.types c.add_component_type.new.types c.in_ok-imports.ensures.grows
-    (Grows-trans c.form_items.new.types c.form_items-2.new.types c.add_component_type.new.types c.in_ok-exports.ensures.grows c.in_err-form.ensures.grows))
+    Grows-trans c.args.types.now c.form_uses.new.types c.add_formed_world.new.types c.in_ok-uses.ensures.grows
+    (Grows-trans c.form_uses.new.types c.form_items.new.types c.add_formed_world.new.types c.in_ok-imports.ensures.grows
+    (Grows-trans c.form_items.new.types c.form_items-2.new.types c.add_formed_world.new.types c.in_ok-exports.ensures.grows c.in_err-form.ensures.grows))
 
-pub new_world-returns-clause-written : goal.new_world-returns-clause-written
-new_world-returns-clause-written t c =
+pub new_world-returns-clause-formed : goal.new_world-returns-clause-formed
+new_world-returns-clause-formed t c =
     let types = c.args.types.now in
     let i = c.world.ensures in
     let x = c.world.result.now in
-    subst (λ y. IsOf c.add_component_type.new.types y (ItemKind.Component c.in_ok-form.form))
-    (world_formed types i.acyclic c.form_uses.new.types c.form_items.new.types c.form_items-2.new.types c.add_component_type.new.types c.in_ok-uses.ensures.grows c.in_ok-imports.ensures.grows c.in_ok-exports.ensures.grows c.args.id x i.entry i.own
+    subst (λ y. IsOf c.add_formed_world.new.types y (ItemKind.Component c.in_ok-form.form))
+    (world_formed (maker c.args.worlds) types i.acyclic c.form_uses.new.types c.form_items.new.types c.form_items-2.new.types c.add_formed_world.new.types c.in_ok-uses.ensures.grows c.in_ok-imports.ensures.grows c.in_ok-exports.ensures.grows c.args.id x i.entry i.own
     c.in_ok-name.name c.in_ok-own.own.uses c.in_ok-uses.uses c.in_ok-own.own.imports c.in_ok-imports.imports c.in_ok-own.own.exports c.in_ok-exports.exports (c.in_ok-name.ensures ∙ ap (λ (y : World). y.id) c.in_ok-own.ensures)
     ((ap (λ (y : World). y.uses) c.in_ok-own.ensures)) ((ap (λ (y : World). y.imports) c.in_ok-own.ensures)) ((ap (λ (y : World). y.exports) c.in_ok-own.ensures))
     (subst (UsesStand types) (sym (ap (λ (y : World). y.uses) c.in_ok-own.ensures)) (world_uses_stand types i.acyclic c.args.id c.world.result.now i.entry i.own))
     (subst (ItemsStand types) (sym (ap (λ (y : World). y.imports) c.in_ok-own.ensures)) (world_imports_stand types i.acyclic c.args.id c.world.result.now i.entry i.own))
     (subst (ItemsStand types) (sym (ap (λ (y : World). y.exports) c.in_ok-own.ensures)) (world_exports_stand types i.acyclic c.args.id c.world.result.now i.entry i.own))
-    c.in_ok-uses.ensures.written c.in_ok-imports.ensures.written c.in_ok-exports.ensures.written)
+    c.in_ok-uses.ensures.formed c.in_ok-imports.ensures.formed c.in_ok-exports.ensures.formed)
     c.in_ok-form.ensures.world
 
 pub new_world-returns-clause-forms : goal.new_world-returns-clause-forms
-new_world-returns-clause-forms t c = forms_kept c.form_items-2.new.types c.add_component_type.new.types c.in_ok-form.ensures.grows c.form_items-2.new.forms c.in_ok-exports.ensures.forms
+new_world-returns-clause-forms t c = forms_kept (maker c.args.worlds) c.form_items-2.new.types c.add_formed_world.new.types c.in_ok-form.ensures.grows c.form_items-2.new.forms c.in_ok-exports.ensures.forms
 
 pub new_world-returns-clause-grows : goal.new_world-returns-clause-grows
 new_world-returns-clause-grows t c =
-    Grows-trans c.args.types.now c.form_uses.new.types c.add_component_type.new.types c.in_ok-uses.ensures.grows
-    (Grows-trans c.form_uses.new.types c.form_items.new.types c.add_component_type.new.types c.in_ok-imports.ensures.grows
-    (Grows-trans c.form_items.new.types c.form_items-2.new.types c.add_component_type.new.types c.in_ok-exports.ensures.grows c.in_ok-form.ensures.grows))
+    Grows-trans c.args.types.now c.form_uses.new.types c.add_formed_world.new.types c.in_ok-uses.ensures.grows
+    (Grows-trans c.form_uses.new.types c.form_items.new.types c.add_formed_world.new.types c.in_ok-imports.ensures.grows
+    (Grows-trans c.form_items.new.types c.form_items-2.new.types c.add_formed_world.new.types c.in_ok-exports.ensures.grows c.in_ok-form.ensures.grows))
 
 pub form_item-form_type-requires : goal.form_item-form_type-requires
 form_item-form_type-requires t c =
@@ -327,14 +327,14 @@ form_item-form_type-requires t c =
     let e = ap (λ k. size_of c.args.types.now k) c.in-Ty.is in
     (omega (arith, e, c.decreases), (s, c.requires.forms))
 
-pub form_item-returns-in_ok-form-in-Ty-clause-written : goal.form_item-returns-in_ok-form-in-Ty-clause-written
-form_item-returns-in_ok-form-in-Ty-clause-written t c =
-    subst (λ k. IsOf c.form_type.new.types (written (stated_of c.args.types.now k)) (ItemKind.Ty c.in_ok-form-in-Ty.form)) (sym c.in-Ty.is) c.in_ok-form-in-Ty.ensures.written
+pub form_item-returns-in_ok-form-in-Ty-clause-formed : goal.form_item-returns-in_ok-form-in-Ty-clause-formed
+form_item-returns-in_ok-form-in-Ty-clause-formed t c =
+    subst (λ k. IsOf c.form_type.new.types (formed (maker c.args.worlds) (stated_of c.args.types.now k)) (ItemKind.Ty c.in_ok-form-in-Ty.form)) (sym c.in-Ty.is) c.in_ok-form-in-Ty.ensures.formed
 
-pub form_item-returns-in_default-clause-written : goal.form_item-returns-in_default-clause-written
-form_item-returns-in_default-clause-written t c =
+pub form_item-returns-in_default-clause-formed : goal.form_item-returns-in_default-clause-formed
+form_item-returns-in_default-clause-formed t c =
     let o = other_item c.args.item c.in_default.not-Instance c.in_default.not-Component c.in_default.not-Ty in
-    record { stands = c.requires.stands; states = sym (other_written c.args.types.now c.see_acyclic.ensures c.args.item c.requires.stands o) }
+    record { stands = c.requires.stands; states = sym (other_formed c.args.types.now c.see_acyclic.ensures (maker c.args.worlds) c.args.item c.requires.stands o) }
 
 pub form_item-returns-in_default-clause-grows : goal.form_item-returns-in_default-clause-grows
 form_item-returns-in_default-clause-grows t c = Grows-refl c.args.types.now c.see_acyclic.ensures
@@ -355,24 +355,24 @@ form_type-form_world-requires t c =
     let k = world_type_size types c.see_acyclic.ensures c.in-World.id s in
     (omega (arith, e, k, c.decreases), (stands_typed_world types c.in-World.id s, c.requires.forms))
 
-pub form_type-returns-in_ok-form-in-Interface-clause-written : goal.form_type-returns-in_ok-form-in-Interface-clause-written
-form_type-returns-in_ok-form-in-Interface-clause-written t c =
+pub form_type-returns-in_ok-form-in-Interface-clause-formed : goal.form_type-returns-in_ok-form-in-Interface-clause-formed
+form_type-returns-in_ok-form-in-Interface-clause-formed t c =
     let types = c.args.types.now in
     let s : Stands types (ItemKind.Ty (TypeKind.Interface c.in-Interface.id)) = subst (λ ty. Stands types (ItemKind.Ty ty)) c.in-Interface.is c.requires.stands in
-    subst (λ ty. IsOf c.form_interface.new.types (written (stated_of types (ItemKind.Ty ty))) (ItemKind.Ty (TypeKind.Interface c.in_ok-form-in-Interface.form))) (sym c.in-Interface.is)
-    (interface_type_formed types c.see_acyclic.ensures c.form_interface.new.types c.in_ok-form-in-Interface.ensures.grows.acyclic c.in-Interface.id c.in_ok-form-in-Interface.form (stands_typed_interface types c.in-Interface.id s) c.in_ok-form-in-Interface.ensures.written)
+    subst (λ ty. IsOf c.form_interface.new.types (formed (maker c.args.worlds) (stated_of types (ItemKind.Ty ty))) (ItemKind.Ty (TypeKind.Interface c.in_ok-form-in-Interface.form))) (sym c.in-Interface.is)
+    (interface_type_formed (maker c.args.worlds) types c.see_acyclic.ensures c.form_interface.new.types c.in_ok-form-in-Interface.ensures.grows.acyclic c.in-Interface.id c.in_ok-form-in-Interface.form (stands_typed_interface types c.in-Interface.id s) c.in_ok-form-in-Interface.ensures.formed)
 
-pub form_type-returns-in_ok-form-in-World-clause-written : goal.form_type-returns-in_ok-form-in-World-clause-written
-form_type-returns-in_ok-form-in-World-clause-written t c =
+pub form_type-returns-in_ok-form-in-World-clause-formed : goal.form_type-returns-in_ok-form-in-World-clause-formed
+form_type-returns-in_ok-form-in-World-clause-formed t c =
     let types = c.args.types.now in
     let s : Stands types (ItemKind.Ty (TypeKind.World c.in-World.id)) = subst (λ ty. Stands types (ItemKind.Ty ty)) c.in-World.is c.requires.stands in
-    subst (λ ty. IsOf c.form_world.new.types (written (stated_of types (ItemKind.Ty ty))) (ItemKind.Ty (TypeKind.World c.in_ok-form-in-World.form))) (sym c.in-World.is)
-    (world_type_formed types c.see_acyclic.ensures c.form_world.new.types c.in_ok-form-in-World.ensures.grows.acyclic c.in-World.id c.in_ok-form-in-World.form (stands_typed_world types c.in-World.id s) c.in_ok-form-in-World.ensures.written)
+    subst (λ ty. IsOf c.form_world.new.types (formed (maker c.args.worlds) (stated_of types (ItemKind.Ty ty))) (ItemKind.Ty (TypeKind.World c.in_ok-form-in-World.form))) (sym c.in-World.is)
+    (world_type_formed (maker c.args.worlds) types c.see_acyclic.ensures c.form_world.new.types c.in_ok-form-in-World.ensures.grows.acyclic c.in-World.id c.in_ok-form-in-World.form (stands_typed_world types c.in-World.id s) c.in_ok-form-in-World.ensures.formed)
 
-pub form_type-returns-in_default-clause-written : goal.form_type-returns-in_default-clause-written
-form_type-returns-in_default-clause-written t c =
+pub form_type-returns-in_default-clause-formed : goal.form_type-returns-in_default-clause-formed
+form_type-returns-in_default-clause-formed t c =
     let o = other_type c.args.ty c.in_default.not-Interface c.in_default.not-World in
-    record { stands = c.requires.stands; states = sym (other_written c.args.types.now c.see_acyclic.ensures (ItemKind.Ty c.args.ty) c.requires.stands o) }
+    record { stands = c.requires.stands; states = sym (other_formed c.args.types.now c.see_acyclic.ensures (maker c.args.worlds) (ItemKind.Ty c.args.ty) c.requires.stands o) }
 
 pub form_type-returns-in_default-clause-grows : goal.form_type-returns-in_default-clause-grows
 form_type-returns-in_default-clause-grows t c = Grows-refl c.args.types.now c.see_acyclic.ensures

@@ -2,7 +2,7 @@ use Rattle.std.proofs.Common.{◌+◌, ◌*◌, take}
 use Rattle.wac_types_base.specs.declared.item.ItemKind.{ItemKind}
 use Rattle.wac_types_base.specs.Collection.{Grows, items, size_of, used}
 use Rattle.wac_types_base.proofs.Telling.{row_size}
-use Rattle.wac_types_written.specs.Forms.{AreForms, AreWritten, UsesWritten}
+use Rattle.wac_types_written.specs.Forms.{AreFormed, AreForms, UsesFormed, maker}
 use Rattle.wac_types_written.proofs.items.+forms.Given as goal
 
 abbrev pub decreases-form_items : goal.decreases-form_items
@@ -31,7 +31,7 @@ decreases-new_world l = 6 * size_of l.types.now (ItemKind.Component l.id) + 2
 
 -- what became of those so far
 abbrev pub invariant-form_items-loop-at : goal.invariant-form_items-loop-at
-invariant-form_items-loop-at l = record { written : AreWritten l.types (take l.at l.items) l.all; forms : AreForms l.types l.forms; grows : Grows l.fn.types l.types }
+invariant-form_items-loop-at l = record { formed : AreFormed (maker l.worlds) l.types (take l.at l.items) l.all; forms : AreForms (maker l.worlds) l.types l.forms; grows : Grows l.fn.types l.types }
 
 abbrev pub invariant-form_uses-loop-at : goal.invariant-form_uses-loop-at
-invariant-form_uses-loop-at l = record { written : UsesWritten l.types (take l.at l.uses) l.all; forms : AreForms l.types l.forms; grows : Grows l.fn.types l.types }
+invariant-form_uses-loop-at l = record { formed : UsesFormed (maker l.worlds) l.types (take l.at l.uses) l.all; forms : AreForms (maker l.worlds) l.types l.forms; grows : Grows l.fn.types l.types }

@@ -4,9 +4,9 @@ use Rattle.wac_types_base.specs.Collection.{Stands}
 use Rattle.wac_types_base.specs.Stated.{stated_of}
 use Rattle.wac_types_base.proofs.Adding.{Grows-refl}
 use Rattle.wac_types_written.specs.Forms.{IsOf}
-use Rattle.wac_types_written.specs.Written.{written_definition}
+use Rattle.wac_types_written.specs.Written.{component_type, written_definition}
 use Rattle.wac_types_written.proofs.Forming.{other_no_type, other_type, plain_definition}
-use Rattle.wac_types_written.proofs.Ids.{other_written}
+use Rattle.wac_types_written.proofs.Ids.{other_formed}
 use Rattle.wac_types_written.proofs.items.written_type.Goals as goal
 
 pub written_interface-requires : goal.written_interface-requires
@@ -27,7 +27,7 @@ returns-in_default-clause-written c =
     let o = other_type c.args.ty c.in_default.not-Interface c.in_default.not-World in
     record {
       stands = c.requires;
-      states = sym (plain_definition types c.see_acyclic.ensures (ItemKind.Ty c.args.ty) c.requires (other_no_type c.args.ty o) ∙ other_written types c.see_acyclic.ensures (ItemKind.Ty c.args.ty) c.requires o);
+      states = sym (plain_definition types c.see_acyclic.ensures (ItemKind.Ty c.args.ty) c.requires (other_no_type c.args.ty o) ∙ other_formed types c.see_acyclic.ensures component_type (ItemKind.Ty c.args.ty) c.requires o);
     }
 
 pub returns-in_default-clause-grows : goal.returns-in_default-clause-grows

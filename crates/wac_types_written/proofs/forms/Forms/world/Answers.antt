@@ -2,12 +2,12 @@ use Rattle.std.proofs.Common.{subst, sym}
 use Rattle.wac_types_base.specs.declared.item.ItemKind.{ItemKind}
 use Rattle.wac_types_base.specs.Copies.{world_at}
 use Rattle.wac_types_base.proofs.Standing.{world_found}
-use Rattle.wac_types_written.specs.Forms.{IsWritten}
-use Rattle.wac_types_written.proofs.Found.{found_written}
+use Rattle.wac_types_written.specs.Forms.{IsFormed, maker}
+use Rattle.wac_types_written.proofs.Found.{found_formed}
 use Rattle.wac_types_written.proofs.forms.Forms.world.Goals as goal
 
 pub returns : goal.returns
 returns c =
     let t = c.args.types.now in
-    subst (λ n. IsWritten t (ItemKind.Component c.args.id) (world_at n c.in_ok-index.field-0.now)) (sym c.number.ensures)
-    (found_written t world_at c.args.self.now.worlds c.requires.forms.worlds c.args.id.collection c.args.id.index c.in_ok-index.field-0.now (world_found t c.args.id c.requires.stands).own (sym c.in_ok-index.ensures.value))
+    subst (λ n. IsFormed (maker c.args.worlds) t (ItemKind.Component c.args.id) (world_at n c.in_ok-index.field-0.now)) (sym c.number.ensures)
+    (found_formed (maker c.args.worlds) t world_at c.args.self.now.worlds c.requires.forms.worlds c.args.id.collection c.args.id.index c.in_ok-index.field-0.now (world_found t c.args.id c.requires.stands).own (sym c.in_ok-index.ensures.value))
