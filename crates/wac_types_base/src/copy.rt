@@ -3,6 +3,8 @@
 ghost use Rattle.std.specs.Prelude.{◌≡◌, OnOk, IfOk};
 ghost use Rattle.wac_types_base.specs.Collection.{Stands, Grows};
 ghost use Rattle.wac_types_base.specs.Copies.{Knows, AreCopies, KeepsKnown, KnowsPlaces, kind_copy};
+ghost use Rattle.wac_types_base.specs.Copier.{HasCopied};
+ghost use Rattle.wac_types_base.specs.Record.{Collection};
 ghost use Rattle.wac_types_base.specs.Copying.{IsCopy};
 
 use crate::copies::Copies;
@@ -260,6 +262,43 @@ fn copy_below(
     copy_kind(alloc, from, kind, to, copies)
 }
 
+/// Copies from one collection into another, in many calls. What is copied once is not copied again.
+#[derive(Drop)]
+pub struct Copier {
+    copies: Copies,
+}
+
+impl Copier {
+    /// Nothing is copied yet.
+    pub fn new(alloc: Global, to: &Types) -> Self
+        ensures { (from : Collection) → HasCopied from to.now result }
+    {
+        Copier {
+            copies: Copies::new(alloc, to.number()),
+        }
+    }
+
+    /// Copies what a kind names. Want of memory may leave entries that nothing names.
+    pub fn item(
+        &mut self,
+        alloc: Global,
+        from: &Types,
+        kind: ItemKind,
+        to: &mut Types,
+    ) -> Result<ItemKind, AllocError>
+        requires stands { Stands from.now kind }
+        requires copies { HasCopied from.now to.old self.old }
+        ensures copied { IfOk result (λ k. IsCopy from.now to.new kind k) }
+        ensures copies { HasCopied from.now to.new self.new }
+        ensures grows { Grows to.old to.new }
+    {
+        to.see_acyclic();
+        from.see_acyclic();
+        copy_below(alloc, from, kind, to, &mut self.copies)?;
+        Ok(self.copies.kind(kind))
+    }
+}
+
 /// Copies what a kind names into another collection. Want of memory may leave entries there that nothing names.
 pub fn copy_item(
     alloc: Global,
@@ -271,11 +310,8 @@ pub fn copy_item(
     ensures copied { IfOk result (λ k. IsCopy from.now to.new kind k) }
     ensures grows { Grows to.old to.new }
 {
-    to.see_acyclic();
-    from.see_acyclic();
-    let mut copies = Copies::new(alloc, to.number());
-    copy_below(alloc, from, kind, to, &mut copies)?;
-    Ok(copies.kind(kind))
+    let mut copier = Copier::new(alloc, to);
+    copier.item(alloc, from, kind, to)
 }
 
 /// Copies a world into another collection, with the same tree, identifiers and uses. Want of memory may leave entries

@@ -20,7 +20,7 @@ pub mod visit;
 pub mod walk;
 
 pub use containers::{Items, NamedMap, Names, Text};
-pub use copy::copy_world;
+pub use copy::{Copier, copy_world};
 pub use core_types::{
     CoreExtern, CoreFuncType, CoreImports, CoreRefType, CoreType, HeapType, ModuleType,
 };

@@ -1,0 +1,8 @@
+use Rattle.std.proofs.Common.{sym, ◌∙◌}
+use Rattle.wac_types_base.specs.Copier.{HasCopied}
+use Rattle.wac_types_base.proofs.Copying.{AreCopies-none}
+use Rattle.wac_types_base.proofs.copy.Copier.new.Goals as goal
+
+pub returns-clause : goal.returns-clause
+unfolding HasCopied
+returns-clause c from = AreCopies-none from c.args.to.now c.new.result (c.new.ensures.number ∙ c.number.ensures) c.new.ensures.none
