@@ -11,7 +11,7 @@ pub mod Slots
 pub mod Examples
 pub mod Renamed
 pub mod Copying
-pub mod Copier
+pub mod Remembering
 pub mod PairNames
 pub mod Telling
 pub mod Used

@@ -11,7 +11,7 @@ pub mod Reaching
 pub mod View
 pub mod Renaming
 pub mod Copies
-pub mod Copier
+pub mod Remembering
 pub mod Resolving
 pub mod Implicit
 pub mod Visiting

@@ -3,7 +3,7 @@
 ghost use Rattle.std.specs.Prelude.{◌≡◌, OnOk, IfOk};
 ghost use Rattle.wac_types_base.specs.Collection.{Stands, Grows};
 ghost use Rattle.wac_types_base.specs.Copies.{Knows, AreCopies, KeepsKnown, KnowsPlaces, kind_copy};
-ghost use Rattle.wac_types_base.specs.Copier.{HasCopied};
+ghost use Rattle.wac_types_base.specs.Remembering.{HasCopied};
 ghost use Rattle.wac_types_base.specs.Record.{Collection};
 ghost use Rattle.wac_types_base.specs.Copying.{IsCopy};
 

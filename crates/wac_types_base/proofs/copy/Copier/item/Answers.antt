@@ -1,6 +1,6 @@
 use Rattle.std.proofs.Common.{sym, subst}
 use Rattle.wac_types_base.specs.Copying.{IsCopy}
-use Rattle.wac_types_base.specs.Copier.{HasCopied}
+use Rattle.wac_types_base.specs.Remembering.{HasCopied}
 use Rattle.wac_types_base.proofs.Copying.{kind_copied}
 use Rattle.wac_types_base.proofs.copy.Copier.item.Goals as goal
 
