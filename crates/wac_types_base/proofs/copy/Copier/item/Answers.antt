@@ -16,3 +16,7 @@ returns-clause-copied c =
 pub returns-clause-copies : goal.returns-clause-copies
 unfolding HasCopied
 returns-clause-copies c = c.copy_below.ensures.copies
+
+pub returns-in_err-copy_below-clause-copies : goal.returns-in_err-copy_below-clause-copies
+unfolding HasCopied
+returns-in_err-copy_below-clause-copies c = c.copy_below.ensures.copies

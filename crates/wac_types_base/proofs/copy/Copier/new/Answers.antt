@@ -1,4 +1,4 @@
-use Rattle.std.proofs.Common.{sym, ◌∙◌}
+use Rattle.std.proofs.Common.{◌∙◌}
 use Rattle.wac_types_base.specs.Remembering.{HasCopied}
 use Rattle.wac_types_base.proofs.Copying.{AreCopies-none}
 use Rattle.wac_types_base.proofs.copy.Copier.new.Goals as goal
