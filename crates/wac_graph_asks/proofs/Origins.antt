@@ -205,6 +205,48 @@ module _ (g : Graph) (sound : IsGraph g) (finite_types : IsFinite g.types) where
   pub denoted : (k : ℕ) (s : Source ℕ) → Denotes k s → s ≡ source (origin_of g k)
   denoted k s f = within (length g.edges) k s (count_most (starts_below (rank k)) g.edges) f
 
+  -- ---- how far a node is followed
+
+  -- where what it is an alias of comes from the same place, so does a node
+  same_by_role : (d e k : ℕ) (x : NodeData) (r : Role) → ((i : ℕ) (n : Name) → HasAlias g.edges i n k → origin_within g d i ≡ origin_within g e i) → origin_by g (origin_within g d) k r x ≡ origin_by g (origin_within g e) k r x
+  same_by_role d e k x (Role.Imported n) same = refl
+  same_by_role d e k x Role.Instance same = refl
+  same_by_role d e k x Role.Defined same = refl
+  same_by_role d e k x Role.Aliased same = go (first_source g.edges k) refl
+    where
+      go : (o : Option (ℕ × Name)) → first_source g.edges k ≡ o → export_of (origin_within g d) k o ≡ export_of (origin_within g e) k o
+      go None is = refl
+      go (Some s) is = ap (λ o. projected o s.1) (same s.0 s.1 (source_found g.edges k s.0 s.1 is))
+
+  same_at : (d e k : ℕ) → ((i : ℕ) (n : Name) → HasAlias g.edges i n k → origin_within g d i ≡ origin_within g e i) → origin_within g (suc d) k ≡ origin_within g (suc e) k
+  same_at d e k same = go (node_at g k)
+    where
+      go : (o : Option NodeData) → origin_at g (origin_within g d) k o ≡ origin_at g (origin_within g e) k o
+      go None = refl
+      go (Some x) = same_by_role d e k x x.role same
+
+  -- it is followed to its end
+  steady : (d e k : ℕ) → below k ≤ d → below k ≤ e → origin_within g (suc d) k ≡ origin_within g (suc e) k
+  steady zero e k b c = same_at zero e k (λ i n h. let l = fewer i k n h in absurd (omega (arith, b, l)))
+  steady (suc d) zero k b c = same_at (suc d) zero k (λ i n h. let l = fewer i k n h in absurd (omega (arith, c, l)))
+  steady (suc d) (suc e) k b c = same_at (suc d) (suc e) k (λ i n h. let l = fewer i k n h in steady d e i (omega (arith, b, l)) (omega (arith, c, l)))
+
+  further : (d i k : ℕ) (n : Name) → HasAlias g.edges i n k → below k ≤ d → origin_within g d i ≡ origin_within g (suc d) i
+  further zero i k n h b = let l = fewer i k n h in absurd (omega (arith, b, l))
+  further (suc d) i k n h b = let l = fewer i k n h in steady d (suc d) i (omega (arith, b, l)) (omega (arith, b, l))
+
+  -- an alias is an export of what it is an alias of
+  pub origin_alias : (i k : ℕ) (n : Name) → HasAlias g.edges i n k → origin_of g k ≡ projected (origin_of g i) n
+  origin_alias i k n h =
+      let x = (sound.wired.edges (alias_edge i k n) h).alias n refl in
+      at_node (origin_within g (length g.edges)) k x.0 Role.Aliased x.1 x.2
+      ∙ ap (export_of (origin_within g (length g.edges)) k) (alias_is i k n h)
+      ∙ ap (λ o. projected o n) (further (length g.edges) i k n h (count_most (starts_below (rank k)) g.edges))
+
+  -- a node of another role comes from itself
+  pub origin_role : (k : ℕ) (x : NodeData) (r : Role) → node_at g k ≡ Some x → x.role ≡ r → origin_of g k ≡ origin_by g (origin_within g (length g.edges)) k r x
+  origin_role k x r e is = at_node (origin_within g (length g.edges)) k x r e is
+
   -- ---- instances
 
   abbrev pub made_of : ℕ → Packaged → Made ℕ ℕ
