@@ -1,4 +1,4 @@
--- In a sound composition that nothing stands against each import is bound to what fits it, and the world that is handed out is true.
+-- In a sound composition whose asks are met each import is bound to what fits it, and the world that is handed out is true.
 use Rattle.std.specs.Prelude.{◌==◌, ◌<◌, drop, option_map, unwrap_or, is_some, not, cond, filter, slice_get, IsSome, if◌then◌else◌}
 use Rattle.std.proofs.lemmas.Option.{none-some, same_Some}
 use Rattle.std.specs.List.{flat_map}
@@ -20,14 +20,13 @@ use Rattle.wac_composition.specs.Composition.{Origin, imported, projected, defin
 use Rattle.wac_composition.specs.Asks.{ToFill, Ask, explicit_ask, filled_asks, named_asks, asks_of}
 use Rattle.wac_composition.specs.Classes.{is_instance, spelling}
 use Rattle.wac_composition.specs.OuterImports.{outer_imports}
-use Rattle.wac_composition.specs.Conflicts.{first_cause}
 use Rattle.wac_types_written.specs.Written.{bare_world, formed_at, is_type, found_in, written_definition}
 use Rattle.wac_composition.specs.Worlds.{then_in, final_type, source_of, exported_type, world_exports, used_world, composed_world}
 use Rattle.wac_composition.specs.Wired.{source_for, argument_source, instantiation, export_source, composed_wiring}
 use Rattle.wac_composition.specs.Sound.{fields_of, maps_of, IsStraight, an_instance, no_instance, HasType, of_import, of_instance, of_export, of_definition, given_as, IsBefore, IsSound, IsMade, IsWired}
 use Rattle.wac_composition.proofs.KeptFits.{fields_ordered, fields_looked, instance_tree, made_tree}
 use Rattle.wac_composition.proofs.Clashing.{value_among}
-use Rattle.wac_composition.proofs.Merged.{all_met}
+use Rattle.wac_composition.specs.OuterLaws.{AreMet}
 use Rattle.wac_composition.proofs.Straight.{outer_straight}
 use Rattle.wac_composition.proofs.Unused.{made_world, without_same, zero_plus}
 use Rattle.wac_composition.proofs.AskedAgain.{among_first}
@@ -156,7 +155,7 @@ paired_origins : {I : Type 0} (es : List (Name × Origin I × Stated)) → map {
 paired_origins [] = refl
 paired_origins (e ∷ es) = ap (λ l. (e.0, e.1) ∷ l) (paired_origins es)
 
-module _ {A : Type 0} (tag_of : Key → Tag) (c : Composition A ℕ) (define : Bool) (nothing : first_cause define c ≡ None) (sound : IsSound c) where
+module _ {A : Type 0} (tag_of : Key → Tag) (c : Composition A ℕ) (met : AreMet c) (sound : IsSound c) where
   abbrev asks : List (Ask A)
   asks = asks_of c
 
@@ -174,13 +173,13 @@ module _ {A : Type 0} (tag_of : Key → Tag) (c : Composition A ℕ) (define : B
   imported_stands : (i : Placed A) → Among i c.imports → Stands (imported i.name) i.item
   imported_stands i m =
       let a : Among (explicit_ask i) asks = among_first (named_asks c) _ (explicit_ask i) (among_first (map explicit_ask c.imports) (flat_map filled_asks c.made) (explicit_ask i) (among_mapped explicit_ask c.imports i m)) in
-      let k = all_met define c nothing (explicit_ask i) a in
+      let k = met (explicit_ask i) a in
       record {
-        item = k.0;
-        has = ap (option_map tree) k.1;
-        fits = k.2;
-        final = ap (λ o. unwrap_or o i.item) k.1;
-        straight = λ e. outer_straight asks sound.straight (spelling asks i.name) k.0 k.1;
+        item = k.item;
+        has = ap (option_map tree) k.there;
+        fits = k.fits;
+        final = ap (λ o. unwrap_or o i.item) k.there;
+        straight = λ e. outer_straight asks sound.straight (spelling asks i.name) k.item k.there;
       }
 
   instance_stands : (k : ℕ) (m : Made A ℕ) → slice_get c.made k ≡ Some m → Stands (Origin.instance k) (instance_type m.world)
@@ -280,8 +279,8 @@ module _ {A : Type 0} (tag_of : Key → Tag) (c : Composition A ℕ) (define : B
   given_for : (k : ℕ) (m : Made A ℕ) (n : Name) (x : Stated) → slice_get c.made k ≡ Some m → value_at (imports_of m.world) n ≡ Some x → (o : Option (Origin ℕ)) → value_at m.arguments n ≡ o
       → Gives outs (IsMade c) (source_for tag_of c o n) (tree x)
   given_for k m n x e v None a =
-      let i = all_met define c nothing (record { asking = ToFill; by = m.by; name = n; item = x }) (filled_ask k m n x e v a) in
-      record { given = tree i.0; has = ap (option_map tree) i.1; fits = i.2 }
+      let i = met (record { asking = ToFill; by = m.by; name = n; item = x }) (filled_ask k m n x e v a) in
+      record { given = tree i.item; has = ap (option_map tree) i.there; fits = i.fits }
   given_for k m n x e v (Some o) a =
       let g = sound.given k m n o x e a v in
       let s = stands o g.item g.has in

@@ -10,6 +10,7 @@ use Rattle.wac_types_base.specs.Stated.{Stated}
 use Rattle.wac_types_base.specs.Tree.{tree}
 use Rattle.wac_types_base.specs.Fits.{Fits}
 use Rattle.wac_composition.specs.Composition.{Composition}
+use Rattle.wac_composition.specs.OuterLaws.{AreMet}
 use Rattle.wac_composition.specs.Asks.{Asking, ByName, ToFill, ToUse, Ask, asks_of}
 use Rattle.wac_composition.specs.Classes.{joined, class, spelled, spelling}
 use Rattle.wac_composition.specs.Merging.{kept, identified}
@@ -108,13 +109,19 @@ module _ {A : Type 0} where
       go None q r = absurd (true≢false (sym r))
       go (Some z) q r = (spelled as_, identified (spelled as_) (asked_in as_) z, ap (option_map {U = Name × Stated} (λ (y : Stated). (spelled as_, identified (spelled as_) (asked_in as_) y))) q)
 
-  -- each ask of a composition without a cause finds an outer import that fits it
-  pub all_met : {I : Type 0} (define : Bool) (c : Composition A I) → first_cause define c ≡ None → (a : Ask A) → Among a (asks_of c) → (x : Stated) × (value_at (outer_imports (asks_of c)) (spelling (asks_of c) a.name) ≡ Some x) × Fits (tree x) (tree a.item)
-  all_met define c e a m =
+  -- each ask of a composition whose imports do not conflict finds an outer import that fits it
+  pub merged_met : {I : Type 0} (c : Composition A I) → merge_conflict (asks_of c) [] (asks_of c) ≡ None → AreMet c
+  merged_met c e a m =
+      let asks = asks_of c in
+      let own = among_any (names_in (class asks a)) asks a m (among_any (λ (d : Ask A). bytes_eq a.name d.name) (class asks a) a (class_itself asks a m) ((bytes_eq-Decides a.name a.name).1 refl)) in
+      let o = outer_some (class asks a) (merges_from asks a m [] asks refl e own) in
+      let met = asks_are_met asks a o.0 o.1 m o.2 in
+      record { item = o.1; there = ap (value_at (outer_imports asks)) met.0 ∙ met.1; fits = met.2 }
+
+  -- where it has no cause they do not
+  pub all_met : {I : Type 0} (define : Bool) (c : Composition A I) → first_cause define c ≡ None → AreMet c
+  all_met define c e =
       let asks = asks_of c in
       let i = or_none (implicit_conflict c.imports asks) _ e in
       let f = or_none (merge_conflict asks [] asks) _ i.1 in
-      let own = among_any (names_in (class asks a)) asks a m (among_any (λ (d : Ask A). bytes_eq a.name d.name) (class asks a) a (class_itself asks a m) ((bytes_eq-Decides a.name a.name).1 refl)) in
-      let o = outer_some (class asks a) (merges_from asks a m [] asks refl f.0 own) in
-      let met = asks_are_met asks a o.0 o.1 m o.2 in
-      (o.1, ap (value_at (outer_imports asks)) met.0 ∙ met.1, met.2)
+      merged_met c f.0

@@ -14,7 +14,7 @@ use Rattle.wac_composition.specs.Merging.{Asked, in_family, kept}
 use Rattle.wac_composition.specs.Regular.{AreRegular}
 use Rattle.wac_composition.specs.Classes.{Linked, class, spelling}
 use Rattle.wac_composition.specs.OuterImports.{outer_of, outer_imports}
-use Rattle.wac_composition.specs.Conflicts.{first_cause}
+use Rattle.wac_composition.specs.Conflicts.{first_cause, merge_conflict}
 
 abbrev pub trees_asked : List Asked → List Tree
 trees_asked asks = map (λ a. tree a.1) asks
@@ -67,6 +67,13 @@ pub record IsMet {A : Type 0} (asks : List (Ask A)) (a : Ask A) : Type 0 where
   pub there : value_at (outer_imports asks) (spelling asks a.name) ≡ Some item
   pub fits : Fits (tree item) (tree a.item)
 
--- where nothing stands against a composition, each of its asks is met
+-- each ask of a composition is met
+abbrev pub AreMet : {A I : Type 0} → Composition A I → Type 0
+AreMet c = (a : Ask _) → Among a (asks_of c) → IsMet (asks_of c) a
+
+-- so it is where no imports conflict, and where nothing stands against the composition
+abbrev pub Merged_are_met : Type 0 → Type 0 → Type 0
+Merged_are_met A I = (c : Composition A I) → merge_conflict (asks_of c) [] (asks_of c) ≡ None → AreMet c
+
 abbrev pub Accepted_are_met : Type 0 → Type 0 → Type 0
-Accepted_are_met A I = (define : Bool) (c : Composition A I) → first_cause define c ≡ None → (a : Ask A) → Among a (asks_of c) → IsMet (asks_of c) a
+Accepted_are_met A I = (define : Bool) (c : Composition A I) → first_cause define c ≡ None → AreMet c

@@ -20,7 +20,7 @@ ghost use Rattle.wac_composition.specs.Asks.{asks_of};
 ghost use Rattle.wac_composition.specs.Classes.{spelling};
 ghost use Rattle.wac_composition.specs.Circles.{written_names};
 ghost use Rattle.wac_composition.specs.OuterImports.{outer_imports};
-ghost use Rattle.wac_composition.specs.OuterLaws.{Classes_are_linked, Links_turn, Links_go_on, Kept_is_meet, None_are_kept, Outer_fits, Asks_are_met, Accepted_are_met, Outers_are_apart};
+ghost use Rattle.wac_composition.specs.OuterLaws.{Classes_are_linked, Links_turn, Links_go_on, Kept_is_meet, None_are_kept, Outer_fits, Asks_are_met, Accepted_are_met, AreMet, Merged_are_met, Outers_are_apart};
 ghost use Rattle.wac_composition.specs.Conflicts.{ImplicitImport, ExplicitImport, ImportTypes, Unwritable, ImportNames, first_cause, name_cause, dependencies_of};
 ghost use Rattle.wac_composition.specs.Composition.{Composition};
 ghost use Rattle.wac_composition.specs.Against.{FirstStands};
@@ -79,6 +79,7 @@ pub fn outer_imports_fit<A, I>()
     ensures none { None_are_kept }
     ensures outer { Outer_fits A }
     ensures met { Asks_are_met A }
+    ensures merged { Merged_are_met A I }
     ensures accepted { Accepted_are_met A I }
     ensures apart { Outers_are_apart A }
 {}
@@ -115,10 +116,10 @@ pub fn order_does_not_matter<A, I>()
     ensures { (c d : Composition A I) → IsAlike c d → MeansAlike c d }
 {}
 
-/// In a composition that speaks of what is there alone, whose arguments fit, and that nothing stands against, each import
+/// In a composition that speaks of what is there alone, whose arguments fit, and whose asks are met, each import
 /// of each instance is bound once, to what fits it and was there before, and the world that is handed out is true of the wiring.
 pub fn compositions_are_wired<A>()
-    ensures { (define : Bool) (tag_of : Key → Tag) (c : Composition A ℕ) → IsSound c → first_cause define c ≡ None → IsWired tag_of c }
+    ensures { (tag_of : Key → Tag) (c : Composition A ℕ) → IsSound c → AreMet c → IsWired tag_of c }
 {}
 
 /// Compositions from outside: what they import, and why some cannot be written.

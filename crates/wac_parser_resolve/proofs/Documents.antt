@@ -12,17 +12,24 @@ use Rattle.wac_composition.specs.Composition as c
 use Rattle.wac_composition.specs.Composition.{Composition}
 use Rattle.wac_composition.specs.Tests.{fits}
 use Rattle.wac_types_written.specs.Written.{written_definition}
+use Rattle.wac_composition.specs.OuterLaws.{AreMet}
 use Rattle.wac_composition.specs.Sound.{HasType, of_import, of_instance, of_export, of_definition, given_as, IsBefore, IsGiven, IsSound, IsWired}
 use Rattle.wac_composition.proofs.FitBack.{fits_decides}
 use Rattle.wac_composition.proofs.Bound.{wired}
+use Rattle.wac_composition.proofs.Merged.{all_met}
 use Rattle.wac_composition.proofs.Lists.{mapped_among}
 use Rattle.wac_parser_declare.specs.Packages.{Content}
 use Rattle.wac_parser_resolve.specs.Ascribing.{Origin, imported, instance, projected, defined, Denoted, Made, State}
 use Rattle.wac_parser_resolve.specs.Denoting.{compared_by}
 use Rattle.wac_parser_resolve.specs.Ascribed.{Asker, origin_in, made_in, placed_import, placed_definition, exported_in, composition}
-use Rattle.wac_parser_resolve.specs.Laws.{Documents_are_wired}
+use Rattle.wac_parser_resolve.specs.Saying.{statements}
+use Rattle.wac_parser_resolve.specs.Meeting.{resolved, target}
+use Rattle.wac_parser_resolve.specs.Laws.{Documents_are_wired, Resolved_are_wired}
+use Rattle.wac_parser_resolve.specs.Ascribing.{worlds_of}
+use Rattle.wac_parser_resolve.specs.Proper.{AreProper}
+use Rattle.wac_parser_resolve.proofs.Answers.{ok_is, ok_of}
 use Rattle.wac_parser_resolve.proofs.Numbers.{Below}
-use Rattle.wac_parser_resolve.proofs.Sound.{Has, an_import, an_instance, an_export, a_definition, IsMadeOk, Sound}
+use Rattle.wac_parser_resolve.proofs.Sound.{Has, an_import, an_instance, an_export, a_definition, IsMadeOk, Sound, statements_sound}
 use Rattle.wac_parser_resolve.proofs.Ordered.{numbered_is, numbered_at, argument_is, said}
 use Rattle.wac_parser_resolve.proofs.ProperStates.{IsRegular, statements_formed, is_regular}
 
@@ -70,4 +77,14 @@ pub documents_are_wired : Documents_are_wired
 documents_are_wired d ps define x packages e tag_of =
     let s = said d ps define x e in
     let regular = is_regular ps packages s.state s.sound (statements_formed ps packages d s.state s.statements) in
-    subst (IsWired tag_of) (sym s.is) (wired tag_of (composition s.state) define s.free (is_sound ps s.state s.sound regular))
+    subst (IsWired tag_of) (sym s.is) (wired tag_of (composition s.state) (all_met define (composition s.state) s.free) (is_sound ps s.state s.sound regular))
+
+pub resolved_are_wired : Resolved_are_wired
+resolved_are_wired d ps r packages e met tag_of =
+    let g = ok_of (statements d ps) _ r (sym e) in
+    let w = ok_of (target g.0 d.directive.targets) _ r g.2 in
+    let same : r.0 ≡ g.0 = ap (λ (q : State × Option Stated). q.0) (ok_is r (g.0, w.0) w.2) in
+    let sound = statements_sound ps d g.0 (sym g.1) in
+    let regular = is_regular ps packages g.0 sound (statements_formed ps packages d g.0 (sym g.1)) in
+    subst (λ (s : State). IsWired tag_of (composition s)) (sym same)
+    (wired tag_of (composition g.0) (subst (λ (s : State). AreMet (composition s)) same met) (is_sound ps g.0 sound regular))

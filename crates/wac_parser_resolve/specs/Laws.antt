@@ -5,6 +5,7 @@ use Rattle.wac_types_names.specs.Keys.{Key}
 use Rattle.wac_graph_bytes.specs.Wirings.{Tag, IsOrdered}
 use Rattle.wac_composition.specs.Composition as c
 use Rattle.wac_composition.specs.Composition.{Placed, Composition}
+use Rattle.wac_composition.specs.OuterLaws.{AreMet}
 use Rattle.wac_composition.specs.Sound.{IsWired}
 use Rattle.wac_composition.specs.Wired.{composed_wiring}
 use Rattle.wac_parser_tree.specs.Trees as t
@@ -13,7 +14,7 @@ use Rattle.wac_parser_declare.specs.Scope.{package_under}
 use Rattle.wac_parser_resolve.specs.Ascribing.{State, worlds_of}
 use Rattle.wac_parser_resolve.specs.Meeting.{resolved}
 use Rattle.wac_parser_resolve.specs.Proper.{AreProper}
-use Rattle.wac_parser_resolve.specs.Ascribed.{Asker, ascribed}
+use Rattle.wac_parser_resolve.specs.Ascribed.{Asker, ascribed, composition}
 
 -- each instance is of a package handed in, with the world of that package
 abbrev pub Packages_are_known : Type 0
@@ -26,6 +27,10 @@ Packages_stay = (d : t.Document) (ps : List (Key × Content)) (r : State × Opti
 -- an instance's sources name earlier instances, and the exports' instances that are there
 abbrev pub Wirings_are_ordered : Type 0
 Wirings_are_ordered = (d : t.Document) (ps : List (Key × Content)) (define : Bool) (x : Composition Asker ℕ × Option Stated) → Ok x ≡ ascribed define d ps → (tag_of : Key → Tag) → IsOrdered (composed_wiring tag_of x.0)
+
+-- what a document says over packages with proper worlds is wired where each of its asks is met
+abbrev pub Resolved_are_wired : Type 0
+Resolved_are_wired = (d : t.Document) (ps : List (Key × Content)) (r : State × Option Stated) → AreProper (worlds_of ps) → resolved d ps ≡ Ok r → AreMet (composition r.0) → (tag_of : Key → Tag) → IsWired tag_of (composition r.0)
 
 -- what an accepted document ascribes over packages with proper worlds is wired: each import of each instance is bound once, to what
 -- fits it and was there before, and the world that is handed out is true

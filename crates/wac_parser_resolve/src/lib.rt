@@ -18,7 +18,7 @@ mod targets;
 ghost use Rattle.wac_types_base.specs.declared.item.ItemKind.{ItemKind};
 ghost use Rattle.wac_types_base.specs.Record.{Collection};
 ghost use Rattle.wac_types_base.specs.Stated.{stated_of};
-ghost use Rattle.wac_parser_resolve.specs.Laws.{Packages_are_known, Packages_stay, Wirings_are_ordered, Documents_are_wired};
+ghost use Rattle.wac_parser_resolve.specs.Laws.{Packages_are_known, Packages_stay, Wirings_are_ordered, Documents_are_wired, Resolved_are_wired};
 ghost use Rattle.wac_parser_resolve.specs.Proper.{Proper};
 ghost use Rattle.wac_parser_resolve.specs.Refused.{Refusals_stand};
 ghost use Rattle.wac_parser_resolve.specs.RowLaws.{Says_one, Says_missing, Says_passed, Says_mismatched, Says_merged, Says_unmerged, Says_unknown, Says_own, Says_conflict, Says_no_name, Says_identified};
@@ -63,9 +63,11 @@ pub fn stated_types_are_proper()
 {}
 
 /// What an accepted document ascribes over packages with proper worlds is wired: each import of each instance is bound once, to
-/// what fits it and was there before, and the world that is handed out is true of the wiring.
+/// what fits it and was there before, and the world that is handed out is true of the wiring. So is what a document says
+/// where each of its asks is met.
 pub fn documents_are_wired()
-    ensures { Documents_are_wired }
+    ensures accepted { Documents_are_wired }
+    ensures resolved { Resolved_are_wired }
 {}
 
 /// A document whose statements can be said is refused for a cause that stands against its composition, or for names that
