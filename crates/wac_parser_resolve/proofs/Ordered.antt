@@ -168,10 +168,12 @@ ordered d ps define x e tag_of =
     let s = said d ps define x e in subst (λ (y : Composition Asker ℕ). IsOrdered (composed_wiring tag_of y)) (sym s.is) (ordered_wiring ps s.state s.sound tag_of)
 
 pub known : Packages_are_known
-known d ps define x e k m q =
-    let s = said d ps define x e in
-    let r = numbered_is zero s.state.made k m (ap (λ (y : Composition Asker ℕ). slice_get y.made k) (sym s.is) ∙ q) in
-    subst (λ (y : c.Made Asker ℕ). package_under (worlds_of ps) y.key ≡ Some y.world) (sym r.is) (s.sound.made k r.made r.there).known
+known d ps r e k m q =
+    let g = ok_of (statements d ps) _ r (sym e) in
+    let w = ok_of (target g.0 d.directive.targets) _ r g.2 in
+    let same : r.0 ≡ g.0 = ap (λ (q : State × Option Stated). q.0) (ok_is r (g.0, w.0) w.2) in
+    let n = numbered_is zero g.0.made k m (ap (λ (s : State). slice_get (composition s).made k) (sym same) ∙ q) in
+    subst (λ (y : c.Made Asker ℕ). package_under (worlds_of ps) y.key ≡ Some y.world) (sym n.is) ((statements_sound ps d g.0 (sym g.1)).made k n.made n.there).known
 
 pub stay : Packages_stay
 stay d ps r e =

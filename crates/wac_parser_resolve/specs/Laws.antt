@@ -18,7 +18,7 @@ use Rattle.wac_parser_resolve.specs.Ascribed.{Asker, ascribed, composition}
 
 -- each instance is of a package handed in, with the world of that package
 abbrev pub Packages_are_known : Type 0
-Packages_are_known = (d : t.Document) (ps : List (Key × Content)) (define : Bool) (x : Composition Asker ℕ × Option Stated) → Ok x ≡ ascribed define d ps → (k : ℕ) (m : c.Made Asker ℕ) → slice_get x.0.made k ≡ Some m → package_under (worlds_of ps) m.key ≡ Some m.world
+Packages_are_known = (d : t.Document) (ps : List (Key × Content)) (r : State × Option Stated) → resolved d ps ≡ Ok r → (k : ℕ) (m : c.Made Asker ℕ) → slice_get (composition r.0).made k ≡ Some m → package_under (worlds_of ps) m.key ≡ Some m.world
 
 -- what is said stays over the packages that are handed in
 abbrev pub Packages_stay : Type 0
