@@ -2,7 +2,7 @@
 //! `instantiate N NAME=SORT.INDEX ..`, `nested BYTE ..`, `module ..`, `component_type ..` and `instance_type ..` with declarations,
 //! between which ` ; ` stands.
 
-use crate::core::core_declarations_of;
+use crate::core_items::core_declarations_of;
 use crate::declarations::{alias_of, declarations_of, outer_of};
 use crate::types::defined_of;
 use crate::words::{description_of, index_of, number_of, owned, sort_of};

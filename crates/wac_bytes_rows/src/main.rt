@@ -1,7 +1,7 @@
 //! Writes what the rows on standard input say as bytes of components, and tells which came out otherwise than wanted.
 #![tactic(auto)]
 
-mod core;
+mod core_items;
 mod declarations;
 mod entries;
 mod names;

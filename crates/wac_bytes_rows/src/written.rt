@@ -1,6 +1,6 @@
 //! What is written of lines: of each alone, and of the entries of a component.
 
-use crate::core::{core_of, core_value_of};
+use crate::core_items::{core_of, core_value_of};
 use crate::declarations::{alias_of, declarations_of, outer_of};
 use crate::entries::{debug_names_of, entries_of, entry_of, export_of, processor_of};
 use crate::types::defined_of;
