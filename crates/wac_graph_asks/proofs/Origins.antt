@@ -28,7 +28,7 @@ use Rattle.wac_graph_core.specs.Graph.{Graph, IsGraph, node_at, package_if, pack
 use Rattle.wac_graph_core.specs.GraphWiring as w
 use Rattle.wac_graph_core.proofs.Found.{argument_found, no_argument, source_found, no_source}
 use Rattle.wac_types_base.proofs.Stating.{imports_stated}
-use Rattle.wac_composition.specs.Composition.{Origin, Made}
+use Rattle.wac_composition.specs.Composition.{Origin, Made, projected}
 use Rattle.wac_composition.specs.Asks.{asks_of}
 use Rattle.wac_composition.specs.Classes.{spelling}
 use Rattle.wac_composition.specs.Worlds.{source_of}

@@ -33,4 +33,3 @@ an_instance g k n has is =
     let same : is.node ≡ has.1.node = same_Some _ _ (sym is.there ∙ has.1.there) in
     let none : item_export g.types has.1.node.item_kind n ≡ None = ap (λ (x : NodeData). item_export g.types x.item_kind n) (sym same) ∙ no_export_of g.types is.node.item_kind n is.kind in
     absurd (cc (none, has.1.kind))
-
