@@ -12,6 +12,9 @@ pub mod StandingExports
 pub mod Rooting
 pub mod Nesting
 pub mod Forming
+pub mod Told
+pub mod Finals
+pub mod Exported
 pub mod ItemSorts
 pub mod FormKinds
 pub mod RootedOuters

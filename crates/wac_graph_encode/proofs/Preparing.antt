@@ -14,12 +14,16 @@ use Rattle.wac_types_base.proofs.Lists.{from_filtered}
 use Rattle.wac_types_names.specs.Packaged.{Packaged}
 use Rattle.wac_graph_bytes.specs.Typing.{Worlds}
 use Rattle.wac_graph_core.specs.declared.ids.PackageId.{PackageId}
-use Rattle.wac_graph_core.specs.Nodes.{NodeData}
 use Rattle.wac_graph_core.specs.Graph.{Graph, IsGraph, node_at, package_of, package_if, package_made, instantiated}
 use Rattle.wac_graph_asks.specs.declared.asks.Asked.{Asked}
 use Rattle.wac_graph_asks.specs.declared.asks.Definition.{Definition}
 use Rattle.wac_graph_asks.specs.declared.outers.Outers.{Outers}
-use Rattle.wac_graph_asks.specs.Graphs.{nodes_of}
+use Rattle.wac_composition.specs.Composition.{Placed}
+use Rattle.wac_composition.proofs.Lists.{mapped_among}
+use Rattle.wac_graph_core.specs.Nodes.{NodeData, Role}
+use Rattle.wac_graph_asks.specs.Graphs.{composition_of, definition_by, first_export, item_of, nodes_of}
+use Rattle.wac_graph_asks.proofs.Origins.{among_mapped as among_passing, node_among}
+use Rattle.wac_graph_encode.specs.Worlds.{AreAllDefined, IsToHandOut}
 use Rattle.wac_graph_asks.specs.Asked.{package_ids, with_ids, placed_in, KeepsAsked, IsAsked}
 use Rattle.wac_graph_asks.specs.Outers.{AnswersOuters, HasImportsAlone}
 use Rattle.wac_graph_asks.proofs.Asking.{copy_kept, held_kept}
@@ -70,7 +74,22 @@ zip_back R (x ∷ xs) [] y h m = absurd h
 zip_back R (x ∷ xs) (z ∷ ys) y h (inl e) = (x, inl refl, subst (R x) (sym e) h.0)
 zip_back R (x ∷ xs) (z ∷ ys) y h (inr m) = let r = zip_back R xs ys y h.1 m in (r.0, inr r.1, r.2)
 
+zip_on : {A B : Type 0} (R : A → B → Type 0) (xs : List A) (ys : List B) (x : A) → AllZip R xs ys → Among x xs → (y : B) × Among y ys × R x y
+zip_on R [] ys x h m = absurd m
+zip_on R (z ∷ xs) [] x h m = absurd h
+zip_on R (z ∷ xs) (y ∷ ys) x h (inl e) = (y, inl refl, subst (λ v. R v y) (sym e) h.0)
+zip_on R (z ∷ xs) (y ∷ ys) x h (inr m) = let r = zip_on R xs ys x h.1 m in (r.0, inr r.1, r.2)
+
 module _ (g : Graph) (a : Asked) (o : Outers) (h : IsPrepared g a o) where
+  -- each node that is defined has its definition
+  all_defined : (d : Collection) (ys : List Definition) → AreFormed g.types d a.definitions.items ys → AreAllDefined g ys
+  all_defined d ys formed k x there role =
+      let placed : Placed ℕ = record { by = k; name = first_export g.exports k; item = item_of g x } in
+      let made : Among placed (composition_of g).definitions = among_passing (λ e. definition_by g e.0 e.1 e.1.role) (nodes_of g) (k, x) placed (node_among g k x there) (ap (definition_by g k x) role) in
+      let held = mapped_among (placed_in g.types) a.definitions.items placed (subst (Among placed) (sym h.definitions) made) in
+      let y = zip_on (IsFormed g.types d) a.definitions.items ys held.0 formed held.1 in
+      (y.0, y.1, y.2.node ∙ sym (ap (λ (p : Placed ℕ). p.by) held.2))
+
   to_write : (d : Collection) (ys : List Definition) → AreFormed g.types d a.definitions.items ys → AreToWrite g d ys
   to_write d ys formed y m =
       let x = zip_back (IsFormed g.types d) a.definitions.items ys y formed m in
@@ -98,6 +117,14 @@ module _ (g : Graph) (a : Asked) (o : Outers) (h : IsPrepared g a o) where
               means define (outers_stay _ a.types new.types h.acyclic grows o.world o.called.items h.outers, to_write new.types definitions.items formed) w
               (all_told g sound finite_types w true_of (names_of new.packages.entries) ids);
         }
+
+    -- all is there of which the world is made
+    pub to_hand_out : (new : Collection) (definitions : List Definition) → Grows a.types new → AreFormed g.types new a.definitions.items definitions → IsToHandOut g new o definitions
+    to_hand_out new definitions grows formed = record {
+      outers = outers_stay _ a.types new h.acyclic grows o.world o.called.items h.outers;
+      definitions = to_write new definitions formed;
+      all = all_defined new definitions formed;
+    }
 
 -- it is still held once types are added
 pub held_prepared : (g : Graph) (a : Asked) (o : Outers) → IsPrepared g a o → (new : Asked) → Grows a.types new.types → new.packages ≡ a.packages → AreHeld g new o

@@ -40,7 +40,7 @@ use Rattle.wac_graph_encode.proofs.ItemSorts.{fits_sort, import_there}
 
 module _ (g : Graph) (sound : IsGraph g) (finite_types : IsAcyclic g.types) (c : Collection) (acyclic : IsAcyclic c) (world : WorldId) (called : List Called) (is : IsOuters g c world called) where
   -- what an import of the graph asks
-  ask_at : (j : ℕ) (x : NodeData) (n : Name) → Ask ℕ
+  abbrev pub ask_at : (j : ℕ) (x : NodeData) (n : Name) → Ask ℕ
   ask_at j x n = explicit_ask (record { by = j; name = n; item = item_of g x })
 
   among_mapped_asks : (xs : List (Placed ℕ)) (p : Placed ℕ) → Among p xs → Among (explicit_ask p) (map explicit_ask xs)
@@ -48,8 +48,7 @@ module _ (g : Graph) (sound : IsGraph g) (finite_types : IsAcyclic g.types) (c :
   among_mapped_asks (y ∷ xs) p (inl e) = inl (ap explicit_ask e)
   among_mapped_asks (y ∷ xs) p (inr m) = inr (among_mapped_asks xs p m)
 
-  asked_there : (j : ℕ) (x : NodeData) (n : Name) → node_at g j ≡ Some x → x.role ≡ Role.Imported n → Among (ask_at j x n) (asks_of (composition_of g))
-  unfolding ask_at
+  pub asked_there : (j : ℕ) (x : NodeData) (n : Name) → node_at g j ≡ Some x → x.role ≡ Role.Imported n → Among (ask_at j x n) (asks_of (composition_of g))
   asked_there j x n there role =
       let placed : Placed ℕ = record { by = j; name = n; item = item_of g x } in
       let made : Among placed (composition_of g).imports = among_mapped (λ e. import_by g e.0 e.1 e.1.role) (nodes_of g) (j, x) placed (node_among g j x there) (ap (import_by g j x) role) in
@@ -57,8 +56,8 @@ module _ (g : Graph) (sound : IsGraph g) (finite_types : IsAcyclic g.types) (c :
       (Among-left (explicit_ask placed) (map explicit_ask (composition_of g).imports) _ (among_mapped_asks (composition_of g).imports placed made))
 
   -- what is imported under the spelling fits what is asked
-  import_fits : (j : ℕ) (x : NodeData) (n : Name) (k : ItemKind) → node_at g j ≡ Some x → x.role ≡ Role.Imported n → value_at (imports_of c world) (spelled g n) ≡ Some k → Fits (tree_in c k) (tree_in g.types x.item_kind)
-  unfolding tree_in ask_at
+  pub import_fits : (j : ℕ) (x : NodeData) (n : Name) (k : ItemKind) → node_at g j ≡ Some x → x.role ≡ Role.Imported n → value_at (imports_of c world) (spelled g n) ≡ Some k → Fits (tree_in c k) (tree_in g.types x.item_kind)
+  unfolding tree_in
   import_fits j x n k there role at =
       let met = is.met (ask_at j x n) (asked_there j x n there role) in
       let found : value_at (outer_imports (asks_of (composition_of g))) (spelled g n) ≡ Some (stated_of c k) =

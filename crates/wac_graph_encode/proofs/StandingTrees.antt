@@ -1,6 +1,7 @@
 -- What gives an item gives each of its exports, under the sort of the export.
 use Rattle.std.specs.Prelude.{◌≡◌, Some, option_map}
-use Rattle.std.proofs.Common.{refl, ap, subst, ◌∙◌, true, List}
+use Rattle.std.proofs.lemmas.Option.{same_Some}
+use Rattle.std.proofs.Common.{refl, sym, ap, subst, ◌∙◌, true, List}
 use Rattle.wac_types_base.specs.declared.item.ItemKind.{ItemKind}
 use Rattle.wac_types_base.specs.declared.item.«Type».{«Type» as TypeKind}
 use Rattle.wac_types_base.specs.declared.core_types.CoreExtern.{CoreExtern}
@@ -112,3 +113,11 @@ gives_export t x y n one order fits at =
       ordered = in_order-at n g.0 f.0 o g.1;
       fits = g.2;
     }
+
+-- what a type exports that fits another fits what that exports
+pub exports_fit : (a x : Stated) (n : Name) (m y : Stated) → is_instance (kind_of a) ≡ true → is_instance (kind_of x) ≡ true → InOrder (tree a) → Fits (tree a) (tree x)
+    → value_at (exports_of a) n ≡ Some m → value_at (exports_of x) n ≡ Some y → Fits (tree m) (tree y)
+exports_fit a x n m y own one order fits at asked =
+    let g = gives_export (tree a) x y n one order fits asked in
+    let is : export_named n (tree a) ≡ Some (tree m) = ap (export_named n) (instance_tree a own) ∙ same_look n (fields_of (exports_of a)) ∙ fields_looked (exports_of a) n ∙ ap (option_map tree) at in
+    subst (λ t. Fits t (tree y)) (same_Some _ _ (sym g.at ∙ is)) g.fits

@@ -91,7 +91,7 @@ none_if nodes k (Some p) e = tt
 
 -- ---- outer imports, one after another
 
-value_put : {T : Type 0} (es : List (Name × T)) (n m : Name) (v x : T) → value_at (put_entry es n v) m ≡ Some x → (value_at es m ≡ Some x) ⊎ ((n ≡ m) × (v ≡ x))
+pub value_put : {T : Type 0} (es : List (Name × T)) (n m : Name) (v x : T) → value_at (put_entry es n v) m ≡ Some x → (value_at es m ≡ Some x) ⊎ ((n ≡ m) × (v ≡ x))
 value_put {T = T} [] n m v x e = go (pointwise ◌==◌ m n) refl e
   where
     go : (b : Bool) → pointwise ◌==◌ m n ≡ b → (if b then Some v else None) ≡ Some x → (value_at {T = T} [] m ≡ Some x) ⊎ ((n ≡ m) × (v ≡ x))

@@ -21,7 +21,7 @@ use Rattle.wac_graph_core.specs.declared.ids.PackageId.{PackageId}
 use Rattle.wac_graph_core.specs.Graph.{Graph, package_of, instantiated}
 use Rattle.wac_composition.specs.Conflicts.{Cause, first_cause, name_cause, dependency_name}
 use Rattle.wac_composition.specs.Worlds.{composed_world}
-use Rattle.wac_composition.specs.Outlines.{IsSketched}
+use Rattle.wac_types_written.specs.Forms.{IsOf}
 use Rattle.wac_graph_asks.specs.Graphs.{composition_of}
 use Rattle.wac_graph_asks.specs.Wirings.{IsGraphWiring}
 
@@ -112,13 +112,10 @@ pub record IsEncoded (define validate : Bool) (g : Graph) (bytes : List ℕ) : T
   pub nests : NestsPackages define g bytes
   pub means : MeansWiring define g bytes
 
--- the world that is handed out is true of the bytes
-pub record HasTrueWorld (g : Graph) (types : Collection) (world : WorldId) : Type 0 where
-  pub stands : Stands types (ItemKind.Component world)
-  -- its tree, and so its imports and exports as maps to trees
-  pub tree : tree_of types (ItemKind.Component world) ≡ Some (tree (composed_world (composition_of g)))
-  -- order, identifiers and uses
-  pub sketched : IsSketched (stated_of types (ItemKind.Component world)) (composed_world (composition_of g))
+-- The world that is handed out states what the composition asks of the outside and exports, with order, identifiers and uses, and
+-- no world in it has uses of its own.
+abbrev pub HasTrueWorld : Graph → Collection → WorldId → Type 0
+HasTrueWorld g types world = IsOf types (composed_world (composition_of g)) (ItemKind.Component world)
 
 -- why it is refused but for sizes and memory: the first cause, and once all is written the first names that are alike
 abbrev pub IsCause : (define validate : Bool) → Graph → Cause ℕ → Type 0

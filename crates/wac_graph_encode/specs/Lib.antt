@@ -8,3 +8,4 @@ pub mod Rooting
 pub mod Nesting
 pub mod Beginning
 pub mod Refused
+pub mod Worlds

@@ -1,214 +1,76 @@
-//! Copies of value types from a graph's collection. What is copied once is not copied again.
+//! Copies of items from a graph's collection. A value type with no resource in it is copied once.
 
-ghost use Rattle.wac_types_base.specs.Collection.{Stands};
+ghost use Rattle.std.specs.Prelude.{◌≡◌, IfOk};
+ghost use Rattle.wac_types_base.specs.Record.{Collection};
+ghost use Rattle.wac_types_base.specs.Collection.{Grows, Stands};
+ghost use Rattle.wac_types_base.specs.Copying.{IsCopy};
+ghost use Rattle.wac_graph_encode.specs.Worlds.{AreCopies};
 
 use indexmap::IndexMap;
 use std::alloc::{AllocError, Global};
 use wac_types_base::copy::copy_item;
-use wac_types_base::{
-    DefinedType, DefinedTypeId, Enum, Flags, ItemKind, Items, NamedMap, Names, Record, Type, Types,
-    ValueType, Variant,
-};
-use wac_writable::maps::insert_under;
+use wac_types_base::{Copier, DefinedTypeId, ItemKind, Type, Types, ValueType};
 
-/// What became of the value types so far, by their ids: a copy in the other collection, or none where a resource is in it.
+/// What is copied into another collection, and whether a resource is in value types, by their ids.
 pub(crate) struct Copies {
     alloc: Global,
-    done: IndexMap<DefinedTypeId, Option<DefinedTypeId>>,
+    copier: Copier,
+    resources: IndexMap<DefinedTypeId, bool>,
 }
 
 impl Drop for Copies {
     fn drop(self) {
-        let Copies { alloc: _, done: _ } = self;
+        let Copies {
+            alloc: _,
+            copier: _,
+            resources: _,
+        } = self;
     }
-}
-
-/// Adds the same names.
-fn add_names(alloc: Global, names: &Names, copy: &mut Names) -> Result<(), AllocError> {
-    for name in names.as_slice() {
-        let name = String::from_str(alloc, name.as_str())?;
-        let _ = copy.insert(name)?;
-    }
-    Ok(())
-}
-
-/// Adds a defined type, if all that it names stands.
-fn add_entry(to: &mut Types, entry: DefinedType) -> Result<Option<DefinedTypeId>, AllocError> {
-    if !to.has_ids_of(&entry) {
-        drop(entry);
-        return Ok(None);
-    }
-    let copy = to.add_defined_type(entry)?;
-    Ok(Some(copy))
 }
 
 impl Copies {
     /// No copies yet.
-    pub(crate) fn new(alloc: Global) -> Self {
+    pub(crate) fn new(alloc: Global, to: &Types) -> Self
+        ensures { (from : Collection) → AreCopies from to.now result }
+    {
         Copies {
             alloc,
-            done: IndexMap::new(alloc),
+            copier: Copier::new(alloc, to),
+            resources: IndexMap::new(alloc),
         }
     }
 
-    /// The copy of a value type whose parts are copied.
-    fn value(&self, ty: ValueType) -> ValueType {
+    /// Whether a resource is in a defined type.
+    #[cycle(resources)]
+    fn in_defined(&mut self, from: &Types, id: DefinedTypeId) -> Result<bool, AllocError>
+        ensures { self.new.copier ≡ self.old.copier }
+    {
+        if let Some(found) = self.resources.get(&id) {
+            return Ok(*found);
+        }
+        let found = self.in_parts(from, ItemKind::Value(ValueType::Defined(id)))?;
+        let _ = self.resources.insert(id, found)?;
+        Ok(found)
+    }
+
+    /// Whether a resource is in a value type.
+    #[cycle(resources)]
+    fn in_value(&mut self, from: &Types, ty: ValueType) -> Result<bool, AllocError>
+        ensures { self.new.copier ≡ self.old.copier }
+    {
         match ty {
-            ValueType::Defined(id) => match self.done.get(&id) {
-                Some(Some(copy)) => ValueType::Defined(*copy),
-                _ => ty,
-            },
-            _ => ty,
+            ValueType::Primitive(_) => Ok(false),
+            ValueType::Own(_) => Ok(true),
+            ValueType::Borrow(_) => Ok(true),
+            ValueType::Defined(id) => self.in_defined(from, id),
         }
     }
 
-    fn option(&self, ty: Option<ValueType>) -> Option<ValueType> {
-        match ty {
-            Some(ty) => Some(self.value(ty)),
-            None => None,
-        }
-    }
-
-    fn add_items(
-        &self,
-        items: &Items<ValueType>,
-        copy: &mut Items<ValueType>,
-    ) -> Result<(), AllocError> {
-        for ty in items.as_slice() {
-            copy.push(self.value(*ty))?;
-        }
-        Ok(())
-    }
-
-    fn add_fields(
-        &self,
-        fields: &NamedMap<ValueType>,
-        copy: &mut NamedMap<ValueType>,
-    ) -> Result<(), AllocError> {
-        for at in 0..fields.len() {
-            let (name, ty) = fields.entry(at);
-            insert_under(self.alloc, copy, name, self.value(*ty))?;
-        }
-        Ok(())
-    }
-
-    fn add_cases(
-        &self,
-        cases: &NamedMap<Option<ValueType>>,
-        copy: &mut NamedMap<Option<ValueType>>,
-    ) -> Result<(), AllocError> {
-        for at in 0..cases.len() {
-            let (name, ty) = cases.entry(at);
-            insert_under(self.alloc, copy, name, self.option(*ty))?;
-        }
-        Ok(())
-    }
-
-    fn tuple(&self, items: &Items<ValueType>) -> Result<DefinedType, AllocError> {
-        let mut copy = Items::new(self.alloc);
-        self.add_items(items, &mut copy)?;
-        Ok(DefinedType::Tuple(copy))
-    }
-
-    fn record(&self, fields: &NamedMap<ValueType>) -> Result<DefinedType, AllocError> {
-        let mut copy = NamedMap::new(self.alloc);
-        self.add_fields(fields, &mut copy)?;
-        Ok(DefinedType::Record(Record { fields: copy }))
-    }
-
-    fn variant(&self, cases: &NamedMap<Option<ValueType>>) -> Result<DefinedType, AllocError> {
-        let mut copy = NamedMap::new(self.alloc);
-        self.add_cases(cases, &mut copy)?;
-        Ok(DefinedType::Variant(Variant { cases: copy }))
-    }
-
-    fn names(&self, names: &Names) -> Result<Names, AllocError> {
-        let mut copy = Names::new(self.alloc);
-        add_names(self.alloc, names, &mut copy)?;
-        Ok(copy)
-    }
-
-    /// An entry again, of the copies of its parts.
-    fn entry(&self, entry: &DefinedType) -> Result<DefinedType, AllocError> {
-        match entry {
-            DefinedType::Tuple(items) => self.tuple(items),
-            DefinedType::List(ty) => Ok(DefinedType::List(self.value(*ty))),
-            DefinedType::FixedSizeList(ty, n) => {
-                Ok(DefinedType::FixedSizeList(self.value(*ty), *n))
-            }
-            DefinedType::Option(ty) => Ok(DefinedType::Option(self.value(*ty))),
-            DefinedType::Result { ok, err } => Ok(DefinedType::Result {
-                ok: self.option(*ok),
-                err: self.option(*err),
-            }),
-            DefinedType::Variant(variant) => self.variant(&variant.cases),
-            DefinedType::Record(record) => self.record(&record.fields),
-            DefinedType::Flags(flags) => Ok(DefinedType::Flags(Flags(self.names(&flags.0)?))),
-            DefinedType::Enum(cases) => Ok(DefinedType::Enum(Enum(self.names(&cases.0)?))),
-            DefinedType::Alias(ty) => Ok(DefinedType::Alias(self.value(*ty))),
-            DefinedType::Stream(ty) => Ok(DefinedType::Stream(self.option(*ty))),
-            DefinedType::Future(ty) => Ok(DefinedType::Future(self.option(*ty))),
-        }
-    }
-
-    /// Copies a defined type whose parts are copied.
-    fn add(
-        &self,
-        from: &Types,
-        to: &mut Types,
-        id: DefinedTypeId,
-    ) -> Result<Option<DefinedTypeId>, AllocError> {
-        if !from.has(ItemKind::Value(ValueType::Defined(id))) {
-            return Ok(None);
-        }
-        let entry = self.entry(from.defined_type(id))?;
-        add_entry(to, entry)
-    }
-
-    /// Copies a defined type behind its parts, where no resource is in it. Whether it is copied.
-    #[cycle(copying)]
-    fn copy_defined(
-        &mut self,
-        from: &Types,
-        to: &mut Types,
-        id: DefinedTypeId,
-    ) -> Result<bool, AllocError> {
-        if let Some(copy) = self.done.get(&id) {
-            return Ok(copy.is_some());
-        }
-        let copy = if self.copy_parts(from, to, ItemKind::Value(ValueType::Defined(id)))? {
-            self.add(from, to, id)?
-        } else {
-            None
-        };
-        let _ = self.done.insert(id, copy)?;
-        Ok(copy.is_some())
-    }
-
-    /// The same of a value type.
-    #[cycle(copying)]
-    fn copy_value(
-        &mut self,
-        from: &Types,
-        to: &mut Types,
-        ty: ValueType,
-    ) -> Result<bool, AllocError> {
-        match ty {
-            ValueType::Primitive(_) => Ok(true),
-            ValueType::Own(_) => Ok(false),
-            ValueType::Borrow(_) => Ok(false),
-            ValueType::Defined(id) => self.copy_defined(from, to, id),
-        }
-    }
-
-    /// The same of the value types that a kind is made of.
-    #[cycle(copying)]
-    fn copy_parts(
-        &mut self,
-        from: &Types,
-        to: &mut Types,
-        kind: ItemKind,
-    ) -> Result<bool, AllocError> {
+    /// Whether a resource is in the value types that a kind is made of.
+    #[cycle(resources)]
+    fn in_parts(&mut self, from: &Types, kind: ItemKind) -> Result<bool, AllocError>
+        ensures { self.new.copier ≡ self.old.copier }
+    {
         if !from.has(kind) {
             return Ok(false);
         }
@@ -216,27 +78,26 @@ impl Copies {
         while let Some(place) = from.place(kind, at) {
             if let Some(child) = place {
                 if let ItemKind::Value(ty) = child {
-                    if !self.copy_value(from, to, ty)? {
-                        return Ok(false);
+                    if self.in_value(from, ty)? {
+                        return Ok(true);
                     }
                 }
             }
             at += 1;
         }
-        Ok(true)
+        Ok(false)
     }
 
-    /// The copy of a value type, where no resource is in it.
-    fn copied_value(
-        &mut self,
-        from: &Types,
-        to: &mut Types,
-        ty: ValueType,
-    ) -> Result<Option<ValueType>, AllocError> {
-        if self.copy_value(from, to, ty)? {
-            Ok(Some(self.value(ty)))
-        } else {
-            Ok(None)
+    /// Whether the copy of an item may be one that stands already.
+    fn is_shared(&mut self, from: &Types, kind: ItemKind) -> Result<bool, AllocError>
+        ensures { self.new.copier ≡ self.old.copier }
+    {
+        match kind {
+            ItemKind::Ty(Type::Value(ty)) => {
+                let found = self.in_value(from, ty)?;
+                Ok(!found)
+            }
+            _ => Ok(false),
         }
     }
 
@@ -247,13 +108,17 @@ impl Copies {
         to: &mut Types,
         kind: ItemKind,
     ) -> Result<ItemKind, AllocError>
-        requires { Stands from.now kind }
+        requires stands { Stands from.now kind }
+        requires copies { AreCopies from.now to.old self.old }
+        ensures copied { IfOk result (λ k. IsCopy from.now to.new kind k) }
+        ensures copies { AreCopies from.now to.new self.new }
+        ensures grows { Grows to.old to.new }
     {
-        if let ItemKind::Ty(Type::Value(ty)) = kind {
-            if let Some(copy) = self.copied_value(from, to, ty)? {
-                return Ok(ItemKind::Ty(Type::Value(copy)));
-            }
+        to.see_acyclic();
+        if self.is_shared(from, kind)? {
+            self.copier.item(self.alloc, from, kind, to)
+        } else {
+            copy_item(self.alloc, from, kind, to)
         }
-        copy_item(self.alloc, from, kind, to)
     }
 }

@@ -1,8 +1,6 @@
 //! The bytes and the world of a composition graph.
 
 ghost use Rattle.std.specs.Prelude.{◌≡◌, [], IfOk, IfErr, OnOk, map};
-ghost use Rattle.wac_types_base.specs.declared.item.ItemKind.{ItemKind};
-ghost use Rattle.wac_types_base.specs.Collection.{Stands};
 ghost use Rattle.wac_types_base.specs.Entries.{names_of};
 ghost use Rattle.wac_graph_bytes.specs.Views.{view};
 ghost use Rattle.wac_graph_core.specs.Graph.{Graph};
@@ -10,6 +8,8 @@ ghost use Rattle.wac_graph_asks.specs.Asked.{IsAsked, KeepsAsked};
 ghost use Rattle.wac_graph_asks.specs.AskedUses.{CopiesStand};
 ghost use Rattle.wac_graph_asks.specs.Outers.{AnswersOuters};
 ghost use Rattle.wac_graph_causes.specs.Acyclic.{IsNoCycle};
+ghost use Rattle.wac_graph_encode.specs.Encoding.{HasTrueWorld};
+ghost use Rattle.wac_graph_encode.specs.Worlds.{IsToHandOut};
 ghost use Rattle.wac_graph_encode.specs.Refused.{HasNoneAlike, HasNoneClashing, HasNoneUnwritten, IsErrorFor, IsFree, IsRefusedFor};
 ghost use Rattle.wac_graph_encode.specs.Finished.{AreSpelled, IsPrepared, MeansAsked, MeansNested, MeansWired, NestsSo, NestsWired};
 ghost use Rattle.wac_graph_encode.specs.Finished.{PreparedMeans, RefusesPrepared};
@@ -88,22 +88,19 @@ fn bytes_of(
 
 /// The world of a composition, in a collection of this number.
 fn world_of(
-    alloc: Global,
     graph: &CompositionGraph,
-    asked: &mut Asked,
+    types: &mut Types,
     outers: &Outers,
     definitions: &[Definition],
     number: u64,
-) -> Result<(Types, WorldId), Unwritten>
+) -> Result<(Types, WorldId), AllocError>
+    requires { IsToHandOut graph.now types.old outers.now definitions.now }
     ensures number { IfOk result (λ p. p.0.number ≡ number) }
-    ensures stands { IfOk result (λ p. Stands p.0 (ItemKind.Component p.1)) }
+    ensures world { IfOk result (λ p. HasTrueWorld graph.now p.0 p.1) }
 {
-    let mut types = Types::new(alloc, number);
-    let world = composed_world(alloc, graph, asked, outers, definitions, &mut types)?;
-    match world {
-        Some(id) => Ok((types, id)),
-        None => Err(Unwritten::TooLarge),
-    }
+    let mut own = Types::new(graph.alloc(), number);
+    let world = composed_world(graph, types, outers, definitions, &mut own)?;
+    Ok((own, world))
 }
 
 /// The bytes of what is asked, and the definitions as they are written.
@@ -116,6 +113,7 @@ fn bytes_asked(
     requires { CopiesStand asked.old.types asked.old.definitions.items }
     ensures means { IfOk result (λ p. PreparedMeans graph.now asked.old outers.now options.now p.0.items) }
     ensures apart { OnOk result (IsPrepared graph.now asked.old outers.now → HasNoneAlike options.now graph.now) }
+    ensures ready { IfOk result (λ p. IsPrepared graph.now asked.old outers.now → IsToHandOut graph.now asked.new.types outers.now p.1.items) }
     ensures refused { IfErr result (RefusesPrepared graph.now asked.old outers.now options.now) }
 {
     graph.see_sound();
@@ -142,16 +140,16 @@ fn encoded_asked(
     outers: &Outers,
     number: u64,
 ) -> Result<Encoded, Refusal>
-    requires { CopiesStand asked.old.types asked.old.definitions.items }
-    ensures means { IfOk result (λ e. PreparedMeans graph.now asked.old outers.now options.now e.bytes.items) }
-    ensures apart { OnOk result (IsPrepared graph.now asked.old outers.now → HasNoneAlike options.now graph.now) }
-    ensures refused { IfErr result (RefusesPrepared graph.now asked.old outers.now options.now) }
+    requires copies { CopiesStand asked.old.types asked.old.definitions.items }
+    requires prepared { IsPrepared graph.now asked.old outers.now }
+    ensures means { IfOk result (λ e. MeansNested graph.now options.now e.bytes.items) }
+    ensures apart { OnOk result (HasNoneAlike options.now graph.now) }
+    ensures refused { IfErr result (λ e. HasNoneUnwritten options.now graph.now → IsRefusedFor options.now graph.now e) }
     ensures number { IfOk result (λ e. e.types.number ≡ number) }
-    ensures stands { IfOk result (λ e. Stands e.types (ItemKind.Component e.world)) }
+    ensures world { IfOk result (λ e. HasTrueWorld graph.now e.types e.world) }
 {
     let (bytes, definitions) = bytes_asked(graph, options, asked, outers)?;
-    let alloc = graph.alloc();
-    let (types, world) = world_of(alloc, graph, asked, outers, &definitions, number)?;
+    let (types, world) = world_of(graph, &mut asked.types, outers, &definitions, number)?;
     Ok(Encoded {
         bytes,
         types,
@@ -188,7 +186,7 @@ fn encoded(
     ensures free { OnOk result (IsFree options.now graph.now) }
     ensures refused { IfErr result (IsRefusedFor options.now graph.now) }
     ensures number { IfOk result (λ e. e.types.number ≡ numbers.1) }
-    ensures stands { IfOk result (λ e. Stands e.types (ItemKind.Component e.world)) }
+    ensures world { IfOk result (λ e. HasTrueWorld graph.now e.types e.world) }
 {
     let mut asked = asked_by(graph.alloc(), graph, numbers.0)?;
     let outers = outers_checked(graph, options, &mut asked)?;
@@ -227,7 +225,7 @@ pub trait EncodeGraph {
         ensures free { OnOk result (IsFree options (graph self.now)) }
         ensures refused { IfErr result (IsErrorFor options (graph self.now)) }
         ensures number { IfOk result (λ e. e.types.number ≡ numbers.1) }
-        ensures stands { IfOk result (λ e. Stands e.types (ItemKind.Component e.world)) }
+        ensures world { IfOk result (λ e. HasTrueWorld (graph self.now) e.types e.world) }
         ensures acyclic { IfErr result IsNoCycle };
 }
 

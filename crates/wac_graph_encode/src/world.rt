@@ -1,48 +1,60 @@
 //! The world that is true of a composition's bytes.
 
-ghost use Rattle.std.specs.Prelude.{IfOk, IfSome};
-ghost use Rattle.wac_types_base.specs.declared.item.ItemKind.{ItemKind};
-ghost use Rattle.wac_types_base.specs.Collection.{Stands, Grows};
+ghost use Rattle.std.specs.Prelude.{◌≡◌, ℕ, [], None, IfOk, OnOk, IfSome, slice_get};
+ghost use Rattle.wac_types_base.specs.declared.ids.InterfaceId.{InterfaceId};
+ghost use Rattle.wac_types_base.specs.declared.item.ItemKind.{ItemKind as Kind};
+ghost use Rattle.wac_types_base.specs.Collection.{Grows, Stands};
+ghost use Rattle.wac_types_base.specs.Entries.{Name, value_at};
+ghost use Rattle.wac_types_base.specs.Stated.{world_of};
+ghost use Rattle.wac_types_written.specs.Forms.{IsOf, ItemsStand, stated_items};
+ghost use Rattle.wac_graph_core.specs.Edges.{HasAlias};
+ghost use Rattle.wac_graph_core.specs.Graph.{ContainsNode};
+ghost use Rattle.wac_graph_scopes.specs.Parts.{exports_of, imports_of};
+ghost use Rattle.wac_graph_encode.specs.Encoding.{HasTrueWorld};
+ghost use Rattle.wac_graph_encode.specs.Worlds.{AddsExported, AreCalledTypes, AreCopies, AreDefinitionTypes, AreExported, IsToHandOut};
+ghost use Rattle.wac_graph_encode.specs.Worlds.{IsUsedWorld, KnowsFinals, TellsCalled, TellsCopied, TellsDefinition, TellsExported, TellsFinal, with_import};
 
 use crate::copying::Copies;
 use crate::without_uses::handed_out;
 use indexmap::IndexMap;
 use std::alloc::{AllocError, Global};
 use wac_graph_asks::asks::{Asked, Definition};
-use wac_graph_asks::copies::{add_world, bare_world, filled};
 use wac_graph_asks::nodes::{import_name, kind_of};
 use wac_graph_asks::outers::Outers;
 use wac_graph_core::{CompositionGraph, NodeId};
+use wac_graph_scopes::imports::Called;
 use wac_graph_scopes::parts::{export_named, import_at, import_count};
 use wac_types_base::{ItemKind, NamedMap, Types, World, WorldId};
 use wac_writable::maps::insert_under;
 
-/// The types of outer imports, by the names under which they are asked for, the written types of definitions, and what
-/// is copied of the graph's types.
-struct Typed {
+/// The types of outer imports, by the names under which they are asked for, and of definitions as they are written.
+struct Finals {
     outers: NamedMap<ItemKind>,
     definitions: IndexMap<NodeId, ItemKind>,
-    copies: Copies,
 }
 
-impl Drop for Typed {
+impl Drop for Finals {
     fn drop(self) {
-        let Typed {
+        let Finals {
             outers: _,
             definitions: _,
-            copies: _,
         } = self;
     }
 }
 
-impl Typed {
-    /// Nothing is told yet.
-    fn new(alloc: Global) -> Self {
-        Typed {
-            outers: NamedMap::new(alloc),
-            definitions: IndexMap::new(alloc),
-            copies: Copies::new(alloc),
-        }
+/// Adds the type of an outer import, by the name under which it is asked for.
+fn tell_outer(
+    alloc: Global,
+    types: &Types,
+    world: WorldId,
+    called: &Called,
+    told: &mut NamedMap<ItemKind>,
+) -> Result<(), AllocError>
+    ensures { OnOk result (TellsCalled types.now world called.now told.old told.new) }
+{
+    match import_at(types, world, called.at) {
+        Some(import) => insert_under(alloc, told, called.name.as_str(), import.kind),
+        None => Ok(()),
     }
 }
 
@@ -50,121 +62,125 @@ impl Typed {
 fn tell_outers(
     alloc: Global,
     types: &Types,
-    outers: &Outers,
+    world: WorldId,
+    called: &[Called],
     told: &mut NamedMap<ItemKind>,
-) -> Result<(), AllocError> {
-    for called in &outers.called {
-        if let Some(import) = import_at(types, outers.world, called.at) {
-            insert_under(alloc, told, called.name.as_str(), import.kind)?;
-        }
+) -> Result<(), AllocError>
+    requires { told.old ≡ [] }
+    ensures { OnOk result (AreCalledTypes types.now world called.now told.new) }
+{
+    for one in called {
+        tell_outer(alloc, types, world, one, told)?;
     }
     Ok(())
+}
+
+/// Adds the written type of a definition, if it has one of its own.
+fn tell_definition(
+    definition: &Definition,
+    told: &mut IndexMap<NodeId, ItemKind>,
+) -> Result<(), AllocError>
+    ensures { OnOk result (TellsDefinition definition.now told.old.entries told.new.entries) }
+{
+    match definition.copy {
+        Some(copy) => {
+            let _ = told.insert(definition.node, copy)?;
+            Ok(())
+        }
+        None => Ok(()),
+    }
 }
 
 /// Adds the written types of definitions.
 fn tell_definitions(
     definitions: &[Definition],
     told: &mut IndexMap<NodeId, ItemKind>,
-) -> Result<(), AllocError> {
+) -> Result<(), AllocError>
+    requires { told.old.entries ≡ [] }
+    ensures { OnOk result (AreDefinitionTypes definitions.now told.new.entries) }
+{
     for definition in definitions {
-        if let Some(copy) = definition.copy {
-            let _ = told.insert(definition.node, copy)?;
-        }
+        tell_definition(definition, told)?;
     }
     Ok(())
 }
 
-/// Tells the types of outer imports and definitions.
-fn tell_types(
-    alloc: Global,
+/// The types of outer imports and definitions.
+fn finals_of(
+    graph: &CompositionGraph,
     types: &Types,
     outers: &Outers,
     definitions: &[Definition],
-    typed: &mut Typed,
-) -> Result<(), AllocError> {
-    tell_outers(alloc, types, outers, &mut typed.outers)?;
-    tell_definitions(definitions, &mut typed.definitions)
+) -> Result<Finals, AllocError>
+    requires { IsToHandOut graph.now types.now outers.now definitions.now }
+    ensures { IfOk result (KnowsFinals graph.now types.now) }
+{
+    graph.see_sound();
+    graph.types().see_acyclic();
+    types.see_acyclic();
+    let alloc = graph.alloc();
+    let mut imports = NamedMap::new(alloc);
+    tell_outers(alloc, types, outers.world, &outers.called, &mut imports)?;
+    let mut written = IndexMap::new(alloc);
+    tell_definitions(definitions, &mut written)?;
+    Ok(Finals {
+        outers: imports,
+        definitions: written,
+    })
 }
 
 /// An export of an instance.
-fn export_of(types: &Types, kind: ItemKind, name: &str) -> Option<ItemKind> {
+fn export_of(types: &Types, kind: ItemKind, name: &str) -> Option<ItemKind>
+    ensures value { (i : InterfaceId) → kind ≡ Kind.Instance i → result ≡ value_at (exports_of types.now i) name.now }
+    ensures stands { IfSome result (Stands types.now) }
+{
     match kind {
         ItemKind::Instance(id) => export_named(types, id, name),
         _ => None,
     }
 }
 
-/// What an alias is an alias of at last, and the export names from there, the last one first.
-struct Path<'a> {
+/// The type of an import or a definition; none of another node.
+fn type_told(
+    graph: &CompositionGraph,
+    types: &Types,
+    finals: &Finals,
     node: NodeId,
-    names: Vec<&'a str>,
-}
-
-impl Drop for Path<'_> {
-    fn drop(self) {
-        let Path { node: _, names: _ } = self;
-    }
-}
-
-/// Follows aliases to their sources.
-fn follow<'a>(graph: &'a CompositionGraph, path: &mut Path<'a>) -> Result<(), AllocError> {
-    for _ in graph.node_ids() {
-        match graph.get_alias_source(path.node) {
-            Some((source, name)) => {
-                path.names.push(name)?;
-                path.node = source;
-            }
-            None => return Ok(()),
-        }
-    }
-    Ok(())
-}
-
-fn path_of<'a>(
-    alloc: Global,
-    graph: &'a CompositionGraph,
-    node: NodeId,
-) -> Result<Path<'a>, AllocError> {
-    let mut path = Path {
-        node,
-        names: Vec::new(alloc),
-    };
-    follow(graph, &mut path)?;
-    Ok(path)
-}
-
-/// The type of an import or a definition.
-fn type_told(graph: &CompositionGraph, typed: &Typed, node: NodeId) -> Option<ItemKind> {
+) -> Option<ItemKind>
+    requires finals { KnowsFinals graph.now types.now finals.now }
+    requires alone { (i : ℕ) (n : Name) → HasAlias graph.now.edges i n node → ⊥ }
+    ensures { TellsFinal graph.now types.now node result }
+{
+    graph.see_sound();
+    graph.types().see_acyclic();
+    let _ = types;
     match import_name(graph, node) {
-        Some(name) => typed.outers.get(name).copied(),
-        None => typed.definitions.get(&node).copied(),
+        Some(name) => finals.outers.get(name).copied(),
+        None => finals.definitions.get(&node).copied(),
     }
-}
-
-/// The type of an export of an export of that type, by their names, the last one first.
-fn type_along(types: &Types, told: Option<ItemKind>, names: &[&str]) -> Option<ItemKind> {
-    let mut item = told;
-    for name in names.iter().rev() {
-        item = match item {
-            Some(kind) => export_of(types, kind, name),
-            None => None,
-        };
-    }
-    item
 }
 
 /// The type of what comes from an outer import or is a definition that is an interface or a world; none of what comes
 /// from an instance or has its type in the graph alone.
 fn final_type(
-    alloc: Global,
     graph: &CompositionGraph,
     types: &Types,
-    typed: &Typed,
+    finals: &Finals,
     node: NodeId,
-) -> Result<Option<ItemKind>, AllocError> {
-    let path = path_of(alloc, graph, node)?;
-    let told = type_told(graph, typed, path.node);
-    Ok(type_along(types, told, &path.names))
+) -> Option<ItemKind>
+    requires { KnowsFinals graph.now types.now finals.now }
+    ensures { TellsFinal graph.now types.now node result }
+{
+    graph.see_sound();
+    graph.types().see_acyclic();
+    types.see_acyclic();
+    match graph.get_alias_source(node) {
+        Some(found) => match final_type(graph, types, finals, found.0) {
+            Some(kind) => export_of(types, kind, found.1),
+            None => None,
+        },
+        None => type_told(graph, types, finals, node),
+    }
 }
 
 /// The type of a node in the graph, copied.
@@ -173,7 +189,14 @@ fn copied_type(
     types: &mut Types,
     copies: &mut Copies,
     node: NodeId,
-) -> Result<Option<ItemKind>, AllocError> {
+) -> Result<Option<ItemKind>, AllocError>
+    requires { AreCopies graph.now.types types.old copies.old }
+    ensures copied { IfOk result (TellsCopied graph.now types.new node) }
+    ensures copies { AreCopies graph.now.types types.new copies.new }
+    ensures grows { Grows types.old types.new }
+{
+    types.see_acyclic();
+    graph.types().see_acyclic();
     match kind_of(graph, node) {
         Some(kind) => {
             let copy = copies.item(graph.types(), types, kind)?;
@@ -185,15 +208,22 @@ fn copied_type(
 
 /// The type under an export.
 fn exported_type(
-    alloc: Global,
     graph: &CompositionGraph,
     types: &mut Types,
-    typed: &mut Typed,
+    finals: &Finals,
+    copies: &mut Copies,
     node: NodeId,
-) -> Result<Option<ItemKind>, AllocError> {
-    match final_type(alloc, graph, types, typed, node)? {
+) -> Result<Option<ItemKind>, AllocError>
+    requires finals { KnowsFinals graph.now types.old finals.now }
+    requires copies { AreCopies graph.now.types types.old copies.old }
+    ensures exported { IfOk result (TellsExported graph.now types.new node) }
+    ensures copies { AreCopies graph.now.types types.new copies.new }
+    ensures grows { Grows types.old types.new }
+{
+    types.see_acyclic();
+    match final_type(graph, types, finals, node) {
         Some(kind) => Ok(Some(kind)),
-        None => copied_type(graph, types, &mut typed.copies, node),
+        None => copied_type(graph, types, copies, node),
     }
 }
 
@@ -201,111 +231,163 @@ fn exported_type(
 fn add_export(
     graph: &CompositionGraph,
     types: &mut Types,
-    typed: &mut Typed,
+    finals: &Finals,
+    copies: &mut Copies,
     exports: &mut NamedMap<ItemKind>,
     name: &str,
     node: NodeId,
-) -> Result<(), AllocError> {
-    let alloc = graph.alloc();
-    match exported_type(alloc, graph, types, typed, node)? {
-        Some(item) => insert_under(alloc, exports, name, item),
+) -> Result<(), AllocError>
+    requires there { ContainsNode graph.now node }
+    requires finals { KnowsFinals graph.now types.old finals.now }
+    requires copies { AreCopies graph.now.types types.old copies.old }
+    ensures adds { OnOk result (AddsExported graph.now types.new name.now node exports.old exports.new) }
+    ensures copies { AreCopies graph.now.types types.new copies.new }
+    ensures grows { Grows types.old types.new }
+{
+    let told = exported_type(graph, types, finals, copies, node)?;
+    match told {
+        Some(item) => insert_under(graph.alloc(), exports, name, item),
         None => Ok(()),
     }
-}
-
-/// Adds the types under the exports, by the types that are told.
-fn add_exports_typed(
-    graph: &CompositionGraph,
-    types: &mut Types,
-    typed: &mut Typed,
-    exports: &mut NamedMap<ItemKind>,
-) -> Result<(), AllocError> {
-    for (name, node) in graph.exports() {
-        add_export(graph, types, typed, exports, name.as_str(), *node)?;
-    }
-    Ok(())
 }
 
 /// Adds the types under the exports.
 fn add_exports(
     graph: &CompositionGraph,
     types: &mut Types,
-    outers: &Outers,
-    definitions: &[Definition],
+    finals: &Finals,
+    copies: &mut Copies,
     exports: &mut NamedMap<ItemKind>,
-) -> Result<(), AllocError> {
-    let mut typed = Typed::new(graph.alloc());
-    tell_types(graph.alloc(), types, outers, definitions, &mut typed)?;
-    add_exports_typed(graph, types, &mut typed, exports)
-}
-
-/// Adds the outer imports again.
-fn add_imports(
-    alloc: Global,
-    types: &Types,
-    outers: &Outers,
-    imports: &mut NamedMap<ItemKind>,
-) -> Result<(), AllocError> {
-    for at in 0..import_count(types, outers.world) {
-        if let Some(import) = import_at(types, outers.world, at) {
-            insert_under(alloc, imports, import.name, import.kind)?;
-        }
+) -> Result<(), AllocError>
+    requires none { exports.old ≡ [] }
+    requires finals { KnowsFinals graph.now types.old finals.now }
+    requires copies { AreCopies graph.now.types types.old copies.old }
+    ensures exports { OnOk result (AreExported graph.now types.new graph.now.exports exports.new) }
+    ensures grows { Grows types.old types.new }
+{
+    graph.see_sound();
+    types.see_acyclic();
+    for (name, node) in graph.exports() {
+        add_export(graph, types, finals, copies, exports, name.as_str(), *node)?;
     }
     Ok(())
 }
 
-/// Adds the exports of a composition and its outer imports.
-fn add_parts(
+/// The types under the exports.
+fn typed_exports(
     graph: &CompositionGraph,
     types: &mut Types,
     outers: &Outers,
     definitions: &[Definition],
-    world: &mut World,
-) -> Result<(), AllocError> {
-    add_exports(graph, types, outers, definitions, &mut world.exports)?;
-    add_imports(graph.alloc(), types, outers, &mut world.imports)
+) -> Result<NamedMap<ItemKind>, AllocError>
+    requires { IsToHandOut graph.now types.old outers.now definitions.now }
+    ensures exports { IfOk result (AreExported graph.now types.new graph.now.exports) }
+    ensures grows { Grows types.old types.new }
+{
+    types.see_acyclic();
+    let finals = finals_of(graph, types, outers, definitions)?;
+    let mut copies = Copies::new(graph.alloc(), types);
+    let mut exports = NamedMap::new(graph.alloc());
+    add_exports(graph, types, &finals, &mut copies, &mut exports)?;
+    Ok(exports)
 }
 
-/// The world of a composition, beside the others of a collection.
-fn world_of_parts(
-    graph: &CompositionGraph,
+/// Adds the import at a place of a world.
+fn add_import(
+    alloc: Global,
+    types: &Types,
+    world: WorldId,
+    at: usize,
+    imports: &mut NamedMap<ItemKind>,
+) -> Result<(), AllocError>
+    ensures { OnOk result (imports.new ≡ with_import (slice_get (imports_of types.now world) at) imports.old) }
+{
+    match import_at(types, world, at) {
+        Some(import) => insert_under(alloc, imports, import.name, import.kind),
+        None => Ok(()),
+    }
+}
+
+/// Adds the imports of a world.
+fn add_imports(
+    alloc: Global,
+    types: &Types,
+    world: WorldId,
+    imports: &mut NamedMap<ItemKind>,
+) -> Result<(), AllocError>
+    requires { imports.old ≡ [] }
+    ensures { OnOk result (imports.new ≡ imports_of types.now world) }
+{
+    for at in 0..import_count(types, world) {
+        add_import(alloc, types, world, at, imports)?;
+    }
+    Ok(())
+}
+
+/// The imports of a world, again.
+fn same_imports(
+    alloc: Global,
+    types: &Types,
+    world: WorldId,
+) -> Result<NamedMap<ItemKind>, AllocError>
+    ensures { IfOk result (λ imports. imports ≡ imports_of types.now world) }
+{
+    let mut imports = NamedMap::new(alloc);
+    add_imports(alloc, types, world, &mut imports)?;
+    Ok(imports)
+}
+
+/// A world of these imports and exports.
+fn add_world_of(
+    alloc: Global,
     types: &mut Types,
-    outers: &Outers,
-    definitions: &[Definition],
-) -> Result<World, AllocError> {
-    let mut world = bare_world(graph.alloc(), None);
-    let added = add_parts(graph, types, outers, definitions, &mut world);
-    filled(world, added)
+    imports: NamedMap<ItemKind>,
+    exports: NamedMap<ItemKind>,
+) -> Result<WorldId, AllocError>
+    requires imports { ItemsStand types.old imports }
+    requires exports { ItemsStand types.old exports }
+    ensures world { IfOk result (λ w. IsOf types.new (world_of None [] (stated_items types.old imports) (stated_items types.old exports)) (Kind.Component w)) }
+    ensures grows { Grows types.old types.new }
+{
+    let world = types.add_world(World {
+        id: None,
+        uses: NamedMap::new(alloc),
+        imports,
+        exports,
+    })?;
+    Ok(world)
 }
 
 /// The world of a composition, beside what is asked.
 fn own_world(
     graph: &CompositionGraph,
-    asked: &mut Asked,
+    types: &mut Types,
     outers: &Outers,
     definitions: &[Definition],
-) -> Result<WorldId, AllocError> {
-    let world = world_of_parts(graph, &mut asked.types, outers, definitions)?;
-    match add_world(&mut asked.types, world)? {
-        Some(world) => Ok(world),
-        None => Ok(outers.world),
-    }
+) -> Result<WorldId, AllocError>
+    requires { IsToHandOut graph.now types.old outers.now definitions.now }
+    ensures world { IfOk result (IsUsedWorld graph.now types.new) }
+    ensures grows { Grows types.old types.new }
+{
+    types.see_acyclic();
+    let exports = typed_exports(graph, types, outers, definitions)?;
+    let imports = same_imports(graph.alloc(), types, outers.world)?;
+    add_world_of(graph.alloc(), types, imports, exports)
 }
 
 /// The world of a composition, in a collection of its own.
 pub(crate) fn composed_world(
-    alloc: Global,
     graph: &CompositionGraph,
-    asked: &mut Asked,
+    types: &mut Types,
     outers: &Outers,
     definitions: &[Definition],
     to: &mut Types,
-) -> Result<Option<WorldId>, AllocError>
-    ensures stands { IfOk result (λ o. IfSome o (λ w. Stands to.new (ItemKind.Component w))) }
+) -> Result<WorldId, AllocError>
+    requires { IsToHandOut graph.now types.old outers.now definitions.now }
+    ensures world { IfOk result (HasTrueWorld graph.now to.new) }
     ensures grows { Grows to.old to.new }
 {
     to.see_acyclic();
-    let world = own_world(graph, asked, outers, definitions)?;
-    let world = handed_out(alloc, &mut asked.types, world, to)?;
-    Ok(world)
+    let world = own_world(graph, types, outers, definitions)?;
+    handed_out(graph.alloc(), types, world, to)
 }

@@ -1,14 +1,10 @@
-use Rattle.std.specs.Prelude.{Option, Some, None, IfSome}
+use Rattle.std.specs.Prelude.{IfOk}
+use Rattle.std.proofs.Common.{subst}
 use Rattle.wac_types_base.specs.declared.item.ItemKind.{ItemKind}
-use Rattle.wac_types_base.specs.declared.ids.WorldId.{WorldId}
-use Rattle.wac_types_base.specs.Record.{Collection}
-use Rattle.wac_types_base.specs.Collection.{Stands}
-use Rattle.wac_types_written.specs.Forms.{IsWithoutUses}
+use Rattle.wac_types_written.specs.Forms.{IsOf}
+use Rattle.wac_types_written.specs.Written.{without_uses}
 use Rattle.wac_graph_encode.proofs.world.composed_world.Goals as goal
 
-stands_if : (old new : Collection) (k : ItemKind) (o : Option WorldId) → IfSome o (λ w. IsWithoutUses old new k (ItemKind.Component w)) → IfSome o (λ w. Stands new (ItemKind.Component w))
-stands_if old new k None h = h
-stands_if old new k (Some w) h = h.stands
-
-pub returns-clause-stands : goal.returns-clause-stands
-returns-clause-stands c = stands_if c.own_world.new.asked.types c.handed_out.new.to (ItemKind.Component c.in_ok-world.world) c.in_ok-world-2.world c.in_ok-world-2.ensures.without
+pub returns-clause-world : goal.returns-clause-world
+returns-clause-world c =
+    subst (λ s. IfOk c.handed_out.result (λ w. IsOf c.handed_out.new.to (without_uses s) (ItemKind.Component w))) c.in_ok-world.ensures.world.states c.handed_out.ensures.without

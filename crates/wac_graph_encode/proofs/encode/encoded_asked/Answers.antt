@@ -1,0 +1,1 @@
+use Rattle.wac_graph_encode.proofs.encode.encoded_asked.Goals as goal
