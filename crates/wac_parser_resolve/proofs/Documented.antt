@@ -13,19 +13,16 @@ use Rattle.wac_parser_refusals.specs.Outcomes.{IsMemory, IsRefusal, Tells}
 use Rattle.wac_parser_refusals.specs.Views.{cause_in, cause_of}
 use Rattle.wac_parser_resolve.specs.declared.state.State.{State as Held}
 use Rattle.wac_parser_resolve.specs.Ascribing.{State}
-use Rattle.wac_parser_resolve.specs.InDocuments.{IsBuilt, IsErrorOf}
-use Rattle.wac_parser_resolve.specs.InTargets.{HoldsTarget}
+use Rattle.wac_parser_resolve.specs.InDocuments.{HoldsAll, IsBuilt, IsErrorOf, places_in}
 use Rattle.wac_parser_resolve.specs.Knowing.{handed_under}
+use Rattle.wac_parser_resolve.specs.Resolved.{Places}
 use Rattle.wac_parser_resolve.specs.Said.{IsSaid}
 use Rattle.wac_parser_resolve.proofs.Knowing.{known_package}
 
-pub built : (p : t.PackageName) (b : Held) (s : State) → IsGraph b.board.types.graph → IsSaid p b s → IsBuilt b.board.types.graph s
+pub built : (p : t.PackageName) (b : Held) (s : State) → IsGraph b.board.types.graph → IsSaid p b s → IsBuilt b.board.types.graph (places_in b) s
 built p b s sound said = record {
-  instances = b.board.instances.noted.items;
   names = b.nodes;
   says = said.board.says;
-  imported = b.imports.noted.items;
-  ids = b.ids.noted.items;
   imports = said.imports;
   definitions = said.definitions;
   exported = b.exports.noted.items;
@@ -38,7 +35,7 @@ pub error_told : {A : Type 0} (q : Answer A) (e : Refusal) (f : Error) → cause
 error_told (Ok a) e f same h = subst (λ (o : Option Cause). IsMemory o) (sym same) h
 error_told (Err c) e f same h = subst (λ (o : Option Cause). Tells o c) (sym same) h
 
--- with the graph and the target by other names
-pub holds_as : (g h : Graph) (w v : Option WorldId) (q : State × Option Stated) → h ≡ g → v ≡ w → IsBuilt g q.0 × HoldsTarget g.types q.1 w → IsBuilt h q.0 × HoldsTarget h.types q.1 v
-holds_as g h w v q same target x =
-    subst (λ (i : Graph). IsBuilt i q.0 × HoldsTarget i.types q.1 v) (sym same) (subst (λ (u : Option WorldId). IsBuilt g q.0 × HoldsTarget g.types q.1 u) (sym target) x)
+-- with the graph, the places and the target by other names
+pub holds_as : (g h : Graph) (a b : Places) (w v : Option WorldId) (q : State × Option Stated) → h ≡ g → b ≡ a → v ≡ w → HoldsAll q g a w → HoldsAll q h b v
+holds_as g h a b w v q same places target x =
+    subst (λ (i : Graph). HoldsAll q i b v) (sym same) (subst (λ (c : Places). HoldsAll q g c v) (sym places) (subst (λ (u : Option WorldId). HoldsAll q g a u) (sym target) x))

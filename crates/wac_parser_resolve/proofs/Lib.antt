@@ -51,3 +51,5 @@ pub mod MeetingSaid
 pub mod MeetingWorld
 pub mod MeetingStates
 pub mod Documented
+pub mod Alone
+pub mod Askers

@@ -71,8 +71,7 @@ asker_span by_definition = None
 
 -- who asks under a name is an import statement or a `new`, and both have a place: a definition asks nothing
 abbrev pub span_or_none : Option Span → Span
-span_or_none None = record { offset = 0; length = 0 }
-span_or_none (Some s) = s
+span_or_none o = unwrap_or o (record { offset = 0; length = 0 })
 
 -- the identifier of an import statement, else the package that a `new` names
 abbrev pub merge_span : Asker → Option Span

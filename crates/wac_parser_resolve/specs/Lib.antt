@@ -5,6 +5,7 @@ pub mod Saying
 pub mod Meeting
 pub mod Ascribed
 pub mod Refused
+pub mod Askers
 pub mod Rows
 pub mod RowLaws
 pub mod Laws

@@ -18,6 +18,7 @@ mod targets;
 ghost use Rattle.wac_types_base.specs.declared.item.ItemKind.{ItemKind};
 ghost use Rattle.wac_types_base.specs.Record.{Collection};
 ghost use Rattle.wac_types_base.specs.Stated.{stated_of};
+ghost use Rattle.wac_parser_resolve.specs.Askers.{Definitions_ask_nothing, Askers_have_places};
 ghost use Rattle.wac_parser_resolve.specs.Laws.{Packages_are_known, Packages_stay, Wirings_are_ordered, Documents_are_wired, Resolved_are_wired};
 ghost use Rattle.wac_parser_resolve.specs.Proper.{Proper};
 ghost use Rattle.wac_parser_resolve.specs.Refused.{Refusals_stand};
@@ -74,4 +75,10 @@ pub fn documents_are_wired()
 /// are alike.
 pub fn refusals_stand()
     ensures { Refusals_stand }
+{}
+
+/// Each import statement and each `new` that is named in a cause has a place: a definition asks nothing.
+pub fn askers_have_places()
+    ensures alone { Definitions_ask_nothing }
+    ensures placed { Askers_have_places }
 {}

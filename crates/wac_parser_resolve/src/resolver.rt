@@ -6,11 +6,11 @@ ghost use Rattle.wac_types_base.specs.declared.item.ItemKind.{ItemKind};
 ghost use Rattle.wac_types_base.specs.Collection.{Stands};
 ghost use Rattle.wac_parser_tree.specs.Trees as t;
 ghost use Rattle.wac_parser_tree.specs.Views.{view_document};
-ghost use Rattle.wac_parser_resolve.specs.InDocuments.{IsResolved, IsSaidOf};
+ghost use Rattle.wac_parser_resolve.specs.InDocuments.{IsResolved, IsSaidOf, places_in};
 ghost use Rattle.wac_parser_resolve.specs.InStatements.{StaysSaid};
 ghost use Rattle.wac_parser_resolve.specs.InTargets.{AreNotedAll, AreStanding, HasSaid, IsDocumentSaid, IsTargetOf, IsTargetWorld, MayBeTarget, StateMeets, world_in, world_in_type};
 ghost use Rattle.wac_parser_resolve.specs.Later.{SameNumber};
-ghost use Rattle.wac_parser_resolve.specs.Resolved.{asked_of, document_of, graph_of, graph_said, target_of, target_said};
+ghost use Rattle.wac_parser_resolve.specs.Resolved.{asked_of, asker_place, document_of, graph_of, graph_said, import_place, places_of, places_said, target_of, target_said};
 ghost use Rattle.wac_parser_resolve.specs.Standing.{IsSound};
 ghost use Rattle.wac_parser_resolve.specs.Targeting.{IsMet, IsTarget};
 
@@ -98,12 +98,16 @@ impl<'d, D> Resolved<'d, D> {
     }
 
     /// Where the name of an import stands.
-    pub fn import_span(&self, node: NodeId) -> SourceSpan {
+    pub fn import_span(&self, node: NodeId) -> SourceSpan
+        ensures { result ≡ import_place (places_of self.now) node }
+    {
         self.said.imports.of_or(node, SourceSpan::new(0, 0))
     }
 
     /// Where what asks for something stands: the package of an instance, the identifier of an import or a declaration.
-    pub fn asker_span(&self, node: NodeId) -> SourceSpan {
+    pub fn asker_span(&self, node: NodeId) -> SourceSpan
+        ensures { result ≡ asker_place (places_of self.now) node }
+    {
         match self.said.instances.of(node) {
             Some(span) => span,
             None => self.said.ids.of_or(node, SourceSpan::new(0, 0)),
@@ -230,6 +234,7 @@ fn maybe_target(
 fn come_to(state: State<'_>, target: Option<WorldId>) -> Said
     ensures graph { result.graph ≡ state.entry.board.types.graph }
     ensures target { result.target ≡ target }
+    ensures places { places_said result ≡ places_in state.entry }
 {
     let State {
         board,
@@ -292,6 +297,7 @@ fn with_document<'d, D>(document: &'d D, said: Said) -> Resolved<'d, D>
     ensures document { document_of result ≡ document.now }
     ensures graph { graph_of result ≡ said.graph }
     ensures target { target_of result ≡ said.target }
+    ensures places { places_of result ≡ places_said said }
 {
     Resolved { document, said }
 }
@@ -320,7 +326,7 @@ impl<'d, 's> AstResolver<'d, 's> {
         ensures document { IfOk result (λ r. document_of r ≡ asked_of self.entry) }
         ensures number { IfOk result (λ r. (graph_of r).types.number ≡ number) }
         ensures target { IfOk result (λ r. IsTarget (graph_of r) (target_of r)) }
-        ensures outcome { IsResolved graph_of target_of (view_document (asked_of self.entry)) «packages».now result }
+        ensures outcome { IsResolved graph_of places_of target_of (view_document (asked_of self.entry)) «packages».now result }
     {
         let AstResolver { document } = self;
         match said_of(document, alloc, &*packages, number) {
@@ -338,7 +344,7 @@ pub trait ResolveDocument: Sized {
     fn say(&self, alloc: Global, packages: &Packages<'_>, number: u64) -> ResolutionResult<Said>
         ensures number { IfOk result (λ said. (graph_said said).types.number ≡ number) }
         ensures target { IfOk result (λ said. IsTarget (graph_said said) (target_said said)) }
-        ensures outcome { IsResolved graph_said target_said (stated self.now) «packages».now result };
+        ensures outcome { IsResolved graph_said places_said target_said (stated self.now) «packages».now result };
 
     /// What the document is resolved to, over these packages, in a graph whose collection has this number.
     final fn resolve<'d>(
@@ -350,7 +356,7 @@ pub trait ResolveDocument: Sized {
         ensures document { IfOk result (λ r. document_of r ≡ self.now) }
         ensures number { IfOk result (λ r. (graph_of r).types.number ≡ number) }
         ensures target { IfOk result (λ r. IsTarget (graph_of r) (target_of r)) }
-        ensures outcome { IsResolved graph_of target_of (stated self.now) «packages».now result }
+        ensures outcome { IsResolved graph_of places_of target_of (stated self.now) «packages».now result }
     {
         match self.say(alloc, &*packages, number) {
             Ok(said) => Ok(with_document(self, said)),

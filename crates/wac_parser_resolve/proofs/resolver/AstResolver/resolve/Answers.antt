@@ -5,11 +5,10 @@ use Rattle.wac_parser_tree.specs.declared.document.Document.{Document}
 use Rattle.wac_parser_resolve.specs.declared.resolver.Resolved.{Resolved}
 use Rattle.wac_parser_resolve.specs.declared.resolver.Said.{Said}
 use Rattle.wac_parser_resolve.specs.Ascribing.{State}
-use Rattle.wac_parser_resolve.specs.InDocuments.{IsBuilt}
-use Rattle.wac_parser_resolve.specs.InTargets.{HoldsTarget}
+use Rattle.wac_parser_resolve.specs.InDocuments.{HoldsAll}
 use Rattle.wac_parser_resolve.specs.Knowing.{handed_list}
 use Rattle.wac_parser_resolve.specs.Meeting.{resolved}
-use Rattle.wac_parser_resolve.specs.Resolved.{asked_of, graph_of, target_of}
+use Rattle.wac_parser_resolve.specs.Resolved.{asked_of, graph_of, places_of, places_said, target_of}
 use Rattle.wac_parser_resolve.proofs.Documented.{error_told, holds_as}
 use Rattle.wac_parser_resolve.proofs.Asking.{held_map}
 use Rattle.wac_parser_resolve.proofs.resolver.AstResolver.resolve.Goals as goal
@@ -18,9 +17,9 @@ pub returns-in-Ok-clause-outcome : goal.returns-in-Ok-clause-outcome
 returns-in-Ok-clause-outcome c =
     let said = c.in-Ok.said in
     let r = c.with_document.result in
-    held_map (λ (q : State × Option Stated) (x : Said). IsBuilt x.graph q.0 × HoldsTarget x.graph.types q.1 x.target) (λ (q : State × Option Stated) (x : Resolved Document). IsBuilt (graph_of x) q.0 × HoldsTarget (graph_of x).types q.1 (target_of x))
+    held_map (λ (q : State × Option Stated) (x : Said). HoldsAll q x.graph (places_said x) x.target) (λ (q : State × Option Stated) (x : Resolved Document). HoldsAll q (graph_of x) (places_of x) (target_of x))
     (resolved (view_document (asked_of c.args.self)) (handed_list c.args.«packages».now)) said r
-    (λ q h. holds_as said.graph (graph_of r) said.target (target_of r) q c.with_document.ensures.graph c.with_document.ensures.target h) c.in-Ok.ensures.outcome
+    (λ q h. holds_as said.graph (graph_of r) (places_said said) (places_of r) said.target (target_of r) q c.with_document.ensures.graph c.with_document.ensures.places c.with_document.ensures.target h) c.in-Ok.ensures.outcome
 
 pub returns-in-Err-clause-outcome : goal.returns-in-Err-clause-outcome
 returns-in-Err-clause-outcome c =
