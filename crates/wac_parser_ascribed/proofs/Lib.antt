@@ -2,4 +2,6 @@ pub mod Places
 pub mod Origins
 pub mod Listing
 pub mod Tied
+pub mod Noted
+pub mod Unwritten
 pub mod Wired

@@ -1,8 +1,7 @@
 -- Where the nodes of what is denoted come from.
 use Rattle.std.specs.Prelude.{slice_get, unwrap_or, option_map}
 use Rattle.std.proofs.lemmas.Option.{same_Some}
-use Rattle.std.proofs.Common.{◌≡◌, ℕ, zero, suc, ◌<◌, ◌≤◌, List, [], ◌∷◌, length, Bool, true, false, Option, Some, None, refl, sym, ap, subst, ◌∙◌, arith}
-use Rattle.wac_types_base.specs.declared.item.ItemKind.{ItemKind}
+use Rattle.std.proofs.Common.{◌≡◌, ℕ, zero, suc, ◌≤◌, List, length, true, false, Option, Some, refl, sym, ap, ◌∙◌, arith}
 use Rattle.wac_types_base.specs.Collection.{IsAcyclic}
 use Rattle.wac_types_base.specs.Entries.{Name, AreDistinct}
 use Rattle.wac_types_base.specs.Stated.{Stated, stated_in, stated_of}
@@ -13,11 +12,11 @@ use Rattle.wac_composition.specs.Composition as c
 use Rattle.wac_composition.specs.Renaming.{origin_renamed}
 use Rattle.wac_graph_asks.specs.Graphs.{origin_of, origin_within, export_of, item_at, item_of}
 use Rattle.wac_graph_asks.proofs.Origins.{rank, starts_below, below, fewer, alias_is, at_node, count_most}
-use Rattle.wac_parser_resolve.specs.Ascribing.{Origin, imported, instance, projected, defined, Denoted, State}
+use Rattle.wac_parser_resolve.specs.Ascribing.{Origin, imported, instance, projected, defined, State}
 use Rattle.wac_parser_resolve.specs.Ascribed.{origin_in}
-use Rattle.wac_parser_resolve.specs.Holding.{HasItem, IsDefinition, IsNode, Denotes}
+use Rattle.wac_parser_resolve.specs.Holding.{HasItem, IsDefinition, IsNode}
 use Rattle.wac_parser_resolve.proofs.Nodes.{instance_role}
-use Rattle.wac_parser_resolve.proofs.Sound.{Has, HasThat, an_import, an_instance, an_export, a_definition}
+use Rattle.wac_parser_resolve.proofs.Sound.{Has, an_import, an_instance, an_export, a_definition}
 use Rattle.wac_parser_ascribed.specs.Tied.{place_of}
 use Rattle.wac_parser_ascribed.proofs.Places.{place_is}
 

@@ -1,7 +1,7 @@
 -- Places in lists of distinct numbers, and what stands at them in other lists.
-use Rattle.std.specs.Prelude.{slice_get, ◌==◌, cond, if◌then◌else◌}
+use Rattle.std.specs.Prelude.{slice_get, ◌==◌, cond}
 use Rattle.std.proofs.lemmas.Bool.{false_from_ne_true}
-use Rattle.std.proofs.Common.{◌≡◌, ℕ, zero, suc, ◌+◌, List, [], ◌∷◌, map, Bool, true, false, Option, Some, None, refl, sym, ap, subst, ◌∙◌, inl, inr, arith}
+use Rattle.std.proofs.Common.{◌≡◌, ℕ, zero, suc, List, [], ◌∷◌, map, Bool, true, false, Some, None, refl, sym, ap, subst, ◌∙◌, inl, inr}
 use Rattle.wac_types_base.specs.Entries.{AreDistinct, names_of}
 use Rattle.wac_types_base.specs.Graph.{Among}
 use Rattle.wac_types_base.proofs.Replacing.{same_number, number_same}
@@ -9,7 +9,7 @@ use Rattle.wac_parser_resolve.specs.Holding.{InTurn}
 use Rattle.wac_parser_resolve.proofs.Turns.{slice_among, turn_within}
 use Rattle.wac_parser_ascribed.specs.Tied.{place_of, beside}
 
-other_number : (j k : ℕ) → (j ≡ k → ⊥) → (j == k) ≡ false
+pub other_number : (j k : ℕ) → (j ≡ k → ⊥) → (j == k) ≡ false
 other_number j k h = false_from_ne_true (j == k) (λ e. h (same_number j k e))
 
 -- ---- places

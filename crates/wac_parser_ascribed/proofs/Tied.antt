@@ -1,17 +1,14 @@
 -- The composition of a graph that holds what was said.
-use Rattle.std.specs.Prelude.{slice_get, unwrap_or, option_map, is_some, filter_map, map, ◌==◌, cond}
-use Rattle.std.specs.FinMap as finite
+use Rattle.std.specs.Prelude.{slice_get, unwrap_or, option_map, map, ◌==◌, cond}
 use Rattle.std.proofs.lemmas.Option.{same_Some, none-some}
 use Rattle.std.proofs.Common.{◌≡◌, ℕ, zero, suc, ◌+◌, List, [], ◌∷◌, Bool, true, false, Option, Some, None, IsSome, refl, sym, ap, subst, ◌∙◌, arith, inl, inr}
-use Rattle.wac_types_base.specs.declared.item.ItemKind.{ItemKind}
 use Rattle.wac_types_base.specs.Collection.{IsAcyclic}
 use Rattle.wac_types_base.specs.Entries.{Name, AreDistinct, names_of, value_at}
 use Rattle.wac_types_base.specs.Graph.{Among}
-use Rattle.wac_types_base.specs.Stated.{Stated, stated_of}
+use Rattle.wac_types_base.specs.Stated.{Stated}
 use Rattle.wac_types_names.specs.Packaged.{Packaged}
-use Rattle.wac_types_names.specs.Keys.{Key, package_key}
+use Rattle.wac_types_names.specs.Keys.{Key}
 use Rattle.wac_graph_core.specs.Nodes.{NodeData, Role}
-use Rattle.wac_graph_core.specs.NodeMaps.{IsImport}
 use Rattle.wac_graph_core.specs.Edges.{alias_edge, HasAlias, HasArgument}
 use Rattle.wac_graph_core.specs.Graph.{Graph, IsGraph, node_at, package_if, package_made, instantiated}
 use Rattle.wac_graph_core.specs.Walking.{first_argument, first_source}
@@ -21,23 +18,24 @@ use Rattle.wac_composition.specs.Composition as c
 use Rattle.wac_composition.specs.Composition.{Composition, Placed}
 use Rattle.wac_composition.specs.Alike.{IsSameMade, AreSameMade, IsAlike}
 use Rattle.wac_composition.specs.Renaming.{origin_renamed, placed_renamed, made_renamed, renamed}
-use Rattle.wac_graph_asks.specs.Graphs.{nodes_of, item_of, item_at, origin_of, arguments_to, first_export, import_by, made_with, definition_by, alias_with, composition_of}
+use Rattle.wac_graph_asks.specs.Graphs.{item_of, item_at, origin_of, arguments_to, first_export, import_by, made_with, definition_by, alias_with, composition_of}
 use Rattle.wac_graph_asks.proofs.Origins.{alias_is, argument_is, made_of, value_mapped}
 use Rattle.wac_parser_tree.specs.Trees.{Span}
 use Rattle.wac_parser_declare.specs.Packages.{Content}
-use Rattle.wac_parser_resolve.specs.Ascribed.{Asker, by_import, by_instance, by_definition, origin_in, argument_in, made_in, numbered, placed_import, placed_definition, alias_in, exported_in, composition}
+use Rattle.wac_parser_resolve.specs.Ascribed.{Asker, by_import, by_definition, origin_in, argument_in, made_in, numbered, placed_import, placed_definition, alias_in, exported_in, composition}
 use Rattle.wac_parser_resolve.specs.Ascribing.{Origin, imported, instance, projected, defined, Denoted, Made, Import, Bound, State, own_name}
 use Rattle.wac_parser_resolve.specs.Holding.{InTurn, HasItem, IsNode, Denotes, IsMade, IsNamed}
 use Rattle.wac_parser_resolve.specs.InDocuments.{IsBuilt}
+use Rattle.wac_parser_resolve.specs.Resolved.{Places}
 use Rattle.wac_parser_resolve.specs.Later.{first_name}
 use Rattle.wac_parser_resolve.specs.Said.{IsAsked, IsDeclared}
-use Rattle.wac_parser_resolve.proofs.Nodes.{RoleTold, instance_role, told_role}
+use Rattle.wac_parser_resolve.proofs.Nodes.{instance_role}
 use Rattle.wac_parser_resolve.proofs.Sound.{Sound, HasThat}
 use Rattle.wac_parser_resolve.proofs.Turns.{slice_among, turn_back, turn_map, turn_within}
 use Rattle.wac_parser_ascribed.specs.Tied.{place_of, beside, asker_by, asker_of}
 use Rattle.wac_parser_ascribed.proofs.Places.{place_is, beside_none, turn_beside, turn_named, turn_mapped}
 use Rattle.wac_parser_ascribed.proofs.Listing.{Makes, made_in_turn}
-use Rattle.wac_parser_ascribed.proofs.Origins.{States, has_states, item_there, item_is, origin_back}
+use Rattle.wac_parser_ascribed.proofs.Origins.{has_states, item_there, item_is, origin_back}
 
 first_named : (es : List (Name × ℕ)) (k : ℕ) (n : Name) → first_name es k ≡ Some n → first_export es k ≡ n
 first_named [] k n e = absurd (none-some _ e)
@@ -47,13 +45,13 @@ first_named (x ∷ es) k n e = by (x.1 == k) e (first_named es k n)
     by true e rest = same_Some _ _ e
     by false e rest = rest e
 
-module _ (g : Graph) (sound : IsGraph g) (acyclic : IsAcyclic g.types) (s : State) (b : IsBuilt g s) (ps : List (Key × Content)) (said : Sound ps s) where
+module _ (g : Graph) (sound : IsGraph g) (acyclic : IsAcyclic g.types) {places : Places} (s : State) (b : IsBuilt g places s) (ps : List (Key × Content)) (said : Sound ps s) where
   -- the nodes of imports and of instances, in order
   abbrev pub ks : List ℕ
-  ks = names_of b.imported
+  ks = names_of places.imports
 
   abbrev pub ms : List ℕ
-  ms = names_of b.instances
+  ms = names_of places.instances
 
   pub ks_apart : AreDistinct ks
   ks_apart = rises_apart ks b.imports.rising
@@ -74,18 +72,18 @@ module _ (g : Graph) (sound : IsGraph g) (acyclic : IsAcyclic g.types) (s : Stat
 
   import_role : (k : ℕ) → Among k ks → (x : NodeData) × (n : Name) × (node_at g k ≡ Some x) × (x.role ≡ Role.Imported n)
   import_role k m =
-      let t = turn_named (IsAsked g b.ids) s.imports b.imported b.imports.are in
-      let i = turn_back (λ x j. (e : ℕ × Span) × (e.0 ≡ j) × IsAsked g b.ids x e) s.imports ks k t m in
+      let t = turn_named (IsAsked g places.ids) s.imports places.imports b.imports.are in
+      let i = turn_back (λ x j. (e : ℕ × Span) × (e.0 ≡ j) × IsAsked g places.ids x e) s.imports ks k t m in
       let a = i.2.2.import in
       (a.node, i.0.name, subst (λ j. node_at g j ≡ Some a.node) i.2.1 a.there, a.role)
 
   instance_here : (k : ℕ) → Among k ms → (x : NodeData) × (node_at g k ≡ Some x) × (x.role ≡ Role.Instance)
   instance_here k m =
-      let t = turn_named (IsMade g ms) s.made b.instances b.says.made in
+      let t = turn_named (IsMade g ms) s.made places.instances b.says.made in
       let i = turn_back (λ x j. (e : ℕ × Span) × (e.0 ≡ j) × IsMade g ms x e) s.made ms k t m in
       instance_role g sound k (subst (λ j. IsSome (instantiated g j)) i.2.1 (subst IsSome (sym i.2.2.is) refl))
 
-  instance_no_import : (k : ℕ) → Among k ms → Among k ks → ⊥
+  pub instance_no_import : (k : ℕ) → Among k ms → Among k ks → ⊥
   instance_no_import k m n =
       let x = instance_here k m in
       let y = import_role k n in
@@ -105,7 +103,7 @@ module _ (g : Graph) (sound : IsGraph g) (acyclic : IsAcyclic g.types) (s : Stat
   abbrev import_made : ℕ × NodeData → Option (Placed ℕ)
   import_made e = import_by g e.0 e.1 e.1.role
 
-  one_import : (i : Import) (k : ℕ) → ((e : ℕ × Span) × (e.0 ≡ k) × IsAsked g b.ids i e) × (beside ks s.imports k ≡ Some i) → Makes g.nodes import_made IsPlacedImport i k
+  one_import : (i : Import) (k : ℕ) → ((e : ℕ × Span) × (e.0 ≡ k) × IsAsked g places.ids i e) × (beside ks s.imports k ≡ Some i) → Makes g.nodes import_made IsPlacedImport i k
   one_import i k r =
       let a = r.0.2 in
       let x = a.import.node in
@@ -131,8 +129,8 @@ module _ (g : Graph) (sound : IsGraph g) (acyclic : IsAcyclic g.types) (s : Stat
 
   imports_same : map (placed_renamed asker) (composition_of g).imports ≡ map placed_import s.imports
   imports_same =
-      let t = turn_named (IsAsked g b.ids) s.imports b.imported b.imports.are in
-      let u = turn_beside (λ i k. (e : ℕ × Span) × (e.0 ≡ k) × IsAsked g b.ids i e) s.imports ks ks_apart t in
+      let t = turn_named (IsAsked g places.ids) s.imports places.imports b.imports.are in
+      let u = turn_beside (λ i k. (e : ℕ × Span) × (e.0 ≡ k) × IsAsked g places.ids i e) s.imports ks ks_apart t in
       turn_mapped (placed_renamed asker) placed_import s.imports (composition_of g).imports
       (made_in_turn g.nodes import_made IsPlacedImport s.imports ks b.imports.rising (turn_map _ (Makes g.nodes import_made IsPlacedImport) one_import s.imports ks u) an_import_there)
 
@@ -345,7 +343,7 @@ module _ (g : Graph) (sound : IsGraph g) (acyclic : IsAcyclic g.types) (s : Stat
 
   made_same : AreSameMade (map (made_renamed asker number) (composition_of g).made) (numbered zero s.made)
   made_same =
-      let t = turn_named (IsMade g ms) s.made b.instances b.says.made in
+      let t = turn_named (IsMade g ms) s.made places.instances b.says.made in
       let u = turn_beside (λ m k. (e : ℕ × Span) × (e.0 ≡ k) × IsMade g ms m e) s.made ms ms_apart t in
       turn_same (numbered zero s.made) (composition_of g).made
       (made_in_turn g.nodes instance_made IsSameAs (numbered zero s.made) ms b.says.rising

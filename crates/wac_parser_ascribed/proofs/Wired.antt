@@ -1,52 +1,54 @@
 -- The wiring of a graph that holds what was said is the ascribed one.
-use Rattle.std.specs.Prelude.{slice_get, unwrap_or, option_map, is_some, map, cond, Ok}
+use Rattle.std.specs.Prelude.{slice_get, unwrap_or, option_map, is_some, cond}
 use Rattle.std.proofs.lemmas.Option.{same_Some, none-some}
 use Rattle.std.proofs.Common.{◌≡◌, ℕ, zero, suc, List, [], ◌∷◌, Bool, true, false, Option, Some, None, IsSome, refl, sym, ap, subst, ◌∙◌}
-use Rattle.wac_types_base.specs.declared.item.ItemKind.{ItemKind}
 use Rattle.wac_types_base.specs.Collection.{IsAcyclic}
 use Rattle.wac_types_base.specs.Entries.{Name, names_of, value_at}
-use Rattle.wac_types_base.specs.Graph.{Among}
-use Rattle.wac_types_base.specs.Stated.{Stated, imports_of, stated_of}
+use Rattle.wac_types_base.specs.Stated.{Stated, imports_of}
 use Rattle.wac_types_base.specs.Tree.{tree}
 use Rattle.wac_types_names.specs.Packaged.{Packaged}
-use Rattle.wac_types_names.specs.Keys.{Key, package_key}
+use Rattle.wac_types_names.specs.Keys.{Key}
 use Rattle.wac_types_fit.proofs.Items.{value_at-among}
-use Rattle.wac_graph_bytes.specs.Wirings.{Tag, OfBytes, Source, Absent, Outer, Inst, Definition, Instantiation, Wiring, Same, project, rename, renamed as moved}
+use Rattle.wac_graph_bytes.specs.Wirings.{Tag, OfBytes, Source, Absent, Outer, Inst, Instantiation, Wiring, Same, project, rename, renamed as moved}
 use Rattle.wac_graph_bytes.proofs.Replace.{replace-project}
 use Rattle.wac_graph_core.specs.Graph.{Graph, IsGraph, instantiated}
 use Rattle.wac_graph_core.specs.Walking.{first_argument}
 use Rattle.wac_composition.specs.Composition as c
-use Rattle.wac_composition.specs.Asks.{asks_of}
+use Rattle.wac_types_base.specs.Fits.{Fits}
+use Rattle.wac_types_base.specs.Graph.{Among}
+use Rattle.wac_composition.specs.Asks.{Ask, asks_of}
+use Rattle.wac_composition.specs.OuterLaws.{AreMet}
+use Rattle.wac_composition.proofs.Lists.{mapped_among}
 use Rattle.wac_composition.specs.Classes.{spelling}
-use Rattle.wac_composition.specs.Conflicts.{first_cause, name_cause}
 use Rattle.wac_composition.specs.OuterImports.{outer_imports}
-use Rattle.wac_composition.specs.Renaming.{origin_renamed, cause_renamed, renamed, KeepsMeaning}
+use Rattle.wac_composition.specs.Renaming.{ask_renamed, origin_renamed, renamed, KeepsMeaning}
 use Rattle.wac_composition.specs.Alike.{MeansAlike}
-use Rattle.wac_composition.specs.Worlds.{composed_world, source_of}
+use Rattle.wac_composition.specs.Worlds.{source_of}
 use Rattle.wac_composition.specs.Wired.{argument_source, export_source, instantiation, source_for}
 use Rattle.wac_composition.proofs.Alike.{means_alike}
 use Rattle.wac_composition.proofs.Renamed.{keeps_meaning}
-use Rattle.wac_graph_asks.specs.Graphs.{composition_of, origin_of, arguments_to}
+use Rattle.wac_graph_asks.specs.Graphs.{composition_of, origin_of}
 use Rattle.wac_graph_asks.specs.Wirings.{IsGraphWiring}
 use Rattle.wac_graph_asks.proofs.Origins.{argument_is, denoted, given_is, made_of, package_stands, value_mapped}
-use Rattle.wac_parser_tree.specs.Trees as t
 use Rattle.wac_parser_tree.specs.Trees.{Span}
 use Rattle.wac_parser_declare.specs.Packages.{Content}
-use Rattle.wac_parser_resolve.specs.Ascribed.{Asker, argument_in, composition, exported_in, made_in, numbered, origin_in}
+use Rattle.wac_parser_resolve.specs.Ascribed.{Asker, composition, made_in, numbered, origin_in}
 use Rattle.wac_parser_resolve.specs.Ascribing.{Bound, Denoted, Made, State}
 use Rattle.wac_parser_resolve.specs.Holding.{InTurn, IsMade}
 use Rattle.wac_parser_resolve.specs.InDocuments.{IsBuilt}
-use Rattle.wac_parser_resolve.specs.Meeting.{resolved, target}
+use Rattle.wac_parser_resolve.specs.Resolved.{Places}
+use Rattle.wac_parser_resolve.specs.Meeting.{target}
 use Rattle.wac_parser_resolve.specs.Saying.{statements}
 use Rattle.wac_parser_resolve.proofs.Answers.{ok_is, ok_of}
 use Rattle.wac_parser_resolve.proofs.Ordered.{numbered_is, numbered_at, export_is}
 use Rattle.wac_parser_resolve.proofs.Rooted.{AreFound, both_found}
 use Rattle.wac_parser_resolve.proofs.Sound.{Sound, statements_sound}
-use Rattle.wac_parser_resolve.proofs.Turns.{slice_among}
 use Rattle.wac_parser_ascribed.specs.Tied.{place_of, bytes_of, handed_tag, ascribed_wiring, IsAscribed, Graphs_are_ascribed}
 use Rattle.wac_parser_ascribed.proofs.Origins.{has_states, node_of, origin_is}
 use Rattle.wac_parser_ascribed.proofs.Places.{at_place, place_is}
-use Rattle.wac_parser_ascribed.proofs.Tied.{ms, ms_apart, asker, number, alike, not_passed, passed_is}
+use Rattle.wac_parser_ascribed.proofs.Noted.{placed, keys}
+use Rattle.wac_parser_ascribed.proofs.Unwritten.{unwritten_same}
+use Rattle.wac_parser_ascribed.proofs.Tied.{ms, ms_apart, asker, alike, not_passed, passed_is}
 
 -- ---- lists
 
@@ -73,7 +75,7 @@ named_at [] i k q = absurd (none-some _ q)
 named_at (x ∷ es) zero k q = (x, refl, same_Some _ _ q)
 named_at (x ∷ es) (suc i) k q = named_at es i k q
 
-module _ (g : Graph) (sound : IsGraph g) (acyclic : IsAcyclic g.types) (s : State) (b : IsBuilt g s) (ps : List (Key × Content)) (said : Sound ps s) where
+module _ (g : Graph) (sound : IsGraph g) (acyclic : IsAcyclic g.types) {places : Places} (s : State) (b : IsBuilt g places s) (ps : List (Key × Content)) (said : Sound ps s) where
   abbrev who : ℕ → Asker
   who = asker g sound acyclic s b ps said
 
@@ -94,6 +96,18 @@ module _ (g : Graph) (sound : IsGraph g) (acyclic : IsAcyclic g.types) (s : Stat
 
   spelled : (n : Name) → spelling (asks_of (composition s)) n ≡ spelling (asks_of (composition_of g)) n
   spelled n = ap (λ l. spelling l n) (sym tied.asks) ∙ keeps.spelled n
+
+  -- what the graph's composition asks is met, and so is what the document's does
+  met_moved : AreMet (composition_of g) → AreMet (composition s)
+  met_moved h a m =
+      let y = mapped_among (ask_renamed who) (asks_of (composition_of g)) a (subst (Among a) (sym tied.asks ∙ keeps.asks) m) in
+      let k = h y.0 y.1 in
+      record {
+        item = k.item;
+        there = ap (λ l. value_at l (spelling (asks_of (composition s)) a.name)) outers
+            ∙ ap (value_at (outer_imports (asks_of (composition_of g)))) (spelled a.name ∙ ap (λ (z : Ask Asker). spelling (asks_of (composition_of g)) z.name) y.2) ∙ k.there;
+        fits = subst (λ (z : Ask Asker). Fits (tree k.item) (tree z.item)) (sym y.2) k.fits;
+      }
 
   -- ---- sources
 
@@ -155,8 +169,8 @@ module _ (g : Graph) (sound : IsGraph g) (acyclic : IsAcyclic g.types) (s : Stat
         by None r q = absurd (none-some _ q)
         by (Some y) r q =
             let m = numbered_is zero s.made i y r in
-            let e = turn_at (IsMade g nodes) s.made b.instances i m.made b.says.made m.there in
-            let at : slice_get nodes i ≡ Some e.0.0 = name_at b.instances i e.0 e.1 in
+            let e = turn_at (IsMade g nodes) s.made places.instances i m.made b.says.made m.there in
+            let at : slice_get nodes i ≡ Some e.0.0 = name_at places.instances i e.0 e.1 in
             let number : node i ≡ e.0.0 = ap (λ (o : Option ℕ). unwrap_or o zero) at in
             let here = instance_of i m.number e.0.0 m.made e.0 refl m.there e.2 in
             let same : instantiation (handed_tag s.packages) (composition s) (made_in m.number m.made) ≡ x = ap (instantiation (handed_tag s.packages) (composition s)) (sym m.is) ∙ same_Some _ _ q in (
@@ -171,8 +185,8 @@ module _ (g : Graph) (sound : IsGraph g) (acyclic : IsAcyclic g.types) (s : Stat
         by None r = absurd (none-some _ (sym (is.no_other j r) ∙ q))
         by (Some p) r =
             let at = at_place nodes j (b.says.all j (subst IsSome (sym r) refl)) in
-            let e = named_at b.instances (place_of nodes j) j at in
-            let m = turn_from (IsMade g nodes) s.made b.instances (place_of nodes j) e.0 b.says.made e.1 in
+            let e = named_at places.instances (place_of nodes j) j at in
+            let m = turn_from (IsMade g nodes) s.made places.instances (place_of nodes j) e.0 b.says.made e.1 in
             let n = numbered_at zero s.made (place_of nodes j) m.0 m.1 in (
               instantiation (handed_tag s.packages) (composition s) (made_in n.0 m.0),
               ap (option_map (instantiation (handed_tag s.packages) (composition s))) n.1,
@@ -205,19 +219,23 @@ module _ (g : Graph) (sound : IsGraph g) (acyclic : IsAcyclic g.types) (s : Stat
       exports = exports;
     }
 
-  pub is_ascribed : IsAscribed g s
+  pub is_ascribed : IsAscribed g places s
   is_ascribed = record {
     asker = who;
     number = place_of nodes;
+    placed = placed g sound acyclic s b ps said;
+    keys = keys g sound acyclic s b ps said;
     alike = alike g sound acyclic s b ps said;
     cause = λ define. sym (tied.cause define) ∙ keeps.cause define;
+    unwritten = λ define. unwritten_same who (place_of nodes) (composition_of g) (composition s) (alike g sound acyclic s b ps said) define _ _ outers;
     names = λ define validate. sym (tied.names define validate) ∙ keeps.names define validate;
     world = sym tied.world ∙ keeps.world;
+    met = met_moved;
     wired = λ W is. same W is;
   }
 
 pub ascribed : Graphs_are_ascribed
-ascribed d ps r g e sound acyclic b =
+ascribed d ps r g at e sound acyclic b =
     let x = ok_of (statements d ps) _ r (sym e) in
     let w = ok_of (target x.0 d.directive.targets) _ r x.2 in
     let state : r.0 ≡ x.0 = ap (λ (q : State × Option Stated). q.0) (ok_is r (x.0, w.0) w.2) in

@@ -2,11 +2,15 @@
 use Rattle.std.specs.Prelude.{◌≡◌, ◌==◌, ℕ, zero, suc, Bool, List, [], ◌∷◌, Option, Some, None, Ok, option_map, if◌then◌else◌}
 use Rattle.wac_types_base.specs.Collection.{IsAcyclic}
 use Rattle.wac_types_base.specs.Stated.{Stated}
-use Rattle.wac_types_names.specs.Keys.{Key}
+use Rattle.wac_types_names.specs.Packaged.{Packaged}
+use Rattle.wac_types_names.specs.Keys.{Key, package_key}
 use Rattle.wac_graph_bytes.specs.Wirings.{Tag, OfBytes, Wiring, Same}
-use Rattle.wac_graph_core.specs.Graph.{Graph, IsGraph}
+use Rattle.wac_graph_core.specs.Graph.{Graph, IsGraph, instantiated}
 use Rattle.wac_composition.specs.Alike.{IsAlike}
-use Rattle.wac_composition.specs.Conflicts.{first_cause, name_cause}
+use Rattle.wac_composition.specs.Asks.{asks_of}
+use Rattle.wac_composition.specs.Conflicts.{first_cause, name_cause, unwritable_cause}
+use Rattle.wac_composition.specs.OuterImports.{outer_imports}
+use Rattle.wac_composition.specs.OuterLaws.{AreMet}
 use Rattle.wac_composition.specs.Renaming.{cause_renamed, renamed}
 use Rattle.wac_composition.specs.Wired.{composed_wiring}
 use Rattle.wac_composition.specs.Worlds.{composed_world}
@@ -15,10 +19,11 @@ use Rattle.wac_graph_asks.specs.Wirings.{IsGraphWiring}
 use Rattle.wac_parser_tree.specs.Trees as t
 use Rattle.wac_parser_declare.specs.Packages.{Content}
 use Rattle.wac_parser_declare.specs.Scope.{package_under}
-use Rattle.wac_parser_resolve.specs.Ascribed.{Asker, by_import, by_instance, by_definition, composition}
+use Rattle.wac_parser_resolve.specs.Ascribed.{Asker, by_import, by_instance, by_definition, asker_key, composition}
 use Rattle.wac_parser_resolve.specs.Ascribing.{Import, Made, State}
 use Rattle.wac_parser_resolve.specs.InDocuments.{IsBuilt}
 use Rattle.wac_parser_resolve.specs.Meeting.{resolved}
+use Rattle.wac_parser_resolve.specs.Resolved.{Places, asker_place, import_place}
 
 -- ---- nodes and what they stand for
 
@@ -42,6 +47,12 @@ asker_by None None = by_definition
 abbrev pub asker_of : (imports instances : List ℕ) → State → ℕ → Asker
 asker_of imports instances s k = asker_by (beside imports s.imports k) (beside instances s.made k)
 
+-- the places that are told of the node are those of the one who asks
+abbrev pub IsPlaced : Places → ℕ → Asker → Type 0
+IsPlaced at k (by_import i) = (import_place at k ≡ i.span) × (asker_place at k ≡ i.id_span)
+IsPlaced at k (by_instance key s) = asker_place at k ≡ s
+IsPlaced at k by_definition = Unit {0}
+
 -- ---- the packages handed in
 
 abbrev pub bytes_of : Option Content → List ℕ
@@ -59,15 +70,20 @@ ascribed_wiring s = composed_wiring (handed_tag s.packages) (composition s)
 -- ---- the tie
 
 -- With those who ask in the document for nodes, and numbers for instances, the graph is the composition that the document
--- ascribes: what stands against the one stands against the other, their worlds are one, and so are their wirings.
-pub record IsAscribed (g : Graph) (s : State) : Type 0 where
+-- ascribes: what stands against the one stands against the other, their worlds are one, what is asked is met alike, and their
+-- wirings are one. Each node stands where the one stands who asks for it, and an instance's has the key of its package.
+pub record IsAscribed (g : Graph) (at : Places) (s : State) : Type 0 where
   pub asker : ℕ → Asker
   pub number : ℕ → ℕ
+  pub placed : (k : ℕ) → IsPlaced at k (asker k)
+  pub keys : (k : ℕ) (p : Packaged) → instantiated g k ≡ Some p → asker_key (asker k) ≡ package_key p
   pub alike : IsAlike (renamed asker number (composition_of g)) (composition s)
   pub cause : (define : Bool) → first_cause define (composition s) ≡ option_map (cause_renamed asker) (first_cause define (composition_of g))
+  pub unwritten : (define : Bool) → unwritable_cause define (composition s) (outer_imports (asks_of (composition s))) ≡ option_map (cause_renamed asker) (unwritable_cause define (composition_of g) (outer_imports (asks_of (composition_of g))))
   pub names : (define validate : Bool) → name_cause define validate (composition s) ≡ option_map (cause_renamed asker) (name_cause define validate (composition_of g))
   pub world : composed_world (composition s) ≡ composed_world (composition_of g)
+  pub met : AreMet (composition_of g) → AreMet (composition s)
   pub wired : (W : Wiring ℕ) → IsGraphWiring g W → Same (ascribed_wiring s) W
 
 abbrev pub Graphs_are_ascribed : Type 0
-Graphs_are_ascribed = (d : t.Document) (ps : List (Key × Content)) (r : State × Option Stated) (g : Graph) → resolved d ps ≡ Ok r → IsGraph g → IsAcyclic g.types → IsBuilt g r.0 → IsAscribed g r.0
+Graphs_are_ascribed = (d : t.Document) (ps : List (Key × Content)) (r : State × Option Stated) (g : Graph) (at : Places) → resolved d ps ≡ Ok r → IsGraph g → IsAcyclic g.types → IsBuilt g at r.0 → IsAscribed g at r.0

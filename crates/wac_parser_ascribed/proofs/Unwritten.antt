@@ -1,0 +1,69 @@
+-- Which type cannot be written does not depend on who asks.
+use Rattle.std.specs.Prelude.{map, option_map, if◌then◌else◌}
+use Rattle.std.specs.List.{list_any}
+use Rattle.std.proofs.Common.{◌≡◌, List, [], ◌∷◌, Bool, true, false, Option, Some, None, refl, sym, ap, ◌∙◌}
+use Rattle.wac_types_base.specs.Entries.{Name}
+use Rattle.wac_types_base.specs.Stated.{Stated}
+use Rattle.wac_types_names.specs.Keys.{Key}
+use Rattle.wac_composition.specs.Composition.{Placed, Made, Composition}
+use Rattle.wac_composition.specs.Alike.{AreSameMade, IsAlike}
+use Rattle.wac_composition.specs.Conflicts.{Cause, Unwritable, or_else, first_found, dependency_name, same_key, each_once, dependencies_of, cause_at, placed, unwritable_cause}
+use Rattle.wac_composition.specs.Renaming.{cause_renamed, made_renamed, placed_renamed, renamed}
+use Rattle.wac_composition.specs.Writable.{outer_unwritable, definition_unwritable, package_unwritable, alias_unwritable}
+
+abbrev named_if : {C : Type 0} → Name → Bool → Option (Cause C)
+named_if n b = if b then Some (Unwritable n) else None
+
+module _ {A B : Type 0} (f : A → B) where
+  or_renamed : (o p : Option (Cause A)) → or_else (option_map (cause_renamed f) o) (option_map (cause_renamed f) p) ≡ option_map (cause_renamed f) (or_else o p)
+  or_renamed None p = refl
+  or_renamed (Some x) p = refl
+
+  one_renamed : (n : Name) (b : Bool) → named_if {C = B} n b ≡ option_map (cause_renamed f) (named_if {C = A} n b)
+  one_renamed n true = refl
+  one_renamed n false = refl
+
+  found_renamed : (p : Name × Stated → Bool) (es : List (Name × Stated)) → first_found (cause_at {A = B} p) es ≡ option_map (cause_renamed f) (first_found (cause_at {A = A} p) es)
+  found_renamed p [] = refl
+  found_renamed p (e ∷ es) =
+      let first = one_renamed e.0 (p e) in
+      let rest = found_renamed p es in
+      (λ i. or_else (first i) (rest i)) ∙ or_renamed (cause_at p e) (first_found (cause_at p) es)
+
+  placed_same : (ds : List (Placed A)) → placed (map (placed_renamed f) ds) ≡ placed ds
+  placed_same [] = refl
+  placed_same (d ∷ ds) = ap (λ l. (d.name, d.item) ∷ l) (placed_same ds)
+
+  module _ {I J : Type 0} (g : I → J) where
+    once_same : (seen : List Key) (ms : List (Made A I)) (ns : List (Made B J)) → AreSameMade (map (made_renamed f g) ms) ns → each_once seen ns ≡ each_once seen ms
+    once_same seen [] [] s = refl
+    once_same seen [] (n ∷ ns) s = absurd s
+    once_same seen (m ∷ ms) [] s = absurd s
+    once_same seen (m ∷ ms) (n ∷ ns) s =
+        let rest = once_same seen ms ns s.1 in
+        let more = once_same (m.key ∷ seen) ms ns s.1 in
+        (λ i. if list_any (same_key (sym s.0.key i)) seen then each_once seen ns else (dependency_name (sym s.0.key i), sym s.0.world i) ∷ each_once (sym s.0.key i ∷ seen) ns)
+        ∙ (λ i. if list_any (same_key m.key) seen then rest i else (dependency_name m.key, m.world) ∷ more i)
+
+    module _ (c : Composition A I) (d : Composition B J) (same : IsAlike (renamed f g c) d) where
+      dependencies_same : (define : Bool) → dependencies_of define d ≡ dependencies_of define c
+      dependencies_same true = refl
+      dependencies_same false = once_same [] c.made d.made same.made
+
+      pub unwritten_same : (define : Bool) (os ps : List (Name × Stated)) → ps ≡ os → unwritable_cause define d ps ≡ option_map (cause_renamed f) (unwritable_cause define c os)
+      unwritten_same define os ps is =
+          let definitions : placed d.definitions ≡ placed c.definitions = ap placed (sym same.definitions) ∙ placed_same c.definitions in
+          let aliases = found_renamed alias_unwritable c.aliases in
+          let outers = found_renamed (outer_unwritable os) os in
+          let defined = found_renamed (definition_unwritable os) (placed c.definitions) in
+          let packages = found_renamed package_unwritable (dependencies_of define c) in
+          (λ i. or_else (first_found (cause_at {A = B} alias_unwritable) (sym same.aliases i))
+          (or_else (first_found (cause_at {A = B} (outer_unwritable (is i))) (is i))
+          (or_else (first_found (cause_at {A = B} (definition_unwritable (is i))) (definitions i))
+          (first_found (cause_at {A = B} package_unwritable) (dependencies_same define i)))))
+          ∙ (λ i. or_else (aliases i) (or_else (outers i) (or_else (defined i) (packages i))))
+          ∙ (λ i. or_else (option_map (cause_renamed f) (first_found (cause_at alias_unwritable) c.aliases)) (or_else (option_map (cause_renamed f) (first_found (cause_at (outer_unwritable os)) os))
+          (or_renamed (first_found (cause_at (definition_unwritable os)) (placed c.definitions)) (first_found (cause_at package_unwritable) (dependencies_of define c)) i)))
+          ∙ (λ i. or_else (option_map (cause_renamed f) (first_found (cause_at alias_unwritable) c.aliases))
+          (or_renamed (first_found (cause_at (outer_unwritable os)) os) (or_else (first_found (cause_at (definition_unwritable os)) (placed c.definitions)) (first_found (cause_at package_unwritable) (dependencies_of define c))) i))
+          ∙ or_renamed (first_found (cause_at alias_unwritable) c.aliases) _
