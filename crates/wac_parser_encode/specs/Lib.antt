@@ -1,2 +1,3 @@
 pub mod Processing
 pub mod Meaning
+pub mod Refused

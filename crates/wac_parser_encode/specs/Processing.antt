@@ -1,6 +1,5 @@
 -- How a resolution is encoded.
 use Rattle.std.specs.Prelude.{◌≡◌, Option, Some, None, codes, string_bytes}
-use Rattle.wac_types_base.specs.Entries.{Name}
 use Rattle.wac_graph_bytes.specs.declared.entry.Processor.{Processor}
 use Rattle.wac_graph_encode.specs.declared.options.EncodeOptions.{EncodeOptions}
 

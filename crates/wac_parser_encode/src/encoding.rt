@@ -1,14 +1,15 @@
 //! Resolved documents as components.
 
 ghost use Rattle.std.specs.Prelude.{◌≡◌, IfErr, IfOk, Some};
-ghost use Rattle.wac_types_base.specs.declared.item.ItemKind.{ItemKind};
-ghost use Rattle.wac_types_base.specs.Collection.{Stands};
 ghost use Rattle.wac_graph_core.specs.Graph.{Graph};
 ghost use Rattle.wac_graph_causes.specs.Acyclic.{IsNoCycle};
+ghost use Rattle.wac_graph_encode.specs.Encoding.{HasTrueWorld};
 ghost use Rattle.wac_graph_encode.specs.Finished.{MeansNested};
-ghost use Rattle.wac_parser_resolve.specs.Resolved.{graph_of};
+ghost use Rattle.wac_parser_refusals.specs.Views.{cause_of};
+ghost use Rattle.wac_parser_resolve.specs.Resolved.{Places, graph_of, places_of};
 ghost use Rattle.wac_parser_encode.specs.Processing.{IsProcessed};
-ghost use Rattle.wac_parser_encode.specs.Meaning.{MeansResolved};
+ghost use Rattle.wac_parser_encode.specs.Meaning.{HasResolvedWorld, MeansResolved};
+ghost use Rattle.wac_parser_encode.specs.Refused.{RefusesResolved, TellsAnywhere, alike_fault, fault_in};
 
 use std::alloc::{AllocError, Global};
 use wac_graph_bytes::Processor;
@@ -24,7 +25,9 @@ const PROCESSOR: &str = "wac-parser";
 const VERSION: &str = "0.11.0";
 
 /// Two names that are too much alike.
-fn alike(fault: ValidationFault) -> Error {
+fn alike(fault: ValidationFault) -> Error
+    ensures { cause_of result ≡ alike_fault fault }
+{
     match fault {
         ValidationFault::ImportNames(first, second) => Error::ValidationFailure {
             kind: ExternKind::Import,
@@ -42,6 +45,7 @@ fn alike(fault: ValidationFault) -> Error {
 /// The document's fault that a refusal of its graph is. No graph has a cycle.
 fn fault_of<D>(resolution: &Resolved<'_, D>, fault: EncodeError) -> Error
     requires { IsNoCycle fault }
+    ensures { cause_of result ≡ fault_in (places_of resolution.now) fault }
 {
     match fault {
         EncodeError::ImplicitImportConflict {
@@ -111,6 +115,7 @@ fn encoded_bytes(graph: &CompositionGraph, options: EncodeOptions) -> Result<Vec
     ensures means { IfOk result (λ bytes. MeansNested graph.now options bytes.items) }
     ensures ascribed { IfOk result (λ bytes. MeansResolved graph.now options bytes.items) }
     ensures acyclic { IfErr result IsNoCycle }
+    ensures refused { IfErr result (TellsAnywhere graph.now options) }
 {
     graph.see_sound();
     graph.types().see_acyclic();
@@ -129,8 +134,10 @@ fn encoded_world(
     ensures means { IfOk result (λ e. MeansNested graph.now options e.bytes.items) }
     ensures ascribed { IfOk result (λ e. MeansResolved graph.now options e.bytes.items) }
     ensures number { IfOk result (λ e. e.types.number ≡ numbers.1) }
-    ensures stands { IfOk result (λ e. Stands e.types (ItemKind.Component e.world)) }
+    ensures world { IfOk result (λ e. HasTrueWorld graph.now e.types e.world) }
+    ensures resolved { IfOk result (λ e. HasResolvedWorld graph.now e.types e.world) }
     ensures acyclic { IfErr result IsNoCycle }
+    ensures refused { IfErr result (TellsAnywhere graph.now options) }
 {
     graph.see_sound();
     graph.types().see_acyclic();
@@ -145,10 +152,14 @@ pub trait EncodeResolution {
     /// The graph of the document.
     ghost graph: { Self → Graph };
 
+    /// Where its imports and instances stand in the document.
+    ghost places: { Self → Places };
+
     /// The component of the graph.
     fn encode(&self, options: EncodeOptions) -> ResolutionResult<Vec<u8>>
         ensures means { IfOk result (λ bytes. MeansNested (graph self.now) options bytes.items) }
-        ensures ascribed { IfOk result (λ bytes. MeansResolved (graph self.now) options bytes.items) };
+        ensures ascribed { IfOk result (λ bytes. MeansResolved (graph self.now) options bytes.items) }
+        ensures refused { IfErr result (RefusesResolved (graph self.now) (places self.now) options) };
 
     /// The component of the graph, and the world that is true of it, in a collection of the second number. The first is
     /// that of the collection in which imports are merged.
@@ -156,11 +167,15 @@ pub trait EncodeResolution {
         ensures means { IfOk result (λ e. MeansNested (graph self.now) options e.bytes.items) }
         ensures ascribed { IfOk result (λ e. MeansResolved (graph self.now) options e.bytes.items) }
         ensures number { IfOk result (λ e. e.types.number ≡ numbers.1) }
-        ensures stands { IfOk result (λ e. Stands e.types (ItemKind.Component e.world)) };
+        ensures world { IfOk result (λ e. HasTrueWorld (graph self.now) e.types e.world) }
+        ensures resolved { IfOk result (λ e. HasResolvedWorld (graph self.now) e.types e.world) }
+        ensures refused { IfErr result (RefusesResolved (graph self.now) (places self.now) options) };
 }
 
 impl<'d, D> EncodeResolution for Resolved<'d, D> {
     ghost graph = { graph_of };
+
+    ghost places = { places_of };
 
     fn encode(&self, options: EncodeOptions) -> ResolutionResult<Vec<u8>> {
         match encoded_bytes(self.graph(), options) {

@@ -1,0 +1,139 @@
+-- A refusal of a graph that holds what a document says tells the document's first cause.
+use Rattle.std.specs.Prelude.{option_map, string_bytes, Result, Ok, Err, IfErr}
+use Rattle.std.proofs.Common.{◌≡◌, ℕ, List, Bool, Option, Some, None, refl, sym, ap, subst, ◌∙◌}
+use Rattle.std.proofs.lemmas.Option.{none-some}
+use Rattle.wac_types_base.specs.Collection.{IsAcyclic}
+use Rattle.wac_types_names.specs.declared.package.PackageKey.{PackageKey}
+use Rattle.wac_types_names.specs.Keys.{owned_key}
+use Rattle.wac_graph_core.specs.Graph.{Graph, IsGraph}
+use Rattle.wac_composition.specs.Against.{StandsAgainst}
+use Rattle.wac_composition.specs.Conflicts as cause
+use Rattle.wac_composition.specs.Conflicts.{first_cause, name_cause}
+use Rattle.wac_composition.specs.Renaming.{cause_renamed}
+use Rattle.wac_composition.proofs.Against.{causes_stand}
+use Rattle.wac_graph_asks.specs.Graphs.{composition_of}
+use Rattle.wac_graph_causes.specs.declared.errors.EncodeError.{EncodeError}
+use Rattle.wac_graph_causes.specs.declared.errors.ValidationFault.{ValidationFault}
+use Rattle.wac_graph_causes.specs.Implicit.{IsKeyOf}
+use Rattle.wac_graph_causes.specs.Unwritable.{unwritten_cause}
+use Rattle.wac_graph_encode.specs.declared.options.EncodeOptions.{EncodeOptions}
+use Rattle.wac_graph_encode.specs.Refused.{IsErrorFor}
+use Rattle.wac_parser_refusals.specs.declared.error.Error.{Error}
+use Rattle.wac_parser_refusals.specs.Causes.{Fault}
+use Rattle.wac_parser_refusals.specs.Views.{cause_of}
+use Rattle.wac_parser_resolve.specs.Ascribed.{Asker, by_import, by_instance, by_definition, asker_key, asker_span, cause_said, composition, merge_span, span_or_none}
+use Rattle.wac_parser_resolve.specs.Ascribing.{State}
+use Rattle.wac_parser_resolve.specs.Askers.{IsByImport, IsByNew, HasPlace, IsAskedSo}
+use Rattle.wac_parser_resolve.specs.Resolved.{Places, asker_place, import_place}
+use Rattle.wac_parser_resolve.proofs.Askers.{askers_placed}
+use Rattle.wac_parser_ascribed.specs.Tied.{IsAscribed, IsPlaced}
+use Rattle.wac_parser_ascribed.proofs.Wired.{ascribed}
+use Rattle.wac_parser_encode.specs.Processing.{IsProcessed}
+use Rattle.wac_parser_encode.specs.Refused.{IsFirst, AreFirstAlike, TellsCause, RefusesResolved, TellsFirst, TellsAnywhere, fault_in}
+
+-- ---- places of askers
+
+module _ (at : Places) (k : ℕ) where
+  import_told : (a : Asker) → IsPlaced at k a → IsByImport a → asker_span a ≡ Some (import_place at k)
+  import_told (by_import i) p h = ap Some (sym p.0)
+  import_told (by_instance key s) p h = absurd h
+  import_told by_definition p h = absurd h
+
+  new_told : (a : Asker) → IsPlaced at k a → IsByNew a → asker_span a ≡ Some (asker_place at k)
+  new_told (by_instance key s) p h = ap Some (sym p)
+  new_told (by_import i) p h = absurd h
+  new_told by_definition p h = absurd h
+
+  merge_told : (a : Asker) → IsPlaced at k a → HasPlace a → merge_span a ≡ Some (asker_place at k)
+  merge_told (by_import i) p h = ap Some (sym p.1)
+  merge_told (by_instance key s) p h = ap Some (sym p)
+  merge_told by_definition p h = absurd h
+
+-- ---- the first cause
+
+module _ (options : EncodeOptions) (g : Graph) (at : Places) (s : State) (tied : IsAscribed g at s) (asked : (x : cause.Cause Asker) → StandsAgainst options.define_components (composition s) x → IsAskedSo x) where
+  first_is : (x : cause.Cause ℕ) → first_cause options.define_components (composition_of g) ≡ Some x → first_cause options.define_components (composition s) ≡ Some (cause_renamed tied.asker x)
+  first_is x e = tied.cause options.define_components ∙ ap (option_map (cause_renamed tied.asker)) e
+
+  asked_so : (x : cause.Cause ℕ) → first_cause options.define_components (composition_of g) ≡ Some x → IsAskedSo (cause_renamed tied.asker x)
+  asked_so x e = asked (cause_renamed tied.asker x) ((causes_stand options.define_components (composition s)).stands (cause_renamed tied.asker x) (first_is x e))
+
+  said : (x : cause.Cause ℕ) → first_cause options.define_components (composition_of g) ≡ Some x → IsFirst options s (cause_said (cause_renamed tied.asker x))
+  said x e = ap (option_map cause_said) (first_is x e)
+
+  implicit_told : (n : List ℕ) (import filled : ℕ) (key : PackageKey) → first_cause options.define_components (composition_of g) ≡ Some (cause.ImplicitImport n import filled) → IsKeyOf g filled key
+      → IsFirst options s (record { fault = Fault.ImportConflict n (owned_key key) (asker_place at filled); span = Some (import_place at import) })
+  implicit_told n import filled key e of =
+      let a = asked_so (cause.ImplicitImport n import filled) e in
+      let place = import_told at import (tied.asker import) (tied.placed import) a.0 in
+      let new = new_told at filled (tied.asker filled) (tied.placed filled) a.1 in
+      let same : asker_key (tied.asker filled) ≡ owned_key key = tied.keys filled of.of of.is ∙ sym of.key_is in
+      said (cause.ImplicitImport n import filled) e ∙ (λ j. Some (record { fault = Fault.ImportConflict n (same j) (span_or_none (new j)); span = place j }))
+
+  explicit_told : (n : List ℕ) (first second : ℕ) → first_cause options.define_components (composition_of g) ≡ Some (cause.ExplicitImport n first second)
+      → IsFirst options s (record { fault = Fault.ExplicitImportConflict n (import_place at first); span = Some (import_place at second) })
+  explicit_told n first second e =
+      let a = asked_so (cause.ExplicitImport n first second) e in
+      let one = import_told at first (tied.asker first) (tied.placed first) a.0 in
+      let two = import_told at second (tied.asker second) (tied.placed second) a.1 in
+      said (cause.ExplicitImport n first second) e ∙ (λ j. Some (record { fault = Fault.ExplicitImportConflict n (span_or_none (one j)); span = two j }))
+
+  merge_failed : (n : List ℕ) (first second : ℕ) → first_cause options.define_components (composition_of g) ≡ Some (cause.ImportTypes n first second)
+      → IsFirst options s (record { fault = Fault.InstantiationArgMergeFailure n (asker_place at first); span = Some (asker_place at second) })
+  merge_failed n first second e =
+      let a = asked_so (cause.ImportTypes n first second) e in
+      let one = merge_told at first (tied.asker first) (tied.placed first) a.0 in
+      let two = merge_told at second (tied.asker second) (tied.placed second) a.1 in
+      said (cause.ImportTypes n first second) e ∙ (λ j. Some (record { fault = Fault.InstantiationArgMergeFailure n (span_or_none (one j)); span = two j }))
+
+  alike_told : (x : cause.Cause ℕ) → name_cause options.define_components options.validate (composition_of g) ≡ Some x → AreFirstAlike options s (cause_said (cause_renamed tied.asker x))
+  alike_told x e = ap (option_map cause_said) (tied.names options.define_components options.validate ∙ ap (option_map (cause_renamed tied.asker)) e)
+
+  -- a type of the document that cannot be written is one of the graph's
+  unwritten_told : (n : List ℕ) → ((c : cause.Cause ℕ) → unwritten_cause options.define_components g ≡ Some c → first_cause options.define_components (composition_of g) ≡ Some (cause.Unwritable n))
+      → (o : Option (cause.Cause ℕ)) → unwritten_cause options.define_components g ≡ o → (x : cause.Cause Asker) → option_map (cause_renamed tied.asker) o ≡ Some x → IsFirst options s (record { fault = Fault.TypeCannotBeWritten n; span = None })
+  unwritten_told n h None q x e = absurd (none-some _ e)
+  unwritten_told n h (Some c) q x e = said (cause.Unwritable n) (h c q)
+
+  told : (e : EncodeError) → IsErrorFor options g e → TellsCause options s (fault_in at e)
+  told (EncodeError.ImplicitImportConflict import filled key n) h = implicit_told (string_bytes n) import filled key h.0 h.1
+  told (EncodeError.ExplicitImportConflict n first second) h = explicit_told (string_bytes n) first second h
+  told (EncodeError.ImportTypeMergeConflict n first second source) h = merge_failed (string_bytes n) first second h
+  told (EncodeError.TypeCannotBeWritten n) h = λ x e. unwritten_told (string_bytes n) h (unwritten_cause options.define_components g) refl x (sym (tied.unwritten options.define_components) ∙ e)
+  told EncodeError.TooLarge h = tt
+  told (EncodeError.ValidationFailure (ValidationFault.ImportNames m n)) h = alike_told (cause.ImportNames (string_bytes m) (string_bytes n)) h
+  told (EncodeError.ValidationFailure (ValidationFault.ExportNames m n)) h = alike_told (cause.ExportNames (string_bytes m) (string_bytes n)) h
+  told (EncodeError.GraphContainsCycle node) h = absurd h
+  told EncodeError.Memory h = tt
+
+of_document : (g : Graph) (options : EncodeOptions) (e : EncodeError) → IsGraph g → IsAcyclic g.types → IsErrorFor options g e → TellsAnywhere g options e
+unfolding TellsFirst
+of_document g options e sound acyclic h = λ at d ps r q b. told options g at r.0 (ascribed d ps r g at q sound acyclic b) (λ x k. askers_placed d ps r q options.define_components x k) e h
+
+-- ---- with a processor, and else the same options
+
+processed : (g : Graph) (old new : EncodeOptions) (e : EncodeError) → IsProcessed old new → IsErrorFor new g e → IsErrorFor old g e
+processed g old new e is h = by e (subst (λ (b : Bool). IsErrorFor (record new { define_components = b }) g e) is.define h)
+  where
+    by : (e : EncodeError) → IsErrorFor (record new { define_components = old.define_components }) g e → IsErrorFor old g e
+    by (EncodeError.ImplicitImportConflict import filled key n) h = h
+    by (EncodeError.ExplicitImportConflict n first second) h = h
+    by (EncodeError.ImportTypeMergeConflict n first second source) h = h
+    by (EncodeError.TypeCannotBeWritten n) h = h
+    by EncodeError.TooLarge h = tt
+    by (EncodeError.ValidationFailure fault) h = (λ j. name_cause old.define_components (sym is.validate j) (composition_of g)) ∙ h
+    by (EncodeError.GraphContainsCycle node) h = absurd h
+    by EncodeError.Memory h = tt
+
+pub refuses_processed : {A : Type 0} (g : Graph) (old new : EncodeOptions) (r : Result A EncodeError) → IsProcessed old new → IsGraph g → IsAcyclic g.types → IfErr r (IsErrorFor new g) → IfErr r (TellsAnywhere g old)
+refuses_processed g old new (Ok a) is sound acyclic h = tt
+refuses_processed g old new (Err e) is sound acyclic h = of_document g old e sound acyclic (processed g old new e is h)
+
+-- memory was refused before
+pub memory_refused : (g : Graph) (options : EncodeOptions) → TellsAnywhere g options EncodeError.Memory
+unfolding TellsFirst
+memory_refused g options = λ at d ps r q b. tt
+
+-- the document's error, by the places of its resolution
+pub refuses : (g h : Graph) (options : EncodeOptions) (at : Places) (e : EncodeError) (f : Error) → g ≡ h → cause_of f ≡ fault_in at e → TellsAnywhere g options e → RefusesResolved h at options f
+refuses g h options at e f same is all = subst (TellsFirst h options at) (sym is) (subst (λ (x : Graph). TellsFirst x options at (fault_in at e)) same (all at))

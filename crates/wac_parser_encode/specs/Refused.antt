@@ -1,0 +1,78 @@
+-- Why a resolved document is not encoded: the first cause that stands against what it says, with its places.
+use Rattle.std.specs.Prelude.{◌≡◌, List, Option, Some, None, Ok, option_map, string_bytes}
+use Rattle.wac_types_base.specs.declared.item.ExternKind.{ExternKind}
+use Rattle.wac_types_base.specs.Stated.{Stated}
+use Rattle.wac_types_names.specs.Keys.{Key, owned_key}
+use Rattle.wac_graph_core.specs.Graph.{Graph}
+use Rattle.wac_composition.specs.Asks.{asks_of}
+use Rattle.wac_composition.specs.Conflicts as cause
+use Rattle.wac_composition.specs.Conflicts.{first_cause, name_cause, unwritable_cause}
+use Rattle.wac_composition.specs.OuterImports.{outer_imports}
+use Rattle.wac_graph_causes.specs.declared.errors.EncodeError.{EncodeError}
+use Rattle.wac_graph_causes.specs.declared.errors.ValidationFault.{ValidationFault}
+use Rattle.wac_graph_encode.specs.declared.options.EncodeOptions.{EncodeOptions}
+use Rattle.wac_parser_tree.specs.Trees as t
+use Rattle.wac_parser_refusals.specs.declared.error.Error.{Error}
+use Rattle.wac_parser_refusals.specs.Causes.{Cause, Fault}
+use Rattle.wac_parser_refusals.specs.Views.{anywhere, at_place, cause_of}
+use Rattle.wac_parser_declare.specs.Packages.{Content}
+use Rattle.wac_parser_resolve.specs.Ascribed.{Asker, cause_said, composition}
+use Rattle.wac_parser_resolve.specs.Ascribing.{State}
+use Rattle.wac_parser_resolve.specs.InDocuments.{IsBuilt}
+use Rattle.wac_parser_resolve.specs.Meeting.{resolved}
+use Rattle.wac_parser_resolve.specs.Resolved.{Places, asker_place, import_place}
+
+-- ---- the fault that is told
+
+abbrev pub alike_fault : ValidationFault → Option Cause
+alike_fault (ValidationFault.ImportNames m n) = anywhere (Fault.ValidationFailure ExternKind.Import (string_bytes m) (string_bytes n))
+alike_fault (ValidationFault.ExportNames m n) = anywhere (Fault.ValidationFailure ExternKind.Export (string_bytes m) (string_bytes n))
+
+-- a refusal of a graph, where its nodes stand at these places; no graph has a cycle
+abbrev pub fault_in : Places → EncodeError → Option Cause
+fault_in at (EncodeError.ImplicitImportConflict import instantiation key n) = at_place (Fault.ImportConflict (string_bytes n) (owned_key key) (asker_place at instantiation)) (import_place at import)
+fault_in at (EncodeError.ExplicitImportConflict n first second) = at_place (Fault.ExplicitImportConflict (string_bytes n) (import_place at first)) (import_place at second)
+fault_in at (EncodeError.ImportTypeMergeConflict n first second source) = at_place (Fault.InstantiationArgMergeFailure (string_bytes n) (asker_place at first)) (asker_place at second)
+fault_in at (EncodeError.TypeCannotBeWritten n) = anywhere (Fault.TypeCannotBeWritten (string_bytes n))
+fault_in at EncodeError.TooLarge = anywhere Fault.TooLarge
+fault_in at (EncodeError.ValidationFailure fault) = alike_fault fault
+fault_in at (EncodeError.GraphContainsCycle node) = None
+fault_in at EncodeError.Memory = None
+
+-- ---- what it says
+
+module _ (options : EncodeOptions) (s : State) where
+  -- this is the first cause that stands against what is said
+  abbrev pub IsFirst : Cause → Type 0
+  IsFirst c = option_map cause_said (first_cause options.define_components (composition s)) ≡ Some c
+
+  -- these are the first names that are alike
+  abbrev pub AreFirstAlike : Cause → Type 0
+  AreFirstAlike c = option_map cause_said (name_cause options.define_components options.validate (composition s)) ≡ Some c
+
+  -- where a type cannot be written by itself, this is the first cause
+  abbrev pub IsFirstUnwritten : Cause → Type 0
+  IsFirstUnwritten c = (x : cause.Cause Asker) → unwritable_cause options.define_components (composition s) (outer_imports (asks_of (composition s))) ≡ Some x → IsFirst c
+
+  -- Of sizes, and of types that cannot be written since imports use each other in a circle, nothing is said.
+  abbrev pub IsFault : Fault → Cause → Type 0
+  IsFault (Fault.ValidationFailure kind m n) c = AreFirstAlike c
+  IsFault (Fault.TypeCannotBeWritten n) c = IsFirstUnwritten c
+  IsFault Fault.TooLarge c = Unit {0}
+  IsFault f c = IsFirst c
+
+  -- it is the first cause, with its fields and its place; want of memory may always be answered
+  abbrev pub TellsCause : Option Cause → Type 0
+  TellsCause None = Unit {0}
+  TellsCause (Some c) = IsFault c.fault c
+
+-- Where the graph holds what a document says, which stands at these places, the error is the document's first cause.
+unfoldable pub TellsFirst : Graph → EncodeOptions → Places → Option Cause → Type 0
+TellsFirst g options at o = (d : t.Document) (ps : List (Key × Content)) (r : State × Option Stated) → resolved d ps ≡ Ok r → IsBuilt g at r.0 → TellsCause options r.0 o
+
+-- so it is of a refusal of the graph, wherever its nodes stand
+abbrev pub TellsAnywhere : Graph → EncodeOptions → EncodeError → Type 0
+TellsAnywhere g options e = (at : Places) → TellsFirst g options at (fault_in at e)
+
+abbrev pub RefusesResolved : Graph → Places → EncodeOptions → Error → Type 0
+RefusesResolved g at options e = TellsFirst g options at (cause_of e)
