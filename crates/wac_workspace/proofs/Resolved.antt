@@ -10,11 +10,13 @@ use Rattle.wac_parser_tree.specs.Trees as t
 use Rattle.wac_parser_refusals.specs.declared.error.Error.{Error}
 use Rattle.wac_parser_refusals.specs.Outcomes.{IsHeld}
 use Rattle.wac_parser_resolve.specs.Ascribing.{State}
-use Rattle.wac_parser_resolve.specs.InDocuments.{IsBuilt, IsErrorOf}
-use Rattle.wac_parser_resolve.specs.InTargets.{HoldsTarget}
+use Rattle.wac_parser_resolve.specs.InDocuments.{HoldsAll, IsBuilt, IsErrorOf}
 use Rattle.wac_parser_resolve.specs.Meeting.{resolved}
-use Rattle.wac_parser_encode.specs.Meaning.{MeansResolved}
-use Rattle.wac_workspace.specs.Composing.{IsAscribed, IsMeant, MeansSaid}
+use Rattle.wac_parser_resolve.specs.Resolved.{Places}
+use Rattle.wac_types_base.specs.Record.{Collection}
+use Rattle.wac_parser_encode.specs.Meaning.{HasResolvedWorld, MeansResolved}
+use Rattle.wac_workspace.specs.Composing.{IsAscribed, IsComposition, IsMeant, MeansSaid}
+use Rattle.wac_workspace.specs.declared.output.Output.{Output}
 use Rattle.wac_workspace.specs.declared.errors.ComposeError.{ComposeError}
 use Rattle.wac_workspace.specs.declared.errors.ComposeError.TheVariants as error
 use Rattle.wac_workspace.specs.Faults.{IsResolving}
@@ -26,10 +28,10 @@ accepted holds (Ok s) b h = tt
 accepted holds (Err c) b h = absurd h
 
 -- a graph that is built is the document's
-pub graph_held : {B : Type 0} (graph : B → Graph) (target : B → Option WorldId) (q : Resolves) (b : B) (g : Graph) → g ≡ graph b
-    → IsHeld (λ (s : State × Option Stated) (b : B). IsBuilt (graph b) s.0 × HoldsTarget (graph b).types s.1 (target b)) q b → IsGraphOf q g
-graph_held graph target (Ok s) b g same h = subst (λ (x : Graph). IsBuilt x s.0) (sym same) h.0
-graph_held graph target (Err c) b g same h = absurd h
+pub graph_held : {B : Type 0} (graph : B → Graph) (places : B → Places) (target : B → Option WorldId) (q : Resolves) (b : B) (g : Graph) → g ≡ graph b
+    → IsHeld (λ s (b : B). HoldsAll s (graph b) (places b) (target b)) q b → IsGraphOf q g
+graph_held graph places target (Ok s) b g same h = (places b, subst (λ (x : Graph). IsBuilt x (places b) s.0) (sym same) h.0)
+graph_held graph places target (Err c) b g same h = absurd h
 
 names_first : (q : Resolves) (f : Error) → IsErrorOf q f → NamesFirst q f
 names_first (Ok s) f h = tt
@@ -64,10 +66,24 @@ unfolding MeansResolved IsAscribed
 meant d ps g (Ok e) options holds nested said = λ define. record { ascribed = by define (resolved d ps) refl holds; graph = g; holds = holds; component = nested define }
   where
     by : options.define_components ≡ true → (q : Resolves) → resolved d ps ≡ q → IsGraphOf q g → IsAscribed q e.bytes.items
-    by define (Ok s) is h = said define d ps s is h
+    by define (Ok s) is h = said define d ps s h.0 is h.1
     by define (Err c) is h = absurd h
 meant d ps g (Err f) options holds nested said = tt
 
 -- likewise with names tested, and under a name
 pub meant_named : (a b : EncodeOptions) (q : Resolves) (xs ys : List ℕ) → a.define_components ≡ b.define_components → ys ≡ xs → MeansSaid a q xs → MeansSaid b q ys
 meant_named a b q xs ys same bytes h = λ define. subst (λ (zs : List ℕ). IsMeant q zs) (sym bytes) (h (same ∙ define))
+
+-- the world of a graph that holds what is resolved
+pub composed : {E : Type 0} (d : t.Document) (ps : Handed) (g : Graph) (r : Result Encoded E) → IsGraphOf (resolved d ps) g → IfOk r (λ e. HasResolvedWorld g e.types e.world) → IfOk r (λ e. IsComposition (resolved d ps) e.types e.world)
+unfolding HasResolvedWorld IsComposition
+composed d ps g (Err f) holds world = tt
+composed d ps g (Ok e) holds world = by (resolved d ps) refl holds
+  where
+    by : (q : Resolves) → resolved d ps ≡ q → IsGraphOf q g → IsComposition q e.types e.world
+    by (Ok s) is h = world d ps s h.0 is h.1
+    by (Err c) is h = absurd h
+
+-- likewise under a name
+pub composed_named : (q : Resolves) (e : Encoded) (o : Output) → o.types ≡ e.types → o.world ≡ e.world → IsComposition q e.types e.world → IsComposition q o.types o.world
+composed_named q e o types world h = subst (λ (c : Collection). IsComposition q c o.world) (sym types) (subst (λ (w : WorldId). IsComposition q e.types w) (sym world) h)

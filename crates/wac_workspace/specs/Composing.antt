@@ -2,7 +2,9 @@
 use Rattle.std.specs.Prelude.{◌≡◌, ℕ, ◌+◌, ◌<◌, ◌≤◌, List, ◌∷◌, [], Option, Some, None, Bool, true, false, Ok, Err, string_bytes}
 use Rattle.std.specs.Option.{option_map}
 use Rattle.semver.specs.Identifiers.{parts_of}
+use Rattle.wac_types_base.specs.declared.ids.WorldId.{WorldId}
 use Rattle.wac_types_base.specs.declared.item.ItemKind.{ItemKind}
+use Rattle.wac_types_base.specs.Record.{Collection}
 use Rattle.wac_types_base.specs.Collection.{Stands}
 use Rattle.wac_types_names.specs.Keys.{Key}
 use Rattle.wac_graph_core.specs.Graph.{Graph}
@@ -14,7 +16,7 @@ use Rattle.wac_parser_grammar.specs.Reads.{read_source}
 use Rattle.wac_parser_grammar.specs.Faults.{fault_of}
 use Rattle.wac_parser_resolve.specs.InDocuments.{IsErrorOf}
 use Rattle.wac_parser_resolve.specs.Meeting.{resolved}
-use Rattle.wac_parser_encode.specs.Meaning.{MeansAscribed}
+use Rattle.wac_parser_encode.specs.Meaning.{IsWorldOf, MeansAscribed}
 use Rattle.wac_workspace.specs.declared.output.Output.{Output}
 use Rattle.wac_workspace.specs.declared.errors.ComposeError.{ComposeError}
 use Rattle.wac_workspace.specs.declared.errors.ComposeError.TheVariants as error
@@ -53,7 +55,12 @@ abbrev pub Keeps : (define : Bool) → Held → Held → Output → Type 0
 Keeps true old new o = Registers old (record new { next = old.next }) o
 Keeps false old new o = new.packages ≡ old.packages
 
--- The source is a document that these packages resolve, and the output has its directive's key and a world under the last of the next three numbers.
+-- each ask of what is said is met, and the world states what it asks of the outside and what it exports
+unfoldable pub IsComposition : Resolves → Collection → WorldId → Type 0
+IsComposition (Ok s) types world = IsWorldOf s.0 types world
+IsComposition (Err c) types world = ⊥
+
+-- The source is a document that these packages resolve, and the output has its directive's key and its world, under the last of the next three numbers.
 pub record IsOutput (next : ℕ) (ps : Handed) (source : List ℕ) (o : Output) : Type 0 where
   pub tree : Document
   pub read : IsDocument source tree
@@ -62,6 +69,7 @@ pub record IsOutput (next : ℕ) (ps : Handed) (source : List ℕ) (o : Output) 
   pub key : output_key o ≡ directive_key tree
   pub number : o.types.number ≡ next + 2
   pub stands : Stands o.types (ItemKind.Component o.world)
+  pub composed : IsComposition (resolved tree ps) o.types o.world
 
 -- the bytes mean the wiring that is ascribed over the packages handed in
 unfoldable pub IsAscribed : Resolves → List ℕ → Type 0

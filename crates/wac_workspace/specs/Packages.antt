@@ -5,6 +5,7 @@ use Rattle.wac_types_base.specs.declared.item.ItemKind.{ItemKind}
 use Rattle.wac_types_base.specs.Record.{Collection}
 use Rattle.wac_types_base.specs.Graph.{Among}
 use Rattle.wac_types_base.specs.Copying.{IsCopy}
+use Rattle.wac_types_base.specs.Stated.{stated_of}
 use Rattle.wac_types_names.specs.Keys.{Key, package_key}
 use Rattle.wac_types_names.specs.Packages.{AddsInterfaceOf, DefinitionsOf}
 use Rattle.wac_workspace.specs.declared.entries.Entry.{Entry}
@@ -50,11 +51,12 @@ pub record Made : Type 0 where
   pub world : WorldId
   pub number : ℕ
 
--- The package has that key and those bytes, and in a collection of its own, under that number, a copy of the world; its
--- definitions and the interface of its instances are those of the copy.
+-- The package has that key and those bytes, and in a collection of its own, under that number, a copy of the world, which states
+-- the same; its definitions and the interface of its instances are those of the copy.
 pub record IsMade (m : Made) (e : Entry) : Type 0 where
   pub key : key_of e ≡ m.key
   pub bytes : e.package.bytes ≡ m.bytes
+  pub states : stated_of e.types (ItemKind.Component e.package.ty) ≡ stated_of m.types (ItemKind.Component m.world)
   pub copy : Collection
   pub number : copy.number ≡ m.number
   pub same : IsCopy m.types copy (ItemKind.Component m.world) (ItemKind.Component e.package.ty)

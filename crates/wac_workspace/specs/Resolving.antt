@@ -11,6 +11,7 @@ use Rattle.wac_parser_declare.specs.Packages.{Content}
 use Rattle.wac_parser_resolve.specs.Ascribing.{State}
 use Rattle.wac_parser_resolve.specs.InDocuments.{IsBuilt, IsErrorOf}
 use Rattle.wac_parser_resolve.specs.Knowing.{content_of}
+use Rattle.wac_parser_resolve.specs.Resolved.{Places}
 use Rattle.wac_workspace.specs.declared.entries.Entry.{Entry}
 use Rattle.wac_workspace.specs.declared.errors.ComposeError.{ComposeError}
 use Rattle.wac_workspace.specs.declared.errors.ComposeError.TheVariants as error
@@ -31,9 +32,9 @@ handed (e ∷ es) = (key_of e, content e) ∷ handed es
 abbrev pub Resolves : Type 0
 Resolves = Answer (State × Option Stated)
 
--- the graph holds what is said
+-- the graph holds what is said, wherever that stands
 abbrev pub IsGraphOf : Resolves → Graph → Type 0
-IsGraphOf q g = IsHeld (λ (s : State × Option Stated) (g : Graph). IsBuilt g s.0) q g
+IsGraphOf q g = IsHeld (λ (s : State × Option Stated) (g : Graph). (at : Places) × IsBuilt g at s.0) q g
 
 -- no cause stands against the document
 abbrev pub IsAccepted : Resolves → Type 0

@@ -12,8 +12,8 @@ ghost use Rattle.wac_parser_resolve.specs.Meeting.{resolved};
 ghost use Rattle.wac_parser_resolve.specs.Resolved.{graph_of, target_of};
 ghost use Rattle.wac_parser_resolve.specs.Targeting.{IsTarget};
 ghost use Rattle.wac_graph_encode.specs.Finished.{MeansNested};
-ghost use Rattle.wac_parser_encode.specs.Meaning.{MeansResolved};
-ghost use Rattle.wac_workspace.specs.Composing.{greatest, IsUnmade, IsOutput, IsGraphed, IsUnresolved, MeansDocument, MeansSource};
+ghost use Rattle.wac_parser_encode.specs.Meaning.{HasResolvedWorld, MeansResolved};
+ghost use Rattle.wac_workspace.specs.Composing.{greatest, IsComposition, IsUnmade, IsOutput, IsGraphed, IsUnresolved, MeansDocument, MeansSource};
 ghost use Rattle.wac_workspace.specs.Packages.{AreApart};
 ghost use Rattle.wac_workspace.specs.View.{HasWorld};
 ghost use Rattle.wac_workspace.specs.Resolving.{handed, IsGraphOf, IsAccepted, IsLate, IsOfResolving};
@@ -147,6 +147,7 @@ fn encode_resolved<'d, D: Drop>(
     ensures encoded { IfOk result (IsEncoded numbers.output) }
     ensures means { IfOk result (λ e. MeansNested (graph_of resolution.entry) options e.bytes.items) }
     ensures ascribed { IfOk result (λ e. MeansResolved (graph_of resolution.entry) options e.bytes.items) }
+    ensures resolved { IfOk result (λ e. HasResolvedWorld (graph_of resolution.entry) e.types e.world) }
     ensures late { IfErr result IsAfterwards }
 {
     let encoded = resolution.encode_world(options, (numbers.merging, numbers.output))?;
@@ -173,6 +174,7 @@ fn encode_document(
     ensures encoded { IfOk result (IsEncoded numbers.output) }
     ensures means { IfOk result (λ e. MeansDocument options (view_document document.now) (handed_list «packages».now) e.bytes.items) }
     ensures accepted { IfOk result (λ _. IsAccepted (resolved (view_document document.now) (handed_list «packages».now))) }
+    ensures composed { IfOk result (λ e. IsComposition (resolved (view_document document.now) (handed_list «packages».now)) e.types e.world) }
     ensures late { IfErr result (IsLate (resolved (view_document document.now) (handed_list «packages».now))) }
 {
     let name = String::from_str(alloc, target_name(&document.directive))?;
@@ -221,6 +223,7 @@ fn compose_document(
     ensures output { IfOk result (λ r. IsOf next (view_package_name document.now.directive.«package») r.0) }
     ensures means { IfOk result (λ r. MeansDocument options (view_document document.now) (handed_list «packages».now) r.0.bytes.items) }
     ensures accepted { IfOk result (λ _. IsAccepted (resolved (view_document document.now) (handed_list «packages».now))) }
+    ensures composed { IfOk result (λ r. IsComposition (resolved (view_document document.now) (handed_list «packages».now)) r.0.types r.0.world) }
     ensures after { IfOk result (λ r. r.1 ≡ next + 3) }
     ensures refused { IfErr result (IsUnencoded next (resolved (view_document document.now) (handed_list «packages».now))) }
 {
@@ -272,6 +275,7 @@ trait ComposeDocument: Sized + Drop {
         ensures output { IfOk result (λ r. IsOf next (stated self.now).directive.«package» r.0) }
         ensures means { IfOk result (λ r. MeansDocument options (stated self.now) (handed_list «packages».now) r.0.bytes.items) }
         ensures accepted { IfOk result (λ _. IsAccepted (resolved (stated self.now) (handed_list «packages».now))) }
+        ensures composed { IfOk result (λ r. IsComposition (resolved (stated self.now) (handed_list «packages».now)) r.0.types r.0.world) }
         ensures after { IfOk result (λ r. r.1 ≡ next + 3) }
         ensures refused { IfErr result (IsUnencoded next (resolved (stated self.now) (handed_list «packages».now))) };
 }
@@ -309,6 +313,7 @@ fn compose_whole<D: ComposeDocument>(
     ensures output { IfOk result (λ r. IsOf next (D.stated document).directive.«package» r.0) }
     ensures means { IfOk result (λ r. MeansDocument options (D.stated document) (handed_list «packages».now) r.0.bytes.items) }
     ensures accepted { IfOk result (λ _. IsAccepted (resolved (D.stated document) (handed_list «packages».now))) }
+    ensures composed { IfOk result (λ r. IsComposition (resolved (D.stated document) (handed_list «packages».now)) r.0.types r.0.world) }
     ensures after { IfOk result (λ r. r.1 ≡ next + 3) }
     ensures refused { IfErr result (IsUnencoded next (resolved (D.stated document) (handed_list «packages».now))) }
 {

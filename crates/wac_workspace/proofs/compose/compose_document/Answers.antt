@@ -2,7 +2,7 @@ use Rattle.std.proofs.Common.{ap}
 use Rattle.wac_parser_tree.specs.Views.{view_document}
 use Rattle.wac_parser_resolve.specs.Knowing.{handed_list}
 use Rattle.wac_parser_resolve.specs.Meeting.{resolved}
-use Rattle.wac_workspace.proofs.Resolved.{meant_named}
+use Rattle.wac_workspace.proofs.Resolved.{composed_named, meant_named}
 use Rattle.wac_workspace.proofs.compose.compose_document.Goals as goal
 
 pub returns-clause-means : goal.returns-clause-means
@@ -11,3 +11,8 @@ returns-clause-means c =
     let e = c.in_ok-encoded.encoded in
     let o = c.in_ok-output.output in
     meant_named c.validated.result c.args.options q e.bytes.items o.bytes.items c.validated.ensures (ap (λ b. b.items) c.in_ok-output.ensures.bytes) c.in_ok-encoded.ensures.means
+
+pub returns-clause-composed : goal.returns-clause-composed
+returns-clause-composed c =
+    let q = resolved (view_document c.args.document.now) (handed_list c.args.«packages».now) in
+    composed_named q c.in_ok-encoded.encoded c.in_ok-output.output c.in_ok-output.ensures.types c.in_ok-output.ensures.world c.in_ok-encoded.ensures.composed

@@ -5,12 +5,11 @@ use Rattle.wac_parser_tree.specs.Views.{view_document}
 use Rattle.wac_types_base.specs.Stated.{Stated}
 use Rattle.wac_parser_refusals.specs.Outcomes.{IsHeld}
 use Rattle.wac_parser_resolve.specs.Ascribing.{State}
-use Rattle.wac_parser_resolve.specs.InDocuments.{IsBuilt, IsErrorOf}
-use Rattle.wac_parser_resolve.specs.InTargets.{HoldsTarget}
-use Rattle.wac_parser_resolve.specs.Resolved.{graph_of, target_of}
+use Rattle.wac_parser_resolve.specs.InDocuments.{HoldsAll, IsErrorOf}
+use Rattle.wac_parser_resolve.specs.Resolved.{graph_of, places_of, target_of}
 use Rattle.wac_parser_resolve.specs.Knowing.{handed_list}
 use Rattle.wac_parser_resolve.specs.Meeting.{resolved}
-use Rattle.wac_workspace.proofs.Resolved.{graph_held, late_resolving, meant}
+use Rattle.wac_workspace.proofs.Resolved.{composed, graph_held, late_resolving, meant}
 use Rattle.wac_workspace.proofs.compose.encode_document.Goals as goal
 
 pub returns-in_err-resolution-clause-late : goal.returns-in_err-resolution-clause-late
@@ -27,6 +26,15 @@ returns-clause-means c =
     let d = view_document c.args.document.now in
     let q = resolved d ps in
     let r = c.in_ok-resolution.resolution in
-    let built = subst (λ (d : Document). IsHeld (λ (s : State × Option Stated) b. IsBuilt (graph_of b) s.0 × HoldsTarget (graph_of b).types s.1 (target_of b)) (resolved (view_document d) ps) r) c.new.ensures c.in_ok-resolution.ensures.outcome in
-    meant d ps (graph_of r) c.encode_resolved.result c.args.options (graph_held graph_of target_of q r (graph_of r) refl built) c.encode_resolved.ensures.means
+    let built = subst (λ (d : Document). IsHeld (λ (s : State × Option Stated) b. HoldsAll s (graph_of b) (places_of b) (target_of b)) (resolved (view_document d) ps) r) c.new.ensures c.in_ok-resolution.ensures.outcome in
+    meant d ps (graph_of r) c.encode_resolved.result c.args.options (graph_held graph_of places_of target_of q r (graph_of r) refl built) c.encode_resolved.ensures.means
     c.encode_resolved.ensures.ascribed
+
+pub returns-clause-composed : goal.returns-clause-composed
+returns-clause-composed c =
+    let ps = handed_list c.args.«packages».now in
+    let d = view_document c.args.document.now in
+    let q = resolved d ps in
+    let r = c.in_ok-resolution.resolution in
+    let built = subst (λ (d : Document). IsHeld (λ (s : State × Option Stated) b. HoldsAll s (graph_of b) (places_of b) (target_of b)) (resolved (view_document d) ps) r) c.new.ensures c.in_ok-resolution.ensures.outcome in
+    composed d ps (graph_of r) c.encode_resolved.result (graph_held graph_of places_of target_of q r (graph_of r) refl built) c.encode_resolved.ensures.resolved
