@@ -4,8 +4,8 @@ use crate::escapes::unescaped;
 use crate::made::made;
 use crate::steps::parts;
 use crate::tokens::{line_told, texts};
-use crate::trees::{clones, tree};
-use crate::writers::{over, writers};
+use crate::trees::tree_told;
+use crate::writers::print_told;
 use anyhow::{Result, bail};
 use std::alloc::Global;
 use wac_rows::{Part, Row, RowTeller};
@@ -29,10 +29,8 @@ fn source_told(source: &str, alloc: Global, part: &Part<'_>) -> Result<String> {
     match part.kind {
         "texts" => texts(source, alloc, part.name),
         "parts" => parts(source, alloc, part.name),
-        "tree" => tree(source, alloc),
-        "clones" => clones(source, alloc),
-        "writers" => writers(source, alloc, part.name),
-        "over" => over(source, alloc, part.name),
+        "tree" | "clones" => tree_told(source, alloc, part.kind),
+        "writers" | "over" => print_told(source, alloc, part.kind, part.name),
         _ => bail!("a row of no known part"),
     }
 }

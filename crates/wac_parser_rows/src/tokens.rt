@@ -1,32 +1,40 @@
 //! What a lexer gives.
 
 use anyhow::{Context, Result, bail, ensure};
-use std::alloc::Global;
-use wac_parser_lexer::{Lexer, SourceSpan, span_in};
+use std::alloc::{AllocError, Global};
+use wac_parser_lexer::{Lexer, LexerResult, SourceSpan, Token, span_in};
 
-/// Takes the next item, which `peek` and `peek2` have to show before, and tells it. Whether there was one.
-fn add_item(lexer: &mut Lexer<'_>, told: &mut String) -> Result<bool> {
+/// The next item, which `peek` and `peek2` have to show before.
+fn taken(lexer: &mut Lexer<'_>) -> Result<Option<(LexerResult<Token>, SourceSpan)>> {
     let first = lexer.peek();
     let second = lexer.peek2();
     let item = lexer.next();
     ensure!(item == first, "`peek` shows another item");
     ensure!(lexer.peek() == second, "`peek2` shows another item");
-    if item.is_some() && !told.is_empty() {
+    Ok(item)
+}
+
+fn push_span(told: &mut String, span: SourceSpan) -> Result<(), AllocError> {
+    write!(told, "{}+{} ", span.offset, span.length)
+}
+
+fn push_item(told: &mut String, item: LexerResult<Token>) -> Result<(), AllocError> {
+    match item {
+        Ok(token) => write!(told, "{token:?}: {token}"),
+        Err(fault) => write!(told, "{fault:?}: {fault}"),
+    }
+}
+
+/// Takes the next item and tells it. Whether there was one.
+fn add_item(lexer: &mut Lexer<'_>, told: &mut String) -> Result<bool> {
+    let Some((item, span)) = taken(lexer)? else {
+        return Ok(false);
+    };
+    if !told.is_empty() {
         told.push_str("; ")?;
     }
-    match item {
-        Some((Ok(token), span)) => write!(
-            told,
-            "{}+{} {token:?}: {token}",
-            span.offset, span.length
-        )?,
-        Some((Err(fault), span)) => write!(
-            told,
-            "{}+{} {fault:?}: {fault}",
-            span.offset, span.length
-        )?,
-        None => return Ok(false),
-    }
+    push_span(told, span)?;
+    push_item(told, item)?;
     Ok(true)
 }
 

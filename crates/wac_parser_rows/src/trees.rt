@@ -6,8 +6,8 @@ use std::fmt::Debug;
 use wac_parser_read::ParseDocument;
 use wac_parser_tree::Document;
 
-// What owns a document is generic in its type, and the type is named where the text that it borrows comes first, as a document
-// does where it is lent: a proof then need not take the whole tree of types apart.
+// What owns a document is generic in its type, and the type is named once, where the text that it borrows comes first: a proof
+// then need not take the whole tree of types apart.
 
 /// Documents that can be cloned.
 pub(crate) trait CopyDocument: Sized {
@@ -18,6 +18,11 @@ impl<'s> CopyDocument for Document<'s> {
     fn copied(&self, alloc: Global) -> Result<Self, AllocError> {
         self.clone(alloc)
     }
+}
+
+/// The document of a source.
+pub(crate) fn parsed<'s, D: ParseDocument<'s>>(source: &'s str, alloc: Global) -> Result<D> {
+    Ok(D::parse(alloc, source)?)
 }
 
 /// The text of a tree by `Debug`.
@@ -51,7 +56,8 @@ fn tree_shown<'s, D: ParseDocument<'s> + CopyDocument + Debug>(
     Ok(text)
 }
 
-fn shown_of<'s, D: ParseDocument<'s> + CopyDocument + Debug>(
+/// The tree of a source by `Debug`, or the fault. Its clones are alike.
+fn tree<'s, D: ParseDocument<'s> + CopyDocument + Debug>(
     source: &'s str,
     alloc: Global,
 ) -> Result<String> {
@@ -61,21 +67,28 @@ fn shown_of<'s, D: ParseDocument<'s> + CopyDocument + Debug>(
     }
 }
 
-/// The tree of a source by `Debug`, or the fault. Its clones are alike.
-pub(crate) fn tree(source: &str, alloc: Global) -> Result<String> {
-    shown_of::<Document<'_>>(source, alloc)
-}
-
-fn clones_of<'s, D: ParseDocument<'s> + CopyDocument + Debug>(
+/// That the tree of a source and its clones are alike.
+fn clones<'s, D: ParseDocument<'s> + CopyDocument + Debug>(
     source: &'s str,
     alloc: Global,
 ) -> Result<String> {
-    let tree = D::parse(alloc, source)?;
+    let tree = parsed::<D>(source, alloc)?;
     let _text = tree_shown::<D>(&tree, alloc)?;
     Ok(String::from_str(alloc, "alike")?)
 }
 
-/// That the tree of a source and its clones are alike.
-pub(crate) fn clones(source: &str, alloc: Global) -> Result<String> {
-    clones_of::<Document<'_>>(source, alloc)
+fn told_of<'s, D: ParseDocument<'s> + CopyDocument + Debug>(
+    source: &'s str,
+    alloc: Global,
+    kind: &str,
+) -> Result<String> {
+    match kind {
+        "tree" => tree::<D>(source, alloc),
+        _ => clones::<D>(source, alloc),
+    }
+}
+
+/// The `tree` of a source, or what its `clones` are.
+pub(crate) fn tree_told(source: &str, alloc: Global, kind: &str) -> Result<String> {
+    told_of::<Document<'_>>(source, alloc, kind)
 }

@@ -1,6 +1,7 @@
 //! Documents printed to writers that fail, and over other sources.
 
 use crate::sink::Sink;
+use crate::trees::parsed;
 use anyhow::{Result, ensure};
 use std::alloc::Global;
 use wac_parser_lexer::SourceSpan;
@@ -8,8 +9,8 @@ use wac_parser_print::{DocumentPrinter, PrintError};
 use wac_parser_read::ParseDocument;
 use wac_parser_tree::{Document, Ident, Type};
 
-// What owns a document is generic in its type, and named where no document is there yet: a proof then need not take the
-// whole tree of types apart. For the same reason `show` has its tree where the printer's method has it, behind the printer.
+// What owns a document is generic in its type: a proof then need not take the whole tree of types apart. For the same reason
+// `show` has its tree where the printer's method has it, behind the printer.
 
 /// A tree that is printed.
 pub(crate) trait Shown: Sized {
@@ -76,37 +77,50 @@ fn failed_at_each<T: Shown>(tree: &T, source: &str, alloc: Global, most: usize) 
     Ok(format!(in alloc; "{text}(end)")?)
 }
 
-fn failed_at_each_of<'s, D: ParseDocument<'s> + Shown>(
-    source: &'s str,
-    alloc: Global,
-    most: usize,
-) -> Result<String> {
-    let tree = D::parse(alloc, source)?;
-    failed_at_each(&tree, source, alloc, most)
+/// The number of a word, and for `any` the greatest.
+fn number_of(word: &str) -> Result<usize> {
+    if word == "any" {
+        return Ok(usize::MAX);
+    }
+    Ok(word.parse()?)
 }
 
 /// The text that a source's document prints as to a writer that takes so many bytes a call, `any` or a number.
-pub(crate) fn writers(source: &str, alloc: Global, most: &str) -> Result<String> {
-    let most = if most == "any" {
-        usize::MAX
-    } else {
-        most.parse()?
-    };
-    failed_at_each_of::<Document<'_>>(source, alloc, most)
+fn writers<'s, D: ParseDocument<'s> + Shown>(
+    source: &'s str,
+    alloc: Global,
+    most: &str,
+) -> Result<String> {
+    let most = number_of(most)?;
+    let tree = parsed::<D>(source, alloc)?;
+    failed_at_each(&tree, source, alloc, most)
 }
 
-fn printed_over<'s, D: ParseDocument<'s> + Shown>(
+/// The text that a source's document prints as over another source.
+fn over<'s, D: ParseDocument<'s> + Shown>(
     source: &'s str,
     alloc: Global,
     other: &str,
 ) -> Result<String> {
-    let tree = D::parse(alloc, source)?;
+    let tree = parsed::<D>(source, alloc)?;
     let sink = printed(&tree, other, Sink::new(alloc, usize::MAX, 0, false))?;
     let text = std::str::from_utf8(&sink.taken)?;
     Ok(format!(in alloc; "{text}(end)")?)
 }
 
-/// The text that a source's document prints as over another source.
-pub(crate) fn over(source: &str, alloc: Global, other: &str) -> Result<String> {
-    printed_over::<Document<'_>>(source, alloc, other)
+fn told_of<'s, D: ParseDocument<'s> + Shown>(
+    source: &'s str,
+    alloc: Global,
+    kind: &str,
+    name: &str,
+) -> Result<String> {
+    match kind {
+        "writers" => writers::<D>(source, alloc, name),
+        _ => over::<D>(source, alloc, name),
+    }
+}
+
+/// What a source's document prints as: to `writers` of so many bytes a call, or `over` another source.
+pub(crate) fn print_told(source: &str, alloc: Global, kind: &str, name: &str) -> Result<String> {
+    told_of::<Document<'_>>(source, alloc, kind, name)
 }

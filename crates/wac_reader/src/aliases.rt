@@ -21,6 +21,17 @@ impl Spaces {
         let name = cursor.label()?;
         let known = self.member_type(cursor, instance.ty, name, sort)?;
         let source = export_of(self.alloc, &instance.source, name)?;
+        self.add_alias(cursor, sort, source, known)
+    }
+
+    /// Adds the index of an instance's export.
+    fn add_alias(
+        &mut self,
+        cursor: &Cursor<'_>,
+        sort: Sort,
+        source: Source,
+        known: Option<usize>,
+    ) -> Result<(), ReadError> {
         let ty = match known {
             Some(ty) => ty,
             None => self.unknown(&source)?,

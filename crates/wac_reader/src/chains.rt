@@ -19,13 +19,19 @@ impl WholeReading {
 
     /// The text of each instance. None where it is made of itself.
     fn told(&self, alloc: Global) -> Result<Vec<Option<String>>, ReadError> {
-        let mut told = Vec::new(alloc);
-        for _ in &self.instances {
-            keep(&mut told, None)?;
-        }
+        let mut told = self.untold(alloc)?;
         // Each round tells at least one instance more, as none goes round in a circle.
         for _ in &self.instances {
             self.tell_more(alloc, &mut told)?;
+        }
+        Ok(told)
+    }
+
+    /// None for each instance.
+    fn untold(&self, alloc: Global) -> Result<Vec<Option<String>>, ReadError> {
+        let mut told = Vec::new(alloc);
+        for _ in &self.instances {
+            keep(&mut told, None)?;
         }
         Ok(told)
     }

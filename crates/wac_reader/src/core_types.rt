@@ -27,13 +27,17 @@ impl TypeText<'_> {
         self.exactly(0x50, "a core type that is no module type");
         let mut functions = Vec::new(alloc);
         self.push("module { ");
+        self.core_declarations(alloc, &mut functions);
+        self.push("}");
+    }
+
+    fn core_declarations(&mut self, alloc: Global, functions: &mut Vec<String>) {
         for _ in 0..self.number() {
             if self.has_fault() {
                 break;
             }
-            self.core_declaration(alloc, &mut functions);
+            self.core_declaration(alloc, functions);
         }
-        self.push("}");
     }
 
     fn core_declaration(&mut self, alloc: Global, functions: &mut Vec<String>) {

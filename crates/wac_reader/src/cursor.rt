@@ -60,6 +60,15 @@ impl<'a> Cursor<'a> {
         Err(ReadError::At(self.at, what))
     }
 
+    /// That no bytes are left.
+    pub fn at_end(&self, what: &'static str) -> Result<(), ReadError> {
+        if self.is_empty() {
+            Ok(())
+        } else {
+            self.fault(what)
+        }
+    }
+
     /// A cursor over the next bytes alone, which are passed over here.
     pub fn part(&mut self, count: u32) -> Result<Cursor<'a>, ReadError> {
         let at = self.at;

@@ -62,13 +62,14 @@ fn push_processors(
     for _ in 0..cursor.unsigned()? {
         keep(processors, read_processor(alloc, cursor)?)?;
     }
-    at_end(cursor)
+    cursor.at_end("more bytes than names")
 }
 
 fn read_processor(alloc: Global, cursor: &mut Cursor<'_>) -> Result<Processor, ReadError> {
-    let name = cursor.name(alloc)?;
-    let version = cursor.name(alloc)?;
-    Ok(Processor { name, version })
+    Ok(Processor {
+        name: cursor.name(alloc)?,
+        version: cursor.name(alloc)?,
+    })
 }
 
 fn push_debug_names(
@@ -80,11 +81,17 @@ fn push_debug_names(
         if cursor.is_empty() {
             break;
         }
-        cursor.exactly(0x01, "no names of a sort")?;
-        let size = cursor.unsigned()?;
-        push_names(alloc, &mut cursor.part(size)?, names)?;
+        let mut part = names_part(cursor)?;
+        push_names(alloc, &mut part, names)?;
     }
     Ok(())
+}
+
+/// What stands of the next sort.
+fn names_part<'a>(cursor: &mut Cursor<'a>) -> Result<Cursor<'a>, ReadError> {
+    cursor.exactly(0x01, "no names of a sort")?;
+    let size = cursor.unsigned()?;
+    cursor.part(size)
 }
 
 /// A sort, and the names of its indexes.
@@ -95,17 +102,15 @@ fn push_names(
 ) -> Result<(), ReadError> {
     let sort = cursor.sort()?;
     for _ in 0..cursor.unsigned()? {
-        let index = cursor.unsigned()?;
-        let name = cursor.name(alloc)?;
-        keep(names, DebugName { sort, index, name })?;
+        keep(names, read_name(alloc, cursor, sort)?)?;
     }
-    at_end(cursor)
+    cursor.at_end("more bytes than names")
 }
 
-fn at_end(cursor: &Cursor<'_>) -> Result<(), ReadError> {
-    if cursor.is_empty() {
-        Ok(())
-    } else {
-        Err(ReadError::At(cursor.offset(), "more bytes than names"))
-    }
+fn read_name(alloc: Global, cursor: &mut Cursor<'_>, sort: Sort) -> Result<DebugName, ReadError> {
+    Ok(DebugName {
+        sort,
+        index: cursor.unsigned()?,
+        name: cursor.name(alloc)?,
+    })
 }

@@ -5,7 +5,7 @@ use super::{Import, Instance, Item, ReadError, Reading, Root, Source, keep, read
 use std::alloc::{AllocError, Global};
 
 /// What an instance of the whole is made of.
-#[derive(Clone, Drop)]
+#[derive(Drop)]
 pub enum Made {
     /// The handed package of that number.
     Leaf(usize),
@@ -100,16 +100,27 @@ impl<'a> Whole<'a> {
         let Some(inner) = self.instances.get(number) else {
             return Err(ReadError::At(0, "no such instance"));
         };
-        let arguments = inner.arguments.clone()?;
+        if let Some(component) = self.component_of(inner)? {
+            let arguments = inner.arguments.clone()?;
+            let made = self.made(component, arguments)?;
+            self.set_made(number, made);
+        }
+        Ok(())
+    }
+
+    /// The number of the nested component that an instance is made of. None where its component is imported.
+    fn component_of(&self, inner: &Inner) -> Result<Option<usize>, ReadError> {
         let of = self.settle(&inner.of)?;
-        let made = match &of.root {
-            Root::Component(n) if of.path.is_empty() => self.made(*n, arguments)?,
-            _ => Made::Imported,
-        };
+        match &of.root {
+            Root::Component(component) if of.path.is_empty() => Ok(Some(*component)),
+            _ => Ok(None),
+        }
+    }
+
+    fn set_made(&mut self, number: usize, made: Made) {
         if let Some(inner) = self.instances.get_mut(number) {
             inner.made = made;
         }
-        Ok(())
     }
 
     fn made(&mut self, component: usize, arguments: Vec<Item>) -> Result<Made, ReadError> {
@@ -164,8 +175,9 @@ impl<'a> Whole<'a> {
 
     fn settle_made(&self, made: &Made) -> Result<Made, ReadError> {
         match made {
+            Made::Leaf(leaf) => Ok(Made::Leaf(*leaf)),
+            Made::Imported => Ok(Made::Imported),
             Made::Composition(exports) => Ok(Made::Composition(self.settle_all(exports)?)),
-            _ => Ok(made.clone()?),
         }
     }
 

@@ -7,6 +7,7 @@ use super::{
     Custom, Import, Instance, Item, Kind, Level, Member, ReadError, Root, Sort, Source, Spaces,
     Thing, keep,
 };
+use std::alloc::Global;
 
 impl Level {
     /// All sections that are left.
@@ -24,15 +25,15 @@ impl Level {
 
     /// The section of that id, to the end of its contents.
     fn section(&mut self, cursor: &mut Cursor<'_>, id: u8) -> Result<(), ReadError> {
+        self.contents(cursor, id)?;
+        cursor.at_end("bytes after a section's last entry")
+    }
+
+    fn contents(&mut self, cursor: &mut Cursor<'_>, id: u8) -> Result<(), ReadError> {
         match id {
             0 => self.custom(cursor),
             4 => self.nested(cursor),
             _ => self.entries(cursor, id),
-        }?;
-        if cursor.is_empty() {
-            Ok(())
-        } else {
-            cursor.fault("bytes after a section's last entry")
         }
     }
 
@@ -56,9 +57,8 @@ impl Level {
     }
 
     fn custom(&mut self, cursor: &mut Cursor<'_>) -> Result<(), ReadError> {
-        let name = cursor.name(self.spaces.alloc)?;
-        let contents = cursor.rest().to_vec(self.spaces.alloc)?;
-        keep(&mut self.reading.customs, Custom { name, contents })
+        let custom = read_custom(self.spaces.alloc, cursor)?;
+        keep(&mut self.reading.customs, custom)
     }
 
     fn nested(&mut self, cursor: &mut Cursor<'_>) -> Result<(), ReadError> {
@@ -224,14 +224,23 @@ impl Spaces {
     ) -> Result<Option<usize>, ReadError> {
         match cursor.byte()? {
             0x00 => Ok(None),
-            0x01 => {
-                let (stated, ty) = self.description(cursor, name)?;
-                if stated != sort {
-                    return cursor.fault("an export said to be of another sort");
-                }
-                Ok(Some(ty))
-            }
+            0x01 => self.stated_type(cursor, name, sort),
             _ => cursor.fault("neither 00 nor 01 before here"),
+        }
+    }
+
+    /// What an export of that sort is said to be.
+    fn stated_type(
+        &mut self,
+        cursor: &mut Cursor<'_>,
+        name: &str,
+        sort: Sort,
+    ) -> Result<Option<usize>, ReadError> {
+        let (stated, ty) = self.description(cursor, name)?;
+        if stated == sort {
+            Ok(Some(ty))
+        } else {
+            cursor.fault("an export said to be of another sort")
         }
     }
 
@@ -239,12 +248,18 @@ impl Spaces {
     pub fn declared_import(&mut self, cursor: &mut Cursor<'_>) -> Result<(), ReadError> {
         let name = cursor.extern_name()?;
         let (sort, ty) = self.import(cursor, name)?;
-        if let Some(inner) = self.scopes.last() {
-            if inner.kind != Kind::Component {
-                return cursor.fault("an import in an instance type");
-            }
-        }
+        self.expect_component(cursor)?;
         self.declare(cursor, "import ", name, sort, ty)
+    }
+
+    /// The innermost scope may have imports.
+    fn expect_component(&self, cursor: &Cursor<'_>) -> Result<(), ReadError> {
+        match self.scopes.last() {
+            Some(inner) if inner.kind != Kind::Component => {
+                cursor.fault("an import in an instance type")
+            }
+            _ => Ok(()),
+        }
     }
 
     /// An export of a component type or an instance type.
@@ -306,6 +321,13 @@ impl Spaces {
         let name = String::from_str(self.alloc, name)?;
         keep(&mut inner.exports, Member { name, sort, ty })
     }
+}
+
+fn read_custom(alloc: Global, cursor: &mut Cursor<'_>) -> Result<Custom, ReadError> {
+    Ok(Custom {
+        name: cursor.name(alloc)?,
+        contents: cursor.rest().to_vec(alloc)?,
+    })
 }
 
 /// Writes the parts, one after another.

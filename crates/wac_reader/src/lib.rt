@@ -181,10 +181,11 @@ struct Level {
 
 /// Reads one level of a component.
 pub fn read(alloc: Global, bytes: &[u8]) -> Result<Reading, ReadError> {
-    let mut cursor = Cursor::new(bytes);
-    cursor.preamble()?;
-    let mut level = Level::new(alloc)?;
-    level.sections(&mut cursor)?;
+    let mut level = Level {
+        spaces: Spaces::new(alloc),
+        reading: Reading::new(alloc),
+    };
+    level.component(bytes)?;
     Ok(level.reading)
 }
 
@@ -208,20 +209,23 @@ fn new_scope(alloc: Global, kind: Kind, left: u32) -> Scope {
 }
 
 impl Level {
-    fn new(alloc: Global) -> Result<Self, AllocError> {
-        let spaces = Spaces {
-            alloc,
-            scopes: vec![in alloc; new_scope(alloc, Kind::Component, 0)]?,
-            nodes: Vec::new(alloc),
-        };
-        let reading = Reading {
+    fn component(&mut self, bytes: &[u8]) -> Result<(), ReadError> {
+        let mut cursor = Cursor::new(bytes);
+        cursor.preamble()?;
+        self.spaces.open_scope(Kind::Component, 0)?;
+        self.sections(&mut cursor)
+    }
+}
+
+impl Reading {
+    fn new(alloc: Global) -> Self {
+        Reading {
             imports: Vec::new(alloc),
             components: Vec::new(alloc),
             instances: Vec::new(alloc),
             exports: Vec::new(alloc),
             customs: Vec::new(alloc),
-        };
-        Ok(Level { spaces, reading })
+        }
     }
 }
 
@@ -250,6 +254,19 @@ fn nth_of(things: &Vec<Thing>, sort: Sort, index: u32) -> Option<&Thing> {
 }
 
 impl Spaces {
+    fn new(alloc: Global) -> Self {
+        Spaces {
+            alloc,
+            scopes: Vec::new(alloc),
+            nodes: Vec::new(alloc),
+        }
+    }
+
+    /// Begins a scope inside the innermost one.
+    fn open_scope(&mut self, kind: Kind, left: u32) -> Result<(), ReadError> {
+        keep(&mut self.scopes, new_scope(self.alloc, kind, left))
+    }
+
     /// Adds one index to its sort's space in the innermost scope.
     fn add(&mut self, thing: Thing, cursor: &Cursor<'_>) -> Result<(), ReadError> {
         match self.scopes.last_mut() {

@@ -1,7 +1,9 @@
 //! A reading as text, a line for each import, instance and export.
 
 use super::types::text_if;
-use super::{Custom, Import, Inner, Item, Made, ReadError, Reading, Root, Source, WholeReading};
+use super::{
+    Custom, Import, Inner, Instance, Item, Made, ReadError, Reading, Root, Source, WholeReading,
+};
 use std::alloc::Global;
 
 /// A text while it is written. Where memory ran out, [`Text::finish`] says so.
@@ -117,23 +119,31 @@ impl WholeReading {
 
 fn tell_reading(text: &mut Text, reading: &Reading) {
     tell_imports(text, &reading.imports);
-    for (number, instance) in reading.instances.iter().enumerate() {
-        tell_instance(text, number);
-        tell_source(text, &instance.of);
-        tell_items(text, &instance.arguments);
-    }
+    tell_instances(text, &reading.instances);
     tell_exports(text, &reading.exports);
     tell_customs(text, &reading.customs);
 }
 
+fn tell_instances(text: &mut Text, instances: &[Instance]) {
+    for (number, instance) in instances.iter().enumerate() {
+        tell_instance(text, number);
+        tell_source(text, &instance.of);
+        tell_items(text, &instance.arguments);
+    }
+}
+
 fn tell_whole(text: &mut Text, whole: &WholeReading) {
     tell_imports(text, &whole.imports);
-    for (number, inner) in whole.instances.iter().enumerate() {
+    tell_inners(text, &whole.instances);
+    tell_exports(text, &whole.exports);
+}
+
+fn tell_inners(text: &mut Text, instances: &[Inner]) {
+    for (number, inner) in instances.iter().enumerate() {
         tell_instance(text, number);
         tell_made(text, inner);
         tell_items(text, &inner.arguments);
     }
-    tell_exports(text, &whole.exports);
 }
 
 /// Writes `#0 = `.

@@ -3,7 +3,7 @@
 use super::cursor::Cursor;
 use super::told::between;
 use super::type_text::TypeText;
-use super::{Kind, Member, ReadError, Root, Sort, Source, Spaces, Thing, keep, new_scope};
+use super::{Kind, Member, ReadError, Root, Sort, Source, Spaces, Thing};
 
 /// The primitive type of that byte.
 fn primitive(byte: u8) -> Option<&'static str> {
@@ -54,7 +54,7 @@ impl Spaces {
             _ => return self.defined(cursor, tag),
         };
         let left = cursor.unsigned()?;
-        keep(&mut self.scopes, new_scope(self.alloc, kind, left))
+        self.open_scope(kind, left)
     }
 
     /// Reads the innermost scope's next declaration, or ends that scope.
@@ -158,13 +158,20 @@ impl Spaces {
         match tag {
             0x72 => self.record(text),
             0x71 => self.variant(text),
-            0x70 => self.one(text, "list<"),
-            0x6b => self.one(text, "option<"),
             0x67 => self.fixed_size_list(text),
             0x6f => self.tuple(text),
             0x6e => text.labels("flags"),
             0x6d => text.labels("enum"),
             0x6a => self.result_type(text),
+            _ => self.around_one(text, tag),
+        }
+    }
+
+    /// A type around another: a list, an option, a handle, a stream or a future.
+    fn around_one(&self, text: &mut TypeText<'_>, tag: u8) {
+        match tag {
+            0x70 => self.one(text, "list<"),
+            0x6b => self.one(text, "option<"),
             0x69 => self.handle(text, "own<"),
             0x68 => self.handle(text, "borrow<"),
             0x66 => self.at_most_one(text, "stream<"),

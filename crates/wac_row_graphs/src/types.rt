@@ -6,12 +6,13 @@
 //! `typed NAME ITEM` (the type of an interface, a world or a function), `module NAME HEAP` and
 //! `memories NAME imports M::N=PAGES exports N=PAGES ..` (the type of a module of memories).
 
+use crate::entries::{put, standing};
 use crate::modules::{memories_of, module_of};
 use crate::words::{
     item_named, pairs_behind, resource_named, type_named, value_named, word_at, word_behind,
     words_of,
 };
-use anyhow::{Result, bail, ensure};
+use anyhow::{Result, bail};
 use std::alloc::Global;
 use wac_graph_core::CompositionGraph;
 use wac_types_base::{
@@ -27,6 +28,18 @@ const PRIMITIVES: [(&str, PrimitiveType); 4] = [
     ("string", PrimitiveType::String),
 ];
 
+fn put_values(
+    map: &mut NamedMap<ValueType>,
+    alloc: Global,
+    items: &NamedMap<ItemKind>,
+    pairs: &[(&str, &str)],
+) -> Result<()> {
+    for (name, word) in pairs {
+        put(map, alloc, name, value_named(items, word)?)?;
+    }
+    Ok(())
+}
+
 /// The named value types behind a word.
 fn values_behind(
     alloc: Global,
@@ -34,12 +47,22 @@ fn values_behind(
     words: &[&str],
     before: &str,
 ) -> Result<NamedMap<ValueType>> {
+    let pairs = pairs_behind(alloc, words, before)?;
     let mut map = NamedMap::new(alloc);
-    for (name, word) in &pairs_behind(alloc, words, before)? {
-        let value = value_named(items, word)?;
-        let _ = map.insert(String::from_str(alloc, name)?, value)?;
-    }
+    put_values(&mut map, alloc, items, &pairs)?;
     Ok(map)
+}
+
+fn put_items(
+    map: &mut NamedMap<ItemKind>,
+    alloc: Global,
+    items: &NamedMap<ItemKind>,
+    pairs: &[(&str, &str)],
+) -> Result<()> {
+    for (name, word) in pairs {
+        put(map, alloc, name, item_named(items, word)?)?;
+    }
+    Ok(())
 }
 
 /// The named items behind a word.
@@ -49,11 +72,9 @@ fn items_behind(
     words: &[&str],
     before: &str,
 ) -> Result<NamedMap<ItemKind>> {
+    let pairs = pairs_behind(alloc, words, before)?;
     let mut map = NamedMap::new(alloc);
-    for (name, word) in &pairs_behind(alloc, words, before)? {
-        let item = item_named(items, word)?;
-        let _ = map.insert(String::from_str(alloc, name)?, item)?;
-    }
+    put_items(&mut map, alloc, items, &pairs)?;
     Ok(map)
 }
 
@@ -65,20 +86,32 @@ fn interface_named(items: &NamedMap<ItemKind>, name: &str) -> Result<InterfaceId
     }
 }
 
+fn put_uses(
+    map: &mut NamedMap<UsedType>,
+    alloc: Global,
+    items: &NamedMap<ItemKind>,
+    pairs: &[(&str, &str)],
+) -> Result<()> {
+    for (name, word) in pairs {
+        let interface = interface_named(items, word)?;
+        let used = UsedType {
+            interface,
+            name: None,
+        };
+        put(map, alloc, name, used)?;
+    }
+    Ok(())
+}
+
 /// The uses of types under their own names.
 fn uses_in(
     alloc: Global,
     items: &NamedMap<ItemKind>,
     words: &[&str],
 ) -> Result<NamedMap<UsedType>> {
+    let pairs = pairs_behind(alloc, words, "uses")?;
     let mut map = NamedMap::new(alloc);
-    for (name, word) in &pairs_behind(alloc, words, "uses")? {
-        let used = UsedType {
-            interface: interface_named(items, word)?,
-            name: None,
-        };
-        let _ = map.insert(String::from_str(alloc, name)?, used)?;
-    }
+    put_uses(&mut map, alloc, items, &pairs)?;
     Ok(map)
 }
 
@@ -99,8 +132,8 @@ pub fn func_of(alloc: Global, items: &NamedMap<ItemKind>, words: &[&str]) -> Res
     })
 }
 
-fn add_func(graph: &mut CompositionGraph, func: FuncType) -> Result<ItemKind> {
-    ensure!(graph.types().has_ids_of(&func), "an id does not stand");
+fn add_func(graph: &mut CompositionGraph, func: Result<FuncType>) -> Result<ItemKind> {
+    let func = standing(graph.types(), func)?;
     Ok(ItemKind::Func(graph.types_mut().add_func_type(func)?))
 }
 
@@ -133,8 +166,8 @@ pub fn defined_of(
     }
 }
 
-fn add_defined(graph: &mut CompositionGraph, ty: DefinedType) -> Result<ItemKind> {
-    ensure!(graph.types().has_ids_of(&ty), "an id does not stand");
+fn add_defined(graph: &mut CompositionGraph, ty: Result<DefinedType>) -> Result<ItemKind> {
+    let ty = standing(graph.types(), ty)?;
     let id = graph.types_mut().add_defined_type(ty)?;
     Ok(ItemKind::Ty(Type::Value(ValueType::Defined(id))))
 }
@@ -164,8 +197,8 @@ pub fn resource_of(alloc: Global, items: &NamedMap<ItemKind>, words: &[&str]) ->
     })
 }
 
-fn add_resource(graph: &mut CompositionGraph, resource: Resource) -> Result<ItemKind> {
-    ensure!(graph.types().has_ids_of(&resource), "an id does not stand");
+fn add_resource(graph: &mut CompositionGraph, resource: Result<Resource>) -> Result<ItemKind> {
+    let resource = standing(graph.types(), resource)?;
     let id = graph.types_mut().add_resource(resource)?;
     Ok(ItemKind::Ty(Type::Resource(id)))
 }
@@ -185,8 +218,8 @@ pub fn interface_of(
     })
 }
 
-fn add_interface(graph: &mut CompositionGraph, interface: Interface) -> Result<ItemKind> {
-    ensure!(graph.types().has_ids_of(&interface), "an id does not stand");
+fn add_interface(graph: &mut CompositionGraph, interface: Result<Interface>) -> Result<ItemKind> {
+    let interface = standing(graph.types(), interface)?;
     let id = graph.types_mut().add_interface(interface)?;
     Ok(ItemKind::Instance(id))
 }
@@ -203,8 +236,8 @@ pub fn world_of(alloc: Global, items: &NamedMap<ItemKind>, words: &[&str]) -> Re
     })
 }
 
-fn add_world(graph: &mut CompositionGraph, world: World) -> Result<ItemKind> {
-    ensure!(graph.types().has_ids_of(&world), "an id does not stand");
+fn add_world(graph: &mut CompositionGraph, world: Result<World>) -> Result<ItemKind> {
+    let world = standing(graph.types(), world)?;
     let id = graph.types_mut().add_world(world)?;
     Ok(ItemKind::Component(id))
 }
@@ -212,13 +245,13 @@ fn add_world(graph: &mut CompositionGraph, world: World) -> Result<ItemKind> {
 /// The module type that a line says: `module` by its heap type, `memories` by its memories.
 pub fn module_type_of(alloc: Global, words: &[&str]) -> Result<ModuleType> {
     match word_at(words, 0) {
-        "module" => Ok(module_of(alloc, word_at(words, 2))?),
+        "module" => module_of(alloc, word_at(words, 2)),
         _ => memories_of(alloc, words),
     }
 }
 
-fn add_module(graph: &mut CompositionGraph, module: ModuleType) -> Result<ItemKind> {
-    Ok(ItemKind::Module(graph.types_mut().add_module_type(module)?))
+fn add_module(graph: &mut CompositionGraph, module: Result<ModuleType>) -> Result<ItemKind> {
+    Ok(ItemKind::Module(graph.types_mut().add_module_type(module?)?))
 }
 
 /// Adds a value type, or gives the item of a value or the type of an item.
@@ -231,7 +264,7 @@ fn add_value(
     match word_at(words, 0) {
         "typed" => Ok(ItemKind::Ty(type_named(items, word_at(words, 2))?)),
         "value" => Ok(ItemKind::Value(value_named(items, word_at(words, 2))?)),
-        _ => add_defined(graph, defined_of(alloc, items, words)?),
+        _ => add_defined(graph, defined_of(alloc, items, words)),
     }
 }
 
@@ -243,11 +276,11 @@ fn add_item(
 ) -> Result<ItemKind> {
     let alloc = graph.alloc();
     match word_at(words, 0) {
-        "func" => add_func(graph, func_of(alloc, items, words)?),
-        "resource" => add_resource(graph, resource_of(alloc, items, words)?),
-        "interface" => add_interface(graph, interface_of(alloc, items, words)?),
-        "world" => add_world(graph, world_of(alloc, items, words)?),
-        "module" | "memories" => add_module(graph, module_type_of(alloc, words)?),
+        "func" => add_func(graph, func_of(alloc, items, words)),
+        "resource" => add_resource(graph, resource_of(alloc, items, words)),
+        "interface" => add_interface(graph, interface_of(alloc, items, words)),
+        "world" => add_world(graph, world_of(alloc, items, words)),
+        "module" | "memories" => add_module(graph, module_type_of(alloc, words)),
         _ => add_value(graph, items, words),
     }
 }
@@ -261,8 +294,7 @@ fn add_line(
     let alloc = graph.alloc();
     let words = words_of(alloc, line)?;
     let item = add_item(graph, items, &words)?;
-    let _ = items.insert(String::from_str(alloc, word_at(&words, 1))?, item)?;
-    Ok(())
+    put(items, alloc, word_at(&words, 1), item)
 }
 
 /// Adds a primitive type under its name.
@@ -273,7 +305,13 @@ fn add_primitive(
     ty: PrimitiveType,
 ) -> Result<()> {
     let item = ItemKind::Ty(Type::Value(ValueType::Primitive(ty)));
-    let _ = items.insert(String::from_str(alloc, name)?, item)?;
+    put(items, alloc, name, item)
+}
+
+fn add_primitives(alloc: Global, items: &mut NamedMap<ItemKind>) -> Result<()> {
+    for (name, ty) in PRIMITIVES {
+        add_primitive(alloc, items, name, ty)?;
+    }
     Ok(())
 }
 
@@ -281,9 +319,7 @@ fn add_primitive(
 pub fn add_types(graph: &mut CompositionGraph, text: &str) -> Result<NamedMap<ItemKind>> {
     let alloc = graph.alloc();
     let mut items = NamedMap::new(alloc);
-    for (name, ty) in PRIMITIVES {
-        add_primitive(alloc, &mut items, name, ty)?;
-    }
+    add_primitives(alloc, &mut items)?;
     for line in text.split('\n') {
         if !line.is_empty() {
             add_line(graph, &mut items, line)?;

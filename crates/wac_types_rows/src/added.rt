@@ -1,10 +1,9 @@
 //! Entries that are added to a collection, through what is lent for adding.
 
-use crate::standing::standing;
 use anyhow::Result;
 use std::alloc::Global;
 use wac_row_graphs::{
-    defined_of, func_of, interface_of, module_type_of, resource_of, word_at, world_of,
+    defined_of, func_of, interface_of, module_type_of, resource_of, standing, word_at, world_of,
 };
 use wac_types::{
     DefinedType, FuncType, Interface, ItemKind, ModuleType, NamedMap, Resource, TypesMut, World,

@@ -4,6 +4,7 @@ use crate::copies::{copied_text, renumbered_text};
 use crate::merges::merged_text;
 use crate::turns::{turned_text, turns_text};
 use anyhow::{Result, bail, ensure};
+use indexmap::IndexMap;
 use std::alloc::{AllocError, Global};
 use wac_row_graphs::{item_named, type_named, value_named, word_at};
 use wac_types::{
@@ -91,18 +92,22 @@ fn push_imported(told: &mut String, name: &str, item: ItemKind) -> Result<(), Al
     }
 }
 
-/// The interfaces that a world imports for its uses, or the refusal.
-fn implicit_of(types: &Types, alloc: Global, world: &World) -> Result<String> {
-    ensure!(types.has_ids_of(world), "an id does not stand");
-    let found = match world.implicit_imported_interfaces(alloc, types) {
-        Ok(found) => found,
-        Err(fault) => return Ok(format!(in alloc; "refused: {fault}")?),
-    };
+/// Interfaces that are imported.
+fn imports_text(found: &IndexMap<&str, ItemKind>, alloc: Global) -> Result<String, AllocError> {
     let mut told = String::from_str(alloc, "imports")?;
-    for (name, item) in &found {
+    for (name, item) in found {
         push_imported(&mut told, name, *item)?;
     }
     Ok(told)
+}
+
+/// The interfaces that a world imports for its uses, or the refusal.
+fn implicit_of(types: &Types, alloc: Global, world: &World) -> Result<String> {
+    ensure!(types.has_ids_of(world), "an id does not stand");
+    match world.implicit_imported_interfaces(alloc, types) {
+        Ok(found) => Ok(imports_text(&found, alloc)?),
+        Err(fault) => Ok(format!(in alloc; "refused: {fault}")?),
+    }
 }
 
 /// The same of a world of the collection.
@@ -172,6 +177,36 @@ fn answer_of_item(types: &Types, alloc: Global, item: ItemKind, what: &str) -> R
     }
 }
 
+/// The word that is asked for under a name.
+fn word_of<'a>(
+    types: &'a Types,
+    items: &NamedMap<ItemKind>,
+    what: &str,
+    name: &str,
+) -> Result<&'a str> {
+    match what {
+        "source" => root_name(types, resource_named(items, name)?),
+        "world" => world_word(types, name),
+        _ => answer_of_value(types, value_named(items, name)?, what),
+    }
+}
+
+fn visited_text(types: &Types, alloc: Global, ty: Type) -> Result<String> {
+    Ok(format!(in alloc; "{}", visited(types, ty)?)?)
+}
+
+/// What a checker that is turned once finds of two items.
+fn turned_words(
+    types: &Types,
+    alloc: Global,
+    items: &NamedMap<ItemKind>,
+    words: &[&str],
+) -> Result<String> {
+    let a = item_named(items, word_at(words, 1))?;
+    let b = item_named(items, word_at(words, 2))?;
+    turned_text(types, alloc, a, b)
+}
+
 /// What a line's words ask: `word V`, `root V` and `borrow V` of a value type; `source RESOURCE`; `world INDEX`; `implicit WORLD`;
 /// `renumbered WORLD`; `visited TYPE`; `counts`; `item ITEM` (its word); `copied ITEM`; `turned A B` (what a checker that is
 /// turned once finds); `turns TURN ..` (`invert` and `revert`); `merged NAME ITEM NAME ITEM` (what is kept of asks in one list).
@@ -183,22 +218,13 @@ pub(crate) fn answer(
 ) -> Result<String> {
     let (what, name) = (word_at(words, 0), word_at(words, 1));
     match what {
-        "word" | "root" | "borrow" => {
-            let word = answer_of_value(types, value_named(items, name)?, what)?;
-            Ok(String::from_str(alloc, word)?)
+        "word" | "root" | "borrow" | "source" | "world" => {
+            Ok(String::from_str(alloc, word_of(types, items, what, name)?)?)
         }
-        "source" => {
-            let name = root_name(types, resource_named(items, name)?)?;
-            Ok(String::from_str(alloc, name)?)
-        }
-        "world" => Ok(String::from_str(alloc, world_word(types, name)?)?),
         "implicit" | "renumbered" => answer_of_world(types, alloc, world_named(items, name)?, what),
-        "visited" => Ok(format!(in alloc; "{}", visited(types, type_named(items, name)?)?)?),
+        "visited" => visited_text(types, alloc, type_named(items, name)?),
         "counts" => Ok(counts_text(types, alloc)?),
-        "turned" => {
-            let b = item_named(items, word_at(words, 2))?;
-            turned_text(types, alloc, item_named(items, name)?, b)
-        }
+        "turned" => turned_words(types, alloc, items, words),
         "turns" => turns_text(alloc, words),
         "merged" => merged_text(types, alloc, items, words),
         _ => answer_of_item(types, alloc, item_named(items, name)?, what),

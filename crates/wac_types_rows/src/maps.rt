@@ -47,44 +47,61 @@ fn entries_text(map: &Numbers, alloc: Global) -> Result<String, AllocError> {
     Ok(told)
 }
 
-/// What a line does.
-fn step(map: &mut Numbers, alloc: Global, line: &str) -> Result<String>
+/// What a line of these words does.
+fn words_step(map: &mut Numbers, alloc: Global, words: &[&str]) -> Result<String>
     requires known { KnowsKeys (λ k. Some (string_bytes k)) map.old }
     ensures known { KnowsKeys (λ k. Some (string_bytes k)) map.new }
 {
-    let words = words_of(alloc, line)?;
-    let name = word_at(&words, 1);
-    match word_at(&words, 0) {
-        "insert" => insert(map, alloc, name, false, word_at(&words, 2).parse::<u64>()?),
-        "shadow" => insert(map, alloc, name, true, word_at(&words, 2).parse::<u64>()?),
+    let name = word_at(words, 1);
+    match word_at(words, 0) {
+        "insert" => insert(map, alloc, name, false, word_at(words, 2).parse::<u64>()?),
+        "shadow" => insert(map, alloc, name, true, word_at(words, 2).parse::<u64>()?),
         "get" => Ok(number_text(map, alloc, name)?),
         "entries" => Ok(entries_text(map, alloc)?),
         _ => bail!("no such line of maps"),
     }
 }
 
-/// The entries after another number is written under the key of a name.
-fn written(mut map: Numbers, alloc: Global, line: &str) -> Result<String> {
+/// What a line does.
+fn step(map: &mut Numbers, alloc: Global, line: &str) -> Result<String>
+    requires known { KnowsKeys (λ k. Some (string_bytes k)) map.old }
+    ensures known { KnowsKeys (λ k. Some (string_bytes k)) map.new }
+{
+    let words = words_of(alloc, line)?;
+    words_step(map, alloc, &words)
+}
+
+/// What the lines of a text do, each told on a line.
+fn push_steps(map: &mut Numbers, alloc: Global, text: &str, told: &mut String) -> Result<()>
+    requires known { KnowsKeys (λ k. Some (string_bytes k)) map.old }
+    ensures known { KnowsKeys (λ k. Some (string_bytes k)) map.new }
+{
+    for line in text.split('\n') {
+        let answer = step(map, alloc, line)?;
+        writeln!(told, "{line}: {answer}")?;
+    }
+    Ok(())
+}
+
+/// Writes another number under the key of a name.
+fn write_number(map: &mut Numbers, alloc: Global, line: &str) -> Result<()> {
     let (name, number) = line.split_once(' ').unwrap_or((line, ""));
     let number = number.parse::<u64>()?;
     let key = String::from_str(alloc, name)?;
     if let Some(place) = map.raw_get_mut(&key) {
         *place = number;
     }
-    Ok(entries_text(&map, alloc)?)
+    Ok(())
 }
 
 /// What the lines of a text do, each told on a line, and the entries after the line `write`.
 pub(crate) fn map_of(alloc: Global, text: &str, write: Option<&str>) -> Result<String> {
     let mut map: Numbers = NameMap::default(alloc);
     let mut told = String::new(alloc);
-    for line in text.split('\n') {
-        let answer = step(&mut map, alloc, line)?;
-        writeln!(told, "{line}: {answer}")?;
-    }
+    push_steps(&mut map, alloc, text, &mut told)?;
     if let Some(line) = write {
-        let entries = written(map, alloc, line)?;
-        writeln!(told, "{entries}")?;
+        write_number(&mut map, alloc, line)?;
+        writeln!(told, "{}", entries_text(&map, alloc)?)?;
     }
     Ok(told)
 }

@@ -8,19 +8,21 @@ use wac_types::{AggregateError, ItemKind, NamedMap, TypeAggregator, Types, aggre
 /// The number of the collection of what is kept.
 const NUMBER: u64 = 7;
 
+fn names_text(all: &TypeAggregator, alloc: Global) -> Result<String, AllocError> {
+    let mut told = format!(in alloc; "{} kept", all.imports().count())?;
+    for import in all.imports() {
+        write!(told, " {}", import.name.as_str())?;
+    }
+    Ok(told)
+}
+
 /// The names of what is kept, or the refusal.
 fn kept_text(
     kept: &Result<TypeAggregator, AggregateError>,
     alloc: Global,
 ) -> Result<String, AllocError> {
     match kept {
-        Ok(all) => {
-            let mut told = format!(in alloc; "{} kept", all.imports().count())?;
-            for import in all.imports() {
-                write!(told, " {}", import.name.as_str())?;
-            }
-            Ok(told)
-        }
+        Ok(all) => names_text(all, alloc),
         Err(fault) => format!(in alloc; "{fault}"),
     }
 }

@@ -42,11 +42,16 @@ fn order_word(a: &BorrowedPackageKey<'_>, b: &PackageKey) -> &'static str {
     }
 }
 
+/// The key of a text.
+fn key_of(alloc: Global, text: &str) -> Result<PackageKey> {
+    let (name, version) = name_and_version(alloc, text)?;
+    let key = BorrowedPackageKey::from_name_and_version(name, version.as_ref());
+    Ok(key.into_owned(alloc)?)
+}
+
 /// How two keys of packages stand to one another.
 fn order_text(alloc: Global, a: &str, b: &str) -> Result<String> {
-    let (name, version) = name_and_version(alloc, b)?;
-    let b = BorrowedPackageKey::from_name_and_version(name, version.as_ref());
-    let b = b.into_owned(alloc)?;
+    let b = key_of(alloc, b)?;
     let (name, version) = name_and_version(alloc, a)?;
     let a = BorrowedPackageKey::from_name_and_version(name, version.as_ref());
     Ok(format!(in alloc; "{a} {} {b}", order_word(&a, &b))?)

@@ -60,16 +60,41 @@ fn push_instance(types: &Types, id: InterfaceId, told: &mut String) -> Result<()
     Ok(())
 }
 
+/// A definition.
+fn push_definition(name: &str, item: ItemKind, told: &mut String) -> Result<(), AllocError> {
+    match item {
+        ItemKind::Ty(Type::World(id)) => write!(told, " {name} world {id}"),
+        ItemKind::Ty(Type::Interface(id)) => write!(told, " {name} interface {id}"),
+        _ => write!(told, " {name}"),
+    }
+}
+
 /// The definitions.
 fn push_definitions(definitions: &NamedMap<ItemKind>, told: &mut String) -> Result<(), AllocError> {
     told.push_str(", defines")?;
     for at in 0..definitions.len() {
         let (name, item) = definitions.entry(at);
-        match *item {
-            ItemKind::Ty(Type::World(id)) => write!(told, " {name} world {id}")?,
-            ItemKind::Ty(Type::Interface(id)) => write!(told, " {name} interface {id}")?,
-            _ => write!(told, " {name}")?,
-        }
+        push_definition(name, *item, told)?;
+    }
+    Ok(())
+}
+
+/// Whether the keys of a package are one.
+fn keys_word(
+    package: &Package,
+    alloc: Global,
+    key: &PackageKey,
+) -> Result<&'static str, AllocError> {
+    let owned = BorrowedPackageKey::new(package).into_owned(alloc)?;
+    let one = same_key(key, &owned) && same_key(&package.key(), &owned) && *key == owned;
+    Ok(if one { "one key" } else { "several keys" })
+}
+
+/// The parts of a package's key.
+fn push_key(package: &Package, key: &PackageKey, told: &mut String) -> Result<(), AllocError> {
+    write!(told, "{key} {} {}", package.key(), key.name())?;
+    if let Some(version) = key.version() {
+        write!(told, " {version}")?;
     }
     Ok(())
 }
@@ -77,13 +102,8 @@ fn push_definitions(definitions: &NamedMap<ItemKind>, told: &mut String) -> Resu
 /// The keys of a package, and whether they are one.
 fn push_keys(package: &Package, alloc: Global, told: &mut String) -> Result<(), AllocError> {
     let key = PackageKey::new(alloc, package)?;
-    let owned = BorrowedPackageKey::new(package).into_owned(alloc)?;
-    let one = same_key(&key, &owned) && same_key(&package.key(), &owned) && key == owned;
-    let word = if one { "one key" } else { "several keys" };
-    write!(told, "{key} {} {}", package.key(), key.name())?;
-    if let Some(version) = key.version() {
-        write!(told, " {version}")?;
-    }
+    let word = keys_word(package, alloc, &key)?;
+    push_key(package, &key, told)?;
     write!(told, " {word}")
 }
 

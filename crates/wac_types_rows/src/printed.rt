@@ -52,18 +52,31 @@ fn core_func(alloc: Global, words: &[&str]) -> Result<CoreFuncType, AllocError> 
     })
 }
 
-/// What a line says, printed.
-fn text_of(alloc: Global, line: &str) -> Result<String, AllocError> {
-    let words = words_of(alloc, line)?;
-    match word_at(&words, 0) {
-        "interface_id" => id_text(alloc, word_at(&words, 1).parse::<usize>().unwrap_or(0)),
+fn core_func_text(alloc: Global, words: &[&str]) -> Result<String, AllocError> {
+    format!(in alloc; "{}", core_func(alloc, words)?)
+}
+
+fn tag_text(alloc: Global, words: &[&str]) -> Result<String, AllocError> {
+    format!(in alloc; "{}", CoreExtern::Tag(core_func(alloc, words)?))
+}
+
+/// What words say, printed.
+fn words_text(alloc: Global, words: &[&str]) -> Result<String, AllocError> {
+    match word_at(words, 0) {
+        "interface_id" => id_text(alloc, word_at(words, 1).parse::<usize>().unwrap_or(0)),
         "func_kinds" => func_kinds(alloc),
         "extern_kinds" => extern_kinds(alloc),
         "faults" => faults(alloc),
-        "core_func" => format!(in alloc; "{}", core_func(alloc, &words)?),
-        "tag" => format!(in alloc; "{}", CoreExtern::Tag(core_func(alloc, &words)?)),
+        "core_func" => core_func_text(alloc, words),
+        "tag" => tag_text(alloc, words),
         _ => String::from_str(alloc, "no such line of prints"),
     }
+}
+
+/// What a line says, printed.
+fn text_of(alloc: Global, line: &str) -> Result<String, AllocError> {
+    let words = words_of(alloc, line)?;
+    words_text(alloc, &words)
 }
 
 /// What the lines of a text say, each printed on a line.

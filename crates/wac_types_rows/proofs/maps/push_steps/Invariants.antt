@@ -1,6 +1,6 @@
 use Rattle.std.proofs.Common.{Some, string_bytes}
 use Rattle.wac_types_names.specs.NameMaps.{KnowsKeys}
-use Rattle.wac_types_rows.proofs.maps.map_of.Given as goal
+use Rattle.wac_types_rows.proofs.maps.push_steps.Given as goal
 
 abbrev pub invariant-loop-line : goal.invariant-loop-line
 invariant-loop-line l =
