@@ -10,7 +10,7 @@ use Rattle.wac_types_base.specs.Collection.{Grows, IsAcyclic, Stands}
 use Rattle.wac_types_base.specs.Copying.{IsCopy}
 use Rattle.wac_types_base.specs.Stated.{IsComponent, Stated, kind_of, stated_in, stated_of, world_of}
 use Rattle.wac_types_base.proofs.Adding.{Among-left, Among-right}
-use Rattle.wac_types_base.proofs.Lists.{among_last}
+use Rattle.wac_types_base.proofs.Lists.{among_last, there_is}
 use Rattle.wac_types_base.proofs.Looked.{put_entry-new}
 use Rattle.wac_types_base.proofs.Loops.{map-one_more, names-with_values}
 use Rattle.wac_types_base.proofs.Standing.{world_found}
@@ -108,13 +108,8 @@ not_other c d acyclic k j kind copy other = not_component j other (sym (kind_sta
 
 -- ---- imports, one after another
 
-there : {X : Type 0} (xs : List X) (i : ℕ) → i < length xs → (x : X) × (slice_get xs i ≡ Some x)
-there [] i lt = absurd (omega (arith, lt))
-there (x ∷ xs) zero lt = (x, refl)
-there (x ∷ xs) (suc i) lt = there xs i (omega (arith, lt))
-
 pub import_next : (xs : List (Name × ItemKind)) → AreDistinct (names_of xs) → (i count : ℕ) → count ≡ length xs → i < count → (old new : List (Name × ItemKind)) → new ≡ with_import (slice_get xs i) old → old ≡ take i xs → new ≡ take (i + 1) xs
 import_next xs distinct i count len lt old new is before =
-    let e = there xs i (omega (arith, lt, len)) in
+    let e = there_is xs i (omega (arith, lt, len)) in
     is ∙ ap (λ o. with_import o old) e.1 ∙ put_entry-new old e.0.0 e.0.1 (copy_new old xs i e.0.0 e.0.0 e.0.1 distinct before e.1 refl)
     ∙ copy_next old xs i e.0.0 e.0.0 e.0.1 e.0.1 before e.1 refl refl

@@ -14,6 +14,7 @@ use Rattle.wac_types_base.specs.Copying.{IsCopy}
 use Rattle.wac_types_base.specs.Stated.{IsInstance, Stated, exports_of, kind_of, stated_in, stated_of}
 use Rattle.wac_types_base.specs.Tree.{tree}
 use Rattle.wac_types_base.specs.Fits.{Fits}
+use Rattle.wac_types_base.proofs.GraphLemmas.{value_of}
 use Rattle.wac_types_base.proofs.Telling.{item_kind, kind_stated}
 use Rattle.wac_types_base.proofs.Standing.{interface_found}
 use Rattle.wac_types_base.proofs.Stating.{instance_exports_stated, stated_kept, value_with}
@@ -52,6 +53,7 @@ use Rattle.wac_graph_encode.proofs.FormKinds.{own_form}
 use Rattle.wac_graph_encode.proofs.ItemSorts.{import_there}
 use Rattle.wac_graph_encode.proofs.RootedOuters.{asked_there, ask_at, import_fits}
 use Rattle.wac_graph_encode.proofs.StandingTrees.{exports_fit}
+use Rattle.wac_graph_encode.proofs.WritingSteps.{imported_role}
 
 -- ---- how far a node is from where it comes
 
@@ -152,12 +154,6 @@ module _ (g : Graph) (sound : IsGraph g) (finite_types : IsAcyclic g.types) (c :
 
 -- ---- imports and definitions
 
-imported_role : (r : Role) (n : Name) → imported_as r ≡ Some n → r ≡ Role.Imported n
-imported_role (Role.Imported m) n e = ap Role.Imported (same_Some _ _ e)
-imported_role Role.Instance n e = absurd (none-some _ e)
-imported_role Role.Defined n e = absurd (none-some _ e)
-imported_role Role.Aliased n e = absurd (none-some _ e)
-
 module _ (g : Graph) (sound : IsGraph g) (finite_types : IsAcyclic g.types) (c : Collection) (f : Finals) (knows : KnowsFinals g c f) where
   pub import_told : (k : ℕ) (n : Name) → import_name_of (node_at g k) ≡ Some n → TellsFinal g c k (value_at f.outers n)
   import_told k n e = go (node_at g k) refl e
@@ -190,10 +186,6 @@ module _ (g : Graph) (sound : IsGraph g) (finite_types : IsAcyclic g.types) (c :
 
 -- ---- what is known of them
 
-some_of : {X : Type 0} (o : Option X) → IsSome o → (x : X) × (o ≡ Some x)
-some_of None s = absurd (true≢false (sym s))
-some_of (Some x) s = (x, refl)
-
 named_one : (called : List Called) (n : Name) → Among n (map (λ (x : Called). x.name) called) → (one : Called) × Among one called × (one.name ≡ n)
 named_one [] n m = absurd m
 named_one (x ∷ xs) n (inl e) = (x, inl refl, sym e)
@@ -224,7 +216,7 @@ module _ (g : Graph) (sound : IsGraph g) (finite_types : IsAcyclic g.types) (c :
       let one = named_one o.called.items n (h.outers.named (ask_at g sound finite_types c acyclic o.world o.called.items h.outers k x n) (asked_there g sound finite_types c acyclic o.world o.called.items h.outers k x n there role)) in
       let call = h.outers.called_there one.0 one.1 in
       let there_ : IsSome (value_at es n) = subst (λ m. IsSome (value_at es m)) one.2 (are.all one.0 one.1 (ap is_some call.1)) in
-      let v = some_of (value_at es n) there_ in
+      let v = value_of (value_at es n) there_ in
       let t = are.sound n v.0 v.1 in
       (v.0, v.1, import_final k x n v.0 there role (ap (λ m. value_at outer_fields (spelled g m)) (sym t.2) ∙ called_import t.0 t.1 t.3 v.0 t.4))
 

@@ -68,7 +68,7 @@ module _ (w : Wired) (is : IsGraph w.graph.now) (finite : IsAcyclic w.graph.now.
 
 -- ---- imports
 
-imported_role : (r : Role) (n : Name) → imported_as r ≡ Some n → r ≡ Role.Imported n
+pub imported_role : (r : Role) (n : Name) → imported_as r ≡ Some n → r ≡ Role.Imported n
 imported_role (Role.Imported m) n e = let same : m ≡ n = cc e in ap Role.Imported same
 imported_role Role.Instance n e = absurd (cc e)
 imported_role Role.Aliased n e = absurd (cc e)

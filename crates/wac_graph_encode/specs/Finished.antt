@@ -31,6 +31,7 @@ use Rattle.wac_graph_encode.specs.Defining.{AreToWrite}
 use Rattle.wac_graph_encode.specs.Encoding.{nested_in, bytes_of, NestsPackages, MeansGraph, MeansWiring}
 use Rattle.wac_graph_encode.specs.Formed.{AreCopied}
 use Rattle.wac_graph_encode.specs.Refused.{HasNoneUnwritten, IsRefusedFor}
+use Rattle.wac_graph_encode.specs.Worlds.{IsToHandOut}
 use Rattle.wac_graph_encode.specs.Beginning.{AreTold, IsBare, IsToBegin}
 
 -- Entries that are finished over the outer imports that the graph asks, with the packages nested, state each wiring of the graph.
@@ -98,3 +99,7 @@ PreparedMeans g a o options bytes = IsPrepared g a o → MeansNested g options b
 -- and its types can be written
 abbrev pub RefusesPrepared : Graph → Asked → Outers → EncodeOptions → Refusal → Type 0
 RefusesPrepared g a o options e = IsPrepared g a o → HasNoneUnwritten options g → IsRefusedFor options g e
+
+-- and all is there of which the world is made
+abbrev pub PreparedHands : Graph → (old new : Asked) → Outers → List Definition → Type 0
+PreparedHands g old new o xs = IsPrepared g old o → IsToHandOut g new.types o xs

@@ -6,7 +6,7 @@ use Rattle.wac_types_base.specs.Record.{Collection}
 use Rattle.wac_types_base.specs.Entries.{Name, names_of, put_entry, value_at}
 use Rattle.wac_types_base.specs.Graph.{Among}
 use Rattle.wac_types_base.specs.Collection.{Stands}
-use Rattle.wac_types_base.specs.Stated.{IsComponent, Stated, kind_of, stated_of}
+use Rattle.wac_types_base.specs.Stated.{IsComponent, Stated, kind_of, stated_of, world_of}
 use Rattle.wac_types_base.specs.Fits.{Fits}
 use Rattle.wac_types_base.specs.Remembering.{HasCopied}
 use Rattle.wac_types_fit.specs.Trees.{tree_in}
@@ -139,3 +139,7 @@ IsAWorld c k = kind_of (stated_of c k) ≡ IsComponent
 abbrev pub with_import : Option (Name × ItemKind) → List (Name × ItemKind) → List (Name × ItemKind)
 with_import None es = es
 with_import (Some e) es = put_entry es e.0 e.1
+
+-- the world is made of these
+abbrev pub IsMadeOf : (old new : Collection) → (imports exports : List (Name × ItemKind)) → WorldId → Type 0
+IsMadeOf old new imports exports w = IsOf new (world_of None [] (stated_items old imports) (stated_items old exports)) (ItemKind.Component w)

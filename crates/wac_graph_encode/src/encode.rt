@@ -12,7 +12,7 @@ ghost use Rattle.wac_graph_encode.specs.Encoding.{HasTrueWorld};
 ghost use Rattle.wac_graph_encode.specs.Worlds.{IsToHandOut};
 ghost use Rattle.wac_graph_encode.specs.Refused.{HasNoneAlike, HasNoneClashing, HasNoneUnwritten, IsErrorFor, IsFree, IsRefusedFor};
 ghost use Rattle.wac_graph_encode.specs.Finished.{AreSpelled, IsPrepared, MeansAsked, MeansNested, MeansWired, NestsSo, NestsWired};
-ghost use Rattle.wac_graph_encode.specs.Finished.{PreparedMeans, RefusesPrepared};
+ghost use Rattle.wac_graph_encode.specs.Finished.{PreparedHands, PreparedMeans, RefusesPrepared};
 
 use crate::forms::written_definitions;
 use crate::instances::Wired;
@@ -113,7 +113,7 @@ fn bytes_asked(
     requires { CopiesStand asked.old.types asked.old.definitions.items }
     ensures means { IfOk result (λ p. PreparedMeans graph.now asked.old outers.now options.now p.0.items) }
     ensures apart { OnOk result (IsPrepared graph.now asked.old outers.now → HasNoneAlike options.now graph.now) }
-    ensures ready { IfOk result (λ p. IsPrepared graph.now asked.old outers.now → IsToHandOut graph.now asked.new.types outers.now p.1.items) }
+    ensures ready { IfOk result (λ p. PreparedHands graph.now asked.old asked.new outers.now p.1.items) }
     ensures refused { IfErr result (RefusesPrepared graph.now asked.old outers.now options.now) }
 {
     graph.see_sound();

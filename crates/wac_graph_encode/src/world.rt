@@ -1,18 +1,17 @@
 //! The world that is true of a composition's bytes.
 
-ghost use Rattle.std.specs.Prelude.{◌≡◌, ℕ, [], None, IfOk, OnOk, IfSome, slice_get};
+ghost use Rattle.std.specs.Prelude.{◌≡◌, ℕ, [], IfOk, OnOk, IfSome, slice_get};
 ghost use Rattle.wac_types_base.specs.declared.ids.InterfaceId.{InterfaceId};
 ghost use Rattle.wac_types_base.specs.declared.item.ItemKind.{ItemKind as Kind};
 ghost use Rattle.wac_types_base.specs.Collection.{Grows, Stands};
 ghost use Rattle.wac_types_base.specs.Entries.{Name, value_at};
-ghost use Rattle.wac_types_base.specs.Stated.{world_of};
-ghost use Rattle.wac_types_written.specs.Forms.{IsOf, ItemsStand, stated_items};
+ghost use Rattle.wac_types_written.specs.Forms.{ItemsStand};
 ghost use Rattle.wac_graph_core.specs.Edges.{HasAlias};
 ghost use Rattle.wac_graph_core.specs.Graph.{ContainsNode};
 ghost use Rattle.wac_graph_scopes.specs.Parts.{exports_of, imports_of};
 ghost use Rattle.wac_graph_encode.specs.Encoding.{HasTrueWorld};
 ghost use Rattle.wac_graph_encode.specs.Worlds.{AddsExported, AreCalledTypes, AreCopies, AreDefinitionTypes, AreExported, IsToHandOut};
-ghost use Rattle.wac_graph_encode.specs.Worlds.{IsUsedWorld, KnowsFinals, TellsCalled, TellsCopied, TellsDefinition, TellsExported, TellsFinal, with_import};
+ghost use Rattle.wac_graph_encode.specs.Worlds.{IsMadeOf, IsUsedWorld, KnowsFinals, TellsCalled, TellsCopied, TellsDefinition, TellsExported, TellsFinal, with_import};
 
 use crate::copying::Copies;
 use crate::without_uses::handed_out;
@@ -346,7 +345,7 @@ fn add_world_of(
 ) -> Result<WorldId, AllocError>
     requires imports { ItemsStand types.old imports }
     requires exports { ItemsStand types.old exports }
-    ensures world { IfOk result (λ w. IsOf types.new (world_of None [] (stated_items types.old imports) (stated_items types.old exports)) (Kind.Component w)) }
+    ensures world { IfOk result (IsMadeOf types.old types.new imports exports) }
     ensures grows { Grows types.old types.new }
 {
     let world = types.add_world(World {

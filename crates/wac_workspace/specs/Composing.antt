@@ -84,12 +84,9 @@ pub record IsMeant (q : Resolves) (bytes : List ℕ) : Type 0 where
   pub holds : IsGraphOf q graph
   pub component : IsComponentOf graph bytes
 
--- so it is, with components defined, of what is resolved, and of a document over these packages
+-- so it is, with components defined, of what is resolved
 abbrev pub MeansSaid : EncodeOptions → Resolves → List ℕ → Type 0
 MeansSaid options q bytes = options.define_components ≡ true → IsMeant q bytes
-
-abbrev pub MeansDocument : EncodeOptions → Document → Handed → List ℕ → Type 0
-MeansDocument options d ps bytes = MeansSaid options (resolved d ps) bytes
 
 -- likewise of the document that a source is
 pub record IsMeantBy (ps : Handed) (source : List ℕ) (bytes : List ℕ) : Type 0 where

@@ -1,8 +1,11 @@
 -- A document over the packages of a workspace: it has a graph, or a first cause.
 use Rattle.std.specs.Prelude.{List, [], ◌∷◌, Option, Ok, Err}
 use Rattle.wac_types_base.specs.Stated.{Stated}
+use Rattle.indexmap.specs.IndexMap.{IndexMap}
+use Rattle.wac_types_names.specs.declared.package.BorrowedPackageKey.{BorrowedPackageKey}
 use Rattle.wac_types_names.specs.Keys.{Key}
 use Rattle.wac_graph_core.specs.Graph.{Graph}
+use Rattle.wac_parser_tree.specs.Trees.{Document}
 use Rattle.wac_parser_refusals.specs.declared.error.Error.{Error}
 use Rattle.wac_parser_refusals.specs.Causes.{Answer}
 use Rattle.wac_parser_refusals.specs.Outcomes.{IsHeld, Tells}
@@ -10,7 +13,9 @@ use Rattle.wac_parser_refusals.specs.Views.{cause_of}
 use Rattle.wac_parser_declare.specs.Packages.{Content}
 use Rattle.wac_parser_resolve.specs.Ascribing.{State}
 use Rattle.wac_parser_resolve.specs.InDocuments.{IsBuilt, IsErrorOf}
-use Rattle.wac_parser_resolve.specs.Knowing.{content_of}
+use Rattle.wac_parser_resolve.specs.declared.packages.PackageRef.{PackageRef}
+use Rattle.wac_parser_resolve.specs.Knowing.{content_of, handed_list}
+use Rattle.wac_parser_resolve.specs.Meeting.{resolved}
 use Rattle.wac_parser_resolve.specs.Resolved.{Places}
 use Rattle.wac_workspace.specs.declared.entries.Entry.{Entry}
 use Rattle.wac_workspace.specs.declared.errors.ComposeError.{ComposeError}
@@ -31,6 +36,10 @@ handed (e ∷ es) = (key_of e, content e) ∷ handed es
 -- what a document says and targets, or its first cause
 abbrev pub Resolves : Type 0
 Resolves = Answer (State × Option Stated)
+
+-- so a document over packages that are lent
+abbrev pub says : {S : Type 0} → Document → IndexMap BorrowedPackageKey PackageRef S → Resolves
+says d ps = resolved d (handed_list ps)
 
 -- the graph holds what is said, wherever that stands
 abbrev pub IsGraphOf : Resolves → Graph → Type 0

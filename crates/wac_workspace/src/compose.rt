@@ -8,15 +8,14 @@ ghost use Rattle.wac_types_base.specs.Collection.{Stands};
 ghost use Rattle.wac_parser_tree.specs.Trees.{Document as Tree};
 ghost use Rattle.wac_parser_tree.specs.Views.{view_document, view_package_name};
 ghost use Rattle.wac_parser_resolve.specs.Knowing.{handed_list};
-ghost use Rattle.wac_parser_resolve.specs.Meeting.{resolved};
 ghost use Rattle.wac_parser_resolve.specs.Resolved.{graph_of, target_of};
 ghost use Rattle.wac_parser_resolve.specs.Targeting.{IsTarget};
 ghost use Rattle.wac_graph_encode.specs.Finished.{MeansNested};
 ghost use Rattle.wac_parser_encode.specs.Meaning.{HasResolvedWorld, MeansResolved};
-ghost use Rattle.wac_workspace.specs.Composing.{greatest, IsComposition, IsUnmade, IsOutput, IsGraphed, IsUnresolved, MeansDocument, MeansSource};
+ghost use Rattle.wac_workspace.specs.Composing.{greatest, IsComposition, IsUnmade, IsOutput, IsGraphed, IsUnresolved, MeansSaid, MeansSource};
 ghost use Rattle.wac_workspace.specs.Packages.{AreApart};
 ghost use Rattle.wac_workspace.specs.View.{HasWorld};
-ghost use Rattle.wac_workspace.specs.Resolving.{handed, IsGraphOf, IsAccepted, IsLate, IsOfResolving};
+ghost use Rattle.wac_workspace.specs.Resolving.{handed, says, IsGraphOf, IsAccepted, IsLate, IsOfResolving};
 ghost use Rattle.wac_workspace.specs.Steps.{AreNext, IsPair, IsEncoded, IsAfterwards, IsNamed, IsOf, IsUnencoded};
 
 use crate::entries::{Entry, packages_of};
@@ -172,10 +171,10 @@ fn encode_document(
     options: EncodeOptions,
 ) -> Result<Encoded, ComposeError>
     ensures encoded { IfOk result (IsEncoded numbers.output) }
-    ensures means { IfOk result (λ e. MeansDocument options (view_document document.now) (handed_list «packages».now) e.bytes.items) }
-    ensures accepted { IfOk result (λ _. IsAccepted (resolved (view_document document.now) (handed_list «packages».now))) }
-    ensures composed { IfOk result (λ e. IsComposition (resolved (view_document document.now) (handed_list «packages».now)) e.types e.world) }
-    ensures late { IfErr result (IsLate (resolved (view_document document.now) (handed_list «packages».now))) }
+    ensures means { IfOk result (λ e. MeansSaid options (says (view_document document.now) «packages».now) e.bytes.items) }
+    ensures accepted { IfOk result (λ _. IsAccepted (says (view_document document.now) «packages».now)) }
+    ensures composed { IfOk result (λ e. IsComposition (says (view_document document.now) «packages».now) e.types e.world) }
+    ensures late { IfErr result (IsLate (says (view_document document.now) «packages».now)) }
 {
     let name = String::from_str(alloc, target_name(&document.directive))?;
     let resolution = AstResolver::new(document).resolve(alloc, packages, numbers.graph)?;
@@ -221,11 +220,11 @@ fn compose_document(
     options: EncodeOptions,
 ) -> Result<(Output, u64), ComposeError>
     ensures output { IfOk result (λ r. IsOf next (view_package_name document.now.directive.«package») r.0) }
-    ensures means { IfOk result (λ r. MeansDocument options (view_document document.now) (handed_list «packages».now) r.0.bytes.items) }
-    ensures accepted { IfOk result (λ _. IsAccepted (resolved (view_document document.now) (handed_list «packages».now))) }
-    ensures composed { IfOk result (λ r. IsComposition (resolved (view_document document.now) (handed_list «packages».now)) r.0.types r.0.world) }
+    ensures means { IfOk result (λ r. MeansSaid options (says (view_document document.now) «packages».now) r.0.bytes.items) }
+    ensures accepted { IfOk result (λ _. IsAccepted (says (view_document document.now) «packages».now)) }
+    ensures composed { IfOk result (λ r. IsComposition (says (view_document document.now) «packages».now) r.0.types r.0.world) }
     ensures after { IfOk result (λ r. r.1 ≡ next + 3) }
-    ensures refused { IfErr result (IsUnencoded next (resolved (view_document document.now) (handed_list «packages».now))) }
+    ensures refused { IfErr result (IsUnencoded next (says (view_document document.now) «packages».now)) }
 {
     let numbers = numbers_from(next)?;
     let encoded = encode_document(document, alloc, packages, numbers, validated(options))?;
@@ -240,8 +239,8 @@ fn document_graph(
     packages: &Packages<'_>,
 ) -> Result<CompositionGraph, ComposeError>
     ensures number { IfOk result (λ g. g.types.number ≡ greatest) }
-    ensures graph { IfOk result (IsGraphOf (resolved (view_document document.now) (handed_list «packages».now))) }
-    ensures refused { IfErr result (IsOfResolving (resolved (view_document document.now) (handed_list «packages».now))) }
+    ensures graph { IfOk result (IsGraphOf (says (view_document document.now) «packages».now)) }
+    ensures refused { IfErr result (IsOfResolving (says (view_document document.now) «packages».now)) }
 {
     let resolution = AstResolver::new(document).resolve(alloc, packages, UNSEEN)?;
     Ok(resolution.into_graph())
@@ -261,8 +260,8 @@ trait ComposeDocument: Sized + Drop {
         packages: &Packages<'_>,
     ) -> Result<CompositionGraph, ComposeError>
         ensures number { IfOk result (λ g. g.types.number ≡ greatest) }
-        ensures graph { IfOk result (IsGraphOf (resolved (stated self.now) (handed_list «packages».now))) }
-        ensures refused { IfErr result (IsOfResolving (resolved (stated self.now) (handed_list «packages».now))) };
+        ensures graph { IfOk result (IsGraphOf (says (stated self.now) «packages».now)) }
+        ensures refused { IfErr result (IsOfResolving (says (stated self.now) «packages».now)) };
 
     /// What the document is composed to, by the next three numbers, and the number behind them.
     fn compose(
@@ -273,11 +272,11 @@ trait ComposeDocument: Sized + Drop {
         options: EncodeOptions,
     ) -> Result<(Output, u64), ComposeError>
         ensures output { IfOk result (λ r. IsOf next (stated self.now).directive.«package» r.0) }
-        ensures means { IfOk result (λ r. MeansDocument options (stated self.now) (handed_list «packages».now) r.0.bytes.items) }
-        ensures accepted { IfOk result (λ _. IsAccepted (resolved (stated self.now) (handed_list «packages».now))) }
-        ensures composed { IfOk result (λ r. IsComposition (resolved (stated self.now) (handed_list «packages».now)) r.0.types r.0.world) }
+        ensures means { IfOk result (λ r. MeansSaid options (says (stated self.now) «packages».now) r.0.bytes.items) }
+        ensures accepted { IfOk result (λ _. IsAccepted (says (stated self.now) «packages».now)) }
+        ensures composed { IfOk result (λ r. IsComposition (says (stated self.now) «packages».now) r.0.types r.0.world) }
         ensures after { IfOk result (λ r. r.1 ≡ next + 3) }
-        ensures refused { IfErr result (IsUnencoded next (resolved (stated self.now) (handed_list «packages».now))) };
+        ensures refused { IfErr result (IsUnencoded next (says (stated self.now) «packages».now)) };
 }
 
 impl<'s> ComposeDocument for Document<'s> {
@@ -311,11 +310,11 @@ fn compose_whole<D: ComposeDocument>(
     options: EncodeOptions,
 ) -> Result<(Output, u64), ComposeError>
     ensures output { IfOk result (λ r. IsOf next (D.stated document).directive.«package» r.0) }
-    ensures means { IfOk result (λ r. MeansDocument options (D.stated document) (handed_list «packages».now) r.0.bytes.items) }
-    ensures accepted { IfOk result (λ _. IsAccepted (resolved (D.stated document) (handed_list «packages».now))) }
-    ensures composed { IfOk result (λ r. IsComposition (resolved (D.stated document) (handed_list «packages».now)) r.0.types r.0.world) }
+    ensures means { IfOk result (λ r. MeansSaid options (says (D.stated document) «packages».now) r.0.bytes.items) }
+    ensures accepted { IfOk result (λ _. IsAccepted (says (D.stated document) «packages».now)) }
+    ensures composed { IfOk result (λ r. IsComposition (says (D.stated document) «packages».now) r.0.types r.0.world) }
     ensures after { IfOk result (λ r. r.1 ≡ next + 3) }
-    ensures refused { IfErr result (IsUnencoded next (resolved (D.stated document) (handed_list «packages».now))) }
+    ensures refused { IfErr result (IsUnencoded next (says (D.stated document) «packages».now)) }
 {
     document.compose(alloc, packages, next, options)
 }
@@ -327,8 +326,8 @@ fn graph_of_whole<D: ComposeDocument>(
     packages: &Packages<'_>,
 ) -> Result<CompositionGraph, ComposeError>
     ensures number { IfOk result (λ g. g.types.number ≡ greatest) }
-    ensures graph { IfOk result (IsGraphOf (resolved (D.stated document) (handed_list «packages».now))) }
-    ensures refused { IfErr result (IsOfResolving (resolved (D.stated document) (handed_list «packages».now))) }
+    ensures graph { IfOk result (IsGraphOf (says (D.stated document) «packages».now)) }
+    ensures refused { IfErr result (IsOfResolving (says (D.stated document) «packages».now)) }
 {
     document.graph(alloc, packages)
 }
