@@ -49,7 +49,7 @@ find_some t (z ∷ zs) x e = go (find_some t zs x) (t z) refl e
     go rest true q r = (inl (sym (same_Some _ _ r)), ap t (sym (same_Some _ _ r)) ∙ q)
     go rest false q r = let h = rest r in (inr h.0, h.1)
 
-find_none : {X : Type 0} (t : X → Bool) (xs : List X) → find t xs ≡ None → (x : X) → Among x xs → t x ≡ false
+pub find_none : {X : Type 0} (t : X → Bool) (xs : List X) → find t xs ≡ None → (x : X) → Among x xs → t x ≡ false
 find_none t [] e x m = absurd m
 find_none t (z ∷ zs) e x m = go (λ r. find_none t zs r x) (t z) refl e m
   where

@@ -73,7 +73,7 @@ instances_same e = cc
 -- ---- lists
 
 -- an entry that stands under its name, and passes
-among_passing : (t : Name × Stated → Bool) (es : List (Name × Stated)) (n : Name) (x : Stated) → value_at es n ≡ Some x → t (n, x) ≡ true → Among (n, x) (filter t es)
+pub among_passing : (t : Name × Stated → Bool) (es : List (Name × Stated)) (n : Name) (x : Stated) → value_at es n ≡ Some x → t (n, x) ≡ true → Among (n, x) (filter t es)
 among_passing t [] n x e p = absurd (none-some _ e)
 among_passing t (f ∷ es) n x e p = go (λ r. among_passing t es n x r p) (pointwise ◌==◌ n f.0) refl e (t f) refl
   where

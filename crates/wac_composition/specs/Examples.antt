@@ -168,11 +168,6 @@ renaming = interface_of (Some (codes "a:b/i")) (record { name = codes "r"; there
 abbrev pub given_renamed : Composition ℕ ℕ
 given_renamed = instances (made_of 0 (codes "p:p") (importing ((codes "a:b/i", renaming) ∷ [])) ∷ [])
 
--- ---- an instance inside an exported one
-
-abbrev pub holding : Stated → Stated
-holding x = world_of None [] [] ((codes "e", interface_of None [] ((codes "i", x) ∷ [])) ∷ [])
-
 -- ---- two interfaces that use each other, each by another version of it
 
 abbrev pub used_as : Name → Name → Stated → Used

@@ -15,7 +15,6 @@ pub mod Against
 pub mod Worlds
 pub mod Wired
 pub mod Sound
-pub mod Outlines
 pub mod OuterLaws
 pub mod Examples
 pub mod Renaming

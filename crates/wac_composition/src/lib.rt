@@ -13,7 +13,7 @@ ghost use Rattle.wac_composition.specs.Names.{compatible, is_later};
 ghost use Rattle.wac_types_base.specs.Collection.{Shape};
 ghost use Rattle.wac_types_base.specs.Tree.{Tree, tree};
 ghost use Rattle.wac_types_base.specs.Fits.{Fits};
-ghost use Rattle.wac_types_base.specs.Stated.{Stated, interface_of};
+ghost use Rattle.wac_types_base.specs.Stated.{Stated};
 ghost use Rattle.wac_types_fit.specs.Ordered.{InOrder};
 ghost use Rattle.wac_composition.specs.Tests.{same_label, same_tree, fit, fits};
 ghost use Rattle.wac_composition.specs.Asks.{asks_of};
@@ -31,8 +31,7 @@ ghost use Rattle.wac_composition.specs.Sound.{IsSound, IsWired};
 ghost use Rattle.wac_composition.specs.Worlds.{composed_world, used_world, source_of};
 ghost use Rattle.wac_types_written.specs.Written.{without_uses};
 ghost use Rattle.wac_composition.specs.NotWritten.{Test_of_writing};
-ghost use Rattle.wac_composition.specs.Examples.{plain_func, named_instance, passing, older, newer, wider, using_types, types, one_instance, two_versions, clashing_versions, clashing_imports, one_identifier, used_interface, asked_twice, alike_names, nameless_resource, asked_value, twice_made, byte_list, defined_twice, lacks_used, given_another, given_renamed, values_in_circle, resource_in_circle, holding};
-ghost use Rattle.wac_composition.specs.Outlines.{agrees};
+ghost use Rattle.wac_composition.specs.Examples.{plain_func, named_instance, passing, older, newer, wider, using_types, types, one_instance, two_versions, clashing_versions, clashing_imports, one_identifier, used_interface, asked_twice, alike_names, nameless_resource, asked_value, twice_made, byte_list, defined_twice, lacks_used, given_another, given_renamed, values_in_circle, resource_in_circle};
 ghost use Rattle.wac_graph_bytes.specs.Wirings.{Tag, Definition};
 
 /// The tests of labels and trees say yes exactly of equal ones.
@@ -145,7 +144,5 @@ pub fn examples()
     ensures circle_in_order { written_names (spelling (asks_of values_in_circle)) (outer_imports (asks_of values_in_circle)) ≡ codes "a:b/t@0.2.1" ∷ codes "a:b/i@0.2.1" ∷ [] }
     ensures circle_of_values { first_cause true values_in_circle ≡ None }
     ensures circle_with_resource { first_cause true resource_in_circle ≡ Some (Unwritable (codes "a:b/t@0.2.1")) }
-    ensures keeps_identifiers { agrees (holding (named_instance newer wider)) (holding (named_instance newer wider)) ≡ true }
-    ensures drops_identifiers { agrees (holding (interface_of None [] wider)) (holding (named_instance newer wider)) ≡ false }
     ensures imported_once { names_of (dependencies_of false twice_made) ≡ codes "unlocked-dep=<p:p>" ∷ [] }
 {}

@@ -44,7 +44,7 @@ copy_kept c d e grows t (Some k) h = (h.0, IsCopy-kept c d e (ItemKind.Ty t) k g
 copy_kept c d e grows t None h = h
 
 module _ (g : Graph) where
-  world_kept : (c d : Collection) → Grows c d → (id : PackageId) (w : WorldId) → IsWorldOf g c id w → IsWorldOf g d id w
+  pub world_kept : (c d : Collection) → Grows c d → (id : PackageId) (w : WorldId) → IsWorldOf g c id w → IsWorldOf g d id w
   world_kept c d grows id w h = record { held = h.held; is = h.is; copy = IsCopy-kept g.types c d (ItemKind.Component h.held.ty) (ItemKind.Component w) grows h.copy }
 
   -- once types are added

@@ -258,7 +258,7 @@ module _ (g : Graph) (sound : IsGraph g) (finite_types : IsFinite g.types) where
     arguments = map (λ a. (a.0, origin_of g a.1)) (arguments_to g.edges k);
   }
 
-  made_among : (k : ℕ) (p : Packaged) → instantiated g k ≡ Some p → Among (made_of k p) (composition_of g).made
+  pub made_among : (k : ℕ) (p : Packaged) → instantiated g k ≡ Some p → Among (made_of k p) (composition_of g).made
   made_among k p e = by_node (node_at g k) refl e
     where
       by_node : (o : Option NodeData) → node_at g k ≡ o → package_made g o ≡ Some p → Among (made_of k p) (composition_of g).made
@@ -276,7 +276,7 @@ module _ (g : Graph) (sound : IsGraph g) (finite_types : IsFinite g.types) where
       by_node None h = absurd (none-some _ h)
       by_node (Some x) h = by_id x.of h
 
-  import_stated : (k : ℕ) (p : Packaged) → instantiated g k ≡ Some p → (n : Name) → value_at (imports_of (stated_of g.types (ItemKind.Component p.ty))) n ≡ option_map (stated_of g.types) (item_import g.types p.ty n)
+  pub import_stated : (k : ℕ) (p : Packaged) → instantiated g k ≡ Some p → (n : Name) → value_at (imports_of (stated_of g.types (ItemKind.Component p.ty))) n ≡ option_map (stated_of g.types) (item_import g.types p.ty n)
   import_stated k p e n =
       let id = package_stands k p e in
       let v = world_found g.types p.ty (sound.packages.stand id.0 p id.1).world in

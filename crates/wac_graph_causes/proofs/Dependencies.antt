@@ -93,6 +93,11 @@ any_last t (y ∷ xs) x = go (t y) (t x) (any_last t xs x)
     go false true h = h
     go false false h = h
 
+-- a package is imported under the name of its key
+pub name_is : (g : Graph) (i : PackageId) (p : Packaged) → package_of g i ≡ Some p → dependency_of g i ≡ dependency_name (package_key p)
+name_is g i p a =
+    ap (λ o. codes "unlocked-dep=<" ++ (package_name o ++ codes ">")) a ∙ ap (λ l. codes "unlocked-dep=<" ++ l) (append_assoc p.name (version_name p.version) (codes ">"))
+
 module _ (g : Graph) (sound : IsGraph g) where
   -- two ids of packages are the same exactly where the keys are
   same_by_key : (i j : PackageId) (p q : Packaged) → package_of g i ≡ Some p → package_of g j ≡ Some q → eq-value.it i j ≡ same_key (package_key p) (package_key q)
@@ -108,12 +113,8 @@ module _ (g : Graph) (sound : IsGraph g) where
   of_more ids keys j q b h i p a =
       any_last (eq-value.it i) ids j ∙ ap (λ t. t || list_any (eq-value.it i) ids) (same_by_key i j p q a b) ∙ ap (λ t. same_key (package_key p) (package_key q) || t) (h i p a)
 
-  name_is : (i : PackageId) (p : Packaged) → package_of g i ≡ Some p → dependency_of g i ≡ dependency_name (package_key p)
-  name_is i p a =
-      ap (λ o. codes "unlocked-dep=<" ++ (package_name o ++ codes ">")) a ∙ ap (λ l. codes "unlocked-dep=<" ++ l) (append_assoc p.name (version_name p.version) (codes ">"))
-
   dependency_is : (i : PackageId) (p : Packaged) → package_of g i ≡ Some p → dependency_at g i ≡ (dependency_name (package_key p), stated_of g.types (ItemKind.Component p.ty))
-  dependency_is i p a = joined _ _ (name_is i p a) (ap (package_world g) a)
+  dependency_is i p a = joined _ _ (name_is g i p a) (ap (package_world g) a)
 
   abbrev ids_in : List (ℕ × NodeData) → List PackageId
   ids_in es = filter_map (λ e. e.1.of) es
@@ -157,7 +158,7 @@ module _ (g : Graph) (sound : IsGraph g) where
   pub packages_listed : map (dependency_at g) (with_ids [] (package_ids g)) ≡ each_once [] (composition_of g).made
   packages_listed = all_listed (nodes_of g) (λ e m i q. (sound.nodes e.0 e.1 (entry_there g.nodes e m)).of i q) [] [] (λ i p a. refl)
 
-  packages_named : map (dependency_of g) (with_ids [] (package_ids g)) ≡ names_of (each_once [] (composition_of g).made)
+  pub packages_named : map (dependency_of g) (with_ids [] (package_ids g)) ≡ names_of (each_once [] (composition_of g).made)
   packages_named = sym (map-map (λ e. e.0) (dependency_at g) (with_ids [] (package_ids g))) ∙ ap names_of packages_listed
 
   module _ (asked : Asked) (outers : Outers) (h : AreHeld g asked outers) where

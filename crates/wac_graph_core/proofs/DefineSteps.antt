@@ -13,10 +13,9 @@ use Rattle.wac_graph_core.specs.declared.edge.Label.{Label}
 use Rattle.wac_graph_core.specs.declared.edge.Follow.{Follow}
 use Rattle.wac_graph_core.specs.Nodes.{NodeData, IsResource, defined_node}
 use Rattle.wac_graph_core.specs.NodeMaps.{NodeMap, AreBelow, NoDefinition, IsDefinition, AreThose}
-use Rattle.wac_graph_core.specs.Edges.{alias_edge, argument_edge, dependency_edge, follows, has}
+use Rattle.wac_graph_core.specs.Edges.{AddsEach, alias_edge, argument_edge, dependency_edge, follows, has}
 use Rattle.wac_graph_core.specs.Graph.{Graph, node_at, NodeStands, EdgeStands, AreExports, IsGraph}
 use Rattle.wac_graph_core.specs.Defining.{UsesType, Depends, IsDependencyOf, DefinesType, MayDefine, IsUsedBy, IsUserOf, ItemsStand}
-use Rattle.wac_graph_core.proofs.Depending.{AddsEach}
 use Rattle.wac_graph_core.proofs.NodeMap.{get-insert_same}
 use Rattle.wac_graph_core.proofs.Found.{Among-front}
 use Rattle.wac_graph_core.proofs.NodeSteps.{kept_at, new_at, each_node, AreOnce-insert, IsAbove-fresh, some_there}

@@ -1,5 +1,5 @@
 -- Edges, read as a set, and what is reached over them. No clause reads their order.
-use Rattle.std.specs.Prelude.{◌≡◌, ◌↔◌, ℕ, ◌<◌, List, [], ◌∷◌, Bool, true, false, ◌==◌, if◌then◌else◌}
+use Rattle.std.specs.Prelude.{◌≡◌, ◌↔◌, ℕ, ◌<◌, ◌⊎◌, List, [], ◌∷◌, Bool, true, false, ◌==◌, if◌then◌else◌}
 use Rattle.wac_types_base.specs.Entries.{Name}
 use Rattle.wac_types_base.specs.Graph.{Among}
 use Rattle.wac_graph_core.specs.declared.edge.Edge.{Edge}
@@ -31,6 +31,19 @@ HasDependency es a b = Among (dependency_edge a b) es
 abbrev pub AreEdges : List Edge → (Edge → Type 0) → Type 0
 AreEdges es IsSo = (d : Edge) → Among d es ↔ IsSo d
 
+-- whether the node is in the list
+abbrev pub has : List ℕ → ℕ → Bool
+has [] k = false
+has (j ∷ js) k = if j == k then true else has js k
+
+-- the edge is made of one of these nodes
+abbrev pub IsMadeOf : (ℕ → Edge) → List ℕ → Edge → Type 0
+IsMadeOf made ks d = (k : ℕ) × (has ks k ≡ true) × (d ≡ made k)
+
+-- exactly the edges that are made of these nodes more
+abbrev pub AddsEach : (ℕ → Edge) → List Edge → List Edge → List ℕ → Type 0
+AddsEach made old new ks = AreEdges new (λ d. Among d old ⊎ IsMadeOf made ks d)
+
 -- which edges are followed: aliases with arguments, or aliases with dependencies
 abbrev pub follows : Follow → Label → Bool
 follows Follow.Flow (Label.Alias n) = true
@@ -39,11 +52,6 @@ follows Follow.Flow Label.Dependency = false
 follows Follow.Owned (Label.Alias n) = true
 follows Follow.Owned (Label.Argument n) = false
 follows Follow.Owned Label.Dependency = true
-
--- whether the node is in the list
-abbrev pub has : List ℕ → ℕ → Bool
-has [] k = false
-has (j ∷ js) k = if j == k then true else has js k
 
 abbrev pub Stays : List ℕ → ℕ → Type 0
 Stays gone k = has gone k ≡ false

@@ -8,7 +8,7 @@ use Rattle.wac_types_names.specs.Packaged.{Packaged}
 use Rattle.wac_graph_bytes.specs.Wirings.{Source, Absent, Outer, Inst, Definition, project, OfBytes, Instantiation, Wiring}
 use Rattle.wac_graph_core.specs.Nodes.{NodeData, Role}
 use Rattle.wac_graph_core.specs.Edges.{HasAlias, HasArgument}
-use Rattle.wac_graph_core.specs.Graph.{Graph, node_at, instantiated, item_import}
+use Rattle.wac_graph_core.specs.Graph.{Graph, IsGraph, node_at, instantiated, item_import}
 
 module _ (spell : Name → Name) (written : ItemKind → Tree) (g : Graph) where
   -- what a node stands for
@@ -36,3 +36,15 @@ module _ (spell : Name → Name) (written : ItemKind → Tree) (g : Graph) where
     pub no_other : (k : ℕ) → instantiated g k ≡ None → W.at k ≡ None
     pub exported : (n : Name) (k : ℕ) → value_at g.exports n ≡ Some k → Denotes k (W.exports n)
     pub no_export : (n : Name) → value_at g.exports n ≡ None → W.exports n ≡ Absent
+
+-- each graph has a wiring
+abbrev pub GraphsHaveWirings : Type 0
+GraphsHaveWirings =
+    (spell : Name → Name) (written : ItemKind → Tree) (g : Graph) (asks : Name → Option Tree) → IsGraph g
+    → (W : Wiring ℕ) × IsWiring spell written g asks W
+
+-- no graph has two wirings
+abbrev pub WiringsAreUnique : Type 0
+WiringsAreUnique =
+    (spell : Name → Name) (written : ItemKind → Tree) (g : Graph) (asks : Name → Option Tree) (V W : Wiring ℕ) → IsGraph g
+    → IsWiring spell written g asks V → IsWiring spell written g asks W → V ≡ W

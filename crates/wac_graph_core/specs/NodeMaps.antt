@@ -1,5 +1,5 @@
 -- Nodes under their indexes.
-use Rattle.std.specs.Prelude.{◌≡◌, ◌↔◌, ◌⊎◌, ◌<◌, ℕ, List, [], ◌∷◌, ◌++◌, true, Some, IsSome}
+use Rattle.std.specs.Prelude.{◌≡◌, ◌↔◌, ◌⊎◌, ◌<◌, ℕ, List, [], ◌∷◌, ◌++◌, true, Option, Some, IsSome}
 use Rattle.std.specs.Ordering.{nat_cmp}
 use Rattle.std.specs.FinMap as map
 use Rattle.wac_types_base.specs.declared.item.ItemKind.{ItemKind}
@@ -24,6 +24,14 @@ Rises (k ∷ ks) = ((j : ℕ) → Among j ks → k < j) × Rises ks
 -- the node, once it is in, is listed behind all others
 abbrev pub IsListedLast : NodeMap → ℕ → NodeData → Type 0
 IsListedLast nodes k x = map.entries (map.insert nodes k x) ≡ map.entries nodes ++ (k, x) ∷ []
+
+-- the node, where it is there, gets this name
+abbrev pub SetsName : NodeMap → NodeMap → ℕ → Name → Type 0
+SetsName old new k n = (x : NodeData) → map.get old k ≡ Some x → new ≡ map.insert old k (record x { name = Some n })
+
+-- the node, where it is there, tells this export, or none
+abbrev pub SetsExport : NodeMap → NodeMap → ℕ → Option Name → Type 0
+SetsExport old new k n = (x : NodeData) → map.get old k ≡ Some x → new ≡ map.insert old k (record x { export = n })
 
 -- the node is an import of this name
 pub record IsImport (nodes : NodeMap) (k : ℕ) (n : Name) : Type 0 where

@@ -28,6 +28,10 @@ HasNotes (Some s) nodes = Notes s nodes
 
 -- ---- single steps
 
+-- the node is a definition of no type
+abbrev pub DefinesNoType : NodeData → Type 0
+DefinesNoType x = (t : TypeKind) → x.role ≡ Role.Defined → x.item_kind ≡ ItemKind.Ty t → ⊥
+
 -- the name is noted, where the node is an import
 pub record NotesImport (old : List Name) (x : NodeData) (new : List Name) : Type 0 where
   pub kept : (n : Name) → has_name old n ≡ true → has_name new n ≡ true

@@ -1,13 +1,17 @@
 -- Packages of a graph, and their places over time.
 use Rattle.std.specs.Prelude.{◌≡◌, ℕ, ◌+◌, ◌<◌, ◌≤◌, List, [], ◌∷◌, ◌++◌, length, Option, Some, None, slice_get, slice_set}
-use Rattle.std.specs.Option.{option_map}
+use Rattle.std.specs.Option.{option_copied, option_map}
+use Rattle.std.specs.Borrow.{Bor}
+use Rattle.semver.specs.declared.Version.{Version}
+use Rattle.semver.specs.Identifiers.{parts_of}
+use Rattle.wac_types_base.specs.Entries.{Name}
 use Rattle.wac_types_names.specs.Packaged.{Packaged}
 use Rattle.wac_types_names.specs.Keys.{Key, package_key, owned_key}
 use Rattle.wac_graph_core.specs.declared.ids.PackageId.{PackageId}
 use Rattle.wac_graph_core.specs.declared.package.Place.{Place}
 use Rattle.wac_graph_core.specs.declared.errors.RegisterPackageError.{RegisterPackageError}
 use Rattle.wac_graph_core.specs.NodeMaps.{AreInstances}
-use Rattle.wac_graph_core.specs.Graph.{Graph, package_of}
+use Rattle.wac_graph_core.specs.Graph.{Graph, ContainsPackage, package_of}
 use Rattle.wac_graph_core.specs.Removing.{RemovesNodes}
 
 -- the place holds a package of this key
@@ -16,10 +20,26 @@ pub record HoldsKey (p : Place) (key : Key) : Type 0 where
   pub is : p.held ≡ Some held
   pub keyed : package_key held ≡ key
 
+-- the place of this index holds a package of this key
+abbrev pub HoldsKeyAt : List Place → Key → ℕ → Type 0
+HoldsKeyAt places key i = (p : Place) × (slice_get places i ≡ Some p) × HoldsKey p key
+
+-- no place holds a package of this key
+abbrev pub NoneHoldsKey : List Place → Key → Type 0
+NoneHoldsKey places key = (i : ℕ) (p : Place) → slice_get places i ≡ Some p → HoldsKey p key → ⊥
+
 -- a package may be put there: none is there, and the generation can be raised
 pub record IsFree (p : Place) : Type 0 where
   pub empty : p.held ≡ None
   pub low : p.generation < 18446744073709551615
+
+-- the key of a name, and of a version that is lent
+abbrev pub key_of : Name → Option (Bor Version) → Key
+key_of n v = (n, option_map parts_of (option_copied v))
+
+-- the graph has this package under this id, and its key is this one
+abbrev pub HasPackage : Graph → PackageId → Packaged → Key → Type 0
+HasPackage g id p key = (package_of g id ≡ Some p) × (package_key p ≡ key)
 
 -- no package of the graph has this key
 abbrev pub NoKey : Graph → Key → Type 0
@@ -81,3 +101,7 @@ pub record IsStale (g : Graph) (id : PackageId) : Type 0 where
   pub place : Place
   pub there : slice_get g.places id.place ≡ Some place
   pub later : id.generation < place.generation
+
+-- the id was given up, and no package stands under it
+abbrev pub IsGone : Graph → PackageId → Type 0
+IsGone g id = IsStale g id × (ContainsPackage g id → ⊥)

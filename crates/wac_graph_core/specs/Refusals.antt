@@ -1,5 +1,5 @@
 -- When a call is refused, and by what. Each case says that the tests before it passed.
-use Rattle.std.specs.Prelude.{◌≡◌, ◌≢◌, ℕ, List, [], ◌∷◌, true, false, Option, Some, None, string_bytes}
+use Rattle.std.specs.Prelude.{◌≡◌, ◌≢◌, ℕ, List, [], ◌∷◌, true, false, Option, Some, None, MatchOption, string_bytes}
 use Rattle.wac_types_base.specs.declared.item.ItemKind.{ItemKind}
 use Rattle.wac_types_base.specs.Record.{Collection}
 use Rattle.wac_types_base.specs.Entries.{Name}
@@ -42,6 +42,10 @@ pub record Mismatches (c : Collection) (given : ItemKind) (d : Collection) (aske
   pub disagree : Disagree steps (tree_in c given) (tree_in d asked)
   pub words : (expected found : Option Name) → words_of fault ≡ Some (steps, (expected, found)) → Called d asked steps expected × Called c given steps found
   pub differ : Fit c given d asked → ⊥
+
+-- none where the one fits the other, and else the fault
+abbrev pub TellsMismatch : Collection → ItemKind → Collection → ItemKind → Option SubtypeError → Type 0
+TellsMismatch c given d asked o = MatchOption o (Fit c given d asked) (Mismatches c given d asked)
 
 -- what a definition of the one is written as fits the other
 abbrev pub WrittenFits : Collection → ItemKind → ItemKind → Type 0

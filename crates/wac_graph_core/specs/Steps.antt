@@ -68,6 +68,10 @@ pub record AliasesAnew (old new : Graph) (i : ℕ) (n : Name) (k : ℕ) : Type 0
 abbrev pub Aliases : Graph → Graph → ℕ → Name → ℕ → Type 0
 Aliases old new i n k = AliasesAgain old new i n k ⊎ AliasesAnew old new i n k
 
+-- where an alias is made twice, it is one node, and the second call changes nothing
+abbrev pub IsOneAlias : Graph → Graph → Graph → ℕ → Name → ℕ → ℕ → Type 0
+IsOneAlias old mid new i n k j = Aliases old mid i n k → Aliases mid new i n j → (j ≡ k) × (new ≡ mid)
+
 -- ---- arguments
 
 -- the node, as it is passed, fits
@@ -100,3 +104,11 @@ pub record UnsetsArgument (old new : Graph) (i : ℕ) (n : Name) (a : ℕ) : Typ
   pub is : IsArgument old i n item
   pub edges : AreEdges new.edges (λ d. Among d old.edges × (d ≢ argument_edge a i n))
   pub made : new ≡ with_edges old new.edges
+
+-- the same graph, its edges read as a set
+abbrev pub IsSameGraph : Graph → Graph → Type 0
+IsSameGraph old new = (new ≡ with_edges old new.edges) × AreEdges new.edges (λ d. Among d old.edges)
+
+-- where an argument is added and then unset, the graph is that from before
+abbrev pub UnsetsAdded : Graph → Graph → Graph → ℕ → Name → ℕ → ItemKind → Type 0
+UnsetsAdded old mid new i n a item = AddsArgument old mid i n a item → UnsetsArgument mid new i n a → IsSameGraph old new

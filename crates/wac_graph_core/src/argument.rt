@@ -3,10 +3,10 @@
 ghost use Rattle.std.specs.Prelude.{◌≡◌, ◌≢◌, ℕ, Some, IfOk, IfErr, OnOk, OnErr, MatchOption};
 ghost use Rattle.std.specs.Option.{option_copied};
 ghost use Rattle.wac_types_base.specs.Collection.{Stands};
-ghost use Rattle.wac_types_fit.specs.Trees.{Fit, OneOrApart};
+ghost use Rattle.wac_types_fit.specs.Trees.{OneOrApart};
 ghost use Rattle.wac_graph_core.specs.Graph.{ContainsNode, IsArgument, IsStatedImport, instantiated};
 ghost use Rattle.wac_graph_core.specs.Steps.{NodeFits, SetsArgument, UnsetsArgument};
-ghost use Rattle.wac_graph_core.specs.Refusals.{ArgumentRefused, LacksImport, Mismatches, NodeMismatches, WrittenFits, WrittenMismatches};
+ghost use Rattle.wac_graph_core.specs.Refusals.{ArgumentRefused, LacksImport, TellsMismatch, NodeMismatches, WrittenFits, WrittenMismatches};
 
 use crate::edge::{
     Edge, Follow, Label, add_edge, find_argument, is_among, reached_from, remove_argument,
@@ -32,7 +32,7 @@ fn mismatch(
     requires given { Stands given_types.now given }
     requires asked { Stands types.now asked }
     requires apart { OneOrApart given_types.now types.now }
-    ensures { IfOk result (λ o. MatchOption o (Fit given_types.now given types.now asked) (Mismatches given_types.now given types.now asked)) }
+    ensures { IfOk result (TellsMismatch given_types.now given types.now asked) }
 {
     let mut cache = new_cache(alloc);
     let mut checker = SubtypeChecker::new(alloc, &mut cache);

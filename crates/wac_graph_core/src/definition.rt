@@ -1,10 +1,9 @@
 //! Definitions of types.
 
-ghost use Rattle.std.specs.Prelude.{◌≡◌, ◌≢◌, ◌≤◌, ◌+◌, ◌⊎◌, ℕ, [], true, IsTrue, IfOk, IfErr, IfSome, IfNone, OnOk, OnErr, length, vec_len, vec_capacity, string_bytes};
+ghost use Rattle.std.specs.Prelude.{◌≡◌, ◌≤◌, ◌+◌, [], IsTrue, IfOk, IfErr, IfSome, IfNone, OnOk, OnErr, length, vec_len, vec_capacity, string_bytes};
 ghost use Rattle.std.specs.Bool.{Decides};
-ghost use Rattle.wac_types_base.specs.Graph.{Among};
 ghost use Rattle.wac_types_base.specs.Collection.{Stands};
-ghost use Rattle.wac_graph_core.specs.Edges.{AreEdges, dependency_edge, has};
+ghost use Rattle.wac_graph_core.specs.Edges.{AddsEach, dependency_edge};
 ghost use Rattle.wac_graph_core.specs.NodeMaps.{IsDefinition, NoDefinition, AreThose};
 ghost use Rattle.wac_graph_core.specs.Nodes.{IsResource};
 ghost use Rattle.wac_graph_core.specs.Defining.{IsUserOf, MayDefine, DefinesType, DefineRefused};
@@ -28,7 +27,7 @@ fn is_resource(ty: Type) -> bool
 /// Adds the dependencies of a node, for which there is room.
 fn depend_on(edges: &mut Edges, sources: &[NodeId], node: NodeId)
     requires { vec_len edges.old + length sources.now ≤ vec_capacity edges.old }
-    ensures added { AreEdges edges.new.items (λ d. Among d edges.old.items ⊎ ((a : ℕ) × (has sources.now a ≡ true) × (d ≡ dependency_edge a node))) }
+    ensures added { AddsEach (λ source. dependency_edge source node) edges.old.items edges.new.items sources.now }
     ensures len { vec_len edges.new ≡ vec_len edges.old + length sources.now }
     ensures capacity { vec_capacity edges.new ≡ vec_capacity edges.old }
 {
@@ -44,7 +43,7 @@ fn depend_on(edges: &mut Edges, sources: &[NodeId], node: NodeId)
 /// Adds the dependencies on a node, for which there is room.
 fn depended_by(edges: &mut Edges, node: NodeId, targets: &[NodeId])
     requires { vec_len edges.old + length targets.now ≤ vec_capacity edges.old }
-    ensures { AreEdges edges.new.items (λ d. Among d edges.old.items ⊎ ((b : ℕ) × (has targets.now b ≡ true) × (d ≡ dependency_edge node b))) }
+    ensures { AddsEach (λ target. dependency_edge node target) edges.old.items edges.new.items targets.now }
 {
     for target in targets {
         edges.push_reserved(Edge {

@@ -1,31 +1,28 @@
 //! Laws over the definitions alone: each is the contract of a function without a body.
 
-ghost use Rattle.std.specs.Prelude.{◌≡◌, ◌++◌, ◌∷◌, [], ℕ, List};
-ghost use Rattle.std.specs.FinMap as map;
+ghost use Rattle.std.specs.Prelude.{ℕ};
 ghost use Rattle.wac_types_base.specs.declared.item.ItemKind.{ItemKind};
 ghost use Rattle.wac_types_base.specs.Entries.{Name};
-ghost use Rattle.wac_types_base.specs.Graph.{Among};
 ghost use Rattle.wac_graph_core.specs.declared.ids.PackageId.{PackageId as PackageName};
 ghost use Rattle.wac_graph_core.specs.Nodes.{NodeData};
 ghost use Rattle.wac_graph_core.specs.NodeMaps.{NodeMap, AreBelow, IsListedLast};
-ghost use Rattle.wac_graph_core.specs.Edges.{AreEdges};
-ghost use Rattle.wac_graph_core.specs.Graph.{Graph, IsGraph, ContainsPackage};
-ghost use Rattle.wac_graph_core.specs.Steps.{Aliases, AddsArgument, UnsetsArgument, with_edges};
-ghost use Rattle.wac_graph_core.specs.Packages.{PlacesGrow, IsStale};
+ghost use Rattle.wac_graph_core.specs.Graph.{Graph, IsGraph};
+ghost use Rattle.wac_graph_core.specs.Steps.{IsOneAlias, UnsetsAdded};
+ghost use Rattle.wac_graph_core.specs.Packages.{PlacesGrow, IsStale, IsGone};
 
 /// An alias made twice is one node.
 pub fn alias_twice()
-    ensures { (old mid new : Graph) (i j k : ℕ) (n : Name) → IsGraph old → Aliases old mid i n k → Aliases mid new i n j → (j ≡ k) × (new ≡ mid) }
+    ensures { (old mid new : Graph) (i j k : ℕ) (n : Name) → IsGraph old → IsOneAlias old mid new i n k j }
 {}
 
 /// An argument that was added and is taken back leaves the edges from before.
 pub fn unset_after_set()
-    ensures { (old mid new : Graph) (i a : ℕ) (n : Name) (item : ItemKind) → AddsArgument old mid i n a item → UnsetsArgument mid new i n a → (new ≡ with_edges old new.edges) × AreEdges new.edges (λ d. Among d old.edges) }
+    ensures { (old mid new : Graph) (i a : ℕ) (n : Name) (item : ItemKind) → UnsetsAdded old mid new i n a item }
 {}
 
 /// The id of an unregistered package never stands again while no generation is lowered.
 pub fn stale_ids_stay_stale()
-    ensures { (g h : Graph) (id : PackageName) → PlacesGrow g.places h.places → IsStale g id → IsStale h id × (ContainsPackage h id → ⊥) }
+    ensures { (g h : Graph) (id : PackageName) → PlacesGrow g.places h.places → IsStale g id → IsGone h id }
 {}
 
 /// A node whose id is above all others is listed behind them.

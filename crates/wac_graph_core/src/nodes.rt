@@ -8,7 +8,7 @@ ghost use Rattle.std.specs.Bool.{Decides};
 ghost use Rattle.wac_types_base.specs.Collection.{Stands};
 ghost use Rattle.wac_graph_core.specs.Edges.{has};
 ghost use Rattle.wac_graph_core.specs.Nodes.{NodeData, Role};
-ghost use Rattle.wac_graph_core.specs.NodeMaps.{AreBelow, IsImport, NoImport, IsDefinition, NoDefinition, AreThose, AreInstances, AddsIf};
+ghost use Rattle.wac_graph_core.specs.NodeMaps.{AreBelow, SetsName, SetsExport, IsImport, NoImport, IsDefinition, NoDefinition, AreThose, AreInstances, AddsIf};
 ghost use Rattle.wac_graph_core.specs.Defining.{IsUsedBy, IsUserOf, ItemsStand, DefinesMarked, DefinesReaching};
 ghost use Rattle.wac_graph_core.specs.Noted.{KnowsTypes, TellsDefinition, AddsDefinition};
 ghost use Rattle.wac_graph_core.specs.Reaching.{IsWithout};
@@ -103,7 +103,7 @@ impl Nodes {
     /// Gives a node a name.
     pub(crate) fn set_name(&mut self, id: NodeId, name: Text)
         requires { IsSome (map.get self.old id) }
-        ensures { (n : NodeData) → map.get self.old id ≡ Some n → self.new ≡ map.insert self.old id (record n { name = Some name }) }
+        ensures { SetsName self.old self.new id name }
     {
         name_at(&mut self.slots[id.index()], name);
     }
@@ -111,7 +111,7 @@ impl Nodes {
     /// Writes the name that a node is exported under.
     pub(crate) fn set_export(&mut self, id: NodeId, name: Option<Text>)
         requires { IsSome (map.get self.old id) }
-        ensures { (n : NodeData) → map.get self.old id ≡ Some n → self.new ≡ map.insert self.old id (record n { export = name }) }
+        ensures { SetsExport self.old self.new id name }
     {
         export_at(&mut self.slots[id.index()], name);
     }

@@ -2,9 +2,8 @@
 
 ghost use Rattle.std.specs.Prelude.{◌≡◌, None, Some, true, IfSome, IfNone, OnOk};
 ghost use Rattle.wac_types_base.specs.declared.item.ItemKind.{ItemKind};
-ghost use Rattle.wac_types_base.specs.declared.item.«Type».{«Type» as TypeKind};
 ghost use Rattle.wac_graph_core.specs.Nodes.{Role};
-ghost use Rattle.wac_graph_core.specs.Noted.{NotesImport, NotesType, IsNodeNoted, IsNodeForgotten};
+ghost use Rattle.wac_graph_core.specs.Noted.{DefinesNoType, NotesImport, NotesType, IsNodeNoted, IsNodeForgotten};
 
 use crate::ids::NodeId;
 use crate::node::{Node, NodeKind};
@@ -30,7 +29,7 @@ pub(crate) fn none_noted(alloc: Global) -> Noted {
 /// The type that a node defines.
 pub(crate) fn defined_type(node: &Node) -> Option<Type>
     ensures some { IfSome result (λ t. (node.now.role ≡ Role.Defined) × (node.now.item_kind ≡ ItemKind.Ty t)) }
-    ensures none { IfNone result ((t : TypeKind) → node.now.role ≡ Role.Defined → node.now.item_kind ≡ ItemKind.Ty t → ⊥) }
+    ensures none { IfNone result (DefinesNoType node.now) }
 {
     match node.item_kind() {
         ItemKind::Ty(ty) => { if node.is_definition() { Some(ty) } else { None } }

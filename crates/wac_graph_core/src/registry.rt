@@ -1,13 +1,11 @@
 //! Packages of a graph.
 
-ghost use Rattle.std.specs.Prelude.{◌≡◌, ◌<◌, ◌≤◌, ◌+◌, ◌↔◌, ℕ, None, Some, true, IfOk, IfErr, OnOk, OnErr, IfSome, IfNone, length, slice_get, option_map, option_copied};
-ghost use Rattle.semver.specs.Identifiers.{parts_of};
+ghost use Rattle.std.specs.Prelude.{◌≡◌, ◌<◌, ◌+◌, None, Some, IfOk, IfErr, OnOk, OnErr, IfSome, IfNone, slice_get, option_map};
 ghost use Rattle.std.specs.Bool.{Decides};
-ghost use Rattle.wac_types_names.specs.Keys.{borrowed_key, package_key};
-ghost use Rattle.wac_types_names.specs.Packaged.{Packaged};
-ghost use Rattle.wac_graph_core.specs.declared.ids.PackageId.{PackageId as PackageName};
-ghost use Rattle.wac_graph_core.specs.Graph.{PackageStands, ContainsPackage, package_of};
-ghost use Rattle.wac_graph_core.specs.Packages.{HoldsKey, IsFree, held_place, left_place, shown_at, Registers, RegisterRefused, Unregisters, PlacesGrow, IsStale};
+ghost use Rattle.wac_types_names.specs.Keys.{borrowed_key};
+ghost use Rattle.wac_graph_core.specs.Graph.{PackageStands, ContainsPackage};
+ghost use Rattle.wac_graph_core.specs.Packages.{HoldsKey, HoldsKeyAt, NoneHoldsKey, IsFree, held_place, left_place, shown_at, key_of, HasPackage, NoKey};
+ghost use Rattle.wac_graph_core.specs.Packages.{Registers, RegisterRefused, Unregisters, PlacesGrow, IsStale};
 
 use crate::edge::{Follow, reached};
 use crate::errors::RegisterPackageError;
@@ -30,8 +28,8 @@ fn holds(place: &Place, key: &BorrowedPackageKey<'_>) -> bool
 
 /// The place of the package of a key.
 fn place_of(places: &[Place], key: &BorrowedPackageKey<'_>) -> Option<usize>
-    ensures found { IfSome result (λ i. (p : Place) × (slice_get places.now i ≡ Some p) × HoldsKey p (borrowed_key key.now)) }
-    ensures none { IfNone result ((i : ℕ) (p : Place) → slice_get places.now i ≡ Some p → HoldsKey p (borrowed_key key.now) → ⊥) }
+    ensures found { IfSome result (HoldsKeyAt places.now (borrowed_key key.now)) }
+    ensures none { IfNone result (NoneHoldsKey places.now (borrowed_key key.now)) }
 {
     for (at, place) in places.iter().enumerate() {
         if holds(place, key) {
@@ -120,8 +118,8 @@ impl CompositionGraph {
         name: &str,
         version: Option<&Version>,
     ) -> Option<(PackageId, &Package)>
-        ensures found { IfSome result (λ x. (package_of self.now x.0 ≡ Some x.1.now) × (package_key x.1.now ≡ (name.now, option_map parts_of (option_copied version.entry)))) }
-        ensures none { IfNone result ((id : PackageName) (p : Packaged) → package_of self.now id ≡ Some p → package_key p ≡ (name.now, option_map parts_of (option_copied version.entry)) → ⊥) }
+        ensures found { IfSome result (λ x. HasPackage self.now x.0 x.1.now (key_of name.now version.entry)) }
+        ensures none { IfNone result (NoKey self.now (key_of name.now version.entry)) }
     {
         let key = BorrowedPackageKey::from_name_and_version(name, version);
         match place_of(self.places.as_slice(), &key) {

@@ -1,13 +1,14 @@
 //! The graph's collection, lent for adding alone.
 
-ghost use Rattle.std.specs.Prelude.{◌≡◌, ◌∷◌, ◌++◌, [], OnOk, OnErr, IfOk, length, option_map, option_copied};
+ghost use Rattle.std.specs.Prelude.{◌≡◌, OnOk, OnErr, IfOk, option_map, option_copied};
 ghost use Rattle.semver.specs.Identifiers.{parts_of};
-ghost use Rattle.wac_types_base.specs.Collection.{Stands, HasChildren, Grows, func_entry, interface_entry, world_entry, defined_entry, resource_entry};
+ghost use Rattle.wac_types_base.specs.Collection.{Stands, HasChildren, func_entry, interface_entry, world_entry, defined_entry, resource_entry};
 ghost use Rattle.wac_types_base.specs.declared.item.ItemKind.{ItemKind};
-ghost use Rattle.wac_types_base.specs.Copying.{IsCopy};
-ghost use Rattle.wac_types_names.specs.Packages.{DefinitionsOf, AddsInterfaceOf};
+ghost use Rattle.wac_types_names.specs.Packages.{DefinitionsOf};
 ghost use Rattle.wac_graph_core.specs.Graph.{PackageStands};
-ghost use Rattle.wac_graph_core.specs.Types.{with_collection, Enlarges};
+ghost use Rattle.wac_graph_core.specs.Types.{Enlarges, AddsInstanceType, IsWorldCopy};
+ghost use Rattle.wac_graph_core.specs.Types.{AddsDefinedType, AddsResource, AddsFuncType, AddsInterface, AddsWorld, AddsModuleType};
+ghost use Rattle.wac_graph_core.specs.Types.{next_defined_type, next_resource, next_func_type, next_interface, next_world, next_module_type};
 
 use crate::graph::CompositionGraph;
 use semver::Version;
@@ -54,8 +55,8 @@ impl<'a> TypesMut<'a> {
 impl CompositionGraph {
     fn add_defined_type(&mut self, ty: DefinedType) -> Result<DefinedTypeId, AllocError>
         requires { HasChildren self.old.types (defined_entry ty) }
-        ensures added { OnOk result (self.new ≡ with_collection self.old (record self.old.types { defined_types = self.old.types.defined_types ++ ty ∷ [] })) }
-        ensures id { IfOk result (λ i. i ≡ record { collection = self.old.types.number; index = length self.old.types.defined_types }) }
+        ensures added { OnOk result (AddsDefinedType self.old self.new ty) }
+        ensures id { IfOk result (λ i. i ≡ next_defined_type self.old.types) }
         ensures err { OnErr result (self.new ≡ self.old) }
         ensures grows { Enlarges self.old self.new }
     {
@@ -65,8 +66,8 @@ impl CompositionGraph {
 
     fn add_resource(&mut self, resource: Resource) -> Result<ResourceId, AllocError>
         requires { HasChildren self.old.types (resource_entry resource) }
-        ensures added { OnOk result (self.new ≡ with_collection self.old (record self.old.types { resources = self.old.types.resources ++ resource ∷ [] })) }
-        ensures id { IfOk result (λ i. i ≡ record { collection = self.old.types.number; index = length self.old.types.resources }) }
+        ensures added { OnOk result (AddsResource self.old self.new resource) }
+        ensures id { IfOk result (λ i. i ≡ next_resource self.old.types) }
         ensures err { OnErr result (self.new ≡ self.old) }
         ensures grows { Enlarges self.old self.new }
     {
@@ -76,8 +77,8 @@ impl CompositionGraph {
 
     fn add_func_type(&mut self, func: FuncType) -> Result<FuncTypeId, AllocError>
         requires { HasChildren self.old.types (func_entry func) }
-        ensures added { OnOk result (self.new ≡ with_collection self.old (record self.old.types { func_types = self.old.types.func_types ++ func ∷ [] })) }
-        ensures id { IfOk result (λ i. i ≡ record { collection = self.old.types.number; index = length self.old.types.func_types }) }
+        ensures added { OnOk result (AddsFuncType self.old self.new func) }
+        ensures id { IfOk result (λ i. i ≡ next_func_type self.old.types) }
         ensures err { OnErr result (self.new ≡ self.old) }
         ensures grows { Enlarges self.old self.new }
     {
@@ -87,8 +88,8 @@ impl CompositionGraph {
 
     fn add_interface(&mut self, interface: Interface) -> Result<InterfaceId, AllocError>
         requires { HasChildren self.old.types (interface_entry interface) }
-        ensures added { OnOk result (self.new ≡ with_collection self.old (record self.old.types { interfaces = self.old.types.interfaces ++ interface ∷ [] })) }
-        ensures id { IfOk result (λ i. i ≡ record { collection = self.old.types.number; index = length self.old.types.interfaces }) }
+        ensures added { OnOk result (AddsInterface self.old self.new interface) }
+        ensures id { IfOk result (λ i. i ≡ next_interface self.old.types) }
         ensures err { OnErr result (self.new ≡ self.old) }
         ensures grows { Enlarges self.old self.new }
     {
@@ -98,8 +99,8 @@ impl CompositionGraph {
 
     fn add_world(&mut self, world: World) -> Result<WorldId, AllocError>
         requires { HasChildren self.old.types (world_entry world) }
-        ensures added { OnOk result (self.new ≡ with_collection self.old (record self.old.types { worlds = self.old.types.worlds ++ world ∷ [] })) }
-        ensures id { IfOk result (λ i. i ≡ record { collection = self.old.types.number; index = length self.old.types.worlds }) }
+        ensures added { OnOk result (AddsWorld self.old self.new world) }
+        ensures id { IfOk result (λ i. i ≡ next_world self.old.types) }
         ensures err { OnErr result (self.new ≡ self.old) }
         ensures grows { Enlarges self.old self.new }
     {
@@ -108,8 +109,8 @@ impl CompositionGraph {
     }
 
     fn add_module_type(&mut self, ty: ModuleType) -> Result<ModuleTypeId, AllocError>
-        ensures added { OnOk result (self.new ≡ with_collection self.old (record self.old.types { modules = self.old.types.modules ++ ty ∷ [] })) }
-        ensures id { IfOk result (λ i. i ≡ record { collection = self.old.types.number; index = length self.old.types.modules }) }
+        ensures added { OnOk result (AddsModuleType self.old self.new ty) }
+        ensures id { IfOk result (λ i. i ≡ next_module_type self.old.types) }
         ensures err { OnErr result (self.new ≡ self.old) }
         ensures grows { Enlarges self.old self.new }
     {
@@ -122,8 +123,8 @@ impl<'a> TypesMut<'a> {
     /// Adds a defined type, all of whose ids stand here.
     pub fn add_defined_type(&mut self, ty: DefinedType) -> Result<DefinedTypeId, AllocError>
         requires { HasChildren self.old.graph.now.types (defined_entry ty) }
-        ensures added { OnOk result (self.new.graph.now ≡ with_collection self.old.graph.now (record self.old.graph.now.types { defined_types = self.old.graph.now.types.defined_types ++ ty ∷ [] })) }
-        ensures id { IfOk result (λ i. i ≡ record { collection = self.old.graph.now.types.number; index = length self.old.graph.now.types.defined_types }) }
+        ensures added { OnOk result (AddsDefinedType self.old.graph.now self.new.graph.now ty) }
+        ensures id { IfOk result (λ i. i ≡ next_defined_type self.old.graph.now.types) }
         ensures err { OnErr result (self.new.graph.now ≡ self.old.graph.now) }
         ensures grows { Enlarges self.old.graph.now self.new.graph.now }
         ensures same_reference { self.new.graph.ghost_name ≡ self.old.graph.ghost_name }
@@ -134,8 +135,8 @@ impl<'a> TypesMut<'a> {
     /// Adds a resource, all of whose ids stand here.
     pub fn add_resource(&mut self, resource: Resource) -> Result<ResourceId, AllocError>
         requires { HasChildren self.old.graph.now.types (resource_entry resource) }
-        ensures added { OnOk result (self.new.graph.now ≡ with_collection self.old.graph.now (record self.old.graph.now.types { resources = self.old.graph.now.types.resources ++ resource ∷ [] })) }
-        ensures id { IfOk result (λ i. i ≡ record { collection = self.old.graph.now.types.number; index = length self.old.graph.now.types.resources }) }
+        ensures added { OnOk result (AddsResource self.old.graph.now self.new.graph.now resource) }
+        ensures id { IfOk result (λ i. i ≡ next_resource self.old.graph.now.types) }
         ensures err { OnErr result (self.new.graph.now ≡ self.old.graph.now) }
         ensures grows { Enlarges self.old.graph.now self.new.graph.now }
         ensures same_reference { self.new.graph.ghost_name ≡ self.old.graph.ghost_name }
@@ -146,8 +147,8 @@ impl<'a> TypesMut<'a> {
     /// Adds a function type, all of whose ids stand here.
     pub fn add_func_type(&mut self, func: FuncType) -> Result<FuncTypeId, AllocError>
         requires { HasChildren self.old.graph.now.types (func_entry func) }
-        ensures added { OnOk result (self.new.graph.now ≡ with_collection self.old.graph.now (record self.old.graph.now.types { func_types = self.old.graph.now.types.func_types ++ func ∷ [] })) }
-        ensures id { IfOk result (λ i. i ≡ record { collection = self.old.graph.now.types.number; index = length self.old.graph.now.types.func_types }) }
+        ensures added { OnOk result (AddsFuncType self.old.graph.now self.new.graph.now func) }
+        ensures id { IfOk result (λ i. i ≡ next_func_type self.old.graph.now.types) }
         ensures err { OnErr result (self.new.graph.now ≡ self.old.graph.now) }
         ensures grows { Enlarges self.old.graph.now self.new.graph.now }
         ensures same_reference { self.new.graph.ghost_name ≡ self.old.graph.ghost_name }
@@ -158,8 +159,8 @@ impl<'a> TypesMut<'a> {
     /// Adds an interface, all of whose ids stand here.
     pub fn add_interface(&mut self, interface: Interface) -> Result<InterfaceId, AllocError>
         requires { HasChildren self.old.graph.now.types (interface_entry interface) }
-        ensures added { OnOk result (self.new.graph.now ≡ with_collection self.old.graph.now (record self.old.graph.now.types { interfaces = self.old.graph.now.types.interfaces ++ interface ∷ [] })) }
-        ensures id { IfOk result (λ i. i ≡ record { collection = self.old.graph.now.types.number; index = length self.old.graph.now.types.interfaces }) }
+        ensures added { OnOk result (AddsInterface self.old.graph.now self.new.graph.now interface) }
+        ensures id { IfOk result (λ i. i ≡ next_interface self.old.graph.now.types) }
         ensures err { OnErr result (self.new.graph.now ≡ self.old.graph.now) }
         ensures grows { Enlarges self.old.graph.now self.new.graph.now }
         ensures same_reference { self.new.graph.ghost_name ≡ self.old.graph.ghost_name }
@@ -170,8 +171,8 @@ impl<'a> TypesMut<'a> {
     /// Adds a world, all of whose ids stand here.
     pub fn add_world(&mut self, world: World) -> Result<WorldId, AllocError>
         requires { HasChildren self.old.graph.now.types (world_entry world) }
-        ensures added { OnOk result (self.new.graph.now ≡ with_collection self.old.graph.now (record self.old.graph.now.types { worlds = self.old.graph.now.types.worlds ++ world ∷ [] })) }
-        ensures id { IfOk result (λ i. i ≡ record { collection = self.old.graph.now.types.number; index = length self.old.graph.now.types.worlds }) }
+        ensures added { OnOk result (AddsWorld self.old.graph.now self.new.graph.now world) }
+        ensures id { IfOk result (λ i. i ≡ next_world self.old.graph.now.types) }
         ensures err { OnErr result (self.new.graph.now ≡ self.old.graph.now) }
         ensures grows { Enlarges self.old.graph.now self.new.graph.now }
         ensures same_reference { self.new.graph.ghost_name ≡ self.old.graph.ghost_name }
@@ -181,8 +182,8 @@ impl<'a> TypesMut<'a> {
 
     /// Adds a module type.
     pub fn add_module_type(&mut self, ty: ModuleType) -> Result<ModuleTypeId, AllocError>
-        ensures added { OnOk result (self.new.graph.now ≡ with_collection self.old.graph.now (record self.old.graph.now.types { modules = self.old.graph.now.types.modules ++ ty ∷ [] })) }
-        ensures id { IfOk result (λ i. i ≡ record { collection = self.old.graph.now.types.number; index = length self.old.graph.now.types.modules }) }
+        ensures added { OnOk result (AddsModuleType self.old.graph.now self.new.graph.now ty) }
+        ensures id { IfOk result (λ i. i ≡ next_module_type self.old.graph.now.types) }
         ensures err { OnErr result (self.new.graph.now ≡ self.old.graph.now) }
         ensures grows { Enlarges self.old.graph.now self.new.graph.now }
         ensures same_reference { self.new.graph.ghost_name ≡ self.old.graph.ghost_name }
@@ -204,7 +205,7 @@ impl CompositionGraph {
         ensures version { IfOk result (λ p. p.version ≡ option_map parts_of (option_copied version.entry)) }
         ensures bytes { IfOk result (λ p. p.bytes ≡ bytes.items) }
         ensures ty { IfOk result (λ p. p.ty ≡ world) }
-        ensures instance_type { IfOk result (λ p. AddsInterfaceOf self.old.types self.new.types world p.instance_type) }
+        ensures instance_type { IfOk result (λ p. AddsInstanceType self.old self.new world p) }
         ensures definitions { IfOk result (λ p. DefinitionsOf self.old.types world p.definitions) }
         ensures stands { IfOk result (λ p. PackageStands self.new.types p) }
         ensures err { OnErr result (self.new ≡ self.old) }
@@ -223,7 +224,7 @@ impl CompositionGraph {
 
     fn copy_world_here(&mut self, from: &Types, id: WorldId) -> Result<WorldId, AllocError>
         requires { Stands from.now (ItemKind.Component id) }
-        ensures copied { IfOk result (λ i. IsCopy from.now self.new.types (ItemKind.Component id) (ItemKind.Component i)) }
+        ensures copied { IfOk result (λ i. IsWorldCopy from.now self.new.types id i) }
         ensures grows { Enlarges self.old self.new }
     {
         let copied = copy_world(self.alloc, from, id, &mut self.types.adding());
@@ -247,7 +248,7 @@ impl<'a> TypesMut<'a> {
         ensures version { IfOk result (λ p. p.version ≡ option_map parts_of (option_copied version.entry)) }
         ensures bytes { IfOk result (λ p. p.bytes ≡ bytes.items) }
         ensures ty { IfOk result (λ p. p.ty ≡ world) }
-        ensures instance_type { IfOk result (λ p. AddsInterfaceOf self.old.graph.now.types self.new.graph.now.types world p.instance_type) }
+        ensures instance_type { IfOk result (λ p. AddsInstanceType self.old.graph.now self.new.graph.now world p) }
         ensures definitions { IfOk result (λ p. DefinitionsOf self.old.graph.now.types world p.definitions) }
         ensures stands { IfOk result (λ p. PackageStands self.new.graph.now.types p) }
         ensures err { OnErr result (self.new.graph.now ≡ self.old.graph.now) }
@@ -261,7 +262,7 @@ impl<'a> TypesMut<'a> {
     /// that nothing names.
     pub fn copy_world(&mut self, from: &Types, id: WorldId) -> Result<WorldId, AllocError>
         requires { Stands from.now (ItemKind.Component id) }
-        ensures copied { IfOk result (λ i. IsCopy from.now self.new.graph.now.types (ItemKind.Component id) (ItemKind.Component i)) }
+        ensures copied { IfOk result (λ i. IsWorldCopy from.now self.new.graph.now.types id i) }
         ensures grows { Enlarges self.old.graph.now self.new.graph.now }
         ensures same_reference { self.new.graph.ghost_name ≡ self.old.graph.ghost_name }
     {

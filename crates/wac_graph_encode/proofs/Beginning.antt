@@ -1,6 +1,6 @@
--- The root is begun once packages are nested behind types and outer imports.
+-- The root is begun once packages are imported or nested behind types and outer imports.
 use Rattle.std.specs.Prelude.{slice_get}
-use Rattle.std.proofs.Common.{◌≡◌, ℕ, true, List, [], Some, Result, Ok, Err, refl, sym, ap, subst, ◌∙◌}
+use Rattle.std.proofs.Common.{◌≡◌, ℕ, true, false, List, [], Some, Result, Ok, Err, OnOk, refl, sym, ap, subst, ◌∙◌}
 use Rattle.wac_types_base.specs.declared.ids.WorldId.{WorldId}
 use Rattle.wac_types_base.specs.Record.{Collection}
 use Rattle.wac_types_base.specs.Entries.{Name, names_of}
@@ -18,14 +18,16 @@ use Rattle.wac_graph_encode.specs.declared.root.Root.{Root}
 use Rattle.wac_graph_encode.specs.declared.root.Writing.{Writing}
 use Rattle.wac_graph_encode.specs.Standing.{IsPackageAt}
 use Rattle.wac_graph_encode.specs.Rooting.{IsReadTo}
-use Rattle.wac_graph_encode.specs.Nesting.{NestsAll, NestsBehind, NestsIfDefined}
-use Rattle.wac_graph_encode.specs.Beginning.{AreTold, IsRooted, Begins}
+use Rattle.wac_graph_encode.specs.Nesting.{NestsAll, NestsBehind}
+use Rattle.wac_graph_encode.specs.Beginning.{AreTold, IsBare, IsBegunWith, IsRooted, Begins}
+use Rattle.wac_graph_encode.specs.Importing.{ImportsBefore, with_packages}
 use Rattle.wac_graph_encode.specs.Writing.{IsBegun}
 use Rattle.wac_graph_encode.proofs.StandingSteps.{stands_on, outer_on}
 use Rattle.wac_graph_encode.proofs.Nesting.{with_nested, nested_reads, nested_keeps, nested_counts, package_stands}
-use Rattle.wac_graph_encode.proofs.Rooting.{scope_reads}
+use Rattle.wac_graph_encode.proofs.Importing.{begun_imported}
+use Rattle.wac_graph_encode.proofs.Rooting.{nothing_named, scope_reads}
 
-module _ (g : Graph) (w : Worlds) (ids : List PackageId) (told : AreTold g w ids) (called : List Called) (i : Inside) (c : Collection) (world : WorldId) (mid new : Root) (empty : mid.packages.entries ≡ [])
+module _ (g : Graph) (w : Worlds) (ids : List PackageId) (told : AreTold true g w ids) (called : List Called) (i : Inside) (c : Collection) (world : WorldId) (mid new : Root) (empty : mid.packages.entries ≡ [])
     (reads : IsReadTo w c world i mid) (rooted : IsRooted g w called i mid.nodes.entries mid.imports.items) (nests : NestsAll g ids mid new) where
   abbrev st : State
   st = at_root i
@@ -61,13 +63,29 @@ module _ (g : Graph) (w : Worlds) (ids : List PackageId) (told : AreTold g w ids
   }
 
 -- behind what is taken from a scope
-pub begun_behind : (g : Graph) (w : Worlds) (ids : List PackageId) → AreTold g w ids → (called : List Called) (c : Collection) (world : WorldId) (scope : ImportScope) (old new : Root) (imported : List Name) (h : WritesWorld w c [] world scope imported [])
-    → old.entries.items ≡ [] → old.packages.entries ≡ [] → IsRooted g w called h.writing.inside old.nodes.entries scope.places.items → NestsBehind g ids scope old new → IsBegun true w h.writing.inside.imports called g new
-begun_behind g w ids told called c world scope old new imported h none empty rooted b =
-    begun g w ids told called h.writing.inside c world b.taken new (ap (λ ps. ps.entries) b.takes.packages ∙ empty) (scope_reads scope old b.taken b.takes none w c world imported h)
-    (subst (λ xs. IsRooted g w called h.writing.inside b.taken.nodes.entries xs) (sym b.takes.imports) (subst (λ ns. IsRooted g w called h.writing.inside ns.entries scope.places.items) (sym b.takes.nodes) rooted)) b.nests
+pub begun_nested : (x : Writing) (scope : ImportScope) (old new : Root) → x.options.now.define_components ≡ true → NestsBehind x.graph.now (names_of x.worlds.now.entries) scope old new
+    → (w : Worlds) (world : WorldId) (imported : List Name) (called : List Called) (h : WritesWorld w x.all.types.now [] world scope imported []) → IsBare old
+    → AreTold x.options.now.define_components x.graph.now w (names_of x.worlds.now.entries) → IsRooted x.graph.now w called h.writing.inside old.nodes.entries scope.places.items → IsBegunWith x w h.writing.inside.imports called new
+begun_nested x scope old new define b w world imported called h bare told rooted =
+    let g = x.graph.now in
+    let c = x.all.types.now in
+    let ids = names_of x.worlds.now.entries in
+    let imports = h.writing.inside.imports in
+    subst (λ d. IsBegun d w (with_packages d g c x.worlds.now.entries imports) called g new) (sym define)
+    (begun g w ids (subst (λ d. AreTold d g w ids) define told) called h.writing.inside c world b.taken new (ap (λ ps. ps.entries) b.takes.packages ∙ bare.1) (scope_reads scope old b.taken b.takes bare.0 w c world imported h)
+    (subst (λ xs. IsRooted g w called h.writing.inside b.taken.nodes.entries xs) (sym b.takes.imports) (subst (λ ns. IsRooted g w called h.writing.inside ns.entries scope.places.items) (sym b.takes.nodes) rooted)) b.nests)
 
-pub begins : {U E : Type 0} (x : Writing) (scope : ImportScope) (old new : Root) (r : Result U E) → NestsIfDefined x scope old new r → Begins x scope old new r
-begins x scope old new (Ok u) n = λ define w c world imported called h none empty told rooted.
-    begun_behind x.graph.now w (names_of x.worlds.now.entries) told called c world scope old new imported h none empty rooted (n define)
-begins x scope old new (Err e) n = λ define w c world imported called h none empty told rooted. tt
+pub begins_nested : {U E : Type 0} (x : Writing) (scope : ImportScope) (old new : Root) (r : Result U E) → x.options.now.define_components ≡ true → OnOk r (NestsBehind x.graph.now (names_of x.worlds.now.entries) scope old new) → Begins x scope old new r
+begins_nested x scope old new (Ok u) define n = λ w world imported called h bare worlds told rooted. begun_nested x scope old new define n w world imported called h bare told rooted
+begins_nested x scope old new (Err e) define n = λ w world imported called h bare worlds told rooted. tt
+
+-- behind what is imported in the scope
+pub begins_imported : {U E : Type 0} (x : Writing) (scope : ImportScope) (old new : Root) (r : Result U E) → x.options.now.define_components ≡ false → OnOk r (ImportsBefore x.graph.now x.all.types.now x.worlds.now.entries scope old new) → Begins x scope old new r
+begins_imported x scope old new (Ok u) define b = λ w world imported called h bare worlds told rooted.
+    let g = x.graph.now in
+    let c = x.all.types.now in
+    let ps = x.worlds.now.entries in
+    let i = h.writing.inside in
+    subst (λ d. IsBegun d w (with_packages d g c ps i.imports) called g new) (sym define)
+    (begun_imported g c ps worlds w (subst (λ d. AreTold d g w (names_of ps)) define told) called i (nothing_named i.exports h.writing.exports) scope h.writing.stands old new bare.0 bare.1 rooted b)
+begins_imported x scope old new (Err e) define b = λ w world imported called h bare worlds told rooted. tt

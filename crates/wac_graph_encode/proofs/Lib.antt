@@ -5,12 +5,14 @@ pub mod StandingNumbers
 pub mod StandingSteps
 pub mod StandingGiven
 pub mod StandingInstances
+pub mod Sources
 pub mod StandingWirings
 pub mod WritingLaws
 pub mod WritingSteps
 pub mod StandingExports
 pub mod Rooting
 pub mod Nesting
+pub mod Importing
 pub mod Forming
 pub mod Told
 pub mod Finals
@@ -21,5 +23,7 @@ pub mod RootedOuters
 pub mod RootedDefinitions
 pub mod Beginning
 pub mod Nested
+pub mod Imported
+pub mod Importable
 pub mod Preparing
 pub mod Refusing

@@ -1,10 +1,11 @@
 -- What is nested in entries.
 use Rattle.std.specs.Prelude.{filter_map}
 use Rattle.std.specs.List.{AllZip, cons_option, list_any}
-use Rattle.std.proofs.Common.{◌≡◌, ℕ, Bool, true, false, true≢false, List, [], ◌∷◌, ◌++◌, map, Option, Some, None, IsSome, ◌⊎◌, inl, inr, refl, sym, ap, subst, ◌∙◌, if◌then◌else◌}
+use Rattle.std.proofs.Common.{◌≡◌, ℕ, Bool, true, false, true≢false, List, [], ◌∷◌, ◌++◌, map, Option, Some, None, IsSome, Result, Ok, Err, OnOk, ◌⊎◌, inl, inr, refl, sym, ap, subst, ◌∙◌, if◌then◌else◌}
 use Rattle.std.proofs.lemmas.Option.{none-some}
 use Rattle.std.proofs.lemmas.List.{map-append, append-nil}
-use Rattle.wac_types_base.specs.Entries.{Name, AreDistinct}
+use Rattle.wac_types_base.specs.Record.{Collection}
+use Rattle.wac_types_base.specs.Entries.{Name, AreDistinct, names_of}
 use Rattle.wac_types_base.specs.Graph.{Among}
 use Rattle.wac_types_base.proofs.Adding.{Among-left, Among-right}
 use Rattle.wac_types_base.proofs.Lists.{among_split, from_filtered}
@@ -27,7 +28,10 @@ use Rattle.wac_graph_asks.specs.Asked.{package_ids, with_id, with_ids}
 use Rattle.wac_graph_asks.proofs.ByNode.{entry_there}
 use Rattle.wac_graph_asks.proofs.Origins.{node_among, among_mapped}
 use Rattle.wac_graph_encode.specs.declared.root.Root.{Root}
-use Rattle.wac_graph_encode.specs.Encoding.{nested_in, nested_at, bytes_in, bytes_of, NestsPackages}
+use Rattle.wac_graph_encode.specs.Encoding.{nested_in, nested_at, nested_strings, bytes_in, bytes_of, NestsPackages}
+use Rattle.wac_graph_encode.specs.declared.root.Writing.{Writing}
+use Rattle.wac_graph_encode.specs.Beginning.{NestsThese, nested_bytes}
+use Rattle.wac_graph_encode.specs.Importing.{ImportsBefore, Packages}
 use Rattle.wac_graph_encode.specs.Finished.{AreSpelled, NestsBytes}
 use Rattle.wac_graph_encode.specs.Nesting.{NestsBehind}
 use Rattle.wac_graph_encode.specs.Writing.{AddsEntry, AddsExports, IsExportOf}
@@ -84,9 +88,25 @@ behind_nests g ids scope old new empty b =
     ∙ none_declared (declarations_of scope.scope.types.declarations.items))
     ∙ all_nested g ids
 
+-- nothing is nested behind a scope in which the packages are imported
+imported_nests : (g : Graph) (c : Collection) (ps : Packages) (scope : ImportScope) (old new : Root) → old.entries.items ≡ [] → ImportsBefore g c ps scope old new → nested_at new.entries.items ≡ []
+imported_nests g c ps scope old new empty b =
+    let ds = declarations_of b.between.scope.types.declarations.items in
+    ap nested_in (b.takes.entries ∙ ap (λ es. map view es.items ++ root_entries ds) b.entries ∙ ap (λ es. map view es ++ root_entries ds) empty) ∙ none_declared ds
+
+pub nests_nested : {U E : Type 0} (x : Writing) (scope : ImportScope) (old new : Root) (r : Result U E) → x.options.now.define_components ≡ true → OnOk r (NestsBehind x.graph.now (names_of x.worlds.now.entries) scope old new) → NestsThese x old new r
+nests_nested x scope old new (Ok u) define b = λ bare.
+    behind_nests x.graph.now (names_of x.worlds.now.entries) scope old new bare.0 b ∙ ap (λ d. nested_bytes d x.graph.now (names_of x.worlds.now.entries)) (sym define)
+nests_nested x scope old new (Err e) define b = λ bare. tt
+
+pub nests_imported : {U E : Type 0} (x : Writing) (scope : ImportScope) (old new : Root) (r : Result U E) → x.options.now.define_components ≡ false → OnOk r (ImportsBefore x.graph.now x.all.types.now x.worlds.now.entries scope old new) → NestsThese x old new r
+nests_imported x scope old new (Ok u) define b = λ bare.
+    imported_nests x.graph.now x.all.types.now x.worlds.now.entries scope old new bare.0 b ∙ ap (λ d. nested_bytes d x.graph.now (names_of x.worlds.now.entries)) (sym define)
+nests_imported x scope old new (Err e) define b = λ bare. tt
+
 -- a spelling of entries nests what they nest
-pub spelled_nests : (g : Graph) (ids : List PackageId) (es : List Entry) (bytes : List ℕ) → nested_in es ≡ map (bytes_of g) ids → AreSpelled es bytes → NestsBytes g ids bytes
-spelled_nests g ids es bytes nested a = record { sections = a.sections; spelled = a.spelled; nested = ap nested_in a.entries ∙ nested }
+pub spelled_nests : (define : Bool) (g : Graph) (ids : List PackageId) (es : List Entry) (bytes : List ℕ) → nested_in es ≡ nested_bytes define g ids → AreSpelled es bytes → NestsBytes define g ids bytes
+spelled_nests define g ids es bytes nested a = record { sections = a.sections; spelled = a.spelled; nested = ap nested_in a.entries ∙ nested }
 
 -- ---- packages, each once
 
@@ -110,7 +130,7 @@ module _ (g : Graph) where
       one true = m
       one false = Among-left id ids (x ∷ []) m
 
-  with_has : (ids more : List PackageId) (id : PackageId) → Among id more → Among id (with_ids ids more)
+  pub with_has : (ids more : List PackageId) (id : PackageId) → Among id more → Among id (with_ids ids more)
   with_has ids [] id m = absurd m
   with_has ids (x ∷ more) id (inr m) = with_has (with_id ids x) more id m
   with_has ids (x ∷ more) id (inl e) = with_stays (with_id ids x) more id (one (list_any (eq-value.it x) ids) refl)
@@ -170,12 +190,12 @@ module _ (g : Graph) where
         go rest None e = rest
         go rest (Some p) e = (apart p e (packages_of ids) (λ q m. package_there ids q m), rest)
 
-    ids_held : (id : PackageId) → Among id (package_ids g) → (k : ℕ) × (n : NodeData) × (node_at g k ≡ Some n) × (n.of ≡ Some id)
+    pub ids_held : (id : PackageId) → Among id (package_ids g) → (k : ℕ) × (n : NodeData) × (node_at g k ≡ Some n) × (n.of ≡ Some id)
     ids_held id m =
         let f = from_filtered (λ (e : ℕ × NodeData). e.1.of) (nodes_of g) id m in
         (f.0.0, f.0.1, entry_there g.nodes f.0 f.1, f.2)
 
-    made_of : (p : Packaged) (k : ℕ) → instantiated g k ≡ Some p → (id : PackageId) × Among id (package_ids g) × (package_of g id ≡ Some p)
+    pub made_of : (p : Packaged) (k : ℕ) → instantiated g k ≡ Some p → (id : PackageId) × Among id (package_ids g) × (package_of g id ≡ Some p)
     made_of p k e = by_node (node_at g k) refl e
       where
         by_id : (n : NodeData) → node_at g k ≡ Some n → (o : Option PackageId) → n.of ≡ o → package_if g o ≡ Some p → (id : PackageId) × Among id (package_ids g) × (package_of g id ≡ Some p)
@@ -186,9 +206,13 @@ module _ (g : Graph) where
         by_node None at h = absurd (none-some _ h)
         by_node (Some n) at h = by_id n at n.of refl h
 
+    same_strings : (define : Bool) (ids : List PackageId) → AreHeld ids → nested_bytes define g ids ≡ nested_strings define (packages_of ids)
+    same_strings true ids h = held_bytes ids h
+    same_strings false ids h = refl
+
     -- the bytes nest the packages that are instantiated
-    pub nests_packages : (ids : List PackageId) (bytes : List ℕ) → ids ≡ with_ids [] (package_ids g) → NestsBytes g ids bytes → NestsPackages true g bytes
-    nests_packages ids bytes are n = record {
+    pub nests_packages : (define : Bool) (ids : List PackageId) (bytes : List ℕ) → ids ≡ with_ids [] (package_ids g) → NestsBytes define g ids bytes → NestsPackages define g bytes
+    nests_packages define ids bytes are n = record {
       packages = packages_of ids;
       once = keys_distinct ids (subst AreDistinct (sym are) (with_distinct [] (package_ids g) tt));
       those = λ p. (
@@ -197,7 +221,7 @@ module _ (g : Graph) where
       );
       sections = n.sections;
       spelled = n.spelled;
-      nested = n.nested ∙ held_bytes ids (λ id m. let k = ids_held id (listed id m) in (sound.nodes k.0 k.1 k.2).of id k.3);
+      nested = n.nested ∙ same_strings define ids (λ id m. let k = ids_held id (listed id m) in (sound.nodes k.0 k.1 k.2).of id k.3);
     }
       where
         listed : (id : PackageId) → Among id ids → Among id (package_ids g)

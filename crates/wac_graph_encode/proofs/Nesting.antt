@@ -177,7 +177,7 @@ module _ (g : Graph) (ids : List PackageId) (old new : Root) (h : NestsAll g ids
     nested_at id index m = numbered_at (code g) st.scope.components ids (counted old.counts sort.Component) index id m (counts sort.Component ∙ sym (entry_steps.counted worlds old.entries.items st sort.Component reads))
 
     -- A package stands at its index.
-    pub package_stands : (id : PackageId) (index : ℕ) → (Among id ids → IsTold g worlds id) → (Among (id, index) old.packages.entries → IsPackageAt g worlds true st id index)
+    pub package_stands : (id : PackageId) (index : ℕ) → (Among id ids → IsTold true g worlds id) → (Among (id, index) old.packages.entries → IsPackageAt g worlds true st id index)
         → Among (id, index) new.packages.entries → IsPackageAt g worlds true (with_nested g ids st) id index
     package_stands id index held before m = go (all_among package_id.eq-value.it same_package old.packages.entries (numbered (counted old.counts sort.Component) ids) (id, index) (subst (Among (id, index)) h.packages m))
       where

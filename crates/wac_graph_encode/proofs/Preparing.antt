@@ -1,6 +1,6 @@
 -- What is asked of a graph is prepared, and its bytes mean the graph's wiring.
 use Rattle.std.specs.List.{AllZip}
-use Rattle.std.proofs.Common.{◌≡◌, ℕ, true, true≢false, List, [], ◌∷◌, map, Option, Some, None, IsSome, Result, Ok, Err, IfOk, inl, inr, refl, sym, ap, subst, ◌∙◌}
+use Rattle.std.proofs.Common.{◌≡◌, ℕ, Bool, true, false, true≢false, List, [], ◌∷◌, map, Option, Some, None, IsSome, Result, Ok, Err, IfOk, inl, inr, refl, sym, ap, subst, ◌∙◌}
 use Rattle.std.specs.declared.alloc.Global.{Global}
 use Rattle.std.specs.declared.vec.Vec.{Vec}
 use Rattle.wac_types_base.specs.declared.item.ItemKind.{ItemKind}
@@ -14,6 +14,7 @@ use Rattle.wac_types_base.proofs.Lists.{from_filtered}
 use Rattle.wac_types_names.specs.Packaged.{Packaged}
 use Rattle.wac_graph_bytes.specs.Typing.{Worlds}
 use Rattle.wac_graph_core.specs.declared.ids.PackageId.{PackageId}
+use Rattle.wac_graph_core.specs.declared.ids.PackageId.{PackageId}
 use Rattle.wac_graph_core.specs.Graph.{Graph, IsGraph, node_at, package_of, package_if, package_made, instantiated}
 use Rattle.wac_graph_asks.specs.declared.asks.Asked.{Asked}
 use Rattle.wac_graph_asks.specs.declared.asks.Definition.{Definition}
@@ -26,28 +27,33 @@ use Rattle.wac_graph_asks.proofs.Origins.{among_mapped as among_passing, node_am
 use Rattle.wac_graph_encode.specs.Worlds.{AreAllDefined, IsToHandOut}
 use Rattle.wac_graph_asks.specs.Asked.{package_ids, with_ids, placed_in, KeepsAsked, IsAsked}
 use Rattle.wac_graph_asks.specs.Outers.{AnswersOuters, HasImportsAlone}
-use Rattle.wac_graph_asks.proofs.Asking.{copy_kept, held_kept}
+use Rattle.wac_graph_asks.proofs.Asking.{copy_kept, held_kept, world_kept}
 use Rattle.wac_graph_asks.proofs.ByNode.{entry_there}
 use Rattle.wac_graph_asks.proofs.Lasting.{outers_stay}
+use Rattle.wac_graph_causes.specs.declared.errors.Unwritten.{Unwritten}
 use Rattle.wac_graph_causes.specs.Alike.{AreHeld}
 use Rattle.wac_graph_causes.specs.Unwritable.{IsWhole}
 use Rattle.wac_graph_encode.specs.declared.options.EncodeOptions.{EncodeOptions}
 use Rattle.wac_graph_encode.specs.Beginning.{AreTold}
+use Rattle.wac_graph_encode.specs.Importing.{AreToImport, AreWorldsOf}
+use Rattle.wac_graph_encode.specs.Refused.{HasNoneAlike}
 use Rattle.wac_graph_encode.specs.Defining.{AreToWrite}
-use Rattle.wac_graph_encode.specs.Encoding.{AreTrueOf}
+use Rattle.wac_graph_encode.specs.Encoding.{AreTrueOf, HaveDependencyNames, IsComposed, MeansGraph}
 use Rattle.wac_graph_encode.specs.Formed.{IsFormed, AreFormed}
-use Rattle.wac_graph_encode.specs.Finished.{IsPrepared, MeansAsked, MeansNested, NestsSo}
+use Rattle.wac_graph_encode.specs.Finished.{AreInstantiated, IsPrepared, MeansAsked, MeansImported, MeansNested, NestsBytes, NestsSo}
 use Rattle.wac_graph_encode.specs.Nesting.{IsTold}
+use Rattle.wac_graph_encode.proofs.Importable.{importable}
 use Rattle.wac_graph_encode.proofs.Nested.{with_among, nests_packages}
+use Rattle.wac_graph_encode.proofs.StandingWirings.{zip_on}
 use Rattle.wac_graph_encode.proofs.RootedDefinitions.{nodes_of_definitions}
 
 -- ---- the packages
 
-module _ (g : Graph) (sound : IsGraph g) (finite_types : IsAcyclic g.types) (w : Worlds) (true_of : AreTrueOf true g w) where
-  told_at : (k : ℕ) (n : NodeData) (id : PackageId) → node_at g k ≡ Some n → n.of ≡ Some id → IsTold g w id
+module _ (define : Bool) (g : Graph) (sound : IsGraph g) (finite_types : IsAcyclic g.types) (w : Worlds) (true_of : AreTrueOf define g w) where
+  told_at : (k : ℕ) (n : NodeData) (id : PackageId) → node_at g k ≡ Some n → n.of ≡ Some id → IsTold define g w id
   told_at k n id at of = go (package_of g id) refl ((sound.nodes k n at).of id of)
     where
-      go : (o : Option Packaged) → package_of g id ≡ o → IsSome o → IsTold g w id
+      go : (o : Option Packaged) → package_of g id ≡ o → IsSome o → IsTold define g w id
       go None e s = absurd (true≢false (sym s))
       go (Some p) e s =
           let made : instantiated g k ≡ Some p = ap (package_made g) at ∙ ap (package_if g) of ∙ e in
@@ -57,7 +63,7 @@ module _ (g : Graph) (sound : IsGraph g) (finite_types : IsAcyclic g.types) (w :
             world = true_of.each k p made ∙ tree_stated g.types finite_types (ItemKind.Instance p.instance_type) (sound.packages.stand id p e).instance;
           }
 
-  pub all_told : (ids : List PackageId) → ids ≡ with_ids [] (package_ids g) → AreTold g w ids
+  pub all_told : (ids : List PackageId) → ids ≡ with_ids [] (package_ids g) → AreTold define g w ids
   all_told ids are id m = elim (with_among [] (package_ids g) id (subst (Among id) are m)) [
     | inl n ↦ absurd n
     | inr k ↦
@@ -73,12 +79,6 @@ zip_back R [] (z ∷ ys) y h m = absurd h
 zip_back R (x ∷ xs) [] y h m = absurd h
 zip_back R (x ∷ xs) (z ∷ ys) y h (inl e) = (x, inl refl, subst (R x) (sym e) h.0)
 zip_back R (x ∷ xs) (z ∷ ys) y h (inr m) = let r = zip_back R xs ys y h.1 m in (r.0, inr r.1, r.2)
-
-zip_on : {A B : Type 0} (R : A → B → Type 0) (xs : List A) (ys : List B) (x : A) → AllZip R xs ys → Among x xs → (y : B) × Among y ys × R x y
-zip_on R [] ys x h m = absurd m
-zip_on R (z ∷ xs) [] x h m = absurd h
-zip_on R (z ∷ xs) (y ∷ ys) x h (inl e) = (y, inl refl, subst (λ v. R v y) (sym e) h.0)
-zip_on R (z ∷ xs) (y ∷ ys) x h (inr m) = let r = zip_on R xs ys x h.1 m in (r.0, inr r.1, r.2)
 
 module _ (g : Graph) (a : Asked) (o : Outers) (h : IsPrepared g a o) where
   -- each node that is defined has its definition
@@ -106,17 +106,31 @@ module _ (g : Graph) (a : Asked) (o : Outers) (h : IsPrepared g a o) where
 
   module _ (sound : IsGraph g) (finite_types : IsAcyclic g.types) where
     -- with the definitions formed in a collection that has grown
-    pub means_nested : {E : Type 0} (options : EncodeOptions) (new : Asked) (definitions : Vec Definition Global) (r : Result (Vec ℕ Global) E) → Grows a.types new.types → new.packages ≡ a.packages
-        → AreFormed g.types new.types a.definitions.items definitions.items → MeansAsked g new o definitions.items options r → NestsSo options.define_components g (names_of new.packages.entries) r → IfOk r (λ bytes. MeansNested g options bytes.items)
-    means_nested options new definitions (Err e) grows packages formed means nests = tt
-    means_nested options new definitions (Ok bytes) grows packages formed means nests = λ define.
-        let ids : names_of new.packages.entries ≡ with_ids [] (package_ids g) = ap (λ p. names_of p.entries) packages ∙ h.packages in
-        record {
-          nests = nests_packages g sound (names_of new.packages.entries) bytes.items ids (nests define);
-          means = λ w true_of.
-              means define (outers_stay _ a.types new.types h.acyclic grows o.world o.called.items h.outers, to_write new.types definitions.items formed) w
-              (all_told g sound finite_types w true_of (names_of new.packages.entries) ids);
-        }
+    module _ (options : EncodeOptions) (new : Asked) (definitions : Vec Definition Global) (bytes : Vec ℕ Global) (grows : Grows a.types new.types) (packages : new.packages ≡ a.packages)
+        (formed : AreFormed g.types new.types a.definitions.items definitions.items) (means : MeansAsked {E = Unwritten} g new o definitions.items options (Ok bytes))
+        (nests : NestsSo {E = Unwritten} options.define_components g (names_of new.packages.entries) (Ok bytes)) where
+      abbrev ids : List PackageId
+      ids = names_of new.packages.entries
+
+      each : AreInstantiated g ids
+      each = ap (λ p. names_of p.entries) packages ∙ h.packages
+
+      worlds : AreWorldsOf g new.types new.packages.entries
+      worlds id w m = world_kept g a.types new.types grows id w (h.worlds id w (subst (λ ps. Among (id, w) ps.entries) packages m))
+
+      composed : (d : Bool) → options.define_components ≡ d → AreToImport d g ids → IsComposed d g bytes.items
+      composed d e can = record {
+        nests = nests_packages g sound d ids bytes.items each (subst (λ b. NestsBytes b g ids bytes.items) e nests);
+        means = λ w true_of. subst (λ b. MeansGraph b g w bytes.items) e
+            (means (outers_stay _ a.types new.types h.acyclic grows o.world o.called.items h.outers, worlds, to_write new.types definitions.items formed) each
+            (subst (λ b. AreToImport b g ids) (sym e) can) w (subst (λ b. AreTold b g w ids) (sym e) (all_told d g sound finite_types w true_of ids each)));
+      }
+
+      pub means_nested : MeansNested g options bytes.items
+      means_nested define = composed true define tt
+
+      pub means_imported : HasNoneAlike options g → MeansImported g options bytes.items
+      means_imported alike define names = composed false define (importable g sound options ids define alike names each)
 
     -- all is there of which the world is made
     pub to_hand_out : (new : Collection) (definitions : List Definition) → Grows a.types new → AreFormed g.types new a.definitions.items definitions → IsToHandOut g new o definitions
@@ -136,6 +150,7 @@ held_prepared g a o h new grows packages = record {
 pub prepared : (g : Graph) (old new : Asked) (o : Outers) → IsAsked g old → KeepsAsked old new → AnswersOuters old new o → IsPrepared g new o
 prepared g old new o asked keeps answers = record {
   acyclic = keeps.grows.acyclic;
+  worlds = (held_kept g old new asked.held keeps).worlds;
   packages = ap (λ p. names_of p.entries) keeps.packages ∙ asked.packages;
   definitions = ap (λ (v : Vec Definition Global). map (placed_in g.types) v.items) keeps.definitions ∙ asked.definitions;
   copies = λ x m. copy_kept g.types old.types new.types keeps.grows x.ty x.copy (asked.held.copies x (subst (λ (v : Vec Definition Global). Among x v.items) keeps.definitions m));

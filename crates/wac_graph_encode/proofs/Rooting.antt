@@ -11,6 +11,7 @@ use Rattle.wac_graph_bytes.specs.declared.value.Sort.TheVariants as sort
 use Rattle.wac_graph_bytes.specs.declared.entry.Declaration.{Declaration, Module, Defined, ComponentType, ComponentType', InstanceType, InstanceType', Alias, Import, Export}
 use Rattle.wac_graph_bytes.specs.declared.entry.Entry.{Entry as CodeEntry}
 use Rattle.wac_graph_bytes.specs.Entries.{Entry, Declarations, End, CoreThen, TypeThen, ComponentTypeThen, InstanceTypeThen, AliasThen, ImportThen, ExportThen}
+use Rattle.wac_graph_bytes.specs.Counting.{count_of}
 use Rattle.wac_graph_bytes.specs.Typing.{◌>>=◌, Worlds, Scope, Known, Inside, space, with_core, nothing_inside, adds_inside, imports_inside, exports_inside, defined, described, alias_of, alias_sort, module_tree, instance_tree, component_tree, declared}
 use Rattle.wac_graph_bytes.specs.Meaning.{start, steps}
 use Rattle.wac_graph_bytes.specs.Views.{view, before, declarations_of}
@@ -107,23 +108,33 @@ counters_true w c outer i scope h sort.Component = h.components
 counters_true w c outer i scope h sort.Instance = h.instances
 counters_true w c outer i scope h sort.Module = h.modules
 
-nothing_named : (xs : List (Name × Tree)) → ◌≡◌ {A = List Name} (names_of xs) [] → xs ≡ []
+pub nothing_named : (xs : List (Name × Tree)) → ◌≡◌ {A = List Name} (names_of xs) [] → xs ≡ []
 nothing_named [] e = refl
 nothing_named (x ∷ xs) e = absurd (cc e)
 
+-- the entries are read to what stood in the scope, and their indexes are counted
+abbrev pub IsReadAs : Worlds → Inside → Root → Type 0
+IsReadAs w i root = (steps w start (map view root.entries.items) ≡ Some (at_root i)) × ((s : Sort) → counted root.counts s ≡ count_of s root.entries.items)
+
 -- what is taken is read
+entries_read : (scope : ItemScope) (new : Root) → AddsRead [] new.entries.items (root_entries (declarations_of scope.types.declarations.items)) → ((s : Sort) → counted new.counts s ≡ counter scope s)
+    → (w : Worlds) (c : Collection) (i : Inside) → IsItemScope w c [] i scope → i.exports ≡ [] → IsReadAs w i new
+entries_read scope new entries counts w c i stands nothing =
+    let ds = declarations_of scope.types.declarations.items in
+    let read = stands.written.reads in
+    let all : steps w start (map view new.entries.items) ≡ Some (at_root i) =
+    ap (λ (es : List Entry). steps w start es) entries ∙ roots_read w nothing_inside i ds (no_export w [] nothing_inside i ds read nothing).0 read in
+    (all, λ s. counts s ∙ counters_true w c [] i scope stands s ∙ entry_steps.counted w new.entries.items (at_root i) s all)
+
 pub taken_reads : (scope : ImportScope) (new : Root) → AddsRead [] new.entries.items (root_entries (declarations_of scope.scope.types.declarations.items))
     → ((s : Sort) → counted new.counts s ≡ counter scope.scope s) → new.imports.items ≡ scope.places.items
     → (w : Worlds) (c : Collection) (world : WorldId) (imported : List Name) (h : WritesWorld w c [] world scope imported []) → IsReadTo w c world h.writing.inside new
 taken_reads scope new entries counts places w c world imported h =
     let i = h.writing.inside in
-    let ds = declarations_of scope.scope.types.declarations.items in
-    let read = h.writing.stands.written.reads in
-    let all : steps w start (map view new.entries.items) ≡ Some (at_root i) =
-    ap (λ (es : List Entry). steps w start es) entries ∙ roots_read w nothing_inside i ds (no_export w [] nothing_inside i ds read (nothing_named i.exports h.writing.exports)).0 read in
+    let read = entries_read scope.scope new entries counts w c i h.writing.stands (nothing_named i.exports h.writing.exports) in
     record {
-      reads = all;
-      counts = λ s. counts s ∙ counters_true w c [] i scope.scope h.writing.stands s ∙ entry_steps.counted w new.entries.items (at_root i) s all;
+      reads = read.0;
+      counts = read.1;
       placed = subst (λ (ps : List (Option SortIndex)). ArePlaced w c (i.here ∷ []) (imports_of c world) ps) (sym places) h.placed;
     }
 
@@ -140,3 +151,8 @@ pub scope_reads : (scope : ImportScope) (old new : Root) → TakesScope scope ol
     → IsReadTo w c world h.writing.inside new
 scope_reads scope old new t none w c world imported h =
     taken_reads scope new (t.entries ∙ ap (λ (es : List CodeEntry). map view es ++ root_entries (declarations_of scope.scope.types.declarations.items)) none) t.counts t.imports w c world imported h
+
+-- likewise where more than a world is imported
+pub scope_read : (scope : ImportScope) (old new : Root) → TakesScope scope old new → old.entries.items ≡ [] → (w : Worlds) (c : Collection) (i : Inside) → IsItemScope w c [] i scope.scope → i.exports ≡ [] → IsReadAs w i new
+scope_read scope old new t none w c i stands nothing =
+    entries_read scope.scope new (t.entries ∙ ap (λ (es : List CodeEntry). map view es ++ root_entries (declarations_of scope.scope.types.declarations.items)) none) t.counts w c i stands nothing

@@ -1,7 +1,7 @@
--- When the root of a component is begun: types and outer imports are written in a scope, and packages are nested behind them.
-use Rattle.std.specs.Prelude.{◌≡◌, ℕ, true, List, [], map, Option, Some, Result, OnOk, slice_get}
+-- When the root of a component is begun: types and outer imports are written in a scope, and packages are imported or nested behind
+-- them.
+use Rattle.std.specs.Prelude.{◌≡◌, ℕ, Bool, true, false, List, [], map, Option, Some, Result, OnOk, slice_get}
 use Rattle.wac_types_base.specs.declared.ids.WorldId.{WorldId}
-use Rattle.wac_types_base.specs.Record.{Collection}
 use Rattle.wac_types_base.specs.Entries.{AreDistinct, Name, names_of, value_at}
 use Rattle.wac_types_base.specs.Graph.{Among}
 use Rattle.wac_types_base.specs.Tree.{Tree}
@@ -21,42 +21,53 @@ use Rattle.wac_graph_asks.specs.Wirings.{asked_trees}
 use Rattle.wac_graph_encode.specs.Defining.{AreToWrite}
 use Rattle.wac_graph_encode.specs.Encoding.{nested_at, bytes_of}
 use Rattle.wac_graph_encode.specs.Nesting.{IsTold}
+use Rattle.wac_graph_encode.specs.Importing.{AreWorldsOf, with_packages}
 use Rattle.wac_graph_encode.specs.Writing.{IsBegun}
 
-abbrev pub AreTold : Graph → Worlds → List PackageId → Type 0
-AreTold g w ids = (id : PackageId) → Among id ids → IsTold g w id
+abbrev pub AreTold : (define : Bool) → Graph → Worlds → List PackageId → Type 0
+AreTold define g w ids = (id : PackageId) → Among id ids → IsTold define g w id
 
 -- where only types and outer imports are written, these stand for nodes, and those for the outer imports that are asked
 pub record IsRooted (g : Graph) (w : Worlds) (called : List Called) (i : Inside) (nodes : List (ℕ × SortIndex)) (imports : List (Option SortIndex)) : Type 0 where
   pub nodes_stand : (k : ℕ) (p : SortIndex) → Among (k, p) nodes → StandsAt g w (at_root i) [] k p
   pub outers_stand : (one : Called) (p : SortIndex) → Among one called → slice_get imports one.at ≡ Some (Some p) → IsOuterAt g w (at_root i) one.name p
 
--- The root is begun, with the packages nested, where nothing stood there but nodes, and outer imports in the scope.
+abbrev pub IsBare : Root → Type 0
+IsBare root = (root.entries.items ≡ []) × (root.packages.entries ≡ [])
+
+-- the root is begun, with these outer imports and with the packages
+abbrev pub IsBegunWith : Writing → Worlds → List (Name × Tree) → List Called → Root → Type 0
+IsBegunWith x w imports called root =
+    IsBegun x.options.now.define_components w (with_packages x.options.now.define_components x.graph.now x.all.types.now x.worlds.now.entries imports) called x.graph.now root
+
+-- The root is begun, with the packages behind what is in the scope, where nothing stood at the root but nodes.
 abbrev pub Begins : {U E : Type 0} → Writing → ImportScope → Root → Root → Result U E → Type 0
-Begins x scope old new r = x.options.now.define_components ≡ true → (w : Worlds) (c : Collection) (world : WorldId) (imported : List Name) (called : List Called) (h : WritesWorld w c [] world scope imported [])
-    → old.entries.items ≡ [] → old.packages.entries ≡ [] → AreTold x.graph.now w (names_of x.worlds.now.entries) → IsRooted x.graph.now w called h.writing.inside old.nodes.entries scope.places.items
-    → OnOk r (IsBegun true w h.writing.inside.imports called x.graph.now new)
+Begins x scope old new r = (w : Worlds) (world : WorldId) (imported : List Name) (called : List Called) (h : WritesWorld w x.all.types.now [] world scope imported [])
+    → IsBare old → AreWorldsOf x.graph.now x.all.types.now x.worlds.now.entries → AreTold x.options.now.define_components x.graph.now w (names_of x.worlds.now.entries)
+    → IsRooted x.graph.now w called h.writing.inside old.nodes.entries scope.places.items → OnOk r (IsBegunWith x w h.writing.inside.imports called new)
 
 -- ---- from a new scope on
 
 -- with these imports, which are what the graph asks, the root is begun
-pub record IsBegunRoot (g : Graph) (w : Worlds) (called : List Called) (root : Root) : Type 0 where
+pub record IsBegunRoot (x : Writing) (w : Worlds) (called : List Called) (root : Root) : Type 0 where
   pub imports : List (Name × Tree)
   pub once : AreDistinct (names_of imports)
-  pub asked : (n : Name) → value_at imports n ≡ asked_trees g n
-  pub begun : IsBegun true w imports called g root
+  pub asked : (n : Name) → value_at imports n ≡ asked_trees x.graph.now n
+  pub begun : IsBegunWith x w imports called root
 
--- what is to be written: the outer imports of the graph, and its definitions in the forms in which they are written
+-- what is to be written: the outer imports of the graph, the packages' worlds, and its definitions in the forms in which they are written
 pub record IsToBegin (x : Writing) : Type 0 where
   pub outers : IsOuters x.graph.now x.all.types.now x.all.world x.all.called.now
+  pub worlds : AreWorldsOf x.graph.now x.all.types.now x.worlds.now.entries
   pub definitions : AreToWrite x.graph.now x.all.types.now x.definitions.now
 
-abbrev pub IsBare : Root → Type 0
-IsBare root = (root.entries.items ≡ []) × (root.packages.entries ≡ [])
+-- what is nested: the packages, or nothing
+abbrev pub nested_bytes : (define : Bool) → Graph → List PackageId → List (List ℕ)
+nested_bytes true g ids = map (bytes_of g) ids
+nested_bytes false g ids = []
 
--- where packages are nested, nothing else is
 abbrev pub NestsThese : {U E : Type 0} → Writing → Root → Root → Result U E → Type 0
-NestsThese x old new r = x.options.now.define_components ≡ true → IsBare old → OnOk r (nested_at new.entries.items ≡ map (bytes_of x.graph.now) (names_of x.worlds.now.entries))
+NestsThese x old new r = IsBare old → OnOk r (nested_at new.entries.items ≡ nested_bytes x.options.now.define_components x.graph.now (names_of x.worlds.now.entries))
 
 abbrev pub BeginsRoot : {U E : Type 0} → Writing → Root → Root → Result U E → Type 0
-BeginsRoot x old new r = x.options.now.define_components ≡ true → IsToBegin x → IsBare old → (w : Worlds) → AreTold x.graph.now w (names_of x.worlds.now.entries) → OnOk r (IsBegunRoot x.graph.now w x.all.called.now new)
+BeginsRoot x old new r = IsToBegin x → IsBare old → (w : Worlds) → AreTold x.options.now.define_components x.graph.now w (names_of x.worlds.now.entries) → OnOk r (IsBegunRoot x w x.all.called.now new)

@@ -3,13 +3,14 @@ use Rattle.std.specs.Prelude.{◌≡◌, ◌↔◌, ◌⊎◌, ℕ, Bool, true, 
 use Rattle.wac_types_base.specs.declared.item.ItemKind.{ItemKind}
 use Rattle.wac_types_base.specs.declared.ids.WorldId.{WorldId}
 use Rattle.wac_types_base.specs.Record.{Collection}
-use Rattle.wac_types_base.specs.Entries.{AreDistinct}
+use Rattle.wac_types_base.specs.Entries.{AreDistinct, Name}
 use Rattle.wac_types_base.specs.Graph.{Among}
 use Rattle.wac_types_base.specs.Collection.{Stands}
 use Rattle.wac_types_base.specs.Stated.{stated_of}
-use Rattle.wac_types_base.specs.Tree.{tree, tree_of}
+use Rattle.wac_types_base.specs.Tree.{Tree, tree, tree_of}
 use Rattle.wac_types_names.specs.Packaged.{Packaged}
 use Rattle.wac_types_names.specs.Keys.{package_key}
+use Rattle.wac_names.specs.ComponentNames.{IsDependency}
 use Rattle.wac_graph_bytes.specs.declared.entry.Entry.{Entry as CodeEntry}
 use Rattle.wac_graph_bytes.specs.Entries.{Entry, Nested, Section, entries_of}
 use Rattle.wac_graph_bytes.specs.Views.{view}
@@ -58,6 +59,13 @@ tag_of false p = OfDependency (dependency_name (package_key p))
 pub record AreTrueOf (define : Bool) (g : Graph) (worlds : Worlds) : Type 0 where
   pub each : (k : ℕ) (p : Packaged) → instantiated g k ≡ Some p → worlds (tag_of define p) ≡ tree_of g.types (ItemKind.Instance p.instance_type)
 
+abbrev pub IsInstantiated : Graph → Packaged → Type 0
+IsInstantiated g p = (k : ℕ) × (instantiated g k ≡ Some p)
+
+-- each of these packages has a name under which it can be imported
+abbrev pub HaveDependencyNames : Graph → Type 0
+HaveDependencyNames g = (p : Packaged) → IsInstantiated g p → IsDependency (dependency_name (package_key p))
+
 -- ---- nested components
 
 abbrev pub nested_in : List Entry → List (List ℕ)
@@ -77,9 +85,6 @@ bytes_in (Some p) = p.bytes
 abbrev pub bytes_of : Graph → PackageId → List ℕ
 bytes_of g id = bytes_in (package_of g id)
 
-abbrev pub IsInstantiated : Graph → Packaged → Type 0
-IsInstantiated g p = (k : ℕ) × (instantiated g k ≡ Some p)
-
 abbrev pub nested_strings : (define : Bool) → List Packaged → List (List ℕ)
 nested_strings true packages = map (λ p. p.bytes) packages
 nested_strings false packages = []
@@ -95,20 +100,24 @@ pub record NestsPackages (define : Bool) (g : Graph) (bytes : List ℕ) : Type 0
 
 -- ---- the theorem
 
+-- where packages are imported, this one is: as a component of its stated world, under its dependency's name
+abbrev pub IsImportedIn : (define : Bool) → Graph → Packaged → List (Name × Tree) → Type 0
+IsImportedIn true g p imports = Unit {0}
+IsImportedIn false g p imports = Among (dependency_name (package_key p), tree (stated_of g.types (ItemKind.Component p.ty))) imports
+
 -- In these worlds the bytes mean the graph's wiring, of which there is one, but for the numbers of instances.
 pub record MeansGraph (define : Bool) (g : Graph) (worlds : Worlds) (bytes : List ℕ) : Type 0 where
   pub meant : Wiring ℕ
   pub means : Means worlds bytes meant
   pub same : (W : Wiring ℕ) → IsGraphWiring g W → Same (as_written define g W) meant
+  pub packages : (p : Packaged) → IsInstantiated g p → IsImportedIn define g p means.last.listed.imports
 
 -- so it is in all worlds that are true of the packages
 abbrev pub MeansWiring : (define : Bool) → Graph → List ℕ → Type 0
 MeansWiring define g bytes = (worlds : Worlds) → AreTrueOf define g worlds → MeansGraph define g worlds bytes
 
-pub record IsEncoded (define validate : Bool) (g : Graph) (bytes : List ℕ) : Type 0 where
-  -- nothing stood against it
-  pub free : first_cause define (composition_of g) ≡ None
-  pub apart : name_cause define validate (composition_of g) ≡ None
+-- with the packages nested, or imported: each that is instantiated, once
+pub record IsComposed (define : Bool) (g : Graph) (bytes : List ℕ) : Type 0 where
   pub nests : NestsPackages define g bytes
   pub means : MeansWiring define g bytes
 
@@ -116,9 +125,3 @@ pub record IsEncoded (define validate : Bool) (g : Graph) (bytes : List ℕ) : T
 -- no world in it has uses of its own.
 abbrev pub HasTrueWorld : Graph → Collection → WorldId → Type 0
 HasTrueWorld g types world = IsOf types (composed_world (composition_of g)) (ItemKind.Component world)
-
--- why it is refused but for sizes and memory: the first cause, and once all is written the first names that are alike
-abbrev pub IsCause : (define validate : Bool) → Graph → Cause ℕ → Type 0
-IsCause define validate g c =
-    (first_cause define (composition_of g) ≡ Some c)
-    ⊎ ((first_cause define (composition_of g) ≡ None) × (name_cause define validate (composition_of g) ≡ Some c))

@@ -1,5 +1,5 @@
 -- What entries mean that are finished.
-use Rattle.std.specs.Prelude.{◌≡◌, ℕ, Bool, true, List, [], map, Result, IfOk}
+use Rattle.std.specs.Prelude.{◌≡◌, ℕ, Bool, true, false, List, [], map, Result, IfOk}
 use Rattle.std.specs.declared.alloc.Global.{Global}
 use Rattle.std.specs.declared.vec.Vec.{Vec}
 use Rattle.std.specs.List.{AllByRecursion}
@@ -28,11 +28,12 @@ use Rattle.wac_graph_encode.specs.declared.instances.Wired.{Wired}
 use Rattle.wac_graph_encode.specs.declared.root.Writing.{Writing}
 use Rattle.wac_graph_encode.specs.Standing.{IsFinished}
 use Rattle.wac_graph_encode.specs.Defining.{AreToWrite}
-use Rattle.wac_graph_encode.specs.Encoding.{nested_in, bytes_of, NestsPackages, MeansGraph, MeansWiring}
+use Rattle.wac_graph_encode.specs.Encoding.{nested_in, HaveDependencyNames, MeansGraph, IsComposed}
 use Rattle.wac_graph_encode.specs.Formed.{AreCopied}
-use Rattle.wac_graph_encode.specs.Refused.{HasNoneUnwritten, IsRefusedFor}
+use Rattle.wac_graph_encode.specs.Refused.{HasNoneAlike, HasNoneUnwritten, IsRefusedFor}
 use Rattle.wac_graph_encode.specs.Worlds.{IsToHandOut}
-use Rattle.wac_graph_encode.specs.Beginning.{AreTold, IsBare, IsToBegin}
+use Rattle.wac_graph_encode.specs.Beginning.{AreTold, IsBare, IsToBegin, nested_bytes}
+use Rattle.wac_graph_encode.specs.Importing.{AreToImport, AreWorldsOf}
 
 -- Entries that are finished over the outer imports that the graph asks, with the packages nested, state each wiring of the graph.
 abbrev pub FinishedIsWired : Type 0
@@ -48,22 +49,26 @@ pub record AreSpelled (es : List Entry) (bytes : List ℕ) : Type 0 where
   pub spelled : bytes ≡ component_bytes sections
   pub fits : AllByRecursion (λ s. section_fits s ≡ true) sections
 
--- Where packages are nested and this holds, so it is in each world that is told of the packages.
+-- these are the packages that are instantiated, each once
+abbrev pub AreInstantiated : Graph → List PackageId → Type 0
+AreInstantiated g ids = ids ≡ with_ids [] (package_ids g)
+
+-- Where this holds and the packages can be nested or imported, so it is in each world that is told of them.
 abbrev pub MeansSo : {E : Type 0} → (define : Bool) → Graph → List PackageId → (P : Type 0) → Result (Vec ℕ Global) E → Type 0
-MeansSo define g ids P r = define ≡ true → P → (w : Worlds) → AreTold g w ids → IfOk r (λ bytes. MeansGraph true g w bytes.items)
+MeansSo define g ids P r = P → AreInstantiated g ids → AreToImport define g ids → (w : Worlds) → AreTold define g w ids → IfOk r (λ bytes. MeansGraph define g w bytes.items)
 
 -- where nothing of the graph is written yet
 abbrev pub MeansWired : {E : Type 0} → Writing → Wired → Result (Vec ℕ Global) E → Type 0
 MeansWired x old r = old.graph.now ≡ x.graph.now → IsBare old.root → MeansSo x.options.now.define_components x.graph.now (names_of x.worlds.now.entries) (IsToBegin x) r
 
--- the bytes nest the packages of these ids, in order and unchanged, and nothing else
-pub record NestsBytes (g : Graph) (ids : List PackageId) (bytes : List ℕ) : Type 0 where
+-- the bytes nest the packages of these ids, in order and unchanged, or none, and nothing else
+pub record NestsBytes (define : Bool) (g : Graph) (ids : List PackageId) (bytes : List ℕ) : Type 0 where
   pub sections : List Section
   pub spelled : bytes ≡ component_bytes sections
-  pub nested : nested_in (entries_of sections) ≡ map (bytes_of g) ids
+  pub nested : nested_in (entries_of sections) ≡ nested_bytes define g ids
 
 abbrev pub NestsSo : {E : Type 0} → (define : Bool) → Graph → List PackageId → Result (Vec ℕ Global) E → Type 0
-NestsSo define g ids r = define ≡ true → IfOk r (λ bytes. NestsBytes g ids bytes.items)
+NestsSo define g ids r = IfOk r (λ bytes. NestsBytes define g ids bytes.items)
 
 -- where nothing is written yet
 abbrev pub NestsWired : {E : Type 0} → Writing → Wired → Result (Vec ℕ Global) E → Type 0
@@ -72,29 +77,33 @@ NestsWired x old r = IsBare old.root → NestsSo x.options.now.define_components
 -- of the graph's outer imports, with its definitions in the forms in which they are written
 abbrev pub MeansAsked : {E : Type 0} → Graph → Asked → Outers → List Definition → EncodeOptions → Result (Vec ℕ Global) E → Type 0
 MeansAsked g asked outers xs options r =
-    MeansSo options.define_components g (names_of asked.packages.entries) (IsOuters g asked.types outers.world outers.called.items × AreToWrite g asked.types xs) r
+    MeansSo options.define_components g (names_of asked.packages.entries) (IsOuters g asked.types outers.world outers.called.items × AreWorldsOf g asked.types asked.packages.entries × AreToWrite g asked.types xs) r
 
 -- ---- once all is asked
 
 -- All that the graph asks has outer imports, and its definitions have copies, in one collection.
 pub record IsPrepared (g : Graph) (a : Asked) (o : Outers) : Type 0 where
   pub acyclic : IsAcyclic a.types
-  pub packages : names_of a.packages.entries ≡ with_ids [] (package_ids g)
+  pub packages : AreInstantiated g (names_of a.packages.entries)
+  pub worlds : AreWorldsOf g a.types a.packages.entries
   pub definitions : map (placed_in g.types) a.definitions.items ≡ (composition_of g).definitions
   pub copies : AreCopied g.types a.types a.definitions.items
   pub outers : IsOuters g a.types o.world o.called.items
 
--- where packages are nested: those that are instantiated are, each once and unchanged, and the bytes mean the graph's wiring
-pub record IsComposed (g : Graph) (bytes : List ℕ) : Type 0 where
-  pub nests : NestsPackages true g bytes
-  pub means : MeansWiring true g bytes
-
 abbrev pub MeansNested : Graph → EncodeOptions → List ℕ → Type 0
-MeansNested g options bytes = options.define_components ≡ true → IsComposed g bytes
+MeansNested g options bytes = options.define_components ≡ true → IsComposed true g bytes
+
+-- where their names are those of dependencies
+abbrev pub MeansImported : Graph → EncodeOptions → List ℕ → Type 0
+MeansImported g options bytes = options.define_components ≡ false → HaveDependencyNames g → IsComposed false g bytes
 
 -- once it is prepared
 abbrev pub PreparedMeans : Graph → Asked → Outers → EncodeOptions → List ℕ → Type 0
 PreparedMeans g a o options bytes = IsPrepared g a o → MeansNested g options bytes
+
+-- and no names are alike
+abbrev pub PreparedImports : Graph → Asked → Outers → EncodeOptions → List ℕ → Type 0
+PreparedImports g a o options bytes = IsPrepared g a o → HasNoneAlike options g → MeansImported g options bytes
 
 -- and its types can be written
 abbrev pub RefusesPrepared : Graph → Asked → Outers → EncodeOptions → Refusal → Type 0

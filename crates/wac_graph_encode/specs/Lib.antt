@@ -9,3 +9,4 @@ pub mod Nesting
 pub mod Beginning
 pub mod Refused
 pub mod Worlds
+pub mod Importing

@@ -1,6 +1,6 @@
 -- Packages that are nested at the root of a component.
 pub use Rattle.wac_graph_encode.specs.Encoding.{bytes_in, bytes_of}
-use Rattle.std.specs.Prelude.{◌≡◌, ℕ, ◌+◌, List, [], ◌∷◌, length, map, Some, Result, OnOk, true, if◌then◌else◌}
+use Rattle.std.specs.Prelude.{◌≡◌, ℕ, ◌+◌, Bool, List, [], ◌∷◌, length, map, Some, if◌then◌else◌}
 use Rattle.indexmap.specs.IndexMap.{insert_entry, insert_all}
 use Rattle.wac_types_base.specs.declared.item.ItemKind.{ItemKind}
 use Rattle.wac_types_base.specs.Entries.{names_of}
@@ -12,13 +12,12 @@ use Rattle.wac_graph_bytes.specs.declared.value.Sort.TheVariants as sort
 use Rattle.wac_graph_bytes.specs.Counting.{same_sort}
 use Rattle.wac_graph_bytes.specs.Entries.{Nested}
 use Rattle.wac_graph_bytes.specs.Typing.{Worlds}
-use Rattle.wac_graph_bytes.specs.Wirings.{OfBytes}
 use Rattle.wac_graph_scopes.specs.declared.imports.ImportScope.{ImportScope}
 use Rattle.wac_graph_core.specs.declared.ids.PackageId.{PackageId}
 use Rattle.wac_graph_core.specs.contracts.ids.PackageIdPartialEq.TheImpl as package_id
 use Rattle.wac_graph_core.specs.Graph.{Graph, package_of}
 use Rattle.wac_graph_encode.specs.declared.root.Root.{Root}
-use Rattle.wac_graph_encode.specs.declared.root.Writing.{Writing}
+use Rattle.wac_graph_encode.specs.Encoding.{tag_of}
 use Rattle.wac_graph_encode.specs.Standing.{counted, CountsOne}
 use Rattle.wac_graph_encode.specs.Writing.{AddsEntry}
 use Rattle.wac_graph_encode.specs.Rooting.{AddsRead, TakesScope}
@@ -53,12 +52,8 @@ pub record NestsBehind (g : Graph) (ids : List PackageId) (scope : ImportScope) 
   pub takes : TakesScope scope old taken
   pub nests : NestsAll g ids taken new
 
--- they are, where the options say so
-abbrev pub NestsIfDefined : {U E : Type 0} → Writing → ImportScope → Root → Root → Result U E → Type 0
-NestsIfDefined x scope old new r = x.options.now.define_components ≡ true → OnOk r (NestsBehind x.graph.now (names_of x.worlds.now.entries) scope old new)
-
 -- the worlds say what an instance of the package is
-pub record IsTold (g : Graph) (worlds : Worlds) (id : PackageId) : Type 0 where
+pub record IsTold (define : Bool) (g : Graph) (worlds : Worlds) (id : PackageId) : Type 0 where
   pub of : Packaged
   pub is : package_of g id ≡ Some of
-  pub world : worlds (OfBytes of.bytes) ≡ Some (tree (stated_of g.types (ItemKind.Instance of.instance_type)))
+  pub world : worlds (tag_of define of) ≡ Some (tree (stated_of g.types (ItemKind.Instance of.instance_type)))

@@ -11,8 +11,8 @@ ghost use Rattle.wac_graph_causes.specs.Acyclic.{IsNoCycle};
 ghost use Rattle.wac_graph_encode.specs.Encoding.{HasTrueWorld};
 ghost use Rattle.wac_graph_encode.specs.Worlds.{IsToHandOut};
 ghost use Rattle.wac_graph_encode.specs.Refused.{HasNoneAlike, HasNoneClashing, HasNoneUnwritten, IsErrorFor, IsFree, IsRefusedFor};
-ghost use Rattle.wac_graph_encode.specs.Finished.{AreSpelled, IsPrepared, MeansAsked, MeansNested, MeansWired, NestsSo, NestsWired};
-ghost use Rattle.wac_graph_encode.specs.Finished.{PreparedHands, PreparedMeans, RefusesPrepared};
+ghost use Rattle.wac_graph_encode.specs.Finished.{AreSpelled, IsPrepared, MeansAsked, MeansImported, MeansNested, MeansWired, NestsSo, NestsWired};
+ghost use Rattle.wac_graph_encode.specs.Finished.{PreparedHands, PreparedImports, PreparedMeans, RefusesPrepared};
 
 use crate::forms::written_definitions;
 use crate::instances::Wired;
@@ -53,6 +53,8 @@ fn bytes_wired(writing: Writing<'_>, wired: &mut Wired<'_>) -> Result<Vec<u8>, U
     ensures nests { NestsWired writing.entry wired.old result }
 {
     writing.graph.see_sound();
+    writing.graph.types().see_acyclic();
+    writing.all.types.see_acyclic();
     write_root(writing, &mut wired.root)?;
     let names = wired.write_all(writing.all.called)?;
     let alloc = writing.graph.alloc();
@@ -112,6 +114,7 @@ fn bytes_asked(
 ) -> Result<(Vec<u8>, Vec<Definition>), Refusal>
     requires { CopiesStand asked.old.types asked.old.definitions.items }
     ensures means { IfOk result (λ p. PreparedMeans graph.now asked.old outers.now options.now p.0.items) }
+    ensures imports { IfOk result (λ p. PreparedImports graph.now asked.old outers.now options.now p.0.items) }
     ensures apart { OnOk result (IsPrepared graph.now asked.old outers.now → HasNoneAlike options.now graph.now) }
     ensures ready { IfOk result (λ p. PreparedHands graph.now asked.old asked.new outers.now p.1.items) }
     ensures refused { IfErr result (RefusesPrepared graph.now asked.old outers.now options.now) }
@@ -143,6 +146,7 @@ fn encoded_asked(
     requires copies { CopiesStand asked.old.types asked.old.definitions.items }
     requires prepared { IsPrepared graph.now asked.old outers.now }
     ensures means { IfOk result (λ e. MeansNested graph.now options.now e.bytes.items) }
+    ensures imports { IfOk result (λ e. MeansImported graph.now options.now e.bytes.items) }
     ensures apart { OnOk result (HasNoneAlike options.now graph.now) }
     ensures refused { IfErr result (λ e. HasNoneUnwritten options.now graph.now → IsRefusedFor options.now graph.now e) }
     ensures number { IfOk result (λ e. e.types.number ≡ number) }
@@ -183,6 +187,7 @@ fn encoded(
     numbers: (u64, u64),
 ) -> Result<Encoded, Refusal>
     ensures means { IfOk result (λ e. MeansNested graph.now options.now e.bytes.items) }
+    ensures imports { IfOk result (λ e. MeansImported graph.now options.now e.bytes.items) }
     ensures free { OnOk result (IsFree options.now graph.now) }
     ensures refused { IfErr result (IsRefusedFor options.now graph.now) }
     ensures number { IfOk result (λ e. e.types.number ≡ numbers.1) }
@@ -210,6 +215,7 @@ pub trait EncodeGraph {
     /// The bytes of the composition.
     fn encode(&self, options: EncodeOptions) -> Result<Vec<u8>, EncodeError>
         ensures means { IfOk result (λ bytes. MeansNested (graph self.now) options bytes.items) }
+        ensures imports { IfOk result (λ bytes. MeansImported (graph self.now) options bytes.items) }
         ensures free { OnOk result (IsFree options (graph self.now)) }
         ensures refused { IfErr result (IsErrorFor options (graph self.now)) }
         ensures acyclic { IfErr result IsNoCycle };
@@ -222,6 +228,7 @@ pub trait EncodeGraph {
         numbers: (u64, u64),
     ) -> Result<Encoded, EncodeError>
         ensures means { IfOk result (λ e. MeansNested (graph self.now) options e.bytes.items) }
+        ensures imports { IfOk result (λ e. MeansImported (graph self.now) options e.bytes.items) }
         ensures free { OnOk result (IsFree options (graph self.now)) }
         ensures refused { IfErr result (IsErrorFor options (graph self.now)) }
         ensures number { IfOk result (λ e. e.types.number ≡ numbers.1) }

@@ -17,7 +17,8 @@ ghost use Rattle.wac_graph_encode.specs.Writing.{AddsEntry, AddsIndex, AddsInsta
 ghost use Rattle.wac_graph_encode.specs.Rooting.{AddsRead, IsNewScope, ReadsAtRoot, TakesScope, WritesItem, WritesOuters, WritesOwn, counter};
 ghost use Rattle.wac_graph_encode.specs.Defining.{AddsDefinitions, WritesDefinition, WritesDefinitions};
 ghost use Rattle.wac_graph_encode.specs.Beginning.{Begins, BeginsRoot, NestsThese};
-ghost use Rattle.wac_graph_encode.specs.Nesting.{NestsAll, NestsBehind, NestsIfDefined, NestsOne, bytes_of};
+ghost use Rattle.wac_graph_encode.specs.Nesting.{NestsAll, NestsBehind, NestsOne, bytes_of};
+ghost use Rattle.wac_graph_encode.specs.Importing.{ImportsAll, ImportsBefore, ImportsComponent, ImportsPackage};
 
 use crate::options::EncodeOptions;
 use indexmap::IndexMap;
@@ -28,7 +29,8 @@ use wac_graph_bytes::{Alias, Declaration, Description, Entry, NamedIndex, Sort};
 use wac_graph_causes::errors::{Unwritten, not_written};
 use wac_graph_causes::names::dependency_name;
 use wac_graph_core::{CompositionGraph, NodeId, PackageId};
-use wac_graph_scopes::imports::{ImportScope, Importing, SortIndex};
+use wac_graph_scopes::fault::WriteError;
+use wac_graph_scopes::imports::{ImportScope, Importing, SortIndex, describe_alone};
 use wac_graph_scopes::items::ItemScope;
 use wac_graph_scopes::parts::{Item, import_at};
 use wac_graph_scopes::scope::KnownTypes;
@@ -263,50 +265,59 @@ fn write_definitions(
     Ok(defined.into_nodes())
 }
 
-/// Imports an item.
-fn import_item(
+/// Imports a component of that world under that name: its index.
+fn import_component(
     alloc: Global,
     scope: &mut ImportScope,
-    all: Importing<'_>,
-    item: Item<'_>,
-) -> Result<u32, Unwritten> {
-    let description = write_type(alloc, scope, all, item.name, item.kind)?;
-    match scope.import(alloc, all.types, item, description) {
-        Ok(place) => Ok(place.index),
-        Err(fault) => Err(not_written(alloc, item.name, fault)),
-    }
+    types: &Types,
+    name: &str,
+    world: WorldId,
+) -> Result<u32, WriteError>
+    ensures imports { ImportsComponent types.now name.now world scope.old.scope scope.new.scope result }
+    ensures places { scope.new.places ≡ scope.old.places }
+{
+    let kind = ItemKind::Component(world);
+    let description = describe_alone(alloc, &mut scope.scope, types, kind)?;
+    let place = scope.import(alloc, types, Item { name, kind }, description)?;
+    Ok(place.index)
 }
 
 /// Imports a package of that world, and adds its index.
 fn import_package(
     graph: &CompositionGraph,
     scope: &mut ImportScope,
-    all: Importing<'_>,
+    types: &Types,
     id: PackageId,
     world: WorldId,
     packages: &mut IndexMap<PackageId, u32>,
-) -> Result<(), Unwritten> {
+) -> Result<(), Unwritten>
+    ensures imports { ImportsPackage graph.now types.now id world scope.old.scope packages.old.entries scope.new.scope packages.new.entries result }
+    ensures places { scope.new.places ≡ scope.old.places }
+{
     let alloc = graph.alloc();
     let name = dependency_name(alloc, graph, id)?;
-    let item = Item {
-        name: name.as_str(),
-        kind: ItemKind::Component(world),
-    };
-    let index = import_item(alloc, scope, all, item)?;
-    let _ = packages.insert(id, index)?;
-    Ok(())
+    match import_component(alloc, scope, types, name.as_str(), world) {
+        Ok(index) => {
+            let _ = packages.insert(id, index)?;
+            Ok(())
+        }
+        Err(fault) => Err(not_written(alloc, name.as_str(), fault)),
+    }
 }
 
 /// Imports the packages, and adds their indexes.
 fn import_packages(
     graph: &CompositionGraph,
     scope: &mut ImportScope,
-    all: Importing<'_>,
+    types: &Types,
     worlds: &IndexMap<PackageId, WorldId>,
     packages: &mut IndexMap<PackageId, u32>,
-) -> Result<(), Unwritten> {
+) -> Result<(), Unwritten>
+    ensures imports { ImportsAll graph.now types.now worlds.now.entries scope.old.scope packages.old.entries scope.new.scope packages.new.entries result }
+    ensures places { scope.new.places ≡ scope.old.places }
+{
     for (id, world) in worlds.iter() {
-        import_package(graph, scope, all, *id, *world, packages)?;
+        import_package(graph, scope, types, *id, *world, packages)?;
     }
     Ok(())
 }
@@ -542,11 +553,13 @@ fn nest_behind(
 fn import_before(
     graph: &CompositionGraph,
     worlds: &IndexMap<PackageId, WorldId>,
-    all: Importing<'_>,
+    types: &Types,
     scope: &mut ImportScope,
     root: &mut Root,
-) -> Result<(), Unwritten> {
-    import_packages(graph, scope, all, worlds, &mut root.packages)?;
+) -> Result<(), Unwritten>
+    ensures { OnOk result (ImportsBefore graph.now types.now worlds.now.entries scope.old root.old root.new) }
+{
+    import_packages(graph, scope, types, worlds, &mut root.packages)?;
     take_scope(graph.alloc(), scope, root)?;
     Ok(())
 }
@@ -557,13 +570,14 @@ fn write_packages(
     scope: &mut ImportScope,
     root: &mut Root,
 ) -> Result<(), Unwritten>
-    ensures nests { NestsIfDefined writing.entry scope.old root.old root.new result }
+    ensures nests { NestsThese writing.entry root.old root.new result }
     ensures begins { Begins writing.entry scope.old root.old root.new result }
 {
     if writing.options.define_components {
         nest_behind(writing.graph, writing.worlds, scope, root)
     } else {
-        import_before(writing.graph, writing.worlds, writing.all, scope, root)
+        let types = writing.all.types;
+        import_before(writing.graph, writing.worlds, types, scope, root)
     }
 }
 

@@ -11,6 +11,9 @@ use Rattle.wac_graph_core.specs.Steps.{Instantiates, Aliases, SetsArgument}
 use Rattle.wac_graph_core.specs.Exporting.{Exports}
 use Rattle.wac_graph_plug.specs.declared.matching.Match.{Match}
 
+abbrev pub HasNoNodes : Graph → Type 0
+HasNoNodes g = (k : ℕ) → node_at g k ≡ None
+
 -- the node is still there, but for the name that it is exported under
 pub record StaysNode (g : Graph) (k : ℕ) (x : NodeData) : Type 0 where
   pub node : NodeData

@@ -4,9 +4,9 @@ ghost use Rattle.std.specs.Prelude.{◌≡◌, IfOk, OnOk, IfSome, IfNone};
 ghost use Rattle.std.specs.Bool.{Decides};
 ghost use Rattle.wac_types_base.specs.Collection.{Stands};
 ghost use Rattle.wac_types_base.specs.Entries.{Name, AreDistinct, names_of, with_values};
-ghost use Rattle.wac_types_base.specs.Stated.{stated_of, imports_of, exports_of};
+ghost use Rattle.wac_types_base.specs.Stated.{stated_of, exports_of};
 ghost use Rattle.wac_types_fit.specs.Trees.{Fit};
-ghost use Rattle.wac_graph_plug.specs.Plugging.{Finds, AreMatchesOf};
+ghost use Rattle.wac_graph_plug.specs.Plugging.{Finds, AreWorldMatches, component_of};
 ghost use Rattle.wac_graph_plug.specs.Lookups.{IsNext, NoneNear, IsMatchOf, ItemsStandIn, with_match};
 
 use std::alloc::{AllocError, Global};
@@ -91,7 +91,7 @@ fn matched(
 ) -> Result<Option<Match>, AllocError>
     requires given { Stands types.now given }
     requires asked { ItemsStandIn types.now imports.now }
-    ensures { IfOk result (λ o. IsMatchOf (with_values (stated_of types.now) imports.now) name.now (stated_of types.now given) o) }
+    ensures { IfOk result (IsMatchOf (with_values (stated_of types.now) imports.now) name.now (stated_of types.now given)) }
 {
     let import = match find_import(alloc, imports, name)? {
         Some(import) => import,
@@ -132,8 +132,8 @@ pub fn matches_of(
 ) -> Result<Vec<Match>, AllocError>
     requires plug { Stands types.now (ItemKind.Component plug) }
     requires socket { Stands types.now (ItemKind.Component socket) }
-    ensures matches { IfOk result (λ v. AreMatchesOf (imports_of (stated_of types.now (ItemKind.Component socket))) (exports_of (stated_of types.now (ItemKind.Component plug))) v.items) }
-    ensures distinct { OnOk result (AreDistinct (names_of (exports_of (stated_of types.now (ItemKind.Component plug))))) }
+    ensures matches { IfOk result (λ v. AreWorldMatches types.now socket plug v.items) }
+    ensures distinct { OnOk result (AreDistinct (names_of (exports_of (component_of types.now plug)))) }
 {
     types.see_acyclic();
     let exports = &types.world(plug).exports;

@@ -193,7 +193,11 @@ fn index_if_instance(sort: Sort, index: u32) -> Option<u32>
 }
 
 /// What an item is, where no types of interfaces stand around; its type is written.
-fn describe_alone(
+///
+/// # Errors
+///
+/// `WriteError` where its type cannot be written, an index passes 32 bits, or memory is wanting.
+pub fn describe_alone(
     alloc: Global,
     scope: &mut ItemScope,
     types: &Types,

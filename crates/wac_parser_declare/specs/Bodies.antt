@@ -8,7 +8,8 @@ use Rattle.wac_types_base.specs.Stated.{Stated, Kind, IsResource, IsValueType, I
 use Rattle.wac_parser_tree.specs.Trees as t
 use Rattle.wac_parser_declare.specs.Scope.{Scope, Context, Path, has, bind, at_path, path_text, path_span, use_path}
 use Rattle.wac_parser_declare.specs.Declarations.{function, variant_decl, record_decl, flags_decl, enum_decl, type_alias}
-use Rattle.wac_parser_refusals.specs.Causes.{Answer, Fault, ◌>>=◌, ◌>>◌, pure, unless_clear, present, each, NotInterface, UndefinedInterfaceType, NotInterfaceValueType, UseConflict, DuplicateResourceConstructor, DuplicateResourceMethod}
+use Rattle.wac_parser_refusals.specs.Causes.{Answer, Fault, ◌>>=◌, ◌>>◌, pure, unless_clear, present, each}
+use Rattle.wac_parser_refusals.specs.Causes.{NotInterface, UndefinedInterfaceType, NotInterfaceValueType, UseConflict, DuplicateResourceConstructor, DuplicateResourceMethod}
 
 abbrev pub Items : Type 0
 Items = List (Name × Stated)

@@ -3,12 +3,14 @@ use Rattle.std.specs.Prelude.{Bool, true, false, List, [], ◌∷◌, ◌++◌, 
 use Rattle.wac_types_base.specs.declared.item.FuncKind.{FuncKind}
 use Rattle.wac_types_base.specs.Entries.{Name, has_name}
 use Rattle.wac_types_base.specs.Collection as s
-use Rattle.wac_types_base.specs.Stated.{Stated, Kind, IsFunction, IsFunctionType, IsResource, IsValueType, kind_of, desc, as_type, untyped, over, leaf, contains_borrow, func_of, names, shape_of, places_of}
+use Rattle.wac_types_base.specs.Stated.{Stated, Kind, IsFunction, IsFunctionType, IsResource, IsValueType}
+use Rattle.wac_types_base.specs.Stated.{kind_of, desc, as_type, untyped, over, leaf, contains_borrow, func_of, names, shape_of, places_of}
 use Rattle.wac_parser_tree.specs.Trees as t
 use Rattle.wac_parser_tree.specs.Accessors.{ty_span}
 use Rattle.wac_parser_declare.specs.Scope.{Scope, has, named}
 use Rattle.wac_parser_declare.specs.ValueTypes.{value, value_if}
-use Rattle.wac_parser_refusals.specs.Causes.{Answer, Fault, ◌>>=◌, ◌>>◌, pure, refuse, unless_clear, each, NotFuncType, DuplicateParameter, BorrowInResult, DuplicateVariantCase, DuplicateRecordField, DuplicateFlag, DuplicateEnumCase, InvalidAliasType}
+use Rattle.wac_parser_refusals.specs.Causes.{Answer, Fault, ◌>>=◌, ◌>>◌, pure, refuse, unless_clear, each}
+use Rattle.wac_parser_refusals.specs.Causes.{NotFuncType, DuplicateParameter, BorrowInResult, DuplicateVariantCase, DuplicateRecordField, DuplicateFlag, DuplicateEnumCase, InvalidAliasType}
 
 -- one more member, whose name is new
 abbrev pub add_member : {T : Type 0} → List (Name × T) → t.Ident → Fault → T → Answer (List (Name × T))

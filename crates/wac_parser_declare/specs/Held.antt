@@ -1,5 +1,6 @@
 -- What stands in a body, and what is stated in it.
-use Rattle.std.specs.Prelude.{map, option_map}
+use Rattle.std.specs.Prelude.{Option, map, option_map}
+use Rattle.std.specs.Borrow.{Bor}
 use Rattle.wac_types_base.specs.declared.item.ItemKind.{ItemKind}
 use Rattle.wac_types_base.specs.declared.defined.UsedType.{UsedType}
 use Rattle.wac_types_base.specs.Record.{Collection}
@@ -31,7 +32,10 @@ stated_body c b = record {
   exports = with_values (stated_of c) b.exports;
 }
 
+abbrev pub text_if : Option (Bor Name) → Option Name
+text_if o = option_map (λ n. n.now) o
+
 -- whose body it is
 abbrev pub holder_of : Holder → stated.Holder
-holder_of (Holder.Interface n) = exporting (option_map (λ m. m.now) n)
+holder_of (Holder.Interface n) = exporting (text_if n)
 holder_of (Holder.World n) = importing n.now

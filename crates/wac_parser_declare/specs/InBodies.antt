@@ -21,12 +21,13 @@ use Rattle.wac_parser_tree.specs.declared.declaration.ResourceDecl.{ResourceDecl
 use Rattle.wac_parser_tree.specs.declared.declaration.ItemTypeDecl.{ItemTypeDecl}
 use Rattle.wac_parser_tree.specs.Views.{view_constructor, view_ident, view_item_type_decl, view_method, view_resource_decl, view_resource_method}
 use Rattle.wac_parser_refusals.specs.declared.refusal.Refusal.{Refusal}
-use Rattle.wac_parser_refusals.specs.Causes.{Answer, ◌>>=◌, ◌>>◌, each, pure, unless_clear}
+use Rattle.wac_parser_refusals.specs.Causes.{Answer, ◌>>=◌, ◌>>◌, UndefinedName, each, present, pure, unless_clear}
 use Rattle.wac_parser_refusals.specs.Outcomes.{IsOutcome}
 use Rattle.wac_parser_declare.specs.declared.bodies.Body.{Body}
 use Rattle.wac_parser_declare.specs.declared.bodies.Holder.{Holder}
 use Rattle.wac_parser_declare.specs.declared.functions.Signature.{Signature}
 use Rattle.wac_parser_declare.specs.declared.resources.Owner.{Owner}
+use Rattle.wac_parser_declare.specs.declared.scope.Binding.{Binding}
 use Rattle.wac_parser_declare.specs.Aliases.{stated_resource}
 use Rattle.wac_parser_declare.specs.Bodies as stated
 use Rattle.wac_parser_declare.specs.Bodies.{add_constructor, add_method, add_type, added, item_type, method_kind, method_name, resource_decl, resource_method, with_item}
@@ -34,6 +35,10 @@ use Rattle.wac_parser_declare.specs.Functions.{Names}
 use Rattle.wac_parser_declare.specs.Held.{BodyStands, holder_of, stated_body}
 use Rattle.wac_parser_declare.specs.Holding.{IsFunc, IsType, scope_of}
 use Rattle.wac_parser_declare.specs.Scope.{bind, has}
+
+-- the binding of a name
+abbrev pub IsMeaning : Names → Ident → Result Binding Refusal → Type 0
+IsMeaning names i r = IsOutcome (λ m b. b ≡ m) (present (value_at names i.string.now) (UndefinedName i.string.now) i.span) r
 
 -- a name was given, whatever collection the items stand in
 abbrev pub IsBound : Names → Ident → ItemKind → Names → Result ⊤ Refusal → Type 0

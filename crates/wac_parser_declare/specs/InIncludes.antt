@@ -1,5 +1,5 @@
 -- What is answered of an include: names that are given anew, and the items that come with them.
-use Rattle.std.specs.Prelude.{◌≡◌, ◌&&◌, ◌||◌, not, Bool, false, is_some, cond, List, [], ◌∷◌, ◌++◌, map, Option, Result, option_map, ⊤}
+use Rattle.std.specs.Prelude.{◌≡◌, ◌&&◌, ◌||◌, not, Bool, false, is_some, cond, List, [], ◌∷◌, ◌++◌, map, Option, Result, option_map, OnOk, ⊤}
 use Rattle.wac_types_base.specs.declared.item.ExternKind.{ExternKind}
 use Rattle.wac_types_base.specs.declared.item.ItemKind.{ItemKind}
 use Rattle.wac_types_base.specs.declared.defined.World.{World}
@@ -20,6 +20,7 @@ use Rattle.wac_parser_declare.specs.declared.bodies.Body.{Body}
 use Rattle.wac_parser_declare.specs.declared.scope.Context.{Context as Place}
 use Rattle.wac_parser_declare.specs.Bodies.{Items}
 use Rattle.wac_parser_declare.specs.Held.{stated_body}
+use Rattle.wac_parser_declare.specs.Holding.{ItemsStand}
 use Rattle.wac_parser_declare.specs.InBodies.{IsBody}
 use Rattle.wac_parser_declare.specs.InPaths.{StandsIn}
 use Rattle.wac_parser_declare.specs.Packages.{Known}
@@ -81,6 +82,14 @@ AreIncludedIn c i ws es old new r =
 
 abbrev pub AreIncluded : Inclusion → List t.WorldIncludeItem → List (Name × ItemKind) → List (Name × ItemKind) → List (Name × ItemKind) → Result ⊤ Refusal → Type 0
 AreIncluded i ws es old new r = (c : Collection) → AreIncludedIn c i ws es old new r
+
+-- all imports
+abbrev pub AreImportsIncluded : Inclusion → List (Name × ItemKind) → List (Name × ItemKind) → List (Name × ItemKind) → Result ⊤ Refusal → Type 0
+AreImportsIncluded i es old new r = AreIncluded i (renamings i.include.now.with.items) es old new r
+
+-- the items now stand where those before and those that came did
+abbrev pub IncludedStand : List (Name × ItemKind) → List (Name × ItemKind) → List (Name × ItemKind) → Result ⊤ Refusal → Type 0
+IncludedStand es old new r = OnOk r ((c : Collection) → ItemsStand c old → ItemsStand c es → ItemsStand c new)
 
 -- ---- exports
 

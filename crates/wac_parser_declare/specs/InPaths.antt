@@ -28,7 +28,8 @@ use Rattle.wac_parser_declare.specs.Holding.{Holds, scope_of}
 use Rattle.wac_parser_declare.specs.InBodies.{IsBody}
 use Rattle.wac_parser_declare.specs.InUses.{AnInterface}
 use Rattle.wac_parser_declare.specs.Packages.{Known, named_package, world_if}
-use Rattle.wac_parser_declare.specs.Scope.{Context, Path, definitions, foreign_export, from_definitions, from_root, in_package, own_export, own_path, package_path, path_item, path_span, path_text, use_path, world_path, package_under}
+use Rattle.wac_parser_declare.specs.Scope.{Context, Path, definitions, foreign_export, from_definitions, from_root, in_package}
+use Rattle.wac_parser_declare.specs.Scope.{own_export, own_path, package_path, path_item, path_span, path_text, use_path, world_path, package_under}
 use Rattle.wac_parser_declare.specs.Worlds.{world_at, world_by}
 
 -- ---- segments

@@ -1,5 +1,6 @@
 pub mod Scope
 pub mod ValueTypes
+pub mod Added
 pub mod Declarations
 pub mod Functions
 pub mod TypeDeclarations
@@ -9,6 +10,7 @@ pub mod Interfaces
 pub mod Worlds
 pub mod Holding
 pub mod Payloads
+pub mod InValueTypes
 pub mod Held
 pub mod InBodies
 pub mod InUses

@@ -18,7 +18,7 @@ use Rattle.wac_parser_declare.specs.declared.scope.Binding.{Binding}
 use Rattle.wac_parser_declare.specs.Bodies as stated
 use Rattle.wac_parser_declare.specs.Functions.{Names}
 use Rattle.wac_parser_declare.specs.Held.{stated_body}
-use Rattle.wac_parser_declare.specs.Holding.{Holds, meant_by, scope_of}
+use Rattle.wac_parser_declare.specs.Holding.{BindingStands, Holds, NamesStand, meant_by, scope_of}
 use Rattle.wac_parser_declare.specs.InPaths.{AWorld}
 use Rattle.wac_parser_declare.specs.Scope.{identifier, meant}
 use Rattle.wac_parser_declare.specs.Worlds.{extern_by}
@@ -42,6 +42,10 @@ world_with id b = world_of (Some id) b.uses b.items b.exports
 abbrev pub IsInterfaceMade : Option Name → Body → Collection → Collection → Result InterfaceId AllocError → Type 0
 IsInterfaceMade id b c d r = IfOk r (AnInstance d (interface_with id (stated_body c b)))
 
+-- the same under the identifier of a name
+abbrev pub IsInterfaceUnder : PackageName → Name → Body → Collection → Collection → Result InterfaceId AllocError → Type 0
+IsInterfaceUnder own n b c d r = IsInterfaceMade (Some (identifier_of own n)) b c d r
+
 abbrev pub IsWorldMade : Name → Body → Collection → Collection → Result WorldId AllocError → Type 0
 IsWorldMade id b c d r = IfOk r (AWorld d (world_with id (stated_body c b)))
 
@@ -59,3 +63,7 @@ IsExtern c k i r = IsOutcome (Holds c) (extern_by (kind_of (stated_of c k)) (vie
 -- what a name of the body means, else one of the root, whatever collection the items stand in
 abbrev pub IsMeantIn : Names → Names → Ident → Result Binding Refusal → Type 0
 IsMeantIn names root i r = (c : Collection) → IsOutcome (λ m b. meant_by c b ≡ m) (meant (scope_of c names ++ scope_of c root) (view_ident i)) r
+
+-- that stands where all that they mean does
+abbrev pub MeantStands : Names → Names → Result Binding Refusal → Type 0
+MeantStands names root r = (c : Collection) → NamesStand c root → NamesStand c names → IfOk r (BindingStands c)

@@ -11,7 +11,8 @@ use Rattle.wac_parser_declare.specs.Scope.{Scope, Context, Path, in_package, at_
 use Rattle.wac_parser_declare.specs.Declarations.{free, type_decl}
 use Rattle.wac_parser_declare.specs.Bodies.{Body, Holder, Items, no_body, use_types, item_type, interface_at}
 use Rattle.wac_parser_declare.specs.Interfaces.{inline_interface, interface_decl}
-use Rattle.wac_parser_refusals.specs.Causes.{Answer, ◌>>=◌, ◌>>◌, pure, refuse, unless_clear, each, NotWorld, NotFuncOrInterface, DuplicateWorldItem, DuplicateWorldIncludeName, MissingWorldInclude, WorldIncludeConflict, TypeCannotBeWritten}
+use Rattle.wac_parser_refusals.specs.Causes.{Answer, ◌>>=◌, ◌>>◌, pure, refuse, unless_clear, each}
+use Rattle.wac_parser_refusals.specs.Causes.{NotWorld, NotFuncOrInterface, DuplicateWorldItem, DuplicateWorldIncludeName, MissingWorldInclude, WorldIncludeConflict, TypeCannotBeWritten}
 
 -- ---- items
 

@@ -5,7 +5,8 @@ ghost use Rattle.std.specs.Prelude.{◌≡◌, IfOk, Some, option_map};
 ghost use Rattle.wac_types_base.specs.declared.item.ItemKind.{ItemKind};
 ghost use Rattle.wac_types_base.specs.declared.item.«Type».{«Type» as TypeKind};
 ghost use Rattle.wac_types_base.specs.Collection.{Stands, Grows, SlotStands, item_node, func_entry};
-ghost use Rattle.wac_parser_declare.specs.Aliases.{IsAlias, IsAliasAt, IsAliasFunc, IsAliasNamed, IsAliasOfType, IsAliasType, IsAliasValue, IsFuncAlias, IsOwner, IsResourceAlias, IsTypeAlias, IsValueAlias};
+ghost use Rattle.wac_parser_declare.specs.Aliases.{IsAlias, IsAliasAt, IsAliasFunc, IsAliasNamed, IsAliasOfType, IsAliasType, IsAliasValue};
+ghost use Rattle.wac_parser_declare.specs.Aliases.{IsFuncAlias, IsOwner, IsResourceAlias, IsTypeAlias, IsValueAlias};
 ghost use Rattle.wac_parser_declare.specs.Holding.{NamesStand};
 ghost use Rattle.wac_parser_declare.specs.Packages.{SamePackages};
 

@@ -75,7 +75,8 @@ fn add_param<T: GrowingTypes>(
 ) -> Outcome<()>
     requires names { NamesStand (T.collection types.old) names.now }
     requires found { EachStands (ValueStands (T.collection types.old)) found.old }
-    ensures outcome { IsParam kind (T.collection types.old) names.now found.old param.now (T.collection types.new) found.new result }
+    ensures outcome { IsParam kind (T.collection types.old) names.now found.old param.now
+        (T.collection types.new) found.new result }
     ensures found { OnOk result (EachStands (ValueStands (T.collection types.new)) found.new) }
     ensures grows { Grows (T.collection types.old) (T.collection types.new) }
     ensures packages { SamePackages (T.packages types.old) (T.packages types.new) }
@@ -99,7 +100,8 @@ fn add_params<T: GrowingTypes>(
 ) -> Outcome<()>
     requires names { NamesStand (T.collection types.old) names.now }
     requires found { EachStands (ValueStands (T.collection types.old)) found.old }
-    ensures outcome { AreParams kind (T.collection types.old) names.now found.old params.now.items (T.collection types.new) found.new result }
+    ensures outcome { AreParams kind (T.collection types.old) names.now found.old params.now.items
+        (T.collection types.new) found.new result }
     ensures found { OnOk result (EachStands (ValueStands (T.collection types.new)) found.new) }
     ensures grows { Grows (T.collection types.old) (T.collection types.new) }
     ensures packages { SamePackages (T.packages types.old) (T.packages types.new) }
@@ -165,7 +167,8 @@ pub(crate) fn function<T: GrowingTypes>(
     requires names { NamesStand (T.collection types.old) names.now }
     requires receiver { StandsIf (T.collection types.old) signature.receiver }
     requires given { StandsIf (T.collection types.old) signature.given }
-    ensures outcome { IsFuncWith signature (T.collection types.old) names.now params.now.items results.now (T.collection types.new) result }
+    ensures outcome { IsFuncWith signature (T.collection types.old) names.now params.now.items results.now
+        (T.collection types.new) result }
     ensures stands { IfOk result (λ f. Stands (T.collection types.new) (ItemKind.Func f)) }
     ensures grows { Grows (T.collection types.old) (T.collection types.new) }
     ensures packages { SamePackages (T.packages types.old) (T.packages types.new) }

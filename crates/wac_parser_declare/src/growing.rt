@@ -1,13 +1,11 @@
 //! Collections that grow.
 #![tactic(auto, using(crate::proofs::Added::added))]
 
-ghost use Rattle.std.specs.Prelude.{◌≡◌, IfOk, None, Some};
+ghost use Rattle.std.specs.Prelude.{◌≡◌, IfOk, None};
 ghost use Rattle.std.specs.Coded.{coded_ℕ};
-ghost use Rattle.wac_types_base.specs.declared.item.ItemKind.{ItemKind};
-ghost use Rattle.wac_types_base.specs.declared.item.ValueType.{ValueType};
-ghost use Rattle.wac_types_base.specs.declared.item.«Type».{«Type» as TypeKind};
 ghost use Rattle.wac_types_base.specs.Record.{Collection};
-ghost use Rattle.wac_types_base.specs.Collection.{HasChildren, Grows, SlotStands, item_node, func_entry, interface_entry, world_entry, defined_entry, resource_entry};
+ghost use Rattle.wac_types_base.specs.Collection.{HasChildren, Grows, SlotStands, func_entry, interface_entry, world_entry, defined_entry, resource_entry};
+ghost use Rattle.wac_parser_declare.specs.Added.{HasDefined, HasFunc, HasInterface, HasResource, HasWorld};
 ghost use Rattle.wac_parser_declare.specs.Packages.{IsDefinition, Known, SamePackages};
 
 use std::alloc::{AllocError, Global};
@@ -31,35 +29,35 @@ pub trait GrowingTypes {
     /// Adds a defined type, all of whose ids stand here.
     fn add_defined_type(&mut self, ty: DefinedType) -> Result<DefinedTypeId, AllocError>
         requires { HasChildren (collection self.old) (defined_entry ty) }
-        ensures node { IfOk result (λ i. item_node (collection self.new) (ItemKind.Value (ValueType.Defined i)) ≡ Some (defined_entry ty)) }
+        ensures node { IfOk result (HasDefined (collection self.new) ty) }
         ensures grows { Grows (collection self.old) (collection self.new) }
         ensures packages { SamePackages (packages self.old) (packages self.new) };
 
     /// Adds a resource, all of whose ids stand here.
     fn add_resource(&mut self, resource: Resource) -> Result<ResourceId, AllocError>
         requires { HasChildren (collection self.old) (resource_entry resource) }
-        ensures node { IfOk result (λ i. item_node (collection self.new) (ItemKind.Ty (TypeKind.Resource i)) ≡ Some (resource_entry resource)) }
+        ensures node { IfOk result (HasResource (collection self.new) resource) }
         ensures grows { Grows (collection self.old) (collection self.new) }
         ensures packages { SamePackages (packages self.old) (packages self.new) };
 
     /// Adds a function type, all of whose ids stand here.
     fn add_func_type(&mut self, func: FuncType) -> Result<FuncTypeId, AllocError>
         requires { HasChildren (collection self.old) (func_entry func) }
-        ensures node { IfOk result (λ i. item_node (collection self.new) (ItemKind.Func i) ≡ Some (func_entry func)) }
+        ensures node { IfOk result (HasFunc (collection self.new) func) }
         ensures grows { Grows (collection self.old) (collection self.new) }
         ensures packages { SamePackages (packages self.old) (packages self.new) };
 
     /// Adds an interface, all of whose ids stand here.
     fn add_interface(&mut self, interface: Interface) -> Result<InterfaceId, AllocError>
         requires { HasChildren (collection self.old) (interface_entry interface) }
-        ensures node { IfOk result (λ i. item_node (collection self.new) (ItemKind.Instance i) ≡ Some (interface_entry interface)) }
+        ensures node { IfOk result (HasInterface (collection self.new) interface) }
         ensures grows { Grows (collection self.old) (collection self.new) }
         ensures packages { SamePackages (packages self.old) (packages self.new) };
 
     /// Adds a world, all of whose ids stand here.
     fn add_world(&mut self, world: World) -> Result<WorldId, AllocError>
         requires { HasChildren (collection self.old) (world_entry world) }
-        ensures node { IfOk result (λ i. item_node (collection self.new) (ItemKind.Component i) ≡ Some (world_entry world)) }
+        ensures node { IfOk result (HasWorld (collection self.new) world) }
         ensures grows { Grows (collection self.old) (collection self.new) }
         ensures packages { SamePackages (packages self.old) (packages self.new) };
 }

@@ -9,7 +9,8 @@ ghost use Rattle.wac_parser_tree.specs.Views.{view_ident};
 ghost use Rattle.wac_parser_refusals.specs.Outcomes.{Refuses};
 ghost use Rattle.wac_parser_declare.specs.Held.{BodyStands};
 ghost use Rattle.wac_parser_declare.specs.Holding.{ItemsStand, NamesStand};
-ghost use Rattle.wac_parser_declare.specs.InIncludes.{AreExportsIncluded, AreIncluded, AreMet, AreWithNames, Includes, IncludesItems, IsIncluded, IsIncludedAt, IsLeft, IsRenaming, IsWithName, conflict_of, met_in, path_of, renamings};
+ghost use Rattle.wac_parser_declare.specs.InIncludes.{AreExportsIncluded, AreImportsIncluded, AreMet, AreWithNames, IncludedStand, Includes, IncludesItems};
+ghost use Rattle.wac_parser_declare.specs.InIncludes.{IsIncluded, IsIncludedAt, IsLeft, IsRenaming, IsWithName, conflict_of, met_in, path_of, renamings};
 ghost use Rattle.wac_parser_declare.specs.Packages.{SamePackages};
 ghost use Rattle.wac_parser_declare.specs.Worlds as stated;
 
@@ -168,8 +169,8 @@ fn include_imports(
     stand: &mut NamedMap<ItemKind>,
     imports: &NamedMap<ItemKind>,
 ) -> Outcome<()>
-    ensures outcome { AreIncluded inclusion.entry (renamings inclusion.entry.include.now.with.items) imports.now stand.old stand.new result }
-    ensures stand { OnOk result ((c : Collection) → ItemsStand c stand.old → ItemsStand c imports.now → ItemsStand c stand.new) }
+    ensures outcome { AreImportsIncluded inclusion.entry imports.now stand.old stand.new result }
+    ensures stand { IncludedStand imports.now stand.old stand.new result }
 {
     for at in 0..imports.len() {
         let (name, item) = imports.entry(at);
@@ -202,7 +203,7 @@ fn include_exports(
     world: &World,
 ) -> Outcome<()>
     ensures outcome { AreExportsIncluded inclusion.entry world.now stand.old stand.new result }
-    ensures stand { OnOk result ((c : Collection) → ItemsStand c stand.old → ItemsStand c world.now.exports → ItemsStand c stand.new) }
+    ensures stand { IncludedStand world.now.exports stand.old stand.new result }
 {
     for at in 0..world.exports.len() {
         let (name, item) = world.exports.entry(at);
@@ -279,7 +280,8 @@ pub(crate) fn include_world<T: PackagedTypes>(
 ) -> Outcome<()>
     requires root { NamesStand (T.collection types.old) context.root.now }
     requires body { BodyStands (T.collection types.old) body.old }
-    ensures outcome { Includes include.now to.now context.entry (T.collection types.old) (T.packages types.old) body.old (T.collection types.new) body.new result }
+    ensures outcome { Includes include.now to.now context.entry (T.collection types.old) (T.packages types.old) body.old
+        (T.collection types.new) body.new result }
     ensures body { OnOk result (BodyStands (T.collection types.new) body.new) }
     ensures grows { Grows (T.collection types.old) (T.collection types.new) }
     ensures packages { SamePackages (T.packages types.old) (T.packages types.new) }

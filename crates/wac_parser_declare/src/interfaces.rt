@@ -1,14 +1,14 @@
 //! The interface that a body states.
 #![tactic(auto, using(crate::proofs::Standing::bodies))]
 
-ghost use Rattle.std.specs.Prelude.{◌≡◌, OnOk, IfOk, Some, option_map};
+ghost use Rattle.std.specs.Prelude.{◌≡◌, OnOk, IfOk, option_map};
 ghost use Rattle.wac_types_base.specs.declared.item.ItemKind.{ItemKind};
 ghost use Rattle.wac_types_base.specs.Collection.{Stands, Grows};
 ghost use Rattle.wac_parser_declare.specs.Held.{BodyStands};
 ghost use Rattle.wac_parser_declare.specs.Holding.{NamesStand};
 ghost use Rattle.wac_parser_declare.specs.InInterfaces.{AreInterfaceItems, IsInline, IsInterfaceBody, IsInterfaceDeclared, IsInterfaceItem};
 ghost use Rattle.wac_parser_declare.specs.InUses.{Exports};
-ghost use Rattle.wac_parser_declare.specs.Making.{IsInterfaceMade, identifier_of};
+ghost use Rattle.wac_parser_declare.specs.Making.{IsInterfaceMade, IsInterfaceUnder, identifier_of};
 ghost use Rattle.wac_parser_declare.specs.Packages.{SamePackages};
 
 use crate::bodies::{Body, Holder, add_item};
@@ -72,7 +72,8 @@ fn interface_item<T: PackagedTypes>(
 ) -> Outcome<()>
     requires root { NamesStand (T.collection types.old) context.root.now }
     requires body { BodyStands (T.collection types.old) body.old }
-    ensures outcome { IsInterfaceItem holder.entry item.now context.entry (T.collection types.old) (T.packages types.old) body.old (T.collection types.new) body.new result }
+    ensures outcome { IsInterfaceItem holder.entry item.now context.entry (T.collection types.old) (T.packages types.old) body.old
+        (T.collection types.new) body.new result }
     ensures body { OnOk result (BodyStands (T.collection types.new) body.new) }
     ensures grows { Grows (T.collection types.old) (T.collection types.new) }
     ensures packages { SamePackages (T.packages types.old) (T.packages types.new) }
@@ -95,7 +96,8 @@ fn add_items<T: PackagedTypes>(
 ) -> Outcome<()>
     requires root { NamesStand (T.collection types.old) context.root.now }
     requires body { BodyStands (T.collection types.old) body.old }
-    ensures outcome { AreInterfaceItems holder.entry items.now.items context.entry (T.collection types.old) (T.packages types.old) body.old (T.collection types.new) body.new result }
+    ensures outcome { AreInterfaceItems holder.entry items.now.items context.entry
+        (T.collection types.old) (T.packages types.old) body.old (T.collection types.new) body.new result }
     ensures body { OnOk result (BodyStands (T.collection types.new) body.new) }
     ensures grows { Grows (T.collection types.old) (T.collection types.new) }
     ensures packages { SamePackages (T.packages types.old) (T.packages types.new) }
@@ -116,7 +118,8 @@ fn interface_items<T: PackagedTypes>(
     name: Option<&str>,
 ) -> Outcome<Body>
     requires root { NamesStand (T.collection types.old) context.root.now }
-    ensures outcome { IsInterfaceBody (option_map (λ n. n.now) name.entry) items.now.items context.entry (T.collection types.old) (T.packages types.old) (T.collection types.new) result }
+    ensures outcome { IsInterfaceBody (option_map (λ n. n.now) name.entry) items.now.items context.entry
+        (T.collection types.old) (T.packages types.old) (T.collection types.new) result }
     ensures body { IfOk result (BodyStands (T.collection types.new)) }
     ensures grows { Grows (T.collection types.old) (T.collection types.new) }
     ensures packages { SamePackages (T.packages types.old) (T.packages types.new) }
@@ -168,7 +171,7 @@ fn add_named<T: PackagedTypes>(
     body: Body,
 ) -> Result<InterfaceId, AllocError>
     requires { BodyStands (T.collection types.old) body }
-    ensures made { IsInterfaceMade (Some (identifier_of own.now name.now)) body (T.collection types.old) (T.collection types.new) result }
+    ensures made { IsInterfaceUnder own.now name.now body (T.collection types.old) (T.collection types.new) result }
     ensures stands { IfOk result (λ i. Stands (T.collection types.new) (ItemKind.Instance i)) }
     ensures grows { Grows (T.collection types.old) (T.collection types.new) }
     ensures packages { SamePackages (T.packages types.old) (T.packages types.new) }
@@ -186,7 +189,8 @@ pub fn inline_interface<T: PackagedTypes>(
     types: &mut T,
 ) -> Outcome<InterfaceId>
     requires { NamesStand (T.collection types.old) context.root.now }
-    ensures outcome { IsInline interface.now context.entry (T.collection types.old) (T.packages types.old) (T.collection types.new) result }
+    ensures outcome { IsInline interface.now context.entry (T.collection types.old) (T.packages types.old)
+        (T.collection types.new) result }
     ensures stands { IfOk result (λ i. Stands (T.collection types.new) (ItemKind.Instance i)) }
     ensures grows { Grows (T.collection types.old) (T.collection types.new) }
     ensures packages { SamePackages (T.packages types.old) (T.packages types.new) }
@@ -204,7 +208,8 @@ pub(crate) fn interface_decl<T: PackagedTypes>(
     types: &mut T,
 ) -> Outcome<InterfaceId>
     requires { NamesStand (T.collection types.old) context.root.now }
-    ensures outcome { IsInterfaceDeclared decl.now context.entry (T.collection types.old) (T.packages types.old) (T.collection types.new) result }
+    ensures outcome { IsInterfaceDeclared decl.now context.entry (T.collection types.old) (T.packages types.old)
+        (T.collection types.new) result }
     ensures stands { IfOk result (λ i. Stands (T.collection types.new) (ItemKind.Instance i)) }
     ensures grows { Grows (T.collection types.old) (T.collection types.new) }
     ensures packages { SamePackages (T.packages types.old) (T.packages types.new) }

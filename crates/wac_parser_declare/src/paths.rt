@@ -1,7 +1,7 @@
 //! What paths name.
 #![tactic(auto, using(crate::proofs::Standing::paths))]
 
-ghost use Rattle.std.specs.Prelude.{◌≡◌, IfOk, IfSome, None, option_map};
+ghost use Rattle.std.specs.Prelude.{◌≡◌, IfOk, IfSome, None};
 ghost use Rattle.std.specs.Option.{option_copied};
 ghost use Rattle.wac_types_base.specs.declared.item.ItemKind.{ItemKind};
 ghost use Rattle.wac_types_base.specs.declared.item.«Type».{«Type» as TypeKind};
@@ -9,8 +9,10 @@ ghost use Rattle.wac_types_base.specs.declared.ids.WorldId.{WorldId as WorldKey}
 ghost use Rattle.wac_types_base.specs.Collection.{Stands, Grows};
 ghost use Rattle.wac_parser_refusals.specs.Causes as fault;
 ghost use Rattle.wac_parser_refusals.specs.Outcomes.{Refuses};
+ghost use Rattle.wac_parser_declare.specs.Held.{text_if};
 ghost use Rattle.wac_parser_declare.specs.Holding.{NamesStand, ItemsStand};
-ghost use Rattle.wac_parser_declare.specs.InPaths.{IsForeignExport, IsForeignPath, IsForeignRest, IsInterfaceAt, IsOwnExport, IsOwnPath, IsOwnRest, IsPathInterface, IsPathItem, IsWorldAt, IsWorldIn, IsWorldOf};
+ghost use Rattle.wac_parser_declare.specs.InPaths.{IsForeignExport, IsForeignPath, IsForeignRest, IsInterfaceAt, IsOwnExport, IsOwnPath, IsOwnRest};
+ghost use Rattle.wac_parser_declare.specs.InPaths.{IsPathInterface, IsPathItem, IsWorldAt, IsWorldIn, IsWorldOf};
 ghost use Rattle.wac_parser_declare.specs.InUses.{AreExports, IsExport, IsInterfaceOf, IsInterfaceType, IsItemNamed, IsRootInterface};
 ghost use Rattle.wac_parser_declare.specs.Packages.{SamePackages};
 
@@ -185,7 +187,7 @@ fn foreign_missing(
     export: &str,
     span: SourceSpan,
 ) -> Refusal
-    ensures { Refuses result (fault.PackageMissingExport path.now.name.now export.now (option_map (λ k. k.now) kind.entry) passed.now) span }
+    ensures { Refuses result (fault.PackageMissingExport path.now.name.now export.now (text_if kind.entry) passed.now) span }
 {
     let Ok(package) = String::from_str(alloc, path.name) else {
         return Refusal::Memory;
@@ -281,7 +283,8 @@ pub fn package_path<T: PackagedTypes>(
     types: &mut T,
 ) -> Outcome<ItemKind>
     requires { NamesStand (T.collection types.old) context.root.now }
-    ensures outcome { IsPathItem path.now context.entry (T.collection types.old) (T.packages types.old) (T.collection types.new) result }
+    ensures outcome { IsPathItem path.now context.entry (T.collection types.old) (T.packages types.old)
+        (T.collection types.new) result }
     ensures stands { IfOk result (Stands (T.collection types.new)) }
     ensures grows { Grows (T.collection types.old) (T.collection types.new) }
     ensures packages { SamePackages (T.packages types.old) (T.packages types.new) }
@@ -352,7 +355,8 @@ pub(crate) fn package_interface<T: PackagedTypes>(
     types: &mut T,
 ) -> Outcome<InterfaceId>
     requires { NamesStand (T.collection types.old) context.root.now }
-    ensures outcome { IsPathInterface path.now context.entry (T.collection types.old) (T.packages types.old) (T.collection types.new) result }
+    ensures outcome { IsPathInterface path.now context.entry (T.collection types.old) (T.packages types.old)
+        (T.collection types.new) result }
     ensures stands { IfOk result (λ i. Stands (T.collection types.new) (ItemKind.Instance i)) }
     ensures grows { Grows (T.collection types.old) (T.collection types.new) }
     ensures packages { SamePackages (T.packages types.old) (T.packages types.new) }
@@ -386,7 +390,8 @@ pub fn interface_at<T: PackagedTypes>(
     types: &mut T,
 ) -> Outcome<InterfaceId>
     requires { NamesStand (T.collection types.old) context.root.now }
-    ensures outcome { IsInterfaceAt path.now context.entry (T.collection types.old) (T.packages types.old) (T.collection types.new) result }
+    ensures outcome { IsInterfaceAt path.now context.entry (T.collection types.old) (T.packages types.old)
+        (T.collection types.new) result }
     ensures stands { IfOk result (λ i. Stands (T.collection types.new) (ItemKind.Instance i)) }
     ensures grows { Grows (T.collection types.old) (T.collection types.new) }
     ensures packages { SamePackages (T.packages types.old) (T.packages types.new) }
@@ -441,7 +446,8 @@ pub fn world_at<T: PackagedTypes>(
     types: &mut T,
 ) -> Outcome<WorldId>
     requires { NamesStand (T.collection types.old) context.root.now }
-    ensures outcome { IsWorldAt world.now context.entry (T.collection types.old) (T.packages types.old) (T.collection types.new) result }
+    ensures outcome { IsWorldAt world.now context.entry (T.collection types.old) (T.packages types.old)
+        (T.collection types.new) result }
     ensures stands { IfOk result (λ i. Stands (T.collection types.new) (ItemKind.Component i)) }
     ensures grows { Grows (T.collection types.old) (T.collection types.new) }
     ensures packages { SamePackages (T.packages types.old) (T.packages types.new) }

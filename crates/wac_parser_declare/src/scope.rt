@@ -2,10 +2,7 @@
 #![tactic(auto, using(crate::proofs::Standing::adding))]
 
 ghost use Rattle.std.specs.Prelude.{◌≡◌, ◌∷◌, ◌++◌, [], OnOk, OnErr, string_bytes};
-ghost use Rattle.wac_types_base.specs.Entries.{value_at};
-ghost use Rattle.wac_parser_refusals.specs.Causes.{present, UndefinedName};
-ghost use Rattle.wac_parser_refusals.specs.Outcomes.{IsOutcome};
-ghost use Rattle.wac_parser_declare.specs.InBodies.{IsBound};
+ghost use Rattle.wac_parser_declare.specs.InBodies.{IsBound, IsMeaning};
 
 use crate::functions::add_new;
 use std::alloc::Global;
@@ -34,7 +31,7 @@ pub struct Context<'a> {
 
 /// What a name of a scope means.
 pub fn meaning(alloc: Global, names: &NamedMap<Binding>, id: &Ident<'_>) -> Outcome<Binding>
-    ensures { IsOutcome (λ b r. r ≡ b) (present (value_at names.now id.now.string.now) (UndefinedName id.now.string.now) id.now.span) result }
+    ensures { IsMeaning names.now id.now result }
 {
     match names.get(id.string) {
         Some(binding) => Ok(*binding),

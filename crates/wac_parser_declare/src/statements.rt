@@ -26,7 +26,8 @@ pub fn type_statement<T: PackagedTypes>(
     types: &mut T,
 ) -> Outcome<Type>
     requires { NamesStand (T.collection types.old) context.root.now }
-    ensures outcome { IsTypeStatement statement.now context.entry (T.collection types.old) (T.packages types.old) (T.collection types.new) result }
+    ensures outcome { IsTypeStatement statement.now context.entry (T.collection types.old) (T.packages types.old)
+        (T.collection types.new) result }
     ensures stands { IfOk result (λ t. Stands (T.collection types.new) (ItemKind.Ty t)) }
     ensures grows { Grows (T.collection types.old) (T.collection types.new) }
     ensures packages { SamePackages (T.packages types.old) (T.packages types.new) }

@@ -55,7 +55,8 @@ fn add_case<T: GrowingTypes>(
 ) -> Outcome<()>
     requires names { NamesStand (T.collection types.old) names.now }
     requires found { EachStands (StandsIf (T.collection types.old)) found.old }
-    ensures outcome { IsCase variant.now (T.collection types.old) names.now found.old case.now (T.collection types.new) found.new result }
+    ensures outcome { IsCase variant.now (T.collection types.old) names.now found.old case.now
+        (T.collection types.new) found.new result }
     ensures found { OnOk result (EachStands (StandsIf (T.collection types.new)) found.new) }
     ensures grows { Grows (T.collection types.old) (T.collection types.new) }
     ensures packages { SamePackages (T.packages types.old) (T.packages types.new) }
@@ -118,7 +119,8 @@ fn add_field<T: GrowingTypes>(
 ) -> Outcome<()>
     requires names { NamesStand (T.collection types.old) names.now }
     requires found { EachStands (ValueStands (T.collection types.old)) found.old }
-    ensures outcome { IsField record_name.now (T.collection types.old) names.now found.old field.now (T.collection types.new) found.new result }
+    ensures outcome { IsField record_name.now (T.collection types.old) names.now found.old field.now
+        (T.collection types.new) found.new result }
     ensures found { OnOk result (EachStands (ValueStands (T.collection types.new)) found.new) }
     ensures grows { Grows (T.collection types.old) (T.collection types.new) }
     ensures packages { SamePackages (T.packages types.old) (T.packages types.new) }

@@ -1,19 +1,16 @@
 //! Value types.
 
-ghost use Rattle.std.specs.Prelude.{◌≡◌, [], map, IfOk, IfErr, Some, option_map};
+ghost use Rattle.std.specs.Prelude.{◌≡◌, IfOk, Some};
 ghost use Rattle.wac_types_base.specs.declared.item.ItemKind.{ItemKind};
 ghost use Rattle.wac_types_base.specs.declared.item.ValueType.{ValueType};
 ghost use Rattle.wac_types_base.specs.Collection as s;
 ghost use Rattle.wac_types_base.specs.Collection.{Stands, Grows, HasChildren, item_node, defined_entry};
-ghost use Rattle.wac_types_base.specs.Stated.{stated_of, kind_of};
-ghost use Rattle.wac_parser_tree.specs.Trees as t;
-ghost use Rattle.wac_parser_tree.specs.Views.{view_ident, view_ty, view_boxed_ty};
 ghost use Rattle.wac_parser_declare.specs.Packages.{SamePackages};
 ghost use Rattle.wac_parser_declare.specs.ValueTypes as stated;
 ghost use Rattle.wac_parser_refusals.specs.Outcomes.{IsOutcome};
-ghost use Rattle.wac_parser_declare.specs.Holding.{IsValue, IsValueIf, AreValues, NamesStand, StandsIf, scope_of, stated_if};
-ghost use Rattle.wac_parser_refusals.specs.Causes.{pure};
-ghost use Rattle.wac_parser_declare.specs.Payloads.{boxed_payload};
+ghost use Rattle.wac_parser_declare.specs.Holding.{IsValue, NamesStand, StandsIf};
+ghost use Rattle.wac_parser_declare.specs.InValueTypes.{AreWritten, IsBorrowNamed, IsBorrowOf, IsMaybeWritten, IsOfMaybe, IsOfOne};
+ghost use Rattle.wac_parser_declare.specs.InValueTypes.{IsResultWith, IsTuple, IsValueNamed, IsValueOf, IsValueWritten};
 
 use crate::growing::GrowingTypes;
 use crate::scope::{Binding, meaning};
@@ -28,7 +25,7 @@ use wac_types_base::{
 /// The value type that a type is: a resource is owned.
 fn value_of_type(alloc: Global, types: &Types, ty: Type, id: &Ident<'_>) -> Outcome<ValueType>
     requires { Stands types.now (ItemKind.Ty ty) }
-    ensures { IsOutcome (IsValue types.now) (stated.value_by (kind_of (stated_of types.now (ItemKind.Ty ty))) (view_ident id.now) (stated_of types.now (ItemKind.Ty ty))) result }
+    ensures { IsValueOf types.now (ItemKind.Ty ty) id.now result }
 {
     types.see_acyclic();
     match ty {
@@ -41,7 +38,7 @@ fn value_of_type(alloc: Global, types: &Types, ty: Type, id: &Ident<'_>) -> Outc
 /// The value type that an item is as a type.
 fn value_of(alloc: Global, types: &Types, kind: ItemKind, id: &Ident<'_>) -> Outcome<ValueType>
     requires { Stands types.now kind }
-    ensures { IsOutcome (IsValue types.now) (stated.value_by (kind_of (stated_of types.now kind)) (view_ident id.now) (stated_of types.now kind)) result }
+    ensures { IsValueOf types.now kind id.now result }
 {
     types.see_acyclic();
     match kind {
@@ -53,7 +50,7 @@ fn value_of(alloc: Global, types: &Types, kind: ItemKind, id: &Ident<'_>) -> Out
 /// The borrow of a type that is a resource.
 fn borrow_of_type(alloc: Global, types: &Types, ty: Type, id: &Ident<'_>) -> Outcome<ValueType>
     requires { Stands types.now (ItemKind.Ty ty) }
-    ensures { IsOutcome (IsValue types.now) (stated.borrow_by (kind_of (stated_of types.now (ItemKind.Ty ty))) (view_ident id.now) (stated_of types.now (ItemKind.Ty ty))) result }
+    ensures { IsBorrowOf types.now (ItemKind.Ty ty) id.now result }
 {
     types.see_acyclic();
     match ty {
@@ -65,7 +62,7 @@ fn borrow_of_type(alloc: Global, types: &Types, ty: Type, id: &Ident<'_>) -> Out
 /// The borrow of an item that is a resource.
 fn borrow_of(alloc: Global, types: &Types, kind: ItemKind, id: &Ident<'_>) -> Outcome<ValueType>
     requires { Stands types.now kind }
-    ensures { IsOutcome (IsValue types.now) (stated.borrow_by (kind_of (stated_of types.now kind)) (view_ident id.now) (stated_of types.now kind)) result }
+    ensures { IsBorrowOf types.now kind id.now result }
 {
     types.see_acyclic();
     match kind {
@@ -82,7 +79,7 @@ fn value_named(
     id: &Ident<'_>,
 ) -> Outcome<ValueType>
     requires { NamesStand types.now names.now }
-    ensures { IsOutcome (IsValue types.now) (stated.value_named (scope_of types.now names.now) (view_ident id.now)) result }
+    ensures { IsValueNamed types.now names.now id.now types.now result }
 {
     let binding = meaning(alloc, names, id)?;
     value_of(alloc, types, binding.kind, id)
@@ -96,7 +93,7 @@ fn borrow_named(
     id: &Ident<'_>,
 ) -> Outcome<ValueType>
     requires { NamesStand types.now names.now }
-    ensures { IsOutcome (IsValue types.now) (stated.borrow_named (scope_of types.now names.now) (view_ident id.now)) result }
+    ensures { IsBorrowNamed types.now names.now id.now types.now result }
 {
     let binding = meaning(alloc, names, id)?;
     borrow_of(alloc, types, binding.kind, id)
@@ -135,7 +132,7 @@ pub fn value_type<T: GrowingTypes>(
     types: &mut T,
 ) -> Outcome<ValueType>
     requires { NamesStand (T.collection types.old) names.now }
-    ensures outcome { IsOutcome (IsValue (T.collection types.new)) (stated.value (scope_of (T.collection types.old) names.now) (view_ty ty.now)) result }
+    ensures outcome { IsValueWritten (T.collection types.old) names.now ty.now (T.collection types.new) result }
     ensures grows { Grows (T.collection types.old) (T.collection types.new) }
     ensures packages { SamePackages (T.packages types.old) (T.packages types.new) }
 {
@@ -176,7 +173,7 @@ fn value_at<T: GrowingTypes>(
     id: &Ident<'_>,
 ) -> Outcome<ValueType>
     requires { NamesStand (T.collection types.old) names.now }
-    ensures outcome { IsOutcome (IsValue (T.collection types.new)) (stated.value_named (scope_of (T.collection types.old) names.now) (view_ident id.now)) result }
+    ensures outcome { IsValueNamed (T.collection types.old) names.now id.now (T.collection types.new) result }
     ensures grows { Grows (T.collection types.old) (T.collection types.new) }
     ensures packages { SamePackages (T.packages types.old) (T.packages types.new) }
 {
@@ -193,7 +190,7 @@ fn borrow_at<T: GrowingTypes>(
     id: &Ident<'_>,
 ) -> Outcome<ValueType>
     requires { NamesStand (T.collection types.old) names.now }
-    ensures outcome { IsOutcome (IsValue (T.collection types.new)) (stated.borrow_named (scope_of (T.collection types.old) names.now) (view_ident id.now)) result }
+    ensures outcome { IsBorrowNamed (T.collection types.old) names.now id.now (T.collection types.new) result }
     ensures grows { Grows (T.collection types.old) (T.collection types.new) }
     ensures packages { SamePackages (T.packages types.old) (T.packages types.new) }
 {
@@ -210,7 +207,7 @@ fn list_type<T: GrowingTypes>(
     types: &mut T,
 ) -> Outcome<ValueType>
     requires { NamesStand (T.collection types.old) names.now }
-    ensures outcome { IsOutcome (IsValue (T.collection types.new)) (stated.of_one s.list (stated.value (scope_of (T.collection types.old) names.now) (view_ty element.now))) result }
+    ensures outcome { IsOfOne s.list (T.collection types.old) names.now element.now (T.collection types.new) result }
     ensures grows { Grows (T.collection types.old) (T.collection types.new) }
     ensures packages { SamePackages (T.packages types.old) (T.packages types.new) }
 {
@@ -227,7 +224,7 @@ fn option_type<T: GrowingTypes>(
     types: &mut T,
 ) -> Outcome<ValueType>
     requires { NamesStand (T.collection types.old) names.now }
-    ensures outcome { IsOutcome (IsValue (T.collection types.new)) (stated.of_one s.option (stated.value (scope_of (T.collection types.old) names.now) (view_ty payload.now))) result }
+    ensures outcome { IsOfOne s.option (T.collection types.old) names.now payload.now (T.collection types.new) result }
     ensures grows { Grows (T.collection types.old) (T.collection types.new) }
     ensures packages { SamePackages (T.packages types.old) (T.packages types.new) }
 {
@@ -244,7 +241,7 @@ fn maybe_type<T: GrowingTypes>(
     types: &mut T,
 ) -> Outcome<Option<ValueType>>
     requires { NamesStand (T.collection types.old) names.now }
-    ensures outcome { IsOutcome (IsValueIf (T.collection types.new)) (stated.maybe_value (scope_of (T.collection types.old) names.now) (boxed_payload ty.now)) result }
+    ensures outcome { IsMaybeWritten (T.collection types.old) names.now ty.now (T.collection types.new) result }
     ensures grows { Grows (T.collection types.old) (T.collection types.new) }
     ensures packages { SamePackages (T.packages types.old) (T.packages types.new) }
     ensures stands { IfOk result (StandsIf (T.collection types.new)) }
@@ -268,7 +265,7 @@ fn stream_type<T: GrowingTypes>(
     types: &mut T,
 ) -> Outcome<ValueType>
     requires { NamesStand (T.collection types.old) names.now }
-    ensures outcome { IsOutcome (IsValue (T.collection types.new)) (stated.of_maybe s.stream (stated.maybe_value (scope_of (T.collection types.old) names.now) (boxed_payload payload.now))) result }
+    ensures outcome { IsOfMaybe s.stream (T.collection types.old) names.now payload.now (T.collection types.new) result }
     ensures grows { Grows (T.collection types.old) (T.collection types.new) }
     ensures packages { SamePackages (T.packages types.old) (T.packages types.new) }
 {
@@ -285,7 +282,7 @@ fn future_type<T: GrowingTypes>(
     types: &mut T,
 ) -> Outcome<ValueType>
     requires { NamesStand (T.collection types.old) names.now }
-    ensures outcome { IsOutcome (IsValue (T.collection types.new)) (stated.of_maybe s.future (stated.maybe_value (scope_of (T.collection types.old) names.now) (boxed_payload payload.now))) result }
+    ensures outcome { IsOfMaybe s.future (T.collection types.old) names.now payload.now (T.collection types.new) result }
     ensures grows { Grows (T.collection types.old) (T.collection types.new) }
     ensures packages { SamePackages (T.packages types.old) (T.packages types.new) }
 {
@@ -305,7 +302,7 @@ fn result_type<T: GrowingTypes>(
 ) -> Outcome<ValueType>
     requires names { NamesStand (T.collection types.old) names.now }
     requires ok { StandsIf (T.collection types.old) ok }
-    ensures outcome { IsOutcome (IsValue (T.collection types.new)) (stated.of_two s.result (pure (stated_if (T.collection types.old) ok)) (stated.maybe_value (scope_of (T.collection types.old) names.now) (boxed_payload err.now))) result }
+    ensures outcome { IsResultWith ok (T.collection types.old) names.now err.now (T.collection types.new) result }
     ensures grows { Grows (T.collection types.old) (T.collection types.new) }
     ensures packages { SamePackages (T.packages types.old) (T.packages types.new) }
 {
@@ -323,7 +320,7 @@ fn member_types<T: GrowingTypes>(
     types: &mut T,
 ) -> Outcome<Items<ValueType>>
     requires { NamesStand (T.collection types.old) names.now }
-    ensures outcome { IsOutcome (AreValues (T.collection types.new)) (stated.values (scope_of (T.collection types.old) names.now) [] (t.tys (map view_ty members.now.items))) result }
+    ensures outcome { AreWritten (T.collection types.old) names.now members.now (T.collection types.new) result }
     ensures grows { Grows (T.collection types.old) (T.collection types.new) }
     ensures packages { SamePackages (T.packages types.old) (T.packages types.new) }
 {
@@ -344,7 +341,7 @@ fn tuple_type<T: GrowingTypes>(
     types: &mut T,
 ) -> Outcome<ValueType>
     requires { NamesStand (T.collection types.old) names.now }
-    ensures outcome { IsOutcome (IsValue (T.collection types.new)) (stated.of_all s.tuple (stated.values (scope_of (T.collection types.old) names.now) [] (t.tys (map view_ty members.now.items)))) result }
+    ensures outcome { IsTuple (T.collection types.old) names.now members.now (T.collection types.new) result }
     ensures grows { Grows (T.collection types.old) (T.collection types.new) }
     ensures packages { SamePackages (T.packages types.old) (T.packages types.new) }
 {

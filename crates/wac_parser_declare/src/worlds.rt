@@ -7,8 +7,9 @@ ghost use Rattle.wac_types_base.specs.Record.{Collection};
 ghost use Rattle.wac_types_base.specs.Collection.{Stands, Grows};
 ghost use Rattle.wac_parser_declare.specs.Held.{BodyStands, stated_body};
 ghost use Rattle.wac_parser_declare.specs.Holding.{ItemsStand, NamesStand};
-ghost use Rattle.wac_parser_declare.specs.InWorlds.{AddsExtern, AddsInterface, AreIncludes, AreParts, IsExternType, IsInclude, IsNamedItem, IsOneMore, IsPart, IsWorldBody, IsWorldDeclared, IsWorldItem, items_on};
-ghost use Rattle.wac_parser_declare.specs.Making.{IsExtern, IsMeantIn, IsTypeOf, IsWorldMade, identifier_of};
+ghost use Rattle.wac_parser_declare.specs.InWorlds.{AddsExtern, AddsInterface, AreIncludes, AreParts, IsExternType, IsInclude, IsNamedItem};
+ghost use Rattle.wac_parser_declare.specs.InWorlds.{IsOneMore, IsPart, IsWorldBody, IsWorldDeclared, IsWorldItem, items_on};
+ghost use Rattle.wac_parser_declare.specs.Making.{IsExtern, IsMeantIn, IsTypeOf, IsWorldMade, MeantStands, identifier_of};
 ghost use Rattle.wac_parser_declare.specs.Packages.{SamePackages};
 ghost use Rattle.wac_parser_declare.specs.Scope.{has};
 
@@ -66,7 +67,7 @@ fn body_or_root(
     id: &Ident<'_>,
 ) -> Outcome<Binding>
     ensures outcome { IsMeantIn names.now context.entry.root.now id.now result }
-    ensures stands { (c : Collection) → NamesStand c context.entry.root.now → NamesStand c names.now → IfOk result (λ b. Stands c b.kind) }
+    ensures stands { MeantStands names.now context.entry.root.now result }
 {
     match names.get(id.string) {
         Some(binding) => Ok(*binding),
@@ -84,7 +85,8 @@ fn extern_type<T: PackagedTypes>(
 ) -> Outcome<ItemKind>
     requires root { NamesStand (T.collection types.old) context.root.now }
     requires names { NamesStand (T.collection types.old) names.now }
-    ensures outcome { IsExternType ty.now context.entry names.now (T.collection types.old) (T.packages types.old) (T.collection types.new) result }
+    ensures outcome { IsExternType ty.now context.entry names.now (T.collection types.old) (T.packages types.old)
+        (T.collection types.new) result }
     ensures stands { IfOk result (Stands (T.collection types.new)) }
     ensures grows { Grows (T.collection types.old) (T.collection types.new) }
     ensures packages { SamePackages (T.packages types.old) (T.packages types.new) }
@@ -164,7 +166,8 @@ fn named_item<T: PackagedTypes>(
 ) -> Outcome<()>
     requires root { NamesStand (T.collection types.old) context.root.now }
     requires body { BodyStands (T.collection types.old) body.old }
-    ensures outcome { IsNamedItem ty.now slot.entry context.entry (T.collection types.old) (T.packages types.old) body.old (T.collection types.new) body.new result }
+    ensures outcome { IsNamedItem ty.now slot.entry context.entry (T.collection types.old) (T.packages types.old) body.old
+        (T.collection types.new) body.new result }
     ensures body { OnOk result (BodyStands (T.collection types.new) body.new) }
     ensures grows { Grows (T.collection types.old) (T.collection types.new) }
     ensures packages { SamePackages (T.packages types.old) (T.packages types.new) }
@@ -221,7 +224,8 @@ fn world_item<T: PackagedTypes>(
 ) -> Outcome<()>
     requires root { NamesStand (T.collection types.old) context.root.now }
     requires body { BodyStands (T.collection types.old) body.old }
-    ensures outcome { IsWorldItem path.now owner.entry context.entry (T.collection types.old) (T.packages types.old) body.old (T.collection types.new) body.new result }
+    ensures outcome { IsWorldItem path.now owner.entry context.entry (T.collection types.old) (T.packages types.old) body.old
+        (T.collection types.new) body.new result }
     ensures body { OnOk result (BodyStands (T.collection types.new) body.new) }
     ensures grows { Grows (T.collection types.old) (T.collection types.new) }
     ensures packages { SamePackages (T.packages types.old) (T.packages types.new) }
@@ -258,7 +262,8 @@ fn world_part<T: PackagedTypes>(
 ) -> Outcome<()>
     requires root { NamesStand (T.collection types.old) context.root.now }
     requires body { BodyStands (T.collection types.old) body.old }
-    ensures outcome { IsPart item.now world.now context.entry (T.collection types.old) (T.packages types.old) body.old (T.collection types.new) body.new result }
+    ensures outcome { IsPart item.now world.now context.entry (T.collection types.old) (T.packages types.old) body.old
+        (T.collection types.new) body.new result }
     ensures body { OnOk result (BodyStands (T.collection types.new) body.new) }
     ensures grows { Grows (T.collection types.old) (T.collection types.new) }
     ensures packages { SamePackages (T.packages types.old) (T.packages types.new) }
@@ -297,7 +302,8 @@ fn world_include<T: PackagedTypes>(
 ) -> Outcome<()>
     requires root { NamesStand (T.collection types.old) context.root.now }
     requires body { BodyStands (T.collection types.old) body.old }
-    ensures outcome { IsInclude item.now world.now context.entry (T.collection types.old) (T.packages types.old) body.old (T.collection types.new) body.new result }
+    ensures outcome { IsInclude item.now world.now context.entry (T.collection types.old) (T.packages types.old) body.old
+        (T.collection types.new) body.new result }
     ensures body { OnOk result (BodyStands (T.collection types.new) body.new) }
     ensures grows { Grows (T.collection types.old) (T.collection types.new) }
     ensures packages { SamePackages (T.packages types.old) (T.packages types.new) }
@@ -322,7 +328,8 @@ fn add_items<T: PackagedTypes>(
 ) -> Outcome<()>
     requires root { NamesStand (T.collection types.old) context.root.now }
     requires body { BodyStands (T.collection types.old) body.old }
-    ensures outcome { AreParts parts.now.items world.now context.entry (T.collection types.old) (T.packages types.old) body.old (T.collection types.new) body.new result }
+    ensures outcome { AreParts parts.now.items world.now context.entry (T.collection types.old) (T.packages types.old) body.old
+        (T.collection types.new) body.new result }
     ensures body { OnOk result (BodyStands (T.collection types.new) body.new) }
     ensures grows { Grows (T.collection types.old) (T.collection types.new) }
     ensures packages { SamePackages (T.packages types.old) (T.packages types.new) }
@@ -345,7 +352,8 @@ fn add_includes<T: PackagedTypes>(
 ) -> Outcome<()>
     requires root { NamesStand (T.collection types.old) context.root.now }
     requires body { BodyStands (T.collection types.old) body.old }
-    ensures outcome { AreIncludes parts.now.items world.now context.entry (T.collection types.old) (T.packages types.old) body.old (T.collection types.new) body.new result }
+    ensures outcome { AreIncludes parts.now.items world.now context.entry (T.collection types.old) (T.packages types.old) body.old
+        (T.collection types.new) body.new result }
     ensures body { OnOk result (BodyStands (T.collection types.new) body.new) }
     ensures grows { Grows (T.collection types.old) (T.collection types.new) }
     ensures packages { SamePackages (T.packages types.old) (T.packages types.new) }
@@ -366,7 +374,8 @@ fn body_of<T: PackagedTypes>(
     world: &str,
 ) -> Outcome<Body>
     requires { NamesStand (T.collection types.old) context.root.now }
-    ensures outcome { IsWorldBody parts.now.items world.now context.entry (T.collection types.old) (T.packages types.old) (T.collection types.new) result }
+    ensures outcome { IsWorldBody parts.now.items world.now context.entry (T.collection types.old) (T.packages types.old)
+        (T.collection types.new) result }
     ensures body { IfOk result (BodyStands (T.collection types.new)) }
     ensures grows { Grows (T.collection types.old) (T.collection types.new) }
     ensures packages { SamePackages (T.packages types.old) (T.packages types.new) }
@@ -415,7 +424,8 @@ pub(crate) fn world_decl<T: PackagedTypes>(
     types: &mut T,
 ) -> Outcome<WorldId>
     requires { NamesStand (T.collection types.old) context.root.now }
-    ensures outcome { IsWorldDeclared decl.now context.entry (T.collection types.old) (T.packages types.old) (T.collection types.new) result }
+    ensures outcome { IsWorldDeclared decl.now context.entry (T.collection types.old) (T.packages types.old)
+        (T.collection types.new) result }
     ensures stands { IfOk result (λ i. Stands (T.collection types.new) (ItemKind.Component i)) }
     ensures grows { Grows (T.collection types.old) (T.collection types.new) }
     ensures packages { SamePackages (T.packages types.old) (T.packages types.new) }

@@ -1,8 +1,10 @@
 -- Small documents from outside, as a parser gives them, and a value.
-use Rattle.std.specs.Prelude.{false, List, [], ◌∷◌, Option, Some, None, codes}
+use Prim.Native.String.{String}
+use Rattle.std.specs.Prelude.{◌≡◌, false, List, [], ◌∷◌, Option, Some, None, codes}
 use Rattle.serde_json.specs.Data.{Data, null, number, unsigned, string, array, no_items}
 use Rattle.wac_parser_tree.specs.Trees as t
 use Rattle.wac_parser_print.specs.Objects.{object_of}
+use Rattle.wac_parser_print.specs.Printing.{printed_document}
 
 -- a document that begins with `package a:b`
 abbrev pub document_of : Option t.PackagePath → List t.Statement → t.Document
@@ -43,3 +45,7 @@ name_value = object_of ((codes "string", string (codes "a:b")) ∷ (codes "name"
 -- `{"docs":[],"directive":{"package":..},"statements":[]}`
 abbrev pub package_value : Data
 package_value = object_of ((codes "docs", array no_items) ∷ (codes "directive", object_of ((codes "package", name_value) ∷ [])) ∷ (codes "statements", array no_items) ∷ [])
+
+-- printed with four blanks a level, the document of this source is this text
+abbrev pub PrintsAs : String → t.Document → String → Type 0
+PrintsAs source x text = printed_document (codes "    ") (codes source) x ≡ codes text

@@ -1,3 +1,4 @@
+pub mod Views
 pub mod Texts
 pub mod Results
 pub mod Printing

@@ -1,8 +1,10 @@
 -- JSON values of plain data.
-use Rattle.std.specs.Prelude.{◌≡◌, ℕ, List, [], ◌∷◌, map, Option, Some, None, Result, IfOk, codes}
+use Rattle.std.specs.Prelude.{◌≡◌, ℕ, List, [], ◌∷◌, map, Option, Some, None, Result, IfOk, String, codes}
+use Rattle.std.specs.BTreeMap.{BTreeMap}
+use Rattle.std.specs.declared.alloc.Global.{Global}
 use Rattle.std.specs.declared.alloc.AllocError.{AllocError}
 use Rattle.serde_json.specs.Data.{Data, null, number, unsigned, string, array, object, Members, no_members, put}
-use Rattle.serde_json.specs.View.{items_of, view}
+use Rattle.serde_json.specs.View.{items_of, members_view, view}
 use Rattle.serde_json.specs.declared.value.Value.{Value}
 use Rattle.semver.specs.Identifiers.{parts_text}
 use Rattle.wac_parser_lexer.specs.declared.span.SourceSpan.{SourceSpan}
@@ -39,6 +41,15 @@ version (Some v) = string (parts_text v)
 -- the value stands for this, where there was memory for it
 abbrev pub Gives : Result Value AllocError → Data → Type 0
 Gives r x = IfOk r (λ v. view v ≡ x)
+
+-- these are the members, where there was memory for them
+abbrev pub GivesMembers : Result (BTreeMap (String Global) Value) AllocError → Members → Type 0
+GivesMembers r ms = IfOk r (λ m. members_view m.entries ≡ ms)
+
+-- these members and one more
+abbrev pub GivesMember : Result (BTreeMap (String Global) Value) AllocError → List ℕ → Result Value AllocError →
+    Result (BTreeMap (String Global) Value) AllocError → Type 0
+GivesMember old name value new = (ms : Members) (x : Data) → GivesMembers old ms → Gives value x → GivesMembers new (put name x ms)
 
 -- what is made of values that are given
 abbrev pub GivesOf : Result Value AllocError → (Data → Data) → Result Value AllocError → Type 0

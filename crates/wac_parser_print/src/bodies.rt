@@ -2,7 +2,8 @@
 
 ghost use Rattle.std.specs.Prelude.{ℕ, map};
 ghost use Rattle.wac_parser_tree.specs.Trees as t;
-ghost use Rattle.wac_parser_tree.specs.Views.{view_enum_case, view_field, view_flag, view_interface_item, view_resource_method, view_statement, view_variant_case, view_world_include_item, view_world_item};
+ghost use Rattle.wac_parser_tree.specs.Views.{view_enum_case, view_field, view_flag, view_interface_item, view_resource_method};
+ghost use Rattle.wac_parser_tree.specs.Views.{view_statement, view_variant_case, view_world_include_item, view_world_item};
 ghost use Rattle.wac_parser_print.specs.Texts.{Text, body_of_entries, body_of_items, each, ended, paragraphs};
 ghost use Rattle.wac_parser_print.specs.Printing as text;
 ghost use Rattle.wac_parser_print.specs.Printers.{Adds};

@@ -1,7 +1,8 @@
 //! Declared types.
 
 ghost use Rattle.std.specs.Option.{option_map};
-ghost use Rattle.wac_parser_tree.specs.Views.{view_enum_case, view_enum_decl, view_field, view_flag, view_flags_decl, view_item_type_decl, view_record_decl, view_ty, view_type_alias, view_type_alias_kind, view_type_decl, view_variant_case, view_variant_decl};
+ghost use Rattle.wac_parser_tree.specs.Views.{view_enum_case, view_enum_decl, view_field, view_flag, view_flags_decl, view_item_type_decl, view_record_decl};
+ghost use Rattle.wac_parser_tree.specs.Views.{view_ty, view_type_alias, view_type_alias_kind, view_type_decl, view_variant_case, view_variant_decl};
 ghost use Rattle.wac_parser_print.specs.Printing as text;
 ghost use Rattle.wac_parser_print.specs.Printers.{Adds};
 

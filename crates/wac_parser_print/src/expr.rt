@@ -1,9 +1,10 @@
 //! Expressions.
 
 ghost use Rattle.std.specs.Prelude.{◌≡◌, map};
-ghost use Rattle.wac_parser_tree.specs.Trees.{arguments as arguments_of};
 ghost use Rattle.wac_parser_print.specs.Texts.{each};
-ghost use Rattle.wac_parser_tree.specs.Views.{view_access_expr, view_expr, view_instantiation_argument, view_instantiation_argument_name, view_named_access_expr, view_new_expr, view_postfix_expr, view_primary_expr};
+ghost use Rattle.wac_parser_print.specs.Views.{view_arguments};
+ghost use Rattle.wac_parser_tree.specs.Views.{view_access_expr, view_expr, view_instantiation_argument, view_instantiation_argument_name};
+ghost use Rattle.wac_parser_tree.specs.Views.{view_named_access_expr, view_new_expr, view_postfix_expr, view_primary_expr};
 ghost use Rattle.wac_parser_print.specs.Printing as text;
 ghost use Rattle.wac_parser_print.specs.Printers.{Adds};
 
@@ -27,7 +28,7 @@ fn is_fill(argument: &InstantiationArgument<'_>) -> bool
 
 /// Whether the only argument is `...`.
 fn is_fill_alone(arguments: &Vec<InstantiationArgument<'_>>) -> bool
-    ensures { result ≡ text.is_fill_alone (arguments_of (map view_instantiation_argument arguments.now.items)) }
+    ensures { result ≡ text.is_fill_alone (view_arguments arguments.now.items) }
 {
     if arguments.len() != 1 {
         return false;
@@ -114,7 +115,7 @@ impl<W: ByteSink + Drop> DocumentPrinter<'_, W> {
     /// Adds what stands in the braces of an instantiation.
     #[cycle(expr)]
     fn add_arguments(&mut self, level: usize, arguments: &Vec<InstantiationArgument<'_>>)
-        ensures { Adds self.old (text.arguments level (arguments_of (map view_instantiation_argument arguments.now.items))) self.new }
+        ensures { Adds self.old (text.arguments level (view_arguments arguments.now.items)) self.new }
     {
         if arguments.is_empty() {
             return;
@@ -131,7 +132,7 @@ impl<W: ByteSink + Drop> DocumentPrinter<'_, W> {
     /// Adds a line for each argument.
     #[cycle(expr)]
     fn add_argument_lines(&mut self, level: usize, arguments: &Vec<InstantiationArgument<'_>>)
-        ensures { Adds self.old (text.argument_lines level (arguments_of (map view_instantiation_argument arguments.now.items))) self.new }
+        ensures { Adds self.old (text.argument_lines level (view_arguments arguments.now.items)) self.new }
     {
         for argument in arguments {
             self.indent(level);

@@ -1,14 +1,13 @@
 //! Laws over the definitions alone: each is the contract of a function without a body.
 
-ghost use Rattle.std.specs.Prelude.{◌≡◌, codes};
-ghost use Rattle.wac_parser_print.specs.Printing.{printed_document};
+ghost use Rattle.std.specs.Prelude.{◌≡◌};
 ghost use Rattle.wac_parser_print.specs.Values as values;
-ghost use Rattle.wac_parser_print.specs.Examples.{package_alone, with_target, with_function, with_result, package_value};
+ghost use Rattle.wac_parser_print.specs.Examples.{PrintsAs, package_alone, with_target, with_function, with_result, package_value};
 
 /// Printed texts of documents from outside, four blanks a level, and the value of one.
 pub fn examples()
-    ensures target { printed_document (codes "    ") (codes "package a:b targets c:d/e;") with_target ≡ codes "package a:b targets c:d/e;\n\n" }
-    ensures no_arrow { printed_document (codes "    ") (codes "package a:b; type t = func() -> ;") with_function ≡ codes "package a:b;\n\ntype t = func();\n" }
-    ensures result_alone { printed_document (codes "    ") (codes "package a:b; type t = result<_, _>;") with_result ≡ codes "package a:b;\n\ntype t = result;\n" }
+    ensures target { PrintsAs "package a:b targets c:d/e;" with_target "package a:b targets c:d/e;\n\n" }
+    ensures no_arrow { PrintsAs "package a:b; type t = func() -> ;" with_function "package a:b;\n\ntype t = func();\n" }
+    ensures result_alone { PrintsAs "package a:b; type t = result<_, _>;" with_result "package a:b;\n\ntype t = result;\n" }
     ensures value { values.document package_alone ≡ package_value }
 {}

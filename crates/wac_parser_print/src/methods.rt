@@ -1,7 +1,13 @@
 //! What a printer prints.
 
 ghost use Rattle.std.specs.Prelude.{map};
-ghost use Rattle.wac_parser_tree.specs.Views.{view_access_expr, view_constructor, view_doc_comment, view_document, view_enum_decl, view_export_statement, view_expr, view_extern_type, view_flags_decl, view_func_type, view_func_type_ref, view_import_statement, view_import_type, view_inline_interface, view_interface_decl, view_interface_export, view_interface_item, view_item_type_decl, view_let_statement, view_method, view_named_access_expr, view_named_world_item, view_new_expr, view_package_directive, view_package_path, view_postfix_expr, view_primary_expr, view_record_decl, view_resource_decl, view_resource_method, view_statement, view_ty, view_type_alias, view_type_decl, view_type_statement, view_use, view_use_path, view_variant_case, view_variant_decl, view_world_decl, view_world_export, view_world_import, view_world_include, view_world_item, view_world_item_path, view_world_ref};
+ghost use Rattle.wac_parser_tree.specs.Views.{view_access_expr, view_constructor, view_doc_comment, view_document, view_enum_decl, view_export_statement, view_expr};
+ghost use Rattle.wac_parser_tree.specs.Views.{view_extern_type, view_flags_decl, view_func_type, view_func_type_ref, view_import_statement, view_import_type, view_inline_interface};
+ghost use Rattle.wac_parser_tree.specs.Views.{view_interface_decl, view_interface_export, view_interface_item, view_item_type_decl, view_let_statement, view_method, view_named_access_expr};
+ghost use Rattle.wac_parser_tree.specs.Views.{view_named_world_item, view_new_expr, view_package_directive, view_package_path, view_postfix_expr, view_primary_expr, view_record_decl};
+ghost use Rattle.wac_parser_tree.specs.Views.{view_resource_decl, view_resource_method, view_statement, view_ty, view_type_alias, view_type_decl, view_type_statement};
+ghost use Rattle.wac_parser_tree.specs.Views.{view_use, view_use_path, view_variant_case, view_variant_decl, view_world_decl, view_world_export, view_world_import};
+ghost use Rattle.wac_parser_tree.specs.Views.{view_world_include, view_world_item, view_world_item_path, view_world_ref};
 ghost use Rattle.wac_parser_print.specs.Printing as text;
 ghost use Rattle.wac_parser_print.specs.Printers.{Prints};
 

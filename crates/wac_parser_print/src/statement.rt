@@ -1,7 +1,8 @@
 //! Statements.
 
 ghost use Rattle.std.specs.Option.{option_map};
-ghost use Rattle.wac_parser_tree.specs.Views.{view_export_options, view_export_statement, view_extern_name, view_import_statement, view_import_type, view_let_statement, view_statement, view_type_statement};
+ghost use Rattle.wac_parser_tree.specs.Views.{view_export_options, view_export_statement, view_extern_name, view_import_statement};
+ghost use Rattle.wac_parser_tree.specs.Views.{view_import_type, view_let_statement, view_statement, view_type_statement};
 ghost use Rattle.wac_parser_print.specs.Printing as text;
 ghost use Rattle.wac_parser_print.specs.Printers.{Adds};
 

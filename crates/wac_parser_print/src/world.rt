@@ -1,7 +1,8 @@
 //! Worlds.
 
 ghost use Rattle.std.specs.Prelude.{map};
-ghost use Rattle.wac_parser_tree.specs.Views.{view_extern_type, view_named_world_item, view_world_decl, view_world_export, view_world_import, view_world_include, view_world_include_item, view_world_item, view_world_item_path, view_world_ref};
+ghost use Rattle.wac_parser_tree.specs.Views.{view_extern_type, view_named_world_item, view_world_decl, view_world_export, view_world_import};
+ghost use Rattle.wac_parser_tree.specs.Views.{view_world_include, view_world_include_item, view_world_item, view_world_item_path, view_world_ref};
 ghost use Rattle.wac_parser_print.specs.Printing as text;
 ghost use Rattle.wac_parser_print.specs.Printers.{Adds};
 

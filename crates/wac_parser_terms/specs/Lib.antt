@@ -1,2 +1,4 @@
 pub mod Absent
+pub mod Ends
+pub mod Parts
 pub mod Views

@@ -1,5 +1,7 @@
 -- What the answers of parsers of parts say, without where they lie in memory.
-use Rattle.std.specs.Prelude.{List, map, Option, Some, None}
+use Rattle.std.specs.Prelude.{ℕ, List, map, Option, Some, None}
+use Rattle.std.specs.Borrow.{Bor}
+use Rattle.std.specs.Option.{option_map}
 use Rattle.std.specs.declared.alloc.Global.{Global}
 use Rattle.std.specs.declared.boxed.Box.{Box}
 use Rattle.std.specs.declared.vec.Vec.{Vec}
@@ -11,6 +13,10 @@ use Rattle.wac_parser_tree.specs.Views.{view_ty}
 -- the views of a list
 abbrev pub view_all : {T X : Type 0} → (T → X) → Vec T Global → List X
 view_all view v = map view v.items
+
+-- a text that is lent, where there is one
+abbrev pub view_text : Option (Bor (List ℕ)) → Option (List ℕ)
+view_text = option_map (λ z. z.now)
 
 abbrev pub view_maybe : Option (Box «Type» Global) → t.MaybeTy
 view_maybe None = t.no_ty

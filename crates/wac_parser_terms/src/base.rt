@@ -1,13 +1,14 @@
 //! One token at a time.
 
 ghost use Rattle.wac_parser_grammar.specs.Places.{IsBehind};
-ghost use Rattle.std.specs.Prelude.{◌≡◌, ◌∷◌, ◌<◌, ◌≤◌, false, true, length, if◌then◌else◌, IfErr, IfOk, OnErr, OnOk, Some};
-ghost use Rattle.wac_parser_grammar.specs.Faults.{fault_of, nested_too_deep};
+ghost use Rattle.std.specs.Prelude.{◌≡◌, ◌∷◌, ◌<◌, ◌≤◌, false, true, length, IfErr, IfOk, OnErr, OnOk, Some};
+ghost use Rattle.wac_parser_grammar.specs.Faults.{fault_of};
 ghost use Rattle.wac_parser_lexer.specs.Pieces.{IsSpanIn};
 ghost use Rattle.wac_parser_grammar.specs.Ahead as ahead;
 ghost use Rattle.wac_parser_grammar.specs.Rules as rules;
 ghost use Rattle.wac_parser_grammar.specs.Reads.{Reads};
 ghost use Rattle.wac_parser_terms.specs.Absent as spec;
+ghost use Rattle.wac_parser_terms.specs.Parts as parts;
 
 use crate::lookahead::{Lookahead, same_token};
 use wac_parser_grammar::{Error, ParseResult};
@@ -128,7 +129,7 @@ pub(crate) fn next_span(lexer: &Lexer<'_>) -> SourceSpan
 /// The fault where nothing may begin, since the depth is spent.
 pub(crate) fn too_deep(lexer: &Lexer<'_>, first: &[Token]) -> Error
     requires { 0 < length first.now }
-    ensures { fault_of result ≡ (if ahead.sees_any first.now lexer.now then nested_too_deep (rules.span_of_items lexer.now.items) else ahead.none_of first.now lexer.now) }
+    ensures { fault_of result ≡ parts.too_deep first.now lexer.now }
 {
     if sees_any(lexer, first) {
         return Error::NestedTooDeep {

@@ -2,14 +2,17 @@
 #![tactic(auto, using(crate::proofs::Places::places))]
 
 ghost use Rattle.wac_parser_grammar.specs.Places.{IsBehind};
-ghost use Rattle.std.specs.Prelude.{◌≡◌, ◌∷◌, [], ◌+◌, ◌<◌, ◌≤◌, ◌^◌, true, map, IfOk, OnOk};
-ghost use Rattle.wac_parser_lexer.specs.declared.token.Token.TheVariants as k;
+ghost use Rattle.std.specs.Prelude.{◌≡◌, ◌<◌, ◌≤◌, map, IfOk, OnOk};
 ghost use Rattle.wac_parser_tree.specs.Accessors.{postfix_expr_span};
-ghost use Rattle.wac_parser_tree.specs.Views.{view_expr, view_primary_expr, view_new_expr, view_nested_expr, view_instantiation_argument, view_named_instantiation_argument, view_instantiation_argument_name, view_access_expr, view_named_access_expr, view_postfix_expr};
+ghost use Rattle.wac_parser_tree.specs.Views.{view_expr, view_primary_expr, view_new_expr, view_nested_expr};
+ghost use Rattle.wac_parser_tree.specs.Views.{view_instantiation_argument, view_named_instantiation_argument};
+ghost use Rattle.wac_parser_tree.specs.Views.{view_access_expr, view_named_access_expr, view_postfix_expr};
 ghost use Rattle.wac_parser_terms.specs.Views.{view_all};
-ghost use Rattle.wac_parser_grammar.specs.Rules.{left, list_of, while_of};
+ghost use Rattle.wac_parser_grammar.specs.Rules.{left};
 ghost use Rattle.wac_parser_grammar.specs.Reads.{Reads};
 ghost use Rattle.wac_parser_grammar.specs.Expressions as grammar;
+ghost use Rattle.wac_parser_terms.specs.Ends.{HasEnd};
+ghost use Rattle.wac_parser_terms.specs.Parts as parts;
 
 use crate::base::{behind, expect_value, none_of, parse_token, sees, sees_any, too_deep};
 use crate::package::package_name;
@@ -130,7 +133,7 @@ fn arguments<'a>(
     lexer: &mut Lexer<'a>,
     inside: usize,
 ) -> ParseResult<Vec<InstantiationArgument<'a>>>
-    ensures value { Reads (view_all view_instantiation_argument) (list_of (grammar.instantiation_argument (grammar.expr inside)) grammar.argument_first k.CloseBrace true) lexer.old result lexer.new }
+    ensures value { Reads (view_all view_instantiation_argument) (parts.arguments inside) lexer.old result lexer.new }
     ensures keeps { OnOk result (left lexer.new ≤ left lexer.old) }
     ensures goes_on { IsBehind lexer.new lexer.old }
 {
@@ -150,7 +153,7 @@ pub fn instantiation_argument<'a>(
     lexer: &mut Lexer<'a>,
     inside: usize,
 ) -> ParseResult<InstantiationArgument<'a>>
-    ensures value { Reads view_instantiation_argument (grammar.instantiation_argument (grammar.expr inside)) lexer.old result lexer.new }
+    ensures value { Reads view_instantiation_argument (parts.argument inside) lexer.old result lexer.new }
     ensures takes { OnOk result (left lexer.new < left lexer.old) }
     ensures goes_on { IsBehind lexer.new lexer.old }
 {
@@ -233,7 +236,7 @@ pub fn argument_value<'a>(
     name: InstantiationArgumentName<'a>,
     inside: usize,
 ) -> ParseResult<NamedInstantiationArgument<'a>>
-    ensures value { Reads view_named_instantiation_argument (grammar.argument_value (grammar.expr inside) (view_instantiation_argument_name name.entry)) lexer.old result lexer.new }
+    ensures value { Reads view_named_instantiation_argument (parts.value_behind name.entry inside) lexer.old result lexer.new }
     ensures takes { OnOk result (left lexer.new < left lexer.old) }
     ensures goes_on { IsBehind lexer.new lexer.old }
 {
@@ -245,7 +248,7 @@ pub fn argument_value<'a>(
 #[tactic(auto, using(crate::proofs::Places::places), unfolding(wac_parser_grammar::specs::Expressions::postfix_expr))]
 fn postfix_expr<'a>(lexer: &mut Lexer<'a>) -> ParseResult<PostfixExpr<'a>>
     ensures value { Reads view_postfix_expr grammar.postfix_expr lexer.old result lexer.new }
-    ensures small { IfOk result (λ p. (postfix_expr_span (view_postfix_expr p)).offset + (postfix_expr_span (view_postfix_expr p)).length < 2 ^ 64) }
+    ensures small { IfOk result (λ p. HasEnd (postfix_expr_span (view_postfix_expr p))) }
     ensures takes { OnOk result (left lexer.new < left lexer.old) }
     ensures goes_on { IsBehind lexer.new lexer.old }
 {
@@ -258,7 +261,7 @@ fn postfix_expr<'a>(lexer: &mut Lexer<'a>) -> ParseResult<PostfixExpr<'a>>
 #[tactic(auto, using(crate::proofs::Places::places), unfolding(wac_parser_grammar::specs::Expressions::access_expr))]
 pub fn access_expr<'a>(lexer: &mut Lexer<'a>) -> ParseResult<AccessExpr<'a>>
     ensures value { Reads view_access_expr grammar.access_expr lexer.old result lexer.new }
-    ensures small { IfOk result (λ p. p.span.offset + p.span.length < 2 ^ 64) }
+    ensures small { IfOk result (λ p. HasEnd p.span) }
     ensures takes { OnOk result (left lexer.new < left lexer.old) }
     ensures goes_on { IsBehind lexer.new lexer.old }
 {
@@ -273,7 +276,7 @@ pub fn access_expr<'a>(lexer: &mut Lexer<'a>) -> ParseResult<AccessExpr<'a>>
 #[tactic(auto, using(crate::proofs::Places::places), unfolding(wac_parser_grammar::specs::Expressions::named_access_expr))]
 pub fn named_access_expr<'a>(lexer: &mut Lexer<'a>) -> ParseResult<NamedAccessExpr<'a>>
     ensures value { Reads view_named_access_expr grammar.named_access_expr lexer.old result lexer.new }
-    ensures small { IfOk result (λ p. p.span.offset + p.span.length < 2 ^ 64) }
+    ensures small { IfOk result (λ p. HasEnd p.span) }
     ensures takes { OnOk result (left lexer.new < left lexer.old) }
     ensures goes_on { IsBehind lexer.new lexer.old }
 {
@@ -292,7 +295,7 @@ fn postfix_exprs<'a>(
     lexer: &mut Lexer<'a>,
     start: SourceSpan,
 ) -> ParseResult<(Vec<PostfixExpr<'a>>, SourceSpan)>
-    ensures value { Reads (λ p. view_all view_postfix_expr p.0) (while_of grammar.postfix_expr grammar.postfix_first) lexer.old result lexer.new }
+    ensures value { Reads (λ p. view_all view_postfix_expr p.0) parts.accesses lexer.old result lexer.new }
     ensures span { IfOk result (λ p. p.1 ≡ grammar.spanning start (map view_postfix_expr p.0.items)) }
     ensures keeps { OnOk result (left lexer.new ≤ left lexer.old) }
     ensures goes_on { IsBehind lexer.new lexer.old }

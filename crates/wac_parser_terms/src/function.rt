@@ -2,13 +2,13 @@
 #![tactic(auto, using(crate::proofs::Places::places))]
 
 ghost use Rattle.wac_parser_grammar.specs.Places.{IsBehind};
-ghost use Rattle.std.specs.Prelude.{◌≡◌, ◌∷◌, [], ◌<◌, ◌≤◌, true, OnOk};
-ghost use Rattle.wac_parser_lexer.specs.declared.token.Token.TheVariants as k;
+ghost use Rattle.std.specs.Prelude.{◌<◌, ◌≤◌, OnOk};
 ghost use Rattle.wac_parser_tree.specs.Views.{view_named_type, view_result_list, view_func_type, view_func_type_ref};
 ghost use Rattle.wac_parser_terms.specs.Views.{view_all};
-ghost use Rattle.wac_parser_grammar.specs.Rules.{left, list_of};
+ghost use Rattle.wac_parser_grammar.specs.Rules.{left};
 ghost use Rattle.wac_parser_grammar.specs.Reads.{Reads};
 ghost use Rattle.wac_parser_grammar.specs.ValueTypes as grammar;
+ghost use Rattle.wac_parser_terms.specs.Parts as parts;
 
 use crate::base::{behind, expect_value, none_of, optional, parse_token, sees, sees_any};
 use crate::text::ident;
@@ -65,7 +65,7 @@ fn func_results<'a>(alloc: Global, lexer: &mut Lexer<'a>) -> ParseResult<ResultL
 
 /// The parameters up to a closing parenthesis.
 fn params<'a>(alloc: Global, lexer: &mut Lexer<'a>) -> ParseResult<Vec<NamedType<'a>>>
-    ensures value { Reads (view_all view_named_type) (list_of grammar.named_type (k.Ident ∷ []) k.CloseParen true) lexer.old result lexer.new }
+    ensures value { Reads (view_all view_named_type) parts.params lexer.old result lexer.new }
     ensures keeps { OnOk result (left lexer.new ≤ left lexer.old) }
     ensures goes_on { IsBehind lexer.new lexer.old }
 {

@@ -1,7 +1,7 @@
 //! Names of packages, and paths into them.
 
 ghost use Rattle.wac_parser_grammar.specs.Places.{IsBehind};
-ghost use Rattle.std.specs.Prelude.{◌≡◌, ◌<◌, ◌+◌, ◌^◌, length, IfOk, IfErr, OnOk};
+ghost use Rattle.std.specs.Prelude.{◌≡◌, ◌<◌, length, IfOk, IfErr, OnOk};
 ghost use Rattle.std.specs.Option.{option_map};
 ghost use Rattle.semver.specs.Identifiers.{parts_of};
 ghost use Rattle.wac_parser_tree.specs.Views.{view_package_name, view_package_path};
@@ -12,6 +12,8 @@ ghost use Rattle.semver.specs.Parse.{version_parts};
 ghost use Rattle.wac_parser_grammar.specs.declared.error.Error.TheVariants.{Memory};
 ghost use Rattle.wac_parser_grammar.specs.Faults as fault;
 ghost use Rattle.wac_parser_grammar.specs.Names as grammar;
+ghost use Rattle.wac_parser_terms.specs.Ends.{HasEnd};
+ghost use Rattle.wac_parser_terms.specs.Views.{view_text};
 
 use crate::base::parse_token;
 use semver::Version;
@@ -24,7 +26,7 @@ use wac_parser_tree::{PackageName, PackagePath};
 fn split_at_mark(text: &str, mark: char) -> (&str, Option<&str>)
     requires { mark < 128 }
     ensures before { result.0.now ≡ grammar.before mark text.now }
-    ensures behind { option_map (λ z. z.now) result.1 ≡ grammar.behind_first mark text.now }
+    ensures behind { view_text result.1 ≡ grammar.behind_first mark text.now }
 {
     match text.split_once(mark) {
         Some((before, behind)) => (before, Some(behind)),
@@ -34,7 +36,7 @@ fn split_at_mark(text: &str, mark: char) -> (&str, Option<&str>)
 
 /// The last bytes of a span.
 fn end_of(span: SourceSpan, length: usize) -> SourceSpan
-    requires { span.offset + span.length < 2 ^ 64 }
+    requires { HasEnd span }
     ensures { result ≡ grammar.end_of span length }
 {
     SourceSpan {
@@ -45,7 +47,7 @@ fn end_of(span: SourceSpan, length: usize) -> SourceSpan
 
 /// The fault of a text that is no version, and stands at the end of a span.
 fn invalid_version(alloc: Global, text: &str, span: SourceSpan) -> ParseResult<Error>
-    requires { span.offset + span.length < 2 ^ 64 }
+    requires { HasEnd span }
     ensures value { IfOk result (λ e. fault.fault_of e ≡ fault.invalid_version text.now (grammar.end_of span (length text.now))) }
     ensures memory { IfErr result (λ e. e ≡ Memory) }
 {
@@ -57,7 +59,7 @@ fn invalid_version(alloc: Global, text: &str, span: SourceSpan) -> ParseResult<E
 
 /// Reads the text of a version, which stands at the end of a span.
 fn read_version(alloc: Global, text: &str, span: SourceSpan) -> ParseResult<Option<Version>>
-    requires { span.offset + span.length < 2 ^ 64 }
+    requires { HasEnd span }
     ensures { (s : Input) → Reads (option_map parts_of) (grammar.version_read (version_parts text.now) text.now span) s result s }
 {
     match Version::parse(alloc, text) {
@@ -78,8 +80,8 @@ fn version_of(
     version: Option<&str>,
     span: SourceSpan,
 ) -> ParseResult<Option<Version>>
-    requires { span.offset + span.length < 2 ^ 64 }
-    ensures { (s : Input) → Reads (option_map parts_of) (grammar.version_by (option_map (λ z. z.now) version.entry) span) s result s }
+    requires { HasEnd span }
+    ensures { (s : Input) → Reads (option_map parts_of) (grammar.version_by (view_text version.entry) span) s result s }
 {
     match version {
         Some(text) => read_version(alloc, text, span),

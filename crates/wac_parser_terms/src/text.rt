@@ -2,13 +2,14 @@
 #![tactic(auto, using(crate::proofs::Places::places))]
 
 ghost use Rattle.wac_parser_grammar.specs.Places.{IsBehind};
-ghost use Rattle.std.specs.Prelude.{◌≡◌, ◌<◌, ◌+◌, ◌^◌, map, IfOk, OnOk};
+ghost use Rattle.std.specs.Prelude.{◌≡◌, ◌<◌, map, IfOk, OnOk};
 ghost use Rattle.wac_parser_lexer.specs.Docs.{doc_of};
 ghost use Rattle.wac_parser_lexer.specs.Items.{docs_ahead};
 ghost use Rattle.wac_parser_tree.specs.Views.{view_ident, view_string, view_doc_comment};
 ghost use Rattle.wac_parser_grammar.specs.Rules.{left};
 ghost use Rattle.wac_parser_grammar.specs.Reads.{Reads};
 ghost use Rattle.wac_parser_grammar.specs.Names as grammar;
+ghost use Rattle.wac_parser_terms.specs.Ends.{HasEnd};
 
 use crate::base::parse_token;
 use std::alloc::{AllocError, Global};
@@ -72,7 +73,7 @@ fn strip_close(text: &str) -> &str
 #[tactic(auto, using(crate::proofs::Places::places), unfolding(wac_parser_grammar::specs::Names::ident))]
 pub fn ident<'a>(lexer: &mut Lexer<'a>) -> ParseResult<Ident<'a>>
     ensures value { Reads view_ident grammar.ident lexer.old result lexer.new }
-    ensures small { IfOk result (λ id. id.span.offset + id.span.length < 2 ^ 64) }
+    ensures small { IfOk result (λ id. HasEnd id.span) }
     ensures takes { OnOk result (left lexer.new < left lexer.old) }
     ensures goes_on { IsBehind lexer.new lexer.old }
 {

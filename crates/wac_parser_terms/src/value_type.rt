@@ -2,18 +2,16 @@
 #![tactic(auto, using(crate::proofs::Places::places))]
 
 ghost use Rattle.wac_parser_grammar.specs.Places.{IsBehind};
-ghost use Rattle.std.specs.Prelude.{◌≡◌, ◌∷◌, [], ◌+◌, ◌<◌, ◌≤◌, ◌^◌, true, map, Option, OnOk, OnSome};
+ghost use Rattle.std.specs.Prelude.{◌≡◌, ◌<◌, ◌≤◌, OnOk, OnSome};
 ghost use Rattle.std.specs.Option.{option_map};
-ghost use Rattle.wac_parser_lexer.specs.declared.token.Token.TheVariants as k;
-ghost use Rattle.wac_parser_lexer.specs.declared.span.SourceSpan.{SourceSpan};
-ghost use Rattle.wac_parser_tree.specs.Trees as t;
 ghost use Rattle.wac_parser_tree.specs.Views.{view_ty, view_boxed_ty};
 ghost use Rattle.wac_parser_terms.specs.Views.{view_all, view_maybe, view_payload};
 ghost use Rattle.wac_parser_lexer.specs.Items.{rest_input};
-ghost use Rattle.wac_parser_grammar.specs.Rules.{left, list_of, span_of_items};
+ghost use Rattle.wac_parser_grammar.specs.Rules.{left};
 ghost use Rattle.wac_parser_grammar.specs.Reads.{Reads};
-ghost use Rattle.wac_parser_grammar.specs.Ahead as ahead;
 ghost use Rattle.wac_parser_grammar.specs.ValueTypes as grammar;
+ghost use Rattle.wac_parser_terms.specs.Ends.{HasEnd};
+ghost use Rattle.wac_parser_terms.specs.Parts as parts;
 
 use crate::base::{
     behind, expect_value, next_span, none_of, optional, parse_token, sees, sees_any, too_deep,
@@ -82,7 +80,7 @@ const OMITTED_FIRST: [Token; 23] = [
 
 /// From the start of one span to the end of another.
 pub(crate) fn through(a: SourceSpan, b: SourceSpan) -> SourceSpan
-    requires { b.offset + b.length < 2 ^ 64 }
+    requires { HasEnd b }
     ensures { result ≡ grammar.through a b }
 {
     SourceSpan {
@@ -213,7 +211,7 @@ fn tuple_ty<'a>(alloc: Global, lexer: &mut Lexer<'a>, inside: usize) -> ParseRes
 /// The types up to a closing angle.
 #[cycle(ty)]
 fn types<'a>(alloc: Global, lexer: &mut Lexer<'a>, inside: usize) -> ParseResult<Vec<Type<'a>>>
-    ensures value { Reads (view_all view_ty) (list_of (grammar.ty inside) grammar.type_first k.CloseAngle true) lexer.old result lexer.new }
+    ensures value { Reads (view_all view_ty) (parts.types inside) lexer.old result lexer.new }
     ensures keeps { OnOk result (left lexer.new ≤ left lexer.old) }
     ensures goes_on { IsBehind lexer.new lexer.old }
 {
@@ -371,7 +369,7 @@ pub fn parse_optional_payload<'a>(
     lexer: &mut Lexer<'a>,
 ) -> ParseResult<(Option<Box<Type<'a>>>, SourceSpan)>
     requires { 0 < left lexer.old }
-    ensures value { Reads view_payload (grammar.payload grammar.value_type (span_of_items lexer.old.items)) (rest_input lexer.old) result lexer.new }
+    ensures value { Reads view_payload (parts.payload_at lexer.old) (rest_input lexer.old) result lexer.new }
     ensures goes_on { IsBehind lexer.new lexer.old }
 {
     let start = next_span(lexer);

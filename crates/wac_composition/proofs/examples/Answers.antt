@@ -80,14 +80,6 @@ pub returns-clause-given_renamed : goal.returns-clause-given_renamed
 unfolding read_version version_of version_cmp semver_on_literals
 returns-clause-given_renamed c = refl
 
-pub returns-clause-keeps_identifiers : goal.returns-clause-keeps_identifiers
-unfolding read_version version_of version_cmp semver_on_literals
-returns-clause-keeps_identifiers c = refl
-
-pub returns-clause-drops_identifiers : goal.returns-clause-drops_identifiers
-unfolding read_version version_of version_cmp semver_on_literals
-returns-clause-drops_identifiers c = refl
-
 pub returns-clause-circle_in_order : goal.returns-clause-circle_in_order
 unfolding read_version version_of version_cmp semver_on_literals
 returns-clause-circle_in_order c = refl

@@ -4,7 +4,8 @@ ghost use Rattle.std.specs.Prelude.{◌≡◌, IfOk, map};
 ghost use Rattle.std.specs.Option.{option_map};
 ghost use Rattle.serde_json.specs.View.{view};
 ghost use Rattle.wac_parser_tree.specs.Trees as t;
-ghost use Rattle.wac_parser_tree.specs.Views.{view_constructor, view_enum_case, view_enum_decl, view_field, view_flag, view_flags_decl, view_item_type_decl, view_method, view_record_decl, view_resource_decl, view_resource_method, view_ty, view_type_alias, view_type_alias_kind, view_type_decl, view_variant_case, view_variant_decl};
+ghost use Rattle.wac_parser_tree.specs.Views.{view_constructor, view_enum_case, view_enum_decl, view_field, view_flag, view_flags_decl, view_item_type_decl, view_method, view_record_decl};
+ghost use Rattle.wac_parser_tree.specs.Views.{view_resource_decl, view_resource_method, view_ty, view_type_alias, view_type_alias_kind, view_type_decl, view_variant_case, view_variant_decl};
 ghost use Rattle.wac_parser_print.specs.Objects.{Gives, or_null};
 ghost use Rattle.wac_parser_print.specs.Values as values;
 

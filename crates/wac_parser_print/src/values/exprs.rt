@@ -1,11 +1,12 @@
 //! Values of expressions.
 
-ghost use Rattle.std.specs.Prelude.{◌≡◌, IfOk, map};
+ghost use Rattle.std.specs.Prelude.{◌≡◌, IfOk};
 ghost use Rattle.serde_json.specs.View.{view};
 ghost use Rattle.wac_parser_tree.specs.Trees as t;
-ghost use Rattle.wac_parser_tree.specs.Trees.{arguments as arguments_of};
 ghost use Rattle.serde_json.specs.Data.{array};
-ghost use Rattle.wac_parser_tree.specs.Views.{view_access_expr, view_expr, view_instantiation_argument, view_instantiation_argument_name, view_named_access_expr, view_named_instantiation_argument, view_nested_expr, view_new_expr, view_postfix_expr, view_primary_expr};
+ghost use Rattle.wac_parser_tree.specs.Views.{view_access_expr, view_expr, view_instantiation_argument, view_instantiation_argument_name, view_named_access_expr};
+ghost use Rattle.wac_parser_tree.specs.Views.{view_named_instantiation_argument, view_nested_expr, view_new_expr, view_postfix_expr, view_primary_expr};
+ghost use Rattle.wac_parser_print.specs.Views.{view_arguments};
 ghost use Rattle.wac_parser_print.specs.Objects.{Gives};
 ghost use Rattle.wac_parser_print.specs.Values as values;
 
@@ -121,7 +122,7 @@ pub(crate) fn arguments(
     alloc: Global,
     arguments: &Vec<InstantiationArgument<'_>>,
 ) -> Result<Value, AllocError>
-    ensures { IfOk result (λ v. view v ≡ array (values.arguments (arguments_of (map view_instantiation_argument arguments.now.items)))) }
+    ensures { Gives result (array (values.arguments (view_arguments arguments.now.items))) }
 {
     let mut values = Vec::new(alloc);
     for item in arguments {

@@ -1,9 +1,7 @@
 //! Objects, member by member. What is made of a value for which there was no memory has none either.
 
-ghost use Rattle.std.specs.Prelude.{◌≡◌, ◌∷◌, [], IfOk};
-ghost use Rattle.serde_json.specs.Data.{Data, Members, object, no_members, put as with_member};
-ghost use Rattle.serde_json.specs.View.{members_view};
-ghost use Rattle.wac_parser_print.specs.Objects.{Gives, GivesFour, GivesThree, GivesTwo};
+ghost use Rattle.serde_json.specs.Data.{Data, Members, object, no_members};
+ghost use Rattle.wac_parser_print.specs.Objects.{Gives, GivesFour, GivesMember, GivesMembers, GivesThree, GivesTwo};
 ghost use Rattle.wac_parser_print.specs.Objects as objects;
 
 use serde_json::{Map, Value, put};
@@ -14,7 +12,7 @@ type Found = Result<Map<String, Value>, AllocError>;
 
 /// No member.
 pub(crate) fn none(alloc: Global) -> Found
-    ensures { IfOk result (λ m. members_view m.entries ≡ no_members) }
+    ensures { GivesMembers result no_members }
 {
     Ok(Map::new(alloc))
 }
@@ -26,7 +24,7 @@ pub(crate) fn added(
     name: &str,
     value: Result<Value, AllocError>,
 ) -> Found
-    ensures { (ms : Members) (x : Data) → IfOk members (λ m. members_view m.entries ≡ ms) → Gives value x → IfOk result (λ m. members_view m.entries ≡ with_member name.now x ms) }
+    ensures { GivesMember members name.now value result }
 {
     let value = value?;
     let mut members = members?;
@@ -36,7 +34,7 @@ pub(crate) fn added(
 
 /// The object of these members.
 pub(crate) fn object_of(members: Found) -> Result<Value, AllocError>
-    ensures { (ms : Members) → IfOk members (λ m. members_view m.entries ≡ ms) → Gives result (object ms) }
+    ensures { (ms : Members) → GivesMembers members ms → Gives result (object ms) }
 {
     match members {
         Ok(members) => Ok(Value::Object(members)),

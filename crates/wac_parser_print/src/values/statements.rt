@@ -4,7 +4,8 @@ ghost use Rattle.std.specs.Prelude.{◌≡◌, IfOk, map};
 ghost use Rattle.std.specs.Option.{option_map};
 ghost use Rattle.serde_json.specs.View.{view};
 ghost use Rattle.wac_parser_tree.specs.Trees as t;
-ghost use Rattle.wac_parser_tree.specs.Views.{view_document, view_export_options, view_export_statement, view_extern_name, view_import_statement, view_import_type, view_let_statement, view_package_directive, view_statement, view_type_statement};
+ghost use Rattle.wac_parser_tree.specs.Views.{view_document, view_export_options, view_export_statement, view_extern_name, view_import_statement};
+ghost use Rattle.wac_parser_tree.specs.Views.{view_import_type, view_let_statement, view_package_directive, view_statement, view_type_statement};
 ghost use Rattle.wac_parser_print.specs.Objects.{Gives, or_null};
 ghost use Rattle.wac_parser_print.specs.Values as values;
 

@@ -1,12 +1,11 @@
 //! Values of types.
 
-ghost use Rattle.std.specs.Prelude.{◌≡◌, IfOk, map, codes, [], ◌∷◌};
-ghost use Rattle.std.specs.Option.{option_map};
+ghost use Rattle.std.specs.Prelude.{◌≡◌, IfOk, codes, [], ◌∷◌};
 ghost use Rattle.serde_json.specs.View.{view};
 ghost use Rattle.wac_parser_tree.specs.Trees as t;
-ghost use Rattle.wac_parser_tree.specs.Trees.{maybe_ty, tys};
 ghost use Rattle.serde_json.specs.Data.{Data, array};
-ghost use Rattle.wac_parser_tree.specs.Views.{view_boxed_ty, view_func_type, view_func_type_ref, view_ident, view_named_type, view_result_list, view_ty};
+ghost use Rattle.wac_parser_tree.specs.Views.{view_func_type, view_func_type_ref, view_ident, view_named_type, view_result_list, view_ty};
+ghost use Rattle.wac_parser_print.specs.Views.{view_maybe_ty, view_tys};
 ghost use Rattle.wac_parser_print.specs.Objects.{Gives, GivesTwo};
 ghost use Rattle.wac_parser_print.specs.Objects as objects;
 ghost use Rattle.wac_parser_print.specs.Values.{with_span};
@@ -99,7 +98,7 @@ pub(crate) fn one_type(
 #[cycle(ty)]
 #[tactic(auto, unfolding(crate::specs::Values::maybe_ty))]
 pub(crate) fn payload(alloc: Global, payload: &Option<Box<Type<'_>>>) -> Result<Value, AllocError>
-    ensures { IfOk result (λ v. view v ≡ values.maybe_ty (maybe_ty (option_map view_boxed_ty payload.now))) }
+    ensures { IfOk result (λ v. view v ≡ values.maybe_ty (view_maybe_ty payload.now)) }
 {
     match payload {
         Some(payload) => ty(alloc, payload),
@@ -114,7 +113,7 @@ pub(crate) fn optional_type(
     one: &Option<Box<Type<'_>>>,
     at: SourceSpan,
 ) -> Result<Value, AllocError>
-    ensures { IfOk result (λ v. view v ≡ objects.variant name.now (with_span (values.maybe_ty (maybe_ty (option_map view_boxed_ty one.now))) at)) }
+    ensures { Gives result (objects.variant name.now (with_span (values.maybe_ty (view_maybe_ty one.now)) at)) }
 {
     variant(alloc, name, with_span(alloc, payload(alloc, one), at))
 }
@@ -138,7 +137,7 @@ pub(crate) fn tuple(
     types: &Vec<Type<'_>>,
     at: SourceSpan,
 ) -> Result<Value, AllocError>
-    ensures { IfOk result (λ v. view v ≡ objects.variant (codes "tuple") (with_span (array (values.tys (tys (map view_ty types.now.items)))) at)) }
+    ensures { Gives result (objects.variant (codes "tuple") (with_span (array (values.tys (view_tys types.now.items))) at)) }
 {
     let mut values = Vec::new(alloc);
     for one in types {

@@ -3,7 +3,8 @@
 ghost use Rattle.std.specs.Prelude.{◌≡◌, IfOk, map};
 ghost use Rattle.serde_json.specs.View.{view};
 ghost use Rattle.wac_parser_tree.specs.Trees as t;
-ghost use Rattle.wac_parser_tree.specs.Views.{view_extern_type, view_named_world_item, view_world_decl, view_world_export, view_world_import, view_world_include, view_world_include_item, view_world_item, view_world_item_path, view_world_ref};
+ghost use Rattle.wac_parser_tree.specs.Views.{view_extern_type, view_named_world_item, view_world_decl, view_world_export, view_world_import};
+ghost use Rattle.wac_parser_tree.specs.Views.{view_world_include, view_world_include_item, view_world_item, view_world_item_path, view_world_ref};
 ghost use Rattle.wac_parser_print.specs.Objects.{Gives};
 ghost use Rattle.wac_parser_print.specs.Values as values;
 

@@ -1,7 +1,6 @@
 use Rattle.std.proofs.Common.{◌≡◌, ◌+◌, take}
 use Rattle.std.specs.Prelude.{vec_len, vec_capacity}
-use Rattle.wac_graph_core.specs.Edges.{dependency_edge}
-use Rattle.wac_graph_core.proofs.Depending.{AddsEach}
+use Rattle.wac_graph_core.specs.Edges.{AddsEach, dependency_edge}
 use Rattle.wac_graph_core.proofs.definition.depended_by.Given as goal
 
 -- the edges of the nodes so far are added, and there is room for the rest

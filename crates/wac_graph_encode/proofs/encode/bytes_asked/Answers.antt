@@ -8,7 +8,7 @@ use Rattle.wac_graph_causes.specs.declared.errors.Unwritten.{Unwritten}
 use Rattle.wac_graph_causes.specs.Refusals.{unwritten_refusal}
 use Rattle.wac_graph_encode.specs.Finished.{MeansAsked, RefusesPrepared}
 use Rattle.wac_graph_encode.specs.Formed.{AreCopied, AreFormed}
-use Rattle.wac_graph_encode.proofs.Preparing.{held_prepared, means_nested, to_hand_out}
+use Rattle.wac_graph_encode.proofs.Preparing.{held_prepared, means_imported, means_nested, to_hand_out}
 use Rattle.wac_graph_encode.proofs.Refusing.{alike_refused, unwritten_refused}
 use Rattle.wac_graph_encode.proofs.encode.bytes_asked.Goals as goal
 
@@ -22,7 +22,19 @@ returns-clause-means c = λ prepared.
     let formed = subst (λ (xs : List Definition). AreFormed g.types new.types xs made.items) c.deref.ensures.value (c.in_ok-definitions.ensures.forms g.types copied) in
     let bytes : Result (Vec ℕ Global) Unwritten = Ok c.in_ok-bytes.bytes in
     let means = subst (λ (xs : List Definition). MeansAsked g new c.args.outers.now xs c.args.options.now bytes) c.deref-2.ensures.value c.in_ok-bytes.ensures.means in
-    means_nested g old c.args.outers.now prepared c.see_sound.ensures (subst IsAcyclic c.types.ensures c.see_acyclic.ensures) c.args.options.now new made bytes c.in_ok-definitions.ensures.grows refl formed means c.in_ok-bytes.ensures.nests
+    means_nested g old c.args.outers.now prepared c.see_sound.ensures (subst IsAcyclic c.types.ensures c.see_acyclic.ensures) c.args.options.now new made c.in_ok-bytes.bytes c.in_ok-definitions.ensures.grows refl formed means c.in_ok-bytes.ensures.nests
+
+pub returns-clause-imports : goal.returns-clause-imports
+returns-clause-imports c = λ prepared.
+    let g = c.args.graph.now in
+    let old = c.args.asked.now in
+    let new = record old { types = c.written_definitions.new.types } in
+    let made = c.in_ok-definitions.definitions in
+    let copied = subst (λ (xs : List Definition). AreCopied g.types old.types xs) (sym c.deref.ensures.value) prepared.copies in
+    let formed = subst (λ (xs : List Definition). AreFormed g.types new.types xs made.items) c.deref.ensures.value (c.in_ok-definitions.ensures.forms g.types copied) in
+    let bytes : Result (Vec ℕ Global) Unwritten = Ok c.in_ok-bytes.bytes in
+    let means = subst (λ (xs : List Definition). MeansAsked g new c.args.outers.now xs c.args.options.now bytes) c.deref-2.ensures.value c.in_ok-bytes.ensures.means in
+    means_imported g old c.args.outers.now prepared c.see_sound.ensures (subst IsAcyclic c.types.ensures c.see_acyclic.ensures) c.args.options.now new made c.in_ok-bytes.bytes c.in_ok-definitions.ensures.grows refl formed means c.in_ok-bytes.ensures.nests
 
 pub returns-clause-ready : goal.returns-clause-ready
 returns-clause-ready c = λ prepared.

@@ -4,9 +4,9 @@ use Rattle.wac_graph_asks.specs.Outers.{IsOuters}
 use Rattle.wac_graph_encode.proofs.encode.bytes_of.Goals as goal
 
 pub returns-clause-means : goal.returns-clause-means
-returns-clause-means c = λ define h w told.
+returns-clause-means c = λ h.
     let outers = subst (λ (xs : List Called). IsOuters c.args.graph.now c.args.asked.now.types c.args.outers.now.world xs) (sym c.as_slice.ensures.value) h.0 in
-    c.bytes_wired.ensures.means c.new-wired.ensures.graph c.new-wired.ensures.bare define (record { outers = outers; definitions = h.1 }) w told
+    c.bytes_wired.ensures.means c.new-wired.ensures.graph c.new-wired.ensures.bare (record { outers = outers; worlds = h.1; definitions = h.2 })
 
 pub returns-clause-nests : goal.returns-clause-nests
-returns-clause-nests c define = c.bytes_wired.ensures.nests c.new-wired.ensures.bare define
+returns-clause-nests c = c.bytes_wired.ensures.nests c.new-wired.ensures.bare

@@ -1,17 +1,16 @@
 use Rattle.std.proofs.Common.{[], sym, subst}
 use Rattle.std.proofs.lemmas.Result.{on_ok_weaker}
-use Rattle.wac_types_base.specs.Entries.{AreDistinct, names_of}
+use Rattle.wac_types_base.specs.Entries.{AreDistinct}
 use Rattle.wac_types_base.specs.Collection.{IsAcyclic}
 use Rattle.wac_graph_scopes.specs.Imports.{WritesOn, WritesAllImports}
 use Rattle.wac_graph_scopes.proofs.ImportLaws.{GoesOn-refl}
 use Rattle.wac_graph_encode.specs.Beginning.{IsRooted}
 use Rattle.wac_graph_encode.specs.Defining.{AreDefined}
-use Rattle.wac_graph_encode.proofs.Nested.{behind_nests}
 use Rattle.wac_graph_encode.proofs.RootedOuters.{outers_stand, imports_asked}
 use Rattle.wac_graph_encode.proofs.root.write_in.Goals as goal
 
 pub returns-clause-begins : goal.returns-clause-begins
-returns-clause-begins c define to bare w told =
+returns-clause-begins c to bare w told =
     let g = c.args.writing.graph.now in
     let a = c.args.writing.all in
     let finite = subst IsAcyclic c.types.ensures c.see_acyclic.ensures in
@@ -33,9 +32,7 @@ returns-clause-begins c define to bare w told =
       asked = imports_asked g c.see_sound.ensures finite a.types.now acyclic a.world a.called.now to.outers w scope all.0 goes all.2;
       begun = begun;
     })
-    (c.write_packages.ensures.begins define w a.types.now a.world all.0 a.called.now goes bare.0 bare.1 told rooted)
+    (c.write_packages.ensures.begins w a.world all.0 a.called.now goes bare to.worlds told rooted)
 
 pub returns-clause-nests : goal.returns-clause-nests
-returns-clause-nests c define bare =
-    on_ok_weaker c.write_packages.result
-    (behind_nests c.args.writing.graph.now (names_of c.args.writing.worlds.now.entries) c.write_definitions.new.scope (record c.args.root.now { nodes = c.in_ok-root.field-0 }) c.write_packages.new.root bare.0) (c.write_packages.ensures.nests define)
+returns-clause-nests c bare = c.write_packages.ensures.nests bare

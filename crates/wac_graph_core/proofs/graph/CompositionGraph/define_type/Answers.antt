@@ -5,12 +5,11 @@ use Rattle.wac_types_base.specs.declared.item.ItemKind.{ItemKind}
 use Rattle.wac_types_base.specs.Collection.{Stands}
 use Rattle.wac_graph_core.specs.Nodes.{defined_node}
 use Rattle.wac_graph_core.specs.NodeMaps.{AreThose}
-use Rattle.wac_graph_core.specs.Edges.{dependency_edge}
+use Rattle.wac_graph_core.specs.Edges.{AddsEach, dependency_edge}
 use Rattle.wac_graph_core.specs.Graph.{Graph}
 use Rattle.wac_graph_core.specs.Defining.{MayDefine, DefinesType, IsUserOf, ReachBelow}
 use Rattle.wac_graph_core.specs.View.{graph}
 use Rattle.wac_graph_core.proofs.Below.{ReachBelow-all}
-use Rattle.wac_graph_core.proofs.Depending.{AddsEach}
 use Rattle.wac_graph_core.proofs.DefineSteps.{define_step, defined_by, items_stand}
 use Rattle.wac_graph_core.proofs.graph.CompositionGraph.define_type.Goals as goal
 
