@@ -7,7 +7,7 @@ use Rattle.wac_types_base.specs.Entries.{Name, names_of, value_at}
 use Rattle.wac_types_base.specs.Stated.{Stated, imports_of}
 use Rattle.wac_types_base.specs.Tree.{tree}
 use Rattle.wac_types_names.specs.Packaged.{Packaged}
-use Rattle.wac_types_names.specs.Keys.{Key}
+use Rattle.wac_types_names.specs.Keys.{Key, package_key}
 use Rattle.wac_types_fit.proofs.Items.{value_at-among}
 use Rattle.wac_graph_bytes.specs.Wirings.{Tag, OfBytes, Source, Absent, Outer, Inst, Instantiation, Wiring, Same, project, rename, renamed as moved}
 use Rattle.wac_graph_bytes.proofs.Replace.{replace-project}
@@ -24,7 +24,7 @@ use Rattle.wac_composition.specs.OuterImports.{outer_imports}
 use Rattle.wac_composition.specs.Renaming.{ask_renamed, origin_renamed, renamed, KeepsMeaning}
 use Rattle.wac_composition.specs.Alike.{MeansAlike}
 use Rattle.wac_composition.specs.Worlds.{source_of}
-use Rattle.wac_composition.specs.Wired.{argument_source, export_source, instantiation, source_for}
+use Rattle.wac_composition.specs.Wired.{argument_source, composed_wiring, export_source, instantiation, source_for}
 use Rattle.wac_composition.proofs.Alike.{means_alike}
 use Rattle.wac_composition.proofs.Renamed.{keeps_meaning}
 use Rattle.wac_graph_asks.specs.Graphs.{composition_of, origin_of}
@@ -43,7 +43,7 @@ use Rattle.wac_parser_resolve.proofs.Answers.{ok_is, ok_of}
 use Rattle.wac_parser_resolve.proofs.Ordered.{numbered_is, numbered_at, export_is}
 use Rattle.wac_parser_resolve.proofs.Rooted.{AreFound, both_found}
 use Rattle.wac_parser_resolve.proofs.Sound.{Sound, statements_sound}
-use Rattle.wac_parser_ascribed.specs.Tied.{place_of, bytes_of, handed_tag, ascribed_wiring, IsAscribed, Graphs_are_ascribed}
+use Rattle.wac_parser_ascribed.specs.Tied.{place_of, bytes_of, handed_tag, IsAscribed, IsTagged, Graphs_are_ascribed}
 use Rattle.wac_parser_ascribed.proofs.Origins.{has_states, node_of, origin_is}
 use Rattle.wac_parser_ascribed.proofs.Places.{at_place, place_is}
 use Rattle.wac_parser_ascribed.proofs.Noted.{placed, keys}
@@ -118,43 +118,40 @@ module _ (g : Graph) (sound : IsGraph g) (acyclic : IsAcyclic g.types) {places :
       ap (λ u. project u n) (source_moved o) ∙ sym (replace-project Outer (λ k. Inst (node k)) (source_of (asks_of (composition s)) o) n)
   source_moved (c.defined x) = refl
 
-  module _ (W : Wiring ℕ) (is : IsGraphWiring g W) where
+  module _ (tag : Key → Tag) (W : Wiring ℕ) (is : IsGraphWiring g W) (V : Wiring ℕ) (v : IsTagged tag g W V) where
     -- ---- what an instance is given
 
-    given_at : (tag other : Key → Tag) (i k : ℕ) (m : Made) (e : ℕ × Span) → e.0 ≡ k → slice_get s.made i ≡ Some m → IsMade g nodes m e → (n : Name)
-        → source_for tag (composition_of g) (option_map (origin_of g) (first_argument g.edges k n)) n ≡ rename node (source_for other (composition s) (option_map (λ (d : Denoted). origin_in d.origin) (value_at m.arguments n)) n)
-    given_at tag other i k m e same here a n = by (value_at m.arguments n) refl
+    given_at : (first other : Key → Tag) (i k : ℕ) (m : Made) (e : ℕ × Span) → e.0 ≡ k → slice_get s.made i ≡ Some m → IsMade g nodes m e → (n : Name)
+        → source_for first (composition_of g) (option_map (origin_of g) (first_argument g.edges k n)) n ≡ rename node (source_for other (composition s) (option_map (λ (d : Denoted). origin_in d.origin) (value_at m.arguments n)) n)
+    given_at first other i k m e same here a n = by (value_at m.arguments n) refl
       where
         by : (o : Option Denoted) → value_at m.arguments n ≡ o
-            → source_for tag (composition_of g) (option_map (origin_of g) (first_argument g.edges k n)) n ≡ rename node (source_for other (composition s) (option_map (λ (d : Denoted). origin_in d.origin) o) n)
+            → source_for first (composition_of g) (option_map (origin_of g) (first_argument g.edges k n)) n ≡ rename node (source_for other (composition s) (option_map (λ (d : Denoted). origin_in d.origin) o) n)
         by None v =
-            ap (λ (o : Option ℕ). source_for tag (composition_of g) (option_map (origin_of g) o) n) (not_passed g sound acyclic s b ps said k m e same a n v)
+            ap (λ (o : Option ℕ). source_for first (composition_of g) (option_map (origin_of g) o) n) (not_passed g sound acyclic s b ps said k m e same a n v)
             ∙ ap Outer (sym (spelled n))
         by (Some d) v =
             let p = passed_is g sound acyclic s b ps said k m e same a n d v in
             let states = has_states g s d.origin d.item p.0 ((said.made i m here).has n d v) p.2.item in
-            ap (λ (o : Option ℕ). source_for tag (composition_of g) (option_map (origin_of g) o) n) p.1
+            ap (λ (o : Option ℕ). source_for first (composition_of g) (option_map (origin_of g) o) n) p.1
             ∙ ap (source_of (asks_of (composition_of g))) (origin_is g sound acyclic nodes d.origin p.0 p.2.node states)
             ∙ source_moved (origin_in d.origin)
 
-    -- the instance of a node, with the bytes that were handed in
+    -- the instance of a node, with the tag of its package
     abbrev IsInstanceOf : ℕ → ℕ → Made → Type 0
-    IsInstanceOf j k m = W.at k ≡ Some (moved node (instantiation (handed_tag s.packages) (composition s) (made_in j m)))
+    IsInstanceOf j k m = V.at k ≡ Some (moved node (instantiation tag (composition s) (made_in j m)))
 
     instance_of : (i j k : ℕ) (m : Made) (e : ℕ × Span) → e.0 ≡ k → slice_get s.made i ≡ Some m → IsMade g nodes m e → IsInstanceOf j k m
     instance_of i j k m e same here a =
         let made : instantiated g k ≡ Some a.of = subst (λ l. instantiated g l ≡ Some a.of) same a.is in
         let x = is.instances k a.of made in
-        let id = package_stands g sound acyclic k a.of made in
-        let handed = b.packages id.0 a.of id.1 in
-        let tag : x.0.tag ≡ handed_tag s.packages m.key = x.2.tag ∙ sym (ap (λ o. OfBytes (bytes_of o)) handed) ∙ ap (handed_tag s.packages) a.key in
-        let args : (n : Name) → x.0.args n ≡ rename node (argument_source (handed_tag s.packages) (composition s) (made_in j m) n) = λ n.
+        let args : (n : Name) → x.0.args n ≡ rename node (argument_source tag (composition s) (made_in j m) n) = λ n.
         given_is g sound acyclic k a.of x.0 made x.2 n
         ∙ ap (λ (w : Stated). cond (is_some (value_at (imports_of w) n)) (source_for (λ key. OfBytes a.of.bytes) (composition_of g) (value_at (made_of g sound acyclic k a.of).arguments n) n) Absent) a.world.same
         ∙ ap (λ (o : Option (c.Origin ℕ)). cond (is_some (value_at (imports_of m.world) n)) (source_for (λ key. OfBytes a.of.bytes) (composition_of g) o n) Absent) (argument_is g sound acyclic k n)
-        ∙ passed (is_some (value_at (imports_of m.world) n)) _ _ (given_at (λ key. OfBytes a.of.bytes) (handed_tag s.packages) i k m e same here a n)
-        ∙ ap (λ (o : Option (c.Origin ℕ)). rename node (cond (is_some (value_at (imports_of m.world) n)) (source_for (handed_tag s.packages) (composition s) o n) Absent)) (sym (value_mapped (λ (d : Denoted). origin_in d.origin) m.arguments n)) in
-        x.1 ∙ (λ l. Some (record { tag = tag l; args = λ n. args n l }))
+        ∙ passed (is_some (value_at (imports_of m.world) n)) _ _ (given_at (λ key. OfBytes a.of.bytes) tag i k m e same here a n)
+        ∙ ap (λ (o : Option (c.Origin ℕ)). rename node (cond (is_some (value_at (imports_of m.world) n)) (source_for tag (composition s) o n) Absent)) (sym (value_mapped (λ (d : Denoted). origin_in d.origin) m.arguments n)) in
+        v.instances k a.of x.0 made x.1 ∙ (λ l. Some (record { tag = ap tag a.key l; args = λ n. args n l }))
       where
         passed : (t : Bool) (u v : Source ℕ) → u ≡ rename node v → cond t u Absent ≡ rename node (cond t v Absent)
         passed true u v h = h
@@ -162,10 +159,13 @@ module _ (g : Graph) (sound : IsGraph g) (acyclic : IsAcyclic g.types) {places :
 
     -- ---- the same
 
-    there : (i : ℕ) (x : Instantiation ℕ) → (ascribed_wiring s).at i ≡ Some x → (place_of nodes (node i) ≡ i) × (W.at (node i) ≡ Some (moved node x))
+    abbrev composed : Wiring ℕ
+    composed = composed_wiring tag (composition s)
+
+    there : (i : ℕ) (x : Instantiation ℕ) → composed.at i ≡ Some x → (place_of nodes (node i) ≡ i) × (V.at (node i) ≡ Some (moved node x))
     there i x q = by (slice_get (numbered zero s.made) i) refl q
       where
-        by : (o : Option (c.Made Asker ℕ)) → slice_get (numbered zero s.made) i ≡ o → option_map (instantiation (handed_tag s.packages) (composition s)) o ≡ Some x → (place_of nodes (node i) ≡ i) × (W.at (node i) ≡ Some (moved node x))
+        by : (o : Option (c.Made Asker ℕ)) → slice_get (numbered zero s.made) i ≡ o → option_map (instantiation tag (composition s)) o ≡ Some x → (place_of nodes (node i) ≡ i) × (V.at (node i) ≡ Some (moved node x))
         by None r q = absurd (none-some _ q)
         by (Some y) r q =
             let m = numbered_is zero s.made i y r in
@@ -173,33 +173,33 @@ module _ (g : Graph) (sound : IsGraph g) (acyclic : IsAcyclic g.types) {places :
             let at : slice_get nodes i ≡ Some e.0.0 = name_at places.instances i e.0 e.1 in
             let number : node i ≡ e.0.0 = ap (λ (o : Option ℕ). unwrap_or o zero) at in
             let here = instance_of i m.number e.0.0 m.made e.0 refl m.there e.2 in
-            let same : instantiation (handed_tag s.packages) (composition s) (made_in m.number m.made) ≡ x = ap (instantiation (handed_tag s.packages) (composition s)) (sym m.is) ∙ same_Some _ _ q in (
+            let same : instantiation tag (composition s) (made_in m.number m.made) ≡ x = ap (instantiation tag (composition s)) (sym m.is) ∙ same_Some _ _ q in (
               ap (place_of nodes) number ∙ place_is nodes i e.0.0 (ms_apart g sound acyclic s b ps said) at,
-              ap W.at number ∙ here ∙ ap (λ z. Some (moved node z)) same,
+              ap V.at number ∙ here ∙ ap (λ z. Some (moved node z)) same,
             )
 
-    back : (j : ℕ) (y : Instantiation ℕ) → W.at j ≡ Some y → (x : Instantiation ℕ) × ((ascribed_wiring s).at (place_of nodes j) ≡ Some x) × (node (place_of nodes j) ≡ j)
+    back : (j : ℕ) (y : Instantiation ℕ) → V.at j ≡ Some y → (x : Instantiation ℕ) × (composed.at (place_of nodes j) ≡ Some x) × (node (place_of nodes j) ≡ j)
     back j y q = by (instantiated g j) refl
       where
-        by : (o : Option Packaged) → instantiated g j ≡ o → (x : Instantiation ℕ) × ((ascribed_wiring s).at (place_of nodes j) ≡ Some x) × (node (place_of nodes j) ≡ j)
-        by None r = absurd (none-some _ (sym (is.no_other j r) ∙ q))
+        by : (o : Option Packaged) → instantiated g j ≡ o → (x : Instantiation ℕ) × (composed.at (place_of nodes j) ≡ Some x) × (node (place_of nodes j) ≡ j)
+        by None r = absurd (none-some _ (sym (v.no_other j r) ∙ q))
         by (Some p) r =
             let at = at_place nodes j (b.says.all j (subst IsSome (sym r) refl)) in
             let e = named_at places.instances (place_of nodes j) j at in
             let m = turn_from (IsMade g nodes) s.made places.instances (place_of nodes j) e.0 b.says.made e.1 in
             let n = numbered_at zero s.made (place_of nodes j) m.0 m.1 in (
-              instantiation (handed_tag s.packages) (composition s) (made_in n.0 m.0),
-              ap (option_map (instantiation (handed_tag s.packages) (composition s))) n.1,
+              instantiation tag (composition s) (made_in n.0 m.0),
+              ap (option_map (instantiation tag (composition s))) n.1,
               ap (λ (o : Option ℕ). unwrap_or o zero) at,
             )
 
-    exports : (n : Name) → rename node ((ascribed_wiring s).exports n) ≡ W.exports n
+    exports : (n : Name) → rename node (composed.exports n) ≡ V.exports n
     exports n =
-        ap (λ o. rename node (export_source (handed_tag s.packages) (composition s) o)) (export_is s.exports n)
-        ∙ by (value_at s.exports n) (value_at g.exports n) refl refl (both_found g nodes s.exports g.exports n b.exports.are)
+        ap (λ o. rename node (export_source tag (composition s) o)) (export_is s.exports n)
+        ∙ by (value_at s.exports n) (value_at g.exports n) refl refl (both_found g nodes s.exports g.exports n b.exports.are) ∙ sym (v.exports n)
       where
         by : (o : Option Bound) (p : Option ℕ) → value_at s.exports n ≡ o → value_at g.exports n ≡ p → AreFound g nodes o p
-            → rename node (export_source (handed_tag s.packages) (composition s) (option_map (λ (d : Bound). origin_in d.denoted.origin) o)) ≡ W.exports n
+            → rename node (export_source tag (composition s) (option_map (λ (d : Bound). origin_in d.denoted.origin) o)) ≡ W.exports n
         by None None x y f = sym (is.no_export n y)
         by None (Some k) x y f = absurd f
         by (Some d) None x y f = absurd f
@@ -209,15 +209,27 @@ module _ (g : Graph) (sound : IsGraph g) (acyclic : IsAcyclic g.types) {places :
             ∙ ap (source_of (asks_of (composition_of g))) (origin_is g sound acyclic nodes d.denoted.origin k f.node states)
             ∙ source_moved (origin_in d.denoted.origin))
 
-    same : Same (ascribed_wiring s) W
+    same : Same composed V
     same = record {
       to = node;
       from = place_of nodes;
-      outers = λ n. ap (λ l. option_map tree (value_at l n)) outers ∙ sym (is.outers n);
+      outers = λ n. ap (λ l. option_map tree (value_at l n)) outers ∙ sym (is.outers n) ∙ sym (v.outers n);
       there = there;
       back = back;
       exports = exports;
     }
+
+  -- a wiring of the graph has the bytes that were handed in
+  nested : (W : Wiring ℕ) → IsGraphWiring g W → IsTagged (handed_tag s.packages) g W W
+  nested W is = record { outers = λ n. refl; instances = instances; no_other = is.no_other; exports = λ n. refl }
+    where
+      instances : (k : ℕ) (p : Packaged) (x : Instantiation ℕ) → instantiated g k ≡ Some p → W.at k ≡ Some x → W.at k ≡ Some (record { tag = handed_tag s.packages (package_key p); args = x.args })
+      instances k p x made at =
+          let y = is.instances k p made in
+          let id = package_stands g sound acyclic k p made in
+          let tag : x.tag ≡ handed_tag s.packages (package_key p) =
+          ap (λ (z : Instantiation ℕ). z.tag) (same_Some _ _ (sym at ∙ y.1)) ∙ y.2.tag ∙ sym (ap (λ o. OfBytes (bytes_of o)) (b.packages id.0 p id.1)) in
+          at ∙ (λ l. Some (record { tag = tag l; args = x.args }))
 
   pub is_ascribed : IsAscribed g places s
   is_ascribed = record {
@@ -231,7 +243,8 @@ module _ (g : Graph) (sound : IsGraph g) (acyclic : IsAcyclic g.types) {places :
     names = λ define validate. sym (tied.names define validate) ∙ keeps.names define validate;
     world = sym tied.world ∙ keeps.world;
     met = met_moved;
-    wired = λ W is. same W is;
+    tagged = λ tag W V is v. same tag W is V v;
+    wired = λ W is. same (handed_tag s.packages) W is W (nested W is);
   }
 
 pub ascribed : Graphs_are_ascribed

@@ -1,10 +1,11 @@
 -- What the graph of a resolved document has to do with what the document ascribes.
 use Rattle.std.specs.Prelude.{◌≡◌, ◌==◌, ℕ, zero, suc, Bool, List, [], ◌∷◌, Option, Some, None, Ok, option_map, if◌then◌else◌}
 use Rattle.wac_types_base.specs.Collection.{IsAcyclic}
+use Rattle.wac_types_base.specs.Entries.{Name}
 use Rattle.wac_types_base.specs.Stated.{Stated}
 use Rattle.wac_types_names.specs.Packaged.{Packaged}
 use Rattle.wac_types_names.specs.Keys.{Key, package_key}
-use Rattle.wac_graph_bytes.specs.Wirings.{Tag, OfBytes, Wiring, Same}
+use Rattle.wac_graph_bytes.specs.Wirings.{Tag, OfBytes, Instantiation, Wiring, Same}
 use Rattle.wac_graph_core.specs.Graph.{Graph, IsGraph, instantiated}
 use Rattle.wac_composition.specs.Alike.{IsAlike}
 use Rattle.wac_composition.specs.Asks.{asks_of}
@@ -67,11 +68,18 @@ handed_tag ps k = OfBytes (bytes_of (package_under ps k))
 abbrev pub ascribed_wiring : State → Wiring ℕ
 ascribed_wiring s = composed_wiring (handed_tag s.packages) (composition s)
 
+-- a wiring of the graph but for its tags: an instance has that of its package's key
+pub record IsTagged (tag : Key → Tag) (g : Graph) (W V : Wiring ℕ) : Type 0 where
+  pub outers : (n : Name) → V.outers n ≡ W.outers n
+  pub instances : (k : ℕ) (p : Packaged) (x : Instantiation ℕ) → instantiated g k ≡ Some p → W.at k ≡ Some x → V.at k ≡ Some (record { tag = tag (package_key p); args = x.args })
+  pub no_other : (k : ℕ) → instantiated g k ≡ None → V.at k ≡ None
+  pub exports : (n : Name) → V.exports n ≡ W.exports n
+
 -- ---- the tie
 
 -- With those who ask in the document for nodes, and numbers for instances, the graph is the composition that the document
 -- ascribes: what stands against the one stands against the other, their worlds are one, what is asked is met alike, and their
--- wirings are one. Each node stands where the one stands who asks for it, and an instance's has the key of its package.
+-- wirings are one, whatever tags packages have. Each node stands where the one stands who asks for it, and an instance's has the key of its package.
 pub record IsAscribed (g : Graph) (at : Places) (s : State) : Type 0 where
   pub asker : ℕ → Asker
   pub number : ℕ → ℕ
@@ -83,6 +91,7 @@ pub record IsAscribed (g : Graph) (at : Places) (s : State) : Type 0 where
   pub names : (define validate : Bool) → name_cause define validate (composition s) ≡ option_map (cause_renamed asker) (name_cause define validate (composition_of g))
   pub world : composed_world (composition s) ≡ composed_world (composition_of g)
   pub met : AreMet (composition_of g) → AreMet (composition s)
+  pub tagged : (tag : Key → Tag) (W V : Wiring ℕ) → IsGraphWiring g W → IsTagged tag g W V → Same (composed_wiring tag (composition s)) V
   pub wired : (W : Wiring ℕ) → IsGraphWiring g W → Same (ascribed_wiring s) W
 
 abbrev pub Graphs_are_ascribed : Type 0

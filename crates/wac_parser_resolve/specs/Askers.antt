@@ -40,4 +40,5 @@ abbrev pub Definitions_ask_nothing : Type 0
 Definitions_ask_nothing = (d : t.Document) (ps : List (Key × Content)) (r : State × Option Stated) → resolved d ps ≡ Ok r → (e : Name × Stated) → Among e r.0.definitions → used_by_definition e.1 ≡ []
 
 abbrev pub Askers_have_places : Type 0
-Askers_have_places = (d : t.Document) (ps : List (Key × Content)) (r : State × Option Stated) → resolved d ps ≡ Ok r → (define : Bool) (x : Cause Asker) → StandsAgainst define (composition r.0) x → IsAskedSo x
+Askers_have_places = (d : t.Document) (ps : List (Key × Content)) (r : State × Option Stated)
+    → resolved d ps ≡ Ok r → (define : Bool) (x : Cause Asker) → StandsAgainst define (composition r.0) x → IsAskedSo x

@@ -41,6 +41,9 @@ InfersName g k text ns n = (ms : List ℕ) (d : Denoted) (i : t.Ident) → Denot
 abbrev pub is_left_by : List Given → List (Name × ItemKind) → Name → Bool
 is_left_by xs es n = not (has_name (names_given xs) n) && is_some (value_at es n)
 
+abbrev pub names_left_by : List Given → List (Name × ItemKind) → List Name → List Name
+names_left_by xs es ns = filter (is_left_by xs es) ns
+
 -- one more is given, where its name is new
 abbrev pub GivesOne : List Given → Given → List Given → Result ⊤ Refusal → Type 0
 GivesOne xs one ys r = (g : Graph) (ms : List ℕ) (gs : List stated.Given) (a : stated.Given) → AreGiven g ms gs xs → IsGiven g ms a one

@@ -20,7 +20,8 @@ use Rattle.wac_parser_tree.specs.declared.value_type.FuncType.{FuncType}
 use Rattle.wac_parser_tree.specs.declared.interface.InlineInterface.{InlineInterface}
 use Rattle.wac_parser_tree.specs.declared.import.PackageName.{PackageName}
 use Rattle.wac_parser_tree.specs.declared.import.PackagePath.{PackagePath}
-use Rattle.wac_parser_tree.specs.Views.{view_func_type, view_ident, view_import_statement, view_import_type, view_inline_interface, view_package_name, view_package_path, view_statement, view_type_statement}
+use Rattle.wac_parser_tree.specs.Views.{view_func_type, view_ident, view_import_statement, view_import_type}
+use Rattle.wac_parser_tree.specs.Views.{view_inline_interface, view_package_name, view_package_path, view_statement, view_type_statement}
 use Rattle.wac_parser_refusals.specs.declared.refusal.Refusal.{Refusal}
 use Rattle.wac_parser_refusals.specs.Causes.{Answer, Cause, ◌>>◌, each, pure, unless_clear, DeclarationConflict, DuplicateExternName, InvalidExternName}
 use Rattle.wac_parser_refusals.specs.Outcomes.{IsOutcome}

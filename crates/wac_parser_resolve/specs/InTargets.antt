@@ -30,6 +30,7 @@ use Rattle.wac_parser_refusals.specs.Causes.{Answer, Cause, Fault, ◌>>=◌, ea
 use Rattle.wac_parser_refusals.specs.Views.{Names, anywhere, maybe_at}
 use Rattle.wac_parser_refusals.specs.Outcomes.{IsOutcome}
 use Rattle.wac_parser_declare.specs.Holding.{Holds}
+use Rattle.wac_parser_resolve.specs.declared.spans.Spans.{Spans}
 use Rattle.wac_parser_resolve.specs.declared.state.State.{State as Held}
 use Rattle.wac_parser_resolve.specs.declared.targets.Asked.{Asked}
 use Rattle.wac_parser_resolve.specs.declared.targets.Place.{Place}
@@ -194,6 +195,10 @@ pub record AreNotedMet (g : Graph) (given : Gives) (is ms : List (ℕ × Span)) 
   pub instances : AreInstancesMet g given ms
   pub exports : AreExportsMet g es
 
+-- the same of what the code has noted
+abbrev pub NotedIsMet : Target → Graph → Spans → Spans → List (Name × ItemKind) → Type 0
+NotedIsMet tg g imports instances es = AreNotedMet g (given_by tg) imports.noted.items instances.noted.items es
+
 -- ---- the target
 
 -- the target as the code holds it: its path, what it gives, its exports
@@ -208,6 +213,10 @@ abbrev pub MeetsTarget : Target → Graph → List (ℕ × Span) → List (ℕ �
 MeetsTarget tg g imports instances spans es r = (ids : List (ℕ × Span)) (names : List (Name × ℕ)) (s : State) (p : t.PackagePath) (w : Stated) → IsTargetFor tg g.types es p w
     → AreAsked g imports ids s.imports → Says g instances names s → AreExported g (names_of instances) spans s.exports → IsTold (stated.target_met s p w) r
 
+-- what is noted meets the target
+abbrev pub NotedMeets : Target → Graph → Spans → Spans → Spans → List (Name × ItemKind) → Result ⊤ Refusal → Type 0
+NotedMeets tg g imports instances spans es r = MeetsTarget tg g imports.noted.items instances.noted.items spans.noted.items es r
+
 abbrev pub IsFaultOf : PackagePath → TargetError → Refusal → Type 0
 IsFaultOf p TargetError.Memory e = e ≡ Refusal.Memory
 IsFaultOf p TargetError.UsedWithoutIdentifier e = Names e (anywhere (TypeCannotBeWritten p.string.now))
@@ -217,6 +226,10 @@ abbrev pub IsTargetMet : PackagePath → Graph → List (ℕ × Span) → List (
 IsTargetMet p g imports instances exports w r = (ids : List (ℕ × Span)) (names : List (Name × ℕ)) (s : State)
     → AreAsked g imports ids s.imports → Says g instances names s → AreExported g (names_of instances) exports s.exports
     → IsTold (stated.target_met s (view_package_path p) (stated_of g.types (ItemKind.Component w))) r
+
+-- what is noted meets the world
+abbrev pub NotedMeetsWorld : PackagePath → Graph → Spans → Spans → Spans → WorldId → Result ⊤ Refusal → Type 0
+NotedMeetsWorld p g imports instances exports w r = IsTargetMet p g imports.noted.items instances.noted.items exports.noted.items w r
 
 -- ---- in a document
 
@@ -234,7 +247,7 @@ abbrev pub AreNotedAll : Held → Type 0
 AreNotedAll b = AreAllNoted b.board.types.graph b.imports.noted.items b.board.instances.noted.items
 
 abbrev pub StateMeets : PackagePath → Held → WorldId → Result ⊤ Refusal → Type 0
-StateMeets p b w r = IsTargetMet p b.board.types.graph b.imports.noted.items b.board.instances.noted.items b.exports.noted.items w r
+StateMeets p b w r = NotedMeetsWorld p b.board.types.graph b.imports b.board.instances b.exports w r
 
 abbrev pub IsWorldHeld : Collection → Stated → WorldId → Type 0
 IsWorldHeld c w id = Holds c w (ItemKind.Component id)

@@ -37,6 +37,10 @@ key_of n v = (n, option_map parts_of (option_copied v))
 
 -- ---- the packages of a graph
 
+-- what a world is, by its id
+abbrev pub stated_world : Collection → WorldId → Stated
+stated_world c w = stated_of c (ItemKind.Component w)
+
 -- what a package has, its world in this collection
 abbrev pub content_of : Collection → Packaged → Content
 content_of c p = record { world = stated_of c (ItemKind.Component p.ty); bytes = p.bytes }

@@ -18,7 +18,9 @@ use Rattle.wac_parser_resolve.specs.Ascribed.{Asker, ascribed, composition}
 
 -- each instance is of a package handed in, with the world of that package
 abbrev pub Packages_are_known : Type 0
-Packages_are_known = (d : t.Document) (ps : List (Key × Content)) (r : State × Option Stated) → resolved d ps ≡ Ok r → (k : ℕ) (m : c.Made Asker ℕ) → slice_get (composition r.0).made k ≡ Some m → package_under (worlds_of ps) m.key ≡ Some m.world
+Packages_are_known = (d : t.Document) (ps : List (Key × Content)) (r : State × Option Stated)
+    → resolved d ps ≡ Ok r → (k : ℕ) (m : c.Made Asker ℕ)
+    → slice_get (composition r.0).made k ≡ Some m → package_under (worlds_of ps) m.key ≡ Some m.world
 
 -- what is said stays over the packages that are handed in
 abbrev pub Packages_stay : Type 0
@@ -26,13 +28,16 @@ Packages_stay = (d : t.Document) (ps : List (Key × Content)) (r : State × Opti
 
 -- an instance's sources name earlier instances, and the exports' instances that are there
 abbrev pub Wirings_are_ordered : Type 0
-Wirings_are_ordered = (d : t.Document) (ps : List (Key × Content)) (define : Bool) (x : Composition Asker ℕ × Option Stated) → Ok x ≡ ascribed define d ps → (tag_of : Key → Tag) → IsOrdered (composed_wiring tag_of x.0)
+Wirings_are_ordered = (d : t.Document) (ps : List (Key × Content)) (define : Bool) (x : Composition Asker ℕ × Option Stated)
+    → Ok x ≡ ascribed define d ps → (tag_of : Key → Tag) → IsOrdered (composed_wiring tag_of x.0)
 
 -- what a document says over packages with proper worlds is wired where each of its asks is met
 abbrev pub Resolved_are_wired : Type 0
-Resolved_are_wired = (d : t.Document) (ps : List (Key × Content)) (r : State × Option Stated) → AreProper (worlds_of ps) → resolved d ps ≡ Ok r → AreMet (composition r.0) → (tag_of : Key → Tag) → IsWired tag_of (composition r.0)
+Resolved_are_wired = (d : t.Document) (ps : List (Key × Content)) (r : State × Option Stated)
+    → AreProper (worlds_of ps) → resolved d ps ≡ Ok r → AreMet (composition r.0) → (tag_of : Key → Tag) → IsWired tag_of (composition r.0)
 
 -- what an accepted document ascribes over packages with proper worlds is wired: each import of each instance is bound once, to what
 -- fits it and was there before, and the world that is handed out is true
 abbrev pub Documents_are_wired : Type 0
-Documents_are_wired = (d : t.Document) (ps : List (Key × Content)) (define : Bool) (x : Composition Asker ℕ × Option Stated) → AreProper (worlds_of ps) → Ok x ≡ ascribed define d ps → (tag_of : Key → Tag) → IsWired tag_of x.0
+Documents_are_wired = (d : t.Document) (ps : List (Key × Content)) (define : Bool) (x : Composition Asker ℕ × Option Stated)
+    → AreProper (worlds_of ps) → Ok x ≡ ascribed define d ps → (tag_of : Key → Tag) → IsWired tag_of x.0

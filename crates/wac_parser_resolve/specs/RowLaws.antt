@@ -3,7 +3,8 @@ use Rattle.std.specs.Prelude.{◌≡◌, [], ◌∷◌, Ok, codes}
 use Rattle.wac_composition.specs.Composition as c
 use Rattle.wac_composition.specs.Examples.{plain_func, func_of_number, named_instance, passing, newer, wider}
 use Rattle.wac_parser_refusals.specs.Causes.{MissingInstantiationArg, MismatchedInstantiationArg, InstantiationArgMergeFailure, UndefinedName, UnknownPackage, ImportConflict, ExportRequiresAs}
-use Rattle.wac_parser_resolve.specs.Rows.{sp, key, plain_package, refusal, said, handed, from_g_to_h, one_instance, nothing_given, one_into_another, two_versions, versions, unknown_name, own_package, asked_and_filled, no_name_to_export, named_by_identifier, identified, exporting_identified}
+use Rattle.wac_parser_resolve.specs.Rows.{sp, key, plain_package, refusal, said, handed, from_g_to_h, one_instance, nothing_given, one_into_another}
+use Rattle.wac_parser_resolve.specs.Rows.{two_versions, versions, unknown_name, own_package, asked_and_filled, no_name_to_export, named_by_identifier, identified, exporting_identified}
 
 -- one outer import, one instance, one export
 abbrev pub Says_one : Type 0

@@ -10,7 +10,8 @@ use Rattle.wac_composition.specs.Names.{is_interface_name}
 use Rattle.wac_parser_tree.specs.Trees as t
 use Rattle.wac_parser_tree.specs.Trees.{Span}
 use Rattle.wac_parser_refusals.specs.declared.error.InstanceOperation.{InstanceOperation}
-use Rattle.wac_parser_refusals.specs.Causes.{Answer, ◌>>=◌, ◌>>◌, pure, refuse, unless_clear, present, each, DuplicateExternName, InvalidExternName, DeclarationConflict, ExportRequiresAs, ExportConflict, SpreadExportNoEffect}
+use Rattle.wac_parser_refusals.specs.Causes.{Answer, ◌>>=◌, ◌>>◌, pure, refuse, unless_clear, present, each}
+use Rattle.wac_parser_refusals.specs.Causes.{DuplicateExternName, InvalidExternName, DeclarationConflict, ExportRequiresAs, ExportConflict, SpreadExportNoEffect}
 use Rattle.wac_parser_declare.specs.Packages.{Content}
 use Rattle.wac_parser_declare.specs.Scope.{named, path_item}
 use Rattle.wac_parser_declare.specs.Declarations.{free}

@@ -1,7 +1,7 @@
 //! The arguments of an instantiation.
 #![tactic(auto, using(crate::proofs::SoundGraph::inside))]
 
-ghost use Rattle.std.specs.Prelude.{◌≡◌, ◌∷◌, ◌++◌, [], IfOk, OnOk, filter, find, map, not};
+ghost use Rattle.std.specs.Prelude.{◌≡◌, ◌∷◌, ◌++◌, [], IfOk, OnOk, find, map, not};
 ghost use Rattle.std.specs.Option.{option_copied};
 ghost use Rattle.wac_types_base.specs.declared.item.ItemKind.{ItemKind};
 ghost use Rattle.wac_types_base.specs.Collection.{Stands};
@@ -14,7 +14,8 @@ ghost use Rattle.wac_parser_refusals.specs.Outcomes.{Refuses};
 ghost use Rattle.wac_parser_resolve.specs.Denoting as stated;
 ghost use Rattle.wac_parser_resolve.specs.Denoting.{if_among};
 ghost use Rattle.wac_parser_resolve.specs.Holding.{names_given};
-ghost use Rattle.wac_parser_resolve.specs.InArguments.{AreSpreads, GivesExports, GivesOne, InfersName, IsArgumentName, IsComplete, IsExportGiven, IsInferredGiven, IsSpreadOf, Spreads, TakesSpread, is_left_by, names_left};
+ghost use Rattle.wac_parser_resolve.specs.InArguments.{AreSpreads, GivesExports, GivesOne, InfersName, IsArgumentName, IsComplete};
+ghost use Rattle.wac_parser_resolve.specs.InArguments.{IsExportGiven, IsInferredGiven, IsSpreadOf, Spreads, TakesSpread, is_left_by, names_left, names_left_by};
 ghost use Rattle.wac_parser_resolve.specs.InInstances.{PassesAll};
 ghost use Rattle.wac_parser_resolve.specs.Later.{Inner, IsWithin};
 ghost use Rattle.wac_parser_resolve.specs.Standing.{AreApart, AreThere, IsFresh};
@@ -156,7 +157,7 @@ fn left_names(
     imports: &[String],
     exports: &NamedMap<ItemKind>,
 ) -> Result<Vec<String>, AllocError>
-    ensures { IfOk result (λ names. texts_of names.items ≡ filter (is_left_by given.now.items exports.now) (texts_of imports.now)) }
+    ensures { IfOk result (λ names. texts_of names.items ≡ names_left_by given.now.items exports.now (texts_of imports.now)) }
 {
     let mut names = Vec::new(alloc);
     for name in imports {
@@ -181,7 +182,8 @@ fn give_exports(
     ensures given { OnOk result (AreThere graph.new given.new.items) }
     ensures inner { Inner graph.old graph.new }
     ensures within { IsWithin graph.old graph.new }
-    ensures outcome { GivesExports (texts_of names.now.items) graph.old node span given.old.items graph.new given.new.items result }
+    ensures outcome { GivesExports (texts_of names.now.items) graph.old node span given.old.items
+        graph.new given.new.items result }
 {
     for name in names {
         let one = given_export(alloc, graph, node, span, name.as_str())?;
@@ -291,7 +293,8 @@ fn take_spread(
     ensures given { OnOk result (AreThere graph.new given.new.items) }
     ensures inner { Inner graph.old graph.new }
     ensures within { IsWithin graph.old graph.new }
-    ensures outcome { TakesSpread argument.now graph.old root.entry.nodes.now world given.old.items graph.new given.new.items result }
+    ensures outcome { TakesSpread argument.now graph.old root.entry.nodes.now world given.old.items
+        graph.new given.new.items result }
 {
     match spread_id(argument) {
         Some(id) => spread(root, graph, world, &id, given),
@@ -312,7 +315,8 @@ pub(crate) fn spreads(
     ensures given { OnOk result (AreThere graph.new given.new.items) }
     ensures inner { Inner graph.old graph.new }
     ensures within { IsWithin graph.old graph.new }
-    ensures outcome { AreSpreads arguments.now.items graph.old root.entry.nodes.now world given.old.items graph.new given.new.items result }
+    ensures outcome { AreSpreads arguments.now.items graph.old root.entry.nodes.now world given.old.items
+        graph.new given.new.items result }
 {
     for argument in arguments {
         take_spread(argument, root, graph, world, given)?;

@@ -22,7 +22,8 @@ ghost use Rattle.wac_parser_resolve.specs.Askers.{Definitions_ask_nothing, Asker
 ghost use Rattle.wac_parser_resolve.specs.Laws.{Packages_are_known, Packages_stay, Wirings_are_ordered, Documents_are_wired, Resolved_are_wired};
 ghost use Rattle.wac_parser_resolve.specs.Proper.{Proper};
 ghost use Rattle.wac_parser_resolve.specs.Refused.{Refusals_stand};
-ghost use Rattle.wac_parser_resolve.specs.RowLaws.{Says_one, Says_missing, Says_passed, Says_mismatched, Says_merged, Says_unmerged, Says_unknown, Says_own, Says_conflict, Says_no_name, Says_identified};
+ghost use Rattle.wac_parser_resolve.specs.RowLaws.{Says_one, Says_missing, Says_passed, Says_mismatched, Says_merged, Says_unmerged};
+ghost use Rattle.wac_parser_resolve.specs.RowLaws.{Says_unknown, Says_own, Says_conflict, Says_no_name, Says_identified};
 
 pub use packages::{GraphTypes, PackageRef, Packages};
 pub use resolver::{AstResolver, Resolution, ResolveDocument, Resolved, Said};

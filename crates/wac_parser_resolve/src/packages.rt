@@ -9,7 +9,6 @@ ghost use Rattle.wac_types_base.specs.declared.item.«Type».{«Type» as TypeKi
 ghost use Rattle.wac_types_base.specs.declared.ids.WorldId.{WorldId as WorldKey};
 ghost use Rattle.wac_types_base.specs.Collection.{Stands};
 ghost use Rattle.wac_types_base.specs.Entries.{AreDistinct, names_of};
-ghost use Rattle.wac_types_base.specs.Stated.{stated_of};
 ghost use Rattle.wac_types_names.specs.Keys.{package_key};
 ghost use Rattle.wac_graph_core.specs.Graph.{ContainsPackage, PackageStands};
 ghost use Rattle.wac_graph_core.specs.Packages.{NoKey, Registers};
@@ -17,7 +16,8 @@ ghost use Rattle.wac_graph_core.specs.Types.{Enlarges};
 ghost use Rattle.wac_parser_declare.specs.Packages.{SamePackages};
 ghost use Rattle.wac_parser_declare.specs.Scope as scope;
 ghost use Rattle.wac_parser_resolve.specs.Keeping.{Keeps};
-ghost use Rattle.wac_parser_resolve.specs.Knowing.{Gets, IsDefinedBy, IsDefinedIn, IsOnlyExport, IsPackage, IsPackageOf, IsTypeOf, SameContents, all_known, handed_under, key_of, known_of, lent_content, stated_handed};
+ghost use Rattle.wac_parser_resolve.specs.Knowing.{Gets, IsDefinedBy, IsDefinedIn, IsOnlyExport, IsPackage, IsPackageOf, IsTypeOf, SameContents};
+ghost use Rattle.wac_parser_resolve.specs.Knowing.{all_known, handed_under, key_of, known_of, lent_content, stated_handed, stated_world};
 
 use indexmap::IndexMap;
 use semver::Version;
@@ -99,7 +99,7 @@ fn copy_world(
     world: WorldId,
 ) -> Result<WorldId, AllocError>
     requires { Stands types.now (Item.Component world) }
-    ensures copied { IfOk result (λ i. stated_of graph.new.types (Item.Component i) ≡ stated_of types.now (Item.Component world)) }
+    ensures copied { IfOk result (λ i. stated_world graph.new.types i ≡ stated_world types.now world) }
     ensures stands { IfOk result (λ i. Stands graph.new.types (Item.Component i)) }
     ensures enlarges { Enlarges graph.old graph.new }
 {

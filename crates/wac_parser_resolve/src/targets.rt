@@ -10,7 +10,9 @@ ghost use Rattle.wac_graph_core.specs.Graph.{ContainsNode};
 ghost use Rattle.wac_parser_refusals.specs.Outcomes.{Refuses};
 ghost use Rattle.wac_parser_refusals.specs.Views.{Names};
 ghost use Rattle.wac_parser_resolve.specs.Giving.{given_by};
-ghost use Rattle.wac_parser_resolve.specs.InTargets.{AreAllNoted, AreExportsTested, AreFilledTested, AreInstancesMet, AreInstancesTested, AreNotedMet, AreStatementsMet, AreStatementsTested, IsAnswerOf, IsExportTested, IsFaultOf, IsFilledTested, IsFitTested, IsImportTested, IsInstanceTested, IsStatementTested, IsTargetMet, MeetsTarget, StandNoted, is_passed_in, lacks_export, lacks_import, mismatched_at, tells_mismatch};
+ghost use Rattle.wac_parser_resolve.specs.InTargets.{AreAllNoted, AreExportsTested, AreFilledTested, AreInstancesMet, AreInstancesTested, AreStatementsMet, AreStatementsTested};
+ghost use Rattle.wac_parser_resolve.specs.InTargets.{IsAnswerOf, IsExportTested, IsFaultOf, IsFilledTested, IsFitTested, IsImportTested, IsInstanceTested, IsStatementTested};
+ghost use Rattle.wac_parser_resolve.specs.InTargets.{NotedIsMet, NotedMeets, NotedMeetsWorld, StandNoted, is_passed_in, lacks_export, lacks_import, mismatched_at, tells_mismatch};
 ghost use Rattle.wac_parser_resolve.specs.Targeting.{AreExportsMet, AreFilledMet, IsExportMet, IsFilledMet, IsImportMet, IsInstanceMet, IsMet, IsStatementMet};
 
 use crate::board::{item_of, world_of};
@@ -345,8 +347,8 @@ impl<'p, 's, 'i, 't> Target<'p, 's, 'i, 't> {
         requires imports { StandNoted graph.now imports.now.noted.items }
         requires instances { StandNoted graph.now instances.now.noted.items }
         requires exports { AllStand graph.now.types exports.now }
-        ensures ok { OnOk result (AreNotedMet graph.now (given_by self.now) imports.now.noted.items instances.now.noted.items exports.now) }
-        ensures outcome { MeetsTarget self.now graph.now imports.now.noted.items instances.now.noted.items spans.now.noted.items exports.now result }
+        ensures ok { OnOk result (NotedIsMet self.now graph.now imports.now instances.now exports.now) }
+        ensures outcome { NotedMeets self.now graph.now imports.now instances.now spans.now exports.now result }
     {
         graph.see_sound();
         graph.types().see_acyclic();
@@ -390,7 +392,7 @@ pub(crate) fn target_met(
     requires imports { StandNoted graph.now imports.now.noted.items }
     requires instances { StandNoted graph.now instances.now.noted.items }
     ensures ok { OnOk result (AreAllNoted graph.now imports.now.noted.items instances.now.noted.items → IsMet graph.now world) }
-    ensures outcome { IsTargetMet path.now graph.now imports.now.noted.items instances.now.noted.items exports.now.noted.items world result }
+    ensures outcome { NotedMeetsWorld path.now graph.now imports.now instances.now exports.now world result }
 {
     let types = graph.types();
     let wanted = types.world(world);
