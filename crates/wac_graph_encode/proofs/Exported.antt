@@ -1,15 +1,13 @@
 -- The exports of the world that is handed out, one after another, and that world.
-use Rattle.std.proofs.Common.{◌≡◌, ℕ, zero, suc, ◌+◌, ◌<◌, ◌≤◌, arith, List, [], ◌∷◌, ◌++◌, map, take, length, Option, Some, None, IsSome, slice_get, inl, inr, refl, sym, ap, subst, ◌∙◌}
+use Rattle.std.proofs.Common.{◌≡◌, ℕ, ◌+◌, ◌<◌, ◌≤◌, arith, List, [], ◌∷◌, ◌++◌, map, take, length, Some, None, slice_get, inl, inr, refl, sym, ap, subst, ◌∙◌}
 use Rattle.std.proofs.lemmas.List.{take_all}
 use Rattle.wac_types_base.specs.declared.item.ItemKind.{ItemKind}
 use Rattle.wac_types_base.specs.declared.ids.WorldId.{WorldId}
 use Rattle.wac_types_base.specs.Record.{Collection}
-use Rattle.wac_types_base.specs.Entries.{AreDistinct, IsNew, Name, names_of, put_entry, with_values}
-use Rattle.wac_types_base.specs.Graph.{Among}
+use Rattle.wac_types_base.specs.Entries.{AreDistinct, IsNew, Name, names_of}
 use Rattle.wac_types_base.specs.Collection.{Grows, IsAcyclic, Stands}
 use Rattle.wac_types_base.specs.Copying.{IsCopy}
 use Rattle.wac_types_base.specs.Stated.{IsComponent, Stated, kind_of, stated_in, stated_of, world_of}
-use Rattle.wac_types_base.proofs.Adding.{Among-left, Among-right}
 use Rattle.wac_types_base.proofs.Lists.{among_last, there_is}
 use Rattle.wac_types_base.proofs.Looked.{put_entry-new}
 use Rattle.wac_types_base.proofs.Loops.{map-one_more, names-with_values}
@@ -17,7 +15,7 @@ use Rattle.wac_types_base.proofs.Standing.{world_found}
 use Rattle.wac_types_base.proofs.Telling.{kind_stated}
 use Rattle.wac_types_base.proofs.Walking.{slice_get-Among}
 use Rattle.wac_types_fit.proofs.ItemKinds.{not_component}
-use Rattle.wac_types_written.specs.Forms.{IsOf, ItemsStand, stated_items, stated_uses}
+use Rattle.wac_types_written.specs.Forms.{ItemsStand, stated_items, stated_uses}
 use Rattle.wac_types_written.specs.Written.{bare_world, without_uses}
 use Rattle.wac_types_written.proofs.Growing.{items_kept}
 use Rattle.wac_types_written.proofs.Ids.{world_states}

@@ -1,5 +1,5 @@
 -- The types of nodes at last.
-use Rattle.std.proofs.Common.{◌≡◌, ◌⊎◌, ◌<◌, arith, ℕ, zero, suc, true, false, true≢false, List, [], ◌∷◌, map, length, Option, Some, None, IsSome, is_some, slice_get, inl, inr, refl, sym, ap, subst, ◌∙◌}
+use Rattle.std.proofs.Common.{◌≡◌, ◌<◌, arith, ℕ, zero, suc, true, true≢false, List, [], ◌∷◌, map, length, Option, Some, None, IsSome, is_some, slice_get, inl, inr, refl, sym, ap, subst, ◌∙◌}
 use Rattle.std.specs.Map.{lookup}
 use Rattle.std.proofs.lemmas.Option.{none-some, same_Some}
 use Rattle.std.specs.Prelude.{Result, Ok, Err, IfOk, option_map, unwrap_or}
@@ -34,17 +34,13 @@ use Rattle.wac_graph_scopes.proofs.WritingLaws.{value_here}
 use Rattle.wac_composition.specs.Classes.{is_instance as one_of}
 use Rattle.wac_composition.specs.Composition.{Origin, imported, instance, projected, defined}
 use Rattle.wac_composition.specs.Asks.{asks_of}
-use Rattle.wac_composition.specs.OuterImports.{outer_imports}
-use Rattle.wac_composition.specs.Worlds.{exported_type, final_type, then_in}
-use Rattle.wac_graph_asks.specs.Asked.{uses_others}
+use Rattle.wac_composition.specs.Worlds.{final_type, then_in}
 use Rattle.wac_graph_asks.specs.declared.asks.Definition.{Definition}
 use Rattle.wac_graph_asks.specs.declared.outers.Outers.{Outers}
 use Rattle.wac_graph_asks.specs.Graphs.{composition_of, item_at, item_of, origin_at, origin_by, origin_of, origin_within}
-use Rattle.wac_graph_asks.specs.Outers.{IsOuters}
 use Rattle.wac_graph_asks.specs.Reads.{import_name_of}
 use Rattle.wac_graph_asks.proofs.Origins.{origin_alias, origin_role}
 use Rattle.wac_graph_encode.specs.declared.world.Finals.{Finals}
-use Rattle.wac_graph_encode.specs.Defining.{AreToWrite}
 use Rattle.wac_graph_encode.specs.Formed.{HasForm}
 use Rattle.wac_graph_encode.specs.Standing.{spelled}
 use Rattle.wac_graph_encode.specs.Worlds.{AreCalledTypes, AreDefinitionTypes, HasOwnType, IsFinal, IsToHandOut, KnowsFinals, TellsCopied, TellsExported, TellsFinal, exported_at, final_at}

@@ -1,7 +1,7 @@
 -- The bytes of entries that are finished mean the wiring of the graph.
 use Rattle.std.specs.List.{AllByRecursion, AllZip}
 use Rattle.std.proofs.Common.{◌≡◌, ℕ, Bool, true, false, List, [], ◌∷◌, ◌++◌, map, Option, Some, None, IsSome, inl, inr, refl, sym, ap, subst, ◌∙◌}
-use Rattle.wac_types_base.specs.Entries.{AreDistinct, Name, names_of, value_at}
+use Rattle.wac_types_base.specs.Entries.{AreDistinct, Name, names_of}
 use Rattle.wac_types_base.specs.Graph.{Among}
 use Rattle.wac_types_base.specs.Tree.{Tree}
 use Rattle.wac_types_fit.proofs.Items.{among-value_at}

@@ -1,7 +1,6 @@
 -- Packages can be imported where no names are alike and theirs are names of dependencies.
-use Rattle.std.specs.Prelude.{find, option_map}
+use Rattle.std.specs.Prelude.{find, is_some, option_map}
 use Rattle.std.specs.Cmp.Lexicographic.{bytes_decides}
-use Rattle.std.proofs.lemmas.Option.{none-some}
 use Rattle.std.proofs.Common.{◌≡◌, ℕ, Bool, true, false, true≢false, List, [], ◌∷◌, ◌++◌, map, Option, Some, None, IsSome, inl, inr, refl, sym, ap, subst, ◌∙◌}
 use Rattle.wac_types_base.specs.Entries.{AreDistinct, Name, names_of, value_at}
 use Rattle.wac_types_base.specs.Graph.{Among}
@@ -9,6 +8,7 @@ use Rattle.wac_types_base.specs.Stated.{Stated}
 use Rattle.wac_types_base.specs.Tree.{tree}
 use Rattle.wac_types_base.proofs.Adding.{Among-left, Among-right}
 use Rattle.wac_types_base.proofs.Lists.{among_mapped, value_named}
+use Rattle.wac_types_base.proofs.Standing.{is_some-option_map}
 use Rattle.wac_types_names.specs.Packaged.{Packaged}
 use Rattle.wac_names.specs.ComponentNames.{IsDependency}
 use Rattle.wac_graph_core.specs.declared.ids.PackageId.{PackageId}
@@ -16,11 +16,12 @@ use Rattle.wac_graph_core.specs.Graph.{Graph, IsGraph, package_of, package_if, p
 use Rattle.wac_graph_scopes.proofs.OrderLaws.{distinct-apart, distinct-right}
 use Rattle.wac_composition.specs.Asks.{asks_of}
 use Rattle.wac_composition.specs.OuterImports.{outer_imports}
-use Rattle.wac_composition.specs.Conflicts.{alike as alike_names, each_once, lower, name_cause, or_else, twins}
-use Rattle.wac_composition.proofs.Against.{find_none}
+use Rattle.wac_composition.specs.Conflicts.{Cause, ImportNames, alike as alike_names, each_once, lower, name_cause, twins}
+use Rattle.wac_composition.proofs.Against.{find_none, or_none}
 use Rattle.wac_graph_asks.specs.Graphs.{composition_of}
 use Rattle.wac_graph_asks.specs.Asked.{package_ids}
 use Rattle.wac_graph_asks.specs.Wirings.{asked_trees}
+use Rattle.wac_graph_asks.proofs.Arguments.{nothing_there}
 use Rattle.wac_graph_causes.specs.Alike.{dependency_of}
 use Rattle.wac_graph_causes.proofs.Dependencies.{name_is, packages_named}
 use Rattle.wac_graph_encode.specs.declared.options.EncodeOptions.{EncodeOptions}
@@ -30,27 +31,28 @@ use Rattle.wac_graph_encode.specs.Importing.{AreImportable}
 use Rattle.wac_graph_encode.specs.Refused.{HasNoneAlike}
 use Rattle.wac_graph_encode.proofs.Nested.{ids_held, with_among}
 
-or_first : {X : Type 0} (o p : Option X) → or_else o p ≡ None → (o ≡ None) × (p ≡ None)
-or_first None p e = (refl, e)
-or_first (Some x) p e = absurd (none-some _ (sym e))
+abbrev behind : Name → Name → Name × Name
+behind x y = (y, x)
 
-map_none : {X Y : Type 0} (f : X → Y) (o : Option X) → option_map f o ≡ None → o ≡ None
-map_none f None e = refl
-map_none f (Some x) e = absurd (none-some _ (sym e))
+not_found : (x : Name) (o : Option Name) → option_map (behind x) o ≡ None → o ≡ None
+not_found x o e = nothing_there o (sym (is_some-option_map (behind x) o) ∙ ap is_some e)
+
+none_alike : (o : Option (Name × Name)) → ◌≡◌ {A = Option (Cause ℕ)} (option_map (λ t. ImportNames t.0 t.1) o) None → o ≡ None
+none_alike o e = nothing_there o (sym (is_some-option_map (λ t. ImportNames t.0 t.1) o) ∙ ap is_some e)
 
 module _ (p : Name → Name → Bool) (itself : (n : Name) → p n n ≡ true) where
   none_twice : (seen ns : List Name) → twins p seen ns ≡ None → (m : Name) → Among m seen → Among m ns → ⊥
   none_twice seen [] e m k n = n
   none_twice seen (x ∷ ns) e m k (inl same) =
-      let none = map_none (λ y. (y, x)) (find (p x) seen) (or_first (option_map (λ y. (y, x)) (find (p x) seen)) (twins p (seen ++ x ∷ []) ns) e).0 in
+      let none = not_found x (find (p x) seen) (or_none (option_map (behind x) (find (p x) seen)) (twins p (seen ++ x ∷ []) ns) e).0 in
       true≢false (sym (ap (λ y. p y m) (sym same) ∙ itself m) ∙ find_none (p x) seen none m k)
   none_twice seen (x ∷ ns) e m k (inr n) =
-      none_twice (seen ++ x ∷ []) ns (or_first (option_map (λ y. (y, x)) (find (p x) seen)) (twins p (seen ++ x ∷ []) ns) e).1 m (Among-left m seen (x ∷ []) k) n
+      none_twice (seen ++ x ∷ []) ns (or_none (option_map (behind x) (find (p x) seen)) (twins p (seen ++ x ∷ []) ns) e).1 m (Among-left m seen (x ∷ []) k) n
 
   no_twins : (seen ns : List Name) → twins p seen ns ≡ None → AreDistinct ns
   no_twins seen [] e = tt
   no_twins seen (x ∷ ns) e =
-      let rest = (or_first (option_map (λ y. (y, x)) (find (p x) seen)) (twins p (seen ++ x ∷ []) ns) e).1 in
+      let rest = (or_none (option_map (behind x) (find (p x) seen)) (twins p (seen ++ x ∷ []) ns) e).1 in
       (λ n. none_twice (seen ++ x ∷ []) ns rest x (Among-right x seen (x ∷ []) (inl refl)) n, no_twins (seen ++ x ∷ []) ns rest)
 
 alike_itself : (validate : Bool) (n : Name) → alike_names validate n n ≡ true
@@ -70,7 +72,7 @@ importable g sound options ids define alike names each = record { named = named;
     distinct : AreDistinct (outers ++ deps)
     distinct =
         let none = subst (λ d. name_cause d options.validate (composition_of g) ≡ None) define alike in
-        no_twins (alike_names options.validate) (alike_itself options.validate) [] (outers ++ deps) (map_none _ _ (or_first _ _ none).0)
+        no_twins (alike_names options.validate) (alike_itself options.validate) [] (outers ++ deps) (none_alike _ (or_none _ _ none).0)
 
     listed : map (dependency_of g) ids ≡ deps
     listed = ap (map (dependency_of g)) each ∙ packages_named g sound

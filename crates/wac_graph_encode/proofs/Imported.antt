@@ -1,11 +1,9 @@
 -- What is read beside the graph's wiring: outer imports, and packages that are nested or imported.
-use Rattle.std.specs.Prelude.{slice_get, option_map, if◌then◌else◌, is_some}
-use Rattle.std.specs.Cmp.Lexicographic.{pointwise, bytes_decides}
-use Rattle.std.specs.List.{AllZip}
-use Rattle.std.proofs.lemmas.Option.{none-some, same_Some}
+use Rattle.std.specs.Prelude.{if◌then◌else◌, is_some}
+use Rattle.std.specs.Cmp.Lexicographic.{bytes_decides}
+use Rattle.std.proofs.lemmas.Option.{same_Some}
 use Rattle.std.proofs.lemmas.List.{map-append}
-use Rattle.std.proofs.Common.{◌≡◌, ◌==◌, ℕ, Bool, true, false, true≢false, ◌||◌, List, [], ◌∷◌, ◌++◌, map, Option, Some, None, IsSome, is_none, inl, inr, refl, sym, ap, subst, ◌∙◌}
-use Rattle.wac_types_base.specs.declared.ids.WorldId.{WorldId}
+use Rattle.std.proofs.Common.{◌≡◌, ℕ, Bool, true, false, true≢false, ◌||◌, List, [], ◌∷◌, ◌++◌, map, Option, Some, None, IsSome, is_none, inl, inr, refl, sym, ap, subst, ◌∙◌}
 use Rattle.wac_types_base.specs.declared.item.ItemKind.{ItemKind}
 use Rattle.wac_types_base.specs.Record.{Collection}
 use Rattle.wac_types_base.specs.Entries.{Name, AreDistinct, names_of, value_at}
@@ -20,21 +18,21 @@ use Rattle.wac_types_names.specs.Keys.{package_key}
 use Rattle.wac_names.specs.ComponentNames.{IsDependency}
 use Rattle.wac_graph_bytes.specs.declared.entry.Entry.{Entry as CodeEntry}
 use Rattle.wac_graph_bytes.specs.Typing.{Worlds, same_name}
-use Rattle.wac_graph_bytes.specs.Wirings.{Tag, OfBytes, OfDependency, Source}
+use Rattle.wac_graph_bytes.specs.Wirings.{Tag, OfDependency, Source}
 use Rattle.wac_graph_bytes.specs.Meaning.{Listed, is_package, is_package_of, wiring_of}
 use Rattle.wac_graph_core.specs.declared.ids.PackageId.{PackageId}
 use Rattle.wac_graph_core.specs.Graph.{Graph, IsGraph, package_of, package_if, package_made, instantiated}
 use Rattle.wac_graph_scopes.proofs.OrderLaws.{distinct-append}
 use Rattle.wac_composition.specs.Conflicts.{dependency_name}
 use Rattle.wac_composition.proofs.Clashing.{name_found}
-use Rattle.wac_composition.proofs.KeptFits.{value_append}
+use Rattle.wac_composition.proofs.KeptFits.{value_append, value_behind}
 use Rattle.wac_composition.proofs.Lists.{mapped_among}
-use Rattle.wac_graph_asks.specs.Asked.{package_ids, with_ids}
+use Rattle.wac_graph_asks.specs.Asked.{package_ids}
 use Rattle.wac_graph_asks.specs.Wirings.{asked_trees}
 use Rattle.wac_graph_causes.specs.Alike.{dependency_of}
 use Rattle.wac_graph_causes.proofs.Dependencies.{name_is}
 use Rattle.wac_graph_encode.specs.Standing.{IsFinished, IsListed}
-use Rattle.wac_graph_encode.specs.Encoding.{IsImportedIn, IsInstantiated}
+use Rattle.wac_graph_encode.specs.Encoding.{IsInstantiated}
 use Rattle.wac_graph_encode.specs.Finished.{AreInstantiated}
 use Rattle.wac_graph_encode.specs.Importing.{AreImportable, AreToImport, AreWorldsOf, Packages, dependency_import, with_packages}
 use Rattle.wac_graph_encode.proofs.Finishing.{IsReadBeside}
@@ -42,14 +40,6 @@ use Rattle.wac_graph_encode.proofs.Nested.{ids_held, made_of, with_among, with_h
 use Rattle.wac_graph_encode.proofs.StandingWirings.{among_zip, nested_apart, nested_outers, zip_on}
 
 -- ---- lists
-
-value_behind : {V : Type 0} (xs ys : List (Name × V)) (n : Name) → value_at xs n ≡ None → value_at (xs ++ ys) n ≡ value_at ys n
-value_behind [] ys n e = refl
-value_behind (x ∷ xs) ys n e = go (pointwise ◌==◌ n x.0) (value_behind xs ys n) e
-  where
-    go : (b : Bool) → (value_at xs n ≡ None → value_at (xs ++ ys) n ≡ value_at ys n) → (if b then Some x.1 else value_at xs n) ≡ None → (if b then Some x.1 else value_at (xs ++ ys) n) ≡ value_at ys n
-    go true rest q = absurd (none-some _ (sym q))
-    go false rest q = rest q
 
 named_there : {K V : Type 0} (es : List (K × V)) (k : K) → Among k (names_of es) → (v : V) × Among (k, v) es
 named_there [] k m = absurd m

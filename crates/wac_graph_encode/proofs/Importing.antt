@@ -1,22 +1,19 @@
 -- Packages that are imported at the root: their indexes stand for their imports, and what stood stands.
 use Rattle.std.specs.Prelude.{slice_get}
-use Rattle.std.proofs.Common.{◌≡◌, ◌⊎◌, ℕ, false, List, [], ◌∷◌, ◌++◌, map, Option, Some, inl, inr, refl, sym, ap, subst, ◌∙◌, append_assoc, codes}
+use Rattle.std.proofs.Common.{◌≡◌, ◌⊎◌, ℕ, false, List, [], ◌∷◌, ◌++◌, map, Some, inl, inr, refl, sym, ap, subst, ◌∙◌, append_assoc}
 use Rattle.std.proofs.lemmas.List.{map-append, append-nil}
 use Rattle.std.proofs.lemmas.Option.{same_Some}
-use Rattle.indexmap.specs.IndexMap.{insert_entry}
 use Rattle.wac_types_base.specs.declared.ids.WorldId.{WorldId}
 use Rattle.wac_types_base.specs.declared.item.ItemKind.{ItemKind}
 use Rattle.wac_types_base.specs.Record.{Collection}
 use Rattle.wac_types_base.specs.Entries.{Name, names_of}
 use Rattle.wac_types_base.specs.Graph.{Among}
 use Rattle.wac_types_base.specs.Collection.{Stands}
-use Rattle.wac_types_base.specs.Tree.{Tree}
-use Rattle.wac_types_base.proofs.Adding.{Among-left, Among-right}
+use Rattle.wac_types_base.proofs.Adding.{Among-right}
 use Rattle.wac_types_fit.specs.Trees.{tree_in}
 use Rattle.wac_graph_bytes.specs.declared.value.Sort.{Sort}
 use Rattle.wac_graph_bytes.specs.declared.value.Sort.TheVariants as sort
 use Rattle.wac_graph_bytes.specs.declared.value.Description.{Description}
-use Rattle.wac_graph_bytes.specs.Counting.{description_sort}
 use Rattle.wac_graph_bytes.specs.Typing.{Worlds, Meaning, Item, Inside, found, space}
 use Rattle.wac_graph_bytes.specs.Wirings.{OfDependency}
 use Rattle.wac_graph_bytes.specs.Meaning.{State}
@@ -37,7 +34,7 @@ use Rattle.wac_graph_encode.specs.declared.root.Root.{Root}
 use Rattle.wac_graph_encode.specs.Standing.{IsPackageAt}
 use Rattle.wac_graph_encode.specs.Writing.{IsBegun}
 use Rattle.wac_graph_encode.specs.Beginning.{AreTold, IsRooted}
-use Rattle.wac_graph_encode.specs.Importing.{AreWorldsOf, HasImported, HasImportedAll, ImportsAll, ImportsBefore, IsImportedAt, NotesImport, Packages, dependency_import}
+use Rattle.wac_graph_encode.specs.Importing.{AreWorldsOf, HasImported, HasImportedAll, ImportsBefore, IsImportedAt, NotesImport, Packages, dependency_import}
 use Rattle.wac_graph_encode.proofs.Entries.{same_package}
 use Rattle.wac_graph_encode.proofs.Nesting.{inserted_among}
 use Rattle.wac_graph_encode.proofs.Rooting.{scope_read}

@@ -1,6 +1,6 @@
 -- What is asked of a graph is prepared, and its bytes mean the graph's wiring.
 use Rattle.std.specs.List.{AllZip}
-use Rattle.std.proofs.Common.{◌≡◌, ℕ, Bool, true, false, true≢false, List, [], ◌∷◌, map, Option, Some, None, IsSome, Result, Ok, Err, IfOk, inl, inr, refl, sym, ap, subst, ◌∙◌}
+use Rattle.std.proofs.Common.{◌≡◌, ℕ, Bool, true, false, true≢false, List, [], ◌∷◌, map, Option, Some, None, IsSome, Ok, inl, inr, refl, sym, ap, subst, ◌∙◌}
 use Rattle.std.specs.declared.alloc.Global.{Global}
 use Rattle.std.specs.declared.vec.Vec.{Vec}
 use Rattle.wac_types_base.specs.declared.item.ItemKind.{ItemKind}
@@ -21,7 +21,7 @@ use Rattle.wac_graph_asks.specs.declared.asks.Definition.{Definition}
 use Rattle.wac_graph_asks.specs.declared.outers.Outers.{Outers}
 use Rattle.wac_composition.specs.Composition.{Placed}
 use Rattle.wac_composition.proofs.Lists.{mapped_among}
-use Rattle.wac_graph_core.specs.Nodes.{NodeData, Role}
+use Rattle.wac_graph_core.specs.Nodes.{NodeData}
 use Rattle.wac_graph_asks.specs.Graphs.{composition_of, definition_by, first_export, item_of, nodes_of}
 use Rattle.wac_graph_asks.proofs.Origins.{among_mapped as among_passing, node_among}
 use Rattle.wac_graph_encode.specs.Worlds.{AreAllDefined, IsToHandOut}
@@ -38,7 +38,7 @@ use Rattle.wac_graph_encode.specs.Beginning.{AreTold}
 use Rattle.wac_graph_encode.specs.Importing.{AreToImport, AreWorldsOf}
 use Rattle.wac_graph_encode.specs.Refused.{HasNoneAlike}
 use Rattle.wac_graph_encode.specs.Defining.{AreToWrite}
-use Rattle.wac_graph_encode.specs.Encoding.{AreTrueOf, HaveDependencyNames, IsComposed, MeansGraph}
+use Rattle.wac_graph_encode.specs.Encoding.{AreTrueOf, IsComposed, MeansGraph}
 use Rattle.wac_graph_encode.specs.Formed.{IsFormed, AreFormed}
 use Rattle.wac_graph_encode.specs.Finished.{AreInstantiated, IsPrepared, MeansAsked, MeansImported, MeansNested, NestsBytes, NestsSo}
 use Rattle.wac_graph_encode.specs.Nesting.{IsTold}

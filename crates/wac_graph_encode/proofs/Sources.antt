@@ -1,8 +1,7 @@
 -- What instances are given, and what exports are, asks of the outside only what is imported.
 use Rattle.std.specs.Prelude.{option_map, is_some, not}
 use Rattle.std.specs.List.{flat_map}
-use Rattle.std.proofs.Common.{◌≡◌, ℕ, List, [], ◌∷◌, ◌++◌, map, Option, Some, None, IsSome, refl, sym, ap, subst, ◌∙◌, inl, inr}
-use Rattle.std.proofs.lemmas.Option.{none-some}
+use Rattle.std.proofs.Common.{◌≡◌, ℕ, List, map, Option, Some, None, IsSome, refl, sym, ap, subst, ◌∙◌}
 use Rattle.wac_types_base.specs.declared.ids.WorldId.{WorldId}
 use Rattle.wac_types_base.specs.declared.item.ItemKind.{ItemKind}
 use Rattle.wac_types_base.specs.Record.{Collection}
@@ -22,7 +21,6 @@ use Rattle.wac_graph_core.specs.GraphWiring as wired
 use Rattle.wac_graph_core.proofs.Found.{argument_found}
 use Rattle.wac_graph_scopes.specs.declared.imports.Called.{Called}
 use Rattle.wac_composition.specs.Asks.{ToFill, Ask, explicit_ask, filled_asks, named_asks, asks_of}
-use Rattle.wac_composition.specs.OuterImports.{outer_imports}
 use Rattle.wac_composition.proofs.Bound.{among_passing}
 use Rattle.wac_composition.proofs.Lists.{flat_among}
 use Rattle.wac_graph_asks.specs.Graphs.{composition_of, origin_of}

@@ -10,7 +10,7 @@ use Rattle.wac_types_base.specs.Collection.{Shape, Stands, IsAcyclic}
 use Rattle.wac_types_base.specs.Entries.{Name, value_at}
 use Rattle.wac_types_base.specs.Stated.{Stated, kind_of, exports_of}
 use Rattle.wac_types_base.specs.Tree.{Tree, tree, Row, Fields, rigid, instance, component, core_module, type_item}
-use Rattle.wac_types_base.specs.Fits.{Fits, FieldsFit, HasField, rigid_fits, instance_fits, component_fits, module_fits, type_fits}
+use Rattle.wac_types_base.specs.Fits.{Fits, HasField, rigid_fits, component_fits, module_fits, type_fits}
 use Rattle.wac_types_base.proofs.Standing.{func_found, interface_found, world_found, module_found}
 use Rattle.wac_types_fit.specs.Trees.{tree_in}
 use Rattle.wac_types_fit.specs.Ordered.{InOrder, AllInOrder}

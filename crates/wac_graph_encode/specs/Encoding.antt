@@ -1,11 +1,10 @@
 -- What encoding a graph gives, and when it is refused.
-use Rattle.std.specs.Prelude.{◌≡◌, ◌↔◌, ◌⊎◌, ℕ, Bool, true, false, List, [], ◌∷◌, map, Option, Some, None, option_map}
+use Rattle.std.specs.Prelude.{◌≡◌, ◌↔◌, ℕ, Bool, true, false, List, [], ◌∷◌, map, Option, Some, None, option_map}
 use Rattle.wac_types_base.specs.declared.item.ItemKind.{ItemKind}
 use Rattle.wac_types_base.specs.declared.ids.WorldId.{WorldId}
 use Rattle.wac_types_base.specs.Record.{Collection}
 use Rattle.wac_types_base.specs.Entries.{AreDistinct, Name}
 use Rattle.wac_types_base.specs.Graph.{Among}
-use Rattle.wac_types_base.specs.Collection.{Stands}
 use Rattle.wac_types_base.specs.Stated.{stated_of}
 use Rattle.wac_types_base.specs.Tree.{Tree, tree, tree_of}
 use Rattle.wac_types_names.specs.Packaged.{Packaged}
@@ -20,7 +19,7 @@ use Rattle.wac_graph_bytes.specs.Typing.{Worlds}
 use Rattle.wac_graph_bytes.specs.Meaning.{Means}
 use Rattle.wac_graph_core.specs.declared.ids.PackageId.{PackageId}
 use Rattle.wac_graph_core.specs.Graph.{Graph, package_of, instantiated}
-use Rattle.wac_composition.specs.Conflicts.{Cause, first_cause, name_cause, dependency_name}
+use Rattle.wac_composition.specs.Conflicts.{dependency_name}
 use Rattle.wac_composition.specs.Worlds.{composed_world}
 use Rattle.wac_types_written.specs.Forms.{IsOf}
 use Rattle.wac_graph_asks.specs.Graphs.{composition_of}

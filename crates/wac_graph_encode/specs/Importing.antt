@@ -1,6 +1,6 @@
 -- Packages that are imported at the root of a component in place of being nested.
 use Rattle.std.specs.Prelude.{◌≡◌, ℕ, Bool, true, false, List, [], ◌∷◌, ◌++◌, map, Some, None, Result, IfOk, OnOk, slice_get}
-use Rattle.indexmap.specs.IndexMap.{insert_entry}
+use Rattle.indexmap.specs.IndexMap.{IndexMap, insert_entry}
 use Rattle.wac_types_base.specs.declared.ids.WorldId.{WorldId}
 use Rattle.wac_types_base.specs.declared.item.ItemKind.{ItemKind}
 use Rattle.wac_types_base.specs.Record.{Collection}
@@ -73,8 +73,9 @@ pub record NotesImport (w : Worlds) (g : Graph) (c : Collection) (i : Inside) (i
   pub import : HasImported w c i (dependency_of g id) world s index
   pub noted : after ≡ insert_entry package_id.eq-value.it before id index
 
-abbrev pub ImportsPackage : {U E : Type 0} → Graph → Collection → PackageId → WorldId → ItemScope → List (PackageId × ℕ) → ItemScope → List (PackageId × ℕ) → Result U E → Type 0
-ImportsPackage g c id world old before new after r = Stands c (ItemKind.Component world) → (w : Worlds) (i : Inside) → IsItemScope w c [] i old → OnOk r (NotesImport w g c i id world new before after)
+abbrev pub ImportsPackage : {S U E : Type 0} → Graph → Collection → PackageId → WorldId → ImportScope → IndexMap PackageId ℕ S → ImportScope → IndexMap PackageId ℕ S → Result U E → Type 0
+ImportsPackage g c id world old before new after r =
+    Stands c (ItemKind.Component world) → (w : Worlds) (i : Inside) → IsItemScope w c [] i old.scope → OnOk r (NotesImport w g c i id world new.scope before.entries after.entries)
 
 -- the index stands for the package as it is imported
 abbrev pub IsImportedAt : Graph → Inside → PackageId → ℕ → Type 0
@@ -91,8 +92,9 @@ pub record HasImportedAll (w : Worlds) (g : Graph) (c : Collection) (i : Inside)
   pub stand : (id : PackageId) (index : ℕ) → Among (id, index) held → IsImportedAt g after id index
 
 -- where none is noted yet
-abbrev pub ImportsAll : {U E : Type 0} → Graph → Collection → Packages → ItemScope → List (PackageId × ℕ) → ItemScope → List (PackageId × ℕ) → Result U E → Type 0
-ImportsAll g c ps old before new after r = before ≡ [] → AreWorldsOf g c ps → (w : Worlds) (i : Inside) → IsItemScope w c [] i old → OnOk r (HasImportedAll w g c i ps new after)
+abbrev pub ImportsAll : {S U E : Type 0} → Graph → Collection → Packages → ImportScope → IndexMap PackageId ℕ S → ImportScope → IndexMap PackageId ℕ S → Result U E → Type 0
+ImportsAll g c ps old before new after r =
+    before.entries ≡ [] → AreWorldsOf g c ps → (w : Worlds) (i : Inside) → IsItemScope w c [] i old.scope → OnOk r (HasImportedAll w g c i ps new.scope after.entries)
 
 -- ---- at the root
 

@@ -3,7 +3,6 @@ pub use Rattle.wac_graph_encode.specs.Encoding.{bytes_in, bytes_of}
 use Rattle.std.specs.Prelude.{◌≡◌, ℕ, ◌+◌, Bool, List, [], ◌∷◌, length, map, Some, if◌then◌else◌}
 use Rattle.indexmap.specs.IndexMap.{insert_entry, insert_all}
 use Rattle.wac_types_base.specs.declared.item.ItemKind.{ItemKind}
-use Rattle.wac_types_base.specs.Entries.{names_of}
 use Rattle.wac_types_base.specs.Stated.{stated_of}
 use Rattle.wac_types_base.specs.Tree.{tree}
 use Rattle.wac_types_names.specs.Packaged.{Packaged}

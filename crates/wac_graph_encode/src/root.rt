@@ -291,7 +291,7 @@ fn import_package(
     world: WorldId,
     packages: &mut IndexMap<PackageId, u32>,
 ) -> Result<(), Unwritten>
-    ensures imports { ImportsPackage graph.now types.now id world scope.old.scope packages.old.entries scope.new.scope packages.new.entries result }
+    ensures imports { ImportsPackage graph.now types.now id world scope.old packages.old scope.new packages.new result }
     ensures places { scope.new.places ≡ scope.old.places }
 {
     let alloc = graph.alloc();
@@ -313,7 +313,7 @@ fn import_packages(
     worlds: &IndexMap<PackageId, WorldId>,
     packages: &mut IndexMap<PackageId, u32>,
 ) -> Result<(), Unwritten>
-    ensures imports { ImportsAll graph.now types.now worlds.now.entries scope.old.scope packages.old.entries scope.new.scope packages.new.entries result }
+    ensures imports { ImportsAll graph.now types.now worlds.now.entries scope.old packages.old scope.new packages.new result }
     ensures places { scope.new.places ≡ scope.old.places }
 {
     for (id, world) in worlds.iter() {

@@ -1,5 +1,4 @@
 use Rattle.std.proofs.lemmas.Result.{on_ok_weaker}
-use Rattle.wac_graph_encode.specs.Finished.{IsPrepared}
 use Rattle.wac_graph_encode.proofs.Forming.{copies_stand}
 use Rattle.wac_graph_encode.proofs.Preparing.{prepared}
 use Rattle.wac_graph_scopes.proofs.RefusedLaws.{if_err_map}

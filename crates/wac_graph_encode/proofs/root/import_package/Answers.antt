@@ -1,4 +1,4 @@
-use Rattle.std.proofs.Common.{ℕ, List, ◌∙◌, subst}
+use Rattle.std.proofs.Common.{◌∙◌, subst}
 use Rattle.wac_types_base.specs.Entries.{Name}
 use Rattle.wac_graph_encode.specs.Importing.{HasImported}
 use Rattle.wac_graph_encode.proofs.root.import_package.Goals as goal

@@ -1,4 +1,4 @@
-use Rattle.std.proofs.Common.{◌∙◌, ap, sym}
+use Rattle.std.proofs.Common.{◌∙◌, ap}
 use Rattle.wac_types_base.specs.Stated.{kind_of}
 use Rattle.wac_graph_encode.proofs.Exported.{world_kind}
 use Rattle.wac_graph_encode.proofs.without_uses.handed_out.Goals as goal

@@ -1,5 +1,5 @@
 use Rattle.std.specs.Prelude.{Option, IfSome}
-use Rattle.std.proofs.Common.{◌<◌, ap, sym, subst, arith}
+use Rattle.std.proofs.Common.{subst, arith}
 use Rattle.wac_types_base.specs.declared.item.ItemKind.{ItemKind}
 use Rattle.wac_types_base.specs.Collection.{IsAcyclic, Stands}
 use Rattle.wac_graph_encode.specs.Worlds.{TellsFinal}

@@ -2,7 +2,6 @@ use Rattle.std.specs.Prelude.{IfOk}
 use Rattle.std.proofs.Common.{sym, subst, ap, ◌∙◌}
 use Rattle.wac_types_base.specs.declared.item.ItemKind.{ItemKind}
 use Rattle.wac_types_written.specs.Forms.{IsOf, ItemsStand, stated_items}
-use Rattle.wac_graph_asks.specs.Outers.{IsOuters}
 use Rattle.wac_graph_asks.proofs.Lasting.{outers_stay}
 use Rattle.wac_graph_encode.proofs.Exported.{imports_stand, used_states}
 use Rattle.wac_graph_encode.proofs.world.own_world.Goals as goal
