@@ -1,25 +1,28 @@
 -- The bytes of a graph that holds what a document says mean the ascribed wiring.
-use Rattle.std.specs.Prelude.{true, Result, Ok, Err, IfOk, OnOk}
+use Rattle.std.specs.Prelude.{true, false, option_map, Result, Ok, Err, IfOk, OnOk}
 use Rattle.std.proofs.lemmas.Option.{same_Some}
-use Rattle.std.proofs.Common.{◌≡◌, ℕ, List, Option, Some, IsSome, refl, sym, ap, subst, ◌∙◌}
+use Rattle.std.proofs.Common.{◌≡◌, ℕ, List, Some, IsSome, refl, sym, ap, subst, ◌∙◌}
 use Rattle.wac_types_base.specs.declared.item.ItemKind.{ItemKind}
 use Rattle.wac_types_base.specs.declared.ids.WorldId.{WorldId}
 use Rattle.wac_types_base.specs.Record.{Collection}
 use Rattle.wac_types_base.specs.Collection.{IsAcyclic}
-use Rattle.wac_types_base.specs.Entries.{names_of}
+use Rattle.wac_types_base.specs.Entries.{Name, names_of}
 use Rattle.wac_types_base.specs.Graph.{Among}
 use Rattle.wac_types_base.specs.Stated.{Stated, instance_type, stated_of}
-use Rattle.wac_types_base.specs.Tree.{tree, tree_of}
+use Rattle.wac_types_base.specs.Tree.{Tree, tree, tree_of}
 use Rattle.wac_types_base.proofs.Telling.{tree_stated}
 use Rattle.wac_types_names.specs.Packaged.{Packaged}
 use Rattle.wac_types_names.specs.Keys.{Key, package_key}
 use Rattle.wac_graph_bytes.specs.Typing.{Worlds}
-use Rattle.wac_graph_bytes.specs.Wirings.{OfBytes, Wiring}
+use Rattle.wac_graph_bytes.specs.Wirings.{Tag, OfBytes, Instantiation, Wiring}
 use Rattle.wac_graph_bytes.proofs.SameWirings.{same_trans}
 use Rattle.wac_graph_core.specs.declared.ids.PackageId.{PackageId}
 use Rattle.wac_graph_core.specs.Graph.{Graph, IsGraph, PackageStands, instantiated, package_of}
 use Rattle.wac_graph_core.proofs.WiringLaws.{has_wiring}
+use Rattle.wac_names.specs.ComponentNames.{IsDependency}
 use Rattle.wac_composition.specs.Asks.{asks_of}
+use Rattle.wac_composition.specs.Conflicts.{dependency_name}
+use Rattle.wac_composition.specs.Wired.{composed_wiring}
 use Rattle.wac_composition.specs.Classes.{spelling}
 use Rattle.wac_composition.proofs.Merged.{merged_met}
 use Rattle.wac_graph_asks.specs.Graphs.{composition_of}
@@ -28,23 +31,29 @@ use Rattle.wac_graph_asks.proofs.Origins.{package_stands}
 use Rattle.wac_graph_encode.specs.Encoding as graph
 use Rattle.wac_graph_encode.specs.Encoding.{HasTrueWorld}
 use Rattle.wac_graph_encode.specs.Refused.{IsFree}
-use Rattle.wac_graph_encode.specs.Finished.{MeansNested}
+use Rattle.wac_graph_encode.specs.Finished.{MeansImported, MeansNested}
 use Rattle.wac_graph_encode.specs.declared.options.EncodeOptions.{EncodeOptions}
 use Rattle.wac_graph_encode.specs.declared.options.Encoded.{Encoded}
-use Rattle.wac_parser_tree.specs.Trees as t
 use Rattle.wac_parser_tree.specs.Trees.{Span}
-use Rattle.wac_parser_declare.specs.Packages.{Content}
+use Rattle.wac_parser_resolve.specs.Ascribed.{composition}
 use Rattle.wac_parser_resolve.specs.Ascribing.{Made, State}
 use Rattle.wac_parser_resolve.specs.Holding.{IsMade}
 use Rattle.wac_parser_resolve.specs.InDocuments.{IsBuilt}
-use Rattle.wac_parser_resolve.specs.Meeting.{resolved}
 use Rattle.wac_parser_resolve.specs.Resolved.{Places}
 use Rattle.wac_parser_resolve.proofs.Instances.{among_named}
-use Rattle.wac_parser_resolve.proofs.Turns.{turn_back}
-use Rattle.wac_parser_ascribed.specs.Tied.{IsAscribed, bytes_of, handed_tag, ascribed_wiring}
+use Rattle.wac_parser_resolve.proofs.Turns.{turn_back, turn_on}
+use Rattle.wac_parser_ascribed.specs.Tied.{IsAscribed, IsTagged, bytes_of, handed_tag, ascribed_wiring}
 use Rattle.wac_parser_ascribed.proofs.Wired.{ascribed}
 use Rattle.wac_parser_encode.specs.Processing.{IsProcessed}
-use Rattle.wac_parser_encode.specs.Meaning.{AreTrueOf, HasResolvedWorld, MeansIn, MeansAscribed, MeansResolved}
+use Rattle.wac_parser_encode.specs.Meaning.{AreTrueAs, AreTrueOf, HasResolvedWorld, HaveDependencyNames, ImportsAscribed, ImportsIn, ImportsResolved, MeansIn, MeansAscribed, MeansResolved, dependency_tag}
+
+-- an instance of the package was said
+record IsSaid (g : Graph) (ms : List ℕ) (s : State) (p : Packaged) : Type 0 where
+  made : Made
+  among : Among made s.made
+  place : ℕ × Span
+  is : IsMade g ms made place
+  of : is.of ≡ p
 
 module _ (g : Graph) (sound : IsGraph g) (acyclic : IsAcyclic g.types) (places : Places) (s : State) (b : IsBuilt g places s) where
   abbrev ms : List ℕ
@@ -56,25 +65,31 @@ module _ (g : Graph) (sound : IsGraph g) (acyclic : IsAcyclic g.types) (places :
       ap (λ (x : Stated). Some (tree (instance_type x))) (sym world) ∙ ap (λ (x : Stated). Some (tree x)) (sym stands.exports)
       ∙ sym (tree_stated g.types acyclic (ItemKind.Instance p.instance_type) stands.instance)
 
-  tag_is : (id : PackageId) (p : Packaged) (k : Key) → package_of g id ≡ Some p → package_key p ≡ k → OfBytes p.bytes ≡ handed_tag s.packages k
-  tag_is id p k at key = sym (ap (λ o. OfBytes (bytes_of o)) (b.packages id p at)) ∙ ap (handed_tag s.packages) key
+  tag_is : (k : ℕ) (p : Packaged) → instantiated g k ≡ Some p → OfBytes p.bytes ≡ handed_tag s.packages (package_key p)
+  tag_is k p e = let id = package_stands g sound acyclic k p e in sym (ap (λ o. OfBytes (bytes_of o)) (b.packages id.0 p id.1))
 
   -- of the package that an instance is of
-  one_true : (worlds : Worlds) → AreTrueOf s worlds → (p : Packaged) (m : Made) (x : ℕ × Span) (id : PackageId) → Among m s.made → (a : IsMade g ms m x) → a.of ≡ p → package_of g id ≡ Some p → worlds (OfBytes p.bytes) ≡ tree_of g.types (ItemKind.Instance p.instance_type)
-  one_true worlds h p m x id among a of at =
-      ap worlds (tag_is id p m.key at (ap package_key (sym of) ∙ a.key)) ∙ h m among
+  one_true : (tag : Key → Tag) (worlds : Worlds) → AreTrueAs tag s worlds → (p : Packaged) (m : Made) (x : ℕ × Span) (id : PackageId) → Among m s.made → (a : IsMade g ms m x) → a.of ≡ p → package_of g id ≡ Some p
+      → worlds (tag (package_key p)) ≡ tree_of g.types (ItemKind.Instance p.instance_type)
+  one_true tag worlds h p m x id among a of at =
+      ap (λ k. worlds (tag k)) (ap package_key (sym of) ∙ a.key) ∙ h m among
       ∙ tree_is p m.world (sound.packages.stand id p at) (ap (λ (q : Packaged). stated_of g.types (ItemKind.Component q.ty)) (sym of) ∙ a.world.same)
 
-  from_made : (worlds : Worlds) → AreTrueOf s worlds → (k : ℕ) (p : Packaged) → instantiated g k ≡ Some p → (x : ℕ × Span) → x.0 ≡ k → (m : Made) × Among m s.made × IsMade g ms m x → worlds (OfBytes p.bytes) ≡ tree_of g.types (ItemKind.Instance p.instance_type)
-  from_made worlds h k p e x same m =
-      one_true worlds h p m.0 x (package_stands g sound acyclic k p e).0 m.1 m.2 (same_Some _ _ (sym m.2.is ∙ ap (instantiated g) same ∙ e)) (package_stands g sound acyclic k p e).1
+  -- the instance of a node is one that was said
+  made_at : (k : ℕ) (p : Packaged) → instantiated g k ≡ Some p → IsSaid g ms s p
+  made_at k p e =
+      let n = among_named places.instances k (b.says.all k (subst IsSome (sym e) refl)) in
+      let m = turn_back (IsMade g ms) s.made places.instances n.0 b.says.made n.1 in
+      record { made = m.0; among = m.1; place = n.0; is = m.2; of = same_Some _ _ (sym m.2.is ∙ ap (instantiated g) n.2 ∙ e) }
 
-  from_noted : (worlds : Worlds) → AreTrueOf s worlds → (k : ℕ) (p : Packaged) → instantiated g k ≡ Some p → (x : ℕ × Span) × Among x places.instances × (x.0 ≡ k) → worlds (OfBytes p.bytes) ≡ tree_of g.types (ItemKind.Instance p.instance_type)
-  from_noted worlds h k p e n = from_made worlds h k p e n.0 n.2 (turn_back (IsMade g ms) s.made places.instances n.0 b.says.made n.1)
+  true_at : (tag : Key → Tag) (worlds : Worlds) → AreTrueAs tag s worlds → (k : ℕ) (p : Packaged) → instantiated g k ≡ Some p → worlds (tag (package_key p)) ≡ tree_of g.types (ItemKind.Instance p.instance_type)
+  true_at tag worlds h k p e =
+      let m = made_at k p e in
+      one_true tag worlds h p m.made m.place (package_stands g sound acyclic k p e).0 m.among m.is m.of (package_stands g sound acyclic k p e).1
 
   -- worlds that are true of what was said are true of the graph's packages
   true_of_graph : (worlds : Worlds) → AreTrueOf s worlds → graph.AreTrueOf true g worlds
-  true_of_graph worlds h = record { each = λ k p e. from_noted worlds h k p e (among_named places.instances k (b.says.all k (subst IsSome (sym e) refl))) }
+  true_of_graph worlds h = record { each = λ k p e. ap worlds (tag_is k p e) ∙ true_at (handed_tag s.packages) worlds h k p e }
 
   by_wiring : IsAscribed g places s → (worlds : Worlds) (bytes : List ℕ) → graph.MeansGraph true g worlds bytes → (W : Wiring ℕ) → IsGraphWiring g W → MeansIn s worlds bytes
   by_wiring tied worlds bytes m W is = record { meant = m.meant; means = m.means; same = same_trans (ascribed_wiring s) W m.meant (tied.wired W is) (m.same W is) }
@@ -85,6 +100,43 @@ module _ (g : Graph) (sound : IsGraph g) (acyclic : IsAcyclic g.types) (places :
   said : IsAscribed g places s → (bytes : List ℕ) → graph.MeansWiring true g bytes → MeansAscribed s bytes
   said tied bytes h worlds are =
       by_some tied worlds bytes (h worlds (true_of_graph worlds are)) (has_wiring (spelling (asks_of (composition_of g))) (written_tree g) g sound (asked_trees g))
+
+module _ (g : Graph) (sound : IsGraph g) (acyclic : IsAcyclic g.types) (places : Places) (s : State) (b : IsBuilt g places s) where
+  true_of_imports : (worlds : Worlds) → AreTrueAs dependency_tag s worlds → graph.AreTrueOf false g worlds
+  true_of_imports worlds h = record { each = λ k p e. true_at g sound acyclic places s b dependency_tag worlds h k p e }
+
+  names_of_graph : HaveDependencyNames s → graph.HaveDependencyNames g
+  names_of_graph h p made =
+      let m = made_at g sound acyclic places s b made.0 p made.1 in
+      subst (λ k. IsDependency (dependency_name k)) (sym m.is.key ∙ ap package_key m.of) (h m.made m.among)
+
+  tagged : (W : Wiring ℕ) → IsGraphWiring g W → IsTagged dependency_tag g W (graph.with_dependencies g W)
+  tagged W is = record {
+    outers = λ n. refl;
+    instances = λ k p x made at.
+        ap (option_map (λ (y : Instantiation ℕ). graph.tagged (graph.dependency_tag (instantiated g k) y.tag) y)) at ∙ ap (λ o. Some (graph.tagged (graph.dependency_tag o x.tag) x)) made;
+    no_other = λ k none. ap (option_map (λ (y : Instantiation ℕ). graph.tagged (graph.dependency_tag (instantiated g k) y.tag) y)) (is.no_other k none);
+    exports = λ n. refl;
+  }
+
+  -- what is instantiated is imported
+  imported : (imports : List (Name × Tree)) → ((p : Packaged) → graph.IsInstantiated g p → graph.IsImportedIn false g p imports) → (m : Made) → Among m s.made → Among (dependency_name m.key, tree m.world) imports
+  imported imports h m among =
+      let x = turn_on (IsMade g (names_of places.instances)) s.made places.instances m b.says.made among in
+      let a = x.2 in
+      subst (λ e. Among e imports) (λ i. (dependency_name (a.key i), tree (a.world.same i))) (h a.of (x.0.0, a.is))
+
+  by_imports : IsAscribed g places s → (worlds : Worlds) (bytes : List ℕ) → graph.MeansGraph false g worlds bytes → (W : Wiring ℕ) × IsGraphWiring g W → ImportsIn s worlds bytes
+  by_imports tied worlds bytes m w = record {
+    meant = m.meant;
+    means = m.means;
+    same = same_trans (composed_wiring dependency_tag (composition s)) (graph.with_dependencies g w.0) m.meant (tied.tagged dependency_tag w.0 (graph.with_dependencies g w.0) w.1 (tagged w.0 w.1)) (m.same w.0 w.1);
+    packages = imported m.means.last.listed.imports m.packages;
+  }
+
+  imports_said : IsAscribed g places s → (bytes : List ℕ) → (graph.HaveDependencyNames g → graph.IsComposed false g bytes) → ImportsAscribed s bytes
+  imports_said tied bytes h names worlds are =
+      by_imports tied worlds bytes ((h (names_of_graph names)).means worlds (true_of_imports worlds are)) (has_wiring (spelling (asks_of (composition_of g))) (written_tree g) g sound (asked_trees g))
 
 pub of_document : (g : Graph) (options : EncodeOptions) (bytes : List ℕ) → IsGraph g → IsAcyclic g.types → MeansNested g options bytes → MeansResolved g options bytes
 unfolding MeansResolved
@@ -97,6 +149,16 @@ of_processed g old new bytes is sound acyclic nested = of_document g old bytes s
 pub all_processed : {A E : Type 0} (g : Graph) (old new : EncodeOptions) (r : Result A E) (bytes : A → List ℕ) → IsProcessed old new → IsGraph g → IsAcyclic g.types → IfOk r (λ a. MeansNested g new (bytes a)) → IfOk r (λ a. MeansResolved g old (bytes a))
 all_processed g old new (Ok a) bytes is sound acyclic nested = of_processed g old new (bytes a) is sound acyclic nested
 all_processed g old new (Err e) bytes is sound acyclic nested = tt
+
+-- ---- with packages imported
+
+imports_document : (g : Graph) (options : EncodeOptions) (bytes : List ℕ) → IsGraph g → IsAcyclic g.types → MeansImported g options bytes → ImportsResolved g options bytes
+unfolding ImportsResolved
+imports_document g options bytes sound acyclic imports = λ define d ps r at e b. imports_said g sound acyclic at r.0 b (ascribed d ps r g at e sound acyclic b) bytes (imports define)
+
+pub imports_processed : {A E : Type 0} (g : Graph) (old new : EncodeOptions) (r : Result A E) (bytes : A → List ℕ) → IsProcessed old new → IsGraph g → IsAcyclic g.types → IfOk r (λ a. MeansImported g new (bytes a)) → IfOk r (λ a. ImportsResolved g old (bytes a))
+imports_processed g old new (Ok a) bytes is sound acyclic imports = imports_document g old (bytes a) sound acyclic (λ define. imports (is.define ∙ define))
+imports_processed g old new (Err e) bytes is sound acyclic imports = tt
 
 -- ---- the world
 

@@ -1,5 +1,5 @@
 -- A refusal of a graph that holds what a document says tells the document's first cause.
-use Rattle.std.specs.Prelude.{option_map, string_bytes, Result, Ok, Err, IfErr}
+use Rattle.std.specs.Prelude.{option_map, string_bytes, Result, Ok, Err, IfErr, OnOk}
 use Rattle.std.proofs.Common.{◌≡◌, ℕ, List, Bool, Option, Some, None, refl, sym, ap, subst, ◌∙◌}
 use Rattle.std.proofs.lemmas.Option.{none-some}
 use Rattle.wac_types_base.specs.Collection.{IsAcyclic}
@@ -17,7 +17,7 @@ use Rattle.wac_graph_causes.specs.declared.errors.ValidationFault.{ValidationFau
 use Rattle.wac_graph_causes.specs.Implicit.{IsKeyOf}
 use Rattle.wac_graph_causes.specs.Unwritable.{unwritten_cause}
 use Rattle.wac_graph_encode.specs.declared.options.EncodeOptions.{EncodeOptions}
-use Rattle.wac_graph_encode.specs.Refused.{IsErrorFor}
+use Rattle.wac_graph_encode.specs.Refused.{HasNoneUnwritten, IsErrorFor, IsFree}
 use Rattle.wac_parser_refusals.specs.declared.error.Error.{Error}
 use Rattle.wac_parser_refusals.specs.Causes.{Fault}
 use Rattle.wac_parser_refusals.specs.Views.{cause_of}
@@ -29,7 +29,7 @@ use Rattle.wac_parser_resolve.proofs.Askers.{askers_placed}
 use Rattle.wac_parser_ascribed.specs.Tied.{IsAscribed, IsPlaced}
 use Rattle.wac_parser_ascribed.proofs.Wired.{ascribed}
 use Rattle.wac_parser_encode.specs.Processing.{IsProcessed}
-use Rattle.wac_parser_encode.specs.Refused.{IsFirst, AreFirstAlike, TellsCause, RefusesResolved, TellsFirst, TellsAnywhere, fault_in}
+use Rattle.wac_parser_encode.specs.Refused.{CanBeWritten, IsFirst, AreFirstAlike, TellsCause, RefusesResolved, TellsFirst, TellsAnywhere, fault_in}
 
 -- ---- places of askers
 
@@ -58,11 +58,11 @@ module _ (options : EncodeOptions) (g : Graph) (at : Places) (s : State) (tied :
   asked_so : (x : cause.Cause ℕ) → first_cause options.define_components (composition_of g) ≡ Some x → IsAskedSo (cause_renamed tied.asker x)
   asked_so x e = asked (cause_renamed tied.asker x) ((causes_stand options.define_components (composition s)).stands (cause_renamed tied.asker x) (first_is x e))
 
-  said : (x : cause.Cause ℕ) → first_cause options.define_components (composition_of g) ≡ Some x → IsFirst options s (cause_said (cause_renamed tied.asker x))
+  said : (x : cause.Cause ℕ) → first_cause options.define_components (composition_of g) ≡ Some x → IsFirst options.define_components s (cause_said (cause_renamed tied.asker x))
   said x e = ap (option_map cause_said) (first_is x e)
 
   implicit_told : (n : List ℕ) (import filled : ℕ) (key : PackageKey) → first_cause options.define_components (composition_of g) ≡ Some (cause.ImplicitImport n import filled) → IsKeyOf g filled key
-      → IsFirst options s (record { fault = Fault.ImportConflict n (owned_key key) (asker_place at filled); span = Some (import_place at import) })
+      → IsFirst options.define_components s (record { fault = Fault.ImportConflict n (owned_key key) (asker_place at filled); span = Some (import_place at import) })
   implicit_told n import filled key e of =
       let a = asked_so (cause.ImplicitImport n import filled) e in
       let place = import_told at import (tied.asker import) (tied.placed import) a.0 in
@@ -71,7 +71,7 @@ module _ (options : EncodeOptions) (g : Graph) (at : Places) (s : State) (tied :
       said (cause.ImplicitImport n import filled) e ∙ (λ j. Some (record { fault = Fault.ImportConflict n (same j) (span_or_none (new j)); span = place j }))
 
   explicit_told : (n : List ℕ) (first second : ℕ) → first_cause options.define_components (composition_of g) ≡ Some (cause.ExplicitImport n first second)
-      → IsFirst options s (record { fault = Fault.ExplicitImportConflict n (import_place at first); span = Some (import_place at second) })
+      → IsFirst options.define_components s (record { fault = Fault.ExplicitImportConflict n (import_place at first); span = Some (import_place at second) })
   explicit_told n first second e =
       let a = asked_so (cause.ExplicitImport n first second) e in
       let one = import_told at first (tied.asker first) (tied.placed first) a.0 in
@@ -79,23 +79,23 @@ module _ (options : EncodeOptions) (g : Graph) (at : Places) (s : State) (tied :
       said (cause.ExplicitImport n first second) e ∙ (λ j. Some (record { fault = Fault.ExplicitImportConflict n (span_or_none (one j)); span = two j }))
 
   merge_failed : (n : List ℕ) (first second : ℕ) → first_cause options.define_components (composition_of g) ≡ Some (cause.ImportTypes n first second)
-      → IsFirst options s (record { fault = Fault.InstantiationArgMergeFailure n (asker_place at first); span = Some (asker_place at second) })
+      → IsFirst options.define_components s (record { fault = Fault.InstantiationArgMergeFailure n (asker_place at first); span = Some (asker_place at second) })
   merge_failed n first second e =
       let a = asked_so (cause.ImportTypes n first second) e in
       let one = merge_told at first (tied.asker first) (tied.placed first) a.0 in
       let two = merge_told at second (tied.asker second) (tied.placed second) a.1 in
       said (cause.ImportTypes n first second) e ∙ (λ j. Some (record { fault = Fault.InstantiationArgMergeFailure n (span_or_none (one j)); span = two j }))
 
-  alike_told : (x : cause.Cause ℕ) → name_cause options.define_components options.validate (composition_of g) ≡ Some x → AreFirstAlike options s (cause_said (cause_renamed tied.asker x))
+  alike_told : (x : cause.Cause ℕ) → name_cause options.define_components options.validate (composition_of g) ≡ Some x → AreFirstAlike options.define_components options.validate s (cause_said (cause_renamed tied.asker x))
   alike_told x e = ap (option_map cause_said) (tied.names options.define_components options.validate ∙ ap (option_map (cause_renamed tied.asker)) e)
 
   -- a type of the document that cannot be written is one of the graph's
   unwritten_told : (n : List ℕ) → ((c : cause.Cause ℕ) → unwritten_cause options.define_components g ≡ Some c → first_cause options.define_components (composition_of g) ≡ Some (cause.Unwritable n))
-      → (o : Option (cause.Cause ℕ)) → unwritten_cause options.define_components g ≡ o → (x : cause.Cause Asker) → option_map (cause_renamed tied.asker) o ≡ Some x → IsFirst options s (record { fault = Fault.TypeCannotBeWritten n; span = None })
+      → (o : Option (cause.Cause ℕ)) → unwritten_cause options.define_components g ≡ o → (x : cause.Cause Asker) → option_map (cause_renamed tied.asker) o ≡ Some x → IsFirst options.define_components s (record { fault = Fault.TypeCannotBeWritten n; span = None })
   unwritten_told n h None q x e = absurd (none-some _ e)
   unwritten_told n h (Some c) q x e = said (cause.Unwritable n) (h c q)
 
-  told : (e : EncodeError) → IsErrorFor options g e → TellsCause options s (fault_in at e)
+  told : (e : EncodeError) → IsErrorFor options g e → TellsCause options.define_components options.validate s (fault_in at e)
   told (EncodeError.ImplicitImportConflict import filled key n) h = implicit_told (string_bytes n) import filled key h.0 h.1
   told (EncodeError.ExplicitImportConflict n first second) h = explicit_told (string_bytes n) first second h
   told (EncodeError.ImportTypeMergeConflict n first second source) h = merge_failed (string_bytes n) first second h
@@ -137,3 +137,15 @@ memory_refused g options = λ at d ps r q b. tt
 -- the document's error, by the places of its resolution
 pub refuses : (g h : Graph) (options : EncodeOptions) (at : Places) (e : EncodeError) (f : Error) → g ≡ h → cause_of f ≡ fault_in at e → TellsAnywhere g options e → RefusesResolved h at options f
 refuses g h options at e f same is all = subst (TellsFirst h options at) (sym is) (subst (λ (x : Graph). TellsFirst x options at (fault_in at e)) same (all at))
+
+-- ---- where nothing is refused
+
+can_be_written : (g : Graph) (options : EncodeOptions) → IsGraph g → IsAcyclic g.types → HasNoneUnwritten options g → CanBeWritten g options
+unfolding CanBeWritten
+can_be_written g options sound acyclic written = λ at d ps r q b.
+    let tied = ascribed d ps r g at q sound acyclic b in
+    tied.unwritten options.define_components ∙ ap (option_map (cause_renamed tied.asker)) written
+
+pub written_processed : {A E : Type 0} (g : Graph) (old new : EncodeOptions) (r : Result A E) → IsProcessed old new → IsGraph g → IsAcyclic g.types → OnOk r (IsFree new g) → OnOk r (CanBeWritten g old)
+written_processed g old new (Ok a) is sound acyclic free = can_be_written g old sound acyclic (subst (λ (define : Bool). unwritten_cause define g ≡ None) is.define free.written)
+written_processed g old new (Err e) is sound acyclic free = tt

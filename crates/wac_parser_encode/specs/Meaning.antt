@@ -1,5 +1,5 @@
 -- What the bytes of a resolved document mean: the wiring that its text says, over the packages that were handed in.
-use Rattle.std.specs.Prelude.{◌≡◌, ℕ, true, List, Option, Some, Ok}
+use Rattle.std.specs.Prelude.{◌≡◌, ℕ, true, false, List, Option, Some, Ok}
 use Rattle.wac_types_base.specs.declared.ids.WorldId.{WorldId}
 use Rattle.wac_types_base.specs.declared.item.ItemKind.{ItemKind}
 use Rattle.wac_types_base.specs.Record.{Collection}
@@ -7,11 +7,14 @@ use Rattle.wac_types_base.specs.Graph.{Among}
 use Rattle.wac_types_base.specs.Stated.{Stated, instance_type}
 use Rattle.wac_types_base.specs.Tree.{tree}
 use Rattle.wac_types_names.specs.Keys.{Key}
+use Rattle.wac_names.specs.ComponentNames.{IsDependency}
 use Rattle.wac_graph_bytes.specs.Meaning.{Means}
 use Rattle.wac_graph_bytes.specs.Typing.{Worlds}
-use Rattle.wac_graph_bytes.specs.Wirings.{Wiring, Same}
+use Rattle.wac_graph_bytes.specs.Wirings.{Tag, OfDependency, Wiring, Same}
 use Rattle.wac_types_written.specs.Forms.{IsOf}
+use Rattle.wac_composition.specs.Conflicts.{dependency_name}
 use Rattle.wac_composition.specs.OuterLaws.{AreMet}
+use Rattle.wac_composition.specs.Wired.{composed_wiring}
 use Rattle.wac_composition.specs.Worlds.{composed_world}
 use Rattle.wac_graph_core.specs.Graph.{Graph}
 use Rattle.wac_graph_encode.specs.declared.options.EncodeOptions.{EncodeOptions}
@@ -24,9 +27,12 @@ use Rattle.wac_parser_resolve.specs.Meeting.{resolved}
 use Rattle.wac_parser_resolve.specs.Resolved.{Places}
 use Rattle.wac_parser_ascribed.specs.Tied.{handed_tag, ascribed_wiring}
 
--- the worlds say of each package that is instantiated what its stated world says
+-- the worlds say of each package that is instantiated, under its tag, what its stated world says
+abbrev pub AreTrueAs : (Key → Tag) → State → Worlds → Type 0
+AreTrueAs tag s worlds = (m : Made) → Among m s.made → worlds (tag m.key) ≡ Some (tree (instance_type m.world))
+
 abbrev pub AreTrueOf : State → Worlds → Type 0
-AreTrueOf s worlds = (m : Made) → Among m s.made → worlds (handed_tag s.packages m.key) ≡ Some (tree (instance_type m.world))
+AreTrueOf s worlds = AreTrueAs (handed_tag s.packages) s worlds
 
 -- In these worlds the bytes mean the wiring that is ascribed, but for the numbers of instances.
 pub record MeansIn (s : State) (worlds : Worlds) (bytes : List ℕ) : Type 0 where
@@ -41,6 +47,30 @@ MeansAscribed s bytes = (worlds : Worlds) → AreTrueOf s worlds → MeansIn s w
 -- Where packages are nested, so it is of each document that the graph is built from.
 unfoldable pub MeansResolved : Graph → EncodeOptions → List ℕ → Type 0
 MeansResolved g options bytes = options.define_components ≡ true → (d : t.Document) (ps : List (Key × Content)) (r : State × Option Stated) (at : Places) → resolved d ps ≡ Ok r → IsBuilt g at r.0 → MeansAscribed r.0 bytes
+
+-- ---- with packages imported
+
+abbrev pub dependency_tag : Key → Tag
+dependency_tag k = OfDependency (dependency_name k)
+
+-- each package that is instantiated has a name under which it can be imported
+abbrev pub HaveDependencyNames : State → Type 0
+HaveDependencyNames s = (m : Made) → Among m s.made → IsDependency (dependency_name m.key)
+
+-- In these worlds the bytes mean the wiring that is ascribed, and import each package under that name, as a component of its stated
+-- world.
+pub record ImportsIn (s : State) (worlds : Worlds) (bytes : List ℕ) : Type 0 where
+  pub meant : Wiring ℕ
+  pub means : Means worlds bytes meant
+  pub same : Same (composed_wiring dependency_tag (composition s)) meant
+  pub packages : (m : Made) → Among m s.made → Among (dependency_name m.key, tree m.world) means.last.listed.imports
+
+abbrev pub ImportsAscribed : State → List ℕ → Type 0
+ImportsAscribed s bytes = HaveDependencyNames s → (worlds : Worlds) → AreTrueAs dependency_tag s worlds → ImportsIn s worlds bytes
+
+-- Where packages are imported, so it is of each document that the graph is built from.
+unfoldable pub ImportsResolved : Graph → EncodeOptions → List ℕ → Type 0
+ImportsResolved g options bytes = options.define_components ≡ false → (d : t.Document) (ps : List (Key × Content)) (r : State × Option Stated) (at : Places) → resolved d ps ≡ Ok r → IsBuilt g at r.0 → ImportsAscribed r.0 bytes
 
 -- ---- the world
 

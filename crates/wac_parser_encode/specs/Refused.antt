@@ -1,5 +1,6 @@
--- Why a resolved document is not encoded: the first cause that stands against what it says, with its places.
-use Rattle.std.specs.Prelude.{◌≡◌, List, Option, Some, None, Ok, option_map, string_bytes}
+-- Why a resolved document is not encoded: the first cause that stands against what it says, with its places. And of one that is
+-- encoded each type can be written.
+use Rattle.std.specs.Prelude.{◌≡◌, Bool, List, Option, Some, None, Ok, option_map, string_bytes}
 use Rattle.wac_types_base.specs.declared.item.ExternKind.{ExternKind}
 use Rattle.wac_types_base.specs.Stated.{Stated}
 use Rattle.wac_types_names.specs.Keys.{Key, owned_key}
@@ -41,34 +42,43 @@ fault_in at EncodeError.Memory = None
 
 -- ---- what it says
 
-module _ (options : EncodeOptions) (s : State) where
+module _ (define : Bool) (s : State) where
   -- this is the first cause that stands against what is said
   abbrev pub IsFirst : Cause → Type 0
-  IsFirst c = option_map cause_said (first_cause options.define_components (composition s)) ≡ Some c
+  IsFirst c = option_map cause_said (first_cause define (composition s)) ≡ Some c
 
+  -- the first type of what is said that cannot be written by itself
+  abbrev pub unwritten_said : Option (cause.Cause Asker)
+  unwritten_said = unwritable_cause define (composition s) (outer_imports (asks_of (composition s)))
+
+  -- where there is one, this is the first cause
+  abbrev pub IsFirstUnwritten : Cause → Type 0
+  IsFirstUnwritten c = (x : cause.Cause Asker) → unwritten_said ≡ Some x → IsFirst c
+
+module _ (define validate : Bool) (s : State) where
   -- these are the first names that are alike
   abbrev pub AreFirstAlike : Cause → Type 0
-  AreFirstAlike c = option_map cause_said (name_cause options.define_components options.validate (composition s)) ≡ Some c
-
-  -- where a type cannot be written by itself, this is the first cause
-  abbrev pub IsFirstUnwritten : Cause → Type 0
-  IsFirstUnwritten c = (x : cause.Cause Asker) → unwritable_cause options.define_components (composition s) (outer_imports (asks_of (composition s))) ≡ Some x → IsFirst c
+  AreFirstAlike c = option_map cause_said (name_cause define validate (composition s)) ≡ Some c
 
   -- Of sizes, and of types that cannot be written since imports use each other in a circle, nothing is said.
   abbrev pub IsFault : Fault → Cause → Type 0
   IsFault (Fault.ValidationFailure kind m n) c = AreFirstAlike c
-  IsFault (Fault.TypeCannotBeWritten n) c = IsFirstUnwritten c
+  IsFault (Fault.TypeCannotBeWritten n) c = IsFirstUnwritten define s c
   IsFault Fault.TooLarge c = Unit {0}
-  IsFault f c = IsFirst c
+  IsFault f c = IsFirst define s c
 
   -- it is the first cause, with its fields and its place; want of memory may always be answered
   abbrev pub TellsCause : Option Cause → Type 0
   TellsCause None = Unit {0}
   TellsCause (Some c) = IsFault c.fault c
 
+-- so it is of what each document says that the graph holds, where that stands at these places
+abbrev pub OfEach : Graph → Places → (State → Type 0) → Type 0
+OfEach g at P = (d : t.Document) (ps : List (Key × Content)) (r : State × Option Stated) → resolved d ps ≡ Ok r → IsBuilt g at r.0 → P r.0
+
 -- Where the graph holds what a document says, which stands at these places, the error is the document's first cause.
 unfoldable pub TellsFirst : Graph → EncodeOptions → Places → Option Cause → Type 0
-TellsFirst g options at o = (d : t.Document) (ps : List (Key × Content)) (r : State × Option Stated) → resolved d ps ≡ Ok r → IsBuilt g at r.0 → TellsCause options r.0 o
+TellsFirst g options at o = OfEach g at (λ s. TellsCause options.define_components options.validate s o)
 
 -- so it is of a refusal of the graph, wherever its nodes stand
 abbrev pub TellsAnywhere : Graph → EncodeOptions → EncodeError → Type 0
@@ -76,3 +86,9 @@ TellsAnywhere g options e = (at : Places) → TellsFirst g options at (fault_in 
 
 abbrev pub RefusesResolved : Graph → Places → EncodeOptions → Error → Type 0
 RefusesResolved g at options e = TellsFirst g options at (cause_of e)
+
+-- ---- where nothing is refused
+
+-- Where the graph holds what a document says, each type of it can be written by itself.
+unfoldable pub CanBeWritten : Graph → EncodeOptions → Type 0
+CanBeWritten g options = (at : Places) → OfEach g at (λ s. unwritten_said options.define_components s ≡ None)

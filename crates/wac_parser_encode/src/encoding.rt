@@ -1,15 +1,15 @@
 //! Resolved documents as components.
 
-ghost use Rattle.std.specs.Prelude.{◌≡◌, IfErr, IfOk, Some};
+ghost use Rattle.std.specs.Prelude.{◌≡◌, IfErr, IfOk, OnOk, Some};
 ghost use Rattle.wac_graph_core.specs.Graph.{Graph};
 ghost use Rattle.wac_graph_causes.specs.Acyclic.{IsNoCycle};
 ghost use Rattle.wac_graph_encode.specs.Encoding.{HasTrueWorld};
-ghost use Rattle.wac_graph_encode.specs.Finished.{MeansNested};
+ghost use Rattle.wac_graph_encode.specs.Finished.{MeansImported, MeansNested};
 ghost use Rattle.wac_parser_refusals.specs.Views.{cause_of};
 ghost use Rattle.wac_parser_resolve.specs.Resolved.{Places, graph_of, places_of};
 ghost use Rattle.wac_parser_encode.specs.Processing.{IsProcessed};
-ghost use Rattle.wac_parser_encode.specs.Meaning.{HasResolvedWorld, MeansResolved};
-ghost use Rattle.wac_parser_encode.specs.Refused.{RefusesResolved, TellsAnywhere, alike_fault, fault_in};
+ghost use Rattle.wac_parser_encode.specs.Meaning.{HasResolvedWorld, ImportsResolved, MeansResolved};
+ghost use Rattle.wac_parser_encode.specs.Refused.{CanBeWritten, RefusesResolved, TellsAnywhere, alike_fault, fault_in};
 
 use std::alloc::{AllocError, Global};
 use wac_graph_bytes::Processor;
@@ -114,6 +114,9 @@ fn with_processor(alloc: Global, options: EncodeOptions) -> Result<EncodeOptions
 fn encoded_bytes(graph: &CompositionGraph, options: EncodeOptions) -> Result<Vec<u8>, EncodeError>
     ensures means { IfOk result (λ bytes. MeansNested graph.now options bytes.items) }
     ensures ascribed { IfOk result (λ bytes. MeansResolved graph.now options bytes.items) }
+    ensures imports { IfOk result (λ bytes. MeansImported graph.now options bytes.items) }
+    ensures imported { IfOk result (λ bytes. ImportsResolved graph.now options bytes.items) }
+    ensures free { OnOk result (CanBeWritten graph.now options) }
     ensures acyclic { IfErr result IsNoCycle }
     ensures refused { IfErr result (TellsAnywhere graph.now options) }
 {
@@ -133,9 +136,12 @@ fn encoded_world(
 ) -> Result<Encoded, EncodeError>
     ensures means { IfOk result (λ e. MeansNested graph.now options e.bytes.items) }
     ensures ascribed { IfOk result (λ e. MeansResolved graph.now options e.bytes.items) }
+    ensures imports { IfOk result (λ e. MeansImported graph.now options e.bytes.items) }
+    ensures imported { IfOk result (λ e. ImportsResolved graph.now options e.bytes.items) }
     ensures number { IfOk result (λ e. e.types.number ≡ numbers.1) }
     ensures world { IfOk result (λ e. HasTrueWorld graph.now e.types e.world) }
     ensures resolved { IfOk result (λ e. HasResolvedWorld graph.now e.types e.world) }
+    ensures free { OnOk result (CanBeWritten graph.now options) }
     ensures acyclic { IfErr result IsNoCycle }
     ensures refused { IfErr result (TellsAnywhere graph.now options) }
 {
@@ -159,6 +165,9 @@ pub trait EncodeResolution {
     fn encode(&self, options: EncodeOptions) -> ResolutionResult<Vec<u8>>
         ensures means { IfOk result (λ bytes. MeansNested (graph self.now) options bytes.items) }
         ensures ascribed { IfOk result (λ bytes. MeansResolved (graph self.now) options bytes.items) }
+        ensures imports { IfOk result (λ bytes. MeansImported (graph self.now) options bytes.items) }
+        ensures imported { IfOk result (λ bytes. ImportsResolved (graph self.now) options bytes.items) }
+        ensures free { OnOk result (CanBeWritten (graph self.now) options) }
         ensures refused { IfErr result (RefusesResolved (graph self.now) (places self.now) options) };
 
     /// The component of the graph, and the world that is true of it, in a collection of the second number. The first is
@@ -166,9 +175,12 @@ pub trait EncodeResolution {
     fn encode_world(&self, options: EncodeOptions, numbers: (u64, u64)) -> ResolutionResult<Encoded>
         ensures means { IfOk result (λ e. MeansNested (graph self.now) options e.bytes.items) }
         ensures ascribed { IfOk result (λ e. MeansResolved (graph self.now) options e.bytes.items) }
+        ensures imports { IfOk result (λ e. MeansImported (graph self.now) options e.bytes.items) }
+        ensures imported { IfOk result (λ e. ImportsResolved (graph self.now) options e.bytes.items) }
         ensures number { IfOk result (λ e. e.types.number ≡ numbers.1) }
         ensures world { IfOk result (λ e. HasTrueWorld (graph self.now) e.types e.world) }
         ensures resolved { IfOk result (λ e. HasResolvedWorld (graph self.now) e.types e.world) }
+        ensures free { OnOk result (CanBeWritten (graph self.now) options) }
         ensures refused { IfErr result (RefusesResolved (graph self.now) (places self.now) options) };
 }
 

@@ -1,12 +1,20 @@
 use Rattle.std.proofs.Common.{subst}
 use Rattle.wac_types_base.specs.Collection.{IsAcyclic}
-use Rattle.wac_parser_encode.proofs.Meaning.{all_processed}
-use Rattle.wac_parser_encode.proofs.Refused.{memory_refused, refuses_processed}
+use Rattle.wac_parser_encode.proofs.Meaning.{all_processed, imports_processed}
+use Rattle.wac_parser_encode.proofs.Refused.{memory_refused, refuses_processed, written_processed}
 use Rattle.wac_parser_encode.proofs.encoding.encoded_bytes.Goals as goal
 
 pub returns-in-Ok-clause-ascribed : goal.returns-in-Ok-clause-ascribed
 returns-in-Ok-clause-ascribed c =
     all_processed c.args.graph.now c.args.options c.in-Ok.options c.encode.result (λ b. b.items) c.in-Ok.ensures c.see_sound.ensures (subst IsAcyclic c.types.ensures c.see_acyclic.ensures) c.encode.ensures.means
+
+pub returns-in-Ok-clause-imported : goal.returns-in-Ok-clause-imported
+returns-in-Ok-clause-imported c =
+    imports_processed c.args.graph.now c.args.options c.in-Ok.options c.encode.result (λ b. b.items) c.in-Ok.ensures c.see_sound.ensures (subst IsAcyclic c.types.ensures c.see_acyclic.ensures) c.encode.ensures.imports
+
+pub returns-in-Ok-clause-free : goal.returns-in-Ok-clause-free
+returns-in-Ok-clause-free c =
+    written_processed c.args.graph.now c.args.options c.in-Ok.options c.encode.result c.in-Ok.ensures c.see_sound.ensures (subst IsAcyclic c.types.ensures c.see_acyclic.ensures) c.encode.ensures.free
 
 pub returns-in-Ok-clause-refused : goal.returns-in-Ok-clause-refused
 returns-in-Ok-clause-refused c =

@@ -1,7 +1,7 @@
 use Rattle.std.proofs.Common.{subst}
 use Rattle.wac_types_base.specs.Collection.{IsAcyclic}
-use Rattle.wac_parser_encode.proofs.Meaning.{all_processed, all_worlds}
-use Rattle.wac_parser_encode.proofs.Refused.{memory_refused, refuses_processed}
+use Rattle.wac_parser_encode.proofs.Meaning.{all_processed, all_worlds, imports_processed}
+use Rattle.wac_parser_encode.proofs.Refused.{memory_refused, refuses_processed, written_processed}
 use Rattle.wac_parser_encode.proofs.encoding.encoded_world.Goals as goal
 
 pub returns-in-Ok-clause-ascribed : goal.returns-in-Ok-clause-ascribed
@@ -11,6 +11,14 @@ returns-in-Ok-clause-ascribed c =
 pub returns-in-Ok-clause-resolved : goal.returns-in-Ok-clause-resolved
 returns-in-Ok-clause-resolved c =
     all_worlds c.args.graph.now c.in-Ok.options c.encode_world.result c.see_sound.ensures (subst IsAcyclic c.types.ensures c.see_acyclic.ensures) c.encode_world.ensures.free c.encode_world.ensures.world
+
+pub returns-in-Ok-clause-imported : goal.returns-in-Ok-clause-imported
+returns-in-Ok-clause-imported c =
+    imports_processed c.args.graph.now c.args.options c.in-Ok.options c.encode_world.result (λ e. e.bytes.items) c.in-Ok.ensures c.see_sound.ensures (subst IsAcyclic c.types.ensures c.see_acyclic.ensures) c.encode_world.ensures.imports
+
+pub returns-in-Ok-clause-free : goal.returns-in-Ok-clause-free
+returns-in-Ok-clause-free c =
+    written_processed c.args.graph.now c.args.options c.in-Ok.options c.encode_world.result c.in-Ok.ensures c.see_sound.ensures (subst IsAcyclic c.types.ensures c.see_acyclic.ensures) c.encode_world.ensures.free
 
 pub returns-in-Ok-clause-refused : goal.returns-in-Ok-clause-refused
 returns-in-Ok-clause-refused c =

@@ -1,6 +1,12 @@
+use Rattle.std.proofs.Common.{subst}
+use Rattle.wac_graph_core.specs.Graph.{Graph}
+use Rattle.wac_graph_encode.specs.Finished.{MeansImported}
 use Rattle.wac_parser_resolve.specs.Resolved.{graph_of, places_of}
 use Rattle.wac_parser_encode.proofs.Refused.{refuses}
 use Rattle.wac_parser_encode.proofs.encoding.ResolvedEncodeResolution.encode_world.Goals as goal
+
+pub returns-in-Ok-clause-imports : goal.returns-in-Ok-clause-imports
+returns-in-Ok-clause-imports g c = subst (λ (x : Graph). MeansImported x c.args.options c.in-Ok.encoded.bytes.items) c.graph.ensures c.in-Ok.ensures.imports
 
 pub returns-in-Err-clause-refused : goal.returns-in-Err-clause-refused
 returns-in-Err-clause-refused g c =
