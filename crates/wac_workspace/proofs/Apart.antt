@@ -1,10 +1,9 @@
 -- Packages that are apart, and one more of them.
-use Rattle.std.proofs.Common.{◌≡◌, ◌≢◌, ℕ, List, [], ◌∷◌, ◌++◌, true, false, Bool, refl, sym, ap, ◌∙◌, subst, inl, inr}
+use Rattle.std.proofs.Common.{◌≡◌, ℕ, List, [], ◌∷◌, ◌++◌, true, false, Bool, refl, sym, ◌∙◌, subst, inl, inr}
 use Rattle.wac_types_base.specs.Graph.{Among}
 use Rattle.wac_types_base.proofs.Lists.{among_last}
 use Rattle.wac_workspace.specs.declared.entries.Entry.{Entry}
-use Rattle.wac_types_names.specs.Keys.{Key}
-use Rattle.wac_workspace.specs.Packages.{key_of, HasKey, HasBytes, HasHanded, IsApart, AreApart, Made, IsMade}
+use Rattle.wac_workspace.specs.Packages.{HasKey, HasBytes, HasHanded, IsApart, AreApart, Made, IsMade}
 
 -- one more package, which is apart from each
 pub apart_push : (ps : List Entry) (p : Entry) → AreApart ps → ((q : Entry) → Among q ps → IsApart p q) → AreApart (ps ++ p ∷ [])

@@ -1,27 +1,33 @@
 -- What is answered of a document over packages.
-use Rattle.std.proofs.Common.{◌≡◌, ℕ, List, Option, Result, Ok, Err, IfOk, true, refl, sym, subst, ◌∙◌, inl, inr}
+use Rattle.std.proofs.Common.{◌≡◌, ℕ, Bool, List, Option, Some, None, Result, Ok, Err, IfOk, true, false, refl, sym, subst, ◌∙◌, inl, inr}
+use Rattle.std.specs.Prelude.{IfErr}
+use Rattle.std.proofs.lemmas.Option.{none-some}
 use Rattle.wac_types_base.specs.declared.ids.WorldId.{WorldId}
+use Rattle.wac_types_base.specs.Entries.{Name}
 use Rattle.wac_types_base.specs.Stated.{Stated}
 use Rattle.wac_graph_core.specs.Graph.{Graph}
 use Rattle.wac_graph_encode.specs.declared.options.EncodeOptions.{EncodeOptions}
 use Rattle.wac_graph_encode.specs.declared.options.Encoded.{Encoded}
-use Rattle.wac_graph_encode.specs.Finished.{MeansNested}
+use Rattle.wac_graph_encode.specs.Finished.{MeansImported, MeansNested}
 use Rattle.wac_parser_tree.specs.Trees as t
 use Rattle.wac_parser_refusals.specs.declared.error.Error.{Error}
-use Rattle.wac_parser_refusals.specs.Outcomes.{IsHeld}
+use Rattle.wac_parser_refusals.specs.Causes.{Cause}
+use Rattle.wac_parser_refusals.specs.Outcomes.{IsHeld, IsMemory}
+use Rattle.wac_parser_refusals.specs.Views.{cause_of}
 use Rattle.wac_parser_resolve.specs.Ascribing.{State}
 use Rattle.wac_parser_resolve.specs.InDocuments.{HoldsAll, IsBuilt, IsErrorOf}
 use Rattle.wac_parser_resolve.specs.Meeting.{resolved}
 use Rattle.wac_parser_resolve.specs.Resolved.{Places}
 use Rattle.wac_types_base.specs.Record.{Collection}
-use Rattle.wac_parser_encode.specs.Meaning.{HasResolvedWorld, MeansResolved}
-use Rattle.wac_workspace.specs.Composing.{IsAscribed, IsComposition, IsMeant, MeansSaid}
+use Rattle.wac_parser_encode.specs.Meaning.{HasResolvedWorld, ImportsResolved, MeansResolved}
+use Rattle.wac_parser_encode.specs.Refused.{CanBeWritten, TellsCause, TellsFirst}
+use Rattle.wac_workspace.specs.Composing.{ImportsSaid, IsAscribed, IsAscribedOver, IsComposition, IsImporting, IsMeant, MeansSaid}
 use Rattle.wac_workspace.specs.declared.output.Output.{Output}
 use Rattle.wac_workspace.specs.declared.errors.ComposeError.{ComposeError}
 use Rattle.wac_workspace.specs.declared.errors.ComposeError.TheVariants as error
 use Rattle.wac_workspace.specs.Faults.{IsResolving}
 use Rattle.wac_workspace.specs.Resolving.{Handed, Resolves, IsAccepted, IsGraphOf, IsLate, IsOfResolving, NamesFirst}
-use Rattle.wac_workspace.specs.Steps.{IsAfterwards}
+use Rattle.wac_workspace.specs.Steps.{IsAfterwards, IsUnmet}
 
 pub accepted : {B : Type 0} (holds : State × Option Stated → B → Type 0) (q : Resolves) (b : B) → IsHeld holds q b → IsAccepted q
 accepted holds (Ok s) b h = tt
@@ -33,31 +39,56 @@ pub graph_held : {B : Type 0} (graph : B → Graph) (places : B → Places) (tar
 graph_held graph places target (Ok s) b g same h = (places b, subst (λ (x : Graph). IsBuilt x (places b) s.0) (sym same) h.0)
 graph_held graph places target (Err c) b g same h = absurd h
 
-names_first : (q : Resolves) (f : Error) → IsErrorOf q f → NamesFirst q f
-names_first (Ok s) f h = tt
-names_first (Err c) f h = h
+-- want of memory may always be answered
+memory_tells : (define : Bool) (s : State) (o : Option Cause) → IsMemory o → TellsCause define true s o
+memory_tells define s None h = tt
+memory_tells define s (Some c) h = absurd h
+
+names_first : (define : Bool) (q : Resolves) (f : Error) → IsErrorOf q f → NamesFirst define q f
+names_first define (Ok s) f h = memory_tells define s.0 (cause_of f) h
+names_first define (Err c) f h = h
 
 pub of_resolving : (q : Resolves) (f : Error) (e : ComposeError) → IsErrorOf q f → IsResolving f e → IsOfResolving q e
 of_resolving q f e h (inl m) = subst (λ (x : ComposeError). IsOfResolving q x) (sym m.1) tt
 of_resolving q f e h (inr s) = subst (λ (x : ComposeError). IsOfResolving q x) (sym s) h
 
-pub late_resolving : (q : Resolves) (f : Error) (e : ComposeError) → IsErrorOf q f → IsResolving f e → IsLate q e
-late_resolving q f e h (inl m) = subst (λ (x : ComposeError). IsLate q x) (sym m.1) tt
-late_resolving q f e h (inr s) = subst (λ (x : ComposeError). IsLate q x) (sym s) (names_first q f h)
+pub late_resolving : (define : Bool) (q : Resolves) (f : Error) (e : ComposeError) → IsErrorOf q f → IsResolving f e → IsLate define q e
+late_resolving define q f e h (inl m) = subst (λ (x : ComposeError). IsLate define q x) (sym m.1) tt
+late_resolving define q f e h (inr s) = subst (λ (x : ComposeError). IsLate define q x) (sym s) (names_first define q f h)
 
-names_none : (q : Resolves) (f : Error) → IsAccepted q → NamesFirst q f
-names_none (Ok s) f a = tt
-names_none (Err c) f a = absurd a
+-- ---- behind resolving
 
--- behind an accepted document
-pub late_afterwards : (q : Resolves) (e : ComposeError) → IsAccepted q → IsAfterwards e → IsLate q e
-late_afterwards q (error.Parse x) a h = absurd h
-late_afterwards q error.NumbersExhausted a h = absurd h
-late_afterwards q (error.Resolution x) a h = names_none q x a
-late_afterwards q (error.Target x) a h = a
-late_afterwards q error.KeyTaken a h = absurd h
-late_afterwards q error.BytesTaken a h = absurd h
-late_afterwards q error.Memory a h = tt
+module _ (g : Graph) (at : Places) (options : EncodeOptions) where
+  -- a target that is not met, where each type can be written
+  pub target_unmet : (n : Name) (e : ComposeError) → CanBeWritten g options → IsUnmet n e → IsAfterwards g at options e
+  unfolding CanBeWritten TellsFirst
+  target_unmet n (error.Parse x) written h = absurd h
+  target_unmet n error.NumbersExhausted written h = absurd h
+  target_unmet n (error.Resolution f) written h = subst (λ (o : Option Cause). TellsFirst g options at o) (sym h) (λ d ps r q b x is. absurd (none-some x (sym (written at d ps r q b) ∙ is)))
+  target_unmet n (error.Target r) written h = tt
+  target_unmet n error.KeyTaken written h = absurd h
+  target_unmet n error.BytesTaken written h = absurd h
+  target_unmet n error.Memory written h = tt
+
+-- of a document that the graph holds
+module _ {B : Type 0} (graph : B → Graph) (places : B → Places) (target : B → Option WorldId) where
+  late_of : (d : t.Document) (ps : Handed) (b : B) (options : EncodeOptions) (e : ComposeError) → options.validate ≡ true → (q : Resolves) → resolved d ps ≡ q
+      → IsHeld (λ s (b : B). HoldsAll s (graph b) (places b) (target b)) q b → IsAfterwards (graph b) (places b) options e → IsLate options.define_components q e
+  unfolding TellsFirst
+  late_of d ps b options e validate (Err c) is built h = absurd built
+  late_of d ps b options (error.Parse x) validate (Ok s) is built h = absurd h
+  late_of d ps b options error.NumbersExhausted validate (Ok s) is built h = absurd h
+  late_of d ps b options (error.Resolution f) validate (Ok s) is built h =
+      subst (λ (v : Bool). TellsCause options.define_components v s.0 (cause_of f)) validate (h d ps s is built.0)
+  late_of d ps b options (error.Target r) validate (Ok s) is built h = tt
+  late_of d ps b options error.KeyTaken validate (Ok s) is built h = absurd h
+  late_of d ps b options error.BytesTaken validate (Ok s) is built h = absurd h
+  late_of d ps b options error.Memory validate (Ok s) is built h = tt
+
+  pub late_afterwards : {A : Type 0} (d : t.Document) (ps : Handed) (b : B) (options : EncodeOptions) (r : Result A ComposeError) → options.validate ≡ true
+      → IsHeld (λ s (b : B). HoldsAll s (graph b) (places b) (target b)) (resolved d ps) b → IfErr r (IsAfterwards (graph b) (places b) options) → IfErr r (IsLate options.define_components (resolved d ps))
+  late_afterwards d ps b options (Ok a) validate built h = tt
+  late_afterwards d ps b options (Err e) validate built h = late_of d ps b options e validate (resolved d ps) refl built h
 
 -- the bytes of a graph that holds what is resolved
 pub meant : {E : Type 0} (d : t.Document) (ps : Handed) (g : Graph) (r : Result Encoded E) (options : EncodeOptions) → IsGraphOf (resolved d ps) g → IfOk r (λ e. MeansNested g options e.bytes.items)
@@ -73,6 +104,20 @@ meant d ps g (Err f) options holds nested said = tt
 -- likewise with names tested, and under a name
 pub meant_named : (a b : EncodeOptions) (q : Resolves) (xs ys : List ℕ) → a.define_components ≡ b.define_components → ys ≡ xs → MeansSaid a q xs → MeansSaid b q ys
 meant_named a b q xs ys same bytes h = λ define. subst (λ (zs : List ℕ). IsMeant q zs) (sym bytes) (h (same ∙ define))
+
+-- the same with packages imported
+pub importing : {E : Type 0} (d : t.Document) (ps : Handed) (g : Graph) (r : Result Encoded E) (options : EncodeOptions) → IsGraphOf (resolved d ps) g → IfOk r (λ e. MeansImported g options e.bytes.items)
+    → IfOk r (λ e. ImportsResolved g options e.bytes.items) → IfOk r (λ e. ImportsSaid options (resolved d ps) e.bytes.items)
+unfolding ImportsResolved IsAscribedOver
+importing d ps g (Ok e) options holds imports said = λ define. record { ascribed = by define (resolved d ps) refl holds; graph = g; holds = holds; component = imports define }
+  where
+    by : options.define_components ≡ false → (q : Resolves) → resolved d ps ≡ q → IsGraphOf q g → IsAscribedOver q e.bytes.items
+    by define (Ok s) is h = said define d ps s h.0 is h.1
+    by define (Err c) is h = absurd h
+importing d ps g (Err f) options holds imports said = tt
+
+pub importing_named : (a b : EncodeOptions) (q : Resolves) (xs ys : List ℕ) → a.define_components ≡ b.define_components → ys ≡ xs → ImportsSaid a q xs → ImportsSaid b q ys
+importing_named a b q xs ys same bytes h = λ define. subst (λ (zs : List ℕ). IsImporting q zs) (sym bytes) (h (same ∙ define))
 
 -- the world of a graph that holds what is resolved
 pub composed : {E : Type 0} (d : t.Document) (ps : Handed) (g : Graph) (r : Result Encoded E) → IsGraphOf (resolved d ps) g → IfOk r (λ e. HasResolvedWorld g e.types e.world) → IfOk r (λ e. IsComposition (resolved d ps) e.types e.world)

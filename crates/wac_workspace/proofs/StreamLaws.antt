@@ -1,5 +1,5 @@
 -- The last call of a stream.
-use Rattle.std.proofs.Common.{◌≡◌, ℕ, List, Bool, Option, Result, Ok, Err, sym, subst}
+use Rattle.std.proofs.Common.{◌≡◌, ℕ, List, Bool, Result, Ok, Err, sym, subst}
 use Rattle.std.specs.Prelude.{OnErr, IfErr, IsErrOf}
 use Rattle.wac_workspace.specs.declared.output.Output.{Output}
 use Rattle.wac_workspace.specs.declared.errors.StreamError.{StreamError}

@@ -1,5 +1,5 @@
 -- A composed source, and a refused one.
-use Rattle.std.specs.Prelude.{◌≡◌, ℕ, ◌+◌, ◌<◌, ◌≤◌, List, ◌∷◌, [], Option, Some, None, Bool, true, false, Ok, Err, string_bytes}
+use Rattle.std.specs.Prelude.{◌≡◌, ℕ, ◌+◌, ◌<◌, ◌≤◌, List, Bool, true, false, Ok, Err, string_bytes}
 use Rattle.std.specs.Option.{option_map}
 use Rattle.semver.specs.Identifiers.{parts_of}
 use Rattle.wac_types_base.specs.declared.ids.WorldId.{WorldId}
@@ -9,14 +9,14 @@ use Rattle.wac_types_base.specs.Collection.{Stands}
 use Rattle.wac_types_names.specs.Keys.{Key}
 use Rattle.wac_graph_core.specs.Graph.{Graph}
 use Rattle.wac_graph_encode.specs.declared.options.EncodeOptions.{EncodeOptions}
-use Rattle.wac_graph_encode.specs.Finished.{IsComposed as IsComponentOf}
+use Rattle.wac_graph_encode.specs.Encoding.{HaveDependencyNames, IsComposed as IsComponentOf}
 use Rattle.wac_parser_tree.specs.Trees.{Document}
 use Rattle.wac_parser_grammar.specs.Documents.{document}
 use Rattle.wac_parser_grammar.specs.Reads.{read_source}
 use Rattle.wac_parser_grammar.specs.Faults.{fault_of}
 use Rattle.wac_parser_resolve.specs.InDocuments.{IsErrorOf}
 use Rattle.wac_parser_resolve.specs.Meeting.{resolved}
-use Rattle.wac_parser_encode.specs.Meaning.{IsWorldOf, MeansAscribed}
+use Rattle.wac_parser_encode.specs.Meaning.{ImportsAscribed, IsWorldOf, MeansAscribed}
 use Rattle.wac_workspace.specs.declared.output.Output.{Output}
 use Rattle.wac_workspace.specs.declared.errors.ComposeError.{ComposeError}
 use Rattle.wac_workspace.specs.declared.errors.ComposeError.TheVariants as error
@@ -82,7 +82,7 @@ pub record IsMeant (q : Resolves) (bytes : List ℕ) : Type 0 where
   pub ascribed : IsAscribed q bytes
   pub graph : Graph
   pub holds : IsGraphOf q graph
-  pub component : IsComponentOf graph bytes
+  pub component : IsComponentOf true graph bytes
 
 -- so it is, with components defined, of what is resolved
 abbrev pub MeansSaid : EncodeOptions → Resolves → List ℕ → Type 0
@@ -96,6 +96,34 @@ pub record IsMeantBy (ps : Handed) (source : List ℕ) (bytes : List ℕ) : Type
 
 unfoldable pub MeansSource : EncodeOptions → Handed → List ℕ → List ℕ → Type 0
 MeansSource options ps source bytes = options.define_components ≡ true → IsMeantBy ps source bytes
+
+-- ---- with packages imported
+
+-- the bytes mean the wiring that is ascribed over them
+unfoldable pub IsAscribedOver : Resolves → List ℕ → Type 0
+IsAscribedOver (Ok s) bytes = ImportsAscribed s.0 bytes
+IsAscribedOver (Err c) bytes = ⊥
+
+-- The bytes mean what is ascribed, and are a component of a graph that holds it: its packages are imported, each once, and nothing
+-- is nested.
+pub record IsImporting (q : Resolves) (bytes : List ℕ) : Type 0 where
+  pub ascribed : IsAscribedOver q bytes
+  pub graph : Graph
+  pub holds : IsGraphOf q graph
+  pub component : HaveDependencyNames graph → IsComponentOf false graph bytes
+
+abbrev pub ImportsSaid : EncodeOptions → Resolves → List ℕ → Type 0
+ImportsSaid options q bytes = options.define_components ≡ false → IsImporting q bytes
+
+pub record IsImportingBy (ps : Handed) (source : List ℕ) (bytes : List ℕ) : Type 0 where
+  pub tree : Document
+  pub read : IsDocument source tree
+  pub imported : IsImporting (resolved tree ps) bytes
+
+unfoldable pub ImportsSource : EncodeOptions → Handed → List ℕ → List ℕ → Type 0
+ImportsSource options ps source bytes = options.define_components ≡ false → IsImportingBy ps source bytes
+
+-- ---- what is done
 
 -- The source is composed: three numbers are taken, and the output is kept.
 pub record IsComposed (old new : Held) (source : List ℕ) (define : Bool) (o : Output) : Type 0 where
@@ -126,18 +154,18 @@ IsUnresolved ps source error.Memory = Unit {0}
 IsUnresolved ps source e = ⊥
 
 -- why a source has no output, whatever stands in the workspace under its key
-abbrev pub IsUnmade : ℕ → Handed → List ℕ → ComposeError → Type 0
-IsUnmade next ps source (error.Parse f) = read_source document source ≡ Err (fault_of f)
-IsUnmade next ps source error.NumbersExhausted = (d : Document) × IsDocument source d × (greatest < next + 3)
-IsUnmade next ps source (error.Resolution f) = IsTried next ps source (λ q. NamesFirst q f)
-IsUnmade next ps source (error.Target r) = IsTried next ps source IsAccepted
-IsUnmade next ps source error.KeyTaken = ⊥
-IsUnmade next ps source error.BytesTaken = ⊥
-IsUnmade next ps source error.Memory = Unit {0}
+abbrev pub IsUnmade : ℕ → Handed → List ℕ → (define : Bool) → ComposeError → Type 0
+IsUnmade next ps source define (error.Parse f) = read_source document source ≡ Err (fault_of f)
+IsUnmade next ps source define error.NumbersExhausted = (d : Document) × IsDocument source d × (greatest < next + 3)
+IsUnmade next ps source define (error.Resolution f) = IsTried next ps source (λ q. NamesFirst define q f)
+IsUnmade next ps source define (error.Target r) = IsTried next ps source IsAccepted
+IsUnmade next ps source define error.KeyTaken = ⊥
+IsUnmade next ps source define error.BytesTaken = ⊥
+IsUnmade next ps source define error.Memory = Unit {0}
 
 -- The causes of a refusal, in their order: that of the source, its key, its bytes.
 abbrev pub IsRefused : Held → List ℕ → (define : Bool) → ComposeError → Type 0
 IsRefused w source define error.KeyTaken = (define ≡ true) × IsTried w.next (handed w.packages) source IsAccepted × WithKey source (HasKey w.packages)
 IsRefused w source define error.BytesTaken =
     (define ≡ true) × IsTried w.next (handed w.packages) source IsAccepted × WithKey source (λ k. HasKey w.packages k → ⊥) × ((bytes : List ℕ) × HasHanded w.packages bytes)
-IsRefused w source define e = IsUnmade w.next (handed w.packages) source e
+IsRefused w source define e = IsUnmade w.next (handed w.packages) source define e

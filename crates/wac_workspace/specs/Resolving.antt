@@ -1,5 +1,5 @@
 -- A document over the packages of a workspace: it has a graph, or a first cause.
-use Rattle.std.specs.Prelude.{List, [], ◌∷◌, Option, Ok, Err}
+use Rattle.std.specs.Prelude.{List, [], ◌∷◌, Bool, true, Option, Ok, Err}
 use Rattle.wac_types_base.specs.Stated.{Stated}
 use Rattle.indexmap.specs.IndexMap.{IndexMap}
 use Rattle.wac_types_names.specs.declared.package.BorrowedPackageKey.{BorrowedPackageKey}
@@ -17,6 +17,7 @@ use Rattle.wac_parser_resolve.specs.declared.packages.PackageRef.{PackageRef}
 use Rattle.wac_parser_resolve.specs.Knowing.{content_of, handed_list}
 use Rattle.wac_parser_resolve.specs.Meeting.{resolved}
 use Rattle.wac_parser_resolve.specs.Resolved.{Places}
+use Rattle.wac_parser_encode.specs.Refused.{TellsCause}
 use Rattle.wac_workspace.specs.declared.entries.Entry.{Entry}
 use Rattle.wac_workspace.specs.declared.errors.ComposeError.{ComposeError}
 use Rattle.wac_workspace.specs.declared.errors.ComposeError.TheVariants as error
@@ -50,10 +51,11 @@ abbrev pub IsAccepted : Resolves → Type 0
 IsAccepted (Ok s) = Unit {0}
 IsAccepted (Err c) = ⊥
 
--- where the document has a cause, the error names the first one
-abbrev pub NamesFirst : Resolves → Error → Type 0
-NamesFirst (Ok s) e = Unit {0}
-NamesFirst (Err c) e = Tells (cause_of e) c
+-- The error names the first cause that stands against the document; where none does, the first one that stands against encoding
+-- what it says, with components defined or not, and with names tested.
+abbrev pub NamesFirst : (define : Bool) → Resolves → Error → Type 0
+NamesFirst define (Ok s) e = TellsCause define true s.0 (cause_of e)
+NamesFirst define (Err c) e = Tells (cause_of e) c
 
 -- why a document has no graph: its first cause, or want of memory
 abbrev pub IsOfResolving : Resolves → ComposeError → Type 0
@@ -61,9 +63,10 @@ IsOfResolving q (error.Resolution f) = IsErrorOf q f
 IsOfResolving q error.Memory = Unit {0}
 IsOfResolving q e = ⊥
 
--- why a document has no component that meets its target: its first cause; or, where none stands, a fault of encoding or of the target; or want of memory
-abbrev pub IsLate : Resolves → ComposeError → Type 0
-IsLate q (error.Resolution f) = NamesFirst q f
-IsLate q (error.Target r) = IsAccepted q
-IsLate q error.Memory = Unit {0}
-IsLate q e = ⊥
+-- why a document has no component that meets its target: its first cause, or that of encoding it; or, where the document has none, its
+-- target is not met; or want of memory
+abbrev pub IsLate : (define : Bool) → Resolves → ComposeError → Type 0
+IsLate define q (error.Resolution f) = NamesFirst define q f
+IsLate define q (error.Target r) = IsAccepted q
+IsLate define q error.Memory = Unit {0}
+IsLate define q e = ⊥

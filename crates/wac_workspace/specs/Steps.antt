@@ -1,11 +1,16 @@
 -- Single steps of composing.
-use Rattle.std.specs.Prelude.{◌≡◌, ℕ, ◌+◌, ◌<◌, ◌≤◌, List, string_bytes}
-use Rattle.std.specs.Option.{option_map}
-use Rattle.semver.specs.Identifiers.{parts_of}
+use Rattle.std.specs.Prelude.{◌≡◌, ℕ, ◌+◌, ◌<◌, ◌≤◌, Bool}
 use Rattle.wac_types_base.specs.declared.item.ItemKind.{ItemKind}
 use Rattle.wac_types_base.specs.Collection.{Stands}
+use Rattle.wac_types_base.specs.Entries.{Name}
+use Rattle.wac_graph_core.specs.Graph.{Graph}
+use Rattle.wac_graph_encode.specs.declared.options.EncodeOptions.{EncodeOptions}
 use Rattle.wac_graph_encode.specs.declared.options.Encoded.{Encoded}
 use Rattle.wac_parser_tree.specs.Trees.{PackageName}
+use Rattle.wac_parser_refusals.specs.Causes.{Fault}
+use Rattle.wac_parser_refusals.specs.Views.{anywhere, cause_of}
+use Rattle.wac_parser_resolve.specs.Resolved.{Places}
+use Rattle.wac_parser_encode.specs.Refused.{RefusesResolved}
 use Rattle.wac_workspace.specs.declared.compose.Numbers.{Numbers}
 use Rattle.wac_workspace.specs.declared.compose.Pair.{Pair}
 use Rattle.wac_workspace.specs.declared.output.Output.{Output}
@@ -32,12 +37,20 @@ pub record IsEncoded (last : ℕ) (e : Encoded) : Type 0 where
   pub number : e.types.number ≡ last
   pub stands : Stands e.types (ItemKind.Component e.world)
 
--- a fault that stands behind resolving: one of encoding, a target that is not met, or want of memory
-abbrev pub IsAfterwards : ComposeError → Type 0
-IsAfterwards (error.Resolution f) = Unit {0}
-IsAfterwards (error.Target r) = Unit {0}
-IsAfterwards error.Memory = Unit {0}
-IsAfterwards e = ⊥
+-- why a component does not meet the target of this name: by a report, or since a type cannot be written; or want of memory
+abbrev pub IsUnmet : Name → ComposeError → Type 0
+IsUnmet n (error.Resolution f) = cause_of f ≡ anywhere (Fault.TypeCannotBeWritten n)
+IsUnmet n (error.Target r) = Unit {0}
+IsUnmet n error.Memory = Unit {0}
+IsUnmet n e = ⊥
+
+-- why a document that a graph holds at these places has no component that meets its target: the first cause of encoding it, a report
+-- of the target, or want of memory
+abbrev pub IsAfterwards : Graph → Places → EncodeOptions → ComposeError → Type 0
+IsAfterwards g at options (error.Resolution f) = RefusesResolved g at options f
+IsAfterwards g at options (error.Target r) = Unit {0}
+IsAfterwards g at options error.Memory = Unit {0}
+IsAfterwards g at options e = ⊥
 
 -- a component under the name and the version of a package
 pub record IsNamed (p : PackageName) (e : Encoded) (o : Output) : Type 0 where
@@ -61,9 +74,9 @@ pub record IsOf (next : ℕ) (p : PackageName) (o : Output) : Type 0 where
   pub stands : Stands o.types (ItemKind.Component o.world)
 
 -- why a document has no output: the numbers, or behind them a late fault
-abbrev pub IsUnencoded : ℕ → Resolves → ComposeError → Type 0
-IsUnencoded next q error.NumbersExhausted = greatest < next + 3
-IsUnencoded next q (error.Resolution f) = (next + 3 ≤ greatest) × NamesFirst q f
-IsUnencoded next q (error.Target r) = (next + 3 ≤ greatest) × IsAccepted q
-IsUnencoded next q error.Memory = Unit {0}
-IsUnencoded next q e = ⊥
+abbrev pub IsUnencoded : ℕ → (define : Bool) → Resolves → ComposeError → Type 0
+IsUnencoded next define q error.NumbersExhausted = greatest < next + 3
+IsUnencoded next define q (error.Resolution f) = (next + 3 ≤ greatest) × NamesFirst define q f
+IsUnencoded next define q (error.Target r) = (next + 3 ≤ greatest) × IsAccepted q
+IsUnencoded next define q error.Memory = Unit {0}
+IsUnencoded next define q e = ⊥

@@ -1,6 +1,6 @@
 //! Composing documents.
 
-ghost use Rattle.std.specs.Prelude.{◌≡◌, ◌+◌, ◌<◌, All, IfOk, IfErr, OnErr, IsErrOf};
+ghost use Rattle.std.specs.Prelude.{◌≡◌, ◌+◌, ◌<◌, All, IfOk, IfErr, OnErr, IsErrOf, true};
 ghost use Rattle.std.specs.Option.{option_copied, option_map};
 ghost use Rattle.semver.specs.Identifiers.{parts_of};
 ghost use Rattle.wac_types_base.specs.declared.item.ItemKind.{ItemKind};
@@ -8,15 +8,15 @@ ghost use Rattle.wac_types_base.specs.Collection.{Stands};
 ghost use Rattle.wac_parser_tree.specs.Trees.{Document as Tree};
 ghost use Rattle.wac_parser_tree.specs.Views.{view_document, view_package_name};
 ghost use Rattle.wac_parser_resolve.specs.Knowing.{handed_list};
-ghost use Rattle.wac_parser_resolve.specs.Resolved.{graph_of, target_of};
+ghost use Rattle.wac_parser_resolve.specs.Resolved.{graph_of, places_of, target_of};
 ghost use Rattle.wac_parser_resolve.specs.Targeting.{IsTarget};
-ghost use Rattle.wac_graph_encode.specs.Finished.{MeansNested};
-ghost use Rattle.wac_parser_encode.specs.Meaning.{HasResolvedWorld, MeansResolved};
-ghost use Rattle.wac_workspace.specs.Composing.{greatest, IsComposition, IsUnmade, IsOutput, IsGraphed, IsUnresolved, MeansSaid, MeansSource};
+ghost use Rattle.wac_graph_encode.specs.Finished.{MeansImported, MeansNested};
+ghost use Rattle.wac_parser_encode.specs.Meaning.{HasResolvedWorld, ImportsResolved, MeansResolved};
+ghost use Rattle.wac_workspace.specs.Composing.{greatest, ImportsSaid, ImportsSource, IsComposition, IsUnmade, IsOutput, IsGraphed, IsUnresolved, MeansSaid, MeansSource};
 ghost use Rattle.wac_workspace.specs.Packages.{AreApart};
 ghost use Rattle.wac_workspace.specs.View.{HasWorld};
 ghost use Rattle.wac_workspace.specs.Resolving.{handed, says, IsGraphOf, IsAccepted, IsLate, IsOfResolving};
-ghost use Rattle.wac_workspace.specs.Steps.{AreNext, IsPair, IsEncoded, IsAfterwards, IsNamed, IsOf, IsUnencoded};
+ghost use Rattle.wac_workspace.specs.Steps.{AreNext, IsPair, IsEncoded, IsUnmet, IsAfterwards, IsNamed, IsOf, IsUnencoded};
 
 use crate::entries::{Entry, packages_of};
 use crate::errors::ComposeError;
@@ -118,7 +118,7 @@ fn test_target(
 ) -> Result<(), ComposeError>
     requires target { Stands types.now (ItemKind.Component target) }
     requires component { Stands encoded.now.types (ItemKind.Component encoded.now.world) }
-    ensures { IfErr result IsAfterwards }
+    ensures { IfErr result (IsUnmet name.now) }
 {
     let pair = bring_together(alloc, types, target, encoded)?;
     match validate_target(alloc, &pair.types, pair.target, pair.world) {
@@ -135,6 +135,7 @@ fn test_target(
 }
 
 /// The component of a resolved document, which meets its target of this name.
+#[tactic(auto, using(crate::proofs::Resolved::target_unmet))]
 fn encode_resolved<'d, D: Drop>(
     resolution: Resolved<'d, D>,
     alloc: Global,
@@ -145,9 +146,11 @@ fn encode_resolved<'d, D: Drop>(
     requires { IsTarget (graph_of resolution) (target_of resolution) }
     ensures encoded { IfOk result (IsEncoded numbers.output) }
     ensures means { IfOk result (λ e. MeansNested (graph_of resolution.entry) options e.bytes.items) }
+    ensures imports { IfOk result (λ e. MeansImported (graph_of resolution.entry) options e.bytes.items) }
     ensures ascribed { IfOk result (λ e. MeansResolved (graph_of resolution.entry) options e.bytes.items) }
+    ensures imported { IfOk result (λ e. ImportsResolved (graph_of resolution.entry) options e.bytes.items) }
     ensures resolved { IfOk result (λ e. HasResolvedWorld (graph_of resolution.entry) e.types e.world) }
-    ensures late { IfErr result IsAfterwards }
+    ensures late { IfErr result (IsAfterwards (graph_of resolution.entry) (places_of resolution.entry) options) }
 {
     let encoded = resolution.encode_world(options, (numbers.merging, numbers.output))?;
     if let Some(target) = resolution.target() {
@@ -170,11 +173,13 @@ fn encode_document(
     numbers: Numbers,
     options: EncodeOptions,
 ) -> Result<Encoded, ComposeError>
+    requires validate { options.validate ≡ true }
     ensures encoded { IfOk result (IsEncoded numbers.output) }
     ensures means { IfOk result (λ e. MeansSaid options (says (view_document document.now) «packages».now) e.bytes.items) }
+    ensures imports { IfOk result (λ e. ImportsSaid options (says (view_document document.now) «packages».now) e.bytes.items) }
     ensures accepted { IfOk result (λ _. IsAccepted (says (view_document document.now) «packages».now)) }
     ensures composed { IfOk result (λ e. IsComposition (says (view_document document.now) «packages».now) e.types e.world) }
-    ensures late { IfErr result (IsLate (says (view_document document.now) «packages».now)) }
+    ensures late { IfErr result (IsLate options.define_components (says (view_document document.now) «packages».now)) }
 {
     let name = String::from_str(alloc, target_name(&document.directive))?;
     let resolution = AstResolver::new(document).resolve(alloc, packages, numbers.graph)?;
@@ -202,7 +207,8 @@ fn output_of(
 
 /// The options, with names tested.
 fn validated(options: EncodeOptions) -> EncodeOptions
-    ensures { result.define_components ≡ options.define_components }
+    ensures define { result.define_components ≡ options.define_components }
+    ensures validate { result.validate ≡ true }
 {
     EncodeOptions {
         define_components: options.define_components,
@@ -221,10 +227,12 @@ fn compose_document(
 ) -> Result<(Output, u64), ComposeError>
     ensures output { IfOk result (λ r. IsOf next (view_package_name document.now.directive.«package») r.0) }
     ensures means { IfOk result (λ r. MeansSaid options (says (view_document document.now) «packages».now) r.0.bytes.items) }
+    ensures imports { IfOk result (λ r. ImportsSaid options (says (view_document document.now) «packages».now) r.0.bytes.items) }
     ensures accepted { IfOk result (λ _. IsAccepted (says (view_document document.now) «packages».now)) }
     ensures composed { IfOk result (λ r. IsComposition (says (view_document document.now) «packages».now) r.0.types r.0.world) }
     ensures after { IfOk result (λ r. r.1 ≡ next + 3) }
-    ensures refused { IfErr result (IsUnencoded next (says (view_document document.now) «packages».now)) }
+    ensures refused { IfErr result
+        (IsUnencoded next options.define_components (says (view_document document.now) «packages».now)) }
 {
     let numbers = numbers_from(next)?;
     let encoded = encode_document(document, alloc, packages, numbers, validated(options))?;
@@ -273,10 +281,11 @@ trait ComposeDocument: Sized + Drop {
     ) -> Result<(Output, u64), ComposeError>
         ensures output { IfOk result (λ r. IsOf next (stated self.now).directive.«package» r.0) }
         ensures means { IfOk result (λ r. MeansSaid options (says (stated self.now) «packages».now) r.0.bytes.items) }
+        ensures imports { IfOk result (λ r. ImportsSaid options (says (stated self.now) «packages».now) r.0.bytes.items) }
         ensures accepted { IfOk result (λ _. IsAccepted (says (stated self.now) «packages».now)) }
         ensures composed { IfOk result (λ r. IsComposition (says (stated self.now) «packages».now) r.0.types r.0.world) }
         ensures after { IfOk result (λ r. r.1 ≡ next + 3) }
-        ensures refused { IfErr result (IsUnencoded next (says (stated self.now) «packages».now)) };
+        ensures refused { IfErr result (IsUnencoded next options.define_components (says (stated self.now) «packages».now)) };
 }
 
 impl<'s> ComposeDocument for Document<'s> {
@@ -311,10 +320,11 @@ fn compose_whole<D: ComposeDocument>(
 ) -> Result<(Output, u64), ComposeError>
     ensures output { IfOk result (λ r. IsOf next (D.stated document).directive.«package» r.0) }
     ensures means { IfOk result (λ r. MeansSaid options (says (D.stated document) «packages».now) r.0.bytes.items) }
+    ensures imports { IfOk result (λ r. ImportsSaid options (says (D.stated document) «packages».now) r.0.bytes.items) }
     ensures accepted { IfOk result (λ _. IsAccepted (says (D.stated document) «packages».now)) }
     ensures composed { IfOk result (λ r. IsComposition (says (D.stated document) «packages».now) r.0.types r.0.world) }
     ensures after { IfOk result (λ r. r.1 ≡ next + 3) }
-    ensures refused { IfErr result (IsUnencoded next (says (D.stated document) «packages».now)) }
+    ensures refused { IfErr result (IsUnencoded next options.define_components (says (D.stated document) «packages».now)) }
 {
     document.compose(alloc, packages, next, options)
 }
@@ -333,7 +343,7 @@ fn graph_of_whole<D: ComposeDocument>(
 }
 
 /// What a source is composed to, by the next three numbers, over these packages, and the number behind.
-#[tactic(auto, unfolding(crate::specs::Composing::MeansSource))]
+#[tactic(auto, unfolding(crate::specs::Composing::MeansSource, crate::specs::Composing::ImportsSource))]
 fn compose_source(
     source: &str,
     alloc: Global,
@@ -343,8 +353,9 @@ fn compose_source(
 ) -> Result<(Output, u64), ComposeError>
     ensures output { IfOk result (λ r. IsOutput next (handed_list «packages».now) source.now r.0) }
     ensures means { IfOk result (λ r. MeansSource options (handed_list «packages».now) source.now r.0.bytes.items) }
+    ensures imports { IfOk result (λ r. ImportsSource options (handed_list «packages».now) source.now r.0.bytes.items) }
     ensures after { IfOk result (λ r. r.1 ≡ next + 3) }
-    ensures refused { IfErr result (IsUnmade next (handed_list «packages».now) source.now) }
+    ensures refused { IfErr result (IsUnmade next (handed_list «packages».now) source.now options.define_components) }
 {
     let document: Document<'_> = ParseDocument::parse(alloc, source)?;
     compose_whole(document, alloc, packages, next, options)
@@ -362,8 +373,9 @@ fn compose_over(
     requires apart { AreApart entries.now }
     ensures output { IfOk result (λ r. IsOutput next (handed entries.now) source.now r.0) }
     ensures means { IfOk result (λ r. MeansSource options (handed entries.now) source.now r.0.bytes.items) }
+    ensures imports { IfOk result (λ r. ImportsSource options (handed entries.now) source.now r.0.bytes.items) }
     ensures after { IfOk result (λ r. r.1 ≡ next + 3) }
-    ensures refused { IfErr result (IsUnmade next (handed entries.now) source.now) }
+    ensures refused { IfErr result (IsUnmade next (handed entries.now) source.now options.define_components) }
 {
     let packages = packages_of(alloc, entries)?;
     compose_source(source, alloc, &packages, next, options)
@@ -386,7 +398,7 @@ fn source_graph(
 impl Workspace {
     ghost use Rattle.std.specs.Prelude.{◌≡◌, IfOk, IfErr, OnErr};
     ghost use Rattle.wac_workspace.specs.Resolving.{handed};
-    ghost use Rattle.wac_workspace.specs.Composing.{greatest, IsComposed, IsRefused, IsGraphed, IsUnresolved, MeansSource};
+    ghost use Rattle.wac_workspace.specs.Composing.{greatest, ImportsSource, IsComposed, IsRefused, IsGraphed, IsUnresolved, MeansSource};
 
     /// The graph of the document that the source is, over the packages: to look at, with nothing registered. The number of
     /// its collection is the greatest `u64`, which no output has.
@@ -405,6 +417,7 @@ impl Workspace {
     pub fn compose(&mut self, source: &str, options: EncodeOptions) -> Result<Output, ComposeError>
         ensures composed { IfOk result (IsComposed self.old self.new source.now options.define_components) }
         ensures means { IfOk result (λ o. MeansSource options (handed self.old.packages) source.now o.bytes.items) }
+        ensures imports { IfOk result (λ o. ImportsSource options (handed self.old.packages) source.now o.bytes.items) }
         ensures refused { IfErr result (IsRefused self.old source.now options.define_components) }
         ensures kept { OnErr result (self.new ≡ self.old) }
     {

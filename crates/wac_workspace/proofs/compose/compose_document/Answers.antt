@@ -2,7 +2,7 @@ use Rattle.std.proofs.Common.{ap}
 use Rattle.wac_parser_tree.specs.Views.{view_document}
 use Rattle.wac_parser_resolve.specs.Knowing.{handed_list}
 use Rattle.wac_parser_resolve.specs.Meeting.{resolved}
-use Rattle.wac_workspace.proofs.Resolved.{composed_named, meant_named}
+use Rattle.wac_workspace.proofs.Resolved.{composed_named, importing_named, meant_named}
 use Rattle.wac_workspace.proofs.compose.compose_document.Goals as goal
 
 pub returns-clause-means : goal.returns-clause-means
@@ -10,7 +10,14 @@ returns-clause-means c =
     let q = resolved (view_document c.args.document.now) (handed_list c.args.«packages».now) in
     let e = c.in_ok-encoded.encoded in
     let o = c.in_ok-output.output in
-    meant_named c.validated.result c.args.options q e.bytes.items o.bytes.items c.validated.ensures (ap (λ b. b.items) c.in_ok-output.ensures.bytes) c.in_ok-encoded.ensures.means
+    meant_named c.validated.result c.args.options q e.bytes.items o.bytes.items c.validated.ensures.define (ap (λ b. b.items) c.in_ok-output.ensures.bytes) c.in_ok-encoded.ensures.means
+
+pub returns-clause-imports : goal.returns-clause-imports
+returns-clause-imports c =
+    let q = resolved (view_document c.args.document.now) (handed_list c.args.«packages».now) in
+    let e = c.in_ok-encoded.encoded in
+    let o = c.in_ok-output.output in
+    importing_named c.validated.result c.args.options q e.bytes.items o.bytes.items c.validated.ensures.define (ap (λ b. b.items) c.in_ok-output.ensures.bytes) c.in_ok-encoded.ensures.imports
 
 pub returns-clause-composed : goal.returns-clause-composed
 returns-clause-composed c =

@@ -1,9 +1,6 @@
-use Rattle.wac_workspace.proofs.Searching.{stands_here, none_more, none_of_all, never}
+use Rattle.wac_workspace.proofs.Searching.{stands_here, none_more, never}
 use Rattle.wac_workspace.specs.declared.entries.Entry.{Entry}
-use Rattle.wac_workspace.specs.Packages.{key_of}
 use Rattle.std.proofs.Common.{◌≡◌}
-use Rattle.std.specs.Option.{option_copied, option_map}
-use Rattle.semver.specs.Identifiers.{parts_of}
 use Rattle.wac_workspace.proofs.entries.find.Goals as goal
 
 pub loop-entry-preserved : goal.loop-entry-preserved

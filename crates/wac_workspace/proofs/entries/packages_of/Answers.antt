@@ -1,4 +1,4 @@
-use Rattle.std.proofs.Common.{◌≡◌, List, ◌++◌, [], ◌∷◌, take, subst, sym, ap, ◌∙◌}
+use Rattle.std.proofs.Common.{List, ◌++◌, [], ◌∷◌, take, subst, sym, ap, ◌∙◌}
 use Rattle.std.proofs.lemmas.List.{take_more, take_all}
 use Rattle.wac_types_base.proofs.Adding.{All-among}
 use Rattle.wac_workspace.specs.declared.entries.Entry.{Entry}

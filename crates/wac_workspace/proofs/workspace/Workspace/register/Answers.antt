@@ -1,7 +1,7 @@
 use Rattle.std.proofs.Common.{List, ℕ, [], ◌∷◌, ◌++◌, subst, sym, ap, ◌∙◌}
 use Rattle.std.proofs.lemmas.List.Elements.{All-push}
 use Rattle.wac_workspace.specs.Packages.{Held, HasKey, HasHanded}
-use Rattle.wac_workspace.specs.Composing.{output_key, made_of}
+use Rattle.wac_workspace.specs.Composing.{output_key}
 use Rattle.wac_workspace.specs.View.{held, HasWorld}
 use Rattle.wac_workspace.proofs.Apart.{apart_output}
 use Rattle.wac_workspace.proofs.Searching.{never}
