@@ -72,8 +72,8 @@ fn interface_item<T: PackagedTypes>(
 ) -> Outcome<()>
     requires root { NamesStand (T.collection types.old) context.root.now }
     requires body { BodyStands (T.collection types.old) body.old }
-    ensures outcome { IsInterfaceItem holder.entry item.now context.entry (T.collection types.old) (T.packages types.old) body.old
-        (T.collection types.new) body.new result }
+    ensures outcome { IsInterfaceItem holder.entry item.now context.entry (T.collection types.old) (T.packages types.old)
+        body.old (T.collection types.new) body.new result }
     ensures body { OnOk result (BodyStands (T.collection types.new) body.new) }
     ensures grows { Grows (T.collection types.old) (T.collection types.new) }
     ensures packages { SamePackages (T.packages types.old) (T.packages types.new) }

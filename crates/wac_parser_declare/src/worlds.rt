@@ -328,8 +328,8 @@ fn add_items<T: PackagedTypes>(
 ) -> Outcome<()>
     requires root { NamesStand (T.collection types.old) context.root.now }
     requires body { BodyStands (T.collection types.old) body.old }
-    ensures outcome { AreParts parts.now.items world.now context.entry (T.collection types.old) (T.packages types.old) body.old
-        (T.collection types.new) body.new result }
+    ensures outcome { AreParts parts.now.items world.now context.entry (T.collection types.old) (T.packages types.old)
+        body.old (T.collection types.new) body.new result }
     ensures body { OnOk result (BodyStands (T.collection types.new) body.new) }
     ensures grows { Grows (T.collection types.old) (T.collection types.new) }
     ensures packages { SamePackages (T.packages types.old) (T.packages types.new) }
@@ -352,8 +352,8 @@ fn add_includes<T: PackagedTypes>(
 ) -> Outcome<()>
     requires root { NamesStand (T.collection types.old) context.root.now }
     requires body { BodyStands (T.collection types.old) body.old }
-    ensures outcome { AreIncludes parts.now.items world.now context.entry (T.collection types.old) (T.packages types.old) body.old
-        (T.collection types.new) body.new result }
+    ensures outcome { AreIncludes parts.now.items world.now context.entry (T.collection types.old) (T.packages types.old)
+        body.old (T.collection types.new) body.new result }
     ensures body { OnOk result (BodyStands (T.collection types.new) body.new) }
     ensures grows { Grows (T.collection types.old) (T.collection types.new) }
     ensures packages { SamePackages (T.packages types.old) (T.packages types.new) }
