@@ -1,6 +1,6 @@
 //! Core module types: lines `signature V .. -> V ..`, `import MODULE NAME CORE` and `export NAME CORE`, where CORE is `func N`,
-//! `table REFERENCE LIMITS`, `memory LIMITS SHARED`, `global V MUTABLE` or `tag N`, LIMITS are `MINIMUM MAXIMUM wide` (no maximum
-//! is `_`, and `narrow` stands for addresses of 32 bits), and SHARED and MUTABLE are `yes` or `no`.
+//! `table REFERENCE LIMITS`, `memory LIMITS SHARED`, `global V MUTABLE` or `tag N`, LIMITS are `MINIMUM MAXIMUM wide` (no
+//! maximum is `_`, and `narrow` stands for addresses of 32 bits), and SHARED and MUTABLE are `yes` or `no`.
 
 use crate::words::{number_of, owned};
 use anyhow::{Context, Result, bail};

@@ -1,6 +1,6 @@
 //! Declarations of component types and instance types: `type TYPE`, `alias SORT INSTANCE NAME`, `outer SORT SCOPES INDEX`,
-//! `import NAME D`, `export NAME D`, `module` (of no declarations), and `component_type ..` and `instance_type ..` with declarations of
-//! their own, between which ` , ` stands.
+//! `import NAME D`, `export NAME D`, `module` (of no declarations), and `component_type ..` and `instance_type ..` with
+//! declarations of their own, between which ` , ` stands.
 
 use crate::types::defined_of;
 use crate::words::{description_of, number_of, owned, sort_of};

@@ -1,6 +1,6 @@
-//! Entries of components: `type TYPE`, `alias ..`, `outer ..`, `import NAME D`, `export NAME SORT.INDEX D` (the last may be left out),
-//! `instantiate N NAME=SORT.INDEX ..`, `nested BYTE ..`, `module ..`, `component_type ..` and `instance_type ..` with declarations,
-//! between which ` ; ` stands.
+//! Entries of components: `type TYPE`, `alias ..`, `outer ..`, `import NAME D`, `export NAME SORT.INDEX D` (the last may be left
+//! out), `instantiate N NAME=SORT.INDEX ..`, `nested BYTE ..`, `module ..`, `component_type ..` and `instance_type ..` with
+//! declarations, between which ` ; ` stands.
 
 use crate::core_items::core_declarations_of;
 use crate::declarations::{alias_of, declarations_of, outer_of};

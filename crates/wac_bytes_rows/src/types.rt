@@ -1,6 +1,6 @@
 //! Types without declarations: `list V`, `option V`, `fixed V N`, `result V V`, `own N`, `borrow N`, `stream V`, `future V`,
-//! `record F=V ..`, `variant C=V ..`, `tuple V ..`, `flags NAME ..`, `enum NAME ..`, `func P=V .. -> V`, `async P=V .. -> V`, or a
-//! primitive type. `_` stands for no type.
+//! `record F=V ..`, `variant C=V ..`, `tuple V ..`, `flags NAME ..`, `enum NAME ..`, `func P=V .. -> V`, `async P=V .. -> V`, or
+//! a primitive type. `_` stands for no type.
 
 use crate::words::{number_of, option_of, owned, primitive_of, value_of};
 use anyhow::Result;

@@ -40,8 +40,9 @@ fn write_word(out: &mut Vec<u8>, what: &str, word: &str) -> Result<()> {
     }
 }
 
-/// Writes what a line says: `unsigned N`, `bound WIDTH N`, `value V`, `type TYPE`, `description D`, `sort SORT`, `alias ..`, `outer ..`,
-/// `declarations ..`, `core CORE`, `core_value V`, `export ..`, or `inside ENTRY` (what the section of that entry holds).
+/// Writes what a line says: `unsigned N`, `bound WIDTH N`, `value V`, `type TYPE`, `description D`, `sort SORT`, `alias ..`,
+/// `outer ..`, `declarations ..`, `core CORE`, `core_value V`, `export ..`, or `inside ENTRY` (what the section of that entry
+/// holds).
 fn write_line(out: &mut Vec<u8>, alloc: Global, line: &str) -> Result<()> {
     let (what, rest) = line.split_once(' ').unwrap_or((line, ""));
     match what {

@@ -10,13 +10,16 @@ use Rattle.wac_composition.specs.OuterImports.{asked_in, outer_imports}
 
 -- Each interface in it is of its identifier, uses and exports alone, and exports no name twice.
 pub data IsWell : Stated → Type 0 where
-  well_instance : {x : Stated} → x ≡ interface_of (identifier_of x) (uses_of x) (exports_of x) → AreDistinct (names_of (exports_of x)) → ((n : Name) (y : Stated) → Among (n, y) (exports_of x) → IsWell y) → IsWell x
-  well_interface : {x : Stated} → x ≡ as_type (interface_of (identifier_of x) (uses_of x) (exports_of x)) → AreDistinct (names_of (exports_of x)) → ((n : Name) (y : Stated) → Among (n, y) (exports_of x) → IsWell y) → IsWell x
+  well_instance : {x : Stated} → x ≡ interface_of (identifier_of x) (uses_of x) (exports_of x)
+      → AreDistinct (names_of (exports_of x)) → ((n : Name) (y : Stated) → Among (n, y) (exports_of x) → IsWell y) → IsWell x
+  well_interface : {x : Stated} → x ≡ as_type (interface_of (identifier_of x) (uses_of x) (exports_of x))
+      → AreDistinct (names_of (exports_of x)) → ((n : Name) (y : Stated) → Among (n, y) (exports_of x) → IsWell y) → IsWell x
   no_interface : {x : Stated} → is_instance (kind_of x) ≡ false → is_interface (kind_of x) ≡ false → IsWell x
 
 -- what several asks keep does not change where one of them is asked again
 abbrev pub Asking_twice : Type 0
-Asking_twice = (before after : List Asked) (a : Asked) → Among a before → ((b : Asked) → Among b before → IsWell b.1) → kept (before ++ a ∷ after) ≡ kept (before ++ after)
+Asking_twice = (before after : List Asked) (a : Asked) → Among a before → ((b : Asked) → Among b before → IsWell b.1)
+    → kept (before ++ a ∷ after) ≡ kept (before ++ after)
 
 -- with more asks, each ask has its class, what that keeps and its spelling as before
 pub record KeepsClasses {A : Type 0} (asks more : List (Ask A)) : Type 0 where
@@ -27,11 +30,13 @@ pub record KeepsClasses {A : Type 0} (asks more : List (Ask A)) : Type 0 where
 -- nothing changes where what was asked under a name is asked again, by whomever
 abbrev pub Asked_again : Type 0 → Type 0
 Asked_again A =
-    (before after : List (Ask A)) (a b : Ask A) → Among b before → b.name ≡ a.name → b.item ≡ a.item → ((c : Ask A) → Among c before → IsWell c.item)
+    (before after : List (Ask A)) (a b : Ask A) → Among b before → b.name ≡ a.name → b.item ≡ a.item
+    → ((c : Ask A) → Among c before → IsWell c.item)
     → KeepsClasses (before ++ after) (before ++ a ∷ after)
 
 -- and no outer import does where an interface is asked again under its identifier
 abbrev pub Asked_by_identifier : Type 0 → Type 0
 Asked_by_identifier A =
-    (before after : List (Ask A)) (a b : Ask A) → Among b before → b.name ≡ a.name → b.item ≡ a.item → identifier_of a.item ≡ Some a.name → ((c : Ask A) → Among c before → IsWell c.item)
+    (before after : List (Ask A)) (a b : Ask A) → Among b before → b.name ≡ a.name → b.item ≡ a.item
+    → identifier_of a.item ≡ Some a.name → ((c : Ask A) → Among c before → IsWell c.item)
     → outer_imports (before ++ a ∷ after) ≡ outer_imports (before ++ after)

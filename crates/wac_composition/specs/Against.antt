@@ -25,15 +25,21 @@ module _ {A I : Type 0} (define : Bool) (c : Composition A I) where
 
   pub data StandsAgainst : Cause A → Type 0 where
     -- an import is asked by name, and an instance leaves an import of that name
-    asked_twice : (i : Placed A) (a : Ask A) → Among i c.imports → Among a (asks_of c) → a.asking ≡ ToFill → i.name ≡ a.name → StandsAgainst (ImplicitImport a.name i.by a.by)
+    asked_twice : (i : Placed A) (a : Ask A) → Among i c.imports → Among a (asks_of c) → a.asking ≡ ToFill → i.name ≡ a.name
+        → StandsAgainst (ImplicitImport a.name i.by a.by)
     import_unmerged : (a b : Ask A) → IsUnmerged a b → a.asking ≡ ByName → StandsAgainst (ExplicitImport a.name b.by a.by)
     ask_unmerged : (a b : Ask A) → IsUnmerged a b → (a.asking ≡ ByName → ⊥) → StandsAgainst (ImportTypes a.name b.by a.by)
     alias_of_value : (n : Name) (x : Stated) → Among (n, x) c.aliases → kind_of x ≡ IsValue → StandsAgainst (Unwritable n)
-    outer_import : (n : Name) (x : Stated) → Among (n, x) (outer_imports (asks_of c)) → CannotBeWritten true (holder [] (outer_imports (asks_of c))) n x → StandsAgainst (Unwritable n)
+    outer_import : (n : Name) (x : Stated) → Among (n, x) (outer_imports (asks_of c))
+        → CannotBeWritten true (holder [] (outer_imports (asks_of c))) n x → StandsAgainst (Unwritable n)
     -- as it is written: of an import that waits for it nothing stands
-    in_circle : (n : Name) (x : Stated) → Among (n, x) (as_written (spelling (asks_of c)) (outer_imports (asks_of c))) → CannotBeWritten true (holder [] (outer_imports (asks_of c))) n x → StandsAgainst (Unwritable n)
-    definition : (d : Placed A) → Among d c.definitions → CannotBeWritten false (holder [] (outer_imports (asks_of c))) d.name (as_defined d.item) → StandsAgainst (Unwritable d.name)
-    imported_package : (n : Name) (x : Stated) → Among (n, x) (dependencies_of define c) → CannotBeWritten true (holder [] []) n x → StandsAgainst (Unwritable n)
+    in_circle : (n : Name) (x : Stated) → Among (n, x) (as_written (spelling (asks_of c)) (outer_imports (asks_of c)))
+        → CannotBeWritten true (holder [] (outer_imports (asks_of c))) n x → StandsAgainst (Unwritable n)
+    definition : (d : Placed A) → Among d c.definitions
+        → CannotBeWritten false (holder [] (outer_imports (asks_of c))) d.name (as_defined d.item)
+        → StandsAgainst (Unwritable d.name)
+    imported_package : (n : Name) (x : Stated) → Among (n, x) (dependencies_of define c)
+        → CannotBeWritten true (holder [] []) n x → StandsAgainst (Unwritable n)
 
   -- the first cause stands, and where there is none no cause stands
   pub record FirstStands : Type 0 where

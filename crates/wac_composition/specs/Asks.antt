@@ -66,7 +66,8 @@ named_asks c = map explicit_ask c.imports ++ flat_map filled_asks c.made
 
 -- those of used interfaces: of the asked types, and of definitions
 abbrev pub asks_to_use : {A I : Type 0} → Composition A I → List (Ask A)
-asks_to_use c = flat_map (λ a. asked_for a.by (used_by a.item)) (named_asks c) ++ flat_map (λ d. asked_for d.by (used_by_definition d.item)) c.definitions
+asks_to_use c = flat_map (λ a. asked_for a.by (used_by a.item)) (named_asks c)
+    ++ flat_map (λ d. asked_for d.by (used_by_definition d.item)) c.definitions
 
 abbrev pub asks_of : {A I : Type 0} → Composition A I → List (Ask A)
 asks_of c = named_asks c ++ asks_to_use c

@@ -29,7 +29,9 @@ module _ (spell : Name → Name) (standing : List Name) where
   stands_under (Some i) = has_name standing (spell i)
 
   abbrev pub with_standing_uses : Parts Stated → Stated
-  with_standing_uses p = interface_of p.identifier (filter (λ u. stands_under (identifier_of u.interface)) (map (λ u. u.0) p.uses)) (found_in p.exports)
+  with_standing_uses p =
+      interface_of p.identifier (filter (λ u. stands_under (identifier_of u.interface)) (map (λ u. u.0) p.uses))
+      (found_in p.exports)
 
   -- what a component type uses it imports itself
   abbrev pub beside_at : Shape → List (Option (Stated × Stated)) → Stated
@@ -52,7 +54,8 @@ module _ (spell : Name → Name) (outers : List (Name × Stated)) where
   -- behind those that are written: this import, behind those that it uses and for which it waits
   abbrev pub put : ℕ → (waiting written : List Name) → Name → List Name
   put zero ws ns n = ns
-  put (suc k) ws ns n = if has_name ws n || has_name ns n then ns else fold (put k (n ∷ ws)) ns (used_by (value_at outers n)) ++ n ∷ []
+  put (suc k) ws ns n =
+      if has_name ws n || has_name ns n then ns else fold (put k (n ∷ ws)) ns (used_by (value_at outers n)) ++ n ∷ []
 
   abbrev pub written_names : List Name
   written_names = fold (put (length outers) []) [] (names_of outers)

@@ -45,7 +45,9 @@ abbrev pub passing : Stated
 passing = world_of None [] ((codes "f", plain_func) ∷ []) ((codes "g", plain_func) ∷ [])
 
 abbrev pub one_instance : Composition ℕ ℕ
-one_instance = record (instances (made_of 0 (codes "p:p") passing ∷ [])) { exports = (codes "g", projected (instance 0) (codes "g"), plain_func) ∷ [] }
+one_instance =
+    record (instances (made_of 0 (codes "p:p") passing ∷ []))
+    { exports = (codes "g", projected (instance 0) (codes "g"), plain_func) ∷ [] }
 
 -- ---- two versions of an interface, the second wider
 
@@ -154,7 +156,9 @@ abbrev pub numbers : Stated
 numbers = named_instance (codes "a:b/t") ((codes "v", as_type (leaf (primitive PrimitiveType.U32))) ∷ [])
 
 abbrev pub using_other : Stated
-using_other = interface_of (Some (codes "a:b/i")) (record { name = codes "v"; there = None; interface = numbers } ∷ []) ((codes "v", as_type other_resource) ∷ [])
+using_other =
+    interface_of (Some (codes "a:b/i")) (record { name = codes "v"; there = None; interface = numbers } ∷ [])
+    ((codes "v", as_type other_resource) ∷ [])
 
 abbrev pub given_another : Composition ℕ ℕ
 given_another = instances (made_of 0 (codes "p:p") (importing ((codes "a:b/i", using_other) ∷ [])) ∷ [])
@@ -163,7 +167,9 @@ abbrev pub resources : Stated
 resources = named_instance (codes "a:b/t") ((codes "r", leaf (resource (codes "r"))) ∷ [])
 
 abbrev pub renaming : Stated
-renaming = interface_of (Some (codes "a:b/i")) (record { name = codes "r"; there = None; interface = resources } ∷ []) ((codes "r", leaf (resource (codes "zz"))) ∷ [])
+renaming =
+    interface_of (Some (codes "a:b/i")) (record { name = codes "r"; there = None; interface = resources } ∷ [])
+    ((codes "r", leaf (resource (codes "zz"))) ∷ [])
 
 abbrev pub given_renamed : Composition ℕ ℕ
 given_renamed = instances (made_of 0 (codes "p:p") (importing ((codes "a:b/i", renaming) ∷ [])) ∷ [])
@@ -184,7 +190,9 @@ second_in_circle x = interface_of (Some (codes "a:b/t@0.2.1"))
     ((codes "s", x) ∷ [])
 
 abbrev pub in_circle_with : Stated → Composition ℕ ℕ
-in_circle_with x = instances (made_of 0 (codes "c:e") (importing ((codes "a:b/i@0.2.0", first_in_circle) ∷ (codes "a:b/t@0.2.1", second_in_circle x) ∷ [])) ∷ [])
+in_circle_with x =
+    instances (made_of 0 (codes "c:e") (importing ((codes "a:b/i@0.2.0", first_in_circle)
+    ∷ (codes "a:b/t@0.2.1", second_in_circle x) ∷ [])) ∷ [])
 
 abbrev pub values_in_circle : Composition ℕ ℕ
 values_in_circle = in_circle_with (as_type number_record)

@@ -110,7 +110,8 @@ same_tree_as x y = if_kind (fits x y && fits y x) (Some x)
 
 abbrev pub merge_at : Shape → List (Option (Stated × Merge)) → Merge
 merge_at (interface i us es) os y = if_kind (is_instance (kind_of y)) (merged_interface (parts_at (interface i us es) os) y)
-merge_at (type_of (interface i us es)) os y = if_kind (is_interface (kind_of y)) (option_map as_type (merged_interface (parts_at (interface i us es) os) y))
+merge_at (type_of (interface i us es)) os y =
+    if_kind (is_interface (kind_of y)) (option_map as_type (merged_interface (parts_at (interface i us es) os) y))
 merge_at s os y = same_tree_as (rebuilt s os) y
 
 abbrev pub merge : Stated → Merge

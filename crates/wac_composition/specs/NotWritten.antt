@@ -47,21 +47,25 @@ role s = Compound
 -- A handle stands in the value type, and not inside a type that is used, whose resource does not stand there.
 pub data Dangles (h : Holder) : Stated → Type 0 where
   handle : {v : Stated} → role (shape_of v) ≡ Handle → (IsUsed h v → ⊥) → (HasRoot h v → ⊥) → Dangles h v
-  part : {v u : Stated} → role (shape_of v) ≡ Compound → (IsUsed h v → ⊥) → Among (Some u) (places_of v) → Dangles h u → Dangles h v
+  part : {v u : Stated} → role (shape_of v) ≡ Compound → (IsUsed h v → ⊥) → Among (Some u) (places_of v) → Dangles h u
+      → Dangles h v
 
 -- ---- what is used
 
 -- these uses and items need that use: it is one of them, or below an interface that is used or an item
 pub data Needs : List Used → List (Name × Stated) → Used → Type 0 where
   a_use : {us : List Used} {es : List (Name × Stated)} {u : Used} → Among u us → Needs us es u
-  under_use : {us : List Used} {es : List (Name × Stated)} {v : Used} (u : Used) → Among u us → has_items (kind_of u.interface) ≡ true → Needs (uses_of u.interface) (exports_of u.interface) v → Needs us es v
-  under_item : {us : List Used} {es : List (Name × Stated)} {v : Used} (n : Name) (x : Stated) → Among (n, x) es → has_items (kind_of x) ≡ true → Needs (uses_of x) (exports_of x) v → Needs us es v
+  under_use : {us : List Used} {es : List (Name × Stated)} {v : Used} (u : Used) → Among u us
+      → has_items (kind_of u.interface) ≡ true → Needs (uses_of u.interface) (exports_of u.interface) v → Needs us es v
+  under_item : {us : List Used} {es : List (Name × Stated)} {v : Used} (n : Name) (x : Stated) → Among (n, x) es
+      → has_items (kind_of x) ≡ true → Needs (uses_of x) (exports_of x) v → Needs us es v
 
 -- an instance that is imported under that name has the item that the use takes, a resource with its tree
 pub record IsImported (is : List (Name × Stated)) (n : Name) (u : Used) : Type 0 where
   pub interface : Stated
   pub there : value_at is n ≡ Some interface
-  pub item : (x : Stated) → item_in u.interface u ≡ Some x → (y : Stated) × (given_in interface u ≡ Some y) × (kind_of x ≡ IsResource → tree x ≡ tree y)
+  pub item : (x : Stated) → item_in u.interface u ≡ Some x
+      → (y : Stated) × (given_in interface u ≡ Some y) × (kind_of x ≡ IsResource → tree x ≡ tree y)
 
 abbrev pub type_exports : Stated → List (Name × Stated)
 type_exports x = filter (λ e. is_type (kind_of e.1)) (exports_of x)
@@ -76,35 +80,51 @@ mutual
   -- under that name in that holder; an outer import, or a part of one, imports all that it uses
   pub data CannotBeWritten (outer : Bool) : Holder → Name → Stated → Type 0 where
     a_value : {h : Holder} {n : Name} {x : Stated} → kind_of x ≡ IsValue → CannotBeWritten outer h n x
-    core_items : {h : Holder} {n : Name} {x : Stated} (m : ModuleType) → shape_of x ≡ module_type m → writable_module m ≡ false → CannotBeWritten outer h n x
+    core_items : {h : Holder} {n : Name} {x : Stated} (m : ModuleType) → shape_of x ≡ module_type m → writable_module m ≡ false
+        → CannotBeWritten outer h n x
     module_as_type : {h : Holder} {n : Name} {x : Stated} → kind_of x ≡ IsModuleType → CannotBeWritten outer h n x
     -- a resource under another name than its own, that no use gives
-    renamed : {h : Holder} {n : Name} {x : Stated} (r : Name) → shape_of x ≡ resource r → (n ≡ r → ⊥) → (IsGiven h n x → ⊥) → CannotBeWritten outer h n x
+    renamed : {h : Holder} {n : Name} {x : Stated} (r : Name) → shape_of x ≡ resource r → (n ≡ r → ⊥) → (IsGiven h n x → ⊥)
+        → CannotBeWritten outer h n x
     -- an alias of a resource that does not stand there
-    an_alias : {h : Holder} {n : Name} {x : Stated} (r : Name) → shape_of x ≡ resource_alias r → (HasRoot h x → ⊥) → CannotBeWritten outer h n x
-    a_function : {h : Holder} {n : Name} {x v : Stated} → kind_of x ≡ IsFunction → Among (Some v) (places_of x) → Dangles h v → CannotBeWritten outer h n x
-    a_function_type : {h : Holder} {n : Name} {x v : Stated} → kind_of x ≡ IsFunctionType → Among (Some v) (places_of x) → Dangles h v → CannotBeWritten outer h n x
-    a_value_type : {h : Holder} {n : Name} {x : Stated} → kind_of x ≡ IsValueType → Dangles h (untyped x) → CannotBeWritten outer h n x
-    an_instance : {h : Holder} {n : Name} {x : Stated} → kind_of x ≡ IsInstance → ItemsFail outer (uses_of x) (exports_of x) → CannotBeWritten outer h n x
-    an_interface : {h : Holder} {n : Name} {x : Stated} → kind_of x ≡ IsInterface → ItemsFail outer (uses_of x) (exports_of x) → CannotBeWritten outer h n x
-    a_component : {h : Holder} {n : Name} {x : Stated} → kind_of x ≡ IsComponent → ComponentFails outer x → CannotBeWritten outer h n x
+    an_alias : {h : Holder} {n : Name} {x : Stated} (r : Name) → shape_of x ≡ resource_alias r → (HasRoot h x → ⊥)
+        → CannotBeWritten outer h n x
+    a_function : {h : Holder} {n : Name} {x v : Stated} → kind_of x ≡ IsFunction → Among (Some v) (places_of x) → Dangles h v
+        → CannotBeWritten outer h n x
+    a_function_type : {h : Holder} {n : Name} {x v : Stated} → kind_of x ≡ IsFunctionType → Among (Some v) (places_of x)
+        → Dangles h v → CannotBeWritten outer h n x
+    a_value_type : {h : Holder} {n : Name} {x : Stated} → kind_of x ≡ IsValueType → Dangles h (untyped x)
+        → CannotBeWritten outer h n x
+    an_instance : {h : Holder} {n : Name} {x : Stated} → kind_of x ≡ IsInstance → ItemsFail outer (uses_of x) (exports_of x)
+        → CannotBeWritten outer h n x
+    an_interface : {h : Holder} {n : Name} {x : Stated} → kind_of x ≡ IsInterface → ItemsFail outer (uses_of x) (exports_of x)
+        → CannotBeWritten outer h n x
+    a_component : {h : Holder} {n : Name} {x : Stated} → kind_of x ≡ IsComponent → ComponentFails outer x
+        → CannotBeWritten outer h n x
     a_world : {h : Holder} {n : Name} {x : Stated} → kind_of x ≡ IsWorld → ComponentFails outer x → CannotBeWritten outer h n x
 
   -- the items of an interface, beside its uses
   pub data ItemsFail (outer : Bool) : List Used → List (Name × Stated) → Type 0 where
     unnamed : {us : List Used} {es : List (Name × Stated)} → some_unnamed us ≡ true → ItemsFail outer us es
-    an_item : {us : List Used} {es : List (Name × Stated)} {n : Name} {x : Stated} → Among (n, x) es → (IsGiven (holder us es) n x → ⊥) → CannotBeWritten outer (holder us es) n x → ItemsFail outer us es
+    an_item : {us : List Used} {es : List (Name × Stated)} {n : Name} {x : Stated} → Among (n, x) es
+        → (IsGiven (holder us es) n x → ⊥) → CannotBeWritten outer (holder us es) n x → ItemsFail outer us es
 
   pub data ComponentFails (outer : Bool) : Stated → Type 0 where
     unnamed_use : {w : Stated} → some_unnamed (uses_of w) ≡ true → ComponentFails outer w
     -- a use that no import gives, in an outer import
-    not_imported : {w : Stated} {u : Used} (n : Name) → Needs (uses_of w) (imports_of w ++ exports_of w) u → identifier_of u.interface ≡ Some n → (IsImported (imports_of w) n u → ⊥) → outer ≡ true → ComponentFails outer w
+    not_imported : {w : Stated} {u : Used} (n : Name) → Needs (uses_of w) (imports_of w ++ exports_of w) u
+        → identifier_of u.interface ≡ Some n → (IsImported (imports_of w) n u → ⊥) → outer ≡ true → ComponentFails outer w
     -- elsewhere the interface is added with its types alone, which cannot be written
-    not_added : {w : Stated} {u : Used} (n : Name) → Needs (uses_of w) (imports_of w ++ exports_of w) u → identifier_of u.interface ≡ Some n → (IsImported (imports_of w) n u → ⊥)
-        → has_items (kind_of u.interface) ≡ true → ItemsFail outer (uses_of u.interface) (type_exports u.interface) → ComponentFails outer w
-    an_import : {w : Stated} {n : Name} {x : Stated} → Among (n, x) (imports_of w) → (IsGiven (component_holder w) n x → ⊥) → CannotBeWritten outer (component_holder w) n x → ComponentFails outer w
-    an_export : {w : Stated} {n : Name} {x : Stated} → Among (n, x) (exports_of w) → CannotBeWritten outer (component_holder w) n x → ComponentFails outer w
+    not_added : {w : Stated} {u : Used} (n : Name) → Needs (uses_of w) (imports_of w ++ exports_of w) u
+        → identifier_of u.interface ≡ Some n → (IsImported (imports_of w) n u → ⊥)
+        → has_items (kind_of u.interface) ≡ true → ItemsFail outer (uses_of u.interface) (type_exports u.interface)
+        → ComponentFails outer w
+    an_import : {w : Stated} {n : Name} {x : Stated} → Among (n, x) (imports_of w) → (IsGiven (component_holder w) n x → ⊥)
+        → CannotBeWritten outer (component_holder w) n x → ComponentFails outer w
+    an_export : {w : Stated} {n : Name} {x : Stated} → Among (n, x) (exports_of w)
+        → CannotBeWritten outer (component_holder w) n x → ComponentFails outer w
 
 -- The test says yes exactly of what cannot be written.
 abbrev pub Test_of_writing : Type 0
-Test_of_writing = (outer : Bool) (h : Holder) (n : Name) (x : Stated) → Decides (unwritable x n h outer) (CannotBeWritten outer h n x)
+Test_of_writing =
+    (outer : Bool) (h : Holder) (n : Name) (x : Stated) → Decides (unwritable x n h outer) (CannotBeWritten outer h n x)

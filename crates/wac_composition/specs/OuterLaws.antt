@@ -32,15 +32,18 @@ pub record KeepNothing (asks : List Asked) : Type 0 where
   pub are : asks ≡ before ++ ask ∷ later
   pub item : Stated
   pub so_far : kept before ≡ Some item
-  pub of_family : in_family (before ++ ask ∷ []) ≡ true → AreRegular (before ++ ask ∷ []) → (t : Tree) → InOrder t → FitsAll t (trees_asked (before ++ ask ∷ [])) → ⊥
-  pub of_none : in_family (before ++ ask ∷ []) ≡ false → (Fits (tree item) (tree ask.1) → ⊥) × (Fits (tree ask.1) (tree item) → ⊥)
+  pub of_family : in_family (before ++ ask ∷ []) ≡ true → AreRegular (before ++ ask ∷ []) → (t : Tree) → InOrder t
+      → FitsAll t (trees_asked (before ++ ask ∷ [])) → ⊥
+  pub of_none : in_family (before ++ ask ∷ []) ≡ false
+      → (Fits (tree item) (tree ask.1) → ⊥) × (Fits (tree ask.1) (tree item) → ⊥)
 
 abbrev pub None_are_kept : Type 0
 None_are_kept = (a : Asked) (asks : List Asked) → kept (a ∷ asks) ≡ None → KeepNothing (a ∷ asks)
 
 -- the outer import of a class fits each of its asks
 abbrev pub Outer_fits : Type 0 → Type 0
-Outer_fits A = (asks : List (Ask A)) (n : Name) (x : Stated) → outer_of asks ≡ Some (n, x) → (a : Ask A) → Among a asks → Fits (tree x) (tree a.item)
+Outer_fits A = (asks : List (Ask A)) (n : Name) (x : Stated) → outer_of asks ≡ Some (n, x) → (a : Ask A) → Among a asks
+    → Fits (tree x) (tree a.item)
 
 -- the class of an ask is what is linked to it, in asking order
 abbrev pub Classes_are_linked : Type 0 → Type 0
@@ -55,11 +58,13 @@ Links_go_on A = (asks : List (Ask A)) (a b c : Ask A) → Linked asks a b → Li
 
 -- each ask whose class merges finds an outer import under the spelling of its name, that fits it
 abbrev pub Asks_are_met : Type 0 → Type 0
-Asks_are_met A = (asks : List (Ask A)) (a : Ask A) (n : Name) (x : Stated) → Among a asks → outer_of (class asks a) ≡ Some (n, x) → (spelling asks a.name ≡ n) × (value_at (outer_imports asks) n ≡ Some x) × Fits (tree x) (tree a.item)
+Asks_are_met A = (asks : List (Ask A)) (a : Ask A) (n : Name) (x : Stated) → Among a asks → outer_of (class asks a) ≡ Some (n, x)
+    → (spelling asks a.name ≡ n) × (value_at (outer_imports asks) n ≡ Some x) × Fits (tree x) (tree a.item)
 
 -- no two outer imports have equal names, or names on one track
 abbrev pub Outers_are_apart : Type 0 → Type 0
-Outers_are_apart A = (asks : List (Ask A)) (n m : Name) (x y : Stated) → value_at (outer_imports asks) n ≡ Some x → value_at (outer_imports asks) m ≡ Some y → compatible n m ≡ true → n ≡ m
+Outers_are_apart A = (asks : List (Ask A)) (n m : Name) (x y : Stated) → value_at (outer_imports asks) n ≡ Some x
+    → value_at (outer_imports asks) m ≡ Some y → compatible n m ≡ true → n ≡ m
 
 -- under the spelling of its name there is an outer import that fits the ask
 pub record IsMet {A : Type 0} (asks : List (Ask A)) (a : Ask A) : Type 0 where

@@ -22,8 +22,10 @@ IsFlatItem t = IsFlat t
 -- An alias is of a value type or a resource, and no name is exported twice.
 pub data Regular : Stated → Type 0 where
   flat : {x : Stated} → is_instance (kind_of x) ≡ false → is_interface (kind_of x) ≡ false → IsFlatItem (tree x) → Regular x
-  an_instance : {x : Stated} → is_instance (kind_of x) ≡ true → AreDistinct (names_of (exports_of x)) → ((n : Name) (y : Stated) → value_at (exports_of x) n ≡ Some y → Regular y) → Regular x
-  an_interface : {x : Stated} → is_interface (kind_of x) ≡ true → AreDistinct (names_of (exports_of x)) → ((n : Name) (y : Stated) → value_at (exports_of x) n ≡ Some y → Regular y) → Regular x
+  an_instance : {x : Stated} → is_instance (kind_of x) ≡ true → AreDistinct (names_of (exports_of x))
+      → ((n : Name) (y : Stated) → value_at (exports_of x) n ≡ Some y → Regular y) → Regular x
+  an_interface : {x : Stated} → is_interface (kind_of x) ≡ true → AreDistinct (names_of (exports_of x))
+      → ((n : Name) (y : Stated) → value_at (exports_of x) n ≡ Some y → Regular y) → Regular x
 
 abbrev pub AreRegular : List Asked → Type 0
 AreRegular asks = (a : Asked) → Among a asks → Regular a.1

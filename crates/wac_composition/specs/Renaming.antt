@@ -56,6 +56,7 @@ pub record KeepsMeaning {A B I J : Type 0} (f : A → B) (g : I → J) (c : Comp
   pub outers : outer_imports (asks_of (renamed f g c)) ≡ outer_imports (asks_of c)
   pub spelled : (n : Name) → spelling (asks_of (renamed f g c)) n ≡ spelling (asks_of c) n
   pub cause : (define : Bool) → first_cause define (renamed f g c) ≡ option_map (cause_renamed f) (first_cause define c)
-  pub names : (define validate : Bool) → name_cause define validate (renamed f g c) ≡ option_map (cause_renamed f) (name_cause define validate c)
+  pub names : (define validate : Bool)
+      → name_cause define validate (renamed f g c) ≡ option_map (cause_renamed f) (name_cause define validate c)
   pub world : composed_world (renamed f g c) ≡ composed_world c
   pub sources : (o : Origin I) → source_of (asks_of (renamed f g c)) (origin_renamed g o) ≡ rename g (source_of (asks_of c) o)

@@ -28,7 +28,8 @@ maps_of x = record { imports = fields_of (imports_of x); exports = fields_of (ex
 
 -- What has the tree of an instance is one, and so is all that it exports: aliases are of values and resources.
 pub data IsStraight : Stated → Type 0 where
-  an_instance : {x : Stated} → is_instance (kind_of x) ≡ true → ((n : Name) (y : Stated) → Among (n, y) (exports_of x) → IsStraight y) → IsStraight x
+  an_instance : {x : Stated} → is_instance (kind_of x) ≡ true
+      → ((n : Name) (y : Stated) → Among (n, y) (exports_of x) → IsStraight y) → IsStraight x
   no_instance : {x : Stated} → ((xs : Fields) → tree x ≡ Tree.instance xs → ⊥) → IsStraight x
 
 -- ---- what an origin is
@@ -37,8 +38,10 @@ pub data IsStraight : Stated → Type 0 where
 pub data HasType {A : Type 0} (c : Composition A ℕ) : Origin ℕ → Stated → Type 0 where
   of_import : (i : Placed A) → Among i c.imports → HasType c (imported i.name) i.item
   of_instance : (k : ℕ) (m : Made A ℕ) → slice_get c.made k ≡ Some m → HasType c (Origin.instance k) (instance_type m.world)
-  of_export : (o : Origin ℕ) (x : Stated) (n : Name) (y : Stated) → HasType c o x → is_instance (kind_of x) ≡ true → value_at (exports_of x) n ≡ Some y → HasType c (projected o n) y
-  of_definition : (x : Stated) → is_type (kind_of x) ≡ true → IsDefinition (tree (written_definition x)) → HasType c (defined x) x
+  of_export : (o : Origin ℕ) (x : Stated) (n : Name) (y : Stated) → HasType c o x → is_instance (kind_of x) ≡ true
+      → value_at (exports_of x) n ≡ Some y → HasType c (projected o n) y
+  of_definition : (x : Stated) → is_type (kind_of x) ≡ true → IsDefinition (tree (written_definition x))
+      → HasType c (defined x) x
 
 -- a definition is given as it is written
 abbrev pub given_as : Origin ℕ → Stated → Stated
@@ -60,7 +63,8 @@ pub record IsGiven {A : Type 0} (c : Composition A ℕ) (k : ℕ) (o : Origin �
   pub before : IsBefore k o
 
 pub record IsSound {A : Type 0} (c : Composition A ℕ) : Type 0 where
-  pub given : (k : ℕ) (m : Made A ℕ) (n : Name) (o : Origin ℕ) (x : Stated) → slice_get c.made k ≡ Some m → value_at m.arguments n ≡ Some o → value_at (imports_of m.world) n ≡ Some x → IsGiven c k o x
+  pub given : (k : ℕ) (m : Made A ℕ) (n : Name) (o : Origin ℕ) (x : Stated) → slice_get c.made k ≡ Some m
+      → value_at m.arguments n ≡ Some o → value_at (imports_of m.world) n ≡ Some x → IsGiven c k o x
   pub exported : (n : Name) (o : Origin ℕ) (x : Stated) → Among (n, o, x) c.exports → HasType c o x
   pub straight : (a : Ask A) → Among a (asks_of c) → IsStraight a.item
 

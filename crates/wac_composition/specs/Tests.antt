@@ -128,7 +128,8 @@ same_label (resource m) (resource n) = bytes_eq m n
 same_label (resource_alias m) (resource_alias n) = bytes_eq m n
 same_label (func ms a) (func ns b) = same_names ms ns && bools_agree a b
 same_label (interface i us es) (interface j vs fs) = options_agree bytes_eq i j && lists_agree same_use us vs && same_names es fs
-same_label (world i us is es) (world j vs js fs) = options_agree bytes_eq i j && lists_agree same_use us vs && same_names is js && same_names es fs
+same_label (world i us is es) (world j vs js fs) =
+    options_agree bytes_eq i j && lists_agree same_use us vs && same_names is js && same_names es fs
 same_label (module_type m) (module_type n) = same_module m n
 same_label (type_of s) (type_of t) = same_label s t
 same_label (borrow_of s) (borrow_of t) = same_label s t

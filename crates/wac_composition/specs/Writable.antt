@@ -143,7 +143,8 @@ pub record Found : Type 0 where
 
 -- some interface reached by uses has no identifier
 abbrev pub some_unnamed : List Used → Bool
-some_unnamed us = list_any (λ u. is_none (identifier_of u.interface) || list_any (λ x. is_none (identifier_of x)) (reached u.interface)) us
+some_unnamed us =
+    list_any (λ u. is_none (identifier_of u.interface) || list_any (λ x. is_none (identifier_of x)) (reached u.interface)) us
 
 abbrev pub Item : Type 0
 Item = Name × (Stated × Found)
@@ -188,7 +189,8 @@ abbrev pub is_given_by : Option (Stated × Found) → Used → Bool
 is_given_by None u = false
 is_given_by (Some x) u = stands_as (item_in u.interface u) (given_in x.0 u)
 
--- a use that the imports do not give: in an outer import it fails; in a definition the interface is added, unless the name is there
+-- a use that the imports do not give: in an outer import it fails; in a definition the interface is added, unless the name is
+-- there
 abbrev pub use_fails : Parts Found → Bool → Needed → Bool
 use_fails p outer u = not (is_given_by (value_at p.imports u.name) u.by) && (outer || u.types outer)
 

@@ -70,8 +70,8 @@ pub fn classes_are_linked<A>()
 
 /// What several asks of one outer import keep is the greatest tree that fits each of them; where they keep
 /// nothing, no tree fits them all up to one of them, or outside the families that one and what was kept
-/// before it do not fit one another. The outer import of a class fits each of its asks. Each ask whose class merges finds it under the spelling of
-/// its name; where nothing stands against a composition, that is each of its asks. No two outer imports
+/// before it do not fit one another. The outer import of a class fits each of its asks. Each ask whose class merges finds it
+/// under the spelling of its name; where nothing stands against a composition, that is each of its asks. No two outer imports
 /// have names on one track.
 pub fn outer_imports_fit<A, I>()
     ensures kept { Kept_is_meet }
@@ -129,19 +129,23 @@ pub fn examples()
     ensures greatest_version { outer_imports (asks_of two_versions) ≡ (newer, named_instance newer wider) ∷ [] }
     ensures types_clash { first_cause true clashing_versions ≡ Some (ImportTypes newer 0 1) }
     ensures imports_clash { first_cause true clashing_imports ≡ Some (ExplicitImport newer 0 1) }
-    ensures one_identifier { outer_imports (asks_of one_identifier) ≡ (codes "a:b/c", named_instance (codes "a:b/i") wider) ∷ [] }
-    ensures used_interface { outer_imports (asks_of used_interface) ≡ (codes "a:b/i", using_types) ∷ (codes "a:b/t", types) ∷ [] }
+    ensures one_identifier { outer_imports (asks_of one_identifier)
+        ≡ (codes "a:b/c", named_instance (codes "a:b/i") wider) ∷ [] }
+    ensures used_interface { outer_imports (asks_of used_interface)
+        ≡ (codes "a:b/i", using_types) ∷ (codes "a:b/t", types) ∷ [] }
     ensures used_is_writable { first_cause true used_interface ≡ None }
     ensures asked_twice { first_cause true asked_twice ≡ Some (ImplicitImport (codes "f") 0 1) }
     ensures alike { name_cause true true alike_names ≡ Some (ImportNames (codes "foo") (codes "FOO")) }
     ensures not_validated { name_cause true false alike_names ≡ None }
     ensures nameless_resource { first_cause true nameless_resource ≡ Some (Unwritable (codes "f")) }
     ensures asked_value { first_cause true asked_value ≡ Some (Unwritable (codes "v")) }
-    ensures defined_apart { map (λ e. source_of (asks_of defined_twice) e.1) defined_twice.exports ≡ Definition (tree byte_list) ∷ [] }
+    ensures defined_apart { map (λ e. source_of (asks_of defined_twice) e.1) defined_twice.exports
+        ≡ Definition (tree byte_list) ∷ [] }
     ensures lacks_used { first_cause true lacks_used ≡ Some (Unwritable (codes "c")) }
     ensures given_another { first_cause true given_another ≡ Some (Unwritable (codes "a:b/i")) }
     ensures given_renamed { first_cause true given_renamed ≡ Some (Unwritable (codes "a:b/i")) }
-    ensures circle_in_order { written_names (spelling (asks_of values_in_circle)) (outer_imports (asks_of values_in_circle)) ≡ codes "a:b/t@0.2.1" ∷ codes "a:b/i@0.2.1" ∷ [] }
+    ensures circle_in_order { written_names (spelling (asks_of values_in_circle)) (outer_imports (asks_of values_in_circle))
+        ≡ codes "a:b/t@0.2.1" ∷ codes "a:b/i@0.2.1" ∷ [] }
     ensures circle_of_values { first_cause true values_in_circle ≡ None }
     ensures circle_with_resource { first_cause true resource_in_circle ≡ Some (Unwritable (codes "a:b/t@0.2.1")) }
     ensures imported_once { names_of (dependencies_of false twice_made) ≡ codes "unlocked-dep=<p:p>" ∷ [] }

@@ -27,27 +27,32 @@ use Rattle.wac_graph_asks.specs.AsksIn.{asks_in}
 
 -- ---- asks
 
--- The list has these asks in order, without some of interfaces under their identifiers, where one before them in it asks the same
--- under that name.
+-- The list has these asks in order, without some of interfaces under their identifiers, where one before them in it asks the
+-- same under that name.
 pub data IsAskedBehind {A : Type 0} : (before asks list : List (Ask A)) → Type 0 where
   no_more : {before : List (Ask A)} → IsAskedBehind before [] []
-  asked : {before asks list : List (Ask A)} (a : Ask A) → IsAskedBehind (before ++ a ∷ []) asks list → IsAskedBehind before (a ∷ asks) (a ∷ list)
-  left_out : {before asks list : List (Ask A)} (a b : Ask A) → identifier_of a.item ≡ Some a.name → Among b before → b.name ≡ a.name → b.item ≡ a.item → IsAskedBehind before asks list → IsAskedBehind before (a ∷ asks) list
+  asked : {before asks list : List (Ask A)} (a : Ask A) → IsAskedBehind (before ++ a ∷ []) asks list
+      → IsAskedBehind before (a ∷ asks) (a ∷ list)
+  left_out : {before asks list : List (Ask A)} (a b : Ask A) → identifier_of a.item ≡ Some a.name → Among b before
+      → b.name ≡ a.name → b.item ≡ a.item → IsAskedBehind before asks list → IsAskedBehind before (a ∷ asks) list
 
 abbrev pub IsAskedOnce : {A : Type 0} → (asks list : List (Ask A)) → Type 0
 IsAskedOnce asks list = IsAskedBehind [] asks list
 
 -- What is listed once has the classes, what they keep and the spellings of all asks.
 abbrev pub Asked_once_keeps : Type 0 → Type 0
-Asked_once_keeps A = (asks list : List (Ask A)) → IsAskedOnce asks list → ((a : Ask A) → Among a list → IsWell a.item) → KeepsClasses list asks
+Asked_once_keeps A =
+    (asks list : List (Ask A)) → IsAskedOnce asks list → ((a : Ask A) → Among a list → IsWell a.item) → KeepsClasses list asks
 
 -- It has their outer imports.
 abbrev pub Asked_once_imports : Type 0 → Type 0
-Asked_once_imports A = (asks list : List (Ask A)) → IsAskedOnce asks list → ((a : Ask A) → Among a list → IsWell a.item) → outer_imports asks ≡ outer_imports list
+Asked_once_imports A = (asks list : List (Ask A)) → IsAskedOnce asks list → ((a : Ask A) → Among a list → IsWell a.item)
+    → outer_imports asks ≡ outer_imports list
 
 -- It has their conflicts.
 abbrev pub Asked_once_conflicts : Type 0 → Type 0
-Asked_once_conflicts A = (asks list : List (Ask A)) → IsAskedOnce asks list → ((a : Ask A) → Among a list → IsWell a.item) → merge_conflict asks [] asks ≡ merge_conflict list [] list
+Asked_once_conflicts A = (asks list : List (Ask A)) → IsAskedOnce asks list → ((a : Ask A) → Among a list → IsWell a.item)
+    → merge_conflict asks [] asks ≡ merge_conflict list [] list
 
 -- ---- packages
 
@@ -101,7 +106,8 @@ pub record KeepsAsked (old new : Asked) : Type 0 where
   pub definitions : new.definitions ≡ old.definitions
 
 -- these asks, packages and definitions are added behind the others
-pub record Adds (g : Graph) (old new : Asked) (asks : List (Ask ℕ)) (ids : List PackageId) (placed : List (Placed ℕ)) : Type 0 where
+pub record Adds (g : Graph) (old new : Asked) (asks : List (Ask ℕ)) (ids : List PackageId)
+    (placed : List (Placed ℕ)) : Type 0 where
   pub held : IsHeld g new
   pub grows : Grows old.types new.types
   pub asked : asks_in new.types new.asks.items ≡ asks_in old.types old.asks.items ++ asks
@@ -109,7 +115,8 @@ pub record Adds (g : Graph) (old new : Asked) (asks : List (Ask ℕ)) (ids : Lis
   pub definitions : map (placed_in g.types) new.definitions.items ≡ map (placed_in g.types) old.definitions.items ++ placed
 
 -- The asks by name and those that instances leave are those of the composition, in order, and behind them stand those of used
--- interfaces that ask anything new. The packages that are instantiated stand each once, and the definitions are the composition's.
+-- interfaces that ask anything new. The packages that are instantiated stand each once, and the definitions are the
+-- composition's.
 pub record IsAsked (g : Graph) (a : Asked) : Type 0 where
   pub held : IsHeld g a
   pub uses : List (Ask ℕ)

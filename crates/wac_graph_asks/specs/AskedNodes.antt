@@ -24,7 +24,8 @@ held_ask asking by name item = record { asking = asking; by = by; name = name; i
 
 -- what a node asks of imports: those that are not given
 abbrev pub unbound_asks : ℕ → (given : List (Name × ℕ)) → List (Name × ItemKind) → List HeldAsk
-unbound_asks k given imports = map (λ e. held_ask HeldAsking.ToFill k e.0 e.1) (filter (λ e. not (is_some (value_at given e.0))) imports)
+unbound_asks k given imports =
+    map (λ e. held_ask HeldAsking.ToFill k e.0 e.1) (filter (λ e. not (is_some (value_at given e.0))) imports)
 
 abbrev pub filled_by : Option (Made ℕ ℕ) → List (Ask ℕ)
 filled_by None = []

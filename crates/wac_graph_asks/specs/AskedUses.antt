@@ -55,7 +55,9 @@ module _ (c : Collection) where
 
   -- the ask of an interface, under its identifier
   abbrev pub use_asks : ℕ → InterfaceId → List HeldAsk
-  use_asks by id = option_to_list (option_map (λ n. held_ask HeldAsking.ToUse by n (ItemKind.Instance id)) (identifier_of (stated_of c (ItemKind.Instance id))))
+  use_asks by id =
+      option_to_list (option_map (λ n. held_ask HeldAsking.ToUse by n (ItemKind.Instance id))
+      (identifier_of (stated_of c (ItemKind.Instance id))))
 
   -- the interface is seen, and asked where it is new
   abbrev pub NotesUse : (old new : UseAsks) → ℕ → InterfaceId → Bool → Type 0
@@ -73,8 +75,8 @@ module _ (c : Collection) where
   pub record AllSeenAsked (all : UseAsks) : Type 0 where
     pub each : (id : InterfaceId) → Among id all.seen.keys → AllAsked all.asks.items id
 
-  -- These asks are added behind the others, without some that ask what an earlier one asks. Each interface that was seen meanwhile
-  -- is asked, with all that it uses.
+  -- These asks are added behind the others, without some that ask what an earlier one asks. Each interface that was seen
+  -- meanwhile is asked, with all that it uses.
   pub record AddsUses (old new : UseAsks) (asks : List (Ask ℕ)) : Type 0 where
     pub added : List HeldAsk
     pub are : new.asks.items ≡ old.asks.items ++ added
@@ -101,4 +103,5 @@ module _ (c : Collection) where
 -- what asks and definitions use is asked, without what is asked before
 pub record AreUses (a : Asked) (uses : List HeldAsk) : Type 0 where
   pub stand : ItemsStand a.types uses
-  pub once : IsAskedOnce (uses_of_asks (asks_in a.types a.asks.items) ++ uses_of_copies a.types a.definitions.items) (asks_in a.types uses)
+  pub once : IsAskedOnce (uses_of_asks (asks_in a.types a.asks.items) ++ uses_of_copies a.types a.definitions.items)
+      (asks_in a.types uses)

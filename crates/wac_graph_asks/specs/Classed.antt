@@ -15,4 +15,5 @@ module _ {A : Type 0} where
   -- at the place of the first ask of each class stands the place of the one that spells it
   pub record AreSpellings (asks : List (Ask A)) (labels spellings : List ℕ) : Type 0 where
     pub as_many : length spellings ≡ length asks
-    pub each : (first : ℕ) (a : Ask A) → slice_get labels first ≡ Some first → slice_get asks first ≡ Some a → (place : ℕ) × (slice_get spellings first ≡ Some place) × IsSpelledAt asks a place
+    pub each : (first : ℕ) (a : Ask A) → slice_get labels first ≡ Some first → slice_get asks first ≡ Some a
+        → (place : ℕ) × (slice_get spellings first ≡ Some place) × IsSpelledAt asks a place

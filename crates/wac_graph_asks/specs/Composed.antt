@@ -30,7 +30,9 @@ pub record IsComposed (g : Graph) (W : Wiring ℕ) : Type 0 where
   pub outers : (n : Name) → W.outers n ≡ option_map tree (value_at (outer_imports (asks_of (composition_of g))) n)
   pub each : (k : ℕ) (p : Packaged) → instantiated g k ≡ Some p → IsComposedAs g W k p
   pub only : (k : ℕ) → instantiated g k ≡ None → W.at k ≡ None
-  pub exports : (n : Name) → W.exports n ≡ export_source (λ key. OfBytes []) (composition_of g) (value_at (map (λ e. (e.0, e.1)) (composition_of g).exports) n)
+  pub exports : (n : Name)
+      → W.exports n
+      ≡ export_source (λ key. OfBytes []) (composition_of g) (value_at (map (λ e. (e.0, e.1)) (composition_of g).exports) n)
 
 -- Each wiring of a graph whose types are of finite depth is so.
 abbrev pub GraphsAreComposed : Type 0

@@ -34,7 +34,8 @@ pub record IsImport (d : Collection) (asks : List (Ask ℕ)) (e : Name × ItemKi
   pub outer : IsOuter d asks e
 
 -- Imports of these labels, one of each, in order. No two have one name.
-pub record AreImports (d : Collection) (asks : List (Ask ℕ)) (labels each : List ℕ) (imports : List (Name × ItemKind)) : Type 0 where
+pub record AreImports (d : Collection) (asks : List (Ask ℕ)) (labels each : List ℕ)
+    (imports : List (Name × ItemKind)) : Type 0 where
   pub outers : List (ℕ × (Name × ItemKind))
   pub of_labels : names_of outers ≡ each
   pub are : values_of outers ≡ imports
@@ -42,7 +43,8 @@ pub record AreImports (d : Collection) (asks : List (Ask ℕ)) (labels each : Li
   pub distinct : AreDistinct (names_of imports)
 
 -- what is kept is put under the spelling
-pub record AddsImport (c : Collection) (kept : Kept) (n : Name) (d : Collection) (old new : List (Name × ItemKind)) : Type 0 where
+pub record AddsImport (c : Collection) (kept : Kept) (n : Name) (d : Collection)
+    (old new : List (Name × ItemKind)) : Type 0 where
   pub item : ItemKind
   pub put : new ≡ put_entry old n item
   pub spells : Spells c kept n d item
@@ -57,7 +59,8 @@ pub record AreClassed (c : Collection) (held : List HeldAsk) (classes : Classes)
 -- of each class what it keeps is put under its spelling
 abbrev pub AddsImports : Collection → List HeldAsk → Classes → List (ℕ × Taken) → Collection → List (Name × ItemKind) → Type 0
 AddsImports c held classes taken d imports =
-    AreClassed c held classes → AreTaken c held (asks_in c held) classes.labels.items taken → AreImports d (asks_in c held) classes.labels.items (each_label classes.labels.items) imports
+    AreClassed c held classes → AreTaken c held (asks_in c held) classes.labels.items taken
+    → AreImports d (asks_in c held) classes.labels.items (each_label classes.labels.items) imports
 
 abbrev pub MakesImports : (old : Asked) → Classes → List (ℕ × Taken) → (new : Asked) → List (Name × ItemKind) → Type 0
 MakesImports old classes taken new imports = AddsImports old.types old.asks.items classes taken new.types imports
@@ -94,7 +97,8 @@ pub record AreCalled (held : List HeldAsk) (labels : List ℕ) (called : List Ca
 
 -- the name is added, with the place of its label
 abbrev pub AddsName : (keys : List ℕ) (label : ℕ) → Name → (old new : List Called) → Type 0
-AddsName keys label n old new = Among label keys → (at : ℕ) × (slice_get keys at ≡ Some label) × (new ≡ old ++ record { name = n; at = at } ∷ [])
+AddsName keys label n old new =
+    Among label keys → (at : ℕ) × (slice_get keys at ≡ Some label) × (new ≡ old ++ record { name = n; at = at } ∷ [])
 
 -- where there is one key for each label, all names are added
 abbrev pub AddsNames : (held : List HeldAsk) (labels keys : List ℕ) → List Called → Type 0

@@ -20,7 +20,8 @@ pub record Joins (a b : ℕ) (old new : List ℕ) : Type 0 where
   pub as_many : length new ≡ length old
   pub kept : (i j : ℕ) → AreTogether old i j → AreTogether new i j
   pub joined : AreTogether new a b
-  pub only : (i j : ℕ) → AreTogether new i j → AreTogether old i j ⊎ ((AreTogether old i a × AreTogether old b j) ⊎ (AreTogether old i b × AreTogether old a j))
+  pub only : (i j : ℕ) → AreTogether new i j
+      → AreTogether old i j ⊎ ((AreTogether old i a × AreTogether old b j) ⊎ (AreTogether old i b × AreTogether old a j))
 
 -- each label is where it led
 pub record AreSettled (old new : List ℕ) : Type 0 where

@@ -57,7 +57,8 @@ pub record JoinsAsk (words : Words) (at : ℕ) (firsts after : Firsts) (old new 
 -- asks are together exactly where they are linked
 pub record AreJoined (asks : List (Ask ℕ)) (labels : List ℕ) : Type 0 where
   pub as_many : length labels ≡ length asks
-  pub each : (i j : ℕ) (a b : Ask ℕ) → slice_get asks i ≡ Some a → slice_get asks j ≡ Some b → AreTogether labels i j ↔ Linked asks a b
+  pub each : (i j : ℕ) (a b : Ask ℕ) → slice_get asks i ≡ Some a → slice_get asks j ≡ Some b
+      → AreTogether labels i j ↔ Linked asks a b
 
 abbrev pub JoinsNames : List Named → List ℕ → Type 0
 JoinsNames names labels = (asks : List (Ask ℕ)) → AreNamed names asks → AreJoined asks labels
@@ -67,11 +68,14 @@ LabelsNames names labels = (asks : List (Ask ℕ)) → AreNamed names asks → A
 
 -- where the labels are those of the asks, the spellings are theirs
 abbrev pub SpellsNames : List Named → List ℕ → List ℕ → Type 0
-SpellsNames names labels spellings = (asks : List (Ask ℕ)) → AreNamed names asks → AreLabels asks labels → AreSpellings asks labels spellings
+SpellsNames names labels spellings =
+    (asks : List (Ask ℕ)) → AreNamed names asks → AreLabels asks labels → AreSpellings asks labels spellings
 
 -- ---- spelling
 
 -- where the spellings are those of the asks, the text spells the class whose first ask stands at that place
 abbrev pub SpellsClass : List HeldAsk → (labels spellings : List ℕ) → (first : ℕ) → Name → Type 0
-SpellsClass asks labels spellings first text = (types : Collection) (a : Ask ℕ) → AreSpellings (asks_in types asks) labels spellings
-    → slice_get labels first ≡ Some first → slice_get (asks_in types asks) first ≡ Some a → text ≡ spelled (class (asks_in types asks) a)
+SpellsClass asks labels spellings first text =
+    (types : Collection) (a : Ask ℕ) → AreSpellings (asks_in types asks) labels spellings
+    → slice_get labels first ≡ Some first → slice_get (asks_in types asks) first ≡ Some a
+    → text ≡ spelled (class (asks_in types asks) a)

@@ -38,11 +38,13 @@ AsksSame a b = (b.item ≡ a.item) × (b.name ≡ a.name)
 
 -- with this ask it is kept of what was asked before, where the first is among that
 abbrev pub KeepsMore : Collection → Kept → (first ask : HeldAsk) → Collection → Kept → Type 0
-KeepsMore c before first ask d after = (asks : List AskedPair) → Among (pair_in c first) asks → IsWell (stated_of c ask.item) → Keeps c asks before → Keeps d (asks ++ pair_in c ask ∷ []) after
+KeepsMore c before first ask d after = (asks : List AskedPair) → Among (pair_in c first) asks → IsWell (stated_of c ask.item)
+    → Keeps c asks before → Keeps d (asks ++ pair_in c ask ∷ []) after
 
 -- the first ask of the class stays, and this is kept with one ask more
 abbrev pub TakesMore : Collection → List HeldAsk → Taken → HeldAsk → Collection → Taken → Type 0
-TakesMore c asks before a d after = (after.first ≡ before.first) × ((x : HeldAsk) → slice_get asks before.first ≡ Some x → KeepsMore c before.kept x a d after.kept)
+TakesMore c asks before a d after = (after.first ≡ before.first)
+    × ((x : HeldAsk) → slice_get asks before.first ≡ Some x → KeepsMore c before.kept x a d after.kept)
 
 -- the first ask of a class keeps its item
 abbrev pub TakesFirst : ℕ → HeldAsk → Taken → Type 0
@@ -66,7 +68,8 @@ pub record IsTakenOf (c : Collection) (held : List HeldAsk) (asks : List (Ask �
   pub keeps : Keeps c (asked_in asks) one.kept
 
 -- Each label has what its asks keep, in the order in which the labels come first, and after each ask they kept something.
-pub record AreTaken (c : Collection) (held : List HeldAsk) (asks : List (Ask ℕ)) (labels : List ℕ) (taken : List (ℕ × Taken)) : Type 0 where
+pub record AreTaken (c : Collection) (held : List HeldAsk) (asks : List (Ask ℕ)) (labels : List ℕ)
+    (taken : List (ℕ × Taken)) : Type 0 where
   pub keys : keys_of taken ≡ each_label labels
   pub each : (l : ℕ) (one : Taken) → lookup (λ k. l == k) taken ≡ Some one → IsTakenOf c held (labelled l asks labels) one
   pub in_turn : AreKept asks labels
@@ -123,10 +126,12 @@ NamesConflict a first source e = IfConflict e (λ cause. (cause ≡ conflict_of 
 
 -- with this ask nothing is kept of what was asked before, where the first is among that
 abbrev pub KeepsNone : Collection → Kept → (first ask : HeldAsk) → Type 0
-KeepsNone c before first ask = (asks : List AskedPair) → Among (pair_in c first) asks → Stands c ask.item → IsWell (stated_of c ask.item) → Keeps c asks before → kept (asks ++ pair_in c ask ∷ []) ≡ None
+KeepsNone c before first ask = (asks : List AskedPair) → Among (pair_in c first) asks → Stands c ask.item
+    → IsWell (stated_of c ask.item) → Keeps c asks before → kept (asks ++ pair_in c ask ∷ []) ≡ None
 
 abbrev pub RefusesMore : Collection → List HeldAsk → Taken → HeldAsk → Cause ℕ → Type 0
-RefusesMore c asks before a cause = (x : HeldAsk) → slice_get asks before.first ≡ Some x → (cause ≡ conflict_of a x.by) × KeepsNone c before.kept x a
+RefusesMore c asks before a cause =
+    (x : HeldAsk) → slice_get asks before.first ≡ Some x → (cause ≡ conflict_of a x.by) × KeepsNone c before.kept x a
 
 -- a first ask is not refused
 abbrev pub RefusesOne : Collection → List HeldAsk → Option Taken → HeldAsk → Cause ℕ → Type 0
@@ -134,7 +139,8 @@ RefusesOne c asks None a cause = ⊥
 RefusesOne c asks (Some before) a cause = RefusesMore c asks before a cause
 
 abbrev pub RefusesAt : Collection → List HeldAsk → (at class : ℕ) → List (ℕ × Taken) → Cause ℕ → Type 0
-RefusesAt c asks at class old cause = (a : HeldAsk) → slice_get asks at ≡ Some a → RefusesOne c asks (lookup (λ k. class == k) old) a cause
+RefusesAt c asks at class old cause =
+    (a : HeldAsk) → slice_get asks at ≡ Some a → RefusesOne c asks (lookup (λ k. class == k) old) a cause
 
 -- Those before an ask keep something in turn, by their labels, and with it those of its label keep nothing.
 pub record RefusesAsk (asks : List (Ask ℕ)) (labels : List ℕ) (cause : Cause ℕ) : Type 0 where
@@ -155,7 +161,8 @@ abbrev pub RefusesAll : Collection → List HeldAsk → List ℕ → Cause ℕ �
 RefusesAll c held labels cause = AreSound c held → length labels ≡ length held → RefusesAsk (asks_in c held) labels cause
 
 abbrev pub HasNoneLabelled : Collection → List HeldAsk → List ℕ → Type 0
-HasNoneLabelled c held labels = AreSound c held → AreLabels (asks_in c held) labels → merge_conflict (asks_in c held) [] (asks_in c held) ≡ None
+HasNoneLabelled c held labels =
+    AreSound c held → AreLabels (asks_in c held) labels → merge_conflict (asks_in c held) [] (asks_in c held) ≡ None
 
 -- ---- of the graph that asks so
 

@@ -43,4 +43,5 @@ track_of (Some w) = w.track
 
 -- the place of an ask goes to its class, if the ask is later than the one whose place stands there
 abbrev pub respelled : List Words → (best : List ℕ) → (class : ℕ) → Words → (at : ℕ) → List ℕ
-respelled ws best class w at = if is_later_on w.track (track_of (slice_get ws (label_at best class))) then slice_set best class at else best
+respelled ws best class w at =
+    if is_later_on w.track (track_of (slice_get ws (label_at best class))) then slice_set best class at else best

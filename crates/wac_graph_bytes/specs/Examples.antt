@@ -27,7 +27,8 @@ abbrev pub plain_func : Tree
 plain_func = rigid (func [] false) (gap end)
 
 abbrev pub passed_wiring : Wiring ℕ
-passed_wiring = wiring_of (record { imports = (codes "f", plain_func) ∷ []; instances = []; exports = (codes "g", Outer (codes "f")) ∷ [] })
+passed_wiring =
+    wiring_of (record { imports = (codes "f", plain_func) ∷ []; instances = []; exports = (codes "g", Outer (codes "f")) ∷ [] })
 
 -- the same with the export twice
 abbrev pub twice_bytes : List ℕ
@@ -63,8 +64,24 @@ abbrev pub interface_collection : Collection
 interface_collection = record (empty 7) {
   defined_types = DefinedType.List (ValueType.Primitive prim.U32) ∷ [];
   resources = record { name = codes "r"; alias = None } ∷ [];
-  func_types = record { params = (codes "x", ValueType.Own (record { collection = 7; index = 0 })) ∷ []; result = Some (ValueType.Defined (record { collection = 7; index = 0 })); is_async = false } ∷ [];
-  interfaces = record { id = None; uses = []; exports = (codes "r", ItemKind.Ty (TypeKind.Resource (record { collection = 7; index = 0 }))) ∷ (codes "f", ItemKind.Func (record { collection = 7; index = 0 })) ∷ [] } ∷ [];
+  func_types =
+      record {
+        params = (codes "x", ValueType.Own (record { collection = 7; index = 0 }))
+            ∷ [];
+        result = Some (ValueType.Defined (record { collection = 7; index = 0 }));
+        is_async = false;
+      } ∷ [];
+  interfaces =
+      record {
+        id = None;
+        uses = [];
+        exports = (
+          codes "r",
+          ItemKind.Ty
+              (TypeKind.Resource (record { collection = 7; index = 0 })),
+        )
+            ∷ (codes "f", ItemKind.Func (record { collection = 7; index = 0 })) ∷ [];
+      } ∷ [];
 }
 
 abbrev pub interface_id : InterfaceId

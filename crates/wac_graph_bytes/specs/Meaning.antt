@@ -54,7 +54,8 @@ adds s m st = record st { scope = with_one s m st.scope }
 
 abbrev pub arguments_of : Scope → List Argument → Option (List (Name × Source ℕ))
 arguments_of here [] = Some []
-arguments_of here (a ∷ rest) = found (here ∷ []) a.1 a.2 >>= source_of >>= λ s. arguments_of here rest >>= λ others. Some ((a.0, s) ∷ others)
+arguments_of here (a ∷ rest) =
+    found (here ∷ []) a.1 a.2 >>= source_of >>= λ s. arguments_of here rest >>= λ others. Some ((a.0, s) ∷ others)
 
 -- one more instance
 abbrev pub makes : Tag → List (Name × Source ℕ) → State → State
@@ -83,17 +84,20 @@ exports_one n s m x st = record {
 -- m was said to be that
 abbrev pub states : Worlds → Meaning → Name → Option Description → State → Option State
 states worlds m n None st = Some st
-states worlds m n (Some d) st = described worlds (st.scope ∷ []) n d >>= λ i. Some (record st { stated = st.stated ++ (m, i.1) ∷ [] })
+states worlds m n (Some d) st =
+    described worlds (st.scope ∷ []) n d >>= λ i. Some (record st { stated = st.stated ++ (m, i.1) ∷ [] })
 
 -- one more entry
 unfoldable pub step : Worlds → State → Entry → Option State
 step worlds st (Core ds) = module_tree ds >>= λ t. Some (record st { scope = with_core t st.scope })
 step worlds st (Nested bytes) = Some (adds sort.Component (Code bytes) st)
-step worlds st (Instantiate c as') = found (st.scope ∷ []) sort.Component c >>= tag_of >>= λ tag. arguments_of st.scope as' >>= λ arguments. Some (makes tag arguments st)
+step worlds st (Instantiate c as') = found (st.scope ∷ []) sort.Component c >>= tag_of >>= λ tag. arguments_of st.scope as'
+    >>= λ arguments. Some (makes tag arguments st)
 step worlds st (Aliased a) = alias_of worlds (st.scope ∷ []) a >>= λ m. Some (adds (alias_sort a) m st)
 step worlds st (Typed t) = type_of worlds st.scope t >>= λ t. Some (adds sort.Ty (Known t) st)
 step worlds st (Imported n d) = described worlds (st.scope ∷ []) n d >>= λ i. Some (imports_one n i st)
-step worlds st (Exported e) = found (st.scope ∷ []) e.sort e.index >>= λ m. source_of m >>= λ x. states worlds m e.name e.stated st >>= λ st. Some (exports_one e.name e.sort m x st)
+step worlds st (Exported e) = found (st.scope ∷ []) e.sort e.index >>= λ m. source_of m
+    >>= λ x. states worlds m e.name e.stated st >>= λ st. Some (exports_one e.name e.sort m x st)
 
 unfoldable pub steps : Worlds → State → List Entry → Option State
 steps worlds st [] = Some st

@@ -159,8 +159,10 @@ abbrev pub declaration_bytes : Declarations → List ℕ
 declaration_bytes End = []
 declaration_bytes (CoreThen t rest) = 0x00 ∷ (core_type t ++ declaration_bytes rest)
 declaration_bytes (TypeThen t rest) = 0x01 ∷ (defined_type t ++ declaration_bytes rest)
-declaration_bytes (ComponentTypeThen ds rest) = 0x01 ∷ 0x41 ∷ (unsigned (declaration_count ds) ++ (declaration_bytes ds ++ declaration_bytes rest))
-declaration_bytes (InstanceTypeThen ds rest) = 0x01 ∷ 0x42 ∷ (unsigned (declaration_count ds) ++ (declaration_bytes ds ++ declaration_bytes rest))
+declaration_bytes (ComponentTypeThen ds rest) =
+    0x01 ∷ 0x41 ∷ (unsigned (declaration_count ds) ++ (declaration_bytes ds ++ declaration_bytes rest))
+declaration_bytes (InstanceTypeThen ds rest) =
+    0x01 ∷ 0x42 ∷ (unsigned (declaration_count ds) ++ (declaration_bytes ds ++ declaration_bytes rest))
 declaration_bytes (AliasThen a rest) = 0x02 ∷ (alias_bytes a ++ declaration_bytes rest)
 declaration_bytes (ImportThen n d rest) = 0x03 ∷ (extern_name n ++ (description d ++ declaration_bytes rest))
 declaration_bytes (ExportThen n d rest) = 0x04 ∷ (extern_name n ++ (description d ++ declaration_bytes rest))

@@ -225,7 +225,8 @@ defined worlds ss (OwnEntry i) = type_at worlds ss i >>= as_resource >>= λ t. S
 defined worlds ss (BorrowEntry i) = type_at worlds ss i >>= as_resource >>= λ t. Some (handle_borrow t)
 defined worlds ss (StreamEntry t) = shaped stream (value_if worlds ss t end)
 defined worlds ss (FutureEntry t) = shaped future (value_if worlds ss t end)
-defined worlds ss (FuncEntry a params answer) = shaped (func (names_of params) a) (value_if worlds ss answer end >>= fields_of worlds ss params)
+defined worlds ss (FuncEntry a params answer) =
+    shaped (func (names_of params) a) (value_if worlds ss answer end >>= fields_of worlds ss params)
 
 -- ---- core module types, with a space of signatures of their own
 
@@ -277,19 +278,23 @@ abbrev pub instance_of : List (Name × Tree) → Option Tree
 instance_of es = some_if (distinct_names (names_of es)) (instance (fields_in es))
 
 abbrev pub component_of : List (Name × Tree) → List (Name × Tree) → Option Tree
-component_of is es = some_if (distinct_names (names_of is) && distinct_names (names_of es)) (component (fields_in is) (fields_in es))
+component_of is es =
+    some_if (distinct_names (names_of is) && distinct_names (names_of es)) (component (fields_in is) (fields_in es))
 
 -- the same of core items; an import has two names
 abbrev pub same_pair : Name × Name → Name × Name → Bool
 same_pair a b = same_name a.0 b.0 && same_name a.1 b.1
 
 abbrev pub module_with : List ((Name × Name) × CoreExtern) → List (Name × CoreExtern) → Option Tree
-module_with is es = some_if (are_distinct same_pair (names_of is) && distinct_names (names_of es)) (core_module (ascending pair_cmp is) (ascending name_cmp es))
+module_with is es =
+    some_if (are_distinct same_pair (names_of is) && distinct_names (names_of es))
+    (core_module (ascending pair_cmp is) (ascending name_cmp es))
 
 -- ---- declarations
 
 -- what the declarations of a core module type state, one after another, behind these signatures, imports and exports
-abbrev pub module_by : List CoreFuncType → List ((Name × Name) × CoreExtern) → List (Name × CoreExtern) → List CoreDeclaration → Option Tree
+abbrev pub module_by : List CoreFuncType → List ((Name × Name) × CoreExtern) → List (Name × CoreExtern) → List CoreDeclaration
+    → Option Tree
 module_by sigs is es [] = module_with is es
 module_by sigs is es (CoreImport from n d ∷ ds) = core_item sigs d >>= λ x. module_by sigs (is ++ ((from, n), x) ∷ []) es ds
 module_by sigs is es (CoreSignature params results ∷ ds) = module_by (sigs ++ signature params results ∷ []) is es ds
@@ -336,10 +341,12 @@ abbrev pub adds_inside : Sort → Meaning → Inside → Inside
 adds_inside s m i = record i { here = with_one s m i.here }
 
 abbrev pub imports_inside : Name → Sort × Tree → Inside → Inside
-imports_inside n d i = record { here = with_one d.0 (Item n d.0 d.1) i.here; imports = i.imports ++ (n, d.1) ∷ []; exports = i.exports }
+imports_inside n d i =
+    record { here = with_one d.0 (Item n d.0 d.1) i.here; imports = i.imports ++ (n, d.1) ∷ []; exports = i.exports }
 
 abbrev pub exports_inside : Name → Sort × Tree → Inside → Inside
-exports_inside n d i = record { here = with_one d.0 (Item n d.0 d.1) i.here; imports = i.imports; exports = i.exports ++ (n, d.1) ∷ [] }
+exports_inside n d i =
+    record { here = with_one d.0 (Item n d.0 d.1) i.here; imports = i.imports; exports = i.exports ++ (n, d.1) ∷ [] }
 
 -- an instance type imports nothing
 abbrev pub instance_by : List (Name × Tree) → List (Name × Tree) → Option Tree
@@ -355,13 +362,20 @@ component_tree i = component_of i.imports i.exports
 -- what declarations state, one after another, in a scope of their own below the others
 unfoldable pub declared : Worlds → List Scope → Inside → Declarations → Option Inside
 declared worlds outer i End = Some i
-declared worlds outer i (CoreThen ds rest) = module_tree ds >>= λ t. declared worlds outer (record i { here = with_core t i.here }) rest
-declared worlds outer i (TypeThen t rest) = defined worlds (i.here ∷ outer) t >>= λ t. declared worlds outer (adds_inside sort.Ty (Known t) i) rest
-declared worlds outer i (ComponentTypeThen ds rest) = declared worlds (i.here ∷ outer) nothing_inside ds >>= component_tree >>= λ t. declared worlds outer (adds_inside sort.Ty (Known t) i) rest
-declared worlds outer i (InstanceTypeThen ds rest) = declared worlds (i.here ∷ outer) nothing_inside ds >>= instance_tree >>= λ t. declared worlds outer (adds_inside sort.Ty (Known t) i) rest
-declared worlds outer i (AliasThen a rest) = alias_of worlds (i.here ∷ outer) a >>= λ m. declared worlds outer (adds_inside (alias_sort a) m i) rest
-declared worlds outer i (ImportThen n d rest) = described worlds (i.here ∷ outer) n d >>= λ d. declared worlds outer (imports_inside n d i) rest
-declared worlds outer i (ExportThen n d rest) = described worlds (i.here ∷ outer) n d >>= λ d. declared worlds outer (exports_inside n d i) rest
+declared worlds outer i (CoreThen ds rest) =
+    module_tree ds >>= λ t. declared worlds outer (record i { here = with_core t i.here }) rest
+declared worlds outer i (TypeThen t rest) =
+    defined worlds (i.here ∷ outer) t >>= λ t. declared worlds outer (adds_inside sort.Ty (Known t) i) rest
+declared worlds outer i (ComponentTypeThen ds rest) = declared worlds (i.here ∷ outer) nothing_inside ds >>= component_tree
+    >>= λ t. declared worlds outer (adds_inside sort.Ty (Known t) i) rest
+declared worlds outer i (InstanceTypeThen ds rest) = declared worlds (i.here ∷ outer) nothing_inside ds >>= instance_tree
+    >>= λ t. declared worlds outer (adds_inside sort.Ty (Known t) i) rest
+declared worlds outer i (AliasThen a rest) =
+    alias_of worlds (i.here ∷ outer) a >>= λ m. declared worlds outer (adds_inside (alias_sort a) m i) rest
+declared worlds outer i (ImportThen n d rest) =
+    described worlds (i.here ∷ outer) n d >>= λ d. declared worlds outer (imports_inside n d i) rest
+declared worlds outer i (ExportThen n d rest) =
+    described worlds (i.here ∷ outer) n d >>= λ d. declared worlds outer (exports_inside n d i) rest
 
 -- the type that a type entry states
 abbrev pub type_of : Worlds → Scope → TypeEntry → Option Tree

@@ -81,7 +81,8 @@ pub record Same {I J : Type 0} (V : Wiring I) (W : Wiring J) : Type 0 where
   pub from : J → I
   pub outers : (n : Name) → V.outers n ≡ W.outers n
   pub there : (k : I) (x : Instantiation I) → V.at k ≡ Some x → (from (to k) ≡ k) × (W.at (to k) ≡ Some (renamed to x))
-  pub back : (j : J) (y : Instantiation J) → W.at j ≡ Some y → (x : Instantiation I) × (V.at (from j) ≡ Some x) × (to (from j) ≡ j)
+  pub back : (j : J) (y : Instantiation J) → W.at j ≡ Some y
+      → (x : Instantiation I) × (V.at (from j) ≡ Some x) × (to (from j) ≡ j)
   pub exports : (n : Name) → rename to (V.exports n) ≡ W.exports n
 
 -- a source that is there, with no bundle in it
@@ -105,7 +106,8 @@ IsPlain (Definition t) = Unit {0}
 -- one level: no bundles, and no instance is named that isn't there
 pub record IsClosed {I : Type 0} (W : Wiring I) : Type 0 where
   pub args_plain : (k : I) (x : Instantiation I) → W.at k ≡ Some x → (n : Name) → IsPlain (x.args n)
-  pub args_there : (k : I) (x : Instantiation I) → W.at k ≡ Some x → (n : Name) → Uses (λ j. (y : Instantiation I) × (W.at j ≡ Some y)) (x.args n)
+  pub args_there : (k : I) (x : Instantiation I) → W.at k ≡ Some x → (n : Name)
+      → Uses (λ j. (y : Instantiation I) × (W.at j ≡ Some y)) (x.args n)
   pub exports_plain : (n : Name) → IsPlain (W.exports n)
   pub exports_there : (n : Name) → Uses (λ j. (y : Instantiation I) × (W.at j ≡ Some y)) (W.exports n)
 
@@ -114,9 +116,12 @@ pub record IsOrdered (W : Wiring ℕ) : Type 0 where
   pub args : (k : ℕ) (x : Instantiation ℕ) → W.at k ≡ Some x → (n : Name) → Uses (λ j. (j < k) × IsSome (W.at j)) (x.args n)
   pub exports : (n : Name) → Uses (λ j. IsSome (W.at j)) (W.exports n)
 
--- A wiring's instances written in an order: `order` lists the instances of V as they were written, `to` is the place of each in W.
+-- A wiring's instances written in an order: `order` lists the instances of V as they were written, `to` is the place of each in
+-- W.
 pub record IsWritten (V W : Wiring ℕ) (order : List ℕ) (to : ℕ → ℕ) : Type 0 where
   pub outers : (n : Name) → V.outers n ≡ W.outers n
-  pub each : (k : ℕ) (x : Instantiation ℕ) → V.at k ≡ Some x → (slice_get order (to k) ≡ Some k) × (W.at (to k) ≡ Some (renamed to x))
-  pub only : (j : ℕ) (y : Instantiation ℕ) → W.at j ≡ Some y → (k : ℕ) × (x : Instantiation ℕ) × (slice_get order j ≡ Some k) × (V.at k ≡ Some x) × (to k ≡ j)
+  pub each : (k : ℕ) (x : Instantiation ℕ) → V.at k ≡ Some x
+      → (slice_get order (to k) ≡ Some k) × (W.at (to k) ≡ Some (renamed to x))
+  pub only : (j : ℕ) (y : Instantiation ℕ) → W.at j ≡ Some y
+      → (k : ℕ) × (x : Instantiation ℕ) × (slice_get order j ≡ Some k) × (V.at k ≡ Some x) × (to k ≡ j)
   pub exports : (n : Name) → rename to (V.exports n) ≡ W.exports n

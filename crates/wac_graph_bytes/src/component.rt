@@ -57,7 +57,8 @@ pub fn push_entry(alloc: Global, out: &mut Vec<u8>, e: &Entry) -> Result<(), Siz
 
 /// What the section holds that says what wrote the component.
 fn push_producers_inside(out: &mut Vec<u8>, processor: &Processor) -> Result<(), SizeError>
-    ensures { let by = processor_view processor.now in Appends result out.old.items out.new.items (contents (producers by)) (name_fits by.0 && name_fits by.1) }
+    ensures { let by = processor_view processor.now in
+        Appends result out.old.items out.new.items (contents (producers by)) (name_fits by.0 && name_fits by.1) }
 {
     push_name(out, "producers")?;
     push_unsigned(out, 1)?;
@@ -75,7 +76,8 @@ pub fn push_producers(
     out: &mut Vec<u8>,
     processor: &Processor,
 ) -> Result<(), SizeError>
-    ensures { let by = processor_view processor.now in Appends result out.old.items out.new.items (section_bytes (producers by)) (producers_fit by) }
+    ensures { let by = processor_view processor.now in
+        Appends result out.old.items out.new.items (section_bytes (producers by)) (producers_fit by) }
 {
     let mut inside = Vec::new(alloc);
     push_producers_inside(&mut inside, processor)?;
@@ -85,7 +87,8 @@ pub fn push_producers(
 /// The names of indexes.
 #[tactic(auto, using(crate::proofs::Loops::unfit_item))]
 fn push_index_names(out: &mut Vec<u8>, names: &[IndexName]) -> Result<(), SizeError>
-    ensures { Appends result out.old.items out.new.items (vec index_name (map index_name_view names.now)) (vec_fits index_name_fits (map index_name_view names.now)) }
+    ensures { Appends result out.old.items out.new.items (vec index_name (map index_name_view names.now))
+        (vec_fits index_name_fits (map index_name_view names.now)) }
 {
     push_unsigned(out, names.len() as u64)?;
     for n in names {
@@ -97,7 +100,8 @@ fn push_index_names(out: &mut Vec<u8>, names: &[IndexName]) -> Result<(), SizeEr
 
 /// The names of indexes of one sort, for debuggers.
 fn push_debug_part(alloc: Global, out: &mut Vec<u8>, names: &SortNames) -> Result<(), SizeError>
-    ensures { Appends result out.old.items out.new.items (debug_part (sort_names_view names.now)) (debug_part_fits (sort_names_view names.now)) }
+    ensures { Appends result out.old.items out.new.items (debug_part (sort_names_view names.now))
+        (debug_part_fits (sort_names_view names.now)) }
 {
     let mut inside = Vec::new(alloc);
     push_sort(&mut inside, names.sort)?;
@@ -108,7 +112,8 @@ fn push_debug_part(alloc: Global, out: &mut Vec<u8>, names: &SortNames) -> Resul
 /// What the section of the names for debuggers holds.
 #[tactic(auto, using(crate::proofs::Loops::unfit_item))]
 fn push_debug_inside(alloc: Global, out: &mut Vec<u8>, names: &[SortNames]) -> Result<(), SizeError>
-    ensures { let all = all_names_view names.now in Appends result out.old.items out.new.items (contents (debug_names all)) (list_all debug_part_fits all) }
+    ensures { let all = all_names_view names.now in
+        Appends result out.old.items out.new.items (contents (debug_names all)) (list_all debug_part_fits all) }
 {
     push_name(out, "component-name")?;
     for n in names {
@@ -124,7 +129,8 @@ pub fn push_debug_names(
     out: &mut Vec<u8>,
     names: &[SortNames],
 ) -> Result<(), SizeError>
-    ensures { let all = all_names_view names.now in Appends result out.old.items out.new.items (section_bytes (debug_names all)) (debug_names_fit all) }
+    ensures { let all = all_names_view names.now in
+        Appends result out.old.items out.new.items (section_bytes (debug_names all)) (debug_names_fit all) }
 {
     let mut inside = Vec::new(alloc);
     push_debug_inside(alloc, &mut inside, names)?;
@@ -133,7 +139,8 @@ pub fn push_debug_names(
 
 /// That section, where there is a name.
 fn push_debug_if(alloc: Global, out: &mut Vec<u8>, names: &[SortNames]) -> Result<(), SizeError>
-    ensures { let all = all_names_view names.now in Appends result out.old.items out.new.items (flat_map section_bytes (debug_if all)) (debug_if_fits all) }
+    ensures { let all = all_names_view names.now in
+        Appends result out.old.items out.new.items (flat_map section_bytes (debug_if all)) (debug_if_fits all) }
 {
     if !names.is_empty() {
         push_debug_names(alloc, out, names)?;
@@ -147,7 +154,8 @@ fn push_producers_if(
     out: &mut Vec<u8>,
     processor: Option<&Processor>,
 ) -> Result<(), SizeError>
-    ensures { let by = option_map processor_view (option_copied processor.entry) in Appends result out.old.items out.new.items (flat_map section_bytes (producers_if by)) (producers_if_fit by) }
+    ensures { let by = option_map processor_view (option_copied processor.entry) in
+        Appends result out.old.items out.new.items (flat_map section_bytes (producers_if by)) (producers_if_fit by) }
 {
     if let Some(p) = processor {
         push_producers(alloc, out, p)?;
@@ -158,7 +166,8 @@ fn push_producers_if(
 /// The entries, each in a section of its own.
 #[tactic(auto, using(crate::proofs::Loops::unfit_item))]
 pub fn push_entries(alloc: Global, out: &mut Vec<u8>, entries: &[Entry]) -> Result<(), SizeError>
-    ensures { let all = map view entries.now in Appends result out.old.items out.new.items (flat_map section_bytes (map section_of all)) (list_all entry_fits all) }
+    ensures { let all = map view entries.now in
+        Appends result out.old.items out.new.items (flat_map section_bytes (map section_of all)) (list_all entry_fits all) }
 {
     for e in entries {
         push_entry(alloc, out, e)?;
@@ -175,7 +184,10 @@ pub fn push_component(
     processor: Option<&Processor>,
     names: &[SortNames],
 ) -> Result<(), SizeError>
-    ensures { let by = option_map processor_view (option_copied processor.entry) in let all = all_names_view names.now in Appends result out.old.items out.new.items (component_bytes (sections_for (map view entries.now) by all)) (sections_fit (map view entries.now) by all) }
+    ensures { let by = option_map processor_view (option_copied processor.entry) in
+        let all = all_names_view names.now in
+        Appends result out.old.items out.new.items (component_bytes (sections_for (map view entries.now) by all))
+        (sections_fit (map view entries.now) by all) }
 {
     out.extend_from_slice(&[0x00, 0x61, 0x73, 0x6d, 0x0d, 0x00, 0x01, 0x00])?;
     push_entries(alloc, out, entries)?;

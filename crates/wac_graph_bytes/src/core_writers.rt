@@ -116,7 +116,8 @@ pub fn push_core_description(out: &mut Vec<u8>, d: CoreDescription) -> Result<()
 
 /// A declaration of a core module type.
 pub fn push_core_declaration(out: &mut Vec<u8>, d: &CoreDeclaration) -> Result<(), SizeError>
-    ensures { Appends result out.old.items out.new.items (core_declaration (core_view d.now)) (core_declaration_fits (core_view d.now)) }
+    ensures { Appends result out.old.items out.new.items (core_declaration (core_view d.now))
+        (core_declaration_fits (core_view d.now)) }
 {
     match d {
         CoreDeclaration::Import(module, name, description) => {
@@ -143,7 +144,8 @@ pub fn push_core_declaration(out: &mut Vec<u8>, d: &CoreDeclaration) -> Result<(
 /// A core module type: its declarations.
 #[tactic(auto, using(crate::proofs::Loops::unfit_item))]
 pub fn push_core_type(out: &mut Vec<u8>, declarations: &[CoreDeclaration]) -> Result<(), SizeError>
-    ensures { Appends result out.old.items out.new.items (core_type (module_view declarations.now)) (core_type_fits (module_view declarations.now)) }
+    ensures { Appends result out.old.items out.new.items (core_type (module_view declarations.now))
+        (core_type_fits (module_view declarations.now)) }
 {
     out.push(0x50)?;
     push_unsigned(out, declarations.len() as u64)?;

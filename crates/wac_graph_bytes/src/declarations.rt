@@ -58,7 +58,8 @@ pub fn push_declaration(out: &mut Vec<u8>, d: &Declaration) -> Result<(), SizeEr
 /// Their count, and each of them.
 #[cycle(declarations)]
 pub fn push_declarations(out: &mut Vec<u8>, ds: &[Declaration]) -> Result<(), SizeError>
-    ensures { let all = declarations_of ds.now in Appends result out.old.items out.new.items (unsigned (declaration_count all) ++ declaration_bytes all) (small (declaration_count all) && declarations_fit all) }
+    ensures { let all = declarations_of ds.now in Appends result out.old.items out.new.items
+        (unsigned (declaration_count all) ++ declaration_bytes all) (small (declaration_count all) && declarations_fit all) }
 {
     push_unsigned(out, ds.len() as u64)?;
     for d in ds {

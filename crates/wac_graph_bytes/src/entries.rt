@@ -18,7 +18,8 @@ use crate::value::Description;
 /// The arguments of an instantiation.
 #[tactic(auto, using(crate::proofs::Loops::unfit_item))]
 pub fn push_arguments(out: &mut Vec<u8>, arguments: &[NamedIndex]) -> Result<(), SizeError>
-    ensures { Appends result out.old.items out.new.items (vec argument (arguments_view arguments.now)) (vec_fits argument_fits (arguments_view arguments.now)) }
+    ensures { Appends result out.old.items out.new.items (vec argument (arguments_view arguments.now))
+        (vec_fits argument_fits (arguments_view arguments.now)) }
 {
     push_unsigned(out, arguments.len() as u64)?;
     for a in arguments {
@@ -35,7 +36,8 @@ pub fn push_instance(
     component: u32,
     arguments: &[NamedIndex],
 ) -> Result<(), SizeError>
-    ensures { Appends result out.old.items out.new.items (instance_entry (component, arguments_view arguments.now)) (instance_fits (component, arguments_view arguments.now)) }
+    ensures { Appends result out.old.items out.new.items (instance_entry (component, arguments_view arguments.now))
+        (instance_fits (component, arguments_view arguments.now)) }
 {
     out.push(0x00)?;
     push_unsigned(out, component as u64)?;
@@ -78,7 +80,8 @@ pub fn push_export(out: &mut Vec<u8>, e: &Export) -> Result<(), SizeError>
 
 /// A component type.
 pub fn push_component_type(out: &mut Vec<u8>, declarations: &[Declaration]) -> Result<(), SizeError>
-    ensures { Appends result out.old.items out.new.items (type_entry (ComponentType (declarations_of declarations.now))) (type_fits (ComponentType (declarations_of declarations.now))) }
+    ensures { Appends result out.old.items out.new.items (type_entry (ComponentType (declarations_of declarations.now)))
+        (type_fits (ComponentType (declarations_of declarations.now))) }
 {
     out.push(0x41)?;
     push_declarations(out, declarations)
@@ -86,7 +89,8 @@ pub fn push_component_type(out: &mut Vec<u8>, declarations: &[Declaration]) -> R
 
 /// An instance type.
 pub fn push_instance_type(out: &mut Vec<u8>, declarations: &[Declaration]) -> Result<(), SizeError>
-    ensures { Appends result out.old.items out.new.items (type_entry (InstanceType (declarations_of declarations.now))) (type_fits (InstanceType (declarations_of declarations.now))) }
+    ensures { Appends result out.old.items out.new.items (type_entry (InstanceType (declarations_of declarations.now)))
+        (type_fits (InstanceType (declarations_of declarations.now))) }
 {
     out.push(0x42)?;
     push_declarations(out, declarations)
@@ -95,7 +99,8 @@ pub fn push_instance_type(out: &mut Vec<u8>, declarations: &[Declaration]) -> Re
 /// What the section of that one entry holds.
 #[tactic(auto, using(crate::proofs::Loops::fits_one))]
 pub fn push_inside(out: &mut Vec<u8>, e: &Entry) -> Result<(), SizeError>
-    ensures { Appends result out.old.items out.new.items (contents (section_of (view e.now))) (inside_fits (section_of (view e.now))) }
+    ensures { Appends result out.old.items out.new.items (contents (section_of (view e.now)))
+        (inside_fits (section_of (view e.now))) }
 {
     match e {
         Entry::Nested(bytes) => out.extend_from_slice(bytes)?,

@@ -36,14 +36,18 @@ pub fn sources_are_earlier()
 
 /// A nested string is shorter than the one around it.
 pub fn nested_is_shorter()
-    ensures { (worlds : Worlds) (bytes : List ℕ) (v : Wiring ℕ) → Means worlds bytes v → (k : ℕ) (x : Instantiation ℕ) (nested : List ℕ) → v.at k ≡ Some x → x.tag ≡ OfBytes nested → length nested < length bytes }
+    ensures { (worlds : Worlds) (bytes : List ℕ) (v : Wiring ℕ) → Means worlds bytes v
+        → (k : ℕ) (x : Instantiation ℕ) (nested : List ℕ) → v.at k ≡ Some x → x.tag ≡ OfBytes nested
+        → length nested < length bytes }
 {}
 
-/// Two byte strings from outside mean what they should; one that exports a name twice means nothing; an instance type has the tree of the same interface in a
-/// collection.
+/// Two byte strings from outside mean what they should; one that exports a name twice means nothing; an instance type has the
+/// tree of the same interface in a collection.
 pub fn examples()
     ensures passed { (worlds : Worlds) → Means worlds passed_bytes passed_wiring }
     ensures twice { (worlds : Worlds) (v : Wiring ℕ) → Means worlds twice_bytes v → ⊥ }
     ensures empty { (worlds : Worlds) → Means worlds empty_bytes empty_wiring }
-    ensures interface { (worlds : Worlds) → type_of worlds no_scope (InstanceType interface_declarations) ≡ tree_of interface_collection (ItemKind.Instance interface_id) }
+    ensures interface { (worlds : Worlds)
+        → type_of worlds no_scope (InstanceType interface_declarations)
+        ≡ tree_of interface_collection (ItemKind.Instance interface_id) }
 {}

@@ -71,7 +71,8 @@ pub fn push_extern_name(out: &mut Vec<u8>, text: &str) -> Result<(), SizeError>
 
 /// Names, as of flags.
 pub fn push_names(out: &mut Vec<u8>, names: &[String]) -> Result<(), SizeError>
-    ensures { Appends result out.old.items out.new.items (vec name (map string_bytes names.now)) (vec_fits name_fits (map string_bytes names.now)) }
+    ensures { Appends result out.old.items out.new.items (vec name (map string_bytes names.now))
+        (vec_fits name_fits (map string_bytes names.now)) }
 {
     push_unsigned(out, names.len() as u64)?;
     for n in names {

@@ -93,7 +93,8 @@ pub fn push_answer(out: &mut Vec<u8>, ty: Option<ValueType>) -> Result<(), Alloc
 /// The parameters of a function, or the fields of a record.
 #[tactic(auto, using(crate::proofs::Loops::unfit_item))]
 pub fn push_params(out: &mut Vec<u8>, params: &[Param]) -> Result<(), SizeError>
-    ensures { Appends result out.old.items out.new.items (vec field (params_view params.now)) (vec_fits named_fits (params_view params.now)) }
+    ensures { Appends result out.old.items out.new.items (vec field (params_view params.now))
+        (vec_fits named_fits (params_view params.now)) }
 {
     push_unsigned(out, params.len() as u64)?;
     for p in params {
@@ -106,7 +107,8 @@ pub fn push_params(out: &mut Vec<u8>, params: &[Param]) -> Result<(), SizeError>
 /// The cases of a variant.
 #[tactic(auto, using(crate::proofs::Loops::unfit_item))]
 pub fn push_cases(out: &mut Vec<u8>, cases: &[Case]) -> Result<(), SizeError>
-    ensures { Appends result out.old.items out.new.items (vec case_bytes (cases_view cases.now)) (vec_fits named_fits (cases_view cases.now)) }
+    ensures { Appends result out.old.items out.new.items (vec case_bytes (cases_view cases.now))
+        (vec_fits named_fits (cases_view cases.now)) }
 {
     push_unsigned(out, cases.len() as u64)?;
     for c in cases {
@@ -135,7 +137,8 @@ fn push_func(
     params: &[Param],
     result_type: Option<ValueType>,
 ) -> Result<(), SizeError>
-    ensures { Appends result out.old.items out.new.items (func_byte is_async ∷ (vec field (params_view params.now) ++ answer result_type)) (vec_fits named_fits (params_view params.now)) }
+    ensures { Appends result out.old.items out.new.items (func_byte is_async
+        ∷ (vec field (params_view params.now) ++ answer result_type)) (vec_fits named_fits (params_view params.now)) }
 {
     out.push(if is_async { 0x43 } else { 0x40 })?;
     push_params(out, params)?;
@@ -169,7 +172,8 @@ fn push_one_optional(out: &mut Vec<u8>, byte: u8, ty: Option<ValueType>) -> Resu
 
 /// A byte, and names.
 fn push_labels(out: &mut Vec<u8>, byte: u8, names: &[String]) -> Result<(), SizeError>
-    ensures { Appends result out.old.items out.new.items (byte ∷ vec name (texts_of names.now)) (vec_fits name_fits (texts_of names.now)) }
+    ensures { Appends result out.old.items out.new.items (byte ∷ vec name (texts_of names.now))
+        (vec_fits name_fits (texts_of names.now)) }
 {
     out.push(byte)?;
     push_names(out, names)
@@ -199,7 +203,8 @@ fn push_result(
 
 /// The fields of a record.
 fn push_record(out: &mut Vec<u8>, fields: &[Param]) -> Result<(), SizeError>
-    ensures { Appends result out.old.items out.new.items (0x72 ∷ vec field (params_view fields.now)) (vec_fits named_fits (params_view fields.now)) }
+    ensures { Appends result out.old.items out.new.items (0x72 ∷ vec field (params_view fields.now))
+        (vec_fits named_fits (params_view fields.now)) }
 {
     out.push(0x72)?;
     push_params(out, fields)
@@ -207,7 +212,8 @@ fn push_record(out: &mut Vec<u8>, fields: &[Param]) -> Result<(), SizeError>
 
 /// The cases of a variant.
 fn push_variant(out: &mut Vec<u8>, cases: &[Case]) -> Result<(), SizeError>
-    ensures { Appends result out.old.items out.new.items (0x71 ∷ vec case_bytes (cases_view cases.now)) (vec_fits named_fits (cases_view cases.now)) }
+    ensures { Appends result out.old.items out.new.items (0x71 ∷ vec case_bytes (cases_view cases.now))
+        (vec_fits named_fits (cases_view cases.now)) }
 {
     out.push(0x71)?;
     push_cases(out, cases)
@@ -223,7 +229,8 @@ fn push_tuple(out: &mut Vec<u8>, types: &[ValueType]) -> Result<(), SizeError>
 
 /// A type without declarations.
 pub fn push_defined_type(out: &mut Vec<u8>, ty: &DefinedType) -> Result<(), SizeError>
-    ensures { Appends result out.old.items out.new.items (defined_type (defined_view ty.now)) (defined_fits (defined_view ty.now)) }
+    ensures { Appends result out.old.items out.new.items (defined_type (defined_view ty.now))
+        (defined_fits (defined_view ty.now)) }
 {
     match ty {
         DefinedType::Primitive(p) => out.push(byte_of(*p))?,

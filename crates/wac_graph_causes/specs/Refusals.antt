@@ -7,7 +7,8 @@ use Rattle.wac_graph_causes.specs.declared.errors.EncodeError.{EncodeError}
 
 abbrev pub outer_refusal : OuterError → Refusal
 outer_refusal (OuterError.ExplicitImportConflict name first second) = Refusal.ExplicitImportConflict name first second
-outer_refusal (OuterError.ImportTypeMergeConflict name first second source) = Refusal.ImportTypeMergeConflict name first second source
+outer_refusal (OuterError.ImportTypeMergeConflict name first second source) =
+    Refusal.ImportTypeMergeConflict name first second source
 outer_refusal OuterError.TooLarge = Refusal.TooLarge
 outer_refusal OuterError.Memory = Refusal.Memory
 
@@ -21,9 +22,11 @@ unwritten_refusal Unwritten.TooLarge = Refusal.TooLarge
 unwritten_refusal Unwritten.Memory = Refusal.Memory
 
 abbrev pub refusal_shown : Refusal → EncodeError
-refusal_shown (Refusal.ImplicitImportConflict import instantiation key name) = EncodeError.ImplicitImportConflict import instantiation key name
+refusal_shown (Refusal.ImplicitImportConflict import instantiation key name) =
+    EncodeError.ImplicitImportConflict import instantiation key name
 refusal_shown (Refusal.ExplicitImportConflict name first second) = EncodeError.ExplicitImportConflict name first second
-refusal_shown (Refusal.ImportTypeMergeConflict name first second source) = EncodeError.ImportTypeMergeConflict name first second source
+refusal_shown (Refusal.ImportTypeMergeConflict name first second source) =
+    EncodeError.ImportTypeMergeConflict name first second source
 refusal_shown (Refusal.TypeCannotBeWritten name) = EncodeError.TypeCannotBeWritten name
 refusal_shown Refusal.TooLarge = EncodeError.TooLarge
 refusal_shown (Refusal.ValidationFailure source) = EncodeError.ValidationFailure source

@@ -53,13 +53,15 @@ pub record DefinesType (old new : Graph) (n : Name) (t : TypeKind) (k : ℕ) : T
   pub above : AreBelow old.nodes k
   pub free : node_at old k ≡ None
   pub edges : AreEdges new.edges (λ d. Among d old.edges ⊎ IsDependencyOf new k d)
-  pub made : new ≡ record old { nodes = map.insert old.nodes k (defined_node t n); edges = new.edges; exports = old.exports ++ (n, k) ∷ [] }
+  pub made : new
+      ≡ record old { nodes = map.insert old.nodes k (defined_node t n); edges = new.edges; exports = old.exports ++ (n, k) ∷ [] }
 
 abbrev pub DefineRefused : Graph → Name → TypeKind → DefineTypeError → Type 0
 DefineRefused g n t DefineTypeError.TypeAlreadyDefined = (k : ℕ) × IsDefinition g.nodes k (ItemKind.Ty t)
 DefineRefused g n t DefineTypeError.CannotDefineResource = NoDefinition g.nodes (ItemKind.Ty t) × IsResource t
 DefineRefused g n t (DefineTypeError.InvalidExternName m source) = (string_bytes m ≡ n) × IsDefinable g t × (IsExternName n → ⊥)
-DefineRefused g n t (DefineTypeError.ExportConflict m) = (string_bytes m ≡ n) × IsDefinable g t × IsExternName n × (k : ℕ) × (value_at g.exports n ≡ Some k)
+DefineRefused g n t (DefineTypeError.ExportConflict m) =
+    (string_bytes m ≡ n) × IsDefinable g t × IsExternName n × (k : ℕ) × (value_at g.exports n ≡ Some k)
 DefineRefused g n t DefineTypeError.Memory = Unit {0}
 
 -- ---- single steps
@@ -106,4 +108,5 @@ ItemsStand c m = (k : ℕ) (x : NodeData) → map.get m k ≡ Some x → Stands 
 
 -- each defined type that a definition reaches has an index below the bound
 abbrev pub ReachBelow : Collection → NodeMap → ℕ → Type 0
-ReachBelow c m bound = (k : ℕ) (x : NodeData) → map.get m k ≡ Some x → x.role ≡ Role.Defined → (d : DefinedTypeId) → Reaches c x.item_kind d → d.index < bound
+ReachBelow c m bound = (k : ℕ) (x : NodeData) → map.get m k ≡ Some x → x.role ≡ Role.Defined → (d : DefinedTypeId)
+    → Reaches c x.item_kind d → d.index < bound

@@ -59,7 +59,8 @@ Stays gone k = has gone k ≡ false
 -- k is reached from one of the starts over edges that are followed
 pub data Reaches (f : Follow) (es : List Edge) (starts : List ℕ) : ℕ → Type 0 where
   at_start : {k : ℕ} → has starts k ≡ true → Reaches f es starts k
-  along : {j k : ℕ} (e : Edge) → Reaches f es starts j → Among e es → follows f e.label ≡ true → e.from ≡ j → e.to ≡ k → Reaches f es starts k
+  along : {j k : ℕ} (e : Edge) → Reaches f es starts j → Among e es → follows f e.label ≡ true → e.from ≡ j → e.to ≡ k
+      → Reaches f es starts k
 
 -- the list is exactly what is reached
 pub record IsReached (f : Follow) (es : List Edge) (starts : List ℕ) (seen : List ℕ) : Type 0 where

@@ -12,4 +12,5 @@ KnowsEnds (Some x) es = Covers x.from.items (map (λ (e : Edge). e.from) es) × 
 -- an edge between these nodes is known behind so many
 abbrev pub IsEdgeNoted : Option Ends → ℕ → ℕ → ℕ → Option Ends → Type 0
 IsEdgeNoted ends from to count noted =
-    (es : List Edge) (e : Edge) → length es ≡ count → e.from ≡ from → e.to ≡ to → KnowsEnds ends es → KnowsEnds noted (es ++ e ∷ [])
+    (es : List Edge) (e : Edge) → length es ≡ count → e.from ≡ from → e.to ≡ to → KnowsEnds ends es
+    → KnowsEnds noted (es ++ e ∷ [])

@@ -39,11 +39,13 @@ pub record Exports (old new : Graph) (k : ℕ) (n : Name) : Type 0 where
   pub valid : IsExportName n
   pub node : NodeData
   pub there : node_at old k ≡ Some node
-  pub made : new ≡ record old { nodes = map.insert old.nodes k (record node { export = Some n }); exports = old.exports ++ (n, k) ∷ [] }
+  pub made : new
+      ≡ record old { nodes = map.insert old.nodes k (record node { export = Some n }); exports = old.exports ++ (n, k) ∷ [] }
 
 abbrev pub ExportRefused : Graph → Name → ExportError → Type 0
 ExportRefused g n (ExportError.ExportAlreadyExists m k) = (string_bytes m ≡ n) × (value_at g.exports n ≡ Some k)
-ExportRefused g n (ExportError.InvalidExportName m source) = (string_bytes m ≡ n) × (value_at g.exports n ≡ None) × (IsExportName n → ⊥)
+ExportRefused g n (ExportError.InvalidExportName m source) =
+    (string_bytes m ≡ n) × (value_at g.exports n ≡ None) × (IsExportName n → ⊥)
 ExportRefused g n ExportError.Memory = Unit {0}
 
 -- where the export stands that the node tells, if it tells one
@@ -64,7 +66,12 @@ pub record TakesExport (old new : Graph) (k : ℕ) (node : NodeData) : Type 0 wh
   pub told : node.export ≡ Some name
   pub place : ℕ
   pub at : slice_get old.exports place ≡ Some (name, k)
-  pub made : new ≡ record old { nodes = map.insert old.nodes k (record node { export = None }); exports = swap_remove old.exports place (name, k) }
+  pub made : new
+      ≡ record old {
+        nodes = map.insert old.nodes k (record node { export = None });
+        exports = swap_remove old.exports place
+            (name, k);
+      }
 
 pub record Unexports (old new : Graph) (k : ℕ) : Type 0 where
   pub node : NodeData
@@ -74,7 +81,8 @@ pub record Unexports (old new : Graph) (k : ℕ) : Type 0 where
 
 -- definitions are refused
 abbrev pub UnexportRefused : Graph → ℕ → UnexportError → Type 0
-UnexportRefused g k UnexportError.MustExportDefinition = (node : NodeData) × (node_at g k ≡ Some node) × (node.role ≡ Role.Defined)
+UnexportRefused g k UnexportError.MustExportDefinition =
+    (node : NodeData) × (node_at g k ≡ Some node) × (node.role ≡ Role.Defined)
 
 -- a node gets a name
 pub record Names (old new : Graph) (k : ℕ) (n : Name) : Type 0 where

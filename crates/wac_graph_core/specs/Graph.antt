@@ -119,7 +119,8 @@ pub record IsArgument (g : Graph) (i : ℕ) (n : Name) (item : ItemKind) : Type 
 
 -- the node is an instance with this export, of the stated type of this kind
 abbrev pub IsStatedExport : Graph → ℕ → Name → ItemKind → Type 0
-IsStatedExport g k n item = IsOfKind g k (λ x. (is_instance x ≡ true) × (value_at (exports_of (stated_of g.types x)) n ≡ Some (stated_of g.types item)))
+IsStatedExport g k n item =
+    IsOfKind g k (λ x. (is_instance x ≡ true) × (value_at (exports_of (stated_of g.types x)) n ≡ Some (stated_of g.types item)))
 
 -- the node is an instance of a package that has this import, with the stated type of this kind
 pub record IsStatedImport (g : Graph) (i : ℕ) (n : Name) (item : ItemKind) : Type 0 where
@@ -129,14 +130,16 @@ pub record IsStatedImport (g : Graph) (i : ℕ) (n : Name) (item : ItemKind) : T
 
 -- ---- what holds of each graph
 
--- a node's item stands, and its package where it is an instance of one: then its item is of the interface of the package's instances
+-- a node's item stands, and its package where it is an instance of one: then its item is of the interface of the package's
+-- instances
 pub record NodeStands (c : Collection) (ps : List Place) (n : NodeData) : Type 0 where
   pub item : Stands c n.item_kind
   pub of : (id : PackageId) → n.of ≡ Some id → IsSome (package_in ps id)
   pub made : n.role ≡ Role.Instance → IsSome n.of
   pub only : (id : PackageId) → n.of ≡ Some id → n.role ≡ Role.Instance
   pub defined : n.role ≡ Role.Defined → IsDefinedType n.item_kind
-  pub instance : (id : PackageId) (p : Packaged) → n.of ≡ Some id → package_in ps id ≡ Some p → n.item_kind ≡ ItemKind.Instance p.instance_type
+  pub instance : (id : PackageId) (p : Packaged) → n.of ≡ Some id → package_in ps id ≡ Some p
+      → n.item_kind ≡ ItemKind.Instance p.instance_type
 
 -- the one node is an instance, and its export of this name is the other's item, by their stated types
 pub record GivesExport (g : Graph) (i : ℕ) (n : Name) (k : ℕ) : Type 0 where
@@ -176,7 +179,8 @@ pub record EdgeStands (g : Graph) (e : Edge) : Type 0 where
 -- edges stand, and each alias is one of an export of an instance
 pub record AreWired (g : Graph) : Type 0 where
   pub edges : (e : Edge) → Among e g.edges → EdgeStands g e
-  pub sources : (k : ℕ) (x : NodeData) → node_at g k ≡ Some x → x.role ≡ Role.Aliased → (i : ℕ) × (n : Name) × HasAlias g.edges i n k
+  pub sources : (k : ℕ) (x : NodeData) → node_at g k ≡ Some x → x.role ≡ Role.Aliased
+      → (i : ℕ) × (n : Name) × HasAlias g.edges i n k
 
 -- exports have names of their own and stand; a node's export name is its
 pub record AreExports (nodes : NodeMap) (exports : List (Name × ℕ)) : Type 0 where
@@ -188,7 +192,8 @@ pub record AreExports (nodes : NodeMap) (exports : List (Name × ℕ)) : Type 0 
 pub record ArePlaces (c : Collection) (ps : List Place) : Type 0 where
   pub stand : (id : PackageId) (p : Packaged) → package_in ps id ≡ Some p → PackageStands c p
   pub low : (i : ℕ) (p : Place) → slice_get ps i ≡ Some p → IsSome p.held → p.generation < 18446744073709551615
-  pub once : (i j : PackageId) (p q : Packaged) → package_in ps i ≡ Some p → package_in ps j ≡ Some q → package_key p ≡ package_key q → i ≡ j
+  pub once : (i j : PackageId) (p q : Packaged) → package_in ps i ≡ Some p → package_in ps j ≡ Some q
+      → package_key p ≡ package_key q → i ≡ j
 
 pub record IsGraph (g : Graph) : Type 0 where
   pub nodes : (k : ℕ) (n : NodeData) → node_at g k ≡ Some n → NodeStands g.types g.places n

@@ -15,7 +15,8 @@ module _ (spell : Name → Name) (written : ItemKind → Tree) (g : Graph) where
   pub data Denotes : ℕ → Source ℕ → Type 0 where
     imported : {k : ℕ} (x : NodeData) (n : Name) → node_at g k ≡ Some x → x.role ≡ Role.Imported n → Denotes k (Outer (spell n))
     instance : {k : ℕ} (x : NodeData) → node_at g k ≡ Some x → x.role ≡ Role.Instance → Denotes k (Inst k)
-    defined : {k : ℕ} (x : NodeData) → node_at g k ≡ Some x → x.role ≡ Role.Defined → Denotes k (Definition (written x.item_kind))
+    defined : {k : ℕ} (x : NodeData) → node_at g k ≡ Some x → x.role ≡ Role.Defined
+        → Denotes k (Definition (written x.item_kind))
     aliased : {k : ℕ} {s : Source ℕ} (i : ℕ) (n : Name) → HasAlias g.edges i n k → Denotes i s → Denotes k (project s n)
 
   -- what an import of an instance is bound to: its argument, or else the outer import of its name
@@ -32,7 +33,8 @@ module _ (spell : Name → Name) (written : ItemKind → Tree) (g : Graph) where
 
   pub record IsWiring (asks : Name → Option Tree) (W : Wiring ℕ) : Type 0 where
     pub outers : (n : Name) → W.outers n ≡ asks n
-    pub instances : (k : ℕ) (p : Packaged) → instantiated g k ≡ Some p → (x : Instantiation ℕ) × (W.at k ≡ Some x) × IsInstance k p x
+    pub instances : (k : ℕ) (p : Packaged) → instantiated g k ≡ Some p
+        → (x : Instantiation ℕ) × (W.at k ≡ Some x) × IsInstance k p x
     pub no_other : (k : ℕ) → instantiated g k ≡ None → W.at k ≡ None
     pub exported : (n : Name) (k : ℕ) → value_at g.exports n ≡ Some k → Denotes k (W.exports n)
     pub no_export : (n : Name) → value_at g.exports n ≡ None → W.exports n ≡ Absent

@@ -48,7 +48,8 @@ IsNodeNoted old x id new = (nodes : NodeMap) → HasNotes old nodes → HasNotes
 
 -- what is known of nodes is known of them with one less
 abbrev pub IsNodeForgotten : Option Noted → NodeData → Option Noted → Type 0
-IsNodeForgotten old x new = (nodes : NodeMap) (k : ℕ) → map.get nodes k ≡ Some x → HasNotes old nodes → HasNotes new (map.remove nodes k)
+IsNodeForgotten old x new =
+    (nodes : NodeMap) (k : ℕ) → map.get nodes k ≡ Some x → HasNotes old nodes → HasNotes new (map.remove nodes k)
 
 -- this is the definition of the type, if it has one
 abbrev pub TellsDefinition : NodeMap → TypeKind → Option ℕ → Type 0

@@ -73,7 +73,8 @@ pub record Registers (old new : Graph) (p : Packaged) (id : PackageId) : Type 0 
 
 abbrev pub RegisterRefused : Graph → Packaged → RegisterPackageError → Type 0
 RegisterRefused g p (RegisterPackageError.PackageAlreadyRegistered key) =
-    (owned_key key ≡ package_key p) × (id : PackageId) × (q : Packaged) × (package_of g id ≡ Some q) × (package_key q ≡ package_key p)
+    (owned_key key ≡ package_key p) × (id : PackageId) × (q : Packaged) × (package_of g id ≡ Some q)
+    × (package_key q ≡ package_key p)
 RegisterRefused g p RegisterPackageError.Memory = Unit {0}
 
 -- the place is empty, with a generation one higher
@@ -94,7 +95,8 @@ shown_at i (Some p) = option_map (λ q. (record { place = i; generation = p.gene
 
 -- each place is still there, and its generation is no lower
 abbrev pub PlacesGrow : List Place → List Place → Type 0
-PlacesGrow old new = (i : ℕ) (p : Place) → slice_get old i ≡ Some p → (q : Place) × (slice_get new i ≡ Some q) × (p.generation ≤ q.generation)
+PlacesGrow old new =
+    (i : ℕ) (p : Place) → slice_get old i ≡ Some p → (q : Place) × (slice_get new i ≡ Some q) × (p.generation ≤ q.generation)
 
 -- the id was given up: its place is of a later generation
 pub record IsStale (g : Graph) (id : PackageId) : Type 0 where

@@ -36,11 +36,13 @@ AliasRefused g i n AliasError.Memory = Unit {0}
 
 -- the steps of the checker's fault lead to where the two trees disagree; what is asked there is called as it says is expected,
 -- what is given as it says is found
-pub record Mismatches (c : Collection) (given : ItemKind) (d : Collection) (asked : ItemKind) (fault : SubtypeError) : Type 0 where
+pub record Mismatches (c : Collection) (given : ItemKind) (d : Collection) (asked : ItemKind)
+    (fault : SubtypeError) : Type 0 where
   pub steps : List Step
   pub are : steps_of fault ≡ Some steps
   pub disagree : Disagree steps (tree_in c given) (tree_in d asked)
-  pub words : (expected found : Option Name) → words_of fault ≡ Some (steps, (expected, found)) → Called d asked steps expected × Called c given steps found
+  pub words : (expected found : Option Name) → words_of fault ≡ Some (steps, (expected, found))
+      → Called d asked steps expected × Called c given steps found
   pub differ : Fit c given d asked → ⊥
 
 -- none where the one fits the other, and else the fault
@@ -82,7 +84,8 @@ pub record IsOpen (g : Graph) (i : ℕ) (n : Name) (item : ItemKind) : Type 0 wh
 -- no import of an instance: neither an argument that is there, another type nor a circle is a cause
 abbrev pub LacksImport : Graph → ℕ → Name → InstantiationArgumentError → Type 0
 LacksImport g i n (InstantiationArgumentError.NodeIsNotAnInstantiation k) = (k ≡ i) × (instantiated g i ≡ None)
-LacksImport g i n (InstantiationArgumentError.InvalidArgumentName k m p) = (k ≡ i) × (string_bytes m ≡ n) × LacksArgument g i n (string_bytes p)
+LacksImport g i n (InstantiationArgumentError.InvalidArgumentName k m p) =
+    (k ≡ i) × (string_bytes m ≡ n) × LacksArgument g i n (string_bytes p)
 LacksImport g i n (InstantiationArgumentError.ArgumentAlreadyPassed k m) = ⊥
 LacksImport g i n (InstantiationArgumentError.ArgumentTypeMismatch m fault) = ⊥
 LacksImport g i n (InstantiationArgumentError.WouldFormCycle k) = ⊥
@@ -90,7 +93,8 @@ LacksImport g i n InstantiationArgumentError.Memory = Unit {0}
 
 abbrev pub ArgumentRefused : Graph → ℕ → Name → ℕ → InstantiationArgumentError → Type 0
 ArgumentRefused g i n a (InstantiationArgumentError.NodeIsNotAnInstantiation k) = (k ≡ i) × (instantiated g i ≡ None)
-ArgumentRefused g i n a (InstantiationArgumentError.InvalidArgumentName k m p) = (k ≡ i) × (string_bytes m ≡ n) × LacksArgument g i n (string_bytes p)
+ArgumentRefused g i n a (InstantiationArgumentError.InvalidArgumentName k m p) =
+    (k ≡ i) × (string_bytes m ≡ n) × LacksArgument g i n (string_bytes p)
 ArgumentRefused g i n a (InstantiationArgumentError.ArgumentAlreadyPassed k m) =
     (k ≡ i) × (string_bytes m ≡ n) × (item : ItemKind) × IsArgument g i n item × (b : ℕ) × HasArgument g.edges i n b × (b ≢ a)
 ArgumentRefused g i n a (InstantiationArgumentError.ArgumentTypeMismatch m fault) =

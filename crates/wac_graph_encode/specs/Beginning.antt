@@ -1,5 +1,5 @@
--- When the root of a component is begun: types and outer imports are written in a scope, and packages are imported or nested behind
--- them.
+-- When the root of a component is begun: types and outer imports are written in a scope, and packages are imported or nested
+-- behind them.
 use Rattle.std.specs.Prelude.{◌≡◌, ℕ, Bool, true, false, List, [], map, Option, Some, Result, OnOk, slice_get}
 use Rattle.wac_types_base.specs.declared.ids.WorldId.{WorldId}
 use Rattle.wac_types_base.specs.Entries.{AreDistinct, Name, names_of, value_at}
@@ -28,9 +28,11 @@ abbrev pub AreTold : (define : Bool) → Graph → Worlds → List PackageId →
 AreTold define g w ids = (id : PackageId) → Among id ids → IsTold define g w id
 
 -- where only types and outer imports are written, these stand for nodes, and those for the outer imports that are asked
-pub record IsRooted (g : Graph) (w : Worlds) (called : List Called) (i : Inside) (nodes : List (ℕ × SortIndex)) (imports : List (Option SortIndex)) : Type 0 where
+pub record IsRooted (g : Graph) (w : Worlds) (called : List Called) (i : Inside) (nodes : List (ℕ × SortIndex))
+    (imports : List (Option SortIndex)) : Type 0 where
   pub nodes_stand : (k : ℕ) (p : SortIndex) → Among (k, p) nodes → StandsAt g w (at_root i) [] k p
-  pub outers_stand : (one : Called) (p : SortIndex) → Among one called → slice_get imports one.at ≡ Some (Some p) → IsOuterAt g w (at_root i) one.name p
+  pub outers_stand : (one : Called) (p : SortIndex) → Among one called → slice_get imports one.at ≡ Some (Some p)
+      → IsOuterAt g w (at_root i) one.name p
 
 abbrev pub IsBare : Root → Type 0
 IsBare root = (root.entries.items ≡ []) × (root.packages.entries ≡ [])
@@ -38,13 +40,18 @@ IsBare root = (root.entries.items ≡ []) × (root.packages.entries ≡ [])
 -- the root is begun, with these outer imports and with the packages
 abbrev pub IsBegunWith : Writing → Worlds → List (Name × Tree) → List Called → Root → Type 0
 IsBegunWith x w imports called root =
-    IsBegun x.options.now.define_components w (with_packages x.options.now.define_components x.graph.now x.all.types.now x.worlds.now.entries imports) called x.graph.now root
+    IsBegun x.options.now.define_components w (with_packages x.options.now.define_components x.graph.now x.all.types.now
+    x.worlds.now.entries imports) called x.graph.now root
 
 -- The root is begun, with the packages behind what is in the scope, where nothing stood at the root but nodes.
 abbrev pub Begins : {U E : Type 0} → Writing → ImportScope → Root → Root → Result U E → Type 0
-Begins x scope old new r = (w : Worlds) (world : WorldId) (imported : List Name) (called : List Called) (h : WritesWorld w x.all.types.now [] world scope imported [])
-    → IsBare old → AreWorldsOf x.graph.now x.all.types.now x.worlds.now.entries → AreTold x.options.now.define_components x.graph.now w (names_of x.worlds.now.entries)
-    → IsRooted x.graph.now w called h.writing.inside old.nodes.entries scope.places.items → OnOk r (IsBegunWith x w h.writing.inside.imports called new)
+Begins x scope old new r =
+    (w : Worlds) (world : WorldId) (imported : List Name) (called : List Called)
+    (h : WritesWorld w x.all.types.now [] world scope imported [])
+    → IsBare old → AreWorldsOf x.graph.now x.all.types.now x.worlds.now.entries
+    → AreTold x.options.now.define_components x.graph.now w (names_of x.worlds.now.entries)
+    → IsRooted x.graph.now w called h.writing.inside old.nodes.entries scope.places.items
+    → OnOk r (IsBegunWith x w h.writing.inside.imports called new)
 
 -- ---- from a new scope on
 
@@ -55,7 +62,8 @@ pub record IsBegunRoot (x : Writing) (w : Worlds) (called : List Called) (root :
   pub asked : (n : Name) → value_at imports n ≡ asked_trees x.graph.now n
   pub begun : IsBegunWith x w imports called root
 
--- what is to be written: the outer imports of the graph, the packages' worlds, and its definitions in the forms in which they are written
+-- what is to be written: the outer imports of the graph, the packages' worlds, and its definitions in the forms in which they
+-- are written
 pub record IsToBegin (x : Writing) : Type 0 where
   pub outers : IsOuters x.graph.now x.all.types.now x.all.world x.all.called.now
   pub worlds : AreWorldsOf x.graph.now x.all.types.now x.worlds.now.entries
@@ -67,7 +75,11 @@ nested_bytes true g ids = map (bytes_of g) ids
 nested_bytes false g ids = []
 
 abbrev pub NestsThese : {U E : Type 0} → Writing → Root → Root → Result U E → Type 0
-NestsThese x old new r = IsBare old → OnOk r (nested_at new.entries.items ≡ nested_bytes x.options.now.define_components x.graph.now (names_of x.worlds.now.entries))
+NestsThese x old new r = IsBare old
+    → OnOk r (nested_at new.entries.items
+    ≡ nested_bytes x.options.now.define_components x.graph.now (names_of x.worlds.now.entries))
 
 abbrev pub BeginsRoot : {U E : Type 0} → Writing → Root → Root → Result U E → Type 0
-BeginsRoot x old new r = IsToBegin x → IsBare old → (w : Worlds) → AreTold x.options.now.define_components x.graph.now w (names_of x.worlds.now.entries) → OnOk r (IsBegunRoot x w x.all.called.now new)
+BeginsRoot x old new r = IsToBegin x → IsBare old → (w : Worlds)
+    → AreTold x.options.now.define_components x.graph.now w (names_of x.worlds.now.entries)
+    → OnOk r (IsBegunRoot x w x.all.called.now new)

@@ -45,20 +45,25 @@ abbrev pub AreToWrite : Graph → Collection → List Definition → Type 0
 AreToWrite g c xs = (x : Definition) → Among x xs → IsToWrite g c x
 
 -- The world is written on, what is known of the graph's types is true there, and the nodes stand.
-pub record HoldsDefinitions (g : Graph) (w : Worlds) (c : Collection) (world : WorldId) (i : Inside) (imported : List Name) (s : ImportScope) (known : KnownTypes) (nodes : List (ℕ × SortIndex)) : Type 0 where
+pub record HoldsDefinitions (g : Graph) (w : Worlds) (c : Collection) (world : WorldId) (i : Inside) (imported : List Name)
+    (s : ImportScope) (known : KnownTypes) (nodes : List (ℕ × SortIndex)) : Type 0 where
   pub written : WritesOn w c [] world i s imported []
   pub knows : AreKnown w (written.goes.writing.inside.here ∷ []) g.types known
   pub stand : (k : ℕ) (p : SortIndex) → Among (k, p) nodes → StandsAt g w (at_root written.goes.writing.inside) [] k p
 
 -- The world is written on, and what is so described is a type of its own, as the definition is written.
-pub record DefinesIn (g : Graph) (w : Worlds) (c : Collection) (world : WorldId) (i : Inside) (imported : List Name) (x : Definition) (s : ImportScope) (known : KnownTypes) (d : Description) : Type 0 where
+pub record DefinesIn (g : Graph) (w : Worlds) (c : Collection) (world : WorldId) (i : Inside) (imported : List Name)
+    (x : Definition) (s : ImportScope) (known : KnownTypes) (d : Description) : Type 0 where
   pub goes : WritesWorld w c [] world s imported []
   pub on : GoesOn i goes.writing.inside
   pub knows : AreKnown w (goes.writing.inside.here ∷ []) g.types known
   pub entry : IsTypeEntry goes.writing.inside (written_tree g (ItemKind.Ty x.ty)) d
 
-abbrev pub WritesDefinition : {E : Type 0} → Graph → Importing → Definition → (old : ImportScope) → (before : KnownTypes) → (new : ImportScope) → (after : KnownTypes) → Result Description E → Type 0
-WritesDefinition g a x old before new after r = IsToWrite g a.types.now x → (w : Worlds) (i : Inside) (imported : List Name) (h : WritesOn w a.types.now [] a.world i old imported []) → AreKnown w (h.goes.writing.inside.here ∷ []) g.types before
+abbrev pub WritesDefinition : {E : Type 0} → Graph → Importing → Definition → (old : ImportScope) → (before : KnownTypes)
+    → (new : ImportScope) → (after : KnownTypes) → Result Description E → Type 0
+WritesDefinition g a x old before new after r = IsToWrite g a.types.now x
+    → (w : Worlds) (i : Inside) (imported : List Name) (h : WritesOn w a.types.now [] a.world i old imported [])
+    → AreKnown w (h.goes.writing.inside.here ∷ []) g.types before
     → IfOk r (DefinesIn g w a.types.now a.world i imported x new after)
 
 -- ---- with the nodes that stand
@@ -66,13 +71,19 @@ WritesDefinition g a x old before new after r = IsToWrite g a.types.now x → (w
 abbrev pub HoldsDefined : Graph → Worlds → Importing → Inside → List Name → ImportScope → Defined → Type 0
 HoldsDefined g w a i imported s d = HoldsDefinitions g w a.types.now a.world i imported s d.known d.nodes.entries
 
-abbrev pub AddsDefinitions : {U E : Type 0} → Graph → Importing → List Definition → ImportScope → Defined → ImportScope → Defined → Result U E → Type 0
-AddsDefinitions g a xs old before new after r = IsGraph g → AreToWrite g a.types.now xs → (w : Worlds) (i : Inside) (imported : List Name) → HoldsDefined g w a i imported old before → OnOk r (HoldsDefined g w a i imported new after)
+abbrev pub AddsDefinitions : {U E : Type 0} → Graph → Importing → List Definition → ImportScope → Defined → ImportScope → Defined
+    → Result U E → Type 0
+AddsDefinitions g a xs old before new after r = IsGraph g → AreToWrite g a.types.now xs
+    → (w : Worlds) (i : Inside) (imported : List Name) → HoldsDefined g w a i imported old before
+    → OnOk r (HoldsDefined g w a i imported new after)
 
 -- the world is written on with the definitions, and their nodes stand
-pub record AreDefined (g : Graph) (w : Worlds) (a : Importing) (i : Inside) (imported : List Name) (s : ImportScope) (nodes : List (ℕ × SortIndex)) : Type 0 where
+pub record AreDefined (g : Graph) (w : Worlds) (a : Importing) (i : Inside) (imported : List Name) (s : ImportScope)
+    (nodes : List (ℕ × SortIndex)) : Type 0 where
   pub known : KnownTypes
   pub holds : HoldsDefinitions g w a.types.now a.world i imported s known nodes
 
 abbrev pub WritesDefinitions : Graph → Importing → List Definition → (old new : ImportScope) → List (ℕ × SortIndex) → Type 0
-WritesDefinitions g a xs old new nodes = IsGraph g → AreToWrite g a.types.now xs → (w : Worlds) (i : Inside) (imported : List Name) → WritesOn w a.types.now [] a.world i old imported [] → AreDefined g w a i imported new nodes
+WritesDefinitions g a xs old new nodes = IsGraph g → AreToWrite g a.types.now xs
+    → (w : Worlds) (i : Inside) (imported : List Name) → WritesOn w a.types.now [] a.world i old imported []
+    → AreDefined g w a i imported new nodes

@@ -56,7 +56,8 @@ tag_of false p = OfDependency (dependency_name (package_key p))
 
 -- the worlds say of each package that is instantiated what its stated world says
 pub record AreTrueOf (define : Bool) (g : Graph) (worlds : Worlds) : Type 0 where
-  pub each : (k : ℕ) (p : Packaged) → instantiated g k ≡ Some p → worlds (tag_of define p) ≡ tree_of g.types (ItemKind.Instance p.instance_type)
+  pub each : (k : ℕ) (p : Packaged) → instantiated g k ≡ Some p
+      → worlds (tag_of define p) ≡ tree_of g.types (ItemKind.Instance p.instance_type)
 
 abbrev pub IsInstantiated : Graph → Packaged → Type 0
 IsInstantiated g p = (k : ℕ) × (instantiated g k ≡ Some p)
@@ -88,7 +89,8 @@ abbrev pub nested_strings : (define : Bool) → List Packaged → List (List ℕ
 nested_strings true packages = map (λ p. p.bytes) packages
 nested_strings false packages = []
 
--- The component has nested the packages that are instantiated, in some order, each once and unchanged; none where they are imported.
+-- The component has nested the packages that are instantiated, in some order, each once and unchanged; none where they are
+-- imported.
 pub record NestsPackages (define : Bool) (g : Graph) (bytes : List ℕ) : Type 0 where
   pub packages : List Packaged
   pub once : AreDistinct (map package_key packages)
@@ -102,7 +104,8 @@ pub record NestsPackages (define : Bool) (g : Graph) (bytes : List ℕ) : Type 0
 -- where packages are imported, this one is: as a component of its stated world, under its dependency's name
 abbrev pub IsImportedIn : (define : Bool) → Graph → Packaged → List (Name × Tree) → Type 0
 IsImportedIn true g p imports = Unit {0}
-IsImportedIn false g p imports = Among (dependency_name (package_key p), tree (stated_of g.types (ItemKind.Component p.ty))) imports
+IsImportedIn false g p imports =
+    Among (dependency_name (package_key p), tree (stated_of g.types (ItemKind.Component p.ty))) imports
 
 -- In these worlds the bytes mean the graph's wiring, of which there is one, but for the numbers of instances.
 pub record MeansGraph (define : Bool) (g : Graph) (worlds : Worlds) (bytes : List ℕ) : Type 0 where
@@ -120,7 +123,7 @@ pub record IsComposed (define : Bool) (g : Graph) (bytes : List ℕ) : Type 0 wh
   pub nests : NestsPackages define g bytes
   pub means : MeansWiring define g bytes
 
--- The world that is handed out states what the composition asks of the outside and exports, with order, identifiers and uses, and
--- no world in it has uses of its own.
+-- The world that is handed out states what the composition asks of the outside and exports, with order, identifiers and uses,
+-- and no world in it has uses of its own.
 abbrev pub HasTrueWorld : Graph → Collection → WorldId → Type 0
 HasTrueWorld g types world = IsOf types (composed_world (composition_of g)) (ItemKind.Component world)

@@ -35,9 +35,11 @@ use Rattle.wac_graph_encode.specs.Worlds.{IsToHandOut}
 use Rattle.wac_graph_encode.specs.Beginning.{AreTold, IsBare, IsToBegin, nested_bytes}
 use Rattle.wac_graph_encode.specs.Importing.{AreToImport, AreWorldsOf}
 
--- Entries that are finished over the outer imports that the graph asks, with the packages nested, state each wiring of the graph.
+-- Entries that are finished over the outer imports that the graph asks, with the packages nested, state each wiring of the
+-- graph.
 abbrev pub FinishedIsWired : Type 0
-FinishedIsWired = (g : Graph) (worlds : Worlds) (asked : List (Name × Tree)) (es : List CodeEntry) (W : Wiring ℕ) → IsGraph g → ((n : Name) → value_at asked n ≡ asked_trees g n)
+FinishedIsWired = (g : Graph) (worlds : Worlds) (asked : List (Name × Tree)) (es : List CodeEntry) (W : Wiring ℕ) → IsGraph g
+    → ((n : Name) → value_at asked n ≡ asked_trees g n)
     → (done : IsFinished g worlds true asked es) → IsGraphWiring g W → Same W (wiring_of done.state.listed)
 
 -- ---- the bytes of entries
@@ -55,11 +57,13 @@ AreInstantiated g ids = ids ≡ with_ids [] (package_ids g)
 
 -- Where this holds and the packages can be nested or imported, so it is in each world that is told of them.
 abbrev pub MeansSo : {E : Type 0} → (define : Bool) → Graph → List PackageId → (P : Type 0) → Result (Vec ℕ Global) E → Type 0
-MeansSo define g ids P r = P → AreInstantiated g ids → AreToImport define g ids → (w : Worlds) → AreTold define g w ids → IfOk r (λ bytes. MeansGraph define g w bytes.items)
+MeansSo define g ids P r = P → AreInstantiated g ids → AreToImport define g ids → (w : Worlds) → AreTold define g w ids
+    → IfOk r (λ bytes. MeansGraph define g w bytes.items)
 
 -- where nothing of the graph is written yet
 abbrev pub MeansWired : {E : Type 0} → Writing → Wired → Result (Vec ℕ Global) E → Type 0
-MeansWired x old r = old.graph.now ≡ x.graph.now → IsBare old.root → MeansSo x.options.now.define_components x.graph.now (names_of x.worlds.now.entries) (IsToBegin x) r
+MeansWired x old r = old.graph.now ≡ x.graph.now → IsBare old.root
+    → MeansSo x.options.now.define_components x.graph.now (names_of x.worlds.now.entries) (IsToBegin x) r
 
 -- the bytes nest the packages of these ids, in order and unchanged, or none, and nothing else
 pub record NestsBytes (define : Bool) (g : Graph) (ids : List PackageId) (bytes : List ℕ) : Type 0 where
@@ -75,9 +79,12 @@ abbrev pub NestsWired : {E : Type 0} → Writing → Wired → Result (Vec ℕ G
 NestsWired x old r = IsBare old.root → NestsSo x.options.now.define_components x.graph.now (names_of x.worlds.now.entries) r
 
 -- of the graph's outer imports, with its definitions in the forms in which they are written
-abbrev pub MeansAsked : {E : Type 0} → Graph → Asked → Outers → List Definition → EncodeOptions → Result (Vec ℕ Global) E → Type 0
+abbrev pub MeansAsked : {E : Type 0} → Graph → Asked → Outers → List Definition → EncodeOptions → Result (Vec ℕ Global) E
+    → Type 0
 MeansAsked g asked outers xs options r =
-    MeansSo options.define_components g (names_of asked.packages.entries) (IsOuters g asked.types outers.world outers.called.items × AreWorldsOf g asked.types asked.packages.entries × AreToWrite g asked.types xs) r
+    MeansSo options.define_components g (names_of asked.packages.entries)
+    (IsOuters g asked.types outers.world outers.called.items × AreWorldsOf g asked.types asked.packages.entries
+    × AreToWrite g asked.types xs) r
 
 -- ---- once all is asked
 

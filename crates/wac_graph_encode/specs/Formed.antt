@@ -46,4 +46,5 @@ FormsAll old new xs r = (c : Collection) → AreCopied c old xs → IfOk r (λ v
 
 -- those that were formed before stay, and the others are formed behind them
 abbrev pub FormsMore : {U E : Type 0} → (old new : Collection) → (xs before after : List Definition) → Result U E → Type 0
-FormsMore old new xs before after r = (c : Collection) → AreCopied c old xs → (ws : List Definition) → AreFormed c old ws before → IfOk r (λ _. AreFormed c new (ws ++ xs) after)
+FormsMore old new xs before after r = (c : Collection) → AreCopied c old xs → (ws : List Definition) → AreFormed c old ws before
+    → IfOk r (λ _. AreFormed c new (ws ++ xs) after)

@@ -56,7 +56,8 @@ AreToImport false g ids = AreImportable g ids
 -- ---- in a scope
 
 -- what stood stands, with one more import: a component of that world, under that name, at the index
-pub record HasImported (w : Worlds) (c : Collection) (i : Inside) (n : Name) (world : WorldId) (s : ItemScope) (index : ℕ) : Type 0 where
+pub record HasImported (w : Worlds) (c : Collection) (i : Inside) (n : Name) (world : WorldId) (s : ItemScope)
+    (index : ℕ) : Type 0 where
   pub after : Inside
   pub stands : IsItemScope w c [] after s
   pub extends : Extends i.here after.here
@@ -65,24 +66,29 @@ pub record HasImported (w : Worlds) (c : Collection) (i : Inside) (n : Name) (wo
   pub at : slice_get after.here.components index ≡ Some (Item n sort.Component (tree_in c (ItemKind.Component world)))
 
 abbrev pub ImportsComponent : {E : Type 0} → Collection → Name → WorldId → ItemScope → ItemScope → Result ℕ E → Type 0
-ImportsComponent c n world old new r = Stands c (ItemKind.Component world) → (w : Worlds) (i : Inside) → IsItemScope w c [] i old → IfOk r (HasImported w c i n world new)
+ImportsComponent c n world old new r = Stands c (ItemKind.Component world) → (w : Worlds) (i : Inside) → IsItemScope w c [] i old
+    → IfOk r (HasImported w c i n world new)
 
 -- the package's import is noted by its index
-pub record NotesImport (w : Worlds) (g : Graph) (c : Collection) (i : Inside) (id : PackageId) (world : WorldId) (s : ItemScope) (before after : List (PackageId × ℕ)) : Type 0 where
+pub record NotesImport (w : Worlds) (g : Graph) (c : Collection) (i : Inside) (id : PackageId) (world : WorldId) (s : ItemScope)
+    (before after : List (PackageId × ℕ)) : Type 0 where
   pub index : ℕ
   pub import : HasImported w c i (dependency_of g id) world s index
   pub noted : after ≡ insert_entry package_id.eq-value.it before id index
 
-abbrev pub ImportsPackage : {S U E : Type 0} → Graph → Collection → PackageId → WorldId → ImportScope → IndexMap PackageId ℕ S → ImportScope → IndexMap PackageId ℕ S → Result U E → Type 0
+abbrev pub ImportsPackage : {S U E : Type 0} → Graph → Collection → PackageId → WorldId → ImportScope → IndexMap PackageId ℕ S
+    → ImportScope → IndexMap PackageId ℕ S → Result U E → Type 0
 ImportsPackage g c id world old before new after r =
-    Stands c (ItemKind.Component world) → (w : Worlds) (i : Inside) → IsItemScope w c [] i old.scope → OnOk r (NotesImport w g c i id world new.scope before.entries after.entries)
+    Stands c (ItemKind.Component world) → (w : Worlds) (i : Inside) → IsItemScope w c [] i old.scope
+    → OnOk r (NotesImport w g c i id world new.scope before.entries after.entries)
 
 -- the index stands for the package as it is imported
 abbrev pub IsImportedAt : Graph → Inside → PackageId → ℕ → Type 0
 IsImportedAt g i id index = (t : Tree) × (slice_get i.here.components index ≡ Some (Item (dependency_of g id) sort.Component t))
 
 -- what stood stands, with the packages imported behind it; each index that is noted stands for its package
-pub record HasImportedAll (w : Worlds) (g : Graph) (c : Collection) (i : Inside) (ps : Packages) (s : ItemScope) (held : List (PackageId × ℕ)) : Type 0 where
+pub record HasImportedAll (w : Worlds) (g : Graph) (c : Collection) (i : Inside) (ps : Packages) (s : ItemScope)
+    (held : List (PackageId × ℕ)) : Type 0 where
   pub after : Inside
   pub stands : IsItemScope w c [] after s
   pub extends : Extends i.here after.here
@@ -92,9 +98,11 @@ pub record HasImportedAll (w : Worlds) (g : Graph) (c : Collection) (i : Inside)
   pub stand : (id : PackageId) (index : ℕ) → Among (id, index) held → IsImportedAt g after id index
 
 -- where none is noted yet
-abbrev pub ImportsAll : {S U E : Type 0} → Graph → Collection → Packages → ImportScope → IndexMap PackageId ℕ S → ImportScope → IndexMap PackageId ℕ S → Result U E → Type 0
+abbrev pub ImportsAll : {S U E : Type 0} → Graph → Collection → Packages → ImportScope → IndexMap PackageId ℕ S → ImportScope
+    → IndexMap PackageId ℕ S → Result U E → Type 0
 ImportsAll g c ps old before new after r =
-    before.entries ≡ [] → AreWorldsOf g c ps → (w : Worlds) (i : Inside) → IsItemScope w c [] i old.scope → OnOk r (HasImportedAll w g c i ps new.scope after.entries)
+    before.entries ≡ [] → AreWorldsOf g c ps → (w : Worlds) (i : Inside) → IsItemScope w c [] i old.scope
+    → OnOk r (HasImportedAll w g c i ps new.scope after.entries)
 
 -- ---- at the root
 
@@ -102,7 +110,8 @@ ImportsAll g c ps old before new after r =
 pub record ImportsBefore (g : Graph) (c : Collection) (ps : Packages) (scope : ImportScope) (old new : Root) : Type 0 where
   pub between : ImportScope
   pub mid : Root
-  pub imported : old.packages.entries ≡ [] → AreWorldsOf g c ps → (w : Worlds) (i : Inside) → IsItemScope w c [] i scope.scope → HasImportedAll w g c i ps between.scope mid.packages.entries
+  pub imported : old.packages.entries ≡ [] → AreWorldsOf g c ps → (w : Worlds) (i : Inside) → IsItemScope w c [] i scope.scope
+      → HasImportedAll w g c i ps between.scope mid.packages.entries
   pub places : between.places ≡ scope.places
   pub entries : mid.entries ≡ old.entries
   pub nodes : mid.nodes ≡ old.nodes

@@ -30,7 +30,8 @@ pub record KeepsOthers (old new : Root) : Type 0 where
 pub record NestsOne (id : PackageId) (bytes : List ℕ) (old new : Root) : Type 0 where
   pub entry : AddsEntry old.entries.items new.entries.items (Nested bytes)
   pub counts : CountsOne sort.Component old.counts new.counts
-  pub packages : new.packages.entries ≡ insert_entry package_id.eq-value.it old.packages.entries id (counted old.counts sort.Component)
+  pub packages : new.packages.entries
+      ≡ insert_entry package_id.eq-value.it old.packages.entries id (counted old.counts sort.Component)
   pub others : KeepsOthers old new
 
 -- these under that index and those after it
@@ -42,7 +43,8 @@ numbered k (x ∷ xs) = (x, k) ∷ numbered (k + 1) xs
 pub record NestsAll (g : Graph) (ids : List PackageId) (old new : Root) : Type 0 where
   pub entries : AddsRead old.entries.items new.entries.items (map (λ id. Nested (bytes_of g id)) ids)
   pub counts : (s : Sort) → counted new.counts s ≡ counted old.counts s + (if same_sort s sort.Component then length ids else 0)
-  pub packages : new.packages.entries ≡ insert_all package_id.eq-value.it old.packages.entries (numbered (counted old.counts sort.Component) ids)
+  pub packages : new.packages.entries
+      ≡ insert_all package_id.eq-value.it old.packages.entries (numbered (counted old.counts sort.Component) ids)
   pub others : KeepsOthers old new
 
 -- what is written in the scope is taken to the root, and the packages are nested behind it

@@ -29,11 +29,14 @@ module _ (options : EncodeOptions) (g : Graph) where
   -- The error tells the first cause, or the first names that are alike. Of types that cannot be written since imports use each
   -- other in a circle, of sizes and of memory nothing is said.
   abbrev pub IsErrorFor : EncodeError → Type 0
-  IsErrorFor (EncodeError.ImplicitImportConflict import instantiation key n) = (cause_in ≡ Some (ImplicitImport (string_bytes n) import instantiation)) × IsKeyOf g instantiation key
+  IsErrorFor (EncodeError.ImplicitImportConflict import instantiation key n) =
+      (cause_in ≡ Some (ImplicitImport (string_bytes n) import instantiation)) × IsKeyOf g instantiation key
   IsErrorFor (EncodeError.ExplicitImportConflict n first second) = cause_in ≡ Some (ExplicitImport (string_bytes n) first second)
-  IsErrorFor (EncodeError.ImportTypeMergeConflict n first second source) = cause_in ≡ Some (ImportTypes (string_bytes n) first second)
+  IsErrorFor (EncodeError.ImportTypeMergeConflict n first second source) =
+      cause_in ≡ Some (ImportTypes (string_bytes n) first second)
   IsErrorFor (EncodeError.TypeCannotBeWritten n) = IsUnwritable (string_bytes n)
-  IsErrorFor (EncodeError.ValidationFailure fault) = alike_cause options.define_components options.validate g ≡ Some (names_told fault)
+  IsErrorFor (EncodeError.ValidationFailure fault) =
+      alike_cause options.define_components options.validate g ≡ Some (names_told fault)
   IsErrorFor (EncodeError.GraphContainsCycle node) = ⊥
   IsErrorFor e = Unit {0}
 

@@ -32,16 +32,19 @@ pub record IsNewScope (s : ImportScope) : Type 0 where
 
 -- all imports of the world are written in a new scope, and nothing is exported
 abbrev pub WritesOuters : {U E : Type 0} → Importing → ImportScope → ImportScope → Result U E → Type 0
-WritesOuters a old new r = IsNewScope old → (w : Worlds) (outer : List Scope) → OnOk r (WritesAllImports w a.types.now outer a.world new [])
+WritesOuters a old new r =
+    IsNewScope old → (w : Worlds) (outer : List Scope) → OnOk r (WritesAllImports w a.types.now outer a.world new [])
 
 -- the world is written on, and what is so described is the item, whatever its name
 abbrev pub WritesItem : {E : Type 0} → Importing → ItemKind → ImportScope → ImportScope → Result Description E → Type 0
-WritesItem a kind old new r = (n : Name) (w : Worlds) (outer : List Scope) (i : Inside) (imported exported : List Name) → WritesOn w a.types.now outer a.world i old imported exported
+WritesItem a kind old new r = (n : Name) (w : Worlds) (outer : List Scope) (i : Inside) (imported exported : List Name)
+    → WritesOn w a.types.now outer a.world i old imported exported
     → IfOk r (DescribesIn w a.types.now outer a.world i n kind new imported exported)
 
 -- what is so described is a type entry of its own
 abbrev pub WritesOwn : {E : Type 0} → Importing → ImportScope → ImportScope → Result Description E → Type 0
-WritesOwn a old new r = (w : Worlds) (outer : List Scope) (i : Inside) (imported exported : List Name) → WritesOn w a.types.now outer a.world i old imported exported
+WritesOwn a old new r = (w : Worlds) (outer : List Scope) (i : Inside) (imported exported : List Name)
+    → WritesOn w a.types.now outer a.world i old imported exported
     → IfOk r (IsEntryOf w outer new.scope.types.declarations.items)
 
 -- ---- what is taken to the root
@@ -61,7 +64,8 @@ counter s sort.Module = s.modules
 -- The declarations of the scope stand behind the entries, its counts are those of the root, and what is written of its
 -- imports also.
 pub record TakesScope (scope : ImportScope) (old new : Root) : Type 0 where
-  pub entries : AddsRead old.entries.items new.entries.items (root_entries (declarations_of scope.scope.types.declarations.items))
+  pub entries : AddsRead old.entries.items new.entries.items
+      (root_entries (declarations_of scope.scope.types.declarations.items))
   pub counts : (s : Sort) → counted new.counts s ≡ counter scope.scope s
   pub imports : new.imports.items ≡ scope.places.items
   pub nodes : new.nodes ≡ old.nodes
@@ -76,4 +80,6 @@ pub record IsReadTo (w : Worlds) (c : Collection) (world : WorldId) (i : Inside)
 
 -- where nothing stood at the root, and no export in the scope
 abbrev pub ReadsAtRoot : {U E : Type 0} → ImportScope → Root → Root → Result U E → Type 0
-ReadsAtRoot scope old new r = old.entries.items ≡ [] → (w : Worlds) (c : Collection) (world : WorldId) (imported : List Name) (h : WritesWorld w c [] world scope imported []) → OnOk r (IsReadTo w c world h.writing.inside new)
+ReadsAtRoot scope old new r = old.entries.items ≡ []
+    → (w : Worlds) (c : Collection) (world : WorldId) (imported : List Name) (h : WritesWorld w c [] world scope imported [])
+    → OnOk r (IsReadTo w c world h.writing.inside new)

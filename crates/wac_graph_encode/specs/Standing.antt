@@ -64,14 +64,16 @@ module _ (g : Graph) where
   IsInstanceOf = wired.IsInstance spelled (written_tree g) g
 
   -- what is passed to an instance under a name: its argument, where that stands, or else the outer import of the name
-  pub data IsGivenAt (found : List (Name × SortIndex)) (nodes : List (ℕ × SortIndex)) (k : ℕ) (n : Name) (p : SortIndex) : Type 0 where
+  pub data IsGivenAt (found : List (Name × SortIndex)) (nodes : List (ℕ × SortIndex)) (k : ℕ) (n : Name)
+      (p : SortIndex) : Type 0 where
     argument : (a : ℕ) → HasArgument g.edges k n a → Among (a, p) nodes → IsGivenAt found nodes k n p
     outer : ((a : ℕ) → HasArgument g.edges k n a → ⊥) → value_at found n ≡ Some p → IsGivenAt found nodes k n p
 
   module _ (worlds : Worlds) where
     -- where the item is an instance, the tree of what is meant is known, and gives all that is asked of the item
     abbrev pub GivesItem : Meaning → ItemKind → Type 0
-    GivesItem m item = is_instance item ≡ true → (t : Tree) × (item_tree worlds m ≡ Some t) × InOrder t × Fits t (tree (stated_of g.types item))
+    GivesItem m item =
+        is_instance item ≡ true → (t : Tree) × (item_tree worlds m ≡ Some t) × InOrder t × Fits t (tree (stated_of g.types item))
 
     -- the index stands for the source that the node denotes, whose instances are written
     pub record StandsAt (st : State) (order : List ℕ) (k : ℕ) (p : SortIndex) : Type 0 where
@@ -91,7 +93,8 @@ module _ (g : Graph) where
       pub meaning : Meaning
       pub at : slice_get (space p.sort st.scope) p.index ≡ Some meaning
       pub means : source_of meaning ≡ Some (Outer (spelled n))
-      pub asked : (k : ℕ) (x : NodeData) → node_at g k ≡ Some x → x.role ≡ Role.Imported n → (sort_of x.item_kind ≡ Some p.sort) × GivesItem meaning x.item_kind
+      pub asked : (k : ℕ) (x : NodeData) → node_at g k ≡ Some x → x.role ≡ Role.Imported n
+          → (sort_of x.item_kind ≡ Some p.sort) × GivesItem meaning x.item_kind
 
     module _ (define : Bool) where
       -- the index stands for the package's component, and the worlds say what its instances are
@@ -116,7 +119,8 @@ module _ (g : Graph) where
 
       -- The entries can be read, and their indexes are counted. The outer imports, the packages and these nodes stand; the
       -- instances are those of the nodes that were written, in that order.
-      pub record IsWritten (asked : List (Name × Tree)) (found : List (Name × SortIndex)) (held : List (PackageId × ℕ)) (es : List Entry) (c : Counts) (nodes : List (ℕ × SortIndex)) : Type 0 where
+      pub record IsWritten (asked : List (Name × Tree)) (found : List (Name × SortIndex)) (held : List (PackageId × ℕ))
+          (es : List Entry) (c : Counts) (nodes : List (ℕ × SortIndex)) : Type 0 where
         pub state : State
         pub reads : steps worlds start (map view es) ≡ Some state
         pub counts : (s : Sort) → counted c s ≡ count_of s es

@@ -35,7 +35,8 @@ IsUsedWorld g c w = IsOf c (used_world (composition_of g)) (ItemKind.Component w
 
 -- each node that is defined is among the definitions
 abbrev pub AreAllDefined : Graph → List Definition → Type 0
-AreAllDefined g xs = (k : ℕ) (x : NodeData) → node_at g k ≡ Some x → x.role ≡ Role.Defined → (d : Definition) × Among d xs × (d.node ≡ k)
+AreAllDefined g xs =
+    (k : ℕ) (x : NodeData) → node_at g k ≡ Some x → x.role ≡ Role.Defined → (d : Definition) × Among d xs × (d.node ≡ k)
 
 -- what the graph asks of the outside is there, with all its definitions in the forms in which they are written
 pub record IsToHandOut (g : Graph) (c : Collection) (o : Outers) (xs : List Definition) : Type 0 where
@@ -57,11 +58,14 @@ exported_at g k = exported_type (asks_of (composition_of g)) (origin_of g k, ite
 pub record IsFinal (g : Graph) (c : Collection) (k : ℕ) (item : ItemKind) : Type 0 where
   pub stands : Stands c item
   pub states : final_at g k ≡ Some (stated_of c item)
-  pub fits : (x : NodeData) → node_at g k ≡ Some x → is_instance x.item_kind ≡ true → Fits (tree_in c item) (tree_in g.types x.item_kind)
+  pub fits : (x : NodeData) → node_at g k ≡ Some x → is_instance x.item_kind ≡ true
+      → Fits (tree_in c item) (tree_in g.types x.item_kind)
 
 -- none is told by its origin, or the type that the node has in the graph
 abbrev pub HasOwnType : Graph → ℕ → Type 0
-HasOwnType g k = (final_at g k ≡ None) ⊎ ((x : NodeData) × (node_at g k ≡ Some x) × (is_instance x.item_kind ≡ false) × (final_at g k ≡ Some (stated_of g.types x.item_kind)))
+HasOwnType g k = (final_at g k ≡ None)
+    ⊎ ((x : NodeData) × (node_at g k ≡ Some x) × (is_instance x.item_kind ≡ false)
+    × (final_at g k ≡ Some (stated_of g.types x.item_kind)))
 
 abbrev pub TellsFinal : Graph → Collection → ℕ → Option ItemKind → Type 0
 TellsFinal g c k (Some item) = IsFinal g c k item
@@ -69,9 +73,11 @@ TellsFinal g c k None = HasOwnType g k
 
 -- the types of imports and of definitions are known; other definitions have the types that they have in the graph
 pub record KnowsFinals (g : Graph) (c : Collection) (f : Finals) : Type 0 where
-  pub outers : (k : ℕ) (x : NodeData) (n : Name) → node_at g k ≡ Some x → x.role ≡ Role.Imported n → (item : ItemKind) × (value_at f.outers n ≡ Some item) × IsFinal g c k item
+  pub outers : (k : ℕ) (x : NodeData) (n : Name) → node_at g k ≡ Some x → x.role ≡ Role.Imported n
+      → (item : ItemKind) × (value_at f.outers n ≡ Some item) × IsFinal g c k item
   pub definitions : (k : ℕ) (item : ItemKind) → Among (k, item) f.definitions.entries → IsFinal g c k item
-  pub others : (k : ℕ) (x : NodeData) → node_at g k ≡ Some x → x.role ≡ Role.Defined → (Among k (names_of f.definitions.entries) → ⊥) → HasOwnType g k
+  pub others : (k : ℕ) (x : NodeData) → node_at g k ≡ Some x → x.role ≡ Role.Defined
+      → (Among k (names_of f.definitions.entries) → ⊥) → HasOwnType g k
 
 -- ---- how it is told
 
@@ -84,7 +90,8 @@ abbrev pub TellsCalled : Collection → WorldId → Called → List (Name × Ite
 TellsCalled c world one old new = new ≡ told_called one (slice_get (imports_of c world) one.at) old
 
 abbrev pub IsCalledType : Collection → WorldId → List Called → Name → ItemKind → Type 0
-IsCalledType c world called n k = (one : Called) × Among one called × (one.name ≡ n) × (m : Name) × (slice_get (imports_of c world) one.at ≡ Some (m, k))
+IsCalledType c world called n k =
+    (one : Called) × Among one called × (one.name ≡ n) × (m : Name) × (slice_get (imports_of c world) one.at ≡ Some (m, k))
 
 -- the types of the outer imports, by the names under which they are asked for
 pub record AreCalledTypes (c : Collection) (world : WorldId) (called : List Called) (es : List (Name × ItemKind)) : Type 0 where
@@ -142,4 +149,5 @@ with_import (Some e) es = put_entry es e.0 e.1
 
 -- the world is made of these
 abbrev pub IsMadeOf : (old new : Collection) → (imports exports : List (Name × ItemKind)) → WorldId → Type 0
-IsMadeOf old new imports exports w = IsOf new (world_of None [] (stated_items old imports) (stated_items old exports)) (ItemKind.Component w)
+IsMadeOf old new imports exports w =
+    IsOf new (world_of None [] (stated_items old imports) (stated_items old exports)) (ItemKind.Component w)

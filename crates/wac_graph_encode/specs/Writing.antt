@@ -68,7 +68,8 @@ AreGivenUnder s bound ns as_ = AllZip (λ n a. (a.0 ≡ n) × GivesUnder s bound
 
 -- under each name, what is given to the instance there
 abbrev pub AreGivenAt : Graph → List (Name × SortIndex) → List (ℕ × SortIndex) → ℕ → List Name → List Argument → Type 0
-AreGivenAt g found nodes k ns as_ = AllZip (λ n a. (a.0 ≡ n) × IsGivenAt g found nodes k n (record { sort = a.1; index = a.2 })) ns as_
+AreGivenAt g found nodes k ns as_ =
+    AllZip (λ n a. (a.0 ≡ n) × IsGivenAt g found nodes k n (record { sort = a.1; index = a.2 })) ns as_
 
 -- under the name of each import of the world
 abbrev pub AreGivenIn : Collection → WorldId → Standing → List (Name × ℕ) → List NamedIndex → Type 0
@@ -98,7 +99,8 @@ pub record IsCalled (called : List Called) (imports : List (Option SortIndex)) (
 
 -- only what is written of that import comes in, under its name
 abbrev pub AddsCalled : Called → List (Option SortIndex) → List (Name × SortIndex) → List (Name × SortIndex) → Type 0
-AddsCalled one imports old new = (n : Name) (p : SortIndex) → value_at new n ≡ Some p → (value_at old n ≡ Some p) ⊎ ((one.name ≡ n) × (slice_get imports one.at ≡ Some (Some p)))
+AddsCalled one imports old new = (n : Name) (p : SortIndex) → value_at new n ≡ Some p
+    → (value_at old n ≡ Some p) ⊎ ((one.name ≡ n) × (slice_get imports one.at ≡ Some (Some p)))
 
 abbrev pub AreCalled : List Called → List (Option SortIndex) → List (Name × SortIndex) → Type 0
 AreCalled called imports found = (n : Name) (p : SortIndex) → value_at found n ≡ Some p → IsCalled called imports n p
@@ -110,14 +112,16 @@ noted w = w.root.nodes.entries
 
 -- what is written, where these nodes stand
 abbrev pub WrittenWith : Bool → Worlds → List (Name × Tree) → Wired → List (ℕ × SortIndex) → Type 0
-WrittenWith define worlds asked w nodes = IsWritten w.graph.now worlds define asked w.outers w.root.packages.entries w.root.entries.items w.root.counts nodes
+WrittenWith define worlds asked w nodes =
+    IsWritten w.graph.now worlds define asked w.outers w.root.packages.entries w.root.entries.items w.root.counts nodes
 
 abbrev pub WrittenSo : Bool → Worlds → List (Name × Tree) → Wired → Type 0
 WrittenSo define worlds asked w = WrittenWith define worlds asked w (noted w)
 
 -- it is written again
 abbrev pub KeepsWritten : {A E : Type 0} → Wired → Wired → Result A E → Type 0
-KeepsWritten old new r = (define : Bool) (worlds : Worlds) (asked : List (Name × Tree)) → WrittenSo define worlds asked old → OnOk r (WrittenSo define worlds asked new)
+KeepsWritten old new r = (define : Bool) (worlds : Worlds) (asked : List (Name × Tree)) → WrittenSo define worlds asked old
+    → OnOk r (WrittenSo define worlds asked new)
 
 -- no more component is nested
 abbrev pub NestsNoMore : Root → Root → Type 0
@@ -137,17 +141,21 @@ pub record KeepsNodes (old new : Wired) : Type 0 where
 
 -- a node that did not stand is written, and stands at this index
 abbrev pub WritesNode : {E : Type 0} → ℕ → Wired → Wired → Result (Option SortIndex) E → Type 0
-WritesNode k old new r = (define : Bool) (worlds : Worlds) (asked : List (Name × Tree)) → WrittenSo define worlds asked old → (Among k (names_of (noted old)) → ⊥)
+WritesNode k old new r = (define : Bool) (worlds : Worlds) (asked : List (Name × Tree)) → WrittenSo define worlds asked old
+    → (Among k (names_of (noted old)) → ⊥)
     → IfOk r (λ o. IfSome o (λ p. WrittenWith define worlds asked new (noted old ++ (k, p) ∷ [])))
 
 -- an instance of the package to which that is passed is written, whichever node it is
 abbrev pub WritesInstance : {E : Type 0} → PackageId → List (Name × ℕ) → Wired → Wired → Result (Option SortIndex) E → Type 0
-WritesInstance id bound old new r = (k : ℕ) → package_id_of (node_at old.graph.now k) ≡ Some id → AreArguments old.graph.now k bound → WritesNode k old new r
+WritesInstance id bound old new r =
+    (k : ℕ) → package_id_of (node_at old.graph.now k) ≡ Some id → AreArguments old.graph.now k bound → WritesNode k old new r
 
 -- under each import of the package, what is passed to an instance of it
 abbrev pub PassesAll : Wired → PackageId → List (Name × ℕ) → List Argument → Type 0
 PassesAll w id bound as_ = (of : Packaged) → package_of w.graph.now id ≡ Some of
-    → AreDistinct (names_of (imports_of w.graph.now.types of.ty)) × ((k : ℕ) → AreArguments w.graph.now k bound → AreGivenAt w.graph.now w.outers (noted w) k (names_of (imports_of w.graph.now.types of.ty)) as_)
+    → AreDistinct (names_of (imports_of w.graph.now.types of.ty))
+    × ((k : ℕ) → AreArguments w.graph.now k bound
+    → AreGivenAt w.graph.now w.outers (noted w) k (names_of (imports_of w.graph.now.types of.ty)) as_)
 
 -- the node is an alias of this sort, of an export of what stands at the index
 pub record IsAliasAt (w : Wired) (k : ℕ) (s : Sort) (index : ℕ) (n : Name) : Type 0 where
@@ -160,7 +168,8 @@ pub record IsAliasAt (w : Wired) (k : ℕ) (s : Sort) (index : ℕ) (n : Name) :
 
 -- no node stands that did not, but those that are so
 abbrev pub AddsOnly : ((ℕ → ℕ) → ℕ → Type 0) → Wired → Wired → Type 0
-AddsOnly P old new = (rank : ℕ → ℕ) → IsRank old.graph.now.edges rank → (k : ℕ) → Among k (names_of (noted new)) → Among k (names_of (noted old)) ⊎ P rank k
+AddsOnly P old new = (rank : ℕ → ℕ) → IsRank old.graph.now.edges rank → (k : ℕ) → Among k (names_of (noted new))
+    → Among k (names_of (noted old)) ⊎ P rank k
 
 abbrev pub UpTo : ℕ → (ℕ → ℕ) → ℕ → Type 0
 UpTo node rank k = rank k ≤ rank node
@@ -177,15 +186,19 @@ AllStand g nodes = (k : ℕ) → ContainsNode g k → Among k (names_of nodes)
 
 -- ---- the whole
 
--- The types, the outer imports and the packages are written, and no instance: what is written of the imports at these places stands
--- for the outer imports that are asked under these names.
-pub record IsBegun (define : Bool) (worlds : Worlds) (asked : List (Name × Tree)) (called : List Called) (g : Graph) (r : Root) : Type 0 where
+-- The types, the outer imports and the packages are written, and no instance: what is written of the imports at these places
+-- stands for the outer imports that are asked under these names.
+pub record IsBegun (define : Bool) (worlds : Worlds) (asked : List (Name × Tree)) (called : List Called) (g : Graph)
+    (r : Root) : Type 0 where
   pub written : IsWritten g worlds define asked [] r.packages.entries r.entries.items r.counts r.nodes.entries
-  pub outers : (one : Called) (p : SortIndex) → Among one called → slice_get r.imports.items one.at ≡ Some (Some p) → IsOuterAt g worlds written.state one.name p
+  pub outers : (one : Called) (p : SortIndex) → Among one called → slice_get r.imports.items one.at ≡ Some (Some p)
+      → IsOuterAt g worlds written.state one.name p
 
 -- what is begun is finished
 abbrev pub Finishes : {A E : Type 0} → List Called → Wired → Wired → Result A E → Type 0
-Finishes called old new r = (define : Bool) (worlds : Worlds) (asked : List (Name × Tree)) → IsBegun define worlds asked called old.graph.now old.root → OnOk r (IsFinished old.graph.now worlds define asked new.root.entries.items)
+Finishes called old new r = (define : Bool) (worlds : Worlds) (asked : List (Name × Tree))
+    → IsBegun define worlds asked called old.graph.now old.root
+    → OnOk r (IsFinished old.graph.now worlds define asked new.root.entries.items)
 
 -- ---- exports
 

@@ -33,8 +33,10 @@ pub record Matches (imports : List (Name × Stated)) (e : Name) (given : Stated)
 -- the matches of these exports, in their order
 pub data AreMatchesOf (imports : List (Name × Stated)) : List (Name × Stated) → List Match → Type 0 where
   no_exports : AreMatchesOf imports [] []
-  matched : (e i : Name) (given : Stated) {es : List (Name × Stated)} {ms : List Match} → Matches imports e given i → AreMatchesOf imports es ms → AreMatchesOf imports ((e, given) ∷ es) (record { export = e; import = i } ∷ ms)
-  passed : (e : Name) (given : Stated) {es : List (Name × Stated)} {ms : List Match} → ((i : Name) → Matches imports e given i → ⊥) → AreMatchesOf imports es ms → AreMatchesOf imports ((e, given) ∷ es) ms
+  matched : (e i : Name) (given : Stated) {es : List (Name × Stated)} {ms : List Match} → Matches imports e given i
+      → AreMatchesOf imports es ms → AreMatchesOf imports ((e, given) ∷ es) (record { export = e; import = i } ∷ ms)
+  passed : (e : Name) (given : Stated) {es : List (Name × Stated)} {ms : List Match}
+      → ((i : Name) → Matches imports e given i → ⊥) → AreMatchesOf imports es ms → AreMatchesOf imports ((e, given) ∷ es) ms
 
 -- the stated type of a component whose world this is
 abbrev pub component_of : Collection → WorldId → Stated
@@ -47,7 +49,9 @@ AreWorldMatches c socket plug ms = AreMatchesOf (imports_of (component_of c sock
 -- the matches of each plug, in turn, by the worlds
 pub data AreMatches (socket : Stated) : List Stated → List (List Match) → Type 0 where
   no_plugs : AreMatches socket [] []
-  next_plug : {plug : Stated} {plugs : List Stated} {ms : List Match} {rest : List (List Match)} → AreMatchesOf (imports_of socket) (exports_of plug) ms → AreMatches socket plugs rest → AreMatches socket (plug ∷ plugs) (ms ∷ rest)
+  next_plug : {plug : Stated} {plugs : List Stated} {ms : List Match} {rest : List (List Match)}
+      → AreMatchesOf (imports_of socket) (exports_of plug) ms → AreMatches socket plugs rest
+      → AreMatches socket (plug ∷ plugs) (ms ∷ rest)
 
 -- the imports that are matched, once for each match
 abbrev pub imports_in : List (List Match) → List Name

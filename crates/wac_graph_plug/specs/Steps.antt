@@ -44,7 +44,8 @@ pub record Passes (socket plug : ℕ) (m : Match) (old new : Graph) : Type 0 whe
 -- each of these is passed, in turn
 pub data PassesAll (socket plug : ℕ) : List Match → Graph → Graph → Type 0 where
   passed_none : {g : Graph} → PassesAll socket plug [] g g
-  passed_next : {ms : List Match} {m : Match} {f g h : Graph} → PassesAll socket plug ms f g → Passes socket plug m g h → PassesAll socket plug (ms ++ m ∷ []) f h
+  passed_next : {ms : List Match} {m : Match} {f g h : Graph} → PassesAll socket plug ms f g → Passes socket plug m g h
+      → PassesAll socket plug (ms ++ m ∷ []) f h
 
 -- a plug with a match is instantiated, and its matches are passed
 pub record PlugsIn (socket : ℕ) (id : PackageId) (ms : List Match) (old new : Graph) : Type 0 where
@@ -61,7 +62,8 @@ PlugsOne socket id ms old new = ((ms ≡ []) × (new ≡ old)) ⊎ PlugsIn socke
 -- each of these, in turn
 pub data PlugsEach (socket : ℕ) : List PackageId → List (List Match) → Graph → Graph → Type 0 where
   plugged_none : {g : Graph} → PlugsEach socket [] [] g g
-  plugged_next : {ids : List PackageId} {id : PackageId} {mss : List (List Match)} {ms : List Match} {f g h : Graph} → PlugsEach socket ids mss f g → PlugsOne socket id ms g h → PlugsEach socket (ids ++ id ∷ []) (mss ++ ms ∷ []) f h
+  plugged_next : {ids : List PackageId} {id : PackageId} {mss : List (List Match)} {ms : List Match} {f g h : Graph}
+      → PlugsEach socket ids mss f g → PlugsOne socket id ms g h → PlugsEach socket (ids ++ id ∷ []) (mss ++ ms ∷ []) f h
 
 -- an export of the socket is exported under its name
 pub record ExportsOne (socket : ℕ) (n : Name) (old new : Graph) : Type 0 where
@@ -73,4 +75,5 @@ pub record ExportsOne (socket : ℕ) (n : Name) (old new : Graph) : Type 0 where
 -- each of these, in turn
 pub data ExportsAll (socket : ℕ) : List Name → Graph → Graph → Type 0 where
   exported_none : {g : Graph} → ExportsAll socket [] g g
-  exported_next : {ns : List Name} {n : Name} {f g h : Graph} → ExportsAll socket ns f g → ExportsOne socket n g h → ExportsAll socket (ns ++ n ∷ []) f h
+  exported_next : {ns : List Name} {n : Name} {f g h : Graph} → ExportsAll socket ns f g → ExportsOne socket n g h
+      → ExportsAll socket (ns ++ n ∷ []) f h

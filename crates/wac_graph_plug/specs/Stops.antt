@@ -43,7 +43,8 @@ worlds_of g ids = map (world_of g) ids
 
 -- a match is not passed
 abbrev pub StopsAt : ℕ → ℕ → Match → PlugError → Graph → Graph → Type 0
-StopsAt socket plug m (PlugError.GraphError (PlugFault.Argument f)) old new = (f ≢ InstantiationArgumentError.Memory) × (k : ℕ) × Aliases old new plug m.export k × ArgumentRefused new socket m.import k f
+StopsAt socket plug m (PlugError.GraphError (PlugFault.Argument f)) old new =
+    (f ≢ InstantiationArgumentError.Memory) × (k : ℕ) × Aliases old new plug m.export k × ArgumentRefused new socket m.import k f
 StopsAt socket plug m (PlugError.GraphError (PlugFault.Export f)) old new = ⊥
 StopsAt socket plug m PlugError.NoPlugHappened old new = ⊥
 StopsAt socket plug m PlugError.Memory old new = Unit {0}
@@ -67,7 +68,8 @@ pub record StopsOne (socket : ℕ) (id : PackageId) (ms : List Match) (e : PlugE
 -- an export of the socket is not exported
 abbrev pub StopsExport : ℕ → Name → PlugError → Graph → Graph → Type 0
 StopsExport socket n (PlugError.GraphError (PlugFault.Argument f)) old new = ⊥
-StopsExport socket n (PlugError.GraphError (PlugFault.Export f)) old new = (f ≢ ExportError.Memory) × (k : ℕ) × Aliases old new socket n k × ExportRefused new n f
+StopsExport socket n (PlugError.GraphError (PlugFault.Export f)) old new =
+    (f ≢ ExportError.Memory) × (k : ℕ) × Aliases old new socket n k × ExportRefused new n f
 StopsExport socket n PlugError.NoPlugHappened old new = ⊥
 StopsExport socket n PlugError.Memory old new = Unit {0}
 
@@ -170,8 +172,10 @@ pub record StopsAfter (old new : Graph) (socket : PackageId) (ids : List Package
 
 abbrev pub PlugRefused : Graph → Graph → PackageId → List PackageId → PlugError → Type 0
 PlugRefused old new socket ids PlugError.NoPlugHappened = PlugsNone old new socket ids
-PlugRefused old new socket ids (PlugError.GraphError (PlugFault.Argument f)) = StopsPlugging old new socket ids (PlugError.GraphError (PlugFault.Argument f))
-PlugRefused old new socket ids (PlugError.GraphError (PlugFault.Export f)) = StopsAfter old new socket ids (PlugError.GraphError (PlugFault.Export f))
+PlugRefused old new socket ids (PlugError.GraphError (PlugFault.Argument f)) =
+    StopsPlugging old new socket ids (PlugError.GraphError (PlugFault.Argument f))
+PlugRefused old new socket ids (PlugError.GraphError (PlugFault.Export f)) =
+    StopsAfter old new socket ids (PlugError.GraphError (PlugFault.Export f))
 PlugRefused old new socket ids PlugError.Memory = Unit {0}
 
 -- ---- causes
@@ -204,7 +208,8 @@ pub record NoneMatches (g : Graph) (socket : PackageId) (ids : List PackageId) :
 abbrev pub PlugCause : Graph → PackageId → List PackageId → PlugError → Type 0
 PlugCause g socket ids PlugError.NoPlugHappened = NoneMatches g socket ids
 PlugCause g socket ids (PlugError.GraphError (PlugFault.Argument f)) = MatchedTwice g socket ids f
-PlugCause g socket ids (PlugError.GraphError (PlugFault.Export f)) = (n : Name) × Among n (socket_exports g socket) × (h : Graph) × ExportRefused h n f
+PlugCause g socket ids (PlugError.GraphError (PlugFault.Export f)) =
+    (n : Name) × Among n (socket_exports g socket) × (h : Graph) × ExportRefused h n f
 PlugCause g socket ids PlugError.Memory = Unit {0}
 
 -- ---- the wiring
@@ -215,5 +220,6 @@ pub record IsPlugged (old new : Graph) (socket : PackageId) (ids : List PackageI
   pub are : AreMatches (world_of old socket) (worlds_of old ids) matches
   pub some : any_match matches ≡ true
   pub apart : AreDistinct (imports_in matches)
-  pub wiring : (spell : Name → Name) (written : ItemKind → Tree) (outers : Name → Option Tree) (W : Wiring ℕ) → IsWiring spell written new outers W
+  pub wiring : (spell : Name → Name) (written : ItemKind → Tree) (outers : Name → Option Tree) (W : Wiring ℕ)
+      → IsWiring spell written new outers W
       → Same (plugged spell outers (part_of old socket) (map (part_of old) ids) matches) W

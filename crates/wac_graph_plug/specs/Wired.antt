@@ -37,11 +37,17 @@ bound_source spell i (Some b) = Projection (Inst (suc b.0)) b.1
 
 -- an import of the socket is bound to the export that is for it, or else to the outer import of its name
 abbrev pub socket_instance : (Name → Name) → Part → List (List Match) → Instantiation ℕ
-socket_instance spell socket mss = record { tag = OfBytes socket.bytes; args = λ i. if_there (value_at (imports_of socket.world) i) (bound_source spell i (bound_from 0 mss i)) }
+socket_instance spell socket mss =
+    record {
+      tag = OfBytes socket.bytes;
+      args = λ i. if_there (value_at (imports_of socket.world) i)
+          (bound_source spell i (bound_from 0 mss i));
+    }
 
 -- each import of a plug is bound to the outer import of its name
 abbrev pub plug_instance : (Name → Name) → Part → Instantiation ℕ
-plug_instance spell plug = record { tag = OfBytes plug.bytes; args = λ i. if_there (value_at (imports_of plug.world) i) (Outer (spell i)) }
+plug_instance spell plug =
+    record { tag = OfBytes plug.bytes; args = λ i. if_there (value_at (imports_of plug.world) i) (Outer (spell i)) }
 
 -- a plug with a match is an instance
 abbrev pub plug_at : (Name → Name) → Option Part → Option (List Match) → Option (Instantiation ℕ)
@@ -55,4 +61,9 @@ instance_at spell socket plugs mss (suc p) = plug_at spell (slice_get plugs p) (
 -- the socket's exports are exported
 abbrev pub plugged : (Name → Name) → (Name → Option Tree) → Part → List Part → List (List Match) → Wiring ℕ
 plugged spell outers socket plugs mss =
-    record { outers = outers; at = instance_at spell socket plugs mss; exports = λ n. if_there (value_at (exports_of socket.world) n) (Projection (Inst zero) n) }
+    record {
+      outers = outers;
+      at = instance_at spell socket plugs mss;
+      exports = λ n. if_there
+          (value_at (exports_of socket.world) n) (Projection (Inst zero) n);
+    }

@@ -1,4 +1,5 @@
-//! Does the steps of the rows on standard input, or compares or merges their types, and tells which came out otherwise than wanted.
+//! Does the steps of the rows on standard input, or compares or merges their types, and tells which came out otherwise than
+//! wanted.
 #![tactic(auto)]
 
 mod answers;

@@ -16,8 +16,10 @@ use Rattle.wac_graph_scopes.specs.declared.fault.WriteError.{WriteError}
 use Rattle.wac_graph_scopes.specs.declared.core_items.ModuleScope.{ModuleScope}
 
 -- the declarations state these signatures, imports and exports, and the signatures are counted
-pub record IsModuleScope (s : ModuleScope) (sigs : List CoreFuncType) (is : List ((Name × Name) × CoreExtern)) (es : List (Name × CoreExtern)) : Type 0 where
-  pub reads : (rest : List CoreDeclaration) → module_by [] [] [] (module_view s.declarations.items ++ rest) ≡ module_by sigs is es rest
+pub record IsModuleScope (s : ModuleScope) (sigs : List CoreFuncType) (is : List ((Name × Name) × CoreExtern))
+    (es : List (Name × CoreExtern)) : Type 0 where
+  pub reads : (rest : List CoreDeclaration)
+      → module_by [] [] [] (module_view s.declarations.items ++ rest) ≡ module_by sigs is es rest
   pub count : s.signatures ≡ length sigs
 
 -- with signatures of its own, perhaps, it goes on to these imports and exports
@@ -26,7 +28,8 @@ GoesModule s is es = (sigs : List CoreFuncType) × IsModuleScope s sigs is es
 
 -- one more signature, at that index
 abbrev pub AddsSignature : ModuleScope → ModuleScope → CoreFuncType → ℕ → Type 0
-AddsSignature s u f k = (sigs : List CoreFuncType) (is : List ((Name × Name) × CoreExtern)) (es : List (Name × CoreExtern)) → IsModuleScope s sigs is es
+AddsSignature s u f k = (sigs : List CoreFuncType) (is : List ((Name × Name) × CoreExtern)) (es : List (Name × CoreExtern))
+    → IsModuleScope s sigs is es
     → IsModuleScope u (sigs ++ f ∷ []) is es × (k ≡ length sigs)
 
 -- whatever signatures there are, the item is so described
@@ -35,12 +38,14 @@ IsItem d x = (sigs : List CoreFuncType) → core_item sigs d ≡ Some x
 
 -- with signatures of its own, perhaps, the item is so described
 abbrev pub DescribesCore : ModuleScope → ModuleScope → CoreExtern → CoreDescription → Type 0
-DescribesCore s u x d = (sigs : List CoreFuncType) (is : List ((Name × Name) × CoreExtern)) (es : List (Name × CoreExtern)) → IsModuleScope s sigs is es
+DescribesCore s u x d = (sigs : List CoreFuncType) (is : List ((Name × Name) × CoreExtern)) (es : List (Name × CoreExtern))
+    → IsModuleScope s sigs is es
     → (more : List CoreFuncType) × IsModuleScope u more is es × (core_item more d ≡ Some x)
 
 -- these are imported and exported behind the others
 abbrev pub AddsCores : ModuleScope → ModuleScope → List ((Name × Name) × CoreExtern) → List (Name × CoreExtern) → Type 0
-AddsCores s u is es = (js : List ((Name × Name) × CoreExtern)) (fs : List (Name × CoreExtern)) → GoesModule s js fs → GoesModule u (js ++ is) (fs ++ es)
+AddsCores s u is es = (js : List ((Name × Name) × CoreExtern)) (fs : List (Name × CoreExtern)) → GoesModule s js fs
+    → GoesModule u (js ++ is) (fs ++ es)
 
 -- ---- what cannot be written
 

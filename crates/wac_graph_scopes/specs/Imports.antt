@@ -55,7 +55,8 @@ pub record IsImportAt (c : Collection) (ss : List Scope) (n : Name) (k : ItemKin
 
 -- what is written of an import stands for it
 abbrev pub ArePlaced : Worlds → Collection → List Scope → List (Name × ItemKind) → List (Option SortIndex) → Type 0
-ArePlaced w c ss is ps = (at : ℕ) (n : Name) (k : ItemKind) (p : SortIndex) → slice_get is at ≡ Some (n, k) → slice_get ps at ≡ Some (Some p) → IsImportAt c ss n k p
+ArePlaced w c ss is ps = (at : ℕ) (n : Name) (k : ItemKind) (p : SortIndex) → slice_get is at ≡ Some (n, k)
+    → slice_get ps at ≡ Some (Some p) → IsImportAt c ss n k p
 
 -- the import at the place is an instance that exports the item under that name
 pub record GivesAt (c : Collection) (is : List (Name × ItemKind)) (at : ℕ) (n : Name) (item : ItemKind) : Type 0 where
@@ -64,18 +65,22 @@ pub record GivesAt (c : Collection) (is : List (Name × ItemKind)) (at : ℕ) (n
   pub export_is : IsTreeOf c (exports_of c interface) n (tree_in c item)
 
 abbrev pub GivesTaken : {E : Type 0} → Importing → ℕ → Name → ItemKind → Result Bool E → Type 0
-GivesTaken a at n item r = Stands a.types.now item → IsUsedKind item → IfOk r (λ yes. yes ≡ true → GivesAt a.types.now (all_imports a) at n item)
+GivesTaken a at n item r =
+    Stands a.types.now item → IsUsedKind item → IfOk r (λ yes. yes ≡ true → GivesAt a.types.now (all_imports a) at n item)
 
 -- ---- a world that is being written
 
--- The scope stands, with these of the world's imports and these of its exports; the used types and the places of imports are true.
-pub record WritesWorld (w : Worlds) (c : Collection) (outer : List Scope) (world : WorldId) (s : ImportScope) (imported exported : List Name) : Type 0 where
+-- The scope stands, with these of the world's imports and these of its exports; the used types and the places of imports are
+-- true.
+pub record WritesWorld (w : Worlds) (c : Collection) (outer : List Scope) (world : WorldId) (s : ImportScope)
+    (imported exported : List Name) : Type 0 where
   pub writing : Writing w c outer (imports_of c world) (world_exports_of c world) s.scope imported exported
   pub used : AreUsed w c (writing.inside.here ∷ outer) 0 s.used.all.items
   pub placed : ArePlaced w c (writing.inside.here ∷ outer) (imports_of c world) s.places.items
 
 -- The world is written on from there: what stood stands, and the same is imported and exported.
-pub record WritesOn (w : Worlds) (c : Collection) (outer : List Scope) (world : WorldId) (i : Inside) (s : ImportScope) (imported exported : List Name) : Type 0 where
+pub record WritesOn (w : Worlds) (c : Collection) (outer : List Scope) (world : WorldId) (i : Inside) (s : ImportScope)
+    (imported exported : List Name) : Type 0 where
   pub goes : WritesWorld w c outer world s imported exported
   pub on : GoesOn i goes.writing.inside
 
@@ -84,46 +89,61 @@ abbrev pub IsSource : Worlds → List Scope → Name → Tree → ℕ → Type 0
 IsSource w ss n t k = (u : Tree) × IsInstanceAt w ss u k × (export_named n u ≡ Some t)
 
 abbrev pub FindsSource : {E : Type 0} → Importing → Name → ItemKind → ImportScope → Result (Option ℕ) E → Type 0
-FindsSource a n item s r = Stands a.types.now item → IsUsedKind item → (w : Worlds) (outer : List Scope) (imported exported : List Name) → (h : WritesWorld w a.types.now outer a.world s imported exported)
+FindsSource a n item s r = Stands a.types.now item → IsUsedKind item
+    → (w : Worlds) (outer : List Scope) (imported exported : List Name)
+    → (h : WritesWorld w a.types.now outer a.world s imported exported)
     → IfOk r (λ o. IfSome o (IsSource w (h.writing.inside.here ∷ outer) n (tree_in a.types.now item)))
 
 -- the world is written on, and the index, if there is one, stands for a type item with that tree
-pub record HasAlias (w : Worlds) (c : Collection) (outer : List Scope) (world : WorldId) (i : Inside) (s : ImportScope) (imported exported : List Name) (t : Tree) (o : Option ℕ) : Type 0 where
+pub record HasAlias (w : Worlds) (c : Collection) (outer : List Scope) (world : WorldId) (i : Inside) (s : ImportScope)
+    (imported exported : List Name) (t : Tree) (o : Option ℕ) : Type 0 where
   pub goes : WritesWorld w c outer world s imported exported
   pub on : GoesOn i goes.writing.inside
   pub index : IfSome o (IsTypeItem w (goes.writing.inside.here ∷ outer) 0 t)
 
 abbrev pub AliasesUse : {E : Type 0} → Importing → ItemKind → ImportScope → ImportScope → Result (Option ℕ) E → Type 0
-AliasesUse a item old new r = Stands a.types.now item → IsUsedKind item → (w : Worlds) (outer : List Scope) (i : Inside) (imported exported : List Name)
-    → WritesOn w a.types.now outer a.world i old imported exported → IfOk r (HasAlias w a.types.now outer a.world i new imported exported (tree_in a.types.now item))
+AliasesUse a item old new r =
+    Stands a.types.now item → IsUsedKind item → (w : Worlds) (outer : List Scope) (i : Inside) (imported exported : List Name)
+    → WritesOn w a.types.now outer a.world i old imported exported
+    → IfOk r (HasAlias w a.types.now outer a.world i new imported exported (tree_in a.types.now item))
 
 abbrev pub AddsUsed : {E : Type 0} → Collection → WorldId → ℕ → Name → ItemKind → ImportScope → ImportScope → Result ℕ E → Type 0
-AddsUsed c world k n item old new r = Stands c item → IsUsedKind item → (w : Worlds) (outer : List Scope) (i : Inside) (imported exported : List Name) → (h : WritesOn w c outer world i old imported exported)
-    → IsSource w (h.goes.writing.inside.here ∷ outer) n (tree_in c item) k → IfOk r (λ j. HasAlias w c outer world i new imported exported (tree_in c item) (Some j))
+AddsUsed c world k n item old new r = Stands c item → IsUsedKind item
+    → (w : Worlds) (outer : List Scope) (i : Inside) (imported exported : List Name)
+    → (h : WritesOn w c outer world i old imported exported)
+    → IsSource w (h.goes.writing.inside.here ∷ outer) n (tree_in c item) k
+    → IfOk r (λ j. HasAlias w c outer world i new imported exported (tree_in c item) (Some j))
 
 -- a world that is written on from somewhere still is
 abbrev pub KeepsWorld : {U E : Type 0} → Importing → ImportScope → ImportScope → Result U E → Type 0
 KeepsWorld a old new r = (w : Worlds) (outer : List Scope) (i : Inside) (imported exported : List Name)
-    → WritesOn w a.types.now outer a.world i old imported exported → IfOk r (λ _. WritesOn w a.types.now outer a.world i new imported exported)
+    → WritesOn w a.types.now outer a.world i old imported exported
+    → IfOk r (λ _. WritesOn w a.types.now outer a.world i new imported exported)
 
 -- the world is written on, and what is so described under the name is the item
-pub record DescribesIn (w : Worlds) (c : Collection) (outer : List Scope) (world : WorldId) (i : Inside) (n : Name) (kind : ItemKind) (s : ImportScope) (imported exported : List Name) (d : Description) : Type 0 where
+pub record DescribesIn (w : Worlds) (c : Collection) (outer : List Scope) (world : WorldId) (i : Inside) (n : Name)
+    (kind : ItemKind) (s : ImportScope) (imported exported : List Name) (d : Description) : Type 0 where
   pub goes : WritesWorld w c outer world s imported exported
   pub on : GoesOn i goes.writing.inside
   pub sorted : IsSorted kind d
   pub reads : described w (goes.writing.inside.here ∷ outer) n d ≡ Some (description_sort d, tree_in c kind)
 
 abbrev pub DescribesImport : {E : Type 0} → Importing → Item → ImportScope → ImportScope → Result Description E → Type 0
-DescribesImport a x old new r = (w : Worlds) (outer : List Scope) (i : Inside) (imported exported : List Name) → WritesOn w a.types.now outer a.world i old imported exported
+DescribesImport a x old new r = (w : Worlds) (outer : List Scope) (i : Inside) (imported exported : List Name)
+    → WritesOn w a.types.now outer a.world i old imported exported
     → IfOk r (DescribesIn w a.types.now outer a.world i x.name.now x.kind new imported exported)
 
 -- under any name, of whatever world
 abbrev pub DescribesThere : {E : Type 0} → Collection → ItemKind → ImportScope → ImportScope → Result Description E → Type 0
-DescribesThere c kind old new r = (world : WorldId) (n : Name) (w : Worlds) (outer : List Scope) (i : Inside) (imported exported : List Name) → WritesOn w c outer world i old imported exported
+DescribesThere c kind old new r =
+    (world : WorldId) (n : Name) (w : Worlds) (outer : List Scope) (i : Inside) (imported exported : List Name)
+    → WritesOn w c outer world i old imported exported
     → IfOk r (DescribesIn w c outer world i n kind new imported exported)
 
--- The world is written on, and what is so described under any name is the item of the other collection, of whose types these are known.
-pub record DescribesApart (w : Worlds) (c other : Collection) (outer : List Scope) (world : WorldId) (i : Inside) (kind : ItemKind) (s : ImportScope) (ks : KnownTypes) (imported exported : List Name) (d : Description) : Type 0 where
+-- The world is written on, and what is so described under any name is the item of the other collection, of whose types these are
+-- known.
+pub record DescribesApart (w : Worlds) (c other : Collection) (outer : List Scope) (world : WorldId) (i : Inside)
+    (kind : ItemKind) (s : ImportScope) (ks : KnownTypes) (imported exported : List Name) (d : Description) : Type 0 where
   pub goes : WritesWorld w c outer world s imported exported
   pub on : GoesOn i goes.writing.inside
   pub known : AreKnown w (goes.writing.inside.here ∷ outer) other ks
@@ -131,23 +151,28 @@ pub record DescribesApart (w : Worlds) (c other : Collection) (outer : List Scop
   pub reads : (n : Name) → described w (goes.writing.inside.here ∷ outer) n d ≡ Some (description_sort d, tree_in other kind)
 
 -- of whatever world
-abbrev pub DescribesOther : {E : Type 0} → Collection → ItemKind → ImportScope → KnownTypes → ImportScope → KnownTypes → Result Description E → Type 0
-DescribesOther other kind old before new after r = (world : WorldId) (w : Worlds) (c : Collection) (outer : List Scope) (i : Inside) (imported exported : List Name)
+abbrev pub DescribesOther : {E : Type 0} → Collection → ItemKind → ImportScope → KnownTypes → ImportScope → KnownTypes
+    → Result Description E → Type 0
+DescribesOther other kind old before new after r =
+    (world : WorldId) (w : Worlds) (c : Collection) (outer : List Scope) (i : Inside) (imported exported : List Name)
     → (h : WritesOn w c outer world i old imported exported) → AreKnown w (h.goes.writing.inside.here ∷ outer) other before
     → IfOk r (DescribesApart w c other outer world i kind new after imported exported)
 
-abbrev pub MayDescribeIn : Worlds → Collection → List Scope → WorldId → Inside → Name → ItemKind → ImportScope → List Name → List Name → Option Description → Type 0
+abbrev pub MayDescribeIn : Worlds → Collection → List Scope → WorldId → Inside → Name → ItemKind → ImportScope → List Name
+    → List Name → Option Description → Type 0
 MayDescribeIn w c outer world i n kind s imported exported None = WritesOn w c outer world i s imported exported
 MayDescribeIn w c outer world i n kind s imported exported (Some d) = DescribesIn w c outer world i n kind s imported exported d
 
 abbrev pub MayDescribe : {E : Type 0} → Importing → Item → ImportScope → ImportScope → Result (Option Description) E → Type 0
-MayDescribe a x old new r = (w : Worlds) (outer : List Scope) (i : Inside) (imported exported : List Name) → WritesOn w a.types.now outer a.world i old imported exported
+MayDescribe a x old new r = (w : Worlds) (outer : List Scope) (i : Inside) (imported exported : List Name)
+    → WritesOn w a.types.now outer a.world i old imported exported
     → IfOk r (MayDescribeIn w a.types.now outer a.world i x.name.now x.kind new imported exported)
 
 -- ---- imports
 
 -- The scope stands, extended, with the item behind the other imports; the index stands for it.
-pub record ImportsItem (w : Worlds) (c : Collection) (outer : List Scope) (i : Inside) (n : Name) (t : Tree) (d : Description) (s : ItemScope) (p : SortIndex) : Type 0 where
+pub record ImportsItem (w : Worlds) (c : Collection) (outer : List Scope) (i : Inside) (n : Name) (t : Tree) (d : Description)
+    (s : ItemScope) (p : SortIndex) : Type 0 where
   pub after : Inside
   pub stands : IsItemScope w c outer after s
   pub extends : Extends i.here after.here
@@ -156,9 +181,12 @@ pub record ImportsItem (w : Worlds) (c : Collection) (outer : List Scope) (i : I
   pub sort_is : p.sort ≡ description_sort d
   pub means : found (after.here ∷ outer) p.sort p.index ≡ Some (typing.Item n p.sort t)
 
-abbrev pub ImportsDescribed : {E : Type 0} → Collection → Item → Description → ItemScope → ItemScope → Result SortIndex E → Type 0
-ImportsDescribed c x d old new r = (w : Worlds) (outer : List Scope) (i : Inside) → IsItemScope w c outer i old → Stands c x.kind → IsSorted x.kind d
-    → described w (i.here ∷ outer) x.name.now d ≡ Some (description_sort d, tree_in c x.kind) → IfOk r (ImportsItem w c outer i x.name.now (tree_in c x.kind) d new)
+abbrev pub ImportsDescribed : {E : Type 0} → Collection → Item → Description → ItemScope → ItemScope → Result SortIndex E
+    → Type 0
+ImportsDescribed c x d old new r =
+    (w : Worlds) (outer : List Scope) (i : Inside) → IsItemScope w c outer i old → Stands c x.kind → IsSorted x.kind d
+    → described w (i.here ∷ outer) x.name.now d ≡ Some (description_sort d, tree_in c x.kind)
+    → IfOk r (ImportsItem w c outer i x.name.now (tree_in c x.kind) d new)
 
 -- the names at these places
 abbrev pub names_at : List Name → List ℕ → List Name
@@ -167,59 +195,80 @@ names_at ns (k ∷ ks) = option_to_list (slice_get ns k) ++ names_at ns ks
 
 -- the import at the place is written, which was not
 abbrev pub ImportsAt : {U E : Type 0} → Importing → Item → Description → ℕ → ImportScope → ImportScope → Result U E → Type 0
-ImportsAt a x d at old new r = (w : Worlds) (outer : List Scope) (i : Inside) (imported exported : List Name) → AreDistinct (names_of (imports_of a.types.now a.world)) → Stands a.types.now x.kind → slice_get (imports_of a.types.now a.world) at ≡ Some (x.name.now, x.kind) → (Among x.name.now imported → ⊥)
-    → DescribesIn w a.types.now outer a.world i x.name.now x.kind old imported exported d → IfOk r (λ _. WritesWorld w a.types.now outer a.world new (imported ++ x.name.now ∷ []) exported)
+ImportsAt a x d at old new r = (w : Worlds) (outer : List Scope) (i : Inside) (imported exported : List Name)
+    → AreDistinct (names_of (imports_of a.types.now a.world)) → Stands a.types.now x.kind
+    → slice_get (imports_of a.types.now a.world) at ≡ Some (x.name.now, x.kind) → (Among x.name.now imported → ⊥)
+    → DescribesIn w a.types.now outer a.world i x.name.now x.kind old imported exported d
+    → IfOk r (λ _. WritesWorld w a.types.now outer a.world new (imported ++ x.name.now ∷ []) exported)
 
 abbrev pub IsNewAt : List Name → ℕ → List Name → Type 0
 IsNewAt ns at imported = (n : Name) → slice_get ns at ≡ Some n → Among n imported → ⊥
 
 abbrev pub WritesImport : {U E : Type 0} → Importing → ℕ → ImportScope → ImportScope → Result U E → Type 0
-WritesImport a at old new r = (w : Worlds) (outer : List Scope) (imported exported : List Name) → WritesWorld w a.types.now outer a.world old imported exported → IsNewAt (names_of (imports_of a.types.now a.world)) at imported
-    → IfOk r (λ _. WritesWorld w a.types.now outer a.world new (imported ++ option_to_list (slice_get (names_of (imports_of a.types.now a.world)) at)) exported)
+WritesImport a at old new r = (w : Worlds) (outer : List Scope) (imported exported : List Name)
+    → WritesWorld w a.types.now outer a.world old imported exported
+    → IsNewAt (names_of (imports_of a.types.now a.world)) at imported
+    → IfOk r (λ _. WritesWorld w a.types.now outer a.world new
+    (imported ++ option_to_list (slice_get (names_of (imports_of a.types.now a.world)) at)) exported)
 
 -- the imports at these places are written, each once
 abbrev pub WritesInOrder : {U E : Type 0} → Importing → List ℕ → ImportScope → ImportScope → Result U E → Type 0
-WritesInOrder a order old new r = (w : Worlds) (outer : List Scope) (imported exported : List Name) → AreDistinct (names_of (imports_of a.types.now a.world)) → AreDistinct order → ((k : ℕ) → Among k order → IsNewAt (names_of (imports_of a.types.now a.world)) k imported)
-    → WritesWorld w a.types.now outer a.world old imported exported → IfOk r (λ _. WritesWorld w a.types.now outer a.world new (imported ++ names_at (names_of (imports_of a.types.now a.world)) order) exported)
+WritesInOrder a order old new r = (w : Worlds) (outer : List Scope) (imported exported : List Name)
+    → AreDistinct (names_of (imports_of a.types.now a.world)) → AreDistinct order
+    → ((k : ℕ) → Among k order → IsNewAt (names_of (imports_of a.types.now a.world)) k imported)
+    → WritesWorld w a.types.now outer a.world old imported exported
+    → IfOk r (λ _. WritesWorld w a.types.now outer a.world new
+    (imported ++ names_at (names_of (imports_of a.types.now a.world)) order) exported)
 
 -- ---- exports
 
 abbrev pub KeepsExporting : {U E : Type 0} → Importing → ImportScope → List Name → ImportScope → List Name → Result U E → Type 0
-KeepsExporting a old before_names new names r = (w : Worlds) (outer : List Scope) (imported : List Name) → WritesWorld w a.types.now outer a.world old imported before_names
+KeepsExporting a old before_names new names r =
+    (w : Worlds) (outer : List Scope) (imported : List Name) → WritesWorld w a.types.now outer a.world old imported before_names
     → IfOk r (λ _. WritesWorld w a.types.now outer a.world new imported names)
 
 -- the exports before this one are written, and perhaps others
-pub record ExportsWritten (w : Worlds) (c : Collection) (outer : List Scope) (world : WorldId) (at : ℕ) (s : ImportScope) (imported exported : List Name) : Type 0 where
+pub record ExportsWritten (w : Worlds) (c : Collection) (outer : List Scope) (world : WorldId) (at : ℕ) (s : ImportScope)
+    (imported exported : List Name) : Type 0 where
   pub goes : WritesWorld w c outer world s imported exported
   pub all_before : (n : Name) → Among n (take at (names_of (world_exports_of c world))) → Among n exported
 
 abbrev pub ExportsAt : {U E : Type 0} → Importing → ℕ → ImportScope → List Name → ImportScope → List Name → Result U E → Type 0
-ExportsAt a at old before_names new names r = (w : Worlds) (outer : List Scope) (imported : List Name) → ExportsWritten w a.types.now outer a.world at old imported before_names
+ExportsAt a at old before_names new names r = (w : Worlds) (outer : List Scope) (imported : List Name)
+    → ExportsWritten w a.types.now outer a.world at old imported before_names
     → IfOk r (λ _. ExportsWritten w a.types.now outer a.world (at + 1) new imported names)
 
 abbrev pub ExportsAll : {U E : Type 0} → Importing → ImportScope → List Name → ImportScope → List Name → Result U E → Type 0
-ExportsAll a old before_names new names r = (w : Worlds) (outer : List Scope) (imported : List Name) → WritesWorld w a.types.now outer a.world old imported before_names
+ExportsAll a old before_names new names r =
+    (w : Worlds) (outer : List Scope) (imported : List Name) → WritesWorld w a.types.now outer a.world old imported before_names
     → IfOk r (λ _. ExportsWritten w a.types.now outer a.world (length (world_exports_of a.types.now a.world)) new imported names)
 
 abbrev pub ExportsThere : {U E : Type 0} → Importing → Item → ImportScope → ImportScope → Result U E → Type 0
-ExportsThere a x old new r = (w : Worlds) (outer : List Scope) (imported exported : List Name) → Stands a.types.now x.kind → IsTreeOf a.types.now (world_exports_of a.types.now a.world) x.name.now (tree_in a.types.now x.kind) → (Among x.name.now exported → ⊥)
-    → WritesWorld w a.types.now outer a.world old imported exported → IfOk r (λ _. WritesWorld w a.types.now outer a.world new imported (exported ++ x.name.now ∷ []))
+ExportsThere a x old new r = (w : Worlds) (outer : List Scope) (imported exported : List Name) → Stands a.types.now x.kind
+    → IsTreeOf a.types.now (world_exports_of a.types.now a.world) x.name.now (tree_in a.types.now x.kind)
+    → (Among x.name.now exported → ⊥)
+    → WritesWorld w a.types.now outer a.world old imported exported
+    → IfOk r (λ _. WritesWorld w a.types.now outer a.world new imported (exported ++ x.name.now ∷ []))
 
 -- ---- the whole world
 
 -- all imports are written, and these of the exports
 abbrev pub WritesAllImports : Worlds → Collection → List Scope → WorldId → ImportScope → List Name → Type 0
-WritesAllImports w c outer world s exported = (imported : List Name) × WritesWorld w c outer world s imported exported × ((n : Name) → Among n (names_of (imports_of c world)) → Among n imported)
+WritesAllImports w c outer world s exported = (imported : List Name) × WritesWorld w c outer world s imported exported
+    × ((n : Name) → Among n (names_of (imports_of c world)) → Among n imported)
 
 abbrev pub WritesBeforeOthers : {E : Type 0} → Importing → ImportScope → ImportScope → Result (List Name) E → Type 0
-WritesBeforeOthers a old new r = (w : Worlds) (outer : List Scope) → WritesWorld w a.types.now outer a.world old [] [] → IfOk r (WritesAllImports w a.types.now outer a.world new)
+WritesBeforeOthers a old new r = (w : Worlds) (outer : List Scope) → WritesWorld w a.types.now outer a.world old [] []
+    → IfOk r (WritesAllImports w a.types.now outer a.world new)
 
 abbrev pub WritesBetween : {E : Type 0} → Importing → ImportScope → ImportScope → Result (List Name) E → Type 0
-WritesBetween a old new r = (w : Worlds) (outer : List Scope) (imported : List Name) → WritesWorld w a.types.now outer a.world old imported [] → IfOk r (WritesWorld w a.types.now outer a.world new imported)
+WritesBetween a old new r = (w : Worlds) (outer : List Scope) (imported : List Name)
+    → WritesWorld w a.types.now outer a.world old imported [] → IfOk r (WritesWorld w a.types.now outer a.world new imported)
 
 -- in every world and whatever stands around, the declarations state the component type
 abbrev pub MakesComponent : {E : Type 0} → Collection → WorldId → Result (Vec Declaration Global) E → Type 0
-MakesComponent c world r = Stands c (ItemKind.Component world) → (w : Worlds) (outer : List Scope) → IfOk r (λ v. StatesComponent w outer (tree_in c (ItemKind.Component world)) (declarations_of v.items))
+MakesComponent c world r = Stands c (ItemKind.Component world) → (w : Worlds) (outer : List Scope)
+    → IfOk r (λ v. StatesComponent w outer (tree_in c (ItemKind.Component world)) (declarations_of v.items))
 
 -- the world is begun
 abbrev pub BeginsWorld : ImportScope → Type 0

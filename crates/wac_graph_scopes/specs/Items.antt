@@ -1,4 +1,5 @@
--- What holds of a scope of written types with items of all sorts while it is being written, and of the types that stand around it.
+-- What holds of a scope of written types with items of all sorts while it is being written, and of the types that stand around
+-- it.
 use Rattle.std.specs.Prelude.{◌≡◌, ℕ, ◌+◌, Bool, true, false, List, [], ◌∷◌, ◌++◌, length, take, Result, Option, Some, None, slice_get, IfOk, IfSome, ◌⊎◌}
 use Rattle.std.specs.declared.alloc.Global.{Global}
 use Rattle.std.specs.declared.vec.Vec.{Vec}
@@ -47,7 +48,8 @@ pub record ItemsGo (w : Worlds) (c : Collection) (outer : List Scope) (i after :
   pub exports : after.exports ≡ i.exports
 
 -- and the index stands for the type with that tree
-pub record GivesType (w : Worlds) (c : Collection) (outer : List Scope) (i : Inside) (t : Tree) (s : ItemScope) (k : ℕ) : Type 0 where
+pub record GivesType (w : Worlds) (c : Collection) (outer : List Scope) (i : Inside) (t : Tree) (s : ItemScope)
+    (k : ℕ) : Type 0 where
   pub after : Inside
   pub goes : ItemsGo w c outer i after s
   pub index : type_at w (after.here ∷ outer) k ≡ Some t
@@ -66,14 +68,16 @@ abbrev pub IsSorted : ItemKind → Description → Type 0
 IsSorted kind d = sort_of kind ≡ Some (description_sort d)
 
 -- and what is so described is the item, whatever its name
-pub record Describes (w : Worlds) (c : Collection) (outer : List Scope) (i : Inside) (kind : ItemKind) (s : ItemScope) (d : Description) : Type 0 where
+pub record Describes (w : Worlds) (c : Collection) (outer : List Scope) (i : Inside) (kind : ItemKind) (s : ItemScope)
+    (d : Description) : Type 0 where
   pub after : Inside
   pub goes : ItemsGo w c outer i after s
   pub sorted : IsSorted kind d
   pub reads : (n : Name) → described w (after.here ∷ outer) n d ≡ Some (description_sort d, tree_in c kind)
 
 -- The scope stands, extended, with the item behind the other exports.
-pub record ExportsItem (w : Worlds) (c : Collection) (outer : List Scope) (i : Inside) (n : Name) (t : Tree) (s : ItemScope) : Type 0 where
+pub record ExportsItem (w : Worlds) (c : Collection) (outer : List Scope) (i : Inside) (n : Name) (t : Tree)
+    (s : ItemScope) : Type 0 where
   pub after : Inside
   pub stands : IsItemScope w c outer after s
   pub extends : Extends i.here after.here
@@ -117,7 +121,8 @@ abbrev pub AreTreesOf : Collection → List (Name × ItemKind) → List (Name ×
 AreTreesOf c es xs = (n : Name) (t : Tree) → Among (n, t) xs → IsTreeOf c es n t
 
 -- The scope stands, with these of the imports and these of the exports, each once and with its tree.
-pub record Writing (w : Worlds) (c : Collection) (outer : List Scope) (is es : List (Name × ItemKind)) (s : ItemScope) (imported exported : List Name) : Type 0 where
+pub record Writing (w : Worlds) (c : Collection) (outer : List Scope) (is es : List (Name × ItemKind)) (s : ItemScope)
+    (imported exported : List Name) : Type 0 where
   pub inside : Inside
   pub stands : IsItemScope w c outer inside s
   pub imports : names_of inside.imports ≡ imported
@@ -137,18 +142,21 @@ StatesComponent w outer t ds = (declared w outer nothing_inside ds >>= component
 -- ---- whatever scope of the collection it was, this is answered
 
 -- one more type stands, with that index
-pub record HasType (w : Worlds) (c : Collection) (outer : List Scope) (i : Inside) (m : Meaning) (s : ItemScope) (k : ℕ) : Type 0 where
+pub record HasType (w : Worlds) (c : Collection) (outer : List Scope) (i : Inside) (m : Meaning) (s : ItemScope)
+    (k : ℕ) : Type 0 where
   pub goes : ItemsGo w c outer i (adds_inside sort.Ty m i) s
   pub index : k ≡ length i.here.types
 
 abbrev pub AddsType : {E : Type 0} → Declaration → ItemScope → ItemScope → Result ℕ E → Type 0
-AddsType d old new r = (w : Worlds) (c : Collection) (outer : List Scope) (i : Inside) (m : Meaning) → IsItemScope w c outer i old
+AddsType d old new r =
+    (w : Worlds) (c : Collection) (outer : List Scope) (i : Inside) (m : Meaning) → IsItemScope w c outer i old
     → declared w outer i (before d End) ≡ Some (adds_inside sort.Ty m i) → IfOk r (HasType w c outer i m new)
 
 abbrev pub adds_core : Tree → Inside → Inside
 adds_core t i = record i { here = with_core t i.here }
 
-pub record HasCore (w : Worlds) (c : Collection) (outer : List Scope) (i : Inside) (t : Tree) (s : ItemScope) (k : ℕ) : Type 0 where
+pub record HasCore (w : Worlds) (c : Collection) (outer : List Scope) (i : Inside) (t : Tree) (s : ItemScope)
+    (k : ℕ) : Type 0 where
   pub goes : ItemsGo w c outer i (adds_core t i) s
   pub index : k ≡ length i.here.cores
 
@@ -174,22 +182,27 @@ with_count (desc.Component k) n s = record s { components = n }
 with_count (desc.Instance k) n s = record s { instances = n }
 
 -- one more item stands, with that index: an import or an export
-pub record HasItem (w : Worlds) (c : Collection) (outer : List Scope) (i j : Inside) (d : Description) (s : ItemScope) (k : ℕ) : Type 0 where
+pub record HasItem (w : Worlds) (c : Collection) (outer : List Scope) (i j : Inside) (d : Description) (s : ItemScope)
+    (k : ℕ) : Type 0 where
   pub stands : IsItemScope w c outer j s
   pub index : k ≡ length (space (description_sort d) i.here)
 
 abbrev pub AddsItem : {E : Type 0} → Declaration → Description → ItemScope → ItemScope → Result ℕ E → Type 0
-AddsItem e d old new r = (w : Worlds) (c : Collection) (outer : List Scope) (i j : Inside) (m : Meaning) → IsItemScope w c outer i old
-    → declared w outer i (before e End) ≡ Some j → j.here ≡ with_one (description_sort d) m i.here → IfOk r (HasItem w c outer i j d new)
+AddsItem e d old new r =
+    (w : Worlds) (c : Collection) (outer : List Scope) (i j : Inside) (m : Meaning) → IsItemScope w c outer i old
+    → declared w outer i (before e End) ≡ Some j → j.here ≡ with_one (description_sort d) m i.here
+    → IfOk r (HasItem w c outer i j d new)
 
 -- the scope goes on, and the index stands there for the type that the item is
-pub record GivesItem (w : Worlds) (c : Collection) (outer : List Scope) (i : Inside) (t : Tree) (s : ItemScope) (k : ℕ) : Type 0 where
+pub record GivesItem (w : Worlds) (c : Collection) (outer : List Scope) (i : Inside) (t : Tree) (s : ItemScope)
+    (k : ℕ) : Type 0 where
   pub after : Inside
   pub goes : ItemsGo w c outer i after s
   pub index : IsTypeItem w (after.here ∷ outer) 0 t k
 
 abbrev pub AliasesOuter : {E : Type 0} → ℕ → ℕ → ItemScope → ItemScope → Result ℕ E → Type 0
-AliasesOuter depth k old new r = (w : Worlds) (c : Collection) (outer : List Scope) (i : Inside) (t : Tree) → IsItemScope w c outer i old
+AliasesOuter depth k old new r =
+    (w : Worlds) (c : Collection) (outer : List Scope) (i : Inside) (t : Tree) → IsItemScope w c outer i old
     → IsTypeItem w (i.here ∷ outer) depth t k → IfOk r (GivesItem w c outer i t new)
 
 -- the index stands for an instance with that tree
@@ -198,16 +211,20 @@ IsInstanceAt w ss t k = (m : Meaning) × (found ss sort.Instance k ≡ Some m) �
 
 -- an alias of a type that an instance exports
 abbrev pub AliasesExport : {E : Type 0} → ℕ → Name → ItemScope → ItemScope → Result ℕ E → Type 0
-AliasesExport k n old new r = (w : Worlds) (c : Collection) (outer : List Scope) (i : Inside) (t u x : Tree) → IsItemScope w c outer i old
-    → IsInstanceAt w (i.here ∷ outer) t k → export_named n t ≡ Some u → type_in u ≡ Some x → item_of x ≡ u → IfOk r (GivesItem w c outer i u new)
+AliasesExport k n old new r =
+    (w : Worlds) (c : Collection) (outer : List Scope) (i : Inside) (t u x : Tree) → IsItemScope w c outer i old
+    → IsInstanceAt w (i.here ∷ outer) t k → export_named n t ≡ Some u → type_in u ≡ Some x → item_of x ≡ u
+    → IfOk r (GivesItem w c outer i u new)
 
 -- what stands for a type item is remembered
 abbrev pub Notes : {U E : Type 0} → Collection → ItemKind → ℕ → ItemScope → ItemScope → Result U E → Type 0
-Notes c kind k old new r = (w : Worlds) (outer : List Scope) (i : Inside) → IsItemScope w c outer i old → IsNotable w c (i.here ∷ outer) kind k → IfOk r (λ _. IsItemScope w c outer i new)
+Notes c kind k old new r = (w : Worlds) (outer : List Scope) (i : Inside) → IsItemScope w c outer i old
+    → IsNotable w c (i.here ∷ outer) kind k → IfOk r (λ _. IsItemScope w c outer i new)
 
 -- what is found of the types that stand around is that item's type
 abbrev pub FindsUsed : {E : Type 0} → Collection → List UsedIndex → ItemKind → Result (Option ℕ) E → Type 0
-FindsUsed c us item r = (w : Worlds) (ss : List Scope) (depth : ℕ) → AreUsed w c ss depth us → IfOk r (λ o. IfSome o (IsTypeItem w ss depth (tree_in c item)))
+FindsUsed c us item r = (w : Worlds) (ss : List Scope) (depth : ℕ) → AreUsed w c ss depth us
+    → IfOk r (λ o. IfSome o (IsTypeItem w ss depth (tree_in c item)))
 
 abbrev pub MayGive : Worlds → Collection → List Scope → Inside → Tree → ItemScope → Option ℕ → Type 0
 MayGive w c outer i t s None = IsItemScope w c outer i s
@@ -215,12 +232,14 @@ MayGive w c outer i t s (Some k) = GivesItem w c outer i t s k
 
 -- an alias of a type that stands around, if it does
 abbrev pub AliasesUsed : {E : Type 0} → Collection → Around → ItemKind → ItemScope → ItemScope → Result (Option ℕ) E → Type 0
-AliasesUsed c a item old new r = (w : Worlds) (outer : List Scope) (i : Inside) → IsItemScope w c outer i old → AreUsed w c (i.here ∷ outer) a.depth a.used.now.all.items
+AliasesUsed c a item old new r = (w : Worlds) (outer : List Scope) (i : Inside) → IsItemScope w c outer i old
+    → AreUsed w c (i.here ∷ outer) a.depth a.used.now.all.items
     → IfOk r (MayGive w c outer i (tree_in c item) new)
 
 -- whether the interface has that export, which is the item
 abbrev pub ExportsTaken : {E : Type 0} → Collection → InterfaceId → Name → ItemKind → Result Bool E → Type 0
-ExportsTaken c id n item r = Stands c item → IsUsedKind item → IfOk r (λ yes. yes ≡ true → IsTreeOf c (exports_of c id) n (tree_in c item))
+ExportsTaken c id n item r =
+    Stands c item → IsUsedKind item → IfOk r (λ yes. yes ≡ true → IsTreeOf c (exports_of c id) n (tree_in c item))
 
 -- the name at the place, if there is one, is among these
 abbrev pub HasNameAt : List Name → ℕ → List Name → Type 0
@@ -231,12 +250,15 @@ abbrev pub MayExport : Worlds → Collection → List Scope → Inside → List 
 MayExport w c outer i es n s false = (after : Inside) × ItemsGo w c outer i after s
 MayExport w c outer i es n s true = (t : Tree) × IsTreeOf c es n t × ExportsItem w c outer i n t s
 
-abbrev pub ExportsUsed : {E : Type 0} → Collection → InterfaceId → Use → ItemKind → ℕ → ItemScope → ItemScope → Result Bool E → Type 0
-ExportsUsed c id used item k old new r = (w : Worlds) (outer : List Scope) (i : Inside) → IsItemScope w c outer i old → Stands c item → IsUsedKind item
+abbrev pub ExportsUsed : {E : Type 0} → Collection → InterfaceId → Use → ItemKind → ℕ → ItemScope → ItemScope → Result Bool E
+    → Type 0
+ExportsUsed c id used item k old new r =
+    (w : Worlds) (outer : List Scope) (i : Inside) → IsItemScope w c outer i old → Stands c item → IsUsedKind item
     → IsTypeItem w (i.here ∷ outer) 0 (tree_in c item) k → IfOk r (MayExport w c outer i (exports_of c id) used.name.now new)
 
 abbrev pub TakesUse : {E : Type 0} → Collection → Around → InterfaceId → Use → ItemScope → ItemScope → Result Bool E → Type 0
-TakesUse c a id used old new r = (w : Worlds) (outer : List Scope) (i : Inside) → IsItemScope w c outer i old → AreUsed w c (i.here ∷ outer) a.depth a.used.now.all.items
+TakesUse c a id used old new r = (w : Worlds) (outer : List Scope) (i : Inside) → IsItemScope w c outer i old
+    → AreUsed w c (i.here ∷ outer) a.depth a.used.now.all.items
     → IfOk r (MayExport w c outer i (exports_of c id) used.name.now new)
 
 -- the items of an interface whose names these are, each with its tree
@@ -244,33 +266,46 @@ abbrev pub WritesSome : Worlds → Collection → List Scope → InterfaceId →
 WritesSome w c outer id s given = Writing w c outer [] (exports_of c id) s [] given
 
 -- those that its uses before this one give
-pub record UsesTaken (w : Worlds) (c : Collection) (outer : List Scope) (id : InterfaceId) (at : ℕ) (s : ItemScope) (given : List Name) : Type 0 where
+pub record UsesTaken (w : Worlds) (c : Collection) (outer : List Scope) (id : InterfaceId) (at : ℕ) (s : ItemScope)
+    (given : List Name) : Type 0 where
   pub writing : WritesSome w c outer id s given
   pub before_it : (n : Name) → Among n given → Among n (take at (names_of (uses_of c id)))
 
-abbrev pub TakesAt : {U E : Type 0} → Collection → Around → InterfaceId → ℕ → ItemScope → List Name → ItemScope → List Name → Result U E → Type 0
-TakesAt c a id at old before_names new names r = (w : Worlds) (outer : List Scope) → AreAround w c outer a.depth a.used.now.all.items → UsesTaken w c outer id at old before_names
+abbrev pub TakesAt : {U E : Type 0} → Collection → Around → InterfaceId → ℕ → ItemScope → List Name → ItemScope → List Name
+    → Result U E → Type 0
+TakesAt c a id at old before_names new names r = (w : Worlds) (outer : List Scope)
+    → AreAround w c outer a.depth a.used.now.all.items → UsesTaken w c outer id at old before_names
     → IfOk r (λ _. UsesTaken w c outer id (at + 1) new names)
 
 abbrev pub GrowsBy : Name → List Name → List Name → Type 0
 GrowsBy n old new = (m : Name) → Among m new → Among m old ⊎ (m ≡ n)
 
-abbrev pub TakesNamed : {U E : Type 0} → Collection → Around → InterfaceId → Use → ItemScope → List Name → ItemScope → List Name → Result U E → Type 0
-TakesNamed c a id used old before_names new names r = (w : Worlds) (outer : List Scope) → AreAround w c outer a.depth a.used.now.all.items → WritesSome w c outer id old before_names
-    → (Among used.name.now before_names → ⊥) → IfOk r (λ _. WritesSome w c outer id new names × GrowsBy used.name.now before_names names)
+abbrev pub TakesNamed : {U E : Type 0} → Collection → Around → InterfaceId → Use → ItemScope → List Name → ItemScope → List Name
+    → Result U E → Type 0
+TakesNamed c a id used old before_names new names r = (w : Worlds) (outer : List Scope)
+    → AreAround w c outer a.depth a.used.now.all.items → WritesSome w c outer id old before_names
+    → (Among used.name.now before_names → ⊥)
+    → IfOk r (λ _. WritesSome w c outer id new names × GrowsBy used.name.now before_names names)
 
-abbrev pub BeginsInstance : {E : Type 0} → Collection → Around → InterfaceId → ItemScope → ItemScope → Result (List Name) E → Type 0
-BeginsInstance c a id old new r = (w : Worlds) (outer : List Scope) → AreAround w c outer a.depth a.used.now.all.items → WritesSome w c outer id old [] → IfOk r (WritesSome w c outer id new)
+abbrev pub BeginsInstance : {E : Type 0} → Collection → Around → InterfaceId → ItemScope → ItemScope → Result (List Name) E
+    → Type 0
+BeginsInstance c a id old new r = (w : Worlds) (outer : List Scope) → AreAround w c outer a.depth a.used.now.all.items
+    → WritesSome w c outer id old [] → IfOk r (WritesSome w c outer id new)
 
-abbrev pub KeepsWriting : {U E : Type 0} → Collection → InterfaceId → ItemScope → List Name → ItemScope → List Name → Result U E → Type 0
-KeepsWriting c id old before_names new names r = (w : Worlds) (outer : List Scope) → WritesSome w c outer id old before_names → IfOk r (λ _. WritesSome w c outer id new names)
+abbrev pub KeepsWriting : {U E : Type 0} → Collection → InterfaceId → ItemScope → List Name → ItemScope → List Name → Result U E
+    → Type 0
+KeepsWriting c id old before_names new names r = (w : Worlds) (outer : List Scope) → WritesSome w c outer id old before_names
+    → IfOk r (λ _. WritesSome w c outer id new names)
 
 abbrev pub ExportsDescribed : {U E : Type 0} → Collection → Item → Description → ItemScope → ItemScope → Result U E → Type 0
-ExportsDescribed c x d old new r = (w : Worlds) (outer : List Scope) (i : Inside) → IsItemScope w c outer i old → Stands c x.kind → IsSorted x.kind d
-    → described w (i.here ∷ outer) x.name.now d ≡ Some (description_sort d, tree_in c x.kind) → IfOk r (λ _. ExportsItem w c outer i x.name.now (tree_in c x.kind) new)
+ExportsDescribed c x d old new r =
+    (w : Worlds) (outer : List Scope) (i : Inside) → IsItemScope w c outer i old → Stands c x.kind → IsSorted x.kind d
+    → described w (i.here ∷ outer) x.name.now d ≡ Some (description_sort d, tree_in c x.kind)
+    → IfOk r (λ _. ExportsItem w c outer i x.name.now (tree_in c x.kind) new)
 
 abbrev pub ExportsFresh : {U E : Type 0} → Collection → Item → ItemScope → ItemScope → Result U E → Type 0
-ExportsFresh c x old new r = (w : Worlds) (outer : List Scope) (i : Inside) → IsItemScope w c outer i old → IsFresh c x.name.now x.kind → IfOk r (λ _. ExportsItem w c outer i x.name.now (tree_in c x.kind) new)
+ExportsFresh c x old new r = (w : Worlds) (outer : List Scope) (i : Inside) → IsItemScope w c outer i old
+    → IsFresh c x.name.now x.kind → IfOk r (λ _. ExportsItem w c outer i x.name.now (tree_in c x.kind) new)
 
 -- ---- types of their own
 
@@ -279,17 +314,22 @@ abbrev pub IsEntryOf : Worlds → List Scope → List Declaration → Descriptio
 IsEntryOf w outer ds d = (k : ℕ) × (d ≡ desc.Equal k) × IsEntryIn w outer ds k
 
 abbrev pub EntersType : {E : Type 0} → Declaration → ItemScope → ItemScope → Result ℕ E → Type 0
-EntersType d old new r = IsTypeDeclaration d → (w : Worlds) (c : Collection) (outer : List Scope) (i : Inside) → IsItemScope w c outer i old → IfOk r (IsEntryIn w outer new.types.declarations.items)
+EntersType d old new r = IsTypeDeclaration d → (w : Worlds) (c : Collection) (outer : List Scope) (i : Inside)
+    → IsItemScope w c outer i old → IfOk r (IsEntryIn w outer new.types.declarations.items)
 
 abbrev pub MakesItem : {E : Type 0} → Collection → ItemScope → ItemScope → Result ℕ E → Type 0
-MakesItem c old new r = (w : Worlds) (outer : List Scope) (i : Inside) → IsItemScope w c outer i old → IfOk r (IsEntryIn w outer new.types.declarations.items)
+MakesItem c old new r = (w : Worlds) (outer : List Scope) (i : Inside) → IsItemScope w c outer i old
+    → IfOk r (IsEntryIn w outer new.types.declarations.items)
 
 abbrev pub DescribesEntry : {E : Type 0} → Collection → ItemScope → ItemScope → Result Description E → Type 0
-DescribesEntry c old new r = (w : Worlds) (outer : List Scope) (i : Inside) → IsItemScope w c outer i old → IfOk r (IsEntryOf w outer new.types.declarations.items)
+DescribesEntry c old new r = (w : Worlds) (outer : List Scope) (i : Inside) → IsItemScope w c outer i old
+    → IfOk r (IsEntryOf w outer new.types.declarations.items)
 
 -- the same of another collection, where these of its types are known
 abbrev pub DescribesOwn : {E : Type 0} → Collection → ItemScope → KnownTypes → ItemScope → Result Description E → Type 0
-DescribesOwn other old known new r = (w : Worlds) (c : Collection) (outer : List Scope) (i : Inside) → IsItemScope w c outer i old → AreKnown w (i.here ∷ outer) other known → IfOk r (IsEntryOf w outer new.types.declarations.items)
+DescribesOwn other old known new r = (w : Worlds) (c : Collection) (outer : List Scope) (i : Inside)
+    → IsItemScope w c outer i old → AreKnown w (i.here ∷ outer) other known
+    → IfOk r (IsEntryOf w outer new.types.declarations.items)
 
 -- an interface or a world
 abbrev pub HasEntry : ItemKind → Type 0
@@ -305,22 +345,27 @@ IsNoResource t = Unit {0}
 -- ---- types of things
 
 abbrev pub StatesType : {E : Type 0} → Collection → ItemKind → ItemScope → ItemScope → Result ℕ E → Type 0
-StatesType c kind old new r = (w : Worlds) (outer : List Scope) (i : Inside) → IsItemScope w c outer i old → IfOk r (GivesType w c outer i (tree_in c kind) new)
+StatesType c kind old new r = (w : Worlds) (outer : List Scope) (i : Inside) → IsItemScope w c outer i old
+    → IfOk r (GivesType w c outer i (tree_in c kind) new)
 
 abbrev pub StatesTypeItem : {E : Type 0} → Collection → TypeKind → ItemScope → ItemScope → Result ℕ E → Type 0
-StatesTypeItem c t old new r = (w : Worlds) (outer : List Scope) (i : Inside) → IsItemScope w c outer i old → IfOk r (GivesItem w c outer i (tree_in c (ItemKind.Ty t)) new)
+StatesTypeItem c t old new r = (w : Worlds) (outer : List Scope) (i : Inside) → IsItemScope w c outer i old
+    → IfOk r (GivesItem w c outer i (tree_in c (ItemKind.Ty t)) new)
 
 -- the scope goes on, and the index stands for the core module type
-pub record GivesCore (w : Worlds) (c : Collection) (outer : List Scope) (i : Inside) (t : Tree) (s : ItemScope) (k : ℕ) : Type 0 where
+pub record GivesCore (w : Worlds) (c : Collection) (outer : List Scope) (i : Inside) (t : Tree) (s : ItemScope)
+    (k : ℕ) : Type 0 where
   pub after : Inside
   pub goes : ItemsGo w c outer i after s
   pub index : slice_get after.here.cores k ≡ Some t
 
 abbrev pub StatesModule : {E : Type 0} → Collection → ModuleTypeId → ItemScope → ItemScope → Result ℕ E → Type 0
-StatesModule c id old new r = (w : Worlds) (outer : List Scope) (i : Inside) → IsItemScope w c outer i old → IfOk r (GivesCore w c outer i (tree_in c (ItemKind.Module id)) new)
+StatesModule c id old new r = (w : Worlds) (outer : List Scope) (i : Inside) → IsItemScope w c outer i old
+    → IfOk r (GivesCore w c outer i (tree_in c (ItemKind.Module id)) new)
 
 abbrev pub DescribesSimply : {E : Type 0} → Collection → ItemKind → ItemScope → ItemScope → Result Description E → Type 0
-DescribesSimply c kind old new r = (w : Worlds) (outer : List Scope) (i : Inside) → IsItemScope w c outer i old → IfOk r (Describes w c outer i kind new)
+DescribesSimply c kind old new r =
+    (w : Worlds) (outer : List Scope) (i : Inside) → IsItemScope w c outer i old → IfOk r (Describes w c outer i kind new)
 
 -- what a thing of the type at an index is, or that type itself
 abbrev pub described_as : ItemKind → ℕ → Description
@@ -335,35 +380,47 @@ abbrev pub StatesClosed : {E : Type 0} → Collection → ItemKind → ItemScope
 StatesClosed c kind old new r = Stands c kind → StatesType c kind old new r
 
 abbrev pub StatesItem : {E : Type 0} → Collection → Around → ItemKind → ItemScope → ItemScope → Result ℕ E → Type 0
-StatesItem c a kind old new r = Stands c kind → (w : Worlds) (outer : List Scope) (i : Inside) → IsItemScope w c outer i old → AreUsed w c (i.here ∷ outer) a.depth a.used.now.all.items
+StatesItem c a kind old new r = Stands c kind → (w : Worlds) (outer : List Scope) (i : Inside) → IsItemScope w c outer i old
+    → AreUsed w c (i.here ∷ outer) a.depth a.used.now.all.items
     → IfOk r (GivesType w c outer i (tree_in c kind) new)
 
 abbrev pub DescribesItem : {E : Type 0} → Collection → Around → ItemKind → ItemScope → ItemScope → Result Description E → Type 0
-DescribesItem c a kind old new r = (w : Worlds) (outer : List Scope) (i : Inside) → IsItemScope w c outer i old → AreUsed w c (i.here ∷ outer) a.depth a.used.now.all.items
+DescribesItem c a kind old new r = (w : Worlds) (outer : List Scope) (i : Inside) → IsItemScope w c outer i old
+    → AreUsed w c (i.here ∷ outer) a.depth a.used.now.all.items
     → IfOk r (Describes w c outer i kind new)
 
 abbrev pub ExportsOne : {U E : Type 0} → Collection → Around → Item → ItemScope → ItemScope → Result U E → Type 0
-ExportsOne c a x old new r = Stands c x.kind → (w : Worlds) (outer : List Scope) (i : Inside) → IsItemScope w c outer i old → AreUsed w c (i.here ∷ outer) a.depth a.used.now.all.items
+ExportsOne c a x old new r = Stands c x.kind → (w : Worlds) (outer : List Scope) (i : Inside) → IsItemScope w c outer i old
+    → AreUsed w c (i.here ∷ outer) a.depth a.used.now.all.items
     → IfOk r (λ _. ExportsItem w c outer i x.name.now (tree_in c x.kind) new)
 
 -- the items before this one are written, and perhaps others
-pub record ItemsWritten (w : Worlds) (c : Collection) (outer : List Scope) (id : InterfaceId) (at : ℕ) (s : ItemScope) (given : List Name) : Type 0 where
+pub record ItemsWritten (w : Worlds) (c : Collection) (outer : List Scope) (id : InterfaceId) (at : ℕ) (s : ItemScope)
+    (given : List Name) : Type 0 where
   pub writing : WritesSome w c outer id s given
   pub all_before : (n : Name) → Among n (take at (names_of (exports_of c id))) → Among n given
 
-abbrev pub WritesOtherAt : {U E : Type 0} → Collection → Around → InterfaceId → ℕ → ItemScope → List Name → ItemScope → List Name → Result U E → Type 0
-WritesOtherAt c a id at old before_names new names r = Stands c (ItemKind.Instance id) → (w : Worlds) (outer : List Scope) → AreAround w c outer a.depth a.used.now.all.items
+abbrev pub WritesOtherAt : {U E : Type 0} → Collection → Around → InterfaceId → ℕ → ItemScope → List Name → ItemScope → List Name
+    → Result U E → Type 0
+WritesOtherAt c a id at old before_names new names r =
+    Stands c (ItemKind.Instance id) → (w : Worlds) (outer : List Scope) → AreAround w c outer a.depth a.used.now.all.items
     → ItemsWritten w c outer id at old before_names → IfOk r (λ _. ItemsWritten w c outer id (at + 1) new names)
 
-abbrev pub WritesOthers : {U E : Type 0} → Collection → Around → InterfaceId → ItemScope → List Name → ItemScope → List Name → Result U E → Type 0
-WritesOthers c a id old before_names new names r = Stands c (ItemKind.Instance id) → (w : Worlds) (outer : List Scope) → AreAround w c outer a.depth a.used.now.all.items
+abbrev pub WritesOthers : {U E : Type 0} → Collection → Around → InterfaceId → ItemScope → List Name → ItemScope → List Name
+    → Result U E → Type 0
+WritesOthers c a id old before_names new names r =
+    Stands c (ItemKind.Instance id) → (w : Worlds) (outer : List Scope) → AreAround w c outer a.depth a.used.now.all.items
     → WritesSome w c outer id old before_names → IfOk r (λ _. ItemsWritten w c outer id (length (exports_of c id)) new names)
 
-abbrev pub WritesInstance : {E : Type 0} → Collection → Around → InterfaceId → ItemScope → Result (Vec Declaration Global) E → Type 0
-WritesInstance c a id old r = Stands c (ItemKind.Instance id) → (w : Worlds) (outer : List Scope) → AreAround w c outer a.depth a.used.now.all.items
-    → WritesSome w c outer id old [] → IfOk r (λ v. StatesInstance w outer (tree_in c (ItemKind.Instance id)) (declarations_of v.items))
+abbrev pub WritesInstance : {E : Type 0} → Collection → Around → InterfaceId → ItemScope → Result (Vec Declaration Global) E
+    → Type 0
+WritesInstance c a id old r =
+    Stands c (ItemKind.Instance id) → (w : Worlds) (outer : List Scope) → AreAround w c outer a.depth a.used.now.all.items
+    → WritesSome w c outer id old []
+    → IfOk r (λ v. StatesInstance w outer (tree_in c (ItemKind.Instance id)) (declarations_of v.items))
 
 -- in every world and whatever stands around, the declarations state the interface
 abbrev pub MakesInstance : {E : Type 0} → Collection → Around → InterfaceId → Result (Vec Declaration Global) E → Type 0
-MakesInstance c a id r = Stands c (ItemKind.Instance id) → (w : Worlds) (outer : List Scope) → AreAround w c outer a.depth a.used.now.all.items
+MakesInstance c a id r =
+    Stands c (ItemKind.Instance id) → (w : Worlds) (outer : List Scope) → AreAround w c outer a.depth a.used.now.all.items
     → IfOk r (λ v. StatesInstance w outer (tree_in c (ItemKind.Instance id)) (declarations_of v.items))

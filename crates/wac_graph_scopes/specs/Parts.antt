@@ -98,4 +98,5 @@ IsFresh c n k = Stands c k × (tree_in c k ≡ rigid (resource n) end)
 
 -- the name of the resource at the end of the aliases
 abbrev pub IsRootName : Collection → ResourceId → Name → Type 0
-IsRootName c r n = Stands c (ItemKind.Ty (TypeKind.Resource r)) → tree_in c (ItemKind.Ty (TypeKind.Resource r)) ≡ rigid (resource n) end
+IsRootName c r n =
+    Stands c (ItemKind.Ty (TypeKind.Resource r)) → tree_in c (ItemKind.Ty (TypeKind.Resource r)) ≡ rigid (resource n) end

@@ -23,7 +23,8 @@ pub record IsUnnamed (c : Collection) (rs : List (Name × ℕ)) (r : ResourceId)
 pub data Dangles (c : Collection) (rs : List (Name × ℕ)) : ItemKind → Type 0 where
   own_dangles : {r : ResourceId} → IsUnnamed c rs r → Dangles c rs (ItemKind.Value (ValueType.Own r))
   borrow_dangles : {r : ResourceId} → IsUnnamed c rs r → Dangles c rs (ItemKind.Value (ValueType.Borrow r))
-  part_dangles : {k : ItemKind} {v : ValueType} → Among (Some (ItemKind.Value v)) (slots_of c k) → Dangles c rs (ItemKind.Value v) → Dangles c rs k
+  part_dangles : {k : ItemKind} {v : ValueType} → Among (Some (ItemKind.Value v)) (slots_of c k)
+      → Dangles c rs (ItemKind.Value v) → Dangles c rs k
 
 -- why what a kind names could not be written in the scope
 abbrev pub Refused : Collection → ItemKind → TypeScope → WriteError → Type 0

@@ -32,4 +32,5 @@ at_root i = record { scope = i.here; listed = record { imports = i.imports; inst
 
 -- What declarations without exports say at the root, the same entries state.
 abbrev pub RootsRead : Type 0
-RootsRead = (w : Worlds) (i j : Inside) (ds : Declarations) → has_no_export ds ≡ true → declared w [] i ds ≡ Some j → steps w (at_root i) (root_entries ds) ≡ Some (at_root j)
+RootsRead = (w : Worlds) (i j : Inside) (ds : Declarations) → has_no_export ds ≡ true → declared w [] i ds ≡ Some j
+    → steps w (at_root i) (root_entries ds) ≡ Some (at_root j)

@@ -70,7 +70,8 @@ KeepsScope c s u = (w : Worlds) (outer : List Scope) (i : Inside) → IsScope w 
 
 -- a scope of one collection becomes one of another, of which those types are known
 abbrev pub Exchanges : TypeScope → KnownTypes → TypeScope → KnownTypes → Type 0
-Exchanges s ks u ls = (w : Worlds) (c d : Collection) (outer : List Scope) (i : Inside) → IsScope w c outer i s → AreKnown w (i.here ∷ outer) d ks
+Exchanges s ks u ls =
+    (w : Worlds) (c d : Collection) (outer : List Scope) (i : Inside) → IsScope w c outer i s → AreKnown w (i.here ∷ outer) d ks
     → IsScope w d outer i u × AreKnown w (i.here ∷ outer) c ls
 
 -- the index of a defined type
@@ -79,7 +80,8 @@ StandsFor w ss c id k = value_of w ss (Index k) ≡ Some (tree_in c (ItemKind.Va
 
 -- the index of a defined type, if there is one
 abbrev pub FindsType : Collection → TypeScope → DefinedTypeId → Option ℕ → Type 0
-FindsType c s id o = (w : Worlds) (outer : List Scope) (i : Inside) → IsScope w c outer i s → IfSome o (StandsFor w (i.here ∷ outer) c id)
+FindsType c s id o =
+    (w : Worlds) (outer : List Scope) (i : Inside) → IsScope w c outer i s → IfSome o (StandsFor w (i.here ∷ outer) c id)
 
 -- The scope stands again, extended with types alone; nothing is imported and nothing exported.
 pub record Goes (w : Worlds) (c : Collection) (outer : List Scope) (i after : Inside) (s : TypeScope) : Type 0 where
@@ -90,13 +92,15 @@ pub record Goes (w : Worlds) (c : Collection) (outer : List Scope) (i after : In
   pub exports : after.exports ≡ i.exports
 
 -- and the index stands for the type with that tree
-pub record AnswersType (w : Worlds) (c : Collection) (outer : List Scope) (i : Inside) (t : Tree) (s : TypeScope) (k : ℕ) : Type 0 where
+pub record AnswersType (w : Worlds) (c : Collection) (outer : List Scope) (i : Inside) (t : Tree) (s : TypeScope)
+    (k : ℕ) : Type 0 where
   pub after : Inside
   pub goes : Goes w c outer i after s
   pub index : type_at w (after.here ∷ outer) k ≡ Some t
 
 -- and the value type is the one with that tree
-pub record AnswersValue (w : Worlds) (c : Collection) (outer : List Scope) (i : Inside) (t : Tree) (s : TypeScope) (b : Written) : Type 0 where
+pub record AnswersValue (w : Worlds) (c : Collection) (outer : List Scope) (i : Inside) (t : Tree) (s : TypeScope)
+    (b : Written) : Type 0 where
   pub after : Inside
   pub goes : Goes w c outer i after s
   pub value : value_of w (after.here ∷ outer) b ≡ Some t
@@ -115,19 +119,22 @@ PlacesRead w ss (b ∷ bs) (t ∷ ts) = PlaceReads w ss b t × PlacesRead w ss b
 PlacesRead w ss _ _ = ⊥
 
 -- and the value types in the places have those trees
-pub record AnswersPlaces (w : Worlds) (c : Collection) (outer : List Scope) (i : Inside) (ts : List (Option Tree)) (s : TypeScope) (bs : List (Option Written)) : Type 0 where
+pub record AnswersPlaces (w : Worlds) (c : Collection) (outer : List Scope) (i : Inside) (ts : List (Option Tree))
+    (s : TypeScope) (bs : List (Option Written)) : Type 0 where
   pub after : Inside
   pub goes : Goes w c outer i after s
   pub values : PlacesRead w (after.here ∷ outer) bs ts
 
 -- and the value type in the place has that tree, or nothing stands there
-pub record AnswersPlace (w : Worlds) (c : Collection) (outer : List Scope) (i : Inside) (t : Option Tree) (s : TypeScope) (b : Option Written) : Type 0 where
+pub record AnswersPlace (w : Worlds) (c : Collection) (outer : List Scope) (i : Inside) (t : Option Tree) (s : TypeScope)
+    (b : Option Written) : Type 0 where
   pub after : Inside
   pub goes : Goes w c outer i after s
   pub value : PlaceReads w (after.here ∷ outer) b t
 
 -- After an export the scope stands, extended, with the item behind the other exports.
-pub record Exports (w : Worlds) (c : Collection) (outer : List Scope) (i : Inside) (n : Name) (t : Tree) (s : TypeScope) : Type 0 where
+pub record Exports (w : Worlds) (c : Collection) (outer : List Scope) (i : Inside) (n : Name) (t : Tree)
+    (s : TypeScope) : Type 0 where
   pub after : Inside
   pub stands : IsScope w c outer after s
   pub extends : Extends i.here after.here
@@ -135,7 +142,8 @@ pub record Exports (w : Worlds) (c : Collection) (outer : List Scope) (i : Insid
   pub exports : after.exports ≡ i.exports ++ (n, t) ∷ []
 
 -- And the export's own index stands for the type.
-pub record ExportsType (w : Worlds) (c : Collection) (outer : List Scope) (i : Inside) (n : Name) (t : Tree) (s : TypeScope) (k : ℕ) : Type 0 where
+pub record ExportsType (w : Worlds) (c : Collection) (outer : List Scope) (i : Inside) (n : Name) (t : Tree) (s : TypeScope)
+    (k : ℕ) : Type 0 where
   pub exported : Exports w c outer i n (item_of t) s
   pub others : OnlyTypes i.here exported.after.here
   pub index : type_at w (exported.after.here ∷ outer) k ≡ Some t
@@ -143,73 +151,93 @@ pub record ExportsType (w : Worlds) (c : Collection) (outer : List Scope) (i : I
 -- ---- whatever scope of the collection it was, this is answered
 
 abbrev pub WritesValue : {E : Type 0} → Collection → Tree → TypeScope → TypeScope → Result Written E → Type 0
-WritesValue c t old new r = (w : Worlds) (outer : List Scope) (i : Inside) → IsScope w c outer i old → IfOk r (λ b. AnswersValue w c outer i t new b)
+WritesValue c t old new r =
+    (w : Worlds) (outer : List Scope) (i : Inside) → IsScope w c outer i old → IfOk r (λ b. AnswersValue w c outer i t new b)
 
 abbrev pub WritesDefined : {E : Type 0} → Collection → DefinedTypeId → TypeScope → TypeScope → Result Written E → Type 0
 WritesDefined c id old new r = WritesValue c (tree_in c (ItemKind.Value (ValueType.Defined id))) old new r
 
 abbrev pub WritesType : {E : Type 0} → Collection → Tree → TypeScope → TypeScope → Result ℕ E → Type 0
-WritesType c t old new r = (w : Worlds) (outer : List Scope) (i : Inside) → IsScope w c outer i old → IfOk r (λ k. AnswersType w c outer i t new k)
+WritesType c t old new r =
+    (w : Worlds) (outer : List Scope) (i : Inside) → IsScope w c outer i old → IfOk r (λ k. AnswersType w c outer i t new k)
 
-abbrev pub WritesPlaces : {E : Type 0} → Collection → List (Option Tree) → TypeScope → TypeScope → Result (Vec (Option Written) Global) E → Type 0
-WritesPlaces c ts old new r = (w : Worlds) (outer : List Scope) (i : Inside) → IsScope w c outer i old → IfOk r (λ v. AnswersPlaces w c outer i ts new v.items)
+abbrev pub WritesPlaces : {E : Type 0} → Collection → List (Option Tree) → TypeScope → TypeScope
+    → Result (Vec (Option Written) Global) E → Type 0
+WritesPlaces c ts old new r = (w : Worlds) (outer : List Scope) (i : Inside) → IsScope w c outer i old
+    → IfOk r (λ v. AnswersPlaces w c outer i ts new v.items)
 
 abbrev pub WritesPlace : {E : Type 0} → Collection → Option Tree → TypeScope → TypeScope → Result (Option Written) E → Type 0
-WritesPlace c t old new r = (w : Worlds) (outer : List Scope) (i : Inside) → IsScope w c outer i old → IfOk r (λ b. AnswersPlace w c outer i t new b)
+WritesPlace c t old new r =
+    (w : Worlds) (outer : List Scope) (i : Inside) → IsScope w c outer i old → IfOk r (λ b. AnswersPlace w c outer i t new b)
 
 -- the index of a defined type that is no alias
 abbrev pub WritesEntry : {E : Type 0} → Collection → DefinedTypeId → TypeScope → TypeScope → Result ℕ E → Type 0
-WritesEntry c id old new r = (w : Worlds) (outer : List Scope) (i : Inside) → IsNoAlias c (ValueType.Defined id) → IsScope w c outer i old
+WritesEntry c id old new r =
+    (w : Worlds) (outer : List Scope) (i : Inside) → IsNoAlias c (ValueType.Defined id) → IsScope w c outer i old
     → IfOk r (λ k. AnswersValue w c outer i (tree_in c (ItemKind.Value (ValueType.Defined id))) new (Index k))
 
 abbrev pub FindsResource : {E : Type 0} → Collection → Tree → TypeScope → Result ℕ E → Type 0
-FindsResource c t s r = (w : Worlds) (outer : List Scope) (i : Inside) → IsScope w c outer i s → IfOk r (λ k. type_at w (i.here ∷ outer) k ≡ Some t)
+FindsResource c t s r =
+    (w : Worlds) (outer : List Scope) (i : Inside) → IsScope w c outer i s → IfOk r (λ k. type_at w (i.here ∷ outer) k ≡ Some t)
 
 -- ---- types of their own
 
 -- the index stands for a type entry of its own
 abbrev pub IsEntryIn : Worlds → List Scope → List Declaration → ℕ → Type 0
-IsEntryIn w outer ds k = (i : Inside) → declared w outer nothing_inside (declarations_of ds) ≡ Some i → (t : Tree) × (slice_get i.here.types k ≡ Some (Known t))
+IsEntryIn w outer ds k = (i : Inside) → declared w outer nothing_inside (declarations_of ds) ≡ Some i
+    → (t : Tree) × (slice_get i.here.types k ≡ Some (Known t))
 
 -- wherever the declaration is read, it states a type
 abbrev pub IsTypeDeclaration : Declaration → Type 0
-IsTypeDeclaration d = (w : Worlds) (outer : List Scope) (i j : Inside) → declared w outer i (before d End) ≡ Some j → (t : Tree) × (adds_inside sort.Ty (Known t) i ≡ j)
+IsTypeDeclaration d = (w : Worlds) (outer : List Scope) (i j : Inside) → declared w outer i (before d End) ≡ Some j
+    → (t : Tree) × (adds_inside sort.Ty (Known t) i ≡ j)
 
 abbrev pub MakesEntry : {E : Type 0} → Collection → TypeScope → TypeScope → Result ℕ E → Type 0
-MakesEntry c old new r = (w : Worlds) (outer : List Scope) (i : Inside) → IsScope w c outer i old → IfOk r (IsEntryIn w outer new.declarations.items)
+MakesEntry c old new r =
+    (w : Worlds) (outer : List Scope) (i : Inside) → IsScope w c outer i old → IfOk r (IsEntryIn w outer new.declarations.items)
 
 abbrev pub WritesIndex : {E : Type 0} → Collection → Tree → TypeScope → TypeScope → Result ℕ E → Type 0
-WritesIndex c t old new r = (w : Worlds) (outer : List Scope) (i : Inside) → IsScope w c outer i old → IfOk r (λ k. AnswersValue w c outer i t new (Index k))
+WritesIndex c t old new r = (w : Worlds) (outer : List Scope) (i : Inside) → IsScope w c outer i old
+    → IfOk r (λ k. AnswersValue w c outer i t new (Index k))
 
 -- ---- of whatever collection the scope was
 
 abbrev pub Defines : {E : Type 0} → DefinedType → TypeScope → TypeScope → Result ℕ E → Type 0
-Defines ty old new r = (w : Worlds) (c : Collection) (outer : List Scope) (i : Inside) (t : Tree) → IsScope w c outer i old → defined w (i.here ∷ outer) (defined_view ty) ≡ Some t
+Defines ty old new r = (w : Worlds) (c : Collection) (outer : List Scope) (i : Inside) (t : Tree) → IsScope w c outer i old
+    → defined w (i.here ∷ outer) (defined_view ty) ≡ Some t
     → IfOk r (λ k. AnswersType w c outer i t new k)
 
 abbrev pub ExportsFunction : {U E : Type 0} → Name → ℕ → TypeScope → TypeScope → Result U E → Type 0
-ExportsFunction n ty old new r = (w : Worlds) (c : Collection) (outer : List Scope) (i : Inside) (t : Tree) → IsScope w c outer i old → type_at w (i.here ∷ outer) ty ≡ Some t → as_func t ≡ Some t
+ExportsFunction n ty old new r = (w : Worlds) (c : Collection) (outer : List Scope) (i : Inside) (t : Tree)
+    → IsScope w c outer i old → type_at w (i.here ∷ outer) ty ≡ Some t → as_func t ≡ Some t
     → IfOk r (λ _. Exports w c outer i n t new)
 
 abbrev pub ExportsNewType : {E : Type 0} → Name → ℕ → TypeScope → TypeScope → Result ℕ E → Type 0
-ExportsNewType n ty old new r = (w : Worlds) (c : Collection) (outer : List Scope) (i : Inside) (t : Tree) → IsScope w c outer i old → type_at w (i.here ∷ outer) ty ≡ Some t
+ExportsNewType n ty old new r = (w : Worlds) (c : Collection) (outer : List Scope) (i : Inside) (t : Tree)
+    → IsScope w c outer i old → type_at w (i.here ∷ outer) ty ≡ Some t
     → IfOk r (λ k. ExportsType w c outer i n t new k)
 
 -- the index is remembered for the type that it stands for
 abbrev pub Remembers : {U E : Type 0} → DefinedTypeId → ℕ → TypeScope → TypeScope → Result U E → Type 0
-Remembers id k old new r = (w : Worlds) (c : Collection) (outer : List Scope) (i : Inside) → IsScope w c outer i old → StandsFor w (i.here ∷ outer) c id k → IfOk r (λ _. IsScope w c outer i new)
+Remembers id k old new r = (w : Worlds) (c : Collection) (outer : List Scope) (i : Inside) → IsScope w c outer i old
+    → StandsFor w (i.here ∷ outer) c id k → IfOk r (λ _. IsScope w c outer i new)
 
 abbrev pub FindsKnown : TypeScope → Option KnownType → Type 0
-FindsKnown s o = (w : Worlds) (c : Collection) (outer : List Scope) (i : Inside) → IsScope w c outer i s → IfSome o (IsKnown w (i.here ∷ outer) c)
+FindsKnown s o = (w : Worlds) (c : Collection) (outer : List Scope) (i : Inside) → IsScope w c outer i s
+    → IfSome o (IsKnown w (i.here ∷ outer) c)
 
 abbrev pub KnowsResource : TypeScope → Name → Option ℕ → Type 0
-KnowsResource s n o = (w : Worlds) (c : Collection) (outer : List Scope) (i : Inside) → IsScope w c outer i s → IfSome o (λ k. type_at w (i.here ∷ outer) k ≡ Some (rigid (resource n) end))
+KnowsResource s n o = (w : Worlds) (c : Collection) (outer : List Scope) (i : Inside) → IsScope w c outer i s
+    → IfSome o (λ k. type_at w (i.here ∷ outer) k ≡ Some (rigid (resource n) end))
 
 abbrev pub RemembersOne : {U E : Type 0} → Collection → DefinedTypeId → ℕ → TypeScope → TypeScope → Result U E → Type 0
-RemembersOne c id k old new r = (w : Worlds) (outer : List Scope) (i : Inside) → IsScope w c outer i old → StandsFor w (i.here ∷ outer) c id k → IfOk r (λ _. IsScope w c outer i new)
+RemembersOne c id k old new r = (w : Worlds) (outer : List Scope) (i : Inside) → IsScope w c outer i old
+    → StandsFor w (i.here ∷ outer) c id k → IfOk r (λ _. IsScope w c outer i new)
 
 abbrev pub NotesResource : {U E : Type 0} → Name → ℕ → TypeScope → TypeScope → Result U E → Type 0
-NotesResource n k old new r = (w : Worlds) (c : Collection) (outer : List Scope) (i : Inside) → IsScope w c outer i old → IsResource w (i.here ∷ outer) n k → IfOk r (λ _. IsScope w c outer i new)
+NotesResource n k old new r = (w : Worlds) (c : Collection) (outer : List Scope) (i : Inside) → IsScope w c outer i old
+    → IsResource w (i.here ∷ outer) n k → IfOk r (λ _. IsScope w c outer i new)
 
 abbrev pub NotesValue : {U E : Type 0} → Collection → ValueType → ℕ → TypeScope → TypeScope → Result U E → Type 0
-NotesValue c v k old new r = (w : Worlds) (outer : List Scope) (i : Inside) → IsScope w c outer i old → type_at w (i.here ∷ outer) k ≡ Some (tree_in c (ItemKind.Value v)) → IfOk r (λ _. IsScope w c outer i new)
+NotesValue c v k old new r = (w : Worlds) (outer : List Scope) (i : Inside) → IsScope w c outer i old
+    → type_at w (i.here ∷ outer) k ≡ Some (tree_in c (ItemKind.Value v)) → IfOk r (λ _. IsScope w c outer i new)

@@ -65,7 +65,8 @@ fn push_own(scope: &mut TypeScope, types: &Types, id: ResourceId) -> Result<Writ
 /// The index of a type entry that is such a handle.
 fn define_borrow(scope: &mut TypeScope, types: &Types, id: ResourceId) -> Result<u32, WriteError>
     requires { Stands types.now (ItemKind.Value (ValueType.Borrow id)) }
-    ensures writes { WritesIndex types.now (tree_in types.now (ItemKind.Value (ValueType.Borrow id))) scope.old scope.new result }
+    ensures writes { WritesIndex types.now
+        (tree_in types.now (ItemKind.Value (ValueType.Borrow id))) scope.old scope.new result }
     ensures entry { MakesEntry types.now scope.old scope.new result }
     ensures refused { IfErr result (Refused types.now (ItemKind.Value (ValueType.Borrow id)) scope.new) }
     ensures resources { scope.new.resources ≡ scope.old.resources }
@@ -78,7 +79,8 @@ fn define_borrow(scope: &mut TypeScope, types: &Types, id: ResourceId) -> Result
 
 fn push_borrow(scope: &mut TypeScope, types: &Types, id: ResourceId) -> Result<Written, WriteError>
     requires { Stands types.now (ItemKind.Value (ValueType.Borrow id)) }
-    ensures writes { WritesValue types.now (tree_in types.now (ItemKind.Value (ValueType.Borrow id))) scope.old scope.new result }
+    ensures writes { WritesValue types.now
+        (tree_in types.now (ItemKind.Value (ValueType.Borrow id))) scope.old scope.new result }
     ensures refused { IfErr result (Refused types.now (ItemKind.Value (ValueType.Borrow id)) scope.new) }
     ensures resources { scope.new.resources ≡ scope.old.resources }
 {
@@ -392,7 +394,8 @@ fn define_once(
 ) -> Result<u32, WriteError>
     requires stands { Stands types.now (ItemKind.Value (ValueType.Defined id)) }
     requires no_alias { IsNoAlias types.now (ValueType.Defined id) }
-    ensures writes { WritesType types.now (tree_in types.now (ItemKind.Value (ValueType.Defined id))) scope.old scope.new result }
+    ensures writes { WritesType types.now
+        (tree_in types.now (ItemKind.Value (ValueType.Defined id))) scope.old scope.new result }
     ensures refused { IfErr result (Refused types.now (ItemKind.Value (ValueType.Defined id)) scope.new) }
     ensures resources { scope.new.resources ≡ scope.old.resources }
 {
@@ -432,7 +435,8 @@ fn define_anew(
 ) -> Result<u32, WriteError>
     requires stands { Stands types.now (ItemKind.Value (ValueType.Defined id)) }
     requires no_alias { IsNoAlias types.now (ValueType.Defined id) }
-    ensures writes { WritesType types.now (tree_in types.now (ItemKind.Value (ValueType.Defined id))) scope.old scope.new result }
+    ensures writes { WritesType types.now
+        (tree_in types.now (ItemKind.Value (ValueType.Defined id))) scope.old scope.new result }
     ensures entry { MakesEntry types.now scope.old scope.new result }
     ensures refused { IfErr result (Refused types.now (ItemKind.Value (ValueType.Defined id)) scope.new) }
     ensures resources { scope.new.resources ≡ scope.old.resources }

@@ -51,47 +51,57 @@ pub record IsTaken (c : Collection) (asks : List Asked) (several : Bool) (k : It
 -- ---- the family of an ask
 
 abbrev pub Asked_has_family : Type 0
-Asked_has_family = (c : Collection) (n : Name) (k : ItemKind) (f : Family) → IsAcyclic c → Stands c k → IsWell (stated_of c k) → NamesUses c k → IsFamily c n k f → IsOfFamily c n k f
+Asked_has_family = (c : Collection) (n : Name) (k : ItemKind) (f : Family) → IsAcyclic c → Stands c k → IsWell (stated_of c k)
+    → NamesUses c k → IsFamily c n k f → IsOfFamily c n k f
 
 abbrev pub Unnamed_has_none : Type 0
-Unnamed_has_none = (c : Collection) (n : Name) (k : ItemKind) → IsAcyclic c → Stands c k → IsWell (stated_of c k) → UsesUnnamed c k → IsOfFamily c n k Family.Neither
+Unnamed_has_none = (c : Collection) (n : Name) (k : ItemKind) → IsAcyclic c → Stands c k → IsWell (stated_of c k)
+    → UsesUnnamed c k → IsOfFamily c n k Family.Neither
 
 -- ---- one ask after another
 
 -- the first ask is kept
 abbrev pub First_is_taken : Type 0
-First_is_taken = (c : Collection) (n : Name) (k : ItemKind) → Stands c k → IsWell (stated_of c k) → IsTaken c (asked_as c n k ∷ []) false k None
+First_is_taken = (c : Collection) (n : Name) (k : ItemKind) → Stands c k → IsWell (stated_of c k)
+    → IsTaken c (asked_as c n k ∷ []) false k None
 
 -- an ask of the same under the same name changes nothing
 abbrev pub Again_is_taken : Type 0
-Again_is_taken = (c : Collection) (asks : List Asked) (a : Asked) (several : Bool) (k : ItemKind) → Among a asks → IsTaken c asks several k None → IsTaken c (asks ++ a ∷ []) true k None
+Again_is_taken = (c : Collection) (asks : List Asked) (a : Asked) (several : Bool) (k : ItemKind) → Among a asks
+    → IsTaken c asks several k None → IsTaken c (asks ++ a ∷ []) true k None
 
 -- the family of one ask is that of all, while they all ask the same
 abbrev pub One_family_is_all : Type 0
-One_family_is_all = (c : Collection) (asks : List Asked) (several : Bool) (n : Name) (k : ItemKind) (f : Family) → Among (asked_as c n k) asks → IsOfFamily c n k f → IsTaken c asks several k None → IsTaken c asks several k (Some f)
+One_family_is_all = (c : Collection) (asks : List Asked) (several : Bool) (n : Name) (k : ItemKind) (f : Family)
+    → Among (asked_as c n k) asks → IsOfFamily c n k f → IsTaken c asks several k None → IsTaken c asks several k (Some f)
 
 -- what is kept of two, of the joint family, is what is kept of one ask more
 abbrev pub Next_is_taken : Type 0
-Next_is_taken = (c d : Collection) (asks : List Asked) (several : Bool) (n : Name) (k j r : ItemKind) (f g : Family) → IsAcyclic c → IsTaken c asks several k (Some f) → IsOfFamily c n j g → IsKept c (joint f g) k j d r
+Next_is_taken = (c d : Collection) (asks : List Asked) (several : Bool) (n : Name) (k j r : ItemKind) (f g : Family)
+    → IsAcyclic c → IsTaken c asks several k (Some f) → IsOfFamily c n j g → IsKept c (joint f g) k j d r
     → IsTaken d (asks ++ asked_as c n j ∷ []) true r (Some (joint f g))
 
 -- where the two are refused the asks keep nothing, whatever is asked later
 abbrev pub Refused_keeps_nothing : Type 0
-Refused_keeps_nothing = (c : Collection) (asks later : List Asked) (several : Bool) (n : Name) (k j : ItemKind) (f g : Family) → IsAcyclic c → IsTaken c asks several k (Some f) → IsOfFamily c n j g
+Refused_keeps_nothing = (c : Collection) (asks later : List Asked) (several : Bool) (n : Name) (k j : ItemKind) (f g : Family)
+    → IsAcyclic c → IsTaken c asks several k (Some f) → IsOfFamily c n j g
     → HasClash c (joint f g) k j ⊎ LieOutside c (joint f g) k j → kept (asks ++ asked_as c n j ∷ later) ≡ None
 
 -- it stays so while the collection grows
 abbrev pub Taken_stays : Type 0
-Taken_stays = (c d : Collection) (asks : List Asked) (several : Bool) (k : ItemKind) (f : Option Family) → Grows c d → IsTaken c asks several k f → IsTaken d asks several k f
+Taken_stays = (c d : Collection) (asks : List Asked) (several : Bool) (k : ItemKind) (f : Option Family) → Grows c d
+    → IsTaken c asks several k f → IsTaken d asks several k f
 
 -- ---- the outer import
 
 -- of one ask, or off the tracks, it states what is kept
 abbrev pub Kept_is_identified : Type 0
-Kept_is_identified = (c : Collection) (asks : List Asked) (several : Bool) (n : Name) (k : ItemKind) (f : Option Family) → IsTaken c asks several k f → (several ≡ false) ⊎ (has_track n ≡ false)
+Kept_is_identified = (c : Collection) (asks : List Asked) (several : Bool) (n : Name) (k : ItemKind) (f : Option Family)
+    → IsTaken c asks several k f → (several ≡ false) ⊎ (has_track n ≡ false)
     → identified n asks (stated_of c k) ≡ stated_of c k
 
 -- of several on a track it is spelled
 abbrev pub Spelled_is_identified : Type 0
-Spelled_is_identified = (c d : Collection) (asks : List Asked) (several : Bool) (n : Name) (k r : ItemKind) (f : Option Family) → IsAcyclic c → IsTaken c asks several k f → several ≡ true → has_track n ≡ true → IsSpelled c k d n r
+Spelled_is_identified = (c d : Collection) (asks : List Asked) (several : Bool) (n : Name) (k r : ItemKind) (f : Option Family)
+    → IsAcyclic c → IsTaken c asks several k f → several ≡ true → has_track n ≡ true → IsSpelled c k d n r
     → identified n asks (stated_of c k) ≡ stated_of d r

@@ -25,8 +25,10 @@ NamesUses c k = Unit {0}
 
 -- of an item whose uses have identifiers the families are the same
 abbrev pub Family_is_stated : Type 0
-Family_is_stated = (c : Collection) (n : Name) (k : ItemKind) (f : Family) → IsAcyclic c → Stands c k → NamesUses c k → IsFamily c n k f → f ≡ family_stated n (stated_of c k)
+Family_is_stated = (c : Collection) (n : Name) (k : ItemKind) (f : Family) → IsAcyclic c → Stands c k → NamesUses c k
+    → IsFamily c n k f → f ≡ family_stated n (stated_of c k)
 
 -- one that uses an interface without identifier states what is of no family
 abbrev pub Unnamed_is_of_none : Type 0
-Unnamed_is_of_none = (c : Collection) (n : Name) (k : ItemKind) → IsAcyclic c → Stands c k → UsesUnnamed c k → family_stated n (stated_of c k) ≡ Family.Neither
+Unnamed_is_of_none = (c : Collection) (n : Name) (k : ItemKind) → IsAcyclic c → Stands c k → UsesUnnamed c k
+    → family_stated n (stated_of c k) ≡ Family.Neither

@@ -27,19 +27,23 @@ KeepsFirst k first = (c : Collection) (n : Name) → Stands c k → IsWell (stat
 
 -- the same ask again, while all ask the same, keeps it
 abbrev pub KeepsAgain : Kept → Kept → Type 0
-KeepsAgain before after = (c : Collection) (asks : List Asked) (a : Asked) → Among a asks → before.family ≡ None → Keeps c asks before → Keeps c (asks ++ a ∷ []) after
+KeepsAgain before after = (c : Collection) (asks : List Asked) (a : Asked) → Among a asks → before.family ≡ None
+    → Keeps c asks before → Keeps c (asks ++ a ∷ []) after
 
 -- with its family, which is that of all asks where they all ask the same
 abbrev pub KeepsWith : Kept → Family → Kept → Type 0
-KeepsWith before f after = (c : Collection) (asks : List Asked) (n : Name) → before.family ≡ None → Among (asked_as c n before.item) asks → IsOfFamily c n before.item f → Keeps c asks before → Keeps c asks after
+KeepsWith before f after = (c : Collection) (asks : List Asked) (n : Name) → before.family ≡ None
+    → Among (asked_as c n before.item) asks → IsOfFamily c n before.item f → Keeps c asks before → Keeps c asks after
 
 -- an item of this family asked next, whatever was asked before
 abbrev pub KeepsNext : Collection → Kept → Family → (asked : ItemKind) (g : Family) → Collection → Kept → Type 0
-KeepsNext c before f asked g d after = (asks : List Asked) (n : Name) → before.family ≡ Some f → IsOfFamily c n asked g → Keeps c asks before → Keeps d (asks ++ asked_as c n asked ∷ []) after
+KeepsNext c before f asked g d after = (asks : List Asked) (n : Name) → before.family ≡ Some f → IsOfFamily c n asked g
+    → Keeps c asks before → Keeps d (asks ++ asked_as c n asked ∷ []) after
 
 -- the same keeps nothing, whatever is asked later
 abbrev pub KeepsNothing : Collection → Kept → Family → (asked : ItemKind) (g : Family) → Type 0
-KeepsNothing c before f asked g = (asks later : List Asked) (n : Name) → before.family ≡ Some f → IsOfFamily c n asked g → Keeps c asks before → kept (asks ++ asked_as c n asked ∷ later) ≡ None
+KeepsNothing c before f asked g = (asks later : List Asked) (n : Name) → before.family ≡ Some f → IsOfFamily c n asked g
+    → Keeps c asks before → kept (asks ++ asked_as c n asked ∷ later) ≡ None
 
 -- what is refused for no want of memory keeps nothing
 abbrev pub IfMerging : AggregateError → Type 0 → Type 0

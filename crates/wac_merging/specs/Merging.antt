@@ -28,15 +28,18 @@ pub record AreMergeable (c : Collection) (a b : ItemKind) : Type 0 where
 
 -- what merging makes of them states what merging makes of what they state
 abbrev pub Merged_is_stated : Type 0
-Merged_is_stated = (c d : Collection) (a b k : ItemKind) → AreMergeable c a b → IsAcyclic d → MeetIn c a b d k → UnitesIn c a b d k
+Merged_is_stated =
+    (c d : Collection) (a b k : ItemKind) → AreMergeable c a b → IsAcyclic d → MeetIn c a b d k → UnitesIn c a b d k
     → merge (stated_of c a) (stated_of c b) ≡ Some (stated_of d k)
 
 -- where no tree fits both, merging makes nothing of what they state
 abbrev pub Clash_is_stated : Type 0
-Clash_is_stated = (c : Collection) (a b : ItemKind) → IsPlain (tree_in c a) → ClashIn c a b → merge (stated_of c a) (stated_of c b) ≡ None
+Clash_is_stated =
+    (c : Collection) (a b : ItemKind) → IsPlain (tree_in c a) → ClashIn c a b → merge (stated_of c a) (stated_of c b) ≡ None
 
 abbrev pub Narrower_is_stated : Type 0
-Narrower_is_stated = (c : Collection) (a b k : ItemKind) → IsNarrower c a b k → narrower (stated_of c a) (stated_of c b) ≡ Some (stated_of c k)
+Narrower_is_stated =
+    (c : Collection) (a b k : ItemKind) → IsNarrower c a b k → narrower (stated_of c a) (stated_of c b) ≡ Some (stated_of c k)
 
 abbrev pub Outside_is_stated : Type 0
 Outside_is_stated = (c : Collection) (a b : ItemKind) → NeitherFits c a b → narrower (stated_of c a) (stated_of c b) ≡ None

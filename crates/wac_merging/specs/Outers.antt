@@ -18,13 +18,17 @@ IsOuter d asks e = outer_of asks ≡ Some (e.0, stated_of d e.1)
 
 -- what asks keep, under their spelling, is their outer import
 abbrev pub Spelled_is_outer : Type 0 → Type 0
-Spelled_is_outer A = (c d : Collection) (asks : List (Ask A)) (k : Kept) (item : ItemKind) → Keeps c (asked_in asks) k → Spells c k (spelled asks) d item → IsOuter d asks (spelled asks, item)
+Spelled_is_outer A = (c d : Collection) (asks : List (Ask A)) (k : Kept) (item : ItemKind) → Keeps c (asked_in asks) k
+    → Spells c k (spelled asks) d item → IsOuter d asks (spelled asks, item)
 
 -- items that are the outer imports of the labels, in order, state the outer imports of the asks
 abbrev pub Outers_are_stated : Type 0 → Type 0
-Outers_are_stated A = (d : Collection) (asks : List (Ask A)) (labels : List ℕ) (outers : List (ℕ × (Name × ItemKind))) → LabelClasses asks labels → names_of outers ≡ each_label labels
-    → ((l : ℕ) (e : Name × ItemKind) → Among (l, e) outers → IsOuter d (labelled l asks labels) e) → outer_imports asks ≡ with_values (stated_of d) (values_of outers)
+Outers_are_stated A = (d : Collection) (asks : List (Ask A)) (labels : List ℕ) (outers : List (ℕ × (Name × ItemKind)))
+    → LabelClasses asks labels → names_of outers ≡ each_label labels
+    → ((l : ℕ) (e : Name × ItemKind) → Among (l, e) outers → IsOuter d (labelled l asks labels) e)
+    → outer_imports asks ≡ with_values (stated_of d) (values_of outers)
 
 -- outer imports of two labels have two names
 abbrev pub Outers_differ : Type 0 → Type 0
-Outers_differ A = (asks : List (Ask A)) (labels : List ℕ) (l m : ℕ) (n : Name) (x y : Stated) → LabelClasses asks labels → outer_of (labelled l asks labels) ≡ Some (n, x) → outer_of (labelled m asks labels) ≡ Some (n, y) → l ≡ m
+Outers_differ A = (asks : List (Ask A)) (labels : List ℕ) (l m : ℕ) (n : Name) (x y : Stated) → LabelClasses asks labels
+    → outer_of (labelled l asks labels) ≡ Some (n, x) → outer_of (labelled m asks labels) ≡ Some (n, y) → l ≡ m

@@ -55,7 +55,8 @@ IsLabel text = IsJoined 45 IsWord text
 -- plain: label, `[constructor]`label, `[method]`label`.`label, `[static]`label`.`label
 abbrev pub IsPlainName : List ℕ → Type 0
 IsPlainName text = IsLabel text ⊎ (IsBehind (codes "[constructor]") IsLabel text
-    ⊎ (IsBehind (codes "[method]") (IsPair 46 IsLabel IsLabel) text ⊎ IsBehind (codes "[static]") (IsPair 46 IsLabel IsLabel) text))
+    ⊎ (IsBehind (codes "[method]") (IsPair 46 IsLabel IsLabel) text
+    ⊎ IsBehind (codes "[static]") (IsPair 46 IsLabel IsLabel) text))
 
 -- the text of a version
 abbrev pub IsVersion : List ℕ → Type 0

@@ -13,7 +13,8 @@ label_test text = joined_test 45 word_test text
 
 -- the parts around the first such byte pass
 abbrev pub pair_test : ℕ → (List ℕ → Bool) → (List ℕ → Bool) → List ℕ → Bool
-pair_test c t u text = nat_lt (position_or_len (λ b. b == c) text) (length text) && (t (before_first (λ b. b == c) text) && u (after_first (λ b. b == c) text))
+pair_test c t u text = nat_lt (position_or_len (λ b. b == c) text) (length text)
+    && (t (before_first (λ b. b == c) text) && u (after_first (λ b. b == c) text))
 
 -- it begins so, and the rest passes
 abbrev pub behind_test : List ℕ → (List ℕ → Bool) → List ℕ → Bool
@@ -23,7 +24,9 @@ abbrev pub member_test : List ℕ → Bool
 member_test text = pair_test 46 label_test label_test text
 
 abbrev pub plain_test : List ℕ → Bool
-plain_test text = label_test text || (behind_test (codes "[constructor]") label_test text || (behind_test (codes "[method]") member_test text || behind_test (codes "[static]") member_test text))
+plain_test text = label_test text
+    || (behind_test (codes "[constructor]") label_test text
+    || (behind_test (codes "[method]") member_test text || behind_test (codes "[static]") member_test text))
 
 abbrev pub package_test : List ℕ → Bool
 package_test text = pair_test 58 label_test (joined_test 58 label_test) text

@@ -85,7 +85,9 @@ fn place_of(text: &[u8], byte: u8) -> Option<usize>
 
 /// The text before the first such byte, and the text behind it.
 fn split_at_byte(text: &[u8], byte: u8) -> Option<(&[u8], &[u8])>
-    ensures { MatchOption result (position_or_len (λ b. b == byte) text.now ≡ length text.now) (λ x. (position_or_len (λ b. b == byte) text.now < length text.now) × (x.0.now ≡ before_first (λ b. b == byte) text.now) × (x.1.now ≡ after_first (λ b. b == byte) text.now)) }
+    ensures { MatchOption result (position_or_len (λ b. b == byte) text.now ≡ length text.now)
+        (λ x. (position_or_len (λ b. b == byte) text.now < length text.now) × (x.0.now ≡ before_first (λ b. b == byte) text.now)
+        × (x.1.now ≡ after_first (λ b. b == byte) text.now)) }
 {
     match place_of(text, byte) {
         None => None,

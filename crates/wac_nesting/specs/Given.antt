@@ -26,22 +26,26 @@ HasTree outers IsOf Absent t = ⊥
 HasTree outers IsOf (Outer n) t = outers n ≡ Some t
 HasTree outers IsOf (Inst k) t = (w : World) × IsOf k w × (t ≡ instance w.exports)
 HasTree outers IsOf (Projection s n) t = (xs : Fields) × HasTree outers IsOf s (instance xs) × HasField n t xs
-HasTree outers IsOf (Bundle f) t = (xs : Fields) × (t ≡ instance xs) × ((n : Name) (u : Tree) → HasField n u xs → HasTree outers IsOf (f n) u) × ((n : Name) → HasNone n xs → f n ≡ Absent)
+HasTree outers IsOf (Bundle f) t = (xs : Fields) × (t ≡ instance xs)
+    × ((n : Name) (u : Tree) → HasField n u xs → HasTree outers IsOf (f n) u) × ((n : Name) → HasNone n xs → f n ≡ Absent)
 HasTree outers IsOf (Definition d) t = (d ≡ t) × IsDefinition d
 
 -- a source that fits what is asked
-pub record Gives {I : Type 0} (outers : Name → Option Tree) (IsOf : I → World → Type 0) (s : Source I) (asked : Tree) : Type 0 where
+pub record Gives {I : Type 0} (outers : Name → Option Tree) (IsOf : I → World → Type 0) (s : Source I)
+    (asked : Tree) : Type 0 where
   pub given : Tree
   pub has : HasTree outers IsOf s given
   pub fits : Fits given asked
 
 -- each name that is asked is bound to a source that fits, and no other name is bound
-pub record Provides {I : Type 0} (outers : Name → Option Tree) (IsOf : I → World → Type 0) (sources : Name → Source I) (asked : Fields) : Type 0 where
+pub record Provides {I : Type 0} (outers : Name → Option Tree) (IsOf : I → World → Type 0) (sources : Name → Source I)
+    (asked : Fields) : Type 0 where
   pub each : (n : Name) (t : Tree) → HasField n t asked → Gives outers IsOf (sources n) t
   pub only : (n : Name) → HasNone n asked → sources n ≡ Absent
 
 -- likewise, where each source has exactly the tree
-pub record States {I : Type 0} (outers : Name → Option Tree) (IsOf : I → World → Type 0) (sources : Name → Source I) (stated : Fields) : Type 0 where
+pub record States {I : Type 0} (outers : Name → Option Tree) (IsOf : I → World → Type 0) (sources : Name → Source I)
+    (stated : Fields) : Type 0 where
   pub each : (n : Name) (t : Tree) → HasField n t stated → HasTree outers IsOf (sources n) t
   pub only : (n : Name) → HasNone n stated → sources n ≡ Absent
 

@@ -109,7 +109,8 @@ IsStep packages Other = Unit {0}
 
 abbrev pub after : List Package → Step → List Package
 after packages (Add bytes world) = packages ++ handed_in bytes world ∷ []
-after packages (Compose bytes world A) = packages ++ record { bytes = bytes; world = world; ascribed = Open (ascribed_down packages A) } ∷ []
+after packages (Compose bytes world A) =
+    packages ++ record { bytes = bytes; world = world; ascribed = Open (ascribed_down packages A) } ∷ []
 after packages Other = packages
 
 -- each step is accepted over what those before it left

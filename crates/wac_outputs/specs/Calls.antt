@@ -44,24 +44,30 @@ place_if es (Some m) = place_under es m.key
 
 -- the wiring of a composition over the packages of a workspace, each instance with the place of the package that it is one of
 abbrev pub ascribed_over : List Entry → Composition Asker ℕ → Ascribed
-ascribed_over es c = record { wiring = composed_wiring (handed_tag (handed es)) c; number = λ k. place_if es (slice_get c.made k) }
+ascribed_over es c =
+    record { wiring = composed_wiring (handed_tag (handed es)) c; number = λ k. place_if es (slice_get c.made k) }
 
 -- ---- calls
 
 -- what a call of a workspace does
 pub data IsCall (old new : Held) : Step → Type 0 where
   -- a component is handed in: none that stands has its bytes
-  hands_in : (m : Handed) → (HasBytes old.packages m.bytes → ⊥) → Adds old.packages new.packages true m → IsCall old new (Add m.bytes (world_in m.types m.world))
-  -- a source is composed with its packages nested, and its output is registered: the source is a document that says this over the packages
-  composes : (source : List ℕ) (options : EncodeOptions) (o : Output) (d : Document) (s : State) (target : Option Stated) → options.define_components ≡ true → IsDocument source d → resolved d (handed old.packages) ≡ Ok (s, target)
-      → IsComposed old new source true o → MeansSource options (handed old.packages) source o.bytes.items → IsCall old new (Compose o.bytes.items (world_in o.types o.world) (ascribed_over old.packages (composition s)))
+  hands_in : (m : Handed) → (HasBytes old.packages m.bytes → ⊥) → Adds old.packages new.packages true m
+      → IsCall old new (Add m.bytes (world_in m.types m.world))
+  -- a source is composed with its packages nested, and its output is registered: the source is a document that says this over
+  -- the packages
+  composes : (source : List ℕ) (options : EncodeOptions) (o : Output) (d : Document) (s : State) (target : Option Stated)
+      → options.define_components ≡ true → IsDocument source d → resolved d (handed old.packages) ≡ Ok (s, target)
+      → IsComposed old new source true o → MeansSource options (handed old.packages) source o.bytes.items
+      → IsCall old new (Compose o.bytes.items (world_in o.types o.world) (ascribed_over old.packages (composition s)))
   -- a refusal, or an output that is not registered
   keeps : new.packages ≡ old.packages → IsCall old new Other
 
 -- one call after another
 pub data AreCalls (first : Held) : List Step → Held → Type 0 where
   none_yet : AreCalls first [] first
-  then_call : {steps : List Step} {old new : Held} {s : Step} → AreCalls first steps old → IsCall old new s → AreCalls first (steps ++ s ∷ []) new
+  then_call : {steps : List Step} {old new : Held} {s : Step} → AreCalls first steps old → IsCall old new s
+      → AreCalls first (steps ++ s ∷ []) new
 
 -- ---- the law
 
@@ -76,8 +82,10 @@ pub record IsEntryOf (e : Entry) (p : Package) : Type 0 where
 pub record AreAsAscribed (steps : List Step) (last : Held) : Type 0 where
   pub steps_are : AreSteps [] steps
   pub entries : AllZip IsEntryOf last.packages (after_all [] steps)
-  pub ascribed : (worlds : Worlds) → AreTrue (after_all [] steps) worlds → (p : Package) → Among p (after_all [] steps) → IsAsAscribed worlds (after_all [] steps) p p.ascribed
+  pub ascribed : (worlds : Worlds) → AreTrue (after_all [] steps) worlds → (p : Package) → Among p (after_all [] steps)
+      → IsAsAscribed worlds (after_all [] steps) p p.ascribed
 
 -- so it is after all calls of a workspace that had no packages
 abbrev pub Outputs_are_as_ascribed : Type 0
-Outputs_are_as_ascribed = (first last : Held) (steps : List Step) → first.packages ≡ [] → AreCalls first steps last → AreAsAscribed steps last
+Outputs_are_as_ascribed =
+    (first last : Held) (steps : List Step) → first.packages ≡ [] → AreCalls first steps last → AreAsAscribed steps last

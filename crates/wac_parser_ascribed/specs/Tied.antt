@@ -71,7 +71,8 @@ ascribed_wiring s = composed_wiring (handed_tag s.packages) (composition s)
 -- a wiring of the graph but for its tags: an instance has that of its package's key
 pub record IsTagged (tag : Key → Tag) (g : Graph) (W V : Wiring ℕ) : Type 0 where
   pub outers : (n : Name) → V.outers n ≡ W.outers n
-  pub instances : (k : ℕ) (p : Packaged) (x : Instantiation ℕ) → instantiated g k ≡ Some p → W.at k ≡ Some x → V.at k ≡ Some (record { tag = tag (package_key p); args = x.args })
+  pub instances : (k : ℕ) (p : Packaged) (x : Instantiation ℕ) → instantiated g k ≡ Some p → W.at k ≡ Some x
+      → V.at k ≡ Some (record { tag = tag (package_key p); args = x.args })
   pub no_other : (k : ℕ) → instantiated g k ≡ None → V.at k ≡ None
   pub exports : (n : Name) → V.exports n ≡ W.exports n
 
@@ -79,20 +80,29 @@ pub record IsTagged (tag : Key → Tag) (g : Graph) (W V : Wiring ℕ) : Type 0 
 
 -- With those who ask in the document for nodes, and numbers for instances, the graph is the composition that the document
 -- ascribes: what stands against the one stands against the other, their worlds are one, what is asked is met alike, and their
--- wirings are one, whatever tags packages have. Each node stands where the one stands who asks for it, and an instance's has the key of its package.
+-- wirings are one, whatever tags packages have. Each node stands where the one stands who asks for it, and an instance's has the
+-- key of its package.
 pub record IsAscribed (g : Graph) (at : Places) (s : State) : Type 0 where
   pub asker : ℕ → Asker
   pub number : ℕ → ℕ
   pub placed : (k : ℕ) → IsPlaced at k (asker k)
   pub keys : (k : ℕ) (p : Packaged) → instantiated g k ≡ Some p → asker_key (asker k) ≡ package_key p
   pub alike : IsAlike (renamed asker number (composition_of g)) (composition s)
-  pub cause : (define : Bool) → first_cause define (composition s) ≡ option_map (cause_renamed asker) (first_cause define (composition_of g))
-  pub unwritten : (define : Bool) → unwritable_cause define (composition s) (outer_imports (asks_of (composition s))) ≡ option_map (cause_renamed asker) (unwritable_cause define (composition_of g) (outer_imports (asks_of (composition_of g))))
-  pub names : (define validate : Bool) → name_cause define validate (composition s) ≡ option_map (cause_renamed asker) (name_cause define validate (composition_of g))
+  pub cause : (define : Bool)
+      → first_cause define (composition s) ≡ option_map (cause_renamed asker) (first_cause define (composition_of g))
+  pub unwritten : (define : Bool)
+      → unwritable_cause define (composition s) (outer_imports (asks_of (composition s)))
+      ≡ option_map (cause_renamed asker) (unwritable_cause define (composition_of g)
+      (outer_imports (asks_of (composition_of g))))
+  pub names : (define validate : Bool)
+      → name_cause define validate (composition s)
+      ≡ option_map (cause_renamed asker) (name_cause define validate (composition_of g))
   pub world : composed_world (composition s) ≡ composed_world (composition_of g)
   pub met : AreMet (composition_of g) → AreMet (composition s)
-  pub tagged : (tag : Key → Tag) (W V : Wiring ℕ) → IsGraphWiring g W → IsTagged tag g W V → Same (composed_wiring tag (composition s)) V
+  pub tagged : (tag : Key → Tag) (W V : Wiring ℕ) → IsGraphWiring g W → IsTagged tag g W V
+      → Same (composed_wiring tag (composition s)) V
   pub wired : (W : Wiring ℕ) → IsGraphWiring g W → Same (ascribed_wiring s) W
 
 abbrev pub Graphs_are_ascribed : Type 0
-Graphs_are_ascribed = (d : t.Document) (ps : List (Key × Content)) (r : State × Option Stated) (g : Graph) (at : Places) → resolved d ps ≡ Ok r → IsGraph g → IsAcyclic g.types → IsBuilt g at r.0 → IsAscribed g at r.0
+Graphs_are_ascribed = (d : t.Document) (ps : List (Key × Content)) (r : State × Option Stated) (g : Graph) (at : Places)
+    → resolved d ps ≡ Ok r → IsGraph g → IsAcyclic g.types → IsBuilt g at r.0 → IsAscribed g at r.0

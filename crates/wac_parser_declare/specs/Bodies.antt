@@ -60,7 +60,8 @@ abbrev pub use_one : Holder → Name → Stated → Body → t.UseItem → Answe
 use_one h path from b u = do
   x ← present (value_at (exports_of from) u.id.string) (UndefinedInterfaceType u.id.string path) u.id.span
   unless_clear (not (usable (kind_of x))) (NotInterfaceValueType u.id.string (desc x) path) u.id.span
-  unless_clear (has b.items (local_name u).string || is_used b.uses (local_name u).string) (UseConflict (local_name u).string h.kind (is_none u.as_id)) (local_name u).span
+  unless_clear (has b.items (local_name u).string || is_used b.uses (local_name u).string)
+      (UseConflict (local_name u).string h.kind (is_none u.as_id)) (local_name u).span
   ns ← bind b.names (local_name u) x
   pure (with_use b ns u from x)
 
@@ -70,7 +71,8 @@ is_interface k = false
 
 -- the interface type that a path names
 abbrev pub interface_at : Context → Path → Answer Stated
-interface_at c p = at_path c p >>= λ x. unless_clear (not (is_interface (kind_of x))) (NotInterface (path_text p) (desc x)) (path_span p) >> pure x
+interface_at c p = at_path c p
+    >>= λ x. unless_clear (not (is_interface (kind_of x))) (NotInterface (path_text p) (desc x)) (path_span p) >> pure x
 
 abbrev pub use_types : Context → Holder → Body → t.Use → Answer Body
 use_types c h b u = interface_at c (use_path u.path) >>= λ from. each (use_one h (path_text (use_path u.path)) from) b u.items

@@ -36,7 +36,8 @@ result_of ns given t.ResultList.empty = pure given
 result_of ns given (t.ResultList.scalar ty) = scalar_result ns ty
 
 -- a function's type; `self` and a constructor's result are given
-abbrev pub function : FuncKind → Scope → List (Name × Stated) → Option Stated → List t.NamedType → t.ResultList → Bool → Answer Stated
+abbrev pub function : FuncKind → Scope → List (Name × Stated) → Option Stated → List t.NamedType → t.ResultList → Bool
+    → Answer Stated
 function kind ns self given ps results is_async =
     each (param kind ns) self ps >>= λ params. result_of ns given results >>= λ answer. pure (func_of params answer is_async)
 

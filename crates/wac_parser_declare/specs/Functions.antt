@@ -32,7 +32,8 @@ Params = List (Name × ValueType)
 -- the parameters found are those found before, with one more
 abbrev pub IsParam : FuncKind → Collection → Names → Params → NamedType → Collection → Params → Result ⊤ Refusal → Type 0
 IsParam kind c names found p d all r =
-    IsOutcome (λ xs u. AreNamedValues d xs all) (param kind (scope_of c names) (with_values (stated_value c) found) (view_named_type p)) r
+    IsOutcome (λ xs u. AreNamedValues d xs all) (param kind (scope_of c names) (with_values (stated_value c) found)
+    (view_named_type p)) r
 
 -- with these in order
 abbrev pub AreParams : FuncKind → Collection → Names → Params → List NamedType → Collection → Params → Result ⊤ Refusal → Type 0
@@ -43,12 +44,14 @@ AreParams kind c names found ps d all r =
 abbrev pub IsScalar : Collection → Names → «Type» → Collection → Result (Option ValueType) Refusal → Type 0
 IsScalar c names ty d r = IsOutcome (IsValueIf d) (scalar_result (scope_of c names) (view_ty ty)) r
 
-abbrev pub IsResultOf : Collection → Names → Option ValueType → ResultList → Collection → Result (Option ValueType) Refusal → Type 0
+abbrev pub IsResultOf : Collection → Names → Option ValueType → ResultList → Collection → Result (Option ValueType) Refusal
+    → Type 0
 IsResultOf c names given results d r =
     IsOutcome (IsValueIf d) (result_of (scope_of c names) (stated_if c given) (view_result_list results)) r
 
 -- a function type; `self` and a constructor's result are given
-abbrev pub IsFuncWith : Signature → Collection → Names → List NamedType → ResultList → Collection → Result FuncTypeId Refusal → Type 0
+abbrev pub IsFuncWith : Signature → Collection → Names → List NamedType → ResultList → Collection → Result FuncTypeId Refusal
+    → Type 0
 IsFuncWith s c names ps results d r =
     IsOutcome (IsFunc d)
     (function s.kind (scope_of c names) (self_params (stated_if c s.receiver)) (stated_if c s.given)

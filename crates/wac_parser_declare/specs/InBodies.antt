@@ -42,7 +42,8 @@ IsMeaning names i r = IsOutcome (λ m b. b ≡ m) (present (value_at names i.str
 
 -- a name was given, whatever collection the items stand in
 abbrev pub IsBound : Names → Ident → ItemKind → Names → Result ⊤ Refusal → Type 0
-IsBound old i k new r = (c : Collection) → IsOutcome (λ ns u. scope_of c new ≡ ns) (bind (scope_of c old) (view_ident i) (stated_of c k)) r
+IsBound old i k new r =
+    (c : Collection) → IsOutcome (λ ns u. scope_of c new ≡ ns) (bind (scope_of c old) (view_ident i) (stated_of c k)) r
 
 -- what is stated in the body now is what the answer says
 abbrev pub IsBody : Collection → stated.Body → Body → Type 0
@@ -54,11 +55,14 @@ item_added h b i x = unless_clear (has b.items i.string) (h.duplicate i.string) 
 
 abbrev pub IsItemAdded : Holder → Body → Ident → ItemKind → Body → Result ⊤ Refusal → Type 0
 IsItemAdded h old i k new r =
-    (c : Collection) → IsOutcome (λ b u. IsBody c b new) (item_added (holder_of h) (stated_body c old) (view_ident i) (stated_of c k)) r
+    (c : Collection)
+    → IsOutcome (λ b u. IsBody c b new) (item_added (holder_of h) (stated_body c old) (view_ident i) (stated_of c k)) r
 
 abbrev pub IsTypeAdded : Holder → Body → Ident → TypeKind → Body → Result ⊤ Refusal → Type 0
 IsTypeAdded h old i ty new r =
-    (c : Collection) → IsOutcome (λ b u. IsBody c b new) (add_type (holder_of h) (stated_body c old) (view_ident i) (stated_of c (ItemKind.Ty ty))) r
+    (c : Collection)
+    → IsOutcome (λ b u. IsBody c b new) (add_type (holder_of h) (stated_body c old) (view_ident i)
+    (stated_of c (ItemKind.Ty ty))) r
 
 -- one more function under this name, whatever is stated of it, in a collection that grew
 abbrev pub IsFunctionAdded : Body → Name → Result FuncTypeId Refusal → Body → Result ⊤ Refusal → Type 0
@@ -73,7 +77,8 @@ FunctionStands old declared new r =
 -- a constructor of a resource, a method, one of both, all in order
 abbrev pub Constructs : Owner → Constructor → Collection → Body → Collection → Body → Result ⊤ Refusal → Type 0
 Constructs o x c old d new r =
-    IsOutcome (λ b u. IsBody d b new) (add_constructor o.name.now (stated_resource c o.id) (stated_body c old) (view_constructor x)) r
+    IsOutcome (λ b u. IsBody d b new) (add_constructor o.name.now (stated_resource c o.id) (stated_body c old)
+    (view_constructor x)) r
 
 abbrev pub IsMethod : Owner → Method → Collection → Body → Collection → Body → Result ⊤ Refusal → Type 0
 IsMethod o x c old d new r =
@@ -81,7 +86,8 @@ IsMethod o x c old d new r =
 
 abbrev pub IsMember : Owner → ResourceMethod → Collection → Body → Collection → Body → Result ⊤ Refusal → Type 0
 IsMember o x c old d new r =
-    IsOutcome (λ b u. IsBody d b new) (resource_method o.name.now (stated_resource c o.id) (stated_body c old) (view_resource_method x)) r
+    IsOutcome (λ b u. IsBody d b new) (resource_method o.name.now (stated_resource c o.id) (stated_body c old)
+    (view_resource_method x)) r
 
 abbrev pub Members : Owner → Vec ResourceMethod Global → Collection → Body → Collection → Body → Result ⊤ Refusal → Type 0
 Members o xs c old d new r =

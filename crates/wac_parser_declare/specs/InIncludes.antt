@@ -60,9 +60,12 @@ conflict_of i n = WorldIncludeConflict i.kind n.string.now (path_text (path_of i
 abbrev pub AreNow : Collection → List (Name × ItemKind) → Items → ⊤ → Type 0
 AreNow c es xs u = with_values (stated_of c) es ≡ xs
 
-abbrev pub IsIncludedAt : Inclusion → List (Name × ItemKind) → Ident → ItemKind → List (Name × ItemKind) → Result ⊤ Refusal → Type 0
+abbrev pub IsIncludedAt : Inclusion → List (Name × ItemKind) → Ident → ItemKind → List (Name × ItemKind) → Result ⊤ Refusal
+    → Type 0
 IsIncludedAt i old n k new r =
-    (c : Collection) → IsOutcome (AreNow c new) (include_at i.to.now (path_of i) (helps i) i.kind (with_values (stated_of c) old) (stated_of c k) (view_ident n)) r
+    (c : Collection)
+    → IsOutcome (AreNow c new) (include_at i.to.now (path_of i) (helps i) i.kind (with_values (stated_of c) old)
+    (stated_of c k) (view_ident n)) r
 
 -- an item, under another name if it gets one
 abbrev pub included : Name → Path → Bool → ExternKind → Items → Name × Stated → Option t.Ident → Answer Items
@@ -70,21 +73,27 @@ included world p help kind stand e renamed = cond (has_colon e.0)
     (pure (cond (has stand e.0) stand (stand ++ e ∷ [])))
     (include_at world p help kind stand e.1 (or_itself p e.0 renamed))
 
-abbrev pub IsIncluded : Inclusion → List (Name × ItemKind) → Name × ItemKind → Option Ident → List (Name × ItemKind) → Result ⊤ Refusal → Type 0
+abbrev pub IsIncluded : Inclusion → List (Name × ItemKind) → Name × ItemKind → Option Ident → List (Name × ItemKind)
+    → Result ⊤ Refusal → Type 0
 IsIncluded i old e renamed new r =
     (c : Collection)
-    → IsOutcome (AreNow c new) (included i.to.now (path_of i) (helps i) i.kind (with_values (stated_of c) old) (e.0, stated_of c e.1) (option_map view_ident renamed)) r
+    → IsOutcome (AreNow c new) (included i.to.now (path_of i) (helps i) i.kind (with_values (stated_of c) old)
+    (e.0, stated_of c e.1) (option_map view_ident renamed)) r
 
 -- all items of a side, under the names that are left for it
-abbrev pub AreIncludedIn : Collection → Inclusion → List t.WorldIncludeItem → List (Name × ItemKind) → List (Name × ItemKind) → List (Name × ItemKind) → Result ⊤ Refusal → Type 0
+abbrev pub AreIncludedIn : Collection → Inclusion → List t.WorldIncludeItem → List (Name × ItemKind) → List (Name × ItemKind)
+    → List (Name × ItemKind) → Result ⊤ Refusal → Type 0
 AreIncludedIn c i ws es old new r =
-    IsOutcome (AreNow c new) (each (include_one i.to.now (path_of i) (helps i) ws i.kind) (with_values (stated_of c) old) (with_values (stated_of c) es)) r
+    IsOutcome (AreNow c new) (each (include_one i.to.now (path_of i) (helps i) ws i.kind) (with_values (stated_of c) old)
+    (with_values (stated_of c) es)) r
 
-abbrev pub AreIncluded : Inclusion → List t.WorldIncludeItem → List (Name × ItemKind) → List (Name × ItemKind) → List (Name × ItemKind) → Result ⊤ Refusal → Type 0
+abbrev pub AreIncluded : Inclusion → List t.WorldIncludeItem → List (Name × ItemKind) → List (Name × ItemKind)
+    → List (Name × ItemKind) → Result ⊤ Refusal → Type 0
 AreIncluded i ws es old new r = (c : Collection) → AreIncludedIn c i ws es old new r
 
 -- all imports
-abbrev pub AreImportsIncluded : Inclusion → List (Name × ItemKind) → List (Name × ItemKind) → List (Name × ItemKind) → Result ⊤ Refusal → Type 0
+abbrev pub AreImportsIncluded : Inclusion → List (Name × ItemKind) → List (Name × ItemKind) → List (Name × ItemKind)
+    → Result ⊤ Refusal → Type 0
 AreImportsIncluded i es old new r = AreIncluded i (renamings i.include.now.with.items) es old new r
 
 -- the items now stand where those before and those that came did
@@ -108,7 +117,8 @@ IsLeft ws is n o =
 
 abbrev pub AreExportsIncluded : Inclusion → World → List (Name × ItemKind) → List (Name × ItemKind) → Result ⊤ Refusal → Type 0
 AreExportsIncluded i w old new r =
-    (c : Collection) (x : Stated) → HasImports c x w → AreIncludedIn c i (left_for_exports x (renamings i.include.now.with.items)) w.exports old new r
+    (c : Collection) (x : Stated) → HasImports c x w
+    → AreIncludedIn c i (left_for_exports x (renamings i.include.now.with.items)) w.exports old new r
 
 -- a name of a `with` clause that an import or an export has
 abbrev pub met_in : World → Name → Bool
@@ -124,9 +134,11 @@ AreMet i w r =
 abbrev pub IncludesItems : WorldInclude → Name → WorldId → Collection → Body → Body → Result ⊤ Refusal → Type 0
 IncludesItems i to w c old new r =
     IsOutcome (λ b u. IsBody c b new)
-    (include_items to (stated_body c old) (world_path (view_world_ref i.world)) (renamings i.with.items) (stated_of c (ItemKind.Component w))) r
+    (include_items to (stated_body c old) (world_path (view_world_ref i.world)) (renamings i.with.items)
+    (stated_of c (ItemKind.Component w))) r
 
 abbrev pub Includes : WorldInclude → Name → Place → Collection → Known → Body → Collection → Body → Result ⊤ Refusal → Type 0
 Includes i to at c known old d new r =
     (x : Context) → StandsIn x at c known
-    → IsOutcome (λ b u. IsBody d b new) (include_world x to (stated_body c old) (world_path (view_world_ref i.world)) (renamings i.with.items)) r
+    → IsOutcome (λ b u. IsBody d b new) (include_world x to (stated_body c old) (world_path (view_world_ref i.world))
+    (renamings i.with.items)) r

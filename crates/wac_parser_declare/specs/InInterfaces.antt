@@ -23,23 +23,31 @@ use Rattle.wac_parser_declare.specs.Packages.{Known}
 use Rattle.wac_parser_declare.specs.Scope.{Context}
 
 -- one more item
-abbrev pub IsInterfaceItem : Holder → InterfaceItem → Place → Collection → Known → Body → Collection → Body → Result ⊤ Refusal → Type 0
+abbrev pub IsInterfaceItem : Holder → InterfaceItem → Place → Collection → Known → Body → Collection → Body → Result ⊤ Refusal
+    → Type 0
 IsInterfaceItem h i at c known old d new r =
-    (x : Context) → StandsIn x at c known → IsOutcome (λ b u. IsBody d b new) (interface_item x (holder_of h) (stated_body c old) (view_interface_item i)) r
+    (x : Context) → StandsIn x at c known
+    → IsOutcome (λ b u. IsBody d b new) (interface_item x (holder_of h) (stated_body c old) (view_interface_item i)) r
 
 -- more items, in order
-abbrev pub AreInterfaceItems : Holder → List InterfaceItem → Place → Collection → Known → Body → Collection → Body → Result ⊤ Refusal → Type 0
+abbrev pub AreInterfaceItems : Holder → List InterfaceItem → Place → Collection → Known → Body → Collection → Body
+    → Result ⊤ Refusal → Type 0
 AreInterfaceItems h is at c known old d new r =
     (x : Context) → StandsIn x at c known
-    → IsOutcome (λ b u. IsBody d b new) (each (interface_item x (holder_of h)) (stated_body c old) (map view_interface_item is)) r
+    → IsOutcome (λ b u. IsBody d b new) (each (interface_item x (holder_of h)) (stated_body c old) (map view_interface_item is))
+    r
 
 -- the body of an interface that has this name, if it has one
-abbrev pub IsInterfaceBody : Option Name → List InterfaceItem → Place → Collection → Known → Collection → Result Body Refusal → Type 0
+abbrev pub IsInterfaceBody : Option Name → List InterfaceItem → Place → Collection → Known → Collection → Result Body Refusal
+    → Type 0
 IsInterfaceBody n is at c known d r =
-    (x : Context) → StandsIn x at c known → IsOutcome (IsBody d) (each (interface_item x (exporting n)) no_body (map view_interface_item is)) r
+    (x : Context) → StandsIn x at c known
+    → IsOutcome (IsBody d) (each (interface_item x (exporting n)) no_body (map view_interface_item is)) r
 
 abbrev pub IsInline : InlineInterface → Place → Collection → Known → Collection → Result InterfaceId Refusal → Type 0
-IsInline i at c known d r = (x : Context) → StandsIn x at c known → IsOutcome (AnInstance d) (inline_interface x (view_inline_interface i)) r
+IsInline i at c known d r =
+    (x : Context) → StandsIn x at c known → IsOutcome (AnInstance d) (inline_interface x (view_inline_interface i)) r
 
 abbrev pub IsInterfaceDeclared : InterfaceDecl → Place → Collection → Known → Collection → Result InterfaceId Refusal → Type 0
-IsInterfaceDeclared i at c known d r = (x : Context) → StandsIn x at c known → IsOutcome (AnInstance d) (interface_decl x (view_interface_decl i)) r
+IsInterfaceDeclared i at c known d r =
+    (x : Context) → StandsIn x at c known → IsOutcome (AnInstance d) (interface_decl x (view_interface_decl i)) r

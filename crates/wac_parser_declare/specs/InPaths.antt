@@ -58,7 +58,8 @@ pub record StandsIn (x : Context) (at : Place) (c : Collection) (known : Known) 
   pub packages : (k : Key) → package_under x.packages k ≡ world_if (known.packages k)
 
 abbrev pub IsOwnPath : PackagePath → Place → Collection → Result ItemKind Refusal → Type 0
-IsOwnPath p at c r = (x : Context) → x.root ≡ scope_of c at.root.now → IsOutcome (Holds c) (from_root x (segment_spans (view_package_path p))) r
+IsOwnPath p at c r =
+    (x : Context) → x.root ≡ scope_of c at.root.now → IsOutcome (Holds c) (from_root x (segment_spans (view_package_path p))) r
 
 -- a definition of the package that is named, and its exports
 abbrev pub foreign_item : Known → t.PackagePath → Answer Stated
@@ -76,12 +77,14 @@ IsPathInterface p at c known d r =
     (x : Context) → StandsIn x at c known → IsOutcome (AnInterface d) (interface_at x (in_package (view_package_path p))) r
 
 abbrev pub IsInterfaceAt : UsePath → Place → Collection → Known → Collection → Result InterfaceId Refusal → Type 0
-IsInterfaceAt p at c known d r = (x : Context) → StandsIn x at c known → IsOutcome (AnInterface d) (interface_at x (use_path (view_use_path p))) r
+IsInterfaceAt p at c known d r =
+    (x : Context) → StandsIn x at c known → IsOutcome (AnInterface d) (interface_at x (use_path (view_use_path p))) r
 
 -- a whole use
 abbrev pub Uses : Holder → Use → Place → Collection → Known → Body → Collection → Body → Result ⊤ Refusal → Type 0
 Uses h u at c known old d new r =
-    (x : Context) → StandsIn x at c known → IsOutcome (λ b v. IsBody d b new) (use_types x (holder_of h) (stated_body c old) (view_use u)) r
+    (x : Context) → StandsIn x at c known
+    → IsOutcome (λ b v. IsBody d b new) (use_types x (holder_of h) (stated_body c old) (view_use u)) r
 
 -- ---- worlds
 
@@ -95,7 +98,9 @@ IsWorldIn k w = (k ≡ ItemKind.Ty (TypeKind.World w)) ⊎ (k ≡ ItemKind.Compo
 -- an item that is to be a world, at a path of this text and place
 abbrev pub IsWorldOf : Collection → ItemKind → Ident → Result WorldId Refusal → Type 0
 IsWorldOf c k i r =
-    (p : Path) → path_text p ≡ i.string.now → path_span p ≡ i.span → IsOutcome (AWorld c) (world_by (kind_of (stated_of c k)) p (stated_of c k)) r
+    (p : Path) → path_text p ≡ i.string.now → path_span p ≡ i.span
+    → IsOutcome (AWorld c) (world_by (kind_of (stated_of c k)) p (stated_of c k)) r
 
 abbrev pub IsWorldAt : WorldRef → Place → Collection → Known → Collection → Result WorldId Refusal → Type 0
-IsWorldAt w at c known d r = (x : Context) → StandsIn x at c known → IsOutcome (AWorld d) (world_at x (world_path (view_world_ref w))) r
+IsWorldAt w at c known d r =
+    (x : Context) → StandsIn x at c known → IsOutcome (AWorld d) (world_at x (world_path (view_world_ref w))) r

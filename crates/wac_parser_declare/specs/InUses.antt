@@ -59,7 +59,8 @@ type_used path from u = do
 -- the others: the name is new in the body, and then means the type
 abbrev pub use_added : stated.Holder → stated.Body → t.UseItem → Stated → Stated → Answer stated.Body
 use_added h b u from x = do
-  unless_clear (has b.items (local_name u).string || is_used b.uses (local_name u).string) (UseConflict (local_name u).string h.kind (is_none u.as_id)) (local_name u).span
+  unless_clear (has b.items (local_name u).string || is_used b.uses (local_name u).string)
+      (UseConflict (local_name u).string h.kind (is_none u.as_id)) (local_name u).span
   ns ← bind b.names (local_name u) x
   pure (with_use b ns u from x)
 
@@ -70,7 +71,8 @@ IsTypeUsed c from u r = IsOutcome (IsType c) (type_used from.path.now (stated_in
 abbrev pub IsUseAdded : Holder → UseItem → Body → InterfaceId → TypeKind → Body → Result ⊤ Refusal → Type 0
 IsUseAdded h u old i ty new r =
     (c : Collection) (from : Stated) → untyped from ≡ stated_of c (ItemKind.Instance i)
-    → IsOutcome (λ b v. IsBody c b new) (use_added (holder_of h) (stated_body c old) (view_use_item u) from (stated_of c (ItemKind.Ty ty))) r
+    → IsOutcome (λ b v. IsBody c b new) (use_added (holder_of h) (stated_body c old) (view_use_item u) from
+    (stated_of c (ItemKind.Ty ty))) r
 
 abbrev pub UseStands : Body → InterfaceId → TypeKind → Body → Result ⊤ Refusal → Type 0
 UseStands old i ty new r =
@@ -111,4 +113,5 @@ IsRootInterface c names i d r =
 
 -- one more function of an interface
 abbrev pub Exports : Holder → InterfaceExport → Collection → Body → Collection → Body → Result ⊤ Refusal → Type 0
-Exports h x c old d new r = IsOutcome (λ b u. IsBody d b new) (export_item (holder_of h) (stated_body c old) (view_interface_export x)) r
+Exports h x c old d new r =
+    IsOutcome (λ b u. IsBody d b new) (export_item (holder_of h) (stated_body c old) (view_interface_export x)) r

@@ -40,7 +40,8 @@ IsBorrowNamed c names i d r = IsOutcome (IsValue d) (borrow_named (scope_of c na
 abbrev pub IsValueWritten : Collection → Names → «Type» → Collection → Result ValueType Refusal → Type 0
 IsValueWritten c names ty d r = IsOutcome (IsValue d) (value (scope_of c names) (view_ty ty)) r
 
-abbrev pub IsMaybeWritten : Collection → Names → Option (Box «Type» Global) → Collection → Result (Option ValueType) Refusal → Type 0
+abbrev pub IsMaybeWritten : Collection → Names → Option (Box «Type» Global) → Collection → Result (Option ValueType) Refusal
+    → Type 0
 IsMaybeWritten c names ty d r = IsOutcome (IsValueIf d) (maybe_value (scope_of c names) (boxed_payload ty)) r
 
 abbrev pub AreWritten : Collection → Names → Vec «Type» Global → Collection → Result (List ValueType) Refusal → Type 0
@@ -55,7 +56,8 @@ abbrev pub IsOfMaybe : s.Shape → Collection → Names → Option (Box «Type»
 IsOfMaybe l c names ty d r = IsOutcome (IsValue d) (of_maybe l (maybe_value (scope_of c names) (boxed_payload ty))) r
 
 -- a result, whose first payload is known
-abbrev pub IsResultWith : Option ValueType → Collection → Names → Option (Box «Type» Global) → Collection → Result ValueType Refusal → Type 0
+abbrev pub IsResultWith : Option ValueType → Collection → Names → Option (Box «Type» Global) → Collection
+    → Result ValueType Refusal → Type 0
 IsResultWith ok c names err d r =
     IsOutcome (IsValue d) (of_two s.result (pure (stated_if c ok)) (maybe_value (scope_of c names) (boxed_payload err))) r
 

@@ -52,25 +52,29 @@ on_side k b q = q >>= λ xs. pure (with_items_on k b xs)
 
 -- one more, whose name is new
 abbrev pub item_on : Name → ExternKind → Items → t.Ident → Stated → Answer Items
-item_on world k stand i x = unless_clear (has stand i.string) (DuplicateWorldItem k i.string world) i.span >> pure (stand ++ (i.string, x) ∷ [])
+item_on world k stand i x =
+    unless_clear (has stand i.string) (DuplicateWorldItem k i.string world) i.span >> pure (stand ++ (i.string, x) ∷ [])
 
 abbrev pub slot_ident : Slot → t.Ident
 slot_ident s = record { string = s.name.now; span = s.span }
 
 abbrev pub IsOneMore : Slot → List (Name × ItemKind) → ItemKind → List (Name × ItemKind) → Result ⊤ Refusal → Type 0
 IsOneMore s old k new r =
-    (c : Collection) → IsOutcome (AreNow c new) (item_on s.world.now s.kind (with_values (stated_of c) old) (slot_ident s) (stated_of c k)) r
+    (c : Collection)
+    → IsOutcome (AreNow c new) (item_on s.world.now s.kind (with_values (stated_of c) old) (slot_ident s) (stated_of c k)) r
 
 abbrev pub AddsExtern : Slot → Body → ItemKind → Body → Result ⊤ Refusal → Type 0
 AddsExtern s old k new r =
     (c : Collection) → IsOutcome (λ b u. IsBody c b new)
-    (on_side s.kind (stated_body c old) (item_on s.world.now s.kind (items_on s.kind (stated_body c old)) (slot_ident s) (stated_of c k))) r
+    (on_side s.kind (stated_body c old) (item_on s.world.now s.kind (items_on s.kind (stated_body c old)) (slot_ident s)
+    (stated_of c k))) r
 
 -- an interface under its identifier
 abbrev pub AddsInterface : Side → Collection → InterfaceId → Span → Body → Body → Result ⊤ Refusal → Type 0
 AddsInterface o c i s old new r =
     IsOutcome (λ b u. IsBody c b new)
-    (on_side o.kind (stated_body c old) (interface_added o.world.now o.kind (items_on o.kind (stated_body c old)) s (stated_of c (ItemKind.Ty (TypeKind.Interface i))))) r
+    (on_side o.kind (stated_body c old) (interface_added o.world.now o.kind (items_on o.kind (stated_body c old)) s
+    (stated_of c (ItemKind.Ty (TypeKind.Interface i))))) r
 
 -- ---- items
 
@@ -86,7 +90,8 @@ abbrev pub IsNamedItem : ExternType → Slot → Place → Collection → Known 
 IsNamedItem ty s at c known old d new r =
     (x : Context) → StandsIn x at c known
     → IsOutcome (λ b u. IsBody d b new)
-    (item_at x s.world.now s.kind (stated_body c old) (t.WorldItemPath.named (record { id = slot_ident s; ty = view_extern_type ty }))) r
+    (item_at x s.world.now s.kind (stated_body c old) (t.WorldItemPath.named
+    (record { id = slot_ident s; ty = view_extern_type ty }))) r
 
 abbrev pub IsWorldItem : WorldItemPath → Side → Place → Collection → Known → Body → Collection → Body → Result ⊤ Refusal → Type 0
 IsWorldItem p o at c known old d new r =
@@ -98,27 +103,35 @@ IsWorldItem p o at c known old d new r =
 -- an item that is no include, an include; all in order
 abbrev pub IsPart : WorldItem → Name → Place → Collection → Known → Body → Collection → Body → Result ⊤ Refusal → Type 0
 IsPart i w at c known old d new r =
-    (x : Context) → StandsIn x at c known → IsOutcome (λ b u. IsBody d b new) (world_part x w (stated_body c old) (view_world_item i)) r
+    (x : Context) → StandsIn x at c known
+    → IsOutcome (λ b u. IsBody d b new) (world_part x w (stated_body c old) (view_world_item i)) r
 
 abbrev pub AreParts : List WorldItem → Name → Place → Collection → Known → Body → Collection → Body → Result ⊤ Refusal → Type 0
 AreParts is w at c known old d new r =
-    (x : Context) → StandsIn x at c known → IsOutcome (λ b u. IsBody d b new) (each (world_part x w) (stated_body c old) (map view_world_item is)) r
+    (x : Context) → StandsIn x at c known
+    → IsOutcome (λ b u. IsBody d b new) (each (world_part x w) (stated_body c old) (map view_world_item is)) r
 
 abbrev pub IsInclude : WorldItem → Name → Place → Collection → Known → Body → Collection → Body → Result ⊤ Refusal → Type 0
 IsInclude i w at c known old d new r =
-    (x : Context) → StandsIn x at c known → IsOutcome (λ b u. IsBody d b new) (world_include x w (stated_body c old) (view_world_item i)) r
+    (x : Context) → StandsIn x at c known
+    → IsOutcome (λ b u. IsBody d b new) (world_include x w (stated_body c old) (view_world_item i)) r
 
-abbrev pub AreIncludes : List WorldItem → Name → Place → Collection → Known → Body → Collection → Body → Result ⊤ Refusal → Type 0
+abbrev pub AreIncludes : List WorldItem → Name → Place → Collection → Known → Body → Collection → Body → Result ⊤ Refusal
+    → Type 0
 AreIncludes is w at c known old d new r =
-    (x : Context) → StandsIn x at c known → IsOutcome (λ b u. IsBody d b new) (each (world_include x w) (stated_body c old) (map view_world_item is)) r
+    (x : Context) → StandsIn x at c known
+    → IsOutcome (λ b u. IsBody d b new) (each (world_include x w) (stated_body c old) (map view_world_item is)) r
 
 abbrev pub IsWorldBody : List WorldItem → Name → Place → Collection → Known → Collection → Result Body Refusal → Type 0
-IsWorldBody is w at c known d r = (x : Context) → StandsIn x at c known → IsOutcome (IsBody d) (world_body x w (map view_world_item is)) r
+IsWorldBody is w at c known d r =
+    (x : Context) → StandsIn x at c known → IsOutcome (IsBody d) (world_body x w (map view_world_item is)) r
 
 abbrev pub IsWorldDeclared : WorldDecl → Place → Collection → Known → Collection → Result WorldId Refusal → Type 0
-IsWorldDeclared w at c known d r = (x : Context) → StandsIn x at c known → IsOutcome (AWorld d) (world_decl x (view_world_decl w)) r
+IsWorldDeclared w at c known d r =
+    (x : Context) → StandsIn x at c known → IsOutcome (AWorld d) (world_decl x (view_world_decl w)) r
 
 -- ---- statements
 
 abbrev pub IsTypeStatement : TypeStatement → Place → Collection → Known → Collection → Result TypeKind Refusal → Type 0
-IsTypeStatement s at c known d r = (x : Context) → StandsIn x at c known → IsOutcome (IsType d) (type_statement x (view_type_statement s)) r
+IsTypeStatement s at c known d r =
+    (x : Context) → StandsIn x at c known → IsOutcome (IsType d) (type_statement x (view_type_statement s)) r

@@ -27,7 +27,8 @@ exporting name = record { duplicate = λ n. DuplicateInterfaceExport n name; kin
 
 -- the interface that a body states, under an identifier if it has a name
 abbrev pub interface_body : Context → Option Name → Option Name → List t.InterfaceItem → Answer Stated
-interface_body c name id items = each (interface_item c (exporting name)) no_body items >>= λ b. pure (interface_of id b.uses b.items)
+interface_body c name id items =
+    each (interface_item c (exporting name)) no_body items >>= λ b. pure (interface_of id b.uses b.items)
 
 abbrev pub inline_interface : Context → t.InlineInterface → Answer Stated
 inline_interface c d = interface_body c None None d.items

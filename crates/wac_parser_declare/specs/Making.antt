@@ -62,7 +62,8 @@ IsExtern c k i r = IsOutcome (Holds c) (extern_by (kind_of (stated_of c k)) (vie
 
 -- what a name of the body means, else one of the root, whatever collection the items stand in
 abbrev pub IsMeantIn : Names → Names → Ident → Result Binding Refusal → Type 0
-IsMeantIn names root i r = (c : Collection) → IsOutcome (λ m b. meant_by c b ≡ m) (meant (scope_of c names ++ scope_of c root) (view_ident i)) r
+IsMeantIn names root i r =
+    (c : Collection) → IsOutcome (λ m b. meant_by c b ≡ m) (meant (scope_of c names ++ scope_of c root) (view_ident i)) r
 
 -- that stands where all that they mean does
 abbrev pub MeantStands : Names → Names → Result Binding Refusal → Type 0

@@ -60,7 +60,8 @@ pub record Context : Type 0 where
 
 abbrev pub same_version : Option Parts → Option Parts → Bool
 same_version None None = true
-same_version (Some v) (Some w) = (v.0 == w.0) && ((v.1 == w.1) && ((v.2 == w.2) && (pointwise ◌==◌ v.3 w.3 && pointwise ◌==◌ v.4 w.4)))
+same_version (Some v) (Some w) =
+    (v.0 == w.0) && ((v.1 == w.1) && ((v.2 == w.2) && (pointwise ◌==◌ v.3 w.3 && pointwise ◌==◌ v.4 w.4)))
 same_version v w = false
 
 abbrev pub is_key : Key → Key → Bool
@@ -155,7 +156,8 @@ from_definitions p ds (i ∷ is) =
 abbrev pub path_item : Context → t.PackagePath → Answer Stated
 path_item c p = cond (pointwise ◌==◌ p.name c.own.name)
     (from_root c (segment_spans p))
-    (world_of_package c.packages (p.name, p.version) (package_name_span p) >>= λ w. from_definitions p (definitions w) (segment_spans p))
+    (world_of_package c.packages (p.name, p.version) (package_name_span p)
+    >>= λ w. from_definitions p (definitions w) (segment_spans p))
 
 abbrev pub at_path : Context → Path → Answer Stated
 at_path c (in_package p) = path_item c p

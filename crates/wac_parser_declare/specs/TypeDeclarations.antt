@@ -38,7 +38,8 @@ IsPayload c names ty d r = IsOutcome (IsValueIf d) (value_if (scope_of c names) 
 -- the cases found are those found before, with one more
 abbrev pub IsCase : Name → Collection → Names → Cases → VariantCase → Collection → Cases → Result ⊤ Refusal → Type 0
 IsCase variant c names found x d all r =
-    IsOutcome (λ xs u. AreCases d xs all) (case_of variant (scope_of c names) (with_values (stated_if c) found) (view_variant_case x)) r
+    IsOutcome (λ xs u. AreCases d xs all) (case_of variant (scope_of c names) (with_values (stated_if c) found)
+    (view_variant_case x)) r
 
 abbrev pub AreCasesOf : Collection → Names → VariantDecl → Collection → Result Cases Refusal → Type 0
 AreCasesOf c names v d r =
@@ -50,7 +51,8 @@ IsVariant c names v d r = IsOutcome (IsType d) (variant_decl (scope_of c names) 
 -- the fields found are those found before, with one more
 abbrev pub IsField : Name → Collection → Names → Params → Field → Collection → Params → Result ⊤ Refusal → Type 0
 IsField record_name c names found x d all r =
-    IsOutcome (λ xs u. AreNamedValues d xs all) (field_of record_name (scope_of c names) (with_values (stated_value c) found) (view_field x)) r
+    IsOutcome (λ xs u. AreNamedValues d xs all) (field_of record_name (scope_of c names) (with_values (stated_value c) found)
+    (view_field x)) r
 
 abbrev pub AreFieldsOf : Collection → Names → RecordDecl → Collection → Result Params Refusal → Type 0
 AreFieldsOf c names v d r =

@@ -65,8 +65,10 @@ with_exports b xs = record b { exports = xs }
 abbrev pub world_part : Context → Name → Body → t.WorldItem → Answer Body
 world_part c w b (t.WorldItem.use_ u) = use_types c (importing w) b u
 world_part c w b (t.WorldItem.ty d) = item_type (importing w) b d
-world_part c w b (t.WorldItem.import i) = world_item c b.names w ExternKind.Import b.items i.path >>= λ xs. pure (with_imports b xs)
-world_part c w b (t.WorldItem.export e) = world_item c b.names w ExternKind.Export b.exports e.path >>= λ xs. pure (with_exports b xs)
+world_part c w b (t.WorldItem.import i) =
+    world_item c b.names w ExternKind.Import b.items i.path >>= λ xs. pure (with_imports b xs)
+world_part c w b (t.WorldItem.export e) =
+    world_item c b.names w ExternKind.Export b.exports e.path >>= λ xs. pure (with_exports b xs)
 world_part c w b (t.WorldItem.include i) = pure b
 
 -- ---- includes
@@ -80,7 +82,8 @@ abbrev pub world_at : Context → Path → Answer Stated
 world_at c p = at_path c p >>= λ x. world_by (kind_of x) p x
 
 abbrev pub with_name : List Name → t.WorldIncludeItem → Answer (List Name)
-with_name found w = unless_clear (has_name found w.from.string) (DuplicateWorldIncludeName w.from.string) w.from.span >> pure (found ++ w.from.string ∷ [])
+with_name found w = unless_clear (has_name found w.from.string) (DuplicateWorldIncludeName w.from.string) w.from.span
+    >> pure (found ++ w.from.string ∷ [])
 
 -- the new name of a name, if it gets one
 abbrev pub renaming : List t.WorldIncludeItem → Name → Option t.Ident
@@ -97,7 +100,8 @@ or_itself p n (Some i) = i
 
 abbrev pub include_at : Name → Path → Bool → ExternKind → Items → Stated → t.Ident → Answer Items
 include_at world p help kind stand x i =
-    unless_clear (has stand i.string) (WorldIncludeConflict kind i.string (path_text p) world help) i.span >> pure (stand ++ (i.string, x) ∷ [])
+    unless_clear (has stand i.string) (WorldIncludeConflict kind i.string (path_text p) world help) i.span
+    >> pure (stand ++ (i.string, x) ∷ [])
 
 abbrev pub include_one : Name → Path → Bool → List t.WorldIncludeItem → ExternKind → Items → Name × Stated → Answer Items
 include_one world p help ws kind stand e = cond (has_colon e.0)
@@ -141,7 +145,8 @@ abbrev pub world_body : Context → Name → List t.WorldItem → Answer Body
 world_body c w is = each (world_part c w) no_body is >>= λ b. each (world_include c w) b is
 
 abbrev pub world_decl : Context → t.WorldDecl → Answer Stated
-world_decl c d = world_body c d.id.string d.items >>= λ b. pure (world_of (Some (identifier c.own d.id.string)) b.uses b.items b.exports)
+world_decl c d =
+    world_body c d.id.string d.items >>= λ b. pure (world_of (Some (identifier c.own d.id.string)) b.uses b.items b.exports)
 
 -- ---- statements
 

@@ -218,7 +218,8 @@ fn alias_named<T: GrowingTypes>(
     source: &Ident<'_>,
 ) -> Outcome<Type>
     requires { NamesStand (T.collection types.old) names.now }
-    ensures outcome { IsAliasNamed place (T.collection types.old) names.now alias.now source.now (T.collection types.new) result }
+    ensures outcome { IsAliasNamed place (T.collection types.old) names.now alias.now source.now
+        (T.collection types.new) result }
     ensures stands { IfOk result (λ t. Stands (T.collection types.new) (ItemKind.Ty t)) }
     ensures grows { Grows (T.collection types.old) (T.collection types.new) }
     ensures packages { SamePackages (T.packages types.old) (T.packages types.new) }

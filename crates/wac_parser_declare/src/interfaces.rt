@@ -52,7 +52,8 @@ fn export_item<T: PackagedTypes>(
     body: &mut Body,
 ) -> Outcome<()>
     requires body { BodyStands (T.collection types.old) body.old }
-    ensures outcome { Exports holder.entry export.now (T.collection types.old) body.old (T.collection types.new) body.new result }
+    ensures outcome { Exports holder.entry export.now (T.collection types.old) body.old
+        (T.collection types.new) body.new result }
     ensures body { OnOk result (BodyStands (T.collection types.new) body.new) }
     ensures grows { Grows (T.collection types.old) (T.collection types.new) }
     ensures packages { SamePackages (T.packages types.old) (T.packages types.new) }

@@ -86,7 +86,8 @@ fn add_constructor<T: GrowingTypes>(
 ) -> Outcome<()>
     requires body { BodyStands (T.collection types.old) body.old }
     requires owner { Stands (T.collection types.old) (ItemKind.Ty (TypeKind.Resource owner.id)) }
-    ensures outcome { Constructs owner.entry decl.now (T.collection types.old) body.old (T.collection types.new) body.new result }
+    ensures outcome { Constructs owner.entry decl.now (T.collection types.old) body.old
+        (T.collection types.new) body.new result }
     ensures body { OnOk result (BodyStands (T.collection types.new) body.new) }
     ensures grows { Grows (T.collection types.old) (T.collection types.new) }
     ensures packages { SamePackages (T.packages types.old) (T.packages types.new) }
@@ -185,7 +186,8 @@ fn resource_method<T: GrowingTypes>(
 ) -> Outcome<()>
     requires body { BodyStands (T.collection types.old) body.old }
     requires owner { Stands (T.collection types.old) (ItemKind.Ty (TypeKind.Resource owner.id)) }
-    ensures outcome { IsMember owner.entry method.now (T.collection types.old) body.old (T.collection types.new) body.new result }
+    ensures outcome { IsMember owner.entry method.now (T.collection types.old) body.old
+        (T.collection types.new) body.new result }
     ensures body { OnOk result (BodyStands (T.collection types.new) body.new) }
     ensures grows { Grows (T.collection types.old) (T.collection types.new) }
     ensures packages { SamePackages (T.packages types.old) (T.packages types.new) }
@@ -206,7 +208,8 @@ fn resource_methods<T: GrowingTypes>(
 ) -> Outcome<()>
     requires body { BodyStands (T.collection types.old) body.old }
     requires owner { Stands (T.collection types.old) (ItemKind.Ty (TypeKind.Resource owner.id)) }
-    ensures outcome { Members owner.entry methods.now (T.collection types.old) body.old (T.collection types.new) body.new result }
+    ensures outcome { Members owner.entry methods.now (T.collection types.old) body.old
+        (T.collection types.new) body.new result }
     ensures body { OnOk result (BodyStands (T.collection types.new) body.new) }
     ensures grows { Grows (T.collection types.old) (T.collection types.new) }
     ensures packages { SamePackages (T.packages types.old) (T.packages types.new) }

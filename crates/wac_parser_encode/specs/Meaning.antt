@@ -46,7 +46,9 @@ MeansAscribed s bytes = (worlds : Worlds) → AreTrueOf s worlds → MeansIn s w
 
 -- Where packages are nested, so it is of each document that the graph is built from.
 unfoldable pub MeansResolved : Graph → EncodeOptions → List ℕ → Type 0
-MeansResolved g options bytes = options.define_components ≡ true → (d : t.Document) (ps : List (Key × Content)) (r : State × Option Stated) (at : Places) → resolved d ps ≡ Ok r → IsBuilt g at r.0 → MeansAscribed r.0 bytes
+MeansResolved g options bytes = options.define_components ≡ true
+    → (d : t.Document) (ps : List (Key × Content)) (r : State × Option Stated) (at : Places) → resolved d ps ≡ Ok r
+    → IsBuilt g at r.0 → MeansAscribed r.0 bytes
 
 -- ---- with packages imported
 
@@ -57,8 +59,8 @@ dependency_tag k = OfDependency (dependency_name k)
 abbrev pub HaveDependencyNames : State → Type 0
 HaveDependencyNames s = (m : Made) → Among m s.made → IsDependency (dependency_name m.key)
 
--- In these worlds the bytes mean the wiring that is ascribed, and import each package under that name, as a component of its stated
--- world.
+-- In these worlds the bytes mean the wiring that is ascribed, and import each package under that name, as a component of its
+-- stated world.
 pub record ImportsIn (s : State) (worlds : Worlds) (bytes : List ℕ) : Type 0 where
   pub meant : Wiring ℕ
   pub means : Means worlds bytes meant
@@ -66,11 +68,14 @@ pub record ImportsIn (s : State) (worlds : Worlds) (bytes : List ℕ) : Type 0 w
   pub packages : (m : Made) → Among m s.made → Among (dependency_name m.key, tree m.world) means.last.listed.imports
 
 abbrev pub ImportsAscribed : State → List ℕ → Type 0
-ImportsAscribed s bytes = HaveDependencyNames s → (worlds : Worlds) → AreTrueAs dependency_tag s worlds → ImportsIn s worlds bytes
+ImportsAscribed s bytes =
+    HaveDependencyNames s → (worlds : Worlds) → AreTrueAs dependency_tag s worlds → ImportsIn s worlds bytes
 
 -- Where packages are imported, so it is of each document that the graph is built from.
 unfoldable pub ImportsResolved : Graph → EncodeOptions → List ℕ → Type 0
-ImportsResolved g options bytes = options.define_components ≡ false → (d : t.Document) (ps : List (Key × Content)) (r : State × Option Stated) (at : Places) → resolved d ps ≡ Ok r → IsBuilt g at r.0 → ImportsAscribed r.0 bytes
+ImportsResolved g options bytes = options.define_components ≡ false
+    → (d : t.Document) (ps : List (Key × Content)) (r : State × Option Stated) (at : Places) → resolved d ps ≡ Ok r
+    → IsBuilt g at r.0 → ImportsAscribed r.0 bytes
 
 -- ---- the world
 
@@ -81,4 +86,5 @@ pub record IsWorldOf (s : State) (types : Collection) (world : WorldId) : Type 0
 
 -- so it is of each document that the graph is built from
 unfoldable pub HasResolvedWorld : Graph → Collection → WorldId → Type 0
-HasResolvedWorld g types world = (d : t.Document) (ps : List (Key × Content)) (r : State × Option Stated) (at : Places) → resolved d ps ≡ Ok r → IsBuilt g at r.0 → IsWorldOf r.0 types world
+HasResolvedWorld g types world = (d : t.Document) (ps : List (Key × Content)) (r : State × Option Stated) (at : Places)
+    → resolved d ps ≡ Ok r → IsBuilt g at r.0 → IsWorldOf r.0 types world

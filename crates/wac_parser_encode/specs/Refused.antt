@@ -26,14 +26,19 @@ use Rattle.wac_parser_resolve.specs.Resolved.{Places, asker_place, import_place}
 -- ---- the fault that is told
 
 abbrev pub alike_fault : ValidationFault → Option Cause
-alike_fault (ValidationFault.ImportNames m n) = anywhere (Fault.ValidationFailure ExternKind.Import (string_bytes m) (string_bytes n))
-alike_fault (ValidationFault.ExportNames m n) = anywhere (Fault.ValidationFailure ExternKind.Export (string_bytes m) (string_bytes n))
+alike_fault (ValidationFault.ImportNames m n) =
+    anywhere (Fault.ValidationFailure ExternKind.Import (string_bytes m) (string_bytes n))
+alike_fault (ValidationFault.ExportNames m n) =
+    anywhere (Fault.ValidationFailure ExternKind.Export (string_bytes m) (string_bytes n))
 
 -- a refusal of a graph, where its nodes stand at these places; no graph has a cycle
 abbrev pub fault_in : Places → EncodeError → Option Cause
-fault_in at (EncodeError.ImplicitImportConflict import instantiation key n) = at_place (Fault.ImportConflict (string_bytes n) (owned_key key) (asker_place at instantiation)) (import_place at import)
-fault_in at (EncodeError.ExplicitImportConflict n first second) = at_place (Fault.ExplicitImportConflict (string_bytes n) (import_place at first)) (import_place at second)
-fault_in at (EncodeError.ImportTypeMergeConflict n first second source) = at_place (Fault.InstantiationArgMergeFailure (string_bytes n) (asker_place at first)) (asker_place at second)
+fault_in at (EncodeError.ImplicitImportConflict import instantiation key n) =
+    at_place (Fault.ImportConflict (string_bytes n) (owned_key key) (asker_place at instantiation)) (import_place at import)
+fault_in at (EncodeError.ExplicitImportConflict n first second) =
+    at_place (Fault.ExplicitImportConflict (string_bytes n) (import_place at first)) (import_place at second)
+fault_in at (EncodeError.ImportTypeMergeConflict n first second source) =
+    at_place (Fault.InstantiationArgMergeFailure (string_bytes n) (asker_place at first)) (asker_place at second)
 fault_in at (EncodeError.TypeCannotBeWritten n) = anywhere (Fault.TypeCannotBeWritten (string_bytes n))
 fault_in at EncodeError.TooLarge = anywhere Fault.TooLarge
 fault_in at (EncodeError.ValidationFailure fault) = alike_fault fault
@@ -74,7 +79,8 @@ module _ (define validate : Bool) (s : State) where
 
 -- so it is of what each document says that the graph holds, where that stands at these places
 abbrev pub OfEach : Graph → Places → (State → Type 0) → Type 0
-OfEach g at P = (d : t.Document) (ps : List (Key × Content)) (r : State × Option Stated) → resolved d ps ≡ Ok r → IsBuilt g at r.0 → P r.0
+OfEach g at P =
+    (d : t.Document) (ps : List (Key × Content)) (r : State × Option Stated) → resolved d ps ≡ Ok r → IsBuilt g at r.0 → P r.0
 
 -- Where the graph holds what a document says, which stands at these places, the error is the document's first cause.
 unfoldable pub TellsFirst : Graph → EncodeOptions → Places → Option Cause → Type 0

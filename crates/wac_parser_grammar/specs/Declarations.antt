@@ -45,7 +45,8 @@ members p ty kind = do
   some_member xs ty kind close
 
 unfoldable pub case_type : Rule (Option t.Ty)
-case_type = optional k.OpenParen >>= λ found. choose found (value_type >>= λ ty. token k.CloseParen >> pure (Some ty)) (pure None)
+case_type =
+    optional k.OpenParen >>= λ found. choose found (value_type >>= λ ty. token k.CloseParen >> pure (Some ty)) (pure None)
 
 unfoldable pub variant_case : Rule t.VariantCase
 variant_case = do

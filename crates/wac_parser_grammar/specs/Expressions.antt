@@ -57,7 +57,8 @@ spanning span (p ∷ ps) = spanning (through span (postfix_expr_span p)) ps
 unfoldable pub spread_or_fill : Rule t.InstantiationArgument
 spread_or_fill = do
   span ← token k.Ellipsis
-  begin_any (k.Comma ∷ k.CloseBrace ∷ []) (pure (t.InstantiationArgument.fill span)) (ident >>= λ id. pure (t.InstantiationArgument.spread id))
+  begin_any (k.Comma ∷ k.CloseBrace ∷ []) (pure (t.InstantiationArgument.fill span))
+      (ident >>= λ id. pure (t.InstantiationArgument.spread id))
 
 module _ (inner : Rule t.Expr) where
   unfoldable pub nested_expr : Rule t.NestedExpr
@@ -83,13 +84,15 @@ module _ (inner : Rule t.Expr) where
   unfoldable pub ident_argument : Rule t.InstantiationArgument
   ident_argument = do
     id ← ident
-    begin k.Colon (argument_value (t.InstantiationArgumentName.ident id) >>= λ a. pure (t.InstantiationArgument.named a)) (pure (t.InstantiationArgument.inferred id))
+    begin k.Colon (argument_value (t.InstantiationArgumentName.ident id) >>= λ a. pure (t.InstantiationArgument.named a))
+        (pure (t.InstantiationArgument.inferred id))
 
   -- a string, which only a colon makes an argument
   unfoldable pub string_argument : Rule t.InstantiationArgument
   string_argument = do
     s ← string
-    begin k.Colon (argument_value (t.InstantiationArgumentName.string s) >>= λ a. pure (t.InstantiationArgument.named a)) (refuse (λ _. expected k.Ident (Some k.String) s.span))
+    begin k.Colon (argument_value (t.InstantiationArgumentName.string s) >>= λ a. pure (t.InstantiationArgument.named a))
+        (refuse (λ _. expected k.Ident (Some k.String) s.span))
 
   unfoldable pub instantiation_argument : Rule t.InstantiationArgument
   instantiation_argument =

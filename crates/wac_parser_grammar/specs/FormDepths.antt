@@ -266,8 +266,10 @@ pub record FormsAreTaken : Type 0 where
   pub new_expr : (depth : ℕ) → IsTaken (e.new_expr (e.expr depth)) f.New (λ x. new_levels x ≤ depth) Always
   pub nested_expr : (depth : ℕ) → IsTaken (e.nested_expr (e.expr depth)) f.Nested (λ x. nested_levels x ≤ depth) Always
   pub primary_expr : (depth : ℕ) → IsTaken (e.primary_expr (e.expr depth)) f.Primary (λ x. primary_levels x ≤ depth) Always
-  pub named_argument : (depth : ℕ) → IsTaken (e.named_argument (e.expr depth)) f.NamedArgument (λ x. named_levels x ≤ depth) ExpressionEnds
-  pub instantiation_argument : (depth : ℕ) → IsTaken (e.instantiation_argument (e.expr depth)) f.Argument (λ x. argument_levels x ≤ depth) ArgumentEnds
+  pub named_argument : (depth : ℕ)
+      → IsTaken (e.named_argument (e.expr depth)) f.NamedArgument (λ x. named_levels x ≤ depth) ExpressionEnds
+  pub instantiation_argument : (depth : ℕ)
+      → IsTaken (e.instantiation_argument (e.expr depth)) f.Argument (λ x. argument_levels x ≤ depth) ArgumentEnds
   pub extern_name : IsTaken s.extern_name g.ExternName Always Always
   pub import_type : IsTaken s.import_type g.ImportType ImportTypeFits FuncEnds
   pub import_statement : IsTaken s.import_statement g.ImportStatement (λ x. ImportTypeFits x.ty) Always
@@ -324,4 +326,5 @@ pub record RulesTakeWhatFits : Type 0 where
 
 -- a source is read as a document exactly where the document fits and the source is that document by the forms
 abbrev pub DocumentsAreTheirForms : Type 0
-DocumentsAreTheirForms = (source : List ℕ) (x : t.Document) → (read_source s.document source ≡ Ok x) ↔ (DocumentFits x × g.IsDocumentOf x source)
+DocumentsAreTheirForms =
+    (source : List ℕ) (x : t.Document) → (read_source s.document source ≡ Ok x) ↔ (DocumentFits x × g.IsDocumentOf x source)

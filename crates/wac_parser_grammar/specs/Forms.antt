@@ -22,7 +22,8 @@ Nothing s r = r ≡ s
 
 -- the next item is the token, at the span
 abbrev pub At : Token → t.Span → Part
-At k span s r = (docs : List Doc) × (rest : List Item) × (s.items ≡ record { docs = docs; token = Ok k; span = span } ∷ rest) × (r ≡ rest_input s)
+At k span s r = (docs : List Doc) × (rest : List Item) × (s.items ≡ record { docs = docs; token = Ok k; span = span } ∷ rest)
+    × (r ≡ rest_input s)
 
 abbrev pub Word : Token → Part
 Word k s r = (span : t.Span) × At k span s r
@@ -48,7 +49,8 @@ Marked k false = Nothing
 
 -- the part between two tokens, and the span from the one through the other
 abbrev pub Between : Token → Part → Token → t.Span → Part
-Between first P last span s r = (start : t.Span) × (end : t.Span) × (span ≡ through start end) × (At first start ⨾ P ⨾ At last end) s r
+Between first P last span s r =
+    (start : t.Span) × (end : t.Span) × (span ≡ through start end) × (At first start ⨾ P ⨾ At last end) s r
 
 -- one behind the other
 abbrev pub Row : {X : Type 0} → (X → Part) → List X → Part
@@ -98,7 +100,8 @@ Version (Some text) v = (parts : t.Version) × (version_parts text ≡ Ok parts)
 -- a name, and behind an `@` its version
 abbrev pub PackageName : t.PackageName → Part
 PackageName x s r =
-    At k.PackageName x.span s r × (x.string ≡ text_at s.source x.span) × (x.name ≡ before 64 x.string) × Version (behind_first 64 x.string) x.version
+    At k.PackageName x.span s r × (x.string ≡ text_at s.source x.span) × (x.name ≡ before 64 x.string)
+    × Version (behind_first 64 x.string) x.version
 
 -- before the `@` a name, a slash and segments
 abbrev pub PackagePath : t.PackagePath → Part
@@ -131,7 +134,8 @@ abbrev mutual
   Ty (t.Ty.tuple tys span) = Between k.TupleKeyword (Word k.OpenAngle ⨾ SomeTys tys) k.CloseAngle span
   Ty (t.Ty.list ty span) = Between k.ListKeyword (Word k.OpenAngle ⨾ Ty ty) k.CloseAngle span
   Ty (t.Ty.option ty span) = Between k.OptionKeyword (Word k.OpenAngle ⨾ Ty ty) k.CloseAngle span
-  Ty (t.Ty.result ok err span) = Bare ok err span or Between k.ResultKeyword (Word k.OpenAngle ⨾ Omitted ok ⨾ Second err) k.CloseAngle span
+  Ty (t.Ty.result ok err span) =
+      Bare ok err span or Between k.ResultKeyword (Word k.OpenAngle ⨾ Omitted ok ⨾ Second err) k.CloseAngle span
   Ty (t.Ty.borrow id span) = Between k.BorrowKeyword (Word k.OpenAngle ⨾ Ident id) k.CloseAngle span
   Ty (t.Ty.stream ty span) = Payload k.StreamKeyword ty span
   Ty (t.Ty.future ty span) = Payload k.FutureKeyword ty span
@@ -199,7 +203,8 @@ Postfix (t.PostfixExpr.named_access x) = NamedAccess x
 abbrev mutual
   -- the span is that of the first part through the last access
   pub Expr : t.Expr → Part
-  Expr (t.Expr.expr span first accesses) s r = (span ≡ spanning (primary_expr_span first) accesses) × (Primary first ⨾ Row Postfix accesses) s r
+  Expr (t.Expr.expr span first accesses) s r =
+      (span ≡ spanning (primary_expr_span first) accesses) × (Primary first ⨾ Row Postfix accesses) s r
 
   pub Primary : t.PrimaryExpr → Part
   Primary (t.PrimaryExpr.new x) = New x
@@ -207,7 +212,8 @@ abbrev mutual
   Primary (t.PrimaryExpr.ident id) = Ident id
 
   pub New : t.NewExpr → Part
-  New (t.NewExpr.new_expr span name arguments) = Between k.NewKeyword (PackageName name ⨾ Word k.OpenBrace ⨾ Arguments arguments) k.CloseBrace span
+  New (t.NewExpr.new_expr span name arguments) =
+      Between k.NewKeyword (PackageName name ⨾ Word k.OpenBrace ⨾ Arguments arguments) k.CloseBrace span
 
   -- `...` alone fills
   pub Argument : t.InstantiationArgument → Part

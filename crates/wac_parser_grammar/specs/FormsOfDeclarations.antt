@@ -169,7 +169,8 @@ ImportType (t.ImportType.interface x) = InlineInterface x
 ImportType (t.ImportType.ident id) = Ident id
 
 abbrev pub ImportStatement : t.ImportStatement → Part
-ImportStatement x = Docs x.docs ⨾ Word k.ImportKeyword ⨾ Ident x.id ⨾ Behind k.AsKeyword ExternName x.name ⨾ Word k.Colon ⨾ ImportType x.ty ⨾ Word k.Semicolon
+ImportStatement x = Docs x.docs ⨾ Word k.ImportKeyword ⨾ Ident x.id ⨾ Behind k.AsKeyword ExternName x.name ⨾ Word k.Colon
+    ⨾ ImportType x.ty ⨾ Word k.Semicolon
 
 abbrev pub LetStatement : t.LetStatement → Part
 LetStatement x = Docs x.docs ⨾ Word k.LetKeyword ⨾ Ident x.id ⨾ Word k.Equals ⨾ Expr x.expr ⨾ Word k.Semicolon
@@ -194,7 +195,8 @@ Statement (t.Statement.let_ x) = LetStatement x
 Statement (t.Statement.export x) = ExportStatement x
 
 abbrev pub PackageDirective : t.PackageDirective → Part
-PackageDirective x = Word k.PackageKeyword ⨾ PackageName x.«package» ⨾ Behind k.TargetsKeyword PackagePath x.targets ⨾ Word k.Semicolon
+PackageDirective x =
+    Word k.PackageKeyword ⨾ PackageName x.«package» ⨾ Behind k.TargetsKeyword PackagePath x.targets ⨾ Word k.Semicolon
 
 abbrev pub Document : t.Document → Part
 Document x = Docs x.docs ⨾ PackageDirective x.directive ⨾ Row Statement x.statements

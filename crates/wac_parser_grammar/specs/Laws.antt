@@ -221,7 +221,8 @@ pub record AllFaultsStand : Type 0 where
 
 -- The fault stands in the source: it is its first refused character, or stands where its items are.
 abbrev pub StandsIn : List ℕ → Fault → Type 0
-StandsIn source fault = ((e : lexer_error.Error × SourceSpan) × (first_refused source ≡ Some e) × (fault ≡ lexer e.0 e.1)) ⊎ Stands (input_of source) fault
+StandsIn source fault = ((e : lexer_error.Error × SourceSpan) × (first_refused source ≡ Some e) × (fault ≡ lexer e.0 e.1))
+    ⊎ Stands (input_of source) fault
 
 -- a source that is not read as a document has a fault that stands in it
 abbrev pub DocumentFaultsStand : Type 0

@@ -10,7 +10,8 @@ use Rattle.wac_parser_grammar.specs.Faults.{Fault, fault_of, lexer}
 use Rattle.wac_parser_grammar.specs.Rules.{Rule}
 
 -- The value, or the fault, that stands at the first place; want of memory says nothing of it.
-abbrev pub Gives : {T : Type 0} → (T → Input → Input → Type 0) → (Input → Fault → Type 0) → Input → Result T Error → Input → Type 0
+abbrev pub Gives : {T : Type 0} → (T → Input → Input → Type 0) → (Input → Fault → Type 0) → Input → Result T Error → Input
+    → Type 0
 Gives Spells Refuses old (Ok x) new = Spells x old new
 Gives Spells Refuses old (Err e) new = e ≢ Memory → Refuses old (fault_of e)
 

@@ -1,4 +1,5 @@
--- Rules of a grammar. A rule says which values the items from one place up to another spell, and how such a value is read, or which fault stands in the way.
+-- Rules of a grammar. A rule says which values the items from one place up to another spell, and how such a value is read, or
+-- which fault stands in the way.
 use Rattle.std.specs.Prelude.{◌≡◌, ℕ, zero, suc, ◌⊎◌, Bool, true, false, if◌then◌else◌, List, [], ◌∷◌, ◌++◌, length, Option, Some, None, Result, Ok, Err}
 use Rattle.wac_parser_lexer.specs.declared.span.SourceSpan.{SourceSpan}
 use Rattle.wac_parser_lexer.specs.declared.token.Token.{Token}
@@ -38,7 +39,8 @@ sees_token s = has_token (next_token s)
 
 -- ---- rules
 
-abbrev pub and_then : {A B : Type 0} → Result (A × Input) Fault → (A → Input → Result (B × Input) Fault) → Result (B × Input) Fault
+abbrev pub and_then : {A B : Type 0} → Result (A × Input) Fault → (A → Input → Result (B × Input) Fault)
+    → Result (B × Input) Fault
 and_then (Err e) f = Err e
 and_then (Ok p) f = f p.0 p.1
 
@@ -64,7 +66,8 @@ refuse fault = record { Is = λ y s r. ⊥; read = λ s. Err (fault s) }
 -- one item with this token, whose value is its span
 abbrev pub token : Token → Rule SourceSpan
 token k = record {
-  Is = λ x s r. (docs : List Doc) × (rest : List Item) × (s.items ≡ record { docs = docs; token = Ok k; span = x } ∷ rest) × (r ≡ rest_input s);
+  Is = λ x s r. (docs : List Doc) × (rest : List Item) × (s.items ≡ record { docs = docs; token = Ok k; span = x } ∷ rest)
+      × (r ≡ rest_input s);
   read = λ s. if sees k s then Ok (span_of_items s.items, rest_input s) else Err (missed k s);
 }
 
@@ -81,7 +84,8 @@ abbrev pub docs : Rule (List Doc)
 docs = look docs_ahead
 
 abbrev pub choose : {X : Type 0} → Bool → Rule X → Rule X → Rule X
-choose b p q = record { Is = λ y s r. ((b ≡ true) × p.Is y s r) ⊎ ((b ≡ false) × q.Is y s r); read = λ s. if b then p.read s else q.read s }
+choose b p q =
+    record { Is = λ y s r. ((b ≡ true) × p.Is y s r) ⊎ ((b ≡ false) × q.Is y s r); read = λ s. if b then p.read s else q.read s }
 
 -- a rule that begins with the token, where that comes next, and else another
 abbrev pub begin : {X : Type 0} → Token → Rule X → Rule X → Rule X
@@ -121,18 +125,21 @@ behind until commas = begin until (pure tt) (choose commas comma (pure tt))
 abbrev pub IsListOf : {X : Type 0} → (X → Input → Input → Type 0) → Token → Bool → List X → Input → Input → Type 0
 IsListOf Is until commas [] s r = (sees until s ≡ true) × (r ≡ s)
 IsListOf Is until commas (x ∷ xs) s r =
-    (sees until s ≡ false) × (m : Input) × Is x s m × (n : Input) × (behind until commas).Is tt m n × IsListOf Is until commas xs n r
+    (sees until s ≡ false) × (m : Input) × Is x s m × (n : Input) × (behind until commas).Is tt m n
+    × IsListOf Is until commas xs n r
 
 abbrev pub front : {X : Type 0} → X → Result (List X × Input) Fault → Result (List X × Input) Fault
 front x (Err e) = Err e
 front x (Ok p) = Ok (x ∷ p.0, p.1)
 
 -- Values that begin with one of the tokens; the number bounds them.
-unfoldable pub read_list : {X : Type 0} → (Input → Result (X × Input) Fault) → List Token → Token → Bool → ℕ → Input → Result (List X × Input) Fault
+unfoldable pub read_list : {X : Type 0} → (Input → Result (X × Input) Fault) → List Token → Token → Bool → ℕ → Input
+    → Result (List X × Input) Fault
 read_list read first until commas zero s = if sees until s then Ok ([], s) else Err (none_of (until ∷ first) s)
 read_list read first until commas (suc n) s =
     if sees until s then Ok ([], s)
-    else (if sees_any first s then and_then (read s) (λ x m. and_then ((behind until commas).read m) (λ _ after. front x (read_list read first until commas n after)))
+    else (if sees_any first s then and_then (read s) (λ x m. and_then ((behind until commas).read m)
+    (λ _ after. front x (read_list read first until commas n after)))
     else Err (none_of (until ∷ first) s))
 
 abbrev pub left : Input → ℕ
@@ -157,9 +164,11 @@ IsWhile Is first [] s r = (sees_any first s ≡ false) × (r ≡ s)
 IsWhile Is first (x ∷ xs) s r = (sees_any first s ≡ true) × (m : Input) × Is x s m × IsWhile Is first xs m r
 
 -- the number bounds the values
-unfoldable pub read_while : {X : Type 0} → (Input → Result (X × Input) Fault) → List Token → ℕ → Input → Result (List X × Input) Fault
+unfoldable pub read_while : {X : Type 0} → (Input → Result (X × Input) Fault) → List Token → ℕ → Input
+    → Result (List X × Input) Fault
 read_while read first zero s = Ok ([], s)
-read_while read first (suc n) s = if sees_any first s then and_then (read s) (λ x m. front x (read_while read first n m)) else Ok ([], s)
+read_while read first (suc n) s =
+    if sees_any first s then and_then (read s) (λ x m. front x (read_while read first n m)) else Ok ([], s)
 
 abbrev pub while_of : {X : Type 0} → Rule X → List Token → Rule (List X)
 while_of p first = record {

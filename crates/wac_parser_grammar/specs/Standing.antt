@@ -38,13 +38,16 @@ StandsAt s (expected k found span) = IsFound s found span × (found ≢ Some k)
 StandsAt s (expected_either a b found span) = IsFound s found span × (found ≢ Some a) × (found ≢ Some b)
 StandsAt s (expected_multiple ks n found span) = IsFound s found span × IsNoneOf ks found
 -- an opening brace, and right behind it the closing one
-StandsAt s (empty_type ty kind span) = (opening : SourceSpan) × (first_item s ≡ Some (Ok k.OpenBrace, opening)) × (first_item (rest_input s) ≡ Some (Ok k.CloseBrace, span))
+StandsAt s (empty_type ty kind span) = (opening : SourceSpan) × (first_item s ≡ Some (Ok k.OpenBrace, opening))
+    × (first_item (rest_input s) ≡ Some (Ok k.CloseBrace, span))
 -- a name or path; the text behind its `@`, up to its end, is no version
 StandsAt s (invalid_version text span) =
-    (name : SourceSpan) × IsNamed s name × (behind_first 64 (text_at s.source name) ≡ Some text) × (span ≡ end_of name (length text))
+    (name : SourceSpan) × IsNamed s name × (behind_first 64 (text_at s.source name) ≡ Some text)
+    × (span ≡ end_of name (length text))
     × (e : version_error.Error) × (version_parts text ≡ Err e)
 -- a token that begins a type or an expression
-StandsAt s (nested_too_deep span) = (k : Token) × (first_item s ≡ Some (Ok k, span)) × ((is_any type_first (Some k) ≡ true) ⊎ (is_any expr_first (Some k) ≡ true))
+StandsAt s (nested_too_deep span) = (k : Token) × (first_item s ≡ Some (Ok k, span))
+    × ((is_any type_first (Some k) ≡ true) ⊎ (is_any expr_first (Some k) ≡ true))
 StandsAt s memory = ⊥
 
 -- The fault stands at a place that lies behind this one, or here.

@@ -18,8 +18,10 @@ through a b = record { offset = a.offset; length = (b.offset + b.length) - a.off
 
 -- the tokens with which a type begins
 abbrev pub type_first : List Token
-type_first = k.U8Keyword ∷ k.S8Keyword ∷ k.U16Keyword ∷ k.S16Keyword ∷ k.U32Keyword ∷ k.S32Keyword ∷ k.U64Keyword ∷ k.S64Keyword ∷ k.F32Keyword ∷ k.F64Keyword
-    ∷ k.CharKeyword ∷ k.BoolKeyword ∷ k.StringKeyword ∷ k.TupleKeyword ∷ k.ListKeyword ∷ k.OptionKeyword ∷ k.ResultKeyword ∷ k.BorrowKeyword ∷ k.StreamKeyword ∷ k.FutureKeyword
+type_first = k.U8Keyword ∷ k.S8Keyword ∷ k.U16Keyword ∷ k.S16Keyword ∷ k.U32Keyword ∷ k.S32Keyword ∷ k.U64Keyword ∷ k.S64Keyword
+    ∷ k.F32Keyword ∷ k.F64Keyword
+    ∷ k.CharKeyword ∷ k.BoolKeyword ∷ k.StringKeyword ∷ k.TupleKeyword ∷ k.ListKeyword ∷ k.OptionKeyword ∷ k.ResultKeyword
+    ∷ k.BorrowKeyword ∷ k.StreamKeyword ∷ k.FutureKeyword
     ∷ k.ErrorContextKeyword ∷ k.Ident ∷ []
 
 abbrev pub func_first : List Token
@@ -130,7 +132,8 @@ module _ (inner : Rule t.Ty) where
   unfoldable pub payload : SourceSpan → Rule (t.MaybeTy × SourceSpan)
   payload start = do
     found ← optional k.OpenAngle
-    choose found (inner >>= λ ty. token k.CloseAngle >>= λ close. pure (t.some_ty ty, through start close)) (pure (t.no_ty, start))
+    choose found (inner >>= λ ty. token k.CloseAngle >>= λ close. pure (t.some_ty ty, through start close))
+        (pure (t.no_ty, start))
 
   unfoldable pub stream_ty : Rule t.Ty
   stream_ty = do

@@ -21,7 +21,14 @@ abbrev pub with_comment : t.Document
 with_comment = record {
   docs = record { comment = codes "a \"b\" \\ c\td"; span = record { offset = 0; length = 15 } } ∷ [];
   directive = record {
-    «package» = record { string = codes "a:b@1.0.0-x.1+y"; name = codes "a:b"; version = Some (1, 0, 0, codes "x.1", codes "y"); span = record { offset = 24; length = 15 } };
+    «package» =
+        record {
+          string = codes "a:b@1.0.0-x.1+y";
+          name = codes "a:b";
+          version = Some
+              (1, 0, 0, codes "x.1", codes "y");
+          span = record { offset = 24; length = 15 };
+        };
     targets = None;
   };
   statements = [];

@@ -14,7 +14,8 @@ longer a b = if nat_lt a.1 b.1 then b else a
 -- the longest entry of a table that the text begins with
 abbrev pub spelled_from : Token × ℕ → List (List ℕ × Token) → List ℕ → Token × ℕ
 spelled_from best [] z = best
-spelled_from best (entry ∷ table) z = spelled_from (if starts_with nat_eq z entry.0 then longer best (entry.1, length entry.0) else best) table z
+spelled_from best (entry ∷ table) z =
+    spelled_from (if starts_with nat_eq z entry.0 then longer best (entry.1, length entry.0) else best) table z
 
 unfoldable pub spelled_at : List ℕ → Token × ℕ
 spelled_at z = spelled_from (k.Ident, 0) spellings z
@@ -35,9 +36,11 @@ token_at z = if nat_lt 0 (longest_at z).1 then Some (longest_at z) else None
 -- The scan gives the longest token, and none only where no front of the text is one.
 abbrev pub ScanIsLongest : Type 0
 ScanIsLongest =
-    ((z : List ℕ) (kind : Token) (n : ℕ) → token_at z ≡ Some (kind, n) → (word : List ℕ) × (rest : List ℕ) × (length word ≡ n) × IsNext z kind word rest)
+    ((z : List ℕ) (kind : Token) (n : ℕ) → token_at z ≡ Some (kind, n)
+    → (word : List ℕ) × (rest : List ℕ) × (length word ≡ n) × IsNext z kind word rest)
     × ((z : List ℕ) → token_at z ≡ None → (kind : Token) (word rest : List ℕ) → z ≡ word ++ rest → IsToken kind word → ⊥)
 
 -- The longest token at the front of a text is what the scan gives, of one kind and one length alone.
 abbrev pub LongestIsScanned : Type 0
-LongestIsScanned = (z : List ℕ) (kind : Token) (word rest : List ℕ) → IsNext z kind word rest → token_at z ≡ Some (kind, length word)
+LongestIsScanned =
+    (z : List ℕ) (kind : Token) (word rest : List ℕ) → IsNext z kind word rest → token_at z ≡ Some (kind, length word)

@@ -18,7 +18,8 @@ unfoldable pub doc_text : List ℕ → Option (List ℕ)
 doc_text text =
     let inner = drop 3 text in
     if starts_with nat_eq text (codes "///") then Some (trim inner)
-    else (if starts_with nat_eq text (codes "/**") && ends_with nat_eq inner (codes "*/") then Some (trim (take (length inner - 2) inner)) else None)
+    else (if starts_with nat_eq text (codes "/**")
+    && ends_with nat_eq inner (codes "*/") then Some (trim (take (length inner - 2) inner)) else None)
 
 -- the doc comment that a skipped text is, if it is one
 abbrev pub doc_by : SourceSpan → Option (List ℕ) → List Doc
@@ -73,7 +74,14 @@ pub record Input : Type 0 where
 
 -- the items from a place in a source on
 abbrev pub input_at : List ℕ → ℕ → SourceSpan → Input
-input_at source at last = record { source = source; items = items_of [] (pieces_at source at); docs = docs_behind [] (pieces_at source at); last = last }
+input_at source at last =
+    record {
+      source = source;
+      items = items_of [] (pieces_at source at);
+      docs = docs_behind []
+          (pieces_at source at);
+      last = last;
+    }
 
 -- a whole source
 abbrev pub input_of : List ℕ → Input
@@ -135,7 +143,8 @@ docs_ahead input = docs_by input.docs input.items
 -- the last item's span; where it ends at the source's end, one byte from its first place back
 abbrev pub shown_span : Input → SourceSpan
 shown_span input =
-    if input.last.offset + input.last.length == length input.source then record { offset = input.last.offset - 1; length = 1 } else input.last
+    if input.last.offset + input.last.length == length input.source then record
+    { offset = input.last.offset - 1; length = 1 } else input.last
 
 -- the token and the fault that an item is
 abbrev pub token_part : Option (Result Token Error) → Option Token
@@ -161,7 +170,8 @@ is_end None (Some fault) = false
 is_end None None = true
 
 -- what is scanned ahead of a place: the first item and the place behind it
-pub record IsScanned (source : List ℕ) (at : ℕ) (token : Option Token) (fault : Option Error) (span : SourceSpan) (rest : ℕ) (bare : Bool) : Type 0 where
+pub record IsScanned (source : List ℕ) (at : ℕ) (token : Option Token) (fault : Option Error) (span : SourceSpan) (rest : ℕ)
+    (bare : Bool) : Type 0 where
   pub first : found_by token fault span ≡ ahead (pieces_at source at)
   pub others : pieces_at source rest ≡ behind (pieces_at source at)
   pub edge : IsCharBoundary source rest
@@ -169,7 +179,8 @@ pub record IsScanned (source : List ℕ) (at : ℕ) (token : Option Token) (faul
   pub no_docs : IsTrue bare → docs_before [] (pieces_at source at) ≡ []
 
 -- what a lexer keeps at a place: the next item and the place behind it
-pub record IsReady (source : List ℕ) (at : ℕ) (last : SourceSpan) (next : Option (Result Token Error × SourceSpan)) (rest : ℕ) (bare : Bool) : Type 0 where
+pub record IsReady (source : List ℕ) (at : ℕ) (last : SourceSpan) (next : Option (Result Token Error × SourceSpan)) (rest : ℕ)
+    (bare : Bool) : Type 0 where
   pub place : IsCharBoundary source at
   pub taken : last.offset + last.length ≤ length source
   pub first : next ≡ ahead (pieces_at source at)
@@ -185,7 +196,8 @@ pub record Gives (old : Input) (found : Option (Result Token Error × SourceSpan
   pub source : new.source ≡ old.source
   pub within : IfSome found (λ r. IsSpanIn new.source r.1)
 
--- What `take` does: it gives the first item's span, which lies in the source, and leaves the rest, if that item is the token; else all stays.
+-- What `take` does: it gives the first item's span, which lies in the source, and leaves the rest, if that item is the token;
+-- else all stays.
 abbrev pub Takes : Token → Input → Option SourceSpan → Input → Type 0
 Takes token old (Some span) new = (first_item old ≡ Some (Ok token, span)) × (new ≡ rest_input old) × IsSpanIn old.source span
 Takes token old None new = ((span : SourceSpan) → first_item old ≢ Some (Ok token, span)) × (new ≡ old)

@@ -36,7 +36,8 @@ char_len z = 1 + prefix_len is_continuation (drop 1 z)
 -- a token, or the fault at a character that begins none
 abbrev pub token_or_fault : List ℕ → Option (Token × ℕ) → Option (Result Token Error) × ℕ
 token_or_fault z (Some t) = (if is_comment t.0 then None else Some (Ok t.0), t.1)
-token_or_fault z None = if slice_index z 0 == 34 then (Some (Err fault.UnterminatedString), 1) else (Some (Err fault.UnexpectedToken), char_len z)
+token_or_fault z None =
+    if slice_index z 0 == 34 then (Some (Err fault.UnterminatedString), 1) else (Some (Err fault.UnexpectedToken), char_len z)
 
 -- what stands at the front of a text, nothing for blanks and comments, and how long it is
 unfoldable pub front_piece : List ℕ → Option (Result Token Error) × ℕ

@@ -12,7 +12,8 @@ is_bidirectional c = (nat_le 0x202A c && nat_le c 0x202E) || (nat_le 0x2066 c &&
 
 -- characters that Unicode deprecates or discourages
 abbrev pub is_discouraged : ℕ → Bool
-is_discouraged c = c == 0x149 || c == 0x673 || c == 0xF77 || c == 0xF79 || c == 0x17A3 || c == 0x17A4 || c == 0x17B4 || c == 0x17B5
+is_discouraged c =
+    c == 0x149 || c == 0x673 || c == 0xF77 || c == 0xF79 || c == 0x17A3 || c == 0x17A4 || c == 0x17B4 || c == 0x17B5
 
 -- tab, line feed, carriage return
 abbrev pub is_plain_control : ℕ → Bool

@@ -31,7 +31,8 @@ suffixed_len part joint other z = if nat_lt 0 (part z) then part z + next_len ot
 -- a part, and a joint with another part behind it, which must be there
 abbrev pub followed_len : (List ℕ → ℕ) → ℕ → (List ℕ → ℕ) → List ℕ → ℕ
 followed_len part joint other z =
-    if nat_lt 0 (part z) && nat_lt 0 (next_len other joint (drop (part z) z)) then part z + next_len other joint (drop (part z) z) else 0
+    if nat_lt 0 (part z)
+    && nat_lt 0 (next_len other joint (drop (part z) z)) then part z + next_len other joint (drop (part z) z) else 0
 
 unfoldable pub label_len : List ℕ → ℕ
 label_len z = joined_len word_len 45 z

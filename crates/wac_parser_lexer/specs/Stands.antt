@@ -32,31 +32,37 @@ IsPlain z = (is_blank (slice_index z 0) ≡ false) × (IsUnclosed z → ⊥)
 
 -- So many bytes at the front of the text are skipped: a blank, or a comment.
 abbrev pub IsSkipped : List ℕ → ℕ → Type 0
-IsSkipped z n = ((is_blank (slice_index z 0) ≡ true) × (n ≡ 1)) ⊎ (IsPlain z × ((kind : Token) × (is_comment kind ≡ true) × IsFirst z kind n))
+IsSkipped z n = ((is_blank (slice_index z 0) ≡ true) × (n ≡ 1))
+    ⊎ (IsPlain z × ((kind : Token) × (is_comment kind ≡ true) × IsFirst z kind n))
 
 -- So many bytes at the front of the text are this item.
 abbrev pub IsItem : List ℕ → Result Token Error → ℕ → Type 0
 IsItem z (Ok kind) n = IsPlain z × (is_comment kind ≡ false) × IsFirst z kind n
 IsItem z (Err fault.UnterminatedComment) n = IsUnclosed z × (n ≡ length z)
 IsItem z (Err fault.UnterminatedString) n = IsPlain z × (slice_index z 0 ≡ 34) × HasNoToken z × (n ≡ 1)
-IsItem z (Err fault.UnexpectedToken) n = IsPlain z × (0 < length z) × ((slice_index z 0 == 34) ≡ false) × HasNoToken z × (n ≡ char_len z)
+IsItem z (Err fault.UnexpectedToken) n =
+    IsPlain z × (0 < length z) × ((slice_index z 0 == 34) ≡ false) × HasNoToken z × (n ≡ char_len z)
 IsItem z (Err _) n = ⊥
 
 -- The pieces are those of the source from this place on, one behind the other, to its end.
 abbrev pub Stands : List ℕ → ℕ → List Piece → Type 0
 Stands source at [] = at ≡ length source
-Stands source at (skipped span text ∷ ps) = (span.offset ≡ at) × (text ≡ text_at source span) × IsSkipped (drop at source) span.length × Stands source (at + span.length) ps
-Stands source at (item token span ∷ ps) = (span.offset ≡ at) × IsItem (drop at source) token span.length × Stands source (at + span.length) ps
+Stands source at (skipped span text ∷ ps) = (span.offset ≡ at) × (text ≡ text_at source span)
+    × IsSkipped (drop at source) span.length × Stands source (at + span.length) ps
+Stands source at (item token span ∷ ps) =
+    (span.offset ≡ at) × IsItem (drop at source) token span.length × Stands source (at + span.length) ps
 
 -- The items lie in the source in order, none over another, from this place on, and each is what stands there.
 abbrev pub StandInOrder : List ℕ → ℕ → List Item → Type 0
 StandInOrder source from [] = from ≤ length source
 StandInOrder source from (i ∷ is) =
-    (from ≤ i.span.offset) × (0 < i.span.length) × IsItem (drop i.span.offset source) i.token i.span.length × StandInOrder source (i.span.offset + i.span.length) is
+    (from ≤ i.span.offset) × (0 < i.span.length) × IsItem (drop i.span.offset source) i.token i.span.length
+    × StandInOrder source (i.span.offset + i.span.length) is
 
 -- every source is cut whole into its pieces, and in no other way
 abbrev pub SourcesAreCut : Type 0
-SourcesAreCut = (source : List ℕ) → Stands source 0 (pieces_at source 0) × ((ps : List Piece) → Stands source 0 ps → ps ≡ pieces_at source 0)
+SourcesAreCut =
+    (source : List ℕ) → Stands source 0 (pieces_at source 0) × ((ps : List Piece) → Stands source 0 ps → ps ≡ pieces_at source 0)
 
 -- the items of every source stand in order
 abbrev pub ItemsStandInOrder : Type 0
@@ -64,4 +70,5 @@ ItemsStandInOrder = (source : List ℕ) → StandInOrder source 0 (input_of sour
 
 -- the fault at a character of a text is over that character alone
 abbrev pub FaultIsOneCharacter : Type 0
-FaultIsOneCharacter = (z : List ℕ) → IsUtf8 z → 0 < length z → (c : ℕ) × (rest : List ℕ) × (z ≡ encode_utf8 c ++ rest) × (char_len z ≡ len_utf8 c)
+FaultIsOneCharacter =
+    (z : List ℕ) → IsUtf8 z → 0 < length z → (c : ℕ) × (rest : List ℕ) × (z ≡ encode_utf8 c ++ rest) × (char_len z ≡ len_utf8 c)

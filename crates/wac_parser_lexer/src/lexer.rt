@@ -43,7 +43,8 @@ fn word_at(source: &str, at: usize) -> (Token, usize)
     requires begins { IsCharBoundary source.now at }
     requires more { at < length source.now }
     requires letter { words.is_letter (slice_index source.now at) ≡ true }
-    ensures cut { pieces_at source.now at ≡ piece_by at (drop at source.now) (Some (Ok result.0), result.1) ∷ pieces_at source.now (at + result.1) }
+    ensures cut { pieces_at source.now at
+        ≡ piece_by at (drop at source.now) (Some (Ok result.0), result.1) ∷ pieces_at source.now (at + result.1) }
     ensures ends { IsCharBoundary source.now (at + result.1) }
 {
     word_piece(&source.as_bytes()[at..])
@@ -53,7 +54,8 @@ fn word_at(source: &str, at: usize) -> (Token, usize)
 #[inline(always)]
 fn symbol_at(source: &str, at: usize) -> Option<Token>
     requires { IsCharBoundary source.now at }
-    ensures cut { IfSome result (λ symbol. pieces_at source.now at ≡ piece_by at (drop at source.now) (Some (Ok symbol), 1) ∷ pieces_at source.now (at + 1)) }
+    ensures cut { IfSome result (λ symbol. pieces_at source.now at
+        ≡ piece_by at (drop at source.now) (Some (Ok symbol), 1) ∷ pieces_at source.now (at + 1)) }
     ensures ends { IfSome result (λ symbol. IsCharBoundary source.now (at + 1)) }
 {
     if at < source.len() {

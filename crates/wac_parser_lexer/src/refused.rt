@@ -96,7 +96,8 @@ fn plain_len(z: &[u8]) -> usize
 fn skip_plain(source: &str, at: usize) -> usize
     requires { IsCharBoundary source.now at }
     ensures place { IsCharBoundary source.now result }
-    ensures same { spec.refused_from result (chars (drop result source.now)) ≡ spec.refused_from at (chars (drop at source.now)) }
+    ensures same { spec.refused_from result (chars (drop result source.now))
+        ≡ spec.refused_from at (chars (drop at source.now)) }
     ensures behind { at ≤ result }
 {
     at + plain_len(&source.as_bytes()[at..])

@@ -49,7 +49,8 @@ GivesMembers r ms = IfOk r (λ m. members_view m.entries ≡ ms)
 -- these members and one more
 abbrev pub GivesMember : Result (BTreeMap (String Global) Value) AllocError → List ℕ → Result Value AllocError →
     Result (BTreeMap (String Global) Value) AllocError → Type 0
-GivesMember old name value new = (ms : Members) (x : Data) → GivesMembers old ms → Gives value x → GivesMembers new (put name x ms)
+GivesMember old name value new =
+    (ms : Members) (x : Data) → GivesMembers old ms → Gives value x → GivesMembers new (put name x ms)
 
 -- what is made of values that are given
 abbrev pub GivesOf : Result Value AllocError → (Data → Data) → Result Value AllocError → Type 0
@@ -65,7 +66,8 @@ GivesThree one other last f r = (x y z : Data) → Gives one x → Gives other y
 
 abbrev pub GivesFour : Result Value AllocError → Result Value AllocError → Result Value AllocError → Result Value AllocError →
     (Data → Data → Data → Data → Data) → Result Value AllocError → Type 0
-GivesFour one other more last f r = (w x y z : Data) → Gives one w → Gives other x → Gives more y → Gives last z → Gives r (f w x y z)
+GivesFour one other more last f r =
+    (w x y z : Data) → Gives one w → Gives other x → Gives more y → Gives last z → Gives r (f w x y z)
 
 -- objects of two to four members, by their names
 abbrev pub two : List ℕ → List ℕ → Data → Data → Data

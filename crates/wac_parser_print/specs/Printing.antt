@@ -1,4 +1,5 @@
--- The printed text of each form, as the original prints it (docs/DIFFERENCES.md names what differs). The lines of a form are indented by a level; at level 0 they begin at the left edge. Names, paths and strings are what the source has at their places.
+-- The printed text of each form, as the original prints it (docs/DIFFERENCES.md names what differs). The lines of a form are
+-- indented by a level; at level 0 they begin at the left edge. Names, paths and strings are what the source has at their places.
 use Rattle.std.specs.Prelude.{ℕ, Bool, true, false, if◌then◌else◌, List, [], ◌∷◌, Option, Some, None, codes}
 use Rattle.std.specs.Str.{trim}
 use Rattle.std.specs.Str.Lines.{lines}
@@ -89,7 +90,8 @@ abbrev pub keyword_if : List ℕ → Bool → Text
 keyword_if keyword stands = if stands then word keyword else nothing
 
 unfoldable pub func_type : t.FuncType → Text
-func_type x = keyword_if (codes "async ") x.is_async >> word (codes "func(") >> named_types x.params >> word (codes ")") >> result_list x.results
+func_type x = keyword_if (codes "async ") x.is_async >> word (codes "func(") >> named_types x.params >> word (codes ")")
+    >> result_list x.results
 
 unfoldable pub func_type_ref : t.FuncTypeRef → Text
 func_type_ref (t.FuncTypeRef.func x) = func_type x
@@ -130,20 +132,23 @@ type_alias_kind (t.TypeAliasKind.func x) = func_type x
 type_alias_kind (t.TypeAliasKind.ty x) = ty x
 
 unfoldable pub type_alias : ℕ → t.TypeAlias → Text
-type_alias level x = begin level x.docs >> word (codes "type ") >> ident x.id >> word (codes " = ") >> type_alias_kind x.kind >> word (codes ";")
+type_alias level x =
+    begin level x.docs >> word (codes "type ") >> ident x.id >> word (codes " = ") >> type_alias_kind x.kind >> word (codes ";")
 
 unfoldable pub constructor : ℕ → t.Constructor → Text
 constructor level x = begin level x.docs >> word (codes "constructor(") >> named_types x.params >> word (codes ");")
 
 unfoldable pub method : ℕ → t.Method → Text
-method level x = begin level x.docs >> ident x.id >> word (codes ": ") >> keyword_if (codes "static ") x.is_static >> func_type x.ty >> word (codes ";")
+method level x = begin level x.docs >> ident x.id >> word (codes ": ") >> keyword_if (codes "static ") x.is_static
+    >> func_type x.ty >> word (codes ";")
 
 unfoldable pub resource_method : ℕ → t.ResourceMethod → Text
 resource_method level (t.ResourceMethod.constructor x) = constructor level x
 resource_method level (t.ResourceMethod.method x) = method level x
 
 unfoldable pub resource_decl : ℕ → t.ResourceDecl → Text
-resource_decl level x = begin level x.docs >> word (codes "resource ") >> ident x.id >> body_of_items resource_method level x.methods
+resource_decl level x =
+    begin level x.docs >> word (codes "resource ") >> ident x.id >> body_of_items resource_method level x.methods
 
 unfoldable pub type_decl : ℕ → t.TypeDecl → Text
 type_decl level (t.TypeDecl.variant x) = variant_decl level x
@@ -174,7 +179,8 @@ unfoldable pub use_item : t.UseItem → Text
 use_item x = ident x.id >> new_name x.as_id
 
 unfoldable pub use_type : ℕ → t.Use → Text
-use_type level x = begin level x.docs >> word (codes "use ") >> use_path x.path >> word (codes ".{ ") >> joined (codes ", ") use_item x.items >> word (codes " };")
+use_type level x = begin level x.docs >> word (codes "use ") >> use_path x.path >> word (codes ".{ ")
+    >> joined (codes ", ") use_item x.items >> word (codes " };")
 
 unfoldable pub interface_export : ℕ → t.InterfaceExport → Text
 interface_export level x = begin level x.docs >> ident x.id >> word (codes ": ") >> func_type_ref x.ty >> word (codes ";")
@@ -227,7 +233,8 @@ with_items level [] = nothing
 with_items level (x ∷ xs) = word (codes " with") >> body_of_entries world_include_item level (x ∷ xs)
 
 unfoldable pub world_include : ℕ → t.WorldInclude → Text
-world_include level x = begin level x.docs >> word (codes "include ") >> world_ref x.world >> with_items level x.with >> word (codes ";")
+world_include level x =
+    begin level x.docs >> word (codes "include ") >> world_ref x.world >> with_items level x.with >> word (codes ";")
 
 unfoldable pub world_item : ℕ → t.WorldItem → Text
 world_item level (t.WorldItem.use_ x) = use_type level x
@@ -280,14 +287,16 @@ unfoldable mutual
   nested_expr level (t.nested_expr span x) = word (codes "(") >> expr level x >> word (codes ")")
 
   pub new_expr : ℕ → t.NewExpr → Text
-  new_expr level (t.new_expr span name xs) = word (codes "new ") >> slice name.span >> word (codes " {") >> arguments level xs >> word (codes "}")
+  new_expr level (t.new_expr span name xs) =
+      word (codes "new ") >> slice name.span >> word (codes " {") >> arguments level xs >> word (codes "}")
 
   -- nothing, the fill alone, or a line for each
   pub arguments : ℕ → t.Arguments → Text
   arguments level t.no_arguments = nothing
   arguments level (t.argument x xs) =
       if is_fill_alone (t.argument x xs) then word (codes " ... ")
-      else (line_end >> (own_line (deeper level) (argument (deeper level) x) >> argument_lines (deeper level) xs) >> indent level)
+      else (line_end >> (own_line (deeper level) (argument (deeper level) x) >> argument_lines (deeper level) xs)
+      >> indent level)
 
   pub argument_lines : ℕ → t.Arguments → Text
   argument_lines level t.no_arguments = nothing
@@ -315,10 +324,12 @@ import_name None = nothing
 import_name (Some x) = word (codes " as ") >> extern_name x
 
 unfoldable pub import_statement : ℕ → t.ImportStatement → Text
-import_statement level x = begin level x.docs >> word (codes "import ") >> ident x.id >> import_name x.name >> word (codes ": ") >> import_type level x.ty >> word (codes ";")
+import_statement level x = begin level x.docs >> word (codes "import ") >> ident x.id >> import_name x.name >> word (codes ": ")
+    >> import_type level x.ty >> word (codes ";")
 
 unfoldable pub let_statement : ℕ → t.LetStatement → Text
-let_statement level x = begin level x.docs >> word (codes "let ") >> ident x.id >> word (codes " = ") >> expr level x.expr >> word (codes ";")
+let_statement level x =
+    begin level x.docs >> word (codes "let ") >> ident x.id >> word (codes " = ") >> expr level x.expr >> word (codes ";")
 
 unfoldable pub export_options : t.ExportOptions → Text
 export_options t.ExportOptions.none = nothing
@@ -326,7 +337,8 @@ export_options (t.ExportOptions.spread span) = word (codes "...")
 export_options (t.ExportOptions.rename x) = word (codes " as ") >> extern_name x
 
 unfoldable pub export_statement : ℕ → t.ExportStatement → Text
-export_statement level x = begin level x.docs >> word (codes "export ") >> expr level x.expr >> export_options x.options >> word (codes ";")
+export_statement level x =
+    begin level x.docs >> word (codes "export ") >> expr level x.expr >> export_options x.options >> word (codes ";")
 
 unfoldable pub type_statement : ℕ → t.TypeStatement → Text
 type_statement level (t.TypeStatement.interface x) = interface_decl level x

@@ -1,4 +1,5 @@
--- The JSON value of each form, as the original serializes it: an object for each record, by the names of its fields; a variant as an object with its name, or its name alone.
+-- The JSON value of each form, as the original serializes it: an object for each record, by the names of its fields; a variant
+-- as an object with its name, or its name alone.
 use Rattle.std.specs.Prelude.{ℕ, List, [], ◌∷◌, Option, Some, None, codes, map}
 use Rattle.serde_json.specs.Data.{Data, null, boolean, string, array, Items, no_items, item}
 use Rattle.serde_json.specs.View.{items_of}
@@ -41,10 +42,14 @@ abbrev pub identified : t.Ident → List ℕ → Data → Data
 identified i name x = object_of ((codes "id", ident i) ∷ (name, x) ∷ [])
 
 unfoldable pub package_name : t.PackageName → Data
-package_name x = object_of ((codes "string", string x.string) ∷ (codes "name", string x.name) ∷ (codes "version", version x.version) ∷ (codes "span", span x.span) ∷ [])
+package_name x =
+    object_of ((codes "string", string x.string) ∷ (codes "name", string x.name) ∷ (codes "version", version x.version)
+    ∷ (codes "span", span x.span) ∷ [])
 
 unfoldable pub package_path : t.PackagePath → Data
-package_path x = object_of ((codes "span", span x.span) ∷ (codes "string", string x.string) ∷ (codes "name", string x.name) ∷ (codes "segments", string x.segments) ∷ (codes "version", version x.version) ∷ [])
+package_path x =
+    object_of ((codes "span", span x.span) ∷ (codes "string", string x.string) ∷ (codes "name", string x.name)
+    ∷ (codes "segments", string x.segments) ∷ (codes "version", version x.version) ∷ [])
 
 unfoldable pub extern_name : t.ExternName → Data
 extern_name (t.ExternName.ident x) = variant (codes "ident") (ident x)
@@ -78,7 +83,8 @@ unfoldable mutual
   ty (t.Ty.tuple xs at) = variant (codes "tuple") (with_span (array (tys xs)) at)
   ty (t.Ty.list x at) = variant (codes "list") (with_span (ty x) at)
   ty (t.Ty.option x at) = variant (codes "option") (with_span (ty x) at)
-  ty (t.Ty.result x y at) = variant (codes "result") (object_of ((codes "ok", maybe_ty x) ∷ (codes "err", maybe_ty y) ∷ (codes "span", span at) ∷ []))
+  ty (t.Ty.result x y at) =
+      variant (codes "result") (object_of ((codes "ok", maybe_ty x) ∷ (codes "err", maybe_ty y) ∷ (codes "span", span at) ∷ []))
   ty (t.Ty.borrow id at) = variant (codes "borrow") (with_span (ident id) at)
   ty (t.Ty.stream x at) = variant (codes "stream") (with_span (maybe_ty x) at)
   ty (t.Ty.future x at) = variant (codes "future") (with_span (maybe_ty x) at)
@@ -101,7 +107,9 @@ result_list t.ResultList.empty = string (codes "empty")
 result_list (t.ResultList.scalar x) = variant (codes "scalar") (ty x)
 
 unfoldable pub func_type : t.FuncType → Data
-func_type x = object_of ((codes "isAsync", boolean x.is_async) ∷ (codes "params", array_of named_type x.params) ∷ (codes "results", result_list x.results) ∷ [])
+func_type x =
+    object_of ((codes "isAsync", boolean x.is_async) ∷ (codes "params", array_of named_type x.params)
+    ∷ (codes "results", result_list x.results) ∷ [])
 
 unfoldable pub func_type_ref : t.FuncTypeRef → Data
 func_type_ref (t.FuncTypeRef.func x) = variant (codes "func") (func_type x)
@@ -113,13 +121,15 @@ unfoldable pub variant_case : t.VariantCase → Data
 variant_case x = object_of ((codes "docs", docs x.docs) ∷ (codes "id", ident x.id) ∷ (codes "ty", or_null ty x.ty) ∷ [])
 
 unfoldable pub variant_decl : t.VariantDecl → Data
-variant_decl x = object_of ((codes "docs", docs x.docs) ∷ (codes "id", ident x.id) ∷ (codes "cases", array_of variant_case x.cases) ∷ [])
+variant_decl x =
+    object_of ((codes "docs", docs x.docs) ∷ (codes "id", ident x.id) ∷ (codes "cases", array_of variant_case x.cases) ∷ [])
 
 unfoldable pub field : t.Field → Data
 field x = object_of ((codes "docs", docs x.docs) ∷ (codes "id", ident x.id) ∷ (codes "ty", ty x.ty) ∷ [])
 
 unfoldable pub record_decl : t.RecordDecl → Data
-record_decl x = object_of ((codes "docs", docs x.docs) ∷ (codes "id", ident x.id) ∷ (codes "fields", array_of field x.fields) ∷ [])
+record_decl x =
+    object_of ((codes "docs", docs x.docs) ∷ (codes "id", ident x.id) ∷ (codes "fields", array_of field x.fields) ∷ [])
 
 unfoldable pub flag : t.Flag → Data
 flag x = object_of ((codes "docs", docs x.docs) ∷ (codes "id", ident x.id) ∷ [])
@@ -131,7 +141,8 @@ unfoldable pub enum_case : t.EnumCase → Data
 enum_case x = object_of ((codes "docs", docs x.docs) ∷ (codes "id", ident x.id) ∷ [])
 
 unfoldable pub enum_decl : t.EnumDecl → Data
-enum_decl x = object_of ((codes "docs", docs x.docs) ∷ (codes "id", ident x.id) ∷ (codes "cases", array_of enum_case x.cases) ∷ [])
+enum_decl x =
+    object_of ((codes "docs", docs x.docs) ∷ (codes "id", ident x.id) ∷ (codes "cases", array_of enum_case x.cases) ∷ [])
 
 unfoldable pub type_alias_kind : t.TypeAliasKind → Data
 type_alias_kind (t.TypeAliasKind.func x) = variant (codes "func") (func_type x)
@@ -141,17 +152,22 @@ unfoldable pub type_alias : t.TypeAlias → Data
 type_alias x = object_of ((codes "docs", docs x.docs) ∷ (codes "id", ident x.id) ∷ (codes "kind", type_alias_kind x.kind) ∷ [])
 
 unfoldable pub constructor : t.Constructor → Data
-constructor x = object_of ((codes "docs", docs x.docs) ∷ (codes "span", span x.span) ∷ (codes "params", array_of named_type x.params) ∷ [])
+constructor x =
+    object_of ((codes "docs", docs x.docs) ∷ (codes "span", span x.span) ∷ (codes "params", array_of named_type x.params) ∷ [])
 
 unfoldable pub method : t.Method → Data
-method x = object_of ((codes "docs", docs x.docs) ∷ (codes "id", ident x.id) ∷ (codes "isStatic", boolean x.is_static) ∷ (codes "ty", func_type x.ty) ∷ [])
+method x =
+    object_of ((codes "docs", docs x.docs) ∷ (codes "id", ident x.id) ∷ (codes "isStatic", boolean x.is_static)
+    ∷ (codes "ty", func_type x.ty) ∷ [])
 
 unfoldable pub resource_method : t.ResourceMethod → Data
 resource_method (t.ResourceMethod.constructor x) = variant (codes "constructor") (constructor x)
 resource_method (t.ResourceMethod.method x) = variant (codes "method") (method x)
 
 unfoldable pub resource_decl : t.ResourceDecl → Data
-resource_decl x = object_of ((codes "docs", docs x.docs) ∷ (codes "id", ident x.id) ∷ (codes "methods", array_of resource_method x.methods) ∷ [])
+resource_decl x =
+    object_of ((codes "docs", docs x.docs) ∷ (codes "id", ident x.id) ∷ (codes "methods", array_of resource_method x.methods)
+    ∷ [])
 
 unfoldable pub type_decl : t.TypeDecl → Data
 type_decl (t.TypeDecl.variant x) = variant (codes "variant") (variant_decl x)
@@ -178,7 +194,8 @@ unfoldable pub use_item : t.UseItem → Data
 use_item x = object_of ((codes "id", ident x.id) ∷ (codes "asId", or_null ident x.as_id) ∷ [])
 
 unfoldable pub use_type : t.Use → Data
-use_type x = object_of ((codes "docs", docs x.docs) ∷ (codes "path", use_path x.path) ∷ (codes "items", array_of use_item x.items) ∷ [])
+use_type x =
+    object_of ((codes "docs", docs x.docs) ∷ (codes "path", use_path x.path) ∷ (codes "items", array_of use_item x.items) ∷ [])
 
 unfoldable pub interface_export : t.InterfaceExport → Data
 interface_export x = object_of ((codes "docs", docs x.docs) ∷ (codes "id", ident x.id) ∷ (codes "ty", func_type_ref x.ty) ∷ [])
@@ -192,7 +209,8 @@ unfoldable pub inline_interface : t.InlineInterface → Data
 inline_interface x = object_of ((codes "items", array_of interface_item x.items) ∷ [])
 
 unfoldable pub interface_decl : t.InterfaceDecl → Data
-interface_decl x = object_of ((codes "docs", docs x.docs) ∷ (codes "id", ident x.id) ∷ (codes "items", array_of interface_item x.items) ∷ [])
+interface_decl x =
+    object_of ((codes "docs", docs x.docs) ∷ (codes "id", ident x.id) ∷ (codes "items", array_of interface_item x.items) ∷ [])
 
 -- ---- worlds
 
@@ -223,7 +241,9 @@ unfoldable pub world_include_item : t.WorldIncludeItem → Data
 world_include_item x = object_of ((codes "from", ident x.from) ∷ (codes "to", ident x.to) ∷ [])
 
 unfoldable pub world_include : t.WorldInclude → Data
-world_include x = object_of ((codes "docs", docs x.docs) ∷ (codes "world", world_ref x.world) ∷ (codes "with", array_of world_include_item x.with) ∷ [])
+world_include x =
+    object_of ((codes "docs", docs x.docs) ∷ (codes "world", world_ref x.world)
+    ∷ (codes "with", array_of world_include_item x.with) ∷ [])
 
 unfoldable pub world_item : t.WorldItem → Data
 world_item (t.WorldItem.use_ x) = variant (codes "use") (use_type x)
@@ -233,7 +253,8 @@ world_item (t.WorldItem.export x) = variant (codes "export") (world_export x)
 world_item (t.WorldItem.include x) = variant (codes "include") (world_include x)
 
 unfoldable pub world_decl : t.WorldDecl → Data
-world_decl x = object_of ((codes "docs", docs x.docs) ∷ (codes "id", ident x.id) ∷ (codes "items", array_of world_item x.items) ∷ [])
+world_decl x =
+    object_of ((codes "docs", docs x.docs) ∷ (codes "id", ident x.id) ∷ (codes "items", array_of world_item x.items) ∷ [])
 
 -- ---- expressions
 
@@ -253,7 +274,9 @@ argument_name (t.InstantiationArgumentName.string x) = variant (codes "string") 
 
 unfoldable mutual
   pub expr : t.Expr → Data
-  expr (t.expr at x accesses) = object_of ((codes "span", span at) ∷ (codes "primary", primary_expr x) ∷ (codes "postfix", array_of postfix_expr accesses) ∷ [])
+  expr (t.expr at x accesses) =
+      object_of ((codes "span", span at) ∷ (codes "primary", primary_expr x) ∷ (codes "postfix", array_of postfix_expr accesses)
+      ∷ [])
 
   pub primary_expr : t.PrimaryExpr → Data
   primary_expr (t.PrimaryExpr.new x) = variant (codes "new") (new_expr x)
@@ -264,7 +287,8 @@ unfoldable mutual
   nested_expr (t.nested_expr at x) = object_of ((codes "span", span at) ∷ (codes "inner", expr x) ∷ [])
 
   pub new_expr : t.NewExpr → Data
-  new_expr (t.new_expr at name xs) = object_of ((codes "span", span at) ∷ (codes "package", package_name name) ∷ (codes "arguments", array (arguments xs)) ∷ [])
+  new_expr (t.new_expr at name xs) =
+      object_of ((codes "span", span at) ∷ (codes "package", package_name name) ∷ (codes "arguments", array (arguments xs)) ∷ [])
 
   pub arguments : t.Arguments → Items
   arguments t.no_arguments = no_items
@@ -288,7 +312,9 @@ import_type (t.ImportType.interface x) = variant (codes "interface") (inline_int
 import_type (t.ImportType.ident x) = variant (codes "ident") (ident x)
 
 unfoldable pub import_statement : t.ImportStatement → Data
-import_statement x = object_of ((codes "docs", docs x.docs) ∷ (codes "id", ident x.id) ∷ (codes "name", or_null extern_name x.name) ∷ (codes "ty", import_type x.ty) ∷ [])
+import_statement x =
+    object_of ((codes "docs", docs x.docs) ∷ (codes "id", ident x.id) ∷ (codes "name", or_null extern_name x.name)
+    ∷ (codes "ty", import_type x.ty) ∷ [])
 
 unfoldable pub let_statement : t.LetStatement → Data
 let_statement x = object_of ((codes "docs", docs x.docs) ∷ (codes "id", ident x.id) ∷ (codes "expr", expr x.expr) ∷ [])
@@ -299,7 +325,8 @@ export_options (t.ExportOptions.spread at) = variant (codes "spread") (span at)
 export_options (t.ExportOptions.rename x) = variant (codes "rename") (extern_name x)
 
 unfoldable pub export_statement : t.ExportStatement → Data
-export_statement x = object_of ((codes "docs", docs x.docs) ∷ (codes "expr", expr x.expr) ∷ (codes "options", export_options x.options) ∷ [])
+export_statement x =
+    object_of ((codes "docs", docs x.docs) ∷ (codes "expr", expr x.expr) ∷ (codes "options", export_options x.options) ∷ [])
 
 unfoldable pub type_statement : t.TypeStatement → Data
 type_statement (t.TypeStatement.interface x) = variant (codes "interface") (interface_decl x)
@@ -323,4 +350,6 @@ unfoldable pub package_directive : t.PackageDirective → Data
 package_directive x = directive_of x.«package» x.targets
 
 unfoldable pub document : t.Document → Data
-document x = object_of ((codes "docs", docs x.docs) ∷ (codes "directive", package_directive x.directive) ∷ (codes "statements", array_of statement x.statements) ∷ [])
+document x =
+    object_of ((codes "docs", docs x.docs) ∷ (codes "directive", package_directive x.directive)
+    ∷ (codes "statements", array_of statement x.statements) ∷ [])

@@ -33,7 +33,8 @@ abbrev pub argument_in : Name × Denoted → Name × c.Origin ℕ
 argument_in a = (a.0, origin_in a.1.origin)
 
 abbrev pub made_in : ℕ → Made → c.Made Asker ℕ
-made_in k m = record { by = by_instance m.key m.span; number = k; key = m.key; world = m.world; arguments = map argument_in m.arguments }
+made_in k m =
+    record { by = by_instance m.key m.span; number = k; key = m.key; world = m.world; arguments = map argument_in m.arguments }
 
 -- with numbers from k on
 abbrev pub numbered : ℕ → List Made → List (c.Made Asker ℕ)
@@ -85,9 +86,12 @@ asker_key (by_instance k s) = k
 asker_key a = ([], None)
 
 abbrev pub cause_said : cause.Cause Asker → Cause
-cause_said (cause.ImplicitImport n i f) = record { fault = ImportConflict n (asker_key f) (span_or_none (asker_span f)); span = asker_span i }
-cause_said (cause.ExplicitImport n a b) = record { fault = ExplicitImportConflict n (span_or_none (asker_span a)); span = asker_span b }
-cause_said (cause.ImportTypes n a b) = record { fault = InstantiationArgMergeFailure n (span_or_none (merge_span a)); span = merge_span b }
+cause_said (cause.ImplicitImport n i f) =
+    record { fault = ImportConflict n (asker_key f) (span_or_none (asker_span f)); span = asker_span i }
+cause_said (cause.ExplicitImport n a b) =
+    record { fault = ExplicitImportConflict n (span_or_none (asker_span a)); span = asker_span b }
+cause_said (cause.ImportTypes n a b) =
+    record { fault = InstantiationArgMergeFailure n (span_or_none (merge_span a)); span = merge_span b }
 cause_said (cause.Unwritable n) = record { fault = TypeCannotBeWritten n; span = None }
 cause_said (cause.ImportNames m n) = record { fault = ValidationFailure ExternKind.Import m n; span = None }
 cause_said (cause.ExportNames m n) = record { fault = ValidationFailure ExternKind.Export m n; span = None }

@@ -57,7 +57,17 @@ pub record State : Type 0 where
 
 -- nothing yet
 abbrev pub start : t.Document → List (Key × Content) → State
-start d ps = record { own = d.directive.«package»; packages = ps; root = []; imports = []; made = []; aliases = []; definitions = []; exports = [] }
+start d ps =
+    record {
+      own = d.directive.«package»;
+      packages = ps;
+      root = [];
+      imports = [];
+      made = [];
+      aliases = [];
+      definitions = [];
+      exports = [];
+    }
 
 abbrev pub meant_by : Bound → Meant
 meant_by b = record { item = b.denoted.item; span = b.span }
@@ -79,7 +89,8 @@ denoted_by g i = present (option_map (λ b. b.denoted) (value_at g.root i.string
 
 -- `i` now stands for this
 abbrev pub bound : State → t.Ident → Denoted → Answer State
-bound g i d = bind (root_scope g) i d.item >> pure (record g { root = g.root ++ (i.string, record { denoted = d; span = i.span }) ∷ [] })
+bound g i d =
+    bind (root_scope g) i d.item >> pure (record g { root = g.root ++ (i.string, record { denoted = d; span = i.span }) ∷ [] })
 
 -- the projection of an instance
 abbrev pub projection : Denoted → Name → Stated → Denoted

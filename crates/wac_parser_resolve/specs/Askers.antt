@@ -35,9 +35,11 @@ IsAskedSo (ExplicitImport n a b) = IsByImport a × IsByImport b
 IsAskedSo (ImportTypes n a b) = HasPlace a × HasPlace b
 IsAskedSo x = Unit {0}
 
--- what a document defines asks nothing: an interface or a world that it declares has an identifier, and is written as a component type
+-- what a document defines asks nothing: an interface or a world that it declares has an identifier, and is written as a
+-- component type
 abbrev pub Definitions_ask_nothing : Type 0
-Definitions_ask_nothing = (d : t.Document) (ps : List (Key × Content)) (r : State × Option Stated) → resolved d ps ≡ Ok r → (e : Name × Stated) → Among e r.0.definitions → used_by_definition e.1 ≡ []
+Definitions_ask_nothing = (d : t.Document) (ps : List (Key × Content)) (r : State × Option Stated) → resolved d ps ≡ Ok r
+    → (e : Name × Stated) → Among e r.0.definitions → used_by_definition e.1 ≡ []
 
 abbrev pub Askers_have_places : Type 0
 Askers_have_places = (d : t.Document) (ps : List (Key × Content)) (r : State × Option Stated)

@@ -95,7 +95,8 @@ left_names gs ns x = filter (λ n. not (has_name (given_names gs) n) && is_some 
 
 -- what was said, and what is given: one more, which is spoken of
 abbrev pub spread_given : Span → Denoted → State × List Given → Name → Answer (State × List Given)
-spread_given s d r n = spoken r.0 (export_named d n s) >>= λ q. pure (q.0, r.1 ++ record { name = n; denoted = q.1; span = s } ∷ [])
+spread_given s d r n =
+    spoken r.0 (export_named d n s) >>= λ q. pure (q.0, r.1 ++ record { name = n; denoted = q.1; span = s } ∷ [])
 
 abbrev pub spread_all : Span → Denoted → State × List Given → List Name → Answer (State × List Given)
 spread_all s d r [] = refuse SpreadInstantiationNoMatch s
@@ -144,18 +145,26 @@ is_last t.no_arguments = true
 is_last (t.argument a as_) = false
 
 abbrev pub with_made : State → Made → State × Denoted
-with_made g m = (record g { made = g.made ++ m ∷ [] }, record { origin = instance (length g.made); item = instance_type m.world })
+with_made g m =
+    (record g { made = g.made ++ m ∷ [] }, record { origin = instance (length g.made); item = instance_type m.world })
 
 -- the arguments of a `new` and its spreads are known: the instance
 abbrev pub finished : State → t.PackageName → Stated → List Given → Bool → Answer (State × Denoted)
 finished g p w gs filled = do
   each (argument_fits (p.name, p.version) w) tt gs
   complete filled p gs (names_of (imports_of w))
-  pure (with_made g (record { key = (p.name, p.version); world = w; arguments = map (λ (a : Given). (a.name, a.denoted)) gs; span = p.span }))
+  pure (with_made g (record {
+    key = (p.name, p.version);
+    world = w;
+    arguments = map
+        (λ (a : Given). (a.name, a.denoted)) gs;
+    span = p.span;
+  }))
 
 -- the world of the package that a `new` names: never the document's own
 abbrev pub new_package : State → t.PackageName → Answer Stated
-new_package g p = unless_clear (bytes_eq p.name g.own.name) (UnknownPackage p.name) p.span >> world_of_package (worlds_of g.packages) (p.name, p.version) p.span
+new_package g p = unless_clear (bytes_eq p.name g.own.name) (UnknownPackage p.name) p.span
+    >> world_of_package (worlds_of g.packages) (p.name, p.version) p.span
 
 -- ---- expressions
 

@@ -35,7 +35,8 @@ IsArgumentName n ns text = string_bytes text ≡ stated.argument_name ns (view_i
 
 -- the import that an argument without a name is for, by its text and what it denotes
 abbrev pub InfersName : Graph → ℕ → Name → List Name → Name → Type 0
-InfersName g k text ns n = (ms : List ℕ) (d : Denoted) (i : t.Ident) → Denotes g ms d k → i.string ≡ text → n ≡ inferred_name ns i d
+InfersName g k text ns n =
+    (ms : List ℕ) (d : Denoted) (i : t.Ident) → Denotes g ms d k → i.string ≡ text → n ≡ inferred_name ns i d
 
 -- nothing is given for the name, and it is exported
 abbrev pub is_left_by : List Given → List (Name × ItemKind) → Name → Bool
@@ -46,7 +47,8 @@ names_left_by xs es ns = filter (is_left_by xs es) ns
 
 -- one more is given, where its name is new
 abbrev pub GivesOne : List Given → Given → List Given → Result ⊤ Refusal → Type 0
-GivesOne xs one ys r = (g : Graph) (ms : List ℕ) (gs : List stated.Given) (a : stated.Given) → AreGiven g ms gs xs → IsGiven g ms a one
+GivesOne xs one ys r =
+    (g : Graph) (ms : List ℕ) (gs : List stated.Given) (a : stated.Given) → AreGiven g ms gs xs → IsGiven g ms a one
     → IsOutcome (λ hs u. AreGiven g ms hs ys) (add_given gs a) r
 
 -- the argument that a name alone says
@@ -55,7 +57,8 @@ inferred_given ns i d = record { name = inferred_name ns i d; denoted = d; span 
 
 abbrev pub IsInferredGiven : Ident → Graph → List (Name × ℕ) → WorldId → Result Given Refusal → Type 0
 IsInferredGiven i g names w r = (ms : List ℕ) (s : State) → AreNamed g ms s.root names
-    → IsOutcome (IsGiven g ms) (denoted_by s (view_ident i) >>= λ d. pure (inferred_given (imported_by g.types w) (view_ident i) d)) r
+    → IsOutcome (IsGiven g ms) (denoted_by s (view_ident i)
+    >>= λ d. pure (inferred_given (imported_by g.types w) (view_ident i) d)) r
 
 -- ---- spreads
 
@@ -70,18 +73,23 @@ pub record AreLeft (gs : List stated.Given) (ns : List Name) : Type 0 where
 
 -- an export, as an argument of its name
 abbrev pub IsExportGiven : Name → Graph → ℕ → Span → Graph → Result Given Refusal → Type 0
-IsExportGiven n g i at h r = (noted : List (ℕ × Span)) (names : List (Name × ℕ)) (s : State) (d : Denoted) → Says g noted names s → Denotes g (names_of noted) d i
+IsExportGiven n g i at h r = (noted : List (ℕ × Span)) (names : List (Name × ℕ)) (s : State) (d : Denoted) → Says g noted names s
+    → Denotes g (names_of noted) d i
     → is_instance (kind_of d.item) ≡ true
-    → IsOutcome (λ p one. Says h noted names p.0 × IsGiven h (names_of noted) (record { name = n; denoted = p.1; span = at }) one) (spoken s (export_named d n at)) r
+    → IsOutcome (λ p one. Says h noted names p.0
+    × IsGiven h (names_of noted) (record { name = n; denoted = p.1; span = at }) one) (spoken s (export_named d n at)) r
 
 -- the imports for which nothing is given and that an interface exports
 abbrev pub names_left : List Given → Collection → WorldId → InterfaceId → List Name
 names_left xs c w i =
-    filter (λ n. not (has_name (names_given xs) n) && is_some (value_at (exports_of (stated_of c (ItemKind.Instance i))) n)) (imported_by c w)
+    filter (λ n. not (has_name (names_given xs) n) && is_some (value_at (exports_of (stated_of c (ItemKind.Instance i))) n))
+    (imported_by c w)
 
 -- the exports of these names
 abbrev pub GivesExports : List Name → Graph → ℕ → Span → List Given → Graph → List Given → Result ⊤ Refusal → Type 0
-GivesExports ns g i at xs h ys r = (noted : List (ℕ × Span)) (names : List (Name × ℕ)) (q : State × List stated.Given) (d : Denoted) → SaysGiven g noted names xs q
+GivesExports ns g i at xs h ys r =
+    (noted : List (ℕ × Span)) (names : List (Name × ℕ)) (q : State × List stated.Given) (d : Denoted)
+    → SaysGiven g noted names xs q
     → Denotes g (names_of noted) d i → is_instance (kind_of d.item) ≡ true → AreLeft q.1 ns
     → IsOutcome (λ p u. SaysGiven h noted names ys p) (each (spread_given at d) q ns) r
 
@@ -98,16 +106,22 @@ IsSpreadOf a None = (as_ : t.Arguments) → spreads_of (t.argument a as_) ≡ sp
 abbrev pub own_spread : t.InstantiationArgument → List t.Ident
 own_spread a = spreads_of (t.argument a t.no_arguments)
 
-abbrev pub TakesSpread : InstantiationArgument → Graph → List (Name × ℕ) → WorldId → List Given → Graph → List Given → Result ⊤ Refusal → Type 0
+abbrev pub TakesSpread : InstantiationArgument → Graph → List (Name × ℕ) → WorldId → List Given → Graph → List Given
+    → Result ⊤ Refusal → Type 0
 TakesSpread a g names w xs h ys r = (noted : List (ℕ × Span)) (q : State × List stated.Given) → SaysGiven g noted names xs q
-    → IsOutcome (λ p u. SaysGiven h noted names ys p) (each (spread_one (imported_by g.types w)) q (own_spread (view_instantiation_argument a))) r
+    → IsOutcome (λ p u. SaysGiven h noted names ys p) (each (spread_one (imported_by g.types w)) q
+    (own_spread (view_instantiation_argument a))) r
 
-abbrev pub AreSpreads : List InstantiationArgument → Graph → List (Name × ℕ) → WorldId → List Given → Graph → List Given → Result ⊤ Refusal → Type 0
+abbrev pub AreSpreads : List InstantiationArgument → Graph → List (Name × ℕ) → WorldId → List Given → Graph → List Given
+    → Result ⊤ Refusal → Type 0
 AreSpreads as_ g names w xs h ys r = (noted : List (ℕ × Span)) (q : State × List stated.Given) → SaysGiven g noted names xs q
-    → IsOutcome (λ p u. SaysGiven h noted names ys p) (each (spread_one (imported_by g.types w)) q (spreads_of (t.arguments (map view_instantiation_argument as_)))) r
+    → IsOutcome (λ p u. SaysGiven h noted names ys p) (each (spread_one (imported_by g.types w)) q
+    (spreads_of (t.arguments (map view_instantiation_argument as_)))) r
 
 -- ---- what is missing
 
 -- each import needs an argument
 abbrev pub IsComplete : PackageName → Collection → WorldId → List Given → Result ⊤ Refusal → Type 0
-IsComplete p c w xs r = IsOutcome (λ u v. Unit {0}) (none_missing (view_package_name p) (find (λ n. not (has_name (names_given xs) n)) (imported_by c w))) r
+IsComplete p c w xs r =
+    IsOutcome (λ u v. Unit {0}) (none_missing (view_package_name p)
+    (find (λ n. not (has_name (names_given xs) n)) (imported_by c w))) r

@@ -42,8 +42,8 @@ places_in b = record { imports = b.imports.noted.items; ids = b.ids.noted.items;
 
 -- ---- what callers see
 
--- the graph holds what is said: instances and imports, which stand at these places, the nodes of the root's names, definitions, and exports with the places
--- of their names; each of its packages is one that was handed in, with its world and its bytes
+-- the graph holds what is said: instances and imports, which stand at these places, the nodes of the root's names, definitions,
+-- and exports with the places of their names; each of its packages is one that was handed in, with its world and its bytes
 pub record IsBuilt (g : Graph) (at : Places) (s : State) : Type 0 where
   pub names : List (Name × ℕ)
   pub says : Says g at.instances names s
@@ -51,7 +51,8 @@ pub record IsBuilt (g : Graph) (at : Places) (s : State) : Type 0 where
   pub definitions : AreDeclared g s.definitions
   pub exported : List (ℕ × Span)
   pub exports : AreExported g (names_of at.instances) exported s.exports
-  pub packages : (id : PackageId) (p : Packaged) → package_of g id ≡ Some p → package_under s.packages (package_key p) ≡ Some (content_of g.types p)
+  pub packages : (id : PackageId) (p : Packaged) → package_of g id ≡ Some p
+      → package_under s.packages (package_key p) ≡ Some (content_of g.types p)
 
 -- the error names the cause; want of memory may always be answered
 abbrev pub IsErrorOf : {A : Type 0} → Answer A → Error → Type 0
@@ -66,10 +67,15 @@ IsAnswer holds q (Err e) = IsErrorOf q e
 abbrev pub HoldsAll : State × Option Stated → Graph → Places → Option WorldId → Type 0
 HoldsAll q g at target = IsBuilt g at q.0 × HoldsTarget g.types q.1 target
 
--- what a document is resolved to: a graph that holds what it says at its places, with the world that it targets; or its first cause
-abbrev pub IsResolved : {B S : Type 0} → (B → Graph) → (B → Places) → (B → Option WorldId) → t.Document → IndexMap BorrowedPackageKey PackageRef S → Result B Error → Type 0
-IsResolved graph places target d m r = IsAnswer (λ q b. HoldsAll q (graph b) (places b) (target b)) (resolved d (handed_list m)) r
+-- what a document is resolved to: a graph that holds what it says at its places, with the world that it targets; or its first
+-- cause
+abbrev pub IsResolved : {B S : Type 0} → (B → Graph) → (B → Places) → (B → Option WorldId) → t.Document
+    → IndexMap BorrowedPackageKey PackageRef S → Result B Error → Type 0
+IsResolved graph places target d m r =
+    IsAnswer (λ q b. HoldsAll q (graph b) (places b) (target b)) (resolved d (handed_list m)) r
 
 -- the same without the document
 abbrev pub IsSaidOf : {S : Type 0} → Document → IndexMap BorrowedPackageKey PackageRef S → Result Said Refusal → Type 0
-IsSaidOf d m r = IsOutcome (λ q (said : Said). HoldsAll q said.graph (places_said said) said.target) (resolved (view_document d) (handed_list m)) r
+IsSaidOf d m r =
+    IsOutcome (λ q (said : Said). HoldsAll q said.graph (places_said said) said.target)
+    (resolved (view_document d) (handed_list m)) r

@@ -51,7 +51,8 @@ IsDefinitionIn g ms o (Some d) = IsBoundTo g ms o d
 -- the definition that a name of the root denotes
 abbrev pub FindsDefinition : Graph → List (Name × Binding) → List (Name × ℕ) → Name → Option Definition → Type 0
 FindsDefinition g names nodes n r =
-    (ms : List ℕ) (s : State) → AreNamed g ms s.root nodes → scope_of g.types names ≡ root_scope s → IsDefinitionIn g ms (value_at s.root n) r
+    (ms : List ℕ) (s : State) → AreNamed g ms s.root nodes → scope_of g.types names ≡ root_scope s
+    → IsDefinitionIn g ms (value_at s.root n) r
 
 -- ---- the graph's refusals
 
@@ -59,7 +60,8 @@ FindsDefinition g names nodes n r =
 abbrev pub export_cause : List (ℕ × Span) → ExportName → ExportError → Option Cause
 export_cause spans n (ExportError.ExportAlreadyExists m k) =
     at_place (DuplicateExternName (string_bytes m) ExternKind.Export (unwrap_or (last_noted spans k) n.span) n.is_helped) n.span
-export_cause spans n (ExportError.InvalidExportName m source) = at_place (InvalidExternName (string_bytes m) ExternKind.Export) n.span
+export_cause spans n (ExportError.InvalidExportName m source) =
+    at_place (InvalidExternName (string_bytes m) ExternKind.Export) n.span
 export_cause spans n ExportError.Memory = None
 
 -- ---- what is exported

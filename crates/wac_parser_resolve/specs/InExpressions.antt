@@ -40,23 +40,29 @@ IsInstanceFor g k o s r =
 -- the export that a shorter name means
 abbrev pub IsMeantFor : {Z : Type 0} → Graph → ℕ → Name → Span → Result (String Z) Refusal → Type 0
 IsMeantFor g k n s r =
-    (t : Stated) → HasItem g k t → IsOutcome (λ u text. string_bytes text ≡ matched n (names_of (exports_of t))) (asks_instance t InstanceOperation.Access s) r
+    (t : Stated) → HasItem g k t
+    → IsOutcome (λ u text. string_bytes text ≡ matched n (names_of (exports_of t)))
+    (asks_instance t InstanceOperation.Access s) r
 
 -- why there is no such export
 abbrev pub IsUnaliased : Graph → ℕ → Access → AliasError → Refusal → Type 0
-IsUnaliased g i at e f = (n : Name) (d : Denoted) → AliasRefused g i n e → HasItem g i d.item → IsRefusal (needs_instance d at.operation at.instance >> export_named d n at.access) f
+IsUnaliased g i at e f = (n : Name) (d : Denoted) → AliasRefused g i n e → HasItem g i d.item
+    → IsRefusal (needs_instance d at.operation at.instance >> export_named d n at.access) f
 
 -- an export of a node that has to be an instance
 abbrev pub IsProjection : Graph → ℕ → Name → Access → Graph → Result ℕ Refusal → Type 0
-IsProjection g i n at h r = (noted : List (ℕ × Span)) (names : List (Name × ℕ)) (s : State) (d : Denoted) → Says g noted names s → Denotes g (names_of noted) d i
+IsProjection g i n at h r = (noted : List (ℕ × Span)) (names : List (Name × ℕ)) (s : State) (d : Denoted) → Says g noted names s
+    → Denotes g (names_of noted) d i
     → IsOutcome (SaysThat h noted names) (needs_instance d at.operation at.instance >> spoken s (export_named d n at.access)) r
 
 -- one access
 abbrev pub IsAccess : PostfixExpr → Graph → ℕ → Span → Graph → Result ℕ Refusal → Type 0
-IsAccess p g i before h r = (noted : List (ℕ × Span)) (names : List (Name × ℕ)) (s : State) (d : Denoted) → Says g noted names s → Denotes g (names_of noted) d i
+IsAccess p g i before h r = (noted : List (ℕ × Span)) (names : List (Name × ℕ)) (s : State) (d : Denoted) → Says g noted names s
+    → Denotes g (names_of noted) d i
     → IsOutcome (SaysThat h noted names) (stated.access before s d (view_postfix_expr p)) r
 
 -- accesses, one behind the other
 abbrev pub AreAccesses : List PostfixExpr → Graph → ℕ → Span → Graph → Result ℕ Refusal → Type 0
-AreAccesses ps g i before h r = (noted : List (ℕ × Span)) (names : List (Name × ℕ)) (s : State) (d : Denoted) → Says g noted names s → Denotes g (names_of noted) d i
+AreAccesses ps g i before h r = (noted : List (ℕ × Span)) (names : List (Name × ℕ)) (s : State) (d : Denoted)
+    → Says g noted names s → Denotes g (names_of noted) d i
     → IsOutcome (SaysThat h noted names) (stated.accesses before s d (map view_postfix_expr ps)) r

@@ -57,7 +57,8 @@ key_of p = (p.name, p.version)
 -- the package of the name that a `new` says
 abbrev pub IsNewPackage : PackageName → Root → Board → Board → Result PackageId Refusal → Type 0
 IsNewPackage p root b c r = (s : State) → IsOn root b s
-    → IsOutcome (λ w id. IsOn root c s × IsPackage c.types.graph (key_of (view_package_name p)) w id) (stated.new_package s (view_package_name p)) r
+    → IsOutcome (λ w id. IsOn root c s × IsPackage c.types.graph (key_of (view_package_name p)) w id)
+    (stated.new_package s (view_package_name p)) r
 
 -- ---- arguments
 
@@ -81,13 +82,17 @@ IsNamedGiven a root b w c r = (s : State) → IsOn root b s
     → IsOutcome (IsOneGiven root c) (named_given s (imported_by b.types.graph.types w) (view_named_instantiation_argument a)) r
 
 -- `last`: whether the argument is the last one
-abbrev pub TakesArgument : InstantiationArgument → Root → Board → WorldId → (last : Bool) → List Given → Board → List Given → Result ⊤ Refusal → Type 0
+abbrev pub TakesArgument : InstantiationArgument → Root → Board → WorldId → (last : Bool) → List Given → Board → List Given
+    → Result ⊤ Refusal → Type 0
 TakesArgument a root b w last xs c ys r = (q : State × List stated.Given) → HasGiven root b xs q
-    → IsOutcome (λ p u. HasGiven root c ys p) (stated.one_argument q.0 (imported_by b.types.graph.types w) q.1 (view_instantiation_argument a) last) r
+    → IsOutcome (λ p u. HasGiven root c ys p) (stated.one_argument q.0 (imported_by b.types.graph.types w) q.1
+    (view_instantiation_argument a) last) r
 
-abbrev pub TakesArguments : List InstantiationArgument → Root → Board → WorldId → List Given → Board → List Given → Result ⊤ Refusal → Type 0
+abbrev pub TakesArguments : List InstantiationArgument → Root → Board → WorldId → List Given → Board → List Given
+    → Result ⊤ Refusal → Type 0
 TakesArguments as_ root b w xs c ys r = (q : State × List stated.Given) → HasGiven root b xs q
-    → IsOutcome (λ p u. HasGiven root c ys p) (stated.arguments q.0 (imported_by b.types.graph.types w) q.1 (t.arguments (map view_instantiation_argument as_))) r
+    → IsOutcome (λ p u. HasGiven root c ys p) (stated.arguments q.0 (imported_by b.types.graph.types w) q.1
+    (t.arguments (map view_instantiation_argument as_))) r
 
 -- ---- passing them
 
@@ -111,19 +116,22 @@ bare k w at = record { key = k; world = w; arguments = []; span = at }
 
 -- one argument is passed
 abbrev pub Passes : Graph → ℕ → Given → Graph → Result ⊤ Refusal → Type 0
-Passes g i one h r = (noted : List (ℕ × Span)) (names : List (Name × ℕ)) (s : State) (m : Made) (a : stated.Given) → SaysMade g noted i names s m
+Passes g i one h r =
+    (noted : List (ℕ × Span)) (names : List (Name × ℕ)) (s : State) (m : Made) (a : stated.Given) → SaysMade g noted i names s m
     → IsGiven g (names_of (noted ++ (i, m.span) ∷ [])) a one → has_name (names_of m.arguments) a.name ≡ false
     → IsOutcome (λ u v. SaysMade h noted i names s (with_argument m a)) (argument_fits m.key m.world tt a) r
 
 -- all that is given is passed
 abbrev pub PassesAll : Graph → ℕ → List Given → Graph → Result ⊤ Refusal → Type 0
-PassesAll g i xs h r = (noted : List (ℕ × Span)) (names : List (Name × ℕ)) (s : State) (k : Key) (w : Stated) (at : Span) (gs : List stated.Given)
+PassesAll g i xs h r =
+    (noted : List (ℕ × Span)) (names : List (Name × ℕ)) (s : State) (k : Key) (w : Stated) (at : Span) (gs : List stated.Given)
     → SaysMade g noted i names s (bare k w at) → AreGiven g (names_of (noted ++ (i, at) ∷ [])) gs xs
     → IsOutcome (λ u v. SaysMade h noted i names s (with_arguments (bare k w at) gs)) (each (argument_fits k w) tt gs) r
 
 -- an instance of the package is made
 abbrev pub Instantiated : Graph → PackageId → Graph → ℕ → Type 0
-Instantiated g id h i = (noted : List (ℕ × Span)) (names : List (Name × ℕ)) (s : State) (k : Key) (w : Stated) (at : Span) → Says g noted names s → IsPackage g k w id
+Instantiated g id h i = (noted : List (ℕ × Span)) (names : List (Name × ℕ)) (s : State) (k : Key) (w : Stated) (at : Span)
+    → Says g noted names s → IsPackage g k w id
     → SaysMade h noted i names s (bare k w at) × HasItem h i (instance_type w)
 
 -- ---- the instance
@@ -131,12 +139,16 @@ Instantiated g id h i = (noted : List (ℕ × Span)) (names : List (Name × ℕ)
 -- each import needs an argument, unless the rest is filled up
 abbrev pub IsWhole : NewExpr → Collection → WorldId → List Given → Result ⊤ Refusal → Type 0
 IsWhole n c w xs r = (gs : List stated.Given) → names_given xs ≡ stated.given_names gs
-    → IsOutcome (λ u v. Unit {0}) (stated.complete (stated.is_filled (t.arguments (map view_instantiation_argument n.arguments.items))) (view_package_name n.«package») gs (imported_by c w)) r
+    → IsOutcome (λ u v. Unit {0}) (stated.complete (stated.is_filled
+    (t.arguments (map view_instantiation_argument n.arguments.items))) (view_package_name n.«package») gs (imported_by c w)) r
 
 abbrev pub IsFinished : NewExpr → Root → Board → PackageId → List Given → Board → Result ℕ Refusal → Type 0
-IsFinished n root b id xs c r = (s : State) (w : Stated) (gs : List stated.Given) → IsOn root b s → IsPackage b.types.graph (key_of (view_package_name n.«package»)) w id
+IsFinished n root b id xs c r = (s : State) (w : Stated) (gs : List stated.Given) → IsOn root b s
+    → IsPackage b.types.graph (key_of (view_package_name n.«package»)) w id
     → AreGiven b.types.graph (instances_of b) gs xs
-    → IsOutcome (Denoting root c) (finished s (view_package_name n.«package») w gs (stated.is_filled (t.arguments (map view_instantiation_argument n.arguments.items)))) r
+    → IsOutcome (Denoting root c) (finished s (view_package_name n.«package») w gs
+    (stated.is_filled (t.arguments (map view_instantiation_argument n.arguments.items)))) r
 
 abbrev pub IsNewInstance : NewExpr → Root → Board → Board → Result ℕ Refusal → Type 0
-IsNewInstance n root b c r = (s : State) → IsOn root b s → IsOutcome (Denoting root c) (stated.new_instance s (view_new_expr n)) r
+IsNewInstance n root b c r =
+    (s : State) → IsOn root b s → IsOutcome (Denoting root c) (stated.new_instance s (view_new_expr n)) r

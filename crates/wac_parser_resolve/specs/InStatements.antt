@@ -80,7 +80,8 @@ abbrev pub IsText : Name → Span → Result ImportName Refusal → Type 0
 IsText text at r = IsOutcome IsNamedSo (pure (record { string = text; span = at })) r
 
 abbrev pub IsImportName : ImportStatement → Collection → Names → Result ImportName Refusal → Type 0
-IsImportName x c ns r = (s : State) → scope_of c ns ≡ root_scope s → IsOutcome IsNamedSo (import_name s (view_import_statement x)) r
+IsImportName x c ns r =
+    (s : State) → scope_of c ns ≡ root_scope s → IsOutcome IsNamedSo (import_name s (view_import_statement x)) r
 
 -- ---- items that are asked
 
@@ -88,7 +89,8 @@ abbrev pub IsItemAt : PackagePath → PackageName → Held → Held → Result I
 IsItemAt p own old new r = IsItemSaid old new (λ s. path_item (context s) (view_package_path p)) r (view_package_name own)
 
 abbrev pub IsInterfaceSaid : InlineInterface → PackageName → Held → Held → Result ItemKind Refusal → Type 0
-IsInterfaceSaid i own old new r = IsItemSaid old new (λ s. inline_interface (context s) (view_inline_interface i)) r (view_package_name own)
+IsInterfaceSaid i own old new r =
+    IsItemSaid old new (λ s. inline_interface (context s) (view_inline_interface i)) r (view_package_name own)
 
 abbrev pub IsFuncSaid : FuncType → Held → Held → Result ItemKind Refusal → Type 0
 IsFuncSaid f old new r = (own : t.PackageName) → IsItemSaid old new (λ s. free (root_scope s) (view_func_type f)) r own
@@ -102,7 +104,8 @@ IsAskedFor x own old new r = IsItemSaid old new (λ s. asked s (view_import_type
 abbrev pub import_cause : List (ℕ × Span) → Span → Bool → ImportError → Option Cause
 import_cause noted s helped (ImportError.ImportAlreadyExists m k) =
     at_place (DuplicateExternName (string_bytes m) ExternKind.Import (unwrap_or (last_noted noted k) s) helped) s
-import_cause noted s helped (ImportError.InvalidImportName m e) = at_place (InvalidExternName (string_bytes m) ExternKind.Import) s
+import_cause noted s helped (ImportError.InvalidImportName m e) =
+    at_place (InvalidExternName (string_bytes m) ExternKind.Import) s
 import_cause noted s helped ImportError.Memory = None
 
 -- the node is noted as an import, and where its identifier stands
@@ -113,7 +116,8 @@ pub record NotesImport (old new : Held) (k : ℕ) (at id_at : Span) : Type 0 whe
 
 -- the name of an import, over what is said once it is noted
 abbrev pub IsImportNamed : Ident → ℕ → Span → Held → Held → Result ⊤ Refusal → Type 0
-IsImportNamed i k at old new r = (own : t.PackageName) (s : State) (d : Denoted) → ((b : Held) → NotesImport old b k at i.span → IsSaid own b s)
+IsImportNamed i k at old new r =
+    (own : t.PackageName) (s : State) (d : Denoted) → ((b : Held) → NotesImport old b k at i.span → IsSaid own b s)
     → DenotesOn old d k → IsOutcome (λ q u. IsSaid own new q) (bound s (view_ident i) d) r
 
 -- an import of this name and item
@@ -121,7 +125,8 @@ abbrev pub import_of : State → t.ImportStatement → t.Ident → Stated → An
 import_of g x n item = do
   not_imported (import_called g.imports n.string) n (is_none x.name)
   unless_clear (not (is_extern_name n.string)) (InvalidExternName n.string ExternKind.Import) n.span
-  bound (with_import g (record { name = n.string; item = item; span = n.span; id_span = x.id.span })) x.id (record { origin = imported n.string; item = item })
+  bound (with_import g (record { name = n.string; item = item; span = n.span; id_span = x.id.span })) x.id
+      (record { origin = imported n.string; item = item })
 
 abbrev pub AddsImport : ImportStatement → Name → Span → ItemKind → Held → Held → Result ⊤ Refusal → Type 0
 AddsImport x n at k old new r = (own : t.PackageName) (item : Stated) → Holds old.board.types.graph.types item k
@@ -136,8 +141,10 @@ noted_export noted s (Some k) = unwrap_or (last_noted noted k) s
 
 -- why there is no such definition; what is declared is new and no resource
 abbrev pub definition_cause : Graph → List (ℕ × Span) → t.Ident → DefineTypeError → Option Cause
-definition_cause g noted i (DefineTypeError.ExportConflict m) = at_place (DeclarationConflict (string_bytes m) (noted_export noted i.span (value_at g.exports i.string))) i.span
-definition_cause g noted i (DefineTypeError.InvalidExternName m e) = at_place (InvalidExternName (string_bytes m) ExternKind.Export) i.span
+definition_cause g noted i (DefineTypeError.ExportConflict m) =
+    at_place (DeclarationConflict (string_bytes m) (noted_export noted i.span (value_at g.exports i.string))) i.span
+definition_cause g noted i (DefineTypeError.InvalidExternName m e) =
+    at_place (InvalidExternName (string_bytes m) ExternKind.Export) i.span
 definition_cause g noted i DefineTypeError.TypeAlreadyDefined = None
 definition_cause g noted i DefineTypeError.CannotDefineResource = None
 definition_cause g noted i DefineTypeError.Memory = None
@@ -149,7 +156,8 @@ pub record NotesExport (old new : Held) (k : ℕ) (at : Span) : Type 0 where
   pub ids : new.ids.noted.items ≡ old.ids.noted.items ++ (k, at) ∷ []
 
 abbrev pub IsDefinitionNamed : Ident → ℕ → Held → Held → Result ⊤ Refusal → Type 0
-IsDefinitionNamed i k old new r = (own : t.PackageName) (s : State) (d : Denoted) → ((b : Held) → NotesExport old b k i.span → IsSaid own b s)
+IsDefinitionNamed i k old new r =
+    (own : t.PackageName) (s : State) (d : Denoted) → ((b : Held) → NotesExport old b k i.span → IsSaid own b s)
     → DenotesOn old d k → IsOutcome (λ q u. IsSaid own new q) (bound s (view_ident i) d) r
 
 -- the type that a statement declares

@@ -1,4 +1,5 @@
--- What is answered where a graph is tested against a target: what is stated of the nodes that are noted, in order, or the first cause.
+-- What is answered where a graph is tested against a target: what is stated of the nodes that are noted, in order, or the first
+-- cause.
 use Rattle.std.specs.Prelude.{◌≡◌, ℕ, true, Bool, not, List, [], map, Option, Some, None, is_some, option_map, slice_get, Result, Ok, Err, ⊤, IsSome, if◌then◌else◌}
 use Rattle.wac_types_base.specs.declared.ids.WorldId.{WorldId}
 use Rattle.wac_types_base.specs.declared.item.ExternKind.{ExternKind}
@@ -161,7 +162,8 @@ AreInstancesTested t g noted r = IsTold (all_pass (λ e. instance_test t g e.0) 
 abbrev pub export_at : Target → Graph → List (ℕ × Span) → Name × ItemKind → Option ℕ → Answer ⊤
 export_at t g spans e None = refuse (lacks_export t e.0 (desc (stated_of g.types e.1))) t.path.now.span
 export_at t g spans e (Some k) =
-    passes_or (fits (node_item g k) (promote (stated_of g.types e.1))) (TargetMismatch ExternKind.Export e.0 t.path.now.string.now) (last_noted spans k)
+    passes_or (fits (node_item g k) (promote (stated_of g.types e.1)))
+    (TargetMismatch ExternKind.Export e.0 t.path.now.string.now) (last_noted spans k)
 
 abbrev pub export_test : Target → Graph → List (ℕ × Span) → Name × ItemKind → Answer ⊤
 export_test t g spans e = export_at t g spans e (value_at g.exports e.0)
@@ -202,16 +204,21 @@ NotedIsMet tg g imports instances es = AreNotedMet g (given_by tg) imports.noted
 -- ---- the target
 
 -- the target as the code holds it: its path, what it gives, its exports
-pub record IsTargetFor (tg : Target) (c : Collection) (es : List (Name × ItemKind)) (p : t.PackagePath) (w : Stated) : Type 0 where
+pub record IsTargetFor (tg : Target) (c : Collection) (es : List (Name × ItemKind)) (p : t.PackagePath)
+    (w : Stated) : Type 0 where
   pub path : p ≡ path_of tg
   pub gives : (n : Name) → stated.given_by w n ≡ option_map (stated_of c) (given_by tg n)
   pub named : uses_are_named w ≡ true
   pub exports : exports_of w ≡ with_values (stated_of c) es
 
 -- what was said meets the target, or the first cause why it does not
-abbrev pub MeetsTarget : Target → Graph → List (ℕ × Span) → List (ℕ × Span) → List (ℕ × Span) → List (Name × ItemKind) → Result ⊤ Refusal → Type 0
-MeetsTarget tg g imports instances spans es r = (ids : List (ℕ × Span)) (names : List (Name × ℕ)) (s : State) (p : t.PackagePath) (w : Stated) → IsTargetFor tg g.types es p w
-    → AreAsked g imports ids s.imports → Says g instances names s → AreExported g (names_of instances) spans s.exports → IsTold (stated.target_met s p w) r
+abbrev pub MeetsTarget : Target → Graph → List (ℕ × Span) → List (ℕ × Span) → List (ℕ × Span) → List (Name × ItemKind)
+    → Result ⊤ Refusal → Type 0
+MeetsTarget tg g imports instances spans es r =
+    (ids : List (ℕ × Span)) (names : List (Name × ℕ)) (s : State) (p : t.PackagePath) (w : Stated)
+    → IsTargetFor tg g.types es p w
+    → AreAsked g imports ids s.imports → Says g instances names s → AreExported g (names_of instances) spans s.exports
+    → IsTold (stated.target_met s p w) r
 
 -- what is noted meets the target
 abbrev pub NotedMeets : Target → Graph → Spans → Spans → Spans → List (Name × ItemKind) → Result ⊤ Refusal → Type 0
@@ -222,14 +229,16 @@ IsFaultOf p TargetError.Memory e = e ≡ Refusal.Memory
 IsFaultOf p TargetError.UsedWithoutIdentifier e = Names e (anywhere (TypeCannotBeWritten p.string.now))
 
 -- what the nodes that are noted say meets the world, or the first cause why it does not
-abbrev pub IsTargetMet : PackagePath → Graph → List (ℕ × Span) → List (ℕ × Span) → List (ℕ × Span) → WorldId → Result ⊤ Refusal → Type 0
+abbrev pub IsTargetMet : PackagePath → Graph → List (ℕ × Span) → List (ℕ × Span) → List (ℕ × Span) → WorldId → Result ⊤ Refusal
+    → Type 0
 IsTargetMet p g imports instances exports w r = (ids : List (ℕ × Span)) (names : List (Name × ℕ)) (s : State)
     → AreAsked g imports ids s.imports → Says g instances names s → AreExported g (names_of instances) exports s.exports
     → IsTold (stated.target_met s (view_package_path p) (stated_of g.types (ItemKind.Component w))) r
 
 -- what is noted meets the world
 abbrev pub NotedMeetsWorld : PackagePath → Graph → Spans → Spans → Spans → WorldId → Result ⊤ Refusal → Type 0
-NotedMeetsWorld p g imports instances exports w r = IsTargetMet p g imports.noted.items instances.noted.items exports.noted.items w r
+NotedMeetsWorld p g imports instances exports w r =
+    IsTargetMet p g imports.noted.items instances.noted.items exports.noted.items w r
 
 -- ---- in a document
 
@@ -287,4 +296,5 @@ HoldsDocument own b q w = IsSaid (view_package_name own) b q.0 × HoldsTarget b.
 abbrev pub IsDocumentSaid : Document → Held → Held → Result (Option WorldId) Refusal → Type 0
 IsDocumentSaid d old new r = (s : State) → IsSaid (view_package_name d.directive.«package») old s
     → IsOutcome (HoldsDocument d.directive.«package» new)
-    (each statement s (map view_statement d.statements.items) >>= λ g. stated.target g (option_map view_package_path d.directive.targets) >>= λ w. pure (g, w)) r
+    (each statement s (map view_statement d.statements.items)
+    >>= λ g. stated.target g (option_map view_package_path d.directive.targets) >>= λ w. pure (g, w)) r

@@ -63,7 +63,8 @@ pub record IsWithin (old new : Graph) : Type 0 where
 -- no instance, alias or argument is new
 pub record AddsNone (old new : Graph) : Type 0 where
   pub instances : (k : ℕ) → IsSome (instantiated new k) → IsSome (instantiated old k)
-  pub aliased : (k : ℕ) (x : NodeData) → node_at new k ≡ Some x → x.role ≡ Role.Aliased → (y : NodeData) × (node_at old k ≡ Some y) × (y.role ≡ Role.Aliased)
+  pub aliased : (k : ℕ) (x : NodeData) → node_at new k ≡ Some x → x.role ≡ Role.Aliased
+      → (y : NodeData) × (node_at old k ≡ Some y) × (y.role ≡ Role.Aliased)
   pub aliases : (i k : ℕ) (n : Name) → HasAlias new.edges i n k → HasAlias old.edges i n k
   pub arguments : (i a : ℕ) (n : Name) → HasArgument new.edges i n a → HasArgument old.edges i n a
 

@@ -24,7 +24,8 @@ Packages_are_known = (d : t.Document) (ps : List (Key × Content)) (r : State ×
 
 -- what is said stays over the packages that are handed in
 abbrev pub Packages_stay : Type 0
-Packages_stay = (d : t.Document) (ps : List (Key × Content)) (r : State × Option Stated) → resolved d ps ≡ Ok r → r.0.packages ≡ ps
+Packages_stay =
+    (d : t.Document) (ps : List (Key × Content)) (r : State × Option Stated) → resolved d ps ≡ Ok r → r.0.packages ≡ ps
 
 -- an instance's sources name earlier instances, and the exports' instances that are there
 abbrev pub Wirings_are_ordered : Type 0
@@ -34,10 +35,11 @@ Wirings_are_ordered = (d : t.Document) (ps : List (Key × Content)) (define : Bo
 -- what a document says over packages with proper worlds is wired where each of its asks is met
 abbrev pub Resolved_are_wired : Type 0
 Resolved_are_wired = (d : t.Document) (ps : List (Key × Content)) (r : State × Option Stated)
-    → AreProper (worlds_of ps) → resolved d ps ≡ Ok r → AreMet (composition r.0) → (tag_of : Key → Tag) → IsWired tag_of (composition r.0)
+    → AreProper (worlds_of ps) → resolved d ps ≡ Ok r → AreMet (composition r.0) → (tag_of : Key → Tag)
+    → IsWired tag_of (composition r.0)
 
--- what an accepted document ascribes over packages with proper worlds is wired: each import of each instance is bound once, to what
--- fits it and was there before, and the world that is handed out is true
+-- what an accepted document ascribes over packages with proper worlds is wired: each import of each instance is bound once, to
+-- what fits it and was there before, and the world that is handed out is true
 abbrev pub Documents_are_wired : Type 0
 Documents_are_wired = (d : t.Document) (ps : List (Key × Content)) (define : Bool) (x : Composition Asker ℕ × Option Stated)
     → AreProper (worlds_of ps) → Ok x ≡ ascribed define d ps → (tag_of : Key → Tag) → IsWired tag_of x.0

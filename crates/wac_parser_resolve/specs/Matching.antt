@@ -36,4 +36,5 @@ matched i ns = if has_name ns i then i else only i (filter (has_segment i) ns)
 -- the first of the names that passes, from this place on, at its place
 abbrev pub IsNextOf : (Name → Bool) → List Name → ℕ → Option ℕ → Type 0
 IsNextOf p ns low None = filter p (drop low ns) ≡ []
-IsNextOf p ns low (Some at) = (n : Name) × (slice_get ns at ≡ Some n) × (filter p (drop low ns) ≡ n ∷ filter p (drop (at + 1) ns))
+IsNextOf p ns low (Some at) =
+    (n : Name) × (slice_get ns at ≡ Some n) × (filter p (drop low ns) ≡ n ∷ filter p (drop (at + 1) ns))

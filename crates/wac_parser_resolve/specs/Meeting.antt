@@ -63,11 +63,13 @@ refuse_at f s = Err (record { fault = f; span = s })
 
 abbrev pub import_by : t.PackagePath → Wanted → Option Stated → Answer ⊤
 import_by p a None = refuse_at (ImportNotInTarget a.name p.string) a.span
-import_by p a (Some x) = if fits (promote x) a.item then pure tt else refuse_at (TargetMismatch ExternKind.Import a.name p.string) a.span
+import_by p a (Some x) =
+    if fits (promote x) a.item then pure tt else refuse_at (TargetMismatch ExternKind.Import a.name p.string) a.span
 
 abbrev pub export_by : State → t.PackagePath → Name → Stated → Option Bound → Answer ⊤
 export_by g p n x None = refuse (MissingTargetExport n (desc x) p.string) p.span
-export_by g p n x (Some e) = unless_clear (not (fits e.denoted.item (promote x))) (TargetMismatch ExternKind.Export n p.string) (export_span g e)
+export_by g p n x (Some e) =
+    unless_clear (not (fits e.denoted.item (promote x))) (TargetMismatch ExternKind.Export n p.string) (export_span g e)
 
 abbrev pub uses_are_named : Stated → Bool
 uses_are_named w = list_all (λ (u : Used). is_some (identifier_of u.interface)) (implicit_uses w)

@@ -17,7 +17,8 @@ NamesNoInstance (own_of s) os = NamesNoInstance s os
 NamesNoInstance s os = Unit {0}
 
 pub data Proper : Stated → Type 0 where
-  proper : {x : Stated} → NamesNoInstance (shape_of x) (places_of x) → ((y : Stated) → Among (Some y) (places_of x) → Proper y) → Proper x
+  proper : {x : Stated} → NamesNoInstance (shape_of x) (places_of x) → ((y : Stated) → Among (Some y) (places_of x) → Proper y)
+      → Proper x
 
 -- packages with such worlds
 abbrev pub AreProper : List (Key × Stated) → Type 0

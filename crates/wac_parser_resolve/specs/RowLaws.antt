@@ -8,7 +8,8 @@ use Rattle.wac_parser_resolve.specs.Rows.{two_versions, versions, unknown_name, 
 
 -- one outer import, one instance, one export
 abbrev pub Says_one : Type 0
-Says_one = said one_instance handed ≡ Ok ((codes "f", plain_func) ∷ [], (key (codes "p:p"), []) ∷ [], (codes "g", c.projected (c.instance 0) (codes "g")) ∷ [])
+Says_one = said one_instance handed
+    ≡ Ok ((codes "f", plain_func) ∷ [], (key (codes "p:p"), []) ∷ [], (codes "g", c.projected (c.instance 0) (codes "g")) ∷ [])
 
 abbrev pub Says_missing : Type 0
 Says_missing = said nothing_given handed ≡ refusal (MissingInstantiationArg (codes "f") (codes "p:p")) 25 3
@@ -16,17 +17,27 @@ Says_missing = said nothing_given handed ≡ refusal (MissingInstantiationArg (c
 -- the export of the first is passed to the second
 abbrev pub Says_passed : Type 0
 Says_passed = said one_into_another handed
-    ≡ Ok ((codes "f", plain_func) ∷ [], (key (codes "p:p"), []) ∷ (key (codes "q:q"), (codes "g", c.projected (c.instance 0) (codes "g")) ∷ []) ∷ [], (codes "h", c.projected (c.instance 1) (codes "h")) ∷ [])
+    ≡ Ok (
+      (codes "f", plain_func) ∷ [],
+      (key (codes "p:p"), [])
+          ∷ (key (codes "q:q"), (codes "g", c.projected (c.instance 0) (codes "g")) ∷ [])
+          ∷ [],
+      (codes "h", c.projected (c.instance 1) (codes "h")) ∷ [],
+    )
 
 abbrev pub Says_mismatched : Type 0
-Says_mismatched = said one_into_another (plain_package (codes "p:p") passing ∷ plain_package (codes "q:q") (from_g_to_h func_of_number) ∷ []) ≡ refusal (MismatchedInstantiationArg (codes "g")) 56 1
+Says_mismatched =
+    said one_into_another (plain_package (codes "p:p") passing ∷ plain_package (codes "q:q") (from_g_to_h func_of_number) ∷ [])
+    ≡ refusal (MismatchedInstantiationArg (codes "g")) 56 1
 
 -- two versions are one outer import
 abbrev pub Says_merged : Type 0
-Says_merged = said two_versions (versions wider) ≡ Ok ((newer, named_instance newer wider) ∷ [], (key (codes "c:x"), []) ∷ (key (codes "c:y"), []) ∷ [], [])
+Says_merged = said two_versions (versions wider)
+    ≡ Ok ((newer, named_instance newer wider) ∷ [], (key (codes "c:x"), []) ∷ (key (codes "c:y"), []) ∷ [], [])
 
 abbrev pub Says_unmerged : Type 0
-Says_unmerged = said two_versions (versions ((codes "f", func_of_number) ∷ (codes "g", plain_func) ∷ [])) ≡ refusal (InstantiationArgMergeFailure newer (sp 25 3)) 50 3
+Says_unmerged = said two_versions (versions ((codes "f", func_of_number) ∷ (codes "g", plain_func) ∷ []))
+    ≡ refusal (InstantiationArgMergeFailure newer (sp 25 3)) 50 3
 
 abbrev pub Says_unknown : Type 0
 Says_unknown = said unknown_name [] ≡ refusal (UndefinedName (codes "x")) 20 1
@@ -41,4 +52,5 @@ abbrev pub Says_no_name : Type 0
 Says_no_name = said no_name_to_export handed ≡ refusal ExportRequiresAs 20 15
 
 abbrev pub Says_identified : Type 0
-Says_identified = said named_by_identifier exporting_identified ≡ Ok ([], (key (codes "s:s"), []) ∷ [], (identified, c.projected (c.instance 0) identified) ∷ [])
+Says_identified = said named_by_identifier exporting_identified
+    ≡ Ok ([], (key (codes "s:s"), []) ∷ [], (identified, c.projected (c.instance 0) identified) ∷ [])

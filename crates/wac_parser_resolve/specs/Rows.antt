@@ -46,7 +46,9 @@ named_at n a = t.expr (sp a 1) (t.PrimaryExpr.ident (id_at n a 1)) []
 
 -- `NAME.EXPORT`
 abbrev pub access_at : Name → Name → ℕ → t.Expr
-access_at n m a = t.expr (sp a 3) (t.PrimaryExpr.ident (id_at n a 1)) (t.PostfixExpr.access (record { span = sp (suc_of a) 2; id = id_at m (suc_of (suc_of a)) 1 }) ∷ [])
+access_at n m a =
+    t.expr (sp a 3) (t.PrimaryExpr.ident (id_at n a 1)) (t.PostfixExpr.access
+    (record { span = sp (suc_of a) 2; id = id_at m (suc_of (suc_of a)) 1 }) ∷ [])
   where
     suc_of : ℕ → ℕ
     suc_of k = suc k
@@ -91,7 +93,9 @@ said d ps = summary (ascribed true d ps)
 
 -- package m:m; let x = new p:p { ... }; export x.g as "g";
 abbrev pub one_instance : t.Document
-one_instance = document (codes "m:m") (let_at (codes "x") 17 (new_at 21 15 (codes "p:p") 25 (fill_at 31 ∷ [])) ∷ export_as (access_at (codes "x") (codes "g") 45) (codes "g") 52 ∷ [])
+one_instance =
+    document (codes "m:m") (let_at (codes "x") 17 (new_at 21 15 (codes "p:p") 25 (fill_at 31 ∷ []))
+    ∷ export_as (access_at (codes "x") (codes "g") 45) (codes "g") 52 ∷ [])
 
 -- package m:m; let x = new p:p {};
 abbrev pub nothing_given : t.Document
@@ -101,7 +105,8 @@ nothing_given = document (codes "m:m") (let_at (codes "x") 17 (new_at 21 10 (cod
 abbrev pub one_into_another : t.Document
 one_into_another = document (codes "v:v")
     (let_at (codes "x") 17 (new_at 21 15 (codes "p:p") 25 (fill_at 31 ∷ []))
-    ∷ let_at (codes "y") 42 (new_at 46 18 (codes "q:q") 50 (t.InstantiationArgument.named (t.named_argument (t.InstantiationArgumentName.ident (id_at (codes "g") 56 1)) (access_at (codes "x") (codes "g") 59)) ∷ []))
+    ∷ let_at (codes "y") 42 (new_at 46 18 (codes "q:q") 50 (t.InstantiationArgument.named
+    (t.named_argument (t.InstantiationArgumentName.ident (id_at (codes "g") 56 1)) (access_at (codes "x") (codes "g") 59)) ∷ []))
     ∷ export_as (access_at (codes "y") (codes "h") 73) (codes "h") 80 ∷ [])
 
 -- package w:w; let x = new c:x { ... }; let y = new c:y { ... };
@@ -127,7 +132,13 @@ own_package = document (codes "a:b") (let_at (codes "x") 17 (new_at 21 10 (codes
 -- package k:k; import f: func(); let x = new p:p { ... };
 abbrev pub asked_and_filled : t.Document
 asked_and_filled = document (codes "k:k")
-    (t.Statement.import (record { docs = []; id = id_at (codes "f") 20 1; name = None; ty = t.ImportType.func (record { is_async = false; params = []; results = t.ResultList.empty }) })
+    (t.Statement.import (record {
+      docs = [];
+      id = id_at (codes "f") 20 1;
+      name = None;
+      ty = t.ImportType.func
+          (record { is_async = false; params = []; results = t.ResultList.empty });
+    })
     ∷ let_at (codes "x") 35 (new_at 39 15 (codes "p:p") 43 (fill_at 49 ∷ [])) ∷ [])
 
 -- package a:b; export new p:p { ... };
@@ -137,7 +148,8 @@ no_name_to_export = document (codes "a:b") (plain_export (new_at 20 15 (codes "p
 -- package c:c; let x = new s:s { ... }; export x.i;
 abbrev pub named_by_identifier : t.Document
 named_by_identifier = document (codes "c:c")
-    (let_at (codes "x") 17 (new_at 21 15 (codes "s:s") 25 (fill_at 31 ∷ [])) ∷ plain_export (access_at (codes "x") (codes "i") 45) ∷ [])
+    (let_at (codes "x") 17 (new_at 21 15 (codes "s:s") 25 (fill_at 31 ∷ []))
+    ∷ plain_export (access_at (codes "x") (codes "i") 45) ∷ [])
 
 abbrev pub identified : Name
 identified = codes "a:b/i@1.0.0"

@@ -37,7 +37,8 @@ inside_test (b ∷ bs) = not (b == 60) && ended bs
 
 abbrev pub is_bracketed_name : Name → Bool
 is_bracketed_name n =
-    list_any (λ front. behind_test front inside_test n) (codes "unlocked-dep=<" ∷ codes "locked-dep=<" ∷ codes "url=<" ∷ codes "integrity=<" ∷ [])
+    list_any (λ front. behind_test front inside_test n) (codes "unlocked-dep=<" ∷ codes "locked-dep=<" ∷ codes "url=<"
+    ∷ codes "integrity=<" ∷ [])
 
 abbrev pub is_extern_name : Name → Bool
 is_extern_name n = is_exportable n || is_bracketed_name n

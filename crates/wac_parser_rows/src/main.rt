@@ -1,4 +1,5 @@
-//! Tries tokens, parsers of parts, trees and writers by the rows on standard input, and tells which came out otherwise than wanted.
+//! Tries tokens, parsers of parts, trees and writers by the rows on standard input, and tells which came out otherwise than
+//! wanted.
 #![tactic(auto)]
 
 mod escapes;

@@ -211,7 +211,8 @@ fn string_argument<'a>(
     lexer: &mut Lexer<'a>,
     inside: usize,
 ) -> ParseResult<InstantiationArgument<'a>>
-    ensures value { Reads view_instantiation_argument (grammar.string_argument (grammar.expr inside)) lexer.old result lexer.new }
+    ensures value { Reads view_instantiation_argument
+        (grammar.string_argument (grammar.expr inside)) lexer.old result lexer.new }
     ensures takes { OnOk result (left lexer.new < left lexer.old) }
     ensures goes_on { IsBehind lexer.new lexer.old }
 {

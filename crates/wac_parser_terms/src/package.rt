@@ -48,7 +48,8 @@ fn end_of(span: SourceSpan, length: usize) -> SourceSpan
 /// The fault of a text that is no version, and stands at the end of a span.
 fn invalid_version(alloc: Global, text: &str, span: SourceSpan) -> ParseResult<Error>
     requires { HasEnd span }
-    ensures value { IfOk result (λ e. fault.fault_of e ≡ fault.invalid_version text.now (grammar.end_of span (length text.now))) }
+    ensures value { IfOk result
+        (λ e. fault.fault_of e ≡ fault.invalid_version text.now (grammar.end_of span (length text.now))) }
     ensures memory { IfErr result (λ e. e ≡ Memory) }
 {
     Ok(Error::InvalidVersion {
@@ -60,7 +61,8 @@ fn invalid_version(alloc: Global, text: &str, span: SourceSpan) -> ParseResult<E
 /// Reads the text of a version, which stands at the end of a span.
 fn read_version(alloc: Global, text: &str, span: SourceSpan) -> ParseResult<Option<Version>>
     requires { HasEnd span }
-    ensures { (s : Input) → Reads (option_map parts_of) (grammar.version_read (version_parts text.now) text.now span) s result s }
+    ensures { (s : Input)
+        → Reads (option_map parts_of) (grammar.version_read (version_parts text.now) text.now span) s result s }
 {
     match Version::parse(alloc, text) {
         Ok(version) => Ok(Some(version)),

@@ -395,22 +395,34 @@ abbrev new_step : Layer NewExpr-F → t.NewExpr
 new_step x = t.new_expr x.span (view_package_name x.«package») (t.arguments x.arguments.items)
 
 abbrev pub view_expr : Expr → t.Expr
-view_expr = fold-Expr t.InstantiationArgument t.PrimaryExpr t.Expr t.NamedInstantiationArgument t.NestedExpr t.NewExpr argument_step primary_step expr_step named_step nested_step new_step
+view_expr =
+    fold-Expr t.InstantiationArgument t.PrimaryExpr t.Expr t.NamedInstantiationArgument t.NestedExpr t.NewExpr argument_step
+    primary_step expr_step named_step nested_step new_step
 
 abbrev pub view_primary_expr : PrimaryExpr → t.PrimaryExpr
-view_primary_expr = fold-PrimaryExpr t.InstantiationArgument t.PrimaryExpr t.Expr t.NamedInstantiationArgument t.NestedExpr t.NewExpr argument_step primary_step expr_step named_step nested_step new_step
+view_primary_expr =
+    fold-PrimaryExpr t.InstantiationArgument t.PrimaryExpr t.Expr t.NamedInstantiationArgument t.NestedExpr t.NewExpr
+    argument_step primary_step expr_step named_step nested_step new_step
 
 abbrev pub view_new_expr : NewExpr → t.NewExpr
-view_new_expr = fold-NewExpr t.InstantiationArgument t.PrimaryExpr t.Expr t.NamedInstantiationArgument t.NestedExpr t.NewExpr argument_step primary_step expr_step named_step nested_step new_step
+view_new_expr =
+    fold-NewExpr t.InstantiationArgument t.PrimaryExpr t.Expr t.NamedInstantiationArgument t.NestedExpr t.NewExpr argument_step
+    primary_step expr_step named_step nested_step new_step
 
 abbrev pub view_nested_expr : NestedExpr → t.NestedExpr
-view_nested_expr = fold-NestedExpr t.InstantiationArgument t.PrimaryExpr t.Expr t.NamedInstantiationArgument t.NestedExpr t.NewExpr argument_step primary_step expr_step named_step nested_step new_step
+view_nested_expr =
+    fold-NestedExpr t.InstantiationArgument t.PrimaryExpr t.Expr t.NamedInstantiationArgument t.NestedExpr t.NewExpr
+    argument_step primary_step expr_step named_step nested_step new_step
 
 abbrev pub view_instantiation_argument : InstantiationArgument → t.InstantiationArgument
-view_instantiation_argument = fold-InstantiationArgument t.InstantiationArgument t.PrimaryExpr t.Expr t.NamedInstantiationArgument t.NestedExpr t.NewExpr argument_step primary_step expr_step named_step nested_step new_step
+view_instantiation_argument =
+    fold-InstantiationArgument t.InstantiationArgument t.PrimaryExpr t.Expr t.NamedInstantiationArgument t.NestedExpr t.NewExpr
+    argument_step primary_step expr_step named_step nested_step new_step
 
 abbrev pub view_named_instantiation_argument : NamedInstantiationArgument → t.NamedInstantiationArgument
-view_named_instantiation_argument = fold-NamedInstantiationArgument t.InstantiationArgument t.PrimaryExpr t.Expr t.NamedInstantiationArgument t.NestedExpr t.NewExpr argument_step primary_step expr_step named_step nested_step new_step
+view_named_instantiation_argument =
+    fold-NamedInstantiationArgument t.InstantiationArgument t.PrimaryExpr t.Expr t.NamedInstantiationArgument t.NestedExpr
+    t.NewExpr argument_step primary_step expr_step named_step nested_step new_step
 
 abbrev pub view_import_type : ImportType → t.ImportType
 view_import_type (import_type.Package x) = t.ImportType.package_path (view_package_path x)

@@ -127,7 +127,8 @@ impl<'a> PackagePath<'a> {
     /// Where the name of the package stands, without the segments and the version.
     pub fn package_name_span(&self) -> SourceSpan
         ensures value { result ≡ name_span_of (view_package_path self.now) }
-        ensures slice { (source : List ℕ) → IsPathIn source (view_package_path self.now) → text_at source result ≡ self.now.name.now }
+        ensures slice { (source : List ℕ) → IsPathIn source (view_package_path self.now)
+            → text_at source result ≡ self.now.name.now }
     {
         SourceSpan {
             offset: self.span.offset,
@@ -141,7 +142,8 @@ impl<'a> PackagePath<'a> {
         ensures value { result ≡ segments_of (view_package_path self.now) }
         ensures joined { joined (map segment_text (segments_of (view_package_path self.now))) ≡ self.now.segments.now }
         ensures cut { All HasNoSlash (segments_of (view_package_path self.now)) }
-        ensures slices { (source : List ℕ) → IsPathIn source (view_package_path self.now) → All (StandsAt source) (segments_of (view_package_path self.now)) }
+        ensures slices { (source : List ℕ) → IsPathIn source (view_package_path self.now)
+            → All (StandsAt source) (segments_of (view_package_path self.now)) }
     {
         let behind_name = self.span.offset.saturating_add(self.name.len());
         SegmentSpans::new(self.segments, behind_name.saturating_add(1))

@@ -157,7 +157,8 @@ pub fn run<F: Files, R: ByteSource, O: ByteSink, E: ByteSink>(
     err: &mut E,
 ) -> u8
     ensures asked { Asks (map (λ word. word.now) words.now) → result ≤ 1 }
-    ensures misused { (Asks (map (λ word. word.now) words.now) → ⊥) → (result ≡ 2) ⊎ ((result ≡ 1) × FailedOnce (E.calls err.old) (E.calls err.new)) }
+    ensures misused { (Asks (map (λ word. word.now) words.now) → ⊥)
+        → (result ≡ 2) ⊎ ((result ≡ 1) × FailedOnce (E.calls err.old) (E.calls err.new)) }
     ensures usage { result ≡ 2 → Appends (E.contents err.old) (E.contents err.new) usage }
     ensures idle { result ≡ 2 → (input.new ≡ input.old) × (files.new ≡ files.old) × (out.new ≡ out.old) }
     ensures quiet { result ≡ 0 → err.new ≡ err.old }

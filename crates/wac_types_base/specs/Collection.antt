@@ -99,8 +99,11 @@ abbrev pub interface_entry : Interface → Entry
 interface_entry i = (interface i.id (use_names i.uses) (names_of i.exports), used i.uses ++ items i.exports)
 
 abbrev pub world_entry : World → Entry
-world_entry w =
-    (world w.id (use_names w.uses) (names_of w.imports) (names_of w.exports), used w.uses ++ (items w.imports ++ items w.exports))
+world_entry w = (
+  world w.id (use_names w.uses) (names_of w.imports) (names_of w.exports),
+  used w.uses
+      ++ (items w.imports ++ items w.exports),
+)
 
 abbrev pub module_entry : ModuleType → Entry
 module_entry m = (module_type m, [])

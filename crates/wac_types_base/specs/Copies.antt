@@ -141,7 +141,8 @@ module_at n i = ItemKind.Module (record { collection = n; index = i })
 
 -- each entry in a table has its copy there
 abbrev pub EachCopied : {S : Type 0} → Collection → Collection → (ℕ → ℕ → ItemKind) → ℕ → HashMap ℕ ℕ S → Type 0
-EachCopied c d kind n t = (i j : ℕ) → get nat_eq t i ≡ Some j → Stands c (kind c.number i) → IsCopy c d (kind c.number i) (kind n j)
+EachCopied c d kind n t =
+    (i j : ℕ) → get nat_eq t i ≡ Some j → Stands c (kind c.number i) → IsCopy c d (kind c.number i) (kind n j)
 
 -- what they say are copies in d of what is in c
 pub record AreCopies (c d : Collection) (m : Copies) : Type 0 where
@@ -155,7 +156,8 @@ pub record AreCopies (c d : Collection) (m : Copies) : Type 0 where
 
 -- nothing is copied yet
 abbrev pub HasNone : Copies → Type 0
-HasNone m = IsEmpty m.defined_types × IsEmpty m.resources × IsEmpty m.func_types × IsEmpty m.interfaces × IsEmpty m.worlds × IsEmpty m.modules
+HasNone m = IsEmpty m.defined_types × IsEmpty m.resources × IsEmpty m.func_types × IsEmpty m.interfaces × IsEmpty m.worlds
+    × IsEmpty m.modules
 
 -- what had a copy has one
 abbrev pub KeepsKnown : Copies → Copies → Type 0

@@ -13,4 +13,5 @@ pub record IsCopy (c d : Collection) (k k' : ItemKind) : Type 0 where
 pub data SlotsCopied (c d : Collection) : List Slot → List Slot → Type 0 where
   none_copied : SlotsCopied c d [] []
   hole_copied : {xs ys : List Slot} → SlotsCopied c d xs ys → SlotsCopied c d (None ∷ xs) (None ∷ ys)
-  place_copied : {x y : ItemKind} {xs ys : List Slot} → IsCopy c d x y → SlotsCopied c d xs ys → SlotsCopied c d (Some x ∷ xs) (Some y ∷ ys)
+  place_copied : {x y : ItemKind} {xs ys : List Slot} → IsCopy c d x y → SlotsCopied c d xs ys
+      → SlotsCopied c d (Some x ∷ xs) (Some y ∷ ys)

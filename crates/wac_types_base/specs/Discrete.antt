@@ -77,7 +77,9 @@ ItemKind-discrete = by_code (hlevel codes)
 
 -- labels are decided
 pub shape_decided : Discrete Shape
-shape_decided = Shape-discrete PrimitiveType-discrete ℕ_discrete (by_code (hlevel codes)) Name-discrete (by_code (hlevel codes)) (by_code (hlevel codes)) (by_code (hlevel codes)) ModuleType-discrete
+shape_decided =
+    Shape-discrete PrimitiveType-discrete ℕ_discrete (by_code (hlevel codes)) Name-discrete (by_code (hlevel codes))
+    (by_code (hlevel codes)) (by_code (hlevel codes)) ModuleType-discrete
 
 -- trees are decided
 pub tree_decided : Discrete Tree

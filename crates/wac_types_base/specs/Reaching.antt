@@ -45,7 +45,8 @@ LeadsBack c t e = (j : ItemKind) × Among (Some j) e.1 × Reaches (item_node c) 
 
 -- what does not reach the entry of t keeps its tree
 abbrev pub KeepsOthers : Collection → Collection → ItemKind → Type 0
-KeepsOthers old new t = (k : ItemKind) → Stands old k → (Reaches (item_node old) (NamesEntry t) k → ⊥) → unfolding_of new k ≡ unfolding_of old k
+KeepsOthers old new t =
+    (k : ItemKind) → Stands old k → (Reaches (item_node old) (NamesEntry t) k → ⊥) → unfolding_of new k ≡ unfolding_of old k
 
 -- what stood stands
 abbrev pub KeepsStanding : Collection → Collection → Type 0

@@ -78,16 +78,25 @@ abbrev pub resource_renamed : Renaming → Resource → Resource
 resource_renamed m r = record { name = r.name; alias = option_map (alias_renamed m) r.alias }
 
 abbrev pub func_renamed : Renaming → FuncType → FuncType
-func_renamed m f = record { params = with_values (value_renamed m) f.params; result = option_renamed m f.result; is_async = f.is_async }
+func_renamed m f =
+    record { params = with_values (value_renamed m) f.params; result = option_renamed m f.result; is_async = f.is_async }
 
 abbrev pub used_renamed : Renaming → UsedType → UsedType
 used_renamed m u = record { interface = m.interface u.interface; name = u.name }
 
 abbrev pub interface_renamed : Renaming → Interface → Interface
-interface_renamed m i = record { id = i.id; uses = with_values (used_renamed m) i.uses; exports = with_values (kind_renamed m) i.exports }
+interface_renamed m i =
+    record { id = i.id; uses = with_values (used_renamed m) i.uses; exports = with_values (kind_renamed m) i.exports }
 
 abbrev pub world_renamed : Renaming → World → World
-world_renamed m w = record { id = w.id; uses = with_values (used_renamed m) w.uses; imports = with_values (kind_renamed m) w.imports; exports = with_values (kind_renamed m) w.exports }
+world_renamed m w =
+    record {
+      id = w.id;
+      uses = with_values (used_renamed m) w.uses;
+      imports = with_values
+          (kind_renamed m) w.imports;
+      exports = with_values (kind_renamed m) w.exports;
+    }
 
 -- ---- another number
 

@@ -12,17 +12,20 @@ use Rattle.wac_types_base.specs.Record.{Collection}
 
 -- the value type is no alias
 abbrev pub IsNoAlias : Collection → ValueType → Type 0
-IsNoAlias c v = (d : DefinedTypeId) (t : ValueType) → v ≡ ValueType.Defined d → slice_get c.defined_types d.index ≡ Some (DefinedType.Alias t) → ⊥
+IsNoAlias c v = (d : DefinedTypeId) (t : ValueType) → v ≡ ValueType.Defined d
+    → slice_get c.defined_types d.index ≡ Some (DefinedType.Alias t) → ⊥
 
 -- v is an alias, or several, of w, which is none
 pub data ResolvesTo (c : Collection) : ValueType → ValueType → Type 0 where
   resolved : {v : ValueType} → IsNoAlias c v → ResolvesTo c v v
-  through_alias : {d : DefinedTypeId} {t w : ValueType} → slice_get c.defined_types d.index ≡ Some (DefinedType.Alias t) → ResolvesTo c t w → ResolvesTo c (ValueType.Defined d) w
+  through_alias : {d : DefinedTypeId} {t w : ValueType} → slice_get c.defined_types d.index ≡ Some (DefinedType.Alias t)
+      → ResolvesTo c t w → ResolvesTo c (ValueType.Defined d) w
 
 -- r is an alias, or several, of s, which is none
 pub data IsRootOf (c : Collection) : ResourceId → ResourceId → Type 0 where
   root : {r : ResourceId} {x : Resource} → slice_get c.resources r.index ≡ Some x → x.alias ≡ None → IsRootOf c r r
-  through_source : {r s : ResourceId} {x : Resource} {a : ResourceAlias} → slice_get c.resources r.index ≡ Some x → x.alias ≡ Some a → IsRootOf c a.source s → IsRootOf c r s
+  through_source : {r s : ResourceId} {x : Resource} {a : ResourceAlias} → slice_get c.resources r.index ≡ Some x
+      → x.alias ≡ Some a → IsRootOf c a.source s → IsRootOf c r s
 
 -- what an item is of, as a type
 abbrev pub item_type : ItemKind → TypeKind

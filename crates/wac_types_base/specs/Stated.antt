@@ -185,7 +185,8 @@ pub record Parts (A : Type 0) : Type 0 where
   pub exports : List (Name × (Stated × A))
 
 abbrev pub parts_at : {A : Type 0} → Shape → List (Option (Stated × A)) → Parts A
-parts_at (interface i us es) os = record { identifier = i; uses = uses_from us os; imports = []; exports = with_names es (drop (length us) os) }
+parts_at (interface i us es) os =
+    record { identifier = i; uses = uses_from us os; imports = []; exports = with_names es (drop (length us) os) }
 parts_at (world i us is es) os = record {
   identifier = i;
   uses = uses_from us os;

@@ -63,20 +63,24 @@ mutual
   pub data VisitsAll (c : Collection) : List Slot → List DefinedTypeId → Type 0 where
     visits_none : VisitsAll c [] []
     visits_hole : {xs : List Slot} {ds : List DefinedTypeId} → VisitsAll c xs ds → VisitsAll c (None ∷ xs) ds
-    visits_place : {k : ItemKind} {xs : List Slot} {ds es : List DefinedTypeId} → Visits c k ds → VisitsAll c xs es → VisitsAll c (Some k ∷ xs) (ds ++ es)
+    visits_place : {k : ItemKind} {xs : List Slot} {ds es : List DefinedTypeId} → Visits c k ds → VisitsAll c xs es
+        → VisitsAll c (Some k ∷ xs) (ds ++ es)
 
 -- calls, each from the state that the one before left, on each of a list until one is refused
 pub data CalledOn {F D E : Type 0} (call : F → D → Result ⊤ E → F → Type 0) : F → List D → Result ⊤ E → F → Type 0 where
   called_on_all : {f : F} → CalledOn call f [] (Ok tt) f
-  called_on_first : {f g h : F} {d : D} {ds : List D} {r : Result ⊤ E} → call f d (Ok tt) g → CalledOn call g ds r h → CalledOn call f (d ∷ ds) r h
+  called_on_first : {f g h : F} {d : D} {ds : List D} {r : Result ⊤ E} → call f d (Ok tt) g → CalledOn call g ds r h
+      → CalledOn call f (d ∷ ds) r h
   refused_first : {f g : F} {d : D} {ds : List D} {e : E} → call f d (Err e) g → CalledOn call f (d ∷ ds) (Err e) g
 
 -- a call with a reference to the collection
-abbrev pub call_with : {F E : Type 0} → (F → Bor Collection → DefinedTypeId → Result ⊤ E → F → Type 0) → Collection → F → DefinedTypeId → Result ⊤ E → F → Type 0
+abbrev pub call_with : {F E : Type 0} → (F → Bor Collection → DefinedTypeId → Result ⊤ E → F → Type 0) → Collection → F
+    → DefinedTypeId → Result ⊤ E → F → Type 0
 call_with step c f d r g = (t : Bor Collection) × (t.now ≡ c) × step f t d r g
 
 -- calls on each of the defined types of a kind, until one is refused
-pub record IsVisited {F E : Type 0} (call : F → DefinedTypeId → Result ⊤ E → F → Type 0) (c : Collection) (k : ItemKind) (f : F) (r : Result ⊤ E) (g : F) : Type 0 where
+pub record IsVisited {F E : Type 0} (call : F → DefinedTypeId → Result ⊤ E → F → Type 0) (c : Collection) (k : ItemKind) (f : F)
+    (r : Result ⊤ E) (g : F) : Type 0 where
   pub ids : List DefinedTypeId
   pub all : Visits c k ids
   pub called : CalledOn call f ids r g

@@ -40,8 +40,10 @@ fn add_used<'a>(
     uses: &[UsedType],
 ) -> Result<(), TargetError>
     requires { (u : UsedType) → Among u uses.now → Stands types.now (ItemKind.Instance u.interface) }
-    ensures ok { OnOk result (by_identifier types.now (shown found.old.entries) (used_interfaces uses.now) ≡ Some (shown found.new.entries)) }
-    ensures err { IfErr result (λ e. e ≡ TargetError.UsedWithoutIdentifier → by_identifier types.now (shown found.old.entries) (used_interfaces uses.now) ≡ None) }
+    ensures ok { OnOk result
+        (by_identifier types.now (shown found.old.entries) (used_interfaces uses.now) ≡ Some (shown found.new.entries)) }
+    ensures err { IfErr result (λ e. e ≡ TargetError.UsedWithoutIdentifier
+        → by_identifier types.now (shown found.old.entries) (used_interfaces uses.now) ≡ None) }
 {
     for used in uses {
         match &types.interface(used.interface).id {
@@ -62,8 +64,10 @@ fn add_used_by<'a>(
     imports: &[ItemKind],
 ) -> Result<(), TargetError>
     requires { (k : ItemKind) → Among k imports.now → Stands types.now k }
-    ensures ok { OnOk result (by_identifier types.now (shown found.old.entries) (all_uses types.now imports.now) ≡ Some (shown found.new.entries)) }
-    ensures err { IfErr result (λ e. e ≡ TargetError.UsedWithoutIdentifier → by_identifier types.now (shown found.old.entries) (all_uses types.now imports.now) ≡ None) }
+    ensures ok { OnOk result
+        (by_identifier types.now (shown found.old.entries) (all_uses types.now imports.now) ≡ Some (shown found.new.entries)) }
+    ensures err { IfErr result (λ e. e ≡ TargetError.UsedWithoutIdentifier
+        → by_identifier types.now (shown found.old.entries) (all_uses types.now imports.now) ≡ None) }
 {
     for kind in imports {
         if let ItemKind::Instance(id) = *kind {
@@ -86,8 +90,10 @@ impl World {
         types: &'a Types,
     ) -> Result<IndexMap<&'a str, ItemKind>, TargetError>
         requires { HasChildren types.now (world_entry self.now) }
-        ensures ok { IfOk result (λ m. by_identifier types.now [] (implicit_interfaces types.now self.now) ≡ Some (shown m.entries)) }
-        ensures err { IfErr result (λ e. e ≡ TargetError.UsedWithoutIdentifier → by_identifier types.now [] (implicit_interfaces types.now self.now) ≡ None) }
+        ensures ok { IfOk result
+            (λ m. by_identifier types.now [] (implicit_interfaces types.now self.now) ≡ Some (shown m.entries)) }
+        ensures err { IfErr result (λ e. e ≡ TargetError.UsedWithoutIdentifier
+            → by_identifier types.now [] (implicit_interfaces types.now self.now) ≡ None) }
     {
         let mut found = IndexMap::new(alloc);
         match add_used(types, &mut found, self.uses.values()) {

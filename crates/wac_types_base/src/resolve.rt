@@ -35,7 +35,8 @@ impl Types {
         requires { Stands self.now (ItemKind.Ty (Type.Resource id)) }
         ensures root { IsRootOf self.now id result }
         ensures stands { Stands self.now (ItemKind.Ty (Type.Resource result)) }
-        ensures tree { tree_of self.now (ItemKind.Ty (Type.Resource result)) ≡ tree_of self.now (ItemKind.Ty (Type.Resource id)) }
+        ensures tree { tree_of self.now (ItemKind.Ty (Type.Resource result))
+            ≡ tree_of self.now (ItemKind.Ty (Type.Resource id)) }
     {
         match self.resource(id).alias {
             Some(alias) => self.resolve_resource(alias.source),
@@ -62,7 +63,8 @@ impl ItemKind {
     /// What an item of the type would be: function, interface and world types become function, instance and component.
     pub fn promote(&self) -> Self
         ensures kind { result ≡ promoted self.now }
-        ensures stated { (c : Collection) → IsAcyclic c → Stands c self.now → stated_of c result ≡ promote (stated_of c self.now) }
+        ensures stated { (c : Collection) → IsAcyclic c → Stands c self.now
+            → stated_of c result ≡ promote (stated_of c self.now) }
     {
         promoted_kind(*self)
     }

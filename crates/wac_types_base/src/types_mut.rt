@@ -43,8 +43,10 @@ impl<'a> TypesMut<'a> {
     /// Adds a defined type, all of whose ids stand here.
     pub fn add_defined_type(&mut self, ty: DefinedType) -> Result<DefinedTypeId, AllocError>
         requires { HasChildren self.old.types.now (defined_entry ty) }
-        ensures added { OnOk result (self.new.types.now ≡ record self.old.types.now { defined_types = self.old.types.now.defined_types ++ ty ∷ [] }) }
-        ensures id { IfOk result (λ i. i ≡ record { collection = self.old.types.now.number; index = length self.old.types.now.defined_types }) }
+        ensures added { OnOk result
+            (self.new.types.now ≡ record self.old.types.now { defined_types = self.old.types.now.defined_types ++ ty ∷ [] }) }
+        ensures id { IfOk result
+            (λ i. i ≡ record { collection = self.old.types.now.number; index = length self.old.types.now.defined_types }) }
         ensures err { OnErr result (self.new.types.now ≡ self.old.types.now) }
         ensures grows { Grows self.old.types.now self.new.types.now }
         ensures same_reference { self.new.types.ghost_name ≡ self.old.types.ghost_name }
@@ -55,8 +57,10 @@ impl<'a> TypesMut<'a> {
     /// Adds a resource, all of whose ids stand here.
     pub fn add_resource(&mut self, resource: Resource) -> Result<ResourceId, AllocError>
         requires { HasChildren self.old.types.now (resource_entry resource) }
-        ensures added { OnOk result (self.new.types.now ≡ record self.old.types.now { resources = self.old.types.now.resources ++ resource ∷ [] }) }
-        ensures id { IfOk result (λ i. i ≡ record { collection = self.old.types.now.number; index = length self.old.types.now.resources }) }
+        ensures added { OnOk result
+            (self.new.types.now ≡ record self.old.types.now { resources = self.old.types.now.resources ++ resource ∷ [] }) }
+        ensures id { IfOk result
+            (λ i. i ≡ record { collection = self.old.types.now.number; index = length self.old.types.now.resources }) }
         ensures err { OnErr result (self.new.types.now ≡ self.old.types.now) }
         ensures grows { Grows self.old.types.now self.new.types.now }
         ensures same_reference { self.new.types.ghost_name ≡ self.old.types.ghost_name }
@@ -67,8 +71,10 @@ impl<'a> TypesMut<'a> {
     /// Adds a function type, all of whose ids stand here.
     pub fn add_func_type(&mut self, func: FuncType) -> Result<FuncTypeId, AllocError>
         requires { HasChildren self.old.types.now (func_entry func) }
-        ensures added { OnOk result (self.new.types.now ≡ record self.old.types.now { func_types = self.old.types.now.func_types ++ func ∷ [] }) }
-        ensures id { IfOk result (λ i. i ≡ record { collection = self.old.types.now.number; index = length self.old.types.now.func_types }) }
+        ensures added { OnOk result
+            (self.new.types.now ≡ record self.old.types.now { func_types = self.old.types.now.func_types ++ func ∷ [] }) }
+        ensures id { IfOk result
+            (λ i. i ≡ record { collection = self.old.types.now.number; index = length self.old.types.now.func_types }) }
         ensures err { OnErr result (self.new.types.now ≡ self.old.types.now) }
         ensures grows { Grows self.old.types.now self.new.types.now }
         ensures same_reference { self.new.types.ghost_name ≡ self.old.types.ghost_name }
@@ -79,8 +85,10 @@ impl<'a> TypesMut<'a> {
     /// Adds an interface, all of whose ids stand here.
     pub fn add_interface(&mut self, interface: Interface) -> Result<InterfaceId, AllocError>
         requires { HasChildren self.old.types.now (interface_entry interface) }
-        ensures added { OnOk result (self.new.types.now ≡ record self.old.types.now { interfaces = self.old.types.now.interfaces ++ interface ∷ [] }) }
-        ensures id { IfOk result (λ i. i ≡ record { collection = self.old.types.now.number; index = length self.old.types.now.interfaces }) }
+        ensures added { OnOk result
+            (self.new.types.now ≡ record self.old.types.now { interfaces = self.old.types.now.interfaces ++ interface ∷ [] }) }
+        ensures id { IfOk result
+            (λ i. i ≡ record { collection = self.old.types.now.number; index = length self.old.types.now.interfaces }) }
         ensures err { OnErr result (self.new.types.now ≡ self.old.types.now) }
         ensures grows { Grows self.old.types.now self.new.types.now }
         ensures same_reference { self.new.types.ghost_name ≡ self.old.types.ghost_name }
@@ -91,8 +99,10 @@ impl<'a> TypesMut<'a> {
     /// Adds a world, all of whose ids stand here.
     pub fn add_world(&mut self, world: World) -> Result<WorldId, AllocError>
         requires { HasChildren self.old.types.now (world_entry world) }
-        ensures added { OnOk result (self.new.types.now ≡ record self.old.types.now { worlds = self.old.types.now.worlds ++ world ∷ [] }) }
-        ensures id { IfOk result (λ i. i ≡ record { collection = self.old.types.now.number; index = length self.old.types.now.worlds }) }
+        ensures added { OnOk result
+            (self.new.types.now ≡ record self.old.types.now { worlds = self.old.types.now.worlds ++ world ∷ [] }) }
+        ensures id { IfOk result
+            (λ i. i ≡ record { collection = self.old.types.now.number; index = length self.old.types.now.worlds }) }
         ensures err { OnErr result (self.new.types.now ≡ self.old.types.now) }
         ensures grows { Grows self.old.types.now self.new.types.now }
         ensures same_reference { self.new.types.ghost_name ≡ self.old.types.ghost_name }
@@ -102,8 +112,10 @@ impl<'a> TypesMut<'a> {
 
     /// Adds a module type.
     pub fn add_module_type(&mut self, ty: ModuleType) -> Result<ModuleTypeId, AllocError>
-        ensures added { OnOk result (self.new.types.now ≡ record self.old.types.now { modules = self.old.types.now.modules ++ ty ∷ [] }) }
-        ensures id { IfOk result (λ i. i ≡ record { collection = self.old.types.now.number; index = length self.old.types.now.modules }) }
+        ensures added { OnOk result
+            (self.new.types.now ≡ record self.old.types.now { modules = self.old.types.now.modules ++ ty ∷ [] }) }
+        ensures id { IfOk result
+            (λ i. i ≡ record { collection = self.old.types.now.number; index = length self.old.types.now.modules }) }
         ensures err { OnErr result (self.new.types.now ≡ self.old.types.now) }
         ensures grows { Grows self.old.types.now self.new.types.now }
         ensures same_reference { self.new.types.ghost_name ≡ self.old.types.ghost_name }

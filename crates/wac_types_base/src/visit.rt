@@ -114,7 +114,8 @@ impl Type {
         requires stands { Stands types.now (ItemKind.Ty self.now) }
         requires callable { F.IsAlwaysCallable visitor.old }
         ensures callable { F.IsAlwaysCallable visitor.new }
-        ensures visited { IsVisited (call_with F.step types.now) types.now (ItemKind.Ty self.now) visitor.old result visitor.new }
+        ensures visited { IsVisited (call_with F.step types.now) types.now
+            (ItemKind.Ty self.now) visitor.old result visitor.new }
     {
         visit_kind(types, ItemKind::Ty(*self), visitor)
     }

@@ -54,12 +54,15 @@ abbrev pub GivesAll : Collection → List (Name × ItemKind) → Collection → 
 GivesAll c es d fs = (n : Name) (k : ItemKind) → Among (n, k) fs → GivesName c es d n k
 
 -- nothing stands under the name, or something that disagrees with k
-pub data NameDisagrees (side : ExternKind) (c : Collection) (es : List (Name × ItemKind)) (d : Collection) (n : Name) (k : ItemKind) : List Step → Type 0 where
+pub data NameDisagrees (side : ExternKind) (c : Collection) (es : List (Name × ItemKind)) (d : Collection) (n : Name)
+    (k : ItemKind) : List Step → Type 0 where
   name_missing : value_at es n ≡ None → NameDisagrees side c es d n k ((side, n) ∷ [])
-  name_differs : (j : ItemKind) (ss : List Step) → value_at es n ≡ Some j → Disagree ss (tree_in c j) (tree_in d k) → NameDisagrees side c es d n k ((side, n) ∷ ss)
+  name_differs : (j : ItemKind) (ss : List Step) → value_at es n ≡ Some j → Disagree ss (tree_in c j) (tree_in d k)
+      → NameDisagrees side c es d n k ((side, n) ∷ ss)
 
 -- an item of the second list is missing in the first, or disagrees with the one there
-pub record ItemsDisagree (side : ExternKind) (c : Collection) (es : List (Name × ItemKind)) (d : Collection) (fs : List (Name × ItemKind)) (ss : List Step) : Type 0 where
+pub record ItemsDisagree (side : ExternKind) (c : Collection) (es : List (Name × ItemKind)) (d : Collection)
+    (fs : List (Name × ItemKind)) (ss : List Step) : Type 0 where
   pub name : Name
   pub kind : ItemKind
   pub asked : value_at fs name ≡ Some kind
@@ -77,11 +80,13 @@ import_at [] k = None
 import_at (e ∷ es) k = if pointwise ◌==◌ e.0.0 k.0 && pointwise ◌==◌ e.0.1 k.1 then Some e.1 else import_at es k
 
 -- under the name of each item of the second list, the first has just that item
-abbrev pub HasAll : {K : Type 0} → (List (K × CoreExtern) → K → Option CoreExtern) → List (K × CoreExtern) → List (K × CoreExtern) → Type 0
+abbrev pub HasAll : {K : Type 0} → (List (K × CoreExtern) → K → Option CoreExtern) → List (K × CoreExtern)
+    → List (K × CoreExtern) → Type 0
 HasAll {K} at es fs = (k : K) (x : CoreExtern) → Among (k, x) fs → at es k ≡ Some x
 
 -- an item of the second list, of this name, is not in the first
-pub record LacksOne {K : Type 0} (at : List (K × CoreExtern) → K → Option CoreExtern) (side : ExternKind) (name : K → Name) (es fs : List (K × CoreExtern)) (ss : List Step) : Type 0 where
+pub record LacksOne {K : Type 0} (at : List (K × CoreExtern) → K → Option CoreExtern) (side : ExternKind) (name : K → Name)
+    (es fs : List (K × CoreExtern)) (ss : List Step) : Type 0 where
   pub key : K
   pub item : CoreExtern
   pub asked : Among (key, item) fs

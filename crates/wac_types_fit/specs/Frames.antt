@@ -31,16 +31,21 @@ mutual
     -- no step goes through the type of a thing
     in_type : {ss : List Step} {t u : Tree} → Disagree ss t u → Disagree ss (type_item t) (type_item u)
     in_instance : {ss : List Step} {xs ys : Fields} → Misses ExternKind.Export ss xs ys → Disagree ss (instance xs) (instance ys)
-    in_exports : {ss : List Step} {is es js fs : Fields} → Misses ExternKind.Export ss es fs → Disagree ss (component is es) (component js fs)
+    in_exports : {ss : List Step} {is es js fs : Fields} → Misses ExternKind.Export ss es fs
+        → Disagree ss (component is es) (component js fs)
     -- an import of the first is asked of the second: the sides change
-    in_imports : {ss : List Step} {is es js fs : Fields} → Misses ExternKind.Import ss js is → Disagree ss (component is es) (component js fs)
+    in_imports : {ss : List Step} {is es js fs : Fields} → Misses ExternKind.Import ss js is
+        → Disagree ss (component is es) (component js fs)
     core_export : {n : Name} (x : CoreExtern) {is js : List ((Name × Name) × CoreExtern)} {es fs : List (Name × CoreExtern)} →
         Among (n, x) fs → (Among (n, x) es → ⊥) → Disagree ((ExternKind.Export, n) ∷ []) (core_module is es) (core_module js fs)
-    core_import : (k : Name × Name) (x : CoreExtern) {is js : List ((Name × Name) × CoreExtern)} {es fs : List (Name × CoreExtern)} →
-        Among (k, x) is → (Among (k, x) js → ⊥) → Disagree ((ExternKind.Import, joined_name k) ∷ []) (core_module is es) (core_module js fs)
+    core_import : (k : Name × Name) (x : CoreExtern) {is js : List ((Name × Name) × CoreExtern)}
+        {es fs : List (Name × CoreExtern)} →
+        Among (k, x) is → (Among (k, x) js → ⊥)
+        → Disagree ((ExternKind.Import, joined_name k) ∷ []) (core_module is es) (core_module js fs)
 
   -- an item that is asked is missing among those given, or disagrees with the one of its name
   pub data Misses : ExternKind → List Step → Fields → Fields → Type 0 where
-    item_missing : {side : ExternKind} {n : Name} {u : Tree} {xs ys : Fields} → lookup n xs ≡ None → lookup n ys ≡ Some u → Misses side ((side, n) ∷ []) xs ys
+    item_missing : {side : ExternKind} {n : Name} {u : Tree} {xs ys : Fields} → lookup n xs ≡ None → lookup n ys ≡ Some u
+        → Misses side ((side, n) ∷ []) xs ys
     item_differs : {side : ExternKind} {n : Name} {t u : Tree} {xs ys : Fields} {ss : List Step} →
         lookup n xs ≡ Some t → lookup n ys ≡ Some u → Disagree ss t u → Misses side ((side, n) ∷ ss) xs ys

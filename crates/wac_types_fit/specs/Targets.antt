@@ -72,7 +72,8 @@ pub record AreLacking (given : Name → Option ItemKind) (es : List (Name × Ite
   pub names : ns ≡ names_of lacking
 
 -- the items that differ, each with the steps of its fault, after others
-pub record Differing (Differs : Name × ItemKind → Type 0) (Leads : Name × ItemKind → List Step → Type 0) (side : ExternKind) (es : List (Name × ItemKind)) (old new : List Mismatched) : Type 0 where
+pub record Differing (Differs : Name × ItemKind → Type 0) (Leads : Name × ItemKind → List Step → Type 0) (side : ExternKind)
+    (es : List (Name × ItemKind)) (old new : List Mismatched) : Type 0 where
   pub differing : List (Name × ItemKind)
   pub those : AreThose Differs es differing
   pub mismatched : List Mismatched
@@ -86,8 +87,10 @@ pub record IsReport (c : Collection) (target component : World) (r : Report) : T
   pub imports_not_in_target : AreLacking (target_import implicit target.imports) component.imports r.imports_not_in_target
   pub missing_exports : AreThose (IsLacking (value_at component.exports)) target.exports r.missing_exports
   pub imports : List Mismatched
-  pub mismatched_imports : Differing (ImportDiffers c (target_import implicit target.imports)) (ImportLeads c (target_import implicit target.imports)) ExternKind.Import component.imports [] imports
-  pub mismatched_types : Differing (ExportDiffers c (value_at component.exports)) (ExportLeads c (value_at component.exports)) ExternKind.Export target.exports imports r.mismatched_types
+  pub mismatched_imports : Differing (ImportDiffers c (target_import implicit target.imports))
+      (ImportLeads c (target_import implicit target.imports)) ExternKind.Import component.imports [] imports
+  pub mismatched_types : Differing (ExportDiffers c (value_at component.exports))
+      (ExportLeads c (value_at component.exports)) ExternKind.Export target.exports imports r.mismatched_types
 
 -- the three lists are empty
 pub record IsEmptyReport (r : Report) : Type 0 where

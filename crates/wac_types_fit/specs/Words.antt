@@ -27,7 +27,8 @@ core_word (CoreExtern.Tag f) = codes "core tag"
 
 -- the steps lead to an import, or to nothing, that is called so
 abbrev pub ImportCalled : List ((Name × Name) × CoreExtern) → List Step → Option Name → Type 0
-ImportCalled es ss w = (k : Name × Name) × (ss ≡ (ExternKind.Import, joined_name k) ∷ []) × (w ≡ option_map core_word (import_at es k))
+ImportCalled es ss w =
+    (k : Name × Name) × (ss ≡ (ExternKind.Import, joined_name k) ∷ []) × (w ≡ option_map core_word (import_at es k))
 
 abbrev pub ExportCalled : List (Name × CoreExtern) → List Step → Option Name → Type 0
 ExportCalled es ss w = (n : Name) × (ss ≡ (ExternKind.Export, n) ∷ []) × (w ≡ option_map core_word (value_at es n))
@@ -40,17 +41,23 @@ mutual
   pub data Called (c : Collection) : ItemKind → List Step → Option Name → Type 0 where
     itself : (k : ItemKind) → Called c k [] (Some (desc (stated_of c k)))
     in_instance : (i : InterfaceId) (x : Interface) (ss : List Step) (w : Option Name) →
-        slice_get c.interfaces i.index ≡ Some x → ItemsCalled c ExternKind.Export x.exports ss w → Called c (ItemKind.Instance i) ss w
+        slice_get c.interfaces i.index ≡ Some x → ItemsCalled c ExternKind.Export x.exports ss w
+        → Called c (ItemKind.Instance i) ss w
     in_interface : (i : InterfaceId) (x : Interface) (ss : List Step) (w : Option Name) →
-        slice_get c.interfaces i.index ≡ Some x → ItemsCalled c ExternKind.Export x.exports ss w → Called c (ItemKind.Ty (TypeKind.Interface i)) ss w
+        slice_get c.interfaces i.index ≡ Some x → ItemsCalled c ExternKind.Export x.exports ss w
+        → Called c (ItemKind.Ty (TypeKind.Interface i)) ss w
     in_component_exports : (i : WorldId) (x : World) (ss : List Step) (w : Option Name) →
-        slice_get c.worlds i.index ≡ Some x → ItemsCalled c ExternKind.Export x.exports ss w → Called c (ItemKind.Component i) ss w
+        slice_get c.worlds i.index ≡ Some x → ItemsCalled c ExternKind.Export x.exports ss w
+        → Called c (ItemKind.Component i) ss w
     in_component_imports : (i : WorldId) (x : World) (ss : List Step) (w : Option Name) →
-        slice_get c.worlds i.index ≡ Some x → ItemsCalled c ExternKind.Import x.imports ss w → Called c (ItemKind.Component i) ss w
+        slice_get c.worlds i.index ≡ Some x → ItemsCalled c ExternKind.Import x.imports ss w
+        → Called c (ItemKind.Component i) ss w
     in_world_exports : (i : WorldId) (x : World) (ss : List Step) (w : Option Name) →
-        slice_get c.worlds i.index ≡ Some x → ItemsCalled c ExternKind.Export x.exports ss w → Called c (ItemKind.Ty (TypeKind.World i)) ss w
+        slice_get c.worlds i.index ≡ Some x → ItemsCalled c ExternKind.Export x.exports ss w
+        → Called c (ItemKind.Ty (TypeKind.World i)) ss w
     in_world_imports : (i : WorldId) (x : World) (ss : List Step) (w : Option Name) →
-        slice_get c.worlds i.index ≡ Some x → ItemsCalled c ExternKind.Import x.imports ss w → Called c (ItemKind.Ty (TypeKind.World i)) ss w
+        slice_get c.worlds i.index ≡ Some x → ItemsCalled c ExternKind.Import x.imports ss w
+        → Called c (ItemKind.Ty (TypeKind.World i)) ss w
     in_module : (i : ModuleTypeId) (m : ModuleType) (ss : List Step) (w : Option Name) →
         slice_get c.modules i.index ≡ Some m → CoreCalled m ss w → Called c (ItemKind.Module i) ss w
     in_module_type : (i : ModuleTypeId) (m : ModuleType) (ss : List Step) (w : Option Name) →
@@ -58,8 +65,10 @@ mutual
 
   -- the same through the items of one side
   pub data ItemsCalled (c : Collection) : ExternKind → List (Name × ItemKind) → List Step → Option Name → Type 0 where
-    nothing_called : (side : ExternKind) (es : List (Name × ItemKind)) (n : Name) → value_at es n ≡ None → ItemsCalled c side es ((side, n) ∷ []) None
-    item_called : (side : ExternKind) (es : List (Name × ItemKind)) (n : Name) (j : ItemKind) (ss : List Step) (w : Option Name) →
+    nothing_called : (side : ExternKind) (es : List (Name × ItemKind)) (n : Name) → value_at es n ≡ None
+        → ItemsCalled c side es ((side, n) ∷ []) None
+    item_called : (side : ExternKind) (es : List (Name × ItemKind)) (n : Name) (j : ItemKind) (ss : List Step) (w : Option Name)
+        →
         value_at es n ≡ Some j → Called c j ss w → ItemsCalled c side es ((side, n) ∷ ss) w
 
 -- the first is the word for what is asked and the second for what is given; the other way round where a checker is turned
@@ -80,10 +89,12 @@ in_turn true asked given = (given, asked)
 
 -- through an interface, a world or a module type, in whichever form it is asked
 abbrev pub InstanceCalled : Collection → InterfaceId → List Step → Option Name → Type 0
-InstanceCalled c i ss w = (x : Interface) × (slice_get c.interfaces i.index ≡ Some x) × ItemsCalled c ExternKind.Export x.exports ss w
+InstanceCalled c i ss w =
+    (x : Interface) × (slice_get c.interfaces i.index ≡ Some x) × ItemsCalled c ExternKind.Export x.exports ss w
 
 abbrev pub WorldCalled : Collection → WorldId → List Step → Option Name → Type 0
-WorldCalled c i ss w = (x : World) × (slice_get c.worlds i.index ≡ Some x) × (ItemsCalled c ExternKind.Import x.imports ss w ⊎ ItemsCalled c ExternKind.Export x.exports ss w)
+WorldCalled c i ss w = (x : World) × (slice_get c.worlds i.index ≡ Some x)
+    × (ItemsCalled c ExternKind.Import x.imports ss w ⊎ ItemsCalled c ExternKind.Export x.exports ss w)
 
 -- through an item of this name
 abbrev pub NamedCalled : Collection → ExternKind → Name → ItemKind → List Step → Option Name → Type 0

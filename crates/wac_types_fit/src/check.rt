@@ -166,7 +166,8 @@ fn types_fit(
     requires cache { IsTrueOf at.now bt.now cache.old.keys }
     ensures yes { OnOk result (Fit at.now (ItemKind.Ty a) bt.now (ItemKind.Ty b)) }
     ensures no { IfMismatch result (λ ss. Disagree ss (tree_in at.now (ItemKind.Ty a)) (tree_in bt.now (ItemKind.Ty b))) }
-    ensures words { IfSaid result (λ ss e f. AreCalled turned (Called at.now (ItemKind.Ty a) ss) (Called bt.now (ItemKind.Ty b) ss) e f) }
+    ensures words { IfSaid result (λ ss e f. AreCalled turned (Called at.now (ItemKind.Ty a) ss)
+        (Called bt.now (ItemKind.Ty b) ss) e f) }
     ensures only { OnlyTrue at.now bt.now cache.old.keys cache.new.keys }
     ensures cache { IsTrueOf at.now bt.now cache.new.keys }
 {
@@ -226,7 +227,8 @@ fn instances_fit(
     requires apart { OneOrApart at.now bt.now }
     requires cache { IsTrueOf at.now bt.now cache.old.keys }
     ensures yes { OnOk result (Fit at.now (ItemKind.Instance a) bt.now (ItemKind.Instance b)) }
-    ensures no { IfMismatch result (λ ss. Disagree ss (tree_in at.now (ItemKind.Instance a)) (tree_in bt.now (ItemKind.Instance b))) }
+    ensures no { IfMismatch result (λ ss. Disagree ss (tree_in at.now (ItemKind.Instance a))
+        (tree_in bt.now (ItemKind.Instance b))) }
     ensures words { IfSaid result (λ ss e f. AreCalled turned (InstanceCalled at.now a ss) (InstanceCalled bt.now b ss) e f) }
     ensures only { OnlyTrue at.now bt.now cache.old.keys cache.new.keys }
     ensures cache { IsTrueOf at.now bt.now cache.new.keys }
@@ -263,7 +265,8 @@ fn worlds_fit(
     requires apart { OneOrApart at.now bt.now }
     requires cache { IsTrueOf at.now bt.now cache.old.keys }
     ensures yes { OnOk result (Fit at.now (ItemKind.Component a) bt.now (ItemKind.Component b)) }
-    ensures no { IfMismatch result (λ ss. Disagree ss (tree_in at.now (ItemKind.Component a)) (tree_in bt.now (ItemKind.Component b))) }
+    ensures no { IfMismatch result (λ ss. Disagree ss (tree_in at.now (ItemKind.Component a))
+        (tree_in bt.now (ItemKind.Component b))) }
     ensures words { IfSaid result (λ ss e f. AreCalled turned (WorldCalled at.now a ss) (WorldCalled bt.now b ss) e f) }
     ensures only { OnlyTrue at.now bt.now cache.old.keys cache.new.keys }
     ensures cache { IsTrueOf at.now bt.now cache.new.keys }
@@ -318,7 +321,8 @@ fn items_fit(
     requires cache { IsTrueOf at.now bt.now cache.old.keys }
     ensures yes { OnOk result (GivesAll at.now given.now bt.now asked.now) }
     ensures no { IfMismatch result (ItemsDisagree side at.now given.now bt.now asked.now) }
-    ensures words { IfSaid result (λ ss e f. AreCalled turned (ItemsCalled at.now side given.now ss) (ItemsCalled bt.now side asked.now ss) e f) }
+    ensures words { IfSaid result (λ ss e f. AreCalled turned (ItemsCalled at.now side given.now ss)
+        (ItemsCalled bt.now side asked.now ss) e f) }
     ensures only { OnlyTrue at.now bt.now cache.old.keys cache.new.keys }
     ensures cache { IsTrueOf at.now bt.now cache.new.keys }
 {
@@ -353,7 +357,8 @@ fn item_fits(
     requires cache { IsTrueOf at.now bt.now cache.old.keys }
     ensures yes { OnOk result (GivesName at.now given.now bt.now name.now kind) }
     ensures no { IfMismatch result (NameDisagrees side at.now given.now bt.now name.now kind) }
-    ensures words { IfSaid result (λ ss e f. AreCalled turned (ItemsCalled at.now side given.now ss) (NamedCalled bt.now side name.now kind ss) e f) }
+    ensures words { IfSaid result (λ ss e f. AreCalled turned (ItemsCalled at.now side given.now ss)
+        (NamedCalled bt.now side name.now kind ss) e f) }
     ensures only { OnlyTrue at.now bt.now cache.old.keys cache.new.keys }
     ensures cache { IsTrueOf at.now bt.now cache.new.keys }
 {

@@ -239,7 +239,9 @@ fn item_fits(
 ) -> Result<(), SubtypeError>
     ensures yes { OnOk result (option_copied given.entry ≡ Some asked.now) }
     ensures no { IfMismatch result (λ ss. (ss ≡ []) × (option_copied given.entry ≡ Some asked.now → ⊥)) }
-    ensures words { said result ≡ None ⊎ (said result ≡ Some ([], in_turn turned (Some (core_word asked.now)) (option_map core_word (option_copied given.entry)))) }
+    ensures words { said result ≡ None
+        ⊎ (said result
+        ≡ Some ([], in_turn turned (Some (core_word asked.now)) (option_map core_word (option_copied given.entry)))) }
 {
     match given {
         None => Err(mismatch(alloc, turned, None, Some(item_desc(asked)))),
@@ -260,7 +262,8 @@ fn item_fits(
 
 /// Whether an import has these names.
 fn is_named(found: &(String, String), from: &str, name: &str) -> bool
-    ensures { result ≡ (pointwise ◌==◌ (string_bytes found.now.0) from.now && pointwise ◌==◌ (string_bytes found.now.1) name.now) }
+    ensures { result
+        ≡ (pointwise ◌==◌ (string_bytes found.now.0) from.now && pointwise ◌==◌ (string_bytes found.now.1) name.now) }
 {
     found.0.as_str() == from && found.1.as_str() == name
 }
@@ -291,7 +294,9 @@ fn join_names(alloc: Global, from: &str, name: &str) -> Result<String, AllocErro
 
 /// The fault, behind an import of these names.
 fn behind_import(alloc: Global, from: &str, name: &str, fault: SubtypeError) -> SubtypeError
-    ensures steps { (ss : List Step) → steps_of result ≡ Some ss → (rest : List Step) × (steps_of fault ≡ Some rest) × (ss ≡ (ExternKind.Import, joined_name (from.now, name.now)) ∷ rest) }
+    ensures steps { (ss : List Step) → steps_of result ≡ Some ss
+        → (rest : List Step) × (steps_of fault ≡ Some rest)
+        × (ss ≡ (ExternKind.Import, joined_name (from.now, name.now)) ∷ rest) }
     ensures words { SaysBehind result (ExternKind.Import, joined_name (from.now, name.now)) fault }
 {
     match join_names(alloc, from, name) {

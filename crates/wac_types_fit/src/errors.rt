@@ -47,7 +47,8 @@ pub(crate) fn mismatch(
 
 /// The fault, one frame further out.
 pub(crate) fn behind(kind: ExternKind, name: String, fault: SubtypeError) -> SubtypeError
-    ensures steps { (ss : List Step) → steps_of result ≡ Some ss → (rest : List Step) × (steps_of fault ≡ Some rest) × (ss ≡ (kind, string_bytes name) ∷ rest) }
+    ensures steps { (ss : List Step) → steps_of result ≡ Some ss
+        → (rest : List Step) × (steps_of fault ≡ Some rest) × (ss ≡ (kind, string_bytes name) ∷ rest) }
     ensures words { SaysBehind result (kind, string_bytes name) fault }
 {
     match fault {
@@ -69,7 +70,8 @@ pub(crate) fn behind(kind: ExternKind, name: String, fault: SubtypeError) -> Sub
 
 /// The fault, behind an item of this name.
 pub fn within(alloc: Global, kind: ExternKind, name: &str, fault: SubtypeError) -> SubtypeError
-    ensures steps { (ss : List Step) → steps_of result ≡ Some ss → (rest : List Step) × (steps_of fault ≡ Some rest) × (ss ≡ (kind, name.now) ∷ rest) }
+    ensures steps { (ss : List Step) → steps_of result ≡ Some ss
+        → (rest : List Step) × (steps_of fault ≡ Some rest) × (ss ≡ (kind, name.now) ∷ rest) }
     ensures words { SaysBehind result (kind, name.now) fault }
 {
     match String::from_str(alloc, name) {

@@ -26,7 +26,8 @@ pub fn refusals_are_true()
 /// Two trees in order that a common tree fits have a greatest tree that fits both, where one of them has no component and
 /// no module in it. There is at most one such tree, and that of several trees may be found one by one.
 pub fn meets_of_plain_trees()
-    ensures there_is_one { (a b x : Tree) → InOrder a → InOrder b → InOrder x → IsPlain a → Fits x a → Fits x b → (m : Tree) × IsMeet m (a ∷ b ∷ []) }
+    ensures there_is_one { (a b x : Tree) → InOrder a → InOrder b → InOrder x → IsPlain a → Fits x a → Fits x b
+        → (m : Tree) × IsMeet m (a ∷ b ∷ []) }
     ensures at_most_one { (m k : Tree) (ts : List Tree) → IsMeet m ts → IsMeet k ts → m ≡ k }
     ensures one_more { (k m u : Tree) (ts : List Tree) → IsMeet k ts → IsMeet m (k ∷ u ∷ []) → IsMeet m (ts ++ u ∷ []) }
 {}

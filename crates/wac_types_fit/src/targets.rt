@@ -157,7 +157,8 @@ fn lacking_imports(
     target: &World,
     imports: &NamedMap<ItemKind>,
 ) -> Result<Vec<String>, AllocError>
-    ensures { IfOk result (λ names. AreLacking (target_import (shown implicit.now.entries) target.now.imports) imports.now (texts_of names.items)) }
+    ensures { IfOk result (λ names. AreLacking (target_import (shown implicit.now.entries) target.now.imports) imports.now
+        (texts_of names.items)) }
 {
     let mut lacking = Vec::new(alloc);
     for at in 0..imports.len() {
@@ -197,7 +198,8 @@ fn missing_exports(
     component: &World,
     exports: &NamedMap<ItemKind>,
 ) -> Result<Vec<(String, ItemKind)>, AllocError>
-    ensures { IfOk result (λ missing. AreThose (IsLacking (value_at component.now.exports)) exports.now (entries_of missing.items)) }
+    ensures { IfOk result
+        (λ missing. AreThose (IsLacking (value_at component.now.exports)) exports.now (entries_of missing.items)) }
 {
     let mut missing = Vec::new(alloc);
     for at in 0..exports.len() {
@@ -216,7 +218,8 @@ fn add_fault(
     fault: SubtypeError,
     found: &mut Vec<(String, ExternKind, SubtypeError)>,
 ) -> Result<(), AllocError>
-    ensures { OnOk result (IsSome (steps_of fault) × (mismatches found.new.items ≡ mismatches found.old.items ++ (name.now, side, steps_of fault) ∷ [])) }
+    ensures { OnOk result (IsSome (steps_of fault)
+        × (mismatches found.new.items ≡ mismatches found.old.items ++ (name.now, side, steps_of fault) ∷ [])) }
 {
     match fault {
         SubtypeError::Memory => Err(AllocError),
@@ -250,7 +253,8 @@ fn add_mismatch(
     requires given { Stands types.now a }
     requires asked { Stands types.now b }
     requires cache { IsTrueOf types.now types.now cache.old.keys }
-    ensures checked { OnOk result (PairChecked types.now a b side name.now (mismatches found.old.items) (mismatches found.new.items)) }
+    ensures checked { OnOk result
+        (PairChecked types.now a b side name.now (mismatches found.old.items) (mismatches found.new.items)) }
     ensures cache { IsTrueOf types.now types.now cache.new.keys }
 {
     let turned = matches!(side, ExternKind::Import);
@@ -273,7 +277,8 @@ fn check_import(
     requires given { KindStands types.now given }
     requires asked { Stands types.now kind }
     requires cache { IsTrueOf types.now types.now cache.old.keys }
-    ensures checked { OnOk result (ImportChecked types.now given name.now kind (mismatches found.old.items) (mismatches found.new.items)) }
+    ensures checked { OnOk result
+        (ImportChecked types.now given name.now kind (mismatches found.old.items) (mismatches found.new.items)) }
     ensures cache { IsTrueOf types.now types.now cache.new.keys }
 {
     match given {
@@ -307,7 +312,8 @@ fn check_export(
     requires given { KindStands types.now given }
     requires asked { Stands types.now kind }
     requires cache { IsTrueOf types.now types.now cache.old.keys }
-    ensures checked { OnOk result (ExportChecked types.now given name.now kind (mismatches found.old.items) (mismatches found.new.items)) }
+    ensures checked { OnOk result
+        (ExportChecked types.now given name.now kind (mismatches found.old.items) (mismatches found.new.items)) }
     ensures cache { IsTrueOf types.now types.now cache.new.keys }
 {
     match given {
@@ -341,7 +347,10 @@ fn check_imports(
     requires given { GivesStanding types.now (target_import (shown implicit.now.entries) target.now.imports) }
     requires asked { AllStand types.now imports.now }
     requires cache { IsTrueOf types.now types.now cache.old.keys }
-    ensures checked { OnOk result (Differing (ImportDiffers types.now (target_import (shown implicit.now.entries) target.now.imports)) (ImportLeads types.now (target_import (shown implicit.now.entries) target.now.imports)) ExternKind.Import imports.now (mismatches found.old.items) (mismatches found.new.items)) }
+    ensures checked { OnOk result (Differing (ImportDiffers types.now
+        (target_import (shown implicit.now.entries) target.now.imports))
+        (ImportLeads types.now (target_import (shown implicit.now.entries) target.now.imports)) ExternKind.Import imports.now
+        (mismatches found.old.items) (mismatches found.new.items)) }
     ensures cache { IsTrueOf types.now types.now cache.new.keys }
 {
     for at in 0..imports.len() {
@@ -364,7 +373,9 @@ fn check_exports(
     requires given { GivesStanding types.now (value_at component.now.exports) }
     requires asked { AllStand types.now exports.now }
     requires cache { IsTrueOf types.now types.now cache.old.keys }
-    ensures checked { OnOk result (Differing (ExportDiffers types.now (value_at component.now.exports)) (ExportLeads types.now (value_at component.now.exports)) ExternKind.Export exports.now (mismatches found.old.items) (mismatches found.new.items)) }
+    ensures checked { OnOk result (Differing (ExportDiffers types.now (value_at component.now.exports))
+        (ExportLeads types.now (value_at component.now.exports)) ExternKind.Export exports.now (mismatches found.old.items)
+        (mismatches found.new.items)) }
     ensures cache { IsTrueOf types.now types.now cache.new.keys }
 {
     for at in 0..exports.len() {
@@ -383,7 +394,8 @@ fn report_of(
     target: &World,
     component: &World,
 ) -> Result<TargetValidationReport, AllocError>
-    requires implicit { by_identifier types.now [] (implicit_interfaces types.now target.now) ≡ Some (shown implicit.now.entries) }
+    requires implicit { by_identifier types.now [] (implicit_interfaces types.now target.now)
+        ≡ Some (shown implicit.now.entries) }
     requires given_imports { GivesStanding types.now (target_import (shown implicit.now.entries) target.now.imports) }
     requires imports { AllStand types.now component.now.imports }
     requires given_exports { GivesStanding types.now (value_at component.now.exports) }
@@ -426,8 +438,12 @@ pub fn validate_target(
 ) -> Result<TargetValidationResult, TargetError>
     requires target { Stands types.now (ItemKind.Component target) }
     requires component { Stands types.now (ItemKind.Component component) }
-    ensures report { (x y : World) → slice_get types.now.worlds target.index ≡ Some x → slice_get types.now.worlds component.index ≡ Some y → IfOk result (λ answer. (r : Report) × IsReport types.now x y r × Tells r answer) }
-    ensures unnamed { (x : World) → slice_get types.now.worlds target.index ≡ Some x → IfErr result (λ e. e ≡ TargetError.UsedWithoutIdentifier → by_identifier types.now [] (implicit_interfaces types.now x) ≡ None) }
+    ensures report { (x y : World) → slice_get types.now.worlds target.index ≡ Some x
+        → slice_get types.now.worlds component.index ≡ Some y
+        → IfOk result (λ answer. (r : Report) × IsReport types.now x y r × Tells r answer) }
+    ensures unnamed { (x : World) → slice_get types.now.worlds target.index ≡ Some x
+        → IfErr result (λ e. e ≡ TargetError.UsedWithoutIdentifier
+        → by_identifier types.now [] (implicit_interfaces types.now x) ≡ None) }
 {
     let wanted = types.world(target);
     let own = types.world(component);

@@ -48,7 +48,8 @@ IsPlace ms n (Some i) = (m : Import) × (slice_get ms i ≡ Some m) × AreCompat
 
 -- the name that stands on the name's track, else the name
 abbrev pub IsCanonical : List Import → Name → Name → Type 0
-IsCanonical ms n s = ((m : Import) × Among m ms × AreCompatible m.name n × (s ≡ m.name)) ⊎ (((m : Import) → Among m ms → AreCompatible m.name n → ⊥) × (s ≡ n))
+IsCanonical ms n s = ((m : Import) × Among m ms × AreCompatible m.name n × (s ≡ m.name))
+    ⊎ (((m : Import) → Among m ms → AreCompatible m.name n → ⊥) × (s ≡ n))
 
 -- the later of two names
 abbrev pub IsGreater : Name → Name → Name → Type 0

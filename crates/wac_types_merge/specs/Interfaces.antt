@@ -84,7 +84,8 @@ OtherClash c a None = ⊥
 OtherClash c a (Some b) = ClashIn c a b
 
 -- name by name, the third list has what the first has, joined with what the second has under the name
-abbrev pub AreJoined : Collection → List (Name × ItemKind) → Collection → List (Name × ItemKind) → List (Name × ItemKind) → Type 0
+abbrev pub AreJoined : Collection → List (Name × ItemKind) → Collection → List (Name × ItemKind) → List (Name × ItemKind)
+    → Type 0
 AreJoined c fs d [] [] = Unit {0}
 AreJoined c fs d [] (g ∷ gs) = ⊥
 AreJoined c fs d (e ∷ es) [] = ⊥

@@ -53,7 +53,8 @@ none_yet n = imports_in (empty n) []
 -- each of the asks is accepted by what those before it left
 pub data AreAsked (old : Imports) : List Ask → Imports → Type 0 where
   none_asked : AreAsked old [] old
-  one_more_asked : (asks : List Ask) (a : Ask) (g h : Imports) → AreAsked old asks g → IsAsked g a h → AreAsked old (asks ++ a ∷ []) h
+  one_more_asked : (asks : List Ask) (a : Ask) (g h : Imports) → AreAsked old asks g → IsAsked g a h
+      → AreAsked old (asks ++ a ∷ []) h
 
 -- an ask of a caller
 abbrev pub Lent : Type 0

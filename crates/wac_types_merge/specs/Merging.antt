@@ -63,9 +63,13 @@ pub record AskedAgain (old new : Imports) (a : Ask) : Type 0 where
   pub family : after.family ≡ joint before.family own_family
   pub meet : IsMeet (tree_in new.types after.kind) (tree_in old.types before.kind ∷ tree_asked a ∷ [])
   -- in one family, what merging makes of the two
-  pub united : (after.family ≡ Family.Neither → ⊥) → KeepsUnited (stated_of old.types before.kind) (stated_of a.types a.kind) a.name after.name (stated_of new.types after.kind)
+  pub united : (after.family ≡ Family.Neither → ⊥)
+      → KeepsUnited (stated_of old.types before.kind) (stated_of a.types a.kind) a.name after.name
+      (stated_of new.types after.kind)
   -- in no one family, the narrower of the two
-  pub narrower : after.family ≡ Family.Neither → KeepsNarrower (stated_of old.types before.kind) (stated_of a.types a.kind) a.name after.name (stated_of new.types after.kind)
+  pub narrower : after.family ≡ Family.Neither
+      → KeepsNarrower (stated_of old.types before.kind) (stated_of a.types a.kind) a.name after.name
+      (stated_of new.types after.kind)
   pub identified : IsSome (lookup_key a.name) → IsIdentified new.types after.kind after.name
 
 -- what an accepted ask does; the other imports keep their trees

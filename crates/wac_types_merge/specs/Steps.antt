@@ -23,7 +23,8 @@ abbrev pub LieOutside : Collection → Family → ItemKind → ItemKind → Type
 LieOutside c f a b = (f ≡ Family.Neither) × NeitherFits c a b
 
 -- an import of d: j of c with its stated type, under the greater of two names
-pub record IsSpelledImport (c : Collection) (old name : Name) (j : ItemKind) (f : Family) (d : Collection) (m : Import) : Type 0 where
+pub record IsSpelledImport (c : Collection) (old name : Name) (j : ItemKind) (f : Family) (d : Collection)
+    (m : Import) : Type 0 where
   pub stands : Stands d m.kind
   pub tree : tree_in d m.kind ≡ tree_in c j
   pub greater : IsGreater old name m.name
@@ -32,10 +33,13 @@ pub record IsSpelledImport (c : Collection) (old name : Name) (j : ItemKind) (f 
   pub stated : stated_of d m.kind ≡ spelled_if (is_some (lookup_key name)) m.name (stated_of c j)
 
 -- the import of d after an item of c is asked beside the import before, in this family
-pub record IsMerged (c : Collection) (before : Import) (name : Name) (asked : ItemKind) (f : Family) (d : Collection) (after : Import) : Type 0 where
+pub record IsMerged (c : Collection) (before : Import) (name : Name) (asked : ItemKind) (f : Family) (d : Collection)
+    (after : Import) : Type 0 where
   pub kept : MeetIn c before.kind asked d after.kind
   pub greater : IsGreater before.name name after.name
   pub family : after.family ≡ joint before.family f
-  pub united : (after.family ≡ Family.Neither → ⊥) → KeepsUnited (stated_of c before.kind) (stated_of c asked) name after.name (stated_of d after.kind)
-  pub narrower : after.family ≡ Family.Neither → KeepsNarrower (stated_of c before.kind) (stated_of c asked) name after.name (stated_of d after.kind)
+  pub united : (after.family ≡ Family.Neither → ⊥)
+      → KeepsUnited (stated_of c before.kind) (stated_of c asked) name after.name (stated_of d after.kind)
+  pub narrower : after.family ≡ Family.Neither
+      → KeepsNarrower (stated_of c before.kind) (stated_of c asked) name after.name (stated_of d after.kind)
   pub identified : IsSome (lookup_key name) → IsIdentified d after.kind after.name

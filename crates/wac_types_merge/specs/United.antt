@@ -23,16 +23,20 @@ mutual
   pub data Unites : Stated → Stated → Stated → Type 0 where
     -- of other items that is the first, owners and all
     the_first : (t u : Stated) → (AreBoth t u → ⊥) → Unites t u t
-    -- of two instances one with the identifier of the first, the uses of both and the exports of both, those of the first before others
+    -- of two instances one with the identifier of the first, the uses of both and the exports of both, those of the first before
+    -- others
     of_instances : (t u v : Stated) → AreBoth t u → kind_of v ≡ kind_of t → identifier_of v ≡ identifier_of t
         → by_name (uses_of v) ≡ joined (by_name (uses_of t)) (by_name (uses_of u))
-        → (es : List (Name × Stated)) → ExportsUnite (exports_of u) (exports_of t) es → exports_of v ≡ es ++ new_in (exports_of t) (exports_of u) → Unites t u v
+        → (es : List (Name × Stated)) → ExportsUnite (exports_of u) (exports_of t) es
+        → exports_of v ≡ es ++ new_in (exports_of t) (exports_of u) → Unites t u v
 
   -- each of the first with what the others have under its name
   pub data ExportsUnite : List (Name × Stated) → List (Name × Stated) → List (Name × Stated) → Type 0 where
     none_united : {others : List (Name × Stated)} → ExportsUnite others [] []
-    one_alone : {others : List (Name × Stated)} (n : Name) (t : Stated) (es fs : List (Name × Stated)) → value_at others n ≡ None → ExportsUnite others es fs → ExportsUnite others ((n, t) ∷ es) ((n, t) ∷ fs)
-    one_united : {others : List (Name × Stated)} (n : Name) (t u v : Stated) (es fs : List (Name × Stated)) → value_at others n ≡ Some u → Unites t u v → ExportsUnite others es fs → ExportsUnite others ((n, t) ∷ es) ((n, v) ∷ fs)
+    one_alone : {others : List (Name × Stated)} (n : Name) (t : Stated) (es fs : List (Name × Stated)) → value_at others n ≡ None
+        → ExportsUnite others es fs → ExportsUnite others ((n, t) ∷ es) ((n, t) ∷ fs)
+    one_united : {others : List (Name × Stated)} (n : Name) (t u v : Stated) (es fs : List (Name × Stated))
+        → value_at others n ≡ Some u → Unites t u v → ExportsUnite others es fs → ExportsUnite others ((n, t) ∷ es) ((n, v) ∷ fs)
 
 -- k of d is what merging makes of a and b of c
 abbrev pub UnitesIn : Collection → ItemKind → ItemKind → Collection → ItemKind → Type 0
@@ -51,8 +55,10 @@ abbrev pub OtherUnites : Collection → ItemKind → Option ItemKind → Collect
 OtherUnites c a None d k = stated_of d k ≡ stated_of c a
 OtherUnites c a (Some b) d k = UnitesIn c a b d k
 
-abbrev pub ItemsUnite : Collection → List (Name × ItemKind) → Collection → List (Name × ItemKind) → List (Name × ItemKind) → Type 0
-ItemsUnite c asked d kept both = ExportsUnite (with_values (stated_of c) asked) (with_values (stated_of c) kept) (with_values (stated_of d) both)
+abbrev pub ItemsUnite : Collection → List (Name × ItemKind) → Collection → List (Name × ItemKind) → List (Name × ItemKind)
+    → Type 0
+ItemsUnite c asked d kept both =
+    ExportsUnite (with_values (stated_of c) asked) (with_values (stated_of c) kept) (with_values (stated_of d) both)
 
 -- the interface of d has the uses and the exports of both, those of the first united
 pub record InterfacesUnite (c : Collection) (x y : Interface) (d : Collection) (i : InterfaceId) : Type 0 where

@@ -135,7 +135,8 @@ fn take_ask(
 ) -> Result<(), AggregateError>
     requires stands { Stands types.now kind }
     requires sound { AreSound (imports_in own.old imports.old.items) }
-    ensures asked { OnOk result (IsAsked (imports_in own.old imports.old.items) (ask_for name.now types.now kind) (imports_in own.new imports.new.items)) }
+    ensures asked { OnOk result (IsAsked (imports_in own.old imports.old.items) (ask_for name.now types.now kind)
+        (imports_in own.new imports.new.items)) }
     ensures sound { OnOk result (AreSound (imports_in own.new imports.new.items)) }
     ensures refused { IfErr result (IsRefused (imports_in own.old imports.old.items) (ask_for name.now types.now kind)) }
 {

@@ -99,7 +99,8 @@ fn merge_instances(
     requires kept { Stands own.old (ItemKind.Instance a) }
     requires asked { Stands own.old (ItemKind.Instance b) }
     ensures met { IfOk result (λ i. MeetIn own.old (ItemKind.Instance a) (ItemKind.Instance b) own.new (ItemKind.Instance i)) }
-    ensures united { IfOk result (λ i. (x y : InterfaceData) → IsAt own.old a x → IsAt own.old b y → InterfacesUnite own.old x y own.new i) }
+    ensures united { IfOk result
+        (λ i. (x y : InterfaceData) → IsAt own.old a x → IsAt own.old b y → InterfacesUnite own.old x y own.new i) }
     ensures clash { IfClash result (ClashIn own.old (ItemKind.Instance a) (ItemKind.Instance b)) }
     ensures grows { Grows own.old own.new }
 {

@@ -116,7 +116,8 @@ pub fn kept_of(
     ensures kept { IfOk result (MeetIn own.old kept asked own.new) }
     ensures united { IfOk result (λ k. (family ≡ Family.Neither → ⊥) → UnitesIn own.old kept asked own.new k) }
     ensures narrower { IfOk result (λ k. family ≡ Family.Neither → IsNarrower own.old kept asked k) }
-    ensures refused { IfErr result (λ e. Refuses e (HasClash own.old family kept asked) (LieOutside own.old family kept asked) ⊥) }
+    ensures refused { IfErr result
+        (λ e. Refuses e (HasClash own.old family kept asked) (LieOutside own.old family kept asked) ⊥) }
     ensures grows { Grows own.old own.new }
 {
     own.see_acyclic();
@@ -182,7 +183,8 @@ pub(crate) fn merged_import(
     requires kept { Stands own.old before.now.kind }
     requires asked { Stands own.old asked }
     ensures merged { IfOk result (IsMerged own.old before.now name.now asked family own.new) }
-    ensures refused { IfErr result (λ e. Refuses e (HasClash own.old (joint before.now.family family) before.now.kind asked) (LieOutside own.old (joint before.now.family family) before.now.kind asked) ⊥) }
+    ensures refused { IfErr result (λ e. Refuses e (HasClash own.old (joint before.now.family family) before.now.kind asked)
+        (LieOutside own.old (joint before.now.family family) before.now.kind asked) ⊥) }
     ensures grows { OnOk result (Grows own.old own.new) }
 {
     let both = joint_family(before.family, family);

@@ -8,7 +8,8 @@ text_in : (x y : List ℕ) → Some x ≡ Some y → x ≡ y
 text_in x y e = cc e
 
 -- two strings are equal exactly where their texts are
-pub one_text : {Z : Type 0} (k l : String Z) (s t : List ℕ) → Some (string_bytes k) ≡ Some s → Some (string_bytes l) ≡ Some t → (string_eq k l ≡ true) ↔ (s ≡ t)
+pub one_text : {Z : Type 0} (k l : String Z) (s t : List ℕ) → Some (string_bytes k) ≡ Some s → Some (string_bytes l) ≡ Some t
+    → (string_eq k l ≡ true) ↔ (s ≡ t)
 one_text k l s t e f =
     let d = bytes_eq-Decides (string_bytes k) (string_bytes l) in
     let a = text_in (string_bytes k) s e in

@@ -56,7 +56,8 @@ put_value eq (e ∷ es) k v = if eq k e.1 then with_value e v ∷ es else e ∷ 
 -- The value with the greatest version on a track, if a name there is on it.
 pub data IsLatestOn {V : Type 0} (es : List (Name × V)) (track : Name) : Option V → Type 0 where
   the_latest : {v : V} (found : Name) (p : Parts) → Among (found, v) es → IsOnTrack track found p
-      → ((other : Name) (q : Parts) → Among other (names_of es) → IsOnTrack track other q → version_cmp q p ≢ order.Greater) → IsLatestOn es track (Some v)
+      → ((other : Name) (q : Parts) → Among other (names_of es) → IsOnTrack track other q → version_cmp q p ≢ order.Greater)
+      → IsLatestOn es track (Some v)
   no_latest : ((n : Name) (p : Parts) → Among n (names_of es) → IsOnTrack track n p → ⊥) → IsLatestOn es track None
 
 -- the value of the name itself, if the name is there

@@ -37,8 +37,10 @@ IsMeaning c item (Some k) = Defines c item k
 -- the names of the exports that define something, in order, with what they mean
 pub data AreDefinitions (c : Collection) : List (Name × ItemKind) → List (Name × ItemKind) → Type 0 where
   no_exports : AreDefinitions c [] []
-  defined : (n : Name) (item k : ItemKind) {es ds : List (Name × ItemKind)} → Defines c item k → AreDefinitions c es ds → AreDefinitions c ((n, item) ∷ es) ((n, k) ∷ ds)
-  passed : (n : Name) (item : ItemKind) {es ds : List (Name × ItemKind)} → ((k : ItemKind) → Defines c item k → ⊥) → AreDefinitions c es ds → AreDefinitions c ((n, item) ∷ es) ds
+  defined : (n : Name) (item k : ItemKind) {es ds : List (Name × ItemKind)} → Defines c item k → AreDefinitions c es ds
+      → AreDefinitions c ((n, item) ∷ es) ((n, k) ∷ ds)
+  passed : (n : Name) (item : ItemKind) {es ds : List (Name × ItemKind)} → ((k : ItemKind) → Defines c item k → ⊥)
+      → AreDefinitions c es ds → AreDefinitions c ((n, item) ∷ es) ds
 
 -- the world of an id, and its definitions
 pub record DefinitionsOf (c : Collection) (id : WorldId) (ds : List (Name × ItemKind)) : Type 0 where

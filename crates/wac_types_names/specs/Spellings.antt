@@ -59,7 +59,8 @@ place_view (Some b) = Some (b.0, parts_of b.1.now)
 abbrev pub IsBest : List (Option (Name × Parts)) → Name → ℕ → Option (ℕ × Parts) → Type 0
 IsBest ts key n None = (i : ℕ) (p : Parts) → i < n → slice_get ts i ≡ Some (Some (key, p)) → ⊥
 IsBest ts key n (Some b) =
-    (slice_get ts b.0 ≡ Some (Some (key, b.1))) × ((i : ℕ) (p : Parts) → i < n → slice_get ts i ≡ Some (Some (key, p)) → version_cmp p b.1 ≢ order.Greater)
+    (slice_get ts b.0 ≡ Some (Some (key, b.1)))
+    × ((i : ℕ) (p : Parts) → i < n → slice_get ts i ≡ Some (Some (key, p)) → version_cmp p b.1 ≢ order.Greater)
 
 -- a place of the best
 abbrev pub IsBestPlace : List (Option (Name × Parts)) → Name → Option ℕ → Type 0

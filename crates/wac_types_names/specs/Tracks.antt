@@ -61,7 +61,8 @@ AreCompatible m n = (m ≡ n) ⊎ ShareTrack m n
 
 -- both names are on one track, where m has a greater version than n
 abbrev pub IsLater : Name → Name → Type 0
-IsLater m n = (track : Name) × (p : Parts) × (q : Parts) × IsOnTrack track m p × IsOnTrack track n q × (version_cmp p q ≡ order.Greater)
+IsLater m n =
+    (track : Name) × (p : Parts) × (q : Parts) × IsOnTrack track m p × IsOnTrack track n q × (version_cmp p q ≡ order.Greater)
 
 -- a key that lies in a name
 abbrev pub key_view : Bor Name × Version → Name × Parts

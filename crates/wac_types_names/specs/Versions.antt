@@ -8,4 +8,5 @@ use Rattle.semver.specs.Parse.{Parts}
 unfoldable pub version_cmp : Parts → Parts → Ordering
 version_cmp =
     then_cmp (on (λ (p : Parts). p.0) nat_cmp) (then_cmp (on (λ (p : Parts). p.1) nat_cmp)
-    (then_cmp (on (λ (p : Parts). p.2) nat_cmp) (then_cmp (on (λ (p : Parts). p.3) pre_cmp) (on (λ (p : Parts). p.4) build_cmp))))
+    (then_cmp (on (λ (p : Parts). p.2) nat_cmp) (then_cmp (on (λ (p : Parts). p.3) pre_cmp)
+    (on (λ (p : Parts). p.4) build_cmp))))

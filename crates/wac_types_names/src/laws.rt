@@ -20,7 +20,8 @@ pub fn one_name_a_version()
 
 /// What a map gives for a name depends on its entries alone, and not on the order in which they came.
 pub fn order_of_insertion<V>()
-    ensures { (es fs : List (Name × V)) (asked : Name) (r s : Option V) → AreDistinct (names_of es) → SameEntries es fs → Gives es asked r → Gives fs asked s → r ≡ s }
+    ensures { (es fs : List (Name × V)) (asked : Name) (r s : Option V) → AreDistinct (names_of es) → SameEntries es fs
+        → Gives es asked r → Gives fs asked s → r ≡ s }
 {}
 
 /// Lookup keys of names from outside.

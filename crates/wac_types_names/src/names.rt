@@ -211,7 +211,8 @@ impl<K: Clone + Eq + Hash, V: Drop> NameMap<K, V> {
         ensures ok { OnOk result (by_name self.new ≡ put_entry (by_name self.old) name.now item) }
         ensures key { IfOk result (λ k. I.text_of cx.new k ≡ Some name.now) }
         ensures fresh { OnOk result (allow_shadowing ≡ false → IsNew name.now (by_name self.old)) }
-        ensures duplicate { result ≡ Err NameMapError.Duplicate → (allow_shadowing ≡ false) × Among name.now (names_of (by_name self.old)) }
+        ensures duplicate { result ≡ Err NameMapError.Duplicate
+            → (allow_shadowing ≡ false) × Among name.now (names_of (by_name self.old)) }
         ensures err { OnErr result (self.new ≡ self.old) }
         ensures known { KnowsKeys (I.text_of cx.new) self.new }
         ensures lasting { KeysLast (I.text_of cx.old) (I.text_of cx.new) }

@@ -63,7 +63,8 @@ impl Package {
         ensures version { IfOk result (λ p. p.version ≡ option_map parts_of (option_copied version.entry)) }
         ensures bytes { IfOk result (λ p. p.bytes ≡ bytes.items) }
         ensures ty { IfOk result (λ p. p.ty ≡ world) }
-        ensures instance_type { IfOk result (λ p. AddsInterfaceOf types.old.types.now types.new.types.now world p.instance_type) }
+        ensures instance_type { IfOk result
+            (λ p. AddsInterfaceOf types.old.types.now types.new.types.now world p.instance_type) }
         ensures definitions { IfOk result (λ p. DefinitionsOf types.old.types.now world p.definitions) }
 
         ensures err { OnErr result (types.new.types.now ≡ types.old.types.now) }

@@ -47,7 +47,9 @@ fn dot_from(text: &[u8], from: usize) -> usize
 /// How many bytes of a version's text name its track: those before its first dot, below 1.0 before its second.
 fn track_len(version: &Version, text: &[u8]) -> Option<usize>
     requires { read_version text.now ≡ Some (parts_of version.now) }
-    ensures { MatchOption result (track_text (parts_of version.now) ≡ None) (λ n. (n < length text.now) × (slice_index text.now n ≡ 46) × (track_text (parts_of version.now) ≡ Some (take n text.now))) }
+    ensures { MatchOption result (track_text (parts_of version.now) ≡ None)
+        (λ n. (n < length text.now) × (slice_index text.now n ≡ 46)
+        × (track_text (parts_of version.now) ≡ Some (take n text.now))) }
 {
     if !version.pre.is_empty() {
         None

@@ -207,9 +207,10 @@ fn turned_words(
     turned_text(types, alloc, a, b)
 }
 
-/// What a line's words ask: `word V`, `root V` and `borrow V` of a value type; `source RESOURCE`; `world INDEX`; `implicit WORLD`;
-/// `renumbered WORLD`; `visited TYPE`; `counts`; `item ITEM` (its word); `copied ITEM`; `turned A B` (what a checker that is
-/// turned once finds); `turns TURN ..` (`invert` and `revert`); `merged NAME ITEM NAME ITEM` (what is kept of asks in one list).
+/// What a line's words ask: `word V`, `root V` and `borrow V` of a value type; `source RESOURCE`; `world INDEX`; `implicit
+/// WORLD`; `renumbered WORLD`; `visited TYPE`; `counts`; `item ITEM` (its word); `copied ITEM`; `turned A B` (what a checker
+/// that is turned once finds); `turns TURN ..` (`invert` and `revert`); `merged NAME ITEM NAME ITEM` (what is kept of asks in
+/// one list).
 pub(crate) fn answer(
     types: &Types,
     alloc: Global,

@@ -16,7 +16,8 @@ abbrev pub not_imported : List (Name × ItemKind) → List (Name × InterfaceId)
 not_imported imports used = filter (λ e. not (is_some (value_at imports e.0))) used
 
 -- these have the types of the interfaces that no import is named as
-pub record AreMissing (old new : Collection) (used : List (Name × InterfaceId)) (imports all : List (Name × ItemKind)) : Type 0 where
+pub record AreMissing (old new : Collection) (used : List (Name × InterfaceId))
+    (imports all : List (Name × ItemKind)) : Type 0 where
   pub stand : ItemsStand new all
   pub are : stated_items new all ≡ with_values types_only (stated_found old (not_imported imports used))
 

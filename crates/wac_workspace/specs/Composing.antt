@@ -60,7 +60,8 @@ unfoldable pub IsComposition : Resolves → Collection → WorldId → Type 0
 IsComposition (Ok s) types world = IsWorldOf s.0 types world
 IsComposition (Err c) types world = ⊥
 
--- The source is a document that these packages resolve, and the output has its directive's key and its world, under the last of the next three numbers.
+-- The source is a document that these packages resolve, and the output has its directive's key and its world, under the last of
+-- the next three numbers.
 pub record IsOutput (next : ℕ) (ps : Handed) (source : List ℕ) (o : Output) : Type 0 where
   pub tree : Document
   pub read : IsDocument source tree
@@ -76,8 +77,8 @@ unfoldable pub IsAscribed : Resolves → List ℕ → Type 0
 IsAscribed (Ok s) bytes = MeansAscribed s.0 bytes
 IsAscribed (Err c) bytes = ⊥
 
--- The bytes mean what is ascribed, and are a component of a graph that holds it: its packages are nested, each once and unchanged,
--- and nothing else is.
+-- The bytes mean what is ascribed, and are a component of a graph that holds it: its packages are nested, each once and
+-- unchanged, and nothing else is.
 pub record IsMeant (q : Resolves) (bytes : List ℕ) : Type 0 where
   pub ascribed : IsAscribed q bytes
   pub graph : Graph
@@ -104,8 +105,8 @@ unfoldable pub IsAscribedOver : Resolves → List ℕ → Type 0
 IsAscribedOver (Ok s) bytes = ImportsAscribed s.0 bytes
 IsAscribedOver (Err c) bytes = ⊥
 
--- The bytes mean what is ascribed, and are a component of a graph that holds it: its packages are imported, each once, and nothing
--- is nested.
+-- The bytes mean what is ascribed, and are a component of a graph that holds it: its packages are imported, each once, and
+-- nothing is nested.
 pub record IsImporting (q : Resolves) (bytes : List ℕ) : Type 0 where
   pub ascribed : IsAscribedOver q bytes
   pub graph : Graph
@@ -165,7 +166,9 @@ IsUnmade next ps source define error.Memory = Unit {0}
 
 -- The causes of a refusal, in their order: that of the source, its key, its bytes.
 abbrev pub IsRefused : Held → List ℕ → (define : Bool) → ComposeError → Type 0
-IsRefused w source define error.KeyTaken = (define ≡ true) × IsTried w.next (handed w.packages) source IsAccepted × WithKey source (HasKey w.packages)
+IsRefused w source define error.KeyTaken =
+    (define ≡ true) × IsTried w.next (handed w.packages) source IsAccepted × WithKey source (HasKey w.packages)
 IsRefused w source define error.BytesTaken =
-    (define ≡ true) × IsTried w.next (handed w.packages) source IsAccepted × WithKey source (λ k. HasKey w.packages k → ⊥) × ((bytes : List ℕ) × HasHanded w.packages bytes)
+    (define ≡ true) × IsTried w.next (handed w.packages) source IsAccepted × WithKey source (λ k. HasKey w.packages k → ⊥)
+    × ((bytes : List ℕ) × HasHanded w.packages bytes)
 IsRefused w source define e = IsUnmade w.next (handed w.packages) source define e

@@ -63,8 +63,8 @@ IsOfResolving q (error.Resolution f) = IsErrorOf q f
 IsOfResolving q error.Memory = Unit {0}
 IsOfResolving q e = ⊥
 
--- why a document has no component that meets its target: its first cause, or that of encoding it; or, where the document has none, its
--- target is not met; or want of memory
+-- why a document has no component that meets its target: its first cause, or that of encoding it; or, where the document has
+-- none, its target is not met; or want of memory
 abbrev pub IsLate : (define : Bool) → Resolves → ComposeError → Type 0
 IsLate define q (error.Resolution f) = NamesFirst define q f
 IsLate define q (error.Target r) = IsAccepted q

@@ -44,8 +44,8 @@ IsUnmet n (error.Target r) = Unit {0}
 IsUnmet n error.Memory = Unit {0}
 IsUnmet n e = ⊥
 
--- why a document that a graph holds at these places has no component that meets its target: the first cause of encoding it, a report
--- of the target, or want of memory
+-- why a document that a graph holds at these places has no component that meets its target: the first cause of encoding it, a
+-- report of the target, or want of memory
 abbrev pub IsAfterwards : Graph → Places → EncodeOptions → ComposeError → Type 0
 IsAfterwards g at options (error.Resolution f) = RefusesResolved g at options f
 IsAfterwards g at options (error.Target r) = Unit {0}

@@ -41,9 +41,12 @@ IsStopped old new define ends error.Read = (new ≡ old) × Appends ends.written
 IsStopped old new define ends error.SourceTooLong =
     (new ≡ old) × HasTooMany ends.read × Appends ends.written ends.known []
 IsStopped old new define ends error.NotUtf8 =
-    (new ≡ old) × ((source : List ℕ) × IsWhole ends.read ends.unread source × (IsUtf8 source → ⊥)) × Appends ends.written ends.known []
+    (new ≡ old) × ((source : List ℕ) × IsWhole ends.read ends.unread source × (IsUtf8 source → ⊥))
+    × Appends ends.written ends.known []
 IsStopped old new define ends (error.Compose e) =
-    (new ≡ old) × ((source : List ℕ) × IsText ends.read ends.unread source × IsRefused old source define e) × Appends ends.written ends.known []
+    (new ≡ old) × ((source : List ℕ) × IsText ends.read ends.unread source × IsRefused old source define e)
+    × Appends ends.written ends.known []
 IsStopped old new define ends error.Write =
-    (source : List ℕ) × (o : Output) × IsText ends.read ends.unread source × IsComposed old new source define o × AppendsPrefix ends.written ends.known o.bytes.items
+    (source : List ℕ) × (o : Output) × IsText ends.read ends.unread source × IsComposed old new source define o
+    × AppendsPrefix ends.written ends.known o.bytes.items
 IsStopped old new define ends error.Memory = (new ≡ old) × Appends ends.written ends.known []

@@ -129,7 +129,8 @@ pub(crate) fn find<'a>(
     name: &str,
     version: Option<&Version>,
 ) -> Option<&'a Entry>
-    ensures found { IfSome result (λ e. IsUnder (name.now, option_map parts_of (option_copied version.entry)) entries.now e.now) }
+    ensures found { IfSome result
+        (λ e. IsUnder (name.now, option_map parts_of (option_copied version.entry)) entries.now e.now) }
     ensures none { IfNone result (HasKey entries.now (name.now, option_map parts_of (option_copied version.entry)) → ⊥) }
 {
     for entry in entries {

@@ -38,7 +38,8 @@ stated_value c d = stated_of c (ItemKind.Value (ValueType.Defined d))
 -- what is remembered of value types that stand is true there
 abbrev pub KnowsValues : Collection → List (DefinedTypeId × Bool) → Held → Type 0
 KnowsValues c es h =
-    (d : DefinedTypeId) (b : Bool) → Stands c (ItemKind.Value (ValueType.Defined d)) → tested_of es d ≡ Some b → b ≡ value_fails h (stated_value c d)
+    (d : DefinedTypeId) (b : Bool) → Stands c (ItemKind.Value (ValueType.Defined d)) → tested_of es d ≡ Some b
+    → b ≡ value_fails h (stated_value c d)
 
 pub record Holds (c : Collection) (s : Holder) (h : Held) : Type 0 where
   pub shows : Shows c s h

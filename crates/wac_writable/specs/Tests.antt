@@ -121,7 +121,8 @@ TellsFirst t s w o =
 abbrev pub TellsOuter : Test → WorldId → Option ℕ → Type 0
 TellsOuter t w o =
     KnowsAll t.types.now t.unnamed.now
-    → IsFirst (import_unwritable t (component_holder (stated_of t.types.now (ItemKind.Component w)))) (imports_in t.types.now w) o
+    → IsFirst (import_unwritable t (component_holder (stated_of t.types.now (ItemKind.Component w))))
+    (imports_in t.types.now w) o
 
 -- a component type that has an instance alone, under this name
 abbrev pub wrapped : Name → Stated → Stated

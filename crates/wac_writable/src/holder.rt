@@ -253,7 +253,8 @@ impl Holder {
 
     /// Adds the roots of a world's imports.
     fn add_imports(&mut self, types: &Types, id: WorldId) -> Result<(), AllocError>
-        ensures { OnOk result (AddsRoots types.now self.old (imports_of (stated_of types.now (ItemKind.Component id))) self.new) }
+        ensures { OnOk result
+            (AddsRoots types.now self.old (imports_of (stated_of types.now (ItemKind.Component id))) self.new) }
     {
         types.see_acyclic();
         for at in 0..import_count(types, id) {
@@ -266,7 +267,8 @@ impl Holder {
 
     /// Adds the roots of a world's exports.
     fn add_world_exports(&mut self, types: &Types, id: WorldId) -> Result<(), AllocError>
-        ensures { OnOk result (AddsRoots types.now self.old (exports_of (stated_of types.now (ItemKind.Component id))) self.new) }
+        ensures { OnOk result
+            (AddsRoots types.now self.old (exports_of (stated_of types.now (ItemKind.Component id))) self.new) }
     {
         types.see_acyclic();
         for at in 0..world_export_count(types, id) {
