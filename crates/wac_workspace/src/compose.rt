@@ -176,7 +176,8 @@ fn encode_document(
     requires validate { options.validate ≡ true }
     ensures encoded { IfOk result (IsEncoded numbers.output) }
     ensures means { IfOk result (λ e. MeansSaid options (says (view_document document.now) «packages».now) e.bytes.items) }
-    ensures imports { IfOk result (λ e. ImportsSaid options (says (view_document document.now) «packages».now) e.bytes.items) }
+    ensures imports { IfOk result
+        (λ e. ImportsSaid options (says (view_document document.now) «packages».now) e.bytes.items) }
     ensures accepted { IfOk result (λ _. IsAccepted (says (view_document document.now) «packages».now)) }
     ensures composed { IfOk result (λ e. IsComposition (says (view_document document.now) «packages».now) e.types e.world) }
     ensures late { IfErr result (IsLate options.define_components (says (view_document document.now) «packages».now)) }
@@ -226,10 +227,13 @@ fn compose_document(
     options: EncodeOptions,
 ) -> Result<(Output, u64), ComposeError>
     ensures output { IfOk result (λ r. IsOf next (view_package_name document.now.directive.«package») r.0) }
-    ensures means { IfOk result (λ r. MeansSaid options (says (view_document document.now) «packages».now) r.0.bytes.items) }
-    ensures imports { IfOk result (λ r. ImportsSaid options (says (view_document document.now) «packages».now) r.0.bytes.items) }
+    ensures means { IfOk result
+        (λ r. MeansSaid options (says (view_document document.now) «packages».now) r.0.bytes.items) }
+    ensures imports { IfOk result
+        (λ r. ImportsSaid options (says (view_document document.now) «packages».now) r.0.bytes.items) }
     ensures accepted { IfOk result (λ _. IsAccepted (says (view_document document.now) «packages».now)) }
-    ensures composed { IfOk result (λ r. IsComposition (says (view_document document.now) «packages».now) r.0.types r.0.world) }
+    ensures composed { IfOk result
+        (λ r. IsComposition (says (view_document document.now) «packages».now) r.0.types r.0.world) }
     ensures after { IfOk result (λ r. r.1 ≡ next + 3) }
     ensures refused { IfErr result
         (IsUnencoded next options.define_components (says (view_document document.now) «packages».now)) }
@@ -285,7 +289,8 @@ trait ComposeDocument: Sized + Drop {
         ensures accepted { IfOk result (λ _. IsAccepted (says (stated self.now) «packages».now)) }
         ensures composed { IfOk result (λ r. IsComposition (says (stated self.now) «packages».now) r.0.types r.0.world) }
         ensures after { IfOk result (λ r. r.1 ≡ next + 3) }
-        ensures refused { IfErr result (IsUnencoded next options.define_components (says (stated self.now) «packages».now)) };
+        ensures refused { IfErr result
+            (IsUnencoded next options.define_components (says (stated self.now) «packages».now)) };
 }
 
 impl<'s> ComposeDocument for Document<'s> {
