@@ -1,5 +1,9 @@
 //! A row and its parts.
 
+ghost use Rattle.std.specs.Prelude.{◌≡◌};
+ghost use Rattle.std.specs.Option.{option_copied};
+ghost use Rattle.wac_rows.specs.Parts.{first_text};
+
 use std::alloc::{AllocError, Global};
 
 /// A part of a row.
@@ -50,7 +54,9 @@ impl<'a> Row<'a> {
     }
 
     /// The text of the first part of a kind.
-    pub fn text(&self, kind: &str) -> Option<&'a str> {
+    pub fn text(&self, kind: &str) -> Option<&'a str>
+        ensures { option_copied result ≡ first_text kind.now self.now.parts.items }
+    {
         for part in &self.parts {
             if part.kind == kind {
                 return Some(part.text);
