@@ -42,8 +42,8 @@ use Rattle.wac_parser_encode.specs.Meaning.{AreTrueOf, IsWorldOf, MeansAscribed}
 use Rattle.wac_workspace.specs.declared.entries.Entry.{Entry}
 use Rattle.wac_workspace.specs.declared.output.Output.{Output}
 use Rattle.wac_workspace.specs.Packages.{Adds, HasBytes, HasHanded, Held, IsMade as IsMadeOf, Made as Handed}
-use Rattle.wac_workspace.specs.Composing.{IsAscribed, IsComposed, IsComposition, IsDocument, IsMeantBy, IsOutput, MeansSource, made_of}
-use Rattle.wac_workspace.specs.Resolving.{content, handed}
+use Rattle.wac_workspace.specs.Composing.{IsAscribed, IsComposed, IsDocument, IsMeantBy, IsOutput, MeansSource, made_of}
+use Rattle.wac_workspace.specs.Resolving.{content, handed, IsComposition}
 use Rattle.wac_nesting.proofs.Carry.{carries}
 use Rattle.wac_outputs.specs.Calls.{AreAsAscribed, AreCalls, none_yet, then_call, IsCall, hands_in, composes, keeps, IsEntryOf, Outputs_are_as_ascribed, ascribed_over, place_if, place_under, world_in}
 use Rattle.wac_outputs.proofs.Sources.{IsPlaced, more_provides, more_states, placed}
@@ -169,7 +169,8 @@ said_of options es source bytes d s target document resolves define means =
 world_of : (es : List Entry) (source : List ℕ) (next : ℕ) (o : Output) (d : Document) (s : State) (target : Option Stated) → IsDocument source d → resolved d (handed es) ≡ Ok (s, target) → IsOutput next (handed es) source o → IsWorldOf s o.types o.world
 unfolding IsComposition
 world_of es source next o d s target document resolves out =
-    subst (λ q. IsComposition q o.types o.world) (ap (λ e. resolved e (handed es)) (same_document source out.tree d out.read document) ∙ resolves) out.composed
+    let c : IsComposition (Ok (s, target)) o.types o.world = subst (λ q. IsComposition q o.types o.world) (ap (λ e. resolved e (handed es)) (same_document source out.tree d out.read document) ∙ resolves) out.composed in
+    c.0
 
 abbrev pub AreEntries : List Entry → List Package → Type 0
 AreEntries es packages = AllZip IsEntryOf es packages

@@ -5,6 +5,7 @@ ghost use Rattle.wac_parser_refusals.specs.Views.{Names, cause_in, cause_of};
 
 use crate::error::Error;
 use std::alloc::{AllocError, AllocFailed, Global};
+use std::fmt;
 
 /// Why a document is refused, while the refusal is on its way: the error stands behind a pointer, so an answer is small.
 #[derive(Debug, Drop)]
@@ -82,3 +83,14 @@ impl From<Refusal> for Error {
         refusal.into_error()
     }
 }
+
+impl fmt::Display for Refusal {
+    fn fmt<W: fmt::Write>(&self, f: &mut fmt::Formatter<W>) -> fmt::Result {
+        match self {
+            Refusal::Named(error) => fmt::Display::fmt(&**error, f),
+            Refusal::Memory => fmt::Display::fmt(&Error::Memory, f),
+        }
+    }
+}
+
+impl std::error::Error for Refusal {}

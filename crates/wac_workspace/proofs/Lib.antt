@@ -1,5 +1,6 @@
 pub mod Apart
 pub mod Handing
+pub mod Meeting
 pub mod Refusing
 pub mod Resolved
 pub mod Searching

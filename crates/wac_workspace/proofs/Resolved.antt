@@ -16,18 +16,20 @@ use Rattle.wac_parser_refusals.specs.Outcomes.{IsHeld, IsMemory}
 use Rattle.wac_parser_refusals.specs.Views.{cause_of}
 use Rattle.wac_parser_resolve.specs.Ascribing.{State}
 use Rattle.wac_parser_resolve.specs.InDocuments.{HoldsAll, IsBuilt, IsErrorOf}
+use Rattle.wac_parser_resolve.specs.InTargets.{HoldsTarget}
 use Rattle.wac_parser_resolve.specs.Meeting.{resolved}
 use Rattle.wac_parser_resolve.specs.Resolved.{Places}
 use Rattle.wac_types_base.specs.Record.{Collection}
 use Rattle.wac_parser_encode.specs.Meaning.{HasResolvedWorld, ImportsResolved, MeansResolved}
 use Rattle.wac_parser_encode.specs.Refused.{CanBeWritten, TellsCause, TellsFirst}
-use Rattle.wac_workspace.specs.Composing.{ImportsSaid, IsAscribed, IsAscribedOver, IsComposition, IsImporting, IsMeant, MeansSaid}
+use Rattle.wac_workspace.specs.Composing.{ImportsSaid, IsAscribed, IsAscribedOver, IsImporting, IsMeant, MeansSaid}
 use Rattle.wac_workspace.specs.declared.output.Output.{Output}
 use Rattle.wac_workspace.specs.declared.errors.ComposeError.{ComposeError}
 use Rattle.wac_workspace.specs.declared.errors.ComposeError.TheVariants as error
 use Rattle.wac_workspace.specs.Faults.{IsResolving}
-use Rattle.wac_workspace.specs.Resolving.{Handed, Resolves, IsAccepted, IsGraphOf, IsLate, IsOfResolving, NamesFirst}
-use Rattle.wac_workspace.specs.Steps.{IsAfterwards, IsUnmet}
+use Rattle.wac_workspace.specs.Resolving.{FailsIf, Handed, Resolves, IsAccepted, IsComposition, IsGraphOf, IsLate, IsOfResolving, IsTargetUnmet, NamesFirst}
+use Rattle.wac_workspace.specs.Steps.{FailsIn, IsAfterwards, IsUnmet, MeetsTarget}
+use Rattle.wac_workspace.specs.Targets.{component_in, Meets, MeetsIf}
 
 pub accepted : {B : Type 0} (holds : State × Option Stated → B → Type 0) (q : Resolves) (b : B) → IsHeld holds q b → IsAccepted q
 accepted holds (Ok s) b h = tt
@@ -60,33 +62,51 @@ late_resolving define q f e h (inr s) = subst (λ (x : ComposeError). IsLate def
 
 module _ (g : Graph) (at : Places) (options : EncodeOptions) where
   -- a target that is not met, where each type can be written
-  pub target_unmet : (n : Name) (e : ComposeError) → CanBeWritten g options → IsUnmet n e → IsAfterwards g at options e
+  pub target_unmet : (t : WorldId) (n : Name) (types : Collection) (world : WorldId) (e : ComposeError) → CanBeWritten g options → HasResolvedWorld g types world
+      → IsUnmet n (component_in g.types t) (component_in types world) e → IsAfterwards g at (Some t) options e
   unfolding CanBeWritten TellsFirst
-  target_unmet n (error.Parse x) written h = absurd h
-  target_unmet n error.NumbersExhausted written h = absurd h
-  target_unmet n (error.Resolution f) written h = subst (λ (o : Option Cause). TellsFirst g options at o) (sym h) (λ d ps r q b x is. absurd (none-some x (sym (written at d ps r q b) ∙ is)))
-  target_unmet n (error.Target r) written h = tt
-  target_unmet n error.KeyTaken written h = absurd h
-  target_unmet n error.BytesTaken written h = absurd h
-  target_unmet n error.Memory written h = tt
+  target_unmet t n types world (error.Parse x) written states h = absurd h
+  target_unmet t n types world error.NumbersExhausted written states h = absurd h
+  target_unmet t n types world (error.Resolution f) written states h = subst (λ (o : Option Cause). TellsFirst g options at o) (sym h) (λ d ps r q b x is. absurd (none-some x (sym (written at d ps r q b) ∙ is)))
+  target_unmet t n types world (error.Target r) written states h = record { types = types; world = world; states = states; unmet = h }
+  target_unmet t n types world error.KeyTaken written states h = absurd h
+  target_unmet t n types world error.BytesTaken written states h = absurd h
+  target_unmet t n types world error.Memory written states h = tt
+
+-- ---- the target of a document, and that of its graph
+
+module _ (d : t.Document) (ps : Handed) (g : Graph) (at : Places) (s : State) (built : IsBuilt g at s) where
+  failing : (o : Option Stated) (t : Option WorldId) → resolved d ps ≡ Ok (s, o) → HoldsTarget g.types o t → FailsIn g t → FailsIf s o
+  unfolding HasResolvedWorld
+  failing None None is held f = absurd f
+  failing None (Some t) is held f = absurd held
+  failing (Some w) None is held f = absurd held
+  failing (Some w) (Some t) is held f =
+      record { types = f.types; world = f.world; states = f.states d ps (s, Some w) at is built; unmet = subst (λ (x : Stated). Meets x (component_in f.types f.world) → ⊥) held.same f.unmet }
+
+meeting : (g : Graph) (types : Collection) (world : WorldId) (o : Option Stated) (t : Option WorldId) → HoldsTarget g.types o t → MeetsTarget g t types world → MeetsIf o (component_in types world)
+meeting g types world None None held m = tt
+meeting g types world None (Some t) held m = absurd held
+meeting g types world (Some w) None held m = absurd held
+meeting g types world (Some w) (Some t) held m = subst (λ (x : Stated). Meets x (component_in types world)) held.same m
 
 -- of a document that the graph holds
 module _ {B : Type 0} (graph : B → Graph) (places : B → Places) (target : B → Option WorldId) where
   late_of : (d : t.Document) (ps : Handed) (b : B) (options : EncodeOptions) (e : ComposeError) → options.validate ≡ true → (q : Resolves) → resolved d ps ≡ q
-      → IsHeld (λ s (b : B). HoldsAll s (graph b) (places b) (target b)) q b → IsAfterwards (graph b) (places b) options e → IsLate options.define_components q e
-  unfolding TellsFirst
+      → IsHeld (λ s (b : B). HoldsAll s (graph b) (places b) (target b)) q b → IsAfterwards (graph b) (places b) (target b) options e → IsLate options.define_components q e
+  unfolding TellsFirst IsTargetUnmet
   late_of d ps b options e validate (Err c) is built h = absurd built
   late_of d ps b options (error.Parse x) validate (Ok s) is built h = absurd h
   late_of d ps b options error.NumbersExhausted validate (Ok s) is built h = absurd h
   late_of d ps b options (error.Resolution f) validate (Ok s) is built h =
       subst (λ (v : Bool). TellsCause options.define_components v s.0 (cause_of f)) validate (h d ps s is built.0)
-  late_of d ps b options (error.Target r) validate (Ok s) is built h = tt
+  late_of d ps b options (error.Target r) validate (Ok s) is built h = failing d ps (graph b) (places b) s.0 built.0 s.1 (target b) is built.1 h
   late_of d ps b options error.KeyTaken validate (Ok s) is built h = absurd h
   late_of d ps b options error.BytesTaken validate (Ok s) is built h = absurd h
   late_of d ps b options error.Memory validate (Ok s) is built h = tt
 
   pub late_afterwards : {A : Type 0} (d : t.Document) (ps : Handed) (b : B) (options : EncodeOptions) (r : Result A ComposeError) → options.validate ≡ true
-      → IsHeld (λ s (b : B). HoldsAll s (graph b) (places b) (target b)) (resolved d ps) b → IfErr r (IsAfterwards (graph b) (places b) options) → IfErr r (IsLate options.define_components (resolved d ps))
+      → IsHeld (λ s (b : B). HoldsAll s (graph b) (places b) (target b)) (resolved d ps) b → IfErr r (IsAfterwards (graph b) (places b) (target b) options) → IfErr r (IsLate options.define_components (resolved d ps))
   late_afterwards d ps b options (Ok a) validate built h = tt
   late_afterwards d ps b options (Err e) validate built h = late_of d ps b options e validate (resolved d ps) refl built h
 
@@ -119,15 +139,17 @@ importing d ps g (Err f) options holds imports said = tt
 pub importing_named : (a b : EncodeOptions) (q : Resolves) (xs ys : List ℕ) → a.define_components ≡ b.define_components → ys ≡ xs → ImportsSaid a q xs → ImportsSaid b q ys
 importing_named a b q xs ys same bytes h = λ define. subst (λ (zs : List ℕ). IsImporting q zs) (sym bytes) (h (same ∙ define))
 
--- the world of a graph that holds what is resolved
-pub composed : {E : Type 0} (d : t.Document) (ps : Handed) (g : Graph) (r : Result Encoded E) → IsGraphOf (resolved d ps) g → IfOk r (λ e. HasResolvedWorld g e.types e.world) → IfOk r (λ e. IsComposition (resolved d ps) e.types e.world)
-unfolding HasResolvedWorld IsComposition
-composed d ps g (Err f) holds world = tt
-composed d ps g (Ok e) holds world = by (resolved d ps) refl holds
-  where
-    by : (q : Resolves) → resolved d ps ≡ q → IsGraphOf q g → IsComposition q e.types e.world
-    by (Ok s) is h = world d ps s h.0 is h.1
-    by (Err c) is h = absurd h
+-- the world of a graph that holds what is resolved, which meets its target
+module _ {B : Type 0} (graph : B → Graph) (places : B → Places) (target : B → Option WorldId) where
+  pub composed : {E : Type 0} (d : t.Document) (ps : Handed) (b : B) (r : Result Encoded E) → IsHeld (λ s (b : B). HoldsAll s (graph b) (places b) (target b)) (resolved d ps) b
+      → IfOk r (λ e. HasResolvedWorld (graph b) e.types e.world) → IfOk r (λ e. MeetsTarget (graph b) (target b) e.types e.world) → IfOk r (λ e. IsComposition (resolved d ps) e.types e.world)
+  unfolding HasResolvedWorld IsComposition
+  composed d ps b (Err f) built world met = tt
+  composed d ps b (Ok e) built world met = by (resolved d ps) refl built
+    where
+      by : (q : Resolves) → resolved d ps ≡ q → IsHeld (λ s (b : B). HoldsAll s (graph b) (places b) (target b)) q b → IsComposition q e.types e.world
+      by (Ok s) is h = (world d ps s (places b) is h.0, meeting (graph b) e.types e.world s.1 (target b) h.1 met)
+      by (Err c) is h = absurd h
 
 -- likewise under a name
 pub composed_named : (q : Resolves) (e : Encoded) (o : Output) → o.types ≡ e.types → o.world ≡ e.world → IsComposition q e.types e.world → IsComposition q o.types o.world

@@ -16,12 +16,12 @@ use Rattle.wac_parser_grammar.specs.Reads.{read_source}
 use Rattle.wac_parser_grammar.specs.Faults.{fault_of}
 use Rattle.wac_parser_resolve.specs.InDocuments.{IsErrorOf}
 use Rattle.wac_parser_resolve.specs.Meeting.{resolved}
-use Rattle.wac_parser_encode.specs.Meaning.{ImportsAscribed, IsWorldOf, MeansAscribed}
+use Rattle.wac_parser_encode.specs.Meaning.{ImportsAscribed, MeansAscribed}
 use Rattle.wac_workspace.specs.declared.output.Output.{Output}
 use Rattle.wac_workspace.specs.declared.errors.ComposeError.{ComposeError}
 use Rattle.wac_workspace.specs.declared.errors.ComposeError.TheVariants as error
 use Rattle.wac_workspace.specs.Packages.{Held, Made, HasKey, HasHanded, Adds}
-use Rattle.wac_workspace.specs.Resolving.{Handed, Resolves, handed, IsGraphOf, IsAccepted, NamesFirst}
+use Rattle.wac_workspace.specs.Resolving.{Handed, Resolves, handed, IsGraphOf, IsAccepted, IsComposition, IsTargetUnmet, NamesFirst}
 
 -- the greatest number of a collection, which is never given out
 abbrev pub greatest : ℕ
@@ -55,13 +55,8 @@ abbrev pub Keeps : (define : Bool) → Held → Held → Output → Type 0
 Keeps true old new o = Registers old (record new { next = old.next }) o
 Keeps false old new o = new.packages ≡ old.packages
 
--- each ask of what is said is met, and the world states what it asks of the outside and what it exports
-unfoldable pub IsComposition : Resolves → Collection → WorldId → Type 0
-IsComposition (Ok s) types world = IsWorldOf s.0 types world
-IsComposition (Err c) types world = ⊥
-
--- The source is a document that these packages resolve, and the output has its directive's key and its world, under the last of
--- the next three numbers.
+-- The source is a document that these packages resolve, and the output has its directive's key and its world, which meets the
+-- target that is named, under the last of the next three numbers.
 pub record IsOutput (next : ℕ) (ps : Handed) (source : List ℕ) (o : Output) : Type 0 where
   pub tree : Document
   pub read : IsDocument source tree
@@ -159,10 +154,14 @@ abbrev pub IsUnmade : ℕ → Handed → List ℕ → (define : Bool) → Compos
 IsUnmade next ps source define (error.Parse f) = read_source document source ≡ Err (fault_of f)
 IsUnmade next ps source define error.NumbersExhausted = (d : Document) × IsDocument source d × (greatest < next + 3)
 IsUnmade next ps source define (error.Resolution f) = IsTried next ps source (λ q. NamesFirst define q f)
-IsUnmade next ps source define (error.Target r) = IsTried next ps source IsAccepted
+IsUnmade next ps source define (error.Target r) = IsTried next ps source IsTargetUnmet
 IsUnmade next ps source define error.KeyTaken = ⊥
 IsUnmade next ps source define error.BytesTaken = ⊥
 IsUnmade next ps source define error.Memory = Unit {0}
+
+-- bytes that are what the source means are a handed component's
+abbrev pub MeansHanded : Held → List ℕ → Type 0
+MeansHanded w source = (bytes : List ℕ) × HasHanded w.packages bytes × IsMeantBy (handed w.packages) source bytes
 
 -- The causes of a refusal, in their order: that of the source, its key, its bytes.
 abbrev pub IsRefused : Held → List ℕ → (define : Bool) → ComposeError → Type 0
@@ -170,5 +169,5 @@ IsRefused w source define error.KeyTaken =
     (define ≡ true) × IsTried w.next (handed w.packages) source IsAccepted × WithKey source (HasKey w.packages)
 IsRefused w source define error.BytesTaken =
     (define ≡ true) × IsTried w.next (handed w.packages) source IsAccepted × WithKey source (λ k. HasKey w.packages k → ⊥)
-    × ((bytes : List ℕ) × HasHanded w.packages bytes)
+    × MeansHanded w source
 IsRefused w source define e = IsUnmade w.next (handed w.packages) source define e

@@ -6,4 +6,5 @@ pub mod Getting
 pub mod Packages
 pub mod Steps
 pub mod Streaming
+pub mod Targets
 pub mod View

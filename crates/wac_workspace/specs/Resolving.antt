@@ -1,5 +1,7 @@
 -- A document over the packages of a workspace: it has a graph, or a first cause.
 use Rattle.std.specs.Prelude.{List, [], ◌∷◌, Bool, true, Option, Ok, Err}
+use Rattle.wac_types_base.specs.declared.ids.WorldId.{WorldId}
+use Rattle.wac_types_base.specs.Record.{Collection}
 use Rattle.wac_types_base.specs.Stated.{Stated}
 use Rattle.indexmap.specs.IndexMap.{IndexMap}
 use Rattle.wac_types_names.specs.declared.package.BorrowedPackageKey.{BorrowedPackageKey}
@@ -17,11 +19,13 @@ use Rattle.wac_parser_resolve.specs.declared.packages.PackageRef.{PackageRef}
 use Rattle.wac_parser_resolve.specs.Knowing.{content_of, handed_list}
 use Rattle.wac_parser_resolve.specs.Meeting.{resolved}
 use Rattle.wac_parser_resolve.specs.Resolved.{Places}
+use Rattle.wac_parser_encode.specs.Meaning.{IsWorldOf}
 use Rattle.wac_parser_encode.specs.Refused.{TellsCause}
 use Rattle.wac_workspace.specs.declared.entries.Entry.{Entry}
 use Rattle.wac_workspace.specs.declared.errors.ComposeError.{ComposeError}
 use Rattle.wac_workspace.specs.declared.errors.ComposeError.TheVariants as error
 use Rattle.wac_workspace.specs.Packages.{key_of}
+use Rattle.wac_workspace.specs.Targets.{component_in, Meets, MeetsIf}
 
 -- packages as a document sees them: each key with its world and its bytes, in order
 abbrev pub Handed : Type 0
@@ -57,16 +61,38 @@ abbrev pub NamesFirst : (define : Bool) → Resolves → Error → Type 0
 NamesFirst define (Ok s) e = TellsCause define true s.0 (cause_of e)
 NamesFirst define (Err c) e = Tells (cause_of e) c
 
+-- each ask of what is said is met; the world states what it asks of the outside and what it exports, and meets the target that
+-- is named
+unfoldable pub IsComposition : Resolves → Collection → WorldId → Type 0
+IsComposition (Ok s) types world = IsWorldOf s.0 types world × MeetsIf s.1 (component_in types world)
+IsComposition (Err c) types world = ⊥
+
+-- a world states what is said, and does not meet the target
+pub record FailsTarget (s : State) (target : Stated) : Type 0 where
+  pub types : Collection
+  pub world : WorldId
+  pub states : IsWorldOf s types world
+  pub unmet : Meets target (component_in types world) → ⊥
+
+abbrev pub FailsIf : State → Option Stated → Type 0
+FailsIf s None = ⊥
+FailsIf s (Some t) = FailsTarget s t
+
+-- so it is of a document that no other cause stands against
+unfoldable pub IsTargetUnmet : Resolves → Type 0
+IsTargetUnmet (Ok s) = FailsIf s.0 s.1
+IsTargetUnmet (Err c) = ⊥
+
 -- why a document has no graph: its first cause, or want of memory
 abbrev pub IsOfResolving : Resolves → ComposeError → Type 0
 IsOfResolving q (error.Resolution f) = IsErrorOf q f
 IsOfResolving q error.Memory = Unit {0}
 IsOfResolving q e = ⊥
 
--- why a document has no component that meets its target: its first cause, or that of encoding it; or, where the document has
--- none, its target is not met; or want of memory
+-- why a document has no component that meets its target: its first cause, or that of encoding it; or its target is not met; or
+-- want of memory
 abbrev pub IsLate : (define : Bool) → Resolves → ComposeError → Type 0
 IsLate define q (error.Resolution f) = NamesFirst define q f
-IsLate define q (error.Target r) = IsAccepted q
+IsLate define q (error.Target r) = IsTargetUnmet q
 IsLate define q error.Memory = Unit {0}
 IsLate define q e = ⊥

@@ -1,8 +1,11 @@
 -- Single steps of composing.
-use Rattle.std.specs.Prelude.{◌≡◌, ℕ, ◌+◌, ◌<◌, ◌≤◌, Bool}
+use Rattle.std.specs.Prelude.{◌≡◌, ℕ, ◌+◌, ◌<◌, ◌≤◌, Bool, Option, Some, None}
+use Rattle.wac_types_base.specs.declared.ids.WorldId.{WorldId}
 use Rattle.wac_types_base.specs.declared.item.ItemKind.{ItemKind}
+use Rattle.wac_types_base.specs.Record.{Collection}
 use Rattle.wac_types_base.specs.Collection.{Stands}
 use Rattle.wac_types_base.specs.Entries.{Name}
+use Rattle.wac_types_base.specs.Stated.{Stated}
 use Rattle.wac_graph_core.specs.Graph.{Graph}
 use Rattle.wac_graph_encode.specs.declared.options.EncodeOptions.{EncodeOptions}
 use Rattle.wac_graph_encode.specs.declared.options.Encoded.{Encoded}
@@ -10,6 +13,7 @@ use Rattle.wac_parser_tree.specs.Trees.{PackageName}
 use Rattle.wac_parser_refusals.specs.Causes.{Fault}
 use Rattle.wac_parser_refusals.specs.Views.{anywhere, cause_of}
 use Rattle.wac_parser_resolve.specs.Resolved.{Places}
+use Rattle.wac_parser_encode.specs.Meaning.{HasResolvedWorld}
 use Rattle.wac_parser_encode.specs.Refused.{RefusesResolved}
 use Rattle.wac_workspace.specs.declared.compose.Numbers.{Numbers}
 use Rattle.wac_workspace.specs.declared.compose.Pair.{Pair}
@@ -18,7 +22,8 @@ use Rattle.wac_workspace.specs.declared.errors.ComposeError.{ComposeError}
 use Rattle.wac_workspace.specs.declared.errors.ComposeError.TheVariants as error
 use Rattle.wac_workspace.specs.Packages.{Held, HasKey, HasHanded}
 use Rattle.wac_workspace.specs.Composing.{greatest, output_key}
-use Rattle.wac_workspace.specs.Resolving.{Resolves, IsAccepted, NamesFirst}
+use Rattle.wac_workspace.specs.Targets.{component_in, Meets}
+use Rattle.wac_workspace.specs.Resolving.{Resolves, IsTargetUnmet, NamesFirst}
 
 -- three numbers from this one on, and the one behind them
 pub record AreNext (next : ℕ) (n : Numbers) : Type 0 where
@@ -27,30 +32,49 @@ pub record AreNext (next : ℕ) (n : Numbers) : Type 0 where
   pub after : n.after ≡ next + 3
   pub room : next + 3 ≤ greatest
 
--- both worlds stand in the collection
-pub record IsPair (p : Pair) : Type 0 where
+-- both worlds stand in the collection, and state what they state in their own
+pub record IsPair (c d : Collection) (target world : WorldId) (p : Pair) : Type 0 where
   pub target : Stands p.types (ItemKind.Component p.target)
   pub world : Stands p.types (ItemKind.Component p.world)
+  pub target_same : component_in p.types p.target ≡ component_in c target
+  pub world_same : component_in p.types p.world ≡ component_in d world
 
 -- a component's world stands in its collection, which has this number
 pub record IsEncoded (last : ℕ) (e : Encoded) : Type 0 where
   pub number : e.types.number ≡ last
   pub stands : Stands e.types (ItemKind.Component e.world)
 
--- why a component does not meet the target of this name: by a report, or since a type cannot be written; or want of memory
-abbrev pub IsUnmet : Name → ComposeError → Type 0
-IsUnmet n (error.Resolution f) = cause_of f ≡ anywhere (Fault.TypeCannotBeWritten n)
-IsUnmet n (error.Target r) = Unit {0}
-IsUnmet n error.Memory = Unit {0}
-IsUnmet n e = ⊥
+-- why a component of this world is refused over a target of this name: it does not meet the target, or a type of the target
+-- cannot be written; or want of memory
+abbrev pub IsUnmet : Name → (target world : Stated) → ComposeError → Type 0
+IsUnmet n t w (error.Resolution f) = cause_of f ≡ anywhere (Fault.TypeCannotBeWritten n)
+IsUnmet n t w (error.Target r) = Meets t w → ⊥
+IsUnmet n t w error.Memory = Unit {0}
+IsUnmet n t w e = ⊥
 
--- why a document that a graph holds at these places has no component that meets its target: the first cause of encoding it, a
--- report of the target, or want of memory
-abbrev pub IsAfterwards : Graph → Places → EncodeOptions → ComposeError → Type 0
-IsAfterwards g at options (error.Resolution f) = RefusesResolved g at options f
-IsAfterwards g at options (error.Target r) = Unit {0}
-IsAfterwards g at options error.Memory = Unit {0}
-IsAfterwards g at options e = ⊥
+-- the component of a graph meets the target, if there is one
+abbrev pub MeetsTarget : Graph → Option WorldId → Collection → WorldId → Type 0
+MeetsTarget g None types world = Unit {0}
+MeetsTarget g (Some t) types world = Meets (component_in g.types t) (component_in types world)
+
+-- a world states what the graph holds, and does not meet the target
+pub record FailsTargetIn (g : Graph) (target : WorldId) : Type 0 where
+  pub types : Collection
+  pub world : WorldId
+  pub states : HasResolvedWorld g types world
+  pub unmet : Meets (component_in g.types target) (component_in types world) → ⊥
+
+abbrev pub FailsIn : Graph → Option WorldId → Type 0
+FailsIn g None = ⊥
+FailsIn g (Some t) = FailsTargetIn g t
+
+-- why a document that a graph holds at these places has no component that meets its target: the first cause of encoding it, or
+-- the target is not met; or want of memory
+abbrev pub IsAfterwards : Graph → Places → Option WorldId → EncodeOptions → ComposeError → Type 0
+IsAfterwards g at target options (error.Resolution f) = RefusesResolved g at options f
+IsAfterwards g at target options (error.Target r) = FailsIn g target
+IsAfterwards g at target options error.Memory = Unit {0}
+IsAfterwards g at target options e = ⊥
 
 -- a component under the name and the version of a package
 pub record IsNamed (p : PackageName) (e : Encoded) (o : Output) : Type 0 where
@@ -77,6 +101,6 @@ pub record IsOf (next : ℕ) (p : PackageName) (o : Output) : Type 0 where
 abbrev pub IsUnencoded : ℕ → (define : Bool) → Resolves → ComposeError → Type 0
 IsUnencoded next define q error.NumbersExhausted = greatest < next + 3
 IsUnencoded next define q (error.Resolution f) = (next + 3 ≤ greatest) × NamesFirst define q f
-IsUnencoded next define q (error.Target r) = (next + 3 ≤ greatest) × IsAccepted q
+IsUnencoded next define q (error.Target r) = (next + 3 ≤ greatest) × IsTargetUnmet q
 IsUnencoded next define q error.Memory = Unit {0}
 IsUnencoded next define q e = ⊥

@@ -1,6 +1,6 @@
 //! Composing documents.
 
-ghost use Rattle.std.specs.Prelude.{◌≡◌, ◌+◌, ◌<◌, All, IfOk, IfErr, OnErr, IsErrOf, true};
+ghost use Rattle.std.specs.Prelude.{◌≡◌, ◌+◌, ◌<◌, All, IfOk, IfErr, OnErr, OnOk, IsErrOf, true};
 ghost use Rattle.std.specs.Option.{option_copied, option_map};
 ghost use Rattle.semver.specs.Identifiers.{parts_of};
 ghost use Rattle.wac_types_base.specs.declared.item.ItemKind.{ItemKind};
@@ -12,11 +12,12 @@ ghost use Rattle.wac_parser_resolve.specs.Resolved.{graph_of, places_of, target_
 ghost use Rattle.wac_parser_resolve.specs.Targeting.{IsTarget};
 ghost use Rattle.wac_graph_encode.specs.Finished.{MeansImported, MeansNested};
 ghost use Rattle.wac_parser_encode.specs.Meaning.{HasResolvedWorld, ImportsResolved, MeansResolved};
-ghost use Rattle.wac_workspace.specs.Composing.{greatest, ImportsSaid, ImportsSource, IsComposition, IsUnmade, IsOutput, IsGraphed, IsUnresolved, MeansSaid, MeansSource};
+ghost use Rattle.wac_workspace.specs.Composing.{greatest, ImportsSaid, ImportsSource, IsUnmade, IsOutput, IsGraphed, IsUnresolved, MeansSaid, MeansSource};
 ghost use Rattle.wac_workspace.specs.Packages.{AreApart};
 ghost use Rattle.wac_workspace.specs.View.{HasWorld};
-ghost use Rattle.wac_workspace.specs.Resolving.{handed, says, IsGraphOf, IsAccepted, IsLate, IsOfResolving};
-ghost use Rattle.wac_workspace.specs.Steps.{AreNext, IsPair, IsEncoded, IsUnmet, IsAfterwards, IsNamed, IsOf, IsUnencoded};
+ghost use Rattle.wac_workspace.specs.Resolving.{handed, says, IsGraphOf, IsAccepted, IsComposition, IsLate, IsOfResolving};
+ghost use Rattle.wac_workspace.specs.Steps.{AreNext, IsPair, IsEncoded, IsUnmet, IsAfterwards, IsNamed, IsOf, IsUnencoded, MeetsTarget};
+ghost use Rattle.wac_workspace.specs.Targets.{component_in, Meets};
 
 use crate::entries::{Entry, packages_of};
 use crate::errors::ComposeError;
@@ -95,7 +96,7 @@ fn bring_together(
 ) -> Result<Pair, AllocError>
     requires target { Stands types.now (ItemKind.Component target) }
     requires component { Stands encoded.now.types (ItemKind.Component encoded.now.world) }
-    ensures { IfOk result IsPair }
+    ensures { IfOk result (IsPair types.now encoded.now.types target encoded.now.world) }
 {
     let mut both = Types::new(alloc, UNSEEN);
     let mut adding = both.adding();
@@ -118,7 +119,10 @@ fn test_target(
 ) -> Result<(), ComposeError>
     requires target { Stands types.now (ItemKind.Component target) }
     requires component { Stands encoded.now.types (ItemKind.Component encoded.now.world) }
-    ensures { IfErr result (IsUnmet name.now) }
+    ensures met { OnOk result
+        (Meets (component_in types.now target) (component_in encoded.now.types encoded.now.world)) }
+    ensures unmet { IfErr result
+        (IsUnmet name.now (component_in types.now target) (component_in encoded.now.types encoded.now.world)) }
 {
     let pair = bring_together(alloc, types, target, encoded)?;
     match validate_target(alloc, &pair.types, pair.target, pair.world) {
@@ -150,7 +154,9 @@ fn encode_resolved<'d, D: Drop>(
     ensures ascribed { IfOk result (λ e. MeansResolved (graph_of resolution.entry) options e.bytes.items) }
     ensures imported { IfOk result (λ e. ImportsResolved (graph_of resolution.entry) options e.bytes.items) }
     ensures resolved { IfOk result (λ e. HasResolvedWorld (graph_of resolution.entry) e.types e.world) }
-    ensures late { IfErr result (IsAfterwards (graph_of resolution.entry) (places_of resolution.entry) options) }
+    ensures target { IfOk result (λ e. MeetsTarget (graph_of resolution.entry) (target_of resolution.entry) e.types e.world) }
+    ensures late { IfErr result
+        (IsAfterwards (graph_of resolution.entry) (places_of resolution.entry) (target_of resolution.entry) options) }
 {
     let encoded = resolution.encode_world(options, (numbers.merging, numbers.output))?;
     if let Some(target) = resolution.target() {

@@ -56,4 +56,4 @@ returns-clause-composed c =
     let q = resolved d ps in
     let r = c.in_ok-resolution.resolution in
     let built = subst (λ (d : Document). IsHeld (λ (s : State × Option Stated) b. HoldsAll s (graph_of b) (places_of b) (target_of b)) (resolved (view_document d) ps) r) c.new.ensures c.in_ok-resolution.ensures.outcome in
-    composed d ps (graph_of r) c.encode_resolved.result (graph_held graph_of places_of target_of q r (graph_of r) refl built) c.encode_resolved.ensures.resolved
+    composed graph_of places_of target_of d ps r c.encode_resolved.result built c.encode_resolved.ensures.resolved c.encode_resolved.ensures.target
