@@ -6,11 +6,14 @@ mod escapes;
 mod made;
 mod parts;
 mod paths;
+mod printed;
+mod printing;
 mod sink;
 mod steps;
 mod teller;
 mod tokens;
 mod trees;
+mod values;
 mod writers;
 
 use std::io::{self, Read};

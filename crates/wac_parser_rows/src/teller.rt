@@ -2,6 +2,7 @@
 
 use crate::escapes::unescaped;
 use crate::made::made;
+use crate::printing::{print_row, value_row};
 use crate::steps::parts;
 use crate::tokens::{line_told, texts};
 use crate::trees::tree_told;
@@ -35,9 +36,11 @@ fn source_told(source: &str, alloc: Global, part: &Part<'_>) -> Result<String> {
     }
 }
 
-/// What is told of a part.
-fn part_told(part: &Part<'_>, alloc: Global) -> Result<String> {
+/// What is told of a row's first part.
+fn part_told(row: &Row<'_>, part: &Part<'_>, alloc: Global) -> Result<String> {
     match part.kind {
+        "prints" => print_row(part, alloc),
+        "value" => value_row(row, part, alloc),
         "items" | "docs" | "spans" => each_line(part.text, alloc, part.kind),
         "made" => made(alloc, part.name),
         _ => {
@@ -50,7 +53,7 @@ fn part_told(part: &Part<'_>, alloc: Global) -> Result<String> {
 impl RowTeller for Parser {
     fn tell(&self, alloc: Global, row: &Row<'_>) -> Result<String> {
         match row.parts.first() {
-            Some(part) => part_told(part, alloc),
+            Some(part) => part_told(row, part, alloc),
             None => bail!("a row of no part"),
         }
     }

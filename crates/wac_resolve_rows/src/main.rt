@@ -1,18 +1,23 @@
-//! Shows rows of resolution: packages and a document as texts, and the graph or the refusal that comes of them.
+//! Shows rows of documents: packages and a document as texts, and what it declares, the graph or the refusal that comes of them.
 #![tactic(auto)]
 
+mod declared;
 mod handed;
+mod items;
+mod reading;
 mod shown;
 
 use anyhow::{Context, Result};
+use declared::declared;
 use handed::{hand_all, packages_of};
+use reading::read;
 use shown::{show_error, show_graph};
 use std::alloc::Global;
 use std::io::Read;
 use wac_parser_read::ParseDocument;
 use wac_parser_resolve::{Packages, ResolveDocument};
 use wac_parser_tree::Document;
-use wac_rows::{Row, RowTeller, report};
+use wac_rows::{Part, Row, RowTeller, report};
 
 // What owns a document is generic in its type, and named where no document is there yet: a proof then need not take the
 // whole tree of types apart.
@@ -30,15 +35,31 @@ fn resolved<'s, D: ParseDocument<'s> + ResolveDocument>(
     }
 }
 
-/// A row has the part `packages`, a document in each line, and the part `source`, the document over them.
+/// What comes of a document over packages.
+fn tell_resolved(row: &Row<'_>, alloc: Global) -> Result<String> {
+    let source = row.text("source").context("no source")?;
+    let handed = hand_all(alloc, row.text("packages").unwrap_or(""))?;
+    let packages = packages_of(alloc, &handed)?;
+    resolved::<Document<'_>>(source, alloc, &packages)
+}
+
+/// A part's source. It ends before `(end)` where that stands, so that line feeds can end it.
+fn source_of<'a>(part: &Part<'a>) -> &'a str {
+    part.text.strip_suffix("(end)").unwrap_or(part.text)
+}
+
+/// A row's first part has the source: `declares` with the name of an item, or `reads`. Else the row has the part `packages`, a
+/// document in each line, and the part `source`, the document over them.
 struct ResolveRows;
 
 impl RowTeller for ResolveRows {
     fn tell(&self, alloc: Global, row: &Row<'_>) -> Result<String> {
-        let source = row.text("source").context("no source")?;
-        let handed = hand_all(alloc, row.text("packages").unwrap_or(""))?;
-        let packages = packages_of(alloc, &handed)?;
-        resolved::<Document<'_>>(source, alloc, &packages)
+        let part = row.parts.first().context("no part")?;
+        match part.kind {
+            "declares" => declared::<Document<'_>>(source_of(part), alloc, part.name),
+            "reads" => Ok(read::<Document<'_>>(source_of(part), alloc)?),
+            _ => tell_resolved(row, alloc),
+        }
     }
 }
 

@@ -153,14 +153,14 @@ module _ (c : Collection) (a : IsAcyclic c) (target world : WorldId) (x y : Worl
     import_given e m =
         let j = there_or (given e.0) (none_lacking e m) in
         let fit = fit_if_not c (promoted j.0) e.1
-            (λ no. none_differs y.imports [] is.imports refl is.mismatched_imports no_imports_differ e m (j.0, j.1, no)) in
+        (λ no. none_differs y.imports [] is.imports refl is.mismatched_imports no_imports_differ e m (j.0, j.1, no)) in
         (stated_of c j.0, gives e.0 ∙ ap (option_map (stated_of c)) j.1, subst (λ (t : Stated). Fits (tree t) (tree (stated_of c e.1))) (given_promoted e.0 j.0 j.1) (fit_is c (promoted j.0) e.1 fit))
 
     export_given : (e : Name × ItemKind) → Among e x.exports → IsExported (component_in c world) (e.0, stated_of c e.1)
     export_given e m =
         let j = there_or (value_at y.exports e.0) (none_missing e m) in
         let fit = fit_if_not c j.0 (promoted e.1)
-            (λ no. none_differs x.exports is.imports r.mismatched_types no_imports_differ is.mismatched_types empty.mismatched_types e m (j.0, j.1, no)) in
+        (λ no. none_differs x.exports is.imports r.mismatched_types no_imports_differ is.mismatched_types empty.mismatched_types e m (j.0, j.1, no)) in
         (stated_of c j.0, exported e.0 ∙ ap (option_map (stated_of c)) j.1, subst (λ (t : Stated). Fits (tree (stated_of c j.0)) (tree t)) (promote_stated e.1 c a (export_stands e m)) (fit_is c j.0 (promoted e.1) fit))
 
     pub nothing_told : Meets (component_in c target) (component_in c world)

@@ -1,11 +1,12 @@
 //! The types that documents declare, and the texts and places of refusals.
 
-use crate::shown::shown_item;
+use crate::items::shown_item;
+use crate::shown::show_error;
 use anyhow::Result;
 use std::alloc::{AllocError, Global};
 use wac_graph_core::CompositionGraph;
 use wac_parser_read::ParseDocument;
-use wac_parser_resolve::{Error, Packages, ResolveDocument};
+use wac_parser_resolve::{Packages, ResolveDocument};
 use wac_types_base::ItemKind;
 
 // What owns a document is generic in its type: a proof then need not take the whole tree of types apart.
@@ -31,24 +32,12 @@ fn item_text(graph: &CompositionGraph, alloc: Global, name: &str) -> Result<Stri
     }
 }
 
-/// The text of a refusal, and its place.
-fn refusal_text(error: &Error, alloc: Global) -> Result<String, AllocError> {
-    match error.span() {
-        Some(span) => format!(in alloc; "{error} at {}+{}", span.offset, span.length),
-        None => format!(in alloc; "{error}"),
-    }
-}
-
 /// What a document over no packages is.
-fn resolved<D: ResolveDocument>(
-    document: &D,
-    alloc: Global,
-    name: &str,
-) -> Result<String, AllocError> {
+fn resolved<D: ResolveDocument>(document: &D, alloc: Global, name: &str) -> Result<String> {
     let packages: Packages<'_> = Packages::new(alloc);
     match document.resolve(alloc, &packages, NUMBER) {
-        Ok(resolution) => item_text(resolution.graph(), alloc, name),
-        Err(error) => refusal_text(&error, alloc),
+        Ok(resolution) => Ok(item_text(resolution.graph(), alloc, name)?),
+        Err(error) => show_error(alloc, &error),
     }
 }
 
@@ -59,5 +48,5 @@ pub(crate) fn declared<'s, D: ParseDocument<'s> + ResolveDocument>(
     name: &str,
 ) -> Result<String> {
     let document = D::parse(alloc, source)?;
-    Ok(resolved(&document, alloc, name)?)
+    resolved(&document, alloc, name)
 }
