@@ -41,8 +41,8 @@ use Rattle.wac_parser_ascribed.specs.Tied.{ascribed_wiring, bytes_of, handed_tag
 use Rattle.wac_parser_encode.specs.Meaning.{AreTrueOf, IsWorldOf, MeansAscribed}
 use Rattle.wac_workspace.specs.declared.entries.Entry.{Entry}
 use Rattle.wac_workspace.specs.declared.output.Output.{Output}
-use Rattle.wac_workspace.specs.Packages.{Adds, HasBytes, HasHanded, Held, IsMade as IsMadeOf, Made as Handed}
-use Rattle.wac_workspace.specs.Composing.{IsAscribed, IsComposed, IsDocument, IsMeantBy, IsOutput, MeansSource, made_of}
+use Rattle.wac_workspace.specs.Packages.{AddsPackage, HasBytes, HasHanded, Held, IsEntryMade, PackageParts}
+use Rattle.wac_workspace.specs.Composing.{AreAscribedBytes, ComposesSource, IsDocument, IsMeantBy, IsOutput, MeansSource, output_parts}
 use Rattle.wac_workspace.specs.Resolving.{content, handed, IsComposition}
 use Rattle.wac_nesting.proofs.Carry.{carries}
 use Rattle.wac_outputs.specs.Calls.{AreAsAscribed, AreCalls, none_yet, then_call, IsCall, hands_in, composes, keeps, IsEntryOf, Outputs_are_as_ascribed, ascribed_over, place_if, place_under, world_in}
@@ -159,11 +159,11 @@ same_document source d e x y = same_ok _ _ (sym x ∙ y)
 -- what the bytes of a composed source mean
 said_of : (options : EncodeOptions) (es : List Entry) (source : List ℕ) (bytes : List ℕ) (d : Document) (s : State) (target : Option Stated) → IsDocument source d → resolved d (handed es) ≡ Ok (s, target) → options.define_components ≡ true
     → MeansSource options (handed es) source bytes → MeansAscribed s bytes
-unfolding MeansSource IsAscribed
+unfolding MeansSource AreAscribedBytes
 said_of options es source bytes d s target document resolves define means =
     let m : IsMeantBy (handed es) source bytes = means define in
     let same = same_document source m.tree d m.read document in
-    subst (λ q. IsAscribed q bytes) (ap (λ e. resolved e (handed es)) same ∙ resolves) m.meant.ascribed
+    subst (λ q. AreAscribedBytes q bytes) (ap (λ e. resolved e (handed es)) same ∙ resolves) m.meant.ascribed
 
 -- what its world is
 world_of : (es : List Entry) (source : List ℕ) (next : ℕ) (o : Output) (d : Document) (s : State) (target : Option Stated) → IsDocument source d → resolved d (handed es) ≡ Ok (s, target) → IsOutput next (handed es) source o → IsWorldOf s o.types o.world
@@ -184,11 +184,11 @@ handed_there es packages zip bytes h =
 new_there : (es : List Entry) (packages : List Package) → AreEntries es packages → (bytes : List ℕ) → (HasBytes es bytes → ⊥) → n.IsNew packages bytes
 new_there es packages zip bytes none p m is = let e = zip_back IsEntryOf es packages p zip m in none (e.0, e.1, sym e.2.bytes ∙ is)
 
-entry_of : (m : Handed) (e : Entry) (handed_in : Bool) (p : Package) → p.bytes ≡ m.bytes → p.world ≡ world_in m.types m.world → (IsLeaf p.ascribed → e.is_handed ≡ true) → IsMadeOf m e → IsEntryOf e p
+entry_of : (m : PackageParts) (e : Entry) (handed_in : Bool) (p : Package) → p.bytes ≡ m.bytes → p.world ≡ world_in m.types m.world → (IsLeaf p.ascribed → e.is_handed ≡ true) → IsEntryMade m e → IsEntryOf e p
 entry_of m e handed_in p bytes world leaf made = record { bytes = bytes ∙ sym made.bytes; world = world ∙ ap maps_of (sym made.states); leaf = leaf }
 
 -- with one more package
-more_entries : (old new : List Entry) (packages : List Package) (m : Handed) (is_handed : Bool) (p : Package) → AreEntries old packages → (a : Adds old new is_handed m) → p.bytes ≡ m.bytes → p.world ≡ world_in m.types m.world → (IsLeaf p.ascribed → is_handed ≡ true)
+more_entries : (old new : List Entry) (packages : List Package) (m : PackageParts) (is_handed : Bool) (p : Package) → AreEntries old packages → (a : AddsPackage old new is_handed m) → p.bytes ≡ m.bytes → p.world ≡ world_in m.types m.world → (IsLeaf p.ascribed → is_handed ≡ true)
     → AreEntries new (packages ++ p ∷ [])
 more_entries old new packages m is_handed p zip a bytes world leaf =
     subst (λ es. AreEntries es (packages ++ p ∷ [])) (sym a.«packages»)
@@ -209,7 +209,7 @@ one_call old new packages step zip (composes source options o d s target define 
     record {
       step = composes_so old.packages packages zip d s target resolves world.met o.bytes.items (world_in o.types o.world) (λ h. kept.bytes (handed_there old.packages packages zip o.bytes.items h)) (ap maps_of world.states.states)
           (said_of options old.packages source o.bytes.items d s target document resolves define means);
-      entries = more_entries old.packages new.packages packages (made_of o) false _ zip kept.added refl refl (λ l. absurd l);
+      entries = more_entries old.packages new.packages packages (output_parts o) false _ zip kept.added refl refl (λ l. absurd l);
     }
 one_call old new packages s zip (keeps same) = record { step = tt; entries = subst (λ es. AreEntries es packages) (sym same) zip }
 

@@ -22,7 +22,7 @@ use Rattle.wac_parser_resolve.specs.Resolved.{Places}
 use Rattle.wac_types_base.specs.Record.{Collection}
 use Rattle.wac_parser_encode.specs.Meaning.{HasResolvedWorld, ImportsResolved, MeansResolved}
 use Rattle.wac_parser_encode.specs.Refused.{CanBeWritten, TellsCause, TellsFirst}
-use Rattle.wac_workspace.specs.Composing.{ImportsSaid, IsAscribed, IsAscribedOver, IsImporting, IsMeant, MeansSaid}
+use Rattle.wac_workspace.specs.Composing.{ImportsSaid, AreAscribedBytes, AreImportingBytes, IsImporting, IsMeant, MeansSaid}
 use Rattle.wac_workspace.specs.declared.output.Output.{Output}
 use Rattle.wac_workspace.specs.declared.errors.ComposeError.{ComposeError}
 use Rattle.wac_workspace.specs.declared.errors.ComposeError.TheVariants as error
@@ -113,10 +113,10 @@ module _ {B : Type 0} (graph : B → Graph) (places : B → Places) (target : B 
 -- the bytes of a graph that holds what is resolved
 pub meant : {E : Type 0} (d : t.Document) (ps : Handed) (g : Graph) (r : Result Encoded E) (options : EncodeOptions) → IsGraphOf (resolved d ps) g → IfOk r (λ e. MeansNested g options e.bytes.items)
     → IfOk r (λ e. MeansResolved g options e.bytes.items) → IfOk r (λ e. MeansSaid options (resolved d ps) e.bytes.items)
-unfolding MeansResolved IsAscribed
+unfolding MeansResolved AreAscribedBytes
 meant d ps g (Ok e) options holds nested said = λ define. record { ascribed = by define (resolved d ps) refl holds; graph = g; holds = holds; component = nested define }
   where
-    by : options.define_components ≡ true → (q : Resolves) → resolved d ps ≡ q → IsGraphOf q g → IsAscribed q e.bytes.items
+    by : options.define_components ≡ true → (q : Resolves) → resolved d ps ≡ q → IsGraphOf q g → AreAscribedBytes q e.bytes.items
     by define (Ok s) is h = said define d ps s h.0 is h.1
     by define (Err c) is h = absurd h
 meant d ps g (Err f) options holds nested said = tt
@@ -128,10 +128,10 @@ meant_named a b q xs ys same bytes h = λ define. subst (λ (zs : List ℕ). IsM
 -- the same with packages imported
 pub importing : {E : Type 0} (d : t.Document) (ps : Handed) (g : Graph) (r : Result Encoded E) (options : EncodeOptions) → IsGraphOf (resolved d ps) g → IfOk r (λ e. MeansImported g options e.bytes.items)
     → IfOk r (λ e. ImportsResolved g options e.bytes.items) → IfOk r (λ e. ImportsSaid options (resolved d ps) e.bytes.items)
-unfolding ImportsResolved IsAscribedOver
+unfolding ImportsResolved AreImportingBytes
 importing d ps g (Ok e) options holds imports said = λ define. record { ascribed = by define (resolved d ps) refl holds; graph = g; holds = holds; component = imports define }
   where
-    by : options.define_components ≡ false → (q : Resolves) → resolved d ps ≡ q → IsGraphOf q g → IsAscribedOver q e.bytes.items
+    by : options.define_components ≡ false → (q : Resolves) → resolved d ps ≡ q → IsGraphOf q g → AreImportingBytes q e.bytes.items
     by define (Ok s) is h = said define d ps s h.0 is h.1
     by define (Err c) is h = absurd h
 importing d ps g (Err f) options holds imports said = tt

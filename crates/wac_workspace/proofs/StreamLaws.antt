@@ -5,12 +5,12 @@ use Rattle.wac_workspace.specs.declared.output.Output.{Output}
 use Rattle.wac_workspace.specs.declared.errors.StreamError.{StreamError}
 use Rattle.wac_workspace.specs.declared.errors.StreamError.TheVariants as error
 use Rattle.wac_workspace.specs.Packages.{Held}
-use Rattle.wac_workspace.specs.Composing.{IsComposed}
+use Rattle.wac_workspace.specs.Composing.{ComposesSource}
 use Rattle.wac_streams.specs.Calls.{AppendsPrefix}
 use Rattle.wac_workspace.specs.Streaming.{Ends, IsText, IsStopped}
 
 pub write_stopped : {T : Type 0} {P : Type 0} (old new : Held) (define : Bool) (ends : Ends) (source : List ℕ) (o : Output) (r : Result T StreamError)
-    → IsText ends.read ends.unread source → IsComposed old new source define o → (P → AppendsPrefix ends.written ends.known o.bytes.items) → OnErr r (IsErrOf r error.Write) → OnErr r P → IfErr r (IsStopped old new define ends)
+    → IsText ends.read ends.unread source → ComposesSource old new source define o → (P → AppendsPrefix ends.written ends.known o.bytes.items) → OnErr r (IsErrOf r error.Write) → OnErr r P → IfErr r (IsStopped old new define ends)
 write_stopped old new define ends source o (Ok x) text composed front only h = tt
 write_stopped old new define ends source o (Err e) text composed front only h =
     let same : e ≡ error.Write = cc in

@@ -20,7 +20,7 @@ use Rattle.wac_parser_encode.specs.Meaning.{ImportsAscribed, MeansAscribed}
 use Rattle.wac_workspace.specs.declared.output.Output.{Output}
 use Rattle.wac_workspace.specs.declared.errors.ComposeError.{ComposeError}
 use Rattle.wac_workspace.specs.declared.errors.ComposeError.TheVariants as error
-use Rattle.wac_workspace.specs.Packages.{Held, Made, HasKey, HasHanded, Adds}
+use Rattle.wac_workspace.specs.Packages.{Held, PackageParts, HasKey, HasHanded, AddsPackage}
 use Rattle.wac_workspace.specs.Resolving.{Handed, Resolves, handed, IsGraphOf, IsAccepted, IsComposition, IsTargetUnmet, NamesFirst}
 
 -- the greatest number of a collection, which is never given out
@@ -40,20 +40,20 @@ abbrev pub output_key : Output → Key
 output_key o = (string_bytes o.name, option_map parts_of o.version)
 
 -- what is registered of an output: its key, its bytes, and its world under its number
-abbrev pub made_of : Output → Made
-made_of o = record { key = output_key o; bytes = o.bytes.items; types = o.types; world = o.world; number = o.types.number }
+abbrev pub output_parts : Output → PackageParts
+output_parts o = record { key = output_key o; bytes = o.bytes.items; types = o.types; world = o.world; number = o.types.number }
 
 -- the output is registered: its key is no package's, and its bytes are no handed component's
 pub record Registers (old new : Held) (o : Output) : Type 0 where
   pub key : HasKey old.packages (output_key o) → ⊥
   pub bytes : HasHanded old.packages o.bytes.items → ⊥
-  pub added : Adds old.packages new.packages false (made_of o)
+  pub added : AddsPackage old.packages new.packages false (output_parts o)
   pub next : new.next ≡ old.next
 
 -- with components defined the output is registered; else the packages stay
-abbrev pub Keeps : (define : Bool) → Held → Held → Output → Type 0
-Keeps true old new o = Registers old (record new { next = old.next }) o
-Keeps false old new o = new.packages ≡ old.packages
+abbrev pub RegistersIf : (define : Bool) → Held → Held → Output → Type 0
+RegistersIf true old new o = Registers old (record new { next = old.next }) o
+RegistersIf false old new o = new.packages ≡ old.packages
 
 -- The source is a document that these packages resolve, and the output has its directive's key and its world, which meets the
 -- target that is named, under the last of the next three numbers.
@@ -68,14 +68,14 @@ pub record IsOutput (next : ℕ) (ps : Handed) (source : List ℕ) (o : Output) 
   pub composed : IsComposition (resolved tree ps) o.types o.world
 
 -- the bytes mean the wiring that is ascribed over the packages handed in
-unfoldable pub IsAscribed : Resolves → List ℕ → Type 0
-IsAscribed (Ok s) bytes = MeansAscribed s.0 bytes
-IsAscribed (Err c) bytes = ⊥
+unfoldable pub AreAscribedBytes : Resolves → List ℕ → Type 0
+AreAscribedBytes (Ok s) bytes = MeansAscribed s.0 bytes
+AreAscribedBytes (Err c) bytes = ⊥
 
 -- The bytes mean what is ascribed, and are a component of a graph that holds it: its packages are nested, each once and
 -- unchanged, and nothing else is.
 pub record IsMeant (q : Resolves) (bytes : List ℕ) : Type 0 where
-  pub ascribed : IsAscribed q bytes
+  pub ascribed : AreAscribedBytes q bytes
   pub graph : Graph
   pub holds : IsGraphOf q graph
   pub component : IsComponentOf true graph bytes
@@ -96,14 +96,14 @@ MeansSource options ps source bytes = options.define_components ≡ true → IsM
 -- ---- with packages imported
 
 -- the bytes mean the wiring that is ascribed over them
-unfoldable pub IsAscribedOver : Resolves → List ℕ → Type 0
-IsAscribedOver (Ok s) bytes = ImportsAscribed s.0 bytes
-IsAscribedOver (Err c) bytes = ⊥
+unfoldable pub AreImportingBytes : Resolves → List ℕ → Type 0
+AreImportingBytes (Ok s) bytes = ImportsAscribed s.0 bytes
+AreImportingBytes (Err c) bytes = ⊥
 
 -- The bytes mean what is ascribed, and are a component of a graph that holds it: its packages are imported, each once, and
 -- nothing is nested.
 pub record IsImporting (q : Resolves) (bytes : List ℕ) : Type 0 where
-  pub ascribed : IsAscribedOver q bytes
+  pub ascribed : AreImportingBytes q bytes
   pub graph : Graph
   pub holds : IsGraphOf q graph
   pub component : HaveDependencyNames graph → IsComponentOf false graph bytes
@@ -122,10 +122,10 @@ ImportsSource options ps source bytes = options.define_components ≡ false → 
 -- ---- what is done
 
 -- The source is composed: three numbers are taken, and the output is kept.
-pub record IsComposed (old new : Held) (source : List ℕ) (define : Bool) (o : Output) : Type 0 where
+pub record ComposesSource (old new : Held) (source : List ℕ) (define : Bool) (o : Output) : Type 0 where
   pub output : IsOutput old.next (handed old.packages) source o
   pub next : new.next ≡ old.next + 3
-  pub kept : Keeps define old new o
+  pub kept : RegistersIf define old new o
 
 -- the source is a document, there are three more numbers, and this is so of what the document resolves to
 pub record IsTried (next : ℕ) (ps : Handed) (source : List ℕ) (P : Resolves → Type 0) : Type 0 where

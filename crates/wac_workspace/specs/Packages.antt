@@ -44,7 +44,7 @@ AreApart [] = Unit {0}
 AreApart (p ∷ ps) = ((q : Entry) → Among q ps → IsApart q p) × AreApart ps
 
 -- what a package is made of: a key, bytes, a world of a collection, and a number
-pub record Made : Type 0 where
+pub record PackageParts : Type 0 where
   pub key : Key
   pub bytes : List ℕ
   pub types : Collection
@@ -53,7 +53,7 @@ pub record Made : Type 0 where
 
 -- The package has that key and those bytes, and in a collection of its own, under that number, a copy of the world, which states
 -- the same; its definitions and the interface of its instances are those of the copy.
-pub record IsMade (m : Made) (e : Entry) : Type 0 where
+pub record IsEntryMade (m : PackageParts) (e : Entry) : Type 0 where
   pub key : key_of e ≡ m.key
   pub bytes : e.package.bytes ≡ m.bytes
   pub states : stated_of e.types (ItemKind.Component e.package.ty) ≡ stated_of m.types (ItemKind.Component m.world)
@@ -64,8 +64,8 @@ pub record IsMade (m : Made) (e : Entry) : Type 0 where
   pub definitions : DefinitionsOf copy e.package.ty e.package.definitions
 
 -- one more package, which is handed in or an output
-pub record Adds (old new : List Entry) (is_handed : Bool) (m : Made) : Type 0 where
+pub record AddsPackage (old new : List Entry) (is_handed : Bool) (m : PackageParts) : Type 0 where
   pub entry : Entry
   pub origin : entry.is_handed ≡ is_handed
-  pub made : IsMade m entry
+  pub made : IsEntryMade m entry
   pub packages : new ≡ old ++ entry ∷ []

@@ -77,7 +77,7 @@ IsAfterwards g at target options error.Memory = Unit {0}
 IsAfterwards g at target options e = ⊥
 
 -- a component under the name and the version of a package
-pub record IsNamed (p : PackageName) (e : Encoded) (o : Output) : Type 0 where
+pub record IsNamedOutput (p : PackageName) (e : Encoded) (o : Output) : Type 0 where
   pub key : output_key o ≡ (p.name, p.version)
   pub bytes : o.bytes ≡ e.bytes
   pub types : o.types ≡ e.types

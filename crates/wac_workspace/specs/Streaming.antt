@@ -5,7 +5,7 @@ use Rattle.std.specs.Str.{IsUtf8}
 use Rattle.wac_workspace.specs.declared.output.Output.{Output}
 use Rattle.wac_workspace.specs.declared.errors.StreamError.{StreamError}
 use Rattle.wac_workspace.specs.declared.errors.StreamError.TheVariants as error
-use Rattle.wac_workspace.specs.Composing.{IsComposed, IsRefused}
+use Rattle.wac_workspace.specs.Composing.{ComposesSource, IsRefused}
 use Rattle.wac_streams.specs.Calls.{AppendsPrefix}
 use Rattle.wac_workspace.specs.Packages.{Held}
 use Rattle.wac_workspace.specs.Reading.{ToEnd, HasTooMany}
@@ -32,7 +32,7 @@ pub record IsStreamed (old new : Held) (define : Bool) (ends : Ends) : Type 0 wh
   pub source : List ℕ
   pub output : Output
   pub text : IsText ends.read ends.unread source
-  pub composed : IsComposed old new source define output
+  pub composed : ComposesSource old new source define output
   pub wrote : Appends ends.written ends.known output.bytes.items
 
 -- The cause of each refusal; where writing failed the source is composed, and else nothing changed and nothing is written.
@@ -47,6 +47,6 @@ IsStopped old new define ends (error.Compose e) =
     (new ≡ old) × ((source : List ℕ) × IsText ends.read ends.unread source × IsRefused old source define e)
     × Appends ends.written ends.known []
 IsStopped old new define ends error.Write =
-    (source : List ℕ) × (o : Output) × IsText ends.read ends.unread source × IsComposed old new source define o
+    (source : List ℕ) × (o : Output) × IsText ends.read ends.unread source × ComposesSource old new source define o
     × AppendsPrefix ends.written ends.known o.bytes.items
 IsStopped old new define ends error.Memory = (new ≡ old) × Appends ends.written ends.known []

@@ -13,7 +13,7 @@ impl Workspace {
     ghost use Rattle.semver.specs.Identifiers.{parts_of};
     ghost use Rattle.wac_types_base.specs.declared.item.ItemKind.{ItemKind};
     ghost use Rattle.wac_types_base.specs.Collection.{Stands};
-    ghost use Rattle.wac_workspace.specs.Packages.{HasKey, HasBytes, HasHanded, Adds};
+    ghost use Rattle.wac_workspace.specs.Packages.{HasKey, HasBytes, HasHanded, AddsPackage};
     ghost use Rattle.wac_workspace.specs.Composing.{greatest, output_key, Registers};
     ghost use Rattle.wac_workspace.specs.Steps.{IsUnregistered};
 
@@ -56,7 +56,7 @@ impl Workspace {
         world: WorldId,
     ) -> Result<(), AddPackageError>
         requires { Stands types.now (ItemKind.Component world) }
-        ensures added { OnOk result (Adds self.old.packages self.new.packages true (record {
+        ensures added { OnOk result (AddsPackage self.old.packages self.new.packages true (record {
           key = (name.now, option_map parts_of (option_copied version.entry));
           bytes = bytes.items;
           types = types.now;

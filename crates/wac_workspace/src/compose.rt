@@ -16,7 +16,7 @@ ghost use Rattle.wac_workspace.specs.Composing.{greatest, ImportsSaid, ImportsSo
 ghost use Rattle.wac_workspace.specs.Packages.{AreApart};
 ghost use Rattle.wac_workspace.specs.View.{HasWorld};
 ghost use Rattle.wac_workspace.specs.Resolving.{handed, says, IsGraphOf, IsAccepted, IsComposition, IsLate, IsOfResolving};
-ghost use Rattle.wac_workspace.specs.Steps.{AreNext, IsPair, IsEncoded, IsUnmet, IsAfterwards, IsNamed, IsOf, IsUnencoded, MeetsTarget};
+ghost use Rattle.wac_workspace.specs.Steps.{AreNext, IsPair, IsEncoded, IsUnmet, IsAfterwards, IsNamedOutput, IsOf, IsUnencoded, MeetsTarget};
 ghost use Rattle.wac_workspace.specs.Targets.{component_in, Meets};
 
 use crate::entries::{Entry, packages_of};
@@ -199,7 +199,7 @@ fn output_of(
     alloc: Global,
     encoded: Encoded,
 ) -> Result<Output, AllocError>
-    ensures { IfOk result (IsNamed (view_package_name «package».now) encoded) }
+    ensures { IfOk result (IsNamedOutput (view_package_name «package».now) encoded) }
 {
     let name = String::from_str(alloc, package.name)?;
     let version = version_again(package.version.as_ref())?;
@@ -409,7 +409,7 @@ fn source_graph(
 impl Workspace {
     ghost use Rattle.std.specs.Prelude.{◌≡◌, IfOk, IfErr, OnErr};
     ghost use Rattle.wac_workspace.specs.Resolving.{handed};
-    ghost use Rattle.wac_workspace.specs.Composing.{greatest, ImportsSource, IsComposed, IsRefused, IsGraphed, IsUnresolved, MeansSource};
+    ghost use Rattle.wac_workspace.specs.Composing.{greatest, ImportsSource, ComposesSource, IsRefused, IsGraphed, IsUnresolved, MeansSource};
 
     /// The graph of the document that the source is, over the packages: to look at, with nothing registered. The number of
     /// its collection is the greatest `u64`, which no output has.
@@ -426,7 +426,7 @@ impl Workspace {
     /// directive's key, and later sources may instantiate it. Names are tested whatever the options say. Spans of faults
     /// are offsets in the source, in bytes.
     pub fn compose(&mut self, source: &str, options: EncodeOptions) -> Result<Output, ComposeError>
-        ensures composed { IfOk result (IsComposed self.old self.new source.now options.define_components) }
+        ensures composed { IfOk result (ComposesSource self.old self.new source.now options.define_components) }
         ensures means { IfOk result (λ o. MeansSource options (handed self.old.packages) source.now o.bytes.items) }
         ensures imports { IfOk result (λ o. ImportsSource options (handed self.old.packages) source.now o.bytes.items) }
         ensures refused { IfErr result (IsRefused self.old source.now options.define_components) }

@@ -6,11 +6,11 @@ ghost use Rattle.std.specs.Iterator.{item_count};
 ghost use Rattle.semver.specs.Identifiers.{parts_of};
 ghost use Rattle.wac_types_base.specs.declared.item.ItemKind.{ItemKind};
 ghost use Rattle.wac_types_base.specs.Collection.{Stands};
-ghost use Rattle.wac_workspace.specs.Packages.{key_of, AreApart, IsUnder, HasKey, HasBytes, HasHanded, IsMade};
+ghost use Rattle.wac_workspace.specs.Packages.{key_of, AreApart, IsUnder, HasKey, HasBytes, HasHanded, IsEntryMade};
 ghost use Rattle.wac_workspace.specs.Resolving.{handed};
 ghost use Rattle.wac_parser_resolve.specs.Knowing.{handed_list};
 ghost use Rattle.wac_workspace.specs.View.{HasWorld};
-ghost use Rattle.wac_workspace.specs.Composing.{made_of};
+ghost use Rattle.wac_workspace.specs.Composing.{output_parts};
 ghost use Rattle.wac_workspace.specs.Getting.{GivesRef};
 
 use crate::output::Output;
@@ -78,7 +78,7 @@ pub(crate) fn make_entry(
     is_handed: bool,
 ) -> Result<Entry, AllocError>
     requires { Stands types.now (ItemKind.Component world) }
-    ensures made { IfOk result (IsMade (record {
+    ensures made { IfOk result (IsEntryMade (record {
       key = (name.now, option_map parts_of (option_copied version.entry));
       bytes = bytes.items;
       types = types.now;
@@ -102,7 +102,7 @@ pub(crate) fn make_entry(
 /// The entry of an output.
 pub(crate) fn output_entry(alloc: Global, output: &Output) -> Result<Entry, AllocError>
     requires { Stands output.now.types (ItemKind.Component output.now.world) }
-    ensures made { IfOk result (λ e. IsMade (made_of output.now) e) }
+    ensures made { IfOk result (λ e. IsEntryMade (output_parts output.now) e) }
     ensures origin { IfOk result (λ e. e.is_handed ≡ false) }
     ensures world { IfOk result HasWorld }
 {

@@ -2,7 +2,7 @@ use Rattle.std.proofs.Common.{List, ℕ, ◌∙◌, subst}
 use Rattle.std.proofs.lemmas.Result.{err_from_is_err_and, on_ok_weaker}
 use Rattle.std.specs.Str.{IsUtf8}
 use Rattle.std.specs.Io.KnownBytes.{Appends}
-use Rattle.wac_workspace.specs.Composing.{IsComposed, IsRefused}
+use Rattle.wac_workspace.specs.Composing.{ComposesSource, IsRefused}
 use Rattle.wac_streams.specs.Calls.{AppendsPrefix}
 use Rattle.wac_workspace.specs.Streaming.{IsText}
 use Rattle.wac_streams.proofs.CallLaws.{Appends-none, NoneFailed-none}
@@ -28,7 +28,7 @@ returns-clause-composed g c =
       whole = record { taken = c.in_ok-source.ensures.whole; bound = c.in_ok-source.ensures.bound };
       utf8 = subst (λ (t : List ℕ). IsUtf8 t) c.deref.ensures.value c.in-Ok.ensures.cases.1;
     } in
-    let composed = subst (λ (t : List ℕ). IsComposed c.args.workspace.now c.compose.new.self t c.args.options.define_components c.in_ok-output.output) (c.in-Ok.ensures.cases.0 ∙ c.deref.ensures.value) c.in_ok-output.ensures.composed in
+    let composed = subst (λ (t : List ℕ). ComposesSource c.args.workspace.now c.compose.new.self t c.args.options.define_components c.in_ok-output.output) (c.in-Ok.ensures.cases.0 ∙ c.deref.ensures.value) c.in_ok-output.ensures.composed in
     on_ok_weaker c.write_component.result (λ wrote. record {
       source = c.in_ok-source.source.items;
       output = c.in_ok-output.output;
@@ -43,7 +43,7 @@ returns-clause-stopped g c =
       whole = record { taken = c.in_ok-source.ensures.whole; bound = c.in_ok-source.ensures.bound };
       utf8 = subst (λ (t : List ℕ). IsUtf8 t) c.deref.ensures.value c.in-Ok.ensures.cases.1;
     } in
-    let composed = subst (λ (t : List ℕ). IsComposed c.args.workspace.now c.compose.new.self t c.args.options.define_components c.in_ok-output.output) (c.in-Ok.ensures.cases.0 ∙ c.deref.ensures.value) c.in_ok-output.ensures.composed in
+    let composed = subst (λ (t : List ℕ). ComposesSource c.args.workspace.now c.compose.new.self t c.args.options.define_components c.in_ok-output.output) (c.in-Ok.ensures.cases.0 ∙ c.deref.ensures.value) c.in_ok-output.ensures.composed in
     write_stopped _ _ _ _ c.in_ok-source.source.items c.in_ok-output.output c.write_component.result text composed
     (λ (front : AppendsPrefix (g.W.Write.contents c.args.writer.now) (g.W.Write.contents c.write_component.new.writer) c.deref-2.result.now). subst (λ (bs : List ℕ). AppendsPrefix (g.W.Write.contents c.args.writer.now) (g.W.Write.contents c.write_component.new.writer) bs) c.deref-2.ensures.value front)
     c.write_component.ensures.only c.write_component.ensures.prefix
