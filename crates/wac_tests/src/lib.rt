@@ -13,6 +13,8 @@ mod place_rows;
 #[cfg(test)]
 mod plug_text;
 #[cfg(test)]
+mod readme;
+#[cfg(test)]
 mod streams;
 #[cfg(test)]
 mod streams_tests;
