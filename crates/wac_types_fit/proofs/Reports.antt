@@ -1,6 +1,6 @@
 -- The report of a component against a target, item by item.
 use Rattle.std.proofs.Common.{◌≡◌, ℕ, ◌+◌, ◌≤◌, List, [], ◌∷◌, ◌++◌, take, length, Option, Some, None, Bool, true, false, if◌then◌else◌, cond, append_assoc, refl, sym, ap, subst, ◌∙◌, ◌⊎◌, inl, inr}
-use Rattle.std.specs.Prelude.{slice_get, ◌==◌, Result, Ok, Err, OnOk, ⊤}
+use Rattle.std.specs.Prelude.{slice_get, ◌==◌, Result, Ok, Err, OnOk, ⊤, option_map}
 use Rattle.std.specs.Cmp.Lexicographic.{pointwise}
 use Rattle.std.specs.Map.{lookup}
 use Rattle.std.specs.Borrow.{Bor}
@@ -26,9 +26,12 @@ use Rattle.wac_types_base.proofs.Standing.{interface_found}
 use Rattle.wac_types_base.proofs.Telling.{child_stands}
 use Rattle.wac_types_base.proofs.Used.{interface_uses_stand, world_uses_stand, world_imports_stand}
 use Rattle.wac_types_fit.specs.Trees.{Fit}
+use Rattle.wac_types_fit.specs.declared.errors.SubtypeError.{SubtypeError}
 use Rattle.wac_types_fit.specs.Frames.{Step}
-use Rattle.wac_types_fit.specs.Targets.{Mismatched, AreThose, none_left, first_is, first_is_not, or_else, target_import, IsLacking, ImportDiffers, ExportDiffers, ImportLeads, ExportLeads, IsFault, AreFaults, AreLacking, Differing}
-use Rattle.wac_types_fit.specs.TargetSteps.{name_if, entry_if, ImportChecked, ExportChecked, KindStands, GivesStanding, AllStand}
+use Rattle.wac_types_fit.specs.Errors.{Said, steps_of, words_of}
+use Rattle.wac_types_fit.specs.Words.{AreCalled, CalledUnder}
+use Rattle.wac_types_fit.specs.Targets.{Mismatched, AreThose, none_left, first_is, first_is_not, or_else, target_import, IsLacking, ImportDiffers, ExportDiffers, Leading, ImportLeads, ExportLeads, IsFault, AreFaults, AreLacking, Differing}
+use Rattle.wac_types_fit.specs.TargetSteps.{name_if, entry_if, tested, ImportChecked, ExportChecked, KindStands, GivesStanding, AllStand}
 use Rattle.wac_types_fit.proofs.Items.{value_at-among}
 use Rattle.wac_types_fit.proofs.Unfolded.{world_node}
 
@@ -51,13 +54,15 @@ next_is_not : {X : Type 0} (P : X → Type 0) (xs ys : List X) (i : ℕ) (x : X)
 next_is_not P xs ys i x at h p = subst (λ l. AreThose P l ys) (sym (take-one_more xs i x at)) (not_more P (take i xs) ys x h p)
 
 -- one more mismatch, of an item that differs
-record ItemDiffers (D : Name × ItemKind → Type 0) (L : Name × ItemKind → List Step → Type 0) (side : ExternKind) (e : Name × ItemKind) (ms new : List Mismatched) : Type 0 where
+record ItemDiffers (D : Name × ItemKind → Type 0) (L : Leading) (side : ExternKind) (e : Name × ItemKind) (ms new : List Mismatched) : Type 0 where
   is : D e
   steps : List Step
-  leads : L e steps
-  added : new ≡ ms ++ (e.0, side, Some steps) ∷ []
+  expected : Option Name
+  found : Option Name
+  leads : L e steps expected found
+  added : new ≡ ms ++ (e.0, side, Some (steps, (expected, found))) ∷ []
 
-faults_more : (L : Name × ItemKind → List Step → Type 0) (side : ExternKind) (es : List (Name × ItemKind)) (ms : List Mismatched) (e : Name × ItemKind) (m : Mismatched) → AreFaults L side es ms → IsFault L side e m → AreFaults L side (es ++ e ∷ []) (ms ++ m ∷ [])
+faults_more : (L : Leading) (side : ExternKind) (es : List (Name × ItemKind)) (ms : List Mismatched) (e : Name × ItemKind) (m : Mismatched) → AreFaults L side es ms → IsFault L side e m → AreFaults L side (es ++ e ∷ []) (ms ++ m ∷ [])
 faults_more L side [] [] e m h f = (f, tt)
 faults_more L side [] (x ∷ ms) e m h f = absurd h
 faults_more L side (x ∷ es) [] e m h f = absurd h
@@ -80,7 +85,7 @@ module _ (given : Name → Option ItemKind) (es : List (Name × ItemKind)) (i : 
   missing_step None ms new e h is = subst (AreThose (IsLacking given) (take (i + 1) es)) (sym is) (next_is (IsLacking given) es ms i (n, k) at h (sym e))
   missing_step (Some j) ms new e h is = subst (AreThose (IsLacking given) (take (i + 1) es)) (sym (is ∙ append-nil ms)) (next_is_not (IsLacking given) es ms i (n, k) at h (λ z. absurd (cc (e, z))))
 
-  differing_step : (D : Name × ItemKind → Type 0) (L : Name × ItemKind → List Step → Type 0) (side : ExternKind) (old ms new : List Mismatched) → Differing D L side (take i es) old ms → ((D (n, k) → ⊥) × (new ≡ ms)) ⊎ ItemDiffers D L side (n, k) ms new → Differing D L side (take (i + 1) es) old new
+  differing_step : (D : Name × ItemKind → Type 0) (L : Leading) (side : ExternKind) (old ms new : List Mismatched) → Differing D L side (take i es) old ms → ((D (n, k) → ⊥) × (new ≡ ms)) ⊎ ItemDiffers D L side (n, k) ms new → Differing D L side (take (i + 1) es) old new
   differing_step D L side old ms new h (inl p) = record {
     differing = h.differing;
     those = next_is_not D es h.differing i (n, k) at h.those p.0;
@@ -91,20 +96,20 @@ module _ (given : Name → Option ItemKind) (es : List (Name × ItemKind)) (i : 
   differing_step D L side old ms new h (inr p) = record {
     differing = h.differing ++ (n, k) ∷ [];
     those = next_is D es h.differing i (n, k) at h.those p.is;
-    mismatched = h.mismatched ++ (n, side, Some p.steps) ∷ [];
-    faults = faults_more L side h.differing h.mismatched (n, k) (n, side, Some p.steps) h.faults (p.steps, refl, p.leads);
-    added = p.added ∙ ap (λ l. l ++ (n, side, Some p.steps) ∷ []) h.added ∙ append_assoc old h.mismatched ((n, side, Some p.steps) ∷ []);
+    mismatched = h.mismatched ++ (n, side, Some (p.steps, (p.expected, p.found))) ∷ [];
+    faults = faults_more L side h.differing h.mismatched (n, k) (n, side, Some (p.steps, (p.expected, p.found))) h.faults (p.steps, p.expected, p.found, refl, p.leads);
+    added = p.added ∙ ap (λ l. l ++ (n, side, Some (p.steps, (p.expected, p.found))) ∷ []) h.added ∙ append_assoc old h.mismatched ((n, side, Some (p.steps, (p.expected, p.found))) ∷ []);
   }
 
   import_case : (c : Collection) (o : Option ItemKind) (ms new : List Mismatched) → o ≡ given n → ImportChecked c o n k ms new → ((ImportDiffers c given (n, k) → ⊥) × (new ≡ ms)) ⊎ ItemDiffers (ImportDiffers c given) (ImportLeads c given) ExternKind.Import (n, k) ms new
   import_case c None ms new e h = inl (λ d. absurd (cc (e, d.1)), h)
   import_case c (Some j) ms new e (inl p) = inl (λ d. let same : j ≡ d.0 = cc (e, d.1) in d.2 (subst (λ z. Fit c (promoted z) c k) same p.0), p.1)
-  import_case c (Some j) ms new e (inr p) = inr (record { is = (j, sym e, p.apart); steps = p.steps; leads = (j, sym e, p.leads); added = p.added })
+  import_case c (Some j) ms new e (inr p) = inr (record { is = (j, sym e, p.apart); steps = p.steps; expected = p.expected; found = p.found; leads = (j, sym e, p.leads, p.words.0, p.words.1); added = p.added })
 
   export_case : (c : Collection) (o : Option ItemKind) (ms new : List Mismatched) → o ≡ given n → ExportChecked c o n k ms new → ((ExportDiffers c given (n, k) → ⊥) × (new ≡ ms)) ⊎ ItemDiffers (ExportDiffers c given) (ExportLeads c given) ExternKind.Export (n, k) ms new
   export_case c None ms new e h = inl (λ d. absurd (cc (e, d.1)), h)
   export_case c (Some j) ms new e (inl p) = inl (λ d. let same : j ≡ d.0 = cc (e, d.1) in d.2 (subst (λ z. Fit c z c (promoted k)) same p.0), p.1)
-  export_case c (Some j) ms new e (inr p) = inr (record { is = (j, sym e, p.apart); steps = p.steps; leads = (j, sym e, p.leads); added = p.added })
+  export_case c (Some j) ms new e (inr p) = inr (record { is = (j, sym e, p.apart); steps = p.steps; expected = p.expected; found = p.found; leads = (j, sym e, p.leads, p.words.0, p.words.1); added = p.added })
 
   pub import_step : (c : Collection) (o : Option ItemKind) (old ms new : List Mismatched) → o ≡ given n → Differing (ImportDiffers c given) (ImportLeads c given) ExternKind.Import (take i es) old ms → ImportChecked c o n k ms new → Differing (ImportDiffers c given) (ImportLeads c given) ExternKind.Import (take (i + 1) es) old new
   import_step c o old ms new e h s = differing_step (ImportDiffers c given) (ImportLeads c given) ExternKind.Import old ms new h (import_case c o ms new e s)
@@ -115,7 +120,7 @@ module _ (given : Name → Option ItemKind) (es : List (Name × ItemKind)) (i : 
 pub nothing_lacking : (given : Name → Option ItemKind) (es : List (Name × ItemKind)) (ns : List Name) → ns ≡ [] → AreLacking given (take 0 es) ns
 nothing_lacking given es ns e = record { lacking = []; those = none_left; names = e }
 
-pub nothing_differs : (D : Name × ItemKind → Type 0) (L : Name × ItemKind → List Step → Type 0) (side : ExternKind) (es : List (Name × ItemKind)) (old : List Mismatched) → Differing D L side (take 0 es) old old
+pub nothing_differs : (D : Name × ItemKind → Type 0) (L : Leading) (side : ExternKind) (es : List (Name × ItemKind)) (old : List Mismatched) → Differing D L side (take 0 es) old old
 nothing_differs D L side es old = record { differing = []; those = none_left; mismatched = []; faults = tt; added = sym (append-nil old) }
 
 pub all_lacking : (given : Name → Option ItemKind) (es : List (Name × ItemKind)) (ns : List Name) (i : ℕ) → length es ≤ i → AreLacking given (take i es) ns → AreLacking given es ns
@@ -124,7 +129,7 @@ all_lacking given es ns i h a = subst (λ l. AreLacking given l ns) (take-all es
 pub all_those : (P : Name × ItemKind → Type 0) (es ms : List (Name × ItemKind)) (i : ℕ) → length es ≤ i → AreThose P (take i es) ms → AreThose P es ms
 all_those P es ms i h a = subst (λ l. AreThose P l ms) (take-all es i h) a
 
-pub all_differing : (D : Name × ItemKind → Type 0) (L : Name × ItemKind → List Step → Type 0) (side : ExternKind) (es : List (Name × ItemKind)) (old new : List Mismatched) (i : ℕ) → length es ≤ i → Differing D L side (take i es) old new → Differing D L side es old new
+pub all_differing : (D : Name × ItemKind → Type 0) (L : Leading) (side : ExternKind) (es : List (Name × ItemKind)) (old new : List Mismatched) (i : ℕ) → length es ≤ i → Differing D L side (take i es) old new → Differing D L side es old new
 all_differing D L side es old new i h a = subst (λ l. Differing D L side l old new) (take-all es i h) a
 
 -- ---- standing
@@ -230,3 +235,20 @@ looked_shown n (e ∷ es) = ap (λ o. cond (pointwise ◌==◌ n e.0.now) (Some 
 pub done_by : {E : Type 0} (r : Result ⊤ E) (P Q : Type 0) → OnOk r P → (P → Q) → OnOk r Q
 done_by (Ok x) P Q h f = f h
 done_by (Err e) P Q h f = tt
+
+-- ---- what a fault says
+
+pub steps_said : (e : SubtypeError) (s : Said) → words_of e ≡ Some s → steps_of e ≡ Some s.0
+steps_said (SubtypeError.Mismatch fs x y) s is = ap (λ o. option_map (λ (p : Said). p.0) o) is
+steps_said SubtypeError.Memory s is = absurd (cc is)
+
+module _ (G A : Option Name → Type 0) (e f : Option Name) where
+  pub tested_import : (side : ExternKind) (t : Bool) → side ≡ ExternKind.Import → t ≡ true → AreCalled t G A e f → CalledUnder (tested side) G A e f
+  tested_import ExternKind.Import true s is h = h
+  tested_import ExternKind.Import false s is h = absurd (cc is)
+  tested_import ExternKind.Export t s is h = absurd (cc s)
+
+  pub tested_export : (side : ExternKind) (t : Bool) → (side ≡ ExternKind.Import → ⊥) → t ≡ false → AreCalled t G A e f → CalledUnder (tested side) G A e f
+  tested_export ExternKind.Import t s is h = absurd (s refl)
+  tested_export ExternKind.Export true s is h = absurd (cc is)
+  tested_export ExternKind.Export false s is h = h

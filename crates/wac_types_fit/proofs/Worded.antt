@@ -1,5 +1,5 @@
 -- The words of a mismatch, one step further out and in other forms.
-use Rattle.std.proofs.Common.{◌≡◌, ℕ, zero, suc, ◌<◌, ◌%◌, ◌==◌, List, [], ◌∷◌, ◌⊎◌, Bool, true, false, not, cond, Option, Some, None, refl, sym, ap, subst, ◌∙◌, inl, inr, arith, slice_get}
+use Rattle.std.proofs.Common.{◌≡◌, ℕ, zero, suc, ◌<◌, ◌%◌, ◌==◌, List, [], ◌∷◌, ◌⊎◌, Bool, true, false, not, Option, Some, None, refl, sym, subst, inl, inr, arith, slice_get}
 use Rattle.std.specs.Prelude.{if◌then◌else◌}
 use Rattle.wac_types_base.specs.declared.item.ItemKind.{ItemKind}
 use Rattle.wac_types_base.specs.declared.item.ExternKind.{ExternKind}
@@ -12,27 +12,24 @@ use Rattle.wac_types_base.specs.Record.{Collection}
 use Rattle.wac_types_base.specs.Entries.{Name, value_at}
 use Rattle.wac_types_base.specs.Stated.{stated_of, desc}
 use Rattle.wac_types_fit.specs.declared.checker.SubtypeCheck.{SubtypeCheck}
+use Rattle.wac_types_fit.specs.Errors.{Said}
 use Rattle.wac_types_fit.specs.Frames.{Step}
 use Rattle.wac_types_fit.specs.Directions.{direction_of}
 use Rattle.wac_types_fit.specs.Words.{Called, itself, in_instance, in_interface, in_component_exports, in_component_imports, in_world_exports, in_world_imports, in_module, in_module_type, ItemsCalled, nothing_called, item_called, AreCalled, CalledUnder, in_turn, InstanceCalled, WorldCalled, NamedCalled, CoreCalled}
 
--- what is said: the steps, what was expected and what was found
-abbrev pub Saying : Type 0
-Saying = List Step × (Option Name × Option Name)
-
-same_saying : (o : Option Saying) (x y : Saying) → o ≡ Some x → o ≡ Some y → x ≡ y
+same_saying : (o : Option Said) (x y : Said) → o ≡ Some x → o ≡ Some y → x ≡ y
 same_saying o x y e f = cc (e, f)
 
 -- a mismatch of the two items themselves
-pub called_here : (t : Bool) (G A : List Step → Option Name → Type 0) (o : Option Saying) (g a : Option Name) → o ≡ Some ([], in_turn t a g) → G [] g → A [] a
+pub called_here : (t : Bool) (G A : List Step → Option Name → Type 0) (o : Option Said) (g a : Option Name) → o ≡ Some ([], in_turn t a g) → G [] g → A [] a
     → (ss : List Step) (e f : Option Name) → o ≡ Some (ss, (e, f)) → AreCalled t (G ss) (A ss) e f
 called_here false G A o g a is hg ha ss e f eq =
     let same : ([], (a, g)) ≡ (ss, (e, f)) = same_saying o ([], (a, g)) (ss, (e, f)) is eq in
-    let P : Saying → Type 0 = λ p. A p.0 p.1.0 × G p.0 p.1.1 in
+    let P : Said → Type 0 = λ p. A p.0 p.1.0 × G p.0 p.1.1 in
     subst P same (ha, hg)
 called_here true G A o g a is hg ha ss e f eq =
     let same : ([], (g, a)) ≡ (ss, (e, f)) = same_saying o ([], (g, a)) (ss, (e, f)) is eq in
-    let P : Saying → Type 0 = λ p. G p.0 p.1.0 × A p.0 p.1.1 in
+    let P : Said → Type 0 = λ p. G p.0 p.1.0 × A p.0 p.1.1 in
     subst P same (hg, ha)
 
 -- in another form
@@ -47,7 +44,7 @@ called_turned true G A e f h = h
 
 module _ (t : Bool) (side : ExternKind) (c : Collection) (es : List (Name × ItemKind)) (d : Collection) (n : Name) (k : ItemKind) where
   -- nothing stands there under the name
-  pub missing_called : (o : Option Saying) (ss rest : List Step) (e f : Option Name) → value_at es n ≡ None → o ≡ Some ([], in_turn t (Some (desc (stated_of d k))) None)
+  pub missing_called : (o : Option Said) (ss rest : List Step) (e f : Option Name) → value_at es n ≡ None → o ≡ Some ([], in_turn t (Some (desc (stated_of d k))) None)
       → o ≡ Some (rest, (e, f)) → ss ≡ (side, n) ∷ rest → AreCalled t (ItemsCalled c side es ss) (NamedCalled d side n k ss) e f
   missing_called o ss rest e f none is eq same =
       let P : List Step → Type 0 = λ r. AreCalled t (ItemsCalled c side es r) (NamedCalled d side n k r) e f in
@@ -88,7 +85,7 @@ module _ (c : Collection) (ss : List Step) (w : Option Name) where
   module_type_called t i m is at h = subst (λ t. Called c (ItemKind.Ty t) ss w) (sym is) (in_module_type i m ss w at h)
 
 -- the words of a core item one step further out
-pub core_called : (t : Bool) (step : Step) (G A : List Step → Option Name → Type 0) (p : Option Saying) (g a : Option Name) → (p ≡ None) ⊎ (p ≡ Some ([], in_turn t a g)) → G (step ∷ []) g → A (step ∷ []) a
+pub core_called : (t : Bool) (step : Step) (G A : List Step → Option Name → Type 0) (p : Option Said) (g a : Option Name) → (p ≡ None) ⊎ (p ≡ Some ([], in_turn t a g)) → G (step ∷ []) g → A (step ∷ []) a
     → (ss rest : List Step) (e f : Option Name) → p ≡ Some (rest, (e, f)) → ss ≡ step ∷ rest → AreCalled t (G ss) (A ss) e f
 core_called t step G A p g a (inl none) hg ha ss rest e f eq same = absurd (cc (none, eq))
 core_called t step G A p g a (inr is) hg ha ss rest e f eq same =

@@ -23,12 +23,15 @@ refusal (Err e) = steps_of e
 abbrev pub IfMismatch : Result ⊤ SubtypeError → (List Step → Type 0) → Type 0
 IfMismatch r P = (ss : List Step) → refusal r ≡ Some ss → P ss
 
--- the steps of a mismatch, with what was expected and what was found
-abbrev pub words_of : SubtypeError → Option (List Step × (Option Name × Option Name))
+-- what a mismatch says: its steps, what was expected and what was found
+abbrev pub Said : Type 0
+Said = List Step × (Option Name × Option Name)
+
+abbrev pub words_of : SubtypeError → Option Said
 words_of (SubtypeError.Mismatch fs e f) = Some (steps fs.items, (option_copied e, option_copied f))
 words_of SubtypeError.Memory = None
 
-abbrev pub said : Result ⊤ SubtypeError → Option (List Step × (Option Name × Option Name))
+abbrev pub said : Result ⊤ SubtypeError → Option Said
 said (Ok x) = None
 said (Err e) = words_of e
 

@@ -7,14 +7,16 @@ use Rattle.wac_types_base.specs.Graph.{Among}
 use Rattle.wac_types_base.specs.Collection.{Stands}
 use Rattle.wac_types_base.specs.Entries.{Name}
 use Rattle.wac_types_base.specs.Resolving.{promoted}
+use Rattle.wac_types_fit.specs.declared.checker.SubtypeCheck.{SubtypeCheck}
 use Rattle.wac_types_fit.specs.declared.errors.SubtypeError.{SubtypeError}
 use Rattle.wac_types_fit.specs.Frames.{Step, Disagree}
-use Rattle.wac_types_fit.specs.Errors.{steps_of}
+use Rattle.wac_types_fit.specs.Errors.{words_of}
 use Rattle.wac_types_fit.specs.Trees.{tree_in, Fit}
 use Rattle.wac_types_fit.specs.Targets.{Mismatched}
+use Rattle.wac_types_fit.specs.Words.{Called, CalledUnder}
 
 abbrev pub mismatches : {Y : Type 0} → List (String Y × ExternKind × SubtypeError) → List Mismatched
-mismatches ms = map (λ m. (string_bytes m.0, m.1, steps_of m.2)) ms
+mismatches ms = map (λ m. (string_bytes m.0, m.1, words_of m.2)) ms
 
 abbrev pub name_if : Option ItemKind → Name → List Name
 name_if None n = n ∷ []
@@ -24,12 +26,20 @@ abbrev pub entry_if : Option ItemKind → Name → ItemKind → List (Name × It
 entry_if None n k = (n, k) ∷ []
 entry_if (Some j) n k = []
 
--- one more mismatch, of this name: j does not fit k, and the steps lead from j to k
+-- the direction in which an item of a side is tested, so that the target's word is the expected one
+abbrev pub tested : ExternKind → SubtypeCheck
+tested ExternKind.Import = SubtypeCheck.Contravariant
+tested ExternKind.Export = SubtypeCheck.Covariant
+
+-- one more mismatch, of this name: j does not fit k, the steps lead from j to k, and the words are theirs
 pub record OneMore (c : Collection) (j k : ItemKind) (side : ExternKind) (n : Name) (old new : List Mismatched) : Type 0 where
   pub apart : Fit c j c k → ⊥
   pub steps : List Step
+  pub expected : Option Name
+  pub found : Option Name
   pub leads : Disagree steps (tree_in c j) (tree_in c k)
-  pub added : new ≡ old ++ (n, side, Some steps) ∷ []
+  pub words : CalledUnder (tested side) (Called c j steps) (Called c k steps) expected found
+  pub added : new ≡ old ++ (n, side, Some (steps, (expected, found))) ∷ []
 
 -- one more mismatch where j does not fit k
 abbrev pub PairChecked : Collection → ItemKind → ItemKind → ExternKind → Name → List Mismatched → List Mismatched → Type 0

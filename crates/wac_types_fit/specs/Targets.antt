@@ -8,11 +8,13 @@ use Rattle.wac_types_base.specs.Entries.{Name, value_at, names_of}
 use Rattle.wac_types_base.specs.Resolving.{promoted}
 use Rattle.wac_types_base.specs.Implicit.{implicit_interfaces, by_identifier}
 use Rattle.wac_types_fit.specs.Frames.{Step, Disagree}
+use Rattle.wac_types_fit.specs.Errors.{Said}
 use Rattle.wac_types_fit.specs.Trees.{tree_in, Fit}
+use Rattle.wac_types_fit.specs.Words.{Called}
 
--- an import or export that does not fit: its name, and the steps of the fault, if it is a mismatch
+-- an import or export that does not fit: its name, and what is said of the fault, if it is a mismatch
 abbrev pub Mismatched : Type 0
-Mismatched = Name × ExternKind × Option (List Step)
+Mismatched = Name × ExternKind × Option Said
 
 -- what contracts see of a report
 pub record Report : Type 0 where
@@ -46,20 +48,27 @@ ImportDiffers c given e = (j : ItemKind) × (given e.0 ≡ Some j) × (Fit c (pr
 abbrev pub ExportDiffers : Collection → (Name → Option ItemKind) → Name × ItemKind → Type 0
 ExportDiffers c given e = (j : ItemKind) × (given e.0 ≡ Some j) × (Fit c j c (promoted e.1) → ⊥)
 
--- the steps lead from what a target gives for an import to the import
-abbrev pub ImportLeads : Collection → (Name → Option ItemKind) → Name × ItemKind → List Step → Type 0
-ImportLeads c given e ss = (j : ItemKind) × (given e.0 ≡ Some j) × Disagree ss (tree_in c (promoted j)) (tree_in c e.1)
+-- where the steps of an item's fault lead, and what was expected and found there
+abbrev pub Leading : Type 1
+Leading = Name × ItemKind → List Step → Option Name → Option Name → Type 0
 
--- the steps lead from what a component exports to the export of the target
-abbrev pub ExportLeads : Collection → (Name → Option ItemKind) → Name × ItemKind → List Step → Type 0
-ExportLeads c given e ss = (j : ItemKind) × (given e.0 ≡ Some j) × Disagree ss (tree_in c j) (tree_in c (promoted e.1))
+-- the steps lead from what a target gives for an import (there called as expected) to the import (there called as found)
+abbrev pub ImportLeads : Collection → (Name → Option ItemKind) → Leading
+ImportLeads c given e ss expected found = (j : ItemKind) × (given e.0 ≡ Some j)
+    × Disagree ss (tree_in c (promoted j)) (tree_in c e.1) × Called c (promoted j) ss expected × Called c e.1 ss found
 
--- the mismatch of an item: the steps of its fault lead so
-abbrev pub IsFault : (Name × ItemKind → List Step → Type 0) → ExternKind → Name × ItemKind → Mismatched → Type 0
-IsFault Leads side e m = (ss : List Step) × (m ≡ (e.0, side, Some ss)) × Leads e ss
+-- the steps lead from what a component exports (there called as found) to the export of the target (there called as expected)
+abbrev pub ExportLeads : Collection → (Name → Option ItemKind) → Leading
+ExportLeads c given e ss expected found = (j : ItemKind) × (given e.0 ≡ Some j)
+    × Disagree ss (tree_in c j) (tree_in c (promoted e.1)) × Called c (promoted e.1) ss expected × Called c j ss found
+
+-- the mismatch of an item: its name, its side and what is said of its fault, which leads so
+abbrev pub IsFault : Leading → ExternKind → Name × ItemKind → Mismatched → Type 0
+IsFault Leads side e m = (ss : List Step) × (expected : Option Name) × (found : Option Name)
+    × (m ≡ (e.0, side, Some (ss, (expected, found)))) × Leads e ss expected found
 
 -- the mismatches of items, in order
-abbrev pub AreFaults : (Name × ItemKind → List Step → Type 0) → ExternKind → List (Name × ItemKind) → List Mismatched → Type 0
+abbrev pub AreFaults : Leading → ExternKind → List (Name × ItemKind) → List Mismatched → Type 0
 AreFaults Leads side [] [] = Unit {0}
 AreFaults Leads side [] (m ∷ ms) = ⊥
 AreFaults Leads side (e ∷ es) [] = ⊥
@@ -71,8 +80,8 @@ pub record AreLacking (given : Name → Option ItemKind) (es : List (Name × Ite
   pub those : AreThose (IsLacking given) es lacking
   pub names : ns ≡ names_of lacking
 
--- the items that differ, each with the steps of its fault, after others
-pub record Differing (Differs : Name × ItemKind → Type 0) (Leads : Name × ItemKind → List Step → Type 0) (side : ExternKind)
+-- the items that differ, each with what is said of its fault, after others
+pub record Differing (Differs : Name × ItemKind → Type 0) (Leads : Leading) (side : ExternKind)
     (es : List (Name × ItemKind)) (old new : List Mismatched) : Type 0 where
   pub differing : List (Name × ItemKind)
   pub those : AreThose Differs es differing

@@ -12,7 +12,7 @@ ghost use Rattle.wac_types_base.specs.Entries.{Name, value_at, names_of, texts_o
 ghost use Rattle.wac_types_base.specs.Collection.{Stands};
 ghost use Rattle.wac_types_base.specs.Resolving.{promoted};
 ghost use Rattle.wac_types_base.specs.Implicit.{shown, by_identifier, implicit_interfaces};
-ghost use Rattle.wac_types_fit.specs.Errors.{steps_of};
+ghost use Rattle.wac_types_fit.specs.Errors.{words_of};
 ghost use Rattle.wac_types_fit.specs.Checking.{IsTrueOf};
 ghost use Rattle.wac_types_fit.specs.Targets.{Report, target_import, ImportDiffers, ExportDiffers, ImportLeads, ExportLeads, IsLacking, AreThose, AreLacking, Differing, IsReport, IsEmptyReport, Tells};
 ghost use Rattle.wac_types_fit.specs.TargetSteps.{mismatches, name_if, entry_if, PairChecked, ImportChecked, ExportChecked, KindStands, GivesStanding, AllStand};
@@ -218,8 +218,8 @@ fn add_fault(
     fault: SubtypeError,
     found: &mut Vec<(String, ExternKind, SubtypeError)>,
 ) -> Result<(), AllocError>
-    ensures { OnOk result (IsSome (steps_of fault)
-        × (mismatches found.new.items ≡ mismatches found.old.items ++ (name.now, side, steps_of fault) ∷ [])) }
+    ensures { OnOk result (IsSome (words_of fault)
+        × (mismatches found.new.items ≡ mismatches found.old.items ++ (name.now, side, words_of fault) ∷ [])) }
 {
     match fault {
         SubtypeError::Memory => Err(AllocError),
