@@ -1,5 +1,11 @@
 -- The rules of statements and documents read just what they say.
-use Rattle.std.proofs.Common.{[], ◌∷◌}
+use Rattle.std.proofs.Common.{◌≡◌, [], ◌∷◌, Option, Some, None, Result, Ok, Err, refl, ap}
+use Rattle.wac_parser_lexer.specs.declared.span.SourceSpan.{SourceSpan}
+use Rattle.wac_parser_lexer.specs.declared.error.Error.{Error}
+use Rattle.wac_parser_lexer.specs.Items.{Input}
+use Rattle.wac_parser_tree.specs.Trees as t
+use Rattle.wac_parser_grammar.specs.Faults.{Fault}
+use Rattle.wac_parser_grammar.specs.Reads.{by_refusal}
 use Rattle.wac_parser_lexer.specs.declared.token.Token.TheVariants as k
 use Rattle.wac_parser_grammar.proofs.Exact.{Exact, Takes, Keeps, Begins, bind, pure_exact, refuse_exact, choose_exact, begin_exact, begin_any_exact, token_exact, optional_exact, bind_takes, bind_keeps, then_takes, still_keeps, pure_keeps, refuse_takes, token_takes, choose_keeps, begin_takes, begin_keeps, begin_any_takes, optional_keeps, token_begins, bind_begins, silent_begins, refuse_begins, begin_begins, last_begins}
 use Rattle.wac_parser_grammar.proofs.ExactLists.{all_exact, all_keeps}
@@ -137,3 +143,9 @@ document_exact = bind _ _ (docs_exact) (λ v0. bind _ _ (package_directive_exact
 pub document_takes : Takes document
 unfolding document
 document_takes = then_takes _ _ (docs_keeps) (λ v0. bind_takes _ _ (package_directive_takes) (λ v1. bind_keeps _ _ (all_keeps statement statement_exact statement_takes) (λ v2. pure_keeps _)))
+
+-- a source that is read as a document has no refused character, and the rule reads it
+pub read_by : (o : Option (Error × SourceSpan)) (r : Result (t.Document × Input) Fault) (d : t.Document) → by_refusal o r ≡ Ok d → (o ≡ None) × (end : Input) × (r ≡ Ok (d, end))
+read_by (Some e) r d h = cc
+read_by None (Ok p) d h = (refl, p.1, let same : p.0 ≡ d = cc in ap (λ (x : t.Document). Ok (x, p.1)) same)
+read_by None (Err f) d h = cc

@@ -35,3 +35,7 @@ pub mod TableBackDocuments
 pub mod TableBackExprs
 pub mod TableBackInterfaces
 pub mod TableBackWorlds
+pub mod PathTexts
+pub mod PathLaws
+pub mod Bringing
+pub mod PathsOfTrees

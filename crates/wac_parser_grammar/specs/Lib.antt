@@ -15,3 +15,5 @@ pub mod Forms
 pub mod FormsOfDeclarations
 pub mod FormLaws
 pub mod FormDepths
+pub mod PathsOfTrees
+pub mod Paths

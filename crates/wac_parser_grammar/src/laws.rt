@@ -1,6 +1,7 @@
 //! What holds of the definitions, for those who reason by them.
 
 ghost use Rattle.wac_parser_grammar.specs.Laws.{RulesAreExact, TreesAreBegun, DocumentsAreRead, AllFaultsStand, DocumentFaultsStand};
+ghost use Rattle.wac_parser_grammar.specs.Paths.{ParsedPathsStand};
 
 /// Each rule reads a value exactly where the items spell it, with exactly those items.
 pub fn rules_are_exact()
@@ -27,4 +28,9 @@ pub fn faults_stand()
 /// A source that is not read as a document has a fault that stands in it.
 pub fn document_faults_stand()
     ensures { DocumentFaultsStand }
+{}
+
+/// A name or a path of a package that is read of a text is the text at its span.
+pub fn parsed_paths_stand()
+    ensures { ParsedPathsStand }
 {}

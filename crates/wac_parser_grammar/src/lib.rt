@@ -11,5 +11,6 @@ pub use forms::{
     rules_take_what_fits,
 };
 pub use laws::{
-    document_faults_stand, documents_are_read, faults_stand, rules_are_exact, trees_are_begun,
+    document_faults_stand, documents_are_read, faults_stand, parsed_paths_stand, rules_are_exact,
+    trees_are_begun,
 };

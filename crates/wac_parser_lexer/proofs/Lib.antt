@@ -25,3 +25,4 @@ pub mod WordPieceLaws
 pub mod KeywordLaws
 pub mod CutLaws
 pub mod CharLaws
+pub mod SpanLaws

@@ -20,14 +20,15 @@ opposite : (a : Bool) → not a ≡ true → a ≡ false
 opposite true h = cc
 opposite false h = refl
 
-table_lacks : (table : List (List ℕ × Token)) → list_all (λ entry. not (is_comment entry.1)) table ≡ true → (kind : Token) (w : List ℕ) → Spells table kind w → is_comment kind ≡ false
-table_lacks [] h kind w s = absurd s
-table_lacks (entry ∷ table) h kind w (inl s) = ap is_comment s.1 ∙ opposite (is_comment entry.1) (and_parts (not (is_comment entry.1)) _ h).0
-table_lacks (entry ∷ table) h kind w (inr s) = table_lacks table (and_parts (not (is_comment entry.1)) _ h).1 kind w s
+-- no entry of a table is of a kind that none of its entries is of
+pub table_lacks : (p : Token → Bool) (table : List (List ℕ × Token)) → list_all (λ entry. not (p entry.1)) table ≡ true → (kind : Token) (w : List ℕ) → Spells table kind w → p kind ≡ false
+table_lacks p [] h kind w s = absurd s
+table_lacks p (entry ∷ table) h kind w (inl s) = ap p s.1 ∙ opposite (p entry.1) (and_parts (not (p entry.1)) _ h).0
+table_lacks p (entry ∷ table) h kind w (inr s) = table_lacks p table (and_parts (not (p entry.1)) _ h).1 kind w s
 
 no_comment_spelled : (kind : Token) (w : List ℕ) → Spells spellings kind w → is_comment kind ≡ false
 unfolding spellings
-no_comment_spelled = table_lacks spellings refl
+no_comment_spelled = table_lacks is_comment spellings refl
 
 comment_slash : (kind : Token) (w : List ℕ) → is_comment kind ≡ true → IsToken kind w → (0 < length w) × (get_or w 0 0 ≡ 47)
 comment_slash _ w e (comment h) = rw h.2 (omega arith, refl)

@@ -202,7 +202,7 @@ ident_lacks x a b c d e f w (inr h) = rw h.2 (lacks_front x 37 h.0 f (label_lack
 pub ident_lacks_slash : (w : List ℕ) → IsIdent w → Lacks 47 w
 ident_lacks_slash = ident_lacks 47 refl refl refl refl (λ e. omega arith) (λ e. omega arith)
 
-ident_lacks_at : (w : List ℕ) → IsIdent w → Lacks 64 w
+pub ident_lacks_at : (w : List ℕ) → IsIdent w → Lacks 64 w
 ident_lacks_at = ident_lacks 64 refl refl refl refl (λ e. omega arith) (λ e. omega arith)
 
 -- what follows lacks a byte where both parts and the joint do
@@ -212,7 +212,7 @@ followed_lacks x joint L M h k apart w f = rw f.4 (append_lacks x f.0 (joint ∷
 pub names_lacks : (x : ℕ) → ((w : List ℕ) → IsIdent w → Lacks x w) → 58 ≢ x → (w : List ℕ) → IsNames w → Lacks x w
 names_lacks x h apart = followed_lacks x 58 IsIdent (Joined IsIdent 58) h (joined_lacks x 58 IsIdent h apart) apart
 
-path_lacks_at : (w : List ℕ) → IsPath w → Lacks 64 w
+pub path_lacks_at : (w : List ℕ) → IsPath w → Lacks 64 w
 path_lacks_at = followed_lacks 64 47 IsNames (Joined IsIdent 47) (names_lacks 64 ident_lacks_at (λ e. omega arith)) (joined_lacks 64 47 IsIdent ident_lacks_at (λ e. omega arith)) (λ e. omega arith)
 
 pub names_longest : IsLongest IsNames names_len

@@ -1,14 +1,10 @@
-use Rattle.std.proofs.Common.{◌≡◌, List, [], ◌∷◌, Option, Some, None, Result, Ok, Err, refl, ap, ◌∙◌}
-use Rattle.wac_parser_lexer.specs.declared.span.SourceSpan.{SourceSpan}
-use Rattle.wac_parser_lexer.specs.declared.error.Error.{Error}
+use Rattle.std.proofs.Common.{◌≡◌, List, [], ◌∷◌, refl, ap, ◌∙◌}
 use Rattle.wac_parser_lexer.specs.Items.{Input, input_of}
 use Rattle.wac_parser_lexer.specs.Refused.{first_refused}
 use Rattle.wac_parser_tree.specs.Trees as t
-use Rattle.wac_parser_grammar.specs.Faults.{Fault}
 use Rattle.wac_parser_grammar.specs.Rules.{IsAll}
-use Rattle.wac_parser_grammar.specs.Reads.{by_refusal}
 use Rattle.wac_parser_grammar.specs.Documents.{document, statement}
-use Rattle.wac_parser_grammar.proofs.DocumentLaws.{document_exact}
+use Rattle.wac_parser_grammar.proofs.DocumentLaws.{document_exact, read_by}
 use Rattle.wac_parser_grammar.proofs.laws.documents_are_read.Goals as goal
 
 all_ends : (xs : List t.Statement) (s r : Input) → IsAll statement.Is xs s r → r.items ≡ []
@@ -19,11 +15,6 @@ document_ends : (d : t.Document) (s r : Input) → document.Is d s r → r.items
 unfolding document
 document_ends d s r h =
     let all = all_ends h.3.3.0 h.3.1 h.3.3.1 h.3.3.2 in ap (λ (m : Input). m.items) h.3.3.3.1 ∙ all
-
-read_by : (o : Option (Error × SourceSpan)) (r : Result (t.Document × Input) Fault) (d : t.Document) → by_refusal o r ≡ Ok d → (o ≡ None) × (end : Input) × (r ≡ Ok (d, end))
-read_by (Some e) r d h = cc
-read_by None (Ok p) d h = (refl, p.1, let same : p.0 ≡ d = cc in ap (λ (x : t.Document). Ok (x, p.1)) same)
-read_by None (Err f) d h = cc
 
 pub returns : goal.returns
 returns c = λ source d. (

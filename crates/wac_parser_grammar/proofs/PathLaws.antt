@@ -1,0 +1,66 @@
+-- The names and paths of packages that are read stand in the source.
+use Rattle.std.proofs.Common.{◌≡◌, ℕ, List, [], ◌∷◌, Ok, refl, ap, sym, subst, ◌∙◌}
+use Rattle.std.specs.List.{All}
+use Rattle.std.proofs.lemmas.List.Elements.{All-head, All-tail}
+use Rattle.wac_parser_lexer.specs.declared.span.SourceSpan.{SourceSpan}
+use Rattle.wac_parser_lexer.specs.declared.token.Token.{Token}
+use Rattle.wac_parser_lexer.specs.declared.token.Token.TheVariants as k
+use Rattle.wac_parser_lexer.specs.Tokens.{IsToken}
+use Rattle.wac_parser_lexer.specs.Pieces.{IsSpanIn, text_at}
+use Rattle.wac_parser_lexer.specs.Items.{Item, Input, input_of, rest_of_items, rest_input}
+use Rattle.wac_parser_lexer.proofs.SpanLaws.{IsItemIn, all_in, token_text, name_text, path_text}
+use Rattle.wac_parser_tree.specs.Trees as t
+use Rattle.wac_parser_tree.specs.Segments.{IsPathIn}
+use Rattle.wac_parser_grammar.specs.Places.{IsBehind, here, on}
+use Rattle.wac_parser_grammar.specs.Rules.{token}
+use Rattle.wac_parser_grammar.specs.Names.{package_name, package_path}
+use Rattle.wac_parser_grammar.specs.Paths.{IsText, IsNameIn}
+use Rattle.wac_parser_grammar.proofs.PathTexts.{name_parts, path_parts}
+
+-- the items of the place lie in the source
+pub record IsPlaceIn (source : List ℕ) (s : Input) : Type 0 where
+  pub same : s.source ≡ source
+  pub items : All (IsItemIn source) s.items
+
+rest_in : (source : List ℕ) (items : List Item) → All (IsItemIn source) items → All (IsItemIn source) (rest_of_items items)
+rest_in source [] all = all
+rest_in source (i ∷ is) all = All-tail (IsItemIn source) i is all
+
+pub place_behind : (source : List ℕ) (m s : Input) → IsBehind m s → IsPlaceIn source s → IsPlaceIn source m
+place_behind source m m' here p = p
+place_behind source m s (on h) p = place_behind source m (rest_input s) h (record { same = p.same; items = rest_in source s.items p.items })
+
+pub place_in : (source : List ℕ) → IsText source → (s : Input) → IsBehind s (input_of source) → IsPlaceIn source s
+place_in source text s behind = place_behind source s (input_of source) behind (record { same = refl; items = all_in source text.0 text.1 })
+
+module _ (source : List ℕ) (s : Input) (place : IsPlaceIn source s) where
+  -- a token that is read stands at its span
+  token_in : (kind : Token) (span : SourceSpan) (m : Input) → (token kind).Is span s m → IsSpanIn source span × IsToken kind (text_at source span)
+  token_in kind span m h =
+      let i : Item = record { docs = h.0; token = Ok kind; span = span } in
+      let P : List Item → Type 0 = All (IsItemIn source) in
+      let is = All-head (IsItemIn source) i h.1 (subst P h.2 place.items) in
+      (is.0, token_text source span kind is.1)
+
+  text_here : (kind : Token) (span : SourceSpan) (m : Input) → (token kind).Is span s m → text_at source span ≡ text_at m.source span
+  text_here kind span m h = ap (λ z. text_at z span) (sym place.same) ∙ ap (λ (i : Input). text_at i.source span) (sym h.3)
+
+  pub name_stands : (x : t.PackageName) (r : Input) → package_name.Is x s r → IsNameIn source x
+  unfolding package_name
+  name_stands x r h =
+      let at = token_in k.PackageName h.0 h.1 h.2 in
+      let text : text_at source h.0 ≡ h.3.0 = text_here k.PackageName h.0 h.1 h.2 ∙ sym h.3.2.0 in
+      let P : List ℕ → Type 0 = IsToken k.PackageName in
+      let parts = name_parts h.3.0 (name_text k.PackageName h.3.0 refl (subst P text at.1)) in
+      let Q : t.PackageName → Type 0 = IsNameIn source in
+      subst Q (sym h.3.3.3.0) (record { within = at.0; text = text; parts = parts })
+
+  pub path_stands : (x : t.PackagePath) (r : Input) → package_path.Is x s r → IsPathIn source x
+  unfolding package_path
+  path_stands x r h =
+      let at = token_in k.PackagePath h.0 h.1 h.2 in
+      let text : text_at source h.0 ≡ h.3.0 = text_here k.PackagePath h.0 h.1 h.2 ∙ sym h.3.2.0 in
+      let P : List ℕ → Type 0 = IsToken k.PackagePath in
+      let parts = path_parts h.3.0 (path_text k.PackagePath h.3.0 refl (subst P text at.1)) in
+      let Q : t.PackagePath → Type 0 = IsPathIn source in
+      subst Q (sym h.3.3.3.0) (record { within = at.0; text = text; more = parts.0; parts = parts.1 })
