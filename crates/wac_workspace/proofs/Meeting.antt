@@ -16,8 +16,7 @@ use Rattle.wac_types_base.specs.Fits.{Fits}
 use Rattle.wac_types_base.proofs.Adding.{option_map-some}
 use Rattle.wac_types_base.proofs.Lists.{among_mapped}
 use Rattle.wac_types_base.proofs.Telling.{promote_stated}
-use Rattle.wac_types_fit.specs.Frames.{Step}
-use Rattle.wac_types_fit.specs.Targets.{AreFaults, AreLacking, AreThose, Differing, ExportDiffers, ImportDiffers, IsEmptyReport, IsLacking, IsReport, Mismatched, Report, target_import}
+use Rattle.wac_types_fit.specs.Targets.{AreFaults, AreLacking, AreThose, Differing, ExportDiffers, ImportDiffers, IsEmptyReport, IsLacking, IsReport, Leading, Mismatched, Report, target_import}
 use Rattle.wac_types_fit.specs.Trees.{Fit, tree_in}
 use Rattle.wac_types_fit.specs.TargetSteps.{AllStand, GivesStanding, KindStands}
 use Rattle.wac_types_fit.proofs.Items.{world_exports_inside, world_imports_inside}
@@ -46,12 +45,12 @@ no_names : {X : Type 0} (es : List (Name × X)) → names_of es ≡ [] → es �
 no_names [] e = refl
 no_names (x ∷ es) e = absurd (cc e)
 
-no_faults : (Leads : Name × ItemKind → List Step → Type 0) (side : ExternKind) (es : List (Name × ItemKind)) (ms : List Mismatched) → AreFaults Leads side es ms → ms ≡ [] → es ≡ []
+no_faults : (Leads : Leading) (side : ExternKind) (es : List (Name × ItemKind)) (ms : List Mismatched) → AreFaults Leads side es ms → ms ≡ [] → es ≡ []
 no_faults Leads side [] ms h e = refl
 no_faults Leads side (x ∷ es) [] h e = absurd h
 no_faults Leads side (x ∷ es) (m ∷ ms) h e = absurd (cc e)
 
-faults_none : (Leads : Name × ItemKind → List Step → Type 0) (side : ExternKind) (es : List (Name × ItemKind)) (ms : List Mismatched) → AreFaults Leads side es ms → es ≡ [] → ms ≡ []
+faults_none : (Leads : Leading) (side : ExternKind) (es : List (Name × ItemKind)) (ms : List Mismatched) → AreFaults Leads side es ms → es ≡ [] → ms ≡ []
 faults_none Leads side [] [] h e = refl
 faults_none Leads side [] (m ∷ ms) h e = absurd h
 faults_none Leads side (x ∷ es) ms h e = absurd (cc e)
@@ -143,7 +142,7 @@ module _ (c : Collection) (a : IsAcyclic c) (target world : WorldId) (x y : Worl
     no_imports_differ : is.imports ≡ []
     no_imports_differ = first_none is.imports is.mismatched_types.mismatched (sym is.mismatched_types.added ∙ empty.mismatched_types)
 
-    none_differs : {Differs : Name × ItemKind → Type 0} {Leads : Name × ItemKind → List Step → Type 0} {side : ExternKind} (es : List (Name × ItemKind)) (old new : List Mismatched) → old ≡ []
+    none_differs : {Differs : Name × ItemKind → Type 0} {Leads : Leading} {side : ExternKind} (es : List (Name × ItemKind)) (old new : List Mismatched) → old ≡ []
         → (d : Differing Differs Leads side es old new) → new ≡ [] → (e : Name × ItemKind) → Among e es → Differs e → ⊥
     none_differs {Differs} {Leads} {side} es old new first d none =
         none_is Differs es (subst (λ xs. AreThose Differs es xs)
