@@ -208,7 +208,7 @@ unfaulty_goes : (o : Option Fault) (s : Input) (q : Unit {0} × Input) → unfau
 unfaulty_goes None s q h = let P : Input → Type 0 = λ (r : Input). IsBehind r s in subst P (ap (λ p. p.1) (inside h)) here
 unfaulty_goes (Some f) s q h = cc
 
-unfaulty_fails : (o : Option Fault) (s : Input) (f : Fault) → unfaulty_by o s ≡ Err f → o ≡ Some f
+pub unfaulty_fails : (o : Option Fault) (s : Input) (f : Fault) → unfaulty_by o s ≡ Err f → o ≡ Some f
 unfaulty_fails None s f h = cc
 unfaulty_fails (Some g) s f h = ap Some (err_inside h)
 
@@ -256,7 +256,7 @@ begun_item : (ks : List Token) (items : List Item) → is_any ks (token_of (firs
 begun_item ks [] e = let two : false ≡ true = sym (none_is_any ks) ∙ e in cc
 begun_item ks (i ∷ is) e = begun_by ks i.token i.span e
 
-begun_here : (ks : List Token) (s : Input) → sees_any ks s ≡ true → (k : Token) × (first_item s ≡ Some (Ok k, span_of_items s.items)) × (is_any ks (Some k) ≡ true)
+pub begun_here : (ks : List Token) (s : Input) → sees_any ks s ≡ true → (k : Token) × (first_item s ≡ Some (Ok k, span_of_items s.items)) × (is_any ks (Some k) ≡ true)
 unfolding sees_any
 begun_here ks s e = begun_item ks s.items e
 
@@ -264,7 +264,7 @@ deep_by : {X : Type 0} (b : Bool) (m n : Fault) (s : Input) (x : X) (r : Input) 
 deep_by true m n s x r h = cc
 deep_by false m n s x r h = cc
 
-deep_fails : {X : Type 0} (b : Bool) (m n f : Fault) → cond {A = Result (X × Input) Fault} b (Err m) (Err n) ≡ Err f → ((b ≡ true) × (m ≡ f)) ⊎ ((b ≡ false) × (n ≡ f))
+pub deep_fails : {X : Type 0} (b : Bool) (m n f : Fault) → cond {A = Result (X × Input) Fault} b (Err m) (Err n) ≡ Err f → ((b ≡ true) × (m ≡ f)) ⊎ ((b ≡ false) × (n ≡ f))
 deep_fails true m n f h = inl (refl, err_inside h)
 deep_fails false m n f h = inr (refl, err_inside h)
 

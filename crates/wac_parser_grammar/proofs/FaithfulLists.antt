@@ -23,11 +23,11 @@ ends s x q h = let P : Input → Type 0 = λ (r : Input). IsBehind r s in subst 
 
 -- ---- lists
 
-front_ok : {X : Type 0} (x : X) (o : Result (List X × Input) Fault) (q : List X × Input) → front x o ≡ Ok q → (p : List X × Input) × (o ≡ Ok p) × (p.1 ≡ q.1)
+pub front_ok : {X : Type 0} (x : X) (o : Result (List X × Input) Fault) (q : List X × Input) → front x o ≡ Ok q → (p : List X × Input) × (o ≡ Ok p) × (p.1 ≡ q.1)
 front_ok x (Err e) q h = cc
 front_ok x (Ok p) q h = (p, refl, ap (λ v. v.1) (inside h))
 
-front_err : {X : Type 0} (x : X) (o : Result (List X × Input) Fault) (f : Fault) → front x o ≡ Err f → o ≡ Err f
+pub front_err : {X : Type 0} (x : X) (o : Result (List X × Input) Fault) (f : Fault) → front x o ≡ Err f → o ≡ Err f
 front_err x (Err e) f h = ap Err (err_inside h)
 front_err x (Ok p) f h = cc
 

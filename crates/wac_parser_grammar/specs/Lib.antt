@@ -17,3 +17,4 @@ pub mod FormLaws
 pub mod FormDepths
 pub mod PathsOfTrees
 pub mod Paths
+pub mod Nesting
