@@ -56,7 +56,7 @@ module _ {n : ℕ} where
   spread_sinks {l = l} = bind_sinks _ _ (token_sinks k.Ellipsis l l refl) (λ v0. begin_any_sinks (k.Comma ∷ k.CloseBrace ∷ []) _ _ (pure_sinks _) (bind_sinks _ _ id_sinks (λ v1. pure_sinks _)))
 
   module _ {l : ℕ} (inner : Rule t.Expr) (deeper : Sinks expressions n (suc l) (λ _. suc l) inner) where
-    nested_sinks : Sinks expressions n l (λ _. l) (nested_expr inner)
+    pub nested_sinks : Sinks expressions n l (λ _. l) (nested_expr inner)
     unfolding nested_expr
     nested_sinks =
         bind_sinks _ _ (token_sinks k.OpenParen l (suc l) (opens_paren l)) (λ v0. bind_sinks _ _ deeper (λ v1. bind_sinks _ _ (token_sinks k.CloseParen (suc l) l (closes_paren l)) (λ v2. pure_sinks _)))
@@ -77,14 +77,14 @@ module _ {n : ℕ} where
     unfolding instantiation_argument
     argument_sinks = begin_sinks k.Ellipsis _ _ spread_sinks (begin_sinks k.Ident _ _ ident_argument_sinks (begin_sinks k.String _ _ string_argument_sinks (refuse_sinks _ (none_never _))))
 
-    new_sinks : Sinks expressions n l (λ _. l) (new_expr inner)
+    pub new_sinks : Sinks expressions n l (λ _. l) (new_expr inner)
     unfolding new_expr same_token
     new_sinks =
         bind_sinks _ _ (token_sinks k.NewKeyword l l refl) (λ v0. bind_sinks _ _ name_sinks (λ v1. bind_sinks _ _ (token_sinks k.OpenBrace l (suc l) (opens_brace l)) (λ v2.
         bind_sinks _ _ (list_sinks (instantiation_argument inner) argument_sinks argument_first k.CloseBrace true (behind_sinks k.CloseBrace true refl)) (λ v3.
         bind_sinks _ _ (token_sinks k.CloseBrace (suc l) l (closes_brace l)) (λ v4. pure_sinks _)))))
 
-    primary_sinks : Sinks expressions n l (λ _. l) (primary_expr inner)
+    pub primary_sinks : Sinks expressions n l (λ _. l) (primary_expr inner)
     unfolding primary_expr
     primary_sinks =
         begin_sinks k.NewKeyword _ _ (bind_sinks _ _ new_sinks (λ v0. pure_sinks _))

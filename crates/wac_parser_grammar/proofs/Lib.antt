@@ -42,3 +42,4 @@ pub mod PathsOfTrees
 pub mod Sinking
 pub mod TypeDepths
 pub mod ExprDepths
+pub mod DeepFaults
