@@ -15,10 +15,10 @@ use Rattle.wac_parser_grammar.specs.Rules.{Rule, ◌>>=◌, token, pure, slice, 
 use Rattle.wac_parser_grammar.specs.Names.{behind_first, end_of, version_read, version_by, version_of}
 use Rattle.wac_parser_grammar.specs.Declarations.{some_member, members}
 use Rattle.wac_parser_grammar.specs.Places.{IsBehind, here, on}
-use Rattle.wac_parser_grammar.specs.Standing.{IsNamed, Stands}
+use Rattle.wac_parser_grammar.specs.Standing.{Deepness, IsNamed, StandsBy}
 use Rattle.wac_parser_grammar.proofs.Exact.{Exact, Takes, Begins, token_exact, inside, both}
 use Rattle.wac_parser_grammar.proofs.ExactLists.{list_exact}
-use Rattle.wac_parser_grammar.proofs.Faithful.{Faithful, Any, err_inside, behind_trans, stands_behind, one_of, stands_here, token_faithful}
+use Rattle.wac_parser_grammar.proofs.Faithful.{FaithfulBy, Any, err_inside, behind_trans, stands_behind, one_of, stands_here, token_faithful}
 use Rattle.wac_parser_grammar.proofs.FaithfulLists.{list_faithful, ok_not_err}
 
 pub token_stood : (k : Token) (s : Input) (x : SourceSpan) (r : Input) → (token k).Is x s r → first_item s ≡ Some (Ok k, x)
@@ -28,13 +28,13 @@ pub token_left : (k : Token) (s : Input) (x : SourceSpan) (r : Input) → (token
 token_left k s x r h = let P : Input → Type 0 = λ (m : Input). IsBehind m s in subst P (sym h.3) (on here)
 
 -- What is read behind a token goes on, and its faults stand at the token or behind it.
-module _ {X : Type 0} (k : Token) (q : SourceSpan → Rule X)
+module _ (N : Deepness) {X : Type 0} (k : Token) (q : SourceSpan → Rule X)
     (goes : (s : Input) (span : SourceSpan) (m : Input) → (token k).Is span s m → (x : X) (r : Input) → (q span).read m ≡ Ok (x, r) → IsBehind r m)
-    (stands : (s : Input) (span : SourceSpan) (m : Input) → (token k).Is span s m → (f : Fault) → (q span).read m ≡ Err f → Stands s f) where
+    (stands : (s : Input) (span : SourceSpan) (m : Input) → (token k).Is span s m → (f : Fault) → (q span).read m ≡ Err f → StandsBy N s f) where
   taken : (s : Input) (span : SourceSpan) (m : Input) → (token k).read s ≡ Ok (span, m) → (token k).Is span s m
   taken s span m h = (token_exact k).sound s span m h
 
-  pub behind_token : Faithful Any (token k >>= q)
+  pub behind_token : FaithfulBy N Any (token k >>= q)
   behind_token = record {
     goes = λ s x r c h.
         (let b = both ((token k).read s) (λ span m. (q span).read m) (x, r) h in
@@ -66,7 +66,7 @@ by_fails : (o : Option (List ℕ)) (span : SourceSpan) (m : Input) (f : Fault) �
 by_fails None span m f h = cc
 by_fails (Some text) span m f h = let e = read_fails (version_parts text) text span m f h in (text, refl, e.0, e.1, e.2)
 
-module _ {X : Type 0} (k : Token) (named : (s : Input) (span : SourceSpan) → first_item s ≡ Some (Ok k, span) → IsNamed s span) (make : SourceSpan → List ℕ → Option t.Version → X) where
+module _ (N : Deepness) {X : Type 0} (k : Token) (named : (s : Input) (span : SourceSpan) → first_item s ≡ Some (Ok k, span) → IsNamed s span) (make : SourceSpan → List ℕ → Option t.Version → X) where
   abbrev rest : SourceSpan → Rule X
   rest span = slice span >>= λ text. version_of text span >>= λ version. pure (make span text version)
 
@@ -78,19 +78,19 @@ module _ {X : Type 0} (k : Token) (named : (s : Input) (span : SourceSpan) → f
       let P : Input → Type 0 = λ (i : Input). IsBehind i m in
       subst P same (by_goes (behind_first 64 (text_at m.source span)) span m b.0 b.1 b.2)
 
-  rest_stands : (s : Input) (span : SourceSpan) (m : Input) → (token k).Is span s m → (f : Fault) → (rest span).read m ≡ Err f → Stands s f
+  rest_stands : (s : Input) (span : SourceSpan) (m : Input) → (token k).Is span s m → (f : Fault) → (rest span).read m ≡ Err f → StandsBy N s f
   unfolding version_of
   rest_stands s span m at f h =
       elim (one_of ((version_by (behind_first 64 (text_at m.source span)) span).read m) (λ v n. Ok (make span (text_at m.source span) v, n)) f h) [
         | inl w ↦
             (let e = by_fails (behind_first 64 (text_at m.source span)) span m f w in
             let text_is : behind_first 64 (text_at s.source span) ≡ Some e.0 = ap (λ (i : Input). behind_first 64 (text_at i.source span)) (sym at.3) ∙ e.1 in
-            stands_here s (invalid_version e.0 (end_of span (length e.0))) f e.4 (span, named s span (token_stood k s span m at), text_is, refl, e.2, e.3))
+            stands_here N s (invalid_version e.0 (end_of span (length e.0))) f e.4 (span, named s span (token_stood k s span m at), text_is, refl, e.2, e.3))
         | inr w ↦ absurd (ok_not_err _ _ w.3)
       ]
 
-  pub versioned_faithful : Faithful Any (token k >>= rest)
-  versioned_faithful = behind_token k rest rest_goes rest_stands
+  pub versioned_faithful : FaithfulBy N Any (token k >>= rest)
+  versioned_faithful = behind_token N k rest rest_goes rest_stands
 
 -- ---- a declaration without members
 
@@ -102,11 +102,11 @@ member_fails : {X : Type 0} (xs : List X) (ty : DeclaredType) (kind : MemberKind
 member_fails [] ty kind close m f h = (refl, err_inside h)
 member_fails (y ∷ ys) ty kind close m f h = absurd (ok_not_err _ _ h)
 
-module _ {X : Type 0} (p : Rule X) (ty : DeclaredType) (kind : MemberKind) (exact : Exact p) (begins : Begins (k.Ident ∷ []) p) (takes : Takes p) (faithful : Faithful Any p) where
+module _ {N : Deepness} {X : Type 0} (p : Rule X) (ty : DeclaredType) (kind : MemberKind) (exact : Exact p) (begins : Begins (k.Ident ∷ []) p) (takes : Takes p) (faithful : FaithfulBy N Any p) where
   abbrev all : Rule (List X)
   all = list_of p (k.Ident ∷ []) k.CloseBrace true
 
-  all_faithful : Faithful Any all
+  all_faithful : FaithfulBy N Any all
   all_faithful = list_faithful p (k.Ident ∷ []) k.CloseBrace true exact takes faithful
 
   abbrev closed : List X → Rule (List X)
@@ -122,29 +122,29 @@ module _ {X : Type 0} (p : Rule X) (ty : DeclaredType) (kind : MemberKind) (exac
   body_goes s span m at x r h =
       let b = both (all.read m) (λ xs n. (closed xs).read n) (x, r) h in
       let c = both ((token k.CloseBrace).read b.1) (λ close n. (some_member b.0 ty kind close).read n) (x, r) b.3 in
-      behind_trans r c.1 m (member_goes b.0 ty kind c.0 c.1 x r c.3) (behind_trans c.1 b.1 m ((token_faithful k.CloseBrace).goes b.1 c.0 c.1 tt c.2) (all_faithful.goes m b.0 b.1 tt b.2))
+      behind_trans r c.1 m (member_goes b.0 ty kind c.0 c.1 x r c.3) (behind_trans c.1 b.1 m ((token_faithful {N = N} k.CloseBrace).goes b.1 c.0 c.1 tt c.2) (all_faithful.goes m b.0 b.1 tt b.2))
 
   empty_stands : (s : Input) (span : SourceSpan) (m : Input) → (token k.OpenBrace).Is span s m → (xs : List X) (n : Input) → all.read m ≡ Ok (xs, n) → (close : SourceSpan) (r : Input)
-      → (token k.CloseBrace).read n ≡ Ok (close, r) → (f : Fault) → (some_member xs ty kind close).read r ≡ Err f → Stands s f
+      → (token k.CloseBrace).read n ≡ Ok (close, r) → (f : Fault) → (some_member xs ty kind close).read r ≡ Err f → StandsBy N s f
   empty_stands s span m at xs n read_all close r closes f h =
       let e = member_fails xs ty kind close r f h in
       let place : n ≡ rest_input s = none_passed m xs n read_all e.0 ∙ at.3 in
       let behind : first_item (rest_input s) ≡ Some (Ok k.CloseBrace, close) = sym (ap first_item place) ∙ token_stood k.CloseBrace n close r ((token_exact k.CloseBrace).sound n close r closes) in
-      stands_here s (empty_type ty kind close) f e.1 (span, token_stood k.OpenBrace s span m at, behind)
+      stands_here N s (empty_type ty kind close) f e.1 (span, token_stood k.OpenBrace s span m at, behind)
 
-  closed_stands : (s : Input) (span : SourceSpan) (m : Input) → (token k.OpenBrace).Is span s m → (xs : List X) (n : Input) → all.read m ≡ Ok (xs, n) → (f : Fault) → (closed xs).read n ≡ Err f → Stands s f
+  closed_stands : (s : Input) (span : SourceSpan) (m : Input) → (token k.OpenBrace).Is span s m → (xs : List X) (n : Input) → all.read m ≡ Ok (xs, n) → (f : Fault) → (closed xs).read n ≡ Err f → StandsBy N s f
   closed_stands s span m at xs n read_all f h =
       elim (one_of ((token k.CloseBrace).read n) (λ close r. (some_member xs ty kind close).read r) f h) [
-        | inl w ↦ stands_behind n s f (behind_trans n m s (all_faithful.goes m xs n tt read_all) (token_left k.OpenBrace s span m at)) ((token_faithful k.CloseBrace).stands n f tt w)
+        | inl w ↦ stands_behind N n s f (behind_trans n m s (all_faithful.goes m xs n tt read_all) (token_left k.OpenBrace s span m at)) ((token_faithful k.CloseBrace).stands n f tt w)
         | inr w ↦ empty_stands s span m at xs n read_all w.0 w.1 w.2 f w.3
       ]
 
-  body_stands : (s : Input) (span : SourceSpan) (m : Input) → (token k.OpenBrace).Is span s m → (f : Fault) → (all >>= closed).read m ≡ Err f → Stands s f
+  body_stands : (s : Input) (span : SourceSpan) (m : Input) → (token k.OpenBrace).Is span s m → (f : Fault) → (all >>= closed).read m ≡ Err f → StandsBy N s f
   body_stands s span m at f h =
       elim (one_of (all.read m) (λ xs n. (closed xs).read n) f h) [
-        | inl w ↦ stands_behind m s f (token_left k.OpenBrace s span m at) (all_faithful.stands m f tt w)
+        | inl w ↦ stands_behind N m s f (token_left k.OpenBrace s span m at) (all_faithful.stands m f tt w)
         | inr w ↦ closed_stands s span m at w.0 w.1 w.2 f w.3
       ]
 
-  pub members_faithful : Faithful Any (members p ty kind)
-  members_faithful = behind_token k.OpenBrace (λ _. all >>= closed) body_goes body_stands
+  pub members_faithful : FaithfulBy N Any (members p ty kind)
+  members_faithful = behind_token N k.OpenBrace (λ _. all >>= closed) body_goes body_stands

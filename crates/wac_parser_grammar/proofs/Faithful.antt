@@ -8,29 +8,36 @@ use Rattle.wac_parser_lexer.specs.Items.{Input, Item, first_item, first_of_items
 use Rattle.wac_parser_grammar.specs.Faults.{Fault, lexer, expected, nested_too_deep}
 use Rattle.wac_parser_grammar.specs.Ahead.{is_token, is_any, token_of, next_token, sees, sees_any, remember, none_found, refused_at, none_of, missed}
 use Rattle.wac_parser_grammar.specs.Rules.{Rule, span_of_items, fault_of_item, fault_ahead, sees_token, and_then, ◌>>=◌, pure, refuse, token, look, choose, begin, begin_any, unfaulty_by, unfaulty, optional, comma, behind, left}
-use Rattle.wac_parser_grammar.specs.ValueTypes.{type_first, too_deep}
-use Rattle.wac_parser_grammar.specs.Expressions.{expr_first}
+use Rattle.wac_parser_grammar.specs.ValueTypes.{too_deep}
 use Rattle.wac_parser_grammar.specs.Places.{IsBehind, here, on}
-use Rattle.wac_parser_grammar.specs.Standing.{IsFound, IsNoneOf, StandsAt, Stands}
+use Rattle.wac_parser_grammar.specs.Standing.{Deepness, IsFound, IsNoneOf, StandsAt, StandsBy, IsTooDeep}
 use Rattle.wac_parser_grammar.proofs.Exact.{inside, both, found_same}
 
 -- Where the condition holds, the rule goes on to a place behind, or its fault stands.
-pub record Faithful {X : Type 0} (C : Input → Type 0) (p : Rule X) : Type 0 where
+pub record FaithfulBy (N : Deepness) {X : Type 0} (C : Input → Type 0) (p : Rule X) : Type 0 where
   pub goes : (s : Input) (x : X) (r : Input) → C s → p.read s ≡ Ok (x, r) → IsBehind r s
-  pub stands : (s : Input) (f : Fault) → C s → p.read s ≡ Err f → Stands s f
+  pub stands : (s : Input) (f : Fault) → C s → p.read s ≡ Err f → StandsBy N s f
+
+-- with room for all levels
+abbrev pub Faithful : {X : Type 0} → (Input → Type 0) → Rule X → Type 0
+Faithful C p = FaithfulBy (IsTooDeep 128) C p
+
+-- whatever is said of faults of nesting
+abbrev pub Loose : Deepness
+Loose s span = Unit {0}
 
 abbrev pub Any : Input → Type 0
 Any s = Unit {0}
 
-pub anywhere : {X : Type 0} {C : Input → Type 0} {p : Rule X} → Faithful Any p → Faithful C p
+pub anywhere : {N : Deepness} {X : Type 0} {C : Input → Type 0} {p : Rule X} → FaithfulBy N Any p → FaithfulBy N C p
 anywhere e = record { goes = λ s x r c h. e.goes s x r tt h; stands = λ s f c h. e.stands s f tt h }
 
 pub behind_trans : (a b c : Input) → IsBehind a b → IsBehind b c → IsBehind a c
 behind_trans a b b' h here = h
 behind_trans a b c h (on j) = on (behind_trans a b _ h j)
 
-pub stands_behind : (m s : Input) (f : Fault) → IsBehind m s → Stands m f → Stands s f
-stands_behind m s f b h = (h.0, behind_trans h.0 m s h.1 b, h.2)
+pub stands_behind : (N : Deepness) (m s : Input) (f : Fault) → IsBehind m s → StandsBy N m f → StandsBy N s f
+stands_behind N m s f b h = (h.0, behind_trans h.0 m s h.1 b, h.2)
 
 pub err_inside : {X : Type 0} {f g : Fault} → ◌≡◌ {A = Result X Fault} (Err f) (Err g) → f ≡ g
 err_inside e = cc
@@ -40,27 +47,27 @@ pub one_of : {A B : Type 0} (o : Result (A × Input) Fault) (g : A → Input →
 one_of (Err e) g f h = inl (ap Err (err_inside h))
 one_of (Ok p) g f h = inr (p.0, p.1, refl, h)
 
-pub bind_faithful : {A B : Type 0} {C : Input → Type 0} (p : Rule A) (f : A → Rule B) → Faithful C p → ((a : A) → Faithful Any (f a)) → Faithful C (p >>= f)
-bind_faithful p f ep ef = record {
+pub bind_faithful : {N : Deepness} {A B : Type 0} {C : Input → Type 0} (p : Rule A) (f : A → Rule B) → FaithfulBy N C p → ((a : A) → FaithfulBy N Any (f a)) → FaithfulBy N C (p >>= f)
+bind_faithful {N = N} p f ep ef = record {
   goes = λ s y r c h.
       let b = both (p.read s) (λ a m. (f a).read m) (y, r) h in
       behind_trans r b.1 s ((ef b.0).goes b.1 y r tt b.3) (ep.goes s b.0 b.1 c b.2);
   stands = λ s fault c h. elim (one_of (p.read s) (λ a m. (f a).read m) fault h) [
     | inl w ↦ ep.stands s fault c w
-    | inr w ↦ stands_behind w.1 s fault (ep.goes s w.0 w.1 c w.2) ((ef w.0).stands w.1 fault tt w.3)
+    | inr w ↦ stands_behind N w.1 s fault (ep.goes s w.0 w.1 c w.2) ((ef w.0).stands w.1 fault tt w.3)
   ];
 }
 
 same_place : {X : Type 0} (s : Input) (x y : X) (r : Input) → ◌≡◌ {A = Result (X × Input) Fault} (Ok (y, s)) (Ok (x, r)) → IsBehind r s
 same_place s x y r h = let P : Input → Type 0 = λ (m : Input). IsBehind m s in subst P (ap (λ p. p.1) (inside h)) here
 
-pub pure_faithful : {X : Type 0} {C : Input → Type 0} (x : X) → Faithful C (pure x)
+pub pure_faithful : {N : Deepness} {X : Type 0} {C : Input → Type 0} (x : X) → FaithfulBy N C (pure x)
 pure_faithful x = record { goes = λ s y r c h. same_place s y x r h; stands = λ s f c h. cc }
 
-pub look_faithful : {X : Type 0} {C : Input → Type 0} (f : Input → X) → Faithful C (look f)
+pub look_faithful : {N : Deepness} {X : Type 0} {C : Input → Type 0} (f : Input → X) → FaithfulBy N C (look f)
 look_faithful f = record { goes = λ s y r c h. same_place s y (f s) r h; stands = λ s g c h. cc }
 
-pub choose_faithful : {X : Type 0} {C : Input → Type 0} (b : Bool) (p q : Rule X) → Faithful C p → Faithful C q → Faithful C (choose b p q)
+pub choose_faithful : {N : Deepness} {X : Type 0} {C : Input → Type 0} (b : Bool) (p q : Rule X) → FaithfulBy N C p → FaithfulBy N C q → FaithfulBy N C (choose b p q)
 choose_faithful true p q ep eq = record { goes = λ s x r c h. ep.goes s x r c h; stands = λ s f c h. ep.stands s f c h }
 choose_faithful false p q ep eq = record { goes = λ s x r c h. eq.goes s x r c h; stands = λ s f c h. eq.stands s f c h }
 
@@ -128,42 +135,42 @@ none_remembered zero ks o e = tt
 none_remembered (suc n) [] o e = blank_none n o
 none_remembered (suc n) (k ∷ ks) o e = (not_it k o (not_head k ks o e), none_remembered n ks o (not_tail k ks o e))
 
-found_stands : (s : Input) (ks : List Token) (found : Option Token) (span : SourceSpan) → IsFound s found span → is_any ks found ≡ false → StandsAt s (none_found ks found span)
-found_stands s [] found span h e = (h, none_remembered 10 [] found e)
-found_stands s (k ∷ []) found span h e = (h, not_it k found (not_head k [] found e))
-found_stands s (k ∷ l ∷ []) found span h e = (h, not_it k found (not_head k (l ∷ []) found e), not_it l found (not_head l [] found (not_tail k (l ∷ []) found e)))
-found_stands s (k ∷ l ∷ m ∷ ks) found span h e = (h, none_remembered 10 (k ∷ l ∷ m ∷ ks) found e)
+found_stands : (N : Deepness) (s : Input) (ks : List Token) (found : Option Token) (span : SourceSpan) → IsFound s found span → is_any ks found ≡ false → StandsAt N s (none_found ks found span)
+found_stands N s [] found span h e = (h, none_remembered 10 [] found e)
+found_stands N s (k ∷ []) found span h e = (h, not_it k found (not_head k [] found e))
+found_stands N s (k ∷ l ∷ []) found span h e = (h, not_it k found (not_head k (l ∷ []) found e), not_it l found (not_head l [] found (not_tail k (l ∷ []) found e)))
+found_stands N s (k ∷ l ∷ m ∷ ks) found span h e = (h, none_remembered 10 (k ∷ l ∷ m ∷ ks) found e)
 
 no_items : (items : List Item) → first_of_items items ≡ None → items ≡ []
 no_items [] e = refl
 no_items (i ∷ is) e = cc
 
-refused_stands : (s : Input) (ks : List Token) (o : Option (Result Token Error × SourceSpan)) → first_item s ≡ o → is_any ks (token_of o) ≡ false → StandsAt s (refused_at o (shown_span s) (none_found ks))
-refused_stands s ks None e f = found_stands s ks None (shown_span s) (no_items s.items e, inl refl) f
-refused_stands s ks (Some (Ok t, span)) e f = found_stands s ks (Some t) span e f
-refused_stands s ks (Some (Err x, span)) e f = e
+refused_stands : (N : Deepness) (s : Input) (ks : List Token) (o : Option (Result Token Error × SourceSpan)) → first_item s ≡ o → is_any ks (token_of o) ≡ false → StandsAt N s (refused_at o (shown_span s) (none_found ks))
+refused_stands N s ks None e f = found_stands N s ks None (shown_span s) (no_items s.items e, inl refl) f
+refused_stands N s ks (Some (Ok t, span)) e f = found_stands N s ks (Some t) span e f
+refused_stands N s ks (Some (Err x, span)) e f = e
 
-pub none_stands : (ks : List Token) (s : Input) → sees_any ks s ≡ false → StandsAt s (none_of ks s)
+pub none_stands : (N : Deepness) (ks : List Token) (s : Input) → sees_any ks s ≡ false → StandsAt N s (none_of ks s)
 unfolding none_of sees_any
-none_stands ks s e = refused_stands s ks (first_item s) refl e
+none_stands N ks s e = refused_stands N s ks (first_item s) refl e
 
-missed_by : (k : Token) (s : Input) (o : Option (Result Token Error × SourceSpan)) → first_item s ≡ o → is_token k (token_of o) ≡ false → StandsAt s (refused_at o (shown_span (rest_input s)) (expected k))
-missed_by k s None e f = ((no_items s.items e, inr refl), not_it k None f)
-missed_by k s (Some (Ok t, span)) e f = (e, not_it k (Some t) f)
-missed_by k s (Some (Err x, span)) e f = e
+missed_by : (N : Deepness) (k : Token) (s : Input) (o : Option (Result Token Error × SourceSpan)) → first_item s ≡ o → is_token k (token_of o) ≡ false → StandsAt N s (refused_at o (shown_span (rest_input s)) (expected k))
+missed_by N k s None e f = ((no_items s.items e, inr refl), not_it k None f)
+missed_by N k s (Some (Ok t, span)) e f = (e, not_it k (Some t) f)
+missed_by N k s (Some (Err x, span)) e f = e
 
-pub missed_stands : (k : Token) (s : Input) → sees k s ≡ false → StandsAt s (missed k s)
+pub missed_stands : (N : Deepness) (k : Token) (s : Input) → sees k s ≡ false → StandsAt N s (missed k s)
 unfolding missed sees
-missed_stands k s e = missed_by k s (first_item s) refl e
+missed_stands N k s e = missed_by N k s (first_item s) refl e
 
-pub stands_here : (s : Input) (f g : Fault) → f ≡ g → StandsAt s f → Stands s g
-stands_here s f g e h = let P : Fault → Type 0 = λ (x : Fault). Stands s x in subst P e (s, here, h)
+pub stands_here : (N : Deepness) (s : Input) (f g : Fault) → f ≡ g → StandsAt N s f → StandsBy N s g
+stands_here N s f g e h = let P : Fault → Type 0 = λ (x : Fault). StandsBy N s x in subst P e (s, here, h)
 
-pub refuse_faithful : {X : Type 0} {C : Input → Type 0} (ks : List Token) → ((s : Input) → C s → sees_any ks s ≡ false) → Faithful C (refuse {X = X} (none_of ks))
-refuse_faithful ks none = record { goes = λ s x r c h. cc; stands = λ s f c h. stands_here s (none_of ks s) f (err_inside h) (none_stands ks s (none s c)) }
+pub refuse_faithful : {N : Deepness} {X : Type 0} {C : Input → Type 0} (ks : List Token) → ((s : Input) → C s → sees_any ks s ≡ false) → FaithfulBy N C (refuse {X = X} (none_of ks))
+refuse_faithful {N = N} ks none = record { goes = λ s x r c h. cc; stands = λ s f c h. stands_here N s (none_of ks s) f (err_inside h) (none_stands N ks s (none s c)) }
 
-pub cause_faithful : {X : Type 0} {C : Input → Type 0} (cause : Input → Fault) → ((s : Input) → C s → Stands s (cause s)) → Faithful C (refuse {X = X} cause)
-cause_faithful cause stands = record { goes = λ s x r c h. cc; stands = λ s f c h. let P : Fault → Type 0 = λ (x : Fault). Stands s x in subst P (err_inside h) (stands s c) }
+pub cause_faithful : {N : Deepness} {X : Type 0} {C : Input → Type 0} (cause : Input → Fault) → ((s : Input) → C s → StandsBy N s (cause s)) → FaithfulBy N C (refuse {X = X} cause)
+cause_faithful {N = N} cause stands = record { goes = λ s x r c h. cc; stands = λ s f c h. let P : Fault → Type 0 = λ (x : Fault). StandsBy N s x in subst P (err_inside h) (stands s c) }
 
 -- ---- tokens and choices
 
@@ -175,30 +182,30 @@ pub token_fails : (b : Bool) (s : Input) (x : SourceSpan) (m f : Fault) → cond
 token_fails true s x m f h = cc
 token_fails false s x m f h = (refl, err_inside h)
 
-pub token_faithful : (k : Token) → Faithful Any (token k)
-token_faithful k = record {
+pub token_faithful : {N : Deepness} → (k : Token) → FaithfulBy N Any (token k)
+token_faithful {N = N} k = record {
   goes = λ s x r c h. token_by (sees k s) s (span_of_items s.items) (missed k s) (x, r) h;
-  stands = λ s f c h. let t = token_fails (sees k s) s (span_of_items s.items) (missed k s) f h in stands_here s (missed k s) f t.1 (missed_stands k s t.0);
+  stands = λ s f c h. let t = token_fails (sees k s) s (span_of_items s.items) (missed k s) f h in stands_here N s (missed k s) f t.1 (missed_stands N k s t.0);
 }
 
 abbrev pub Else : (Input → Type 0) → List Token → Input → Type 0
 Else C ks s = C s × (sees_any ks s ≡ false)
 
-begin_goes : {X : Type 0} {C : Input → Type 0} (b : Bool) (p q : Rule X) (s : Input) (x : X) (r : Input) (D : Type 0) → (b ≡ false → D) → Faithful C p → (D → q.read s ≡ Ok (x, r) → IsBehind r s) → C s → cond b (p.read s) (q.read s) ≡ Ok (x, r) → IsBehind r s
+begin_goes : {N : Deepness} {X : Type 0} {C : Input → Type 0} (b : Bool) (p q : Rule X) (s : Input) (x : X) (r : Input) (D : Type 0) → (b ≡ false → D) → FaithfulBy N C p → (D → q.read s ≡ Ok (x, r) → IsBehind r s) → C s → cond b (p.read s) (q.read s) ≡ Ok (x, r) → IsBehind r s
 begin_goes true p q s x r D absent ep eq c h = ep.goes s x r c h
 begin_goes false p q s x r D absent ep eq c h = eq (absent refl) h
 
-begin_stands : {X : Type 0} {C : Input → Type 0} (b : Bool) (p q : Rule X) (s : Input) (f : Fault) (D : Type 0) → (b ≡ false → D) → Faithful C p → (D → q.read s ≡ Err f → Stands s f) → C s → cond b (p.read s) (q.read s) ≡ Err f → Stands s f
+begin_stands : {N : Deepness} {X : Type 0} {C : Input → Type 0} (b : Bool) (p q : Rule X) (s : Input) (f : Fault) (D : Type 0) → (b ≡ false → D) → FaithfulBy N C p → (D → q.read s ≡ Err f → StandsBy N s f) → C s → cond b (p.read s) (q.read s) ≡ Err f → StandsBy N s f
 begin_stands true p q s f D absent ep eq c h = ep.stands s f c h
 begin_stands false p q s f D absent ep eq c h = eq (absent refl) h
 
-pub begin_faithful : {X : Type 0} {C : Input → Type 0} (k : Token) (p q : Rule X) → Faithful C p → Faithful (Else C (k ∷ [])) q → Faithful C (begin k p q)
+pub begin_faithful : {N : Deepness} {X : Type 0} {C : Input → Type 0} (k : Token) (p q : Rule X) → FaithfulBy N C p → FaithfulBy N (Else C (k ∷ [])) q → FaithfulBy N C (begin k p q)
 begin_faithful k p q ep eq = record {
   goes = λ s x r c h. begin_goes (sees k s) p q s x r (sees_any (k ∷ []) s ≡ false) (none_one k s) ep (λ absent. eq.goes s x r (c, absent)) c h;
   stands = λ s f c h. begin_stands (sees k s) p q s f (sees_any (k ∷ []) s ≡ false) (none_one k s) ep (λ absent. eq.stands s f (c, absent)) c h;
 }
 
-pub begin_any_faithful : {X : Type 0} {C : Input → Type 0} (ks : List Token) (p q : Rule X) → Faithful C p → Faithful (Else C ks) q → Faithful C (begin_any ks p q)
+pub begin_any_faithful : {N : Deepness} {X : Type 0} {C : Input → Type 0} (ks : List Token) (p q : Rule X) → FaithfulBy N C p → FaithfulBy N (Else C ks) q → FaithfulBy N C (begin_any ks p q)
 begin_any_faithful ks p q ep eq = record {
   goes = λ s x r c h. begin_goes (sees_any ks s) p q s x r (sees_any ks s ≡ false) (λ e. e) ep (λ absent. eq.goes s x r (c, absent)) c h;
   stands = λ s f c h. begin_stands (sees_any ks s) p q s f (sees_any ks s ≡ false) (λ e. e) ep (λ absent. eq.stands s f (c, absent)) c h;
@@ -208,30 +215,30 @@ unfaulty_goes : (o : Option Fault) (s : Input) (q : Unit {0} × Input) → unfau
 unfaulty_goes None s q h = let P : Input → Type 0 = λ (r : Input). IsBehind r s in subst P (ap (λ p. p.1) (inside h)) here
 unfaulty_goes (Some f) s q h = cc
 
-unfaulty_fails : (o : Option Fault) (s : Input) (f : Fault) → unfaulty_by o s ≡ Err f → o ≡ Some f
+pub unfaulty_fails : (o : Option Fault) (s : Input) (f : Fault) → unfaulty_by o s ≡ Err f → o ≡ Some f
 unfaulty_fails None s f h = cc
 unfaulty_fails (Some g) s f h = ap Some (err_inside h)
 
-fault_stands : (s : Input) (o : Option (Result Token Error × SourceSpan)) (f : Fault) → first_item s ≡ o → fault_of_item o ≡ Some f → StandsAt s f
-fault_stands s None f e h = cc
-fault_stands s (Some (Ok t, span)) f e h = cc
-fault_stands s (Some (Err x, span)) f e h = let same : lexer x span ≡ f = cc in let P : Fault → Type 0 = StandsAt s in subst P same e
+fault_stands : (N : Deepness) (s : Input) (o : Option (Result Token Error × SourceSpan)) (f : Fault) → first_item s ≡ o → fault_of_item o ≡ Some f → StandsAt N s f
+fault_stands N s None f e h = cc
+fault_stands N s (Some (Ok t, span)) f e h = cc
+fault_stands N s (Some (Err x, span)) f e h = let same : lexer x span ≡ f = cc in let P : Fault → Type 0 = StandsAt N s in subst P same e
 
-unfaulty_faithful : Faithful Any unfaulty
+unfaulty_faithful : {N : Deepness} → FaithfulBy N Any unfaulty
 unfolding fault_ahead
-unfaulty_faithful = record {
+unfaulty_faithful {N = N} = record {
   goes = λ s x r c h. unfaulty_goes (fault_of_item (first_item s)) s (x, r) h;
-  stands = λ s f c h. (s, here, fault_stands s (first_item s) f refl (unfaulty_fails (fault_of_item (first_item s)) s f h));
+  stands = λ s f c h. (s, here, fault_stands N s (first_item s) f refl (unfaulty_fails (fault_of_item (first_item s)) s f h));
 }
 
-pub optional_faithful : (k : Token) → Faithful Any (optional k)
+pub optional_faithful : {N : Deepness} → (k : Token) → FaithfulBy N Any (optional k)
 unfolding optional
 optional_faithful k = bind_faithful _ _ unfaulty_faithful (λ _. begin_faithful k _ _ (bind_faithful _ _ (token_faithful k) (λ _. pure_faithful true)) (pure_faithful false))
 
-comma_faithful : Faithful Any comma
+comma_faithful : {N : Deepness} → FaithfulBy N Any comma
 comma_faithful = bind_faithful _ _ (look_faithful sees_token) (λ some. choose_faithful some _ _ (bind_faithful _ _ (token_faithful k.Comma) (λ _. pure_faithful tt)) (pure_faithful tt))
 
-pub behind_faithful : (until : Token) (commas : Bool) → Faithful Any (behind until commas)
+pub behind_faithful : {N : Deepness} → (until : Token) (commas : Bool) → FaithfulBy N Any (behind until commas)
 unfolding behind
 behind_faithful until commas = begin_faithful until _ _ (pure_faithful tt) (choose_faithful commas _ _ (anywhere comma_faithful) (pure_faithful tt))
 
@@ -243,7 +250,7 @@ pub behind_left : (r s : Input) → IsBehind r s → left r ≤ left s
 behind_left r r' here = omega arith
 behind_left r s (on j) = let a = behind_left r (rest_input s) j in let b = fewer s.items in omega (arith, a, b)
 
-pub narrow : {X : Type 0} {C D : Input → Type 0} {p : Rule X} → ((s : Input) → D s → C s) → Faithful C p → Faithful D p
+pub narrow : {N : Deepness} {X : Type 0} {C D : Input → Type 0} {p : Rule X} → ((s : Input) → D s → C s) → FaithfulBy N C p → FaithfulBy N D p
 narrow weaker e = record { goes = λ s x r d h. e.goes s x r (weaker s d) h; stands = λ s f d h. e.stands s f (weaker s d) h }
 
 -- ---- where the depth is spent
@@ -256,7 +263,7 @@ begun_item : (ks : List Token) (items : List Item) → is_any ks (token_of (firs
 begun_item ks [] e = let two : false ≡ true = sym (none_is_any ks) ∙ e in cc
 begun_item ks (i ∷ is) e = begun_by ks i.token i.span e
 
-begun_here : (ks : List Token) (s : Input) → sees_any ks s ≡ true → (k : Token) × (first_item s ≡ Some (Ok k, span_of_items s.items)) × (is_any ks (Some k) ≡ true)
+pub begun_here : (ks : List Token) (s : Input) → sees_any ks s ≡ true → (k : Token) × (first_item s ≡ Some (Ok k, span_of_items s.items)) × (is_any ks (Some k) ≡ true)
 unfolding sees_any
 begun_here ks s e = begun_item ks s.items e
 
@@ -264,15 +271,15 @@ deep_by : {X : Type 0} (b : Bool) (m n : Fault) (s : Input) (x : X) (r : Input) 
 deep_by true m n s x r h = cc
 deep_by false m n s x r h = cc
 
-deep_fails : {X : Type 0} (b : Bool) (m n f : Fault) → cond {A = Result (X × Input) Fault} b (Err m) (Err n) ≡ Err f → ((b ≡ true) × (m ≡ f)) ⊎ ((b ≡ false) × (n ≡ f))
+pub deep_fails : {X : Type 0} (b : Bool) (m n f : Fault) → cond {A = Result (X × Input) Fault} b (Err m) (Err n) ≡ Err f → ((b ≡ true) × (m ≡ f)) ⊎ ((b ≡ false) × (n ≡ f))
 deep_fails true m n f h = inl (refl, err_inside h)
 deep_fails false m n f h = inr (refl, err_inside h)
 
-pub too_deep_faithful : {X : Type 0} (first : List Token) → ((k : Token) → is_any first (Some k) ≡ true → (is_any type_first (Some k) ≡ true) ⊎ (is_any expr_first (Some k) ≡ true)) → Faithful Any (too_deep {X = X} first)
-too_deep_faithful {X = X} first which = record {
+pub too_deep_loose : {X : Type 0} (first : List Token) → FaithfulBy Loose Any (too_deep {X = X} first)
+too_deep_loose {X = X} first = record {
   goes = λ s x r c h. deep_by {X = X} (sees_any first s) (nested_too_deep (span_of_items s.items)) (none_of first s) s x r h;
   stands = λ s f c h. elim (deep_fails {X = X} (sees_any first s) (nested_too_deep (span_of_items s.items)) (none_of first s) f h) [
-    | inl w ↦ (let b = begun_here first s w.0 in stands_here s (nested_too_deep (span_of_items s.items)) f w.1 (b.0, b.1, which b.0 b.2))
-    | inr w ↦ stands_here s (none_of first s) f w.1 (none_stands first s w.0)
+    | inl w ↦ stands_here Loose s (nested_too_deep (span_of_items s.items)) f w.1 tt
+    | inr w ↦ stands_here Loose s (none_of first s) f w.1 (none_stands Loose first s w.0)
   ];
 }

@@ -39,3 +39,7 @@ pub mod PathTexts
 pub mod PathLaws
 pub mod Bringing
 pub mod PathsOfTrees
+pub mod Sinking
+pub mod TypeDepths
+pub mod ExprDepths
+pub mod DeepFaults

@@ -29,7 +29,7 @@ use Rattle.wac_parser_grammar.proofs.WorldLaws.{use_items_exact, interface_expor
 use Rattle.wac_parser_grammar.proofs.WorldFaults.{use_items_faithful, interface_export_faithful, include_with_faithful}
 use Rattle.wac_parser_grammar.proofs.DocumentLaws.{import_name_exact, export_options_exact}
 use Rattle.wac_parser_grammar.proofs.DocumentFaults.{import_name_faithful, export_options_faithful}
-use Rattle.wac_parser_grammar.proofs.PathLaws.{place_behind, name_stands, path_stands}
+use Rattle.wac_parser_grammar.proofs.PathLaws.{name_stands, path_stands}
 use Rattle.wac_parser_grammar.proofs.Bringing.{Brings, Free, plain, bind_brings, pure_brings, refuse_brings, begin_brings, begin_any_brings, token_brings, optional_of_brings, list_brings, body_brings, all_brings}
 
 arguments_each : (P : t.PackageName → Type 0) (xs : List t.InstantiationArgument) → All (EachInArgument P) xs → EachInArguments P (t.arguments xs)
@@ -45,13 +45,13 @@ module _ (source : List ℕ) where
 
   name_brings : Brings source Name package_name
   name_brings = record {
-    goes = λ s x r c h. place_behind source r s (package_name_faithful.goes s x r tt (package_name_exact.complete s x r h)) c;
+    goes = λ s x r c h. (plain source package_name_exact package_name_faithful).goes s x r c h;
     brings = λ s x r c h. name_stands source s c x r h;
   }
 
   path_brings : Brings source Path package_path
   path_brings = record {
-    goes = λ s x r c h. place_behind source r s (package_path_faithful.goes s x r tt (package_path_exact.complete s x r h)) c;
+    goes = λ s x r c h. (plain source package_path_exact package_path_faithful).goes s x r c h;
     brings = λ s x r c h. path_stands source s c x r h;
   }
 

@@ -9,9 +9,9 @@ use Rattle.wac_parser_grammar.specs.Ahead.{sees}
 use Rattle.wac_parser_grammar.specs.Rules.{Rule, ◌>>=◌, begin, refuse}
 use Rattle.wac_parser_grammar.specs.Names.{string}
 use Rattle.wac_parser_grammar.specs.Places.{IsBehind}
-use Rattle.wac_parser_grammar.specs.Standing.{Stands}
+use Rattle.wac_parser_grammar.specs.Standing.{Deepness, StandsBy}
 use Rattle.wac_parser_grammar.proofs.NameLaws.{string_exact}
-use Rattle.wac_parser_grammar.proofs.Faithful.{Faithful, Any, err_inside, behind_trans, stands_behind, one_of, stands_here}
+use Rattle.wac_parser_grammar.proofs.Faithful.{FaithfulBy, Any, err_inside, behind_trans, stands_behind, one_of, stands_here}
 use Rattle.wac_parser_grammar.proofs.NameFaults.{string_faithful}
 use Rattle.wac_parser_grammar.proofs.Exact.{both}
 use Rattle.wac_parser_lexer.proofs.FrontLaws.{either}
@@ -26,7 +26,7 @@ string_stood s x r h =
 not_ident : Some k.String ≢ Some k.Ident
 not_ident e = cc
 
-module _ {X : Type 0} (p : t.StringLiteral → Rule X) (faithful : (x : t.StringLiteral) → Faithful Any (p x)) where
+module _ {N : Deepness} {X : Type 0} (p : t.StringLiteral → Rule X) (faithful : (x : t.StringLiteral) → FaithfulBy N Any (p x)) where
   abbrev fault : t.StringLiteral → Fault
   fault x = expected k.Ident (Some k.String) x.span
 
@@ -39,17 +39,17 @@ module _ {X : Type 0} (p : t.StringLiteral → Rule X) (faithful : (x : t.String
     | inr w ↦ absurd (err_not_ok _ _ w.1)
   ]
 
-  rest_fails : (s : Input) (x : t.StringLiteral) (m : Input) (f : Fault) → string.read s ≡ Ok (x, m) → (rest x).read m ≡ Err f → Stands s f
+  rest_fails : (s : Input) (x : t.StringLiteral) (m : Input) (f : Fault) → string.read s ≡ Ok (x, m) → (rest x).read m ≡ Err f → StandsBy N s f
   rest_fails s x m f e h = elim (either {A = Result (X × Input) Fault} (sees k.Colon m) ((p x).read m) (Err (fault x)) (Err f) h) [
-    | inl w ↦ stands_behind m s f (string_faithful.goes s x m tt e) ((faithful x).stands m f tt w.1)
-    | inr w ↦ stands_here s (fault x) f (err_inside w.1) (string_stood s x m e, not_ident)
+    | inl w ↦ stands_behind N m s f ((string_faithful {N = N}).goes s x m tt e) ((faithful x).stands m f tt w.1)
+    | inr w ↦ stands_here N s (fault x) f (err_inside w.1) (string_stood s x m e, not_ident)
   ]
 
-  pub string_refused : Faithful Any (string >>= rest)
+  pub string_refused : FaithfulBy N Any (string >>= rest)
   string_refused = record {
     goes = λ s y r c h.
         (let b = both (string.read s) (λ x m. (rest x).read m) (y, r) h in
-        behind_trans r b.1 s (rest_goes b.0 b.1 y r b.3) (string_faithful.goes s b.0 b.1 tt b.2));
+        behind_trans r b.1 s (rest_goes b.0 b.1 y r b.3) ((string_faithful {N = N}).goes s b.0 b.1 tt b.2));
     stands = λ s f c h. elim (one_of (string.read s) (λ x m. (rest x).read m) f h) [
       | inl w ↦ string_faithful.stands s f tt w
       | inr w ↦ rest_fails s w.0 w.1 f w.2 w.3

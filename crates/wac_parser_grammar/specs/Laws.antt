@@ -1,5 +1,5 @@
 -- What holds of the rules, for those who reason by them.
-use Rattle.std.specs.Prelude.{◌≡◌, ◌↔◌, ◌⊎◌, ℕ, true, List, [], ◌∷◌, Some, None, Ok, Err, ◌<◌}
+use Rattle.std.specs.Prelude.{◌≡◌, ◌↔◌, ◌⊎◌, ℕ, suc, true, List, [], ◌∷◌, Some, None, Ok, Err, ◌<◌}
 use Rattle.wac_parser_lexer.specs.declared.span.SourceSpan.{SourceSpan}
 use Rattle.wac_parser_lexer.specs.declared.error.Error as lexer_error
 use Rattle.wac_parser_lexer.specs.declared.token.Token.{Token}
@@ -151,9 +151,13 @@ IsDocument d source = (first_refused source ≡ None) × (end : Input) × (end.i
 abbrev pub DocumentsAreRead : Type 0
 DocumentsAreRead = (source : List ℕ) (d : t.Document) → (read_source s.document source ≡ Ok d) ↔ IsDocument d source
 
--- each fault that the rule meets stands at the place, or behind items of it
+-- each fault that the rule meets, with room for so many levels, stands at the place, or behind items of it
+abbrev pub FaultsStandWithin : {X : Type 0} → ℕ → Rule X → Type 0
+FaultsStandWithin n p = (s : Input) (fault : Fault) → p.read s ≡ Err fault → Stands n s fault
+
+-- the same with room for all levels
 abbrev pub FaultsStand : {X : Type 0} → Rule X → Type 0
-FaultsStand p = (s : Input) (fault : Fault) → p.read s ≡ Err fault → Stands s fault
+FaultsStand p = FaultsStandWithin 128 p
 
 -- the faults of the rules of all trees
 pub record AllFaultsStand : Type 0 where
@@ -170,11 +174,11 @@ pub record AllFaultsStand : Type 0 where
   pub access_expr : FaultsStand e.access_expr
   pub named_access_expr : FaultsStand e.named_access_expr
   pub expression : FaultsStand e.expression
-  pub instantiation_argument : (depth : ℕ) → FaultsStand (e.instantiation_argument (e.expr depth))
-  pub named_argument : (depth : ℕ) → FaultsStand (e.named_argument (e.expr depth))
-  pub nested_expr : (depth : ℕ) → FaultsStand (e.nested_expr (e.expr depth))
-  pub new_expr : (depth : ℕ) → FaultsStand (e.new_expr (e.expr depth))
-  pub primary_expr : (depth : ℕ) → FaultsStand (e.primary_expr (e.expr depth))
+  pub instantiation_argument : (depth : ℕ) → FaultsStandWithin depth (e.instantiation_argument (e.expr depth))
+  pub named_argument : (depth : ℕ) → FaultsStandWithin depth (e.named_argument (e.expr depth))
+  pub nested_expr : (depth : ℕ) → FaultsStandWithin (suc depth) (e.nested_expr (e.expr depth))
+  pub new_expr : (depth : ℕ) → FaultsStandWithin (suc depth) (e.new_expr (e.expr depth))
+  pub primary_expr : (depth : ℕ) → FaultsStandWithin (suc depth) (e.primary_expr (e.expr depth))
   pub variant_case : FaultsStand d.variant_case
   pub variant_decl : FaultsStand d.variant_decl
   pub field : FaultsStand d.field
@@ -222,7 +226,7 @@ pub record AllFaultsStand : Type 0 where
 -- The fault stands in the source: it is its first refused character, or stands where its items are.
 abbrev pub StandsIn : List ℕ → Fault → Type 0
 StandsIn source fault = ((e : lexer_error.Error × SourceSpan) × (first_refused source ≡ Some e) × (fault ≡ lexer e.0 e.1))
-    ⊎ Stands (input_of source) fault
+    ⊎ Stands 128 (input_of source) fault
 
 -- a source that is not read as a document has a fault that stands in it
 abbrev pub DocumentFaultsStand : Type 0

@@ -9,6 +9,7 @@ pub mod Expressions
 pub mod Declarations
 pub mod Worlds
 pub mod Documents
+pub mod Nesting
 pub mod Standing
 pub mod Laws
 pub mod Forms

@@ -1,5 +1,5 @@
 -- Which faults stand in a source.
-use Rattle.std.specs.Prelude.{◌≡◌, ◌≢◌, ◌⊎◌, true, List, [], ◌∷◌, length, Option, Some, None, Ok, Err}
+use Rattle.std.specs.Prelude.{◌≡◌, ◌≢◌, ◌⊎◌, ℕ, List, [], ◌∷◌, length, Option, Some, None, Ok, Err}
 use Rattle.semver.specs.Parse.{version_parts}
 use Rattle.semver.specs.declared.error.Error as version_error
 use Rattle.wac_parser_lexer.specs.declared.span.SourceSpan.{SourceSpan}
@@ -9,10 +9,8 @@ use Rattle.wac_parser_lexer.specs.Pieces.{text_at}
 use Rattle.wac_parser_lexer.specs.Items.{Input, first_item, rest_input, shown_span}
 use Rattle.wac_parser_grammar.specs.Places.{IsBehind}
 use Rattle.wac_parser_grammar.specs.Faults.{Fault, lexer, expected, expected_either, expected_multiple, empty_type, invalid_version, nested_too_deep, memory}
-use Rattle.wac_parser_grammar.specs.Ahead.{is_any}
 use Rattle.wac_parser_grammar.specs.Names.{behind_first, end_of}
-use Rattle.wac_parser_grammar.specs.ValueTypes.{type_first}
-use Rattle.wac_parser_grammar.specs.Expressions.{expr_first}
+use Rattle.wac_parser_grammar.specs.Nesting.{types, expressions, BeginsDeeper}
 
 -- The token stands at the place, or the end is there; the end is shown before it is passed or after.
 abbrev pub IsFound : Input → Option Token → SourceSpan → Type 0
@@ -29,27 +27,38 @@ IsNoneOf (Some k ∷ ks) found = (found ≢ Some k) × IsNoneOf ks found
 abbrev pub IsNamed : Input → SourceSpan → Type 0
 IsNamed s name = (first_item s ≡ Some (Ok k.PackageName, name)) ⊎ (first_item s ≡ Some (Ok k.PackagePath, name))
 
+-- what is said, at a place, of a fault of nesting
+abbrev pub Deepness : Type 1
+Deepness = Input → SourceSpan → Type 0
+
 -- The fault stands at this place.
-abbrev pub StandsAt : Input → Fault → Type 0
+abbrev pub StandsAt : Deepness → Input → Fault → Type 0
 -- a faulty item
-StandsAt s (lexer e span) = first_item s ≡ Some (Err e, span)
+StandsAt Deep s (lexer e span) = first_item s ≡ Some (Err e, span)
 -- a token, or the end, which is none of those that are named
-StandsAt s (expected k found span) = IsFound s found span × (found ≢ Some k)
-StandsAt s (expected_either a b found span) = IsFound s found span × (found ≢ Some a) × (found ≢ Some b)
-StandsAt s (expected_multiple ks n found span) = IsFound s found span × IsNoneOf ks found
+StandsAt Deep s (expected k found span) = IsFound s found span × (found ≢ Some k)
+StandsAt Deep s (expected_either a b found span) = IsFound s found span × (found ≢ Some a) × (found ≢ Some b)
+StandsAt Deep s (expected_multiple ks n found span) = IsFound s found span × IsNoneOf ks found
 -- an opening brace, and right behind it the closing one
-StandsAt s (empty_type ty kind span) = (opening : SourceSpan) × (first_item s ≡ Some (Ok k.OpenBrace, opening))
+StandsAt Deep s (empty_type ty kind span) = (opening : SourceSpan) × (first_item s ≡ Some (Ok k.OpenBrace, opening))
     × (first_item (rest_input s) ≡ Some (Ok k.CloseBrace, span))
 -- a name or path; the text behind its `@`, up to its end, is no version
-StandsAt s (invalid_version text span) =
+StandsAt Deep s (invalid_version text span) =
     (name : SourceSpan) × IsNamed s name × (behind_first 64 (text_at s.source name) ≡ Some text)
     × (span ≡ end_of name (length text))
     × (e : version_error.Error) × (version_parts text ≡ Err e)
--- a token that begins a type or an expression
-StandsAt s (nested_too_deep span) = (k : Token) × (first_item s ≡ Some (Ok k, span))
-    × ((is_any type_first (Some k) ≡ true) ⊎ (is_any expr_first (Some k) ≡ true))
-StandsAt s memory = ⊥
+-- what begins too deep behind it
+StandsAt Deep s (nested_too_deep span) = Deep s span
+StandsAt Deep s memory = ⊥
 
 -- The fault stands at a place that lies behind this one, or here.
-abbrev pub Stands : Input → Fault → Type 0
-Stands s fault = (place : Input) × IsBehind place s × StandsAt place fault
+abbrev pub StandsBy : Deepness → Input → Fault → Type 0
+StandsBy Deep s fault = (place : Input) × IsBehind place s × StandsAt Deep place fault
+
+-- A type or an expression begins so many levels deeper.
+abbrev pub IsTooDeep : ℕ → Deepness
+IsTooDeep n s span = BeginsDeeper types n s span ⊎ BeginsDeeper expressions n s span
+
+-- The fault stands where there is room for so many levels.
+abbrev pub Stands : ℕ → Input → Fault → Type 0
+Stands n = StandsBy (IsTooDeep n)

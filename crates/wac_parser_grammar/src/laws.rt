@@ -1,6 +1,7 @@
 //! What holds of the definitions, for those who reason by them.
 
 ghost use Rattle.wac_parser_grammar.specs.Laws.{RulesAreExact, TreesAreBegun, DocumentsAreRead, AllFaultsStand, DocumentFaultsStand};
+ghost use Rattle.wac_parser_grammar.specs.Nesting.{DeepFaultsAreDeep};
 ghost use Rattle.wac_parser_grammar.specs.Paths.{ParsedPathsStand};
 
 /// Each rule reads a value exactly where the items spell it, with exactly those items.
@@ -28,6 +29,12 @@ pub fn faults_stand()
 /// A source that is not read as a document has a fault that stands in it.
 pub fn document_faults_stand()
     ensures { DocumentFaultsStand }
+{}
+
+/// A type or an expression that is refused as nested too deep begins as many levels deeper as there
+/// was room for.
+pub fn deep_faults_are_deep()
+    ensures { DeepFaultsAreDeep }
 {}
 
 /// A name or a path of a package that is read of a text is the text at its span.

@@ -11,6 +11,6 @@ pub use forms::{
     rules_take_what_fits,
 };
 pub use laws::{
-    document_faults_stand, documents_are_read, faults_stand, parsed_paths_stand, rules_are_exact,
-    trees_are_begun,
+    deep_faults_are_deep, document_faults_stand, documents_are_read, faults_stand,
+    parsed_paths_stand, rules_are_exact, trees_are_begun,
 };

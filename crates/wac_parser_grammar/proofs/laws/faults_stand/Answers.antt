@@ -1,18 +1,20 @@
 -- Each rule, by its own law.
+use Rattle.std.proofs.Common.{ℕ}
 use Rattle.wac_parser_grammar.specs.Rules.{Rule}
-use Rattle.wac_parser_grammar.specs.Laws.{FaultsStand}
+use Rattle.wac_parser_grammar.specs.Laws.{FaultsStandWithin}
+use Rattle.wac_parser_grammar.specs.Standing.{IsTooDeep}
 use Rattle.wac_parser_grammar.specs.Expressions.{expr}
 use Rattle.wac_parser_grammar.proofs.ExprLaws.{expr_exact, expr_takes}
-use Rattle.wac_parser_grammar.proofs.Faithful.{Faithful, Any}
+use Rattle.wac_parser_grammar.proofs.Faithful.{FaithfulBy, Any}
 use Rattle.wac_parser_grammar.proofs.NameFaults.{docs_faithful, ident_faithful, string_faithful, package_name_faithful, package_path_faithful}
 use Rattle.wac_parser_grammar.proofs.TypeFaults.{value_type_faithful, named_type_faithful, func_type_faithful, func_type_ref_faithful}
-use Rattle.wac_parser_grammar.proofs.ExprFaults.{argument_name_faithful, access_expr_faithful, named_access_expr_faithful, expression_faithful, instantiation_argument_faithful, named_argument_faithful, nested_expr_faithful, new_expr_faithful, primary_expr_faithful, expr_faithful}
+use Rattle.wac_parser_grammar.proofs.ExprFaults.{argument_name_faithful, access_expr_faithful, named_access_expr_faithful, expression_faithful, instantiation_argument_faithful, named_argument_faithful, expr_faithful, nested_within, new_within, primary_within}
 use Rattle.wac_parser_grammar.proofs.DeclFaults.{variant_case_faithful, variant_decl_faithful, field_faithful, record_decl_faithful, flag_faithful, flags_decl_faithful, enum_case_faithful, enum_decl_faithful, type_alias_kind_faithful, type_alias_faithful, constructor_faithful, method_faithful, resource_method_faithful, resource_decl_faithful, type_decl_faithful, item_type_decl_faithful}
 use Rattle.wac_parser_grammar.proofs.WorldFaults.{use_path_faithful, use_item_faithful, use_types_faithful, interface_export_faithful, interface_item_faithful, interface_decl_faithful, inline_interface_faithful, extern_type_faithful, named_world_item_faithful, world_item_path_faithful, world_import_faithful, world_export_faithful, world_ref_faithful, world_include_item_faithful, world_include_faithful, world_item_faithful, world_decl_faithful}
 use Rattle.wac_parser_grammar.proofs.DocumentFaults.{extern_name_faithful, import_type_faithful, import_statement_faithful, let_statement_faithful, export_options_faithful, export_statement_faithful, type_statement_faithful, statement_faithful, package_directive_faithful, document_faithful}
 use Rattle.wac_parser_grammar.proofs.laws.faults_stand.Goals as goal
 
-stand : {X : Type 0} (p : Rule X) → Faithful Any p → FaultsStand p
+stand : {X : Type 0} {n : ℕ} (p : Rule X) → FaithfulBy (IsTooDeep n) Any p → FaultsStandWithin n p
 stand p e = λ s f h. e.stands s f tt h
 
 pub returns : goal.returns
@@ -32,9 +34,9 @@ returns c = record {
   expression = stand _ expression_faithful;
   instantiation_argument = λ depth. stand _ (instantiation_argument_faithful (expr depth) (expr_exact depth) (expr_takes depth) (expr_faithful depth));
   named_argument = λ depth. stand _ (named_argument_faithful (expr depth) (expr_exact depth) (expr_takes depth) (expr_faithful depth));
-  nested_expr = λ depth. stand _ (nested_expr_faithful (expr depth) (expr_exact depth) (expr_takes depth) (expr_faithful depth));
-  new_expr = λ depth. stand _ (new_expr_faithful (expr depth) (expr_exact depth) (expr_takes depth) (expr_faithful depth));
-  primary_expr = λ depth. stand _ (primary_expr_faithful (expr depth) (expr_exact depth) (expr_takes depth) (expr_faithful depth));
+  nested_expr = λ depth. stand _ (nested_within depth);
+  new_expr = λ depth. stand _ (new_within depth);
+  primary_expr = λ depth. stand _ (primary_within depth);
   variant_case = stand _ variant_case_faithful;
   variant_decl = stand _ variant_decl_faithful;
   field = stand _ field_faithful;
