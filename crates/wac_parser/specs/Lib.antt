@@ -24,7 +24,10 @@ pub use Rattle.wac_parser_grammar.specs.Expressions
 pub use Rattle.wac_parser_grammar.specs.Declarations
 pub use Rattle.wac_parser_grammar.specs.Worlds
 pub use Rattle.wac_parser_grammar.specs.Documents
+pub use Rattle.wac_parser_grammar.specs.Nesting
 pub use Rattle.wac_parser_grammar.specs.Standing
+pub use Rattle.wac_parser_grammar.specs.Paths
+pub use Rattle.wac_parser_grammar.specs.PathsOfTrees
 pub use Rattle.wac_parser_grammar.specs.Laws
 pub use Rattle.wac_parser_grammar.specs.Forms
 pub use Rattle.wac_parser_grammar.specs.FormsOfDeclarations

@@ -43,13 +43,13 @@ pub mod resolution {
 /// What holds of all sources, documents and texts.
 pub mod laws {
     pub use wac_parser_grammar::{
-        document_faults_stand, documents_are_read, documents_are_their_forms, documents_have_forms,
-        faults_stand, forms_are_taken, rules_are_exact, rules_have_forms, rules_take_what_fits,
-        trees_are_begun,
+        deep_faults_are_deep, document_faults_stand, documents_are_read, documents_are_their_forms,
+        documents_have_forms, faults_stand, forms_are_taken, parsed_paths_stand, rules_are_exact,
+        rules_have_forms, rules_take_what_fits, trees_are_begun,
     };
     pub use wac_parser_print::examples as printed_examples;
     pub use wac_parser_resolve::{
-        documents_are_wired, examples as ascribed_examples, packages_are_known, packages_stay,
-        refusals_stand, stated_types_are_proper, wirings_are_ordered,
+        askers_have_places, documents_are_wired, examples as ascribed_examples, packages_are_known,
+        packages_stay, refusals_stand, stated_types_are_proper, wirings_are_ordered,
     };
 }
