@@ -1,22 +1,25 @@
 -- A report without entries, and a world that meets a target.
-use Rattle.std.proofs.Common.{◌≡◌, ℕ, Bool, true, false, List, [], ◌∷◌, ◌++◌, map, Option, Some, None, option_map, slice_get, refl, sym, ap, subst, ◌∙◌, inl, inr}
+use Rattle.std.proofs.Common.{◌≡◌, ℕ, Bool, true, false, List, [], ◌∷◌, ◌++◌, map, Option, Some, None, option_map, Result, Ok, Err, ⊤, slice_get, refl, sym, ap, subst, ◌∙◌, inl, inr}
 use Rattle.std.proofs.lemmas.Option.{none-some}
 use Rattle.wac_types_base.specs.declared.ids.WorldId.{WorldId}
 use Rattle.wac_types_base.specs.declared.item.ExternKind.{ExternKind}
 use Rattle.wac_types_base.specs.declared.item.ItemKind.{ItemKind}
 use Rattle.wac_types_base.specs.declared.defined.World.{World}
 use Rattle.wac_types_base.specs.Record.{Collection}
-use Rattle.wac_types_base.specs.Collection.{IsAcyclic, Stands, world_entry}
+use Rattle.wac_types_base.specs.Collection.{Grows, IsAcyclic, Stands, world_entry}
 use Rattle.wac_types_base.specs.Entries.{Name, names_of, value_at, with_values}
+use Rattle.wac_types_base.specs.Copying.{IsCopy}
 use Rattle.wac_types_base.specs.Graph.{Among}
 use Rattle.wac_types_base.specs.Resolving.{promoted}
-use Rattle.wac_types_base.specs.Stated.{Stated, exports_of, imports_of, promote, stated_of}
+use Rattle.wac_types_base.specs.Stated.{Stated, exports_of, imports_of, promote, stated_in, stated_of}
 use Rattle.wac_types_base.specs.Tree.{tree}
 use Rattle.wac_types_base.specs.Fits.{Fits}
 use Rattle.wac_types_base.proofs.Adding.{option_map-some}
 use Rattle.wac_types_base.proofs.Lists.{among_mapped}
+use Rattle.wac_types_base.proofs.Standing.{Found, world_found}
+use Rattle.wac_types_base.proofs.Stating.{stated_kept}
 use Rattle.wac_types_base.proofs.Telling.{promote_stated}
-use Rattle.wac_types_fit.specs.Targets.{AreFaults, AreLacking, AreThose, Differing, ExportDiffers, ImportDiffers, IsEmptyReport, IsLacking, IsReport, Leading, Mismatched, Report, target_import}
+use Rattle.wac_types_fit.specs.Targets.{AreFaults, AreLacking, AreThose, Differing, ExportDiffers, ImportDiffers, IsEmptyReport, IsLacking, IsReport, Leading, Mismatched, Report, Tells, target_import}
 use Rattle.wac_types_fit.specs.Trees.{Fit, tree_in}
 use Rattle.wac_types_fit.specs.TargetSteps.{AllStand, GivesStanding, KindStands}
 use Rattle.wac_types_fit.proofs.Items.{world_exports_inside, world_imports_inside}
@@ -211,3 +214,33 @@ module _ (c : Collection) (a : IsAcyclic c) (target world : WorldId) (x y : Worl
           missing_exports = none_are (IsLacking (value_at y.exports)) x.exports r.missing_exports is.missing_exports not_missing;
           mismatched_types = f.added ∙ ap (λ xs. xs ++ f.mismatched) first ∙ faults_none _ ExternKind.Export f.differing f.mismatched f.faults exports_none;
         }
+
+-- ---- the answer of the test
+
+module _ (c : Collection) (a : IsAcyclic c) (target world : WorldId) (target_stands : Stands c (ItemKind.Component target)) (world_stands : Stands c (ItemKind.Component world)) (answer : Result ⊤ Report)
+    (told : (x y : World) → slice_get c.worlds target.index ≡ Some x → slice_get c.worlds world.index ≡ Some y → (r : Report) × IsReport c x y r × Tells r answer) where
+  abbrev the_target : Found c.number c.worlds target.collection target.index
+  the_target = world_found c target target_stands
+
+  abbrev the_world : Found c.number c.worlds world.collection world.index
+  the_world = world_found c world world_stands
+
+  pub met_by : answer ≡ Ok tt → Meets (component_in c target) (component_in c world)
+  met_by e =
+      let t = told the_target.value the_world.value the_target.at the_world.at in
+      nothing_told c a target world the_target.value the_world.value target_stands world_stands the_target.at the_target.own the_world.at the_world.own t.0 t.1.0
+      (subst (Tells t.0) e t.1.1)
+
+  pub unmet_by : (e : Report) → answer ≡ Err e → Meets (component_in c target) (component_in c world) → ⊥
+  unmet_by e is met =
+      let t = told the_target.value the_world.value the_target.at the_world.at in
+      let refused : Tells t.0 (Err e) = subst (Tells t.0) is t.1.1 in
+      refused.1 (told_nothing c a target world the_target.value the_world.value target_stands world_stands the_target.at the_target.own the_world.at the_world.own t.0 t.1.0 met)
+
+-- ---- copies
+
+pub copy_states : (c d : Collection) (k j : WorldId) → IsCopy c d (ItemKind.Component k) (ItemKind.Component j) → component_in d j ≡ component_in c k
+copy_states c d k j h = ap stated_in h.same
+
+pub grown_states : (c d e : Collection) (k j : WorldId) → Grows d e → IsCopy c d (ItemKind.Component k) (ItemKind.Component j) → component_in e j ≡ component_in c k
+grown_states c d e k j g h = stated_kept d e g (ItemKind.Component j) h.stands ∙ copy_states c d k j h

@@ -125,6 +125,7 @@ fn test_target(
         (IsUnmet name.now (component_in types.now target) (component_in encoded.now.types encoded.now.world)) }
 {
     let pair = bring_together(alloc, types, target, encoded)?;
+    pair.types.see_acyclic();
     match validate_target(alloc, &pair.types, pair.target, pair.world) {
         Ok(Ok(())) => Ok(()),
         Ok(Err(report)) => Err(ComposeError::Target(report)),
