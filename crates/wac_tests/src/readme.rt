@@ -39,19 +39,39 @@ fn versions_on_a_track(rt: HostRuntime) -> Result<(), Fail> {
     Ok(())
 }
 
+// What owns a document is generic in its type: a proof then need not take the whole tree of types apart.
+
+/// Documents that are printed.
+trait PrintDocument {
+    /// The text that the document prints as, over its source.
+    fn printed(&self, alloc: Global, source: &str) -> Result<Vec<u8>, Fail>;
+}
+
 /// The text that a document prints as.
-fn printed<'s>(document: &Document<'s>, alloc: Global, source: &'s str) -> Result<Vec<u8>, Fail> {
+fn printed(document: &Document<'_>, alloc: Global, source: &str) -> Result<Vec<u8>, Fail> {
     let mut printer = DocumentPrinter::new(Vec::new(alloc), source, None);
     printer.document(&document)?; // what Document::parse(alloc, source) gave
     Ok(printer.into_writer())
 }
 
+impl<'s> PrintDocument for Document<'s> {
+    fn printed(&self, alloc: Global, source: &str) -> Result<Vec<u8>, Fail> {
+        printed(self, alloc, source)
+    }
+}
+
+/// The text that the document of a source prints as.
+fn formatted<'s, D: ParseDocument<'s> + PrintDocument>(
+    source: &'s str,
+    alloc: Global,
+) -> Result<Vec<u8>, Fail> {
+    let document = D::parse(alloc, source)?;
+    document.printed(alloc, source)
+}
+
 #[test]
 fn formatting(rt: HostRuntime) -> Result<(), Fail> {
-    let alloc = rt.alloc();
-    let source = "package a:b;  let x = y;";
-    let document: Document<'_> = ParseDocument::parse(alloc, source)?;
-    let text = printed(&document, alloc, source)?;
+    let text = formatted::<Document<'_>>("package a:b;  let x = y;", rt.alloc())?;
     assert_eq!(rt; std::str::from_utf8(&text)?, "package a:b;\n\nlet x = y;\n");
     Ok(())
 }
