@@ -1,12 +1,13 @@
 -- A report without entries, and a world that meets a target.
-use Rattle.std.proofs.Common.{◌≡◌, ℕ, Bool, true, false, List, [], ◌∷◌, ◌++◌, map, Option, Some, None, option_map, Result, Ok, Err, ⊤, slice_get, refl, sym, ap, subst, ◌∙◌, inl, inr}
+use Rattle.std.proofs.Common.{◌≡◌, Bool, true, false, List, [], ◌∷◌, ◌++◌, Option, Some, None, option_map, Result, Ok, Err, slice_get, refl, sym, ap, subst, ◌∙◌, inl, inr}
+use Rattle.std.specs.Prelude.{⊤}
 use Rattle.std.proofs.lemmas.Option.{none-some}
 use Rattle.wac_types_base.specs.declared.ids.WorldId.{WorldId}
 use Rattle.wac_types_base.specs.declared.item.ExternKind.{ExternKind}
 use Rattle.wac_types_base.specs.declared.item.ItemKind.{ItemKind}
 use Rattle.wac_types_base.specs.declared.defined.World.{World}
 use Rattle.wac_types_base.specs.Record.{Collection}
-use Rattle.wac_types_base.specs.Collection.{Grows, IsAcyclic, Stands, world_entry}
+use Rattle.wac_types_base.specs.Collection.{Grows, IsAcyclic, Stands}
 use Rattle.wac_types_base.specs.Entries.{Name, names_of, value_at, with_values}
 use Rattle.wac_types_base.specs.Copying.{IsCopy}
 use Rattle.wac_types_base.specs.Graph.{Among}
@@ -14,14 +15,13 @@ use Rattle.wac_types_base.specs.Resolving.{promoted}
 use Rattle.wac_types_base.specs.Stated.{Stated, exports_of, imports_of, promote, stated_in, stated_of}
 use Rattle.wac_types_base.specs.Tree.{tree}
 use Rattle.wac_types_base.specs.Fits.{Fits}
-use Rattle.wac_types_base.proofs.Adding.{option_map-some}
 use Rattle.wac_types_base.proofs.Lists.{among_mapped}
 use Rattle.wac_types_base.proofs.Standing.{Found, world_found}
 use Rattle.wac_types_base.proofs.Stating.{stated_kept}
 use Rattle.wac_types_base.proofs.Telling.{promote_stated}
-use Rattle.wac_types_fit.specs.Targets.{AreFaults, AreLacking, AreThose, Differing, ExportDiffers, ImportDiffers, IsEmptyReport, IsLacking, IsReport, Leading, Mismatched, Report, Tells, target_import}
+use Rattle.wac_types_fit.specs.Targets.{AreFaults, AreThose, Differing, ExportDiffers, ImportDiffers, IsEmptyReport, IsLacking, IsReport, Leading, Mismatched, Report, Tells, first_is, first_is_not, none_left, target_import}
 use Rattle.wac_types_fit.specs.Trees.{Fit, tree_in}
-use Rattle.wac_types_fit.specs.TargetSteps.{AllStand, GivesStanding, KindStands}
+use Rattle.wac_types_fit.specs.TargetSteps.{GivesStanding, KindStands}
 use Rattle.wac_types_fit.proofs.Items.{world_exports_inside, world_imports_inside}
 use Rattle.wac_types_fit.proofs.Reports.{implicit_stand, target_standing, world_children}
 use Rattle.wac_composition.specs.Tests.{fits}
@@ -36,12 +36,13 @@ use Rattle.wac_workspace.specs.Targets.{component_in, IsExported, IsGiven, Meets
 
 none_is : {X : Type 0} (P : X → Type 0) (xs : List X) → AreThose P xs [] → (x : X) → Among x xs → P x → ⊥
 none_is P [] none_left x m p = absurd m
-none_is P (y ∷ xs) (first_is_not not rest) x (inl e) p = not (subst P (sym e) p)
+none_is P (y ∷ xs) (first_is_not not rest) x (inl e) p = not (subst P e p)
 none_is P (y ∷ xs) (first_is_not not rest) x (inr m) p = none_is P xs rest x m p
 
 none_are : {X : Type 0} (P : X → Type 0) (xs ys : List X) → AreThose P xs ys → ((x : X) → Among x xs → P x → ⊥) → ys ≡ []
 none_are P [] [] none_left h = refl
-none_are P (x ∷ xs) (x ∷ ys) (first_is p rest) h = absurd (h x (inl refl) p)
+none_are {X = X} P [] (y ∷ ys) those h = elim those [ ]
+none_are P (x ∷ xs) (y ∷ ys) (first_is p rest) h = absurd (h x (inl refl) p)
 none_are P (x ∷ xs) ys (first_is_not not rest) h = none_are P xs ys rest (λ y m. h y (inr m))
 
 no_names : {X : Type 0} (es : List (Name × X)) → names_of es ≡ [] → es ≡ []
@@ -181,10 +182,10 @@ module _ (c : Collection) (a : IsAcyclic c) (target world : WorldId) (x y : Worl
     export_met e m = met.exports (e.0, stated_of c e.1) (subst (Among (e.0, stated_of c e.1)) (sym target_exports) (among_mapped (λ x. (x.0, stated_of c x.1)) x.exports e m))
 
     not_lacking : (e : Name × ItemKind) → Among e y.imports → IsLacking given e → ⊥
-    not_lacking e m no = let g = import_met e m in none-some g.0 (ap (option_map (stated_of c)) (sym no) ∙ sym (gives e.0) ∙ g.1)
+    not_lacking e m lacks = let g = import_met e m in none-some g.0 (ap (option_map (stated_of c)) (sym lacks) ∙ sym (gives e.0) ∙ g.1)
 
     not_missing : (e : Name × ItemKind) → Among e x.exports → IsLacking (value_at y.exports) e → ⊥
-    not_missing e m no = let g = export_met e m in none-some g.0 (ap (option_map (stated_of c)) (sym no) ∙ sym (exported e.0) ∙ g.1)
+    not_missing e m lacks = let g = export_met e m in none-some g.0 (ap (option_map (stated_of c)) (sym lacks) ∙ sym (exported e.0) ∙ g.1)
 
     import_fits : (e : Name × ItemKind) → Among e y.imports → ImportDiffers c given e → ⊥
     import_fits e m d =
@@ -228,14 +229,14 @@ module _ (c : Collection) (a : IsAcyclic c) (target world : WorldId) (target_sta
   pub met_by : answer ≡ Ok tt → Meets (component_in c target) (component_in c world)
   met_by e =
       let t = told the_target.value the_world.value the_target.at the_world.at in
-      nothing_told c a target world the_target.value the_world.value target_stands world_stands the_target.at the_target.own the_world.at the_world.own t.0 t.1.0
-      (subst (Tells t.0) e t.1.1)
+      nothing_told c a target world the_target.value the_world.value target_stands world_stands the_target.at the_target.own the_world.at the_world.own t.0 t.1
+      (subst (Tells t.0) e t.2)
 
   pub unmet_by : (e : Report) → answer ≡ Err e → Meets (component_in c target) (component_in c world) → ⊥
   unmet_by e is met =
       let t = told the_target.value the_world.value the_target.at the_world.at in
-      let refused : Tells t.0 (Err e) = subst (Tells t.0) is t.1.1 in
-      refused.1 (told_nothing c a target world the_target.value the_world.value target_stands world_stands the_target.at the_target.own the_world.at the_world.own t.0 t.1.0 met)
+      let refused : Tells t.0 (Err e) = subst (Tells t.0) is t.2 in
+      refused.1 (told_nothing c a target world the_target.value the_world.value target_stands world_stands the_target.at the_target.own the_world.at the_world.own t.0 t.1 met)
 
 -- ---- copies
 

@@ -1,5 +1,5 @@
 -- A document over the packages of a workspace: it has a graph, or a first cause.
-use Rattle.std.specs.Prelude.{List, [], ◌∷◌, Bool, true, Option, Ok, Err}
+use Rattle.std.specs.Prelude.{List, [], ◌∷◌, Bool, true, Option, Some, None, Ok, Err}
 use Rattle.wac_types_base.specs.declared.ids.WorldId.{WorldId}
 use Rattle.wac_types_base.specs.Record.{Collection}
 use Rattle.wac_types_base.specs.Stated.{Stated}

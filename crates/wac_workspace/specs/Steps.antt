@@ -33,11 +33,11 @@ pub record AreNext (next : ℕ) (n : Numbers) : Type 0 where
   pub room : next + 3 ≤ greatest
 
 -- both worlds stand in the collection, and state what they state in their own
-pub record IsPair (c d : Collection) (target world : WorldId) (p : Pair) : Type 0 where
+pub record IsPair (c d : Collection) (t w : WorldId) (p : Pair) : Type 0 where
   pub target : Stands p.types (ItemKind.Component p.target)
   pub world : Stands p.types (ItemKind.Component p.world)
-  pub target_same : component_in p.types p.target ≡ component_in c target
-  pub world_same : component_in p.types p.world ≡ component_in d world
+  pub target_same : component_in p.types p.target ≡ component_in c t
+  pub world_same : component_in p.types p.world ≡ component_in d w
 
 -- a component's world stands in its collection, which has this number
 pub record IsEncoded (last : ℕ) (e : Encoded) : Type 0 where
