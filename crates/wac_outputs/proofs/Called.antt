@@ -1,35 +1,28 @@
 -- Calls are steps, and so outputs are what is ascribed to them.
 use Rattle.std.specs.List.{AllZip}
-use Rattle.std.specs.Prelude.{◌≡◌, ℕ, Bool, true, false, List, [], ◌∷◌, ◌++◌, Option, Some, None, Result, Ok, Err, option_map, slice_get}
+use Rattle.std.specs.Prelude.{◌≡◌, ℕ, Bool, true, false, List, [], ◌∷◌, ◌++◌, Option, Some, None, Result, Ok, option_map, slice_get}
 use Rattle.std.proofs.Common.{refl, sym, ap, subst, ◌∙◌, inl, inr}
 use Rattle.std.proofs.lemmas.Option.{none-some, same_Some}
-use Rattle.std.proofs.lemmas.List.{append-nil}
-use Rattle.wac_types_base.specs.declared.ids.WorldId.{WorldId}
 use Rattle.wac_types_base.specs.declared.item.ItemKind.{ItemKind}
-use Rattle.wac_types_base.specs.Record.{Collection}
-use Rattle.wac_types_base.specs.Entries.{Name}
 use Rattle.wac_types_base.specs.Graph.{Among}
-use Rattle.wac_types_base.specs.Stated.{Stated, exports_of, instance_type, stated_of, uses_of}
-use Rattle.wac_types_base.specs.Tree.{Tree, instance, tree}
+use Rattle.wac_types_base.specs.Stated.{Stated, exports_of, uses_of}
+use Rattle.wac_types_base.specs.Tree.{instance}
 use Rattle.wac_types_base.proofs.Walking.{slice_get-Among}
 use Rattle.wac_types_base.proofs.Looked.{among-get}
 use Rattle.wac_types_names.specs.Keys.{Key}
 use Rattle.wac_graph_encode.specs.declared.options.EncodeOptions.{EncodeOptions}
 use Rattle.wac_graph_bytes.specs.Typing.{Worlds}
-use Rattle.wac_graph_bytes.specs.Wirings.{Instantiation, OfBytes, Same, Tag, Wiring}
-use Rattle.wac_nesting.specs.Given.{IsBound, IsBoundInstance, IsTrueWorld, World}
+use Rattle.wac_graph_bytes.specs.Wirings.{Instantiation, OfBytes, Same, Wiring}
+use Rattle.wac_nesting.specs.Given.{IsBound, IsTrueWorld, World}
 use Rattle.wac_nesting.specs.Steps as n
 use Rattle.wac_nesting.specs.Steps.{Add, AreSteps, AreTrue, Ascribed, Compose, Composes, IsHanded, IsKnown, IsLeaf, IsOfPackage, IsStep, MeansSame, Other, Package, Step, after, after_all}
 use Rattle.wac_composition.specs.Composition.{Composition, Made}
 use Rattle.wac_composition.specs.OuterLaws.{AreMet}
-use Rattle.wac_composition.specs.Sound.{IsMade, IsWired, fields_of, maps_of}
+use Rattle.wac_composition.specs.Sound.{IsMade, IsWired, maps_of}
 use Rattle.wac_composition.specs.Wired.{composed_wiring, instantiation}
 use Rattle.wac_composition.specs.Worlds.{composed_world}
 use Rattle.wac_composition.proofs.KeptFits.{made_tree}
 use Rattle.wac_parser_tree.specs.Trees.{Document}
-use Rattle.wac_parser_declare.specs.Packages.{Content}
-use Rattle.wac_parser_declare.specs.Scope.{package_under}
-use Rattle.wac_parser_resolve.specs.Ascribing as said
 use Rattle.wac_parser_resolve.specs.Ascribing.{State, worlds_of}
 use Rattle.wac_parser_resolve.specs.Ascribed.{Asker, composition, made_in}
 use Rattle.wac_parser_resolve.specs.Meeting.{resolved}
@@ -37,16 +30,16 @@ use Rattle.wac_parser_resolve.specs.Proper.{AreProper, Proper}
 use Rattle.wac_parser_resolve.proofs.Documents.{resolved_are_wired}
 use Rattle.wac_parser_resolve.proofs.ProperCollections.{collections_are_proper}
 use Rattle.wac_parser_resolve.proofs.Ordered.{known, numbered_at, stay}
-use Rattle.wac_parser_ascribed.specs.Tied.{ascribed_wiring, bytes_of, handed_tag}
+use Rattle.wac_parser_ascribed.specs.Tied.{bytes_of, handed_tag}
 use Rattle.wac_parser_encode.specs.Meaning.{AreTrueOf, IsWorldOf, MeansAscribed}
 use Rattle.wac_workspace.specs.declared.entries.Entry.{Entry}
 use Rattle.wac_workspace.specs.declared.output.Output.{Output}
 use Rattle.wac_workspace.specs.Packages.{AddsPackage, HasBytes, HasHanded, Held, IsEntryMade, PackageParts}
-use Rattle.wac_workspace.specs.Composing.{AreAscribedBytes, ComposesSource, IsDocument, IsMeantBy, IsOutput, MeansSource, output_parts}
-use Rattle.wac_workspace.specs.Resolving.{content, handed, IsComposition}
+use Rattle.wac_workspace.specs.Composing.{AreAscribedBytes, IsDocument, IsMeantBy, IsOutput, MeansSource, output_parts}
+use Rattle.wac_workspace.specs.Resolving.{handed, IsComposition}
 use Rattle.wac_nesting.proofs.Carry.{carries}
-use Rattle.wac_outputs.specs.Calls.{AreAsAscribed, AreCalls, none_yet, then_call, IsCall, hands_in, composes, keeps, IsEntryOf, Outputs_are_as_ascribed, ascribed_over, place_if, place_under, world_in}
-use Rattle.wac_outputs.proofs.Sources.{IsPlaced, more_provides, more_states, placed}
+use Rattle.wac_outputs.specs.Calls.{AreCalls, none_yet, then_call, IsCall, hands_in, composes, keeps, IsEntryOf, Outputs_are_as_ascribed, ascribed_over, place_if, place_under, world_in}
+use Rattle.wac_outputs.proofs.Sources.{more_provides, more_states, placed}
 use Rattle.wac_outputs.proofs.Zips.{zip_at, zip_back, zip_last}
 
 -- ---- one composed source

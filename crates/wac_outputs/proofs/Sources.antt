@@ -1,16 +1,14 @@
 -- Sources and bindings, where more is known of instances; and packages by their keys.
-use Rattle.std.specs.Prelude.{◌≡◌, ℕ, zero, suc, Bool, true, false, List, [], ◌∷◌, Option, Some, None, cond, slice_get}
-use Rattle.std.proofs.Common.{refl, sym, ap, subst, ◌∙◌}
+use Rattle.std.specs.Prelude.{◌≡◌, zero, suc, Bool, true, false, List, [], ◌∷◌, Option, Some, cond, slice_get}
+use Rattle.std.proofs.Common.{refl, ap, ◌∙◌}
 use Rattle.std.proofs.lemmas.Option.{none-some, same_Some}
 use Rattle.wac_types_base.specs.declared.item.ItemKind.{ItemKind}
 use Rattle.wac_types_base.specs.Entries.{Name}
 use Rattle.wac_types_base.specs.Stated.{Stated, stated_of}
 use Rattle.wac_types_base.specs.Tree.{Tree, Fields, instance}
-use Rattle.wac_types_base.specs.Fits.{HasField}
 use Rattle.wac_types_names.specs.Keys.{Key}
 use Rattle.wac_graph_bytes.specs.Wirings.{Source, Absent, Outer, Inst, Projection, Bundle, Definition}
 use Rattle.wac_nesting.specs.Given.{World, HasTree, Gives, Provides, States}
-use Rattle.wac_parser_declare.specs.Packages.{Content}
 use Rattle.wac_parser_declare.specs.Scope.{is_key, package_under}
 use Rattle.wac_parser_resolve.specs.Ascribing.{worlds_of}
 use Rattle.wac_workspace.specs.declared.entries.Entry.{Entry}
