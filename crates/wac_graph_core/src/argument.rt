@@ -60,7 +60,7 @@ fn another(number: u64) -> u64
     if number == 0 { 1 } else { 0 }
 }
 
-/// The same, of what a definition of the one is written as.
+/// Why the form in which a definition of one item is written does not fit another, if it does not.
 fn written_mismatch(
     alloc: Global,
     types: &Types,

@@ -349,7 +349,7 @@ impl ImportScope {
         }
     }
 
-    /// The same of one that has no alias yet.
+    /// The index of a used type that has no alias yet: a new alias of the import's export, which is of that type.
     fn alias_new(
         &mut self,
         alloc: Global,
@@ -386,7 +386,7 @@ impl ImportScope {
         }
     }
 
-    /// The same of the type that is taken.
+    /// Makes an alias of the type that a use takes, which then stands for it unless something does.
     fn alias_taken(
         &mut self,
         alloc: Global,
@@ -508,7 +508,7 @@ impl ImportScope {
         }
     }
 
-    /// The same of the type that is taken.
+    /// What a type is that a use of the world takes, where it is imported.
     fn describe_taken(
         &mut self,
         alloc: Global,
@@ -588,7 +588,7 @@ impl ImportScope {
         }
     }
 
-    /// The same of one that no use gives.
+    /// What an import is that no use gives and that needs no type written: a resource under its own name.
     fn describe_fresh(
         &mut self,
         alloc: Global,

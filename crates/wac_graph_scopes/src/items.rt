@@ -55,7 +55,7 @@ pub struct Around<'a> {
 }
 
 impl<'a> Around<'a> {
-    /// The same, one scope deeper.
+    /// What stands around, seen from one scope deeper.
     fn deeper(self) -> Result<Around<'a>, WriteError>
         ensures used { IfOk result (λ a. a.used.now ≡ self.entry.used.now) }
         ensures depth { IfOk result (λ a. a.depth ≡ self.entry.depth + 1) }

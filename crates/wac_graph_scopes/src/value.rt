@@ -116,7 +116,7 @@ pub(crate) fn push_value(
     push_resolved(alloc, scope, types, end)
 }
 
-/// The same of one that is no alias.
+/// The written form of a value type that is no alias.
 #[cycle(values)]
 fn push_resolved(
     alloc: Global,
@@ -325,7 +325,7 @@ pub(crate) fn note_value(
     }
 }
 
-/// The same of a defined type that is no alias.
+/// Remembers the index of a defined type that is no alias, unless one is remembered.
 fn note_defined(
     scope: &mut TypeScope,
     types: &Types,
@@ -385,7 +385,7 @@ fn define_plain(
     }
 }
 
-/// The same of a defined type that is no alias.
+/// The index of a defined type that is no alias: that of the entry that is known, else of one that is written.
 fn define_once(
     alloc: Global,
     scope: &mut TypeScope,
@@ -426,7 +426,7 @@ pub(crate) fn define_apart(
     define_plain(alloc, scope, types, end)
 }
 
-/// The same of a defined type that is no alias. It is known afterwards.
+/// The index of a type entry of its own that is a defined type, which is no alias. It is known afterwards.
 fn define_anew(
     alloc: Global,
     scope: &mut TypeScope,
@@ -446,7 +446,7 @@ fn define_anew(
     Ok(index)
 }
 
-/// The same of a defined type: written once.
+/// The index of a defined type, which is written where it is not known yet.
 #[cycle(values)]
 fn push_defined(
     alloc: Global,

@@ -98,7 +98,7 @@ pub(crate) fn fits(
     }
 }
 
-/// The same by what `a` and `b` are.
+/// Whether `a` fits `b`, by what both are.
 #[cycle(fits)]
 fn unfolded(
     alloc: Global,
@@ -149,7 +149,7 @@ fn unfolded(
     }
 }
 
-/// The same of two types, as items.
+/// Whether a type item fits another, by what both are.
 #[cycle(fits)]
 fn types_fit(
     alloc: Global,

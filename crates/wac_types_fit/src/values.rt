@@ -88,7 +88,7 @@ pub(crate) fn same_values(a: ValueType, at: &Types, b: ValueType, bt: &Types) ->
     same_resolved(at.resolve_value_type(a), at, bt.resolve_value_type(b), bt)
 }
 
-/// The same of two that are no aliases.
+/// Whether two value types that are no aliases have one tree.
 #[cycle(values)]
 fn same_resolved(a: ValueType, at: &Types, b: ValueType, bt: &Types) -> bool
     requires given { Stands at.now (ItemKind.Value a) }

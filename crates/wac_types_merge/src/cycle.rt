@@ -65,7 +65,7 @@ pub(crate) fn merge(
     }
 }
 
-/// The same of two types.
+/// The type item that is the meet of two.
 #[cycle(merging)]
 fn merge_types(alloc: Global, own: &mut Types, a: Type, b: Type) -> Result<ItemKind, SubtypeError>
     requires kept { Stands own.old (ItemKind.Ty a) }
@@ -88,7 +88,7 @@ fn merge_types(alloc: Global, own: &mut Types, a: Type, b: Type) -> Result<ItemK
     }
 }
 
-/// The same of two instances, as a new interface.
+/// The interface of an instance that is the meet of two instances: a new one.
 #[cycle(merging)]
 fn merge_instances(
     alloc: Global,
@@ -114,7 +114,7 @@ fn merge_instances(
     }
 }
 
-/// The same by copies of the two interfaces.
+/// The interface that is the meet of two, by copies of both.
 #[cycle(merging)]
 fn merge_copies(
     alloc: Global,

@@ -172,7 +172,7 @@ fn is_unplain_type(types: &Types, ty: Type) -> bool
     }
 }
 
-/// The same of an item.
+/// Whether an item is a component or module, an instance of an interface with more than exports, or of such a type.
 fn is_unplain(types: &Types, kind: ItemKind) -> bool
     requires { Stands types.now kind }
     ensures { IsTrue result ↔ IsUnplain types.now kind }
