@@ -13,7 +13,7 @@ not_below m n e = grind (arith, nat_tests)
 pub none_longer : (a : Token × ℕ) (kind : Token) (n : ℕ) → n ≡ 0 → longer a (kind, n) ≡ a
 none_longer a kind n e = ap (λ t. cond t (kind, n) a) (not_below a.1 n e)
 
-apart : (a b : ℕ) → a ≢ b → eqb a b ≡ false
+pub apart : (a b : ℕ) → a ≢ b → eqb a b ≡ false
 apart a b h = grind (arith, nat_tests)
 
 -- ---- what a text lacks

@@ -6,12 +6,10 @@ use Rattle.std.specs.List.{prefix_len, AllByRecursion}
 use Rattle.wac_parser_lexer.specs.Words.{is_lower, is_upper, is_digit, is_lower_word_byte, is_upper_word_byte, is_version_byte, Passes, IsRun, IsWord, Joined, one, more, Followed, IsLabel, IsIdent, IsNames, IsPath, IsVersion, IsPackageName, IsPackagePath}
 use Rattle.wac_parser_lexer.specs.Scan.{word_len, label_len, ident_len, idents_len, names_len, path_len, version_parts_len, version_len, package_name_len, package_path_len}
 use Rattle.wac_parser_lexer.specs.Longest.{IsLongest}
+use Rattle.wac_parser_lexer.proofs.FirstLaws.{apart}
 use Rattle.wac_parser_lexer.proofs.Joins.{joined_longest, tested, longest_fits}
 use Rattle.wac_parser_lexer.proofs.Suffixes.{followed_longest, suffixed_longest}
 use Rattle.wac_parser_lexer.proofs.BlockPieceLaws.{positive}
-
-ne-eqb : (a b : ℕ) → a ≢ b → eqb a b ≡ false
-ne-eqb a b h = grind (arith, nat_tests)
 
 module _ (p : ℕ → Bool) where
   abbrev pub Run : List ℕ → Type 0
@@ -139,7 +137,7 @@ at_percent : (z : List ℕ) → 0 < label_len z → ident_len (37 ∷ z) ≡ suc
 unfolding ident_len
 at_percent z h = rw (positive (label_len z) h) refl
 
-elsewhere : (b : ℕ) (z : List ℕ) → eqb b 37 ≡ false → ident_len (b ∷ z) ≡ label_len (b ∷ z)
+pub elsewhere : (b : ℕ) (z : List ℕ) → eqb b 37 ≡ false → ident_len (b ∷ z) ≡ label_len (b ∷ z)
 unfolding ident_len
 elsewhere b z e = rw e refl
 
@@ -173,7 +171,7 @@ ident_greatest : (w rest : List ℕ) → IsIdent w → length w ≤ ident_len (w
 unfolding ident_len
 ident_greatest [] rest (inl h) = absurd (let s = label_longest.some [] h in omega (arith, s))
 ident_greatest (c ∷ cs) rest (inl h) =
-    let other : eqb c 37 ≡ false = ne-eqb c 37 (label_lacks_percent (c ∷ cs) h zero (omega arith)) in
+    let other : eqb c 37 ≡ false = apart c 37 (label_lacks_percent (c ∷ cs) h zero (omega arith)) in
     rw other (label_longest.greatest (c ∷ cs) rest h)
 ident_greatest w rest (inr h) =
     let ge = label_longest.greatest h.0 rest h.1 in

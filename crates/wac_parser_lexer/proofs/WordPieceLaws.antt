@@ -7,7 +7,7 @@ use Rattle.wac_parser_lexer.specs.Words.{is_lower, is_upper, is_letter, one, IsL
 use Rattle.wac_parser_lexer.specs.Scan.{label_len, ident_len, idents_len, names_len, names_go_on, next_len}
 use Rattle.wac_parser_lexer.specs.Front.{longest_at, token_at}
 use Rattle.wac_parser_lexer.specs.Pieces.{is_blank, is_comment, is_unclosed, token_or_fault, front_piece}
-use Rattle.wac_parser_lexer.proofs.WordLaws.{label_longest}
+use Rattle.wac_parser_lexer.proofs.WordLaws.{elsewhere, label_longest}
 use Rattle.wac_parser_lexer.proofs.FrontLaws.{longest_parts}
 use Rattle.wac_parser_lexer.proofs.FirstLaws.{no_text, no_letter, ident_longest}
 use Rattle.wac_parser_lexer.proofs.KeywordLaws.{keyword, keyword_longest}
@@ -30,13 +30,9 @@ letter_label b true u e f h = one (inl (e, tt))
 letter_label b false true e f h = one (inr (f, tt))
 letter_label b false false e f h = cc
 
-ident_label : (b : ℕ) (z : List ℕ) → eqb b 37 ≡ false → ident_len (b ∷ z) ≡ label_len (b ∷ z)
-unfolding ident_len
-ident_label b z e = rw e refl
-
 pub letter_ident : (z : List ℕ) → 0 < length z → is_letter (get_or z 0 0) ≡ true → ident_len z ≡ label_len z
 letter_ident [] some h = absurd (omega arith)
-letter_ident (b ∷ z) some h = let a = above b h in ident_label b z (other b 37 (omega (arith, a)))
+letter_ident (b ∷ z) some h = let a = above b h in elsewhere b z (other b 37 (omega (arith, a)))
 
 label_some : (z : List ℕ) → 0 < length z → is_letter (get_or z 0 0) ≡ true → 0 < label_len z
 label_some [] some h = absurd (omega arith)

@@ -9,6 +9,6 @@ ghost use Rattle.wac_types_merge.specs.Lists.{Merges, none_yet};
 /// `aggregate` does what `aggregate_all` does.
 pub fn asks_merge_in_turn()
     ensures none { (number : ℕ) → Merges [] (none_yet number) }
-    ensures one_more { (asks : List Ask) (a : Ask) (g h : Imports) → AreSound g → AreSound h → Merges asks g → IsAsked g a h
-        → Merges (asks ++ a ∷ []) h }
+    ensures one_more { (asks : List Ask) (a : Ask) (g h : Imports) → AreSound g → AreSound h
+        → Merges asks g → IsAsked g a h → Merges (asks ++ a ∷ []) h }
 {}
