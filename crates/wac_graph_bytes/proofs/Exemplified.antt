@@ -1,5 +1,8 @@
--- The two byte strings mean these wirings, by computation.
-use Rattle.std.proofs.Common.{◌≡◌, ℕ, false, List, [], ◌∷◌, Option, Some, None, codes, refl, sym, ap, ◌∙◌, subst, inl}
+-- What the byte strings mean, by computation.
+use Rattle.std.proofs.Common.{◌≡◌, ℕ, true, false, true≢false, List, [], ◌∷◌, Option, Some, None, codes, refl, sym, ap, ◌∙◌, subst, inl}
+use Rattle.std.specs.List.{AllByRecursion}
+use Rattle.std.specs.Str.{chars, is_utf8}
+use lib.Utf8.{encode}
 use Rattle.wac_types_base.specs.Entries.{Name, names_of, AreDistinct}
 use Rattle.wac_graph_bytes.specs.declared.value.Sort.TheVariants as sort
 use Rattle.wac_graph_bytes.specs.declared.value.Description.TheVariants as desc
@@ -10,13 +13,14 @@ use Rattle.wac_graph_bytes.specs.Wirings.{Outer, Wiring}
 use Rattle.wac_graph_bytes.proofs.OneReading.{sections_is}
 use Rattle.wac_graph_bytes.specs.Typing.{Worlds, Item, Known, no_scope, with_one}
 use Rattle.wac_graph_bytes.specs.Meaning.{State, start, step, steps, Means}
+use Rattle.wac_graph_bytes.specs.Sizes.{section_fits}
 use Rattle.wac_graph_bytes.specs.Writing.{producers}
 use Rattle.wac_graph_bytes.specs.Typing.{declared, type_of}
 use Rattle.wac_types_base.specs.Graph.{whole}
 use Rattle.wac_types_base.specs.Collection.{rows, item_node, unfolding_of}
 use Rattle.wac_types_base.specs.Tree.{tree_of}
 use Rattle.wac_types_base.specs.declared.item.ItemKind.{ItemKind}
-use Rattle.wac_graph_bytes.specs.Examples.{passed_bytes, plain_func, passed_wiring, twice_bytes, empty_bytes, empty_wiring, interface_declarations, interface_collection, interface_id}
+use Rattle.wac_graph_bytes.specs.Examples.{passed_bytes, plain_func, passed_wiring, twice_bytes, unspeakable_bytes, empty_bytes, empty_wiring, interface_declarations, interface_collection, interface_id}
 
 passed_sections : List Section
 passed_sections = Types (PlainType (FuncEntry false [] None) ∷ []) ∷ Imports ((codes "f", desc.Func 0) ∷ []) ∷ Exports (record { name = codes "g"; sort = sort.Func; index = 0; stated = None } ∷ []) ∷ []
@@ -37,7 +41,7 @@ unfolding passed_sections passed_state step steps
 passed_read w = refl
 
 pub passed_means : (w : Worlds) → Means w passed_bytes passed_wiring
-unfolding passed_sections passed_state digits digits_by
+unfolding passed_sections passed_state digits digits_by is_utf8 chars encode
 passed_means w = record {
   sections = passed_sections;
   spelled = passed_spelled;
@@ -78,12 +82,30 @@ twice_means_nothing w v m =
     let d = subst (λ (ns : List Name). AreDistinct ns) e m.exports in
     d.0 (inl refl)
 
+-- a name that is no UTF-8
+
+unspeakable_sections : List Section
+unspeakable_sections = Types (PlainType (FuncEntry false [] None) ∷ []) ∷ Imports ((255 ∷ [], desc.Func 0) ∷ []) ∷ []
+
+unspeakable_spelled : unspeakable_bytes ≡ component_bytes unspeakable_sections
+unfolding unspeakable_sections digits digits_by section_bytes component_bytes
+unspeakable_spelled = refl
+
+unspeakable_unfit : AllByRecursion (λ s. section_fits s ≡ true) unspeakable_sections → ⊥
+unfolding unspeakable_sections is_utf8 chars
+unspeakable_unfit fits = true≢false (sym fits.1.0)
+
+pub unspeakable_means_nothing : (w : Worlds) (v : Wiring ℕ) → Means w unspeakable_bytes v → ⊥
+unspeakable_means_nothing w v m =
+    let same = sections_is m.sections unspeakable_sections (sym m.spelled ∙ unspeakable_spelled) in
+    unspeakable_unfit (subst (AllByRecursion (λ s. section_fits s ≡ true)) same m.fits)
+
 empty_spelled : empty_bytes ≡ component_bytes (producers (codes "wac-parser", codes "0.11.0") ∷ [])
 unfolding digits digits_by section_bytes component_bytes
 empty_spelled = refl
 
 pub empty_means : (w : Worlds) → Means w empty_bytes empty_wiring
-unfolding steps digits digits_by
+unfolding steps digits digits_by is_utf8 chars encode
 empty_means w = record {
   sections = producers (codes "wac-parser", codes "0.11.0") ∷ [];
   spelled = empty_spelled;

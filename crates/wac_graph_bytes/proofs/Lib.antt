@@ -15,3 +15,4 @@ pub mod Distinct
 pub mod Exemplified
 pub mod Rowed
 pub mod Looked
+pub mod Texts

@@ -1,6 +1,6 @@
 -- What a written component means: the sections of entries have these entries, and fit.
 use Rattle.std.proofs.Common.{◌≡◌, ℕ, Bool, true, false, List, [], ◌∷◌, ◌++◌, length, map, Option, Some, None, refl, ap, ◌∙◌}
-use Rattle.std.proofs.lemmas.Bool.{and_parts}
+use Rattle.std.proofs.lemmas.Bool.{and_from, and_parts}
 use Rattle.std.specs.Prelude.{◌&&◌}
 use Rattle.std.specs.List.{AllByRecursion, list_all}
 use Rattle.wac_types_base.specs.Entries.{Name, names_of, AreDistinct}
@@ -11,6 +11,7 @@ use Rattle.wac_graph_bytes.specs.Sizes.{section_fits, name_fits, small}
 use Rattle.wac_graph_bytes.specs.Typing.{Worlds, item_tree}
 use Rattle.wac_graph_bytes.specs.Meaning.{State, start, steps, wiring_of, IsApart, IsMade, Means}
 use Rattle.wac_graph_bytes.specs.Writing.{section_of, entry_fits, debug_part_fits, debug_names, debug_if, debug_if_fits, producers, producers_if, producers_if_fit, sections_for, sections_fit}
+use Rattle.wac_graph_bytes.proofs.Texts.{producers_fits, component_name_fits}
 
 -- the two tests of a conjunction
 entry_alone : (e : Entry) → section_entries (section_of e) ≡ e ∷ []
@@ -38,11 +39,15 @@ Fit s = section_fits s ≡ true
 
 producers_small : (p : Option (Name × Name)) → producers_if_fit p ≡ true → AllByRecursion Fit (producers_if p)
 producers_small None h = tt
-producers_small (Some p) h = ((and_parts (name_fits p.0 && name_fits p.1) (small (length (contents (producers p)))) h).1, tt)
+producers_small (Some p) h =
+    (and_from _ _ producers_fits (and_parts (name_fits p.0 && name_fits p.1) (small (length (contents (producers p)))) h).1, tt)
 
 custom_small : (p : Option (Name × Name)) (ns : List (Sort × List (ℕ × Name))) → debug_if_fits ns ≡ true → producers_if_fit p ≡ true → AllByRecursion Fit (debug_if ns ++ producers_if p)
 custom_small p [] g h = producers_small p h
-custom_small p (n ∷ ns) g h = ((and_parts (list_all debug_part_fits (n ∷ ns)) (small (length (contents (debug_names (n ∷ ns))))) g).1, producers_small p h)
+custom_small p (n ∷ ns) g h = (
+  and_from _ _ component_name_fits (and_parts (list_all debug_part_fits (n ∷ ns)) (small (length (contents (debug_names (n ∷ ns))))) g).1,
+  producers_small p h,
+)
 
 entries_small : (es : List Entry) (rest : List Section) → list_all entry_fits es ≡ true → AllByRecursion Fit rest → AllByRecursion Fit (map section_of es ++ rest)
 entries_small [] rest h k = k

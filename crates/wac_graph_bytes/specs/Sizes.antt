@@ -1,6 +1,7 @@
--- Which entries can be written: each count, length and size in them is a number of 32 bits.
+-- Which entries can be written: each count, length and size in them is a number of 32 bits, and each name is UTF-8.
 use Rattle.std.specs.Prelude.{ℕ, ◌^◌, Bool, true, List, length, nat_lt, ◌&&◌, ◌||◌, Option, Some, None}
 use Rattle.std.specs.List.{list_all}
+use Rattle.std.specs.Str.{is_utf8}
 use Rattle.wac_graph_bytes.specs.declared.module.Limits.{Limits}
 use Rattle.wac_graph_bytes.specs.declared.module.CoreDescription.{CoreDescription}
 use Rattle.wac_graph_bytes.specs.declared.module.CoreDescription.TheVariants as core
@@ -13,7 +14,7 @@ abbrev pub small : ℕ → Bool
 small n = nat_lt n (2 ^ 32)
 
 abbrev pub name_fits : Name → Bool
-name_fits n = small (length n)
+name_fits n = small (length n) && is_utf8 n
 
 -- a count, and things that fit
 abbrev pub vec_fits : {X : Type 0} → (X → Bool) → List X → Bool

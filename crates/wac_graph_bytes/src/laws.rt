@@ -5,7 +5,7 @@ ghost use Rattle.wac_graph_bytes.specs.Spelling.{component_bytes};
 ghost use Rattle.wac_graph_bytes.specs.Wirings.{Wiring, Instantiation, OfBytes, Same, IsClosed, IsOrdered, IsWritten};
 ghost use Rattle.wac_graph_bytes.specs.Typing.{Worlds, no_scope, type_of};
 ghost use Rattle.wac_graph_bytes.specs.Meaning.{Means};
-ghost use Rattle.wac_graph_bytes.specs.Examples.{passed_bytes, passed_wiring, twice_bytes, empty_bytes, empty_wiring, interface_declarations, interface_collection, interface_id};
+ghost use Rattle.wac_graph_bytes.specs.Examples.{passed_bytes, passed_wiring, twice_bytes, unspeakable_bytes, empty_bytes, empty_wiring, interface_declarations, interface_collection, interface_id};
 ghost use Rattle.wac_types_base.specs.Tree.{tree_of};
 ghost use Rattle.wac_types_base.specs.declared.item.ItemKind.{ItemKind};
 
@@ -41,11 +41,12 @@ pub fn nested_is_shorter()
         → length nested < length bytes }
 {}
 
-/// Two byte strings from outside mean what they should; one that exports a name twice means nothing; an instance type has the
-/// tree of the same interface in a collection.
+/// Two byte strings from outside mean what they should; one that exports a name twice, and one with a name that is no UTF-8,
+/// mean nothing; an instance type has the tree of the same interface in a collection.
 pub fn examples()
     ensures passed { (worlds : Worlds) → Means worlds passed_bytes passed_wiring }
     ensures twice { (worlds : Worlds) (v : Wiring ℕ) → Means worlds twice_bytes v → ⊥ }
+    ensures unspeakable { (worlds : Worlds) (v : Wiring ℕ) → Means worlds unspeakable_bytes v → ⊥ }
     ensures empty { (worlds : Worlds) → Means worlds empty_bytes empty_wiring }
     ensures interface { (worlds : Worlds)
         → type_of worlds no_scope (InstanceType interface_declarations)
