@@ -3,6 +3,8 @@
 ghost use Rattle.std.specs.Prelude.{◌≡◌, IfOk, Some, option_map, option_copied};
 ghost use Rattle.semver.specs.Identifiers.{parts_of};
 ghost use Rattle.wac_types_base.specs.Collection.{Stands, HasChildren, IsAcyclic, interface_entry};
+ghost use Rattle.wac_types_base.specs.Entries.{with_values};
+ghost use Rattle.wac_types_base.specs.Renaming.{kind_under};
 ghost use Rattle.wac_types_names.specs.Packages.{IsInterfaceOf};
 
 use semver::Version;
@@ -77,6 +79,22 @@ pub(crate) fn interface_of(
         uses: copy_uses(alloc, &world.uses)?,
         exports: copy_exports(alloc, &world.exports)?,
     })
+}
+
+/// The same items, each id in them with this number.
+pub(crate) fn items_under(
+    alloc: Global,
+    items: &NamedMap<ItemKind>,
+    number: u64,
+) -> Result<NamedMap<ItemKind>, AllocError>
+    ensures { IfOk result (λ m. m ≡ with_values (kind_under number) items.now) }
+{
+    let mut copy = NamedMap::new(alloc);
+    for at in 0..items.len() {
+        let (name, kind) = items.entry(at);
+        copy.push(String::from_str(alloc, name)?, kind.under(number))?;
+    }
+    Ok(copy)
 }
 
 /// The same version again, if there is one.

@@ -4,9 +4,10 @@ ghost use Rattle.std.specs.Prelude.{◌≡◌, ◌↔◌, IsTrue, IfOk, OnErr, S
 ghost use Rattle.semver.specs.Identifiers.{parts_of};
 ghost use Rattle.wac_types_base.specs.Collection.{Stands, Grows};
 ghost use Rattle.wac_types_names.specs.Keys.{Key, owned_key, borrowed_key, package_key};
+ghost use Rattle.wac_types_names.specs.Packaged.{packaged_under};
 ghost use Rattle.wac_types_names.specs.Packages.{DefinitionsOf, AddsInterfaceOf};
 
-use crate::copies::{copy_version, interface_of};
+use crate::copies::{copy_version, interface_of, items_under};
 use crate::definitions::definitions_of;
 use semver::Version;
 use std::alloc::{AllocError, Global};
@@ -83,6 +84,22 @@ impl Package {
             ty: world,
             instance_type,
             definitions,
+        })
+    }
+
+    /// The same package of a collection that is copied under another number: each id has that number.
+    pub fn copy_as(&self, alloc: Global, number: u64) -> Result<Package, AllocError>
+        ensures { IfOk result (λ p. p ≡ packaged_under number self.now) }
+    {
+        let mut bytes = Vec::new(alloc);
+        bytes.extend_from_slice(self.bytes.as_slice())?;
+        Ok(Package {
+            name: self.name.clone()?,
+            version: copy_version(self.version.as_ref())?,
+            bytes,
+            ty: self.ty.under(number),
+            instance_type: self.instance_type.under(number),
+            definitions: items_under(alloc, &self.definitions, number)?,
         })
     }
 
