@@ -30,3 +30,4 @@ mod TypeSets
 mod Noting
 mod Importing
 pub mod Passed
+pub mod Copied

@@ -62,7 +62,7 @@ find_slot first (Some v ∷ rest) (suc at) =
     ∙ ap (λ q. find nat_cmp q (entries_from (first + 1) rest)) shift ∙ find_slot (first + 1) rest at
 
 -- what is found under an index is what is in its slot
-get-slots : (slots : List (Option NodeData)) (k : ℕ) → map.get (nodes_in slots) k ≡ get_or slots k None
+pub get-slots : (slots : List (Option NodeData)) (k : ℕ) → map.get (nodes_in slots) k ≡ get_or slots k None
 get-slots slots k =
     let start : k ≡ 0 + k = omega arith in
     map.get-from_entries nat_cmp_total (entries_from 0 slots) k ∙ ap (λ q. find nat_cmp q (entries_from 0 slots)) start ∙ find_slot 0 slots k
@@ -87,8 +87,17 @@ pushed_other slots o q ne = elim (cases_lt q (length slots)) [
 ]
 
 -- a node is put behind all others
-nodes_pushed : (slots : List (Option NodeData)) (x : NodeData) → nodes_in (slots ++ Some x ∷ []) ≡ map.insert (nodes_in slots) (length slots) x
+pub nodes_pushed : (slots : List (Option NodeData)) (x : NodeData) → nodes_in (slots ++ Some x ∷ []) ≡ map.insert (nodes_in slots) (length slots) x
 nodes_pushed slots x = slots_insert slots (slots ++ Some x ∷ []) (length slots) x (get_or_push slots (Some x) None (length slots) refl) (pushed_other slots (Some x))
+
+-- an empty slot behind all others changes nothing
+entries_skipped : (first : ℕ) (slots : List (Option NodeData)) → entries_from first (slots ++ None ∷ []) ≡ entries_from first slots
+entries_skipped first [] = refl
+entries_skipped first (None ∷ slots) = entries_skipped (first + 1) slots
+entries_skipped first (Some x ∷ slots) = ap (λ es. (first, x) ∷ es) (entries_skipped (first + 1) slots)
+
+pub nodes_skipped : (slots : List (Option NodeData)) → nodes_in (slots ++ None ∷ []) ≡ nodes_in slots
+nodes_skipped slots = ap map.from_entries (entries_skipped 0 slots)
 
 -- a node is written in its place
 nodes_written : (slots : List (Option NodeData)) (k : ℕ) (x : NodeData) → k < length slots → nodes_in (set slots k (Some x)) ≡ map.insert (nodes_in slots) k x

@@ -9,6 +9,7 @@ pub mod View
 pub mod Steps
 pub mod Refusals
 pub mod Types
+pub mod Copying
 pub mod Exporting
 pub mod Removing
 pub mod Packages

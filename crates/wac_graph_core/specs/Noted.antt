@@ -1,5 +1,5 @@
 -- What is known of nodes by one look.
-use Rattle.std.specs.Prelude.{◌≡◌, ◌⊎◌, ℕ, List, Option, Some, None, true}
+use Rattle.std.specs.Prelude.{◌≡◌, ◌⊎◌, ℕ, List, [], ◌∷◌, ◌++◌, length, Option, Some, None, true}
 use Rattle.std.specs.FinMap as map
 use Rattle.wac_types_base.specs.declared.ids.DefinedTypeId.{DefinedTypeId}
 use Rattle.wac_types_base.specs.declared.item.ItemKind.{ItemKind}
@@ -9,6 +9,7 @@ use Rattle.wac_types_base.specs.Visiting.{defined_in}
 use Rattle.wac_graph_core.specs.declared.noted.Noted.{Noted}
 use Rattle.wac_graph_core.specs.Nodes.{NodeData, Role}
 use Rattle.wac_graph_core.specs.NodeMaps.{NodeMap, IsImport, IsDefinition}
+use Rattle.wac_graph_core.specs.Slots.{nodes_in}
 use Rattle.wac_graph_core.specs.Edges.{has}
 use Rattle.wac_graph_core.specs.TypeMaps.{node_of}
 
@@ -50,6 +51,11 @@ IsNodeNoted old x id new = (nodes : NodeMap) → HasNotes old nodes → HasNotes
 abbrev pub IsNodeForgotten : Option Noted → NodeData → Option Noted → Type 0
 IsNodeForgotten old x new =
     (nodes : NodeMap) (k : ℕ) → map.get nodes k ≡ Some x → HasNotes old nodes → HasNotes new (map.remove nodes k)
+
+-- what is known of the nodes in slots is known of them with what stands in the slot behind them
+abbrev pub IsSlotNoted : Option Noted → Option NodeData → ℕ → Option Noted → Type 0
+IsSlotNoted old x id new = (slots : List (Option NodeData)) → length slots ≡ id → HasNotes old (nodes_in slots)
+    → HasNotes new (nodes_in (slots ++ x ∷ []))
 
 -- this is the definition of the type, if it has one
 abbrev pub TellsDefinition : NodeMap → TypeKind → Option ℕ → Type 0

@@ -30,6 +30,32 @@ pub struct Edge {
     pub label: Label,
 }
 
+impl Label {
+    /// The same label again.
+    fn copy(&self) -> Result<Label, AllocError>
+        ensures { IfOk result (λ label. label ≡ self.now) }
+    {
+        match self {
+            Label::Alias(name) => Ok(Label::Alias(name.copy()?)),
+            Label::Argument(name) => Ok(Label::Argument(name.copy()?)),
+            Label::Dependency => Ok(Label::Dependency),
+        }
+    }
+}
+
+impl Edge {
+    /// The same edge again.
+    pub(crate) fn copy(&self) -> Result<Edge, AllocError>
+        ensures { IfOk result (λ edge. edge ≡ self.now) }
+    {
+        Ok(Edge {
+            from: self.from,
+            to: self.to,
+            label: self.label.copy()?,
+        })
+    }
+}
+
 /// Which edges are followed.
 #[derive(Clone, Copy)]
 pub enum Follow {

@@ -1,6 +1,6 @@
 //! Lists of edges that know where the edges of each node stand.
 
-ghost use Rattle.std.specs.Prelude.{◌≡◌, ◌∷◌, ◌++◌, [], ◌<◌, ◌≤◌, ◌+◌, List, OnOk, length, filter, not, vec_len, vec_capacity};
+ghost use Rattle.std.specs.Prelude.{◌≡◌, ◌∷◌, ◌++◌, [], ◌<◌, ◌≤◌, ◌+◌, List, IfOk, OnOk, length, filter, not, vec_len, vec_capacity};
 ghost use Rattle.wac_graph_core.specs.declared.edge.Edge.{Edge};
 ghost use Rattle.wac_graph_core.specs.Walking.{is_passed, is_apart};
 ghost use Rattle.wac_graph_core.specs.Spans.{LeadsAs};
@@ -55,6 +55,19 @@ fn noted(ends: Option<Ends>, from: usize, to: usize, count: usize) -> Option<End
     Some(ends)
 }
 
+/// These edges again.
+fn copies_of(alloc: Global, edges: &[Edge]) -> Result<Edges, AllocError>
+    ensures { IfOk result (λ copies. copies.items ≡ edges.now) }
+{
+    let mut copies = Edges::new(alloc);
+    for edge in edges {
+        let copy = edge.copy()?;
+        copies.reserve(1)?;
+        copies.push_reserved(copy);
+    }
+    Ok(copies)
+}
+
 impl Edges {
     /// No edges.
     pub(crate) fn new(alloc: Global) -> Self
@@ -74,6 +87,13 @@ impl Edges {
         ensures value { result.now ≡ self.now.items }
     {
         self.list.as_slice()
+    }
+
+    /// The same edges again.
+    pub(crate) fn copy(&self, alloc: Global) -> Result<Edges, AllocError>
+        ensures { IfOk result (λ copies. copies.items ≡ self.now.items) }
+    {
+        copies_of(alloc, self.list.as_slice())
     }
 
     /// Makes room for so many edges.

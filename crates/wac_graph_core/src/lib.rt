@@ -3,6 +3,7 @@
 
 mod alias;
 mod argument;
+mod copying;
 mod definition;
 mod edge;
 mod edges;

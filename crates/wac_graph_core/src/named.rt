@@ -1,6 +1,6 @@
 //! Lists of nodes under names that know which names are not there.
 
-ghost use Rattle.std.specs.Prelude.{◌≡◌, ◌∷◌, ◌++◌, [], ◌<◌, ◌≤◌, ◌+◌, ℕ, List, None, Some, true, OnOk, filter, not, vec_len, vec_capacity, slice_index_or};
+ghost use Rattle.std.specs.Prelude.{◌≡◌, ◌∷◌, ◌++◌, [], ◌<◌, ◌≤◌, ◌+◌, ℕ, List, None, Some, true, IfOk, OnOk, filter, not, vec_len, vec_capacity, slice_index_or};
 ghost use Rattle.std.specs.List.{swap_remove};
 ghost use Rattle.wac_types_base.specs.Entries.{Name, value_at};
 ghost use Rattle.wac_graph_core.specs.Edges.{has};
@@ -56,6 +56,19 @@ fn with_name(names: Option<Names>, name: &Text) -> Option<Names>
     }
 }
 
+/// These nodes under their names again.
+fn copies_of(alloc: Global, named: &[(Text, NodeId)]) -> Result<NamedNodes, AllocError>
+    ensures { IfOk result (λ copies. copies.items ≡ named.now) }
+{
+    let mut copies = NamedNodes::new(alloc);
+    for one in named {
+        let name = one.0.copy()?;
+        copies.reserve(1)?;
+        copies.push_reserved((name, one.1));
+    }
+    Ok(copies)
+}
+
 impl NamedNodes {
     /// No nodes.
     pub(crate) fn new(alloc: Global) -> Self
@@ -72,6 +85,13 @@ impl NamedNodes {
         ensures value { result.now ≡ self.now.items }
     {
         self.list.as_slice()
+    }
+
+    /// The same nodes under their names again.
+    pub(crate) fn copy(&self, alloc: Global) -> Result<NamedNodes, AllocError>
+        ensures { IfOk result (λ copies. copies.items ≡ self.now.items) }
+    {
+        copies_of(alloc, self.list.as_slice())
     }
 
     /// Whether it is known that nothing has this name.

@@ -1,10 +1,12 @@
 //! The nodes of a graph.
 
-ghost use Rattle.std.specs.Prelude.{◌≡◌, ◌↔◌, IsTrue, Some, None};
+ghost use Rattle.std.specs.Prelude.{◌≡◌, ◌↔◌, IfOk, IsTrue, Some, None};
 ghost use Rattle.std.specs.Option.{option_copied};
+ghost use Rattle.wac_graph_core.specs.Copying.{node_under};
 ghost use Rattle.wac_graph_core.specs.Nodes.{Role, role_of, imported_as, plain_node, defined_node};
 
 use crate::ids::PackageId;
+use std::alloc::AllocError;
 use std::marker::Model;
 use wac_types_base::{ItemKind, Text, Type};
 
@@ -19,6 +21,30 @@ pub enum NodeKind {
     Instantiation,
     /// An export of an instance.
     Alias,
+}
+
+/// The same text again, if there is one.
+fn copy_text(text: &Option<Text>) -> Result<Option<Text>, AllocError>
+    ensures { IfOk result (λ t. t ≡ text.now) }
+{
+    match text {
+        Some(text) => Ok(Some(text.copy()?)),
+        None => Ok(None),
+    }
+}
+
+impl NodeKind {
+    /// The same kind again.
+    fn copy(&self) -> Result<NodeKind, AllocError>
+        ensures { IfOk result (λ kind. role_of kind ≡ role_of self.now) }
+    {
+        match self {
+            NodeKind::Definition => Ok(NodeKind::Definition),
+            NodeKind::Import(name) => Ok(NodeKind::Import(name.clone()?)),
+            NodeKind::Instantiation => Ok(NodeKind::Instantiation),
+            NodeKind::Alias => Ok(NodeKind::Alias),
+        }
+    }
 }
 
 /// A node of a graph: what it is, the kind of its item, and its names.
@@ -66,6 +92,19 @@ impl Node {
             name: None,
             export: Some(export),
         }
+    }
+
+    /// The same node again, of a collection with this number.
+    pub(crate) fn copy_under(&self, number: u64) -> Result<Node, AllocError>
+        ensures { IfOk result (λ copy. copy ≡ node_under number self.now) }
+    {
+        Ok(Node {
+            kind: self.kind.copy()?,
+            of: self.of,
+            item_kind: self.item_kind.under(number),
+            name: copy_text(&self.name)?,
+            export: copy_text(&self.export)?,
+        })
     }
 
     /// What it is.

@@ -1,17 +1,19 @@
 //! The nodes under their indexes, seen as a finite map.
 
-ghost use Rattle.std.specs.Prelude.{◌≡◌, ◌≢◌, None, Some, IfOk, OnOk, OnErr, IfSome, IfNone, IsTrue, ◌↔◌, IsSome, true, not};
+ghost use Rattle.std.specs.Prelude.{◌≡◌, ◌≢◌, None, Some, IfOk, OnOk, OnErr, IfSome, IfNone, IsTrue, ◌↔◌, IsSome, true, not, map as mapped, option_map};
 ghost use Rattle.std.specs.Option.{option_copied};
 ghost use Rattle.std.specs.Ordering.{nat_cmp};
 ghost use Rattle.std.specs.FinMap as map;
 ghost use Rattle.std.specs.Bool.{Decides};
 ghost use Rattle.wac_types_base.specs.Collection.{Stands};
+ghost use Rattle.wac_graph_core.specs.Copying.{AreUnder, node_under};
 ghost use Rattle.wac_graph_core.specs.Edges.{has};
 ghost use Rattle.wac_graph_core.specs.Nodes.{NodeData, Role};
 ghost use Rattle.wac_graph_core.specs.NodeMaps.{AreBelow, SetsName, SetsExport, IsImport, NoImport, IsDefinition, NoDefinition, AreThose, AreInstances, AddsIf};
 ghost use Rattle.wac_graph_core.specs.Defining.{IsUsedBy, IsUserOf, ItemsStand, DefinesMarked, DefinesReaching};
-ghost use Rattle.wac_graph_core.specs.Noted.{KnowsTypes, TellsDefinition, AddsDefinition};
+ghost use Rattle.wac_graph_core.specs.Noted.{HasNotes, IsSlotNoted, KnowsTypes, TellsDefinition, AddsDefinition};
 ghost use Rattle.wac_graph_core.specs.Reaching.{IsWithout};
+ghost use Rattle.wac_graph_core.specs.Slots.{nodes_in};
 
 use crate::ids::{NodeId, PackageId};
 use crate::node::Node;
@@ -53,6 +55,52 @@ impl Model for Nodes {
     ghost invariant = { AreNoted };
 }
 
+/// What stands in a slot again, of a collection with this number.
+fn slot_under(slot: &Option<Node>, number: u64) -> Result<Option<Node>, AllocError>
+    ensures { IfOk result (λ o. o ≡ option_map (node_under number) slot.now) }
+{
+    match slot {
+        Some(node) => Ok(Some(node.copy_under(number)?)),
+        None => Ok(None),
+    }
+}
+
+/// These slots again, of a collection with this number.
+fn slots_under(
+    alloc: Global,
+    slots: &[Option<Node>],
+    number: u64,
+) -> Result<Vec<Option<Node>>, AllocError>
+    ensures { IfOk result (λ v. v.items ≡ mapped (option_map (node_under number)) slots.now) }
+{
+    let mut copies = Vec::new(alloc);
+    for slot in slots {
+        copies.push(slot_under(slot, number)?)?;
+    }
+    Ok(copies)
+}
+
+/// What is known of nodes and of what stands in the slot behind theirs, if anything.
+fn with_slot(noted: Option<Noted>, slot: &Option<Node>, id: NodeId) -> Option<Noted>
+    ensures { IsSlotNoted noted slot.now id result }
+{
+    match slot {
+        Some(node) => with_node(noted, node, id),
+        None => noted,
+    }
+}
+
+/// What is known of the nodes in these slots, if anything.
+fn noted_of(alloc: Global, slots: &[Option<Node>]) -> Option<Noted>
+    ensures { HasNotes result (nodes_in slots.now) }
+{
+    let mut noted = Some(none_noted(alloc));
+    for at in 0..slots.len() {
+        noted = with_slot(noted, &slots[at], NodeId::new(at));
+    }
+    noted
+}
+
 impl Nodes {
     /// No nodes yet.
     pub(crate) fn new(alloc: Global) -> Self
@@ -62,6 +110,15 @@ impl Nodes {
             slots: Vec::new(alloc),
             noted: Some(none_noted(alloc)),
         }
+    }
+
+    /// The same nodes under their indexes, of a collection with this number.
+    pub(crate) fn copy_under(&self, alloc: Global, number: u64) -> Result<Nodes, AllocError>
+        ensures { IfOk result (λ copies. AreUnder number self.now copies) }
+    {
+        let slots = slots_under(alloc, self.slots.as_slice(), number)?;
+        let noted = noted_of(alloc, slots.as_slice());
+        Ok(Nodes { slots, noted })
     }
 
     /// The node of an index.
