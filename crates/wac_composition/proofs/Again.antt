@@ -9,12 +9,12 @@ use Rattle.std.proofs.Common.{◌≡◌, List, [], ◌∷◌, ◌++◌, append_a
 use Rattle.wac_types_base.specs.Entries.{Name, AreDistinct, names_of, value_at}
 use Rattle.wac_types_base.specs.Graph.{Wholes, node, Among}
 use Rattle.wac_types_base.specs.Collection.{Shape, interface}
-use Rattle.wac_types_base.specs.Stated.{Stated, row, folded_row, with_names, names, filled, Used, names_used, used_places, interface_of, Kind, IsFunction, IsInstance, IsComponent, IsModule, IsValue, IsResource, IsFunctionType, IsValueType, IsInterface, IsWorld, IsModuleType, kind_of, as_type, uses_from, only_places, parts_at, exports_of, uses_of, identifier_of}
+use Rattle.wac_types_base.specs.Stated.{Stated, row, folded_row, with_names, names, filled, Used, names_used, used_places, interface_of, Kind, IsFunction, IsInstance, IsComponent, IsModule, IsValue, IsResource, IsFunctionType, IsValueType, IsInterface, IsWorld, IsModuleType, kind_of, as_type, uses_from, only_places, parts_at, exports_of, uses_of, identifier_of, is_interface}
 use Rattle.wac_types_base.specs.Tree.{tree}
 use Rattle.wac_types_fit.proofs.TreeLaws.{Fits-refl}
 use Rattle.wac_composition.specs.Classes.{is_instance}
 use Rattle.wac_composition.specs.Tests.{fits}
-use Rattle.wac_composition.specs.Merging.{is_interface, is_plain, is_wit, Merge, both, merged_with, merged_exports, has_use, merged_interface, rebuilt, if_kind, merge_at, merge, Asked, narrower, in_family, kept_from, kept}
+use Rattle.wac_composition.specs.Merging.{is_plain, is_wit, Merge, both, merged_with, merged_exports, has_use, merged_interface, rebuilt, if_kind, merge_at, merge, Asked, narrower, in_family, kept_from, kept}
 use Rattle.wac_composition.specs.Again.{IsWell, well_instance, well_interface, no_interface, Asking_twice}
 use Rattle.wac_composition.proofs.FitBack.{fits_decides}
 use Rattle.wac_composition.proofs.KeptFits.{folded_firsts, row_again, value_append, value_behind, value_passing, both_is, if_is, no_more_kept, append_nil, kept_fits}

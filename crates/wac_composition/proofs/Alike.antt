@@ -9,7 +9,8 @@ use Rattle.wac_composition.specs.Composition.{Made, Composition}
 use Rattle.wac_composition.specs.Asks.{ToFill, Ask, used_by, used_by_definition, explicit_ask, filled_asks, asked_for, named_asks, asks_of}
 use Rattle.wac_composition.specs.Classes.{spelling}
 use Rattle.wac_composition.specs.OuterImports.{outer_imports}
-use Rattle.wac_composition.specs.Conflicts.{ImportNames, ExportNames, or_else, first_found, dependency_name, same_key, each_once, dependencies_of, implicit_conflict, merge_conflict, circle_cause, cause_at, placed, unwritable_cause, first_cause, twins, alike, name_cause}
+use Rattle.std.specs.Option.{option_or}
+use Rattle.wac_composition.specs.Conflicts.{ImportNames, ExportNames, first_found, dependency_name, same_key, each_once, dependencies_of, implicit_conflict, merge_conflict, circle_cause, cause_at, placed, unwritable_cause, first_cause, twins, alike, name_cause}
 use Rattle.wac_composition.specs.Writable.{outer_unwritable, definition_unwritable, package_unwritable, alias_unwritable}
 use Rattle.wac_types_written.specs.Written.{without_uses}
 use Rattle.wac_composition.specs.Worlds.{world_exports, composed_world}
@@ -47,21 +48,21 @@ module _ {A I : Type 0} where
 
     unwritable : (define : Bool) → unwritable_cause define c (outer_imports (asks_of c)) ≡ unwritable_cause define d (outer_imports (asks_of d))
     unwritable define = λ i.
-        or_else (first_found (cause_at alias_unwritable) (same.aliases i))
-        (or_else (first_found (cause_at (outer_unwritable (outer_imports (asks i)))) (outer_imports (asks i)))
-        (or_else (first_found (cause_at (definition_unwritable (outer_imports (asks i)))) (placed (same.definitions i)))
+        option_or (first_found (cause_at alias_unwritable) (same.aliases i))
+        (option_or (first_found (cause_at (outer_unwritable (outer_imports (asks i)))) (outer_imports (asks i)))
+        (option_or (first_found (cause_at (definition_unwritable (outer_imports (asks i)))) (placed (same.definitions i)))
         (first_found (cause_at package_unwritable) (dependencies define i))))
 
     cause : (define : Bool) → first_cause define c ≡ first_cause define d
     cause define = λ i.
-        or_else (implicit_conflict (same.imports i) (asks i))
-        (or_else (merge_conflict (asks i) [] (asks i))
-        (or_else (unwritable define i)
+        option_or (implicit_conflict (same.imports i) (asks i))
+        (option_or (merge_conflict (asks i) [] (asks i))
+        (option_or (unwritable define i)
         (circle_cause (spelling (asks i)) (outer_imports (asks i)))))
 
     names : (define validate : Bool) → name_cause define validate c ≡ name_cause define validate d
     names define validate = λ i.
-        or_else (option_map (λ t. ImportNames t.0 t.1) (twins (alike validate) [] (names_of (outer_imports (asks i)) ++ names_of (dependencies define i))))
+        option_or (option_map (λ t. ImportNames t.0 t.1) (twins (alike validate) [] (names_of (outer_imports (asks i)) ++ names_of (dependencies define i))))
         (option_map (λ t. ExportNames t.0 t.1) (twins (alike validate) [] (map (λ e. e.0) (same.exports i))))
 
     world : composed_world c ≡ composed_world d

@@ -6,7 +6,7 @@ use Rattle.std.proofs.Common.{◌≡◌, ℕ, zero, suc, List, [], ◌∷◌, �
 use Rattle.wac_types_base.specs.Entries.{Name, AreDistinct, names_of, value_at}
 use Rattle.wac_types_base.specs.Graph.{Wholes, node, no_more, more, hole, Among}
 use Rattle.wac_types_base.specs.Collection.{Shape, primitive, tuple, list, fixed_size_list, option, result, variant, record_of, flags, enum, alias, stream, future, resource, resource_alias, func, interface, world, module_type, type_of, borrow_of, own_of}
-use Rattle.wac_types_base.specs.Stated.{Stated, row, folded_row, places_in, with_names, names, filled, names_used, used_places, interface_of, shape_kind, kind_of, Used, uses_of, Parts, parts_at, only_places, first_parts, exports_of, as_type}
+use Rattle.wac_types_base.specs.Stated.{Stated, row, folded_row, places_in, with_names, names, filled, names_used, used_places, interface_of, shape_kind, kind_of, Used, uses_of, Parts, parts_at, only_places, first_parts, exports_of, as_type, is_interface}
 use Rattle.wac_types_base.specs.Tree.{Tree, rigid, instance, component, core_module, handle_own, handle_borrow, type_item, Fields, tree}
 use Rattle.wac_types_base.specs.Fits.{Fits, rigid_fits, own_fits, borrow_fits, instance_fits, type_fits, FieldsFit}
 use Rattle.wac_types_fit.specs.Ordered.{AllInOrder}
@@ -15,7 +15,7 @@ use Rattle.wac_types_fit.proofs.Looking.{looked-has, has-looked, in_order-at, gi
 use Rattle.wac_types_fit.proofs.Meeting.{FitsAll-left, FitsAll-right, mapped-some}
 use Rattle.wac_composition.specs.Classes.{is_instance}
 use Rattle.wac_composition.specs.Tests.{fits}
-use Rattle.wac_composition.specs.Merging.{is_interface, Merge, both, merged_with, merged_exports, has_use, merged_interface, rebuilt, if_kind, same_tree_as, merge_at, merge, Asked, narrower, in_family, kept_from, kept}
+use Rattle.wac_composition.specs.Merging.{Merge, both, merged_with, merged_exports, has_use, merged_interface, rebuilt, if_kind, same_tree_as, merge_at, merge, Asked, narrower, in_family, kept_from, kept}
 use Rattle.wac_composition.specs.Regular.{IsFlat, IsFlatItem, Regular, flat, an_instance, an_interface, AreRegular}
 use Rattle.wac_composition.specs.OuterLaws.{trees_asked, KeepNothing}
 use Rattle.wac_composition.specs.Sound.{fields_of}

@@ -6,7 +6,7 @@ use Rattle.std.proofs.Common.{◌≡◌, List, [], ◌∷◌, ◌++◌, append_a
 use Rattle.wac_types_base.specs.Entries.{Name, value_at}
 use Rattle.wac_types_base.specs.Graph.{Wholes, node, no_more, more, hole, Among}
 use Rattle.wac_types_base.specs.Collection.{Shape, primitive, tuple, list, fixed_size_list, option, result, variant, record_of, flags, enum, alias, stream, future, resource, resource_alias, func, interface, world, module_type, type_of, own_of, borrow_of}
-use Rattle.wac_types_base.specs.Stated.{Stated, row, folded_row, places_in, with_names, names, filled, Used, names_used, used_places, interface_of, shape_kind, kind_of, Parts, parts_at, only_places, first_parts, exports_of, uses_of, as_type}
+use Rattle.wac_types_base.specs.Stated.{Stated, row, folded_row, places_in, with_names, names, filled, Used, names_used, used_places, interface_of, shape_kind, kind_of, Parts, parts_at, only_places, first_parts, exports_of, uses_of, as_type, is_interface}
 use Rattle.wac_types_base.specs.Tree.{Tree, instance, type_item, end, no_fields, put, fields, past, tree, trees}
 use Rattle.wac_types_base.specs.Fits.{HasField, Fits, FieldsFit, type_fits}
 use Rattle.wac_types_fit.specs.Ordered.{InOrder, AllInOrder}
@@ -19,7 +19,7 @@ use Rattle.wac_types_fit.proofs.TreeLaws.{Fits-refl}
 use Rattle.wac_composition.specs.Names.{has_track}
 use Rattle.wac_composition.specs.Classes.{is_instance, spelled}
 use Rattle.wac_composition.specs.Tests.{fits}
-use Rattle.wac_composition.specs.Merging.{is_interface, Merge, both, merged_with, merged_exports, has_use, merged_interface, rebuilt, if_kind, same_tree_as, merge_at, merge, Asked, narrower, in_family, kept_from, kept, identified_by, identified}
+use Rattle.wac_composition.specs.Merging.{Merge, both, merged_with, merged_exports, has_use, merged_interface, rebuilt, if_kind, same_tree_as, merge_at, merge, Asked, narrower, in_family, kept_from, kept, identified_by, identified}
 use Rattle.wac_composition.specs.Asks.{Ask}
 use Rattle.wac_composition.specs.OuterImports.{asked_in, outer_of}
 use Rattle.wac_composition.specs.OuterLaws.{trees_asked, Kept_is_meet}

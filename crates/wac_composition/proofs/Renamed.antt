@@ -15,7 +15,8 @@ use Rattle.wac_composition.specs.Classes.{joined, near, within_steps, class, spe
 use Rattle.wac_composition.specs.Merging.{kept, identified}
 use Rattle.wac_composition.specs.OuterImports.{with_new, asked_in, outer_of, outers_from, outer_imports}
 use Rattle.wac_composition.specs.Circles.{as_written}
-use Rattle.wac_composition.specs.Conflicts.{Cause, Unwritable, ImportNames, ExportNames, or_else, first_found, dependency_name, same_key, each_once, dependencies_of, implicit_with, implicit_by, circle_cause, implicit_conflict, merge_cause, merge_fails, those_in, merge_conflict, cause_at, placed, unwritable_cause, first_cause, twins, alike, import_names, name_cause}
+use Rattle.std.specs.Option.{option_or}
+use Rattle.wac_composition.specs.Conflicts.{Cause, Unwritable, ImportNames, ExportNames, first_found, dependency_name, same_key, each_once, dependencies_of, implicit_with, implicit_by, circle_cause, implicit_conflict, merge_cause, merge_fails, those_in, merge_conflict, cause_at, placed, unwritable_cause, first_cause, twins, alike, import_names, name_cause}
 use Rattle.wac_composition.specs.Writable.{outer_unwritable, definition_unwritable, package_unwritable, alias_unwritable}
 use Rattle.wac_types_written.specs.Written.{without_uses}
 use Rattle.wac_composition.specs.Worlds.{then_in, final_type, source_of, world_exports, composed_world}
@@ -164,12 +165,12 @@ module _ {A B : Type 0} (f : A → B) where
 
   -- ---- causes
 
-  or_renamed : (o u : Option (Cause A)) → or_else (option_map as_cause o) (option_map as_cause u) ≡ option_map as_cause (or_else o u)
+  or_renamed : (o u : Option (Cause A)) → option_or (option_map as_cause o) (option_map as_cause u) ≡ option_map as_cause (option_or o u)
   or_renamed None u = refl
   or_renamed (Some x) u = refl
 
-  or_both : (o u : Option (Cause B)) (p q : Option (Cause A)) → o ≡ option_map as_cause p → u ≡ option_map as_cause q → or_else o u ≡ option_map as_cause (or_else p q)
-  or_both o u p q d e = (λ i. or_else (d i) (e i)) ∙ or_renamed p q
+  or_both : (o u : Option (Cause B)) (p q : Option (Cause A)) → o ≡ option_map as_cause p → u ≡ option_map as_cause q → option_or o u ≡ option_map as_cause (option_or p q)
+  or_both o u p q d e = (λ i. option_or (d i) (e i)) ∙ or_renamed p q
 
   found_renamed : {X Y : Type 0} (v : X → Y) (h : Y → Option (Cause B)) (k : X → Option (Cause A)) → ((x : X) → h (v x) ≡ option_map as_cause (k x)) → (xs : List X) → first_found h (map v xs) ≡ option_map as_cause (first_found k xs)
   found_renamed v h k e [] = refl

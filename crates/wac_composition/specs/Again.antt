@@ -2,10 +2,10 @@
 use Rattle.std.specs.Prelude.{◌≡◌, ◌↔◌, List, ◌∷◌, ◌++◌, Some, false}
 use Rattle.wac_types_base.specs.Entries.{Name, AreDistinct, names_of}
 use Rattle.wac_types_base.specs.Graph.{Among}
-use Rattle.wac_types_base.specs.Stated.{Stated, kind_of, interface_of, as_type, exports_of, uses_of, identifier_of}
+use Rattle.wac_types_base.specs.Stated.{Stated, kind_of, interface_of, as_type, exports_of, uses_of, identifier_of, is_interface}
 use Rattle.wac_composition.specs.Asks.{Ask}
 use Rattle.wac_composition.specs.Classes.{is_instance, class, spelling}
-use Rattle.wac_composition.specs.Merging.{is_interface, Asked, kept}
+use Rattle.wac_composition.specs.Merging.{Asked, kept}
 use Rattle.wac_composition.specs.OuterImports.{asked_in, outer_imports}
 
 -- Each interface in it is of its identifier, uses and exports alone, and exports no name twice.

@@ -1,5 +1,6 @@
 -- Why a composition cannot be written: the first cause in order.
 use Rattle.std.specs.Prelude.{◌+◌, ◌==◌, ℕ, Bool, true, false, nat_le, ◌&&◌, List, [], ◌∷◌, ◌++◌, map, Option, Some, None, is_some, option_map, filter, find, bytes_eq, codes, if◌then◌else◌}
+use Rattle.std.specs.Option.{option_or}
 use Rattle.std.specs.List.{list_any}
 use Rattle.semver.specs.Parse.{Parts}
 use Rattle.semver.specs.Identifiers.{parts_text}
@@ -28,15 +29,10 @@ pub data Cause (A : Type 0) : Type 0 where
   ImportNames : Name → Name → Cause A
   ExportNames : Name → Name → Cause A
 
--- the first of two, if there is one
-abbrev pub or_else : {X : Type 0} → Option X → Option X → Option X
-or_else None o = o
-or_else (Some x) o = Some x
-
 -- the first that is found of one of them
 abbrev pub first_found : {X Y : Type 0} → (X → Option Y) → List X → Option Y
 first_found f [] = None
-first_found f (x ∷ xs) = or_else (f x) (first_found f xs)
+first_found f (x ∷ xs) = option_or (f x) (first_found f xs)
 
 -- ---- the packages that are imported instead of nested: each once
 
@@ -96,7 +92,7 @@ module _ {A : Type 0} where
   abbrev pub merge_conflict : List (Ask A) → List (Ask A) → List (Ask A) → Option (Cause A)
   merge_conflict asks before [] = None
   merge_conflict asks before (a ∷ as_) =
-      or_else (merge_fails a (those_in (class asks a) (before ++ a ∷ []))) (merge_conflict asks (before ++ a ∷ []) as_)
+      option_or (merge_fails a (those_in (class asks a) (before ++ a ∷ []))) (merge_conflict asks (before ++ a ∷ []) as_)
 
   -- ---- a type that cannot be written
 
@@ -108,9 +104,9 @@ module _ {A : Type 0} where
 
   abbrev pub unwritable_cause : {I : Type 0} → Bool → Composition A I → List (Name × Stated) → Option (Cause A)
   unwritable_cause define c outers =
-      or_else (first_found (cause_at alias_unwritable) c.aliases)
-      (or_else (first_found (cause_at (outer_unwritable outers)) outers)
-      (or_else (first_found (cause_at (definition_unwritable outers)) (placed c.definitions))
+      option_or (first_found (cause_at alias_unwritable) c.aliases)
+      (option_or (first_found (cause_at (outer_unwritable outers)) outers)
+      (option_or (first_found (cause_at (definition_unwritable outers)) (placed c.definitions))
       (first_found (cause_at package_unwritable) (dependencies_of define c))))
 
   -- an import that could be written but for those that it uses and that wait for it
@@ -120,9 +116,9 @@ module _ {A : Type 0} where
   -- the first cause but for sizes and for names that are alike
   abbrev pub first_cause : {I : Type 0} → Bool → Composition A I → Option (Cause A)
   first_cause define c =
-      or_else (implicit_conflict c.imports (asks_of c))
-      (or_else (merge_conflict (asks_of c) [] (asks_of c))
-      (or_else (unwritable_cause define c (outer_imports (asks_of c)))
+      option_or (implicit_conflict c.imports (asks_of c))
+      (option_or (merge_conflict (asks_of c) [] (asks_of c))
+      (option_or (unwritable_cause define c (outer_imports (asks_of c)))
       (circle_cause (spelling (asks_of c)) (outer_imports (asks_of c)))))
 
 -- ---- names that are alike
@@ -136,7 +132,7 @@ same_but_case m n = bytes_eq (map lower m) (map lower n)
 -- the first that is like an earlier one, behind that one
 abbrev pub twins : (Name → Name → Bool) → List Name → List Name → Option (Name × Name)
 twins p seen [] = None
-twins p seen (n ∷ ns) = or_else (option_map (λ m. (m, n)) (find (p n) seen)) (twins p (seen ++ n ∷ []) ns)
+twins p seen (n ∷ ns) = option_or (option_map (λ m. (m, n)) (find (p n) seen)) (twins p (seen ++ n ∷ []) ns)
 
 -- without validation names are only asked not to be equal
 abbrev pub alike : (validate : Bool) → Name → Name → Bool
@@ -148,5 +144,5 @@ import_names define c = names_of (outer_imports (asks_of c)) ++ names_of (depend
 
 abbrev pub name_cause : {A I : Type 0} → (define validate : Bool) → Composition A I → Option (Cause A)
 name_cause define validate c =
-    or_else (option_map (λ t. ImportNames t.0 t.1) (twins (alike validate) [] (import_names define c)))
+    option_or (option_map (λ t. ImportNames t.0 t.1) (twins (alike validate) [] (import_names define c)))
     (option_map (λ t. ExportNames t.0 t.1) (twins (alike validate) [] (map (λ e. e.0) c.exports)))

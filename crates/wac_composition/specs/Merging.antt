@@ -3,7 +3,7 @@ use Rattle.std.specs.Prelude.{Bool, true, false, not, ◌&&◌, ◌||◌, List, 
 use Rattle.std.specs.List.{flat_map, list_all, list_any}
 use Rattle.wac_types_base.specs.Entries.{Name, value_at}
 use Rattle.wac_types_base.specs.Collection.{Shape, interface, world, module_type, type_of, resource_alias, own_of, borrow_of}
-use Rattle.wac_types_base.specs.Stated.{Stated, Kind, IsFunction, IsResource, IsValueType, IsInterface, Parts, parts_at, Used, folded, any_place, kind_of, over, interface_of, as_type, exports_of, uses_of, identifier_of}
+use Rattle.wac_types_base.specs.Stated.{Stated, Kind, IsFunction, IsResource, IsValueType, Parts, parts_at, Used, folded, any_place, kind_of, over, interface_of, as_type, exports_of, uses_of, identifier_of, is_interface}
 use Rattle.wac_composition.specs.Names.{has_track}
 use Rattle.wac_composition.specs.Tests.{same, fits}
 use Rattle.wac_composition.specs.Classes.{is_instance}
@@ -100,10 +100,6 @@ rebuilt s os = over s (map (λ o. option_map (λ x. x.0) o) os)
 abbrev pub if_kind : Bool → Option Stated → Option Stated
 if_kind true o = o
 if_kind false o = None
-
-abbrev pub is_interface : Kind → Bool
-is_interface IsInterface = true
-is_interface k = false
 
 abbrev pub same_tree_as : Stated → Merge
 same_tree_as x y = if_kind (fits x y && fits y x) (Some x)

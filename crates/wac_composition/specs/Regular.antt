@@ -2,10 +2,10 @@
 use Rattle.std.specs.Prelude.{◌≡◌, List, Some, true, false}
 use Rattle.wac_types_base.specs.Entries.{Name, AreDistinct, names_of, value_at}
 use Rattle.wac_types_base.specs.Graph.{Among}
-use Rattle.wac_types_base.specs.Stated.{Stated, kind_of, exports_of}
+use Rattle.wac_types_base.specs.Stated.{Stated, kind_of, exports_of, is_interface}
 use Rattle.wac_types_base.specs.Tree.{Tree, rigid, handle_own, handle_borrow, type_item, tree}
 use Rattle.wac_composition.specs.Classes.{is_instance}
-use Rattle.wac_composition.specs.Merging.{is_interface, Asked}
+use Rattle.wac_composition.specs.Merging.{Asked}
 
 -- a function, a value, a resource or a handle
 abbrev pub IsFlat : Tree → Type 0

@@ -8,7 +8,8 @@ use Rattle.wac_types_base.specs.Collection.{Stands}
 use Rattle.wac_types_base.proofs.Copying.{last_place}
 use Rattle.wac_types_base.proofs.Replacing.{number_same}
 use Rattle.wac_types_fit.proofs.Unfolded.{world_node}
-use Rattle.wac_graph_scopes.specs.Parts.{world_in, uses_in_world, imports_in, exports_in_world, imports_of}
+use Rattle.wac_types_base.specs.Parts.{uses_in_world, imports_in_world, exports_in_world}
+use Rattle.wac_graph_scopes.specs.Parts.{world_in, imports_of}
 use Rattle.wac_graph_asks.specs.Imported.{ImportsAlone}
 use Rattle.wac_graph_asks.specs.Outers.{HasImportsAlone}
 
@@ -27,7 +28,7 @@ world_entered old new x id is own =
 
 -- its imports are those of the world
 pub imports_added : (old new : Collection) (x : World) (id : WorldId) → new ≡ record old { worlds = old.worlds ++ x ∷ [] } → id ≡ record { collection = old.number; index = length old.worlds } → imports_of new id ≡ x.imports
-imports_added old new x id is own = ap imports_in (world_entered old new x id is own)
+imports_added old new x id is own = ap imports_in_world (world_entered old new x id is own)
 
 -- alone, if that has them alone
 pub alone_added : (old new : Collection) (x : World) (id : WorldId) → new ≡ record old { worlds = old.worlds ++ x ∷ [] } → id ≡ record { collection = old.number; index = length old.worlds } → ImportsAlone x → HasImportsAlone new id

@@ -16,7 +16,7 @@ use Rattle.wac_graph_core.specs.Walking.{first_source}
 use Rattle.wac_graph_core.specs.Graph.{Graph, IsGraph, node_at}
 use Rattle.wac_graph_core.proofs.Found.{source_found, no_source}
 use Rattle.wac_composition.specs.Writable.{is_value, alias_unwritable}
-use Rattle.wac_composition.specs.Conflicts.{or_else}
+use Rattle.std.specs.Option.{option_or}
 use Rattle.wac_graph_asks.specs.Graphs.{nodes_of, item_of, alias_with}
 use Rattle.wac_graph_asks.proofs.ByNode.{entry_there}
 use Rattle.wac_graph_causes.specs.declared.errors.Unwritten.{Unwritten}
@@ -69,10 +69,10 @@ module _ (g : Graph) (sound : IsGraph g) (acyclic : IsAcyclic g.types) where
       ∙ ap is_value (sym (kind_stated g.types acyclic x.item_kind (sound.nodes k x at).item))
 
   one_node : (x : NodeData) (s : Option (ℕ × Name)) (ks : List ℕ) (more : List (Name × Stated)) (b : Bool) → b ≡ is_value (kind_of (item_of g x)) → first_alias_cause g ks ≡ first_unwritable alias_unwritable more
-      → or_else (alias_cause_by b s) (first_alias_cause g ks) ≡ first_unwritable alias_unwritable (cons_option (alias_with g x s) more)
+      → option_or (alias_cause_by b s) (first_alias_cause g ks) ≡ first_unwritable alias_unwritable (cons_option (alias_with g x s) more)
   one_node x None ks more b q ih = ih
   one_node x (Some e) ks more b q ih =
-      ap (λ v. or_else (named_if v e.1) (first_alias_cause g ks)) q ∙ ap (or_else (named_if (is_value (kind_of (item_of g x))) e.1)) ih
+      ap (λ v. option_or (named_if v e.1) (first_alias_cause g ks)) q ∙ ap (option_or (named_if (is_value (kind_of (item_of g x))) e.1)) ih
 
   all_nodes : (es : List (ℕ × NodeData)) → ((e : ℕ × NodeData) → Among e es → node_at g e.0 ≡ Some e.1)
       → first_alias_cause g (map (λ e. e.0) es) ≡ first_unwritable alias_unwritable (filter_map (λ e. alias_with g e.1 (first_source g.edges e.0)) es)

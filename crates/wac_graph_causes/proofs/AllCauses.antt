@@ -4,7 +4,8 @@ use Rattle.wac_types_base.proofs.Loops.{map-map}
 use Rattle.wac_graph_core.specs.Graph.{Graph, IsGraph}
 use Rattle.wac_composition.specs.Composition.{Placed}
 use Rattle.wac_composition.specs.Writable.{definition_unwritable, package_unwritable}
-use Rattle.wac_composition.specs.Conflicts.{Cause, or_else, dependencies_of, placed}
+use Rattle.std.specs.Option.{option_or}
+use Rattle.wac_composition.specs.Conflicts.{Cause, dependencies_of, placed}
 use Rattle.wac_graph_asks.specs.declared.asks.Asked.{Asked}
 use Rattle.wac_graph_asks.specs.declared.outers.Outers.{Outers}
 use Rattle.wac_graph_asks.specs.Asked.{placed_in}
@@ -17,7 +18,7 @@ use Rattle.wac_graph_causes.proofs.Dependencies.{packages_listed}
 -- all but the aliases, in the composition
 abbrev rest_cause : (define : Bool) → Graph → Option (Cause ℕ)
 rest_cause define g =
-    or_else (outer_cause (outers_of g)) (or_else (first_unwritable (definition_unwritable (outers_of g)) (placed (composition_of g).definitions)) (first_unwritable package_unwritable (dependencies_of define (composition_of g))))
+    option_or (outer_cause (outers_of g)) (option_or (first_unwritable (definition_unwritable (outers_of g)) (placed (composition_of g).definitions)) (first_unwritable package_unwritable (dependencies_of define (composition_of g))))
 
 module _ (g : Graph) (sound : IsGraph g) (asked : Asked) (outers : Outers) (h : IsWhole g asked outers) where
   outers_are : outers_in asked outers ≡ outers_of g
@@ -32,7 +33,7 @@ module _ (g : Graph) (sound : IsGraph g) (asked : Asked) (outers : Outers) (h : 
 
   module _ (define : Bool) where
     types_are : types_cause define g asked outers ≡ rest_cause define g
-    types_are = λ i. or_else (outer_cause (outers_are i)) (or_else (first_unwritable (definition_unwritable (outers_are i)) (definitions_are i)) (packages_are define i))
+    types_are = λ i. option_or (outer_cause (outers_are i)) (option_or (first_unwritable (definition_unwritable (outers_are i)) (definitions_are i)) (packages_are define i))
 
     pub none_unwritten : alias_cause g ≡ None → types_cause define g asked outers ≡ None → unwritten_cause define g ≡ None
     none_unwritten aliases types = none_after (alias_cause g) (rest_cause define g) aliases (sym types_are ∙ types)

@@ -18,7 +18,8 @@ use Rattle.wac_graph_core.specs.Nodes.{NodeData}
 use Rattle.wac_graph_core.specs.Graph.{Graph, package_if, package_made, instantiated}
 use Rattle.wac_composition.specs.Composition.{Placed, Made}
 use Rattle.wac_composition.specs.Asks.{Asking, ByName, ToFill, ToUse, Ask, explicit_ask, filled_asks, named_asks, asks_to_use}
-use Rattle.wac_composition.specs.Conflicts.{or_else, first_found, implicit_with, implicit_by, implicit_conflict}
+use Rattle.std.specs.Option.{option_or}
+use Rattle.wac_composition.specs.Conflicts.{first_found, implicit_with, implicit_by, implicit_conflict}
 use Rattle.wac_composition.proofs.Lists.{among_flat, mapped_among}
 use Rattle.wac_graph_asks.specs.declared.asks.Asking.{Asking as HeldAsking}
 use Rattle.wac_graph_asks.specs.declared.asks.Ask.{Ask as HeldAsk}
@@ -102,26 +103,26 @@ import_found (i ∷ is) n = ap (λ b. cond b (Some i.by) (value_at (under_names 
 
 -- ---- the first that is found
 
-found_behind : {X Y : Type 0} (f : X → Option Y) (xs ys : List X) → first_found f (xs ++ ys) ≡ or_else (first_found f xs) (first_found f ys)
+found_behind : {X Y : Type 0} (f : X → Option Y) (xs ys : List X) → first_found f (xs ++ ys) ≡ option_or (first_found f xs) (first_found f ys)
 found_behind f [] ys = refl
 found_behind f (x ∷ xs) ys = go (f x) (found_behind f xs ys)
   where
-    go : (o : Option _) → first_found f (xs ++ ys) ≡ or_else (first_found f xs) (first_found f ys) → or_else o (first_found f (xs ++ ys)) ≡ or_else (or_else o (first_found f xs)) (first_found f ys)
+    go : (o : Option _) → first_found f (xs ++ ys) ≡ option_or (first_found f xs) (first_found f ys) → option_or o (first_found f (xs ++ ys)) ≡ option_or (option_or o (first_found f xs)) (first_found f ys)
     go None ih = ih
     go (Some y) ih = refl
 
 uses_free : (is : List (Placed ℕ)) (xs : List (Ask ℕ)) → ((a : Ask ℕ) → Among a xs → a.asking ≡ ToUse) → implicit_conflict is xs ≡ None
 uses_free is [] h = refl
-uses_free is (a ∷ xs) h = ap (λ k. or_else (implicit_by k is a) (implicit_conflict is xs)) (h a (inl refl)) ∙ uses_free is xs (λ b m. h b (inr m))
+uses_free is (a ∷ xs) h = ap (λ k. option_or (implicit_by k is a) (implicit_conflict is xs)) (h a (inl refl)) ∙ uses_free is xs (λ b m. h b (inr m))
 
 conflict_without : (is : List (Placed ℕ)) (xs ys : List (Ask ℕ)) → ((a : Ask ℕ) → Among a ys → a.asking ≡ ToUse) → implicit_conflict is (xs ++ ys) ≡ implicit_conflict is xs
 conflict_without is xs ys h =
-    found_behind (λ a. implicit_by a.asking is a) xs ys ∙ ap (or_else (implicit_conflict is xs)) (uses_free is ys h) ∙ or_nothing (implicit_conflict is xs)
+    found_behind (λ a. implicit_by a.asking is a) xs ys ∙ ap (option_or (implicit_conflict is xs)) (uses_free is ys h) ∙ or_nothing (implicit_conflict is xs)
 
 module _ (named : List (Name × ℕ)) (is : List (Placed ℕ)) (same : AreFirst named (under_names is)) (c : Collection) where
   held_clash : (asks : List HeldAsk) → first_clash named asks ≡ implicit_conflict is (asks_in c asks)
   held_clash [] = refl
-  held_clash (a ∷ asks) = ap (λ o. or_else o (first_clash named asks)) (one a.asking) ∙ ap (or_else (implicit_by (asking_of a.asking) is (ask_in c a))) (held_clash asks)
+  held_clash (a ∷ asks) = ap (λ o. option_or o (first_clash named asks)) (one a.asking) ∙ ap (option_or (implicit_by (asking_of a.asking) is (ask_in c a))) (held_clash asks)
     where
       with_import : (o : Option (Placed ℕ)) → clash_with a (option_map (λ i. i.by) o) ≡ implicit_with (ask_in c a) o
       with_import None = refl

@@ -11,7 +11,8 @@ use Rattle.wac_types_names.specs.Packaged.{Packaged}
 use Rattle.wac_graph_core.specs.declared.ids.PackageId.{PackageId}
 use Rattle.wac_graph_core.specs.Nodes.{NodeData}
 use Rattle.wac_graph_core.specs.Graph.{Graph, node_at, package_if, package_made, instantiated}
-use Rattle.wac_composition.specs.Conflicts.{Cause, ImplicitImport, or_else}
+use Rattle.std.specs.Option.{option_or}
+use Rattle.wac_composition.specs.Conflicts.{Cause, ImplicitImport}
 use Rattle.wac_graph_asks.specs.declared.asks.Ask.{Ask}
 use Rattle.wac_graph_asks.specs.Reads.{package_id_of}
 use Rattle.wac_graph_causes.specs.declared.errors.Refusal.{Refusal}
@@ -66,11 +67,11 @@ module _ (imports : List (Name × ℕ)) (asks : List Ask) (i : ℕ) where
   ClashesLeft = first_clash imports (drop i asks) ≡ first_clash imports asks
 
   pub clash_next : (a : Ask) → slice_get asks i ≡ Some a → clash imports a ≡ None → ClashesLeft → first_clash imports (drop (i + 1) asks) ≡ first_clash imports asks
-  clash_next a at none h = sym (ap (first_clash imports) (drop_next asks i a at) ∙ ap (λ o. or_else o (first_clash imports (drop (i + 1) asks))) none) ∙ h
+  clash_next a at none h = sym (ap (first_clash imports) (drop_next asks i a at) ∙ ap (λ o. option_or o (first_clash imports (drop (i + 1) asks))) none) ∙ h
 
   pub clash_there : (g : Graph) (a : Ask) (e : Refusal) → slice_get asks i ≡ Some a → ClashesLeft → TellsClash g (clash imports a) e → TellsClash g (first_clash imports asks) e
   clash_there g a e at h t =
-      tells_as g (clash imports a) (first_clash imports asks) e (λ c is. sym h ∙ ap (first_clash imports) (drop_next asks i a at) ∙ ap (λ o. or_else o (first_clash imports (drop (i + 1) asks))) is) t
+      tells_as g (clash imports a) (first_clash imports asks) e (λ c is. sym h ∙ ap (first_clash imports) (drop_next asks i a at) ∙ ap (λ o. option_or o (first_clash imports (drop (i + 1) asks))) is) t
 
   pub clash_nowhere : length asks ≤ i → ClashesLeft → first_clash imports asks ≡ None
   clash_nowhere all h = sym h ∙ ap (first_clash imports) (drop_all asks i all)

@@ -5,7 +5,8 @@ use Rattle.std.proofs.lemmas.Option.{same_Some}
 use Rattle.wac_types_base.specs.declared.item.ItemKind.{ItemKind}
 use Rattle.wac_types_base.specs.Entries.{Name, with_values}
 use Rattle.wac_types_base.specs.Stated.{Stated}
-use Rattle.wac_composition.specs.Conflicts.{Cause, Unwritable, or_else, first_found}
+use Rattle.std.specs.Option.{option_or}
+use Rattle.wac_composition.specs.Conflicts.{Cause, Unwritable, first_found}
 use Rattle.wac_graph_causes.specs.declared.errors.Unwritten.{Unwritten}
 use Rattle.wac_graph_causes.specs.Unwritable.{TellsName, TellsUnwritable, first_unwritable}
 
@@ -28,23 +29,23 @@ tells_same o p Unwritten.Memory h t = tt
 
 -- ---- one cause before another
 
-pub told_first : (o p : Option (Cause ℕ)) (e : Unwritten) → TellsUnwritable o e → TellsUnwritable (or_else o p) e
-told_first o p e t = tells_same o (or_else o p) e (λ c at. ap (λ q. or_else q p) at) t
+pub told_first : (o p : Option (Cause ℕ)) (e : Unwritten) → TellsUnwritable o e → TellsUnwritable (option_or o p) e
+told_first o p e t = tells_same o (option_or o p) e (λ c at. ap (λ q. option_or q p) at) t
 
-pub told_after : (o p : Option (Cause ℕ)) (e : Unwritten) → o ≡ None → TellsUnwritable p e → TellsUnwritable (or_else o p) e
-told_after o p e none t = subst (λ q. TellsUnwritable q e) (sym (ap (λ q. or_else q p) none)) t
+pub told_after : (o p : Option (Cause ℕ)) (e : Unwritten) → o ≡ None → TellsUnwritable p e → TellsUnwritable (option_or o p) e
+told_after o p e none t = subst (λ q. TellsUnwritable q e) (sym (ap (λ q. option_or q p) none)) t
 
-pub none_after : (o p : Option (Cause ℕ)) → o ≡ None → p ≡ None → or_else o p ≡ None
-none_after o p none also = ap (λ q. or_else q p) none ∙ also
+pub none_after : (o p : Option (Cause ℕ)) → o ≡ None → p ≡ None → option_or o p ≡ None
+none_after o p none also = ap (λ q. option_or q p) none ∙ also
 
 -- ---- one after another
 
 module _ {X : Type 0} (f : X → Option (Cause ℕ)) (turn all : List X) (left : first_found f turn ≡ first_found f all) where
   pub cause_next : (x : X) (rest : List X) → turn ≡ x ∷ rest → f x ≡ None → first_found f rest ≡ first_found f all
-  cause_next x rest is none = sym (ap (first_found f) is ∙ ap (λ o. or_else o (first_found f rest)) none) ∙ left
+  cause_next x rest is none = sym (ap (first_found f) is ∙ ap (λ o. option_or o (first_found f rest)) none) ∙ left
 
   pub cause_there : (x : X) (rest : List X) (e : Unwritten) → turn ≡ x ∷ rest → TellsUnwritable (f x) e → TellsUnwritable (first_found f all) e
-  cause_there x rest e is t = tells_same (f x) (first_found f all) e (λ c at. sym left ∙ ap (first_found f) is ∙ ap (λ o. or_else o (first_found f rest)) at) t
+  cause_there x rest e is t = tells_same (f x) (first_found f all) e (λ c at. sym left ∙ ap (first_found f) is ∙ ap (λ o. option_or o (first_found f rest)) at) t
 
   pub cause_nowhere : turn ≡ [] → first_found f all ≡ None
   cause_nowhere is = sym left ∙ ap (first_found f) is
@@ -59,7 +60,7 @@ module _ (f : ItemKind → Stated) (q : Name × Stated → Bool) where
   none_fails [] h = refl
   none_fails (x ∷ xs) h = go (fails x) h (none_fails xs)
     where
-      go : (b : Bool) → (b || list_any fails xs) ≡ false → (list_any fails xs ≡ false → first_unwritable q (with_values f xs) ≡ None) → or_else (named_if b x.0) (first_unwritable q (with_values f xs)) ≡ None
+      go : (b : Bool) → (b || list_any fails xs) ≡ false → (list_any fails xs ≡ false → first_unwritable q (with_values f xs) ≡ None) → option_or (named_if b x.0) (first_unwritable q (with_values f xs)) ≡ None
       go true h later = absurd (true≢false h)
       go false h later = later h
 
@@ -67,9 +68,9 @@ module _ (f : ItemKind → Stated) (q : Name × Stated → Bool) where
   first_fails [] i x at so before = absurd (cc at)
   first_fails (y ∷ ys) zero x at so before =
       let same : y ≡ x = same_Some y x at in
-      ap (λ b. or_else (named_if b y.0) (first_unwritable q (with_values f ys))) (ap fails same ∙ so) ∙ ap (λ (e : Name × ItemKind). named_if true e.0) same
+      ap (λ b. option_or (named_if b y.0) (first_unwritable q (with_values f ys))) (ap fails same ∙ so) ∙ ap (λ (e : Name × ItemKind). named_if true e.0) same
   first_fails (y ∷ ys) (suc i) x at so before = go (fails y) before (first_fails ys i x at so)
     where
-      go : (b : Bool) → (b || list_any fails (take i ys)) ≡ false → (list_any fails (take i ys) ≡ false → first_unwritable q (with_values f ys) ≡ named_if true x.0) → or_else (named_if b y.0) (first_unwritable q (with_values f ys)) ≡ named_if true x.0
+      go : (b : Bool) → (b || list_any fails (take i ys)) ≡ false → (list_any fails (take i ys) ≡ false → first_unwritable q (with_values f ys) ≡ named_if true x.0) → option_or (named_if b y.0) (first_unwritable q (with_values f ys)) ≡ named_if true x.0
       go true h later = absurd (true≢false h)
       go false h later = later h

@@ -9,7 +9,8 @@ use Rattle.wac_types_base.specs.Entries.{Name, value_at}
 use Rattle.wac_types_base.proofs.Looked.{take-one_more}
 use Rattle.wac_types_base.proofs.Used.{drop_next}
 use Rattle.wac_types_base.proofs.Lists.{drop_all}
-use Rattle.wac_composition.specs.Conflicts.{or_else, lower, alike, twins}
+use Rattle.std.specs.Option.{option_or}
+use Rattle.wac_composition.specs.Conflicts.{lower, alike, twins}
 use Rattle.wac_graph_causes.specs.Firsts.{AddsFirst, AreFirst}
 use Rattle.wac_graph_causes.specs.Alike.{likeness, places_from, AreTwinsAt}
 use Rattle.wac_graph_causes.proofs.Firsts.{more_first}
@@ -95,7 +96,7 @@ module _ (v : Bool) (names : List Name) where
 
   module _ (at : ℕ) (n : Name) (there : slice_get names at ≡ Some n) (firsts : List (Name × ℕ)) (h : TwinsLeft at firsts) where
     -- what is left begins with it
-    begins : or_else (option_map (λ m. (m, n)) (find (alike v n) (take at names))) (twins (alike v) (take at names ++ n ∷ []) (drop (at + 1) names)) ≡ twins (alike v) [] names
+    begins : option_or (option_map (λ m. (m, n)) (find (alike v n) (take at names))) (twins (alike v) (take at names ++ n ∷ []) (drop (at + 1) names)) ≡ twins (alike v) [] names
     begins = ap (twins (alike v) (take at names)) (sym (drop_next names at n there)) ∙ h.left
 
     places : places_from v 0 (take at names) ++ (likeness v n, at) ∷ [] ≡ places_from v 0 (take (at + 1) names)
@@ -110,7 +111,7 @@ module _ (v : Bool) (names : List Name) where
       are = subst (AreFirst new) places (more_first firsts new (places_from v 0 (take at names)) ((likeness v n, at) ∷ []) h.are adds);
       left =
           ap (λ l. twins (alike v) l (drop (at + 1) names)) (take-one_more names at n there)
-          ∙ sym (ap (λ o. or_else (option_map (λ m. (m, n)) o) (twins (alike v) (take at names ++ n ∷ []) (drop (at + 1) names))) (no_place v n 0 (take at names) (sym (h.are (likeness v n)) ∙ sym none)))
+          ∙ sym (ap (λ o. option_or (option_map (λ m. (m, n)) o) (twins (alike v) (take at names ++ n ∷ []) (drop (at + 1) names))) (no_place v n 0 (take at names) (sym (h.are (likeness v n)) ∙ sym none)))
           ∙ begins;
     }
 
@@ -123,7 +124,7 @@ module _ (v : Bool) (names : List Name) where
           twin = n;
           name_at = ap (slice_get names) place ∙ taken_there names at f.behind f.first f.there;
           twin_at = there;
-          are = sym begins ∙ ap (λ o. or_else (option_map (λ m. (m, n)) o) (twins (alike v) (take at names ++ n ∷ []) (drop (at + 1) names))) f.found;
+          are = sym begins ∙ ap (λ o. option_or (option_map (λ m. (m, n)) o) (twins (alike v) (take at names ++ n ∷ []) (drop (at + 1) names))) f.found;
         }
 
   pub no_twins : (at : ℕ) (firsts : List (Name × ℕ)) → length names ≤ at → TwinsLeft at firsts → twins (alike v) [] names ≡ None

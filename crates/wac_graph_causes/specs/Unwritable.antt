@@ -15,7 +15,8 @@ use Rattle.wac_graph_core.specs.Graph.{Graph, node_at, package_of}
 use Rattle.wac_composition.specs.Asks.{asks_of}
 use Rattle.wac_composition.specs.OuterImports.{outer_imports}
 use Rattle.wac_composition.specs.Writable.{holder, outer_unwritable, definition_unwritable, package_unwritable, alias_unwritable}
-use Rattle.wac_composition.specs.Conflicts.{Cause, Unwritable, or_else, first_found, cause_at, unwritable_cause}
+use Rattle.std.specs.Option.{option_or}
+use Rattle.wac_composition.specs.Conflicts.{Cause, Unwritable, first_found, cause_at, unwritable_cause}
 use Rattle.wac_graph_scopes.specs.Parts.{imports_of}
 use Rattle.wac_writable.specs.Unnamed.{KnowsAll}
 use Rattle.wac_writable.specs.Holders.{Holds}
@@ -219,7 +220,7 @@ packages_unless false g asked = packages_cause g asked
 -- the first of outer imports, definitions and packages
 abbrev pub types_cause : (define : Bool) → Graph → Asked → Outers → Option (Cause ℕ)
 types_cause define g asked outers =
-    or_else (outer_cause (outers_in asked outers)) (or_else (defined_cause g asked outers) (packages_unless define g asked))
+    option_or (outer_cause (outers_in asked outers)) (option_or (defined_cause g asked outers) (packages_unless define g asked))
 
 abbrev pub TypesPass : (define : Bool) → Graph → Asked → Outers → Findings → Type 0
 TypesPass define g asked outers found = IfHeld g asked outers found (types_cause define g asked outers ≡ None)

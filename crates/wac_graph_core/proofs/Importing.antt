@@ -8,7 +8,8 @@ use Rattle.wac_types_names.specs.Packaged.{Packaged}
 use Rattle.wac_graph_core.specs.declared.edge.Edge.{Edge}
 use Rattle.wac_graph_core.specs.Walking.{first_argument, PassesAs}
 use Rattle.wac_graph_core.specs.Graph.{Graph}
-use Rattle.wac_graph_core.specs.Imports.{unbound_list, unbound_with, package_imports, world_imports}
+use Rattle.wac_types_base.specs.Parts.{imports_in_world}
+use Rattle.wac_graph_core.specs.Imports.{unbound_list, unbound_with, package_imports}
 
 both_columns : (xs : List (Name × ItemKind)) → zip (names_of xs) (values_of xs) ≡ xs
 both_columns [] = refl
@@ -26,4 +27,4 @@ unbound_columns es fs i names kinds xs same are values =
     ∙ ap (unbound_list fs i) (both_columns xs) ∙ same_unbound es fs i xs same
 
 pub imports_here : (g : Graph) (p : Packaged) (w : World) → slice_get g.types.worlds p.ty.index ≡ Some w → package_imports g (Some p) ≡ w.imports
-imports_here g p w at = ap world_imports at
+imports_here g p w at = ap imports_in_world at

@@ -1,7 +1,7 @@
 -- What a graph imports, in order.
 use Rattle.std.specs.Prelude.{ℕ, List, [], ◌∷◌, ◌++◌, Option, Some, None, slice_get}
 use Rattle.std.specs.FinMap as map
-use Rattle.wac_types_base.specs.declared.defined.World.{World}
+use Rattle.wac_types_base.specs.Parts.{imports_in_world}
 use Rattle.wac_types_base.specs.declared.item.ItemKind.{ItemKind}
 use Rattle.wac_types_base.specs.Entries.{Name}
 use Rattle.wac_types_names.specs.Packaged.{Packaged}
@@ -36,13 +36,9 @@ abbrev pub unbound_list : List Edge → ℕ → List (Name × ItemKind) → List
 unbound_list es i [] = []
 unbound_list es i (x ∷ xs) = unbound_with x.0 x.1 (first_argument es i x.0) (unbound_list es i xs)
 
-abbrev pub world_imports : Option World → List (Name × ItemKind)
-world_imports None = []
-world_imports (Some w) = w.imports
-
 abbrev pub package_imports : Graph → Option Packaged → List (Name × ItemKind)
 package_imports g None = []
-package_imports g (Some p) = world_imports (slice_get g.types.worlds p.ty.index)
+package_imports g (Some p) = imports_in_world (slice_get g.types.worlds p.ty.index)
 
 -- of an instance of this package, if it is one, in the order of its world
 abbrev pub unbound_imports : Graph → ℕ → Option Packaged → List Import

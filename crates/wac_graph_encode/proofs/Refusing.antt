@@ -1,11 +1,12 @@
 -- Refusals are for the first cause.
-use Rattle.std.proofs.Common.{◌≡◌, ℕ, [], Some, None, string_bytes, sym, ap, ◌∙◌}
 use Rattle.std.proofs.lemmas.Option.{none-some}
+use Rattle.std.proofs.Common.{◌≡◌, ℕ, [], Some, None, string_bytes, sym, ap, ◌∙◌}
 use Rattle.wac_graph_core.specs.Graph.{Graph}
 use Rattle.wac_composition.specs.Asks.{asks_of}
 use Rattle.wac_composition.specs.Classes.{spelling}
 use Rattle.wac_composition.specs.OuterImports.{outer_imports}
-use Rattle.wac_composition.specs.Conflicts.{Cause, Unwritable, or_else, merge_conflict, unwritable_cause, circle_cause}
+use Rattle.std.specs.Option.{option_or}
+use Rattle.wac_composition.specs.Conflicts.{Cause, Unwritable, merge_conflict, unwritable_cause, circle_cause}
 use Rattle.wac_graph_asks.specs.declared.faults.OuterError.{OuterError}
 use Rattle.wac_graph_asks.specs.Graphs.{composition_of}
 use Rattle.wac_graph_asks.specs.Takes.{IfConflict, conflict_in}
@@ -22,28 +23,28 @@ module _ (options : EncodeOptions) (g : Graph) where
   -- an import that is asked by its name and by an instance comes first
   first_implicit : (cause : Cause ℕ) → implicit_cause g ≡ Some cause → cause_in options g ≡ Some cause
   first_implicit cause e =
-      ap (λ o. or_else o (or_else (merge_conflict (asks_of (composition_of g)) [] (asks_of (composition_of g)))
-      (or_else (unwritable_cause options.define_components (composition_of g) (outer_imports (asks_of (composition_of g))))
+      ap (λ o. option_or o (option_or (merge_conflict (asks_of (composition_of g)) [] (asks_of (composition_of g)))
+      (option_or (unwritable_cause options.define_components (composition_of g) (outer_imports (asks_of (composition_of g))))
       (circle_cause (spelling (asks_of (composition_of g))) (outer_imports (asks_of (composition_of g))))))) e
 
   -- then imports that conflict
   then_conflict : (cause : Cause ℕ) → implicit_cause g ≡ None → conflict_in g ≡ Some cause → cause_in options g ≡ Some cause
   then_conflict cause none e =
-      ap (λ o. or_else o (or_else (merge_conflict (asks_of (composition_of g)) [] (asks_of (composition_of g)))
-      (or_else (unwritable_cause options.define_components (composition_of g) (outer_imports (asks_of (composition_of g))))
+      ap (λ o. option_or o (option_or (merge_conflict (asks_of (composition_of g)) [] (asks_of (composition_of g)))
+      (option_or (unwritable_cause options.define_components (composition_of g) (outer_imports (asks_of (composition_of g))))
       (circle_cause (spelling (asks_of (composition_of g))) (outer_imports (asks_of (composition_of g))))))) none
-      ∙ ap (λ o. or_else o (or_else (unwritable_cause options.define_components (composition_of g) (outer_imports (asks_of (composition_of g))))
+      ∙ ap (λ o. option_or o (option_or (unwritable_cause options.define_components (composition_of g) (outer_imports (asks_of (composition_of g))))
       (circle_cause (spelling (asks_of (composition_of g))) (outer_imports (asks_of (composition_of g)))))) e
 
   -- then types that cannot be written
   then_unwritten : (cause : Cause ℕ) → implicit_cause g ≡ None → conflict_in g ≡ None → unwritten_cause options.define_components g ≡ Some cause → cause_in options g ≡ Some cause
   then_unwritten cause none free e =
-      ap (λ o. or_else o (or_else (merge_conflict (asks_of (composition_of g)) [] (asks_of (composition_of g)))
-      (or_else (unwritable_cause options.define_components (composition_of g) (outer_imports (asks_of (composition_of g))))
+      ap (λ o. option_or o (option_or (merge_conflict (asks_of (composition_of g)) [] (asks_of (composition_of g)))
+      (option_or (unwritable_cause options.define_components (composition_of g) (outer_imports (asks_of (composition_of g))))
       (circle_cause (spelling (asks_of (composition_of g))) (outer_imports (asks_of (composition_of g))))))) none
-      ∙ ap (λ o. or_else o (or_else (unwritable_cause options.define_components (composition_of g) (outer_imports (asks_of (composition_of g))))
+      ∙ ap (λ o. option_or o (option_or (unwritable_cause options.define_components (composition_of g) (outer_imports (asks_of (composition_of g))))
       (circle_cause (spelling (asks_of (composition_of g))) (outer_imports (asks_of (composition_of g)))))) free
-      ∙ ap (λ o. or_else o (circle_cause (spelling (asks_of (composition_of g))) (outer_imports (asks_of (composition_of g))))) e
+      ∙ ap (λ o. option_or o (circle_cause (spelling (asks_of (composition_of g))) (outer_imports (asks_of (composition_of g))))) e
 
   pub implicit_refused : (e : Refusal) → IsImplicit g e → IsRefusedFor options g e
   implicit_refused (Refusal.ImplicitImportConflict import instantiation key n) h = (first_implicit _ h.0, h.1)

@@ -22,7 +22,8 @@ use Rattle.wac_graph_core.specs.declared.ids.PackageId.{PackageId}
 use Rattle.wac_graph_core.specs.Graph.{Graph, item_import, imported_in}
 use Rattle.wac_graph_core.specs.GraphWiring as wired
 use Rattle.wac_graph_core.proofs.Found.{eq_same}
-use Rattle.wac_graph_scopes.specs.Parts.{imports_of, imports_in, world_in}
+use Rattle.wac_types_base.specs.Parts.{imports_in_world}
+use Rattle.wac_graph_scopes.specs.Parts.{imports_of, world_in}
 use Rattle.wac_graph_scopes.specs.declared.imports.SortIndex.{SortIndex}
 use Rattle.wac_graph_encode.specs.declared.root.Counts.{Counts}
 use Rattle.wac_graph_encode.specs.Standing.{spelled, by_number, IsInstanceOf, IsWritten, IsGivenAt, argument, outer}
@@ -50,7 +51,7 @@ pub has_imports : {X : Type 0} (c : Collection) (w : WorldId) (xs : List (Name �
 has_imports c w xs n stands e =
     let x = world_found c w stands in
     let here : world_in c w ≡ Some x.value = ap (λ (b : Bool). if b then slice_get c.worlds w.index else None) (ap (λ (k : ℕ). k == c.number) x.own ∙ eq_same c.number) ∙ x.at in
-    same_values xs x.value.imports n (e ∙ ap (λ (o : Option World). names_of (imports_in o)) here) ∙ ap (λ (o : Option World). is_some (imported_in o n)) (sym x.at)
+    same_values xs x.value.imports n (e ∙ ap (λ (o : Option World). names_of (imports_in_world o)) here) ∙ ap (λ (o : Option World). is_some (imported_in o n)) (sym x.at)
 
 module _ (g : Graph) (worlds : Worlds) (define : Bool) (asked : List (Name × Tree)) (found : List (Name × SortIndex)) (held : List (PackageId × ℕ))
     (es : List CodeEntry) (c : Counts) (nodes : List (ℕ × SortIndex)) (h : IsWritten g worlds define asked found held es c nodes) (k : ℕ) where

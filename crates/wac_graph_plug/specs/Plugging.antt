@@ -2,11 +2,10 @@
 use Rattle.std.specs.Prelude.{◌≡◌, ◌⊎◌, List, [], ◌∷◌, map, Some}
 use Rattle.std.specs.List.{flat_map}
 use Rattle.wac_types_base.specs.declared.ids.WorldId.{WorldId}
-use Rattle.wac_types_base.specs.declared.item.ItemKind.{ItemKind}
 use Rattle.wac_types_base.specs.Record.{Collection}
 use Rattle.wac_types_base.specs.Entries.{Name, names_of, value_at}
 use Rattle.wac_types_base.specs.Graph.{Among}
-use Rattle.wac_types_base.specs.Stated.{Stated, stated_of, imports_of, exports_of}
+use Rattle.wac_types_base.specs.Stated.{Stated, imports_of, exports_of, stated_world}
 use Rattle.wac_types_base.specs.Tree.{tree}
 use Rattle.wac_types_base.specs.Fits.{Fits}
 use Rattle.wac_types_names.specs.Tracks.{ShareTrack}
@@ -38,13 +37,9 @@ pub data AreMatchesOf (imports : List (Name × Stated)) : List (Name × Stated) 
   passed : (e : Name) (given : Stated) {es : List (Name × Stated)} {ms : List Match}
       → ((i : Name) → Matches imports e given i → ⊥) → AreMatchesOf imports es ms → AreMatchesOf imports ((e, given) ∷ es) ms
 
--- the stated type of a component whose world this is
-abbrev pub component_of : Collection → WorldId → Stated
-component_of c world = stated_of c (ItemKind.Component world)
-
 -- the matches of the plug's exports with the socket's imports, by their worlds
 abbrev pub AreWorldMatches : Collection → WorldId → WorldId → List Match → Type 0
-AreWorldMatches c socket plug ms = AreMatchesOf (imports_of (component_of c socket)) (exports_of (component_of c plug)) ms
+AreWorldMatches c socket plug ms = AreMatchesOf (imports_of (stated_world c socket)) (exports_of (stated_world c plug)) ms
 
 -- the matches of each plug, in turn, by the worlds
 pub data AreMatches (socket : Stated) : List Stated → List (List Match) → Type 0 where

@@ -4,9 +4,9 @@ ghost use Rattle.std.specs.Prelude.{◌≡◌, IfOk, OnOk, IfSome, IfNone};
 ghost use Rattle.std.specs.Bool.{Decides};
 ghost use Rattle.wac_types_base.specs.Collection.{Stands};
 ghost use Rattle.wac_types_base.specs.Entries.{Name, AreDistinct, names_of, with_values};
-ghost use Rattle.wac_types_base.specs.Stated.{stated_of, exports_of};
+ghost use Rattle.wac_types_base.specs.Stated.{stated_of, exports_of, stated_world};
 ghost use Rattle.wac_types_fit.specs.Trees.{Fit};
-ghost use Rattle.wac_graph_plug.specs.Plugging.{Finds, AreWorldMatches, component_of};
+ghost use Rattle.wac_graph_plug.specs.Plugging.{Finds, AreWorldMatches};
 ghost use Rattle.wac_graph_plug.specs.Lookups.{IsNext, NoneNear, IsMatchOf, ItemsStandIn, with_match};
 
 use std::alloc::{AllocError, Global};
@@ -133,7 +133,7 @@ pub fn matches_of(
     requires plug { Stands types.now (ItemKind.Component plug) }
     requires socket { Stands types.now (ItemKind.Component socket) }
     ensures matches { IfOk result (λ v. AreWorldMatches types.now socket plug v.items) }
-    ensures distinct { OnOk result (AreDistinct (names_of (exports_of (component_of types.now plug)))) }
+    ensures distinct { OnOk result (AreDistinct (names_of (exports_of (stated_world types.now plug)))) }
 {
     types.see_acyclic();
     let exports = &types.world(plug).exports;

@@ -4,13 +4,12 @@ ghost use Rattle.std.specs.Prelude.{◌≡◌, ◌⊎◌, ◌||◌, All, OnOk, O
 ghost use Rattle.wac_types_base.specs.Collection.{Stands};
 ghost use Rattle.wac_types_base.specs.Entries.{Name, AreDistinct, names_of, texts_of};
 ghost use Rattle.wac_types_base.specs.Graph.{Among};
-ghost use Rattle.wac_types_base.specs.Stated.{exports_of};
+ghost use Rattle.wac_types_base.specs.Stated.{exports_of, stated_world};
 ghost use Rattle.wac_graph_core.specs.declared.ids.PackageId.{PackageId as PackageName};
 ghost use Rattle.wac_graph_plug.specs.declared.errors.PlugError.{PlugError as Fault};
 ghost use Rattle.wac_graph_core.specs.Graph.{ContainsNode, ContainsPackage};
 ghost use Rattle.wac_graph_core.specs.Steps.{Aliases};
 ghost use Rattle.wac_graph_plug.specs.declared.matching.Match.{Match as MatchData};
-ghost use Rattle.wac_graph_plug.specs.Plugging.{component_of};
 ghost use Rattle.wac_graph_plug.specs.Steps.{Grown, HasNoNodes, HasExport, Passes, PassesAll, ExportsOne, ExportsAll};
 ghost use Rattle.wac_graph_plug.specs.Stops.{StopsAt, StopsPassing, StopsExport, StopsExporting, StopsPlug, has_match, PlugsMatches, PlugsAll, StopsAll, Plugs, PlugRefused, PlugCause, IsPlugged};
 
@@ -196,7 +195,7 @@ fn either(a: bool, b: bool) -> bool
 /// The names of a world's exports.
 fn export_names(alloc: Global, types: &Types, world: WorldId) -> Result<Vec<String>, AllocError>
     requires { Stands types.now (ItemKind.Component world) }
-    ensures names { IfOk result (λ v. texts_of v.items ≡ names_of (exports_of (component_of types.now world))) }
+    ensures names { IfOk result (λ v. texts_of v.items ≡ names_of (exports_of (stated_world types.now world))) }
     ensures distinct { IfOk result (λ v. AreDistinct (texts_of v.items)) }
 {
     types.see_acyclic();

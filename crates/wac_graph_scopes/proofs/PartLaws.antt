@@ -11,7 +11,8 @@ use Rattle.wac_types_base.specs.Entries.{Name, value_at, names_of}
 use Rattle.wac_types_base.specs.Collection.{Entry, Stands, IsAcyclic, item_node, interface_entry, world_entry}
 use Rattle.wac_types_base.proofs.Replacing.{number_same}
 use Rattle.wac_types_fit.proofs.Items.{value_at-among, exports_inside, world_imports_inside}
-use Rattle.wac_graph_scopes.specs.Parts.{at_own, interface_in, world_in, exports_in, exports_of, identifier_in, uses_in, uses_of, uses_in_world, world_uses_of, imports_in, imports_of, exports_in_world, world_exports_of}
+use Rattle.wac_types_base.specs.Parts.{identifier_in, uses_in, exports_in, uses_in_world, imports_in_world, exports_in_world}
+use Rattle.wac_graph_scopes.specs.Parts.{at_own, interface_in, world_in, exports_of, uses_of, world_uses_of, imports_of, world_exports_of}
 
 at_own-is : {E : Type 0} (c : Collection) (es : List E) (n i : ℕ) (x : E) → slice_get es i ≡ Some x → n ≡ c.number → at_own c es n i ≡ Some x
 at_own-is c es n i x e h = rw (number_same n c.number h, e) refl
@@ -65,10 +66,10 @@ module _ (c : Collection) (id : WorldId) where
   world_uses_missing h = ap uses_in_world (world_missing h)
 
   pub imports_there : (x : World) → slice_get c.worlds id.index ≡ Some x → id.collection ≡ c.number → imports_of c id ≡ x.imports
-  imports_there x e own = ap imports_in (world_there x e own)
+  imports_there x e own = ap imports_in_world (world_there x e own)
 
   pub imports_missing : (Stands c (ItemKind.Component id) → ⊥) → imports_of c id ≡ []
-  imports_missing h = ap imports_in (world_missing h)
+  imports_missing h = ap imports_in_world (world_missing h)
 
   pub import_stands : IsAcyclic c → (x : World) → Stands c (ItemKind.Component id) → slice_get c.worlds id.index ≡ Some x → id.collection ≡ c.number → (n : Name) (k : ItemKind) → value_at x.imports n ≡ Some k → Stands c k
   import_stands a x s e own n k at = (world_imports_inside c a id x s e own n k (value_at-among x.imports n k at)).0

@@ -1,5 +1,6 @@
 -- The parts of interfaces and worlds. What does not stand has none.
-use Rattle.std.specs.Prelude.{◌≡◌, ℕ, List, [], Option, Some, None, slice_get, unwrap_or, if◌then◌else◌, ◌==◌}
+use Rattle.std.specs.Prelude.{◌≡◌, ℕ, List, Option, Some, None, slice_get, unwrap_or, if◌then◌else◌, ◌==◌}
+use Rattle.wac_types_base.specs.Parts.{uses_in, exports_in, uses_in_world, imports_in_world, exports_in_world}
 use Rattle.wac_types_base.specs.declared.ids.InterfaceId.{InterfaceId}
 use Rattle.wac_types_base.specs.declared.ids.WorldId.{WorldId}
 use Rattle.wac_types_base.specs.declared.ids.ResourceId.{ResourceId}
@@ -25,30 +26,6 @@ interface_in c id = at_own c c.interfaces id.collection id.index
 abbrev pub world_in : Collection → WorldId → Option World
 world_in c id = at_own c c.worlds id.collection id.index
 
-abbrev pub exports_in : Option Interface → List (Name × ItemKind)
-exports_in None = []
-exports_in (Some i) = i.exports
-
-abbrev pub uses_in : Option Interface → List (Name × UsedType)
-uses_in None = []
-uses_in (Some i) = i.uses
-
-abbrev pub identifier_in : Option Interface → Option Name
-identifier_in None = None
-identifier_in (Some i) = i.id
-
-abbrev pub uses_in_world : Option World → List (Name × UsedType)
-uses_in_world None = []
-uses_in_world (Some w) = w.uses
-
-abbrev pub imports_in : Option World → List (Name × ItemKind)
-imports_in None = []
-imports_in (Some w) = w.imports
-
-abbrev pub exports_in_world : Option World → List (Name × ItemKind)
-exports_in_world None = []
-exports_in_world (Some w) = w.exports
-
 module _ (c : Collection) where
   abbrev pub exports_of : InterfaceId → List (Name × ItemKind)
   exports_of id = exports_in (interface_in c id)
@@ -60,7 +37,7 @@ module _ (c : Collection) where
   world_uses_of id = uses_in_world (world_in c id)
 
   abbrev pub imports_of : WorldId → List (Name × ItemKind)
-  imports_of id = imports_in (world_in c id)
+  imports_of id = imports_in_world (world_in c id)
 
   abbrev pub world_exports_of : WorldId → List (Name × ItemKind)
   world_exports_of id = exports_in_world (world_in c id)

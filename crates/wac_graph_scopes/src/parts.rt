@@ -10,7 +10,8 @@ ghost use Rattle.wac_types_base.specs.Entries.{names_of, value_at, AreDistinct};
 ghost use Rattle.wac_types_base.specs.Collection.{Stands, size_of, resource};
 ghost use Rattle.wac_types_base.specs.Tree.{rigid, end};
 ghost use Rattle.wac_types_fit.specs.Trees.{IsInside, tree_in};
-ghost use Rattle.wac_graph_scopes.specs.Parts.{interface_in, identifier_in, exports_of, uses_of, world_uses_of, imports_of, world_exports_of};
+ghost use Rattle.wac_types_base.specs.Parts.{identifier_in};
+ghost use Rattle.wac_graph_scopes.specs.Parts.{interface_in, exports_of, uses_of, world_uses_of, imports_of, world_exports_of};
 ghost use Rattle.wac_graph_scopes.specs.Parts.{IsUse, IsUseAt, IsUsedKind, IsOfInterface, IsOfWorld, IsFresh, IsRootName};
 
 use wac_types_base::{InterfaceId, ItemKind, ResourceId, Type, Types, UsedType, WorldId};

@@ -5,11 +5,11 @@ ghost use Rattle.wac_types_base.specs.declared.item.ItemKind.{ItemKind};
 ghost use Rattle.wac_types_base.specs.declared.item.ValueType.{ValueType};
 ghost use Rattle.wac_types_base.specs.declared.item.«Type».{«Type» as TypeKind};
 ghost use Rattle.wac_types_base.specs.Entries.{Name};
-ghost use Rattle.wac_types_base.specs.Collection.{Stands, resource};
+ghost use Rattle.wac_types_base.specs.Collection.{Stands, resource, StandsIf};
 ghost use Rattle.wac_types_base.specs.Resolving.{IsNoAlias};
 ghost use Rattle.wac_types_base.specs.Tree.{rigid, end};
 ghost use Rattle.wac_types_fit.specs.Trees.{tree_in, Fit};
-ghost use Rattle.wac_types_fit.specs.Checking.{value_in, HoldsValues, ValueStands, value_tree, place_trees};
+ghost use Rattle.wac_types_fit.specs.Checking.{value_in, HoldsValues, value_tree, place_trees};
 ghost use Rattle.wac_graph_scopes.specs.declared.fault.WriteError.{WriteError};
 ghost use Rattle.wac_graph_scopes.specs.Refusals.{IsUnnamed, Refused, RefusedPlace, RefusedThere};
 ghost use Rattle.wac_graph_scopes.specs.Scopes.{KeepsScope, FindsType, WritesValue, WritesDefined, WritesType, WritesPlaces, WritesPlace, WritesEntry, WritesIndex, MakesEntry, RemembersOne, NotesResource, NotesValue, FindsResource};
@@ -523,7 +523,7 @@ fn push_place(
     types: &Types,
     place: Option<ValueType>,
 ) -> Result<Option<Written>, WriteError>
-    requires { ValueStands types.now place }
+    requires { StandsIf types.now place }
     ensures writes { WritesPlace types.now (value_tree types.now place) scope.old scope.new result }
     ensures refused { IfErr result (RefusedPlace types.now place scope.new) }
     ensures resources { scope.new.resources ≡ scope.old.resources }

@@ -1,6 +1,6 @@
 -- Asks that are taken by their labels conflict where asks of their classes do.
-use Rattle.std.proofs.Common.{◌≡◌, ℕ, List, [], ◌∷◌, ◌++◌, append_assoc, length, Bool, Option, Some, None, ◌==◌, ◌+◌, refl, sym, ap, subst, ◌∙◌}
 use Rattle.std.specs.Prelude.{bytes_eq, is_some, slice_get, if◌then◌else◌}
+use Rattle.std.proofs.Common.{◌≡◌, ℕ, List, [], ◌∷◌, ◌++◌, append_assoc, length, Bool, Option, Some, None, ◌==◌, ◌+◌, refl, sym, ap, subst, ◌∙◌}
 use Rattle.std.specs.List.{list_any}
 use Rattle.std.specs.Cmp.Derive.{one_truth}
 use Rattle.std.proofs.lemmas.Slice.Eq.{bytes_eq-Decides}
@@ -11,7 +11,8 @@ use Rattle.wac_types_base.proofs.Adding.{slice_get-left}
 use Rattle.wac_types_base.proofs.Copying.{last_place}
 use Rattle.wac_composition.specs.Asks.{Asking, ByName, ToFill, ToUse, Ask}
 use Rattle.wac_composition.specs.Classes.{class}
-use Rattle.wac_composition.specs.Conflicts.{Cause, or_else, merge_cause, merge_fails, those_in, merge_conflict}
+use Rattle.std.specs.Option.{option_or}
+use Rattle.wac_composition.specs.Conflicts.{Cause, merge_cause, merge_fails, those_in, merge_conflict}
 use Rattle.wac_composition.proofs.Closures.{any_among, among_any}
 use Rattle.wac_composition.proofs.OuterClasses.{class_same, within, class_itself, class_by_name}
 use Rattle.wac_composition.proofs.ClassLaws.{in_class_linked, linked_in_class}
@@ -72,8 +73,8 @@ module _ {A : Type 0} (all : List (Ask A)) (labels : List ℕ) (c : LabelClasses
   conflict_behind asks rest ls more (one_more_kept bs ms a l k e) is are =
       let those = those_are bs rest ms more a l (kept_as_many bs ms k) is are in
       conflict_behind bs (a ∷ rest) ms (l ∷ more) k (is ∙ append_assoc bs (a ∷ []) rest) (are ∙ append_assoc ms (l ∷ []) more)
-      ∙ ap (λ as_. or_else (merge_fails a as_) (merge_conflict all (bs ++ a ∷ []) rest)) those
-      ∙ ap (λ b. or_else (if b then None else merge_cause a.asking a (labelled l (bs ++ a ∷ []) (ms ++ l ∷ []))) (merge_conflict all (bs ++ a ∷ []) rest)) e
+      ∙ ap (λ as_. option_or (merge_fails a as_) (merge_conflict all (bs ++ a ∷ []) rest)) those
+      ∙ ap (λ b. option_or (if b then None else merge_cause a.asking a (labelled l (bs ++ a ∷ []) (ms ++ l ∷ []))) (merge_conflict all (bs ++ a ∷ []) rest)) e
 
 pub kept_have_no_conflict : {A : Type 0} → Kept_have_no_conflict A
 kept_have_no_conflict asks labels c k = conflict_behind asks labels c asks [] labels [] k (sym (nothing_behind asks)) (sym (nothing_behind labels))
@@ -83,7 +84,7 @@ kept_have_no_conflict asks labels c k = conflict_behind asks labels c asks [] la
     nothing_behind (x ∷ xs) = ap (λ l. x ∷ l) (nothing_behind xs)
 
 -- where there is an ask there is a cause
-or_cause : {A : Type 0} (k : Asking) (a : Ask A) (xs : List (Ask A)) (b : Ask A) (o : Option (Cause A)) → or_else (merge_cause k a (xs ++ b ∷ [])) o ≡ merge_cause k a (xs ++ b ∷ [])
+or_cause : {A : Type 0} (k : Asking) (a : Ask A) (xs : List (Ask A)) (b : Ask A) (o : Option (Cause A)) → option_or (merge_cause k a (xs ++ b ∷ [])) o ≡ merge_cause k a (xs ++ b ∷ [])
 or_cause ByName a [] b o = refl
 or_cause ToFill a [] b o = refl
 or_cause ToUse a [] b o = refl
@@ -99,6 +100,6 @@ refused_is_conflict {A} asks later ls more a l c as_many k e =
     let rest = merge_conflict all (asks ++ a ∷ []) later in
     let last : of_label ≡ labelled l asks ls ++ a ∷ [] = one_more_labelled asks ls a l l as_many ∙ ap (λ b. if b then labelled l asks ls ++ a ∷ [] else labelled l asks ls) ((Decides-eqb l l).1 refl) in
     conflict_behind all (ls ++ l ∷ more) c asks (a ∷ later) ls (l ∷ more) k refl refl
-    ∙ ap (λ as_. or_else (merge_fails a as_) rest) those
-    ∙ ap (λ o. or_else (if is_some o then None else merge_cause a.asking a of_label) rest) e
-    ∙ ap (λ as_. or_else (merge_cause a.asking a as_) rest) last ∙ or_cause a.asking a (labelled l asks ls) a rest ∙ ap (merge_cause a.asking a) (sym last)
+    ∙ ap (λ as_. option_or (merge_fails a as_) rest) those
+    ∙ ap (λ o. option_or (if is_some o then None else merge_cause a.asking a of_label) rest) e
+    ∙ ap (λ as_. option_or (merge_cause a.asking a as_) rest) last ∙ or_cause a.asking a (labelled l asks ls) a rest ∙ ap (merge_cause a.asking a) (sym last)

@@ -1,6 +1,6 @@
 -- What the items of a collection state is regular, where no component and no module is in it.
-use Rattle.std.proofs.Common.{◌≡◌, ℕ, zero, suc, ◌<◌, List, Option, Some, None, true, false, refl, sym, ap, subst, ◌∙◌, inl, inr, arith}
 use Rattle.std.specs.Prelude.{slice_get}
+use Rattle.std.proofs.Common.{◌≡◌, ℕ, zero, suc, ◌<◌, List, Option, Some, None, true, false, refl, sym, ap, subst, ◌∙◌, inl, inr, arith}
 use Rattle.std.specs.Option.{option_map}
 use Rattle.wac_types_base.specs.declared.item.ValueType.{ValueType}
 use Rattle.wac_types_base.specs.declared.item.«Type».{«Type» as TypeKind}
@@ -17,7 +17,7 @@ use Rattle.wac_types_base.specs.Record.{Collection}
 use Rattle.wac_types_base.specs.Graph.{Among}
 use Rattle.wac_types_base.specs.Entries.{Name, value_at}
 use Rattle.wac_types_base.specs.Collection.{Stands, IsAcyclic, size_of}
-use Rattle.wac_types_base.specs.Stated.{Stated, kind_of, stated_of, as_type, exports_of}
+use Rattle.wac_types_base.specs.Stated.{Stated, kind_of, stated_of, as_type, exports_of, is_interface}
 use Rattle.wac_types_base.specs.Tree.{Tree, rigid, instance, component, core_module, handle_own, handle_borrow, type_item}
 use Rattle.wac_types_base.proofs.Adding.{option_map-some}
 use Rattle.wac_types_base.proofs.Slots.{stands_typed_func, stands_typed_value, stands_typed_interface, stands_typed_world, stands_typed_module}
@@ -31,7 +31,6 @@ use Rattle.wac_types_fit.proofs.Items.{looked_in, exports_inside, found_inside}
 use Rattle.wac_types_fit.proofs.Unfolded.{primitive_tree, own_tree, borrow_tree, defined_tree, alias_tree, root_tree, source_tree, func_tree, fields_in, instance_tree, component_tree, module_tree, type_func, type_value, type_interface, type_world, type_module, interface_size}
 use Rattle.wac_types_merge.proofs.Clashing.{plain_has}
 use Rattle.wac_composition.specs.Classes.{is_instance}
-use Rattle.wac_composition.specs.Merging.{is_interface}
 use Rattle.wac_composition.specs.Again.{IsWell}
 use Rattle.wac_composition.proofs.Clashing.{value_among}
 use Rattle.wac_composition.proofs.Again.{entries_of}

@@ -1,6 +1,6 @@
 -- An ask that repeats one before it conflicts with none, and changes no conflict.
-use Rattle.std.proofs.Common.{◌≡◌, List, [], ◌∷◌, ◌++◌, append_assoc, Bool, true, false, Option, Some, None, ◌⊎◌, refl, sym, ap, subst, ◌∙◌, inl, inr}
 use Rattle.std.specs.Prelude.{bytes_eq, cond, filter, is_some, if◌then◌else◌}
+use Rattle.std.proofs.Common.{◌≡◌, List, [], ◌∷◌, ◌++◌, append_assoc, Bool, true, false, Option, Some, None, ◌⊎◌, refl, sym, ap, subst, ◌∙◌, inl, inr}
 use Rattle.std.specs.List.{list_any}
 use Rattle.std.specs.Cmp.Derive.{one_truth}
 use Rattle.std.proofs.lemmas.Option.{none-some}
@@ -13,7 +13,8 @@ use Rattle.wac_composition.specs.Classes.{class}
 use Rattle.wac_composition.specs.Merging.{kept}
 use Rattle.wac_composition.specs.Again.{IsWell, KeepsClasses}
 use Rattle.wac_composition.specs.OuterImports.{asked_in}
-use Rattle.wac_composition.specs.Conflicts.{Cause, or_else, merge_cause, merge_fails, those_in, merge_conflict}
+use Rattle.std.specs.Option.{option_or}
+use Rattle.wac_composition.specs.Conflicts.{Cause, merge_cause, merge_fails, those_in, merge_conflict}
 use Rattle.wac_composition.proofs.Closures.{any_among, among_any, filter_among, among_filter, filter_same}
 use Rattle.wac_composition.proofs.OuterClasses.{class_same, within, class_itself, class_by_name}
 use Rattle.wac_composition.proofs.AskedAgain.{asked_again, filter_append, kept_again, among_more, among_fewer}
@@ -22,7 +23,7 @@ use Rattle.wac_merging.specs.Repeated.{Repeated_conflicts_no_more}
 
 -- ---- causes
 
-or_else_through : {X : Type 0} (o p q : Option X) → or_else (or_else o p) q ≡ or_else o (or_else p q)
+or_else_through : {X : Type 0} (o p q : Option X) → option_or (option_or o p) q ≡ option_or o (option_or p q)
 or_else_through None p q = refl
 or_else_through (Some x) p q = refl
 
@@ -48,11 +49,11 @@ module _ {A : Type 0} where
       go true q = refl
       go false q = absurd (no_cause a.asking a xs b m q)
 
-  conflict_split : (all pre ds rest : List (Ask A)) → merge_conflict all pre (ds ++ rest) ≡ or_else (merge_conflict all pre ds) (merge_conflict all (pre ++ ds) rest)
+  conflict_split : (all pre ds rest : List (Ask A)) → merge_conflict all pre (ds ++ rest) ≡ option_or (merge_conflict all pre ds) (merge_conflict all (pre ++ ds) rest)
   conflict_split all pre [] rest = ap (λ xs. merge_conflict all xs rest) (sym (append-nil pre))
   conflict_split all pre (d ∷ ds) rest =
       let fails = merge_fails d (those_in (class all d) (pre ++ d ∷ [])) in
-      ap (or_else fails) (conflict_split all (pre ++ d ∷ []) ds rest ∙ ap (λ xs. or_else (merge_conflict all (pre ++ d ∷ []) ds) (merge_conflict all xs rest)) (append_assoc pre (d ∷ []) ds))
+      ap (option_or fails) (conflict_split all (pre ++ d ∷ []) ds rest ∙ ap (λ xs. option_or (merge_conflict all (pre ++ d ∷ []) ds) (merge_conflict all xs rest)) (append_assoc pre (d ∷ []) ds))
       ∙ sym (or_else_through fails (merge_conflict all (pre ++ d ∷ []) ds) (merge_conflict all (pre ++ d ∷ ds) rest))
 
   -- whether a name of the asks is this one's
@@ -150,7 +151,7 @@ module _ {A : Type 0} where
     before_same : (pre ds : List (Ask A)) → ((d : Ask A) → Among d ds → Among d asks) → merge_conflict more pre ds ≡ merge_conflict asks pre ds
     before_same pre [] sub = refl
     before_same pre (d ∷ ds) sub =
-        λ i. or_else (merge_fails d (those_same d (pre ++ d ∷ []) (sub d (inl refl)) i)) (before_same (pre ++ d ∷ []) ds (λ c m. sub c (inr m)) i)
+        λ i. option_or (merge_fails d (those_same d (pre ++ d ∷ []) (sub d (inl refl)) i)) (before_same (pre ++ d ∷ []) ds (λ c m. sub c (inr m)) i)
 
     -- the repeated one among asks of a class
     fails_same : (d : Ask A) (cs xs : List (Ask A)) → merge_fails d (those_in cs (before ++ a ∷ xs)) ≡ merge_fails d (those_in cs (before ++ xs))
@@ -170,7 +171,7 @@ module _ {A : Type 0} where
         let right = append_assoc before bs (d ∷ []) in
         let first = ap (λ xs. merge_fails d (those_in (class more d) xs)) left ∙ ap (merge_fails d) (those_same d (before ++ a ∷ (bs ++ d ∷ [])) (sub d (inl refl))) ∙ fails_same d (class asks d) (bs ++ d ∷ []) ∙ ap (λ xs. merge_fails d (those_in (class asks d) xs)) (sym right) in
         let rest = ap (λ xs. merge_conflict more xs ds) left ∙ after_same (bs ++ d ∷ []) ds (λ c m. sub c (inr m)) ∙ ap (λ xs. merge_conflict asks xs ds) (sym right) in
-        λ i. or_else (first i) (rest i)
+        λ i. option_or (first i) (rest i)
 
     -- and itself
     repeated_fine : merge_conflict more [] before ≡ None → merge_fails a (those_in (class more a) (before ++ a ∷ [])) ≡ None
@@ -186,12 +187,12 @@ module _ {A : Type 0} where
     conflict_same : merge_conflict more [] more ≡ merge_conflict asks [] asks
     conflict_same = conflict_split more [] before (a ∷ after) ∙ go (merge_conflict more [] before) refl ∙ sym (conflict_split asks [] before after)
       where
-        go : (o : Option (Cause A)) → merge_conflict more [] before ≡ o → or_else (merge_conflict more [] before) (merge_conflict more before (a ∷ after)) ≡ or_else (merge_conflict asks [] before) (merge_conflict asks before after)
+        go : (o : Option (Cause A)) → merge_conflict more [] before ≡ o → option_or (merge_conflict more [] before) (merge_conflict more before (a ∷ after)) ≡ option_or (merge_conflict asks [] before) (merge_conflict asks before after)
         go None e =
-            let rest = ap (λ o. or_else o (merge_conflict more (before ++ a ∷ []) after)) (repeated_fine e) ∙ after_same [] after (λ d m. Among-right d before after m) ∙ ap (λ xs. merge_conflict asks xs after) (append-nil before) in
-            λ i. or_else (firsts_same i) (rest i)
+            let rest = ap (λ o. option_or o (merge_conflict more (before ++ a ∷ []) after)) (repeated_fine e) ∙ after_same [] after (λ d m. Among-right d before after m) ∙ ap (λ xs. merge_conflict asks xs after) (append-nil before) in
+            λ i. option_or (firsts_same i) (rest i)
         go (Some x) e =
-            ap (λ o. or_else o (merge_conflict more before (a ∷ after))) e ∙ ap (λ o. or_else o (merge_conflict asks before after)) (sym (sym firsts_same ∙ e))
+            ap (λ o. option_or o (merge_conflict more before (a ∷ after))) e ∙ ap (λ o. option_or o (merge_conflict asks before after)) (sym (sym firsts_same ∙ e))
 
 pub repeated_conflicts_no_more : {A : Type 0} → Repeated_conflicts_no_more A
 repeated_conflicts_no_more before after a b m n i w = conflict_same before after a b m n i w

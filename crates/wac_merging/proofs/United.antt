@@ -1,20 +1,20 @@
 -- What merging makes of two collections' items states what merging makes of what they state.
-use Rattle.std.proofs.Common.{◌≡◌, List, [], ◌∷◌, ◌++◌, map, Bool, true, false, true≢false, not, Option, Some, None, refl, sym, ap, subst, ◌∙◌, inl, inr}
 use Rattle.std.specs.Prelude.{is_some, is_none, cond, filter, bytes_eq, if◌then◌else◌, ◌&&◌, ◌||◌, ◌⊎◌}
+use Rattle.std.proofs.Common.{◌≡◌, List, [], ◌∷◌, ◌++◌, map, Bool, true, false, true≢false, not, Option, Some, None, refl, sym, ap, subst, ◌∙◌, inl, inr}
 use Rattle.std.specs.Option.{option_map}
 use Rattle.std.proofs.lemmas.List.{map-append}
 use Rattle.std.proofs.lemmas.Option.{same_Some}
 use Rattle.std.proofs.lemmas.Slice.Eq.{bytes_eq-Decides}
 use Rattle.wac_types_base.specs.Entries.{Name, value_at}
 use Rattle.wac_types_base.specs.Graph.{Among}
-use Rattle.wac_types_base.specs.Stated.{Stated, Used, Kind, IsFunction, IsInstance, IsComponent, IsModule, IsValue, IsResource, IsFunctionType, IsValueType, IsInterface, IsWorld, IsModuleType, kind_of, interface_of, as_type, uses_of, exports_of, identifier_of}
+use Rattle.wac_types_base.specs.Stated.{Stated, Used, Kind, IsFunction, IsInstance, IsComponent, IsModule, IsValue, IsResource, IsFunctionType, IsValueType, IsInterface, IsWorld, IsModuleType, kind_of, interface_of, as_type, uses_of, exports_of, identifier_of, is_interface}
 use Rattle.wac_types_base.proofs.Adding.{Among-left}
 use Rattle.wac_types_fit.proofs.Meeting.{mapped-some}
 use Rattle.wac_types_merge.specs.Interfaces.{new_in, joined}
 use Rattle.wac_types_merge.specs.United.{by_name, AreBoth, Unites, the_first, of_instances, ExportsUnite, none_united, one_alone, one_united}
 use Rattle.wac_composition.specs.Classes.{is_instance}
 use Rattle.wac_composition.specs.Tests.{fits}
-use Rattle.wac_composition.specs.Merging.{is_interface, both, merged_with, merged_exports, has_use, merge}
+use Rattle.wac_composition.specs.Merging.{both, merged_with, merged_exports, has_use, merge}
 use Rattle.wac_composition.proofs.KeptFits.{both_is, if_is}
 use Rattle.wac_composition.proofs.Again.{merging, more_uses, more_exports, merged_of, merge_made, merge_typed, merge_other, none_merging, no_both}
 use Rattle.wac_merging.proofs.Well.{IsMade, made_instance, made_interface, made_other}

@@ -1,6 +1,6 @@
 -- What the items of a collection state is well.
-use Rattle.std.proofs.Common.{◌≡◌, ℕ, zero, suc, ◌<◌, List, [], ◌∷◌, false, Option, Some, refl, sym, ap, subst, ◌∙◌, inl, inr, arith}
 use Rattle.std.specs.Prelude.{slice_get}
+use Rattle.std.proofs.Common.{◌≡◌, ℕ, zero, suc, ◌<◌, List, [], ◌∷◌, false, Option, Some, refl, sym, ap, subst, ◌∙◌, inl, inr, arith}
 use Rattle.wac_types_base.specs.declared.item.«Type».{«Type» as TypeKind}
 use Rattle.wac_types_base.specs.declared.item.ItemKind.{ItemKind}
 use Rattle.wac_types_base.specs.declared.ids.InterfaceId.{InterfaceId}
@@ -9,7 +9,7 @@ use Rattle.wac_types_base.specs.Record.{Collection}
 use Rattle.wac_types_base.specs.Graph.{Among}
 use Rattle.wac_types_base.specs.Entries.{Name, AreDistinct, names_of, with_values}
 use Rattle.wac_types_base.specs.Collection.{Stands, IsAcyclic, size_of, item_node, labelled, type_of, interface_entry}
-use Rattle.wac_types_base.specs.Stated.{Stated, Used, kind_of, stated_of, interface_of, as_type, uses_of, exports_of, identifier_of}
+use Rattle.wac_types_base.specs.Stated.{Stated, Used, kind_of, stated_of, interface_of, as_type, uses_of, exports_of, identifier_of, is_interface}
 use Rattle.wac_types_base.proofs.Looked.{among-get}
 use Rattle.wac_types_base.proofs.Slots.{entry_at-is, stands_typed_interface}
 use Rattle.wac_types_base.proofs.Standing.{interface_found}
@@ -19,7 +19,6 @@ use Rattle.wac_types_base.proofs.Made.{made_exports}
 use Rattle.wac_types_fit.proofs.Items.{exports_inside}
 use Rattle.wac_types_fit.proofs.Unfolded.{interface_size}
 use Rattle.wac_composition.specs.Classes.{is_instance}
-use Rattle.wac_composition.specs.Merging.{is_interface}
 use Rattle.wac_composition.specs.Again.{IsWell, well_instance, well_interface, no_interface}
 use Rattle.wac_composition.proofs.Again.{made_uses}
 use Rattle.wac_merging.specs.Named.{Stated_are_well}

@@ -1,6 +1,6 @@
 -- An item is an instance of the family of identified interfaces where what it states is.
-use Rattle.std.proofs.Common.{◌≡◌, List, [], ◌∷◌, Bool, true, false, true≢false, Option, Some, None, refl, sym, ap, subst, ◌∙◌, inl, inr}
 use Rattle.std.specs.Prelude.{◌&&◌, is_some, slice_get}
+use Rattle.std.proofs.Common.{◌≡◌, List, [], ◌∷◌, Bool, true, false, true≢false, Option, Some, None, refl, sym, ap, subst, ◌∙◌, inl, inr}
 use Rattle.std.specs.List.{list_all, list_any}
 use Rattle.std.specs.Cmp.Derive.{both_true}
 use Rattle.std.proofs.lemmas.Bool.{and_parts}
@@ -16,7 +16,7 @@ use Rattle.wac_types_base.specs.Entries.{Name, values_of, with_values}
 use Rattle.wac_types_base.specs.Reaching.{Reaches, here, below}
 use Rattle.wac_types_base.specs.Collection.{Stands, IsAcyclic, item_node}
 use Rattle.wac_types_base.specs.Stated.{Stated, Used, kind_of, stated_of, exports_of, uses_of, identifier_of}
-use Rattle.wac_types_base.specs.Implicit.{identifier_in}
+use Rattle.wac_types_base.specs.Parts.{identifier_in}
 use Rattle.wac_types_base.proofs.Standing.{interface_found}
 use Rattle.wac_types_base.proofs.Stating.{stated_uses, interface_uses, interface_stated, instance_exports_stated}
 use Rattle.wac_types_base.proofs.Telling.{item_kind, kind_stated}

@@ -13,7 +13,7 @@ use Rattle.wac_parser_tree.specs.Trees.{Span}
 use Rattle.wac_parser_declare.specs.Packages.{Content}
 use Rattle.wac_parser_resolve.specs.Ascribed.{asker_key, span_or_none}
 use Rattle.wac_parser_resolve.specs.Ascribing.{Import, Made, State}
-use Rattle.wac_parser_resolve.specs.Denoting.{or_else}
+use Rattle.std.specs.Option.{option_or}
 use Rattle.wac_parser_resolve.specs.Holding.{InTurn, IsMade}
 use Rattle.wac_parser_resolve.specs.InDocuments.{IsBuilt}
 use Rattle.wac_parser_resolve.specs.Resolved.{Places, import_place, asker_place}
@@ -29,7 +29,7 @@ use Rattle.wac_parser_ascribed.proofs.Tied.{asker, instance_no_import, ks, ks_ap
 none_noted : (es : List (ℕ × Span)) (k : ℕ) → (Among k (names_of es) → ⊥) → last_noted es k ≡ None
 none_noted [] k h = refl
 none_noted (x ∷ es) k h =
-    ap (λ o. or_else o (cond (x.0 == k) (Some x.1) None)) (none_noted es k (λ m. h (inr m)))
+    ap (λ o. option_or o (cond (x.0 == k) (Some x.1) None)) (none_noted es k (λ m. h (inr m)))
     ∙ ap (λ b. cond b (Some x.1) None) (other_number x.0 k (λ e. h (inl (sym e))))
 
 name_there : (es : List (ℕ × Span)) (e : ℕ × Span) → Among e es → Among e.0 (names_of es)
@@ -40,9 +40,9 @@ name_there (x ∷ es) e (inr m) = inr (name_there es e m)
 noted_is : (es : List (ℕ × Span)) (e : ℕ × Span) → AreDistinct (names_of es) → Among e es → last_noted es e.0 ≡ Some e.1
 noted_is [] e d m = absurd m
 noted_is (x ∷ es) e d (inl q) =
-    ap (λ o. or_else o (cond (x.0 == e.0) (Some x.1) None)) (none_noted es e.0 (λ m. d.0 (subst (λ k. Among k (names_of es)) (ap (λ (y : ℕ × Span). y.0) q) m)))
+    ap (λ o. option_or o (cond (x.0 == e.0) (Some x.1) None)) (none_noted es e.0 (λ m. d.0 (subst (λ k. Among k (names_of es)) (ap (λ (y : ℕ × Span). y.0) q) m)))
     ∙ ap (λ b. cond b (Some x.1) None) (number_same x.0 e.0 (ap (λ (y : ℕ × Span). y.0) (sym q))) ∙ ap (λ (y : ℕ × Span). Some y.1) (sym q)
-noted_is (x ∷ es) e d (inr m) = ap (λ o. or_else o (cond (x.0 == e.0) (Some x.1) None)) (noted_is es e d.1 m)
+noted_is (x ∷ es) e d (inr m) = ap (λ o. option_or o (cond (x.0 == e.0) (Some x.1) None)) (noted_is es e d.1 m)
 
 -- what stands beside a node that is noted
 noted_beside : {A : Type 0} (R : A → ℕ × Span → Type 0) (xs : List A) (es : List (ℕ × Span)) (k : ℕ) (x : A) → InTurn R xs es → beside (names_of es) xs k ≡ Some x
@@ -74,13 +74,13 @@ module _ (g : Graph) (sound : IsGraph g) (acyclic : IsAcyclic g.types) {places :
       let here : last_noted places.imports k ≡ Some i.span = ap (last_noted places.imports) (sym n.2) ∙ noted_is places.imports n.0 (ks_apart g sound acyclic s b ps said) n.1 ∙ ap Some n.3.span in
       let id : last_noted places.ids k ≡ Some i.id_span = ap (last_noted places.ids) (sym n.2) ∙ n.3.id in
       let other : last_noted places.instances k ≡ None = none_noted places.instances k (λ m. apart k m (subst (λ j. Among j imports) n.2 (name_there places.imports n.0 n.1))) in
-      (ap span_or_none here, λ j. span_or_none (or_else (other j) (id j)))
+      (ap span_or_none here, λ j. span_or_none (option_or (other j) (id j)))
 
   of_instance : (k : ℕ) (m : Made) → beside instances s.made k ≡ Some m → asker_place places k ≡ m.span
   of_instance k m q =
       let n = noted_beside (IsMade g instances) s.made places.instances k m b.says.made q in
       let here : last_noted places.instances k ≡ Some m.span = ap (last_noted places.instances) (sym n.2) ∙ noted_is places.instances n.0 (ms_apart g sound acyclic s b ps said) n.1 ∙ ap Some n.3.span in
-      ap (λ o. span_or_none (or_else o (last_noted places.ids k))) here
+      ap (λ o. span_or_none (option_or o (last_noted places.ids k))) here
 
   pub placed : (k : ℕ) → IsPlaced places k (asker g sound acyclic s b ps said k)
   placed k = by (beside imports s.imports k) (beside instances s.made k) refl refl

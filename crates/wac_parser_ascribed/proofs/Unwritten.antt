@@ -7,7 +7,8 @@ use Rattle.wac_types_base.specs.Stated.{Stated}
 use Rattle.wac_types_names.specs.Keys.{Key}
 use Rattle.wac_composition.specs.Composition.{Placed, Made, Composition}
 use Rattle.wac_composition.specs.Alike.{AreSameMade, IsAlike}
-use Rattle.wac_composition.specs.Conflicts.{Cause, Unwritable, or_else, first_found, dependency_name, same_key, each_once, dependencies_of, cause_at, placed, unwritable_cause}
+use Rattle.std.specs.Option.{option_or}
+use Rattle.wac_composition.specs.Conflicts.{Cause, Unwritable, first_found, dependency_name, same_key, each_once, dependencies_of, cause_at, placed, unwritable_cause}
 use Rattle.wac_composition.specs.Renaming.{cause_renamed, made_renamed, placed_renamed, renamed}
 use Rattle.wac_composition.specs.Writable.{outer_unwritable, definition_unwritable, package_unwritable, alias_unwritable}
 
@@ -15,7 +16,7 @@ abbrev named_if : {C : Type 0} → Name → Bool → Option (Cause C)
 named_if n b = if b then Some (Unwritable n) else None
 
 module _ {A B : Type 0} (f : A → B) where
-  or_renamed : (o p : Option (Cause A)) → or_else (option_map (cause_renamed f) o) (option_map (cause_renamed f) p) ≡ option_map (cause_renamed f) (or_else o p)
+  or_renamed : (o p : Option (Cause A)) → option_or (option_map (cause_renamed f) o) (option_map (cause_renamed f) p) ≡ option_map (cause_renamed f) (option_or o p)
   or_renamed None p = refl
   or_renamed (Some x) p = refl
 
@@ -28,7 +29,7 @@ module _ {A B : Type 0} (f : A → B) where
   found_renamed p (e ∷ es) =
       let first = one_renamed e.0 (p e) in
       let rest = found_renamed p es in
-      (λ i. or_else (first i) (rest i)) ∙ or_renamed (cause_at p e) (first_found (cause_at p) es)
+      (λ i. option_or (first i) (rest i)) ∙ or_renamed (cause_at p e) (first_found (cause_at p) es)
 
   placed_same : (ds : List (Placed A)) → placed (map (placed_renamed f) ds) ≡ placed ds
   placed_same [] = refl
@@ -57,13 +58,13 @@ module _ {A B : Type 0} (f : A → B) where
           let outers = found_renamed (outer_unwritable os) os in
           let defined = found_renamed (definition_unwritable os) (placed c.definitions) in
           let packages = found_renamed package_unwritable (dependencies_of define c) in
-          (λ i. or_else (first_found (cause_at {A = B} alias_unwritable) (sym same.aliases i))
-          (or_else (first_found (cause_at {A = B} (outer_unwritable (is i))) (is i))
-          (or_else (first_found (cause_at {A = B} (definition_unwritable (is i))) (definitions i))
+          (λ i. option_or (first_found (cause_at {A = B} alias_unwritable) (sym same.aliases i))
+          (option_or (first_found (cause_at {A = B} (outer_unwritable (is i))) (is i))
+          (option_or (first_found (cause_at {A = B} (definition_unwritable (is i))) (definitions i))
           (first_found (cause_at {A = B} package_unwritable) (dependencies_same define i)))))
-          ∙ (λ i. or_else (aliases i) (or_else (outers i) (or_else (defined i) (packages i))))
-          ∙ (λ i. or_else (option_map (cause_renamed f) (first_found (cause_at alias_unwritable) c.aliases)) (or_else (option_map (cause_renamed f) (first_found (cause_at (outer_unwritable os)) os))
+          ∙ (λ i. option_or (aliases i) (option_or (outers i) (option_or (defined i) (packages i))))
+          ∙ (λ i. option_or (option_map (cause_renamed f) (first_found (cause_at alias_unwritable) c.aliases)) (option_or (option_map (cause_renamed f) (first_found (cause_at (outer_unwritable os)) os))
           (or_renamed (first_found (cause_at (definition_unwritable os)) (placed c.definitions)) (first_found (cause_at package_unwritable) (dependencies_of define c)) i)))
-          ∙ (λ i. or_else (option_map (cause_renamed f) (first_found (cause_at alias_unwritable) c.aliases))
-          (or_renamed (first_found (cause_at (outer_unwritable os)) os) (or_else (first_found (cause_at (definition_unwritable os)) (placed c.definitions)) (first_found (cause_at package_unwritable) (dependencies_of define c))) i))
+          ∙ (λ i. option_or (option_map (cause_renamed f) (first_found (cause_at alias_unwritable) c.aliases))
+          (or_renamed (first_found (cause_at (outer_unwritable os)) os) (option_or (first_found (cause_at (definition_unwritable os)) (placed c.definitions)) (first_found (cause_at package_unwritable) (dependencies_of define c))) i))
           ∙ or_renamed (first_found (cause_at alias_unwritable) c.aliases) _

@@ -12,7 +12,7 @@ use Rattle.wac_types_base.specs.declared.ids.ResourceId.{ResourceId}
 use Rattle.wac_types_base.specs.Collection as s
 use Rattle.wac_types_base.specs.Collection.{Grows, IsAcyclic, Stands, item_node}
 use Rattle.wac_types_base.specs.Entries.{Name, with_values, value_at}
-use Rattle.wac_types_base.specs.Stated.{Stated, Used, borrow, leaf, own, stated_of}
+use Rattle.wac_types_base.specs.Stated.{Stated, Used, borrow, leaf, own, stated_of, stated_use}
 use Rattle.wac_types_base.proofs.Telling.{stated_step}
 use Rattle.wac_types_base.proofs.Stating.{stated_kept}
 use Rattle.wac_parser_tree.specs.Trees as t
@@ -25,7 +25,7 @@ use Rattle.wac_parser_declare.specs.declared.scope.Binding.{Binding}
 use Rattle.wac_parser_declare.specs.Bodies as stated
 use Rattle.wac_parser_declare.specs.Aliases.{stated_resource}
 use Rattle.wac_parser_declare.specs.Bodies.{has_method, method_name, self_of, with_item}
-use Rattle.wac_parser_declare.specs.Held.{BodyStands, stated_body, stated_use}
+use Rattle.wac_parser_declare.specs.Held.{BodyStands, stated_body}
 use Rattle.wac_parser_declare.specs.Holding.{AddsNew, ItemsStand, UsesStand, meant_by, scope_of, self_params, stated_if}
 use Rattle.wac_parser_declare.specs.InBodies.{is_method, receiver_of}
 use Rattle.wac_parser_declare.specs.Scope.{Meant, Scope, bind, has, taken}

@@ -1,6 +1,6 @@
 -- Uses of types, step by step.
-use Rattle.std.specs.Cmp.Lexicographic.{pointwise}
 use Rattle.std.proofs.Common.{◌≡◌, List, [], ◌∷◌, ◌++◌, map, Option, Some, None, option_map, is_none, is_some, Bool, true, false, not, ◌||◌, ◌==◌, if◌then◌else◌, Result, Ok, refl, sym, ap, subst, ◌∙◌}
+use Rattle.std.specs.Cmp.Lexicographic.{pointwise}
 use Rattle.wac_types_base.specs.declared.item.ItemKind.{ItemKind}
 use Rattle.wac_types_base.specs.declared.item.«Type».{«Type» as TypeKind}
 use Rattle.wac_types_base.specs.declared.defined.UsedType.{UsedType}
@@ -10,7 +10,7 @@ use Rattle.wac_types_base.specs.declared.ids.ResourceId.{ResourceId}
 use Rattle.wac_types_base.specs.Record.{Collection}
 use Rattle.wac_types_base.specs.Collection.{IsAcyclic, Stands, item_node}
 use Rattle.wac_types_base.specs.Entries.{Name, value_at, with_values}
-use Rattle.wac_types_base.specs.Stated.{Stated, Used, desc, exports_of, kind_of, stated_of, untyped}
+use Rattle.wac_types_base.specs.Stated.{Stated, Used, desc, exports_of, kind_of, stated_of, untyped, stated_use}
 use Rattle.wac_types_base.proofs.Loops.{mapped_next}
 use Rattle.wac_types_base.proofs.Telling.{item_kind, kind_stated, untyped_stated}
 use Rattle.wac_parser_tree.specs.Trees as t
@@ -23,7 +23,7 @@ use Rattle.wac_parser_declare.specs.declared.bodies.Body.{Body}
 use Rattle.wac_parser_declare.specs.declared.scope.Binding.{Binding}
 use Rattle.wac_parser_declare.specs.Bodies as stated
 use Rattle.wac_parser_declare.specs.Bodies.{is_used, local_name, name_there, usable, use_one, with_use}
-use Rattle.wac_parser_declare.specs.Held.{stated_body, stated_use}
+use Rattle.wac_parser_declare.specs.Held.{stated_body}
 use Rattle.wac_parser_declare.specs.Holding.{IsType, scope_of}
 use Rattle.wac_parser_declare.specs.InUses.{IsExport, IsUsable, stated_interface, type_used, use_added}
 use Rattle.wac_parser_declare.specs.Scope.{bind, has}

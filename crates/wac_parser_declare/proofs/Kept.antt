@@ -5,7 +5,7 @@ use Rattle.wac_types_base.specs.declared.item.ValueType.{ValueType}
 use Rattle.wac_types_base.specs.declared.item.ItemKind.{ItemKind}
 use Rattle.wac_types_base.specs.Record.{Collection}
 use Rattle.wac_types_base.specs.Graph.{Among}
-use Rattle.wac_types_base.specs.Collection.{Shape, Slot, SlotStands, Stands, IsAcyclic, Grows, item_node, labelled, value_slot, option_slot}
+use Rattle.wac_types_base.specs.Collection.{Shape, Slot, SlotStands, Stands, IsAcyclic, Grows, item_node, labelled, value_slot, option_slot, StandsIf}
 use Rattle.wac_types_base.specs.Entries.{Name, with_values, value_at, values_of}
 use Rattle.wac_types_base.specs.Stated.{Stated, stated_of, over, relabelled}
 use Rattle.wac_types_base.proofs.GraphLemmas.{value_of, is_there}
@@ -14,7 +14,7 @@ use Rattle.wac_types_base.proofs.Telling.{stated_step}
 use Rattle.wac_types_base.proofs.Stating.{stated_kept}
 use Rattle.wac_parser_declare.specs.declared.scope.Binding.{Binding}
 use Rattle.wac_parser_declare.specs.Scope.{Meant}
-use Rattle.wac_parser_declare.specs.Holding.{Holds, IsValueIf, AreValues, StandsIf, AllStand, EachStands, AreEntries, ValueStands, BindingStands, NamesStand, stated_value, stated_if, stated_row, meant_by, scope_of}
+use Rattle.wac_parser_declare.specs.Holding.{Holds, IsValueIf, AreValues, AllStand, EachStands, AreEntries, ValueStands, BindingStands, NamesStand, stated_value, stated_if, stated_row, meant_by, scope_of}
 
 -- ---- entries
 

@@ -11,7 +11,7 @@ use Rattle.wac_types_base.specs.declared.ids.WorldId.{WorldId}
 use Rattle.wac_types_base.specs.Record.{Collection}
 use Rattle.wac_types_base.specs.Collection.{Grows, IsAcyclic, Slot, Stands, interface, interface_entry, item_node, items, use_names, used, world, world_entry}
 use Rattle.wac_types_base.specs.Entries.{Name, names_of, value_at, with_values}
-use Rattle.wac_types_base.specs.Stated.{Stated, desc, filled, kind_of, names, names_used, over, stated_of, used_places}
+use Rattle.wac_types_base.specs.Stated.{Stated, desc, filled, kind_of, names, names_used, over, stated_of, used_places, stated_use}
 use Rattle.wac_types_base.proofs.Slots.{stands_typed_func, stands_typed_interface}
 use Rattle.wac_types_base.proofs.Telling.{item_kind, kind_stated, untyped_stated}
 use Rattle.wac_parser_tree.specs.Trees as t
@@ -21,7 +21,7 @@ use Rattle.wac_parser_refusals.specs.Causes.{NotFuncOrInterface, UndefinedName, 
 use Rattle.wac_parser_refusals.specs.Outcomes.{IsHeld, IsOutcome, IsRefusal, Refuses}
 use Rattle.wac_parser_declare.specs.declared.bodies.Body.{Body}
 use Rattle.wac_parser_declare.specs.declared.scope.Binding.{Binding}
-use Rattle.wac_parser_declare.specs.Held.{BodyStands, stated_body, stated_use}
+use Rattle.wac_parser_declare.specs.Held.{BodyStands, stated_body}
 use Rattle.wac_parser_declare.specs.Holding.{Holds, meant_by, scope_of}
 use Rattle.wac_parser_declare.specs.InPaths.{AWorld}
 use Rattle.wac_parser_declare.specs.Making.{AnInstance, IsInterfaceMade, IsTypeOf, IsWorldMade, interface_with, world_with}

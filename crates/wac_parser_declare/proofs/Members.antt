@@ -6,7 +6,7 @@ use Rattle.wac_types_base.specs.declared.item.«Type».{«Type» as TypeKind}
 use Rattle.wac_types_base.specs.declared.ids.FuncTypeId.{FuncTypeId}
 use Rattle.wac_types_base.specs.Record.{Collection}
 use Rattle.wac_types_base.specs.Collection as s
-use Rattle.wac_types_base.specs.Collection.{Shape, Slot, SlotStands, Stands, IsAcyclic, Grows, item_node, func_entry, value_slot, option_slot}
+use Rattle.wac_types_base.specs.Collection.{Shape, Slot, SlotStands, Stands, IsAcyclic, Grows, item_node, func_entry, value_slot, option_slot, StandsIf}
 use Rattle.wac_types_base.specs.Entries.{Name, with_values, value_at, names_of, values_of}
 use Rattle.wac_types_base.specs.Stated.{Stated, stated_of, kind_of, desc, func_of, names, filled, contains_borrow}
 use Rattle.wac_types_base.proofs.Loops.{names-with_values, mapped_next}
@@ -22,7 +22,7 @@ use Rattle.wac_parser_declare.specs.declared.scope.Binding.{Binding}
 use Rattle.wac_parser_declare.specs.Scope.{Scope, has}
 use Rattle.wac_parser_declare.specs.Declarations.{add_member, member, no_borrow, result_of, func_by}
 use Rattle.wac_parser_refusals.specs.Outcomes.{IsHeld, IsRefusal, Refuses, Tells}
-use Rattle.wac_parser_declare.specs.Holding.{AddsNew, IsValue, IsValueIf, IsFunc, NamesStand, StandsIf, AreEntries, EachStands, ValueStands, AreNamedValues, AreCases, scope_of, self_params, stated_value, stated_if}
+use Rattle.wac_parser_declare.specs.Holding.{AddsNew, IsValue, IsValueIf, IsFunc, NamesStand, AreEntries, EachStands, ValueStands, AreNamedValues, AreCases, scope_of, self_params, stated_value, stated_if}
 use Rattle.wac_parser_refusals.proofs.Outcomes.{then_refused, after_refused}
 use Rattle.wac_parser_declare.proofs.Kept.{entry_holds, children, both_stand, named_values_stand, option_stands, option_places, IsValueIf-kept, StandsIf-kept, scope-kept, stated_if-kept, AreEntries-kept, EachStands-more, with_values-more, value_at-with_values}
 use Rattle.wac_types_base.proofs.Standing.{is_some-option_map}

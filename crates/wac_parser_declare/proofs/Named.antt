@@ -5,7 +5,7 @@ use Rattle.wac_types_base.specs.declared.item.ItemKind.{ItemKind}
 use Rattle.wac_types_base.specs.declared.item.«Type».{«Type» as TypeKind}
 use Rattle.wac_types_base.specs.Record.{Collection}
 use Rattle.wac_types_base.specs.Collection as s
-use Rattle.wac_types_base.specs.Collection.{IsAcyclic, Grows, Shape, item_node, value_slot, option_slot}
+use Rattle.wac_types_base.specs.Collection.{IsAcyclic, Grows, Shape, item_node, value_slot, option_slot, StandsIf}
 use Rattle.wac_types_base.specs.Entries.{Name, with_values, names_of, values_of, has_name, put_name}
 use Rattle.wac_types_base.specs.Stated.{Stated, stated_of, as_type, names, filled, leaf}
 use Rattle.wac_types_base.proofs.Loops.{names-with_values}
@@ -14,7 +14,7 @@ use Rattle.wac_parser_refusals.specs.declared.refusal.Refusal.{Refusal}
 use Rattle.wac_parser_refusals.specs.Causes.{Answer, Fault, ◌>>=◌, ◌>>◌, unless_clear}
 use Rattle.wac_parser_refusals.specs.Outcomes.{IsHeld, IsRefusal, Refuses}
 use Rattle.wac_parser_declare.specs.Declarations.{name_of, payloads, record_of, variant_of}
-use Rattle.wac_parser_declare.specs.Holding.{AreCases, AreNamedValues, Holds, IsType, StandsIf, stated_if, stated_value}
+use Rattle.wac_parser_declare.specs.Holding.{AreCases, AreNamedValues, Holds, IsType, stated_if, stated_value}
 use Rattle.wac_parser_declare.specs.TypeDeclarations.{AreNames}
 use Rattle.wac_parser_declare.proofs.Kept.{AreEntries-kept, StandsIf-kept, entry_holds, labelled_holds, option_places, stated_if-kept}
 use Rattle.wac_parser_declare.proofs.Members.{filled_places, named_values-kept}

@@ -6,13 +6,12 @@ use Rattle.wac_types_base.specs.declared.ids.InterfaceId.{InterfaceId}
 use Rattle.wac_types_base.specs.Record.{Collection}
 use Rattle.wac_types_base.specs.Collection.{IsAcyclic, Stands}
 use Rattle.wac_types_base.specs.Entries.{Name}
-use Rattle.wac_types_base.specs.Stated.{desc, kind_of, stated_of}
+use Rattle.wac_types_base.specs.Stated.{desc, kind_of, stated_of, is_interface}
 use Rattle.wac_types_base.proofs.Telling.{item_kind, kind_stated}
 use Rattle.wac_parser_tree.specs.Trees.{Span}
 use Rattle.wac_parser_refusals.specs.declared.refusal.Refusal.{Refusal}
 use Rattle.wac_parser_refusals.specs.Causes.{NotInterface}
 use Rattle.wac_parser_refusals.specs.Outcomes.{IsHeld, IsRefusal, Refuses}
-use Rattle.wac_parser_declare.specs.Bodies.{is_interface}
 use Rattle.wac_parser_declare.specs.InUses.{AnInterface, IsInterfaceType, interface_in}
 use Rattle.wac_parser_declare.proofs.InBodies.{absent_outcome, there_refused}
 

@@ -15,14 +15,14 @@ use Rattle.wac_types_base.specs.declared.ids.FuncTypeId.{FuncTypeId}
 use Rattle.wac_types_base.specs.declared.ids.ResourceId.{ResourceId}
 use Rattle.wac_types_base.specs.Record.{Collection}
 use Rattle.wac_types_base.specs.Graph.{Among}
-use Rattle.wac_types_base.specs.Collection.{Slot, SlotStands, HasChildren, Stands, IsAcyclic, Grows, Entry, item_node, value_node, entry_at, type_of, own_of, borrow_of, option_slot, value_slot, func_entry, resource_entry, resource_entry_at, interface_entry, world_entry, items, used}
+use Rattle.wac_types_base.specs.Collection.{Slot, SlotStands, HasChildren, Stands, IsAcyclic, Grows, Entry, item_node, value_node, entry_at, type_of, own_of, borrow_of, option_slot, value_slot, func_entry, resource_entry, resource_entry_at, interface_entry, world_entry, items, used, StandsIf}
 use Rattle.wac_types_base.specs.Entries.{Name, value_at, values_of}
 use Rattle.wac_types_base.proofs.Adding.{Among-left, Among-right, Grows-trans, Grows-refl}
 use Rattle.wac_types_base.proofs.Slots.{entry_at-is, stands_typed_func, stands_typed_value, stands_typed_interface, stands_typed_world}
 use Rattle.wac_types_base.proofs.Copying.{Among-All}
 use Rattle.wac_types_base.proofs.Telling.{child_stands, resource_node}
 use Rattle.wac_parser_refusals.specs.Outcomes.{IsOutcome}
-use Rattle.wac_parser_declare.specs.Holding.{StandsIf, ValueStands, BindingStands, EachStands, ItemsStand, UsesStand, NamesStand, AddsNew}
+use Rattle.wac_parser_declare.specs.Holding.{ValueStands, BindingStands, EachStands, ItemsStand, UsesStand, NamesStand, AddsNew}
 use Rattle.wac_parser_tree.specs.Trees as t
 use Rattle.wac_parser_refusals.specs.declared.refusal.Refusal.{Refusal}
 use Rattle.wac_parser_declare.specs.declared.scope.Binding.{Binding}

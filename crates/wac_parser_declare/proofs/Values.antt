@@ -7,7 +7,7 @@ use Rattle.wac_types_base.specs.declared.item.«Type».{«Type» as TypeKind}
 use Rattle.wac_types_base.specs.declared.ids.ResourceId.{ResourceId}
 use Rattle.wac_types_base.specs.Record.{Collection}
 use Rattle.wac_types_base.specs.Collection as s
-use Rattle.wac_types_base.specs.Collection.{Shape, Slot, SlotStands, HasChildren, Stands, IsAcyclic, Grows, item_node, defined_entry, value_slot, option_slot}
+use Rattle.wac_types_base.specs.Collection.{Shape, Slot, SlotStands, HasChildren, Stands, IsAcyclic, Grows, item_node, defined_entry, value_slot, option_slot, StandsIf}
 use Rattle.wac_types_base.specs.Entries.{Name, value_at}
 use Rattle.wac_types_base.specs.Stated.{Stated, stated_of, kind_of, desc}
 use Rattle.wac_types_base.proofs.Telling.{item_kind, kind_stated, untyped_stated, primitive_node}
@@ -20,7 +20,7 @@ use Rattle.wac_parser_refusals.specs.Causes.{Answer, Fault, ◌>>=◌, present, 
 use Rattle.wac_parser_declare.specs.Scope.{Meant, Scope, named}
 use Rattle.wac_parser_declare.specs.ValueTypes.{maybe_value, value_by, borrow_by, of_one, of_maybe, of_two, of_all, some_of, primitive}
 use Rattle.wac_parser_refusals.specs.Outcomes.{IsHeld, IsRefusal, IsOutcome, Refuses}
-use Rattle.wac_parser_declare.specs.Holding.{IsValue, IsValueIf, AreValues, StandsIf, NamesStand, BindingStands, stated_if, meant_by, scope_of}
+use Rattle.wac_parser_declare.specs.Holding.{IsValue, IsValueIf, AreValues, NamesStand, BindingStands, stated_if, meant_by, scope_of}
 use Rattle.wac_parser_declare.proofs.Kept.{entry_holds, labelled_holds, children, values_stand, option_places, value_places, Holds-kept, IsValueIf-kept, AreValues-kept, found_stands, value_at-with_values}
 use Rattle.wac_parser_refusals.proofs.Outcomes.{memory_refusal}
 

@@ -4,7 +4,7 @@ use Rattle.wac_types_base.specs.declared.item.FuncKind.{FuncKind}
 use Rattle.wac_types_base.specs.declared.item.ExternKind.{ExternKind}
 use Rattle.wac_types_base.specs.Entries.{Name, value_at, has_name}
 use Rattle.wac_types_base.specs.Collection as s
-use Rattle.wac_types_base.specs.Stated.{Stated, Kind, IsResource, IsValueType, IsInterface, kind_of, desc, untyped, leaf, own, borrow, exports_of, Used}
+use Rattle.wac_types_base.specs.Stated.{Stated, Kind, IsResource, IsValueType, kind_of, desc, untyped, leaf, own, borrow, exports_of, Used, is_interface}
 use Rattle.wac_parser_tree.specs.Trees as t
 use Rattle.wac_parser_declare.specs.Scope.{Scope, Context, Path, has, bind, at_path, path_text, path_span, use_path}
 use Rattle.wac_parser_declare.specs.Declarations.{function, variant_decl, record_decl, flags_decl, enum_decl, type_alias}
@@ -64,10 +64,6 @@ use_one h path from b u = do
       (UseConflict (local_name u).string h.kind (is_none u.as_id)) (local_name u).span
   ns ← bind b.names (local_name u) x
   pure (with_use b ns u from x)
-
-abbrev pub is_interface : Kind → Bool
-is_interface IsInterface = true
-is_interface k = false
 
 -- the interface type that a path names
 abbrev pub interface_at : Context → Path → Answer Stated

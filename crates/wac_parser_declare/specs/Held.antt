@@ -1,11 +1,9 @@
 -- What stands in a body, and what is stated in it.
 use Rattle.std.specs.Prelude.{Option, map, option_map}
 use Rattle.std.specs.Borrow.{Bor}
-use Rattle.wac_types_base.specs.declared.item.ItemKind.{ItemKind}
-use Rattle.wac_types_base.specs.declared.defined.UsedType.{UsedType}
 use Rattle.wac_types_base.specs.Record.{Collection}
 use Rattle.wac_types_base.specs.Entries.{Name, with_values}
-use Rattle.wac_types_base.specs.Stated.{Used, stated_of}
+use Rattle.wac_types_base.specs.Stated.{stated_of, stated_use}
 use Rattle.wac_parser_declare.specs.declared.bodies.Body.{Body}
 use Rattle.wac_parser_declare.specs.declared.bodies.Holder.{Holder}
 use Rattle.wac_parser_declare.specs.Bodies as stated
@@ -19,9 +17,6 @@ pub record BodyStands (c : Collection) (b : Body) : Type 0 where
   pub uses : UsesStand c b.uses
   pub items : ItemsStand c b.items
   pub exports : ItemsStand c b.exports
-
-abbrev pub stated_use : Collection → Name × UsedType → Used
-stated_use c u = record { name = u.0; there = u.1.name; interface = stated_of c (ItemKind.Instance u.1.interface) }
 
 -- what is stated in the body
 abbrev pub stated_body : Collection → Body → stated.Body

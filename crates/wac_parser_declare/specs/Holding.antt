@@ -6,7 +6,7 @@ use Rattle.wac_types_base.specs.declared.item.«Type».{«Type» as TypeKind}
 use Rattle.wac_types_base.specs.declared.defined.UsedType.{UsedType}
 use Rattle.wac_types_base.specs.declared.ids.FuncTypeId.{FuncTypeId}
 use Rattle.wac_types_base.specs.Record.{Collection}
-use Rattle.wac_types_base.specs.Collection.{Stands}
+use Rattle.wac_types_base.specs.Collection.{Stands, StandsIf}
 use Rattle.wac_types_base.specs.Entries.{Name, with_values, value_at}
 use Rattle.wac_types_base.specs.Stated.{Stated, stated_of}
 use Rattle.wac_parser_declare.specs.declared.scope.Binding.{Binding}
@@ -28,10 +28,6 @@ stated_value c v = stated_of c (ItemKind.Value v)
 
 abbrev pub stated_if : Collection → Option ValueType → Option Stated
 stated_if c o = option_map (stated_value c) o
-
-abbrev pub StandsIf : Collection → Option ValueType → Type 0
-StandsIf c None = Unit {0}
-StandsIf c (Some v) = Stands c (ItemKind.Value v)
 
 -- an optional type that stands
 pub record IsValueIf (c : Collection) (t : Option Stated) (o : Option ValueType) : Type 0 where

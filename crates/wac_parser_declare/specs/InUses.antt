@@ -7,7 +7,7 @@ use Rattle.wac_types_base.specs.declared.ids.InterfaceId.{InterfaceId}
 use Rattle.wac_types_base.specs.Record.{Collection}
 use Rattle.wac_types_base.specs.Collection.{IsAcyclic, Stands}
 use Rattle.wac_types_base.specs.Entries.{Name, value_at, with_values}
-use Rattle.wac_types_base.specs.Stated.{Stated, desc, exports_of, kind_of, stated_of, untyped}
+use Rattle.wac_types_base.specs.Stated.{Stated, desc, exports_of, kind_of, stated_of, untyped, is_interface}
 use Rattle.wac_parser_tree.specs.Trees as t
 use Rattle.wac_parser_tree.specs.Trees.{Span}
 use Rattle.wac_parser_tree.specs.declared.text.Ident.{Ident}
@@ -15,13 +15,13 @@ use Rattle.wac_parser_tree.specs.declared.interface.InterfaceExport.{InterfaceEx
 use Rattle.wac_parser_tree.specs.declared.interface.UseItem.{UseItem}
 use Rattle.wac_parser_tree.specs.Views.{view_ident, view_interface_export, view_use_item}
 use Rattle.wac_parser_refusals.specs.declared.refusal.Refusal.{Refusal}
-use Rattle.wac_parser_refusals.specs.Causes.{Answer, ◌>>=◌, ◌>>◌, each, present, pure, unless_clear, NotInterface, NotInterfaceValueType, UndefinedInterfaceType, UseConflict}
+use Rattle.wac_parser_refusals.specs.Causes.{Answer, ◌>>◌, each, present, pure, unless_clear, NotInterface, NotInterfaceValueType, UndefinedInterfaceType, UseConflict}
 use Rattle.wac_parser_refusals.specs.Outcomes.{IsOutcome}
 use Rattle.wac_parser_declare.specs.declared.bodies.Body.{Body}
 use Rattle.wac_parser_declare.specs.declared.bodies.Holder.{Holder}
 use Rattle.wac_parser_declare.specs.declared.uses.Used.{Used}
 use Rattle.wac_parser_declare.specs.Bodies as stated
-use Rattle.wac_parser_declare.specs.Bodies.{interface_at, is_interface, is_used, local_name, usable, use_one, with_use}
+use Rattle.wac_parser_declare.specs.Bodies.{interface_at, is_used, local_name, usable, use_one, with_use}
 use Rattle.wac_parser_declare.specs.Functions.{Names}
 use Rattle.wac_parser_declare.specs.Held.{BodyStands, holder_of, stated_body}
 use Rattle.wac_parser_declare.specs.Holding.{Holds, IsType, scope_of}

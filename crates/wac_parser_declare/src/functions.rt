@@ -4,9 +4,9 @@
 ghost use Rattle.std.specs.Prelude.{◌≡◌, IfOk, OnOk, OnErr};
 ghost use Rattle.wac_types_base.specs.declared.item.ItemKind.{ItemKind};
 ghost use Rattle.wac_types_base.specs.declared.item.«Type».{«Type» as TypeKind};
-ghost use Rattle.wac_types_base.specs.Collection.{Stands, Grows};
+ghost use Rattle.wac_types_base.specs.Collection.{Stands, Grows, StandsIf};
 ghost use Rattle.wac_parser_declare.specs.Functions.{AreParams, IsFree, IsFuncNamed, IsFuncOf, IsFuncRef, IsFuncWith, IsParam, IsResultOf, IsScalar};
-ghost use Rattle.wac_parser_declare.specs.Holding.{AddsNew, EachStands, NamesStand, StandsIf, ValueStands, self_params};
+ghost use Rattle.wac_parser_declare.specs.Holding.{AddsNew, EachStands, NamesStand, ValueStands, self_params};
 ghost use Rattle.wac_parser_declare.specs.Packages.{SamePackages};
 
 use crate::growing::GrowingTypes;

@@ -3,9 +3,9 @@
 
 ghost use Rattle.std.specs.Prelude.{◌≡◌, IfOk, OnOk};
 ghost use Rattle.wac_types_base.specs.declared.item.ItemKind.{ItemKind};
-ghost use Rattle.wac_types_base.specs.Collection.{Stands, Grows};
+ghost use Rattle.wac_types_base.specs.Collection.{Stands, Grows, StandsIf};
 ghost use Rattle.wac_parser_declare.specs.Aliases.{IsTypeDecl};
-ghost use Rattle.wac_parser_declare.specs.Holding.{EachStands, NamesStand, StandsIf, ValueStands};
+ghost use Rattle.wac_parser_declare.specs.Holding.{EachStands, NamesStand, ValueStands};
 ghost use Rattle.wac_parser_declare.specs.Packages.{SamePackages};
 ghost use Rattle.wac_parser_declare.specs.TypeDeclarations.{AreCasesOf, AreEnumCasesOf, AreFieldsOf, AreFlags, AreFlagsOf, IsCase, IsEnum, IsEnumCase, IsField, IsFlag, IsPayload, IsRecord, IsVariant};
 

@@ -4,11 +4,11 @@ ghost use Rattle.std.specs.Prelude.{◌≡◌, IfOk, Some};
 ghost use Rattle.wac_types_base.specs.declared.item.ItemKind.{ItemKind};
 ghost use Rattle.wac_types_base.specs.declared.item.ValueType.{ValueType};
 ghost use Rattle.wac_types_base.specs.Collection as s;
-ghost use Rattle.wac_types_base.specs.Collection.{Stands, Grows, HasChildren, item_node, defined_entry};
+ghost use Rattle.wac_types_base.specs.Collection.{Stands, Grows, HasChildren, item_node, defined_entry, StandsIf};
 ghost use Rattle.wac_parser_declare.specs.Packages.{SamePackages};
 ghost use Rattle.wac_parser_declare.specs.ValueTypes as stated;
 ghost use Rattle.wac_parser_refusals.specs.Outcomes.{IsOutcome};
-ghost use Rattle.wac_parser_declare.specs.Holding.{IsValue, NamesStand, StandsIf};
+ghost use Rattle.wac_parser_declare.specs.Holding.{IsValue, NamesStand};
 ghost use Rattle.wac_parser_declare.specs.InValueTypes.{AreWritten, IsBorrowNamed, IsBorrowOf, IsMaybeWritten, IsOfMaybe, IsOfOne};
 ghost use Rattle.wac_parser_declare.specs.InValueTypes.{IsResultWith, IsTuple, IsValueNamed, IsValueOf, IsValueWritten};
 

@@ -1,6 +1,6 @@
 -- Declarations: the place of an earlier export, and what is said behind one.
-use Rattle.std.proofs.Common.{◌≡◌, ℕ, List, [], ◌∷◌, ◌++◌, Bool, true, false, not, ◌==◌, if◌then◌else◌, Option, Some, None, IsSome, inl, inr, refl, sym, ap, subst, ◌∙◌}
 use Rattle.std.specs.Prelude.{Result, ⊤, string_bytes, unwrap_or}
+use Rattle.std.proofs.Common.{◌≡◌, ℕ, List, [], ◌∷◌, ◌++◌, Bool, true, false, not, ◌==◌, if◌then◌else◌, Option, Some, None, IsSome, inl, inr, refl, sym, ap, subst, ◌∙◌}
 use Rattle.std.specs.Cmp.Lexicographic.{bytes_decides, pointwise}
 use Rattle.std.specs.FinMap as map
 use Rattle.wac_types_base.specs.declared.item.ExternKind.{ExternKind}
@@ -29,7 +29,7 @@ use Rattle.wac_parser_declare.specs.Holding.{Holds}
 use Rattle.wac_parser_declare.proofs.Members.{told}
 use Rattle.wac_parser_resolve.specs.declared.state.State.{State as Held}
 use Rattle.wac_parser_resolve.specs.Ascribing.{Bound, Denoted, State, bound, defined}
-use Rattle.wac_parser_resolve.specs.Denoting.{or_else}
+use Rattle.std.specs.Option.{option_or}
 use Rattle.wac_parser_resolve.specs.Holding.{AreNamed, Denotes, HasItem, InTurn, IsDefinition, IsNamed}
 use Rattle.wac_parser_resolve.specs.InStatements.{NotesExport, definition_cause, noted_export}
 use Rattle.wac_parser_resolve.specs.Later.{IsWithin, Later, first_name}
@@ -58,11 +58,11 @@ value_last (x ∷ es) n k e = by (value_at es n) (value_at (es ++ (n, k) ∷ [])
 
 -- ---- where an export is noted
 
-else_some : (l o : Option Span) → IsSome o → IsSome (or_else l o)
+else_some : (l o : Option Span) → IsSome o → IsSome (option_or l o)
 else_some (Some y) o e = refl
 else_some None o e = e
 
-then_some : (l o : Option Span) → IsSome l → IsSome (or_else l o)
+then_some : (l o : Option Span) → IsSome l → IsSome (option_or l o)
 then_some (Some y) o e = refl
 then_some None o e = absurd (cc e)
 

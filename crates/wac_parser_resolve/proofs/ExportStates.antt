@@ -1,6 +1,6 @@
 -- What is said behind an export, and while exports of instances are spoken of.
-use Rattle.std.proofs.Common.{◌≡◌, ℕ, ◌+◌, ◌<◌, ◌≤◌, length, drop, filter, get_or, List, [], ◌∷◌, ◌++◌, Bool, true, false, not, ◌||◌, if◌then◌else◌, Option, Some, None, IsSome, is_some, Ok, Err, inl, inr, refl, sym, ap, subst, ◌∙◌}
 use Rattle.std.specs.Prelude.{Result, String, ⊤, string_bytes, unwrap_or}
+use Rattle.std.proofs.Common.{◌≡◌, ℕ, ◌+◌, ◌<◌, ◌≤◌, length, drop, filter, get_or, List, [], ◌∷◌, ◌++◌, Bool, true, false, not, ◌||◌, if◌then◌else◌, Option, Some, None, IsSome, is_some, Ok, Err, inl, inr, refl, sym, ap, subst, ◌∙◌}
 use Rattle.std.proofs.lemmas.List.{drop_all, drop_more}
 use Rattle.std.proofs.lemmas.List.Elements.{filter_agree}
 use Rattle.std.specs.List.{list_any}
@@ -40,9 +40,10 @@ use Rattle.wac_parser_resolve.specs.declared.exports.Definition.{Definition}
 use Rattle.wac_parser_resolve.specs.declared.exports.ExportName.{ExportName}
 use Rattle.wac_parser_resolve.specs.declared.state.State.{State as Held}
 use Rattle.wac_parser_resolve.specs.Ascribing.{Bound, Denoted, Import, State, defined, imported, is_definition, is_projection, own_name, same_origin, speak_of}
-use Rattle.wac_parser_resolve.specs.Denoting.{instance_identifier, or_else, spoken}
+use Rattle.wac_parser_resolve.specs.Denoting.{instance_identifier, spoken}
 use Rattle.wac_parser_resolve.specs.Holding.{AreNamed, Denotes, HasItem, InTurn, IsNamed, Says}
-use Rattle.wac_parser_resolve.specs.InExports.{DenotesIn, IsBoundTo, IsDefinitionIn, is_defined, export_cause, ident_of, left_to_export}
+use Rattle.wac_parser_resolve.specs.InStatements.{DenotesOn}
+use Rattle.wac_parser_resolve.specs.InExports.{IsBoundTo, IsDefinitionIn, is_defined, export_cause, ident_of, left_to_export}
 use Rattle.wac_parser_resolve.specs.InExpressions.{SaysThat}
 use Rattle.wac_parser_resolve.specs.Knowing.{handed_under, content_in}
 use Rattle.wac_parser_resolve.specs.Later.{AddsNone, Inner, IsWithin, Later}
@@ -356,7 +357,7 @@ pub inferred_told : (g : Graph) → IsGraph g → IsAcyclic g.types → (k : ℕ
 inferred_told g is a k o h ns d dn =
     by_identifier (instance_identifier (kind_of d.item) d.item) (subst (λ (i : Option Name). IsInferredBy g k i o) (identifier_told g a k d.item dn.item) h)
   where
-    by_identifier : (i : Option Name) → IsInferredBy g k i o → o ≡ or_else i (own_name d.origin)
+    by_identifier : (i : Option Name) → IsInferredBy g k i o → o ≡ option_or i (own_name d.origin)
     by_identifier None x = own_told g is ns d.origin k o dn.node x
     by_identifier (Some n) x = x
 
@@ -403,7 +404,7 @@ module _ (h : Graph) (noted : List (ℕ × Span)) (names : List (Name × ℕ)) (
   alias_refused (Err c) e x = x
 
 -- what is denoted is denoted still
-pub denotes_in : (b c : Held) → Later b.board.types.graph c.board.types.graph → c.board.instances.noted.items ≡ b.board.instances.noted.items → (d : Denoted) (k : ℕ) → DenotesIn b d k → DenotesIn c d k
+pub denotes_in : (b c : Held) → Later b.board.types.graph c.board.types.graph → c.board.instances.noted.items ≡ b.board.instances.noted.items → (d : Denoted) (k : ℕ) → DenotesOn b d k → DenotesOn c d k
 denotes_in b c l same d k dn =
     let ns = names_of b.board.instances.noted.items in
     subst (λ (xs : List (ℕ × Span)). Denotes c.board.types.graph (names_of xs) d k) (sym same) (denotes_stays b.board.types.graph c.board.types.graph l ns ns (λ i j x. x) d k dn)

@@ -1,6 +1,6 @@
 -- Exports: the names that they may have, definitions, where things were exported last, and what is said behind an export.
-use Rattle.std.proofs.Common.{◌≡◌, ℕ, List, [], ◌∷◌, ◌++◌, Bool, true, false, ◌&&◌, ◌||◌, ◌==◌, if◌then◌else◌, Option, Some, None, IsSome, is_some, Ok, Err, inl, inr, refl, sym, ap, subst, ◌∙◌}
 use Rattle.std.specs.Prelude.{Result, bytes_eq, option_map, unwrap_or}
+use Rattle.std.proofs.Common.{◌≡◌, ℕ, List, [], ◌∷◌, ◌++◌, Bool, true, false, ◌&&◌, ◌||◌, ◌==◌, if◌then◌else◌, Option, Some, None, IsSome, is_some, Ok, Err, inl, inr, refl, sym, ap, subst, ◌∙◌}
 use Rattle.std.specs.List.{position_or_len, before_first, after_first}
 use Rattle.std.specs.Prelude.{length, nat_lt}
 use Rattle.std.specs.Cmp.Lexicographic.{bytes_decides}
@@ -27,7 +27,7 @@ use Rattle.wac_parser_declare.specs.Scope.{Meant}
 use Rattle.wac_parser_declare.proofs.Kept.{value_at-with_values}
 use Rattle.wac_parser_resolve.specs.Ascribing as stated
 use Rattle.wac_parser_resolve.specs.Ascribing.{Origin, imported, instance, projected, defined, Denoted, Bound, State, is_definition, root_scope, same_origin}
-use Rattle.wac_parser_resolve.specs.Denoting.{or_else}
+use Rattle.std.specs.Option.{option_or}
 use Rattle.wac_parser_resolve.specs.Holding.{AreNamed, InTurn, IsNode}
 use Rattle.wac_parser_resolve.specs.InExports.{IsBoundTo, IsDefined, is_defined}
 use Rattle.wac_parser_resolve.specs.Later.{first_name}
@@ -118,7 +118,7 @@ module _ (g : Graph) (is : IsGraph g) (ms : List ℕ) where
         (λ e. number_same k j (sym (same_node g is ms o p j k e here a)))
         (λ e. one_thing apart o p j here (subst (IsNode g ms p) (same_number k j e) a))
 
-    last_by : (l : Option Span) (s x : Span) (b : Bool) → unwrap_or l (if b then x else s) ≡ unwrap_or (or_else l (if b then Some x else None)) s
+    last_by : (l : Option Span) (s x : Span) (b : Bool) → unwrap_or l (if b then x else s) ≡ unwrap_or (option_or l (if b then Some x else None)) s
     last_by (Some y) s x b = refl
     last_by None s x true = refl
     last_by None s x false = refl
@@ -135,12 +135,12 @@ module _ (g : Graph) (is : IsGraph g) (ms : List ℕ) where
         ∙ last_by (last_noted noted j) s y.1 (y.0 == j)
 
     -- what is noted at least once
-    some_by : (l : Option Span) (b : Bool) (x : Span) → b ≡ true → IsSome (or_else l (if b then Some x else None))
+    some_by : (l : Option Span) (b : Bool) (x : Span) → b ≡ true → IsSome (option_or l (if b then Some x else None))
     some_by (Some y) b x e = refl
     some_by None true x e = refl
     some_by None false x e = absurd (cc e)
 
-    some_else : (l o : Option Span) → IsSome l → IsSome (or_else l o)
+    some_else : (l o : Option Span) → IsSome l → IsSome (option_or l o)
     some_else (Some y) o e = refl
     some_else None o e = absurd (cc e)
 

@@ -1,6 +1,6 @@
 -- Import statements: the names that they may have, the place of an earlier import, and what is said behind one.
-use Rattle.std.proofs.Common.{◌≡◌, ◌≢◌, ◌⊎◌, ℕ, List, [], ◌∷◌, ◌++◌, Bool, true, false, not, ◌&&◌, ◌==◌, if◌then◌else◌, Option, Some, None, inl, inr, refl, sym, ap, subst, ◌∙◌, ◌<◌, IsSome}
 use Rattle.std.specs.Prelude.{Result, ⊤, bytes_eq, codes, cond, is_none, is_some, option_map, string_bytes, unwrap_or}
+use Rattle.std.proofs.Common.{◌≡◌, ◌≢◌, ◌⊎◌, ℕ, List, [], ◌∷◌, ◌++◌, Bool, true, false, not, ◌&&◌, ◌==◌, if◌then◌else◌, Option, Some, None, inl, inr, refl, sym, ap, subst, ◌∙◌, ◌<◌, IsSome}
 use Rattle.std.specs.Bool.{Decides}
 use Rattle.std.specs.List.{AllByRecursion, list_any}
 use Rattle.std.specs.Cmp.Lexicographic.{bytes_decides}
@@ -36,7 +36,7 @@ use Rattle.wac_parser_declare.specs.Holding.{Holds}
 use Rattle.wac_parser_declare.proofs.Members.{told}
 use Rattle.wac_parser_resolve.specs.declared.state.State.{State as Held}
 use Rattle.wac_parser_resolve.specs.Ascribing.{Denoted, Import, State, bound, imported}
-use Rattle.wac_parser_resolve.specs.Denoting.{or_else}
+use Rattle.std.specs.Option.{option_or}
 use Rattle.wac_parser_resolve.specs.Holding.{Denotes, HasItem, InTurn}
 use Rattle.wac_parser_resolve.specs.InStatements.{NotesImport, import_cause, import_of}
 use Rattle.wac_parser_resolve.specs.Later.{IsWithin, Later}
@@ -140,18 +140,18 @@ no_extern_name n not_so = false_from_ne_true (is_extern_name n) (λ e. elim (or_
 -- ---- where nodes are noted
 
 pub last_other : (xs : List (ℕ × Span)) (k j : ℕ) (at : Span) → (k ≡ j → ⊥) → last_noted (xs ++ (k, at) ∷ []) j ≡ last_noted xs j
-last_other [] k j at apart = ap (λ (b : Bool). or_else None (if b then Some at else None)) (false_from_ne_true (k == j) (λ e. apart (same_number k j e)))
-last_other (x ∷ xs) k j at apart = ap (λ (o : Option Span). or_else o (if x.0 == j then Some x.1 else None)) (last_other xs k j at apart)
+last_other [] k j at apart = ap (λ (b : Bool). option_or None (if b then Some at else None)) (false_from_ne_true (k == j) (λ e. apart (same_number k j e)))
+last_other (x ∷ xs) k j at apart = ap (λ (o : Option Span). option_or o (if x.0 == j then Some x.1 else None)) (last_other xs k j at apart)
 
 pub last_own : (xs : List (ℕ × Span)) (k : ℕ) (at : Span) → last_noted (xs ++ (k, at) ∷ []) k ≡ Some at
-last_own [] k at = ap (λ (b : Bool). or_else None (if b then Some at else None)) (number_same k k refl)
-last_own (x ∷ xs) k at = ap (λ (o : Option Span). or_else o (if x.0 == k then Some x.1 else None)) (last_own xs k at)
+last_own [] k at = ap (λ (b : Bool). option_or None (if b then Some at else None)) (number_same k k refl)
+last_own (x ∷ xs) k at = ap (λ (o : Option Span). option_or o (if x.0 == k then Some x.1 else None)) (last_own xs k at)
 
 last_none : (xs : List (ℕ × Span)) (k : ℕ) → (Among k (names_of xs) → ⊥) → last_noted xs k ≡ None
 last_none [] k not_so = refl
 last_none (x ∷ xs) k not_so =
-    ap (λ (o : Option Span). or_else o (if x.0 == k then Some x.1 else None)) (last_none xs k (λ m. not_so (inr m)))
-    ∙ ap (λ (b : Bool). or_else None (if b then Some x.1 else None)) (false_from_ne_true (x.0 == k) (λ e. not_so (inl (sym (same_number x.0 k e)))))
+    ap (λ (o : Option Span). option_or o (if x.0 == k then Some x.1 else None)) (last_none xs k (λ m. not_so (inr m)))
+    ∙ ap (λ (b : Bool). option_or None (if b then Some x.1 else None)) (false_from_ne_true (x.0 == k) (λ e. not_so (inl (sym (same_number x.0 k e)))))
 
 -- ---- an earlier import
 
@@ -185,8 +185,8 @@ module _ (g : Graph) (ids : List (ℕ × Span)) (n : Name) where
         record {
           earlier = i;
           called = ap (λ (b : Bool). cond b (Some i) (import_called is n)) s;
-          noted_at = ap (λ (o : Option Span). or_else o (if e.0 == k then Some e.1 else None)) (last_none noted k (λ q. apart (subst (λ (j : ℕ). Among j (names_of noted)) (sym own) q)))
-              ∙ ap (λ (b : Bool). or_else None (if b then Some e.1 else None)) (number_same e.0 k own) ∙ ap Some a.span;
+          noted_at = ap (λ (o : Option Span). option_or o (if e.0 == k then Some e.1 else None)) (last_none noted k (λ q. apart (subst (λ (j : ℕ). Among j (names_of noted)) (sym own) q)))
+              ∙ ap (λ (b : Bool). option_or None (if b then Some e.1 else None)) (number_same e.0 k own) ∙ ap Some a.span;
         }
     by_test i is e noted a apart more (inl own) false s =
         let name : n ≡ i.name = one_name i.name (subst (λ (j : ℕ). IsImport g.nodes j i.name) (sym own) a.import) in
@@ -196,7 +196,7 @@ module _ (g : Graph) (ids : List (ℕ × Span)) (n : Name) where
         record {
           earlier = r.earlier;
           called = ap (λ (b : Bool). cond b (Some i) (import_called is n)) s ∙ r.called;
-          noted_at = ap (λ (o : Option Span). or_else o (if e.0 == k then Some e.1 else None)) r.noted_at;
+          noted_at = ap (λ (o : Option Span). option_or o (if e.0 == k then Some e.1 else None)) r.noted_at;
         }
 
     pub called_in : (is : List Import) (noted : List (ℕ × Span)) → InTurn (IsAsked g ids) is noted → AreDistinct (names_of noted) → Among k (names_of noted) → Called is noted

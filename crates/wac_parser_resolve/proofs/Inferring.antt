@@ -1,6 +1,6 @@
 -- The names that nodes tell are those that are stated of what they denote.
-use Rattle.std.proofs.Common.{◌≡◌, ℕ, List, Bool, true, false, Option, Some, None, Ok, Err, refl, sym, ap, subst, ◌∙◌}
 use Rattle.std.specs.Prelude.{string_bytes, unwrap_or, slice_get, if◌then◌else◌}
+use Rattle.std.proofs.Common.{◌≡◌, ℕ, List, Bool, true, false, Option, Some, None, Ok, Err, refl, sym, ap, subst, ◌∙◌}
 use Rattle.wac_types_base.specs.declared.item.ItemKind.{ItemKind}
 use Rattle.wac_types_base.specs.declared.item.«Type».{«Type» as TypeKind}
 use Rattle.wac_types_base.specs.declared.ids.InterfaceId.{InterfaceId}
@@ -10,7 +10,7 @@ use Rattle.wac_types_base.specs.declared.defined.World.{World}
 use Rattle.wac_types_base.specs.Record.{Collection}
 use Rattle.wac_types_base.specs.Collection.{IsAcyclic, item_node, interface_entry}
 use Rattle.wac_types_base.specs.Entries.{Name, has_name, names_of}
-use Rattle.wac_types_base.specs.Implicit.{identifier_in}
+use Rattle.wac_types_base.specs.Parts.{identifier_in}
 use Rattle.wac_types_base.specs.Stated.{Stated, Kind, identifier_of, imports_of, kind_of, stated_of}
 use Rattle.wac_types_base.proofs.Loops.{names-with_values}
 use Rattle.wac_types_base.proofs.Slots.{entry_at-is}
@@ -27,7 +27,8 @@ use Rattle.wac_parser_declare.specs.Holding.{Holds}
 use Rattle.wac_parser_declare.proofs.Exports.{component_imports}
 use Rattle.wac_parser_resolve.specs.declared.arguments.Given.{Given}
 use Rattle.wac_parser_resolve.specs.Ascribing.{Origin, imported, instance, projected, defined, Denoted, own_name}
-use Rattle.wac_parser_resolve.specs.Denoting.{if_among, inferred_name, instance_identifier, or_else}
+use Rattle.std.specs.Option.{option_or}
+use Rattle.wac_parser_resolve.specs.Denoting.{if_among, inferred_name, instance_identifier}
 use Rattle.wac_parser_resolve.specs.Holding.{Denotes, HasItem, IsGiven, IsNode}
 use Rattle.wac_parser_resolve.specs.InArguments.{inferred_given}
 use Rattle.wac_parser_resolve.specs.Told.{IsAliasName, IsOwnName, TellsOwnName, identifier, identifier_of_item, identifier_of_node}
@@ -99,14 +100,14 @@ module _ (g : Graph) (is : IsGraph g) (ms : List ℕ) where
 -- ---- the import that an argument without a name is for
 
 -- the first of two that is there, else another
-pub first_of : (a b : Option Name) (m n : Name) → a ≡ Some n → n ≡ unwrap_or (or_else a b) m
-first_of a b m n e = ap (λ (x : Option Name). unwrap_or (or_else x b) m) (sym e)
+pub first_of : (a b : Option Name) (m n : Name) → a ≡ Some n → n ≡ unwrap_or (option_or a b) m
+first_of a b m n e = ap (λ (x : Option Name). unwrap_or (option_or x b) m) (sym e)
 
-pub second_of : (a b : Option Name) (m n : Name) → a ≡ None → b ≡ Some n → n ≡ unwrap_or (or_else a b) m
-second_of a b m n e f = ap (λ (x : Option Name). unwrap_or x m) (sym f) ∙ ap (λ (x : Option Name). unwrap_or (or_else x b) m) (sym e)
+pub second_of : (a b : Option Name) (m n : Name) → a ≡ None → b ≡ Some n → n ≡ unwrap_or (option_or a b) m
+second_of a b m n e f = ap (λ (x : Option Name). unwrap_or x m) (sym f) ∙ ap (λ (x : Option Name). unwrap_or (option_or x b) m) (sym e)
 
-pub neither_of : (a b : Option Name) (m : Name) → a ≡ None → b ≡ None → m ≡ unwrap_or (or_else a b) m
-neither_of a b m e f = ap (λ (x : Option Name). unwrap_or x m) (sym f) ∙ ap (λ (x : Option Name). unwrap_or (or_else x b) m) (sym e)
+pub neither_of : (a b : Option Name) (m : Name) → a ≡ None → b ≡ None → m ≡ unwrap_or (option_or a b) m
+neither_of a b m e f = ap (λ (x : Option Name). unwrap_or x m) (sym f) ∙ ap (λ (x : Option Name). unwrap_or (option_or x b) m) (sym e)
 
 -- the names of a world's imports
 pub import_names : (c : Collection) → IsAcyclic c → (w : WorldId) (x : World) → slice_get c.worlds w.index ≡ Some x → w.collection ≡ c.number → names_of (imports_of (stated_of c (ItemKind.Component w))) ≡ names_of x.imports

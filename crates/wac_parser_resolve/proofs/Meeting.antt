@@ -1,6 +1,6 @@
 -- The tests of a target, and what is stated of them.
-use Rattle.std.proofs.Common.{◌≡◌, ◌⊎◌, ◌≤◌, ◌+◌, ℕ, zero, suc, List, [], ◌∷◌, length, drop, Bool, true, false, not, ◌||◌, ◌==◌, Option, Some, None, IsSome, option_map, if◌then◌else◌, Result, Ok, Err, OnOk, slice_get, refl, sym, ap, subst, ◌∙◌, inl, inr}
 use Rattle.std.proofs.lemmas.List.{drop_all}
+use Rattle.std.proofs.Common.{◌≡◌, ◌⊎◌, ◌≤◌, ◌+◌, ℕ, zero, suc, List, [], ◌∷◌, length, drop, Bool, true, false, not, ◌||◌, ◌==◌, Option, Some, None, IsSome, option_map, if◌then◌else◌, Result, Ok, Err, OnOk, slice_get, refl, sym, ap, subst, ◌∙◌, inl, inr}
 use Rattle.std.specs.Prelude.{⊤}
 use Rattle.std.specs.Cmp.Lexicographic.{pointwise, bytes_decides}
 use Rattle.wac_types_base.specs.declared.item.ExternKind.{ExternKind}
@@ -35,7 +35,8 @@ use Rattle.wac_parser_refusals.proofs.Outcomes.{memory_refusal}
 use Rattle.wac_parser_declare.proofs.Members.{told}
 use Rattle.wac_parser_resolve.specs.declared.targets.Target.{Target}
 use Rattle.wac_parser_resolve.specs.Giving.{given_by}
-use Rattle.wac_parser_resolve.specs.InTargets.{AreAllNoted, AreInstancesMet, AreStatementsMet, IsAnswerOf, IsTold, all_pass, asked_in, export_at, export_test, filled_test, fit_in, import_test, imports_in, instance_test, is_passed_in, item_in, lacks_export, node_item, package_imports, passes_or, path_of, statement_by, statement_test, tells_mismatch}
+use Rattle.wac_types_base.specs.Parts.{imports_in_world}
+use Rattle.wac_parser_resolve.specs.InTargets.{AreAllNoted, AreInstancesMet, AreStatementsMet, IsAnswerOf, IsTold, all_pass, asked_in, export_at, export_test, filled_test, fit_in, import_test, instance_test, is_passed_in, item_in, lacks_export, node_item, package_imports, passes_or, path_of, statement_by, statement_test, tells_mismatch}
 use Rattle.wac_parser_resolve.specs.Meeting.{import_by}
 use Rattle.wac_parser_resolve.specs.Targeting.{Gives, IsInstanceMet, IsPassed, IsStatementMet}
 use Rattle.wac_parser_resolve.proofs.TargetMet.{node_package, passed_has}
@@ -228,7 +229,7 @@ module _ (t : Target) (g : Graph) (k : ℕ) (x : NodeData) (at : node_at g k ≡
       by None e h = absurd (cc h)
       by (Some p) e h =
           let made : instantiated g k ≡ Some p = ap (package_made g) at ∙ ap (package_if g) (sym of) ∙ e in
-          ap (package_imports g) made ∙ ap (λ (v : WorldId). imports_in (slice_get g.types.worlds v.index)) (sym (own p e)) ∙ ap imports_in found
+          ap (package_imports g) made ∙ ap (λ (v : WorldId). imports_in_world (slice_get g.types.worlds v.index)) (sym (own p e)) ∙ ap imports_in_world found
 
   pub instance_tested : (id : PackageId) (w : WorldId) (world : World) (r : Result ⊤ Refusal) → IsGraph g → Some id ≡ x.of → ((p : Packaged) → package_of g id ≡ Some p → w ≡ p.ty)
       → slice_get g.types.worlds w.index ≡ Some world → IsTold (all_pass (filled_test t g k) world.imports) r → IsTold (instance_test t g k) r

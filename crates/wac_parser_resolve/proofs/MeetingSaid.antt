@@ -1,6 +1,6 @@
 -- The test of a graph that holds what was said is the test of that.
-use Rattle.std.proofs.Common.{◌≡◌, ℕ, List, [], ◌∷◌, ◌++◌, map, filter, Bool, true, false, not, if◌then◌else◌, Option, Some, None, is_some, option_map, Result, Ok, Err, slice_get, refl, sym, ap, subst, ◌∙◌, inl, inr}
 use Rattle.std.specs.Prelude.{⊤}
+use Rattle.std.proofs.Common.{◌≡◌, ℕ, List, [], ◌∷◌, ◌++◌, map, filter, Bool, true, false, not, if◌then◌else◌, Option, Some, None, is_some, option_map, Result, Ok, Err, slice_get, refl, sym, ap, subst, ◌∙◌, inl, inr}
 use Rattle.std.specs.List.{flat_map}
 use Rattle.wac_types_base.specs.declared.item.ExternKind.{ExternKind}
 use Rattle.wac_types_base.specs.declared.item.ItemKind.{ItemKind}
@@ -37,7 +37,8 @@ use Rattle.wac_parser_resolve.specs.declared.targets.Target.{Target}
 use Rattle.wac_parser_resolve.specs.Ascribing.{Bound, Denoted, Import, Made, State}
 use Rattle.wac_parser_resolve.specs.Giving.{given_by}
 use Rattle.wac_parser_resolve.specs.Holding.{ArePassed, HasItem, InTurn, IsMade, Says}
-use Rattle.wac_parser_resolve.specs.InTargets.{IsFaultOf, IsTargetFor, IsTold, all_pass, export_at, export_test, filled_test, import_test, imports_in, instance_test, is_passed_in, item_in, node_item, package_imports, passes_or, path_of, statement_by, statement_test}
+use Rattle.wac_types_base.specs.Parts.{imports_in_world}
+use Rattle.wac_parser_resolve.specs.InTargets.{IsFaultOf, IsTargetFor, IsTold, all_pass, export_at, export_test, filled_test, import_test, instance_test, is_passed_in, item_in, node_item, package_imports, passes_or, path_of, statement_by, statement_test}
 use Rattle.wac_parser_resolve.specs.Meeting as stated
 use Rattle.wac_parser_resolve.specs.Meeting.{Wanted, export_by, import_by, refuse_at, uses_are_named, wanted, wanted_by_instance, wanted_by_statement}
 use Rattle.wac_parser_resolve.specs.Said.{AreAsked, AreExported, IsAsked}
@@ -166,7 +167,7 @@ module _ (g : Graph) (is : IsGraph g) (acyclic : IsAcyclic g.types) (tg : Target
   made_same ms m e h =
       let f = world_found g.types h.of.ty h.world.stands in
       let imports : imports_of m.world ≡ with_values (stated_of g.types) f.value.imports = ap imports_of (sym h.world.same) ∙ component_imports g.types acyclic h.of.ty f.value f.at f.own in
-      let own : package_imports g (instantiated g e.0) ≡ f.value.imports = ap (package_imports g) h.is ∙ ap imports_in f.at in
+      let own : package_imports g (instantiated g e.0) ≡ f.value.imports = ap (package_imports g) h.is ∙ ap imports_in_world f.at in
       let ns : import_names g (instantiated g e.0) ≡ names_of f.value.imports = ap (import_names g) h.is ∙ ap world_names f.at in
       ap (λ (es : List (Name × Stated)). all_pass wants (map open_of (filter (λ x. not (is_some (value_at m.arguments x.0))) es))) imports
       ∙ filled_same m.arguments e.0 f.value.imports

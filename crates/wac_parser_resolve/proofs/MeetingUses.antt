@@ -14,7 +14,8 @@ use Rattle.wac_types_base.specs.Collection.{HasChildren, IsAcyclic, Slot, Stands
 use Rattle.wac_types_base.specs.Entries.{Name, put_entry, value_at, values_of, with_values}
 use Rattle.wac_types_base.specs.Graph.{Among}
 use Rattle.wac_types_base.specs.Implicit as ids
-use Rattle.wac_types_base.specs.Implicit.{all_uses, identifier_in, instance_uses, named, then_on, used_interfaces, uses_in}
+use Rattle.wac_types_base.specs.Parts.{identifier_in}
+use Rattle.wac_types_base.specs.Implicit.{all_uses, instance_uses, named, then_on, used_interfaces, uses_in}
 use Rattle.wac_types_base.specs.Stated.{Stated, Used, identifier_of, imports_of, kind_of, only_places, row, stated_of, uses_from, uses_of}
 use Rattle.wac_types_base.proofs.Slots.{entry_at-is}
 use Rattle.wac_types_base.proofs.Standing.{interface_found}
@@ -25,7 +26,7 @@ use Rattle.wac_types_fit.specs.Targets.{target_import}
 use Rattle.wac_composition.specs.Classes.{is_instance}
 use Rattle.wac_parser_declare.proofs.Exports.{component_imports}
 use Rattle.wac_parser_declare.proofs.Kept.{value_at-with_values}
-use Rattle.wac_parser_resolve.specs.Denoting.{or_else}
+use Rattle.std.specs.Option.{option_or}
 use Rattle.wac_parser_resolve.specs.Holding.{InTurn}
 use Rattle.wac_parser_resolve.specs.Meeting as stated
 use Rattle.wac_parser_resolve.specs.Meeting.{by_identifier, implicit_interfaces, implicit_uses, put_named, uses_are_named}
@@ -182,14 +183,14 @@ module _ (c : Collection) (a : IsAcyclic c) where
     pub uses_unnamed : ids.by_identifier c [] (ids.implicit_interfaces c x) ≡ None → uses_are_named world ≡ false
     uses_unnamed e = unlisted_of (implicit_uses world) (ids.implicit_interfaces c x) [] world_implicit e
 
-    either_of : (o p : Option ItemKind) → or_else (option_map (stated_of c) o) (option_map (stated_of c) p) ≡ option_map (stated_of c) (fit.or_else o p)
+    either_of : (o p : Option ItemKind) → option_or (option_map (stated_of c) o) (option_map (stated_of c) p) ≡ option_map (stated_of c) (fit.or_else o p)
     either_of None p = refl
     either_of (Some k) p = refl
 
     pub gives_same : (fs : List (Name × ItemKind)) → ids.by_identifier c [] (ids.implicit_interfaces c x) ≡ Some fs → (n : Name) → stated.given_by world n ≡ option_map (stated_of c) (target_import fs x.imports n)
     gives_same fs e n =
-        ap (λ (es : List (Name × Stated)). or_else (value_at es n) (value_at (imports_of world) n)) (listed_of (implicit_uses world) (ids.implicit_interfaces c x) [] fs world_implicit e).list
-        ∙ ap (λ (es : List (Name × Stated)). or_else (value_at (with_values (stated_of c) fs) n) (value_at es n)) (component_imports c a w x at own)
-        ∙ ap (λ (o : Option Stated). or_else o (value_at (with_values (stated_of c) x.imports) n)) (value_at-with_values (stated_of c) fs n)
-        ∙ ap (or_else (option_map (stated_of c) (value_at fs n))) (value_at-with_values (stated_of c) x.imports n)
+        ap (λ (es : List (Name × Stated)). option_or (value_at es n) (value_at (imports_of world) n)) (listed_of (implicit_uses world) (ids.implicit_interfaces c x) [] fs world_implicit e).list
+        ∙ ap (λ (es : List (Name × Stated)). option_or (value_at (with_values (stated_of c) fs) n) (value_at es n)) (component_imports c a w x at own)
+        ∙ ap (λ (o : Option Stated). option_or o (value_at (with_values (stated_of c) x.imports) n)) (value_at-with_values (stated_of c) fs n)
+        ∙ ap (option_or (option_map (stated_of c) (value_at fs n))) (value_at-with_values (stated_of c) x.imports n)
         ∙ either_of (value_at fs n) (value_at x.imports n)

@@ -7,7 +7,7 @@ use Rattle.wac_types_base.specs.declared.item.FuncKind.{FuncKind}
 use Rattle.wac_types_base.specs.declared.item.ExternKind.{ExternKind}
 use Rattle.wac_types_base.specs.Entries.{Name, value_at}
 use Rattle.wac_types_base.specs.Collection as s
-use Rattle.wac_types_base.specs.Stated.{Stated, Kind, IsFunction, IsInstance, IsComponent, IsModule, IsValue, IsResource, IsFunctionType, IsValueType, IsInterface, IsWorld, IsModuleType, kind_of, desc, untyped, as_type, own, leaf, Used, interface_of, world_of, exports_of, imports_of, identifier_of}
+use Rattle.wac_types_base.specs.Stated.{Stated, Kind, IsFunction, IsInstance, IsComponent, IsModule, IsValue, IsResource, IsFunctionType, IsValueType, IsInterface, IsWorld, IsModuleType, kind_of, desc, untyped, as_type, own, leaf, Used, interface_of, world_of, exports_of, imports_of, identifier_of, is_interface}
 use Rattle.wac_types_base.proofs.Lists.{from_filtered}
 use Rattle.wac_types_names.specs.Keys.{Key}
 use Rattle.wac_parser_tree.specs.Trees as t
@@ -16,11 +16,11 @@ use Rattle.wac_parser_tree.specs.Segments.{Segment, segment_spans, package_name_
 use Rattle.wac_parser_refusals.specs.Causes.{Answer, Fault, ◌>>=◌, pure, unless_clear, present, each, UnknownPackage, PackageMissingExport, PackagePathMissingExport, UndefinedInterfaceType, NotInterfaceValueType, UseConflict, NotInterface, DuplicateResourceConstructor, DuplicateResourceMethod, DuplicateWorldItem, WorldIncludeConflict}
 use Rattle.wac_parser_declare.specs.Scope.{Scope, Context, Meant, Path, in_package, at_root, has, named, taken, bind, is_key, package_under, world_of_package, is_interface_name, is_instance_or_component, only_export, definition_by, definitions, use_path, world_path, joined, own_path, package_path, segment_ident, from_root, from_definitions, path_item, at_path, path_text, path_span, identifier}
 use Rattle.wac_parser_declare.specs.Declarations.{function, func_ref, variant_decl, record_decl, flags_decl, enum_decl, type_alias}
-use Rattle.wac_parser_declare.specs.Bodies.{Items, Body, no_body, Holder, usable, local_name, with_use, is_used, use_one, is_interface, interface_at, use_types, with_item, add_type, method_name, constructor_name, method_kind, self_of, add_constructor, has_method, add_method, resource_method, resource_decl, added, item_type}
+use Rattle.wac_parser_declare.specs.Bodies.{Items, Body, no_body, Holder, usable, local_name, with_use, is_used, use_one, interface_at, use_types, with_item, add_type, method_name, constructor_name, method_kind, self_of, add_constructor, has_method, add_method, resource_method, resource_decl, added, item_type}
 use Rattle.wac_parser_declare.specs.Interfaces.{export_item, exporting, interface_body, inline_interface, interface_decl}
 use Rattle.wac_parser_declare.specs.Interfaces as i
 use Rattle.wac_parser_declare.specs.Worlds.{extern_by, extern_type, with_identifier, interface_item, world_item, importing, with_imports, with_exports, world_part, world_by, world_at, with_name, renaming, has_colon, or_itself, include_at, include_one, is_empty, left_for_exports, unmet, include_world, world_body, world_include, world_decl, type_statement}
-use Rattle.wac_parser_resolve.specs.Denoting.{or_else}
+use Rattle.std.specs.Option.{option_or}
 use Rattle.wac_parser_resolve.specs.Proper.{Proper, AreProper}
 use Rattle.wac_parser_resolve.proofs.Answers.{err_ok, ok_of, then_ok, ok_is, each_keeps}
 use Rattle.wac_parser_resolve.proofs.Numbers.{each_more, value_more}
@@ -237,18 +237,18 @@ inline_proper g d y h e = interface_body_proper g None None d.items y h e
 
 -- ---- worlds
 
-value_both : {V : Type 0} (xs ys : List (Name × V)) (n : Name) → value_at (xs ++ ys) n ≡ or_else (value_at xs n) (value_at ys n)
+value_both : {V : Type 0} (xs ys : List (Name × V)) (n : Name) → value_at (xs ++ ys) n ≡ option_or (value_at xs n) (value_at ys n)
 value_both [] ys n = refl
 value_both (x ∷ xs) ys n = go (value_both xs ys n) (pointwise ◌==◌ n x.0)
   where
-    go : value_at (xs ++ ys) n ≡ or_else (value_at xs n) (value_at ys n) → (b : Bool) → (if b then Some x.1 else value_at (xs ++ ys) n) ≡ or_else (if b then Some x.1 else value_at xs n) (value_at ys n)
+    go : value_at (xs ++ ys) n ≡ option_or (value_at xs n) (value_at ys n) → (b : Bool) → (if b then Some x.1 else value_at (xs ++ ys) n) ≡ option_or (if b then Some x.1 else value_at xs n) (value_at ys n)
     go rest true = refl
     go rest false = rest
 
 both_scopes : (ns ms : Scope) → ScopeProper ns → ScopeProper ms → ScopeProper (ns ++ ms)
 both_scopes ns ms h k n m e = go (value_at ns n) refl (sym (value_both ns ms n) ∙ e)
   where
-    go : (o : Option Meant) → value_at ns n ≡ o → or_else o (value_at ms n) ≡ Some m → Proper m.item
+    go : (o : Option Meant) → value_at ns n ≡ o → option_or o (value_at ms n) ≡ Some m → Proper m.item
     go (Some u) q r = subst (λ (x : Meant). Proper x.item) (same_Some _ _ r) (h n u q)
     go None q r = k n m r
 

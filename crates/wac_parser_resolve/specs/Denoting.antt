@@ -1,5 +1,6 @@
 -- What expressions denote. Each makes its instances, in the order in which they are complete.
 use Rattle.std.specs.Prelude.{Bool, true, false, not, ◌&&◌, List, [], ◌∷◌, ◌++◌, map, length, Option, Some, None, is_some, filter, find, ⊤, bytes_eq, unwrap_or, if◌then◌else◌}
+use Rattle.std.specs.Option.{option_or}
 use Rattle.wac_types_base.specs.Entries.{Name, value_at, names_of, has_name}
 use Rattle.wac_types_base.specs.Stated.{Stated, Kind, IsInstance, kind_of, desc, exports_of, imports_of, identifier_of, instance_type}
 use Rattle.wac_types_names.specs.Keys.{Key}
@@ -73,14 +74,10 @@ abbrev pub if_among : List Name → Option Name → Option Name
 if_among ns None = None
 if_among ns (Some n) = if has_name ns n then Some n else None
 
-abbrev pub or_else : {A : Type 0} → Option A → Option A → Option A
-or_else (Some x) o = Some x
-or_else None o = o
-
 -- the import that an argument without a name is for
 abbrev pub inferred_name : List Name → t.Ident → Denoted → Name
 inferred_name ns i d = unwrap_or
-    (or_else (if_among ns (instance_identifier (kind_of d.item) d.item)) (if_among ns (own_name d.origin)))
+    (option_or (if_among ns (instance_identifier (kind_of d.item) d.item)) (if_among ns (own_name d.origin)))
     (matched i.string ns)
 
 abbrev pub argument_name : List Name → t.InstantiationArgumentName → Name

@@ -1,5 +1,6 @@
 -- What is answered of exports: what is said then, over what was said, or the cause.
 use Rattle.std.specs.Prelude.{◌≡◌, ℕ, Bool, true, false, not, List, filter, Option, Some, None, is_some, Result, ⊤, string_bytes, unwrap_or}
+use Rattle.wac_parser_resolve.specs.InStatements.{DenotesOn}
 use Rattle.wac_types_base.specs.declared.item.ExternKind.{ExternKind}
 use Rattle.wac_types_base.specs.declared.item.ItemKind.{ItemKind}
 use Rattle.wac_types_base.specs.declared.ids.InterfaceId.{InterfaceId}
@@ -77,20 +78,16 @@ left_of g i = left_to_export g.exports (names_of (exports_of (stated_of g.types 
 abbrev pub ident_of : ExportName → t.Ident
 ident_of n = record { string = n.text.now; span = n.span }
 
--- the node is what is denoted
-abbrev pub DenotesIn : Held → Denoted → ℕ → Type 0
-DenotesIn b d k = Denotes b.board.types.graph (names_of b.board.instances.noted.items) d k
-
 -- what is denoted is exported, where the code holds it spoken of
 abbrev pub IsExport : Held → ℕ → ExportName → Held → Result ⊤ Refusal → Type 0
 IsExport old k n new r =
-    (own : t.PackageName) (s : State) (d : Denoted) → IsSaid own old (speak_of s d) → DenotesIn old d k
+    (own : t.PackageName) (s : State) (d : Denoted) → IsSaid own old (speak_of s d) → DenotesOn old d k
     → IsOutcome (λ q u. IsSaid own new q) (exported d n.is_helped s (ident_of n)) r
 
 -- what is said of a node that is spoken of
 abbrev pub SaysOf : (State → Denoted → Answer State) → Held → ℕ → Held → Result ⊤ Refusal → Type 0
 SaysOf f old k new r =
-    (own : t.PackageName) (s : State) (d : Denoted) → IsSaid own old s → DenotesIn old d k → speak_of s d ≡ s
+    (own : t.PackageName) (s : State) (d : Denoted) → IsSaid own old s → DenotesOn old d k → speak_of s d ≡ s
     → IsOutcome (λ q u. IsSaid own new q) (f s d) r
 
 -- an export statement's options
@@ -104,5 +101,5 @@ export_each ns dots s d = each (export_one dots d) s ns
 -- what is said of exports of an instance
 abbrev pub SaysOfInstance : (State → Denoted → Answer State) → Held → ℕ → Held → Result ⊤ Refusal → Type 0
 SaysOfInstance f old k new r =
-    (own : t.PackageName) (s : State) (d : Denoted) → IsSaid own old s → DenotesIn old d k → is_instance (kind_of d.item) ≡ true
+    (own : t.PackageName) (s : State) (d : Denoted) → IsSaid own old s → DenotesOn old d k → is_instance (kind_of d.item) ≡ true
     → IsOutcome (λ q u. IsSaid own new q) (f s d) r

@@ -1,6 +1,7 @@
 -- What is answered where a graph is tested against a target: what is stated of the nodes that are noted, in order, or the first
 -- cause.
 use Rattle.std.specs.Prelude.{◌≡◌, ℕ, true, Bool, not, List, [], map, Option, Some, None, is_some, option_map, slice_get, Result, Ok, Err, ⊤, IsSome, if◌then◌else◌}
+use Rattle.wac_types_base.specs.Parts.{imports_in_world}
 use Rattle.wac_types_base.specs.declared.ids.WorldId.{WorldId}
 use Rattle.wac_types_base.specs.declared.item.ExternKind.{ExternKind}
 use Rattle.wac_types_base.specs.declared.item.ItemKind.{ItemKind}
@@ -138,14 +139,10 @@ IsFilledTested t g i n k r = IsTold (filled_test t g i (n, k)) r
 abbrev pub AreFilledTested : Target → Graph → ℕ → List (Name × ItemKind) → Result ⊤ Refusal → Type 0
 AreFilledTested t g i es r = IsTold (all_pass (filled_test t g i) es) r
 
-abbrev pub imports_in : Option World → List (Name × ItemKind)
-imports_in None = []
-imports_in (Some w) = w.imports
-
 -- the imports of the world of a package
 abbrev pub package_imports : Graph → Option Packaged → List (Name × ItemKind)
 package_imports g None = []
-package_imports g (Some p) = imports_in (slice_get g.types.worlds p.ty.index)
+package_imports g (Some p) = imports_in_world (slice_get g.types.worlds p.ty.index)
 
 abbrev pub instance_test : Target → Graph → ℕ → Answer ⊤
 instance_test t g k = all_pass (filled_test t g k) (package_imports g (instantiated g k))

@@ -1,11 +1,8 @@
 -- What is known of packages: those of a graph, then those that are handed in.
 use base.Stored.{Gv}
-use Rattle.std.specs.Prelude.{◌≡◌, ℕ, false, is_some, cond, List, [], ◌∷◌, Option, Some, None, option_map, Result}
-use Rattle.std.specs.Option.{option_and_then, option_copied, option_or}
-use Rattle.std.specs.Borrow.{Bor}
+use Rattle.std.specs.Prelude.{◌≡◌, ℕ, false, is_some, cond, List, [], ◌∷◌, Option, Some, None, Result}
+use Rattle.std.specs.Option.{option_and_then, option_or}
 use Rattle.std.specs.Coded.{coded_option, coded×}
-use Rattle.semver.specs.declared.Version.{Version}
-use Rattle.semver.specs.Identifiers.{parts_of}
 use Rattle.indexmap.specs.IndexMap.{IndexMap, get_by}
 use Rattle.wac_types_base.specs.declared.item.ItemKind.{ItemKind}
 use Rattle.wac_types_base.specs.declared.item.«Type».{«Type» as TypeKind}
@@ -31,15 +28,7 @@ use Rattle.wac_parser_declare.specs.Scope.{definition_by, definitions, is_key, o
 use Rattle.wac_parser_resolve.specs.declared.packages.GraphTypes.{GraphTypes}
 use Rattle.wac_parser_resolve.specs.declared.packages.PackageRef.{PackageRef}
 
--- the key of a name and a version that are lent
-abbrev pub key_of : Name → Option (Bor Version) → Key
-key_of n v = (n, option_map parts_of (option_copied v))
-
 -- ---- the packages of a graph
-
--- what a world is, by its id
-abbrev pub stated_world : Collection → WorldId → Stated
-stated_world c w = stated_of c (ItemKind.Component w)
 
 -- what a package has, its world in this collection
 abbrev pub content_of : Collection → Packaged → Content

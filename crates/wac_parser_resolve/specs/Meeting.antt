@@ -13,7 +13,7 @@ use Rattle.wac_parser_refusals.specs.Causes.{Answer, Fault, ◌>>=◌, ◌>>◌,
 use Rattle.wac_parser_declare.specs.Packages.{Content}
 use Rattle.wac_parser_declare.specs.Scope.{path_item}
 use Rattle.wac_parser_resolve.specs.Ascribing.{Import, Made, Bound, State, context}
-use Rattle.wac_parser_resolve.specs.Denoting.{or_else}
+use Rattle.std.specs.Option.{option_or}
 use Rattle.wac_parser_resolve.specs.Saying.{export_span, statements}
 
 -- ---- what a target gives
@@ -35,7 +35,7 @@ abbrev pub implicit_interfaces : Stated → List (Name × Stated)
 implicit_interfaces w = by_identifier [] (implicit_uses w)
 
 abbrev pub given_by : Stated → Name → Option Stated
-given_by w n = or_else (value_at (implicit_interfaces w) n) (value_at (imports_of w) n)
+given_by w n = option_or (value_at (implicit_interfaces w) n) (value_at (imports_of w) n)
 
 -- ---- what a document imports
 

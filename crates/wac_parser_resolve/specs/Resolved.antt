@@ -8,7 +8,7 @@ use Rattle.wac_parser_resolve.specs.declared.resolver.AstResolver.{AstResolver}
 use Rattle.wac_parser_resolve.specs.declared.resolver.Said.{Said}
 use Rattle.wac_parser_resolve.specs.declared.resolver.Resolved.{Resolved}
 use Rattle.wac_parser_resolve.specs.Ascribed.{span_or_none}
-use Rattle.wac_parser_resolve.specs.Denoting.{or_else}
+use Rattle.std.specs.Option.{option_or}
 use Rattle.wac_parser_resolve.specs.Said.{last_noted}
 
 -- ---- where things stand
@@ -25,7 +25,7 @@ import_place at k = span_or_none (last_noted at.imports k)
 
 -- where who asks stands: the package of an instance, else the identifier of an import or of a declaration
 abbrev pub asker_place : Places → ℕ → Span
-asker_place at k = span_or_none (or_else (last_noted at.instances k) (last_noted at.ids k))
+asker_place at k = span_or_none (option_or (last_noted at.instances k) (last_noted at.ids k))
 
 -- of what a document says
 abbrev pub graph_said : Said → Graph

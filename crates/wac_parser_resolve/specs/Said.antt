@@ -14,7 +14,7 @@ use Rattle.wac_parser_declare.specs.Scope.{package_under}
 use Rattle.wac_parser_resolve.specs.declared.board.Board.{Board}
 use Rattle.wac_parser_resolve.specs.declared.state.State.{State as Held}
 use Rattle.wac_parser_resolve.specs.Ascribing.{Bound, Denoted, Import, State, root_scope}
-use Rattle.wac_parser_resolve.specs.Denoting.{or_else}
+use Rattle.std.specs.Option.{option_or}
 use Rattle.wac_parser_resolve.specs.Holding.{AreNamed, Denotes, HasItem, InTurn, IsDefinition, Says}
 use Rattle.wac_parser_resolve.specs.Knowing.{known_in}
 
@@ -36,7 +36,7 @@ pub record IsDenoted (own : Name) (names : List (Name × ℕ)) (b : Board) (q : 
 -- what is noted last of a node
 abbrev pub last_noted : List (ℕ × Span) → ℕ → Option Span
 last_noted [] k = None
-last_noted (e ∷ es) k = or_else (last_noted es k) (if e.0 == k then Some e.1 else None)
+last_noted (e ∷ es) k = option_or (last_noted es k) (if e.0 == k then Some e.1 else None)
 
 -- ---- imports, definitions, exports
 

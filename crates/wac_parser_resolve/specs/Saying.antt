@@ -18,7 +18,8 @@ use Rattle.wac_parser_declare.specs.Declarations.{free}
 use Rattle.wac_parser_declare.specs.Interfaces.{inline_interface}
 use Rattle.wac_parser_declare.specs.Worlds.{type_statement}
 use Rattle.wac_parser_resolve.specs.Ascribing.{Origin, imported, defined, Denoted, Import, Bound, State, start, root_scope, context, bound, own_name, is_definition, same_origin, speak_of}
-use Rattle.wac_parser_resolve.specs.Denoting.{denote, export_named, instance_identifier, needs_instance, or_else}
+use Rattle.std.specs.Option.{option_or}
+use Rattle.wac_parser_resolve.specs.Denoting.{denote, export_named, instance_identifier, needs_instance}
 
 -- ---- names of imports and exports
 
@@ -157,7 +158,7 @@ exported d helped g n = do
 
 -- an instance's identifier, else the import's or the alias's name
 abbrev pub export_name : Denoted → Option Name
-export_name d = or_else (instance_identifier (kind_of d.item) d.item) (own_name d.origin)
+export_name d = option_or (instance_identifier (kind_of d.item) d.item) (own_name d.origin)
 
 abbrev pub export_one : Span → Denoted → State → Name → Answer State
 export_one dots d g n = export_named d n dots >>= λ e. exported e false g (record { string = n; span = dots })

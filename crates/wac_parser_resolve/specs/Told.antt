@@ -3,7 +3,7 @@ use Rattle.std.specs.Prelude.{◌≡◌, ℕ, Option, Some, None, slice_get}
 use Rattle.wac_types_base.specs.declared.item.ItemKind.{ItemKind}
 use Rattle.wac_types_base.specs.Record.{Collection}
 use Rattle.wac_types_base.specs.Entries.{Name}
-use Rattle.wac_types_base.specs.Implicit.{identifier_in}
+use Rattle.wac_types_base.specs.Parts.{identifier_in}
 use Rattle.wac_graph_core.specs.Nodes.{NodeData}
 use Rattle.wac_graph_core.specs.Edges.{HasAlias}
 use Rattle.wac_graph_core.specs.Graph.{Graph, node_at}

@@ -11,13 +11,14 @@ ghost use Rattle.wac_types_base.specs.Collection.{Stands};
 ghost use Rattle.wac_types_base.specs.Entries.{AreDistinct, names_of};
 ghost use Rattle.wac_types_names.specs.Keys.{package_key};
 ghost use Rattle.wac_graph_core.specs.Graph.{ContainsPackage, PackageStands};
-ghost use Rattle.wac_graph_core.specs.Packages.{NoKey, Registers};
+ghost use Rattle.wac_graph_core.specs.Packages.{NoKey, Registers, key_of};
 ghost use Rattle.wac_graph_core.specs.Types.{Enlarges};
 ghost use Rattle.wac_parser_declare.specs.Packages.{SamePackages};
 ghost use Rattle.wac_parser_declare.specs.Scope as scope;
 ghost use Rattle.wac_parser_resolve.specs.Keeping.{Keeps};
 ghost use Rattle.wac_parser_resolve.specs.Knowing.{Gets, IsDefinedBy, IsDefinedIn, IsOnlyExport, IsPackage, IsPackageOf, IsTypeOf, SameContents};
-ghost use Rattle.wac_parser_resolve.specs.Knowing.{all_known, handed_under, key_of, known_of, lent_content, stated_handed, stated_world};
+ghost use Rattle.wac_types_base.specs.Stated.{stated_world};
+ghost use Rattle.wac_parser_resolve.specs.Knowing.{all_known, handed_under, known_of, lent_content, stated_handed};
 
 use indexmap::IndexMap;
 use semver::Version;

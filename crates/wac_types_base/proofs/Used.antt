@@ -12,7 +12,8 @@ use Rattle.wac_types_base.specs.Entries.{Name, values_of, put_entry}
 use Rattle.wac_types_base.specs.Graph.{Among}
 use Rattle.wac_types_base.specs.Record.{Collection}
 use Rattle.wac_types_base.specs.Collection.{Slot, SlotStands, HasChildren, Stands, IsAcyclic, item_node, interface_entry, world_entry, items, used}
-use Rattle.wac_types_base.specs.Implicit.{used_interfaces, uses_in, instance_uses, all_uses, implicit_interfaces, identifier_in, named, then_on, by_identifier, shown}
+use Rattle.wac_types_base.specs.Parts.{identifier_in}
+use Rattle.wac_types_base.specs.Implicit.{used_interfaces, uses_in, instance_uses, all_uses, implicit_interfaces, named, then_on, by_identifier, shown}
 use Rattle.wac_types_base.proofs.Adding.{All-among, Among-left, Among-right}
 use Rattle.wac_types_base.proofs.Loops.{get-place}
 use Rattle.wac_types_base.proofs.Slots.{entry_at-is}

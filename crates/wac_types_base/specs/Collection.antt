@@ -171,6 +171,10 @@ abbrev pub SlotStands : Collection → Slot → Type 0
 SlotStands c None = Unit {0}
 SlotStands c (Some k) = Stands c k
 
+abbrev pub StandsIf : Collection → Option ValueType → Type 0
+StandsIf c None = Unit {0}
+StandsIf c (Some v) = Stands c (ItemKind.Value v)
+
 -- each id inside an entry stands
 abbrev pub HasChildren : Collection → Entry → Type 0
 HasChildren c e = All (SlotStands c) e.1

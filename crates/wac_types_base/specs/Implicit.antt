@@ -1,6 +1,7 @@
 -- The interfaces that a world imports without naming them: those that its types are used from.
 use Rattle.std.specs.Prelude.{ℕ, List, [], ◌∷◌, ◌++◌, map, Option, Some, None, slice_get}
 use Rattle.std.specs.Borrow.{Bor}
+use Rattle.wac_types_base.specs.Parts.{identifier_in}
 use Rattle.wac_types_base.specs.declared.ids.InterfaceId.{InterfaceId}
 use Rattle.wac_types_base.specs.declared.item.ItemKind.{ItemKind}
 use Rattle.wac_types_base.specs.declared.defined.UsedType.{UsedType}
@@ -29,10 +30,6 @@ all_uses c (k ∷ ks) = instance_uses c k ++ all_uses c ks
 -- the interfaces that the world's own uses name, then those that the uses of its imported instances name
 abbrev pub implicit_interfaces : Collection → World → List InterfaceId
 implicit_interfaces c w = used_interfaces (values_of w.uses) ++ all_uses c (values_of w.imports)
-
-abbrev pub identifier_in : Option Interface → Option Name
-identifier_in None = None
-identifier_in (Some i) = i.id
 
 -- the entries with one more interface under its identifier, if it has one
 abbrev pub named : List (Name × ItemKind) → InterfaceId → Option Name → Option (List (Name × ItemKind))

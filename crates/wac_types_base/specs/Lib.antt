@@ -6,6 +6,7 @@ pub mod Copying
 pub mod Tree
 pub mod Fits
 pub mod Stated
+pub mod Parts
 pub mod Discrete
 pub mod Reaching
 pub mod View

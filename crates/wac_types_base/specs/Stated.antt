@@ -1,7 +1,9 @@
 -- Stated types: the finite unfolding of an id with its identifiers, uses and owners, and the words that make and read it.
 use Rattle.std.specs.Prelude.{◌+◌, Bool, true, false, ◌||◌, List, [], ◌∷◌, ◌++◌, map, length, Option, Some, None, option_map, codes, drop, ⊤}
 use Rattle.wac_types_base.specs.declared.item.PrimitiveType.{PrimitiveType}
+use Rattle.wac_types_base.specs.declared.ids.WorldId.{WorldId}
 use Rattle.wac_types_base.specs.declared.item.ItemKind.{ItemKind}
+use Rattle.wac_types_base.specs.declared.defined.UsedType.{UsedType}
 use Rattle.wac_types_base.specs.declared.defined.DefinedType.{DefinedType}
 use Rattle.wac_types_base.specs.Entries.{Name}
 use Rattle.wac_types_base.specs.Record.{Collection}
@@ -64,6 +66,10 @@ stated_in (Some t) = t
 abbrev pub stated_of : Collection → ItemKind → Stated
 stated_of c k = stated_in (unfolding_of c k)
 
+-- of a component of this world
+abbrev pub stated_world : Collection → WorldId → Stated
+stated_world c w = stated_of c (ItemKind.Component w)
+
 -- what an entry would name
 abbrev pub stated_entry : Collection → Entry → Stated
 stated_entry c e = node e.0 (row (map (option_map (stated_of c)) e.1))
@@ -75,6 +81,10 @@ pub record Used : Type 0 where
   pub name : Name
   pub there : Option Name
   pub interface : Stated
+
+-- a use of an interface of the collection
+abbrev pub stated_use : Collection → Name × UsedType → Used
+stated_use c u = record { name = u.0; there = u.1.name; interface = stated_of c (ItemKind.Instance u.1.interface) }
 
 abbrev pub names_used : List Used → List (Name × Option Name)
 names_used us = map (λ u. (u.name, u.there)) us
@@ -129,6 +139,10 @@ pub data Kind : Type 0 where
   IsInterface : Kind
   IsWorld : Kind
   IsModuleType : Kind
+
+abbrev pub is_interface : Kind → Bool
+is_interface IsInterface = true
+is_interface k = false
 
 -- the kind of a type item
 abbrev pub type_kind : Shape → Kind

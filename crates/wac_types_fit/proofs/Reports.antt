@@ -1,6 +1,6 @@
 -- The report of a component against a target, item by item.
-use Rattle.std.proofs.Common.{◌≡◌, ℕ, ◌+◌, ◌≤◌, List, [], ◌∷◌, ◌++◌, take, length, Option, Some, None, Bool, true, false, if◌then◌else◌, cond, append_assoc, refl, sym, ap, subst, ◌∙◌, ◌⊎◌, inl, inr}
 use Rattle.std.specs.Prelude.{slice_get, ◌==◌, Result, Ok, Err, OnOk, ⊤, option_map}
+use Rattle.std.proofs.Common.{◌≡◌, ℕ, ◌+◌, ◌≤◌, List, [], ◌∷◌, ◌++◌, take, length, Option, Some, None, Bool, true, false, if◌then◌else◌, cond, append_assoc, refl, sym, ap, subst, ◌∙◌, ◌⊎◌, inl, inr}
 use Rattle.std.specs.Cmp.Lexicographic.{pointwise}
 use Rattle.std.specs.Map.{lookup}
 use Rattle.std.specs.Borrow.{Bor}
@@ -17,7 +17,8 @@ use Rattle.wac_types_base.specs.Graph.{Among}
 use Rattle.wac_types_base.specs.Entries.{Name, values_of, value_at, put_entry}
 use Rattle.wac_types_base.specs.Collection.{Slot, SlotStands, Stands, IsAcyclic, HasChildren, world_entry}
 use Rattle.wac_types_base.specs.Resolving.{promoted}
-use Rattle.wac_types_base.specs.Implicit.{used_interfaces, uses_in, instance_uses, all_uses, implicit_interfaces, identifier_in, named, then_on, by_identifier, shown}
+use Rattle.wac_types_base.specs.Parts.{identifier_in}
+use Rattle.wac_types_base.specs.Implicit.{used_interfaces, uses_in, instance_uses, all_uses, implicit_interfaces, named, then_on, by_identifier, shown}
 use Rattle.wac_types_base.proofs.Copying.{Among-All}
 use Rattle.wac_types_base.proofs.Looked.{take-one_more}
 use Rattle.wac_types_base.proofs.Loops.{map-append, take-all}
@@ -30,7 +31,8 @@ use Rattle.wac_types_fit.specs.declared.errors.SubtypeError.{SubtypeError}
 use Rattle.wac_types_fit.specs.Frames.{Step}
 use Rattle.wac_types_fit.specs.Errors.{Said, steps_of, words_of}
 use Rattle.wac_types_fit.specs.Words.{AreCalled, CalledUnder}
-use Rattle.wac_types_fit.specs.Targets.{Mismatched, AreThose, none_left, first_is, first_is_not, or_else, target_import, IsLacking, ImportDiffers, ExportDiffers, Leading, ImportLeads, ExportLeads, IsFault, AreFaults, AreLacking, Differing}
+use Rattle.std.specs.Option.{option_or}
+use Rattle.wac_types_fit.specs.Targets.{Mismatched, AreThose, none_left, first_is, first_is_not, target_import, IsLacking, ImportDiffers, ExportDiffers, Leading, ImportLeads, ExportLeads, IsFault, AreFaults, AreLacking, Differing}
 use Rattle.wac_types_fit.specs.TargetSteps.{name_if, entry_if, tested, ImportChecked, ExportChecked, KindStands, GivesStanding, AllStand}
 use Rattle.wac_types_fit.proofs.Items.{value_at-among}
 use Rattle.wac_types_fit.proofs.Unfolded.{world_node}
@@ -154,7 +156,7 @@ found_stands c es h n (Some k) e = h n k (value_at-among es n k e)
 pub gives_standing : (c : Collection) (es : List (Name × ItemKind)) → AllStand c es → GivesStanding c (value_at es)
 gives_standing c es h n = found_stands c es h n (value_at es n) refl
 
-either_stands : (c : Collection) (o p : Option ItemKind) → KindStands c o → KindStands c p → KindStands c (or_else o p)
+either_stands : (c : Collection) (o p : Option ItemKind) → KindStands c o → KindStands c p → KindStands c (option_or o p)
 either_stands c None p h k = k
 either_stands c (Some j) p h k = h
 

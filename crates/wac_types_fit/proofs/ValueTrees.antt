@@ -1,6 +1,6 @@
 -- When two values, functions or resources have one tree.
-use Rattle.std.proofs.Common.{◌≡◌, ℕ, zero, suc, ◌<◌, ◌≤◌, List, [], ◌∷◌, ◌++◌, map, length, Option, Some, None, Bool, true, false, refl, sym, ap, subst, ◌∙◌, IsTrue, ◌↔◌, arith}
 use Rattle.std.proofs.lemmas.Bool.{and_parts}
+use Rattle.std.proofs.Common.{◌≡◌, ℕ, zero, suc, ◌<◌, ◌≤◌, List, [], ◌∷◌, ◌++◌, map, length, Option, Some, None, Bool, true, false, refl, sym, ap, subst, ◌∙◌, IsTrue, ◌↔◌, arith}
 use Rattle.std.specs.Prelude.{◌==◌, slice_get, String, string_bytes, is_some, not}
 use mathlib.Core.Bool.{beq}
 use Rattle.std.specs.Option.{option_map}
@@ -18,7 +18,7 @@ use Rattle.wac_types_base.specs.declared.ids.ResourceId.{ResourceId}
 use Rattle.wac_types_base.specs.declared.ids.FuncTypeId.{FuncTypeId}
 use Rattle.wac_types_base.specs.Record.{Collection}
 use Rattle.wac_types_base.specs.Entries.{Name, names_of, values_of, texts_of}
-use Rattle.wac_types_base.specs.Collection.{Shape, Slot, Stands, IsAcyclic, item_node, size_of, slots_of, value_slot, option_slot, defined_entry, func_entry, primitive, tuple, list, fixed_size_list, option, result, alias, stream, future, func, resource}
+use Rattle.wac_types_base.specs.Collection.{Shape, Slot, Stands, IsAcyclic, item_node, size_of, slots_of, value_slot, option_slot, defined_entry, func_entry, primitive, tuple, list, fixed_size_list, option, result, alias, stream, future, func, resource, StandsIf}
 use Rattle.wac_types_base.specs.Tree.{Tree, Row, rigid, handle_own, handle_borrow, end, place, gap, tree}
 use Rattle.wac_types_base.specs.Stated.{stated_of}
 use Rattle.wac_types_base.specs.Resolving.{IsNoAlias}
@@ -30,7 +30,7 @@ use Rattle.wac_types_base.proofs.GraphLemmas.{value_of}
 use Rattle.wac_types_base.proofs.Lists.{none_test}
 use Rattle.std.proofs.lemmas.Option.{slice_get-map}
 use Rattle.wac_types_fit.specs.Trees.{tree_in, SameTree}
-use Rattle.wac_types_fit.specs.Checking.{value_in, HoldsValues, ValueStands, value_tree, place_trees}
+use Rattle.wac_types_fit.specs.Checking.{value_in, HoldsValues, value_tree, place_trees}
 use Rattle.wac_types_fit.proofs.Unfolded.{row_in, primitive_tree, own_tree, borrow_tree, defined_tree, defined_rigid, root_tree, func_tree}
 
 -- ---- names
@@ -181,12 +181,12 @@ positive c acyclic k stands =
     let e = entry_size c acyclic k v.0 v.1 in
     omega (arith, e)
 
-inside_by : (c : Collection) → IsAcyclic c → (k : ItemKind) → Stands c k → (i : ℕ) (s : Slot) → slice_get (slots_of c k) i ≡ Some s → (o : Option ValueType) → s ≡ option_slot o → ValueStands c o × (place_size c o < size_of c k)
+inside_by : (c : Collection) → IsAcyclic c → (k : ItemKind) → Stands c k → (i : ℕ) (s : Slot) → slice_get (slots_of c k) i ≡ Some s → (o : Option ValueType) → s ≡ option_slot o → StandsIf c o × (place_size c o < size_of c k)
 inside_by c acyclic k stands i s at None e = (tt, positive c acyclic k stands)
 inside_by c acyclic k stands i s at (Some v) e = child_smaller c acyclic k stands i (ItemKind.Value v) (at ∙ ap Some e)
 
 -- what is in a place stands, and is smaller
-pub place_inside : (c : Collection) → IsAcyclic c → (k : ItemKind) → Stands c k → HoldsValues c k → (i : ℕ) (s : Slot) → slice_get (slots_of c k) i ≡ Some s → ValueStands c (value_in s) × (place_size c (value_in s) < size_of c k)
+pub place_inside : (c : Collection) → IsAcyclic c → (k : ItemKind) → Stands c k → HoldsValues c k → (i : ℕ) (s : Slot) → slice_get (slots_of c k) i ≡ Some s → StandsIf c (value_in s) × (place_size c (value_in s) < size_of c k)
 place_inside c acyclic k stands holds i s at = inside_by c acyclic k stands i s at (value_in s) (holds i s at)
 
 -- the tree in a place

@@ -116,10 +116,6 @@ value_in s = None
 abbrev pub HoldsValues : Collection → ItemKind → Type 0
 HoldsValues c k = (i : ℕ) (s : Slot) → slice_get (slots_of c k) i ≡ Some s → s ≡ option_slot (value_in s)
 
-abbrev pub ValueStands : Collection → Option ValueType → Type 0
-ValueStands c None = Unit {0}
-ValueStands c (Some v) = Stands c (ItemKind.Value v)
-
 abbrev pub value_tree : Collection → Option ValueType → Option Tree
 value_tree c v = option_map (tree_in c) (option_slot v)
 

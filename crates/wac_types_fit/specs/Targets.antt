@@ -1,5 +1,6 @@
 -- How a component differs from a target world, as three lists.
 use Rattle.std.specs.Prelude.{◌≡◌, List, [], ◌∷◌, ◌++◌, Option, Some, None, Result, Ok, Err, ⊤}
+use Rattle.std.specs.Option.{option_or}
 use Rattle.wac_types_base.specs.declared.item.ItemKind.{ItemKind}
 use Rattle.wac_types_base.specs.declared.item.ExternKind.{ExternKind}
 use Rattle.wac_types_base.specs.declared.defined.World.{World}
@@ -28,13 +29,9 @@ pub data AreThose {X : Type 0} (IsSo : X → Type 0) : List X → List X → Typ
   first_is : {x : X} {xs ys : List X} → IsSo x → AreThose IsSo xs ys → AreThose IsSo (x ∷ xs) (x ∷ ys)
   first_is_not : {x : X} {xs ys : List X} → (IsSo x → ⊥) → AreThose IsSo xs ys → AreThose IsSo (x ∷ xs) ys
 
-abbrev pub or_else : Option ItemKind → Option ItemKind → Option ItemKind
-or_else None o = o
-or_else (Some k) o = Some k
-
 -- what a target gives under the name of an import: an interface that it imports implicitly, else one of its imports
 abbrev pub target_import : List (Name × ItemKind) → List (Name × ItemKind) → Name → Option ItemKind
-target_import implicit imports n = or_else (value_at implicit n) (value_at imports n)
+target_import implicit imports n = option_or (value_at implicit n) (value_at imports n)
 
 -- nothing is given under the item's name
 abbrev pub IsLacking : (Name → Option ItemKind) → Name × ItemKind → Type 0

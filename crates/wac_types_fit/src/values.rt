@@ -5,10 +5,10 @@ ghost use Rattle.wac_types_base.specs.declared.item.ItemKind.{ItemKind};
 ghost use Rattle.wac_types_base.specs.declared.item.ValueType.{ValueType};
 ghost use Rattle.wac_types_base.specs.declared.item.«Type».{«Type» as TypeKind};
 ghost use Rattle.wac_types_base.specs.Entries.{texts_of};
-ghost use Rattle.wac_types_base.specs.Collection.{Stands, defined_entry};
+ghost use Rattle.wac_types_base.specs.Collection.{Stands, defined_entry, StandsIf};
 ghost use Rattle.wac_types_base.specs.Resolving.{IsNoAlias};
 ghost use Rattle.wac_types_fit.specs.Trees.{SameTree};
-ghost use Rattle.wac_types_fit.specs.Checking.{value_in, HoldsValues, ValueStands, value_tree, place_trees};
+ghost use Rattle.wac_types_fit.specs.Checking.{value_in, HoldsValues, value_tree, place_trees};
 
 use wac_types_base::replace::is_same;
 use wac_types_base::{DefinedType, FuncTypeId, ItemKind, ResourceId, Types, ValueType};
@@ -153,8 +153,8 @@ pub(crate) fn same_places(a: ItemKind, at: &Types, b: ItemKind, bt: &Types) -> b
 /// Whether the same tree is in two places.
 #[cycle(values)]
 fn same_place(a: Option<ValueType>, at: &Types, b: Option<ValueType>, bt: &Types) -> bool
-    requires given { ValueStands at.now a }
-    requires asked { ValueStands bt.now b }
+    requires given { StandsIf at.now a }
+    requires asked { StandsIf bt.now b }
     ensures { IsTrue result ↔ (value_tree at.now a ≡ value_tree bt.now b) }
 {
     match a {

@@ -1,6 +1,6 @@
 -- What the tests of the families rest on.
-use Rattle.std.proofs.Common.{◌≡◌, ℕ, ◌+◌, ◌<◌, ◌≤◌, List, [], ◌∷◌, ◌++◌, length, Option, Some, None, IsSome, Bool, IsTrue, ◌↔◌, refl, sym, ap, subst, ◌∙◌, ◌⊎◌, inl, inr, arith, below_more}
 use Rattle.std.specs.Prelude.{slice_get, is_some}
+use Rattle.std.proofs.Common.{◌≡◌, ℕ, ◌+◌, ◌<◌, ◌≤◌, List, [], ◌∷◌, ◌++◌, length, Option, Some, None, IsSome, Bool, IsTrue, ◌↔◌, refl, sym, ap, subst, ◌∙◌, ◌⊎◌, inl, inr, arith, below_more}
 use Rattle.std.specs.Option.{option_map}
 use Rattle.wac_types_base.specs.declared.item.ItemKind.{ItemKind}
 use Rattle.wac_types_base.specs.declared.item.ValueType.{ValueType}
@@ -18,7 +18,8 @@ use Rattle.wac_types_base.specs.Graph.{Among}
 use Rattle.wac_types_base.specs.Entries.{values_of}
 use Rattle.wac_types_base.specs.Collection.{Stands, IsAcyclic, used, items, interface_entry, world_entry, resource_entry_at}
 use Rattle.wac_types_base.specs.Stated.{stated_of}
-use Rattle.wac_types_base.specs.Implicit.{used_interfaces, uses_in, identifier_in}
+use Rattle.wac_types_base.specs.Parts.{identifier_in}
+use Rattle.wac_types_base.specs.Implicit.{used_interfaces, uses_in}
 use Rattle.wac_types_base.proofs.Adding.{Among-left}
 use Rattle.wac_types_base.proofs.Slots.{slots_interface, slots_world, slots_resource, stands_borrow, stands_own, stands_typed_value}
 use Rattle.wac_types_base.proofs.Standing.{resource_found}

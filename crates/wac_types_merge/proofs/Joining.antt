@@ -1,6 +1,6 @@
 -- The map of merged items, and the meet that it is.
-use Rattle.std.proofs.Common.{◌≡◌, ℕ, ◌+◌, List, [], ◌∷◌, ◌++◌, take, Option, Some, None, Bool, true, false, if◌then◌else◌, append_assoc, refl, sym, ap, subst, ◌∙◌, inl, inr}
 use Rattle.std.proofs.lemmas.List.{append-nil}
+use Rattle.std.proofs.Common.{◌≡◌, ℕ, ◌+◌, List, [], ◌∷◌, ◌++◌, take, Option, Some, None, Bool, true, false, if◌then◌else◌, append_assoc, refl, sym, ap, subst, ◌∙◌, inl, inr}
 use Rattle.std.specs.Prelude.{◌==◌, is_some, slice_get}
 use Rattle.std.specs.Option.{option_map}
 use Rattle.std.specs.Cmp.Lexicographic.{pointwise}
@@ -21,7 +21,8 @@ use Rattle.wac_types_fit.specs.Checking.{AreInside}
 use Rattle.wac_types_fit.proofs.Items.{looked_in, ordered_in, value_at-among, differs}
 use Rattle.wac_types_fit.proofs.Meeting.{Joins, fields_meet}
 use Rattle.wac_types_fit.proofs.Unfolded.{fields_in}
-use Rattle.wac_types_merge.specs.Interfaces.{if_new, new_in, AllStand, SlotInside, JoinedIn, AreJoined}
+use Rattle.wac_types_fit.specs.TargetSteps.{AllStand}
+use Rattle.wac_types_merge.specs.Interfaces.{if_new, new_in, SlotInside, JoinedIn, AreJoined}
 use Rattle.wac_types_merge.proofs.Grown.{tree_kept, slot_kept, inside_kept}
 
 -- ---- look-ups

@@ -1,6 +1,6 @@
 -- Interfaces that are added.
-use Rattle.std.proofs.Common.{◌≡◌, List, [], ◌∷◌, ◌++◌, length, map, Some, None, refl, sym, ap, subst, ◌∙◌, inl, inr}
 use Rattle.std.specs.Prelude.{Result, Ok, Err, OnOk, IfOk, slice_get, is_some, Bool, true, false, if◌then◌else◌}
+use Rattle.std.proofs.Common.{◌≡◌, List, [], ◌∷◌, ◌++◌, length, map, Some, None, refl, sym, ap, subst, ◌∙◌, inl, inr}
 use Rattle.wac_types_base.specs.declared.item.«Type».{«Type» as TypeKind}
 use Rattle.wac_types_base.specs.declared.item.ItemKind.{ItemKind}
 use Rattle.wac_types_base.specs.declared.ids.InterfaceId.{InterfaceId}
@@ -22,7 +22,8 @@ use Rattle.wac_types_fit.specs.Trees.{tree_in}
 use Rattle.wac_types_fit.proofs.Checks.{interface_type_is}
 use Rattle.wac_types_fit.proofs.Meeting.{types_meet}
 use Rattle.wac_types_fit.proofs.Unfolded.{fields_in, instance_tree, interface_node}
-use Rattle.wac_types_merge.specs.Interfaces.{new_in, merged_interface, IsAt, renamed, IsRenamed, AllStand, UsesStand, MeetIn, AreJoined}
+use Rattle.wac_types_fit.specs.TargetSteps.{AllStand}
+use Rattle.wac_types_merge.specs.Interfaces.{new_in, merged_interface, IsAt, renamed, IsRenamed, UsesStand, MeetIn, AreJoined}
 use Rattle.wac_types_merge.proofs.Grown.{tree_kept}
 use Rattle.wac_types_merge.proofs.Joining.{merged_meet}
 use Rattle.wac_types_base.proofs.Replacing.{labelled_there}

@@ -1,6 +1,6 @@
 -- What merging makes of two, by its stated type.
-use Rattle.std.proofs.Common.{◌≡◌, ℕ, ◌+◌, List, [], ◌∷◌, ◌++◌, map, take, Option, Some, None, Bool, true, false, is_some, cond, refl, sym, ap, subst, ◌∙◌, inl, inr}
 use Rattle.std.specs.Prelude.{slice_get, ◌==◌}
+use Rattle.std.proofs.Common.{◌≡◌, ℕ, ◌+◌, List, [], ◌∷◌, ◌++◌, map, take, Option, Some, None, Bool, true, false, is_some, cond, refl, sym, ap, subst, ◌∙◌, inl, inr}
 use Rattle.std.specs.Option.{option_map}
 use Rattle.std.specs.Cmp.Lexicographic.{pointwise}
 use Rattle.wac_types_base.specs.declared.item.ItemKind.{ItemKind}
@@ -23,7 +23,8 @@ use Rattle.wac_types_base.proofs.Telling.{stated_step}
 use Rattle.wac_types_base.proofs.Looked.{take-one_more}
 use Rattle.wac_types_base.proofs.Loops.{map-append}
 use Rattle.wac_types_base.proofs.Stating.{stated_uses, interface_uses, interface_exports, interface_stated, value_with, stated_kept}
-use Rattle.wac_types_merge.specs.Interfaces.{new_in, joined, merged_interface, IsAt, AllStand, UsesStand}
+use Rattle.wac_types_fit.specs.TargetSteps.{AllStand}
+use Rattle.wac_types_merge.specs.Interfaces.{new_in, joined, merged_interface, IsAt, UsesStand}
 use Rattle.wac_types_merge.specs.United.{by_name, AreBoth, Unites, the_first, of_instances, ExportsUnite, none_united, one_alone, one_united, UnitesIn, OtherUnites, ItemsUnite, InterfacesUnite}
 use Rattle.wac_types_merge.proofs.Placed.{uses_stand, exports_stand}
 

@@ -15,7 +15,8 @@ use Rattle.wac_types_base.specs.Graph.{Among}
 use Rattle.wac_types_base.specs.Collection.{item_node}
 use Rattle.wac_types_base.specs.Reaching.{Reaches}
 use Rattle.wac_types_base.specs.Stated.{stated_of}
-use Rattle.wac_types_base.specs.Implicit.{used_interfaces, uses_in, identifier_in}
+use Rattle.wac_types_base.specs.Parts.{identifier_in}
+use Rattle.wac_types_base.specs.Implicit.{used_interfaces, uses_in}
 use Rattle.wac_types_merge.specs.declared.family.Family.{Family}
 
 abbrev pub uses_of : Option Interface → List UsedType

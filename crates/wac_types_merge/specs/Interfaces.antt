@@ -51,9 +51,6 @@ pub record IsRenamed (c : Collection) (i : InterfaceId) (d : Collection) (j : In
   pub identifier : identifier_of (stated_of d (ItemKind.Instance j)) ≡ Some n
   pub stated : stated_of d (ItemKind.Instance j) ≡ renamed n (stated_of c (ItemKind.Instance i))
 
-abbrev pub AllStand : Collection → List (Name × ItemKind) → Type 0
-AllStand c es = (n : Name) (k : ItemKind) → Among (n, k) es → Stands c k
-
 abbrev pub UsesStand : Collection → List (Name × UsedType) → Type 0
 UsesStand c us = (n : Name) (u : UsedType) → Among (n, u) us → Stands c (ItemKind.Instance u.interface)
 

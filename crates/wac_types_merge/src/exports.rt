@@ -4,7 +4,8 @@ ghost use Rattle.std.specs.Prelude.{◌≡◌, ◌++◌, OnOk, IfOk, None};
 ghost use Rattle.wac_types_base.specs.declared.item.ItemKind.{ItemKind};
 ghost use Rattle.wac_types_base.specs.Collection.{Stands, Grows};
 ghost use Rattle.wac_types_base.specs.Entries.{names_of, value_at, IsNew};
-ghost use Rattle.wac_types_merge.specs.Interfaces.{if_new, new_in, joined, merged_interface, IsAt, IsRenamed, AllStand, UsesStand};
+ghost use Rattle.wac_types_fit.specs.TargetSteps.{AllStand};
+ghost use Rattle.wac_types_merge.specs.Interfaces.{if_new, new_in, joined, merged_interface, IsAt, IsRenamed, UsesStand};
 
 use std::alloc::{AllocError, Global};
 use wac_types_base::{Interface, InterfaceId, ItemKind, NamedMap, Text, Types, UsedType};

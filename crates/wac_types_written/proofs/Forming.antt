@@ -11,14 +11,14 @@ use Rattle.wac_types_base.specs.Record.{Collection}
 use Rattle.wac_types_base.specs.Entries.{AreDistinct, IsNew, Name, names_of, with_values}
 use Rattle.wac_types_base.specs.Graph.{Among, node, nodes}
 use Rattle.wac_types_base.specs.Collection.{Shape, Stands, IsAcyclic, Grows, items, size_of, type_of, used}
-use Rattle.wac_types_base.specs.Stated.{IsInterface, IsWorld, Stated, Used, as_type, identifier_of, interface_of, relabelled, world_of, stated_of}
+use Rattle.wac_types_base.specs.Stated.{IsInterface, IsWorld, Stated, Used, as_type, identifier_of, interface_of, relabelled, world_of, stated_of, stated_use}
 use Rattle.wac_types_base.proofs.Adding.{Grows-trans}
 use Rattle.wac_types_base.proofs.Loops.{map-append, map-one_more, names-with_values}
 use Rattle.wac_types_base.proofs.Slots.{stands_typed_interface, stands_typed_world}
 use Rattle.wac_types_base.proofs.Standing.{interface_found, world_found}
 use Rattle.wac_types_base.proofs.Telling.{item_kind, kind_stated, row_size, size_stated}
 use Rattle.wac_types_written.specs.Components.{component_of}
-use Rattle.wac_types_written.specs.Forms.{AreFormed, IsOf, ItemsStand, UsesFormed, UsesStand, formed_use, stated_items, stated_use, stated_uses}
+use Rattle.wac_types_written.specs.Forms.{AreFormed, IsOf, ItemsStand, UsesFormed, UsesStand, formed_use, stated_items, stated_uses}
 use Rattle.wac_types_written.specs.Written.{WorldMaker, as_component_type, formed, wrapped, written, written_by, written_definition}
 use Rattle.wac_types_written.proofs.Growing.{items_formed_kept, items_kept, stated_kept, uses_formed_kept, uses_kept}
 use Rattle.wac_types_written.proofs.Ids.{IsOther, interface_states, interface_type_stands, interface_type_states, world_size, world_states, world_type_stands, world_type_states}

@@ -8,11 +8,11 @@ use Rattle.wac_types_base.specs.Entries.{Name, with_values}
 use Rattle.wac_types_base.specs.Graph.{nodes}
 use Rattle.wac_types_base.specs.Collection.{Stands, Grows, items, size_in, size_of, used}
 use Rattle.wac_types_base.specs.Copies.{interface_at, world_at}
-use Rattle.wac_types_base.specs.Stated.{Stated, Used, stated_of, stated_in}
+use Rattle.wac_types_base.specs.Stated.{Stated, Used, stated_of, stated_in, stated_use}
 use Rattle.wac_types_base.proofs.Telling.{row_size}
 use Rattle.wac_types_written.specs.declared.forms.Forms.{Forms}
 use Rattle.wac_types_written.specs.Written.{WorldMaker, formed}
-use Rattle.wac_types_written.specs.Forms.{AreFormed, AreForms, EachFormed, IsFormed, IsOf, ItemsStand, UsesFormed, UsesStand, formed_use, stated_items, stated_use, stated_uses}
+use Rattle.wac_types_written.specs.Forms.{AreFormed, AreForms, EachFormed, IsFormed, IsOf, ItemsStand, UsesFormed, UsesStand, formed_use, stated_items, stated_uses}
 
 module _ (c d : Collection) (g : Grows c d) where
   pub stated_kept : (k : ItemKind) → Stands c k → stated_of d k ≡ stated_of c k

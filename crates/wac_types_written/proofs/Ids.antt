@@ -14,14 +14,14 @@ use Rattle.wac_types_base.specs.Record.{Collection}
 use Rattle.wac_types_base.specs.Entries.{Name}
 use Rattle.wac_types_base.specs.Graph.{Among}
 use Rattle.wac_types_base.specs.Collection.{Shape, primitive, Entry, Slot, SlotStands, HasChildren, Stands, IsAcyclic, item_node, value_node, labelled, size_of, defined_entry, resource_entry, resource_entry_at, func_entry, interface_entry, world_entry, module_entry, used, items, type_of, borrow_of, own_of}
-use Rattle.wac_types_base.specs.Stated.{stated_of, stated_entry, interface_of, world_of, relabelled, as_type}
+use Rattle.wac_types_base.specs.Stated.{stated_of, stated_entry, interface_of, world_of, relabelled, as_type, stated_use}
 use Rattle.wac_types_base.proofs.GraphLemmas.{value_of, is_there}
 use Rattle.wac_types_base.proofs.Copying.{Among-All}
 use Rattle.wac_types_base.proofs.Replacing.{labelled_there}
 use Rattle.wac_types_base.proofs.Slots.{entry_at-is}
 use Rattle.wac_types_base.proofs.Stating as base
 use Rattle.wac_types_base.proofs.Telling.{child_stands, entry_size, row_size, stated_step, entry_from, labelled_kind}
-use Rattle.wac_types_written.specs.Forms.{ItemsStand, UsesStand, stated_items, stated_use, stated_uses}
+use Rattle.wac_types_written.specs.Forms.{ItemsStand, UsesStand, stated_items, stated_uses}
 use Rattle.wac_types_written.specs.Written.{WorldMaker, dependencies, formed}
 use Rattle.wac_types_written.proofs.Depending.{IsNoInterface, nothing_depends}
 use Rattle.wac_types_written.proofs.Shapes.{IsInside, IsPlain, plain_formed}

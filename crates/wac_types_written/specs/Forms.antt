@@ -9,7 +9,7 @@ use Rattle.wac_types_base.specs.Record.{Collection}
 use Rattle.wac_types_base.specs.Entries.{Name, value_at, with_values}
 use Rattle.wac_types_base.specs.Graph.{Among}
 use Rattle.wac_types_base.specs.Collection.{Stands}
-use Rattle.wac_types_base.specs.Stated.{Stated, Used, stated_of}
+use Rattle.wac_types_base.specs.Stated.{Stated, Used, stated_of, stated_use}
 use Rattle.wac_types_base.specs.Copies.{interface_at, world_at}
 use Rattle.wac_types_written.specs.declared.forms.Forms.{Forms}
 use Rattle.wac_types_written.specs.declared.worlds.WorldForm.{WorldForm}
@@ -60,9 +60,6 @@ UsesStand c us = (u : Name × UsedType) → Among u us → Stands c (ItemKind.In
 
 abbrev pub stated_items : Collection → List (Name × ItemKind) → List (Name × Stated)
 stated_items c xs = with_values (stated_of c) xs
-
-abbrev pub stated_use : Collection → Name × UsedType → Used
-stated_use c u = record { name = u.0; there = u.1.name; interface = stated_of c (ItemKind.Instance u.1.interface) }
 
 abbrev pub stated_uses : Collection → List (Name × UsedType) → List Used
 stated_uses c us = map (stated_use c) us

@@ -1,6 +1,6 @@
 -- A report without entries, and a world that meets a target.
-use Rattle.std.proofs.Common.{◌≡◌, Bool, true, false, List, [], ◌∷◌, ◌++◌, Option, Some, None, option_map, Result, Ok, Err, slice_get, refl, sym, ap, subst, ◌∙◌, inl, inr}
 use Rattle.std.specs.Prelude.{⊤}
+use Rattle.std.proofs.Common.{◌≡◌, Bool, true, false, List, [], ◌∷◌, ◌++◌, Option, Some, None, option_map, Result, Ok, Err, slice_get, refl, sym, ap, subst, ◌∙◌, inl, inr}
 use Rattle.std.proofs.lemmas.Option.{none-some}
 use Rattle.wac_types_base.specs.declared.ids.WorldId.{WorldId}
 use Rattle.wac_types_base.specs.declared.item.ExternKind.{ExternKind}
@@ -12,7 +12,7 @@ use Rattle.wac_types_base.specs.Entries.{Name, names_of, value_at, with_values}
 use Rattle.wac_types_base.specs.Copying.{IsCopy}
 use Rattle.wac_types_base.specs.Graph.{Among}
 use Rattle.wac_types_base.specs.Resolving.{promoted}
-use Rattle.wac_types_base.specs.Stated.{Stated, exports_of, imports_of, promote, stated_in, stated_of}
+use Rattle.wac_types_base.specs.Stated.{Stated, exports_of, imports_of, promote, stated_in, stated_of, stated_world}
 use Rattle.wac_types_base.specs.Tree.{tree}
 use Rattle.wac_types_base.specs.Fits.{Fits}
 use Rattle.wac_types_base.proofs.Lists.{among_mapped}
@@ -30,7 +30,7 @@ use Rattle.wac_parser_declare.proofs.Exports.{component_exports, component_impor
 use Rattle.wac_parser_declare.proofs.Kept.{value_at-with_values}
 use Rattle.wac_parser_resolve.specs.Meeting.{given_by}
 use Rattle.wac_parser_resolve.proofs.MeetingUses.{gives_same}
-use Rattle.wac_workspace.specs.Targets.{component_in, IsExported, IsGiven, Meets}
+use Rattle.wac_workspace.specs.Targets.{IsExported, IsGiven, Meets}
 
 -- ---- those of a list that are so
 
@@ -106,7 +106,7 @@ module _ (c : Collection) (a : IsAcyclic c) (target world : WorldId) (x y : Worl
   abbrev given : Name → Option ItemKind
   given = target_import is.implicit x.imports
 
-  gives : (n : Name) → given_by (component_in c target) n ≡ option_map (stated_of c) (given n)
+  gives : (n : Name) → given_by (stated_world c target) n ≡ option_map (stated_of c) (given n)
   gives = gives_same c a target x at_target own_target (world_children c a target x at_target own_target) is.implicit is.implicit_is
 
   given_stands : GivesStanding c given
@@ -114,16 +114,16 @@ module _ (c : Collection) (a : IsAcyclic c) (target world : WorldId) (x y : Worl
       target_standing c is.implicit x.imports (implicit_stand c a x (world_children c a target x at_target own_target) is.implicit is.implicit_is)
       (λ n j m. (world_imports_inside c a target x target_stands at_target own_target n j m).0)
 
-  world_imports : imports_of (component_in c world) ≡ with_values (stated_of c) y.imports
+  world_imports : imports_of (stated_world c world) ≡ with_values (stated_of c) y.imports
   world_imports = component_imports c a world y at_world own_world
 
-  world_exports : exports_of (component_in c world) ≡ with_values (stated_of c) y.exports
+  world_exports : exports_of (stated_world c world) ≡ with_values (stated_of c) y.exports
   world_exports = component_exports c a world y at_world own_world
 
-  target_exports : exports_of (component_in c target) ≡ with_values (stated_of c) x.exports
+  target_exports : exports_of (stated_world c target) ≡ with_values (stated_of c) x.exports
   target_exports = component_exports c a target x at_target own_target
 
-  exported : (n : Name) → value_at (exports_of (component_in c world)) n ≡ option_map (stated_of c) (value_at y.exports n)
+  exported : (n : Name) → value_at (exports_of (stated_world c world)) n ≡ option_map (stated_of c) (value_at y.exports n)
   exported n = ap (λ es. value_at es n) world_exports ∙ value_at-with_values (stated_of c) y.exports n
 
   export_stands : (e : Name × ItemKind) → Among e x.exports → Stands c e.1
@@ -152,33 +152,33 @@ module _ (c : Collection) (a : IsAcyclic c) (target world : WorldId) (x y : Worl
         none_is Differs es (subst (λ xs. AreThose Differs es xs)
         (no_faults Leads side d.differing d.mismatched d.faults (ap (λ xs. xs ++ d.mismatched) (sym first) ∙ sym d.added ∙ none)) d.those)
 
-    import_given : (e : Name × ItemKind) → Among e y.imports → IsGiven (component_in c target) (e.0, stated_of c e.1)
+    import_given : (e : Name × ItemKind) → Among e y.imports → IsGiven (stated_world c target) (e.0, stated_of c e.1)
     import_given e m =
         let j = there_or (given e.0) (none_lacking e m) in
         let fit = fit_if_not c (promoted j.0) e.1
         (λ no. none_differs y.imports [] is.imports refl is.mismatched_imports no_imports_differ e m (j.0, j.1, no)) in
         (stated_of c j.0, gives e.0 ∙ ap (option_map (stated_of c)) j.1, subst (λ (t : Stated). Fits (tree t) (tree (stated_of c e.1))) (given_promoted e.0 j.0 j.1) (fit_is c (promoted j.0) e.1 fit))
 
-    export_given : (e : Name × ItemKind) → Among e x.exports → IsExported (component_in c world) (e.0, stated_of c e.1)
+    export_given : (e : Name × ItemKind) → Among e x.exports → IsExported (stated_world c world) (e.0, stated_of c e.1)
     export_given e m =
         let j = there_or (value_at y.exports e.0) (none_missing e m) in
         let fit = fit_if_not c j.0 (promoted e.1)
         (λ no. none_differs x.exports is.imports r.mismatched_types no_imports_differ is.mismatched_types empty.mismatched_types e m (j.0, j.1, no)) in
         (stated_of c j.0, exported e.0 ∙ ap (option_map (stated_of c)) j.1, subst (λ (t : Stated). Fits (tree (stated_of c j.0)) (tree t)) (promote_stated e.1 c a (export_stands e m)) (fit_is c j.0 (promoted e.1) fit))
 
-    pub nothing_told : Meets (component_in c target) (component_in c world)
+    pub nothing_told : Meets (stated_world c target) (stated_world c world)
     nothing_told = record {
-      imports = λ e m. let b = values_back (stated_of c) y.imports e (subst (Among e) world_imports m) in subst (IsGiven (component_in c target)) (sym b.2) (import_given b.0 b.1);
-      exports = λ e m. let b = values_back (stated_of c) x.exports e (subst (Among e) target_exports m) in subst (IsExported (component_in c world)) (sym b.2) (export_given b.0 b.1);
+      imports = λ e m. let b = values_back (stated_of c) y.imports e (subst (Among e) world_imports m) in subst (IsGiven (stated_world c target)) (sym b.2) (import_given b.0 b.1);
+      exports = λ e m. let b = values_back (stated_of c) x.exports e (subst (Among e) target_exports m) in subst (IsExported (stated_world c world)) (sym b.2) (export_given b.0 b.1);
     }
 
   -- ---- the target is met
 
-  module _ (met : Meets (component_in c target) (component_in c world)) where
-    import_met : (e : Name × ItemKind) → Among e y.imports → IsGiven (component_in c target) (e.0, stated_of c e.1)
+  module _ (met : Meets (stated_world c target) (stated_world c world)) where
+    import_met : (e : Name × ItemKind) → Among e y.imports → IsGiven (stated_world c target) (e.0, stated_of c e.1)
     import_met e m = met.imports (e.0, stated_of c e.1) (subst (Among (e.0, stated_of c e.1)) (sym world_imports) (among_mapped (λ x. (x.0, stated_of c x.1)) y.imports e m))
 
-    export_met : (e : Name × ItemKind) → Among e x.exports → IsExported (component_in c world) (e.0, stated_of c e.1)
+    export_met : (e : Name × ItemKind) → Among e x.exports → IsExported (stated_world c world) (e.0, stated_of c e.1)
     export_met e m = met.exports (e.0, stated_of c e.1) (subst (Among (e.0, stated_of c e.1)) (sym target_exports) (among_mapped (λ x. (x.0, stated_of c x.1)) x.exports e m))
 
     not_lacking : (e : Name × ItemKind) → Among e y.imports → IsLacking given e → ⊥
@@ -226,13 +226,13 @@ module _ (c : Collection) (a : IsAcyclic c) (target world : WorldId) (target_sta
   abbrev the_world : Found c.number c.worlds world.collection world.index
   the_world = world_found c world world_stands
 
-  pub met_by : answer ≡ Ok tt → Meets (component_in c target) (component_in c world)
+  pub met_by : answer ≡ Ok tt → Meets (stated_world c target) (stated_world c world)
   met_by e =
       let t = told the_target.value the_world.value the_target.at the_world.at in
       nothing_told c a target world the_target.value the_world.value target_stands world_stands the_target.at the_target.own the_world.at the_world.own t.0 t.1
       (subst (Tells t.0) e t.2)
 
-  pub unmet_by : (e : Report) → answer ≡ Err e → Meets (component_in c target) (component_in c world) → ⊥
+  pub unmet_by : (e : Report) → answer ≡ Err e → Meets (stated_world c target) (stated_world c world) → ⊥
   unmet_by e is met =
       let t = told the_target.value the_world.value the_target.at the_world.at in
       let refused : Tells t.0 (Err e) = subst (Tells t.0) is t.2 in
@@ -240,8 +240,8 @@ module _ (c : Collection) (a : IsAcyclic c) (target world : WorldId) (target_sta
 
 -- ---- copies
 
-pub copy_states : (c d : Collection) (k j : WorldId) → IsCopy c d (ItemKind.Component k) (ItemKind.Component j) → component_in d j ≡ component_in c k
+pub copy_states : (c d : Collection) (k j : WorldId) → IsCopy c d (ItemKind.Component k) (ItemKind.Component j) → stated_world d j ≡ stated_world c k
 copy_states c d k j h = ap stated_in h.same
 
-pub grown_states : (c d e : Collection) (k j : WorldId) → Grows d e → IsCopy c d (ItemKind.Component k) (ItemKind.Component j) → component_in e j ≡ component_in c k
+pub grown_states : (c d e : Collection) (k j : WorldId) → Grows d e → IsCopy c d (ItemKind.Component k) (ItemKind.Component j) → stated_world e j ≡ stated_world c k
 grown_states c d e k j g h = stated_kept d e g (ItemKind.Component j) h.stands ∙ copy_states c d k j h

@@ -1,10 +1,10 @@
 -- What is answered of a document over packages.
-use Rattle.std.proofs.Common.{◌≡◌, ℕ, Bool, List, Option, Some, None, Result, Ok, Err, IfOk, true, false, refl, sym, subst, ◌∙◌, inl, inr}
 use Rattle.std.specs.Prelude.{IfErr}
+use Rattle.std.proofs.Common.{◌≡◌, ℕ, Bool, List, Option, Some, None, Result, Ok, Err, IfOk, true, false, refl, sym, subst, ◌∙◌, inl, inr}
 use Rattle.std.proofs.lemmas.Option.{none-some}
 use Rattle.wac_types_base.specs.declared.ids.WorldId.{WorldId}
 use Rattle.wac_types_base.specs.Entries.{Name}
-use Rattle.wac_types_base.specs.Stated.{Stated}
+use Rattle.wac_types_base.specs.Stated.{Stated, stated_world}
 use Rattle.wac_graph_core.specs.Graph.{Graph}
 use Rattle.wac_graph_encode.specs.declared.options.EncodeOptions.{EncodeOptions}
 use Rattle.wac_graph_encode.specs.declared.options.Encoded.{Encoded}
@@ -29,7 +29,7 @@ use Rattle.wac_workspace.specs.declared.errors.ComposeError.TheVariants as error
 use Rattle.wac_workspace.specs.Faults.{IsResolving}
 use Rattle.wac_workspace.specs.Resolving.{FailsIf, Handed, Resolves, IsAccepted, IsComposition, IsGraphOf, IsLate, IsOfResolving, IsTargetUnmet, NamesFirst}
 use Rattle.wac_workspace.specs.Steps.{FailsIn, IsAfterwards, IsUnmet, MeetsTarget}
-use Rattle.wac_workspace.specs.Targets.{component_in, Meets, MeetsIf}
+use Rattle.wac_workspace.specs.Targets.{Meets, MeetsIf}
 
 pub accepted : {B : Type 0} (holds : State × Option Stated → B → Type 0) (q : Resolves) (b : B) → IsHeld holds q b → IsAccepted q
 accepted holds (Ok s) b h = tt
@@ -63,7 +63,7 @@ late_resolving define q f e h (inr s) = subst (λ (x : ComposeError). IsLate def
 module _ (g : Graph) (at : Places) (options : EncodeOptions) where
   -- a target that is not met, where each type can be written
   pub target_unmet : (t : WorldId) (n : Name) (types : Collection) (world : WorldId) (e : ComposeError) → CanBeWritten g options → HasResolvedWorld g types world
-      → IsUnmet n (component_in g.types t) (component_in types world) e → IsAfterwards g at (Some t) options e
+      → IsUnmet n (stated_world g.types t) (stated_world types world) e → IsAfterwards g at (Some t) options e
   unfolding CanBeWritten TellsFirst
   target_unmet t n types world (error.Parse x) written states h = absurd h
   target_unmet t n types world error.NumbersExhausted written states h = absurd h
@@ -82,13 +82,13 @@ module _ (d : t.Document) (ps : Handed) (g : Graph) (at : Places) (s : State) (b
   failing None (Some t) is held f = absurd held
   failing (Some w) None is held f = absurd held
   failing (Some w) (Some t) is held f =
-      record { types = f.types; world = f.world; states = f.states d ps (s, Some w) at is built; unmet = subst (λ (x : Stated). Meets x (component_in f.types f.world) → ⊥) held.same f.unmet }
+      record { types = f.types; world = f.world; states = f.states d ps (s, Some w) at is built; unmet = subst (λ (x : Stated). Meets x (stated_world f.types f.world) → ⊥) held.same f.unmet }
 
-meeting : (g : Graph) (types : Collection) (world : WorldId) (o : Option Stated) (t : Option WorldId) → HoldsTarget g.types o t → MeetsTarget g t types world → MeetsIf o (component_in types world)
+meeting : (g : Graph) (types : Collection) (world : WorldId) (o : Option Stated) (t : Option WorldId) → HoldsTarget g.types o t → MeetsTarget g t types world → MeetsIf o (stated_world types world)
 meeting g types world None None held m = tt
 meeting g types world None (Some t) held m = absurd held
 meeting g types world (Some w) None held m = absurd held
-meeting g types world (Some w) (Some t) held m = subst (λ (x : Stated). Meets x (component_in types world)) held.same m
+meeting g types world (Some w) (Some t) held m = subst (λ (x : Stated). Meets x (stated_world types world)) held.same m
 
 -- of a document that the graph holds
 module _ {B : Type 0} (graph : B → Graph) (places : B → Places) (target : B → Option WorldId) where

@@ -2,7 +2,7 @@
 use Rattle.std.specs.Prelude.{List, [], ◌∷◌, Bool, true, Option, Some, None, Ok, Err}
 use Rattle.wac_types_base.specs.declared.ids.WorldId.{WorldId}
 use Rattle.wac_types_base.specs.Record.{Collection}
-use Rattle.wac_types_base.specs.Stated.{Stated}
+use Rattle.wac_types_base.specs.Stated.{Stated, stated_world}
 use Rattle.indexmap.specs.IndexMap.{IndexMap}
 use Rattle.wac_types_names.specs.declared.package.BorrowedPackageKey.{BorrowedPackageKey}
 use Rattle.wac_types_names.specs.Keys.{Key}
@@ -25,7 +25,7 @@ use Rattle.wac_workspace.specs.declared.entries.Entry.{Entry}
 use Rattle.wac_workspace.specs.declared.errors.ComposeError.{ComposeError}
 use Rattle.wac_workspace.specs.declared.errors.ComposeError.TheVariants as error
 use Rattle.wac_workspace.specs.Packages.{key_of}
-use Rattle.wac_workspace.specs.Targets.{component_in, Meets, MeetsIf}
+use Rattle.wac_workspace.specs.Targets.{Meets, MeetsIf}
 
 -- packages as a document sees them: each key with its world and its bytes, in order
 abbrev pub Handed : Type 0
@@ -64,7 +64,7 @@ NamesFirst define (Err c) e = Tells (cause_of e) c
 -- each ask of what is said is met; the world states what it asks of the outside and what it exports, and meets the target that
 -- is named
 unfoldable pub IsComposition : Resolves → Collection → WorldId → Type 0
-IsComposition (Ok s) types world = IsWorldOf s.0 types world × MeetsIf s.1 (component_in types world)
+IsComposition (Ok s) types world = IsWorldOf s.0 types world × MeetsIf s.1 (stated_world types world)
 IsComposition (Err c) types world = ⊥
 
 -- a world states what is said, and does not meet the target
@@ -72,7 +72,7 @@ pub record FailsTarget (s : State) (target : Stated) : Type 0 where
   pub types : Collection
   pub world : WorldId
   pub states : IsWorldOf s types world
-  pub unmet : Meets target (component_in types world) → ⊥
+  pub unmet : Meets target (stated_world types world) → ⊥
 
 abbrev pub FailsIf : State → Option Stated → Type 0
 FailsIf s None = ⊥

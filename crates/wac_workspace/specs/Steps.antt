@@ -5,7 +5,7 @@ use Rattle.wac_types_base.specs.declared.item.ItemKind.{ItemKind}
 use Rattle.wac_types_base.specs.Record.{Collection}
 use Rattle.wac_types_base.specs.Collection.{Stands}
 use Rattle.wac_types_base.specs.Entries.{Name}
-use Rattle.wac_types_base.specs.Stated.{Stated}
+use Rattle.wac_types_base.specs.Stated.{Stated, stated_world}
 use Rattle.wac_graph_core.specs.Graph.{Graph}
 use Rattle.wac_graph_encode.specs.declared.options.EncodeOptions.{EncodeOptions}
 use Rattle.wac_graph_encode.specs.declared.options.Encoded.{Encoded}
@@ -22,7 +22,7 @@ use Rattle.wac_workspace.specs.declared.errors.ComposeError.{ComposeError}
 use Rattle.wac_workspace.specs.declared.errors.ComposeError.TheVariants as error
 use Rattle.wac_workspace.specs.Packages.{Held, HasKey, HasHanded}
 use Rattle.wac_workspace.specs.Composing.{greatest, output_key}
-use Rattle.wac_workspace.specs.Targets.{component_in, Meets}
+use Rattle.wac_workspace.specs.Targets.{Meets}
 use Rattle.wac_workspace.specs.Resolving.{Resolves, IsTargetUnmet, NamesFirst}
 
 -- three numbers from this one on, and the one behind them
@@ -36,8 +36,8 @@ pub record AreNext (next : ℕ) (n : Numbers) : Type 0 where
 pub record IsPair (c d : Collection) (t w : WorldId) (p : Pair) : Type 0 where
   pub target : Stands p.types (ItemKind.Component p.target)
   pub world : Stands p.types (ItemKind.Component p.world)
-  pub target_same : component_in p.types p.target ≡ component_in c t
-  pub world_same : component_in p.types p.world ≡ component_in d w
+  pub target_same : stated_world p.types p.target ≡ stated_world c t
+  pub world_same : stated_world p.types p.world ≡ stated_world d w
 
 -- a component's world stands in its collection, which has this number
 pub record IsEncoded (last : ℕ) (e : Encoded) : Type 0 where
@@ -55,14 +55,14 @@ IsUnmet n t w e = ⊥
 -- the component of a graph meets the target, if there is one
 abbrev pub MeetsTarget : Graph → Option WorldId → Collection → WorldId → Type 0
 MeetsTarget g None types world = Unit {0}
-MeetsTarget g (Some t) types world = Meets (component_in g.types t) (component_in types world)
+MeetsTarget g (Some t) types world = Meets (stated_world g.types t) (stated_world types world)
 
 -- a world states what the graph holds, and does not meet the target
 pub record FailsTargetIn (g : Graph) (target : WorldId) : Type 0 where
   pub types : Collection
   pub world : WorldId
   pub states : HasResolvedWorld g types world
-  pub unmet : Meets (component_in g.types target) (component_in types world) → ⊥
+  pub unmet : Meets (stated_world g.types target) (stated_world types world) → ⊥
 
 abbrev pub FailsIn : Graph → Option WorldId → Type 0
 FailsIn g None = ⊥

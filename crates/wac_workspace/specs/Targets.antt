@@ -1,18 +1,11 @@
 -- A component's world that meets a target.
 use Rattle.std.specs.Prelude.{◌≡◌, Option, Some, None}
-use Rattle.wac_types_base.specs.declared.ids.WorldId.{WorldId}
-use Rattle.wac_types_base.specs.declared.item.ItemKind.{ItemKind}
-use Rattle.wac_types_base.specs.Record.{Collection}
 use Rattle.wac_types_base.specs.Entries.{Name, value_at}
 use Rattle.wac_types_base.specs.Graph.{Among}
-use Rattle.wac_types_base.specs.Stated.{Stated, exports_of, imports_of, promote, stated_of}
+use Rattle.wac_types_base.specs.Stated.{Stated, exports_of, imports_of, promote}
 use Rattle.wac_types_base.specs.Tree.{tree}
 use Rattle.wac_types_base.specs.Fits.{Fits}
 use Rattle.wac_parser_resolve.specs.Meeting.{given_by}
-
--- what a component's world states
-abbrev pub component_in : Collection → WorldId → Stated
-component_in c w = stated_of c (ItemKind.Component w)
 
 -- the target gives something under the import's name that fits it
 abbrev pub IsGiven : Stated → Name × Stated → Type 0

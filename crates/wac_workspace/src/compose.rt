@@ -17,7 +17,8 @@ ghost use Rattle.wac_workspace.specs.Packages.{AreApart};
 ghost use Rattle.wac_workspace.specs.View.{HasWorld};
 ghost use Rattle.wac_workspace.specs.Resolving.{handed, says, IsGraphOf, IsAccepted, IsComposition, IsLate, IsOfResolving};
 ghost use Rattle.wac_workspace.specs.Steps.{AreNext, IsPair, IsEncoded, IsUnmet, IsAfterwards, IsNamedOutput, IsOf, IsUnencoded, MeetsTarget};
-ghost use Rattle.wac_workspace.specs.Targets.{component_in, Meets};
+ghost use Rattle.wac_types_base.specs.Stated.{stated_world};
+ghost use Rattle.wac_workspace.specs.Targets.{Meets};
 
 use crate::entries::{Entry, packages_of};
 use crate::errors::ComposeError;
@@ -120,9 +121,9 @@ fn test_target(
     requires target { Stands types.now (ItemKind.Component target) }
     requires component { Stands encoded.now.types (ItemKind.Component encoded.now.world) }
     ensures met { OnOk result
-        (Meets (component_in types.now target) (component_in encoded.now.types encoded.now.world)) }
+        (Meets (stated_world types.now target) (stated_world encoded.now.types encoded.now.world)) }
     ensures unmet { IfErr result
-        (IsUnmet name.now (component_in types.now target) (component_in encoded.now.types encoded.now.world)) }
+        (IsUnmet name.now (stated_world types.now target) (stated_world encoded.now.types encoded.now.world)) }
 {
     let pair = bring_together(alloc, types, target, encoded)?;
     pair.types.see_acyclic();

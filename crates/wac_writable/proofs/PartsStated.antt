@@ -11,7 +11,8 @@ use Rattle.wac_types_base.specs.Stated.{stated_in, stated_of, uses_of, imports_o
 use Rattle.wac_types_base.proofs.Standing.{interface_found, world_found}
 use Rattle.wac_types_base.proofs.Stating.{stated_uses, interface_stated, world_stated, interface_uses, world_uses, instance_exports_stated, imports_stated, exports_stated}
 use Rattle.wac_types_base.proofs.Lists.{not_some}
-use Rattle.wac_graph_scopes.specs.Parts.{interface_in, identifier_in}
+use Rattle.wac_types_base.specs.Parts.{identifier_in}
+use Rattle.wac_graph_scopes.specs.Parts.{interface_in}
 use Rattle.wac_graph_scopes.specs.Parts.{exports_of as exports_in, uses_of as uses_in, world_uses_of as world_uses_in, imports_of as imports_in, world_exports_of as world_exports_in}
 use Rattle.wac_graph_scopes.proofs.PartLaws.{uses_there, uses_missing, exports_there, exports_missing, identifier_there, identifier_missing, world_uses_there, world_uses_missing, imports_there, imports_missing, world_exports_there, world_exports_missing}
 

@@ -1,6 +1,6 @@
 -- Interfaces without identifiers that are reached, one use after the other.
-use Rattle.std.proofs.Common.{rules, ◌≡◌, ◌↔◌, IsTrue, ℕ, zero, suc, ◌≤◌, ◌+◌, ◌||◌, Bool, true, false, true≢false, List, [], ◌∷◌, Option, Some, None, map, drop, length, slice_get, unwrap_or, option_copied, OnOk, IfOk, Bor, Result, Ok, Err, refl, sym, ap, ◌∙◌, arith, ◌⊎◌, inl, inr}
 use Rattle.std.specs.Prelude.{not, is_some, ◌<◌, ◌==◌, is_none}
+use Rattle.std.proofs.Common.{rules, ◌≡◌, ◌↔◌, IsTrue, ℕ, zero, suc, ◌≤◌, ◌+◌, ◌||◌, Bool, true, false, true≢false, List, [], ◌∷◌, Option, Some, None, map, drop, length, slice_get, unwrap_or, option_copied, OnOk, IfOk, Bor, Result, Ok, Err, refl, sym, ap, ◌∙◌, arith, ◌⊎◌, inl, inr}
 use Rattle.std.proofs.lemmas.Bool.Decides.{nat_tests}
 use Rattle.std.specs.Option.{option_map}
 use Rattle.std.specs.List.{list_any, flat_map}
@@ -20,7 +20,8 @@ use Rattle.wac_types_base.proofs.Standing.{interface_found}
 use Rattle.wac_types_base.proofs.Stating.{stated_uses, interface_stated}
 use Rattle.wac_composition.specs.Merging.{reached_at, reached}
 use Rattle.wac_composition.specs.Writable.{some_unnamed}
-use Rattle.wac_graph_scopes.specs.Parts.{uses_of as uses_in, world_uses_of as world_uses_in, interface_in, identifier_in, IsUseAt}
+use Rattle.wac_types_base.specs.Parts.{identifier_in}
+use Rattle.wac_graph_scopes.specs.Parts.{uses_of as uses_in, world_uses_of as world_uses_in, interface_in, IsUseAt}
 use Rattle.wac_graph_scopes.specs.declared.parts.Use.{Use}
 use Rattle.wac_writable.specs.Unnamed.{uses_unnamed, world_uses_unnamed, is_unnamed, found_of, Knows, KnowsAll, Learns}
 use Rattle.wac_writable.proofs.PartsStated.{stated_nothing, stands_or_not, uses_are, world_uses_are, identifier_is}

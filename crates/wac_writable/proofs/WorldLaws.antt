@@ -24,7 +24,8 @@ use Rattle.wac_composition.specs.NotWritten.{IsGiven, Needs, IsImported, compone
 use Rattle.wac_composition.proofs.NotWritten.{any_decides}
 use Rattle.wac_composition.proofs.NotFound.{written_decides}
 use Rattle.wac_composition.proofs.Lists.{mapped_among}
-use Rattle.wac_graph_scopes.specs.Parts.{IsOfWorld, interface_in, identifier_in, imports_of as imports_in, world_exports_of as world_exports_in}
+use Rattle.wac_types_base.specs.Parts.{identifier_in}
+use Rattle.wac_graph_scopes.specs.Parts.{IsOfWorld, interface_in, imports_of as imports_in, world_exports_of as world_exports_in}
 use Rattle.wac_writable.specs.declared.writable.Which.{Which}
 use Rattle.wac_writable.specs.Items.{item_unwritable}
 use Rattle.wac_writable.specs.Tests.{interface_unwritable, some_ungiven, some_unwritable, items_unwritable, wrapped, wrapped_in}

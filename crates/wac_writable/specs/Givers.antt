@@ -8,7 +8,7 @@ use Rattle.wac_types_base.specs.Record.{Collection}
 use Rattle.wac_types_base.specs.Entries.{Name}
 use Rattle.wac_types_base.specs.Graph.{Among}
 use Rattle.wac_types_base.specs.Collection.{size_of}
-use Rattle.wac_types_base.specs.Stated.{Stated, stated_of, uses_of, imports_of, exports_of}
+use Rattle.wac_types_base.specs.Stated.{Stated, stated_of, uses_of, imports_of, exports_of, stated_world}
 use Rattle.wac_composition.specs.NotWritten.{IsImported}
 use Rattle.wac_graph_scopes.specs.declared.parts.Use.{Use}
 use Rattle.wac_writable.specs.declared.writable.Test.{Test}
@@ -20,13 +20,10 @@ use Rattle.wac_writable.specs.Uses.{TypesFail, AddedFails, UseFails, SomeNeeded,
 abbrev pub instance_of : Collection → InterfaceId → Stated
 instance_of c i = stated_of c (ItemKind.Instance i)
 
-abbrev pub component_of : Collection → WorldId → Stated
-component_of c w = stated_of c (ItemKind.Component w)
-
 -- the imports that give what is used
 abbrev pub imports_by : Collection → Option WorldId → List (Name × Stated)
 imports_by c None = []
-imports_by c (Some w) = imports_of (component_of c w)
+imports_by c (Some w) = imports_of (stated_world c w)
 
 -- ---- what is remembered
 
@@ -94,7 +91,7 @@ TellsNeeded t old new k b =
 -- of what a world has
 abbrev pub TellsOfWorld : Test → Giver → Giver → WorldId → (List (Name × Stated) → Stated → Type 0) → Bool → Type 0
 TellsOfWorld t old new w P b =
-    TellsBeside t old new (size_of t.types.now (ItemKind.Component w)) (λ is. P is (component_of t.types.now w)) b
+    TellsBeside t old new (size_of t.types.now (ItemKind.Component w)) (λ is. P is (stated_world t.types.now w)) b
 
 abbrev pub TellsWorldUses : Test → Giver → Giver → WorldId → Bool → Type 0
 TellsWorldUses t old new w b = TellsOfWorld t old new w (λ is x. SomeUse t.is_outer is (uses_of x)) b
@@ -116,7 +113,7 @@ TellsAllUses t old new w b = TellsOfWorld t old new w (WorldNeeds t.is_outer) b
 abbrev pub TellsUsesOfWorld : Test → WorldId → Bool → Type 0
 TellsUsesOfWorld t w b =
     KnowsAll t.types.now t.unnamed.now
-    → Decides b (WorldNeeds t.is_outer (imports_of (component_of t.types.now w)) (component_of t.types.now w))
+    → Decides b (WorldNeeds t.is_outer (imports_of (stated_world t.types.now w)) (stated_world t.types.now w))
 
 -- whether one fails that an interface needs where nothing is imported
 abbrev pub TellsWrappedUses : Test → InterfaceId → Bool → Type 0

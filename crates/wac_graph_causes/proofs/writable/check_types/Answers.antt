@@ -1,6 +1,6 @@
-use Rattle.std.proofs.Common.{sym, ap, subst, ◌∙◌}
 use Rattle.std.proofs.lemmas.Result.{on_ok_weaker, IfErr-weaker, err_from_is_err_and}
-use Rattle.wac_composition.specs.Conflicts.{or_else}
+use Rattle.std.proofs.Common.{sym, ap, subst, ◌∙◌}
+use Rattle.std.specs.Option.{option_or}
 use Rattle.wac_graph_causes.specs.Unwritable.{TellsUnwritable, TellsOuterCause, TellsDefinitionCause, outer_cause, outers_in, defined_cause, packages_unless}
 use Rattle.wac_graph_causes.proofs.FirstCauses.{told_first, told_after, none_after}
 use Rattle.wac_graph_causes.proofs.writable.check_types.Goals as goal
@@ -11,7 +11,7 @@ returns-in_err-check_outers-clause-cause c =
     let g = c.args.graph.now in
     let a = c.args.asked.now in
     let o = c.args.outers.now in
-    let more = or_else (defined_cause g a o) (packages_unless c.args.define_components g a) in
+    let more = option_or (defined_cause g a o) (packages_unless c.args.define_components g a) in
     rw p.1
     (λ knows alone held. told_first (outer_cause (outers_in a o)) more p.0
     (subst (TellsOuterCause a o c.args.unnamed.now) (sym p.2) c.in_err-check_outers.ensures.cause knows alone))
@@ -24,7 +24,7 @@ returns-in_err-check_definitions-clause-cause c =
     let o = c.args.outers.now in
     let packages = packages_unless c.args.define_components g a in
     rw p.1
-    (λ knows alone held. told_after (outer_cause (outers_in a o)) (or_else (defined_cause g a o) packages) p.0 (c.in_ok-check_outers.ensures.none knows alone)
+    (λ knows alone held. told_after (outer_cause (outers_in a o)) (option_or (defined_cause g a o) packages) p.0 (c.in_ok-check_outers.ensures.none knows alone)
     (told_first (defined_cause g a o) packages p.0 (subst (TellsDefinitionCause g a o c.args.unnamed.now) (sym p.2) c.in_err-check_definitions.ensures.cause knows alone held)))
 
 pub returns-then-define_components-clause-none : goal.returns-then-define_components-clause-none
@@ -54,7 +54,7 @@ returns-clause-cause c =
     let packages = packages_unless c.args.define_components g a in
     IfErr-weaker c.check_packages.result _ _
     (λ e told knows alone held.
-    told_after (outer_cause (outers_in a o)) (or_else (defined_cause g a o) packages) e (c.in_ok-check_outers.ensures.none knows alone)
+    told_after (outer_cause (outers_in a o)) (option_or (defined_cause g a o) packages) e (c.in_ok-check_outers.ensures.none knows alone)
     (told_after (defined_cause g a o) packages e (c.in_ok-check_definitions.ensures.none knows alone held)
     (subst (λ q. TellsUnwritable q e) (sym (ap (λ d. packages_unless d g a) c.if-define_components.false)) (told knows held))))
     c.check_packages.ensures.cause

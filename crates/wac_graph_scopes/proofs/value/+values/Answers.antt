@@ -1,13 +1,13 @@
-use Rattle.std.proofs.Common.{◌≡◌, ◌∷◌, ◌+◌, ◌<◌, Some, take, refl, sym, ap, subst, ◌∙◌, arith}
 use Rattle.std.specs.Prelude.{IfSome}
+use Rattle.std.proofs.Common.{◌≡◌, ◌∷◌, ◌+◌, ◌<◌, Some, take, refl, sym, ap, subst, ◌∙◌, arith}
 use Rattle.std.proofs.lemmas.Result.{err_from_is_err_and}
 use Rattle.wac_types_base.specs.declared.item.ItemKind.{ItemKind}
 use Rattle.wac_types_base.specs.declared.item.ValueType.{ValueType}
-use Rattle.wac_types_base.specs.Collection.{Stands, size_of, slots_of}
+use Rattle.wac_types_base.specs.Collection.{Stands, size_of, slots_of, StandsIf}
 use Rattle.wac_types_base.specs.Resolving.{IsNoAlias}
 use Rattle.wac_types_base.proofs.Walking.{some_place}
 use Rattle.wac_types_fit.specs.Trees.{tree_in}
-use Rattle.wac_types_fit.specs.Checking.{ValueStands, value_tree, place_trees}
+use Rattle.wac_types_fit.specs.Checking.{value_tree, place_trees}
 use Rattle.wac_types_fit.proofs.Unfolded.{same_tree, end_no_alias, end_smaller, primitive_tree}
 use Rattle.wac_types_fit.proofs.ValueTrees.{place_size, place_inside, defined_holds}
 use Rattle.wac_graph_bytes.specs.declared.value.ValueType.TheVariants.{Primitive, Index}
@@ -95,7 +95,7 @@ define_entry-returns-clause-writes t c w outer i no_alias h =
 pub push_places-push_place-requires : goal.push_places-push_place-requires
 push_places-push_place-requires t c =
     let types = c.args.types.now in
-    let s = subst (λ v. ValueStands types v × (place_size types v < size_of types c.args.kind)) (sym c.value_of.ensures)
+    let s = subst (λ v. StandsIf types v × (place_size types v < size_of types c.args.kind)) (sym c.value_of.ensures)
     (place_inside types c.see_acyclic.ensures c.args.kind c.requires.stands c.requires.values c.loop-place.at c.in-Some.place (sym c.in-Some.ensures.place)) in
     (omega (arith, s.1, c.decreases), s.0)
 
@@ -127,7 +127,7 @@ push_places-returns-clause-writes t c w outer i h =
 pub push_place-push_value-requires : goal.push_place-push_value-requires
 push_place-push_value-requires t c =
     let s = ap (place_size c.args.types.now) c.in-Some.is in
-    (omega (arith, s, c.decreases), subst (λ v. ValueStands c.args.types.now v) c.in-Some.is c.requires)
+    (omega (arith, s, c.decreases), subst (λ v. StandsIf c.args.types.now v) c.in-Some.is c.requires)
 
 pub push_place-returns-in-None-clause-writes : goal.push_place-returns-in-None-clause-writes
 push_place-returns-in-None-clause-writes t c w outer i h = place_none w c.args.types.now outer i c.args.scope.now c.args.place h c.in-None.is

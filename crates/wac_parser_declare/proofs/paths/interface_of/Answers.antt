@@ -1,7 +1,7 @@
 use Rattle.std.proofs.Common.{Some, None, ap, sym, ◌∙◌}
 use Rattle.wac_types_base.specs.declared.item.ItemKind.{ItemKind}
 use Rattle.wac_types_base.proofs.Telling.{item_kind}
-use Rattle.wac_parser_declare.specs.Bodies.{is_interface}
+use Rattle.wac_types_base.specs.Stated.{is_interface}
 use Rattle.wac_parser_declare.proofs.Roots.{interface_stated, no_interface, no_interface_type}
 use Rattle.wac_parser_declare.proofs.paths.interface_of.Goals as goal
 

@@ -1,10 +1,10 @@
 use Rattle.std.proofs.Common.{◌≡◌, [], map, drop}
-use Rattle.wac_types_base.specs.Collection.{Grows}
+use Rattle.wac_types_base.specs.Collection.{Grows, StandsIf}
 use Rattle.wac_types_base.specs.Entries.{with_values}
 use Rattle.wac_parser_tree.specs.Views.{view_variant_case}
 use Rattle.wac_parser_refusals.specs.Causes.{each}
 use Rattle.wac_parser_declare.specs.Declarations.{case_of}
-use Rattle.wac_parser_declare.specs.Holding.{EachStands, StandsIf, scope_of, stated_if}
+use Rattle.wac_parser_declare.specs.Holding.{EachStands, scope_of, stated_if}
 use Rattle.wac_parser_declare.specs.Packages.{SamePackages}
 use Rattle.wac_parser_declare.proofs.type_decls.cases.Given as goal
 

@@ -1,5 +1,5 @@
-use Rattle.std.proofs.Common.{◌≡◌, false, true, Ok, Err, refl, sym, ap, subst, ◌∙◌}
 use Rattle.std.specs.Prelude.{Option, bytes_eq, option_map}
+use Rattle.std.proofs.Common.{◌≡◌, false, true, Ok, Err, refl, sym, ap, subst, ◌∙◌}
 use Rattle.semver.specs.declared.Version.{Version}
 use Rattle.semver.specs.Identifiers.{parts_of}
 use Rattle.wac_types_base.specs.Stated.{Stated}
@@ -16,7 +16,7 @@ use Rattle.wac_parser_resolve.specs.Ascribing.{worlds_of}
 use Rattle.wac_parser_resolve.specs.Denoting.{new_package}
 use Rattle.wac_parser_resolve.specs.InInstances.{key_of}
 use Rattle.wac_parser_resolve.specs.Knowing.{IsPackage, known_in}
-use Rattle.wac_parser_resolve.specs.Knowing.{key_of as named_key}
+use Rattle.wac_graph_core.specs.Packages.{key_of as named_key}
 use Rattle.wac_parser_resolve.proofs.Boards.{on_keeps, own_refused, package_outcome, world_known}
 use Rattle.wac_parser_resolve.proofs.expressions.new_package.Goals as goal
 

@@ -4,7 +4,8 @@ use Rattle.wac_types_base.specs.declared.item.ItemKind.{ItemKind}
 use Rattle.wac_types_base.specs.declared.ids.WorldId.{WorldId}
 use Rattle.wac_types_base.specs.Stated.{stated_of}
 use Rattle.wac_graph_core.specs.Graph.{Graph}
-use Rattle.wac_parser_resolve.specs.Knowing.{SameContents, key_of, known_of, stated_handed}
+use Rattle.wac_graph_core.specs.Packages.{key_of}
+use Rattle.wac_parser_resolve.specs.Knowing.{SameContents, known_of, stated_handed}
 use Rattle.wac_parser_resolve.proofs.Keeping.{Keeps-by, Keeps-enlarged, Keeps-trans}
 use Rattle.wac_parser_resolve.proofs.Knowing.{err_gives, gets_registered, known_enlarged, ok_gives, package_registered, worlds_trans}
 use Rattle.wac_parser_resolve.proofs.packages.register.Goals as goal

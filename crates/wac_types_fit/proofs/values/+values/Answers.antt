@@ -1,11 +1,11 @@
 use Rattle.std.proofs.Common.{◌≡◌, ◌<◌, slice_get, sym, ap, subst, refl, ◌∙◌, arith, below_more}
 use Rattle.wac_types_base.specs.declared.item.ItemKind.{ItemKind}
 use Rattle.wac_types_base.specs.declared.item.ValueType.{ValueType}
-use Rattle.wac_types_base.specs.Collection.{Stands, size_of, slots_of}
+use Rattle.wac_types_base.specs.Collection.{Stands, size_of, slots_of, StandsIf}
 use Rattle.wac_types_base.proofs.Walking.{some_place}
 use Rattle.wac_types_base.proofs.Slots.{stands_borrow, stands_own}
 use Rattle.wac_types_fit.specs.Trees.{SameTree}
-use Rattle.wac_types_fit.specs.Checking.{ValueStands, place_trees}
+use Rattle.wac_types_fit.specs.Checking.{place_trees}
 use Rattle.wac_types_fit.proofs.Unfolded.{same_tree, end_no_alias, end_smaller}
 use Rattle.wac_types_fit.proofs.ValueTrees.{place_size, place_inside, place_agrees, place_step, ends_decided, decided_no, decided_false, not_both, defined_holds, primitives_same, owns_same, borrows_same, defined_decided, labels_of, other_primitive, other_borrow, other_own, other_defined, same_through}
 use Rattle.wac_types_fit.proofs.values.+values.Goals as goal
@@ -14,9 +14,9 @@ pub same_places-same_place-requires : goal.same_places-same_place-requires
 same_places-same_place-requires t c =
     let at = c.args.at.now in
     let bt = c.args.bt.now in
-    let s = subst (λ v. ValueStands at v × (place_size at v < size_of at c.args.a)) (sym c.value_of.ensures)
+    let s = subst (λ v. StandsIf at v × (place_size at v < size_of at c.args.a)) (sym c.value_of.ensures)
     (place_inside at c.see_acyclic.ensures c.args.a c.requires.given c.requires.given_values c.loop-given.index c.in-Some.given (sym c.in-Some.ensures.place)) in
-    let r = subst (λ v. ValueStands bt v × (place_size bt v < size_of bt c.args.b)) (sym c.value_of-in-Some-place.ensures)
+    let r = subst (λ v. StandsIf bt v × (place_size bt v < size_of bt c.args.b)) (sym c.value_of-in-Some-place.ensures)
     (place_inside bt c.see_acyclic-2.ensures c.args.b c.requires.asked c.requires.asked_values c.loop-given.index c.in-Some-place.asked (sym c.in-Some-place.ensures.place)) in
     (omega (arith, s.1, r.1, c.decreases), (s.0, r.0))
 

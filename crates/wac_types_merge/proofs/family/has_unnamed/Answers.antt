@@ -1,5 +1,5 @@
 use Rattle.std.proofs.Common.{◌<◌, length, get_or, ap, ◌∙◌, refl, arith}
-use Rattle.wac_types_base.specs.Implicit.{identifier_in}
+use Rattle.wac_types_base.specs.Parts.{identifier_in}
 use Rattle.wac_types_merge.proofs.Families.{IsUnnamed, one_before, all_before, unnamed_there, all_named}
 use Rattle.wac_types_merge.proofs.family.has_unnamed.Goals as goal
 use Rattle.wac_types_base.proofs.Copying.{get_or-Among}

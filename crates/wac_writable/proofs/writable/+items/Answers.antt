@@ -3,7 +3,7 @@ use Rattle.std.specs.Bool.{Decides}
 use Rattle.std.proofs.lemmas.Bool.Decides.{Decides-at, not_from_Decides}
 use Rattle.wac_types_base.specs.declared.item.ItemKind.{ItemKind}
 use Rattle.wac_types_base.specs.Collection.{size_of}
-use Rattle.wac_types_base.specs.Stated.{stated_of, uses_of, imports_of, exports_of}
+use Rattle.wac_types_base.specs.Stated.{stated_of, uses_of, imports_of, exports_of, stated_world}
 use Rattle.wac_composition.specs.NotWritten.{component_holder, unnamed_use}
 use Rattle.wac_graph_scopes.specs.Parts.{exports_of as exports_in, uses_of as uses_in, world_uses_of as world_uses_in, imports_of as imports_in, world_exports_of as world_exports_in}
 use Rattle.wac_graph_scopes.proofs.HandleLaws.{if_ok_map}
@@ -11,7 +11,7 @@ use Rattle.wac_writable.specs.Holders.{Keeps}
 use Rattle.wac_writable.specs.Items.{item_unwritable}
 use Rattle.wac_writable.specs.Tests.{used_of, ungiven_unwritable, tested_unwritable, exports_unwritable, some_ungiven, some_unwritable}
 use Rattle.wac_writable.specs.Uses.{AddedFails, NeededBy, FailsAt, SomeUse, SomeItem}
-use Rattle.wac_writable.specs.Givers.{instance_of, component_of, imports_by, NeedsFailing, WorldNeeds}
+use Rattle.wac_writable.specs.Givers.{instance_of, imports_by, NeedsFailing, WorldNeeds}
 use Rattle.wac_writable.proofs.PartsStated.{uses_are, exports_are, identifier_is, world_uses_are, imports_are, world_exports_are}
 use Rattle.wac_writable.proofs.UnnamedLaws.{no_gap}
 use Rattle.wac_writable.proofs.HolderLaws.{filled_holds}
@@ -189,7 +189,7 @@ pub world_uses_fail-returns-then-branch : goal.world_uses_fail-returns-then-bran
 world_uses_fail-returns-then-branch t c =
     let C = c.args.test.types.now in
     use_fails_here c.args.test c.args.giver.now (size_of c.args.test.types.now (ItemKind.Component c.args.id)) c.loop-at.giver c.use_fails.new.giver (world_uses_in C c.args.id) c.loop-at.at c.in-Some.used c.in-Some.ensures.entry _ c.in-Some.ensures.inside.1 c.loop-at.invariant c.in_ok-use_fails.ensures
-    (uses_of (component_of c.args.test.types.now c.args.id)) (world_uses_are C c.see_acyclic.ensures c.args.id) (λ is. SomeUse c.args.test.is_outer is (uses_of (component_of c.args.test.types.now c.args.id))) (λ is s. s) c.if-branch.true
+    (uses_of (stated_world c.args.test.types.now c.args.id)) (world_uses_are C c.see_acyclic.ensures c.args.id) (λ is. SomeUse c.args.test.is_outer is (uses_of (stated_world c.args.test.types.now c.args.id))) (λ is s. s) c.if-branch.true
 
 pub world_uses_fail-loop-at-preserved : goal.world_uses_fail-loop-at-preserved
 world_uses_fail-loop-at-preserved t c = elim c.match-world_use_at.branch [
@@ -204,7 +204,7 @@ pub world_uses_fail-returns : goal.world_uses_fail-returns
 world_uses_fail-returns t c =
     let C = c.args.test.types.now in
     let l = c.world_use_count-at-end.ensures.len in
-    uses_end c.args.test c.args.giver.now (size_of c.args.test.types.now (ItemKind.Component c.args.id)) c.loop-at.giver (world_uses_in C c.args.id) c.loop-at.at (uses_of (component_of c.args.test.types.now c.args.id)) (world_uses_are C c.see_acyclic.ensures c.args.id) (omega (arith, l, c.loop-at-test.false)) c.loop-at.invariant
+    uses_end c.args.test c.args.giver.now (size_of c.args.test.types.now (ItemKind.Component c.args.id)) c.loop-at.giver (world_uses_in C c.args.id) c.loop-at.at (uses_of (stated_world c.args.test.types.now c.args.id)) (world_uses_are C c.see_acyclic.ensures c.args.id) (omega (arith, l, c.loop-at-test.false)) c.loop-at.invariant
 
 -- ---- what its imports need
 
@@ -215,7 +215,7 @@ pub uses_of_imports_fail-returns-then-branch : goal.uses_of_imports_fail-returns
 uses_of_imports_fail-returns-then-branch t c =
     let C = c.args.test.types.now in
     item_fails_here c.args.test c.args.giver.now (size_of c.args.test.types.now (ItemKind.Component c.args.id)) c.loop-at.giver c.uses_fail.new.giver (imports_in C c.args.id) c.loop-at.at c.in-Some.item.name.now c.in-Some.item.kind c.in-Some.ensures.entry _ c.in-Some.ensures.inside.1 c.loop-at.invariant c.in_ok-uses_fail.ensures
-    (imports_of (component_of c.args.test.types.now c.args.id)) (imports_are C c.see_acyclic.ensures c.args.id) (λ is. SomeItem c.args.test.is_outer is (imports_of (component_of c.args.test.types.now c.args.id))) (λ is s. s) c.if-branch.true
+    (imports_of (stated_world c.args.test.types.now c.args.id)) (imports_are C c.see_acyclic.ensures c.args.id) (λ is. SomeItem c.args.test.is_outer is (imports_of (stated_world c.args.test.types.now c.args.id))) (λ is s. s) c.if-branch.true
 
 pub uses_of_imports_fail-loop-at-preserved : goal.uses_of_imports_fail-loop-at-preserved
 uses_of_imports_fail-loop-at-preserved t c = elim c.match-import_at.branch [
@@ -230,7 +230,7 @@ pub uses_of_imports_fail-returns : goal.uses_of_imports_fail-returns
 uses_of_imports_fail-returns t c =
     let C = c.args.test.types.now in
     let l = c.import_count-at-end.ensures.len in
-    items_end c.args.test c.args.giver.now (size_of c.args.test.types.now (ItemKind.Component c.args.id)) c.loop-at.giver (imports_in C c.args.id) c.loop-at.at (imports_of (component_of c.args.test.types.now c.args.id)) (imports_are C c.see_acyclic.ensures c.args.id) (omega (arith, l, c.loop-at-test.false)) c.loop-at.invariant
+    items_end c.args.test c.args.giver.now (size_of c.args.test.types.now (ItemKind.Component c.args.id)) c.loop-at.giver (imports_in C c.args.id) c.loop-at.at (imports_of (stated_world c.args.test.types.now c.args.id)) (imports_are C c.see_acyclic.ensures c.args.id) (omega (arith, l, c.loop-at-test.false)) c.loop-at.invariant
 
 -- ---- what its exports need
 
@@ -241,7 +241,7 @@ pub uses_of_exports_fail-returns-then-branch : goal.uses_of_exports_fail-returns
 uses_of_exports_fail-returns-then-branch t c =
     let C = c.args.test.types.now in
     item_fails_here c.args.test c.args.giver.now (size_of c.args.test.types.now (ItemKind.Component c.args.id)) c.loop-at.giver c.uses_fail.new.giver (world_exports_in C c.args.id) c.loop-at.at c.in-Some.item.name.now c.in-Some.item.kind c.in-Some.ensures.entry _ c.in-Some.ensures.inside.1 c.loop-at.invariant c.in_ok-uses_fail.ensures
-    (exports_of (component_of c.args.test.types.now c.args.id)) (world_exports_are C c.see_acyclic.ensures c.args.id) (λ is. SomeItem c.args.test.is_outer is (exports_of (component_of c.args.test.types.now c.args.id))) (λ is s. s) c.if-branch.true
+    (exports_of (stated_world c.args.test.types.now c.args.id)) (world_exports_are C c.see_acyclic.ensures c.args.id) (λ is. SomeItem c.args.test.is_outer is (exports_of (stated_world c.args.test.types.now c.args.id))) (λ is s. s) c.if-branch.true
 
 pub uses_of_exports_fail-loop-at-preserved : goal.uses_of_exports_fail-loop-at-preserved
 uses_of_exports_fail-loop-at-preserved t c = elim c.match-world_export_at.branch [
@@ -256,7 +256,7 @@ pub uses_of_exports_fail-returns : goal.uses_of_exports_fail-returns
 uses_of_exports_fail-returns t c =
     let C = c.args.test.types.now in
     let l = c.world_export_count-at-end.ensures.len in
-    items_end c.args.test c.args.giver.now (size_of c.args.test.types.now (ItemKind.Component c.args.id)) c.loop-at.giver (world_exports_in C c.args.id) c.loop-at.at (exports_of (component_of c.args.test.types.now c.args.id)) (world_exports_are C c.see_acyclic.ensures c.args.id) (omega (arith, l, c.loop-at-test.false)) c.loop-at.invariant
+    items_end c.args.test c.args.giver.now (size_of c.args.test.types.now (ItemKind.Component c.args.id)) c.loop-at.giver (world_exports_in C c.args.id) c.loop-at.at (exports_of (stated_world c.args.test.types.now c.args.id)) (world_exports_are C c.see_acyclic.ensures c.args.id) (omega (arith, l, c.loop-at-test.false)) c.loop-at.invariant
 
 -- ---- what an item needs
 
@@ -367,14 +367,14 @@ world_exports_fail-loop-at-preserved t c = elim c.match-world_export_at.branch [
 pub all_uses_fail-returns-then-branch : goal.all_uses_fail-returns-then-branch
 all_uses_fail-returns-then-branch t c =
     let T = c.args.test in
-    let x = component_of T.types.now c.args.id in
+    let x = stated_world T.types.now c.args.id in
     beside_yes T c.args.giver.now c.world_uses_fail.new.giver (size_of T.types.now (ItemKind.Component c.args.id)) (λ is. WorldNeeds T.is_outer is x)
     (λ ka k. use_needed T.is_outer _ (uses_of x) (imports_of x ++ exports_of x) ((c.in_ok-world_uses_fail.ensures ka k).0.0 c.if-branch.true))
 
 pub all_uses_fail-returns-then-branch-2 : goal.all_uses_fail-returns-then-branch-2
 all_uses_fail-returns-then-branch-2 t c =
     let T = c.args.test in
-    let x = component_of T.types.now c.args.id in
+    let x = stated_world T.types.now c.args.id in
     let n = size_of T.types.now (ItemKind.Component c.args.id) in
     beside_yes T c.args.giver.now c.uses_of_imports_fail.new.giver n (λ is. WorldNeeds T.is_outer is x)
     (λ ka k.
@@ -385,7 +385,7 @@ all_uses_fail-returns-then-branch-2 t c =
 pub all_uses_fail-returns : goal.all_uses_fail-returns
 all_uses_fail-returns t c =
     let T = c.args.test in
-    let x = component_of T.types.now c.args.id in
+    let x = stated_world T.types.now c.args.id in
     let n = size_of T.types.now (ItemKind.Component c.args.id) in
     if_ok_map c.uses_of_exports_fail.result (λ b f ka k.
     let v = c.in_ok-world_uses_fail.ensures ka k in
@@ -397,7 +397,7 @@ pub uses_of_world_fail-returns : goal.uses_of_world_fail-returns
 uses_of_world_fail-returns t c =
     let T = c.args.test in
     if_ok_map c.all_uses_fail.result (λ b f ka.
-    subst (λ w. Decides b (WorldNeeds T.is_outer (imports_by T.types.now w) (component_of T.types.now c.args.id))) c.new-giver.ensures.world
+    subst (λ w. Decides b (WorldNeeds T.is_outer (imports_by T.types.now w) (stated_world T.types.now c.args.id))) c.new-giver.ensures.world
     (f ka (knows_none T _ c.new-giver.result c.new-giver.ensures.seen c.new-giver.ensures.fine)).0) c.all_uses_fail.ensures
 
 -- ---- all items of a world
@@ -414,7 +414,7 @@ all_items_fail-returns t c =
     ∙ sym (ap (λ b. b || some_unwritable C c.args.test.is_outer h (world_exports_in C c.args.id)) (sym (c.in_ok-imports_fail.ensures.fails ka h w) ∙ c.if-branch.false))) c.world_exports_fail.ensures
 
 pub items_of_world_fail-returns : goal.items_of_world_fail-returns
-items_of_world_fail-returns t c = if_ok_map c.all_items_fail.result (λ b f ka. f ka (component_holder (component_of c.args.test.types.now c.args.id)) (filled_holds c.args.test.types.now c.in_ok-holder.holder _ c.in_ok-holder.ensures)) c.all_items_fail.ensures
+items_of_world_fail-returns t c = if_ok_map c.all_items_fail.result (λ b f ka. f ka (component_holder (stated_world c.args.test.types.now c.args.id)) (filled_holds c.args.test.types.now c.in_ok-holder.holder _ c.in_ok-holder.ensures)) c.all_items_fail.ensures
 
 -- ---- a world
 
@@ -422,11 +422,11 @@ pub world_fails-returns-then-is_found_of_world : goal.world_fails-returns-then-i
 world_fails-returns-then-is_found_of_world t c ka = always (unnamed_use (sym (c.is_found_of_world.ensures ka) ∙ c.if-is_found_of_world.true))
 
 pub world_fails-returns-then-branch : goal.world_fails-returns-then-branch
-world_fails-returns-then-branch t c ka = always (needed_fails c.args.test.is_outer (component_of c.args.test.types.now c.args.id) ((c.in_ok-uses_of_world_fail.ensures ka).0 c.if-branch.true))
+world_fails-returns-then-branch t c ka = always (needed_fails c.args.test.is_outer (stated_world c.args.test.types.now c.args.id) ((c.in_ok-uses_of_world_fail.ensures ka).0 c.if-branch.true))
 
 pub world_fails-returns : goal.world_fails-returns
 world_fails-returns t c =
     let T = c.args.test in
     if_ok_map c.items_of_world_fail.result (λ b f ka.
-    items_left T.is_outer (component_of T.types.now c.args.id) b (sym (c.is_found_of_world.ensures ka) ∙ c.if-is_found_of_world.false) (not_from_Decides _ (c.in_ok-uses_of_world_fail.ensures ka) c.if-branch.false)
+    items_left T.is_outer (stated_world T.types.now c.args.id) b (sym (c.is_found_of_world.ensures ka) ∙ c.if-is_found_of_world.false) (not_from_Decides _ (c.in_ok-uses_of_world_fail.ensures ka) c.if-branch.false)
     (Decides-at b _ (f ka) (world_items_decide T.types.now c.see_acyclic.ensures T.is_outer c.args.id))) c.items_of_world_fail.ensures

@@ -4,7 +4,8 @@ use Rattle.wac_types_base.specs.declared.item.ItemKind.{ItemKind}
 use Rattle.wac_types_base.specs.Stated.{stated_of}
 use Rattle.wac_parser_refusals.specs.Causes.{UnknownPackage}
 use Rattle.wac_parser_declare.specs.Packages.{world_if}
-use Rattle.wac_parser_resolve.specs.Knowing.{IsPackage, handed_under, key_of, known_in, lent_content, stated_handed}
+use Rattle.wac_graph_core.specs.Packages.{key_of}
+use Rattle.wac_parser_resolve.specs.Knowing.{IsPackage, handed_under, known_in, lent_content, stated_handed}
 use Rattle.wac_parser_resolve.proofs.Knowing.{known_held, known_more, known_package, known_same, unknown_key, unknown_refused}
 use Rattle.wac_parser_resolve.proofs.packages.GraphTypes.package.Goals as goal
 
