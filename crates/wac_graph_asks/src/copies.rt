@@ -1,4 +1,4 @@
-//! Copies of the parts of interfaces and worlds.
+//! Interfaces and worlds by parts.
 
 ghost use Rattle.std.specs.Prelude.{◌≡◌, [], IsOk, IfOk, IfSome};
 ghost use Rattle.wac_types_base.specs.declared.item.ItemKind.{ItemKind};
@@ -8,9 +8,7 @@ ghost use Rattle.wac_graph_asks.specs.Imported.{ImportsAlone};
 ghost use Rattle.wac_graph_asks.specs.Outers.{HasImportsAlone};
 
 use std::alloc::{AllocError, Global};
-use wac_types_base::{
-    Interface, InterfaceId, ItemKind, NamedMap, Text, Types, UsedType, World, WorldId,
-};
+use wac_types_base::{Interface, InterfaceId, ItemKind, NamedMap, Text, Types, World, WorldId};
 
 /// The value, if what was to be added to it was added; it is dropped here alone.
 pub fn filled<T: Drop>(value: T, added: Result<(), AllocError>) -> Result<T, AllocError>
@@ -19,23 +17,6 @@ pub fn filled<T: Drop>(value: T, added: Result<(), AllocError>) -> Result<T, All
 {
     added?;
     Ok(value)
-}
-
-/// The same text again, if there is one.
-pub fn copy_text(text: &Option<Text>) -> Result<Option<Text>, AllocError> {
-    match text {
-        None => Ok(None),
-        Some(text) => {
-            let copy = text.copy()?;
-            Ok(Some(copy))
-        }
-    }
-}
-
-/// The same use again, of that interface.
-pub fn copy_use(used: &UsedType, interface: InterfaceId) -> Result<UsedType, AllocError> {
-    let name = copy_text(&used.name)?;
-    Ok(UsedType { interface, name })
 }
 
 /// An interface of that identifier, in which nothing stands.

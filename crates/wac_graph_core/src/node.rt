@@ -8,7 +8,7 @@ ghost use Rattle.wac_graph_core.specs.Nodes.{Role, role_of, imported_as, plain_n
 use crate::ids::PackageId;
 use std::alloc::AllocError;
 use std::marker::Model;
-use wac_types_base::{ItemKind, Text, Type};
+use wac_types_base::{ItemKind, Text, Type, copy_text};
 
 /// What a node is.
 #[derive(Debug, Drop)]
@@ -21,16 +21,6 @@ pub enum NodeKind {
     Instantiation,
     /// An export of an instance.
     Alias,
-}
-
-/// The same text again, if there is one.
-fn copy_text(text: &Option<Text>) -> Result<Option<Text>, AllocError>
-    ensures { IfOk result (λ t. t ≡ text.now) }
-{
-    match text {
-        Some(text) => Ok(Some(text.copy()?)),
-        None => Ok(None),
-    }
 }
 
 impl NodeKind {

@@ -8,6 +8,7 @@ use Rattle.wac_types_base.specs.Entries.{AreDistinct, IsNew, Name, names_of}
 use Rattle.wac_types_base.specs.Collection.{Grows, IsAcyclic, Stands}
 use Rattle.wac_types_base.specs.Copying.{IsCopy}
 use Rattle.wac_types_base.specs.Stated.{IsComponent, Stated, kind_of, stated_in, stated_of, world_of}
+use Rattle.wac_types_base.proofs.Again.{new_in_copy, one_more_copied}
 use Rattle.wac_types_base.proofs.Lists.{among_last, there_is}
 use Rattle.wac_types_base.proofs.Looked.{put_entry-new}
 use Rattle.wac_types_base.proofs.Loops.{map-one_more, names-with_values}
@@ -19,7 +20,7 @@ use Rattle.wac_types_written.specs.Forms.{ItemsStand, stated_items, stated_uses}
 use Rattle.wac_types_written.specs.Written.{bare_world, without_uses}
 use Rattle.wac_types_written.proofs.Growing.{items_kept}
 use Rattle.wac_types_written.proofs.Ids.{world_states}
-use Rattle.wac_types_written.proofs.Loops.{copy_new, copy_next, place_new}
+use Rattle.wac_types_written.proofs.Loops.{place_new}
 use Rattle.wac_types_written.proofs.Shapes.{world_by_parts}
 use Rattle.wac_graph_core.specs.Graph.{Graph}
 use Rattle.wac_graph_scopes.specs.Parts.{imports_of}
@@ -109,5 +110,5 @@ not_other c d acyclic k j kind copy other = not_component j other (sym (kind_sta
 pub import_next : (xs : List (Name × ItemKind)) → AreDistinct (names_of xs) → (i count : ℕ) → count ≡ length xs → i < count → (old new : List (Name × ItemKind)) → new ≡ with_import (slice_get xs i) old → old ≡ take i xs → new ≡ take (i + 1) xs
 import_next xs distinct i count len lt old new is before =
     let e = there_is xs i (omega (arith, lt, len)) in
-    is ∙ ap (λ o. with_import o old) e.1 ∙ put_entry-new old e.0.0 e.0.1 (copy_new old xs i e.0.0 e.0.0 e.0.1 distinct before e.1 refl)
-    ∙ copy_next old xs i e.0.0 e.0.0 e.0.1 e.0.1 before e.1 refl refl
+    one_more_copied xs i e.0.0 e.0.1 e.1 e.0.0 old new before refl
+    (is ∙ ap (λ o. with_import o old) e.1 ∙ put_entry-new old e.0.0 e.0.1 (new_in_copy xs i e.0.0 e.0.1 e.1 e.0.0 old distinct before refl))

@@ -81,7 +81,3 @@ module _ (c : Collection) (es : List (Name × ItemKind)) (xs : List (Name × Tre
 
   pub written_instance : instance_by [] xs ≡ Some (instance (unfolded.fields_in c es))
   written_instance = ap (λ b. some_if b (instance (fields_in xs))) ((distinct_decides (names_of xs)).1 d) ∙ ap (λ (f : Fields). Some (instance f)) written_fields
-
-pub no_names : {T : Type 0} (xs : List (Name × T)) → names_of xs ≡ [] → xs ≡ []
-no_names [] e = refl
-no_names (x ∷ xs) e = absurd (cc e)

@@ -38,7 +38,7 @@ use Rattle.wac_graph_bytes.specs.declared.module.CoreDeclaration.{CoreDeclaratio
 use Rattle.wac_graph_bytes.specs.Counting.{description_sort}
 use Rattle.wac_graph_bytes.specs.Entries.{End}
 use Rattle.wac_graph_bytes.specs.Typing as typing
-use Rattle.wac_graph_bytes.specs.Typing.{◌>>=◌, Worlds, Meaning, Item, Known, Scope, space, with_one, Inside, nothing_inside, adds_inside, imports_inside, exports_inside, declared, described, found_at, type_tree, type_at, item_of, type_in, as_func, as_sort, module_tree, instance_by}
+use Rattle.wac_graph_bytes.specs.Typing.{◌>>=◌, Worlds, Meaning, Item, Known, Scope, space, with_one, Inside, nothing_inside, adds_inside, imports_inside, exports_inside, declared, described, type_tree, type_at, item_of, as_func, as_sort, module_tree, instance_by}
 use Rattle.wac_graph_bytes.specs.Views.{before, declarations_of, module_view}
 use Rattle.wac_graph_bytes.proofs.Steps.{get_last, some_is}
 use Rattle.wac_graph_bytes.proofs.Rows.{before_instance, before_component}
@@ -51,9 +51,9 @@ use Rattle.wac_graph_scopes.specs.Items.{IsItemScope, ItemsGo, GivesType, Export
 use Rattle.wac_graph_scopes.proofs.ScopeLaws.{Extends-one}
 use Rattle.wac_graph_scopes.proofs.ItemLaws.{ItemsGo-refl, ItemsGo-trans, types_go, export_follows}
 use Rattle.wac_graph_scopes.proofs.UsedLaws.{root_of, plain_item}
-use Rattle.wac_graph_scopes.proofs.FieldLaws.{written_instance, no_names}
+use Rattle.wac_graph_scopes.proofs.FieldLaws.{written_instance}
 use Rattle.wac_graph_scopes.proofs.OrderLaws.{distinct-append}
-use Rattle.wac_types_base.proofs.Lists.{not_among}
+use Rattle.wac_types_base.proofs.Lists.{no_entries}
 
 -- ---- names
 
@@ -296,7 +296,7 @@ states_instance w c acyclic outer id x s given at own is k all =
     let trees = subst (λ (l : List (Name × ItemKind)). AreTreesOf c l i.exports) is k.export_trees in
     let complete = λ (n : Name) (m : Among n (names_of x.exports)). subst (λ (l : List Name). Among n l) (sym k.exports) (all n (subst (λ (l : List (Name × ItemKind)). Among n (names_of l)) (sym is) m)) in
     ap (λ (o : Option Inside). o >>= typing.instance_tree) k.stands.written.reads
-    ∙ ap (λ (l : List (Name × Tree)). instance_by l i.exports) (no_names i.imports k.imports)
+    ∙ ap (λ (l : List (Name × Tree)). instance_by l i.exports) (no_entries i.imports k.imports)
     ∙ written_instance c x.exports i.exports distinct trees complete
     ∙ ap Some (sym (instance_tree c acyclic id x at own))
 

@@ -18,3 +18,4 @@ pub mod Used
 pub mod Visited
 pub mod Made
 pub mod Stating
+pub mod Again

@@ -1,5 +1,5 @@
 -- Elements of lists that are joined, mapped, cut and filtered, and what is found under a name.
-use Rattle.std.proofs.Common.{◌≡◌, ◌≢◌, ℕ, zero, suc, ◌+◌, ◌<◌, ◌≤◌, List, [], ◌∷◌, ◌++◌, map, length, take, drop, Option, Some, None, IsSome, is_some, filter, Bool, true, false, true≢false, not, cond, if◌then◌else◌, slice_get, ◌⊎◌, inl, inr, refl, sym, ap, ◌∙◌, arith}
+use Rattle.std.proofs.Common.{◌≡◌, ◌≢◌, ℕ, zero, suc, ◌+◌, ◌<◌, ◌≤◌, List, [], ◌∷◌, ◌++◌, map, length, drop, Option, Some, None, IsSome, is_some, filter, Bool, true, false, true≢false, not, cond, if◌then◌else◌, slice_get, ◌⊎◌, inl, inr, refl, sym, ap, ◌∙◌, arith}
 use Rattle.std.specs.Prelude.{◌==◌, ◌||◌, bytes_eq, filter_map}
 use Rattle.std.specs.Bool.{Decides}
 use Rattle.std.specs.Cmp.Lexicographic.{pointwise}
@@ -144,6 +144,11 @@ value_named (x ∷ es) n v e = elim (name_tested n x.0) [
   | inl h ↦ inl h.0
   | inr h ↦ inr (value_named es n v (sym (ap (λ b. cond b (Some x.1) (value_at es n)) h.1) ∙ e))
 ]
+
+-- where no name stands, no entry does
+pub no_entries : {X : Type 0} (es : List (Name × X)) → names_of es ≡ [] → es ≡ []
+no_entries [] e = refl
+no_entries (x ∷ es) e = absurd (cc e)
 
 -- ---- tests
 

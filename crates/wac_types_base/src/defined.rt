@@ -1,8 +1,11 @@
 //! Entries of a collection: defined types, resources, functions, interfaces and worlds.
 
+ghost use Rattle.std.specs.Prelude.{◌≡◌, IfOk};
+
 use crate::containers::{Items, NamedMap, Names, Text};
 use crate::ids::{InterfaceId, ResourceId};
 use crate::item::{ItemKind, ValueType};
+use std::alloc::{AllocError, Global};
 
 /// A variant: its cases in order, each with a payload or none.
 #[derive(Drop)]
@@ -93,4 +96,84 @@ pub struct World {
     pub uses: NamedMap<UsedType>,
     pub imports: NamedMap<ItemKind>,
     pub exports: NamedMap<ItemKind>,
+}
+
+/// The same text again, if there is one.
+pub fn copy_text(text: &Option<Text>) -> Result<Option<Text>, AllocError>
+    ensures { IfOk result (λ t. t ≡ text.now) }
+{
+    match text {
+        None => Ok(None),
+        Some(text) => {
+            let copy = text.copy()?;
+            Ok(Some(copy))
+        }
+    }
+}
+
+/// The same items again.
+pub fn copy_items(
+    alloc: Global,
+    items: &NamedMap<ItemKind>,
+) -> Result<NamedMap<ItemKind>, AllocError>
+    ensures { IfOk result (λ m. m ≡ items.now) }
+{
+    let mut copy = NamedMap::new(alloc);
+    for at in 0..items.len() {
+        let (name, kind) = items.entry(at);
+        copy.push(String::from_str(alloc, name)?, *kind)?;
+    }
+    Ok(copy)
+}
+
+/// The same uses again.
+pub fn copy_uses(alloc: Global, uses: &NamedMap<UsedType>) -> Result<NamedMap<UsedType>, AllocError>
+    ensures { IfOk result (λ m. m ≡ uses.now) }
+{
+    let mut copy = NamedMap::new(alloc);
+    for at in 0..uses.len() {
+        let (name, used) = uses.entry(at);
+        let used = used.copy()?;
+        copy.push(String::from_str(alloc, name)?, used)?;
+    }
+    Ok(copy)
+}
+
+impl UsedType {
+    /// The same use again.
+    pub fn copy(&self) -> Result<Self, AllocError>
+        ensures { IfOk result (λ u. u ≡ self.now) }
+    {
+        Ok(UsedType {
+            interface: self.interface,
+            name: copy_text(&self.name)?,
+        })
+    }
+}
+
+impl Interface {
+    /// The same interface again.
+    pub fn copy(&self, alloc: Global) -> Result<Self, AllocError>
+        ensures { IfOk result (λ i. i ≡ self.now) }
+    {
+        Ok(Interface {
+            id: copy_text(&self.id)?,
+            uses: copy_uses(alloc, &self.uses)?,
+            exports: copy_items(alloc, &self.exports)?,
+        })
+    }
+}
+
+impl World {
+    /// The same world again.
+    pub fn copy(&self, alloc: Global) -> Result<Self, AllocError>
+        ensures { IfOk result (λ w. w ≡ self.now) }
+    {
+        Ok(World {
+            id: copy_text(&self.id)?,
+            uses: copy_uses(alloc, &self.uses)?,
+            imports: copy_items(alloc, &self.imports)?,
+            exports: copy_items(alloc, &self.exports)?,
+        })
+    }
 }

@@ -26,7 +26,7 @@ pub use core_types::{
 };
 pub use defined::{
     DefinedType, Enum, Flags, FuncType, Interface, Record, Resource, ResourceAlias, UsedType,
-    Variant, World,
+    Variant, World, copy_items, copy_text, copy_uses,
 };
 pub use ids::{DefinedTypeId, FuncTypeId, InterfaceId, ModuleTypeId, ResourceId, WorldId};
 pub use implicit::TargetError;

@@ -3,12 +3,12 @@
 ghost use Rattle.std.specs.Prelude.{◌≡◌, IfOk, option_map, map};
 ghost use Rattle.wac_types_base.specs.Copies.{alias_copy};
 
-use crate::containers::{Items, NamedMap, Names, Text};
+use crate::containers::{Items, NamedMap};
 use crate::copies::Copies;
 use crate::core_types::{CoreExtern, CoreFuncType, CoreImports, CoreType, ModuleType};
 use crate::defined::{
     DefinedType, Enum, Flags, FuncType, Interface, Record, Resource, ResourceAlias, UsedType,
-    Variant, World,
+    Variant, World, copy_text,
 };
 use crate::item::{ItemKind, ValueType};
 use std::alloc::{AllocError, Global};
@@ -50,19 +50,6 @@ impl Remap for ItemKind {
 
     fn remap(&self, alloc: Global, copies: &Copies) -> Result<Self, AllocError> {
         Ok(copies.kind(*self))
-    }
-}
-
-/// The same text again, if there is one.
-pub(crate) fn copy_text(text: &Option<Text>) -> Result<Option<Text>, AllocError>
-    ensures { IfOk result (λ t. t ≡ text.now) }
-{
-    match text {
-        None => Ok(None),
-        Some(text) => {
-            let copy = text.copy()?;
-            Ok(Some(copy))
-        }
     }
 }
 

@@ -11,8 +11,9 @@ use Rattle.wac_types_base.specs.Graph.{Among}
 use Rattle.wac_types_base.specs.Entries.{Name, names_of, value_at, IsNew, AreDistinct}
 use Rattle.wac_types_base.specs.Collection.{Stands, SlotStands, Grows}
 use Rattle.wac_types_base.specs.Tree.{instance}
-use Rattle.wac_types_base.proofs.Looked.{take-one_more, distinct-before}
-use Rattle.wac_types_base.proofs.Loops.{map-append, map-take, map-get}
+use Rattle.wac_types_base.proofs.Again.{name_before}
+use Rattle.wac_types_base.proofs.Looked.{take-one_more}
+use Rattle.wac_types_base.proofs.Loops.{map-append, map-take}
 use Rattle.wac_types_base.proofs.Lists.{among_split, first_of, value_none}
 use Rattle.wac_types_fit.specs.Lookups.{lookup}
 use Rattle.wac_types_fit.specs.Meets.{IsMeet}
@@ -104,18 +105,8 @@ added_new es fs first all i n v at apart same e none m =
     let is : names_of all ≡ names_of first ++ names_of (new_in es (take i fs)) = ap names_of e ∙ map-append (λ x. x.0) first (new_in es (take i fs)) in
     elim (among_split n (names_of first) (names_of (new_in es (take i fs))) (subst (Among n) is m)) [
       | inl k ↦ value_none es n none (subst (Among n) same k)
-      | inr k ↦ distinct-before (names_of fs) i n apart (map-get (λ x. x.0) fs i (n, v) at) (subst (Among n) (map-take (λ x. x.0) fs i) (names_new es (take i fs) n k))
+      | inr k ↦ name_before fs i n v at (names_of (take i fs)) apart (map-take (λ x. x.0) fs i) (names_new es (take i fs) n k)
     ]
-
--- ---- copies
-
--- the name of an entry is not among those before it
-pub new_in_copy : {T : Type 0} (es : List (Name × T)) (i : ℕ) (n : Name) (v : T) → slice_get es i ≡ Some (n, v) → (m : Name) (copy : List (Name × T)) → AreDistinct (names_of es) → copy ≡ take i es → m ≡ n → IsNew m copy
-new_in_copy es i n v at m copy apart is same h =
-    distinct-before (names_of es) i n apart (map-get (λ e. e.0) es i (n, v) at) (subst (Among n) (ap names_of is ∙ map-take (λ e. e.0) es i) (subst (λ x. Among x (names_of copy)) same h))
-
-pub one_more_copied : {T : Type 0} (es : List (Name × T)) (i : ℕ) (n : Name) (v : T) → slice_get es i ≡ Some (n, v) → (m : Name) (copy after : List (Name × T)) → copy ≡ take i es → m ≡ n → after ≡ copy ++ (m, v) ∷ [] → after ≡ take (i + 1) es
-one_more_copied es i n v at m copy after is same e = e ∙ ap (λ c. c ++ (m, v) ∷ []) is ∙ ap (λ x. take i es ++ (x, v) ∷ []) same ∙ sym (take-one_more es i (n, v) at)
 
 -- ---- items that are joined name by name
 
@@ -186,8 +177,7 @@ joined_more c fs d e es gs after i n k j at g h this is =
 -- the next name is new
 pub joined_new : (c : Collection) (fs : List (Name × ItemKind)) (d : Collection) (es gs : List (Name × ItemKind)) (i : ℕ) (n : Name) (k : ItemKind) → slice_get es i ≡ Some (n, k) → AreDistinct (names_of es) → AreJoined c fs d (take i es) gs → IsNew n gs
 joined_new c fs d es gs i n k at apart h m =
-    let is : names_of gs ≡ take i (names_of es) = names_joined c fs d (take i es) gs h ∙ map-take (λ e. e.0) es i in
-    distinct-before (names_of es) i n apart (map-get (λ e. e.0) es i (n, k) at) (subst (Among n) is m)
+    name_before es i n k at (names_of gs) apart (names_joined c fs d (take i es) gs h ∙ map-take (λ e. e.0) es i) m
 
 -- ---- the meet
 

@@ -11,7 +11,7 @@ ghost use Rattle.wac_types_base.specs.declared.defined.Interface.{Interface as I
 ghost use Rattle.wac_types_merge.specs.United.{UnitesIn, OtherUnites, ItemsUnite, InterfacesUnite};
 ghost use Rattle.wac_types_merge.specs.Interfaces.{IsAt, MeetIn, ClashIn, ClashUnlessFit, JoinedIn, OtherClash, SlotInside, AreJoined, ItemsClash};
 
-use crate::exports::{add_joined, copy_interface};
+use crate::exports::add_joined;
 use crate::narrower::fits_in;
 use std::alloc::Global;
 use wac_types_base::{ExternKind, Interface, InterfaceId, ItemKind, NamedMap, Type, Types};
@@ -105,9 +105,9 @@ fn merge_instances(
     ensures grows { Grows own.old own.new }
 {
     own.see_acyclic();
-    match copy_interface(alloc, own.interface(a)) {
+    match own.interface(a).copy(alloc) {
         Err(_) => Err(SubtypeError::Memory),
-        Ok(first) => match copy_interface(alloc, own.interface(b)) {
+        Ok(first) => match own.interface(b).copy(alloc) {
             Err(_) => Err(SubtypeError::Memory),
             Ok(second) => merge_copies(alloc, own, a, &first, b, &second),
         },

@@ -1,4 +1,4 @@
-//! Copies and unions of an interface's uses and exports.
+//! Unions of interfaces' uses and exports, and interfaces under other identifiers.
 
 ghost use Rattle.std.specs.Prelude.{◌≡◌, ◌++◌, OnOk, IfOk, None};
 ghost use Rattle.wac_types_base.specs.declared.item.ItemKind.{ItemKind};
@@ -8,69 +8,10 @@ ghost use Rattle.wac_types_fit.specs.TargetSteps.{AllStand};
 ghost use Rattle.wac_types_merge.specs.Interfaces.{if_new, new_in, joined, merged_interface, IsAt, IsRenamed, UsesStand};
 
 use std::alloc::{AllocError, Global};
-use wac_types_base::{Interface, InterfaceId, ItemKind, NamedMap, Text, Types, UsedType};
-
-/// The same exports again.
-fn copy_exports(
-    alloc: Global,
-    exports: &NamedMap<ItemKind>,
-) -> Result<NamedMap<ItemKind>, AllocError>
-    ensures { IfOk result (λ m. m ≡ exports.now) }
-{
-    let mut copy = NamedMap::new(alloc);
-    for at in 0..exports.len() {
-        let (name, kind) = exports.entry(at);
-        copy.push(String::from_str(alloc, name)?, *kind)?;
-    }
-    Ok(copy)
-}
-
-/// The same text again, if there is one.
-fn copy_text(text: &Option<Text>) -> Result<Option<Text>, AllocError>
-    ensures { IfOk result (λ t. t ≡ text.now) }
-{
-    match text {
-        None => Ok(None),
-        Some(text) => {
-            let copy = text.copy()?;
-            Ok(Some(copy))
-        }
-    }
-}
-
-/// The same use again.
-fn copy_use(used: &UsedType) -> Result<UsedType, AllocError>
-    ensures { IfOk result (λ u. u ≡ used.now) }
-{
-    Ok(UsedType {
-        interface: used.interface,
-        name: copy_text(&used.name)?,
-    })
-}
-
-/// The same uses again.
-fn copy_uses(alloc: Global, uses: &NamedMap<UsedType>) -> Result<NamedMap<UsedType>, AllocError>
-    ensures { IfOk result (λ m. m ≡ uses.now) }
-{
-    let mut copy = NamedMap::new(alloc);
-    for at in 0..uses.len() {
-        let (name, used) = uses.entry(at);
-        let used = copy_use(used)?;
-        copy.push(String::from_str(alloc, name)?, used)?;
-    }
-    Ok(copy)
-}
-
-/// The same interface again.
-pub(crate) fn copy_interface(alloc: Global, interface: &Interface) -> Result<Interface, AllocError>
-    ensures { IfOk result (λ x. x ≡ interface.now) }
-{
-    Ok(Interface {
-        id: copy_text(&interface.id)?,
-        uses: copy_uses(alloc, &interface.uses)?,
-        exports: copy_exports(alloc, &interface.exports)?,
-    })
-}
+use wac_types_base::{
+    Interface, InterfaceId, ItemKind, NamedMap, Text, Types, UsedType, copy_items, copy_text,
+    copy_uses,
+};
 
 /// Adds an export, unless those kept have its name.
 fn add_export(
@@ -121,7 +62,7 @@ fn add_use(
     if kept.contains(name) {
         return Ok(());
     }
-    let used = copy_use(used)?;
+    let used = used.copy()?;
     all.push(String::from_str(alloc, name)?, used)?;
     Ok(())
 }
@@ -212,7 +153,7 @@ pub(crate) fn rename_interface(
     let interface = own.interface(id);
     let name = Text::new(String::from_str(alloc, name)?);
     let uses = copy_uses(alloc, &interface.uses)?;
-    let exports = copy_exports(alloc, &interface.exports)?;
+    let exports = copy_items(alloc, &interface.exports)?;
     own.add_interface(Interface {
         id: Some(name),
         uses,

@@ -8,11 +8,11 @@ use Rattle.wac_types_base.specs.declared.defined.World.{World}
 use Rattle.wac_types_base.specs.Graph.{Among}
 use Rattle.wac_types_base.specs.Record.{Collection}
 use Rattle.wac_types_base.specs.Entries.{Name, IsNew, names_of, AreDistinct}
+use Rattle.wac_types_base.proofs.Again.{name_before}
 use Rattle.wac_types_base.proofs.Looked.{take-one_more}
 use Rattle.wac_types_base.proofs.Loops.{map-take, take-all}
 use Rattle.wac_names.specs.ComponentNames.{IsInterfaceName}
 use Rattle.wac_types_names.specs.Packages.{meaning, Defines, IsMeaning, AreDefinitions, no_exports, defined, passed}
-use Rattle.wac_types_names.proofs.Copied.{name_before}
 
 abbrev pub world_type : WorldId → ItemKind
 world_type id = ItemKind.Ty (TypeKind.World id)

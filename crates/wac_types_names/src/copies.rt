@@ -1,4 +1,4 @@
-//! Copies of a world's uses and exports.
+//! The interface of a world's uses and exports, and a version again.
 
 ghost use Rattle.std.specs.Prelude.{◌≡◌, IfOk, Some, option_map, option_copied};
 ghost use Rattle.semver.specs.Identifiers.{parts_of};
@@ -9,58 +9,7 @@ ghost use Rattle.wac_types_names.specs.Packages.{IsInterfaceOf};
 
 use semver::Version;
 use std::alloc::{AllocError, Global};
-use wac_types_base::{Interface, ItemKind, NamedMap, Text, Types, UsedType, WorldId};
-
-/// The same exports again.
-fn copy_exports(
-    alloc: Global,
-    exports: &NamedMap<ItemKind>,
-) -> Result<NamedMap<ItemKind>, AllocError>
-    ensures { IfOk result (λ m. m ≡ exports.now) }
-{
-    let mut copy = NamedMap::new(alloc);
-    for at in 0..exports.len() {
-        let (name, kind) = exports.entry(at);
-        copy.push(String::from_str(alloc, name)?, *kind)?;
-    }
-    Ok(copy)
-}
-
-/// The same text again, if there is one.
-fn copy_text(text: &Option<Text>) -> Result<Option<Text>, AllocError>
-    ensures { IfOk result (λ t. t ≡ text.now) }
-{
-    match text {
-        None => Ok(None),
-        Some(text) => {
-            let copy = text.copy()?;
-            Ok(Some(copy))
-        }
-    }
-}
-
-/// The same use again.
-fn copy_use(used: &UsedType) -> Result<UsedType, AllocError>
-    ensures { IfOk result (λ u. u ≡ used.now) }
-{
-    Ok(UsedType {
-        interface: used.interface,
-        name: copy_text(&used.name)?,
-    })
-}
-
-/// The same uses again.
-fn copy_uses(alloc: Global, uses: &NamedMap<UsedType>) -> Result<NamedMap<UsedType>, AllocError>
-    ensures { IfOk result (λ m. m ≡ uses.now) }
-{
-    let mut copy = NamedMap::new(alloc);
-    for at in 0..uses.len() {
-        let (name, used) = uses.entry(at);
-        let used = copy_use(used)?;
-        copy.push(String::from_str(alloc, name)?, used)?;
-    }
-    Ok(copy)
-}
+use wac_types_base::{Interface, ItemKind, NamedMap, Types, WorldId, copy_items, copy_uses};
 
 /// The interface without identifier that has the uses and the exports of a world.
 pub(crate) fn interface_of(
@@ -77,7 +26,7 @@ pub(crate) fn interface_of(
     Ok(Interface {
         id: None,
         uses: copy_uses(alloc, &world.uses)?,
-        exports: copy_exports(alloc, &world.exports)?,
+        exports: copy_items(alloc, &world.exports)?,
     })
 }
 

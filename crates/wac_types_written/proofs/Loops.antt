@@ -4,7 +4,8 @@ use Rattle.std.proofs.lemmas.List.{append-nil}
 use Rattle.std.specs.Prelude.{String, string_bytes}
 use Rattle.wac_types_base.specs.Entries.{Name, AreDistinct, IsNew, names_of, texts_of, values_of}
 use Rattle.wac_types_base.specs.Graph.{Among}
-use Rattle.wac_types_base.proofs.Looked.{among-get, distinct-before, entry-place, take-one_more}
+use Rattle.wac_types_base.proofs.Again.{name_before}
+use Rattle.wac_types_base.proofs.Looked.{among-get, entry-place, take-one_more}
 use Rattle.wac_types_base.proofs.Loops.{map-get, map-take, take-all}
 
 -- the entry at a place of a loop over names and values
@@ -16,7 +17,7 @@ place es ts vs i s v names values within n x =
 -- its name is not among those before it
 pub place_new : {T U : Type 0} (es : List (Name × T)) (i : ℕ) (n : Name) (v : T) (made : List (Name × U)) → AreDistinct (names_of es) → slice_get es i ≡ Some (n, v) → names_of made ≡ names_of (take i es) → IsNew n made
 place_new es i n v made distinct at before m =
-    distinct-before (names_of es) i n distinct (map-get (λ e. e.0) es i (n, v) at) (subst (λ l. Among n l) (before ∙ map-take (λ e. e.0) es i) m)
+    name_before es i n v at (names_of made) distinct (before ∙ map-take (λ e. e.0) es i) m
 
 pub filter_last : {X : Type 0} (p : X → Bool) (xs : List X) (x : X) → filter p (xs ++ x ∷ []) ≡ filter p xs ++ (if p x then x ∷ [] else [])
 filter_last p [] x = by_test (p x)
@@ -44,17 +45,6 @@ filter_names p (e ∷ es) n m = by_test (p e) (filter_names p es n) m
     by_test true h (inl i) = inl i
     by_test true h (inr k) = inr (h k)
     by_test false h k = inr (h k)
-
--- ---- copies
-
-pub copy_next : {T : Type 0} (made es : List (Name × T)) (i : ℕ) (n m : Name) (v w : T) → made ≡ take i es → slice_get es i ≡ Some (m, w) → n ≡ m → v ≡ w → made ++ (n, v) ∷ [] ≡ take (i + 1) es
-copy_next made es i n m v w h at e f = ap (λ l. l ++ (n, v) ∷ []) h ∙ ap (λ k. take i es ++ (k, v) ∷ []) e ∙ ap (λ x. take i es ++ (m, x) ∷ []) f ∙ sym (take-one_more es i (m, w) at)
-
-pub copy_end : {T : Type 0} (made es : List (Name × T)) (i n : ℕ) → made ≡ take i es → n ≤ i → n ≡ length es → made ≡ es
-copy_end made es i n h le e = let whole : length es ≤ i = omega (arith, le, e) in h ∙ take-all es i whole
-
-pub copy_new : {T : Type 0} (made es : List (Name × T)) (i : ℕ) (n m : Name) (v : T) → AreDistinct (names_of es) → made ≡ take i es → slice_get es i ≡ Some (m, v) → n ≡ m → IsNew n made
-copy_new made es i n m v d h at e = subst (λ k. IsNew k made) (sym e) (place_new es i m v made d at (ap names_of h))
 
 -- ---- what is filtered
 

@@ -9,11 +9,12 @@ ghost use Rattle.wac_types_written.specs.Components.{AddsMissing, AreApart, AreM
 ghost use Rattle.wac_types_written.specs.Forms.{FoundStand, IsOf, ItemsStand, UsesStand};
 ghost use Rattle.wac_types_written.specs.Written.{types_only};
 
-use crate::maps::{copy_text, copy_uses, types_of};
+use crate::maps::types_of;
 use crate::uses::used_by;
 use std::alloc::{AllocError, Global};
 use wac_types_base::{
-    Interface, InterfaceId, ItemKind, NamedMap, Text, Types, UsedType, World, WorldId,
+    Interface, InterfaceId, ItemKind, NamedMap, Text, Types, UsedType, World, WorldId, copy_text,
+    copy_uses,
 };
 
 /// An interface with its type exports only.

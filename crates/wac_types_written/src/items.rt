@@ -10,11 +10,11 @@ ghost use Rattle.wac_types_written.specs.Written as form;
 
 use crate::components::add_component_type;
 use crate::forms::Forms;
-use crate::maps::{copy_interface, copy_text, copy_world, use_of};
+use crate::maps::use_of;
 use crate::worlds::{WorldForm, add_formed_world};
 use std::alloc::{AllocError, Global};
 use wac_types_base::{
-    Interface, InterfaceId, ItemKind, NamedMap, Text, Type, Types, UsedType, WorldId,
+    Interface, InterfaceId, ItemKind, NamedMap, Text, Type, Types, UsedType, WorldId, copy_text,
 };
 
 /// What becomes of items.
@@ -84,7 +84,7 @@ fn new_interface(
     ensures grows { Grows types.old types.new }
 {
     types.see_acyclic();
-    let own = copy_interface(alloc, types.interface(id))?;
+    let own = types.interface(id).copy(alloc)?;
     let uses = form_uses(types, alloc, &own.uses, worlds, forms)?;
     let exports = form_items(types, alloc, &own.exports, worlds, forms)?;
     let name = copy_text(&own.id)?;
@@ -137,7 +137,7 @@ fn new_world(
     ensures grows { Grows types.old types.new }
 {
     types.see_acyclic();
-    let own = copy_world(alloc, types.world(id))?;
+    let own = types.world(id).copy(alloc)?;
     let uses = form_uses(types, alloc, &own.uses, worlds, forms)?;
     let imports = form_items(types, alloc, &own.imports, worlds, forms)?;
     let exports = form_items(types, alloc, &own.exports, worlds, forms)?;

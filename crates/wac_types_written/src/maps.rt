@@ -1,39 +1,11 @@
-//! Maps of entries again.
+//! Uses of other interfaces, and the types among items.
 
 ghost use Rattle.std.specs.Prelude.{◌≡◌, ◌++◌, ◌∷◌, [], IfOk, OnOk};
 ghost use Rattle.wac_types_base.specs.Entries.{IsNew};
 ghost use Rattle.wac_types_written.specs.Forms.{is_type_item, type_items};
 
 use std::alloc::{AllocError, Global};
-use wac_types_base::{Interface, InterfaceId, ItemKind, NamedMap, Text, UsedType, World};
-
-/// The same text again, if there is one.
-pub(crate) fn copy_text(text: &Option<Text>) -> Result<Option<Text>, AllocError>
-    ensures { IfOk result (λ t. t ≡ text.now) }
-{
-    match text {
-        None => Ok(None),
-        Some(text) => {
-            let copy = text.copy()?;
-            Ok(Some(copy))
-        }
-    }
-}
-
-/// The same items again.
-pub(crate) fn copy_items(
-    alloc: Global,
-    items: &NamedMap<ItemKind>,
-) -> Result<NamedMap<ItemKind>, AllocError>
-    ensures { IfOk result (λ m. m ≡ items.now) }
-{
-    let mut copy = NamedMap::new(alloc);
-    for at in 0..items.len() {
-        let (name, item) = items.entry(at);
-        copy.push(String::from_str(alloc, name)?, *item)?;
-    }
-    Ok(copy)
-}
+use wac_types_base::{InterfaceId, ItemKind, NamedMap, UsedType, copy_text};
 
 /// A use of an interface under the name of another use.
 pub(crate) fn use_of(used: &UsedType, interface: InterfaceId) -> Result<UsedType, AllocError>
@@ -42,45 +14,6 @@ pub(crate) fn use_of(used: &UsedType, interface: InterfaceId) -> Result<UsedType
     Ok(UsedType {
         interface,
         name: copy_text(&used.name)?,
-    })
-}
-
-/// The same uses again.
-pub(crate) fn copy_uses(
-    alloc: Global,
-    uses: &NamedMap<UsedType>,
-) -> Result<NamedMap<UsedType>, AllocError>
-    ensures { IfOk result (λ m. m ≡ uses.now) }
-{
-    let mut copy = NamedMap::new(alloc);
-    for at in 0..uses.len() {
-        let (name, used) = uses.entry(at);
-        let used = use_of(used, used.interface)?;
-        copy.push(String::from_str(alloc, name)?, used)?;
-    }
-    Ok(copy)
-}
-
-/// The same interface again.
-pub(crate) fn copy_interface(alloc: Global, interface: &Interface) -> Result<Interface, AllocError>
-    ensures { IfOk result (λ i. i ≡ interface.now) }
-{
-    Ok(Interface {
-        id: copy_text(&interface.id)?,
-        uses: copy_uses(alloc, &interface.uses)?,
-        exports: copy_items(alloc, &interface.exports)?,
-    })
-}
-
-/// The same world again.
-pub(crate) fn copy_world(alloc: Global, world: &World) -> Result<World, AllocError>
-    ensures { IfOk result (λ w. w ≡ world.now) }
-{
-    Ok(World {
-        id: copy_text(&world.id)?,
-        uses: copy_uses(alloc, &world.uses)?,
-        imports: copy_items(alloc, &world.imports)?,
-        exports: copy_items(alloc, &world.exports)?,
     })
 }
 

@@ -15,7 +15,7 @@ use Rattle.wac_types_base.specs.Resolving.{promoted}
 use Rattle.wac_types_base.specs.Stated.{Stated, exports_of, imports_of, promote, stated_in, stated_of, stated_world}
 use Rattle.wac_types_base.specs.Tree.{tree}
 use Rattle.wac_types_base.specs.Fits.{Fits}
-use Rattle.wac_types_base.proofs.Lists.{among_mapped}
+use Rattle.wac_types_base.proofs.Lists.{among_mapped, no_entries}
 use Rattle.wac_types_base.proofs.Standing.{Found, world_found}
 use Rattle.wac_types_base.proofs.Stating.{stated_kept}
 use Rattle.wac_types_base.proofs.Telling.{promote_stated}
@@ -44,10 +44,6 @@ none_are P [] [] none_left h = refl
 none_are {X = X} P [] (y ∷ ys) those h = elim those [ ]
 none_are P (x ∷ xs) (y ∷ ys) (first_is p rest) h = absurd (h x (inl refl) p)
 none_are P (x ∷ xs) ys (first_is_not not rest) h = none_are P xs ys rest (λ y m. h y (inr m))
-
-no_names : {X : Type 0} (es : List (Name × X)) → names_of es ≡ [] → es ≡ []
-no_names [] e = refl
-no_names (x ∷ es) e = absurd (cc e)
 
 no_faults : (Leads : Leading) (side : ExternKind) (es : List (Name × ItemKind)) (ms : List Mismatched) → AreFaults Leads side es ms → ms ≡ [] → es ≡ []
 no_faults Leads side [] ms h e = refl
@@ -138,7 +134,7 @@ module _ (c : Collection) (a : IsAcyclic c) (target world : WorldId) (x y : Worl
     none_lacking : (e : Name × ItemKind) → Among e y.imports → IsLacking given e → ⊥
     none_lacking =
         let l = is.imports_not_in_target in
-        none_is (IsLacking given) y.imports (subst (λ es. AreThose (IsLacking given) y.imports es) (no_names l.lacking (sym l.names ∙ empty.imports_not_in_target)) l.those)
+        none_is (IsLacking given) y.imports (subst (λ es. AreThose (IsLacking given) y.imports es) (no_entries l.lacking (sym l.names ∙ empty.imports_not_in_target)) l.those)
 
     none_missing : (e : Name × ItemKind) → Among e x.exports → IsLacking (value_at y.exports) e → ⊥
     none_missing = none_is (IsLacking (value_at y.exports)) x.exports (subst (λ es. AreThose (IsLacking (value_at y.exports)) x.exports es) empty.missing_exports is.missing_exports)

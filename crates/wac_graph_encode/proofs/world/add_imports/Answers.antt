@@ -1,4 +1,5 @@
-use Rattle.wac_types_written.proofs.Loops.{copy_end}
+use Rattle.std.proofs.Common.{arith}
+use Rattle.wac_types_base.proofs.Again.{all_copied}
 use Rattle.wac_graph_scopes.specs.Parts.{imports_of}
 use Rattle.wac_graph_encode.proofs.Exported.{import_next}
 use Rattle.wac_graph_encode.proofs.world.add_imports.Goals as goal
@@ -9,4 +10,4 @@ loop-at-preserved c =
     c.in_ok-add_import.ensures c.loop-at.invariant
 
 pub returns : goal.returns
-returns c = copy_end c.loop-at.imports (imports_of c.args.types.now c.args.world) c.loop-at.at c.import_count-at-end.result c.loop-at.invariant c.loop-at-test.false c.import_count-at-end.ensures.len
+returns c = all_copied (imports_of c.args.types.now c.args.world) c.loop-at.imports c.loop-at.at c.loop-at.invariant (omega (arith, c.loop-at-test.false, c.import_count-at-end.ensures.len))

@@ -1,5 +1,5 @@
 use Rattle.std.specs.Prelude.{string_bytes}
-use Rattle.wac_types_names.proofs.Copied.{new_in_copy, one_more_copied}
+use Rattle.wac_types_base.proofs.Again.{new_in_copy, one_more_copied}
 use Rattle.wac_parser_declare.proofs.aliases.copy_params.Goals as goal
 
 pub push-requires : goal.push-requires

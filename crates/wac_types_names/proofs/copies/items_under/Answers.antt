@@ -4,7 +4,7 @@ use Rattle.wac_types_base.specs.Entries.{names_of, with_values}
 use Rattle.wac_types_base.specs.Graph.{Among}
 use Rattle.wac_types_base.specs.Renaming.{kind_under}
 use Rattle.wac_types_base.proofs.Loops.{map-one_more, map-take, names-with_values}
-use Rattle.wac_types_names.proofs.Copied.{name_before}
+use Rattle.wac_types_base.proofs.Again.{name_before}
 use Rattle.wac_types_names.proofs.copies.items_under.Goals as goal
 
 pub push-requires : goal.push-requires

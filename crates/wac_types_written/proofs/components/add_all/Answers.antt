@@ -2,8 +2,9 @@ use Rattle.std.proofs.Common.{◌≤◌, ◌++◌, ◌∷◌, [], ◌∙◌, ap,
 use Rattle.std.specs.Prelude.{string_bytes}
 use Rattle.wac_types_base.specs.declared.item.ItemKind.{ItemKind}
 use Rattle.wac_types_base.specs.Entries.{IsNew, Name}
+use Rattle.wac_types_base.proofs.Again.{one_more_copied}
 use Rattle.wac_types_base.proofs.Loops.{take-all}
-use Rattle.wac_types_written.proofs.Loops.{append_assoc, copy_next, new_behind, place_new}
+use Rattle.wac_types_written.proofs.Loops.{append_assoc, new_behind, place_new}
 use Rattle.wac_types_written.proofs.components.add_all.Goals as goal
 
 pub entry-requires : goal.entry-requires
@@ -22,7 +23,7 @@ loop-at-preserved c =
     let es = c.args.items.now in
     let e : Name × ItemKind = (string_bytes c.in_ok-from_str.field-0, c.entry.result.1.now) in
     c.in_ok-push.ensures.ok ∙ ap (λ l. l ++ e ∷ []) c.loop-at.invariant ∙ append_assoc c.args.all.now (take c.loop-at.at es) (e ∷ [])
-    ∙ ap (λ l. c.args.all.now ++ l) (copy_next (take c.loop-at.at es) es c.loop-at.at (string_bytes c.in_ok-from_str.field-0) c.entry.result.0.now c.entry.result.1.now c.entry.result.1.now refl c.entry.ensures c.in_ok-from_str.ensures.ok refl)
+    ∙ ap (λ l. c.args.all.now ++ l) (one_more_copied es c.loop-at.at c.entry.result.0.now c.entry.result.1.now c.entry.ensures (string_bytes c.in_ok-from_str.field-0) (take c.loop-at.at es) (take c.loop-at.at es ++ e ∷ []) refl c.in_ok-from_str.ensures.ok refl)
 
 pub returns : goal.returns
 returns c =
