@@ -132,8 +132,8 @@ fn answer_of_name(graph: &CompositionGraph, node: NodeId, what: &str) -> Result<
     }
 }
 
-/// What a line asks: `export NAME`, `exported NAME`, `package NAME`, `registered NAME`, `nodes`, `first_node`, `packaged`,
-/// `imports`, `arguments`; or of a node `node`, `standing`, `source`, `import_name`, `export_name`, `name` and `argued`.
+/// What a line asks: `export NAME`, `exported NAME`, `package NAME`, `registered NAME`, `number`, `nodes`, `first_node`,
+/// `packaged`, `imports`, `arguments`; or of a node `node`, `standing`, `source`, `import_name`, `export_name`, `name` and `argued`.
 pub(crate) fn answer(
     graph: &CompositionGraph,
     named: &Named,
@@ -148,6 +148,10 @@ pub(crate) fn answer(
         "registered" => {
             let package = named.package(name)?;
             Ok(yes_or_no(alloc, graph.contains_package(package))?)
+        }
+        "number" => {
+            let number = graph.types().number();
+            Ok(format!(in alloc; "{number}")?)
         }
         "nodes" => Ok(count_text(graph)?),
         "first_node" => Ok(number_text(alloc, graph.node_ids().next())?),

@@ -122,6 +122,13 @@ fn plug_all(graph: &mut CompositionGraph, named: &Named, words: &[&str]) -> Resu
     }
 }
 
+/// Puts the graph's copy over a collection with this number in its place.
+fn copy(graph: &mut CompositionGraph, number: &str) -> Result<()> {
+    let copy = graph.copy_as(number.parse::<u64>()?)?;
+    *graph = copy;
+    Ok(())
+}
+
 /// Does what a line changes.
 fn change(graph: &mut CompositionGraph, named: &mut Named, words: &[&str]) -> Result<()> {
     let first = word_at(words, 1);
@@ -136,6 +143,7 @@ fn change(graph: &mut CompositionGraph, named: &mut Named, words: &[&str]) -> Re
             unpass(graph, named.node(first)?, second, argument)
         }
         "plug" => plug_all(graph, named, words),
+        "copy" => copy(graph, first),
         _ => do_line(graph, named, words),
     }
 }
