@@ -1,6 +1,0 @@
-use Rattle.std.proofs.Common.{◌≡◌, take}
-use Rattle.wac_types_merge.proofs.exports.copy_uses.Given as goal
-
--- the entries so far
-abbrev pub invariant-loop-at : goal.invariant-loop-at
-invariant-loop-at l = l.copy ≡ take l.at l.uses
