@@ -11,3 +11,4 @@ pub mod Final
 pub mod Exporting
 pub mod Calls
 pub mod Whole
+pub mod Planning

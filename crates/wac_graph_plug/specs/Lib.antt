@@ -3,3 +3,4 @@ pub mod Wired
 pub mod Lookups
 pub mod Steps
 pub mod Stops
+pub mod Plans

@@ -1,3 +1,4 @@
 pub mod Files
 pub mod Words
 pub mod Worlds
+pub mod Plugs

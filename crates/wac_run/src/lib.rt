@@ -9,7 +9,6 @@ mod documents;
 mod files;
 mod place;
 mod plugging;
-mod plugs;
 mod program;
 mod sources;
 mod spelling;

@@ -1,12 +1,15 @@
 //! Plugging as a text.
 
-ghost use Rattle.std.specs.Prelude.{All};
+ghost use Rattle.std.specs.Prelude.{◌≡◌, ◌↔◌, All, IsTrue, IfOk, IfErr, OnOk, map};
+ghost use Rattle.wac_graph_plug.specs.Plans.{world_in, WorldStands};
+ghost use Rattle.wac_run.specs.declared.plugging.PlugTextError.{PlugTextError};
+ghost use Rattle.wac_run.specs.Plugs.{IsReadable, AreReadable, IsSpelled, world_of, CanBePlugged, PlugTextRefused, text_error};
 ghost use Rattle.wac_run.specs.Worlds.{HasWorld};
 
-use crate::plugs::{Plan, plan_of};
-use crate::spelling::{is_package_name, is_spellable};
+use crate::spelling::{has_byte, is_package_name, is_spellable};
 use std::alloc::{AllocError, AllocFailed, Global};
 use thiserror::Error;
+use wac_graph_plug::{Argument, Plan, PlanError, WorldIn, plan_of};
 use wac_parser_resolve::PackageRef;
 
 /// Why no text plugs packages.
@@ -29,54 +32,123 @@ pub enum PlugTextError {
 }
 
 impl From<AllocError> for PlugTextError {
+    ghost from_gives = { λ _ e. e ≡ PlugTextError.Memory };
+
     fn from(_: AllocError) -> Self {
         PlugTextError::Memory
     }
 }
 
 impl<T: Drop> From<AllocFailed<T>> for PlugTextError {
+    ghost from_gives = { λ _ e. e ≡ PlugTextError.Memory };
+
     fn from(_: AllocFailed<T>) -> Self {
         PlugTextError::Memory
     }
 }
 
-/// Whether the key of a package is the name of a package, and its own name has no version.
-fn has_readable_key(alloc: Global, package: PackageRef<'_>) -> Result<bool, AllocError> {
-    let key = package.package.key().to_string(alloc)?;
-    Ok(is_package_name(key.as_str()) && !package.package.name().contains('@'))
+impl From<PlanError> for PlugTextError {
+    ghost from_gives = { λ plan e. e ≡ text_error plan };
+
+    fn from(fault: PlanError) -> Self {
+        match fault {
+            PlanError::PlugConflict { import } => PlugTextError::PlugConflict { import },
+            PlanError::NoPlugHappened => PlugTextError::NoPlugHappened,
+            PlanError::Memory => PlugTextError::Memory,
+        }
+    }
+}
+
+/// Whether a package's own name is the name of a package, without a version.
+fn is_readable(package: PackageRef<'_>) -> bool
+    ensures { IsTrue result ↔ IsReadable «package» }
+{
+    let name = package.package.name();
+    is_package_name(name) && !has_byte(name, b'@')
 }
 
 /// Tests the names of packages.
-fn test_keys(
-    alloc: Global,
+fn test_names(
     name: &str,
     plugs: &[PackageRef<'_>],
     socket: PackageRef<'_>,
-) -> Result<(), PlugTextError> {
-    if !is_package_name(name) {
+) -> Result<(), PlugTextError>
+    ensures readable { OnOk result (AreReadable name.now plugs.now socket) }
+    ensures refused { IfErr result (λ e. (e ≡ PlugTextError.NameNotReadable) × (AreReadable name.now plugs.now socket → ⊥)) }
+{
+    if !is_package_name(name) || !is_readable(socket) {
         return Err(PlugTextError::NameNotReadable);
     }
     for plug in plugs {
-        if !has_readable_key(alloc, *plug)? {
+        if !is_readable(*plug) {
             return Err(PlugTextError::NameNotReadable);
         }
-    }
-    if !has_readable_key(alloc, socket)? {
-        return Err(PlugTextError::NameNotReadable);
     }
     Ok(())
 }
 
+/// Whether the names of an argument can be written.
+fn is_spelled(argument: &Argument) -> bool
+    ensures { IsTrue result ↔ IsSpelled argument.now }
+{
+    is_spellable(argument.given.import.as_str()) && is_spellable(argument.given.export.as_str())
+}
+
 /// Tests the names of imports and exports.
-fn test_names(plan: &Plan) -> Result<(), PlugTextError> {
-    for argument in &plan.arguments {
-        let import = argument.given.import.as_str();
-        let export = argument.given.export.as_str();
-        if !is_spellable(import) || !is_spellable(export) {
+fn test_arguments(arguments: &[Argument]) -> Result<(), PlugTextError>
+    ensures spelled { OnOk result (All IsSpelled arguments.now) }
+    ensures refused { IfErr result (λ e. (e ≡ PlugTextError.NameNotSpellable) × (All IsSpelled arguments.now → ⊥)) }
+{
+    for argument in arguments {
+        if !is_spelled(argument) {
             return Err(PlugTextError::NameNotSpellable);
         }
     }
     Ok(())
+}
+
+/// The world of a package.
+fn world_of(package: PackageRef<'_>) -> WorldIn<'_>
+    requires { HasWorld «package» }
+    ensures world { world_in result ≡ world_of «package» }
+    ensures stands { WorldStands result }
+{
+    WorldIn {
+        types: package.types,
+        world: package.package.ty(),
+    }
+}
+
+/// The worlds of packages.
+fn worlds_of<'a>(alloc: Global, packages: &[PackageRef<'a>]) -> Result<Vec<WorldIn<'a>>, AllocError>
+    requires { All HasWorld packages.now }
+    ensures worlds { IfOk result (λ v. map world_in v.items ≡ map world_of packages.now) }
+    ensures stand { IfOk result (λ v. All WorldStands v.items) }
+{
+    let mut worlds = Vec::new(alloc);
+    for package in packages {
+        worlds.push(world_of(*package))?;
+    }
+    Ok(worlds)
+}
+
+/// How packages are plugged into a socket, if all names can be written.
+fn planned(
+    alloc: Global,
+    name: &str,
+    plugs: &[PackageRef<'_>],
+    socket: PackageRef<'_>,
+) -> Result<Plan, PlugTextError>
+    requires plugs { All HasWorld plugs.now }
+    requires socket { HasWorld socket }
+    ensures plugged { OnOk result (CanBePlugged name.now plugs.now socket) }
+    ensures refused { IfErr result (PlugTextRefused name.now plugs.now socket) }
+{
+    test_names(name, plugs, socket)?;
+    let worlds = worlds_of(alloc, plugs)?;
+    let plan = plan_of(alloc, &worlds, world_of(socket))?;
+    test_arguments(&plan.arguments)?;
+    Ok(plan)
 }
 
 /// The statements that instantiate the plugs.
@@ -118,10 +190,10 @@ pub fn plug_text(
 ) -> Result<String, PlugTextError>
     requires plugs { All HasWorld plugs.now }
     requires socket { HasWorld socket }
+    ensures plugged { OnOk result (CanBePlugged name.now plugs.now socket) }
+    ensures refused { IfErr result (PlugTextRefused name.now plugs.now socket) }
 {
-    test_keys(alloc, name, plugs, socket)?;
-    let plan = plan_of(alloc, plugs, socket)?;
-    test_names(&plan)?;
+    let plan = planned(alloc, name, plugs, socket)?;
     let mut text = format!(in alloc; "package {name};\n\n")?;
     write_plugs(&mut text, &plan, plugs)?;
     let key = socket.package.key();
