@@ -121,7 +121,7 @@ merge_instances-merge_copies-requires t c = (
   omega (arith, c.decreases),
   (
     record { at = c.interface.ensures.entry ∙ ap Some (sym c.in-Ok.ensures); own = c.interface.ensures.own },
-    record { at = c.interface-in-Ok.ensures.entry ∙ ap Some (sym c.in-Ok-copy_interface.ensures); own = c.interface-in-Ok.ensures.own },
+    record { at = c.interface-in-Ok.ensures.entry ∙ ap Some (sym c.in-Ok-copy.ensures); own = c.interface-in-Ok.ensures.own },
   ),
 )
 
