@@ -1,5 +1,5 @@
 -- What each call does, from what its parts do.
-use Rattle.std.proofs.Common.{◌≡◌, ◌≢◌, ℕ, Bool, true, false, not, List, [], ◌∷◌, ◌++◌, Option, Some, None, IsSome, filter, slice_get, refl, sym, ap, subst, ◌∙◌, inl, inr}
+use Rattle.std.proofs.Common.{◌≡◌, ◌≢◌, ℕ, Bool, false, not, List, [], ◌∷◌, ◌++◌, Option, Some, None, IsSome, filter, slice_get, refl, sym, ap, subst, ◌∙◌, inl, inr}
 use Rattle.std.specs.Bool.{Decides}
 use Rattle.std.specs.List.{swap_remove}
 use Rattle.std.specs.FinMap as map
@@ -20,6 +20,7 @@ use Rattle.wac_graph_core.specs.Removing.{TakesNodes}
 use Rattle.wac_graph_core.proofs.NodeMap.{below_free}
 use Rattle.wac_graph_core.proofs.ExportSteps.{IsGraph-named, IsGraph-exported, IsGraph-unexported, place_found, place_none, one_named}
 use Rattle.wac_types_base.proofs.Looked.{among-get}
+use Rattle.wac_types_fit.proofs.ValueTrees.{not_both}
 
 -- the node of an id that stands
 pub node_of : (g : Graph) (k : ℕ) → ContainsNode g k → (x : NodeData) × (node_at g k ≡ Some x)
@@ -31,10 +32,7 @@ node_of g k there = by_option (node_at g k) refl there
 
 -- a test that failed
 pub refuted : (b : Bool) (P : Type 0) → Decides b P → b ≡ false → P → ⊥
-refuted b P d is p = differ b (d.1 p) is
-  where
-    differ : (b : Bool) → b ≡ true → b ≡ false → ⊥
-    differ b p q = absurd (cc (p, q))
+refuted b P d is p = not_both b is (d.1 p)
 
 module _ (g : Graph) where
   pub import_step : (ns : NodeMap) (k : ℕ) (name : Name) (kind : ItemKind) (n : NodeData) → ns ≡ map.insert g.nodes k n → n ≡ plain_node (Role.Imported name) None kind → NoImport g.nodes name → IsExternName name → AreBelow g.nodes k
@@ -80,10 +78,7 @@ module _ (g : Graph) where
   unset_step es a i n item left argument = record { item = item; is = argument; edges = left; made = refl }
 
   pub not_reached : (es : List Edge) (starts seen : List ℕ) (a : ℕ) → IsReached Follow.Flow es starts seen → has seen a ≡ false → Reaches Follow.Flow es starts a → ⊥
-  not_reached es starts seen a reached away r = absurd (differ (has seen a) (reached.complete a r) away)
-    where
-      differ : (b : Bool) → b ≡ true → b ≡ false → ⊥
-      differ b p q = absurd (cc (p, q))
+  not_reached es starts seen a reached away r = not_both (has seen a) away (reached.complete a r)
 
   -- ---- exports and names
 

@@ -15,6 +15,7 @@ use Rattle.wac_graph_core.specs.Walking.{is_alias, is_argument, first_alias, fir
 use Rattle.wac_types_base.proofs.Replacing.{same_number}
 use Rattle.wac_types_base.proofs.Lists.{among_filtered, last_among}
 use Rattle.wac_types_fit.proofs.Items.{Among-last}
+use Rattle.wac_types_fit.proofs.ValueTrees.{not_both}
 
 pub eq_same : (a : ℕ) → (a == a) ≡ true
 eq_same a = grind (arith, nat_tests)
@@ -25,9 +26,6 @@ eq_false a b ne = grind (arith, nat_tests)
 pub same_name : (m : Name) → pointwise ◌==◌ m m ≡ true
 same_name [] = refl
 same_name (x ∷ m) = ap (λ b. b && pointwise ◌==◌ m m) (eq_same x) ∙ same_name m
-
-not_true : (b : Bool) → b ≡ true → b ≡ false → ⊥
-not_true b p q = absurd (cc (p, q))
 
 abbrev pub edge : ℕ → ℕ → Label → Edge
 edge a b l = record { from = a; to = b; label = l }
@@ -65,7 +63,7 @@ alias_found (e ∷ es) i k n h = alias_at ((e.from == i) && is_alias e.label n) 
 no_alias_at : (b : Bool) (e : Edge) (es : List Edge) (i k : ℕ) (n : Name) → ((e.from == i) && is_alias e.label n) ≡ b
     → (first_alias es i n ≡ None → HasAlias es i n k → ⊥) → cond b (Some e.to) (first_alias es i n) ≡ None → HasAlias (e ∷ es) i n k → ⊥
 no_alias_at true e es i k n is ih h m = absurd (cc)
-no_alias_at false e es i k n is ih h (inl same) = not_true _ (alias_here i k n e same) is
+no_alias_at false e es i k n is ih h (inl same) = not_both _ is (alias_here i k n e same)
 no_alias_at false e es i k n is ih h (inr m) = ih h m
 
 pub no_alias : (es : List Edge) (i k : ℕ) (n : Name) → first_alias es i n ≡ None → HasAlias es i n k → ⊥
@@ -92,7 +90,7 @@ argument_found (e ∷ es) i a n h = argument_at ((e.to == i) && is_argument e.la
 no_argument_at : (b : Bool) (e : Edge) (es : List Edge) (i a : ℕ) (n : Name) → ((e.to == i) && is_argument e.label n) ≡ b
     → (first_argument es i n ≡ None → HasArgument es i n a → ⊥) → cond b (Some e.from) (first_argument es i n) ≡ None → HasArgument (e ∷ es) i n a → ⊥
 no_argument_at true e es i a n is ih h m = absurd (cc)
-no_argument_at false e es i a n is ih h (inl same) = not_true _ (argument_here a i n e same) is
+no_argument_at false e es i a n is ih h (inl same) = not_both _ is (argument_here a i n e same)
 no_argument_at false e es i a n is ih h (inr m) = ih h m
 
 pub no_argument : (es : List Edge) (i a : ℕ) (n : Name) → first_argument es i n ≡ None → HasArgument es i n a → ⊥
@@ -117,7 +115,7 @@ added old new e is =
 passes_at : {X : Type 0} (p : X → Bool) (b : Bool) (x d : X) (xs : List X) → p x ≡ b → (Among d xs → Among d (filter p xs)) → p d ≡ true → Among d (x ∷ xs) → Among d (cond b (x ∷ filter p xs) (filter p xs))
 passes_at p true x d xs is ih h (inl s) = inl s
 passes_at p true x d xs is ih h (inr m) = inr (ih m)
-passes_at p false x d xs is ih h (inl s) = absurd (not_true (p x) (ap p (sym s) ∙ h) is)
+passes_at p false x d xs is ih h (inl s) = absurd (not_both (p x) is (ap p (sym s) ∙ h))
 passes_at p false x d xs is ih h (inr m) = ih m
 
 pub passes : {X : Type 0} (p : X → Bool) (xs : List X) (d : X) → p d ≡ true → Among d xs → Among d (filter p xs)

@@ -1,5 +1,5 @@
 -- Packages that are registered and unregistered.
-use Rattle.std.proofs.Common.{◌≡◌, ℕ, zero, suc, ◌≤◌, Bool, true, false, List, [], ◌∷◌, ◌++◌, Option, Some, None, slice_get, slice_set, refl, sym, ap, subst, ◌∙◌, inl, inr, arith}
+use Rattle.std.proofs.Common.{◌≡◌, ℕ, zero, suc, ◌≤◌, List, [], ◌∷◌, ◌++◌, Option, Some, None, slice_get, slice_set, refl, sym, ap, subst, ◌∙◌, inl, inr, arith}
 use Rattle.std.specs.Option.{option_map, IfSome, IfNone}
 use Rattle.std.specs.Borrow.{Bor}
 use Rattle.std.specs.FinMap as map
@@ -14,6 +14,7 @@ use Rattle.wac_graph_core.specs.Edges.{has, IsReached, at_start}
 use Rattle.wac_graph_core.specs.Graph.{Graph, node_at, package_in, package_of, ContainsPackage, PackageStands, IsGraph}
 use Rattle.wac_graph_core.specs.Removing.{TakesNodes}
 use Rattle.wac_graph_core.specs.Packages.{HoldsKey, NoKey, IsNewPlace, IsFreePlace, held_place, left_place, PutsPlace, put_last, put_free, Registers, Unregisters, PlacesGrow, IsStale, shown_at}
+use Rattle.wac_types_fit.proofs.ValueTrees.{not_both}
 use Rattle.wac_graph_core.proofs.NodeSteps.{stayed}
 use Rattle.wac_graph_core.proofs.PlaceSteps.{Held, some_value, held_in, in_held, get_before, get_set, get_set_same, IsGraph-last, IsGraph-free, IsGraph-given_up}
 
@@ -80,10 +81,7 @@ module _ (g h : Graph) (id : PackageId) (starts gone : List ℕ) (are : AreInsta
   pub no_instance : (k : ℕ) (x : NodeData) → node_at h k ≡ Some x → x.of ≡ Some id → ⊥
   no_instance k x at of =
       let s = stayed g.nodes gone k x (sym (ap (λ (g : Graph). map.get g.nodes k) taken.made) ∙ at) in
-      differ (has gone k) (reached.complete k (at_start ((are k).1 (x, s.1, of)))) s.0
-    where
-      differ : (b : Bool) → b ≡ true → b ≡ false → ⊥
-      differ b p q = absurd (cc (p, q))
+      not_both (has gone k) s.0 (reached.complete k (at_start ((are k).1 (x, s.1, of))))
 
   pub same_places_left : h.places ≡ g.places
   same_places_left = ap (λ (g : Graph). g.places) taken.made
