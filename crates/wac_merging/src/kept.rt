@@ -1,18 +1,18 @@
 //! What is kept of the asks of one outer import, as they are taken one after another.
 
-ghost use Rattle.std.specs.Prelude.{◌≡◌, ◌↔◌, IsTrue, IfOk, IfErr, Some, false, slice_get};
+ghost use Rattle.std.specs.Prelude.{◌≡◌, IsTrue, IfOk, IfErr, Some, false};
 ghost use Rattle.wac_types_base.specs.declared.item.ItemKind.{ItemKind};
 ghost use Rattle.wac_types_base.specs.Collection.{Stands, Grows};
-ghost use Rattle.wac_types_base.specs.declared.defined.UsedType.{UsedType};
-ghost use Rattle.wac_types_base.specs.Graph.{Among};
-ghost use Rattle.wac_types_merge.specs.Families.{IsUnnamedIn, uses_of, UsesUnnamed};
+ghost use Rattle.wac_types_merge.specs.Families.{UsesUnnamed};
 ghost use Rattle.wac_merging.specs.Families.{NamesUses};
 ghost use Rattle.wac_composition.specs.Names.{has_track};
 ghost use Rattle.wac_merging.specs.Kept.{HasFamily, KeepsFirst, KeepsAgain, KeepsWith, KeepsNext, KeepsNothing, IfMerging, Spells};
 
 use std::alloc::{AllocError, Global};
-use wac_types_base::{InterfaceId, ItemKind, Types, UsedType};
-use wac_types_merge::{AggregateError, Family, family_of, joint_family, kept_of, spelled};
+use wac_types_base::{ItemKind, Types};
+use wac_types_merge::{
+    AggregateError, Family, family_of, interface_uses_unnamed, joint_family, kept_of, spelled,
+};
 
 /// What is kept of the asks of one outer import.
 #[derive(Clone, Copy)]
@@ -25,29 +25,6 @@ pub struct Kept {
     pub family: Option<Family>,
 }
 
-/// Whether one of these interfaces has no identifier.
-fn has_unnamed(types: &Types, uses: &[UsedType]) -> bool
-    requires { (u : UsedType) → Among u uses.now → Stands types.now (ItemKind.Instance u.interface) }
-    ensures { IsTrue result ↔ IsUnnamedIn types.now uses.now }
-{
-    for index in 0..uses.len() {
-        let used = uses[index].interface;
-        match &types.interface(used).id {
-            None => return true,
-            Some(_) => {}
-        }
-    }
-    false
-}
-
-/// Whether an interface uses one without identifier.
-fn uses_unnamed(types: &Types, id: InterfaceId) -> bool
-    requires { Stands types.now (ItemKind.Instance id) }
-    ensures { IsTrue result ↔ IsUnnamedIn types.now (uses_of (slice_get types.now.interfaces id.index)) }
-{
-    has_unnamed(types, types.interface(id).uses.values())
-}
-
 /// Whether the item is an instance that uses an interface without identifier.
 fn is_unnamed(types: &Types, item: ItemKind) -> bool
     requires { Stands types.now item }
@@ -55,7 +32,7 @@ fn is_unnamed(types: &Types, item: ItemKind) -> bool
     ensures no { result ≡ false → NamesUses types.now item }
 {
     match item {
-        ItemKind::Instance(id) => uses_unnamed(types, id),
+        ItemKind::Instance(id) => interface_uses_unnamed(types, id),
         _ => false,
     }
 }

@@ -65,7 +65,7 @@ fn has_unnamed(types: &Types, uses: &[UsedType]) -> bool
 }
 
 /// Whether an interface uses one without identifier.
-fn interface_uses_unnamed(types: &Types, id: InterfaceId) -> bool
+pub fn interface_uses_unnamed(types: &Types, id: InterfaceId) -> bool
     requires { Stands types.now (ItemKind.Instance id) }
     ensures { IsTrue result ↔ IsUnnamedIn types.now (uses_of (slice_get types.now.interfaces id.index)) }
 {

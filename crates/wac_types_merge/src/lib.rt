@@ -12,6 +12,6 @@ mod narrower;
 
 pub use aggregator::{TypeAggregator, aggregate_all};
 pub use errors::AggregateError;
-pub use family::{Family, Import, family_of, joint_family};
+pub use family::{Family, Import, family_of, interface_uses_unnamed, joint_family};
 pub use imports::{kept_of, spelled};
 pub use laws::asks_merge_in_turn;
