@@ -6,7 +6,9 @@ mod check;
 pub mod checker;
 mod core_items;
 pub mod errors;
+pub mod labels;
 mod laws;
+pub mod same_core;
 pub mod targets;
 mod values;
 

@@ -4,56 +4,14 @@ ghost use Rattle.std.specs.Prelude.{◌≡◌, IsTrue, ◌↔◌};
 ghost use Rattle.wac_types_base.specs.declared.item.ItemKind.{ItemKind};
 ghost use Rattle.wac_types_base.specs.declared.item.ValueType.{ValueType};
 ghost use Rattle.wac_types_base.specs.declared.item.«Type».{«Type» as TypeKind};
-ghost use Rattle.wac_types_base.specs.Entries.{texts_of};
-ghost use Rattle.wac_types_base.specs.Collection.{Stands, defined_entry};
+ghost use Rattle.wac_types_base.specs.Collection.{Stands};
 ghost use Rattle.wac_types_base.specs.Resolving.{IsNoAlias};
 ghost use Rattle.wac_types_fit.specs.Trees.{SameTree};
 ghost use Rattle.wac_types_fit.specs.Checking.{value_in, HoldsValues, ValueStands, value_tree, place_trees};
 
+use crate::labels::{same_defined, same_names};
 use wac_types_base::replace::is_same;
-use wac_types_base::{DefinedType, FuncTypeId, ItemKind, ResourceId, Types, ValueType};
-
-/// Whether the names are the same, in order.
-fn same_names(a: &[String], b: &[String]) -> bool
-    ensures { IsTrue result ↔ (texts_of a.now ≡ texts_of b.now) }
-{
-    a == b
-}
-
-/// Whether two defined types are the same but for the types in them.
-fn same_label(a: &DefinedType, b: &DefinedType) -> bool
-    ensures { IsTrue result ↔ ((defined_entry a.now).0 ≡ (defined_entry b.now).0) }
-{
-    match a {
-        DefinedType::Tuple(_) => matches!(b, DefinedType::Tuple(_)),
-        DefinedType::List(_) => matches!(b, DefinedType::List(_)),
-        DefinedType::FixedSizeList(_, m) => match b {
-            DefinedType::FixedSizeList(_, n) => *m == *n,
-            _ => false,
-        },
-        DefinedType::Option(_) => matches!(b, DefinedType::Option(_)),
-        DefinedType::Result { .. } => matches!(b, DefinedType::Result { .. }),
-        DefinedType::Variant(v) => match b {
-            DefinedType::Variant(w) => same_names(v.cases.names(), w.cases.names()),
-            _ => false,
-        },
-        DefinedType::Record(v) => match b {
-            DefinedType::Record(w) => same_names(v.fields.names(), w.fields.names()),
-            _ => false,
-        },
-        DefinedType::Flags(v) => match b {
-            DefinedType::Flags(w) => same_names(v.0.as_slice(), w.0.as_slice()),
-            _ => false,
-        },
-        DefinedType::Enum(v) => match b {
-            DefinedType::Enum(w) => same_names(v.0.as_slice(), w.0.as_slice()),
-            _ => false,
-        },
-        DefinedType::Alias(_) => matches!(b, DefinedType::Alias(_)),
-        DefinedType::Stream(_) => matches!(b, DefinedType::Stream(_)),
-        DefinedType::Future(_) => matches!(b, DefinedType::Future(_)),
-    }
-}
+use wac_types_base::{FuncTypeId, ItemKind, ResourceId, Types, ValueType};
 
 /// Whether two resources have one root name.
 pub(crate) fn same_resources(a: ResourceId, at: &Types, b: ResourceId, bt: &Types) -> bool
@@ -116,7 +74,7 @@ fn same_resolved(a: ValueType, at: &Types, b: ValueType, bt: &Types) -> bool
             ValueType::Defined(e) => {
                 let given = at.defined_type(d);
                 let asked = bt.defined_type(e);
-                same_label(given, asked)
+                same_defined(given, asked)
                     && same_places(ItemKind::Value(a), at, ItemKind::Value(b), bt)
             }
             _ => false,

@@ -18,12 +18,12 @@ use Rattle.wac_types_base.specs.declared.defined.World.{World}
 use Rattle.wac_types_base.specs.declared.core_types.ModuleType.{ModuleType}
 use Rattle.wac_types_base.specs.Record.{Collection}
 use Rattle.wac_types_base.specs.Collection.{Shape, Stands, item_node, labelled, primitive, type_of, borrow_of, own_of, defined_entry, resource_entry, func_entry, interface_entry, world_entry, module_entry}
-use Rattle.wac_types_base.specs.Stated.{Kind, IsFunction, IsModule, IsValue, IsResource, IsFunctionType, IsValueType, IsInterface, IsWorld, IsModuleType, shape_kind}
+use Rattle.wac_types_base.specs.Stated.{Kind, IsResource, IsFunctionType, IsValueType, IsInterface, IsWorld, IsModuleType, shape_kind}
 use Rattle.wac_types_base.proofs.GraphLemmas.{value_of}
 use Rattle.wac_types_base.proofs.Slots.{entry_at-is, stands_borrow, stands_own, stands_typed_value}
 use Rattle.wac_types_base.proofs.Standing.{resource_found, defined_found}
 use Rattle.wac_types_base.proofs.Telling.{item_kind, label_kind}
-use Rattle.wac_types_fit.proofs.ItemKinds.{is_type, not_value}
+use Rattle.wac_types_fit.proofs.ItemKinds.{is_type}
 use Rattle.wac_types_same.specs.Same.{label_in, label_of}
 use Rattle.wac_types_same.proofs.Lists.{said_no}
 

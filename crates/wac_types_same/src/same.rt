@@ -7,11 +7,10 @@ ghost use Rattle.wac_types_base.specs.Collection.{Stands, SlotStands};
 ghost use Rattle.wac_types_base.specs.Stated.{stated_of};
 ghost use Rattle.wac_types_same.specs.Same.{label_of, slot_stated, places_stated};
 
-use crate::labels::{
-    same_defined, same_funcs, same_interfaces, same_module_labels, same_resources, same_worlds,
-};
+use crate::labels::{same_funcs, same_interfaces, same_module_labels, same_resources, same_worlds};
 use wac_types_base::replace::is_same;
 use wac_types_base::{ItemKind, Type, Types, ValueType};
+use wac_types_fit::labels::same_defined;
 
 /// Whether two value types are the same but for the ids in them.
 fn same_value_labels(types: &Types, a: ValueType, b: ValueType) -> bool

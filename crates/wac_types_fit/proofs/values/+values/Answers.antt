@@ -93,12 +93,12 @@ same_resolved-returns-in-Own-b t c = owns_same c.args.at.now c.args.bt.now c.see
 pub same_resolved-returns-in_default-b-2 : goal.same_resolved-returns-in_default-b-2
 same_resolved-returns-in_default-b-2 t c = other_own c.args.at.now c.args.bt.now c.see_acyclic.ensures c.see_acyclic-2.ensures c.args.a c.args.b c.requires.given c.requires.asked c.requires.given_end c.requires.asked_end c.in-Own.r c.in-Own.is c.in_default-b-2.not-Own
 
-pub same_resolved-returns-then-same_label : goal.same_resolved-returns-then-same_label
-same_resolved-returns-then-same_label t c = defined_decided c.args.at.now c.args.bt.now c.see_acyclic.ensures c.see_acyclic-2.ensures c.args.a c.args.b c.requires.given c.requires.asked c.requires.given_end c.requires.asked_end c.in-Defined.d c.in-Defined-b.e c.defined_type-given.result.now c.defined_type-asked.result.now c.in-Defined.is c.in-Defined-b.is c.defined_type-given.ensures.entry c.defined_type-given.ensures.own c.defined_type-asked.ensures.entry c.defined_type-asked.ensures.own c.same_places.result (c.same_label.ensures.0 c.if-same_label.true) c.same_places.ensures
+pub same_resolved-returns-then-same_defined : goal.same_resolved-returns-then-same_defined
+same_resolved-returns-then-same_defined t c = defined_decided c.args.at.now c.args.bt.now c.see_acyclic.ensures c.see_acyclic-2.ensures c.args.a c.args.b c.requires.given c.requires.asked c.requires.given_end c.requires.asked_end c.in-Defined.d c.in-Defined-b.e c.defined_type-given.result.now c.defined_type-asked.result.now c.in-Defined.is c.in-Defined-b.is c.defined_type-given.ensures.entry c.defined_type-given.ensures.own c.defined_type-asked.ensures.entry c.defined_type-asked.ensures.own c.same_places.result (c.same_defined.ensures.0 c.if-same_defined.true) c.same_places.ensures
 
-pub same_resolved-returns-else-same_label : goal.same_resolved-returns-else-same_label
-same_resolved-returns-else-same_label t c =
-    decided_false (SameTree c.args.at.now (ItemKind.Value c.args.a) c.args.bt.now (ItemKind.Value c.args.b)) c.same_label.result c.if-same_label.false (λ z. not_both c.same_label.result c.if-same_label.false (c.same_label.ensures.1
+pub same_resolved-returns-else-same_defined : goal.same_resolved-returns-else-same_defined
+same_resolved-returns-else-same_defined t c =
+    decided_false (SameTree c.args.at.now (ItemKind.Value c.args.a) c.args.bt.now (ItemKind.Value c.args.b)) c.same_defined.result c.if-same_defined.false (λ z. not_both c.same_defined.result c.if-same_defined.false (c.same_defined.ensures.1
     (labels_of c.args.at.now c.args.bt.now c.see_acyclic.ensures c.see_acyclic-2.ensures c.args.a c.args.b c.requires.given c.requires.asked c.requires.given_end c.requires.asked_end c.in-Defined.d c.in-Defined-b.e c.defined_type-given.result.now c.defined_type-asked.result.now c.in-Defined.is c.in-Defined-b.is c.defined_type-given.ensures.entry c.defined_type-given.ensures.own c.defined_type-asked.ensures.entry c.defined_type-asked.ensures.own z)))
 
 pub same_resolved-returns-in_default-b-3 : goal.same_resolved-returns-in_default-b-3

@@ -1,5 +1,5 @@
 use Rattle.std.proofs.Common.{◌≡◌, ℕ, ◌<◌, slice_get}
-use Rattle.wac_types_same.proofs.core_items.same_lists.Given as goal
+use Rattle.wac_types_fit.proofs.same_core.same_lists.Given as goal
 
 -- the lists agree so far
 abbrev pub invariant-loop-at : goal.invariant-loop-at
