@@ -9,8 +9,8 @@ use Rattle.wac_types_base.specs.declared.defined.Interface.{Interface}
 use Rattle.wac_types_base.specs.Record.{Collection}
 use Rattle.wac_types_base.specs.Entries.{Name, value_at}
 use Rattle.wac_types_base.specs.Collection.{Stands, SlotStands, IsAcyclic, Grows}
-use Rattle.wac_types_base.specs.Tree.{Tree, Fields, rigid, instance, component, core_module, handle_own, handle_borrow, type_item, no_fields, field}
-use Rattle.wac_types_base.specs.Fits.{HasField, at_first, at_later, Fits, rigid_fits, own_fits, borrow_fits, instance_fits, type_fits}
+use Rattle.wac_types_base.specs.Tree.{Tree, Fields, instance, type_item, no_fields, field}
+use Rattle.wac_types_base.specs.Fits.{HasField, at_first, at_later, Fits, instance_fits, type_fits}
 use Rattle.wac_types_base.proofs.Standing.{world_found, module_found}
 use Rattle.wac_types_base.proofs.Slots.{stands_typed_world, stands_typed_module}
 use Rattle.wac_types_base.proofs.Telling.{item_kind}
@@ -24,7 +24,7 @@ use Rattle.wac_types_fit.specs.Trees.{tree_in}
 use Rattle.wac_types_fit.specs.Checking.{IsFlat}
 use Rattle.wac_types_fit.proofs.Looking.{looked-has, has-looked, in_order-at, given}
 use Rattle.wac_types_fit.proofs.Items.{looked_in}
-use Rattle.wac_types_fit.proofs.ItemKinds.{IsFlatTree, flat_is, fits_kind, kind_is, not_instance, not_type, not_interface_type, types_are_types, is_type, flat_fits}
+use Rattle.wac_types_fit.proofs.ItemKinds.{flat_is, fits_kind, kind_is, not_instance, not_type, not_interface_type, types_are_types, is_type, flat_fits}
 use Rattle.wac_types_fit.proofs.Unfolded.{fields_in, instance_tree, component_tree, module_tree, type_world, type_module}
 use Rattle.wac_types_merge.specs.Interfaces.{IsAt, ClashIn, ClashUnlessFit, OtherClash, ItemsClash}
 use Rattle.wac_types_merge.proofs.Grown.{tree_kept}
