@@ -8,8 +8,10 @@ use Rattle.wac_types_base.proofs.Lists.{among_last}
 use Rattle.wac_types_base.proofs.Loops.{map-map, map-append}
 use Rattle.wac_graph_plug.specs.declared.matching.Match.{Match}
 use Rattle.wac_graph_plug.specs.declared.plan.Argument.{Argument}
-use Rattle.wac_graph_plug.specs.Plugging.{AreMatchesOf, AreMatches, no_plugs, next_plug, imports_in, IsTwice}
-use Rattle.wac_graph_plug.specs.Plans.{matching_from, gives, given_from, imports_given, AreOnce}
+use Rattle.wac_graph_plug.specs.declared.plan.Plan.{Plan}
+use Rattle.wac_graph_plug.specs.Plugging.{AreMatchesOf, AreMatches, no_plugs, next_plug, imports_in, IsTwice, Conflict}
+use Rattle.wac_graph_plug.specs.Plans.{matching_from, gives, given_from, IsPlanOf, imports_given, AreOnce, PlansOne}
+use Rattle.wac_graph_plug.proofs.Causes.{imports_end}
 
 -- ---- names that stand twice
 
@@ -80,3 +82,26 @@ matches_end socket plug (p ∷ ps) (x ∷ mss) ms (next_plug a r) h = next_plug 
 pub as_many : (socket : Stated) (ps : List Stated) (mss : List (List Match)) → AreMatches socket ps mss → length mss ≡ length ps
 as_many socket [] [] no_plugs = refl
 as_many socket (p ∷ ps) (x ∷ mss) (next_plug a r) = ap (λ n. n + 1) (as_many socket ps mss r)
+
+-- ---- a plan with one plug more
+
+given_imports : (mss : List (List Match)) (p : Plan) → IsPlanOf mss p → imports_given p.arguments.items ≡ imports_in mss
+given_imports mss p is = ap imports_given is.arguments ∙ imports_all 0 mss
+
+pub plan_next : (mss : List (List Match)) (ms : List Match) (at : ℕ) (old new : Plan) → at ≡ length mss → IsPlanOf mss old → PlansOne at ms old new → IsPlanOf (mss ++ ms ∷ []) new
+plan_next mss ms at old new is plan one =
+    let arguments : new.arguments.items ≡ given_from 0 (mss ++ ms ∷ []) =
+        one.arguments ∙ ap (λ ps. old.arguments.items ++ given_from (length ps) (ms ∷ [])) plan.plugs
+        ∙ ap (λ as_. as_ ++ given_from (length (matching_from 0 mss)) (ms ∷ [])) plan.arguments ∙ sym (given_end 0 0 mss ms) in
+    let before : AreOnce old.arguments.items = λ i t. plan.once i (subst (IsTwice i) (given_imports mss old plan) t) in
+    record {
+      plugs = one.plugs ∙ ap (λ k. old.plugs.items ++ matching_from k (ms ∷ [])) is ∙ ap (λ ps. ps ++ matching_from (length mss) (ms ∷ [])) plan.plugs ∙ sym (matching_end 0 mss ms);
+      arguments = arguments;
+      once = λ i t. one.once before i (subst (IsTwice i) (sym (ap imports_given arguments ∙ imports_all 0 (mss ++ ms ∷ []))) t);
+    }
+
+pub given_twice : (mss : List (List Match)) (ms : List Match) (p : Plan) (i : Name) → IsPlanOf mss p → IsTwice i (imports_given p.arguments.items ++ map (λ m. m.import) ms) → Conflict (mss ++ ms ∷ []) i
+given_twice mss ms p i plan t = subst (IsTwice i) (ap (λ ns. ns ++ map (λ (m : Match). m.import) ms) (given_imports mss p plan) ∙ sym (imports_end mss ms)) t
+
+pub no_plugs_planned : (p : Plan) → p.plugs.items ≡ [] → p.arguments.items ≡ [] → IsPlanOf [] p
+no_plugs_planned p plugs arguments = record { plugs = plugs; arguments = arguments; once = λ i t. absurd t }

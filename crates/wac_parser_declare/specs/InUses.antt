@@ -15,7 +15,7 @@ use Rattle.wac_parser_tree.specs.declared.interface.InterfaceExport.{InterfaceEx
 use Rattle.wac_parser_tree.specs.declared.interface.UseItem.{UseItem}
 use Rattle.wac_parser_tree.specs.Views.{view_ident, view_interface_export, view_use_item}
 use Rattle.wac_parser_refusals.specs.declared.refusal.Refusal.{Refusal}
-use Rattle.wac_parser_refusals.specs.Causes.{Answer, ◌>>◌, each, present, pure, unless_clear, NotInterface, NotInterfaceValueType, UndefinedInterfaceType, UseConflict}
+use Rattle.wac_parser_refusals.specs.Causes.{Answer, ◌>>=◌, ◌>>◌, each, present, pure, unless_clear, NotInterface, NotInterfaceValueType, UndefinedInterfaceType, UseConflict}
 use Rattle.wac_parser_refusals.specs.Outcomes.{IsOutcome}
 use Rattle.wac_parser_declare.specs.declared.bodies.Body.{Body}
 use Rattle.wac_parser_declare.specs.declared.bodies.Holder.{Holder}
