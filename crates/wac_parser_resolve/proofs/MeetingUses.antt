@@ -183,7 +183,7 @@ module _ (c : Collection) (a : IsAcyclic c) where
     pub uses_unnamed : ids.by_identifier c [] (ids.implicit_interfaces c x) ≡ None → uses_are_named world ≡ false
     uses_unnamed e = unlisted_of (implicit_uses world) (ids.implicit_interfaces c x) [] world_implicit e
 
-    either_of : (o p : Option ItemKind) → option_or (option_map (stated_of c) o) (option_map (stated_of c) p) ≡ option_map (stated_of c) (fit.or_else o p)
+    either_of : (o p : Option ItemKind) → option_or (option_map (stated_of c) o) (option_map (stated_of c) p) ≡ option_map (stated_of c) (option_or o p)
     either_of None p = refl
     either_of (Some k) p = refl
 
