@@ -21,7 +21,6 @@ use Rattle.wac_types_base.proofs.Slots.{entry_at-is}
 use Rattle.wac_types_base.proofs.Standing.{interface_found}
 use Rattle.wac_types_base.proofs.Telling.{item_kind, kind_stated, stated_step}
 use Rattle.wac_types_base.proofs.Used.{interface_uses_stand, world_imports_stand, world_uses_stand}
-use Rattle.wac_types_fit.specs.Targets as fit
 use Rattle.wac_types_fit.specs.Targets.{target_import}
 use Rattle.wac_composition.specs.Classes.{is_instance}
 use Rattle.wac_parser_declare.proofs.Exports.{component_imports}
