@@ -1,5 +1,5 @@
 -- What each call does, from what its parts do.
-use Rattle.std.proofs.Common.{◌≡◌, ◌≢◌, ◌⊎◌, ℕ, zero, suc, ◌+◌, ◌<◌, ◌≤◌, Bool, true, false, ◌||◌, List, [], ◌∷◌, ◌++◌, map, length, take, get_or, Option, Some, None, IsSome, slice_get, refl, sym, ap, subst, ◌∙◌, inl, inr, arith}
+use Rattle.std.proofs.Common.{◌≡◌, ◌≢◌, ℕ, zero, suc, ◌+◌, ◌<◌, ◌≤◌, Bool, true, false, ◌||◌, List, [], ◌∷◌, ◌++◌, length, take, get_or, Some, slice_get, refl, sym, ap, subst, ◌∙◌, inl, inr, arith}
 use Rattle.std.specs.Prelude.{String, string_bytes}
 use Rattle.std.proofs.lemmas.List.{take_more}
 use Rattle.wac_types_base.specs.declared.ids.WorldId.{WorldId}
@@ -12,16 +12,16 @@ use Rattle.wac_types_base.specs.Stated.{Stated, stated_of, imports_of, exports_o
 use Rattle.wac_types_base.proofs.Looked.{take-one_more}
 use Rattle.wac_types_names.specs.Packaged.{Packaged}
 use Rattle.wac_graph_core.specs.declared.ids.PackageId.{PackageId}
-use Rattle.wac_graph_core.specs.Nodes.{NodeData, Role, plain_node}
-use Rattle.wac_graph_core.specs.Graph.{Graph, node_at, ContainsNode, package_of, item_export, IsExport, PackageStands, IsGraph}
+use Rattle.wac_graph_core.specs.Nodes.{Role, plain_node}
+use Rattle.wac_graph_core.specs.Graph.{Graph, node_at, package_of, item_export, IsGraph}
 use Rattle.wac_graph_core.specs.Steps.{Instantiates}
 use Rattle.wac_graph_core.proofs.NodeMap.{get-insert_same}
 use Rattle.wac_graph_plug.specs.declared.matching.Match.{Match}
 use Rattle.wac_graph_plug.specs.declared.errors.PlugError.{PlugError}
 use Rattle.wac_graph_plug.specs.Plugging.{AreMatchesOf, AreMatches, no_plugs}
-use Rattle.wac_graph_plug.specs.Steps.{Grown, HasExport, Passes, PassesAll, passed_next, PlugsOne, PlugsEach, plugged_none, plugged_next, ExportsOne, ExportsAll, exported_next}
-use Rattle.wac_graph_plug.specs.Stops.{part_in, world_of, worlds_of, has_match, any_match, AreMatchesIn, PlugsMatches, StopsMatches, PlugsAll, StopsPassing}
-use Rattle.wac_graph_plug.proofs.Growing.{same_world, worlds_same, Grown-instance}
+use Rattle.wac_graph_plug.specs.Steps.{Grown, HasExport, Passes, PassesAll, passed_next, plugged_none, plugged_next, ExportsOne, ExportsAll, exported_next}
+use Rattle.wac_graph_plug.specs.Stops.{part_in, world_of, has_match, any_match, AreMatchesIn, PlugsMatches, StopsMatches, PlugsAll, StopsPassing}
+use Rattle.wac_graph_plug.proofs.Growing.{same_world}
 use Rattle.wac_graph_plug.proofs.Fitting.{matched_in, has_export}
 use Rattle.wac_graph_plug.proofs.Causes.{matches_more}
 use Rattle.wac_types_fit.proofs.Items.{Among-last}

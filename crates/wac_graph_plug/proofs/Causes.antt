@@ -1,5 +1,5 @@
 -- Why plugging is refused.
-use Rattle.std.proofs.Common.{◌≡◌, ◌≢◌, ◌⊎◌, ℕ, zero, suc, ◌+◌, Bool, true, false, ◌||◌, List, [], ◌∷◌, ◌++◌, map, take, Option, Some, None, IsSome, slice_get, refl, sym, ap, subst, ◌∙◌, inl, inr, arith}
+use Rattle.std.proofs.Common.{◌≡◌, ◌≢◌, ◌⊎◌, ℕ, zero, suc, ◌+◌, List, [], ◌∷◌, ◌++◌, map, take, Some, IsSome, slice_get, refl, sym, ap, subst, ◌∙◌, inl, inr}
 use Rattle.std.proofs.lemmas.List.{append-nil, append_assoc}
 use Rattle.wac_types_base.specs.declared.item.ItemKind.{ItemKind}
 use Rattle.wac_types_base.specs.Collection.{IsAcyclic}
@@ -13,15 +13,15 @@ use Rattle.wac_graph_core.specs.declared.edge.Edge.{Edge}
 use Rattle.wac_graph_core.specs.declared.errors.InstantiationArgumentError.{InstantiationArgumentError}
 use Rattle.wac_graph_core.specs.Nodes.{Role, plain_node}
 use Rattle.wac_graph_core.specs.Edges.{alias_edge, argument_edge}
-use Rattle.wac_graph_core.specs.Graph.{Graph, node_at, package_of, package_made, PackageStands, IsGraph}
+use Rattle.wac_graph_core.specs.Graph.{Graph, node_at, package_of, package_made, IsGraph}
 use Rattle.wac_graph_core.specs.Steps.{Instantiates}
 use Rattle.wac_graph_core.proofs.NodeMap.{get-insert_same}
 use Rattle.wac_graph_plug.specs.declared.matching.Match.{Match}
 use Rattle.wac_graph_plug.specs.declared.errors.PlugError.{PlugError}
 use Rattle.wac_graph_plug.specs.declared.errors.PlugFault.{PlugFault}
-use Rattle.wac_graph_plug.specs.Plugging.{Matches, AreMatchesOf, no_exports, matched, passed, AreMatches, no_plugs, next_plug, imports_in, IsTwice}
-use Rattle.wac_graph_plug.specs.Steps.{Grown, Passes, PassesAll, passed_none, passed_next, PlugsOne, PlugsEach, plugged_none, plugged_next}
-use Rattle.wac_graph_plug.specs.Stops.{world_of, worlds_of, part_in, AreMatchesIn, StopsPlugging, MatchedTwice, PlugsNone, NoneMatches, IsPassedTwice}
+use Rattle.wac_graph_plug.specs.Plugging.{AreMatchesOf, no_exports, matched, passed, AreMatches, no_plugs, next_plug, imports_in, IsTwice}
+use Rattle.wac_graph_plug.specs.Steps.{Grown, PassesAll, passed_none, passed_next, PlugsOne, PlugsEach, plugged_none, plugged_next}
+use Rattle.wac_graph_plug.specs.Stops.{world_of, worlds_of, part_in, StopsPlugging, MatchedTwice, PlugsNone, NoneMatches, IsPassedTwice}
 use Rattle.wac_graph_plug.proofs.Growing.{Grown-refl, Grown-same, Grown-trans, Grown-instance, Grown-passes, same_package, same_world, worlds_same, ContainsNode-grown}
 use Rattle.wac_graph_plug.proofs.State.{Bound, imports_of_all, State, IsPlug, State-instance, apart_from_new}
 use Rattle.wac_graph_plug.proofs.Passing.{all_bound, exports_in, IsPlug-instance, passes_all_state}
@@ -122,7 +122,7 @@ twice_behind : (n : Name) (xs ys : List Name) → IsTwice n ys → IsTwice n (xs
 twice_behind n [] ys t = t
 twice_behind n (x ∷ xs) ys t = inr (twice_behind n xs ys t)
 
-twice_before : (n : Name) (xs ys : List Name) → Among n xs → Among n ys → IsTwice n (xs ++ ys)
+pub twice_before : (n : Name) (xs ys : List Name) → Among n xs → Among n ys → IsTwice n (xs ++ ys)
 twice_before n [] ys at bt = absurd at
 twice_before n (x ∷ xs) ys (inl same) bt = inl (same, behind n xs ys bt)
 twice_before n (x ∷ xs) ys (inr at) bt = inr (twice_before n xs ys at bt)

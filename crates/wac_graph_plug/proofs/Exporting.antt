@@ -1,14 +1,11 @@
 -- An export that is there has an alias.
-use Rattle.std.proofs.Common.{◌≡◌, ℕ, true, false, Option, None, IsSome, refl, sym, ap, subst, ◌∙◌, inl, inr}
+use Rattle.std.proofs.Common.{◌≡◌, ℕ, true, false, None, IsSome, refl, sym, ap, subst, ◌∙◌}
 use Rattle.std.proofs.lemmas.Option.{same_Some}
 use Rattle.wac_types_base.specs.declared.item.ItemKind.{ItemKind}
 use Rattle.wac_types_base.specs.Record.{Collection}
 use Rattle.wac_types_base.specs.Entries.{Name}
 use Rattle.wac_graph_core.specs.Nodes.{NodeData}
-use Rattle.wac_graph_core.specs.Graph.{Graph, node_at, ContainsNode, IsOfKind, is_instance, item_export, IsGraph}
-use Rattle.wac_types_base.specs.Graph.{Among}
-use Rattle.wac_graph_core.specs.Edges.{alias_edge, HasAlias}
-use Rattle.wac_graph_core.specs.Steps.{Aliases}
+use Rattle.wac_graph_core.specs.Graph.{Graph, ContainsNode, IsOfKind, is_instance, item_export}
 use Rattle.wac_graph_plug.specs.Steps.{HasExport}
 
 no_export_of : (c : Collection) (k : ItemKind) (n : Name) → is_instance k ≡ false → item_export c k n ≡ None

@@ -1,5 +1,5 @@
 -- The wiring of a graph after plugging.
-use Rattle.std.proofs.Common.{◌≡◌, ◌≢◌, ◌⊎◌, ℕ, zero, suc, ◌+◌, ◌<◌, Bool, true, false, ◌==◌, cond, List, [], ◌∷◌, ◌++◌, map, length, Option, Some, None, IsSome, slice_get, refl, sym, ap, subst, ◌∙◌, inl, inr, arith}
+use Rattle.std.proofs.Common.{◌≡◌, ◌≢◌, ◌⊎◌, ℕ, zero, suc, ◌+◌, Bool, true, false, ◌==◌, cond, List, [], ◌∷◌, ◌++◌, map, length, Option, Some, None, IsSome, slice_get, refl, sym, ap, subst, ◌∙◌, inl, inr, arith}
 use Rattle.std.proofs.lemmas.Option.{none-some, same_Some}
 use Rattle.std.proofs.lemmas.Bool.{cases_eq}
 use Rattle.std.proofs.lemmas.Bool.Decides.{nat_tests}
@@ -14,14 +14,13 @@ use Rattle.wac_types_base.specs.Stated.{Stated, stated_of, imports_of, exports_o
 use Rattle.wac_types_base.specs.Tree.{Tree}
 use Rattle.wac_types_base.proofs.Standing.{world_found}
 use Rattle.wac_types_names.specs.Packaged.{Packaged}
-use Rattle.wac_graph_bytes.specs.Wirings.{Source, Absent, Outer, Inst, Projection, project, replace, rename, renamed, OfBytes, Instantiation, Wiring, Same}
+use Rattle.wac_graph_bytes.specs.Wirings.{Source, Outer, Inst, Projection, rename, renamed, OfBytes, Instantiation, Wiring, Same}
 use Rattle.wac_graph_core.specs.declared.ids.PackageId.{PackageId}
-use Rattle.wac_graph_core.specs.declared.edge.Edge.{Edge}
 use Rattle.wac_graph_core.specs.Nodes.{NodeData, Role, plain_node}
 use Rattle.wac_graph_core.specs.Edges.{alias_edge, argument_edge, HasAlias, HasArgument}
-use Rattle.wac_graph_core.specs.Graph.{Graph, node_at, package_of, package_if, package_made, instantiated, item_import, imported_in, PackageStands, NodeStands, IsGraph}
+use Rattle.wac_graph_core.specs.Graph.{Graph, node_at, package_of, package_if, package_made, instantiated, item_import, imported_in, PackageStands, IsGraph}
 use Rattle.wac_graph_core.specs.GraphWiring as w
-use Rattle.wac_graph_core.specs.Steps.{Instantiates, Aliases}
+use Rattle.wac_graph_core.specs.Steps.{Aliases}
 use Rattle.wac_graph_core.specs.Exporting.{Exports}
 use Rattle.wac_graph_core.proofs.NodeMap.{get-insert_same, get-insert_other}
 use Rattle.wac_graph_core.proofs.EdgeSteps.{edge_label}
@@ -29,16 +28,15 @@ use Rattle.wac_types_base.proofs.Stating.{imports_stated, value_with}
 use Rattle.wac_graph_core.proofs.WiringLaws.{once, binds_once, value_among}
 use Rattle.wac_graph_plug.specs.declared.matching.Match.{Match}
 use Rattle.wac_graph_plug.specs.Plugging.{AreMatches}
-use Rattle.wac_graph_plug.specs.Steps.{Grown, ExportsOne, ExportsAll, exported_none, exported_next}
+use Rattle.wac_graph_plug.specs.Steps.{Grown, ExportsAll, exported_none, exported_next}
 use Rattle.wac_graph_plug.specs.Stops.{part_in, part_of, world_of, worlds_of, Plugs, socket_exports, IsPlugged}
-use Rattle.wac_graph_plug.specs.Wired.{Part, export_for, or_later, bound_from, if_there, bound_source, socket_instance, plug_instance, plug_at, instance_at, plugged}
-use Rattle.wac_graph_plug.proofs.Growing.{Grown-refl, Grown-trans, Grown-alias, Grown-instance, Grown-export, Grown-exports, same_package, same_world, worlds_same}
-use Rattle.wac_graph_plug.proofs.State.{Bound, imports_of_all, State, no_argument}
+use Rattle.wac_graph_plug.specs.Wired.{Part, export_for, or_later, bound_from, if_there, bound_source, socket_instance, plug_instance, plug_at, plugged}
+use Rattle.wac_graph_plug.proofs.Growing.{Grown-refl, Grown-trans, Grown-instance, Grown-exports, same_package, same_world, worlds_same}
+use Rattle.wac_graph_plug.proofs.State.{Bound, no_argument}
 use Rattle.wac_graph_plug.proofs.Causes.{Grown-each, first_state, all_distinct, each_state}
 use Rattle.wac_graph_plug.proofs.Passing.{bound_of}
-use Rattle.wac_graph_plug.proofs.Made.{PlugAt, BoundAt, EachMade, AllMade, each_made, quiet_alias}
+use Rattle.wac_graph_plug.proofs.Made.{PlugAt, EachMade, AllMade, each_made, quiet_alias}
 use Rattle.wac_graph_core.proofs.Made.{alias_here}
-use Rattle.wac_graph_core.proofs.WiringLaws.{found_at as entry_at}
 use Rattle.wac_graph_core.proofs.ExportSteps.{among_name}
 use Rattle.wac_types_base.proofs.Replacing.{same_number}
 use Rattle.wac_types_base.proofs.Lists.{last_among, value_none, value_named}

@@ -1,5 +1,5 @@
 -- What stays when a graph grows.
-use Rattle.std.proofs.Common.{◌≡◌, ◌≢◌, ◌⊎◌, ℕ, List, [], ◌∷◌, ◌++◌, Option, Some, None, IsSome, refl, sym, ap, subst, ◌∙◌, inl, inr}
+use Rattle.std.proofs.Common.{◌≡◌, ℕ, List, [], ◌∷◌, ◌++◌, Option, Some, None, IsSome, refl, sym, ap, subst, ◌∙◌, inl, inr}
 use Rattle.std.proofs.lemmas.Option.{same_Some}
 use Rattle.std.proofs.lemmas.Bool.{cases_eq}
 use Rattle.std.proofs.lemmas.List.{append-nil, append_assoc}
@@ -11,13 +11,13 @@ use Rattle.wac_graph_core.specs.declared.ids.PackageId.{PackageId}
 use Rattle.wac_graph_core.specs.declared.edge.Edge.{Edge}
 use Rattle.wac_graph_core.specs.Nodes.{NodeData, Role, plain_node}
 use Rattle.wac_graph_core.specs.NodeMaps.{NodeMap}
-use Rattle.wac_graph_core.specs.Graph.{Graph, node_at, ContainsNode, package_of, ContainsPackage, IsOfKind, IsExport, item_export}
-use Rattle.wac_graph_core.specs.Steps.{Instantiates, Aliases, AliasesAnew, SetsArgument, AddsArgument, with_node, with_edges}
+use Rattle.wac_graph_core.specs.Graph.{Graph, node_at, ContainsNode, package_of, ContainsPackage, item_export}
+use Rattle.wac_graph_core.specs.Steps.{Instantiates, Aliases, SetsArgument, with_node, with_edges}
 use Rattle.wac_graph_core.specs.Exporting.{Exports}
 use Rattle.wac_graph_core.proofs.NodeMap.{get-insert_same, get-insert_other}
 use Rattle.wac_graph_core.proofs.NodeSteps.{kept_at}
 use Rattle.wac_graph_plug.specs.declared.matching.Match.{Match}
-use Rattle.wac_graph_plug.specs.Steps.{StaysNode, Grown, HasExport, Passes, PassesAll, passed_none, passed_next, ExportsOne}
+use Rattle.wac_graph_plug.specs.Steps.{StaysNode, Grown, HasExport, Passes, ExportsOne}
 use Rattle.wac_graph_plug.specs.Stops.{world_of, worlds_of}
 
 stays : (g : Graph) (k : ℕ) (x : NodeData) → node_at g k ≡ Some x → StaysNode g k x

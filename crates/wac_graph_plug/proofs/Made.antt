@@ -1,5 +1,5 @@
 -- The instances, the arguments and the exports that plugging makes in a graph without nodes.
-use Rattle.std.proofs.Common.{◌≡◌, ◌≢◌, ◌⊎◌, ℕ, zero, suc, ◌+◌, ◌<◌, List, [], ◌∷◌, ◌++◌, length, Option, Some, None, IsSome, slice_get, refl, sym, ap, subst, ◌∙◌, inl, inr, arith}
+use Rattle.std.proofs.Common.{◌≡◌, ◌≢◌, ◌⊎◌, ℕ, zero, suc, ◌<◌, List, [], ◌∷◌, ◌++◌, length, Option, Some, None, slice_get, refl, sym, ap, subst, ◌∙◌, inl, inr, arith}
 use Rattle.std.proofs.lemmas.Option.{none-some, same_Some}
 use Rattle.std.proofs.lemmas.Bool.{cases_eq}
 use Rattle.wac_types_base.specs.declared.item.ItemKind.{ItemKind}
@@ -7,22 +7,17 @@ use Rattle.wac_types_base.specs.Entries.{Name, AreDistinct}
 use Rattle.wac_types_base.specs.Graph.{Among}
 use Rattle.wac_types_names.specs.Packaged.{Packaged}
 use Rattle.wac_graph_core.specs.declared.ids.PackageId.{PackageId}
-use Rattle.wac_graph_core.specs.declared.edge.Edge.{Edge}
 use Rattle.wac_graph_core.specs.Nodes.{NodeData, Role, plain_node}
-use Rattle.wac_graph_core.specs.Edges.{alias_edge, argument_edge, HasAlias, HasArgument}
-use Rattle.wac_graph_core.specs.Graph.{Graph, node_at, package_in, package_of, package_if, package_made, instantiated, IsGraph}
-use Rattle.wac_graph_core.specs.Steps.{Instantiates, Aliases, AliasesAnew, SetsArgument}
-use Rattle.wac_graph_core.specs.Exporting.{Exports}
+use Rattle.wac_graph_core.specs.Edges.{argument_edge, HasArgument}
+use Rattle.wac_graph_core.specs.Graph.{Graph, node_at, package_in, package_of, package_made, instantiated}
+use Rattle.wac_graph_core.specs.Steps.{Aliases, SetsArgument}
 use Rattle.wac_graph_core.proofs.NodeMap.{get-insert_same, get-insert_other}
-use Rattle.wac_graph_core.proofs.EdgeSteps.{edge_from, edge_to, edge_label}
+use Rattle.wac_graph_core.proofs.EdgeSteps.{edge_to, edge_label}
 use Rattle.wac_graph_core.proofs.PlaceSteps.{get_before, get_last}
 use Rattle.wac_graph_plug.specs.declared.matching.Match.{Match}
-use Rattle.wac_graph_plug.specs.Steps.{Grown, Passes, PassesAll, passed_none, passed_next, PlugsOne, PlugsIn, PlugsEach, plugged_none, plugged_next, ExportsOne, ExportsAll, exported_none, exported_next}
-use Rattle.wac_graph_plug.proofs.Growing.{Grown-alias, Grown-instance, Grown-trans, same_package}
-use Rattle.wac_graph_plug.proofs.State.{Bound, State, IsPlug, no_argument, instantiated-grown, State-instance, apart_from_new}
+use Rattle.wac_graph_plug.specs.Steps.{PassesAll, passed_none, passed_next, PlugsOne, PlugsIn, PlugsEach, plugged_none, plugged_next}
+use Rattle.wac_graph_plug.proofs.State.{Bound, State, no_argument, State-instance, apart_from_new}
 use Rattle.wac_graph_plug.proofs.Passing.{bound_of, all_bound, exports_in, IsPlug-instance, passes_all_state}
-use Rattle.wac_graph_plug.proofs.Causes.{Grown-all}
-use Rattle.wac_types_fit.proofs.Items.{Among-last}
 use Rattle.wac_graph_core.proofs.Found.{Among-front}
 use Rattle.wac_types_base.proofs.Copying.{last_place}
 use Rattle.wac_types_base.proofs.Lists.{last_among}

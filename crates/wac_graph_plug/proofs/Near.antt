@@ -1,5 +1,5 @@
 -- Names that are near one another, and the import that a name finds.
-use Rattle.std.proofs.Common.{◌≡◌, ◌≢◌, ◌⊎◌, ℕ, zero, suc, ◌+◌, ◌<◌, ◌≤◌, Bool, true, false, ◌==◌, cond, List, [], ◌∷◌, length, map, Option, Some, None, is_some, slice_get, refl, sym, ap, subst, ◌∙◌, inl, inr, arith}
+use Rattle.std.proofs.Common.{◌≡◌, ◌≢◌, ◌⊎◌, ℕ, zero, suc, ◌+◌, ◌<◌, ◌≤◌, Bool, true, false, ◌==◌, cond, List, [], ◌∷◌, length, Option, Some, None, is_some, slice_get, refl, sym, ap, subst, ◌∙◌, inl, inr, arith}
 use Rattle.std.proofs.lemmas.Option.{same_Some}
 use Rattle.std.proofs.lemmas.Bool.{cases_eq}
 use Rattle.std.proofs.lemmas.Bool.Decides.{nat_tests}
@@ -8,7 +8,7 @@ use Rattle.wac_types_base.specs.declared.item.ItemKind.{ItemKind}
 use Rattle.wac_types_base.specs.Entries.{Name, names_of, value_at, AreDistinct}
 use Rattle.wac_types_base.specs.Graph.{Among}
 use Rattle.wac_types_names.specs.Tracks.{AreCompatible, ShareTrack}
-use Rattle.wac_graph_plug.specs.Plugging.{IsAloneOnTrack, Finds}
+use Rattle.wac_graph_plug.specs.Plugging.{Finds}
 use Rattle.wac_graph_plug.specs.Lookups.{IsNear, IsNext, NoneNear}
 use Rattle.wac_types_base.proofs.Walking.{some_place}
 use Rattle.wac_types_base.proofs.Lists.{value_none, value_named}

@@ -1,24 +1,21 @@
 -- The state after matches are passed.
-use Rattle.std.proofs.Common.{◌≡◌, ◌≢◌, ◌⊎◌, ℕ, List, [], ◌∷◌, ◌++◌, map, Option, Some, None, IsSome, refl, sym, ap, subst, ◌∙◌, inl, inr}
+use Rattle.std.proofs.Common.{◌≡◌, ◌≢◌, ℕ, List, [], ◌∷◌, ◌++◌, map, Some, IsSome, refl, sym, ap, subst, ◌∙◌, inl, inr}
 use Rattle.std.proofs.lemmas.List.{append-nil, append_assoc}
 use Rattle.wac_types_base.specs.declared.item.ItemKind.{ItemKind}
 use Rattle.wac_types_base.specs.Entries.{Name, AreDistinct}
 use Rattle.wac_types_base.specs.Graph.{Among}
 use Rattle.wac_types_names.specs.Packaged.{Packaged}
 use Rattle.wac_graph_core.specs.declared.ids.PackageId.{PackageId}
-use Rattle.wac_graph_core.specs.declared.edge.Edge.{Edge}
-use Rattle.wac_graph_core.specs.declared.edge.Label.{Label}
 use Rattle.wac_graph_core.specs.Nodes.{NodeData, Role, plain_node}
-use Rattle.wac_graph_core.specs.Edges.{alias_edge, argument_edge, HasAlias, HasArgument}
-use Rattle.wac_graph_core.specs.Graph.{Graph, node_at, ContainsNode, package_of, package_if, package_made, instantiated, IsGraph}
-use Rattle.wac_graph_core.specs.Steps.{Instantiates, Aliases, AliasesAnew, SetsArgument, AddsArgument, KeepsArgument}
+use Rattle.wac_graph_core.specs.Edges.{alias_edge, HasAlias}
+use Rattle.wac_graph_core.specs.Graph.{Graph, node_at, ContainsNode, package_of, package_made}
+use Rattle.wac_graph_core.specs.Steps.{Instantiates, Aliases, AliasesAnew, SetsArgument}
 use Rattle.wac_graph_core.proofs.NodeMap.{get-insert_same}
-use Rattle.wac_graph_core.proofs.EdgeSteps.{edge_from, edge_to, edge_label}
+use Rattle.wac_graph_core.proofs.EdgeSteps.{edge_label}
 use Rattle.wac_graph_plug.specs.declared.matching.Match.{Match}
-use Rattle.wac_graph_plug.specs.Steps.{Grown, StaysNode, Passes, PassesAll, passed_none, passed_next}
-use Rattle.wac_graph_plug.proofs.Growing.{Grown-alias, Grown-instance, Grown-set, ContainsNode-grown}
-use Rattle.wac_graph_plug.proofs.State.{Bound, imports_of_all, State, IsPlug, distinct_front, no_argument, no_alias, alias_name, instantiated-grown, State-instance, State-alias, State-set, apart_from_new, nothing_from}
-use Rattle.wac_types_fit.proofs.Items.{Among-last}
+use Rattle.wac_graph_plug.specs.Steps.{Grown, Passes, PassesAll, passed_none, passed_next}
+use Rattle.wac_graph_plug.proofs.Growing.{Grown-alias, Grown-set}
+use Rattle.wac_graph_plug.proofs.State.{Bound, State, IsPlug, distinct_front, no_alias, alias_name, instantiated-grown, State-alias, State-set, apart_from_new, nothing_from}
 use Rattle.wac_graph_core.proofs.Found.{Among-front}
 use Rattle.wac_types_base.proofs.Loops.{mapped_next}
 use Rattle.wac_types_base.proofs.Lists.{last_among}

@@ -1,9 +1,8 @@
 -- Why a match is not passed: its import has got an argument before.
-use Rattle.std.proofs.Common.{◌≡◌, ◌≢◌, ◌⊎◌, ℕ, Bool, true, false, ◌==◌, cond, List, [], ◌∷◌, ◌++◌, Option, Some, None, IsSome, refl, sym, ap, subst, ◌∙◌, arith}
+use Rattle.std.proofs.Common.{◌≡◌, ◌≢◌, ℕ, true, ◌==◌, List, [], ◌∷◌, Some, None, refl, sym, ap, subst, ◌∙◌}
 use Rattle.std.proofs.lemmas.Option.{same_Some}
 use Rattle.std.specs.Prelude.{string_bytes}
 use Rattle.wac_types_base.specs.declared.item.ItemKind.{ItemKind}
-use Rattle.wac_types_base.specs.Record.{Collection}
 use Rattle.wac_types_base.specs.Entries.{Name}
 use Rattle.wac_types_base.specs.Graph.{Among}
 use Rattle.wac_types_names.specs.Packaged.{Packaged}
@@ -17,10 +16,10 @@ use Rattle.wac_graph_core.specs.declared.edge.Label.{Label}
 use Rattle.wac_graph_core.specs.declared.edge.Follow.{Follow}
 use Rattle.wac_graph_core.specs.declared.errors.InstantiationArgumentError.{InstantiationArgumentError}
 use Rattle.wac_graph_core.specs.Nodes.{NodeData, Role, plain_node}
-use Rattle.wac_graph_core.specs.Edges.{alias_edge, argument_edge, HasAlias, HasArgument, Reaches, at_start, along, follows, has}
-use Rattle.wac_graph_core.specs.Graph.{Graph, node_at, passed, passed_as, instantiated, item_export, item_import, IsArgument, IsOfKind, IsExport}
+use Rattle.wac_graph_core.specs.Edges.{HasAlias, HasArgument, Reaches, at_start, along, follows}
+use Rattle.wac_graph_core.specs.Graph.{Graph, node_at, passed, passed_as, instantiated, item_export, item_import, IsArgument}
 use Rattle.wac_graph_core.specs.Steps.{Aliases, AliasesAnew}
-use Rattle.wac_graph_core.specs.Refusals.{ArgumentRefused, NodeMismatches, LacksArgument, IsOpen}
+use Rattle.wac_graph_core.specs.Refusals.{ArgumentRefused, NodeMismatches, LacksArgument}
 use Rattle.wac_graph_core.proofs.NodeMap.{get-insert_same}
 use Rattle.wac_graph_core.proofs.Found.{same_edge}
 use Rattle.wac_graph_plug.specs.declared.matching.Match.{Match}
@@ -29,7 +28,7 @@ use Rattle.wac_graph_plug.proofs.Growing.{Grown-alias}
 use Rattle.wac_graph_plug.proofs.State.{Bound, imports_of_all, State, IsPlug, apart_from_new}
 use Rattle.wac_graph_plug.proofs.Passing.{alias_made, alias_state}
 use Rattle.wac_graph_plug.proofs.Fitting.{Fitting}
-use Rattle.wac_types_base.proofs.Replacing.{same_number, only_one}
+use Rattle.wac_types_base.proofs.Replacing.{only_one}
 use Rattle.wac_types_base.proofs.Lists.{among_mapped}
 
 -- ---- nothing is reached from the socket

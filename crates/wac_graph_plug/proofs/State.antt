@@ -9,14 +9,12 @@ use Rattle.wac_graph_core.specs.declared.edge.Edge.{Edge}
 use Rattle.wac_graph_core.specs.declared.edge.Label.{Label}
 use Rattle.wac_graph_core.specs.Nodes.{NodeData, Role, plain_node}
 use Rattle.wac_graph_core.specs.Edges.{alias_edge, argument_edge, HasAlias, HasArgument}
-use Rattle.wac_graph_core.specs.Graph.{Graph, node_at, ContainsNode, package_in, package_of, package_if, package_made, instantiated, IsGraph}
-use Rattle.wac_graph_core.specs.Steps.{Instantiates, Aliases, AliasesAnew, SetsArgument, AddsArgument, with_node, with_edges}
+use Rattle.wac_graph_core.specs.Graph.{Graph, node_at, ContainsNode, package_in, package_if, package_made, instantiated}
+use Rattle.wac_graph_core.specs.Steps.{Instantiates, AliasesAnew, AddsArgument}
 use Rattle.wac_graph_core.proofs.NodeMap.{get-insert_same}
-use Rattle.wac_graph_core.proofs.NodeSteps.{kept_at}
 use Rattle.wac_graph_core.proofs.EdgeSteps.{edge_from, edge_to, edge_label}
-use Rattle.wac_graph_plug.specs.declared.matching.Match.{Match}
-use Rattle.wac_graph_plug.specs.Steps.{Grown, Passes, PassesAll, passed_none, passed_next}
-use Rattle.wac_graph_plug.proofs.Growing.{Grown-alias, Grown-instance, Grown-set, ContainsNode-grown}
+use Rattle.wac_graph_plug.specs.Steps.{Grown}
+use Rattle.wac_graph_plug.proofs.Growing.{Grown-alias, Grown-instance, ContainsNode-grown}
 use Rattle.wac_types_fit.proofs.Items.{Among-last}
 use Rattle.wac_graph_core.proofs.Found.{Among-front}
 use Rattle.wac_types_base.proofs.Loops.{mapped_next}

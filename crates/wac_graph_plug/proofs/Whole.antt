@@ -1,19 +1,14 @@
 -- What plugging does as a whole.
-use Rattle.std.proofs.Common.{◌≡◌, ◌≢◌, ◌⊎◌, ℕ, Bool, true, false, List, Option, Some, None, slice_get, refl, sym, ap, subst, ◌∙◌, inl, inr}
+use Rattle.std.proofs.Common.{◌≡◌, ◌⊎◌, ℕ, Bool, true, false, List, subst, inl, inr}
 use Rattle.wac_types_base.specs.Collection.{IsAcyclic}
-use Rattle.wac_types_base.specs.Entries.{Name}
-use Rattle.wac_types_base.specs.Graph.{Among}
 use Rattle.wac_graph_core.specs.declared.ids.PackageId.{PackageId}
-use Rattle.wac_graph_core.specs.declared.errors.InstantiationArgumentError.{InstantiationArgumentError}
-use Rattle.wac_graph_core.specs.declared.errors.ExportError.{ExportError}
-use Rattle.wac_graph_core.specs.Graph.{Graph, node_at, IsGraph}
+use Rattle.wac_graph_core.specs.Graph.{Graph, IsGraph}
 use Rattle.wac_graph_core.specs.Steps.{Instantiates}
 use Rattle.wac_graph_plug.specs.declared.errors.PlugError.{PlugError}
 use Rattle.wac_graph_plug.specs.declared.errors.PlugFault.{PlugFault}
 use Rattle.wac_graph_plug.specs.Steps.{ExportsAll}
-use Rattle.wac_graph_plug.specs.Stops.{PlugsAll, StopsAll, StopsExporting, socket_exports, Plugs, PlugsNone, PlugRefused, PlugCause, IsPlugged}
-use Rattle.wac_graph_plug.proofs.Causes.{argument_cause, none_cause}
-use Rattle.wac_graph_plug.proofs.Final.{is_plugged}
+use Rattle.wac_graph_plug.specs.Stops.{PlugsAll, StopsAll, StopsExporting, socket_exports, Plugs, PlugsNone, PlugRefused, PlugCause}
+use Rattle.wac_graph_plug.proofs.Causes.{argument_cause}
 use Rattle.wac_types_base.proofs.Looked.{among-get}
 
 no_memory : {f : PlugFault} → PlugError.GraphError f ≡ PlugError.Memory → ⊥

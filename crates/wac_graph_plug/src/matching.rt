@@ -21,6 +21,18 @@ pub struct Match {
     pub import: Text,
 }
 
+impl Match {
+    /// The same match again.
+    pub(crate) fn copy(&self) -> Result<Match, AllocError>
+        ensures { IfOk result (λ m. m ≡ self.now) }
+    {
+        Ok(Match {
+            export: self.export.copy()?,
+            import: self.import.copy()?,
+        })
+    }
+}
+
 /// Whether one kind may be given where another is asked.
 fn fits(alloc: Global, types: &Types, given: ItemKind, asked: ItemKind) -> Result<bool, AllocError>
     requires given { Stands types.now given }

@@ -81,7 +81,8 @@ fn matches_between(
 ) -> Result<Vec<Match>, AllocError>
     requires plug { WorldStands plug }
     requires socket { WorldStands socket }
-    ensures { IfOk result (λ v. AreMatchesOf (imports_of (world_in socket)) (exports_of (world_in plug)) v.items) }
+    ensures { IfOk result
+        (λ v. AreMatchesOf (imports_of (world_in socket.entry)) (exports_of (world_in plug.entry)) v.items) }
 {
     let mut both = Types::new(alloc, UNSEEN);
     let mut adding = both.adding();
@@ -115,23 +116,24 @@ impl Plan {
     }
 
     /// Gives an export of a plug to the import that it is for.
-    fn give(&mut self, alloc: Global, plug: usize, given: Match) -> Result<(), PlanError>
-        ensures given { OnOk result (Gives plug given self.old self.new) }
-        ensures refused { IfErr result (IsGivenTwice (given ∷ []) self.old) }
+    fn give(&mut self, alloc: Global, plug: usize, given: &Match) -> Result<(), PlanError>
+        ensures given { OnOk result (Gives plug given.now self.old self.new) }
+        ensures refused { IfErr result (IsGivenTwice (given.now ∷ []) self.old) }
     {
         if self.has_given(given.import.as_str()) {
             return Err(PlanError::PlugConflict {
                 import: String::from_str(alloc, given.import.as_str())?,
             });
         }
+        let given = given.copy()?;
         self.arguments.push(Argument { plug, given })?;
         Ok(())
     }
 
     /// Gives the exports of a plug to the imports that they are for.
-    fn give_all(&mut self, alloc: Global, plug: usize, found: Vec<Match>) -> Result<(), PlanError>
-        ensures given { OnOk result (GivesAll plug found.items self.old self.new) }
-        ensures refused { IfErr result (IsGivenTwice found.items self.old) }
+    fn give_all(&mut self, alloc: Global, plug: usize, found: &[Match]) -> Result<(), PlanError>
+        ensures given { OnOk result (GivesAll plug found.now self.old self.new) }
+        ensures refused { IfErr result (IsGivenTwice found.now self.old) }
     {
         for given in found {
             self.give(alloc, plug, given)?;
@@ -140,9 +142,9 @@ impl Plan {
     }
 
     /// Plugs the plug at a place, if it has a match.
-    fn add(&mut self, alloc: Global, at: usize, found: Vec<Match>) -> Result<(), PlanError>
-        ensures planned { OnOk result (PlansOne at found.items self.old self.new) }
-        ensures refused { IfErr result (IsGivenTwice found.items self.old) }
+    fn add(&mut self, alloc: Global, at: usize, found: &[Match]) -> Result<(), PlanError>
+        ensures planned { OnOk result (PlansOne at found.now self.old self.new) }
+        ensures refused { IfErr result (IsGivenTwice found.now self.old) }
     {
         if found.is_empty() {
             return Ok(());
@@ -161,13 +163,13 @@ impl Plan {
 pub fn plan_of(alloc: Global, plugs: &[WorldIn<'_>], socket: WorldIn<'_>) -> Result<Plan, PlanError>
     requires plugs { All WorldStands plugs.now }
     requires socket { WorldStands socket }
-    ensures plan { IfOk result (IsPlan (map world_in plugs.now) (world_in socket)) }
-    ensures refused { IfErr result (PlanRefused (map world_in plugs.now) (world_in socket)) }
+    ensures plan { IfOk result (IsPlan (map world_in plugs.now) (world_in socket.entry)) }
+    ensures refused { IfErr result (PlanRefused (map world_in plugs.now) (world_in socket.entry)) }
 {
     let mut plan = Plan::new(alloc);
     for at in 0..plugs.len() {
         let found = matches_between(alloc, plugs[at], socket)?;
-        plan.add(alloc, at, found)?;
+        plan.add(alloc, at, &found)?;
     }
     if plan.plugs.is_empty() {
         return Err(PlanError::NoPlugHappened);

@@ -1,4 +1,4 @@
-use Rattle.std.proofs.Common.{◌≡◌, ◌+◌, ◌<◌, arith}
+use Rattle.std.proofs.Common.{◌+◌, ◌<◌, arith}
 use Rattle.wac_graph_plug.specs.Lookups.{IsNext}
 use Rattle.wac_graph_plug.proofs.Near.{contained, not_contained, finds_none, finds_two, finds_one}
 use Rattle.wac_graph_plug.proofs.matching.find_import.Goals as goal

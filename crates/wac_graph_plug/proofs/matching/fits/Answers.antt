@@ -1,5 +1,5 @@
 use Rattle.wac_types_fit.specs.Errors.{steps}
-use Rattle.std.proofs.Common.{◌≡◌, ap}
+use Rattle.std.proofs.Common.{ap}
 use Rattle.wac_types_fit.specs.Errors.{steps_of}
 use Rattle.wac_graph_plug.proofs.matching.fits.Goals as goal
 

@@ -1,6 +1,6 @@
-use Rattle.std.proofs.Common.{◌≡◌, Some, sym, subst, ◌∙◌}
+use Rattle.std.proofs.Common.{sym, subst, ◌∙◌}
 use Rattle.std.proofs.lemmas.Bool.{both_ways}
-use Rattle.wac_types_base.specs.Entries.{Name, names_of, with_values}
+use Rattle.wac_types_base.specs.Entries.{names_of, with_values}
 use Rattle.wac_types_base.specs.Stated.{stated_of}
 use Rattle.wac_types_base.proofs.Lists.{value_none}
 use Rattle.wac_graph_plug.specs.Plugging.{Finds, Matches}

@@ -1,4 +1,4 @@
-use Rattle.std.proofs.Common.{◌≡◌, ◌≤◌, length, sym, subst, [], arith}
+use Rattle.std.proofs.Common.{sym, subst, [], arith}
 use Rattle.wac_types_base.specs.declared.item.ItemKind.{ItemKind}
 use Rattle.wac_types_base.specs.Entries.{with_values, names_of, AreDistinct}
 use Rattle.wac_types_base.specs.Stated.{stated_of, exports_of}

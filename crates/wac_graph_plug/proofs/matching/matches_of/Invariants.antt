@@ -1,5 +1,4 @@
 use Rattle.std.proofs.Common.{take}
-use Rattle.wac_types_base.specs.declared.item.ItemKind.{ItemKind}
 use Rattle.wac_types_base.specs.Entries.{with_values}
 use Rattle.wac_types_base.specs.Stated.{stated_of}
 use Rattle.wac_graph_plug.specs.Plugging.{AreMatchesOf}

@@ -1,4 +1,4 @@
-use Rattle.std.proofs.Common.{◌≡◌, ◌<◌, ◌≤◌, length, arith}
+use Rattle.std.proofs.Common.{arith}
 use Rattle.std.proofs.lemmas.Bool.{both_ways}
 use Rattle.wac_graph_plug.proofs.Near.{far, none_so_far, none_at_all}
 use Rattle.wac_graph_plug.proofs.matching.next_near.Goals as goal

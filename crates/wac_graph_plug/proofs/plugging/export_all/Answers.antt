@@ -1,4 +1,4 @@
-use Rattle.std.proofs.Common.{◌≤◌, length, take, subst}
+use Rattle.std.proofs.Common.{subst}
 use Rattle.wac_types_base.specs.Entries.{texts_of}
 use Rattle.wac_graph_plug.specs.Steps.{ExportsAll, exported_none}
 use Rattle.wac_graph_plug.proofs.Growing.{Grown-refl, Grown-trans, HasExport-grown}

@@ -1,7 +1,6 @@
-use Rattle.std.proofs.Common.{◌≡◌, ap, sym, ◌∙◌, subst}
-use Rattle.wac_types_base.specs.declared.item.ItemKind.{ItemKind}
-use Rattle.wac_types_base.specs.Entries.{names_of, texts_of, AreDistinct}
-use Rattle.wac_types_base.specs.Stated.{stated_of, exports_of}
+use Rattle.std.proofs.Common.{ap, sym, ◌∙◌, subst}
+use Rattle.wac_types_base.specs.Entries.{names_of, AreDistinct}
+use Rattle.wac_types_base.specs.Stated.{stated_of}
 use Rattle.wac_types_base.proofs.Stating.{exports_stated}
 use Rattle.wac_types_base.proofs.Loops.{names-with_values}
 use Rattle.wac_graph_plug.proofs.plugging.export_names.Goals as goal

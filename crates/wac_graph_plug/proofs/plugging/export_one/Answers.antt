@@ -1,8 +1,6 @@
-use Rattle.std.proofs.Common.{rules, ◌≡◌, sym, ap, subst, ◌∙◌}
-use Rattle.wac_graph_core.specs.Graph.{Graph}
+use Rattle.std.proofs.Common.{rules, ◌≡◌, sym, subst}
 use Rattle.wac_graph_core.specs.Steps.{Aliases}
 use Rattle.wac_graph_core.specs.Exporting.{ExportRefused}
-use Rattle.wac_graph_plug.specs.Steps.{Grown, ExportsOne}
 use Rattle.wac_graph_plug.proofs.Growing.{Grown-same, Grown-trans, Grown-alias, Grown-export}
 use Rattle.wac_graph_core.proofs.Made.{alias_there}
 use Rattle.wac_graph_plug.proofs.plugging.export_one.Goals as goal

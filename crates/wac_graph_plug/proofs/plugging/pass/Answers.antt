@@ -1,11 +1,7 @@
-use Rattle.std.proofs.Common.{rules, ◌≡◌, sym, ap, subst, ◌∙◌}
-use Rattle.wac_graph_core.specs.declared.errors.InstantiationArgumentError.{InstantiationArgumentError}
-use Rattle.wac_graph_core.specs.Graph.{Graph}
+use Rattle.std.proofs.Common.{rules, ◌≡◌, sym, subst}
 use Rattle.wac_graph_core.specs.Steps.{Aliases, SetsArgument}
 use Rattle.wac_graph_core.specs.Refusals.{ArgumentRefused}
-use Rattle.wac_graph_plug.specs.declared.matching.Match.{Match}
-use Rattle.wac_graph_plug.specs.Steps.{Grown, Passes}
-use Rattle.wac_graph_plug.proofs.Growing.{Grown-same, Grown-trans, Grown-alias, Grown-set, Grown-passes, ContainsNode-grown}
+use Rattle.wac_graph_plug.proofs.Growing.{Grown-same, Grown-trans, Grown-alias, Grown-set, ContainsNode-grown}
 use Rattle.wac_graph_core.proofs.Made.{alias_there}
 use Rattle.wac_graph_plug.proofs.plugging.pass.Goals as goal
 

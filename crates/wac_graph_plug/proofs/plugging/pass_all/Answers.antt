@@ -1,4 +1,4 @@
-use Rattle.std.proofs.Common.{◌≤◌, length, take, subst}
+use Rattle.std.proofs.Common.{subst}
 use Rattle.std.proofs.lemmas.List.{take_all}
 use Rattle.wac_graph_plug.specs.Steps.{PassesAll, passed_none}
 use Rattle.wac_graph_plug.proofs.Growing.{Grown-refl, Grown-trans, ContainsNode-grown, HasExport-grown}

@@ -1,4 +1,4 @@
-use Rattle.std.proofs.Common.{◌≡◌, ◌⊎◌, ap, sym, subst, ◌∙◌}
+use Rattle.std.proofs.Common.{◌≡◌, ◌⊎◌, ap, subst, ◌∙◌}
 use Rattle.wac_types_base.specs.Collection.{IsAcyclic}
 use Rattle.wac_types_base.specs.Entries.{names_of, texts_of, AreDistinct}
 use Rattle.wac_types_base.specs.Graph.{Among}

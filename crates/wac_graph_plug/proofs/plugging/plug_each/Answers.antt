@@ -1,4 +1,4 @@
-use Rattle.std.proofs.Common.{◌≡◌, ◌≤◌, length, take, get_or, subst, inl, inr}
+use Rattle.std.proofs.Common.{◌≡◌, get_or, subst, inl, inr}
 use Rattle.wac_graph_core.specs.declared.ids.PackageId.{PackageId}
 use Rattle.std.proofs.lemmas.List.{take_all}
 use Rattle.wac_graph_plug.specs.Stops.{PlugsAll}

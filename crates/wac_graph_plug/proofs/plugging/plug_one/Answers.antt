@@ -1,11 +1,8 @@
-use Rattle.std.proofs.Common.{◌≡◌, ◌≢◌, [], Bool, true, false, List, sym, ap, subst, ◌∙◌, inl, inr}
-use Rattle.wac_types_base.specs.Entries.{names_of, AreDistinct}
+use Rattle.std.proofs.Common.{subst, inr}
 use Rattle.wac_types_base.specs.Collection.{IsAcyclic}
 use Rattle.wac_types_base.specs.Graph.{Among}
-use Rattle.wac_types_base.specs.Stated.{exports_of}
-use Rattle.wac_graph_plug.specs.declared.matching.Match.{Match}
 use Rattle.wac_graph_plug.specs.Steps.{PassesAll}
-use Rattle.wac_graph_plug.specs.Stops.{world_of, AreMatchesIn, StopsPassing}
+use Rattle.wac_graph_plug.specs.Stops.{StopsPassing}
 use Rattle.wac_graph_plug.proofs.Growing.{Grown-trans, Grown-instance, ContainsNode-grown}
 use Rattle.wac_graph_plug.proofs.Calls.{match_has, plugs_some, stops_some, are_in, distinct_in, some_of}
 use Rattle.wac_graph_plug.proofs.plugging.plug_one.Goals as goal
