@@ -61,7 +61,7 @@ impl From<PlanError> for PlugTextError {
 
 /// Whether a package's own name is the name of a package, without a version.
 fn is_readable(package: PackageRef<'_>) -> bool
-    ensures { IsTrue result ↔ IsReadable «package» }
+    ensures { IsTrue result ↔ IsReadable «package».entry }
 {
     let name = package.package.name();
     is_package_name(name) && !has_byte(name, b'@')
@@ -73,8 +73,8 @@ fn test_names(
     plugs: &[PackageRef<'_>],
     socket: PackageRef<'_>,
 ) -> Result<(), PlugTextError>
-    ensures readable { OnOk result (AreReadable name.now plugs.now socket) }
-    ensures refused { IfErr result (λ e. (e ≡ PlugTextError.NameNotReadable) × (AreReadable name.now plugs.now socket → ⊥)) }
+    ensures readable { OnOk result (AreReadable name.now plugs.now socket.entry) }
+    ensures refused { IfErr result (λ e. (e ≡ PlugTextError.NameNotReadable) × (AreReadable name.now plugs.now socket.entry → ⊥)) }
 {
     if !is_package_name(name) || !is_readable(socket) {
         return Err(PlugTextError::NameNotReadable);
@@ -110,7 +110,7 @@ fn test_arguments(arguments: &[Argument]) -> Result<(), PlugTextError>
 /// The world of a package.
 fn world_of(package: PackageRef<'_>) -> WorldIn<'_>
     requires { HasWorld «package» }
-    ensures world { world_in result ≡ world_of «package» }
+    ensures world { world_in result ≡ world_of «package».entry }
     ensures stands { WorldStands result }
 {
     WorldIn {
@@ -141,8 +141,8 @@ fn planned(
 ) -> Result<Plan, PlugTextError>
     requires plugs { All HasWorld plugs.now }
     requires socket { HasWorld socket }
-    ensures plugged { OnOk result (CanBePlugged name.now plugs.now socket) }
-    ensures refused { IfErr result (PlugTextRefused name.now plugs.now socket) }
+    ensures plugged { OnOk result (CanBePlugged name.now plugs.now socket.entry) }
+    ensures refused { IfErr result (PlugTextRefused name.now plugs.now socket.entry) }
 {
     test_names(name, plugs, socket)?;
     let worlds = worlds_of(alloc, plugs)?;
@@ -190,8 +190,8 @@ pub fn plug_text(
 ) -> Result<String, PlugTextError>
     requires plugs { All HasWorld plugs.now }
     requires socket { HasWorld socket }
-    ensures plugged { OnOk result (CanBePlugged name.now plugs.now socket) }
-    ensures refused { IfErr result (PlugTextRefused name.now plugs.now socket) }
+    ensures plugged { OnOk result (CanBePlugged name.now plugs.now socket.entry) }
+    ensures refused { IfErr result (PlugTextRefused name.now plugs.now socket.entry) }
 {
     let plan = planned(alloc, name, plugs, socket)?;
     let mut text = format!(in alloc; "package {name};\n\n")?;
