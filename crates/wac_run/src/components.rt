@@ -1,7 +1,8 @@
 //! The components of a manifest.
 
-ghost use Rattle.std.specs.Prelude.{◌≡◌, Some, None, IfOk, string_bytes};
+ghost use Rattle.std.specs.Prelude.{◌≡◌, Some, None, IfOk, IfErr, string_bytes};
 ghost use Rattle.wac_run.specs.Files.{Has};
+ghost use Rattle.wac_run.specs.Loading.{IsUnread, IsNoText, IsTextOf, IsTextRefused};
 
 use crate::declared::{DeclareDocument, DeclaredWorldError, Declares, world_in};
 use crate::files::{Files, FilesError};
@@ -20,7 +21,8 @@ const DECLARED: u64 = u64::MAX;
 
 /// The bytes of a file.
 pub fn read_file<F: Files>(alloc: Global, files: &F, path: &str) -> Result<Vec<u8>, Stop>
-    ensures { IfOk result (λ bytes. Has (F.stored files.now) path.now (Some bytes.items)) }
+    ensures bytes { IfOk result (λ bytes. Has (F.stored files.now) path.now (Some bytes.items)) }
+    ensures refused { IfErr result (IsUnread (F.stored files.now) path.now) }
 {
     match files.read(alloc, path) {
         Ok(bytes) => Ok(bytes),
@@ -31,7 +33,8 @@ pub fn read_file<F: Files>(alloc: Global, files: &F, path: &str) -> Result<Vec<u
 
 /// The text that the bytes of a file are.
 pub fn text_of(alloc: Global, path: &str, bytes: &[u8]) -> Result<String, Stop>
-    ensures { IfOk result (λ text. string_bytes text ≡ bytes.now) }
+    ensures text { IfOk result (λ text. string_bytes text ≡ bytes.now) }
+    ensures refused { IfErr result (IsNoText bytes.now) }
 {
     match std::str::from_utf8(bytes) {
         Ok(text) => Ok(String::from_str(alloc, text)?),
@@ -48,7 +51,10 @@ fn bytes_of<F: Files>(alloc: Global, files: &F, data: BytesData) -> Result<Vec<u
 }
 
 /// The text that a manifest gives.
-pub fn load_text<F: Files>(alloc: Global, files: &F, data: TextData) -> Result<String, Stop> {
+pub fn load_text<F: Files>(alloc: Global, files: &F, data: TextData) -> Result<String, Stop>
+    ensures text { IfOk result (λ text. IsTextOf (F.stored files.now) «data» (string_bytes text)) }
+    ensures refused { IfErr result (IsTextRefused (F.stored files.now) «data») }
+{
     match data {
         TextData::Text(text) => Ok(text),
         TextData::File(path) => {

@@ -1,5 +1,8 @@
 //! Places in sources, as compilers show them.
 
+ghost use Rattle.std.specs.Prelude.{◌≡◌, ◌+◌};
+ghost use Rattle.wac_run.specs.Places.{begins_character, newlines, characters, first_line, behind_newline, IsFront, IsPlace};
+
 use std::alloc::{AllocError, Global};
 use wac_parser_lexer::SourceSpan;
 
@@ -16,36 +19,67 @@ pub struct Place<'a> {
     pub text: &'a str,
 }
 
+/// Whether a byte begins a character.
+fn begins_character(byte: u8) -> bool
+    ensures { result ≡ begins_character byte }
+{
+    byte < 128 || 192 <= byte
+}
+
 /// The front of a text, of at most so many bytes, to the end of a character.
-fn front(text: &str, length: usize) -> &str {
-    let length = length.min(text.len());
-    for back in 0..4 {
-        if let Some(front) = text.get(..length.saturating_sub(back)) {
-            return front;
+fn front(text: &str, length: usize) -> &str
+    ensures { IsFront text.now «length» result.now }
+{
+    &text[..text.floor_char_boundary(length)]
+}
+
+/// The line and the column at which a text ends.
+fn end_of(text: &str) -> (usize, usize)
+    ensures line { result.0 ≡ 1 + newlines text.now }
+    ensures column { result.1 ≡ 1 + behind_newline text.now }
+{
+    let mut line: usize = 1;
+    let mut column: usize = 1;
+    for byte in text.as_bytes() {
+        if *byte == b'\n' {
+            line += 1;
+            column = 1;
+        } else if begins_character(*byte) {
+            column += 1;
         }
     }
-    ""
+    (line, column)
+}
+
+/// How many characters the first line of a text has.
+fn width_of(text: &str) -> usize
+    ensures { result ≡ characters (first_line text.now) }
+{
+    let mut width: usize = 0;
+    for byte in text.as_bytes() {
+        if *byte == b'\n' {
+            return width;
+        }
+        if begins_character(*byte) {
+            width += 1;
+        }
+    }
+    width
 }
 
 /// Where a span stands in a source. Behind the end of the source it stands at the end.
-pub fn place_of(source: &str, span: SourceSpan) -> Place<'_> {
+pub fn place_of(source: &str, span: SourceSpan) -> Place<'_>
+    ensures place { IsPlace source.now span result }
+{
     let before = front(source, span.offset);
-    let behind = source.get(before.len()..).unwrap_or("");
-    let spanned = front(behind, span.length);
-    let own = match before.rsplit_once('\n') {
-        None => before,
-        Some((_, own)) => own,
-    };
-    let shown = match spanned.split_once('\n') {
-        None => spanned,
-        Some((first, _)) => first,
-    };
-    let line = before.split('\n').count();
+    let behind = &source[before.len()..];
+    let (line, column) = end_of(before);
+    let width = width_of(front(behind, span.length)).max(1);
     let text = source.split('\n').nth(line.saturating_sub(1)).unwrap_or("");
     Place {
         line,
-        column: own.chars().count().saturating_add(1),
-        width: shown.chars().count().max(1),
+        column,
+        width,
         text: text.trim_end_matches('\r'),
     }
 }

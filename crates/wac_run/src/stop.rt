@@ -1,5 +1,13 @@
 //! Why a run stops.
 
+ghost use Rattle.std.specs.Prelude.{◌≡◌};
+ghost use Rattle.wac_manifest.specs.declared.error.ManifestError.{ManifestError};
+ghost use Rattle.wac_parser_refusals.specs.Causes.{span_of};
+ghost use Rattle.wac_parser_refusals.specs.Views.{cause_of};
+ghost use Rattle.wac_run.specs.Loading.{StopsFor};
+ghost use Rattle.wac_run.specs.Telling.{place_in_source, TellsAt, TellsOf};
+ghost use Rattle.wac_run.specs.declared.stop.Stop.{Stop};
+
 use std::alloc::{AllocError, AllocFailed, Global};
 use std::fmt::Display;
 use wac_manifest::ManifestError;
@@ -22,19 +30,25 @@ pub enum Stop {
 }
 
 impl From<AllocError> for Stop {
+    ghost from_gives = { λ _ stop. stop ≡ Stop.Memory };
+
     fn from(_: AllocError) -> Self {
         Stop::Memory
     }
 }
 
 impl<T: Drop> From<AllocFailed<T>> for Stop {
+    ghost from_gives = { λ _ stop. stop ≡ Stop.Memory };
+
     fn from(_: AllocFailed<T>) -> Self {
         Stop::Memory
     }
 }
 
 /// A refusal with a text that is made.
-pub(crate) fn with_text(text: Result<String, AllocError>) -> Stop {
+pub(crate) fn with_text(text: Result<String, AllocError>) -> Stop
+    ensures { StopsFor (Unit {0}) result }
+{
     match text {
         Ok(text) => Stop::Refused { text, span: None },
         Err(_) => Stop::Memory,
@@ -42,7 +56,9 @@ pub(crate) fn with_text(text: Result<String, AllocError>) -> Stop {
 }
 
 /// A refusal with the text of a fault, and its place.
-fn of_fault<E: Display>(alloc: Global, fault: &E, span: Option<SourceSpan>) -> Stop {
+fn of_fault<E: Display>(alloc: Global, fault: &E, span: Option<SourceSpan>) -> Stop
+    ensures { TellsAt span result }
+{
     match fault.to_string(alloc) {
         Ok(text) => Stop::Refused { text, span },
         Err(_) => Stop::Memory,
@@ -50,7 +66,9 @@ fn of_fault<E: Display>(alloc: Global, fault: &E, span: Option<SourceSpan>) -> S
 }
 
 /// A file, or `-` for the input, that cannot be read.
-pub(crate) fn cannot_read(alloc: Global, path: &str) -> Stop {
+pub(crate) fn cannot_read(alloc: Global, path: &str) -> Stop
+    ensures { StopsFor (Unit {0}) result }
+{
     with_text(format!(in alloc; "cannot read {path}"))
 }
 
@@ -60,7 +78,9 @@ pub(crate) fn cannot_write(alloc: Global, path: &str) -> Stop {
 }
 
 /// A fault of a manifest.
-pub fn bad_manifest(alloc: Global, fault: ManifestError) -> Stop {
+pub fn bad_manifest(alloc: Global, fault: ManifestError) -> Stop
+    ensures { StopsFor (fault ≡ ManifestError.Bad) result }
+{
     match fault {
         ManifestError::Memory => Stop::Memory,
         ManifestError::Bad => of_fault(alloc, &fault, None),
@@ -68,7 +88,9 @@ pub fn bad_manifest(alloc: Global, fault: ManifestError) -> Stop {
 }
 
 /// Where a fault of parsing stands.
-fn parse_span(fault: &ParseError) -> Option<SourceSpan> {
+fn parse_span(fault: &ParseError) -> Option<SourceSpan>
+    ensures { result ≡ place_in_source fault.now }
+{
     match fault {
         ParseError::Lexer { span, .. }
         | ParseError::Expected { span, .. }
@@ -82,7 +104,9 @@ fn parse_span(fault: &ParseError) -> Option<SourceSpan> {
 }
 
 /// A fault of parsing.
-pub(crate) fn not_parsed(alloc: Global, fault: &ParseError) -> Stop {
+pub(crate) fn not_parsed(alloc: Global, fault: &ParseError) -> Stop
+    ensures { TellsAt (place_in_source fault.now) result }
+{
     match fault {
         ParseError::Memory => Stop::Memory,
         fault => of_fault(alloc, fault, parse_span(fault)),
@@ -90,7 +114,9 @@ pub(crate) fn not_parsed(alloc: Global, fault: &ParseError) -> Stop {
 }
 
 /// A fault of resolving.
-pub(crate) fn not_resolved(alloc: Global, fault: &ResolutionError) -> Stop {
+pub(crate) fn not_resolved(alloc: Global, fault: &ResolutionError) -> Stop
+    ensures { TellsAt (span_of (cause_of fault.now)) result }
+{
     match fault {
         ResolutionError::Memory => Stop::Memory,
         fault => of_fault(alloc, fault, fault.span()),
@@ -103,7 +129,9 @@ pub(crate) fn key_taken<K: Display>(alloc: Global, key: &K) -> Stop {
 }
 
 /// A fault of composing, but for a key that is there already.
-pub fn not_composed(alloc: Global, fault: &ComposeError) -> Stop {
+pub fn not_composed(alloc: Global, fault: &ComposeError) -> Stop
+    ensures { TellsOf fault.now result }
+{
     match fault {
         ComposeError::Memory => Stop::Memory,
         ComposeError::Parse(fault) => not_parsed(alloc, fault),
