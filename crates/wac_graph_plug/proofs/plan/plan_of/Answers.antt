@@ -20,9 +20,11 @@ loop-at-preserved c =
     let within : at ≤ length ps = omega (arith, c.loop-at-test.true) in
     let place = get-place ps at p c.loop-at-test.true c.index-plugs-at.is in
     let are = c.loop-at.invariant.1 in
-    let found = c.in_ok-found.ensures in
-    (mss ++ ms ∷ [], are_next ps s at p place within mss ms are found,
-    plan_next mss ms at c.loop-at.plan c.add.new.self (counted_to ps s at p place within mss ms are found) c.loop-at.invariant.2 (subst (λ l. PlansOne at l c.loop-at.plan c.add.new.self) c.deref.ensures.value c.in_ok-add.ensures.planned))
+    let found = c.in_ok-found.ensures in (
+      mss ++ ms ∷ [],
+      are_next ps s at p place within mss ms are found,
+      plan_next mss ms at c.loop-at.plan c.add.new.self (counted_to ps s at p place within mss ms are found) c.loop-at.invariant.2 (subst (λ l. PlansOne at l c.loop-at.plan c.add.new.self) c.deref.ensures.value c.in_ok-add.ensures.planned),
+    )
 
 pub returns-in_err-add-clause-refused : goal.returns-in_err-add-clause-refused
 returns-in_err-add-clause-refused c =

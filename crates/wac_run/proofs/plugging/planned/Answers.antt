@@ -12,11 +12,14 @@ returns-in_err-test_arguments-clause-refused c =
     let planned = subst (λ s. IsPlan (map world_of c.args.plugs.now) s plan) c.world_of.ensures.world (subst (λ ps. IsPlan ps (world_in c.world_of.result) plan) worlds c.in_ok-plan.ensures.plan) in
     let fault = c.in_err-test_arguments.ensures.refused in
     let from = err_from_is_err_and c.from_residual-in_err-test_arguments.result c.from_residual-in_err-test_arguments.ensures.1 in
-    rw (from.1, from.2, fault.0) (c.in_ok-test_names.ensures.readable, record {
-      plan = plan;
-      planned = planned;
-      unspelled = λ all. fault.1 (subst (All IsSpelled) (sym c.deref-2.ensures.value) all);
-    })
+    rw (from.1, from.2, fault.0) (
+      c.in_ok-test_names.ensures.readable,
+      record {
+        plan = plan;
+        planned = planned;
+        unspelled = λ all. fault.1 (subst (All IsSpelled) (sym c.deref-2.ensures.value) all);
+      },
+    )
 
 pub returns-clause-plugged : goal.returns-clause-plugged
 returns-clause-plugged c =
