@@ -11,6 +11,7 @@ pub mod Writable
 pub mod NotWritten
 pub mod Circles
 pub mod Conflicts
+pub mod Circular
 pub mod Against
 pub mod Worlds
 pub mod Wired
