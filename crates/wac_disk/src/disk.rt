@@ -3,7 +3,7 @@
 use std::alloc::Global;
 use std::fs::File;
 use std::io::{self, Read, Write};
-use wac_run::{Files, FilesError};
+use wac_texts::{Files, FilesError};
 
 /// How many bytes one read asks for.
 const PIECE: usize = 65536;

@@ -3,7 +3,7 @@
 ghost use Rattle.std.specs.Prelude.{None};
 
 use std::io::{self, Write};
-use wac_workspace::ByteSink;
+use wac_streams::ByteSink;
 
 /// Standard output.
 #[derive(Drop)]

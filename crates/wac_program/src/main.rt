@@ -5,7 +5,7 @@ use std::alloc::Global;
 use std::io;
 use std::process::ExitCode;
 use wac_disk::{Disk, ErrorEnd, OutputEnd};
-use wac_run::run;
+use wac::run;
 
 /// The words behind the program's name.
 fn words_of(rt: &HostRuntime, alloc: Global) -> io::Result<Vec<String>> {

@@ -9,7 +9,7 @@ use std::alloc::Global;
 use std::io;
 use std::process::ExitCode;
 use wac_disk::Disk;
-use wac_run::{Stop, read_file, text_of};
+use wac::{Stop, read_file, text_of};
 
 /// The first word behind the program's name.
 fn word_of(rt: &HostRuntime) -> io::Result<Option<String>> {

@@ -1,11 +1,13 @@
 //! Sources of a manifest as drawings, or as places of faults.
 
 use std::alloc::{AllocError, Global};
+use wac::manifest::{ComposeManifest, Source};
+use wac::{
+    EncodeOptions, Files, Output, Stop, Workspace, add_components, bad_manifest, load_text,
+    not_composed, show_place,
+};
 use wac_draw::flowchart;
-use wac_manifest::{ComposeManifest, Source};
 use wac_parser_lexer::SourceSpan;
-use wac_run::{Files, Stop, add_components, bad_manifest, load_text, not_composed, show_place};
-use wac_workspace::{EncodeOptions, Output, Workspace};
 
 /// What is shown of sources, one after another.
 #[derive(Drop)]

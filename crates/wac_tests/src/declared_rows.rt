@@ -2,7 +2,7 @@
 
 use std::alloc::Global;
 use std::test::Fail;
-use wac::{DeclareDocument, DeclaredWorldError, declared_world};
+use wac_texts::{DeclareDocument, DeclaredWorldError, declared_world};
 use wac_parser_read::ParseDocument;
 use wac_parser_resolve::{Packages, ResolveDocument};
 use wac_parser_tree::Document;

@@ -3,7 +3,7 @@
 use super::worlds::passing_world;
 use std::alloc::Global;
 use std::test::Fail;
-use wac::*;
+use wac_workspace::*;
 use wac_types_base::{ItemKind, Types};
 
 /// The bytes of `p:p`: it imports `f: func()`, and exports it as `g`.

@@ -3,7 +3,7 @@
 use super::handed::{ONE, PASSING, SOURCE, add, bytes_of, maybe_bytes};
 use std::alloc::Global;
 use std::test::Fail;
-use wac::*;
+use wac_workspace::*;
 
 /// Adds `p:p`. Whether it was added; and none where another answer than want of memory came.
 fn is_added(alloc: Global, workspace: &mut Workspace) -> Option<bool> {

@@ -3,7 +3,7 @@
 use std::alloc::Global;
 use std::process::Abort;
 use std::test::Fail;
-use wac::{place_of, show_place};
+use wac_texts::{place_of, show_place};
 use wac_parser_lexer::SourceSpan;
 
 /// What is shown of so many bytes from a place on.

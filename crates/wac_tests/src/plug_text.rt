@@ -1,13 +1,14 @@
 //! Plugging as a text.
 
 ghost use Rattle.std.specs.Prelude.{IfOk};
-ghost use Rattle.wac_run.specs.Worlds.{HasWorld};
+ghost use Rattle.wac_texts.specs.Worlds.{HasWorld};
 
 use super::handed::{PASSING, add, bytes_of};
 use super::worlds::{add_func, add_world};
 use std::alloc::Global;
 use std::test::Fail;
-use wac::*;
+use wac_texts::{PlugTextError, plug_text};
+use wac_workspace::*;
 use wac_types_base::{ItemKind, Types};
 
 /// A workspace that holds `p:p`.

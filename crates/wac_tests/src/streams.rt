@@ -4,7 +4,7 @@ ghost use Rattle.std.specs.Prelude.{None};
 
 use std::alloc::Global;
 use std::io::{self, Read, Write};
-use wac::{ByteSink, ByteSource};
+use wac_streams::{ByteSink, ByteSource};
 
 /// Fails at each call.
 #[derive(Debug, Drop)]

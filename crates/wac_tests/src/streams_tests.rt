@@ -3,7 +3,7 @@ use super::streams::{Endless, FailsAtOnce, SliceSource, TakesNothing, VecSink};
 use std::alloc::Global;
 use std::process::Abort;
 use std::test::Fail;
-use wac::*;
+use wac_workspace::*;
 
 /// How a stream ended, in a word. What it ended with is dropped here alone.
 fn ended<T: Drop>(outcome: Result<T, StreamError>) -> &'static str {

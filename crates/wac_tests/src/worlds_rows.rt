@@ -4,7 +4,7 @@ use super::worlds::{add_func, add_instance, add_resource, add_world};
 use std::alloc::Global;
 use std::fmt::Display;
 use std::test::Fail;
-use wac::*;
+use wac_workspace::*;
 use wac_reader::{Leaf, ReadError, tell};
 use wac_types_base::{ItemKind, PrimitiveType, Types, ValueType, WorldId};
 

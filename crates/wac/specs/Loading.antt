@@ -1,0 +1,36 @@
+-- Loading what manifests name, and why it is not loaded.
+use Rattle.std.specs.Prelude.{◌≡◌, ◌⊎◌, ℕ, List, Option, Some, None, string_bytes}
+use Rattle.std.specs.Str.{IsUtf8}
+use Rattle.wac_types_base.specs.Entries.{Name}
+use Rattle.wac_manifest.specs.declared.data.TextData.{TextData}
+use Rattle.wac_texts.specs.Files.{Stored, Has}
+use Rattle.wac.specs.declared.stop.Stop.{Stop}
+
+-- a cause is told only where it stands, and then told
+abbrev pub StopsFor : Type 0 → Stop → Type 0
+StopsFor cause (Stop.Refused text span) = cause
+StopsFor cause Stop.Unwritten = ⊥
+StopsFor cause Stop.Memory = Unit {0}
+
+-- the path has no file
+abbrev pub IsUnread : Option Stored → Name → Stop → Type 0
+IsUnread files path = StopsFor (Has files path None)
+
+-- the bytes are no text
+abbrev pub IsNoText : List ℕ → Stop → Type 0
+IsNoText bytes = StopsFor (IsUtf8 bytes → ⊥)
+
+-- the text that is given, or that a file has
+abbrev pub IsTextOf : Option Stored → TextData → List ℕ → Type 0
+IsTextOf files (TextData.Text given) text = text ≡ string_bytes given
+IsTextOf files (TextData.File path) text = Has files (string_bytes path) (Some text)
+
+-- the path has no file, or its file's bytes are no text
+pub record HasNoText (files : Option Stored) (path : Name) : Type 0 where
+  pub bytes : List ℕ
+  pub has : Has files path (Some bytes)
+  pub no_text : IsUtf8 bytes → ⊥
+
+abbrev pub IsTextRefused : Option Stored → TextData → Stop → Type 0
+IsTextRefused files (TextData.Text given) = StopsFor ⊥
+IsTextRefused files (TextData.File path) = StopsFor (Has files (string_bytes path) None ⊎ HasNoText files (string_bytes path))

@@ -1,0 +1,129 @@
+//! What the program can be asked to do.
+
+ghost use Rattle.std.specs.Prelude.{All, IfOk};
+ghost use Rattle.wac_texts.specs.Worlds.{HasWorld};
+
+use crate::components::add_components;
+use crate::documents::PrintDocument;
+use wac_texts::{PlugTextError, plug_text};
+use crate::stop::{Stop, bad_manifest, not_parsed, plain, with_text};
+use std::alloc::Global;
+use wac_manifest::{ComposeManifest, Key, PlugManifest};
+use wac_parser_read::ParseDocument;
+use wac_parser_resolve::PackageRef;
+use wac_parser_tree::Document;
+use wac_texts::Files;
+use crate::sources::{put_composed, put_sources};
+use wac_types_names::BorrowedPackageKey;
+use wac_workspace::{ByteSink, Workspace, write_bytes};
+
+/// Composes the sources of a manifest.
+pub(crate) fn compose<F: Files, W: ByteSink>(
+    alloc: Global,
+    text: &str,
+    files: &mut F,
+    out: &mut W,
+) -> Result<(), Stop> {
+    let manifest = match ComposeManifest::read(alloc, text) {
+        Ok(manifest) => manifest,
+        Err(fault) => return Err(bad_manifest(alloc, fault)),
+    };
+    let define = !manifest.import;
+    let mut workspace = Workspace::new(alloc);
+    add_components(alloc, files, &mut workspace, manifest.components)?;
+    put_sources(alloc, &mut workspace, files, out, manifest.sources, define)
+}
+
+/// The package of a key.
+fn find<'a>(alloc: Global, workspace: &'a Workspace, key: &Key) -> Result<PackageRef<'a>, Stop>
+    ensures { IfOk result HasWorld }
+{
+    let name = key.name.as_str();
+    let version = key.version.as_ref();
+    match workspace.get(name, version) {
+        Some(package) => Ok(package),
+        None => {
+            let key = BorrowedPackageKey::from_name_and_version(name, version);
+            Err(with_text(format!(in alloc; "unknown package `{key}`")))
+        }
+    }
+}
+
+/// The packages of keys.
+fn find_all<'a>(
+    alloc: Global,
+    workspace: &'a Workspace,
+    keys: &[Key],
+) -> Result<Vec<PackageRef<'a>>, Stop>
+    ensures { IfOk result (λ found. All HasWorld found.items) }
+{
+    let mut found = Vec::new(alloc);
+    for key in keys {
+        found.push(find(alloc, workspace, key)?)?;
+    }
+    Ok(found)
+}
+
+/// The text that plugs what a manifest says.
+fn plugging_text(
+    alloc: Global,
+    workspace: &Workspace,
+    name: &str,
+    plugs: &[Key],
+    socket: &Key,
+) -> Result<String, Stop> {
+    let plugs = find_all(alloc, workspace, plugs)?;
+    let socket = find(alloc, workspace, socket)?;
+    match plug_text(alloc, name, &plugs, socket) {
+        Ok(text) => Ok(text),
+        Err(PlugTextError::Memory) => Err(Stop::Memory),
+        Err(fault) => Err(plain(alloc, &fault)),
+    }
+}
+
+/// Plugs packages of a manifest into one of them.
+pub(crate) fn plug<F: Files, W: ByteSink>(
+    alloc: Global,
+    text: &str,
+    files: &mut F,
+    out: &mut W,
+) -> Result<(), Stop> {
+    let manifest = match PlugManifest::read(alloc, text) {
+        Ok(manifest) => manifest,
+        Err(fault) => return Err(bad_manifest(alloc, fault)),
+    };
+    let mut workspace = Workspace::new(alloc);
+    add_components(alloc, files, &mut workspace, manifest.components)?;
+    let name = manifest.name.as_str();
+    let source = plugging_text(alloc, &workspace, name, &manifest.plugs, &manifest.socket)?;
+    let path = manifest.out.as_ref().map(|path| path.as_str());
+    put_composed(
+        source.as_str(),
+        alloc,
+        &mut workspace,
+        files,
+        out,
+        path,
+        true,
+    )
+}
+
+/// The printed text of a source.
+fn printed<'s, D: ParseDocument<'s> + PrintDocument>(
+    source: &'s str,
+    alloc: Global,
+) -> Result<Vec<u8>, Stop> {
+    match D::parse(alloc, source) {
+        Ok(document) => document.print(alloc, source),
+        Err(fault) => Err(not_parsed(alloc, &fault)),
+    }
+}
+
+/// Prints a document.
+pub(crate) fn format<W: ByteSink>(alloc: Global, source: &str, out: &mut W) -> Result<(), Stop> {
+    let text = printed::<Document<'_>>(source, alloc)?;
+    match write_bytes(out, &text) {
+        Ok(()) => Ok(()),
+        Err(_) => Err(Stop::Unwritten),
+    }
+}

@@ -1,0 +1,176 @@
+//! The run of the program.
+
+ghost use Rattle.std.specs.Prelude.{◌≡◌, ◌≤◌, ◌⊎◌, ◌↔◌, map, IsSome};
+ghost use Rattle.std.specs.Io.KnownBytes.{Appends};
+ghost use Rattle.wac_streams.specs.Calls.{FailedOnce};
+ghost use Rattle.wac.specs.Words.{IsCommand, Asks, usage};
+
+use crate::commands::{compose, format, plug};
+use crate::components::{read_file, text_of};
+use crate::sources::put;
+use crate::stop::{Stop, cannot_read};
+use std::alloc::Global;
+use wac_parser_lexer::SourceSpan;
+use wac_texts::Files;
+use wac_workspace::{ByteSink, ByteSource, StreamError, read_source};
+
+/// What other words are answered.
+const USAGE: &str = "usage: wac compose|format|plug FILE\n";
+
+/// The status of a run that did what it was asked.
+const DONE: u8 = 0;
+
+/// The status of a run that was refused.
+const REFUSED: u8 = 1;
+
+/// The status of a run whose words say nothing.
+const MISUSED: u8 = 2;
+
+/// What the words ask for.
+#[derive(Clone, Copy)]
+enum Command {
+    Compose,
+    Format,
+    Plug,
+}
+
+/// The command of a word.
+fn command_of(word: &str) -> Option<Command>
+    ensures { IsSome result ↔ IsCommand word.now }
+{
+    match word {
+        "compose" => Some(Command::Compose),
+        "format" => Some(Command::Format),
+        "plug" => Some(Command::Plug),
+        _ => None,
+    }
+}
+
+/// The command of the words, and its file.
+fn asked<'a>(words: &[&'a str]) -> Option<(Command, &'a str)>
+    ensures { IsSome result ↔ Asks (map (λ word. word.now) words.now) }
+{
+    match words {
+        [word, path] => match command_of(word) {
+            Some(command) => Some((command, *path)),
+            None => None,
+        },
+        _ => None,
+    }
+}
+
+// A fault is dropped by a call of `drop`: in an arm of a `match` each proof would take its whole type apart.
+
+/// Why the input was not read.
+fn unread(alloc: Global, fault: StreamError) -> Stop {
+    let stop = match &fault {
+        StreamError::Memory => Stop::Memory,
+        _ => cannot_read(alloc, "-"),
+    };
+    drop(fault);
+    stop
+}
+
+/// What the input has.
+fn read_input<R: ByteSource>(alloc: Global, input: &mut R) -> Result<Vec<u8>, Stop> {
+    match read_source(alloc, input) {
+        Ok(bytes) => Ok(bytes),
+        Err(fault) => Err(unread(alloc, fault)),
+    }
+}
+
+/// The text of a file, or for `-` of the input.
+fn text_at<F: Files, R: ByteSource>(
+    alloc: Global,
+    path: &str,
+    input: &mut R,
+    files: &F,
+) -> Result<String, Stop> {
+    let bytes = if path == "-" {
+        read_input(alloc, input)?
+    } else {
+        read_file(alloc, files, path)?
+    };
+    text_of(alloc, path, &bytes)
+}
+
+/// Does what is asked.
+fn done<F: Files, R: ByteSource, O: ByteSink>(
+    alloc: Global,
+    command: Command,
+    path: &str,
+    input: &mut R,
+    files: &mut F,
+    out: &mut O,
+) -> Result<(), Stop> {
+    let text = text_at(alloc, path, input, files)?;
+    match command {
+        Command::Compose => compose(alloc, text.as_str(), files, out),
+        Command::Format => format(alloc, text.as_str(), out),
+        Command::Plug => plug(alloc, text.as_str(), files, out),
+    }
+}
+
+/// Tells a place.
+fn tell_place<E: ByteSink>(alloc: Global, err: &mut E, span: SourceSpan) -> Result<(), Stop> {
+    let SourceSpan { offset, length } = span;
+    let place = format!(in alloc; " at {offset}+{length}")?;
+    put(err, place.as_str())
+}
+
+/// Tells why a run was refused.
+fn tell<E: ByteSink>(alloc: Global, err: &mut E, stop: Stop) -> Result<(), Stop> {
+    match stop {
+        Stop::Unwritten => Ok(()),
+        Stop::Memory => put(err, "error: out of memory\n"),
+        Stop::Refused { text, span } => {
+            put(err, "error: ")?;
+            put(err, text.as_str())?;
+            if let Some(span) = span {
+                tell_place(alloc, err, span)?;
+            }
+            put(err, "\n")
+        }
+    }
+}
+
+/// Tells how the program is used.
+fn misused<E: ByteSink>(err: &mut E) -> u8
+    ensures status { (result ≡ MISUSED) ⊎ ((result ≡ REFUSED) × FailedOnce (E.calls err.old) (E.calls err.new)) }
+    ensures usage { result ≡ MISUSED → Appends (E.contents err.old) (E.contents err.new) usage }
+{
+    match put(err, USAGE) {
+        Ok(()) => MISUSED,
+        Err(_) => REFUSED,
+    }
+}
+
+/// Runs the program on the words behind its name: `compose MANIFEST`, `format FILE` or `plug MANIFEST`, where `-` is the
+/// input. What comes of it is written to `out` and into files, a refusal to `err`. The answer is the status: 0, 1 for a
+/// refusal, 2 for other words. A writer that fails ends the run with status 1, and nothing more is written to either.
+pub fn run<F: Files, R: ByteSource, O: ByteSink, E: ByteSink>(
+    alloc: Global,
+    words: &[&str],
+    input: &mut R,
+    files: &mut F,
+    out: &mut O,
+    err: &mut E,
+) -> u8
+    ensures asked { Asks (map (λ word. word.now) words.now) → result ≤ 1 }
+    ensures misused { (Asks (map (λ word. word.now) words.now) → ⊥)
+        → (result ≡ 2) ⊎ ((result ≡ 1) × FailedOnce (E.calls err.old) (E.calls err.new)) }
+    ensures usage { result ≡ 2 → Appends (E.contents err.old) (E.contents err.new) usage }
+    ensures idle { result ≡ 2 → (input.new ≡ input.old) × (files.new ≡ files.old) × (out.new ≡ out.old) }
+    ensures quiet { result ≡ 0 → err.new ≡ err.old }
+{
+    let Some((command, path)) = asked(words) else {
+        return misused(err);
+    };
+    match done(alloc, command, path, input, files, out) {
+        Ok(()) => DONE,
+        Err(stop) => {
+            let _ = tell(alloc, err, stop);
+            REFUSED
+        }
+    }
+}

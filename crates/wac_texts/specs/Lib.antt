@@ -1,0 +1,4 @@
+pub mod Files
+pub mod Places
+pub mod Worlds
+pub mod Plugs

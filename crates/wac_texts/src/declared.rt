@@ -1,0 +1,174 @@
+//! Worlds that documents declare.
+
+ghost use Rattle.std.specs.Prelude.{◌≡◌, IfOk, IfSome};
+ghost use Rattle.wac_types_base.specs.declared.item.ItemKind.{ItemKind};
+ghost use Rattle.wac_graph_core.specs.Nodes.{Role};
+ghost use Rattle.wac_parser_resolve.specs.Resolved.{graph_of};
+ghost use Rattle.wac_texts.specs.Worlds.{IsDefined, IsDeclared};
+
+use std::alloc::{AllocError, Global};
+use thiserror::Error;
+use wac_graph_core::{CompositionGraph, Node, NodeKind};
+use wac_parser_resolve::Resolved;
+use wac_parser_tree::{Document, Statement, TypeStatement};
+use wac_types_base::{ItemKind, Type, Types, WorldId, copy_world};
+
+/// Why a document does not give a world.
+#[derive(Clone, Copy, Debug, PartialEq, Eq, Error)]
+pub enum DeclaredWorldError {
+    /// The document has no declaration of the name.
+    #[error("the world is not declared")]
+    NotDeclared,
+    /// The declaration of the name is of something else.
+    #[error("the name is not of a world")]
+    NotWorld,
+    #[error("out of memory")]
+    Memory,
+}
+
+impl From<AllocError> for DeclaredWorldError {
+    fn from(_: AllocError) -> Self {
+        DeclaredWorldError::Memory
+    }
+}
+
+/// What stands under a name.
+#[derive(Clone, Copy)]
+pub enum Declares {
+    Nothing,
+    World,
+    /// A type that is no world.
+    Other,
+}
+
+/// Something else, where the names are the same.
+fn other_where(is_same: bool) -> Declares {
+    if is_same {
+        Declares::Other
+    } else {
+        Declares::Nothing
+    }
+}
+
+/// What the declaration of a type declares under a name.
+fn type_declares(statement: &TypeStatement<'_>, name: &str) -> Declares {
+    match statement {
+        TypeStatement::World(world) => {
+            if world.id.string == name {
+                Declares::World
+            } else {
+                Declares::Nothing
+            }
+        }
+        TypeStatement::Interface(interface) => other_where(interface.id.string == name),
+        TypeStatement::Ty(ty) => other_where(ty.id().string == name),
+    }
+}
+
+/// What a statement declares under a name.
+fn statement_declares(statement: &Statement<'_>, name: &str) -> Declares {
+    match statement {
+        Statement::Ty(ty) => type_declares(ty, name),
+        Statement::Import(_) | Statement::Let(_) | Statement::Export(_) => Declares::Nothing,
+    }
+}
+
+/// What the statements of a document declare under a name.
+fn document_declares(document: &Document<'_>, name: &str) -> Declares {
+    for statement in &document.statements {
+        match statement_declares(statement, name) {
+            Declares::Nothing => {}
+            found => return found,
+        }
+    }
+    Declares::Nothing
+}
+
+/// Documents that declare types.
+pub trait DeclareDocument: Sized {
+    /// What the document declares under a name.
+    fn declares(&self, name: &str) -> Declares;
+}
+
+impl<'s> DeclareDocument for Document<'s> {
+    fn declares(&self, name: &str) -> Declares {
+        document_declares(self, name)
+    }
+}
+
+/// The type that a node defines.
+fn defined_type(node: &Node) -> Option<Type>
+    ensures { IfSome result (λ t. (node.now.role ≡ Role.Defined) × (node.now.item_kind ≡ ItemKind.Ty t)) }
+{
+    match node.item_kind() {
+        ItemKind::Ty(ty) => match node.kind() {
+            NodeKind::Definition => Some(ty),
+            _ => None,
+        },
+        _ => None,
+    }
+}
+
+/// The world that a definition of this name has in a graph.
+fn defined_world(graph: &CompositionGraph, name: &str) -> Option<WorldId>
+    ensures { IfSome result (IsDefined graph.now name.now) }
+{
+    graph.see_sound();
+    let node = graph.get_export(name)?;
+    if !graph.contains_node(node) {
+        return None;
+    }
+    match defined_type(&graph[node])? {
+        Type::World(id) => Some(id),
+        _ => None,
+    }
+}
+
+/// The world that a document declares under a name, in its graph's collection.
+pub fn world_in(
+    graph: &CompositionGraph,
+    declares: Declares,
+    name: &str,
+) -> Result<WorldId, DeclaredWorldError>
+    ensures { IfOk result (IsDefined graph.now name.now) }
+{
+    match declares {
+        Declares::Nothing => Err(DeclaredWorldError::NotDeclared),
+        Declares::Other => Err(DeclaredWorldError::NotWorld),
+        Declares::World => match defined_world(graph, name) {
+            Some(id) => Ok(id),
+            None => Err(DeclaredWorldError::NotDeclared),
+        },
+    }
+}
+
+/// The world of a graph that a document declares under a name, copied into a collection of this number.
+fn copied_world(
+    alloc: Global,
+    graph: &CompositionGraph,
+    declares: Declares,
+    name: &str,
+    number: u64,
+) -> Result<(Types, WorldId), DeclaredWorldError>
+    ensures { IfOk result (λ r. IsDeclared graph.now name.now number r.0 r.1) }
+{
+    let world = world_in(graph, declares, name)?;
+    let mut types = Types::new(alloc, number);
+    let mut adding = types.adding();
+    let world = copy_world(alloc, graph.types(), world, &mut adding)?;
+    Ok((types, world))
+}
+
+/// The world that a document declares under a name, copied into a collection of this number, which is not that of the
+/// document's graph.
+pub fn declared_world<'d, D: DeclareDocument>(
+    resolution: &Resolved<'d, D>,
+    alloc: Global,
+    name: &str,
+    number: u64,
+) -> Result<(Types, WorldId), DeclaredWorldError>
+    ensures { IfOk result (λ r. IsDeclared (graph_of resolution.now) name.now number r.0 r.1) }
+{
+    let declares = resolution.document().declares(name);
+    copied_world(alloc, resolution.graph(), declares, name, number)
+}

@@ -1,0 +1,14 @@
+//! What a run of the program has to do with texts and files alone: plugging as a text, worlds that documents declare, files by
+//! their paths, and places in sources as compilers show them.
+#![tactic(auto)]
+
+mod declared;
+mod files;
+mod place;
+mod plugging;
+mod spelling;
+
+pub use declared::{DeclareDocument, DeclaredWorldError, Declares, declared_world, world_in};
+pub use files::{Files, FilesError, MemoryFiles};
+pub use place::{Place, place_of, show_place};
+pub use plugging::{PlugTextError, plug_text};
