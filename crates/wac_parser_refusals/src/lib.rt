@@ -1,7 +1,6 @@
 //! Why a document is refused: the errors of resolution, with their places and texts.
 #![tactic(auto)]
 
-mod debug;
 mod error;
 mod refusal;
 mod refusals;
