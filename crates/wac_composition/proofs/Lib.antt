@@ -21,3 +21,4 @@ pub mod NotFound
 pub mod Against
 pub mod OutersAgain
 pub mod Lists
+pub mod Sizes

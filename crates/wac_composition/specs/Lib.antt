@@ -20,3 +20,4 @@ pub mod OuterLaws
 pub mod Examples
 pub mod Renaming
 pub mod Alike
+pub mod Large

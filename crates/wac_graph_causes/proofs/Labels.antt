@@ -18,7 +18,7 @@ use Rattle.wac_types_base.specs.declared.ids.ModuleTypeId.{ModuleTypeId}
 use Rattle.wac_types_base.specs.Record.{Collection}
 use Rattle.wac_types_base.specs.Collection.{Entry, entry_at, labelled, type_of, borrow_of, own_of, defined_entry, resource_entry, module_entry, func_entry, interface_entry, world_entry, value_node, item_node}
 use Rattle.wac_types_base.proofs.Slots.{entry_at-is, stands_borrow, stands_own, stands_typed_func, stands_typed_value, stands_typed_interface, stands_typed_world, stands_typed_module}
-use Rattle.wac_graph_causes.specs.Large.{label_size, module_size}
+use Rattle.wac_composition.specs.Large.{label_size, module_size}
 use Rattle.wac_graph_causes.specs.Sizes.{label_size_in, label_size_of}
 
 typed_label : (o : Option Entry) → label_size_in (labelled type_of o) ≡ label_size_in o

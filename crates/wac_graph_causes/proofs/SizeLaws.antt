@@ -10,7 +10,7 @@ use Rattle.wac_types_base.specs.Stated.{Stated, stated_of}
 use Rattle.wac_types_base.proofs.GraphLemmas.{value_of}
 use Rattle.wac_types_base.proofs.Walking.{child_smaller}
 use Rattle.wac_types_base.proofs.Telling.{stated_step, folded_places, entry_size}
-use Rattle.wac_graph_causes.specs.Large.{label_size, size_in_place, size_at, written_size}
+use Rattle.wac_composition.specs.Large.{label_size, size_in_place, size_at, written_size}
 use Rattle.wac_graph_causes.specs.Sizes.{label_size_in, label_size_of, size_written, slot_size, places_size}
 
 -- what a walk over places goes down by

@@ -22,7 +22,7 @@ use Rattle.wac_graph_asks.specs.AsksIn.{ask_in, asks_in}
 use Rattle.wac_graph_asks.specs.Asked.{IsAsked, IsAskedBehind, no_more, asked, left_out, placed_in}
 use Rattle.wac_graph_asks.specs.Graphs.{nodes_of, made_with, arguments_to, origin_of, item_at, composition_of}
 use Rattle.wac_graph_asks.proofs.ByNode.{entry_there}
-use Rattle.wac_graph_causes.specs.Large.{name_size, names_size, entry_size, entries_size, asked_entries, worlds_size, written_size}
+use Rattle.wac_composition.specs.Large.{name_size, names_size, entry_size, entries_size, asked_entries, worlds_size, written_size}
 use Rattle.wac_graph_causes.specs.Sizes.{size_written, world_size, instance_size}
 use Rattle.wac_graph_causes.proofs.Sums.{sum_by-map}
 

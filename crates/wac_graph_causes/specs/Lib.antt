@@ -4,5 +4,4 @@ pub mod Firsts
 pub mod Implicit
 pub mod Alike
 pub mod Unwritable
-pub mod Large
 pub mod Sizes

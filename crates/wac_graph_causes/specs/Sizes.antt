@@ -7,7 +7,7 @@ use Rattle.wac_types_base.specs.Stated.{stated_of}
 use Rattle.wac_types_names.specs.Packaged.{Packaged}
 use Rattle.wac_graph_core.specs.Graph.{Graph, instantiated}
 use Rattle.wac_graph_asks.specs.Graphs.{composition_of}
-use Rattle.wac_graph_causes.specs.Large.{IsLarge, label_size, written_size}
+use Rattle.wac_composition.specs.Large.{IsLarge, label_size, written_size}
 
 -- ---- types of a collection
 

@@ -11,8 +11,8 @@ ghost use Rattle.wac_composition.specs.Conflicts.{placed};
 ghost use Rattle.wac_graph_asks.specs.Asked.{IsAsked, placed_in};
 ghost use Rattle.wac_graph_asks.specs.AsksIn.{asks_in};
 ghost use Rattle.wac_graph_asks.specs.Graphs.{composition_of};
-ghost use Rattle.wac_graph_causes.specs.Large.{IsLarge, asked_entries, cores_size, core_size, core_func_size, entries_size, entry_size, label_size};
-ghost use Rattle.wac_graph_causes.specs.Large.{module_size, name_size, names_size, optional_size, pairs_size, use_size, uses_size, worlds_size};
+ghost use Rattle.wac_composition.specs.Large.{IsLarge, asked_entries, cores_size, core_size, core_func_size, entries_size, entry_size, label_size};
+ghost use Rattle.wac_composition.specs.Large.{module_size, name_size, names_size, optional_size, pairs_size, use_size, uses_size, worlds_size};
 ghost use Rattle.wac_graph_causes.specs.Sizes.{HasLargePackage, IsOfLarge, IsTooLarge, instance_size, label_size_of, places_size, size_written, slot_size};
 
 use std::alloc::{AllocError, Global};

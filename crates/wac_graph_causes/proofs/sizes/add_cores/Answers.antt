@@ -1,5 +1,5 @@
 use Rattle.wac_types_base.proofs.Loops.{get-place}
-use Rattle.wac_graph_causes.specs.Large.{core_size}
+use Rattle.wac_composition.specs.Large.{core_size}
 use Rattle.wac_graph_causes.proofs.Sums.{counted_next, counted_all}
 use Rattle.wac_graph_causes.proofs.sizes.add_cores.Goals as goal
 

@@ -1,6 +1,6 @@
 use Rattle.std.specs.Prelude.{sum_by, take}
 use Rattle.std.proofs.Common.{◌≤◌, ◌+◌}
-use Rattle.wac_graph_causes.specs.Large.{core_size}
+use Rattle.wac_composition.specs.Large.{core_size}
 use Rattle.wac_graph_causes.proofs.sizes.add_cores.Given as goal
 
 -- what is counted so far is at most what the items so far take

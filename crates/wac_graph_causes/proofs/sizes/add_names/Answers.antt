@@ -1,6 +1,6 @@
 use Rattle.std.specs.Prelude.{string_bytes}
 use Rattle.wac_types_base.proofs.Loops.{get-place}
-use Rattle.wac_graph_causes.specs.Large.{name_size}
+use Rattle.wac_composition.specs.Large.{name_size}
 use Rattle.wac_graph_causes.proofs.Sums.{counted_next, counted_all, sum_by-map}
 use Rattle.wac_graph_causes.proofs.sizes.add_names.Goals as goal
 

@@ -1,6 +1,6 @@
 use Rattle.std.specs.Prelude.{sum_by, take, string_bytes}
 use Rattle.std.proofs.Common.{◌≤◌, ◌+◌}
-use Rattle.wac_graph_causes.specs.Large.{name_size}
+use Rattle.wac_composition.specs.Large.{name_size}
 use Rattle.wac_graph_causes.proofs.sizes.add_names.Given as goal
 
 -- what is counted so far is at most what the names so far take

@@ -1,7 +1,7 @@
 use Rattle.std.proofs.Common.{ap, arith}
 use Rattle.std.specs.Prelude.{string_bytes, length}
 use Rattle.wac_types_base.proofs.Loops.{get-place}
-use Rattle.wac_graph_causes.specs.Large.{pair_size}
+use Rattle.wac_composition.specs.Large.{pair_size}
 use Rattle.wac_graph_causes.proofs.Sums.{counted_next, counted_all, sum_by-map}
 use Rattle.wac_graph_causes.proofs.sizes.add_pairs.Goals as goal
 

@@ -1,4 +1,4 @@
-use Rattle.wac_graph_causes.specs.Large.{use_size}
+use Rattle.wac_composition.specs.Large.{use_size}
 use Rattle.wac_graph_causes.proofs.Sums.{counted_next, counted_all, sum_by-map}
 use Rattle.wac_graph_causes.proofs.sizes.add_uses.Goals as goal
 

@@ -2,7 +2,7 @@ use Rattle.std.proofs.Common.{◌≤◌, map, subst, ap, arith}
 use Rattle.std.proofs.lemmas.Bool.Decides.{nat_tests}
 use Rattle.wac_composition.specs.Conflicts.{placed}
 use Rattle.wac_graph_asks.specs.Asked.{placed_in}
-use Rattle.wac_graph_causes.specs.Large.{entries_size, in_asks, in_definitions, in_worlds, in_exports}
+use Rattle.wac_composition.specs.Large.{entries_size, in_asks, in_definitions, in_worlds, in_exports}
 use Rattle.wac_graph_causes.proofs.WholeSizes.{asked_within}
 use Rattle.wac_graph_causes.proofs.sizes.is_large.Goals as goal
 

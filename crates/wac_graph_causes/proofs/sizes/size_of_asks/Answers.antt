@@ -1,7 +1,7 @@
 use Rattle.std.proofs.Common.{◌≡◌, ◌≤◌, ◌+◌, Some, slice_get, subst, sym}
 use Rattle.wac_types_base.specs.Stated.{stated_of}
 use Rattle.wac_types_base.proofs.Loops.{get-place}
-use Rattle.wac_graph_causes.specs.Large.{entry_size}
+use Rattle.wac_composition.specs.Large.{entry_size}
 use Rattle.wac_graph_causes.proofs.Sums.{summed_next, summed_all}
 use Rattle.wac_graph_causes.proofs.WholeSizes.{held_size, held_asks_size}
 use Rattle.wac_graph_causes.proofs.sizes.size_of_asks.Goals as goal

@@ -1,6 +1,6 @@
 use Rattle.std.proofs.Common.{◌≡◌, ◌≤◌, ◌+◌, Some, slice_get, subst, sym}
 use Rattle.wac_types_base.proofs.Loops.{get-place}
-use Rattle.wac_graph_causes.specs.Large.{name_size}
+use Rattle.wac_composition.specs.Large.{name_size}
 use Rattle.wac_graph_causes.proofs.Sums.{summed_next, summed_all}
 use Rattle.wac_graph_causes.proofs.WholeSizes.{exports_are}
 use Rattle.wac_graph_causes.proofs.sizes.size_of_exports.Goals as goal

@@ -1,15 +1,18 @@
 -- How large a composition is, written out: how many parts its types have and how many bytes their names, each type with all
 -- that stands in it at each place where it stands.
-use Rattle.std.specs.Prelude.{ℕ, suc, ◌+◌, ◌^◌, ◌≤◌, List, map, length, sum_by, Option, Some, None}
+use Rattle.std.specs.Prelude.{ℕ, suc, ◌+◌, ◌^◌, ◌≤◌, ◌↔◌, List, map, length, sum_by, Option, Some, None}
 use Rattle.wac_types_base.specs.declared.core_types.CoreExtern.{CoreExtern}
 use Rattle.wac_types_base.specs.declared.core_types.CoreFuncType.{CoreFuncType}
 use Rattle.wac_types_base.specs.declared.core_types.ModuleType.{ModuleType}
 use Rattle.wac_types_base.specs.Entries.{Name, names_of, values_of}
-use Rattle.wac_types_base.specs.Collection.{Shape, variant, record_of, flags, enum, resource, resource_alias, func, interface, world, module_type, type_of, borrow_of, own_of}
+use Rattle.wac_types_base.specs.Collection.{Shape, variant, record_of, flags, enum, resource, resource_alias, func, interface}
+use Rattle.wac_types_base.specs.Collection.{world, module_type, type_of, borrow_of, own_of}
 use Rattle.wac_types_base.specs.Stated.{Stated, folded}
 use Rattle.wac_composition.specs.Composition.{Made, Composition}
 use Rattle.wac_composition.specs.Asks.{Ask, asks_of}
 use Rattle.wac_composition.specs.Conflicts.{placed}
+use Rattle.wac_composition.specs.Renaming.{renamed}
+use Rattle.wac_composition.specs.Alike.{IsAlike}
 
 -- ---- names
 
@@ -103,8 +106,8 @@ asked_entries asks = map (λ a. (a.name, a.item)) asks
 abbrev pub worlds_size : {A I : Type 0} → List (Made A I) → ℕ
 worlds_size ms = sum_by (λ m. suc (written_size m.world)) ms
 
--- Where none of the four sums comes to this, all of them are below 2 ^ 26: so each part and each byte of a name has 64 of the
--- 2 ^ 32 bytes or indexes that 32 bits count.
+-- Where none of four sums comes to this, together they are below 2 ^ 26: there are 64 of the 2 ^ 32 bytes or indexes that 32 bits
+-- count for each part and each byte of a name.
 abbrev pub large : ℕ
 large = 2 ^ 24
 
@@ -114,3 +117,13 @@ pub data IsLarge {A I : Type 0} (c : Composition A I) : Type 0 where
   in_definitions : large ≤ entries_size (placed c.definitions) → IsLarge c
   in_worlds : large ≤ worlds_size c.made → IsLarge c
   in_exports : large ≤ names_size (map (λ e. e.0) c.exports) → IsLarge c
+
+-- ---- laws
+
+-- It is so under other names of its askers and instances, and not otherwise.
+abbrev pub Large_renamed : (A B I J : Type 0) → Type 0
+Large_renamed A B I J = (f : A → B) (g : I → J) (c : Composition A I) → IsLarge c ↔ IsLarge (renamed f g c)
+
+-- So it is whatever the order of the arguments.
+abbrev pub Large_alike : (A I : Type 0) → Type 0
+Large_alike A I = (c d : Composition A I) → IsAlike c d → IsLarge c ↔ IsLarge d
