@@ -10,3 +10,7 @@ pub mod OuterCauses
 pub mod DefinitionCauses
 pub mod PackageCauses
 pub mod AllCauses
+pub mod Labels
+pub mod Sums
+pub mod SizeLaws
+pub mod WholeSizes

@@ -4,3 +4,4 @@ pub mod Firsts
 pub mod Implicit
 pub mod Alike
 pub mod Unwritable
+pub mod Sizes

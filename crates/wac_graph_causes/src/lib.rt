@@ -4,6 +4,7 @@
 pub mod errors;
 pub mod implicit;
 pub mod names;
+pub mod sizes;
 pub mod writable;
 
 pub use errors::{EncodeError, ValidationFault};
