@@ -1,12 +1,12 @@
 -- The order of arguments does not matter.
-use Rattle.std.specs.Prelude.{not, filter, is_some, map, option_map, if◌then◌else◌}
+use Rattle.std.specs.Prelude.{cond, not, filter, is_some, map, option_map, if◌then◌else◌}
 use Rattle.std.specs.List.{list_any, flat_map}
 use Rattle.std.proofs.Common.{◌≡◌, List, [], ◌∷◌, ◌++◌, Bool, true, false, None, refl, ap, ◌∙◌}
-use Rattle.wac_types_base.specs.Entries.{names_of}
-use Rattle.wac_types_base.specs.Stated.{imports_of, world_of}
+use Rattle.wac_types_base.specs.Entries.{Name, names_of}
+use Rattle.wac_types_base.specs.Stated.{Stated, imports_of, world_of}
 use Rattle.wac_types_names.specs.Keys.{Key}
 use Rattle.wac_composition.specs.Composition.{Made, Composition}
-use Rattle.wac_composition.specs.Asks.{ToFill, used_by, used_by_definition, explicit_ask, filled_asks, asked_for, named_asks, asks_of}
+use Rattle.wac_composition.specs.Asks.{ToFill, Ask, used_by, used_by_definition, explicit_ask, filled_asks, asked_for, named_asks, asks_of}
 use Rattle.wac_composition.specs.Classes.{spelling}
 use Rattle.wac_composition.specs.OuterImports.{outer_imports}
 use Rattle.std.specs.Option.{option_or}

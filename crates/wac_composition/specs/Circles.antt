@@ -1,10 +1,10 @@
 -- Outer imports whose interfaces use each other in a circle. Each is written behind those that it uses, but for one that
 -- waits for it: of that one nothing stands yet, so what is used of it is written out.
-use Rattle.std.specs.Prelude.{ℕ, zero, suc, Bool, true, ◌||◌, List, [], ◌∷◌, ◌++◌, map, length, Option, Some, None, option_map, filter, filter_map, if◌then◌else◌}
+use Rattle.std.specs.Prelude.{ℕ, zero, suc, Bool, true, false, ◌||◌, List, [], ◌∷◌, ◌++◌, map, length, Option, Some, None, option_map, filter, filter_map, if◌then◌else◌}
 use Rattle.std.specs.List.{flat_map, fold}
 use Rattle.wac_types_base.specs.Entries.{Name, value_at, names_of, has_name}
 use Rattle.wac_types_base.specs.Collection.{Shape, interface, world, type_of}
-use Rattle.wac_types_base.specs.Stated.{Stated, folded, Parts, parts_at, as_type, interface_of, identifier_of}
+use Rattle.wac_types_base.specs.Stated.{Stated, folded, Parts, parts_at, Used, as_type, interface_of, identifier_of}
 use Rattle.wac_composition.specs.Writable.{stated_at}
 use Rattle.wac_types_written.specs.Written.{found_in, over_found}
 

@@ -5,7 +5,7 @@ use Rattle.wac_types_base.specs.declared.core_types.ModuleType.{ModuleType}
 use Rattle.wac_types_base.specs.Entries.{Name, value_at}
 use Rattle.wac_types_base.specs.Graph.{Among}
 use Rattle.wac_types_base.specs.Collection.{Shape, resource, resource_alias, module_type, own_of, borrow_of}
-use Rattle.wac_types_base.specs.Stated.{Stated, IsFunction, IsInstance, IsComponent, IsValue, IsResource, IsFunctionType, IsValueType, IsInterface, IsWorld, IsModuleType, Used, shape_of, places_of, kind_of, untyped, uses_of, imports_of, exports_of, identifier_of, root_name}
+use Rattle.wac_types_base.specs.Stated.{Stated, Kind, IsFunction, IsInstance, IsComponent, IsValue, IsResource, IsFunctionType, IsValueType, IsInterface, IsWorld, IsModuleType, Used, shape_of, places_of, kind_of, untyped, uses_of, imports_of, exports_of, identifier_of, root_name}
 use Rattle.wac_types_base.specs.Tree.{tree}
 use Rattle.wac_types_written.specs.Written.{is_type}
 use Rattle.wac_composition.specs.Writable.{Holder, writable_module, has_items, item_in, given_in, is_fresh, root_of, holder, with_roots, some_unnamed, unwritable}
