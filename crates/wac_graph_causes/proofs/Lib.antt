@@ -10,3 +10,6 @@ pub mod OuterCauses
 pub mod DefinitionCauses
 pub mod PackageCauses
 pub mod AllCauses
+pub mod UsedInside
+pub mod Circling
+pub mod OuterCircles

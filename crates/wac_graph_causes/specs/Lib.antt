@@ -4,3 +4,5 @@ pub mod Firsts
 pub mod Implicit
 pub mod Alike
 pub mod Unwritable
+pub mod Circling
+pub mod Circular
