@@ -14,3 +14,6 @@ pub mod Labels
 pub mod Sums
 pub mod SizeLaws
 pub mod WholeSizes
+pub mod UsedInside
+pub mod Circling
+pub mod OuterCircles

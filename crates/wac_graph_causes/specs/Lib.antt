@@ -5,3 +5,5 @@ pub mod Implicit
 pub mod Alike
 pub mod Unwritable
 pub mod Sizes
+pub mod Circling
+pub mod Circular

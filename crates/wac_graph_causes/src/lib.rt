@@ -1,6 +1,8 @@
 //! Why a composition graph cannot be written.
 #![tactic(auto)]
 
+mod circles;
+pub mod circular;
 pub mod errors;
 pub mod implicit;
 pub mod names;

@@ -27,3 +27,4 @@ pub mod Imported
 pub mod Importable
 pub mod Preparing
 pub mod Refusing
+pub mod Circling

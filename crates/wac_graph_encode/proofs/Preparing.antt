@@ -73,7 +73,7 @@ module _ (define : Bool) (g : Graph) (sound : IsGraph g) (finite_types : IsAcycl
 
 -- ---- the definitions
 
-zip_back : {A B : Type 0} (R : A → B → Type 0) (xs : List A) (ys : List B) (y : B) → AllZip R xs ys → Among y ys → (x : A) × Among x xs × R x y
+pub zip_back : {A B : Type 0} (R : A → B → Type 0) (xs : List A) (ys : List B) (y : B) → AllZip R xs ys → Among y ys → (x : A) × Among x xs × R x y
 zip_back R [] [] y h m = absurd m
 zip_back R [] (z ∷ ys) y h m = absurd h
 zip_back R (x ∷ xs) [] y h m = absurd h

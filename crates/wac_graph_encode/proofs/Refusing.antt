@@ -1,6 +1,5 @@
 -- Refusals are for the first cause.
-use Rattle.std.proofs.lemmas.Option.{none-some}
-use Rattle.std.proofs.Common.{◌≡◌, ℕ, [], Some, None, string_bytes, sym, ap, ◌∙◌}
+use Rattle.std.proofs.Common.{◌≡◌, ℕ, [], Some, None, string_bytes, ap, ◌∙◌, inl}
 use Rattle.wac_graph_core.specs.Graph.{Graph}
 use Rattle.wac_composition.specs.Asks.{asks_of}
 use Rattle.wac_composition.specs.Classes.{spelling}
@@ -17,7 +16,7 @@ use Rattle.wac_graph_causes.specs.Implicit.{implicit_cause, IsImplicit}
 use Rattle.wac_graph_causes.specs.Alike.{IsAlike}
 use Rattle.wac_graph_causes.specs.Unwritable.{TellsUnwritten, unwritten_cause}
 use Rattle.wac_graph_encode.specs.declared.options.EncodeOptions.{EncodeOptions}
-use Rattle.wac_graph_encode.specs.Refused.{cause_in, HasNoneUnwritten, IsRefusedFor}
+use Rattle.wac_graph_encode.specs.Refused.{cause_in, IsRefusedFor}
 
 module _ (options : EncodeOptions) (g : Graph) where
   -- an import that is asked by its name and by an instance comes first
@@ -63,15 +62,9 @@ module _ (options : EncodeOptions) (g : Graph) where
 
   -- a type that cannot be written by itself is the first of these causes
   pub writable_refused : (f : Unwritten) → implicit_cause g ≡ None → conflict_in g ≡ None → TellsUnwritten options.define_components g f → IsRefusedFor options g (unwritten_refusal f)
-  writable_refused (Unwritten.TypeCannotBeWritten n) none free t = λ c is. then_unwritten (Unwritable (string_bytes n)) none free t
+  writable_refused (Unwritten.TypeCannotBeWritten n) none free t = inl (then_unwritten (Unwritable (string_bytes n)) none free t)
   writable_refused Unwritten.TooLarge none free t = tt
   writable_refused Unwritten.Memory none free t = tt
-
-  -- where each can, what is told later is no such cause
-  pub unwritten_refused : (f : Unwritten) → HasNoneUnwritten options g → IsRefusedFor options g (unwritten_refusal f)
-  unwritten_refused (Unwritten.TypeCannotBeWritten n) none = λ c is. absurd (none-some c (sym none ∙ is))
-  unwritten_refused Unwritten.TooLarge none = tt
-  unwritten_refused Unwritten.Memory none = tt
 
   pub alike_refused : (e : Refusal) → IsAlike options.define_components options.validate g e → IsRefusedFor options g e
   alike_refused (Refusal.ImplicitImportConflict import instantiation key n) h = absurd h

@@ -1,8 +1,9 @@
 -- Why a graph is refused, and what does not stand against one that is encoded.
-use Rattle.std.specs.Prelude.{◌≡◌, ℕ, Option, Some, None, string_bytes}
+use Rattle.std.specs.Prelude.{◌≡◌, ◌⊎◌, ℕ, Option, Some, None, string_bytes}
 use Rattle.wac_types_base.specs.Entries.{Name}
 use Rattle.wac_graph_core.specs.Graph.{Graph}
 use Rattle.wac_composition.specs.Conflicts.{Cause, ImplicitImport, ExplicitImport, ImportTypes, Unwritable, first_cause}
+use Rattle.wac_composition.specs.Circular.{IsCircular}
 use Rattle.wac_graph_asks.specs.Graphs.{composition_of}
 use Rattle.wac_graph_asks.specs.Takes.{conflict_in}
 use Rattle.wac_graph_causes.specs.declared.errors.EncodeError.{EncodeError}
@@ -22,12 +23,14 @@ module _ (options : EncodeOptions) (g : Graph) where
   abbrev pub HasNoneUnwritten : Type 0
   HasNoneUnwritten = unwritten_cause options.define_components g ≡ None
 
-  -- where one cannot, the first cause is that the type under this name cannot
+  -- The first cause is that the type under this name cannot be written; or each type can be written by itself, and under this
+  -- name imports use each other in a circle.
   abbrev pub IsUnwritable : Name → Type 0
-  IsUnwritable n = (c : Cause ℕ) → unwritten_cause options.define_components g ≡ Some c → cause_in ≡ Some (Unwritable n)
+  IsUnwritable n =
+      (cause_in ≡ Some (Unwritable n)) ⊎ (HasNoneUnwritten × IsCircular options.define_components (composition_of g) n)
 
-  -- The error tells the first cause, or the first names that are alike. Of types that cannot be written since imports use each
-  -- other in a circle, of sizes and of memory nothing is said.
+  -- The error tells the first cause, the first names that are alike, or a circle of imports. Of sizes and of memory nothing is
+  -- said.
   abbrev pub IsErrorFor : EncodeError → Type 0
   IsErrorFor (EncodeError.ImplicitImportConflict import instantiation key n) =
       (cause_in ≡ Some (ImplicitImport (string_bytes n) import instantiation)) × IsKeyOf g instantiation key

@@ -8,6 +8,7 @@ ghost use Rattle.wac_graph_asks.specs.Asked.{IsAsked, KeepsAsked};
 ghost use Rattle.wac_graph_asks.specs.AskedUses.{CopiesStand};
 ghost use Rattle.wac_graph_asks.specs.Outers.{AnswersOuters};
 ghost use Rattle.wac_graph_causes.specs.Acyclic.{IsNoCycle};
+ghost use Rattle.wac_graph_causes.specs.Circular.{TellsCircle};
 ghost use Rattle.wac_graph_encode.specs.Encoding.{HasTrueWorld};
 ghost use Rattle.wac_graph_encode.specs.Worlds.{IsToHandOut};
 ghost use Rattle.wac_graph_encode.specs.Refused.{HasNoneAlike, HasNoneClashing, HasNoneUnwritten, IsErrorFor, IsFree, IsRefusedFor};
@@ -23,6 +24,7 @@ use std::alloc::{AllocError, Global};
 use wac_graph_asks::asks::{Asked, Definition, asked_by};
 use wac_graph_asks::outers::{Outers, outers_of};
 use wac_graph_bytes::{Entry, SortNames, push_component};
+use wac_graph_causes::circular::circle_told;
 use wac_graph_causes::errors::{EncodeError, Refusal, Unwritten, error_of};
 use wac_graph_causes::implicit::check_implicit;
 use wac_graph_causes::names::check_names;
@@ -88,6 +90,33 @@ fn bytes_of(
     bytes_wired(writing, &mut wired)
 }
 
+/// The bytes of a composition. That a type is not written is told only if imports use each other in a circle under its
+/// name.
+fn bytes_told(
+    graph: &CompositionGraph,
+    asked: &Asked,
+    outers: &Outers,
+    definitions: &[Definition],
+    options: &EncodeOptions,
+) -> Result<Vec<u8>, Unwritten>
+    ensures means { MeansAsked graph.now asked.now outers.now definitions.now options.now result }
+    ensures nests { NestsSo options.now.define_components graph.now (names_of asked.now.packages.entries) result }
+    ensures circle { IfErr result
+        (TellsCircle options.now.define_components graph.now asked.now outers.now definitions.now) }
+{
+    match bytes_of(graph, asked, outers, definitions, options) {
+        Ok(bytes) => Ok(bytes),
+        Err(fault) => Err(circle_told(
+            graph,
+            asked,
+            outers,
+            definitions,
+            options.define_components,
+            fault,
+        )),
+    }
+}
+
 /// The world of a composition, in a collection of this number.
 fn world_of(
     graph: &CompositionGraph,
@@ -123,7 +152,7 @@ fn bytes_asked(
     graph.types().see_acyclic();
     let alloc = graph.alloc();
     let definitions = written_definitions(alloc, &mut asked.types, &asked.definitions)?;
-    let bytes = bytes_of(graph, asked, outers, &definitions, options)?;
+    let bytes = bytes_told(graph, asked, outers, &definitions, options)?;
     check_names(
         alloc,
         graph,

@@ -1,4 +1,4 @@
-use Rattle.std.proofs.Common.{true, false, subst, ◌∙◌}
+use Rattle.std.proofs.Common.{true, false, subst}
 use Rattle.wac_graph_causes.specs.Unwritable.{TellsName, definition_cause}
 use Rattle.wac_graph_causes.proofs.FirstCauses.{tells_named}
 use Rattle.wac_graph_causes.proofs.DefinitionCauses.{cause_said}

@@ -5,11 +5,13 @@ use Rattle.wac_types_base.specs.Collection.{IsAcyclic}
 use Rattle.wac_graph_asks.specs.declared.asks.Definition.{Definition}
 use Rattle.wac_graph_asks.proofs.TakingMore.{again_err}
 use Rattle.wac_graph_causes.specs.declared.errors.Unwritten.{Unwritten}
+use Rattle.wac_graph_causes.specs.Circular.{TellsCircle}
 use Rattle.wac_graph_causes.specs.Refusals.{unwritten_refusal}
 use Rattle.wac_graph_encode.specs.Finished.{MeansAsked, RefusesPrepared}
 use Rattle.wac_graph_encode.specs.Formed.{AreCopied, AreFormed}
+use Rattle.wac_graph_encode.proofs.Circling.{circle_refused}
 use Rattle.wac_graph_encode.proofs.Preparing.{held_prepared, means_imported, means_nested, to_hand_out}
-use Rattle.wac_graph_encode.proofs.Refusing.{alike_refused, unwritten_refused}
+use Rattle.wac_graph_encode.proofs.Refusing.{alike_refused}
 use Rattle.wac_graph_encode.proofs.encode.bytes_asked.Goals as goal
 
 pub returns-clause-means : goal.returns-clause-means
@@ -51,8 +53,19 @@ returns-clause-apart c = λ prepared. c.in_ok-check_names.ensures.none (held_pre
 
 pub returns-in_err-bytes-clause-refused : goal.returns-in_err-bytes-clause-refused
 returns-in_err-bytes-clause-refused c =
-    again_err c.from_residual-in_err-bytes.result (RefusesPrepared c.args.graph.now c.args.asked.now c.args.outers.now c.args.options.now) (unwritten_refusal c.in_err-bytes.field-0.0) c.from_residual-in_err-bytes.ensures.1
-    (λ prepared none. unwritten_refused c.args.options.now c.args.graph.now c.in_err-bytes.field-0.0 none)
+    let g = c.args.graph.now in
+    let old = c.args.asked.now in
+    let o = c.args.outers.now in
+    let options = c.args.options.now in
+    let new = record old { types = c.written_definitions.new.types } in
+    let made = c.in_ok-definitions.definitions in
+    let fault = c.in_err-bytes.field-0.0 in
+    again_err c.from_residual-in_err-bytes.result (RefusesPrepared g old o options) (unwritten_refusal fault) c.from_residual-in_err-bytes.ensures.1
+    (λ prepared none.
+    let copied = subst (λ (xs : List Definition). AreCopied g.types old.types xs) (sym c.deref.ensures.value) prepared.copies in
+    let formed = subst (λ (xs : List Definition). AreFormed g.types new.types xs made.items) c.deref.ensures.value (c.in_ok-definitions.ensures.forms g.types copied) in
+    let told = subst (λ (xs : List Definition). TellsCircle options.define_components g new o xs fault) c.deref-2.ensures.value c.in_err-bytes.ensures.circle in
+    circle_refused options g c.see_sound.ensures old o prepared none new c.in_ok-definitions.ensures.grows refl made.items formed fault told)
 
 pub returns-in_err-check_names-clause-refused : goal.returns-in_err-check_names-clause-refused
 returns-in_err-check_names-clause-refused c =
