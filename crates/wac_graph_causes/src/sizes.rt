@@ -15,7 +15,7 @@ ghost use Rattle.wac_composition.specs.Large.{IsLarge, asked_entries, cores_size
 ghost use Rattle.wac_composition.specs.Large.{module_size, name_size, names_size, optional_size, pairs_size, use_size, uses_size, worlds_size};
 ghost use Rattle.wac_graph_causes.specs.Sizes.{HasLargePackage, IsOfLarge, IsTooLarge, instance_size, label_size_of, places_size, size_written, slot_size};
 
-use std::alloc::{AllocError, Global};
+use std::alloc::AllocError;
 use wac_graph_asks::asks::{Asked, asked_by};
 use wac_graph_asks::nodes::{package_at, package_of, world_at};
 use wac_graph_core::{CompositionGraph, NodeId};
@@ -377,10 +377,11 @@ pub fn is_too_large(graph: &CompositionGraph, asked: &Asked) -> bool
     is_large(graph, asked) || has_large_package(graph)
 }
 
-/// Whether a graph is too large to be written. It says yes of none that is not.
-pub fn tells_too_large(alloc: Global, graph: &CompositionGraph) -> Result<bool, AllocError>
+/// Whether a graph is too large to be written. It says yes of none that is not. What is asked is copied into a collection of
+/// this number, which is not that of the graph's.
+pub fn tells_too_large(graph: &CompositionGraph, number: u64) -> Result<bool, AllocError>
     ensures { IfOk result (λ yes. yes ≡ true → IsTooLarge graph.now) }
 {
-    let asked = asked_by(alloc, graph, graph.types().number())?;
+    let asked = asked_by(graph.alloc(), graph, number)?;
     Ok(is_too_large(graph, &asked))
 }

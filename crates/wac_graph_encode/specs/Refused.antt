@@ -12,6 +12,7 @@ use Rattle.wac_graph_causes.specs.Refusals.{refusal_shown}
 use Rattle.wac_graph_causes.specs.Implicit.{IsKeyOf, implicit_cause}
 use Rattle.wac_graph_causes.specs.Alike.{names_told, alike_cause}
 use Rattle.wac_graph_causes.specs.Unwritable.{unwritten_cause}
+use Rattle.wac_graph_causes.specs.Sizes.{IsTooLarge}
 use Rattle.wac_graph_encode.specs.declared.options.EncodeOptions.{EncodeOptions}
 
 module _ (options : EncodeOptions) (g : Graph) where
@@ -29,25 +30,42 @@ module _ (options : EncodeOptions) (g : Graph) where
   IsUnwritable n =
       (cause_in ≡ Some (Unwritable n)) ⊎ (HasNoneUnwritten × IsCircular options.define_components (composition_of g) n)
 
-  -- The error tells the first cause, the first names that are alike, or a circle of imports. Of sizes and of memory nothing is
-  -- said.
-  abbrev pub IsErrorFor : EncodeError → Type 0
-  IsErrorFor (EncodeError.ImplicitImportConflict import instantiation key n) =
+  -- The error tells the first cause, the first names that are alike, or a circle of imports; of sizes nothing is said yet.
+  abbrev pub IsFoundFor : EncodeError → Type 0
+  IsFoundFor (EncodeError.ImplicitImportConflict import instantiation key n) =
       (cause_in ≡ Some (ImplicitImport (string_bytes n) import instantiation)) × IsKeyOf g instantiation key
-  IsErrorFor (EncodeError.ExplicitImportConflict n first second) = cause_in ≡ Some (ExplicitImport (string_bytes n) first second)
-  IsErrorFor (EncodeError.ImportTypeMergeConflict n first second source) =
+  IsFoundFor (EncodeError.ExplicitImportConflict n first second) = cause_in ≡ Some (ExplicitImport (string_bytes n) first second)
+  IsFoundFor (EncodeError.ImportTypeMergeConflict n first second source) =
       cause_in ≡ Some (ImportTypes (string_bytes n) first second)
-  IsErrorFor (EncodeError.TypeCannotBeWritten n) = IsUnwritable (string_bytes n)
-  IsErrorFor (EncodeError.ValidationFailure fault) =
+  IsFoundFor (EncodeError.TypeCannotBeWritten n) = IsUnwritable (string_bytes n)
+  IsFoundFor (EncodeError.ValidationFailure fault) =
       alike_cause options.define_components options.validate g ≡ Some (names_told fault)
-  IsErrorFor (EncodeError.GraphContainsCycle node) = ⊥
-  IsErrorFor e = Unit {0}
+  IsFoundFor (EncodeError.GraphContainsCycle node) = ⊥
+  IsFoundFor e = Unit {0}
 
   abbrev pub IsRefusedFor : Refusal → Type 0
-  IsRefusedFor e = IsErrorFor (refusal_shown e)
+  IsRefusedFor e = IsFoundFor (refusal_shown e)
+
+  -- and what is too large is so; of memory nothing is said
+  abbrev pub IsErrorFor : EncodeError → Type 0
+  IsErrorFor EncodeError.TooLarge = IsTooLarge g
+  IsErrorFor e = IsFoundFor e
+
+  abbrev pub IsToldFor : Refusal → Type 0
+  IsToldFor e = IsErrorFor (refusal_shown e)
 
   abbrev pub HasNoneAlike : Type 0
   HasNoneAlike = alike_cause options.define_components options.validate g ≡ None
+
+-- it is told that the graph is too large, which it is, or want of memory
+abbrev pub TellsLarge : Graph → Refusal → Type 0
+TellsLarge g Refusal.TooLarge = IsTooLarge g
+TellsLarge g Refusal.Memory = Unit {0}
+TellsLarge g e = ⊥
+
+-- whatever a refusal was found for, another tells it
+abbrev pub TellsFound : Graph → (found told : Refusal) → Type 0
+TellsFound g found told = (options : EncodeOptions) → IsRefusedFor options g found → IsToldFor options g told
 
 -- no import is asked by its name and by an instance, and none conflict
 pub record HasNoneClashing (g : Graph) : Type 0 where

@@ -12,6 +12,7 @@ ghost use Rattle.wac_graph_causes.specs.Circular.{TellsCircle};
 ghost use Rattle.wac_graph_encode.specs.Encoding.{HasTrueWorld};
 ghost use Rattle.wac_graph_encode.specs.Worlds.{IsToHandOut};
 ghost use Rattle.wac_graph_encode.specs.Refused.{HasNoneAlike, HasNoneClashing, HasNoneUnwritten, IsErrorFor, IsFree, IsRefusedFor};
+ghost use Rattle.wac_graph_encode.specs.Refused.{IsToldFor, TellsFound, TellsLarge};
 ghost use Rattle.wac_graph_encode.specs.Finished.{AreSpelled, IsPrepared, MeansAsked, MeansImported, MeansNested, MeansWired, NestsSo, NestsWired};
 ghost use Rattle.wac_graph_encode.specs.Finished.{PreparedHands, PreparedImports, PreparedMeans, RefusesPrepared};
 
@@ -28,6 +29,7 @@ use wac_graph_causes::circular::circle_told;
 use wac_graph_causes::errors::{EncodeError, Refusal, Unwritten, error_of};
 use wac_graph_causes::implicit::check_implicit;
 use wac_graph_causes::names::check_names;
+use wac_graph_causes::sizes::tells_too_large;
 use wac_graph_causes::writable::check_writable;
 use wac_graph_core::CompositionGraph;
 use wac_graph_scopes::imports::Importing;
@@ -209,8 +211,8 @@ fn outers_checked(
     Ok(outers)
 }
 
-/// The bytes and the world of a graph.
-fn encoded(
+/// The bytes and the world of a graph. Of sizes nothing is found yet.
+fn encoded_first(
     graph: &CompositionGraph,
     options: &EncodeOptions,
     numbers: (u64, u64),
@@ -225,6 +227,47 @@ fn encoded(
     let mut asked = asked_by(graph.alloc(), graph, numbers.0)?;
     let outers = outers_checked(graph, options, &mut asked)?;
     encoded_asked(graph, options, &mut asked, &outers, numbers.1)
+}
+
+/// What is told where something passed 32 bits, or where no way was found to write a type though nothing stands against it.
+/// It is that the graph is too large, if it is found to be. The other answer is given of no graph that anybody knows.
+fn large_told(graph: &CompositionGraph, number: u64) -> Refusal
+    ensures { TellsLarge graph.now result }
+{
+    match tells_too_large(graph, number) {
+        Ok(true) => Refusal::TooLarge,
+        Ok(false) => Refusal::Memory,
+        Err(_) => Refusal::Memory,
+    }
+}
+
+/// A refusal as it is told: that a graph is too large only if it is found to be.
+fn told(graph: &CompositionGraph, number: u64, refusal: Refusal) -> Refusal
+    ensures { TellsFound graph.now refusal result }
+{
+    match refusal {
+        Refusal::TooLarge => large_told(graph, number),
+        other => other,
+    }
+}
+
+/// The bytes and the world of a graph.
+fn encoded(
+    graph: &CompositionGraph,
+    options: &EncodeOptions,
+    numbers: (u64, u64),
+) -> Result<Encoded, Refusal>
+    ensures means { IfOk result (λ e. MeansNested graph.now options.now e.bytes.items) }
+    ensures imports { IfOk result (λ e. MeansImported graph.now options.now e.bytes.items) }
+    ensures free { OnOk result (IsFree options.now graph.now) }
+    ensures refused { IfErr result (IsToldFor options.now graph.now) }
+    ensures number { IfOk result (λ e. e.types.number ≡ numbers.1) }
+    ensures world { IfOk result (λ e. HasTrueWorld graph.now e.types e.world) }
+{
+    match encoded_first(graph, options, numbers) {
+        Ok(encoded) => Ok(encoded),
+        Err(refusal) => Err(told(graph, numbers.0, refusal)),
+    }
 }
 
 /// Two numbers that are not this one.

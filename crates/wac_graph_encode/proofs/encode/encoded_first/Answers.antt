@@ -2,7 +2,7 @@ use Rattle.std.proofs.lemmas.Result.{on_ok_weaker}
 use Rattle.wac_graph_encode.proofs.Forming.{copies_stand}
 use Rattle.wac_graph_encode.proofs.Preparing.{prepared}
 use Rattle.wac_graph_scopes.proofs.RefusedLaws.{if_err_map}
-use Rattle.wac_graph_encode.proofs.encode.encoded.Goals as goal
+use Rattle.wac_graph_encode.proofs.encode.encoded_first.Goals as goal
 
 pub encoded_asked-requires-clause-copies : goal.encoded_asked-requires-clause-copies
 encoded_asked-requires-clause-copies c = copies_stand c.args.graph.now c.in_ok-asked.asked c.outers_checked.new.asked c.in_ok-asked.ensures.held c.in_ok-outers.ensures.keeps
