@@ -47,7 +47,7 @@ use Rattle.wac_parser_ascribed.specs.Tied.{place_of, bytes_of, handed_tag, IsAsc
 use Rattle.wac_parser_ascribed.proofs.Origins.{has_states, node_of, origin_is}
 use Rattle.wac_parser_ascribed.proofs.Places.{at_place, place_is}
 use Rattle.wac_parser_ascribed.proofs.Noted.{placed, keys}
-use Rattle.wac_parser_ascribed.proofs.Unwritten.{unwritten_same}
+use Rattle.wac_parser_ascribed.proofs.Unwritten.{unwritten_same, circular_same}
 use Rattle.wac_parser_ascribed.proofs.Tied.{ms, ms_apart, asker, alike, not_passed, passed_is}
 
 -- ---- lists
@@ -240,6 +240,7 @@ module _ (g : Graph) (sound : IsGraph g) (acyclic : IsAcyclic g.types) {places :
     alike = alike g sound acyclic s b ps said;
     cause = λ define. sym (tied.cause define) ∙ keeps.cause define;
     unwritten = λ define. unwritten_same who (place_of nodes) (composition_of g) (composition s) (alike g sound acyclic s b ps said) define _ _ outers;
+    circular = circular_same who (place_of nodes) (composition_of g) (composition s) (alike g sound acyclic s b ps said) spelled outers;
     names = λ define validate. sym (tied.names define validate) ∙ keeps.names define validate;
     world = sym tied.world ∙ keeps.world;
     met = met_moved;
