@@ -1,11 +1,15 @@
--- Which type cannot be written does not depend on who asks.
+-- Which type cannot be written, and which imports use each other in a circle, does not depend on who asks.
 use Rattle.std.specs.Prelude.{map, option_map, if◌then◌else◌}
 use Rattle.std.specs.List.{list_any}
-use Rattle.std.proofs.Common.{◌≡◌, List, [], ◌∷◌, Bool, true, false, Option, Some, None, refl, sym, ap, ◌∙◌}
+use Rattle.std.proofs.Common.{◌≡◌, List, [], ◌∷◌, Bool, true, false, Option, Some, None, refl, sym, ap, subst, ◌∙◌}
 use Rattle.wac_types_base.specs.Entries.{Name}
 use Rattle.wac_types_base.specs.Stated.{Stated}
 use Rattle.wac_types_names.specs.Keys.{Key}
 use Rattle.wac_composition.specs.Composition.{Placed, Made, Composition}
+use Rattle.wac_composition.specs.Asks.{asks_of}
+use Rattle.wac_composition.specs.Circular.{CircleUnder, IsCircular}
+use Rattle.wac_composition.specs.Classes.{spelling}
+use Rattle.wac_composition.specs.OuterImports.{outer_imports}
 use Rattle.wac_composition.specs.Alike.{AreSameMade, IsAlike}
 use Rattle.std.specs.Option.{option_or}
 use Rattle.wac_composition.specs.Conflicts.{Cause, Unwritable, first_found, dependency_name, same_key, each_once, dependencies_of, cause_at, placed, unwritable_cause}
@@ -68,3 +72,13 @@ module _ {A B : Type 0} (f : A → B) where
           ∙ (λ i. option_or (option_map (cause_renamed f) (first_found (cause_at alias_unwritable) c.aliases))
           (or_renamed (first_found (cause_at (outer_unwritable os)) os) (option_or (first_found (cause_at (definition_unwritable os)) (placed c.definitions)) (first_found (cause_at package_unwritable) (dependencies_of define c))) i))
           ∙ or_renamed (first_found (cause_at alias_unwritable) c.aliases) _
+
+      -- imports that use each other in a circle
+      pub circular_same : (spelled : (n : Name) → spelling (asks_of d) n ≡ spelling (asks_of c) n) → outer_imports (asks_of d) ≡ outer_imports (asks_of c) → (define : Bool) (n : Name) → IsCircular define c n → IsCircular define d n
+      circular_same spelled outers define n circle =
+          let definitions : placed d.definitions ≡ placed c.definitions = ap placed (sym same.definitions) ∙ placed_same c.definitions in
+          by_parts n (spelling (asks_of c)) (spelling (asks_of d)) (λ i m. sym (spelled m) i) _ _ (sym outers) _ _ (sym definitions) _ _ (sym (dependencies_same define)) circle
+        where
+          by_parts : (n : Name) (s t : Name → Name) → s ≡ t → (os ps : List (Name × Stated)) → os ≡ ps → (ds es : List (Name × Stated)) → ds ≡ es → (as_ bs : List (Name × Stated)) → as_ ≡ bs → CircleUnder n s os ds as_ → CircleUnder n t ps es bs
+          by_parts n s t a os ps b ds es e as_ bs f h =
+              subst (λ x. CircleUnder n t ps es x) f (subst (λ x. CircleUnder n t ps x as_) e (subst (λ x. CircleUnder n t x ds as_) b (subst (λ x. CircleUnder n x os ds as_) a h)))

@@ -9,7 +9,9 @@ use Rattle.wac_graph_bytes.specs.Wirings.{Tag, OfBytes, Instantiation, Wiring, S
 use Rattle.wac_graph_core.specs.Graph.{Graph, IsGraph, instantiated}
 use Rattle.wac_composition.specs.Alike.{IsAlike}
 use Rattle.wac_composition.specs.Asks.{asks_of}
+use Rattle.wac_composition.specs.Circular.{IsCircular}
 use Rattle.wac_composition.specs.Conflicts.{first_cause, name_cause, unwritable_cause}
+use Rattle.wac_composition.specs.Large.{IsLarge}
 use Rattle.wac_composition.specs.OuterImports.{outer_imports}
 use Rattle.wac_composition.specs.OuterLaws.{AreMet}
 use Rattle.wac_composition.specs.Renaming.{cause_renamed, renamed}
@@ -94,6 +96,10 @@ pub record IsAscribed (g : Graph) (at : Places) (s : State) : Type 0 where
       → unwritable_cause define (composition s) (outer_imports (asks_of (composition s)))
       ≡ option_map (cause_renamed asker) (unwritable_cause define (composition_of g)
       (outer_imports (asks_of (composition_of g))))
+  pub circular : (define : Bool) (n : Name) → IsCircular define (composition_of g) n → IsCircular define (composition s) n
+  pub large : IsLarge (composition_of g) → IsLarge (composition s)
+  pub handed : (k : ℕ) (p : Packaged) → instantiated g k ≡ Some p
+      → bytes_of (package_under s.packages (package_key p)) ≡ p.bytes
   pub names : (define validate : Bool)
       → name_cause define validate (composition s)
       ≡ option_map (cause_renamed asker) (name_cause define validate (composition_of g))

@@ -1,10 +1,9 @@
 -- A refusal of a graph that holds what a document says tells the document's first cause.
 use Rattle.std.specs.Prelude.{option_map, string_bytes, Result, Ok, Err, IfErr, OnOk}
-use Rattle.std.proofs.Common.{◌≡◌, ℕ, List, Bool, Option, Some, None, refl, sym, ap, subst, ◌∙◌}
-use Rattle.std.proofs.lemmas.Option.{none-some}
+use Rattle.std.proofs.Common.{◌≡◌, ◌≤◌, ◌^◌, ℕ, List, length, Bool, Some, None, refl, sym, ap, subst, inl, inr, ◌∙◌}
 use Rattle.wac_types_base.specs.Collection.{IsAcyclic}
 use Rattle.wac_types_names.specs.declared.package.PackageKey.{PackageKey}
-use Rattle.wac_types_names.specs.Keys.{owned_key}
+use Rattle.wac_types_names.specs.Keys.{owned_key, package_key}
 use Rattle.wac_graph_core.specs.Graph.{Graph, IsGraph}
 use Rattle.wac_composition.specs.Against.{StandsAgainst}
 use Rattle.wac_composition.specs.Conflicts as cause
@@ -16,8 +15,9 @@ use Rattle.wac_graph_causes.specs.declared.errors.EncodeError.{EncodeError}
 use Rattle.wac_graph_causes.specs.declared.errors.ValidationFault.{ValidationFault}
 use Rattle.wac_graph_causes.specs.Implicit.{IsKeyOf}
 use Rattle.wac_graph_causes.specs.Unwritable.{unwritten_cause}
+use Rattle.wac_graph_causes.specs.Sizes.{IsTooLarge}
 use Rattle.wac_graph_encode.specs.declared.options.EncodeOptions.{EncodeOptions}
-use Rattle.wac_graph_encode.specs.Refused.{HasNoneUnwritten, IsErrorFor, IsFree}
+use Rattle.wac_graph_encode.specs.Refused.{HasNoneUnwritten, IsErrorFor, IsFree, IsUnwritable}
 use Rattle.wac_parser_refusals.specs.declared.error.Error.{Error}
 use Rattle.wac_parser_refusals.specs.Causes.{Fault}
 use Rattle.wac_parser_refusals.specs.Views.{cause_of}
@@ -29,7 +29,7 @@ use Rattle.wac_parser_resolve.proofs.Askers.{askers_placed}
 use Rattle.wac_parser_ascribed.specs.Tied.{IsAscribed, IsPlaced}
 use Rattle.wac_parser_ascribed.proofs.Wired.{ascribed}
 use Rattle.wac_parser_encode.specs.Processing.{IsProcessed}
-use Rattle.wac_parser_encode.specs.Refused.{CanBeWritten, IsFirst, AreFirstAlike, TellsCause, RefusesResolved, TellsFirst, TellsAnywhere, fault_in}
+use Rattle.wac_parser_encode.specs.Refused.{CanBeWritten, IsFault, IsFirst, IsOfSize, AreFirstAlike, TellsCause, RefusesResolved, TellsFirst, TellsAnywhere, fault_in}
 
 -- ---- places of askers
 
@@ -89,18 +89,23 @@ module _ (options : EncodeOptions) (g : Graph) (at : Places) (s : State) (tied :
   alike_told : (x : cause.Cause ℕ) → name_cause options.define_components options.validate (composition_of g) ≡ Some x → AreFirstAlike options.define_components options.validate s (cause_said (cause_renamed tied.asker x))
   alike_told x e = ap (option_map cause_said) (tied.names options.define_components options.validate ∙ ap (option_map (cause_renamed tied.asker)) e)
 
-  -- a type of the document that cannot be written is one of the graph's
-  unwritten_told : (n : List ℕ) → ((c : cause.Cause ℕ) → unwritten_cause options.define_components g ≡ Some c → first_cause options.define_components (composition_of g) ≡ Some (cause.Unwritable n))
-      → (o : Option (cause.Cause ℕ)) → unwritten_cause options.define_components g ≡ o → (x : cause.Cause Asker) → option_map (cause_renamed tied.asker) o ≡ Some x → IsFirst options.define_components s (record { fault = Fault.TypeCannotBeWritten n; span = None })
-  unwritten_told n h None q x e = absurd (none-some _ e)
-  unwritten_told n h (Some c) q x e = said (cause.Unwritable n) (h c q)
+  -- a type of the graph that cannot be written is one of the document's, and so is a circle
+  unwritten_told : (n : List ℕ) → IsUnwritable options g n → IsFault options.define_components options.validate s (Fault.TypeCannotBeWritten n) (record { fault = Fault.TypeCannotBeWritten n; span = None })
+  unwritten_told n (inl first) = inl (said (cause.Unwritable n) first)
+  unwritten_told n (inr (none, circle)) = inr (tied.unwritten options.define_components ∙ ap (option_map (cause_renamed tied.asker)) none, tied.circular options.define_components n circle, refl)
+
+  -- a graph that is too large is a document's that is
+  too_large_told : IsTooLarge g → IsOfSize s (record { fault = Fault.TooLarge; span = None })
+  too_large_told (inl large) = (inl (tied.large large), refl)
+  too_large_told (inr (k, of)) =
+      (inr (package_key of.held, subst (λ (bs : List ℕ). 2 ^ 32 ≤ length bs) (sym (tied.handed k of.held of.is)) of.large), refl)
 
   told : (e : EncodeError) → IsErrorFor options g e → TellsCause options.define_components options.validate s (fault_in at e)
   told (EncodeError.ImplicitImportConflict import filled key n) h = implicit_told (string_bytes n) import filled key h.0 h.1
   told (EncodeError.ExplicitImportConflict n first second) h = explicit_told (string_bytes n) first second h
   told (EncodeError.ImportTypeMergeConflict n first second source) h = merge_failed (string_bytes n) first second h
-  told (EncodeError.TypeCannotBeWritten n) h = λ x e. unwritten_told (string_bytes n) h (unwritten_cause options.define_components g) refl x (sym (tied.unwritten options.define_components) ∙ e)
-  told EncodeError.TooLarge h = tt
+  told (EncodeError.TypeCannotBeWritten n) h = unwritten_told (string_bytes n) h
+  told EncodeError.TooLarge h = too_large_told h
   told (EncodeError.ValidationFailure (ValidationFault.ImportNames m n)) h = alike_told (cause.ImportNames (string_bytes m) (string_bytes n)) h
   told (EncodeError.ValidationFailure (ValidationFault.ExportNames m n)) h = alike_told (cause.ExportNames (string_bytes m) (string_bytes n)) h
   told (EncodeError.GraphContainsCycle node) h = absurd h
@@ -120,7 +125,7 @@ processed g old new e is h = by e (subst (λ (b : Bool). IsErrorFor (record new 
     by (EncodeError.ExplicitImportConflict n first second) h = h
     by (EncodeError.ImportTypeMergeConflict n first second source) h = h
     by (EncodeError.TypeCannotBeWritten n) h = h
-    by EncodeError.TooLarge h = tt
+    by EncodeError.TooLarge h = h
     by (EncodeError.ValidationFailure fault) h = (λ j. name_cause old.define_components (sym is.validate j) (composition_of g)) ∙ h
     by (EncodeError.GraphContainsCycle node) h = absurd h
     by EncodeError.Memory h = tt

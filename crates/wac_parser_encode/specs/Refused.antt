@@ -1,13 +1,16 @@
 -- Why a resolved document is not encoded: the first cause that stands against what it says, with its places. And of one that is
 -- encoded each type can be written.
-use Rattle.std.specs.Prelude.{◌≡◌, Bool, List, Option, Some, None, Ok, option_map, string_bytes}
+use Rattle.std.specs.Prelude.{◌≡◌, ◌⊎◌, ◌≤◌, ◌^◌, Bool, List, Option, Some, None, Ok, length, option_map, string_bytes}
 use Rattle.wac_types_base.specs.declared.item.ExternKind.{ExternKind}
+use Rattle.wac_types_base.specs.Entries.{Name}
 use Rattle.wac_types_base.specs.Stated.{Stated}
 use Rattle.wac_types_names.specs.Keys.{Key, owned_key}
 use Rattle.wac_graph_core.specs.Graph.{Graph}
 use Rattle.wac_composition.specs.Asks.{asks_of}
+use Rattle.wac_composition.specs.Circular.{IsCircular}
 use Rattle.wac_composition.specs.Conflicts as cause
 use Rattle.wac_composition.specs.Conflicts.{first_cause, name_cause, unwritable_cause}
+use Rattle.wac_composition.specs.Large.{IsLarge}
 use Rattle.wac_composition.specs.OuterImports.{outer_imports}
 use Rattle.wac_graph_causes.specs.declared.errors.EncodeError.{EncodeError}
 use Rattle.wac_graph_causes.specs.declared.errors.ValidationFault.{ValidationFault}
@@ -17,6 +20,8 @@ use Rattle.wac_parser_refusals.specs.declared.error.Error.{Error}
 use Rattle.wac_parser_refusals.specs.Causes.{Cause, Fault}
 use Rattle.wac_parser_refusals.specs.Views.{anywhere, at_place, cause_of}
 use Rattle.wac_parser_declare.specs.Packages.{Content}
+use Rattle.wac_parser_declare.specs.Scope.{package_under}
+use Rattle.wac_parser_ascribed.specs.Tied.{bytes_of}
 use Rattle.wac_parser_resolve.specs.Ascribed.{Asker, cause_said, composition}
 use Rattle.wac_parser_resolve.specs.Ascribing.{State}
 use Rattle.wac_parser_resolve.specs.InDocuments.{IsBuilt}
@@ -56,20 +61,27 @@ module _ (define : Bool) (s : State) where
   abbrev pub unwritten_said : Option (cause.Cause Asker)
   unwritten_said = unwritable_cause define (composition s) (outer_imports (asks_of (composition s)))
 
-  -- where there is one, this is the first cause
-  abbrev pub IsFirstUnwritten : Cause → Type 0
-  IsFirstUnwritten c = (x : cause.Cause Asker) → unwritten_said ≡ Some x → IsFirst c
+  -- Under this name imports use each other in a circle, though each type can be written by itself; that has no place.
+  abbrev pub IsOfCircle : Name → Cause → Type 0
+  IsOfCircle n c = (unwritten_said ≡ None) × IsCircular define (composition s) n × (c.span ≡ None)
+
+-- a package that is handed in has more bytes than a size of 32 bits counts
+abbrev pub HasLargeHanded : State → Type 0
+HasLargeHanded s = (k : Key) × (2 ^ 32 ≤ length (bytes_of (package_under s.packages k)))
+
+-- what is said is too large: its composition is, or a package; that has no place
+abbrev pub IsOfSize : State → Cause → Type 0
+IsOfSize s c = (IsLarge (composition s) ⊎ HasLargeHanded s) × (c.span ≡ None)
 
 module _ (define validate : Bool) (s : State) where
   -- these are the first names that are alike
   abbrev pub AreFirstAlike : Cause → Type 0
   AreFirstAlike c = option_map cause_said (name_cause define validate (composition s)) ≡ Some c
 
-  -- Of sizes, and of types that cannot be written since imports use each other in a circle, nothing is said.
   abbrev pub IsFault : Fault → Cause → Type 0
   IsFault (Fault.ValidationFailure kind m n) c = AreFirstAlike c
-  IsFault (Fault.TypeCannotBeWritten n) c = IsFirstUnwritten define s c
-  IsFault Fault.TooLarge c = Unit {0}
+  IsFault (Fault.TypeCannotBeWritten n) c = IsFirst define s c ⊎ IsOfCircle define s n c
+  IsFault Fault.TooLarge c = IsOfSize s c
   IsFault f c = IsFirst define s c
 
   -- it is the first cause, with its fields and its place; want of memory may always be answered
