@@ -5,15 +5,14 @@ ghost use Rattle.wac_texts.specs.Worlds.{HasWorld};
 
 use crate::components::add_components;
 use crate::documents::PrintDocument;
-use wac_texts::{PlugTextError, plug_text};
+use crate::sources::{put_composed, put_sources};
 use crate::stop::{Stop, bad_manifest, not_parsed, plain, with_text};
 use std::alloc::Global;
 use wac_manifest::{ComposeManifest, Key, PlugManifest};
 use wac_parser_read::ParseDocument;
 use wac_parser_resolve::PackageRef;
 use wac_parser_tree::Document;
-use wac_texts::Files;
-use crate::sources::{put_composed, put_sources};
+use wac_texts::{Files, PlugTextError, plug_text};
 use wac_types_names::BorrowedPackageKey;
 use wac_workspace::{ByteSink, Workspace, write_bytes};
 

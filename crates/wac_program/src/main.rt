@@ -4,8 +4,8 @@
 use std::alloc::Global;
 use std::io;
 use std::process::ExitCode;
-use wac_disk::{Disk, ErrorEnd, OutputEnd};
 use wac::run;
+use wac_disk::{Disk, ErrorEnd, OutputEnd};
 
 /// The words behind the program's name.
 fn words_of(rt: &HostRuntime, alloc: Global) -> io::Result<Vec<String>> {

@@ -8,8 +8,8 @@ use crate::show::{Shown, show};
 use std::alloc::Global;
 use std::io;
 use std::process::ExitCode;
-use wac_disk::Disk;
 use wac::{Stop, read_file, text_of};
+use wac_disk::Disk;
 
 /// The first word behind the program's name.
 fn word_of(rt: &HostRuntime) -> io::Result<Option<String>> {

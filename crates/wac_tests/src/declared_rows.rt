@@ -2,10 +2,10 @@
 
 use std::alloc::Global;
 use std::test::Fail;
-use wac_texts::{DeclareDocument, DeclaredWorldError, declared_world};
 use wac_parser_read::ParseDocument;
 use wac_parser_resolve::{Packages, ResolveDocument};
 use wac_parser_tree::Document;
+use wac_texts::{DeclareDocument, DeclaredWorldError, declared_world};
 
 /// Whether a source's document declares a world under a name, and else why not. What owns a document is generic in its
 /// type: a proof then need not take the whole tree of types apart.

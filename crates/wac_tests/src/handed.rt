@@ -3,8 +3,8 @@
 use super::worlds::passing_world;
 use std::alloc::Global;
 use std::test::Fail;
-use wac_workspace::*;
 use wac_types_base::{ItemKind, Types};
+use wac_workspace::*;
 
 /// The bytes of `p:p`: it imports `f: func()`, and exports it as `g`.
 pub const PASSING: &str = "0061736d0d00010007050140000100\

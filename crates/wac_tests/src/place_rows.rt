@@ -3,8 +3,8 @@
 use std::alloc::Global;
 use std::process::Abort;
 use std::test::Fail;
-use wac_texts::{place_of, show_place};
 use wac_parser_lexer::SourceSpan;
+use wac_texts::{place_of, show_place};
 
 /// What is shown of so many bytes from a place on.
 fn place_row(

@@ -8,8 +8,8 @@ use super::worlds::{add_func, add_world};
 use std::alloc::Global;
 use std::test::Fail;
 use wac_texts::{PlugTextError, plug_text};
-use wac_workspace::*;
 use wac_types_base::{ItemKind, Types};
+use wac_workspace::*;
 
 /// A workspace that holds `p:p`.
 fn with_passing(alloc: Global) -> Result<Workspace, Fail> {

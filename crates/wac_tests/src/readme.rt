@@ -3,9 +3,9 @@
 use super::handed::{PASSING, SOURCE, bytes_of};
 use super::worlds::passing_world;
 use std::test::Fail;
-use wac_workspace::*;
 use wac_types_base::{ItemKind, Types};
 use wac_types_names::{NameMap, NameMapNoIntern};
+use wac_workspace::*;
 
 #[test]
 fn composing(rt: HostRuntime) -> Result<(), Fail> {

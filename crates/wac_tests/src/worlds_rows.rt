@@ -4,9 +4,9 @@ use super::worlds::{add_func, add_instance, add_resource, add_world};
 use std::alloc::Global;
 use std::fmt::Display;
 use std::test::Fail;
-use wac_workspace::*;
 use wac_reader::{Leaf, ReadError, tell};
 use wac_types_base::{ItemKind, PrimitiveType, Types, ValueType, WorldId};
+use wac_workspace::*;
 
 /// Adds a component whose only byte is this.
 fn add(
