@@ -1,5 +1,6 @@
 -- The names that the label of what stands lists, by its entry.
 use Rattle.std.proofs.Common.{◌≡◌, Option, Some, None, refl, ap, slice_get}
+use Rattle.wac_types_base.specs.declared.item.PrimitiveType.{PrimitiveType}
 use Rattle.wac_types_base.specs.declared.item.ValueType.{ValueType}
 use Rattle.wac_types_base.specs.declared.item.«Type».{«Type» as TypeKind}
 use Rattle.wac_types_base.specs.declared.item.ItemKind.{ItemKind}
@@ -58,6 +59,10 @@ module _ (c : Collection) where
   unfolding item_node
   label_defined id x e h = ap label_size_in (entry_at-is defined_entry c.number c.defined_types id.collection id.index x e h)
 
+  pub label_primitive : (p : PrimitiveType) → label_size_of c (ItemKind.Value (ValueType.Primitive p)) ≡ 0
+  unfolding item_node
+  label_primitive p = refl
+
   pub label_borrow : (id : ResourceId) → label_size_of c (ItemKind.Value (ValueType.Borrow id)) ≡ label_size_of c (ItemKind.Ty (TypeKind.Resource id))
   unfolding item_node
   label_borrow id = borrow_label (entry_at resource_entry c.number c.resources id.collection id.index)
@@ -86,4 +91,4 @@ module _ (c : Collection) where
   unfolding item_node
   label_typed_module id = typed_label (entry_at module_entry c.number c.modules id.collection id.index)
 
-pub ruleset labels = (label_func, label_interface, label_world, label_module, label_resource, label_defined, label_borrow, label_own, label_typed_func, label_typed_value, label_typed_interface, label_typed_world, label_typed_module, stands_borrow, stands_own, stands_typed_func, stands_typed_value, stands_typed_interface, stands_typed_world, stands_typed_module)
+pub ruleset labels = (label_func, label_interface, label_world, label_module, label_resource, label_defined, label_primitive, label_borrow, label_own, label_typed_func, label_typed_value, label_typed_interface, label_typed_world, label_typed_module, stands_borrow, stands_own, stands_typed_func, stands_typed_value, stands_typed_interface, stands_typed_world, stands_typed_module)

@@ -1,10 +1,16 @@
 -- How large the parts of a graph's composition are.
-use Rattle.std.specs.Prelude.{sum_by, filter_map}
+use Rattle.std.specs.Prelude.{sum_by, filter_map, Decides}
 use Rattle.std.specs.List.{cons_option}
 use Rattle.std.specs.FinMap as finite
-use Rattle.std.proofs.Common.{◌≡◌, ◌≤◌, ℕ, suc, ◌+◌, List, [], ◌∷◌, ◌++◌, map, Option, Some, None, refl, sym, ap, ◌∙◌, inl, inr, arith}
+use Rattle.std.specs.FinMap.{find}
+use Rattle.std.specs.Ordering.{nat_cmp, eq_by_cmp}
+use Rattle.std.specs.Cmp.{unsigned_tied}
+use Rattle.std.proofs.Common.{◌≡◌, ◌≤◌, ℕ, suc, ◌+◌, List, [], ◌∷◌, ◌++◌, map, Option, Some, None, Bool, true, false, true≢false, cond, refl, sym, ap, subst, ◌∙◌, inl, inr, arith}
 use Rattle.std.proofs.lemmas.List.Sums.{sum_by-cons, sum_by-append}
 use Rattle.wac_types_base.specs.Record.{Collection}
+use Rattle.wac_types_base.specs.Collection.{Stands}
+use Rattle.wac_types_base.specs.declared.item.«Type».{«Type» as TypeKind}
+use Rattle.wac_types_base.proofs.Replacing.{same_number}
 use Rattle.wac_types_base.specs.Graph.{Among}
 use Rattle.wac_types_base.specs.Stated.{stated_of}
 use Rattle.wac_types_base.specs.declared.item.ItemKind.{ItemKind}
@@ -19,12 +25,12 @@ use Rattle.wac_graph_asks.specs.declared.asks.Ask.{Ask as HeldAsk}
 use Rattle.wac_graph_asks.specs.declared.asks.Asked.{Asked}
 use Rattle.wac_graph_asks.specs.declared.asks.Definition.{Definition}
 use Rattle.wac_graph_asks.specs.AsksIn.{ask_in, asks_in}
-use Rattle.wac_graph_asks.specs.Asked.{IsAsked, IsAskedBehind, no_more, asked, left_out, placed_in}
+use Rattle.wac_graph_asks.specs.Asked.{IsAsked, IsAskedBehind, no_more, asked, left_out, placed_in, HasCopy}
 use Rattle.wac_graph_asks.specs.Graphs.{nodes_of, made_with, arguments_to, origin_of, item_at, composition_of}
 use Rattle.wac_graph_asks.proofs.ByNode.{entry_there}
 use Rattle.wac_composition.specs.Large.{name_size, names_size, entry_size, entries_size, asked_entries, worlds_size, written_size}
-use Rattle.wac_graph_causes.specs.Sizes.{size_written, world_size, instance_size}
-use Rattle.wac_graph_causes.proofs.Sums.{sum_by-map}
+use Rattle.wac_graph_causes.specs.Sizes.{size_written, world_size, instance_size, IsOfLarge, HasLargePackage}
+use Rattle.wac_composition.proofs.Sizes.{sum_by-map}
 
 -- ---- asks
 
@@ -102,3 +108,44 @@ module _ (g : Graph) where
   exports_are =
       sum_by-map name_size (λ e. e.0) (composition_of g).exports
       ∙ sum_by-map (λ e. name_size e.0) (λ e. (e.0, origin_of g e.1, item_at g e.1)) g.exports
+
+-- ---- packages
+
+key_among : (es : List (ℕ × NodeData)) (k : ℕ) (x : NodeData) → find nat_cmp k es ≡ Some x → Among k (map (λ e. e.0) es)
+key_among [] k x e = absurd (cc e)
+key_among (d ∷ es) k x e = go (eq_by_cmp nat_cmp k d.0) refl e (λ f. key_among es k x f)
+  where
+    go : (b : Bool) → eq_by_cmp nat_cmp k d.0 ≡ b → cond b (Some d.1) (find nat_cmp k es) ≡ Some x → (find nat_cmp k es ≡ Some x → Among k (map (λ e. e.0) es)) → Among k (map (λ e. e.0) (d ∷ es))
+    go true q f later = inl (same_number k d.0 (sym (unsigned_tied k d.0) ∙ q))
+    go false q f later = inr (later f)
+
+module _ (g : Graph) where
+  large_among : (k : ℕ) → IsOfLarge g k → Among k (finite.keys g.nodes)
+  large_among k is = go (node_at g k) refl is.is
+    where
+      go : (o : Option NodeData) → node_at g k ≡ o → package_made g o ≡ Some is.held → Among k (finite.keys g.nodes)
+      go None at e = absurd (cc e)
+      go (Some x) at e = key_among (nodes_of g) k x (sym (finite.get-entries g.nodes k) ∙ at)
+
+  -- large packages are among those of the nodes that are left
+  abbrev pub LargeLeft : List ℕ → Type 0
+  LargeLeft rest = (k : ℕ) → IsOfLarge g k → Among k rest
+
+  pub large_first : (rest : List ℕ) → rest ≡ finite.keys g.nodes → LargeLeft rest
+  large_first rest e k is = subst (Among k) (sym e) (large_among k is)
+
+  pub large_next : (rest later : List ℕ) (k : ℕ) (b : Bool) → rest ≡ k ∷ later → Decides b (IsOfLarge g k) → b ≡ false → LargeLeft rest → LargeLeft later
+  large_next rest later k b e d other left j is = go (subst (Among j) e (left j is))
+    where
+      go : Among j (k ∷ later) → Among j later
+      go (inl same) = absurd (true≢false (sym (d.1 (subst (IsOfLarge g) same is)) ∙ other))
+      go (inr m) = m
+
+  pub none_large : (rest : List ℕ) → rest ≡ [] → LargeLeft rest → HasLargePackage g → ⊥
+  none_large rest e left has = subst (Among has.0) e (left has.0 has.1)
+
+-- ---- definitions stand
+
+pub copied_stands : (c d : Collection) (t : TypeKind) (o : Option ItemKind) → HasCopy c d t o → Stands c (ItemKind.Ty t)
+copied_stands c d t None h = h.1
+copied_stands c d t (Some k) h = h.2

@@ -1,5 +1,5 @@
 -- Graphs that are too large to be written.
-use Rattle.std.specs.Prelude.{◌≡◌, ℕ, suc, ◌^◌, ◌≤◌, Option, Some, None, length, sum_by, ◌⊎◌}
+use Rattle.std.specs.Prelude.{◌≡◌, ℕ, suc, ◌+◌, ◌^◌, ◌≤◌, ◌<◌, List, ◌++◌, map, Option, Some, None, length, sum_by, ◌⊎◌}
 use Rattle.wac_types_base.specs.declared.item.ItemKind.{ItemKind}
 use Rattle.wac_types_base.specs.Record.{Collection}
 use Rattle.wac_types_base.specs.Collection.{Entry, Slot, item_node, slots_of}
@@ -7,7 +7,18 @@ use Rattle.wac_types_base.specs.Stated.{stated_of}
 use Rattle.wac_types_names.specs.Packaged.{Packaged}
 use Rattle.wac_graph_core.specs.Graph.{Graph, instantiated}
 use Rattle.wac_graph_asks.specs.Graphs.{composition_of}
-use Rattle.wac_composition.specs.Large.{IsLarge, label_size, written_size}
+use Rattle.wac_composition.specs.Composition.{Composition}
+use Rattle.wac_composition.specs.Asks.{Ask, named_asks, asks_to_use}
+use Rattle.wac_composition.specs.Conflicts.{placed}
+use Rattle.wac_composition.specs.Large.{IsLarge, large, label_size, written_size, names_size, entries_size, asked_entries, worlds_size}
+use Rattle.wac_graph_asks.specs.Asked.{IsAskedBehind}
+use Rattle.wac_graph_causes.specs.declared.errors.Refusal.{Refusal}
+
+-- ---- counting
+
+-- What is counted on from `count` is no more than there is, and below the bound it is all.
+abbrev pub Counts : (count size result : ℕ) → Type 0
+Counts count size result = (result ≤ count + size) × (result < large → count + size ≤ result)
 
 -- ---- types of a collection
 
@@ -54,3 +65,30 @@ HasLargePackage g = (k : ℕ) × IsOfLarge g k
 -- its composition is large, or so is a package
 abbrev pub IsTooLarge : Graph → Type 0
 IsTooLarge g = IsLarge (composition_of g) ⊎ HasLargePackage g
+
+-- No sum is large, where these are asked.
+pub record IsSmall (c : Composition ℕ ℕ) (asks : List (Ask ℕ)) : Type 0 where
+  pub asked : entries_size (asked_entries asks) < large
+  pub definitions : entries_size (placed c.definitions) < large
+  pub worlds : worlds_size c.made < large
+  pub exports : names_size (map (λ e. e.0) c.exports) < large
+
+-- Nothing of the graph is large, where interfaces that are asked again under their identifiers are left out of what is asked.
+pub record IsSmallGraph (g : Graph) : Type 0 where
+  pub uses : List (Ask ℕ)
+  pub once : IsAskedBehind (named_asks (composition_of g)) (asks_to_use (composition_of g)) uses
+  pub small : IsSmall (composition_of g) (named_asks (composition_of g) ++ uses)
+  pub packages : HasLargePackage g → ⊥
+
+-- ---- refusals
+
+-- it tells that the graph is too large, which it is, or want of memory
+abbrev pub TellsLarge : Graph → Refusal → Type 0
+TellsLarge g Refusal.TooLarge = IsTooLarge g
+TellsLarge g Refusal.Memory = Unit {0}
+TellsLarge g e = ⊥
+
+-- Of a refusal as too large this is told; any other stays.
+abbrev pub Confirms : Graph → (old new : Refusal) → Type 0
+Confirms g Refusal.TooLarge new = TellsLarge g new
+Confirms g old new = new ≡ old

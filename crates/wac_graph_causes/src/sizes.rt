@@ -1,21 +1,28 @@
-//! Compositions that are too large. What is counted is never more than what there is, and a count that has come to
-//! the bound goes no further into types.
+//! Compositions that are too large. What is counted is never more than what there is, and all of it below the bound;
+//! a count that has come to the bound goes no further into types.
 
-ghost use Rattle.std.specs.Prelude.{◌≡◌, ◌≤◌, ◌+◌, IfOk, map, true};
+ghost use Rattle.std.specs.Prelude.{◌≡◌, Decides, IfOk, map, true, false};
 ghost use Rattle.wac_types_base.specs.declared.item.ItemKind.{ItemKind};
 ghost use Rattle.wac_types_base.specs.declared.item.«Type».{«Type» as TypeKind};
 ghost use Rattle.wac_types_base.specs.Entries.{names_of, pairs_of, texts_of};
-ghost use Rattle.wac_types_base.specs.Collection.{SlotStands, Stands, defined_entry, func_entry, interface_entry, resource_entry, use_names, world_entry};
+ghost use Rattle.wac_types_base.specs.Graph.{Among};
+ghost use Rattle.wac_types_base.specs.Collection.{SlotStands, Stands, defined_entry, interface_entry};
+ghost use Rattle.wac_types_base.specs.Collection.{resource_entry, use_names, world_entry};
 ghost use Rattle.wac_types_base.specs.Stated.{stated_of};
 ghost use Rattle.wac_composition.specs.Conflicts.{placed};
+ghost use Rattle.wac_composition.specs.Large.{IsLarge, asked_entries, cores_size, core_size, core_func_size, entries_size};
+ghost use Rattle.wac_composition.specs.Large.{entry_size, label_size, module_size, name_size, names_size, optional_size};
+ghost use Rattle.wac_composition.specs.Large.{pairs_size, use_size, uses_size, worlds_size};
+ghost use Rattle.wac_graph_asks.specs.declared.asks.Ask.{Ask as HeldAsk};
+ghost use Rattle.wac_graph_asks.specs.declared.asks.Definition.{Definition as HeldDefinition};
 ghost use Rattle.wac_graph_asks.specs.Asked.{IsAsked, placed_in};
 ghost use Rattle.wac_graph_asks.specs.AsksIn.{asks_in};
 ghost use Rattle.wac_graph_asks.specs.Graphs.{composition_of};
-ghost use Rattle.wac_composition.specs.Large.{IsLarge, asked_entries, cores_size, core_size, core_func_size, entries_size, entry_size, label_size};
-ghost use Rattle.wac_composition.specs.Large.{module_size, name_size, names_size, optional_size, pairs_size, use_size, uses_size, worlds_size};
-ghost use Rattle.wac_graph_causes.specs.Sizes.{HasLargePackage, IsOfLarge, IsTooLarge, instance_size, label_size_of, places_size, size_written, slot_size};
+ghost use Rattle.wac_graph_causes.specs.Sizes.{Confirms, Counts, HasLargePackage, IsOfLarge, IsSmall, IsSmallGraph, IsTooLarge, TellsLarge};
+ghost use Rattle.wac_graph_causes.specs.Sizes.{instance_size, label_size_of, places_size, size_written, slot_size};
 
-use std::alloc::AllocError;
+use crate::errors::Refusal;
+use std::alloc::{AllocError, Global};
 use wac_graph_asks::asks::{Asked, asked_by};
 use wac_graph_asks::nodes::{package_at, package_of, world_at};
 use wac_graph_core::{CompositionGraph, NodeId};
@@ -32,13 +39,13 @@ const LARGE_PACKAGE: u64 = 4294967296;
 // ---- names
 
 fn add_name(count: u64, name: &str) -> u64
-    ensures { result ≤ count + name_size name.now }
+    ensures { Counts count (name_size name.now) result }
 {
     count.saturating_add(1).saturating_add(name.len() as u64)
 }
 
 fn add_names(count: u64, names: &[String]) -> u64
-    ensures { result ≤ count + names_size (texts_of names.now) }
+    ensures { Counts count (names_size (texts_of names.now)) result }
 {
     let mut sum = count;
     for name in names {
@@ -48,7 +55,7 @@ fn add_names(count: u64, names: &[String]) -> u64
 }
 
 fn add_optional(count: u64, name: &Option<Text>) -> u64
-    ensures { result ≤ count + optional_size name.now }
+    ensures { Counts count (optional_size name.now) result }
 {
     match name {
         None => count,
@@ -57,13 +64,13 @@ fn add_optional(count: u64, name: &Option<Text>) -> u64
 }
 
 fn add_use(count: u64, name: &str, used: &UsedType) -> u64
-    ensures { result ≤ count + use_size (name.now, used.now.name) }
+    ensures { Counts count (use_size (name.now, used.now.name)) result }
 {
     add_optional(add_name(count, name), &used.name)
 }
 
 fn add_uses(count: u64, uses: &NamedMap<UsedType>) -> u64
-    ensures { result ≤ count + uses_size (use_names uses.now) }
+    ensures { Counts count (uses_size (use_names uses.now)) result }
 {
     let mut sum = count;
     for at in 0..uses.len() {
@@ -76,7 +83,7 @@ fn add_uses(count: u64, uses: &NamedMap<UsedType>) -> u64
 // ---- core modules
 
 fn add_pairs(count: u64, pairs: &[(String, String)]) -> u64
-    ensures { result ≤ count + pairs_size (pairs_of pairs.now) }
+    ensures { Counts count (pairs_size (pairs_of pairs.now)) result }
 {
     let mut sum = count;
     for pair in pairs {
@@ -86,7 +93,7 @@ fn add_pairs(count: u64, pairs: &[(String, String)]) -> u64
 }
 
 fn add_core_func(count: u64, func: &CoreFuncType) -> u64
-    ensures { result ≤ count + core_func_size func.now }
+    ensures { Counts count (core_func_size func.now) result }
 {
     count
         .saturating_add(func.params.len() as u64)
@@ -94,7 +101,7 @@ fn add_core_func(count: u64, func: &CoreFuncType) -> u64
 }
 
 fn add_core(count: u64, item: &CoreExtern) -> u64
-    ensures { result ≤ count + core_size item.now }
+    ensures { Counts count (core_size item.now) result }
 {
     match item {
         CoreExtern::Func(func) => add_core_func(count, func),
@@ -104,7 +111,7 @@ fn add_core(count: u64, item: &CoreExtern) -> u64
 }
 
 fn add_cores(count: u64, items: &[CoreExtern]) -> u64
-    ensures { result ≤ count + cores_size items.now }
+    ensures { Counts count (cores_size items.now) result }
 {
     let mut sum = count;
     for item in items {
@@ -114,7 +121,7 @@ fn add_cores(count: u64, items: &[CoreExtern]) -> u64
 }
 
 fn add_module(count: u64, ty: &ModuleType) -> u64
-    ensures { result ≤ count + module_size ty.now }
+    ensures { Counts count (module_size ty.now) result }
 {
     let count = add_pairs(count, ty.imports.names());
     let count = add_cores(count, ty.imports.values());
@@ -125,7 +132,7 @@ fn add_module(count: u64, ty: &ModuleType) -> u64
 // ---- labels
 
 fn add_defined(count: u64, defined: &DefinedType) -> u64
-    ensures { result ≤ count + label_size (defined_entry defined.now).0 }
+    ensures { Counts count (label_size (defined_entry defined.now).0) result }
 {
     match defined {
         DefinedType::Variant(variant) => add_names(count, variant.cases.names()),
@@ -137,13 +144,13 @@ fn add_defined(count: u64, defined: &DefinedType) -> u64
 }
 
 fn add_resource(count: u64, resource: &Resource) -> u64
-    ensures { result ≤ count + label_size (resource_entry resource.now).0 }
+    ensures { Counts count (label_size (resource_entry resource.now).0) result }
 {
     add_name(count, resource.name.as_str())
 }
 
 fn add_interface(count: u64, interface: &Interface) -> u64
-    ensures { result ≤ count + label_size (interface_entry interface.now).0 }
+    ensures { Counts count (label_size (interface_entry interface.now).0) result }
 {
     let count = add_optional(count, &interface.id);
     let count = add_uses(count, &interface.uses);
@@ -151,7 +158,7 @@ fn add_interface(count: u64, interface: &Interface) -> u64
 }
 
 fn add_world(count: u64, world: &World) -> u64
-    ensures { result ≤ count + label_size (world_entry world.now).0 }
+    ensures { Counts count (label_size (world_entry world.now).0) result }
 {
     let count = add_optional(count, &world.id);
     let count = add_uses(count, &world.uses);
@@ -163,7 +170,7 @@ fn add_world(count: u64, world: &World) -> u64
 #[tactic(auto, using(crate::proofs::Labels::labels))]
 fn add_value_label(count: u64, types: &Types, value: ValueType) -> u64
     requires { Stands types.now (ItemKind.Value value) }
-    ensures { result ≤ count + label_size_of types.now (ItemKind.Value value) }
+    ensures { Counts count (label_size_of types.now (ItemKind.Value value)) result }
 {
     match value {
         ValueType::Primitive(_) => count,
@@ -177,7 +184,7 @@ fn add_value_label(count: u64, types: &Types, value: ValueType) -> u64
 #[tactic(auto, using(crate::proofs::Labels::labels))]
 fn add_type_label(count: u64, types: &Types, ty: Type) -> u64
     requires { Stands types.now (ItemKind.Ty ty) }
-    ensures { result ≤ count + label_size_of types.now (ItemKind.Ty ty) }
+    ensures { Counts count (label_size_of types.now (ItemKind.Ty ty)) result }
 {
     match ty {
         Type::Resource(id) => add_resource(count, types.resource(id)),
@@ -193,7 +200,7 @@ fn add_type_label(count: u64, types: &Types, ty: Type) -> u64
 #[tactic(auto, using(crate::proofs::Labels::labels))]
 fn add_label(count: u64, types: &Types, kind: ItemKind) -> u64
     requires { Stands types.now kind }
-    ensures { result ≤ count + label_size_of types.now kind }
+    ensures { Counts count (label_size_of types.now kind) result }
 {
     match kind {
         ItemKind::Ty(ty) => add_type_label(count, types, ty),
@@ -211,7 +218,7 @@ fn add_label(count: u64, types: &Types, kind: ItemKind) -> u64
 #[cycle(types)]
 fn add_type(count: u64, types: &Types, kind: ItemKind) -> u64
     requires { Stands types.now kind }
-    ensures { result ≤ count + size_written types.now kind }
+    ensures { Counts count (size_written types.now kind) result }
 {
     types.see_acyclic();
     if count >= LARGE {
@@ -225,7 +232,7 @@ fn add_type(count: u64, types: &Types, kind: ItemKind) -> u64
 #[cycle(types)]
 fn add_places(count: u64, types: &Types, kind: ItemKind) -> u64
     requires { Stands types.now kind }
-    ensures { result ≤ count + places_size types.now kind }
+    ensures { Counts count (places_size types.now kind) result }
 {
     types.see_acyclic();
     let mut sum = count;
@@ -241,7 +248,7 @@ fn add_places(count: u64, types: &Types, kind: ItemKind) -> u64
 #[cycle(types)]
 fn add_place(count: u64, types: &Types, place: Option<ItemKind>) -> u64
     requires { SlotStands types.now place }
-    ensures { result ≤ count + slot_size types.now place }
+    ensures { Counts count (slot_size types.now place) result }
 {
     match place {
         None => count,
@@ -249,23 +256,21 @@ fn add_place(count: u64, types: &Types, place: Option<ItemKind>) -> u64
     }
 }
 
-/// Adds an item under a name, as far as it stands.
+/// Adds an item under a name.
 fn add_entry(count: u64, types: &Types, name: &str, kind: ItemKind) -> u64
-    ensures { result ≤ count + entry_size (name.now, stated_of types.now kind) }
+    requires { Stands types.now kind }
+    ensures { Counts count (entry_size (name.now, stated_of types.now kind)) result }
 {
     let named = add_name(count, name);
-    if types.has(kind) {
-        add_type(named, types, kind)
-    } else {
-        named
-    }
+    add_type(named, types, kind)
 }
 
 // ---- compositions
 
 /// How much is asked.
 fn size_of_asks(asked: &Asked) -> u64
-    ensures { result ≤ entries_size (asked_entries (asks_in asked.now.types asked.now.asks.items)) }
+    requires { (a : HeldAsk) → Among a asked.now.asks.items → Stands asked.now.types a.item }
+    ensures { Counts 0 (entries_size (asked_entries (asks_in asked.now.types asked.now.asks.items))) result }
 {
     let mut sum = 0;
     for ask in &asked.asks {
@@ -276,7 +281,8 @@ fn size_of_asks(asked: &Asked) -> u64
 
 /// How large the definitions are.
 fn size_of_definitions(types: &Types, asked: &Asked) -> u64
-    ensures { result ≤ entries_size (placed (map (placed_in types.now) asked.now.definitions.items)) }
+    requires { (d : HeldDefinition) → Among d asked.now.definitions.items → Stands types.now (ItemKind.Ty d.ty) }
+    ensures { Counts 0 (entries_size (placed (map (placed_in types.now) asked.now.definitions.items))) result }
 {
     let mut sum = 0;
     for definition in &asked.definitions {
@@ -288,7 +294,7 @@ fn size_of_definitions(types: &Types, asked: &Asked) -> u64
 
 /// Adds the world of an instance.
 fn add_instance(count: u64, graph: &CompositionGraph, node: NodeId) -> u64
-    ensures { result ≤ count + instance_size graph.now node }
+    ensures { Counts count (instance_size graph.now node) result }
 {
     let Some(id) = package_of(graph, node) else {
         return count;
@@ -305,7 +311,7 @@ fn add_instance(count: u64, graph: &CompositionGraph, node: NodeId) -> u64
 
 /// How large the worlds of the instances are.
 fn size_of_worlds(graph: &CompositionGraph) -> u64
-    ensures { result ≤ worlds_size (composition_of graph.now).made }
+    ensures { Counts 0 (worlds_size (composition_of graph.now).made) result }
 {
     let mut sum = 0;
     for node in graph.node_ids() {
@@ -316,7 +322,7 @@ fn size_of_worlds(graph: &CompositionGraph) -> u64
 
 /// How large the names of the exports are.
 fn size_of_exports(graph: &CompositionGraph) -> u64
-    ensures { result ≤ names_size (map (λ e. e.0) (composition_of graph.now).exports) }
+    ensures { Counts 0 (names_size (map (λ e. e.0) (composition_of graph.now).exports)) result }
 {
     let mut sum = 0;
     for (name, _) in graph.exports() {
@@ -327,7 +333,9 @@ fn size_of_exports(graph: &CompositionGraph) -> u64
 
 /// Whether a composition is large.
 fn is_large(graph: &CompositionGraph, asked: &Asked) -> bool
-    ensures { result ≡ true → IsAsked graph.now asked.now → IsLarge (composition_of graph.now) }
+    requires { IsAsked graph.now asked.now }
+    ensures large { result ≡ true → IsLarge (composition_of graph.now) }
+    ensures small { result ≡ false → IsSmall (composition_of graph.now) (asks_in asked.now.types asked.now.asks.items) }
 {
     if size_of_asks(asked) >= LARGE {
         return true;
@@ -345,7 +353,7 @@ fn is_large(graph: &CompositionGraph, asked: &Asked) -> bool
 
 /// Whether a node is an instance of a large package.
 fn is_of_large(graph: &CompositionGraph, node: NodeId) -> bool
-    ensures { result ≡ true → IsOfLarge graph.now node }
+    ensures { Decides result (IsOfLarge graph.now node) }
 {
     let Some(id) = package_of(graph, node) else {
         return false;
@@ -358,7 +366,7 @@ fn is_of_large(graph: &CompositionGraph, node: NodeId) -> bool
 
 /// Whether a package that is instantiated is large.
 fn has_large_package(graph: &CompositionGraph) -> bool
-    ensures { result ≡ true → HasLargePackage graph.now }
+    ensures { Decides result (HasLargePackage graph.now) }
 {
     for node in graph.node_ids() {
         if is_of_large(graph, node) {
@@ -370,18 +378,52 @@ fn has_large_package(graph: &CompositionGraph) -> bool
 
 // ---- graphs
 
-/// Whether a graph of which this is asked is too large to be written. It says yes of none that is not.
+/// Whether a graph of which this is asked is too large to be written.
 pub fn is_too_large(graph: &CompositionGraph, asked: &Asked) -> bool
-    ensures { result ≡ true → IsAsked graph.now asked.now → IsTooLarge graph.now }
+    requires { IsAsked graph.now asked.now }
+    ensures large { result ≡ true → IsTooLarge graph.now }
+    ensures small { result ≡ false → IsSmallGraph graph.now }
 {
-    is_large(graph, asked) || has_large_package(graph)
+    if is_large(graph, asked) {
+        return true;
+    }
+    has_large_package(graph)
 }
 
-/// Whether a graph is too large to be written. It says yes of none that is not. What is asked is copied into a collection of
-/// this number, which is not that of the graph's.
-pub fn tells_too_large(graph: &CompositionGraph, number: u64) -> Result<bool, AllocError>
-    ensures { IfOk result (λ yes. yes ≡ true → IsTooLarge graph.now) }
+/// Whether a graph is too large to be written: it is where yes is said. Where no is said, nothing of it is large but
+/// for interfaces that are asked again under their identifiers, which are not counted again.
+pub fn tells_too_large(alloc: Global, graph: &CompositionGraph) -> Result<bool, AllocError>
+    ensures large { IfOk result (λ yes. yes ≡ true → IsTooLarge graph.now) }
+    ensures small { IfOk result (λ yes. yes ≡ false → IsSmallGraph graph.now) }
 {
-    let asked = asked_by(graph.alloc(), graph, number)?;
+    let asked = asked_by(alloc, graph, graph.types().number())?;
     Ok(is_too_large(graph, &asked))
+}
+
+// ---- refusals
+
+/// That a graph is too large, where it is; else want of memory is told.
+fn large_refusal(alloc: Global, graph: &CompositionGraph) -> Refusal
+    ensures { TellsLarge graph.now result }
+{
+    match tells_too_large(alloc, graph) {
+        Ok(yes) => {
+            if yes {
+                Refusal::TooLarge
+            } else {
+                Refusal::Memory
+            }
+        }
+        Err(_) => Refusal::Memory,
+    }
+}
+
+/// The refusal of a graph: it is told too large only where it is.
+pub fn confirmed(alloc: Global, graph: &CompositionGraph, refusal: Refusal) -> Refusal
+    ensures { Confirms graph.now refusal result }
+{
+    match refusal {
+        Refusal::TooLarge => large_refusal(alloc, graph),
+        other => other,
+    }
 }

@@ -1,5 +1,5 @@
 -- Refusals are for the first cause.
-use Rattle.std.proofs.Common.{◌≡◌, ℕ, [], Some, None, string_bytes, refl, ap, ◌∙◌, inl}
+use Rattle.std.proofs.Common.{◌≡◌, ℕ, [], Some, None, string_bytes, sym, ap, subst, ◌∙◌, inl}
 use Rattle.wac_graph_core.specs.Graph.{Graph}
 use Rattle.wac_composition.specs.Asks.{asks_of}
 use Rattle.wac_composition.specs.Classes.{spelling}
@@ -15,8 +15,9 @@ use Rattle.wac_graph_causes.specs.Refusals.{outer_refusal, unwritten_refusal}
 use Rattle.wac_graph_causes.specs.Implicit.{implicit_cause, IsImplicit}
 use Rattle.wac_graph_causes.specs.Alike.{IsAlike}
 use Rattle.wac_graph_causes.specs.Unwritable.{TellsUnwritten, unwritten_cause}
+use Rattle.wac_graph_causes.specs.Sizes.{Confirms, TellsLarge}
 use Rattle.wac_graph_encode.specs.declared.options.EncodeOptions.{EncodeOptions}
-use Rattle.wac_graph_encode.specs.Refused.{cause_in, IsRefusedFor, IsToldFor, TellsLarge}
+use Rattle.wac_graph_encode.specs.Refused.{cause_in, IsRefusedFor, IsToldFor}
 
 module _ (options : EncodeOptions) (g : Graph) where
   -- an import that is asked by its name and by an instance comes first
@@ -76,7 +77,7 @@ module _ (options : EncodeOptions) (g : Graph) where
   alike_refused Refusal.Memory h = tt
 
 -- what is found to be large is told so
-pub large_for : (options : EncodeOptions) (g : Graph) (e : Refusal) → TellsLarge g e → IsToldFor options g e
+large_for : (options : EncodeOptions) (g : Graph) (e : Refusal) → TellsLarge g e → IsToldFor options g e
 large_for options g (Refusal.ImplicitImportConflict import instantiation key n) h = absurd h
 large_for options g (Refusal.ExplicitImportConflict n first second) h = absurd h
 large_for options g (Refusal.ImportTypeMergeConflict n first second source) h = absurd h
@@ -85,12 +86,12 @@ large_for options g Refusal.TooLarge h = h
 large_for options g (Refusal.ValidationFailure fault) h = absurd h
 large_for options g Refusal.Memory h = tt
 
--- any other refusal is told as it was found
-pub other_for : (options : EncodeOptions) (g : Graph) (e : Refusal) → (e ≡ Refusal.TooLarge → ⊥) → IsRefusedFor options g e → IsToldFor options g e
-other_for options g (Refusal.ImplicitImportConflict import instantiation key n) other h = h
-other_for options g (Refusal.ExplicitImportConflict n first second) other h = h
-other_for options g (Refusal.ImportTypeMergeConflict n first second source) other h = h
-other_for options g (Refusal.TypeCannotBeWritten n) other h = h
-other_for options g Refusal.TooLarge other h = absurd (other refl)
-other_for options g (Refusal.ValidationFailure fault) other h = h
-other_for options g Refusal.Memory other h = h
+-- a refusal that is confirmed is told for what it was found
+pub confirmed_for : (options : EncodeOptions) (g : Graph) (old new : Refusal) → Confirms g old new → IsRefusedFor options g old → IsToldFor options g new
+confirmed_for options g (Refusal.ImplicitImportConflict import instantiation key n) new c h = subst (IsToldFor options g) (sym c) h
+confirmed_for options g (Refusal.ExplicitImportConflict n first second) new c h = subst (IsToldFor options g) (sym c) h
+confirmed_for options g (Refusal.ImportTypeMergeConflict n first second source) new c h = subst (IsToldFor options g) (sym c) h
+confirmed_for options g (Refusal.TypeCannotBeWritten n) new c h = subst (IsToldFor options g) (sym c) h
+confirmed_for options g Refusal.TooLarge new c h = large_for options g new c
+confirmed_for options g (Refusal.ValidationFailure fault) new c h = subst (IsToldFor options g) (sym c) h
+confirmed_for options g Refusal.Memory new c h = subst (IsToldFor options g) (sym c) h

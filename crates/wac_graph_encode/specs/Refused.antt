@@ -57,16 +57,6 @@ module _ (options : EncodeOptions) (g : Graph) where
   abbrev pub HasNoneAlike : Type 0
   HasNoneAlike = alike_cause options.define_components options.validate g ≡ None
 
--- it is told that the graph is too large, which it is, or want of memory
-abbrev pub TellsLarge : Graph → Refusal → Type 0
-TellsLarge g Refusal.TooLarge = IsTooLarge g
-TellsLarge g Refusal.Memory = Unit {0}
-TellsLarge g e = ⊥
-
--- whatever a refusal was found for, another tells it
-abbrev pub TellsFound : Graph → (found told : Refusal) → Type 0
-TellsFound g found told = (options : EncodeOptions) → IsRefusedFor options g found → IsToldFor options g told
-
 -- no import is asked by its name and by an instance, and none conflict
 pub record HasNoneClashing (g : Graph) : Type 0 where
   pub implicit : implicit_cause g ≡ None

@@ -12,7 +12,7 @@ ghost use Rattle.wac_graph_causes.specs.Circular.{TellsCircle};
 ghost use Rattle.wac_graph_encode.specs.Encoding.{HasTrueWorld};
 ghost use Rattle.wac_graph_encode.specs.Worlds.{IsToHandOut};
 ghost use Rattle.wac_graph_encode.specs.Refused.{HasNoneAlike, HasNoneClashing, HasNoneUnwritten, IsErrorFor, IsFree, IsRefusedFor};
-ghost use Rattle.wac_graph_encode.specs.Refused.{IsToldFor, TellsFound, TellsLarge};
+ghost use Rattle.wac_graph_encode.specs.Refused.{IsToldFor};
 ghost use Rattle.wac_graph_encode.specs.Finished.{AreSpelled, IsPrepared, MeansAsked, MeansImported, MeansNested, MeansWired, NestsSo, NestsWired};
 ghost use Rattle.wac_graph_encode.specs.Finished.{PreparedHands, PreparedImports, PreparedMeans, RefusesPrepared};
 
@@ -29,7 +29,7 @@ use wac_graph_causes::circular::circle_told;
 use wac_graph_causes::errors::{EncodeError, Refusal, Unwritten, error_of};
 use wac_graph_causes::implicit::check_implicit;
 use wac_graph_causes::names::check_names;
-use wac_graph_causes::sizes::tells_too_large;
+use wac_graph_causes::sizes::confirmed;
 use wac_graph_causes::writable::check_writable;
 use wac_graph_core::CompositionGraph;
 use wac_graph_scopes::imports::Importing;
@@ -229,29 +229,8 @@ fn encoded_first(
     encoded_asked(graph, options, &mut asked, &outers, numbers.1)
 }
 
-/// What is told where something passed 32 bits, or where no way was found to write a type though nothing stands against it.
-/// It is that the graph is too large, if it is found to be. The other answer is given of no graph that anybody knows.
-fn large_told(graph: &CompositionGraph, number: u64) -> Refusal
-    ensures { TellsLarge graph.now result }
-{
-    match tells_too_large(graph, number) {
-        Ok(true) => Refusal::TooLarge,
-        Ok(false) => Refusal::Memory,
-        Err(_) => Refusal::Memory,
-    }
-}
-
-/// A refusal as it is told: that a graph is too large only if it is found to be.
-fn told(graph: &CompositionGraph, number: u64, refusal: Refusal) -> Refusal
-    ensures { TellsFound graph.now refusal result }
-{
-    match refusal {
-        Refusal::TooLarge => large_told(graph, number),
-        other => other,
-    }
-}
-
-/// The bytes and the world of a graph.
+/// The bytes and the world of a graph. A refusal as too large is told only of a graph that is; else, where something passed 32
+/// bits or no way was found to write a type, want of memory is told: no graph is known of which it is.
 fn encoded(
     graph: &CompositionGraph,
     options: &EncodeOptions,
@@ -266,7 +245,7 @@ fn encoded(
 {
     match encoded_first(graph, options, numbers) {
         Ok(encoded) => Ok(encoded),
-        Err(refusal) => Err(told(graph, numbers.0, refusal)),
+        Err(refusal) => Err(confirmed(graph.alloc(), graph, refusal)),
     }
 }
 

@@ -11,4 +11,4 @@ loop-item-preserved c =
     counted_next core_size xs i c.args.count c.loop-item.sum c.add_core-sum.result x (get-place xs i x c.loop-item-test.true c.item-item.is) c.loop-item.invariant c.add_core-sum.ensures
 
 pub returns : goal.returns
-returns c = counted_all core_size c.args.items.now c.loop-item.item-index c.args.count c.loop-item.sum c.loop-item.invariant
+returns c = counted_all core_size c.args.items.now c.loop-item.item-index c.args.count c.loop-item.sum c.loop-item-test.false c.loop-item.invariant
