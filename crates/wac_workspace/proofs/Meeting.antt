@@ -1,7 +1,7 @@
 -- A report without entries, and a world that meets a target.
 use Rattle.std.specs.Prelude.{⊤}
 use Rattle.std.proofs.Common.{◌≡◌, Bool, true, false, List, [], ◌∷◌, ◌++◌, Option, Some, None, option_map, Result, Ok, Err, slice_get, refl, sym, ap, subst, ◌∙◌, inl, inr}
-use Rattle.std.proofs.lemmas.Option.{none-some}
+use Rattle.std.proofs.lemmas.Option.{none-some, same_Some}
 use Rattle.wac_types_base.specs.declared.ids.WorldId.{WorldId}
 use Rattle.wac_types_base.specs.declared.item.ExternKind.{ExternKind}
 use Rattle.wac_types_base.specs.declared.item.ItemKind.{ItemKind}
@@ -14,6 +14,7 @@ use Rattle.wac_types_base.specs.Graph.{Among}
 use Rattle.wac_types_base.specs.Resolving.{promoted}
 use Rattle.wac_types_base.specs.Stated.{Stated, exports_of, imports_of, promote, stated_in, stated_of, stated_world}
 use Rattle.wac_types_base.specs.Tree.{tree}
+use Rattle.wac_types_base.specs.Implicit as ids
 use Rattle.wac_types_base.specs.Fits.{Fits}
 use Rattle.wac_types_base.proofs.Lists.{among_mapped, no_entries}
 use Rattle.wac_types_base.proofs.Standing.{Found, world_found}
@@ -28,8 +29,10 @@ use Rattle.wac_composition.specs.Tests.{fits}
 use Rattle.wac_composition.proofs.FitBack.{fits_decides}
 use Rattle.wac_parser_declare.proofs.Exports.{component_exports, component_imports}
 use Rattle.wac_parser_declare.proofs.Kept.{value_at-with_values}
-use Rattle.wac_parser_resolve.specs.Meeting.{given_by}
-use Rattle.wac_parser_resolve.proofs.MeetingUses.{gives_same}
+use Rattle.wac_graph_core.specs.Graph.{Graph}
+use Rattle.wac_parser_resolve.specs.Meeting.{given_by, uses_are_named}
+use Rattle.wac_parser_resolve.specs.Targeting.{IsTarget}
+use Rattle.wac_parser_resolve.proofs.MeetingUses.{gives_same, uses_named, uses_unnamed}
 use Rattle.wac_workspace.specs.Targets.{IsExported, IsGiven, Meets}
 
 -- ---- those of a list that are so
@@ -241,3 +244,20 @@ copy_states c d k j h = ap stated_in h.same
 
 pub grown_states : (c d e : Collection) (k j : WorldId) → Grows d e → IsCopy c d (ItemKind.Component k) (ItemKind.Component j) → stated_world e j ≡ stated_world c k
 grown_states c d e k j g h = stated_kept d e g (ItemKind.Component j) h.stands ∙ copy_states c d k j h
+
+-- ---- the uses of a target have names
+
+module _ (c : Collection) (a : IsAcyclic c) (w : WorldId) (stands : Stands c (ItemKind.Component w)) (x : World) (at : slice_get c.worlds w.index ≡ Some x) where
+  its_own : w.collection ≡ c.number
+  its_own = (world_found c w stands).own
+
+  pub target_named : (fs : List (Name × ItemKind)) → ids.by_identifier c [] (ids.implicit_interfaces c x) ≡ Some fs → uses_are_named (stated_world c w) ≡ true
+  target_named fs e = uses_named c a w x at its_own (world_children c a w x at its_own) fs e
+
+  pub target_unnamed : ids.by_identifier c [] (ids.implicit_interfaces c x) ≡ None → uses_are_named (stated_world c w) ≡ false
+  target_unnamed e = uses_unnamed c a w x at its_own (world_children c a w x at its_own) e
+
+-- the world at the id of a target that the graph meets
+pub met_named : (g : Graph) → IsAcyclic g.types → (o : Option WorldId) (t : WorldId) → o ≡ Some t → IsTarget g o → uses_are_named (stated_world g.types t) ≡ true
+met_named g a None t e h = absurd (none-some t e)
+met_named g a (Some w) t e h = subst (λ (v : WorldId). uses_are_named (stated_world g.types v) ≡ true) (same_Some w t e) (target_named g.types a w h.0 h.1.world h.1.is h.1.implicit h.1.implicit_is)

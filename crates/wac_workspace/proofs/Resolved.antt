@@ -61,17 +61,16 @@ late_resolving define q f e h (inr s) = subst (λ (x : ComposeError). IsLate def
 -- ---- behind resolving
 
 module _ (g : Graph) (at : Places) (options : EncodeOptions) where
-  -- a target that is not met, where each type can be written
-  pub target_unmet : (t : WorldId) (n : Name) (types : Collection) (world : WorldId) (e : ComposeError) → CanBeWritten g options → HasResolvedWorld g types world
-      → IsUnmet n (stated_world g.types t) (stated_world types world) e → IsAfterwards g at (Some t) options e
-  unfolding CanBeWritten TellsFirst
-  target_unmet t n types world (error.Parse x) written states h = absurd h
-  target_unmet t n types world error.NumbersExhausted written states h = absurd h
-  target_unmet t n types world (error.Resolution f) written states h = subst (λ (o : Option Cause). TellsFirst g options at o) (sym h) (λ d ps r q b x is. absurd (none-some x (sym (written at d ps r q b) ∙ is)))
-  target_unmet t n types world (error.Target r) written states h = record { types = types; world = world; states = states; unmet = h }
-  target_unmet t n types world error.KeyTaken written states h = absurd h
-  target_unmet t n types world error.BytesTaken written states h = absurd h
-  target_unmet t n types world error.Memory written states h = tt
+  -- a target that is not met
+  pub target_unmet : (t : WorldId) (types : Collection) (world : WorldId) (e : ComposeError) → HasResolvedWorld g types world
+      → IsUnmet (stated_world g.types t) (stated_world types world) e → IsAfterwards g at (Some t) options e
+  target_unmet t types world (error.Parse x) states h = absurd h
+  target_unmet t types world error.NumbersExhausted states h = absurd h
+  target_unmet t types world (error.Resolution f) states h = absurd h
+  target_unmet t types world (error.Target r) states h = record { types = types; world = world; states = states; unmet = h }
+  target_unmet t types world error.KeyTaken states h = absurd h
+  target_unmet t types world error.BytesTaken states h = absurd h
+  target_unmet t types world error.Memory states h = tt
 
 -- ---- the target of a document, and that of its graph
 

@@ -44,13 +44,11 @@ pub record IsEncoded (last : ℕ) (e : Encoded) : Type 0 where
   pub number : e.types.number ≡ last
   pub stands : Stands e.types (ItemKind.Component e.world)
 
--- why a component of this world is refused over a target of this name: it does not meet the target, or a type of the target
--- cannot be written; or want of memory
-abbrev pub IsUnmet : Name → (target world : Stated) → ComposeError → Type 0
-IsUnmet n t w (error.Resolution f) = cause_of f ≡ anywhere (Fault.TypeCannotBeWritten n)
-IsUnmet n t w (error.Target r) = Meets t w → ⊥
-IsUnmet n t w error.Memory = Unit {0}
-IsUnmet n t w e = ⊥
+-- why a component of this world is refused over a target: it does not meet the target; or want of memory
+abbrev pub IsUnmet : (target world : Stated) → ComposeError → Type 0
+IsUnmet t w (error.Target r) = Meets t w → ⊥
+IsUnmet t w error.Memory = Unit {0}
+IsUnmet t w e = ⊥
 
 -- the component of a graph meets the target, if there is one
 abbrev pub MeetsTarget : Graph → Option WorldId → Collection → WorldId → Type 0

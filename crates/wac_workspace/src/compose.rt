@@ -7,6 +7,7 @@ ghost use Rattle.wac_types_base.specs.declared.item.ItemKind.{ItemKind};
 ghost use Rattle.wac_types_base.specs.Collection.{Stands};
 ghost use Rattle.wac_parser_tree.specs.Trees.{Document as Tree};
 ghost use Rattle.wac_parser_tree.specs.Views.{view_document, view_package_name};
+ghost use Rattle.wac_parser_resolve.specs.Meeting.{uses_are_named};
 ghost use Rattle.wac_parser_resolve.specs.Knowing.{handed_list};
 ghost use Rattle.wac_parser_resolve.specs.Resolved.{graph_of, places_of, target_of};
 ghost use Rattle.wac_parser_resolve.specs.Targeting.{IsTarget};
@@ -110,7 +111,8 @@ fn bring_together(
     })
 }
 
-/// Tests a component against a target, named as the directive names it.
+/// Tests a component against a target, named as the directive names it. The interfaces that the target uses have
+/// identifiers: resolving the directive refuses another.
 fn test_target(
     alloc: Global,
     name: &str,
@@ -120,10 +122,11 @@ fn test_target(
 ) -> Result<(), ComposeError>
     requires target { Stands types.now (ItemKind.Component target) }
     requires component { Stands encoded.now.types (ItemKind.Component encoded.now.world) }
+    requires named { uses_are_named (stated_world types.now target) ≡ true }
     ensures met { OnOk result
         (Meets (stated_world types.now target) (stated_world encoded.now.types encoded.now.world)) }
     ensures unmet { IfErr result
-        (IsUnmet name.now (stated_world types.now target) (stated_world encoded.now.types encoded.now.world)) }
+        (IsUnmet (stated_world types.now target) (stated_world encoded.now.types encoded.now.world)) }
 {
     let pair = bring_together(alloc, types, target, encoded)?;
     pair.types.see_acyclic();
@@ -131,7 +134,7 @@ fn test_target(
         Ok(Ok(())) => Ok(()),
         Ok(Err(report)) => Err(ComposeError::Target(report)),
         Err(TargetError::Memory) => Err(ComposeError::Memory),
-        // resolving a directive refuses such a target already, by this very cause
+        // which does not come: such a target is refused before, by this very cause
         Err(TargetError::UsedWithoutIdentifier) => Err(ComposeError::Resolution(
             ResolutionError::TypeCannotBeWritten {
                 name: String::from_str(alloc, name)?,
@@ -162,13 +165,9 @@ fn encode_resolved<'d, D: Drop>(
 {
     let encoded = resolution.encode_world(options, (numbers.merging, numbers.output))?;
     if let Some(target) = resolution.target() {
-        test_target(
-            alloc,
-            name.as_str(),
-            resolution.graph().types(),
-            target,
-            &encoded,
-        )?;
+        let types = resolution.graph().types();
+        types.see_acyclic();
+        test_target(alloc, name.as_str(), types, target, &encoded)?;
     }
     Ok(encoded)
 }
