@@ -7,23 +7,23 @@ use wac_types_base::{ItemKind, Types};
 use wac_workspace::*;
 
 /// The bytes of `p:p`: it imports `f: func()`, and exports it as `g`.
-pub const PASSING: &str = "0061736d0d00010007050140000100\
+pub(crate) const PASSING: &str = "0061736d0d00010007050140000100\
     0a06010001660100\
     0b0701000167010000";
 
 /// The component of one instance of `p:p`, by the tables of the binary format; the name `x` of the instance is kept for
 /// debuggers.
-pub const ONE: &str = "0061736d0d000100 0705 0140000100 0a06 010001660100 0420\
+pub(crate) const ONE: &str = "0061736d0d000100 0705 0140000100 0a06 010001660100 0420\
     0061736d0d00010007050140000100 0a06010001660100 0b0701000167010000\
     0508 01000001 0166 0100 0606 0101 0000 0167 0b07 01 00 0167 0101 00\
     0016 0e636f6d706f6e656e742d6e616d65 01 05 05 01 00 0178\
     002b 0970726f647563657273 01 0c70726f6365737365642d6279 01 0a7761632d706172736572 06302e31312e30";
 
 /// The source of that component.
-pub const SOURCE: &str = "package m:m; let x = new p:p { ... }; export x.g as \"g\";";
+pub(crate) const SOURCE: &str = "package m:m; let x = new p:p { ... }; export x.g as \"g\";";
 
 /// The bytes of digits with blanks between them; none for want of memory.
-pub fn maybe_bytes(alloc: Global, digits: &str) -> Option<Vec<u8>> {
+pub(crate) fn maybe_bytes(alloc: Global, digits: &str) -> Option<Vec<u8>> {
     let mut text = String::new(alloc);
     for c in digits.chars() {
         if c != ' ' {
@@ -34,12 +34,12 @@ pub fn maybe_bytes(alloc: Global, digits: &str) -> Option<Vec<u8>> {
 }
 
 /// The bytes of digits with blanks between them.
-pub fn bytes_of(alloc: Global, digits: &str) -> Result<Vec<u8>, Fail> {
+pub(crate) fn bytes_of(alloc: Global, digits: &str) -> Result<Vec<u8>, Fail> {
     Ok(maybe_bytes(alloc, digits).ok_or("no digits")?)
 }
 
 /// Adds a component of these bytes with the world of `p:p`; none where the world cannot be made.
-pub fn add(
+pub(crate) fn add(
     alloc: Global,
     workspace: &mut Workspace,
     name: &str,

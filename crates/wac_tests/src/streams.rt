@@ -8,7 +8,7 @@ use wac_streams::{ByteSink, ByteSource};
 
 /// Fails at each call.
 #[derive(Debug, Drop)]
-pub struct FailsAtOnce {
+pub(crate) struct FailsAtOnce {
     pub calls: usize,
 }
 
@@ -29,7 +29,7 @@ impl ByteSource for FailsAtOnce {
 
 /// Gives the same byte without end.
 #[derive(Debug, Drop)]
-pub struct Endless {
+pub(crate) struct Endless {
     pub byte: u8,
     pub calls: usize,
 }
@@ -52,7 +52,7 @@ impl ByteSource for Endless {
 
 /// Gives a slice's bytes, at most so many a call, and fails at the call of that number, counted from 1.
 #[derive(Debug, Drop)]
-pub struct SliceSource<'a> {
+pub(crate) struct SliceSource<'a> {
     pub rest: &'a [u8],
     pub most: usize,
     pub fails_at: Option<usize>,
@@ -61,7 +61,7 @@ pub struct SliceSource<'a> {
 
 impl<'a> SliceSource<'a> {
     /// All that there is room for at once.
-    pub fn new(bytes: &'a [u8]) -> Self {
+    pub(crate) fn new(bytes: &'a [u8]) -> Self {
         SliceSource {
             rest: bytes,
             most: usize::MAX,
@@ -95,7 +95,7 @@ impl<'a> ByteSource for SliceSource<'a> {
 
 /// Takes nothing.
 #[derive(Debug, Drop)]
-pub struct TakesNothing {
+pub(crate) struct TakesNothing {
     pub calls: usize,
 }
 
@@ -120,7 +120,7 @@ impl ByteSink for TakesNothing {
 
 /// Takes at most so many bytes a call, and fails at the call of that number, counted from 1.
 #[derive(Debug, Drop)]
-pub struct VecSink {
+pub(crate) struct VecSink {
     pub taken: Vec<u8>,
     pub most: usize,
     pub fails_at: Option<usize>,
@@ -129,7 +129,7 @@ pub struct VecSink {
 
 impl VecSink {
     /// All that it is given.
-    pub fn new(alloc: Global) -> Self {
+    pub(crate) fn new(alloc: Global) -> Self {
         VecSink {
             taken: Vec::new(alloc),
             most: usize::MAX,
@@ -139,7 +139,7 @@ impl VecSink {
     }
 
     /// One byte a call.
-    pub fn byte_by_byte(alloc: Global) -> Self {
+    pub(crate) fn byte_by_byte(alloc: Global) -> Self {
         VecSink {
             taken: Vec::new(alloc),
             most: 1,
@@ -149,7 +149,7 @@ impl VecSink {
     }
 
     /// Fails at each first call.
-    pub fn failing(alloc: Global) -> Self {
+    pub(crate) fn failing(alloc: Global) -> Self {
         VecSink {
             taken: Vec::new(alloc),
             most: 1,

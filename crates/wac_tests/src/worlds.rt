@@ -25,7 +25,7 @@ fn items(alloc: Global, list: &[(&str, ItemKind)]) -> Option<NamedMap<ItemKind>>
 }
 
 /// A function of these parameters.
-pub fn add_func(
+pub(crate) fn add_func(
     alloc: Global,
     types: &mut Types,
     params: &[(&str, ValueType)],
@@ -42,7 +42,7 @@ pub fn add_func(
 }
 
 /// A resource of its own.
-pub fn add_resource(alloc: Global, types: &mut Types, name: &str) -> Option<ResourceId> {
+pub(crate) fn add_resource(alloc: Global, types: &mut Types, name: &str) -> Option<ResourceId> {
     let resource = Resource {
         name: Text::new(String::from_str(alloc, name).ok()?),
         alias: None,
@@ -54,7 +54,7 @@ pub fn add_resource(alloc: Global, types: &mut Types, name: &str) -> Option<Reso
 }
 
 /// An instance of these exports, whose interface has this identifier.
-pub fn add_instance(
+pub(crate) fn add_instance(
     alloc: Global,
     types: &mut Types,
     id: &str,
@@ -72,7 +72,7 @@ pub fn add_instance(
 }
 
 /// A world of these imports and exports.
-pub fn add_world(
+pub(crate) fn add_world(
     alloc: Global,
     types: &mut Types,
     imports: &[(&str, ItemKind)],
@@ -96,7 +96,7 @@ pub fn add_world(
 }
 
 /// The world that imports `f: func()` and exports `g: func()`.
-pub fn passing_world(alloc: Global, types: &mut Types) -> Option<WorldId> {
+pub(crate) fn passing_world(alloc: Global, types: &mut Types) -> Option<WorldId> {
     let func = add_func(alloc, types, &[])?;
     add_world(alloc, types, &[("f", func)], &[("g", func)])
 }

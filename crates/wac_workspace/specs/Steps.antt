@@ -4,14 +4,11 @@ use Rattle.wac_types_base.specs.declared.ids.WorldId.{WorldId}
 use Rattle.wac_types_base.specs.declared.item.ItemKind.{ItemKind}
 use Rattle.wac_types_base.specs.Record.{Collection}
 use Rattle.wac_types_base.specs.Collection.{Stands}
-use Rattle.wac_types_base.specs.Entries.{Name}
 use Rattle.wac_types_base.specs.Stated.{Stated, stated_world}
 use Rattle.wac_graph_core.specs.Graph.{Graph}
 use Rattle.wac_graph_encode.specs.declared.options.EncodeOptions.{EncodeOptions}
 use Rattle.wac_graph_encode.specs.declared.options.Encoded.{Encoded}
 use Rattle.wac_parser_tree.specs.Trees.{PackageName}
-use Rattle.wac_parser_refusals.specs.Causes.{Fault}
-use Rattle.wac_parser_refusals.specs.Views.{anywhere, cause_of}
 use Rattle.wac_parser_resolve.specs.Resolved.{Places}
 use Rattle.wac_parser_encode.specs.Meaning.{HasResolvedWorld}
 use Rattle.wac_parser_encode.specs.Refused.{RefusesResolved}
