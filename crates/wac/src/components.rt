@@ -1,18 +1,18 @@
 //! The components of a manifest.
 
-ghost use Rattle.std.specs.Prelude.{◌≡◌, Some, None, IfOk, IfErr, string_bytes};
+ghost use Rattle.std.specs.Prelude.{◌≡◌, Some, None, IfOk, IfErr, OnOk, string_bytes};
 ghost use Rattle.wac_texts.specs.Files.{Has};
+ghost use Rattle.wac.specs.Adding.{IsBytesOf, AddsHanded, AddsComponent, AddsComponents, added_key};
 ghost use Rattle.wac.specs.Loading.{IsUnread, IsNoText, IsTextOf, IsTextRefused};
 
-use wac_texts::{Files, FilesError};
+use crate::stop::{Stop, cannot_read, key_taken, not_parsed, not_resolved, plain, with_text};
 use std::alloc::Global;
 use wac_graph_core::CompositionGraph;
 use wac_manifest::{BytesData, Component, TextData};
 use wac_parser_read::ParseDocument;
 use wac_parser_resolve::{Error as ResolutionError, Packages, ResolveDocument};
 use wac_parser_tree::Document;
-use wac_texts::{DeclareDocument, DeclaredWorldError, Declares, world_in};
-use crate::stop::{Stop, cannot_read, key_taken, not_parsed, not_resolved, plain, with_text};
+use wac_texts::{DeclareDocument, DeclaredWorldError, Declares, Files, FilesError, world_in};
 use wac_types_names::BorrowedPackageKey;
 use wac_workspace::{AddPackageError, Workspace};
 
@@ -43,7 +43,9 @@ pub fn text_of(alloc: Global, path: &str, bytes: &[u8]) -> Result<String, Stop>
 }
 
 /// The bytes that a manifest gives.
-fn bytes_of<F: Files>(alloc: Global, files: &F, data: BytesData) -> Result<Vec<u8>, Stop> {
+fn bytes_of<F: Files>(alloc: Global, files: &F, data: BytesData) -> Result<Vec<u8>, Stop>
+    ensures { IfOk result (λ bytes. IsBytesOf (F.stored files.now) «data» bytes.items) }
+{
     match data {
         BytesData::Bytes(bytes) => Ok(bytes),
         BytesData::File(path) => read_file(alloc, files, path.as_str()),
@@ -100,7 +102,9 @@ fn add_with_graph(
     added: Added,
     graph: &CompositionGraph,
     declares: Declares,
-) -> Result<(), Stop> {
+) -> Result<(), Stop>
+    ensures { OnOk result (AddsHanded (added_key added) added.bytes.items workspace.old.packages workspace.new.packages) }
+{
     let Added {
         name,
         version,
@@ -135,7 +139,9 @@ fn add_with_text<'s, D: ParseDocument<'s> + ResolveDocument + DeclareDocument>(
     alloc: Global,
     workspace: &mut Workspace,
     added: Added,
-) -> Result<(), Stop> {
+) -> Result<(), Stop>
+    ensures { OnOk result (AddsHanded (added_key added) added.bytes.items workspace.old.packages workspace.new.packages) }
+{
     let document = match D::parse(alloc, source) {
         Ok(document) => document,
         Err(fault) => return Err(not_parsed(alloc, &fault)),
@@ -154,7 +160,9 @@ fn add_component<F: Files>(
     files: &F,
     workspace: &mut Workspace,
     component: Component,
-) -> Result<(), Stop> {
+) -> Result<(), Stop>
+    ensures { OnOk result (AddsComponent (F.stored files.now) component workspace.old.packages workspace.new.packages) }
+{
     let bytes = bytes_of(alloc, files, component.bytes)?;
     let source = load_text(alloc, files, component.world)?;
     let added = Added {
@@ -172,7 +180,9 @@ pub fn add_components<F: Files>(
     files: &F,
     workspace: &mut Workspace,
     components: Vec<Component>,
-) -> Result<(), Stop> {
+) -> Result<(), Stop>
+    ensures { OnOk result (AddsComponents (F.stored files.now) components.items workspace.old.packages workspace.new.packages) }
+{
     for component in components {
         add_component(alloc, files, workspace, component)?;
     }
