@@ -2,6 +2,7 @@
 use Rattle.std.specs.Prelude.{sum_by}
 use Rattle.std.proofs.Common.{◌≡◌, ◌≤◌, ℕ, suc, ◌+◌, List, [], ◌∷◌, map, refl, sym, ap, subst, ◌∙◌}
 use Rattle.std.proofs.lemmas.List.Sums.{sum_by-cons}
+use Rattle.wac_types_base.proofs.Loops.{map-map}
 use Rattle.wac_composition.specs.Composition.{Placed, Made, Composition}
 use Rattle.wac_composition.specs.Asks.{Ask, asks_of}
 use Rattle.wac_composition.specs.Conflicts.{placed}
@@ -36,17 +37,13 @@ turned c d s = record { asks = sym s.asks; definitions = sym s.definitions; worl
 
 -- ---- other names
 
-map_through : {X Y Z : Type 0} (v : Y → Z) (h : X → Y) (xs : List X) → map v (map h xs) ≡ map (λ x. v (h x)) xs
-map_through v h [] = refl
-map_through v h (x ∷ xs) = ap (λ l. v (h x) ∷ l) (map_through v h xs)
-
 module _ {A B I J : Type 0} (f : A → B) (g : I → J) (c : Composition A I) where
   sizes_renamed : SameSizes c (renamed f g c)
   sizes_renamed = record {
-    asks = ap entries_size (sym (map_through (λ (a : Ask B). (a.name, a.item)) (ask_renamed f) (asks_of c)) ∙ ap asked_entries (sym (keeps_meaning f g c).asks));
-    definitions = ap entries_size (sym (map_through (λ (d : Placed B). (d.name, d.item)) (placed_renamed f) c.definitions));
+    asks = ap entries_size (sym (map-map (λ (a : Ask B). (a.name, a.item)) (ask_renamed f) (asks_of c)) ∙ ap asked_entries (sym (keeps_meaning f g c).asks));
+    definitions = ap entries_size (sym (map-map (λ (d : Placed B). (d.name, d.item)) (placed_renamed f) c.definitions));
     worlds = sym (sum_by-map (λ m. suc (written_size m.world)) (made_renamed f g) c.made);
-    exports = ap names_size (sym (map_through (λ e. e.0) _ c.exports));
+    exports = ap names_size (sym (map-map (λ e. e.0) _ c.exports));
   }
 
 pub large_renamed : {A B I J : Type 0} → Large_renamed A B I J
