@@ -1,5 +1,6 @@
 -- The first cause stands against a composition, and where there is none nothing does.
 use Rattle.std.specs.Prelude.{find, is_some, bytes_eq, cond, if◌then◌else◌}
+use Rattle.std.specs.List.{flat_map}
 use Rattle.std.proofs.lemmas.Option.{none-some, same_Some}
 use Rattle.std.specs.Cmp.Lexicographic.{bytes_decides}
 use Rattle.std.proofs.Common.{◌≡◌, List, [], ◌∷◌, ◌++◌, append_assoc, append-nil, Bool, true, false, true≢false, Option, Some, None, ◌⊎◌, inl, inr, refl, sym, ap, subst, ◌∙◌}
@@ -13,10 +14,10 @@ use Rattle.wac_composition.specs.Classes.{class, spelling}
 use Rattle.wac_composition.specs.Merging.{kept}
 use Rattle.wac_composition.specs.OuterImports.{asked_in, outer_imports}
 use Rattle.wac_composition.specs.Writable.{holder, as_defined, is_value, outer_unwritable, definition_unwritable, package_unwritable, alias_unwritable}
-use Rattle.wac_composition.specs.Circles.{as_written}
+use Rattle.wac_composition.specs.Circles.{written_inside}
 use Rattle.std.specs.Option.{option_or}
-use Rattle.wac_composition.specs.Conflicts.{Cause, Unwritable, first_found, implicit_with, implicit_by, implicit_conflict, merge_cause, merge_fails, those_in, merge_conflict, cause_at, placed, unwritable_cause, circle_cause, dependencies_of, first_cause}
-use Rattle.wac_composition.specs.Against.{IsUnmerged, StandsAgainst, asked_twice, import_unmerged, ask_unmerged, alias_of_value, outer_import, in_circle, definition, imported_package, FirstStands}
+use Rattle.wac_composition.specs.Conflicts.{Cause, Unwritable, first_found, implicit_with, implicit_by, implicit_conflict, merge_cause, merge_fails, those_in, merge_conflict, cause_at, placed, unwritable_cause, circle_cause, late_unwritable, written_forms, outers_written, dependencies_of, first_cause}
+use Rattle.wac_composition.specs.Against.{IsUnmerged, StandsAgainst, asked_twice, import_unmerged, ask_unmerged, alias_of_value, outer_import, outer_in_circle, circle_in_definition, circle_in_package, definition, imported_package, FirstStands}
 use Rattle.wac_composition.proofs.NotFound.{written_decides}
 use Rattle.wac_composition.proofs.Lists.{mapped_among}
 
@@ -195,13 +196,35 @@ module _ {A I : Type 0} (define : Bool) (c : Composition A I) where
     ]
   ]
 
-  abbrev circling : List (Name × Stated)
-  circling = as_written (spelling (asks_of c)) outers
+  abbrev of_outers : List (Name × Stated)
+  of_outers = outers_written (spelling (asks_of c)) outers
 
-  circle_stands : (x : Cause A) → circle_cause (spelling (asks_of c)) outers ≡ Some x → Stands x
-  circle_stands x e =
-      let f = cause_some (outer_unwritable outers) circling x e in
-      subst Stands f.3 (in_circle f.0.0 f.0.1 f.1 ((written_decides true (holder [] outers) f.0.0 f.0.1).0 f.2))
+  abbrev of_definitions : List (Name × Stated)
+  of_definitions = flat_map written_inside (written_forms c.definitions)
+
+  abbrev of_packages : List (Name × Stated)
+  of_packages = flat_map written_inside (dependencies_of define c)
+
+  circle_stands : (x : Cause A) → circle_cause define c (spelling (asks_of c)) outers ≡ Some x → Stands x
+  circle_stands x e = elim (or_some (first_found (cause_at (late_unwritable true)) of_outers) _ x e) [
+    | inl a ↦
+        let f = cause_some (late_unwritable true) of_outers x a in
+        subst Stands f.3 (outer_in_circle f.0.0 f.0.1 f.1 ((written_decides true (holder [] []) f.0.0 f.0.1).0 f.2))
+    | inr r ↦ elim (or_some (first_found (cause_at (late_unwritable false)) of_definitions) _ x r.1) [
+      | inl a ↦
+          let f = cause_some (late_unwritable false) of_definitions x a in
+          subst Stands f.3 (circle_in_definition f.0.0 f.0.1 f.1 ((written_decides false (holder [] []) f.0.0 f.0.1).0 f.2))
+      | inr s ↦
+          let f = cause_some (late_unwritable true) of_packages x s.1 in
+          subst Stands f.3 (circle_in_package f.0.0 f.0.1 f.1 ((written_decides true (holder [] []) f.0.0 f.0.1).0 f.2))
+    ]
+  ]
+
+  no_circle : circle_cause define c (spelling (asks_of c)) outers ≡ None → (first_found (cause_at {A = A} (late_unwritable true)) of_outers ≡ None) × (first_found (cause_at {A = A} (late_unwritable false)) of_definitions ≡ None) × (first_found (cause_at {A = A} (late_unwritable true)) of_packages ≡ None)
+  no_circle e =
+      let one = or_none (first_found (cause_at {A = A} (late_unwritable true)) of_outers) _ e in
+      let two = or_none (first_found (cause_at {A = A} (late_unwritable false)) of_definitions) _ one.1 in
+      (one.0, two.0, two.1)
 
   first_stands : (x : Cause A) → first_cause define c ≡ Some x → Stands x
   first_stands x e = elim (or_some (implicit_conflict c.imports (asks_of c)) _ x e) [
@@ -223,20 +246,24 @@ module _ {A I : Type 0} (define : Bool) (c : Composition A I) where
       let three = or_none (first_found (cause_at {A = A} alias_unwritable) c.aliases) _ last.0 in
       let four = or_none (first_found (cause_at {A = A} (outer_unwritable outers)) outers) _ three.1 in
       let five = or_none (first_found (cause_at {A = A} (definition_unwritable outers)) (placed c.definitions)) _ four.1 in
-      go one.0 two.0 three.0 four.0 five.0 five.1 last.1 x s
+      let rest = no_circle last.1 in
+      go one.0 two.0 three.0 four.0 five.0 five.1 rest.0 rest.1 rest.2 x s
     where
       go : implicit_conflict c.imports (asks_of c) ≡ None → merge_conflict (asks_of c) [] (asks_of c) ≡ None → first_found (cause_at {A = A} alias_unwritable) c.aliases ≡ None
           → first_found (cause_at {A = A} (outer_unwritable outers)) outers ≡ None → first_found (cause_at {A = A} (definition_unwritable outers)) (placed c.definitions) ≡ None
-          → first_found (cause_at {A = A} package_unwritable) (dependencies_of define c) ≡ None → first_found (cause_at {A = A} (outer_unwritable outers)) circling ≡ None → (x : Cause A) → Stands x → ⊥
-      go p q r s t v w x (asked_twice i a m n k e) = no_implicit p i a m n k e
-      go p q r s t v w x (import_unmerged a b u k) = no_unmerged q a b u
-      go p q r s t v w x (ask_unmerged a b u k) = no_unmerged q a b u
-      go p q r s t v w x (alias_of_value n y m k) = cause_none alias_unwritable c.aliases r (n, y) m (ap is_value k)
-      go p q r s t v w x (outer_import n y m f) = cause_none (outer_unwritable outers) outers s (n, y) m ((written_decides true (holder [] outers) n y).1 f)
-      go p q r s t v w x (in_circle n y m f) = cause_none (outer_unwritable outers) circling w (n, y) m ((written_decides true (holder [] outers) n y).1 f)
-      go p q r s t v w x (definition d m f) =
+          → first_found (cause_at {A = A} package_unwritable) (dependencies_of define c) ≡ None → first_found (cause_at {A = A} (late_unwritable true)) of_outers ≡ None
+          → first_found (cause_at {A = A} (late_unwritable false)) of_definitions ≡ None → first_found (cause_at {A = A} (late_unwritable true)) of_packages ≡ None → (x : Cause A) → Stands x → ⊥
+      go p q r s t v w y z x (asked_twice i a m n k e) = no_implicit p i a m n k e
+      go p q r s t v w y z x (import_unmerged a b u k) = no_unmerged q a b u
+      go p q r s t v w y z x (ask_unmerged a b u k) = no_unmerged q a b u
+      go p q r s t v w y z x (alias_of_value n u m k) = cause_none alias_unwritable c.aliases r (n, u) m (ap is_value k)
+      go p q r s t v w y z x (outer_import n u m f) = cause_none (outer_unwritable outers) outers s (n, u) m ((written_decides true (holder [] outers) n u).1 f)
+      go p q r s t v w y z x (outer_in_circle n u m f) = cause_none (late_unwritable true) of_outers w (n, u) m ((written_decides true (holder [] []) n u).1 f)
+      go p q r s t v w y z x (circle_in_definition n u m f) = cause_none (late_unwritable false) of_definitions y (n, u) m ((written_decides false (holder [] []) n u).1 f)
+      go p q r s t v w y z x (circle_in_package n u m f) = cause_none (late_unwritable true) of_packages z (n, u) m ((written_decides true (holder [] []) n u).1 f)
+      go p q r s t v w y z x (definition d m f) =
           cause_none (definition_unwritable outers) (placed c.definitions) t (d.name, d.item) (among_mapped (λ d. (d.name, d.item)) c.definitions d m) ((written_decides false (holder [] outers) d.name (as_defined d.item)).1 f)
-      go p q r s t v w x (imported_package n y m f) = cause_none package_unwritable (dependencies_of define c) v (n, y) m ((written_decides true (holder [] []) n y).1 f)
+      go p q r s t v w y z x (imported_package n u m f) = cause_none package_unwritable (dependencies_of define c) v (n, u) m ((written_decides true (holder [] []) n u).1 f)
 
   pub causes_stand : FirstStands define c
   causes_stand = record { stands = first_stands; none = none_stands }

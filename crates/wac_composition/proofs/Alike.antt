@@ -10,8 +10,9 @@ use Rattle.wac_composition.specs.Asks.{ToFill, Ask, used_by, used_by_definition,
 use Rattle.wac_composition.specs.Classes.{spelling}
 use Rattle.wac_composition.specs.OuterImports.{outer_imports}
 use Rattle.std.specs.Option.{option_or}
-use Rattle.wac_composition.specs.Conflicts.{ImportNames, ExportNames, first_found, dependency_name, same_key, each_once, dependencies_of, implicit_conflict, merge_conflict, circle_cause, cause_at, placed, unwritable_cause, first_cause, twins, alike, name_cause}
+use Rattle.wac_composition.specs.Conflicts.{ImportNames, ExportNames, first_found, dependency_name, same_key, each_once, dependencies_of, implicit_conflict, merge_conflict, circle_cause, cause_at, placed, late_unwritable, written_forms, outers_written, unwritable_cause, first_cause, twins, alike, name_cause}
 use Rattle.wac_composition.specs.Writable.{outer_unwritable, definition_unwritable, package_unwritable, alias_unwritable}
+use Rattle.wac_composition.specs.Circles.{written_inside}
 use Rattle.wac_types_written.specs.Written.{without_uses}
 use Rattle.wac_composition.specs.Worlds.{world_exports, composed_world}
 use Rattle.wac_composition.specs.Alike.{IsSameMade, AreSameMade, IsAlike, MeansAlike}
@@ -53,12 +54,18 @@ module _ {A I : Type 0} where
         (option_or (first_found (cause_at (definition_unwritable (outer_imports (asks i)))) (placed (same.definitions i)))
         (first_found (cause_at package_unwritable) (dependencies define i))))
 
+    circle : (define : Bool) → circle_cause define c (spelling (asks_of c)) (outer_imports (asks_of c)) ≡ circle_cause define d (spelling (asks_of d)) (outer_imports (asks_of d))
+    circle define = λ i.
+        option_or (first_found (cause_at (late_unwritable true)) (outers_written (spelling (asks i)) (outer_imports (asks i))))
+        (option_or (first_found (cause_at (late_unwritable false)) (flat_map written_inside (written_forms (same.definitions i))))
+        (first_found (cause_at (late_unwritable true)) (flat_map written_inside (dependencies define i))))
+
     cause : (define : Bool) → first_cause define c ≡ first_cause define d
     cause define = λ i.
         option_or (implicit_conflict (same.imports i) (asks i))
         (option_or (merge_conflict (asks i) [] (asks i))
         (option_or (unwritable define i)
-        (circle_cause (spelling (asks i)) (outer_imports (asks i)))))
+        (circle define i)))
 
     names : (define validate : Bool) → name_cause define validate c ≡ name_cause define validate d
     names define validate = λ i.

@@ -14,11 +14,11 @@ use Rattle.wac_composition.specs.Names.{greatest}
 use Rattle.wac_composition.specs.Classes.{joined, near, within_steps, class, spelled, spelling}
 use Rattle.wac_composition.specs.Merging.{kept, identified}
 use Rattle.wac_composition.specs.OuterImports.{with_new, asked_in, outer_of, outers_from, outer_imports}
-use Rattle.wac_composition.specs.Circles.{as_written}
+use Rattle.wac_composition.specs.Circles.{written_inside}
 use Rattle.std.specs.Option.{option_or}
-use Rattle.wac_composition.specs.Conflicts.{Cause, Unwritable, ImportNames, ExportNames, first_found, dependency_name, same_key, each_once, dependencies_of, implicit_with, implicit_by, circle_cause, implicit_conflict, merge_cause, merge_fails, those_in, merge_conflict, cause_at, placed, unwritable_cause, first_cause, twins, alike, import_names, name_cause}
+use Rattle.wac_composition.specs.Conflicts.{Cause, Unwritable, ImportNames, ExportNames, first_found, dependency_name, same_key, each_once, dependencies_of, implicit_with, implicit_by, circle_cause, implicit_conflict, merge_cause, merge_fails, those_in, merge_conflict, cause_at, placed, unwritable_cause, late_unwritable, written_forms, outers_written, first_cause, twins, alike, import_names, name_cause}
 use Rattle.wac_composition.specs.Writable.{outer_unwritable, definition_unwritable, package_unwritable, alias_unwritable}
-use Rattle.wac_types_written.specs.Written.{without_uses}
+use Rattle.wac_types_written.specs.Written.{without_uses, written_definition}
 use Rattle.wac_composition.specs.Worlds.{then_in, final_type, source_of, world_exports, composed_world}
 use Rattle.wac_composition.specs.Renaming.{origin_renamed, placed_renamed, ask_renamed, cause_renamed, made_renamed, renamed, KeepsMeaning}
 
@@ -240,6 +240,9 @@ module _ {A B : Type 0} (f : A → B) where
   placed_same : (ds : List (Placed A)) → placed (map (placed_renamed f) ds) ≡ placed ds
   placed_same ds = sym (map_twice (λ (d : Placed B). (d.name, d.item)) (placed_renamed f) ds)
 
+  forms_same : (ds : List (Placed A)) → written_forms (map (placed_renamed f) ds) ≡ written_forms ds
+  forms_same ds = sym (map_twice (λ (d : Placed B). (d.name, written_definition d.item)) (placed_renamed f) ds)
+
   module _ {I J : Type 0} (g : I → J) where
     once_renamed : (seen : List Key) (ms : List (Made A I)) → each_once seen (map (made_renamed f g) ms) ≡ each_once seen ms
     once_renamed seen [] = refl
@@ -264,11 +267,19 @@ module _ {A B : Type 0} (f : A → B) where
           (or_both (first_found (cause_at (outer_unwritable outers)) outers) _ (first_found (cause_at (outer_unwritable outers)) outers) _ (found_same (cause_at (outer_unwritable outers)) (cause_at (outer_unwritable outers)) (cause_here (outer_unwritable outers)) outers)
           (or_both _ _ _ _ definitions_ packages_))
 
-      circle_same : circle_cause (spelling (asks_of (renamed f g c))) (outer_imports (asks_of (renamed f g c))) ≡ option_map as_cause (circle_cause (spelling (asks_of c)) (outer_imports (asks_of c)))
-      circle_same =
-          let outers = outer_imports (asks_of c) in
-          (λ i. circle_cause (λ n. spelling_same g c n i) (outers_same g c i))
-          ∙ found_same (cause_at (outer_unwritable outers)) (cause_at (outer_unwritable outers)) (cause_here (outer_unwritable outers)) (as_written (spelling (asks_of c)) outers)
+      circle_renamed : (define : Bool) (spell : Name → Name) (outers : List (Name × Stated)) → circle_cause define (renamed f g c) spell outers ≡ option_map as_cause (circle_cause define c spell outers)
+      circle_renamed define spell outers =
+          let definitions_ : first_found (cause_at {A = B} (late_unwritable false)) (flat_map written_inside (written_forms (map (placed_renamed f) c.definitions))) ≡ option_map as_cause (first_found (cause_at (late_unwritable false)) (flat_map written_inside (written_forms c.definitions))) =
+          ap (λ es. first_found (cause_at (late_unwritable false)) (flat_map written_inside es)) (forms_same c.definitions) ∙ found_same (cause_at (late_unwritable false)) (cause_at (late_unwritable false)) (cause_here (late_unwritable false)) (flat_map written_inside (written_forms c.definitions)) in
+          let packages_ : first_found (cause_at {A = B} (late_unwritable true)) (flat_map written_inside (dependencies_of define (renamed f g c))) ≡ option_map as_cause (first_found (cause_at (late_unwritable true)) (flat_map written_inside (dependencies_of define c))) =
+          ap (λ es. first_found (cause_at (late_unwritable true)) (flat_map written_inside es)) (dependencies_same define) ∙ found_same (cause_at (late_unwritable true)) (cause_at (late_unwritable true)) (cause_here (late_unwritable true)) (flat_map written_inside (dependencies_of define c)) in
+          or_both (first_found (cause_at (late_unwritable true)) (outers_written spell outers)) _ (first_found (cause_at (late_unwritable true)) (outers_written spell outers)) _ (found_same (cause_at (late_unwritable true)) (cause_at (late_unwritable true)) (cause_here (late_unwritable true)) (outers_written spell outers))
+          (or_both _ _ _ _ definitions_ packages_)
+
+      circle_same : (define : Bool) → circle_cause define (renamed f g c) (spelling (asks_of (renamed f g c))) (outer_imports (asks_of (renamed f g c))) ≡ option_map as_cause (circle_cause define c (spelling (asks_of c)) (outer_imports (asks_of c)))
+      circle_same define =
+          (λ i. circle_cause define (renamed f g c) (λ n. spelling_same g c n i) (outers_same g c i))
+          ∙ circle_renamed define (spelling (asks_of c)) (outer_imports (asks_of c))
 
       cause_same : (define : Bool) → first_cause define (renamed f g c) ≡ option_map as_cause (first_cause define c)
       cause_same define =
@@ -278,7 +289,7 @@ module _ {A B : Type 0} (f : A → B) where
           ((λ i. merge_conflict (asks_renamed g c i) [] (asks_renamed g c i)) ∙ merges_renamed (asks_of c) [] (asks_of c))
           (or_both _ _ (unwritable_cause define c (outer_imports (asks_of c))) _
           (ap (unwritable_cause define (renamed f g c)) (outers_same g c) ∙ unwritable_renamed define (outer_imports (asks_of c)))
-          circle_same))
+          (circle_same define)))
 
       exported_same : map (λ (e : Name × Origin J × Stated). e.0) (map (λ (e : Name × Origin I × Stated). (e.0, origin_renamed g e.1, e.2)) c.exports) ≡ map (λ (e : Name × Origin I × Stated). e.0) c.exports
       exported_same = sym (map_twice (λ (e : Name × Origin J × Stated). e.0) (λ (e : Name × Origin I × Stated). (e.0, origin_renamed g e.1, e.2)) c.exports)

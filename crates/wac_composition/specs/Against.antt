@@ -1,5 +1,6 @@
 -- Which causes stand against a composition. The first of them is `first_cause`, and a law ties both.
 use Rattle.std.specs.Prelude.{◌≡◌, Bool, true, false, List, [], ◌∷◌, ◌++◌, Some, None}
+use Rattle.std.specs.List.{flat_map}
 use Rattle.wac_types_base.specs.Entries.{Name}
 use Rattle.wac_types_base.specs.Graph.{Among}
 use Rattle.wac_types_base.specs.Stated.{Stated, IsValue, kind_of}
@@ -9,9 +10,9 @@ use Rattle.wac_composition.specs.Classes.{class, spelling}
 use Rattle.wac_composition.specs.Merging.{kept}
 use Rattle.wac_composition.specs.OuterImports.{asked_in, outer_imports}
 use Rattle.wac_composition.specs.Writable.{holder, as_defined}
-use Rattle.wac_composition.specs.Circles.{as_written}
+use Rattle.wac_composition.specs.Circles.{written_inside}
 use Rattle.wac_composition.specs.NotWritten.{CannotBeWritten}
-use Rattle.wac_composition.specs.Conflicts.{Cause, ImplicitImport, ExplicitImport, ImportTypes, Unwritable, those_in, dependencies_of, first_cause}
+use Rattle.wac_composition.specs.Conflicts.{Cause, ImplicitImport, ExplicitImport, ImportTypes, Unwritable, those_in, dependencies_of, written_forms, outers_written, first_cause}
 
 module _ {A I : Type 0} (define : Bool) (c : Composition A I) where
   -- The asks up to this one that are one outer import with it keep nothing; the first of them is that other one.
@@ -32,9 +33,15 @@ module _ {A I : Type 0} (define : Bool) (c : Composition A I) where
     alias_of_value : (n : Name) (x : Stated) → Among (n, x) c.aliases → kind_of x ≡ IsValue → StandsAgainst (Unwritable n)
     outer_import : (n : Name) (x : Stated) → Among (n, x) (outer_imports (asks_of c))
         → CannotBeWritten true (holder [] (outer_imports (asks_of c))) n x → StandsAgainst (Unwritable n)
-    -- as it is written: of an import that waits for it nothing stands
-    in_circle : (n : Name) (x : Stated) → Among (n, x) (as_written (spelling (asks_of c)) (outer_imports (asks_of c)))
-        → CannotBeWritten true (holder [] (outer_imports (asks_of c))) n x → StandsAgainst (Unwritable n)
+    -- as they are written: an outer import, or an import of a component type that stands in one
+    outer_in_circle : (n : Name) (x : Stated) → Among (n, x) (outers_written (spelling (asks_of c)) (outer_imports (asks_of c)))
+        → CannotBeWritten true (holder [] []) n x → StandsAgainst (Unwritable n)
+    -- in a definition
+    circle_in_definition : (n : Name) (x : Stated) → Among (n, x) (flat_map written_inside (written_forms c.definitions))
+        → CannotBeWritten false (holder [] []) n x → StandsAgainst (Unwritable n)
+    -- in an imported package
+    circle_in_package : (n : Name) (x : Stated) → Among (n, x) (flat_map written_inside (dependencies_of define c))
+        → CannotBeWritten true (holder [] []) n x → StandsAgainst (Unwritable n)
     definition : (d : Placed A) → Among d c.definitions
         → CannotBeWritten false (holder [] (outer_imports (asks_of c))) d.name (as_defined d.item)
         → StandsAgainst (Unwritable d.name)

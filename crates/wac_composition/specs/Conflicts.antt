@@ -1,7 +1,7 @@
 -- Why a composition cannot be written: the first cause in order.
 use Rattle.std.specs.Prelude.{◌+◌, ◌==◌, ℕ, Bool, true, false, nat_le, ◌&&◌, List, [], ◌∷◌, ◌++◌, map, Option, Some, None, is_some, option_map, filter, find, bytes_eq, codes, if◌then◌else◌}
 use Rattle.std.specs.Option.{option_or}
-use Rattle.std.specs.List.{list_any}
+use Rattle.std.specs.List.{list_any, flat_map}
 use Rattle.semver.specs.Parse.{Parts}
 use Rattle.semver.specs.Identifiers.{parts_text}
 use Rattle.wac_types_base.specs.Entries.{Name, names_of}
@@ -12,8 +12,9 @@ use Rattle.wac_composition.specs.Asks.{Asking, ByName, ToFill, Ask, asks_of}
 use Rattle.wac_composition.specs.Classes.{class, spelling}
 use Rattle.wac_composition.specs.Merging.{kept}
 use Rattle.wac_composition.specs.OuterImports.{asked_in, outer_imports}
-use Rattle.wac_composition.specs.Writable.{outer_unwritable, definition_unwritable, package_unwritable, alias_unwritable}
-use Rattle.wac_composition.specs.Circles.{as_written}
+use Rattle.wac_types_written.specs.Written.{written_definition}
+use Rattle.wac_composition.specs.Writable.{holder, unwritable, outer_unwritable, definition_unwritable, package_unwritable, alias_unwritable}
+use Rattle.wac_composition.specs.Circles.{interfaces_written, written_inside}
 use Rattle.wac_composition.specs.Tests.{options_agree}
 
 pub data Cause (A : Type 0) : Type 0 where
@@ -59,6 +60,15 @@ each_once seen (m ∷ ms) =
 abbrev pub dependencies_of : {A I : Type 0} → (define : Bool) → Composition A I → List (Name × Stated)
 dependencies_of true c = []
 dependencies_of false c = each_once [] c.made
+
+-- ---- interfaces that are imported, as they are written
+
+abbrev pub late_unwritable : (outer : Bool) → Name × Stated → Bool
+late_unwritable outer e = unwritable e.1 e.0 (holder [] []) outer
+
+-- outer imports, and those of component types that stand in them
+abbrev pub outers_written : (Name → Name) → List (Name × Stated) → List (Name × Stated)
+outers_written spell outers = interfaces_written spell outers ++ flat_map written_inside outers
 
 module _ {A : Type 0} where
   -- ---- an import that is asked by its name and by an instance
@@ -109,9 +119,16 @@ module _ {A : Type 0} where
       (option_or (first_found (cause_at (definition_unwritable outers)) (placed c.definitions))
       (first_found (cause_at package_unwritable) (dependencies_of define c))))
 
-  -- an import that could be written but for those that it uses and that wait for it
-  abbrev pub circle_cause : (Name → Name) → List (Name × Stated) → Option (Cause A)
-  circle_cause spell outers = first_found (cause_at (outer_unwritable outers)) (as_written spell outers)
+  abbrev pub written_forms : List (Placed A) → List (Name × Stated)
+  written_forms ds = map (λ d. (d.name, written_definition d.item)) ds
+
+  -- An interface that could be written but for those that it uses and that wait for it: an outer import, or an import of a
+  -- component type that stands in an outer import, in a definition as it is written, or in the world of an imported package.
+  abbrev pub circle_cause : {I : Type 0} → Bool → Composition A I → (Name → Name) → List (Name × Stated) → Option (Cause A)
+  circle_cause define c spell outers =
+      option_or (first_found (cause_at (late_unwritable true)) (outers_written spell outers))
+      (option_or (first_found (cause_at (late_unwritable false)) (flat_map written_inside (written_forms c.definitions)))
+      (first_found (cause_at (late_unwritable true)) (flat_map written_inside (dependencies_of define c))))
 
   -- the first cause but for sizes and for names that are alike
   abbrev pub first_cause : {I : Type 0} → Bool → Composition A I → Option (Cause A)
@@ -119,7 +136,7 @@ module _ {A : Type 0} where
       option_or (implicit_conflict c.imports (asks_of c))
       (option_or (merge_conflict (asks_of c) [] (asks_of c))
       (option_or (unwritable_cause define c (outer_imports (asks_of c)))
-      (circle_cause (spelling (asks_of c)) (outer_imports (asks_of c)))))
+      (circle_cause define c (spelling (asks_of c)) (outer_imports (asks_of c)))))
 
 -- ---- names that are alike
 

@@ -200,3 +200,19 @@ values_in_circle = in_circle_with (as_type number_record)
 -- a resource that is used under another name
 abbrev pub resource_in_circle : Composition ℕ ℕ
 resource_in_circle = in_circle_with (leaf (resource (codes "q")))
+
+-- ---- the same inside a component type
+
+-- an interface with a resource of its own and one that it uses of another interface, under another name
+abbrev pub with_renamed : (own other : Name) → (fresh taken here : Name) → Stated
+with_renamed own other fresh taken here = interface_of (Some own)
+    (used_as here taken (named_instance other ((taken, leaf (resource taken)) ∷ [])) ∷ [])
+    ((fresh, leaf (resource fresh)) ∷ (here, leaf (resource taken)) ∷ [])
+
+abbrev pub circle_inside : Composition ℕ ℕ
+circle_inside = instances (made_of 0 (codes "p:p") (importing ((
+  codes "c",
+  importing
+      ((codes "a:b/i", with_renamed (codes "a:b/i") (codes "a:b/t") (codes "q") (codes "r") (codes "s"))
+      ∷ (codes "a:b/t", with_renamed (codes "a:b/t") (codes "a:b/i") (codes "r") (codes "q") (codes "p")) ∷ []),
+) ∷ [])) ∷ [])

@@ -11,7 +11,6 @@ pub mod Writable
 pub mod NotWritten
 pub mod Circles
 pub mod Conflicts
-pub mod Circular
 pub mod Against
 pub mod Worlds
 pub mod Wired

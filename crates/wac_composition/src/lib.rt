@@ -32,7 +32,7 @@ ghost use Rattle.wac_composition.specs.Sound.{IsSound, IsWired};
 ghost use Rattle.wac_composition.specs.Worlds.{composed_world, used_world, source_of};
 ghost use Rattle.wac_types_written.specs.Written.{without_uses};
 ghost use Rattle.wac_composition.specs.NotWritten.{Test_of_writing};
-ghost use Rattle.wac_composition.specs.Examples.{plain_func, named_instance, passing, older, newer, wider, using_types, types, one_instance, two_versions, clashing_versions, clashing_imports, one_identifier, used_interface, asked_twice, alike_names, nameless_resource, asked_value, twice_made, byte_list, defined_twice, lacks_used, given_another, given_renamed, values_in_circle, resource_in_circle};
+ghost use Rattle.wac_composition.specs.Examples.{plain_func, named_instance, passing, older, newer, wider, using_types, types, one_instance, two_versions, clashing_versions, clashing_imports, one_identifier, used_interface, asked_twice, alike_names, nameless_resource, asked_value, twice_made, byte_list, defined_twice, lacks_used, given_another, given_renamed, values_in_circle, resource_in_circle, circle_inside};
 ghost use Rattle.wac_graph_bytes.specs.Wirings.{Tag, Definition};
 
 /// The tests of labels and trees say yes exactly of equal ones.
@@ -156,5 +156,6 @@ pub fn examples()
         ≡ codes "a:b/t@0.2.1" ∷ codes "a:b/i@0.2.1" ∷ [] }
     ensures circle_of_values { first_cause true values_in_circle ≡ None }
     ensures circle_with_resource { first_cause true resource_in_circle ≡ Some (Unwritable (codes "a:b/t@0.2.1")) }
+    ensures circle_inside { first_cause true circle_inside ≡ Some (Unwritable (codes "c")) }
     ensures imported_once { names_of (dependencies_of false twice_made) ≡ codes "unlocked-dep=<p:p>" ∷ [] }
 {}

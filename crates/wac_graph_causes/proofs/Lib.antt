@@ -15,5 +15,9 @@ pub mod Sums
 pub mod SizeLaws
 pub mod WholeSizes
 pub mod UsedInside
-pub mod Circling
-pub mod OuterCircles
+pub mod Orders
+pub mod LateLaws
+pub mod SpellingLaws
+pub mod CircleLaws
+pub mod Besides
+pub mod WorldsInside

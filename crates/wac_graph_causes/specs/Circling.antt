@@ -1,100 +1,139 @@
--- What a search finds that looks for imports that use each other in a circle.
-use Rattle.std.specs.Prelude.{◌≡◌, ◌⊎◌, ℕ, Bool, true, false, List, [], Some, option_map, slice_get}
-use Rattle.wac_types_base.specs.declared.ids.InterfaceId.{InterfaceId}
+-- Interfaces that could be written but for those that they use and that wait for them: which are held, and what is told of them.
+use Rattle.std.specs.Prelude.{◌≡◌, ℕ, Bool, true, false, List, [], ◌∷◌, map, Option, None, option_map, filter_map}
+use Rattle.std.specs.List.{flat_map}
+use Rattle.std.specs.Option.{option_or}
 use Rattle.wac_types_base.specs.declared.ids.WorldId.{WorldId}
 use Rattle.wac_types_base.specs.declared.item.ItemKind.{ItemKind}
-use Rattle.wac_types_base.specs.Entries.{Name, value_at}
-use Rattle.wac_types_base.specs.Graph.{Among}
 use Rattle.wac_types_base.specs.Record.{Collection}
-use Rattle.wac_types_base.specs.Stated.{Stated, stated_of, identifier_of}
+use Rattle.wac_types_base.specs.Entries.{Name}
+use Rattle.wac_types_base.specs.Graph.{Among}
+use Rattle.wac_types_base.specs.Collection.{Stands}
+use Rattle.wac_types_base.specs.Stated.{Stated, stated_of, stated_world}
 use Rattle.wac_types_written.specs.Forms.{stated_items}
-use Rattle.wac_composition.specs.Circles.{used_by}
-use Rattle.wac_composition.specs.Circular.{Leads, IsInCircle, HoldsCircle}
+use Rattle.wac_graph_core.specs.declared.ids.PackageId.{PackageId}
+use Rattle.wac_graph_core.specs.Graph.{Graph}
+use Rattle.wac_composition.specs.Asks.{Ask}
+use Rattle.wac_composition.specs.Classes.{spelling}
+use Rattle.wac_composition.specs.Circles.{written_inside}
+use Rattle.wac_composition.specs.Conflicts.{Cause, late_unwritable, outers_written}
 use Rattle.wac_graph_scopes.specs.Parts.{imports_of}
-use Rattle.wac_graph_scopes.specs.declared.imports.Called.{Called}
-use Rattle.wac_graph_causes.specs.declared.circles.Search.{Search}
+use Rattle.wac_writable.specs.declared.writable.Test.{Test}
+use Rattle.wac_writable.specs.Unnamed.{KnowsAll}
+use Rattle.wac_graph_asks.specs.declared.asks.Definition.{Definition}
+use Rattle.wac_graph_asks.specs.declared.outers.Outers.{Outers}
+use Rattle.wac_graph_asks.specs.Outers.{AreOuters}
+use Rattle.wac_graph_causes.specs.declared.circles.Written.{Written}
+use Rattle.wac_graph_causes.specs.declared.errors.Unwritten.{Unwritten}
+use Rattle.wac_graph_causes.specs.declared.late.Late.{Late}
+use Rattle.wac_graph_causes.specs.Alike.{dependency_of}
+use Rattle.wac_graph_causes.specs.Late.{AddsLate, AreLate, late_in}
+use Rattle.wac_graph_causes.specs.Unwritable.{TellsUnwritable, first_unwritable}
 
--- what is answered yes is so
-abbrev pub IfTrue : Bool → Type 0 → Type 0
-IfTrue true P = P
-IfTrue false P = Unit {0}
+-- under another name
+abbrev pub under_name : Name → Late → Late
+under_name n l = record { name = n; item = l.item }
 
--- ---- where imports stand
+-- ---- what is composed, as it is held
 
-module _ (c : Collection) (w : WorldId) where
-  -- the imports, as stated types
-  abbrev pub stated_imports : List (Name × Stated)
-  stated_imports = stated_items c (imports_of c w)
+abbrev pub form_in : Collection → Definition → Option (Name × Stated)
+form_in c d = option_map (λ k. (d.name, stated_of c k)) d.copy
 
-  -- at this place the world has an import of this name
-  abbrev pub IsNamed : ℕ → Name → Type 0
-  IsNamed at n = (k : ItemKind) × (slice_get (imports_of c w) at ≡ Some (n, k))
+-- definitions in the forms in which they are written; those without copies have no component types in them
+abbrev pub forms_in : Collection → List Definition → List (Name × Stated)
+forms_in c ds = filter_map (form_in c) ds
 
-  -- under each name is the place of the import that is so spelled
-  abbrev pub AreFound : (Name → Name) → List (Name × ℕ) → Type 0
-  AreFound spell es = (n : Name) (at : ℕ) → value_at es n ≡ Some at → IsNamed at (spell n)
+abbrev pub package_in : Graph → Collection → PackageId → WorldId → Name × Stated
+package_in g c id w = (dependency_of g id, stated_world c w)
 
-  -- under its own name
-  abbrev pub OwnPlaces : List (Name × ℕ) → Type 0
-  OwnPlaces es = AreFound (λ n. n) es
+abbrev pub packages_in : Graph → Collection → List (PackageId × WorldId) → List (Name × Stated)
+packages_in g c ps = map (λ p. package_in g c p.0 p.1) ps
 
--- under each name is a place at which something is so called
-abbrev pub AreFrom : List Called → List (Name × ℕ) → Type 0
-AreFrom called es =
-    (n : Name) (at : ℕ) → value_at es n ≡ Some at → (one : Called) × Among one called × (one.name ≡ n) × (one.at ≡ at)
+-- none where components are defined
+abbrev pub packages_unless : (define : Bool) → Graph → Collection → List (PackageId × WorldId) → List (Name × Stated)
+packages_unless true g c ps = []
+packages_unless false g c ps = packages_in g c ps
 
--- ---- where an import leads
+abbrev pub PackagesStand : Collection → List (PackageId × WorldId) → Type 0
+PackagesStand c ps = (p : PackageId × WorldId) → Among p ps → Stands c (ItemKind.Component p.1)
 
--- at most this place is added
-abbrev pub AddsPlace : ℕ → (old new : List ℕ) → Type 0
-AddsPlace at old new = (to : ℕ) → Among to new → Among to old ⊎ (to ≡ at)
+-- the outer imports of the asks that have these, and of component types that stand in them, each as it is written
+abbrev pub held_outers : List (Ask ℕ) → Collection → WorldId → List (Name × Stated)
+held_outers asks c w = outers_written (spelling asks) (stated_items c (imports_of c w))
 
--- the names of the imports that an item uses, of which `spell` gives the names
-abbrev pub used_names : (Name → Name) → Stated → List Name
-used_names spell x = used_by spell [] (Some x)
+abbrev pub AddsOuters : (old new : Collection) → Outers → (before after : List Late) → Type 0
+AddsOuters old new o before after =
+    (asks : List (Ask ℕ)) → AreOuters asks old o.world o.called.items → AddsLate old new before after (held_outers asks old o.world)
 
-module _ (s : Search) where
-  abbrev pub imports_searched : List (Name × Stated)
-  imports_searched = stated_imports s.types.now s.world
+-- ---- all
 
-  abbrev pub HasName : ℕ → Name → Type 0
-  HasName at n = IsNamed s.types.now s.world at n
+module _ (define : Bool) (g : Graph) where
+  pub record AreHeldLate (old new : Collection) (o : Outers) (ps : List (PackageId × WorldId)) (ds : List Definition) (all : Written)
+      : Type 0 where
+    pub outers : (asks : List (Ask ℕ)) → AreOuters asks old o.world o.called.items
+        → AreLate new all.outers.items (held_outers asks old o.world)
+    pub definitions : AreLate new all.definitions.items (flat_map written_inside (forms_in old ds))
+    pub packages : AreLate new all.packages.items (flat_map written_inside (packages_unless define g old ps))
 
-  -- so it is by each spelling of the names under which imports are found
-  abbrev pub BySpelling : ((Name → Name) → Type 0) → Type 0
-  BySpelling P = (spell : Name → Name) → AreFound s.types.now s.world spell s.found.now → P spell
+-- ---- what is told
 
-  -- the places that are added are those of imports with such names
-  abbrev pub AddsNamed : (Name → Type 0) → (old new : List ℕ) → Type 0
-  AddsNamed P old new = (to : ℕ) → Among to new → Among to old ⊎ ((n : Name) × HasName to n × P n)
+-- the first of these that cannot be written
+abbrev pub late_cause : (outer : Bool) → List (Name × Stated) → Option (Cause ℕ)
+late_cause outer es = first_unwritable (late_unwritable outer) es
 
-  -- at most the place of the import that gives a used interface
-  abbrev pub AddsUse : InterfaceId → (old new : List ℕ) → Type 0
-  AddsUse id old new = BySpelling (λ spell.
-      AddsNamed (λ n. option_map spell (identifier_of (stated_of s.types.now (ItemKind.Instance id))) ≡ Some n) old new)
+abbrev pub held_cause : Test → List Late → Option (Cause ℕ)
+held_cause t ls = late_cause t.is_outer (late_in t.types.now ls)
 
-  -- places of imports that the item uses
-  abbrev pub AddsUsed : ItemKind → (old new : List ℕ) → Type 0
-  AddsUsed k old new = BySpelling (λ spell. AddsNamed (λ n. Among n (used_names spell (stated_of s.types.now k))) old new)
+-- where what is found of interfaces is true, and these stand
+abbrev pub IfLate : Test → List Late → Type 0 → Type 0
+IfLate t ls P = KnowsAll t.types.now t.unnamed.now → ((l : Late) → Among l ls → Stands t.types.now l.item) → P
 
-  -- places of imports that the import at this place uses
-  abbrev pub AddsNeeds : ℕ → (old new : List ℕ) → Type 0
-  AddsNeeds at old new = BySpelling (λ spell.
-      AddsNamed (λ n. (m : Name) → HasName at m → Among n (used_by spell imports_searched (value_at imports_searched m))) old new)
+abbrev pub LatePass : Test → List Late → Type 0
+LatePass t ls = IfLate t ls (held_cause t ls ≡ None)
 
-  -- the import at this place leads to those at the others
-  abbrev pub AllLed : ℕ → List ℕ → Type 0
-  AllLed at places = BySpelling (λ spell.
-      (to : ℕ) → Among to places → (n : Name) × HasName to n × ((m : Name) → HasName at m → Leads spell imports_searched m n))
+abbrev pub TellsLate : Test → List Late → Unwritten → Type 0
+TellsLate t ls e = IfLate t ls (TellsUnwritable (held_cause t ls) e)
 
-  abbrev pub KeepsLed : (old new : List ℕ) → Type 0
-  KeepsLed old new = (at : ℕ) → AllLed at old → AllLed at new
+abbrev pub LatePasses : Test → Late → Type 0
+LatePasses t l = LatePass t (l ∷ [])
 
-  -- the import at this place is in a circle
-  abbrev pub IsCircleAt : ℕ → Type 0
-  IsCircleAt at = BySpelling (λ spell. (m : Name) → HasName at m → IsInCircle spell imports_searched m)
+abbrev pub TellsLateAt : Test → Late → Unwritten → Type 0
+TellsLateAt t l e = TellsLate t (l ∷ []) e
 
-  -- an import of this name is in a circle, or holds one
-  abbrev pub IsCircleNamed : Name → Type 0
-  IsCircleNamed n =
-      BySpelling (λ spell. IsInCircle spell imports_searched n) ⊎ ((x : Stated) × Among (n, x) imports_searched × HoldsCircle x)
+-- of these, as they are held
+abbrev pub PassLate : (outer : Bool) → Collection → List Late → Type 0
+PassLate outer c ls = (es : List (Name × Stated)) → AreLate c ls es → late_cause outer es ≡ None
+
+abbrev pub TellsHeld : (outer : Bool) → Collection → List Late → Unwritten → Type 0
+TellsHeld outer c ls e = (es : List (Name × Stated)) → AreLate c ls es → TellsUnwritable (late_cause outer es) e
+
+-- the first of outer imports, definitions and packages
+abbrev pub first_late : (outers definitions packages : List (Name × Stated)) → Option (Cause ℕ)
+first_late os ds ps = option_or (late_cause true os) (option_or (late_cause false ds) (late_cause true ps))
+
+abbrev pub IfWritten : Collection → Written → ((os ds ps : List (Name × Stated)) → Type 0) → Type 0
+IfWritten c all P = (os ds ps : List (Name × Stated)) → AreLate c all.outers.items os → AreLate c all.definitions.items ds
+    → AreLate c all.packages.items ps → P os ds ps
+
+abbrev pub PassWritten : Collection → Written → Type 0
+PassWritten c all = IfWritten c all (λ os ds ps. first_late os ds ps ≡ None)
+
+abbrev pub TellsWritten : Collection → Written → Unwritten → Type 0
+TellsWritten c all e = IfWritten c all (λ os ds ps. TellsUnwritable (first_late os ds ps) e)
+
+-- ---- the first that waits
+
+module _ (define : Bool) (g : Graph) (c : Collection) (o : Outers) (ps : List (PackageId × WorldId)) (ds : List Definition) where
+  abbrev pub held_circle : List (Ask ℕ) → Option (Cause ℕ)
+  held_circle asks =
+      first_late (held_outers asks c o.world) (flat_map written_inside (forms_in c ds))
+      (flat_map written_inside (packages_unless define g c ps))
+
+  -- so it is of all asks whose outer imports these are
+  abbrev pub IfOuters : (List (Ask ℕ) → Type 0) → Type 0
+  IfOuters P = (asks : List (Ask ℕ)) → AreOuters asks c o.world o.called.items → P asks
+
+  abbrev pub CirclesPass : Type 0
+  CirclesPass = IfOuters (λ asks. held_circle asks ≡ None)
+
+  abbrev pub TellsCircle : Unwritten → Type 0
+  TellsCircle e = IfOuters (λ asks. TellsUnwritable (held_circle asks) e)

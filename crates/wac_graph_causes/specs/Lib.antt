@@ -5,5 +5,10 @@ pub mod Implicit
 pub mod Alike
 pub mod Unwritable
 pub mod Sizes
+pub mod Standing
+pub mod Spelling
+pub mod Orders
+pub mod Beside
+pub mod Late
+pub mod Inside
 pub mod Circling
-pub mod Circular

@@ -1,347 +1,372 @@
-//! Imports that use each other in a circle: they are looked for once a type was not written.
+//! Interfaces that could be written but for those that they use and that wait for them.
 
-ghost use Rattle.std.specs.Prelude.{OnOk, IfOk};
-ghost use Rattle.wac_types_base.specs.declared.item.ItemKind.{ItemKind};
-ghost use Rattle.wac_types_base.specs.Stated.{stated_of, stated_world};
-ghost use Rattle.wac_composition.specs.Circular.{HasCircle, HoldsCircle};
-ghost use Rattle.wac_graph_causes.specs.Circling.{AddsNeeds, AddsPlace, AddsUse, AddsUsed, AllLed, AreFound, AreFrom};
-ghost use Rattle.wac_graph_causes.specs.Circling.{IfTrue, IsCircleAt, IsCircleNamed, KeepsLed, OwnPlaces};
+ghost use Rattle.std.specs.Prelude.{◌≡◌, ◌∷◌, [], ◌++◌, map, IfOk, IfErr, OnOk};
+ghost use Rattle.std.specs.List.{flat_map};
+ghost use Rattle.wac_types_base.specs.Collection.{Grows};
+ghost use Rattle.wac_types_base.specs.Stated.{stated_of};
+ghost use Rattle.wac_types_written.specs.Forms.{ItemsStand, stated_items};
+ghost use Rattle.wac_composition.specs.Circles.{written_inside};
+ghost use Rattle.wac_graph_scopes.specs.Parts.{imports_of};
+ghost use Rattle.wac_writable.specs.Unnamed.{KnowsAll};
+ghost use Rattle.wac_graph_asks.specs.AskedUses.{CopiesStand};
+ghost use Rattle.wac_graph_causes.specs.Late.{AddsLate, AreLate, world_written};
+ghost use Rattle.wac_graph_causes.specs.Circling.{AddsOuters, AreHeldLate, PackagesStand, forms_in, package_in, packages_in, packages_unless, under_name};
+ghost use Rattle.wac_graph_causes.specs.Circling.{LatePass, LatePasses, PassLate, PassWritten, CirclesPass};
+ghost use Rattle.wac_graph_causes.specs.Circling.{TellsLate, TellsLateAt, TellsHeld, TellsWritten, TellsCircle};
 
-use indexmap::IndexSet;
+use crate::errors::Unwritten;
+use crate::inside::worlds_in;
+use crate::late::{Late, add_world};
+use crate::names::dependency_name;
+use crate::order::text_of;
+use crate::spelling::names_called;
+use crate::writable::unwritable;
+use indexmap::IndexMap;
 use std::alloc::{AllocError, Global};
-use wac_graph_scopes::imports::Called;
-use wac_graph_scopes::parts::{
-    export_at, export_count, identifier, import_at, import_count, interface_of, use_at, use_count,
-    world_of,
-};
-use wac_types_base::{InterfaceId, ItemKind, NamedMap, Type, Types, WorldId};
-use wac_writable::maps::insert_under;
-
-/// A world, and where its imports stand by the names under which they are asked for.
-#[derive(Clone, Copy)]
-pub(crate) struct Search<'a> {
-    pub alloc: Global,
-    pub types: &'a Types,
-    pub world: WorldId,
-    pub found: &'a NamedMap<usize>,
-}
-
-// ---- where imports stand
-
-/// Where imports stand, by the names under which they are asked for.
-pub(crate) fn places_called(alloc: Global, called: &[Called]) -> Result<NamedMap<usize>, AllocError>
-    ensures { IfOk result (AreFrom called.now) }
-{
-    let mut found = NamedMap::new(alloc);
-    for one in called {
-        insert_under(alloc, &mut found, one.name.as_str(), one.at)?;
-    }
-    Ok(found)
-}
-
-/// Puts where an import stands under its own name.
-fn put_own(
-    alloc: Global,
-    types: &Types,
-    world: WorldId,
-    at: usize,
-    found: &mut NamedMap<usize>,
-) -> Result<(), AllocError>
-    ensures { OnOk result (OwnPlaces types.now world found.old → OwnPlaces types.now world found.new) }
-{
-    match import_at(types, world, at) {
-        Some(import) => insert_under(alloc, found, import.name, at),
-        None => Ok(()),
-    }
-}
-
-/// Where the imports of a world stand, by their own names.
-fn own_places(alloc: Global, types: &Types, world: WorldId) -> Result<NamedMap<usize>, AllocError>
-    ensures { IfOk result (OwnPlaces types.now world) }
-{
-    let mut found = NamedMap::new(alloc);
-    for at in 0..import_count(types, world) {
-        put_own(alloc, types, world, at, &mut found)?;
-    }
-    Ok(found)
-}
-
-// ---- where an import leads
-
-/// Adds a place, unless it is there.
-fn add_place(places: &mut IndexSet<usize>, at: usize) -> Result<(), AllocError>
-    ensures { OnOk result (AddsPlace at places.old.keys places.new.keys) }
-{
-    let _ = places.insert(at)?;
-    Ok(())
-}
-
-/// Adds where the import of a used interface stands.
-fn add_use(
-    search: Search<'_>,
-    id: InterfaceId,
-    places: &mut IndexSet<usize>,
-) -> Result<(), AllocError>
-    ensures { OnOk result (AddsUse search.entry id places.old.keys places.new.keys) }
-{
-    search.types.see_acyclic();
-    let Some(name) = identifier(search.types, id) else {
-        return Ok(());
-    };
-    match search.found.get(name) {
-        Some(at) => add_place(places, *at),
-        None => Ok(()),
-    }
-}
-
-/// Adds where the import of the interface stands that an interface uses at a place.
-fn add_use_at(
-    search: Search<'_>,
-    id: InterfaceId,
-    at: usize,
-    places: &mut IndexSet<usize>,
-) -> Result<(), AllocError>
-    ensures { OnOk result (AddsUsed search.entry (ItemKind.Instance id) places.old.keys places.new.keys) }
-{
-    search.types.see_acyclic();
-    match use_at(search.types, id, at) {
-        Some(used) => add_use(search, used.interface, places),
-        None => Ok(()),
-    }
-}
-
-/// Adds where the imports of the interfaces stand that an interface uses itself.
-fn add_uses(
-    search: Search<'_>,
-    id: InterfaceId,
-    places: &mut IndexSet<usize>,
-) -> Result<(), AllocError>
-    ensures { OnOk result (AddsUsed search.entry (ItemKind.Instance id) places.old.keys places.new.keys) }
-{
-    for at in 0..use_count(search.types, id) {
-        add_use_at(search, id, at, places)?;
-    }
-    Ok(())
-}
-
-/// Adds where the imports of the interfaces stand that an item uses.
-#[cycle(needs)]
-fn add_needs(
-    search: Search<'_>,
-    kind: ItemKind,
-    places: &mut IndexSet<usize>,
-) -> Result<(), AllocError>
-    ensures { OnOk result (AddsUsed search.entry kind places.old.keys places.new.keys) }
-{
-    search.types.see_acyclic();
-    let Some(id) = interface_of(search.types, kind) else {
-        return Ok(());
-    };
-    add_uses(search, id, places)?;
-    add_needs_of_exports(search, id, places)
-}
-
-/// Adds where the imports of the interfaces stand that the exports of an interface use.
-#[cycle(needs)]
-fn add_needs_of_exports(
-    search: Search<'_>,
-    id: InterfaceId,
-    places: &mut IndexSet<usize>,
-) -> Result<(), AllocError>
-    ensures { OnOk result (AddsUsed search.entry (ItemKind.Instance id) places.old.keys places.new.keys) }
-{
-    search.types.see_acyclic();
-    for at in 0..export_count(search.types, id) {
-        if let Some(item) = export_at(search.types, id, at) {
-            add_needs(search, item.kind, places)?;
-        }
-    }
-    Ok(())
-}
-
-/// Adds where the imports stand that the import at a place uses.
-fn add_needs_at(
-    search: Search<'_>,
-    at: usize,
-    places: &mut IndexSet<usize>,
-) -> Result<(), AllocError>
-    ensures { OnOk result (AddsNeeds search.entry at places.old.keys places.new.keys) }
-{
-    search.types.see_acyclic();
-    let _ = import_count(search.types, search.world);
-    match import_at(search.types, search.world, at) {
-        Some(import) => add_needs(search, import.kind, places),
-        None => Ok(()),
-    }
-}
-
-/// Adds where the imports stand that the next of some imports uses.
-fn add_next(search: Search<'_>, next: usize, places: &mut IndexSet<usize>) -> Result<(), AllocError>
-    ensures { OnOk result (KeepsLed search.entry places.old.keys places.new.keys) }
-{
-    match places.get_index(next).copied() {
-        Some(at) => add_needs_at(search, at, places),
-        None => Ok(()),
-    }
-}
-
-/// The places to which the import at a place leads. Each is looked at once, so there are no more turns than imports.
-fn led_from(search: Search<'_>, at: usize) -> Result<IndexSet<usize>, AllocError>
-    ensures { IfOk result (λ places. AllLed search.entry at places.keys) }
-{
-    let mut places = IndexSet::new(search.alloc);
-    add_needs_at(search, at, &mut places)?;
-    for next in 0..import_count(search.types, search.world) {
-        add_next(search, next, &mut places)?;
-    }
-    Ok(places)
-}
-
-/// Whether the import at a place leads to itself.
-fn is_in_circle(search: Search<'_>, at: usize) -> Result<bool, AllocError>
-    ensures { IfOk result (λ b. IfTrue b (IsCircleAt search.entry at)) }
-{
-    let places = led_from(search, at)?;
-    Ok(places.contains(&at))
-}
+use wac_graph_asks::asks::Definition;
+use wac_graph_asks::outers::Outers;
+use wac_graph_core::{CompositionGraph, PackageId};
+use wac_graph_scopes::parts::Item;
+use wac_types_base::{ItemKind, NamedMap, Types, WorldId, copy_items};
+use wac_writable::unnamed::Unnamed;
+use wac_writable::writable::{Test, is_unwritable_alone};
 
 // ---- component types
 
-/// Whether an import of a world is in a circle.
-fn has_circle(alloc: Global, types: &Types, world: WorldId) -> Result<bool, AllocError>
-    ensures { IfOk result (λ b. IfTrue b (HasCircle (stated_world types.now world))) }
+/// Adds interfaces under another name.
+fn add_under(
+    alloc: Global,
+    name: &str,
+    late: &[Late],
+    all: &mut Vec<Late>,
+) -> Result<(), AllocError>
+    ensures { OnOk result (all.new.items ≡ all.old.items ++ map (under_name name.now) late.now) }
+{
+    for one in late {
+        let name = text_of(alloc, name)?;
+        let item = one.item;
+        all.push(Late { name, item })?;
+    }
+    Ok(())
+}
+
+/// Adds the interfaces that a component type imports, each as it is written, under this name.
+fn add_component(
+    types: &mut Types,
+    alloc: Global,
+    name: &str,
+    world: WorldId,
+    all: &mut Vec<Late>,
+) -> Result<(), AllocError>
+    ensures adds { OnOk result (AddsLate types.old types.new all.old.items all.new.items
+        (map (λ x. (name.now, x.1)) (world_written types.old [] world))) }
+    ensures grows { Grows types.old types.new }
+{
+    let none = NamedMap::new(alloc);
+    let mut own = Vec::new(alloc);
+    add_world(types, alloc, &none, world, &mut own)?;
+    add_under(alloc, name, &own, all)
+}
+
+/// Adds the interfaces that the component types import which stand in an item, under its name.
+fn add_inside(
+    types: &mut Types,
+    alloc: Global,
+    name: &str,
+    item: ItemKind,
+    all: &mut Vec<Late>,
+) -> Result<(), AllocError>
+    ensures adds { OnOk result (AddsLate types.old types.new all.old.items all.new.items
+        (written_inside (name.now, stated_of types.old item))) }
+    ensures grows { Grows types.old types.new }
 {
     types.see_acyclic();
-    let found = own_places(alloc, types, world)?;
-    let search = Search {
+    if !types.has(item) {
+        return Ok(());
+    }
+    let worlds = worlds_in(alloc, types, item)?;
+    for world in &worlds {
+        add_component(types, alloc, name, *world, all)?;
+    }
+    Ok(())
+}
+
+/// Adds those of items, each under its name.
+fn add_all_inside(
+    types: &mut Types,
+    alloc: Global,
+    items: &NamedMap<ItemKind>,
+    all: &mut Vec<Late>,
+) -> Result<(), AllocError>
+    requires { ItemsStand types.old items.now }
+    ensures adds { OnOk result (AddsLate types.old types.new all.old.items all.new.items
+        (flat_map written_inside (stated_items types.old items.now))) }
+    ensures grows { Grows types.old types.new }
+{
+    types.see_acyclic();
+    for at in 0..items.len() {
+        let (name, item) = items.entry(at);
+        add_inside(types, alloc, name, *item, all)?;
+    }
+    Ok(())
+}
+
+// ---- what is composed
+
+/// The imports of a world.
+fn imports_of(
+    alloc: Global,
+    types: &Types,
+    world: WorldId,
+) -> Result<NamedMap<ItemKind>, AllocError>
+    ensures { IfOk result (λ m. m ≡ imports_of types.now world) }
+{
+    if !types.has(ItemKind::Component(world)) {
+        return Ok(NamedMap::new(alloc));
+    }
+    copy_items(alloc, &types.world(world).imports)
+}
+
+/// Adds the outer imports that are interfaces, and those of component types that stand in outer imports.
+fn add_outers(
+    types: &mut Types,
+    alloc: Global,
+    outers: &Outers,
+    all: &mut Vec<Late>,
+) -> Result<(), AllocError>
+    ensures adds { OnOk result (AddsOuters types.old types.new outers.now all.old.items all.new.items) }
+    ensures grows { Grows types.old types.new }
+{
+    types.see_acyclic();
+    let imports = imports_of(alloc, types, outers.world)?;
+    let spelled = names_called(alloc, types, outers.world, &outers.called)?;
+    add_world(types, alloc, &spelled, outers.world, all)?;
+    add_all_inside(types, alloc, &imports, all)
+}
+
+/// Adds those that stand in a definition as it is written.
+fn add_form(
+    types: &mut Types,
+    alloc: Global,
+    definition: &Definition,
+    all: &mut Vec<Late>,
+) -> Result<(), AllocError>
+    ensures adds { OnOk result (AddsLate types.old types.new all.old.items all.new.items
+        (flat_map written_inside (forms_in types.old (definition.now ∷ [])))) }
+    ensures grows { Grows types.old types.new }
+{
+    types.see_acyclic();
+    match definition.copy {
+        Some(item) => add_inside(types, alloc, definition.name.as_str(), item, all),
+        None => Ok(()),
+    }
+}
+
+/// Adds those that stand in definitions as they are written.
+fn add_forms(
+    types: &mut Types,
+    alloc: Global,
+    definitions: &[Definition],
+    all: &mut Vec<Late>,
+) -> Result<(), AllocError>
+    requires { CopiesStand types.old definitions.now }
+    ensures adds { OnOk result (AddsLate types.old types.new all.old.items all.new.items
+        (flat_map written_inside (forms_in types.old definitions.now))) }
+    ensures grows { Grows types.old types.new }
+{
+    types.see_acyclic();
+    for definition in definitions {
+        add_form(types, alloc, definition, all)?;
+    }
+    Ok(())
+}
+
+/// Adds those that stand in the world of a package, under the name by which it is imported.
+fn add_package(
+    types: &mut Types,
+    graph: &CompositionGraph,
+    id: PackageId,
+    world: WorldId,
+    all: &mut Vec<Late>,
+) -> Result<(), AllocError>
+    ensures adds { OnOk result (AddsLate types.old types.new all.old.items all.new.items
+        (written_inside (package_in graph.now types.old id world))) }
+    ensures grows { Grows types.old types.new }
+{
+    types.see_acyclic();
+    let alloc = graph.alloc();
+    let name = dependency_name(alloc, graph, id)?;
+    add_inside(types, alloc, name.as_str(), ItemKind::Component(world), all)
+}
+
+/// Adds those that stand in the worlds of packages.
+fn add_packages(
+    types: &mut Types,
+    graph: &CompositionGraph,
+    packages: &IndexMap<PackageId, WorldId>,
+    all: &mut Vec<Late>,
+) -> Result<(), AllocError>
+    requires { PackagesStand types.old packages.now.entries }
+    ensures adds { OnOk result (AddsLate types.old types.new all.old.items all.new.items
+        (flat_map written_inside (packages_in graph.now types.old packages.now.entries))) }
+    ensures grows { Grows types.old types.new }
+{
+    types.see_acyclic();
+    for (id, world) in packages.iter() {
+        add_package(types, graph, *id, *world, all)?;
+    }
+    Ok(())
+}
+
+/// All that is written beside what may wait for it: of outer imports, of definitions, and of packages that are imported.
+struct Written {
+    outers: Vec<Late>,
+    definitions: Vec<Late>,
+    packages: Vec<Late>,
+}
+
+impl Drop for Written {
+    fn drop(self) {
+        let Written {
+            outers: _,
+            definitions: _,
+            packages: _,
+        } = self;
+    }
+}
+
+/// Those of packages that are imported, where components are not defined.
+fn written_packages(
+    types: &mut Types,
+    graph: &CompositionGraph,
+    packages: &IndexMap<PackageId, WorldId>,
+    define_components: bool,
+) -> Result<Vec<Late>, AllocError>
+    requires { PackagesStand types.old packages.now.entries }
+    ensures late { IfOk result (λ v. AreLate types.new v.items
+        (flat_map written_inside (packages_unless define_components graph.now types.old packages.now.entries))) }
+    ensures grows { Grows types.old types.new }
+{
+    types.see_acyclic();
+    let mut all = Vec::new(graph.alloc());
+    if !define_components {
+        add_packages(types, graph, packages, &mut all)?;
+    }
+    Ok(all)
+}
+
+/// All that is written beside what may wait for it.
+fn all_written(
+    types: &mut Types,
+    graph: &CompositionGraph,
+    outers: &Outers,
+    packages: &IndexMap<PackageId, WorldId>,
+    definitions: &[Definition],
+    define_components: bool,
+) -> Result<Written, AllocError>
+    requires copies { CopiesStand types.old definitions.now }
+    requires packages { PackagesStand types.old packages.now.entries }
+    ensures written { IfOk result (AreHeldLate define_components graph.now types.old types.new
+        outers.now packages.now.entries definitions.now) }
+    ensures grows { Grows types.old types.new }
+{
+    let alloc = graph.alloc();
+    let mut all = Written {
+        outers: Vec::new(alloc),
+        definitions: Vec::new(alloc),
+        packages: Vec::new(alloc),
+    };
+    add_outers(types, alloc, outers, &mut all.outers)?;
+    add_forms(types, alloc, definitions, &mut all.definitions)?;
+    all.packages = written_packages(types, graph, packages, define_components)?;
+    Ok(all)
+}
+
+// ---- what cannot be written
+
+/// An interface can be written as it is.
+fn check_one(test: Test<'_>, one: &Late) -> Result<(), Unwritten>
+    ensures none { OnOk result (LatePasses test.entry one.now) }
+    ensures cause { IfErr result (TellsLateAt test.entry one.now) }
+{
+    let item = Item {
+        name: one.name.as_str(),
+        kind: one.item,
+    };
+    let fails = is_unwritable_alone(test, item)?;
+    if fails {
+        return Err(unwritable(test.alloc, one.name.as_str()));
+    }
+    Ok(())
+}
+
+/// Each of these interfaces can.
+fn check_each(test: Test<'_>, late: &[Late]) -> Result<(), Unwritten>
+    ensures none { OnOk result (LatePass test.entry late.now) }
+    ensures cause { IfErr result (TellsLate test.entry late.now) }
+{
+    for one in late {
+        check_one(test, one)?;
+    }
+    Ok(())
+}
+
+/// Each of these interfaces can be written as it is.
+fn check_late(
+    alloc: Global,
+    types: &Types,
+    unnamed: &Unnamed,
+    late: &[Late],
+    is_outer: bool,
+) -> Result<(), Unwritten>
+    ensures none { OnOk result (KnowsAll types.now unnamed.now → PassLate is_outer types.now late.now) }
+    ensures cause { IfErr result (λ e. KnowsAll types.now unnamed.now → TellsHeld is_outer types.now late.now e) }
+{
+    let test = Test {
         alloc,
         types,
-        world,
-        found: &found,
+        unnamed,
+        is_outer,
     };
-    for at in 0..import_count(types, world) {
-        if is_in_circle(search, at)? {
-            return Ok(true);
-        }
-    }
-    Ok(false)
+    check_each(test, late)
 }
 
-/// Whether a type is a component type with a circle of imports.
-fn is_circular(alloc: Global, types: &Types, kind: ItemKind) -> Result<bool, AllocError>
-    ensures { IfOk result (λ b. IfTrue b (HasCircle (stated_of types.now kind))) }
+/// All that is written can be written as it is.
+fn check_written(alloc: Global, types: &Types, all: &Written) -> Result<(), Unwritten>
+    ensures none { OnOk result (PassWritten types.now all.now) }
+    ensures cause { IfErr result (TellsWritten types.now all.now) }
 {
-    types.see_acyclic();
-    match world_of(types, kind) {
-        Some(world) => has_circle(alloc, types, world),
-        None => Ok(false),
-    }
+    let unnamed = Unnamed::all(alloc, types)?;
+    check_late(alloc, types, &unnamed, &all.outers, true)?;
+    check_late(alloc, types, &unnamed, &all.definitions, false)?;
+    check_late(alloc, types, &unnamed, &all.packages, true)
 }
 
-/// Whether types can stand in the item that have imports.
-fn is_composed(kind: ItemKind) -> bool {
-    match kind {
-        ItemKind::Instance(_) | ItemKind::Component(_) => true,
-        ItemKind::Ty(ty) => matches!(ty, Type::Interface(_) | Type::World(_)),
-        _ => false,
-    }
-}
-
-/// The types that were looked at.
-struct Looked {
-    alloc: Global,
-    kinds: IndexSet<ItemKind>,
-}
-
-impl Drop for Looked {
-    fn drop(self) {
-        let Looked { alloc: _, kinds: _ } = self;
-    }
-}
-
-impl Looked {
-    fn new(alloc: Global) -> Self {
-        Looked {
-            alloc,
-            kinds: IndexSet::new(alloc),
-        }
-    }
-
-    /// Whether the type is looked at only now.
-    fn look(&mut self, kind: ItemKind) -> Result<bool, AllocError> {
-        let is_new = self.kinds.insert(kind)?;
-        Ok(is_new)
-    }
-
-    /// Whether a component type with a circle of imports stands in an item, that is not looked at yet.
-    #[cycle(circles)]
-    fn holds_circle(&mut self, types: &Types, kind: ItemKind) -> Result<bool, AllocError>
-        ensures { IfOk result (λ b. IfTrue b (HoldsCircle (stated_of types.now kind))) }
-    {
-        if !is_composed(kind) || !types.has(kind) || !self.look(kind)? {
-            return Ok(false);
-        }
-        if is_circular(self.alloc, types, kind)? {
-            return Ok(true);
-        }
-        self.places_hold_circle(types, kind)
-    }
-
-    /// Whether one stands in what a type is made of.
-    #[cycle(circles)]
-    fn places_hold_circle(&mut self, types: &Types, kind: ItemKind) -> Result<bool, AllocError>
-        ensures { IfOk result (λ b. IfTrue b (HoldsCircle (stated_of types.now kind))) }
-    {
-        if !types.has(kind) {
-            return Ok(false);
-        }
-        let mut at: u128 = 0;
-        while let Some(place) = types.place(kind, at) {
-            if let Some(inner) = place {
-                if self.holds_circle(types, inner)? {
-                    return Ok(true);
-                }
-            }
-            at += 1;
-        }
-        Ok(false)
-    }
-}
-
-/// Whether a component type with a circle of imports stands in an item.
-pub(crate) fn holds_circle(alloc: Global, types: &Types, kind: ItemKind) -> Result<bool, AllocError>
-    ensures { IfOk result (λ b. IfTrue b (HoldsCircle (stated_of types.now kind))) }
+/// Each interface that is imported can be written as it is, beside those alone that do not wait for it. Definitions are in
+/// the forms in which they are written.
+pub fn check_circles(
+    types: &mut Types,
+    graph: &CompositionGraph,
+    outers: &Outers,
+    packages: &IndexMap<PackageId, WorldId>,
+    definitions: &[Definition],
+    define_components: bool,
+) -> Result<(), Unwritten>
+    requires copies { CopiesStand types.old definitions.now }
+    requires packages { PackagesStand types.old packages.now.entries }
+    ensures none { OnOk result (CirclesPass define_components graph.now types.old
+        outers.now packages.now.entries definitions.now) }
+    ensures cause { IfErr result (TellsCircle define_components graph.now types.old
+        outers.now packages.now.entries definitions.now) }
+    ensures grows { Grows types.old types.new }
 {
-    let mut looked = Looked::new(alloc);
-    looked.holds_circle(types, kind)
-}
-
-// ---- imports of a name
-
-/// Whether the import at a place has that name, and is in a circle or holds one.
-fn is_circle_at(search: Search<'_>, at: usize, name: &str) -> Result<bool, AllocError>
-    ensures { IfOk result (λ b. IfTrue b (IsCircleNamed search.entry name.now)) }
-{
-    let Some(import) = import_at(search.types, search.world, at) else {
-        return Ok(false);
-    };
-    if import.name != name {
-        return Ok(false);
-    }
-    if is_in_circle(search, at)? {
-        return Ok(true);
-    }
-    holds_circle(search.alloc, search.types, import.kind)
-}
-
-/// Whether an import of that name is in a circle or holds one.
-pub(crate) fn is_circle_named(search: Search<'_>, name: &str) -> Result<bool, AllocError>
-    ensures { IfOk result (λ b. IfTrue b (IsCircleNamed search.entry name.now)) }
-{
-    for at in 0..import_count(search.types, search.world) {
-        if is_circle_at(search, at, name)? {
-            return Ok(true);
-        }
-    }
-    Ok(false)
+    let all = all_written(
+        types,
+        graph,
+        outers,
+        packages,
+        definitions,
+        define_components,
+    )?;
+    check_written(graph.alloc(), types, &all)
 }

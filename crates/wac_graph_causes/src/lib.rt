@@ -1,12 +1,17 @@
 //! Why a composition graph cannot be written.
 #![tactic(auto)]
 
-mod circles;
-pub mod circular;
+mod beside;
+pub mod circles;
 pub mod errors;
 pub mod implicit;
+mod inside;
+mod late;
 pub mod names;
+mod order;
 pub mod sizes;
+mod spelling;
+mod standing;
 pub mod writable;
 
 pub use errors::{EncodeError, ValidationFault};

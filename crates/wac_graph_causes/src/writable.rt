@@ -24,7 +24,7 @@ use wac_writable::writable::{
     Test, is_unwritable_definition, is_unwritable_package, unwritable_outer,
 };
 
-fn unwritable(alloc: Global, name: &str) -> Unwritten
+pub(crate) fn unwritable(alloc: Global, name: &str) -> Unwritten
     ensures { TellsName name.now result }
 {
     match String::from_str(alloc, name) {

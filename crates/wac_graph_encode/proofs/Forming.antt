@@ -8,6 +8,7 @@ use Rattle.wac_types_base.specs.Graph.{Among}
 use Rattle.wac_types_base.specs.Collection.{Stands, IsAcyclic, Grows}
 use Rattle.wac_types_base.specs.Stated.{stated_in}
 use Rattle.wac_types_base.proofs.Adding.{Grows-refl, Grows-trans}
+use Rattle.wac_types_base.proofs.Lists.{among_last}
 use Rattle.wac_types_base.proofs.Looked.{among-get}
 use Rattle.wac_types_base.proofs.Loops.{map-one_more, map_same}
 use Rattle.wac_types_written.specs.Written.{written_definition}
@@ -17,7 +18,7 @@ use Rattle.wac_graph_asks.specs.declared.asks.Asked.{Asked}
 use Rattle.wac_graph_asks.specs.Asked.{HasCopy, IsHeld, KeepsAsked}
 use Rattle.wac_graph_asks.specs.AskedUses.{CopiesStand}
 use Rattle.wac_graph_asks.proofs.Asking.{copy_kept}
-use Rattle.wac_graph_encode.specs.Formed.{HasForm, IsFormed, AreFormed, AreCopied, IsFormOf}
+use Rattle.wac_graph_encode.specs.Formed.{AreCopied, AreFormed, HasForm, IsFormOf, IsFormed, KeepsCopies}
 use Rattle.wac_graph_encode.proofs.StandingNumbers.{zip_more, zip_map}
 
 -- ---- copies stand
@@ -48,6 +49,12 @@ form_of_copy c old new t (Some k) (Some j) h f = (h.0, record { stands = f.stand
 form_of_copy c old new t None (Some j) h f = absurd f
 form_of_copy c old new t (Some k) None h f = absurd f
 
+pub form_stands : (old new : Collection) (copy form : Option ItemKind) → IsFormOf old new copy form → IfSome form (Stands new)
+form_stands old new None None f = tt
+form_stands old new (Some k) (Some j) f = f.stands
+form_stands old new None (Some j) f = absurd f
+form_stands old new (Some k) None f = absurd f
+
 pub is_formed : (c old new : Collection) (x y : Definition) → y.node ≡ x.node → y.name ≡ x.name → y.ty ≡ x.ty → HasCopy c old x.ty x.copy → IsFormOf old new x.copy y.copy → IsFormed c new x y
 is_formed c old new x y node name ty has is = record {
   node = node;
@@ -56,16 +63,28 @@ is_formed c old new x y node name ty has is = record {
   form = subst (λ t. HasForm c new t y.copy) (sym ty) (form_of_copy c old new x.ty x.copy y.copy has is);
 }
 
+-- they stay so while the collection grows
+pub all_grown : (c d e : Collection) → Grows d e → (xs ys : List Definition) → AreFormed c d xs ys → AreFormed c e xs ys
+all_grown c d e g xs ys f = zip_map (IsFormed c d) (IsFormed c e) (formed_grown c d e g) xs ys f
+
 -- ---- several
+
+pub copies_more : (old new : Collection) → Grows old new → (before after : List Definition) (y : Definition) → after ≡ before ++ y ∷ [] → IfSome y.copy (Stands new) → KeepsCopies old new before after
+copies_more old new g before after y e s h x m = elim (among_last x y before (subst (Among x) e m)) [
+  | inl o ↦ stands_grown old new g x.copy (h x o)
+  | inr q ↦ subst (λ (d : Definition). IfSome d.copy (Stands new)) (sym q) s
+]
 
 -- all of the list have copies, and these of them are formed behind the others
 pub record FormsThese (old new : Collection) (xs these before after : List Definition) : Type 0 where
   pub grows : Grows old new
+  pub stand : KeepsCopies old new before after
   pub forms : (c : Collection) → AreCopied c old xs → (ws : List Definition) → AreFormed c old ws before → AreFormed c new (ws ++ these) after
 
 pub none_formed : (old : Collection) → IsAcyclic old → (xs before : List Definition) → FormsThese old old xs [] before before
 none_formed old a xs before = record {
   grows = Grows-refl old a;
+  stand = λ h. h;
   forms = λ c h ws f. subst (λ l. AreFormed c old l before) (sym (append-nil ws)) f;
 }
 
@@ -74,10 +93,11 @@ pub one_formed : (old new : Collection) → Grows old new → (x y : Definition)
 one_formed old new g x y before one c h ws f =
     zip_more (IsFormed c new) ws before x y (zip_map (IsFormed c old) (IsFormed c new) (formed_grown c old new g) ws before f) (one c (h x (inl refl)))
 
-pub next_formed : (old mid new : Collection) (xs before after later : List Definition) (i : ℕ) (x : Definition) → slice_get xs i ≡ Some x → FormsThese old mid xs (take i xs) before after → Grows mid new
+pub next_formed : (old mid new : Collection) (xs before after later : List Definition) (i : ℕ) (x : Definition) → slice_get xs i ≡ Some x → FormsThese old mid xs (take i xs) before after → Grows mid new → KeepsCopies mid new after later
     → ((c : Collection) → AreCopied c mid (x ∷ []) → (ws : List Definition) → AreFormed c mid ws after → AreFormed c new (ws ++ x ∷ []) later) → FormsThese old new xs (take (i + 1) xs) before later
-next_formed old mid new xs before after later i x at f g one = record {
+next_formed old mid new xs before after later i x at f g keeps one = record {
   grows = Grows-trans old mid new f.grows g;
+  stand = λ h. keeps (f.stand h);
   forms = λ c h ws are.
       subst (λ l. AreFormed c new l later) (append_assoc ws (take i xs) (x ∷ []) ∙ ap (λ l. ws ++ l) (sym (one_more xs i x at)))
       (one c (λ y m. elim m [ inl e ↦ subst (λ z. HasCopy c mid z.ty z.copy) (sym e) (copy_kept c old mid f.grows x.ty x.copy (h x (among-get xs i x at))) | inr n ↦ absurd n ])

@@ -1,11 +1,11 @@
 -- Refusals are for the first cause.
-use Rattle.std.proofs.Common.{◌≡◌, ℕ, [], Some, None, string_bytes, sym, ap, subst, ◌∙◌, inl}
+use Rattle.std.specs.Prelude.{Result, Ok, Err, OnOk}
+use Rattle.std.proofs.Common.{◌≡◌, ℕ, [], Option, Some, None, string_bytes, sym, ap, subst, ◌∙◌}
 use Rattle.wac_graph_core.specs.Graph.{Graph}
 use Rattle.wac_composition.specs.Asks.{asks_of}
-use Rattle.wac_composition.specs.Classes.{spelling}
 use Rattle.wac_composition.specs.OuterImports.{outer_imports}
 use Rattle.std.specs.Option.{option_or}
-use Rattle.wac_composition.specs.Conflicts.{Cause, Unwritable, merge_conflict, unwritable_cause, circle_cause}
+use Rattle.wac_composition.specs.Conflicts.{Cause, Unwritable, merge_conflict, unwritable_cause}
 use Rattle.wac_graph_asks.specs.declared.faults.OuterError.{OuterError}
 use Rattle.wac_graph_asks.specs.Graphs.{composition_of}
 use Rattle.wac_graph_asks.specs.Takes.{IfConflict, conflict_in}
@@ -14,37 +14,43 @@ use Rattle.wac_graph_causes.specs.declared.errors.Unwritten.{Unwritten}
 use Rattle.wac_graph_causes.specs.Refusals.{outer_refusal, unwritten_refusal}
 use Rattle.wac_graph_causes.specs.Implicit.{implicit_cause, IsImplicit}
 use Rattle.wac_graph_causes.specs.Alike.{IsAlike}
-use Rattle.wac_graph_causes.specs.Unwritable.{TellsUnwritten, unwritten_cause}
+use Rattle.wac_graph_causes.specs.Unwritable.{TellsUnwritable, TellsUnwritten, unwritten_cause}
 use Rattle.wac_graph_causes.specs.Sizes.{Confirms, TellsLarge}
 use Rattle.wac_graph_encode.specs.declared.options.EncodeOptions.{EncodeOptions}
-use Rattle.wac_graph_encode.specs.Refused.{cause_in, IsRefusedFor, IsToldFor}
+use Rattle.wac_graph_encode.specs.Refused.{cause_in, HasNoneAlike, HasNoneClashing, HasNoneFound, IsFree, IsOfSize, IsRefusedFor, IsToldFor, waiting_cause}
 
 module _ (options : EncodeOptions) (g : Graph) where
+  abbrev conflicts : Option (Cause ℕ)
+  conflicts = merge_conflict (asks_of (composition_of g)) [] (asks_of (composition_of g))
+
+  abbrev unwritten : Option (Cause ℕ)
+  unwritten = unwritable_cause options.define_components (composition_of g) (outer_imports (asks_of (composition_of g)))
+
   -- an import that is asked by its name and by an instance comes first
   first_implicit : (cause : Cause ℕ) → implicit_cause g ≡ Some cause → cause_in options g ≡ Some cause
-  first_implicit cause e =
-      ap (λ o. option_or o (option_or (merge_conflict (asks_of (composition_of g)) [] (asks_of (composition_of g)))
-      (option_or (unwritable_cause options.define_components (composition_of g) (outer_imports (asks_of (composition_of g))))
-      (circle_cause (spelling (asks_of (composition_of g))) (outer_imports (asks_of (composition_of g))))))) e
+  first_implicit cause e = ap (λ o. option_or o (option_or conflicts (option_or unwritten (waiting_cause options g)))) e
+
+  past_implicit : implicit_cause g ≡ None → cause_in options g ≡ option_or conflicts (option_or unwritten (waiting_cause options g))
+  past_implicit none = ap (λ o. option_or o (option_or conflicts (option_or unwritten (waiting_cause options g)))) none
+
+  past_conflicts : HasNoneClashing g → cause_in options g ≡ option_or unwritten (waiting_cause options g)
+  past_conflicts none = past_implicit none.implicit ∙ ap (λ o. option_or o (option_or unwritten (waiting_cause options g))) none.conflict
+
+  past_unwritten : HasNoneFound options g → cause_in options g ≡ waiting_cause options g
+  past_unwritten none = past_conflicts none.clashing ∙ ap (λ o. option_or o (waiting_cause options g)) none.written
 
   -- then imports that conflict
   then_conflict : (cause : Cause ℕ) → implicit_cause g ≡ None → conflict_in g ≡ Some cause → cause_in options g ≡ Some cause
-  then_conflict cause none e =
-      ap (λ o. option_or o (option_or (merge_conflict (asks_of (composition_of g)) [] (asks_of (composition_of g)))
-      (option_or (unwritable_cause options.define_components (composition_of g) (outer_imports (asks_of (composition_of g))))
-      (circle_cause (spelling (asks_of (composition_of g))) (outer_imports (asks_of (composition_of g))))))) none
-      ∙ ap (λ o. option_or o (option_or (unwritable_cause options.define_components (composition_of g) (outer_imports (asks_of (composition_of g))))
-      (circle_cause (spelling (asks_of (composition_of g))) (outer_imports (asks_of (composition_of g)))))) e
+  then_conflict cause none e = past_implicit none ∙ ap (λ o. option_or o (option_or unwritten (waiting_cause options g))) e
 
   -- then types that cannot be written
-  then_unwritten : (cause : Cause ℕ) → implicit_cause g ≡ None → conflict_in g ≡ None → unwritten_cause options.define_components g ≡ Some cause → cause_in options g ≡ Some cause
-  then_unwritten cause none free e =
-      ap (λ o. option_or o (option_or (merge_conflict (asks_of (composition_of g)) [] (asks_of (composition_of g)))
-      (option_or (unwritable_cause options.define_components (composition_of g) (outer_imports (asks_of (composition_of g))))
-      (circle_cause (spelling (asks_of (composition_of g))) (outer_imports (asks_of (composition_of g))))))) none
-      ∙ ap (λ o. option_or o (option_or (unwritable_cause options.define_components (composition_of g) (outer_imports (asks_of (composition_of g))))
-      (circle_cause (spelling (asks_of (composition_of g))) (outer_imports (asks_of (composition_of g)))))) free
-      ∙ ap (λ o. option_or o (circle_cause (spelling (asks_of (composition_of g))) (outer_imports (asks_of (composition_of g))))) e
+  then_unwritten : (cause : Cause ℕ) → HasNoneClashing g → unwritten_cause options.define_components g ≡ Some cause → cause_in options g ≡ Some cause
+  then_unwritten cause none e = past_conflicts none ∙ ap (λ o. option_or o (waiting_cause options g)) e
+
+  -- where none of them is found, no cause stands
+  pub is_free : {X E : Type 0} (r : Result X E) → HasNoneFound options g → OnOk r (waiting_cause options g ≡ None) → OnOk r (HasNoneAlike options g) → OnOk r (IsFree options g)
+  is_free (Ok x) none waits apart = record { cause = past_unwritten none ∙ waits; alike = apart }
+  is_free (Err e) none waits apart = tt
 
   pub implicit_refused : (e : Refusal) → IsImplicit g e → IsRefusedFor options g e
   implicit_refused (Refusal.ImplicitImportConflict import instantiation key n) h = (first_implicit _ h.0, h.1)
@@ -63,9 +69,20 @@ module _ (options : EncodeOptions) (g : Graph) where
 
   -- a type that cannot be written by itself is the first of these causes
   pub writable_refused : (f : Unwritten) → implicit_cause g ≡ None → conflict_in g ≡ None → TellsUnwritten options.define_components g f → IsRefusedFor options g (unwritten_refusal f)
-  writable_refused (Unwritten.TypeCannotBeWritten n) none free t = inl (then_unwritten (Unwritable (string_bytes n)) none free t)
+  writable_refused (Unwritten.TypeCannotBeWritten n) none free t = then_unwritten (Unwritable (string_bytes n)) (record { implicit = none; conflict = free }) t
   writable_refused Unwritten.TooLarge none free t = tt
   writable_refused Unwritten.Memory none free t = tt
+
+  -- then interfaces that wait for one another
+  pub circle_refused : (f : Unwritten) → HasNoneFound options g → TellsUnwritable (waiting_cause options g) f → IsRefusedFor options g (unwritten_refusal f)
+  circle_refused (Unwritten.TypeCannotBeWritten n) none t = past_unwritten none ∙ t
+  circle_refused Unwritten.TooLarge none t = tt
+  circle_refused Unwritten.Memory none t = tt
+
+  pub size_refused : (f : Unwritten) → IsOfSize f → IsRefusedFor options g (unwritten_refusal f)
+  size_refused (Unwritten.TypeCannotBeWritten n) h = absurd h
+  size_refused Unwritten.TooLarge h = tt
+  size_refused Unwritten.Memory h = tt
 
   pub alike_refused : (e : Refusal) → IsAlike options.define_components options.validate g e → IsRefusedFor options g e
   alike_refused (Refusal.ImplicitImportConflict import instantiation key n) h = absurd h

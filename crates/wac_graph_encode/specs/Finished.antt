@@ -1,5 +1,5 @@
 -- What entries mean that are finished.
-use Rattle.std.specs.Prelude.{◌≡◌, ℕ, Bool, true, false, List, [], map, Result, IfOk}
+use Rattle.std.specs.Prelude.{◌≡◌, ℕ, Bool, true, false, List, [], map, None, Result, IfOk}
 use Rattle.std.specs.declared.alloc.Global.{Global}
 use Rattle.std.specs.declared.vec.Vec.{Vec}
 use Rattle.std.specs.List.{AllByRecursion}
@@ -30,7 +30,7 @@ use Rattle.wac_graph_encode.specs.Standing.{IsFinished}
 use Rattle.wac_graph_encode.specs.Defining.{AreToWrite}
 use Rattle.wac_graph_encode.specs.Encoding.{nested_in, HaveDependencyNames, MeansGraph, IsComposed}
 use Rattle.wac_graph_encode.specs.Formed.{AreCopied}
-use Rattle.wac_graph_encode.specs.Refused.{HasNoneAlike, HasNoneUnwritten, IsRefusedFor}
+use Rattle.wac_graph_encode.specs.Refused.{HasNoneAlike, HasNoneFound, IsRefusedFor, waiting_cause}
 use Rattle.wac_graph_encode.specs.Worlds.{IsToHandOut}
 use Rattle.wac_graph_encode.specs.Beginning.{AreTold, IsBare, IsToBegin, nested_bytes}
 use Rattle.wac_graph_encode.specs.Importing.{AreToImport, AreWorldsOf}
@@ -112,9 +112,13 @@ PreparedMeans g a o options bytes = IsPrepared g a o → MeansNested g options b
 abbrev pub PreparedImports : Graph → Asked → Outers → EncodeOptions → List ℕ → Type 0
 PreparedImports g a o options bytes = IsPrepared g a o → HasNoneAlike options g → MeansImported g options bytes
 
--- and its types can be written
+-- no interface waits for another that it needs
+abbrev pub PreparedWaits : Graph → Asked → Outers → EncodeOptions → Type 0
+PreparedWaits g a o options = IsPrepared g a o → waiting_cause options g ≡ None
+
+-- and no cause was found before
 abbrev pub RefusesPrepared : Graph → Asked → Outers → EncodeOptions → Refusal → Type 0
-RefusesPrepared g a o options e = IsPrepared g a o → HasNoneUnwritten options g → IsRefusedFor options g e
+RefusesPrepared g a o options e = IsPrepared g a o → HasNoneFound options g → IsRefusedFor options g e
 
 -- and all is there of which the world is made
 abbrev pub PreparedHands : Graph → (old new : Asked) → Outers → List Definition → Type 0

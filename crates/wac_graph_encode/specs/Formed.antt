@@ -11,6 +11,7 @@ use Rattle.wac_types_base.specs.Collection.{Stands}
 use Rattle.wac_types_written.specs.Forms.{IsDefinitionOf}
 use Rattle.wac_graph_asks.specs.declared.asks.Definition.{Definition}
 use Rattle.wac_graph_asks.specs.Asked.{uses_others, HasCopy}
+use Rattle.wac_graph_asks.specs.AskedUses.{CopiesStand}
 
 -- the form of an interface or a world; other types are written as they are
 abbrev pub HasForm : (c d : Collection) → TypeKind → Option ItemKind → Type 0
@@ -48,3 +49,7 @@ FormsAll old new xs r = (c : Collection) → AreCopied c old xs → IfOk r (λ v
 abbrev pub FormsMore : {U E : Type 0} → (old new : Collection) → (xs before after : List Definition) → Result U E → Type 0
 FormsMore old new xs before after r = (c : Collection) → AreCopied c old xs → (ws : List Definition) → AreFormed c old ws before
     → IfOk r (λ _. AreFormed c new (ws ++ xs) after)
+
+-- where copies stand before, they stand after
+abbrev pub KeepsCopies : (old new : Collection) → (before after : List Definition) → Type 0
+KeepsCopies old new before after = CopiesStand old before → CopiesStand new after

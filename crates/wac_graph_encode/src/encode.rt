@@ -1,6 +1,6 @@
 //! The bytes and the world of a composition graph.
 
-ghost use Rattle.std.specs.Prelude.{◌≡◌, [], IfOk, IfErr, OnOk, map};
+ghost use Rattle.std.specs.Prelude.{◌≡◌, [], None, IfOk, IfErr, OnOk, map};
 ghost use Rattle.wac_types_base.specs.Entries.{names_of};
 ghost use Rattle.wac_graph_bytes.specs.Views.{view};
 ghost use Rattle.wac_graph_core.specs.Graph.{Graph};
@@ -8,13 +8,13 @@ ghost use Rattle.wac_graph_asks.specs.Asked.{IsAsked, KeepsAsked};
 ghost use Rattle.wac_graph_asks.specs.AskedUses.{CopiesStand};
 ghost use Rattle.wac_graph_asks.specs.Outers.{AnswersOuters};
 ghost use Rattle.wac_graph_causes.specs.Acyclic.{IsNoCycle};
-ghost use Rattle.wac_graph_causes.specs.Circular.{TellsCircle};
+ghost use Rattle.wac_graph_causes.specs.Circling.{PackagesStand};
 ghost use Rattle.wac_graph_encode.specs.Encoding.{HasTrueWorld};
 ghost use Rattle.wac_graph_encode.specs.Worlds.{IsToHandOut};
-ghost use Rattle.wac_graph_encode.specs.Refused.{HasNoneAlike, HasNoneClashing, HasNoneUnwritten, IsErrorFor, IsFree, IsRefusedFor};
-ghost use Rattle.wac_graph_encode.specs.Refused.{IsToldFor};
+ghost use Rattle.wac_graph_encode.specs.Refused.{HasNoneAlike, HasNoneClashing, HasNoneFound, HasNoneUnwritten, IsErrorFor, IsFree, IsOfSize, IsRefusedFor};
+ghost use Rattle.wac_graph_encode.specs.Refused.{IsToldFor, waiting_cause};
 ghost use Rattle.wac_graph_encode.specs.Finished.{AreSpelled, IsPrepared, MeansAsked, MeansImported, MeansNested, MeansWired, NestsSo, NestsWired};
-ghost use Rattle.wac_graph_encode.specs.Finished.{PreparedHands, PreparedImports, PreparedMeans, RefusesPrepared};
+ghost use Rattle.wac_graph_encode.specs.Finished.{PreparedHands, PreparedImports, PreparedMeans, PreparedWaits, RefusesPrepared};
 
 use crate::forms::written_definitions;
 use crate::instances::Wired;
@@ -25,7 +25,7 @@ use std::alloc::{AllocError, Global};
 use wac_graph_asks::asks::{Asked, Definition, asked_by};
 use wac_graph_asks::outers::{Outers, outers_of};
 use wac_graph_bytes::{Entry, SortNames, push_component};
-use wac_graph_causes::circular::circle_told;
+use wac_graph_causes::circles::check_circles;
 use wac_graph_causes::errors::{EncodeError, Refusal, Unwritten, error_of};
 use wac_graph_causes::implicit::check_implicit;
 use wac_graph_causes::names::check_names;
@@ -92,8 +92,19 @@ fn bytes_of(
     bytes_wired(writing, &mut wired)
 }
 
-/// The bytes of a composition. That a type is not written is told only if imports use each other in a circle under its
-/// name.
+/// What writing refused of a composition against which no cause stands: no type of it is known that is not written, and no
+/// contract says so. Then want of memory is told in the end.
+fn size_told(fault: Unwritten) -> Unwritten
+    ensures { IsOfSize result }
+{
+    match fault {
+        Unwritten::TypeCannotBeWritten { name: _ } => Unwritten::TooLarge,
+        Unwritten::TooLarge => Unwritten::TooLarge,
+        Unwritten::Memory => Unwritten::Memory,
+    }
+}
+
+/// The bytes of a composition against which no cause stands.
 fn bytes_told(
     graph: &CompositionGraph,
     asked: &Asked,
@@ -103,19 +114,11 @@ fn bytes_told(
 ) -> Result<Vec<u8>, Unwritten>
     ensures means { MeansAsked graph.now asked.now outers.now definitions.now options.now result }
     ensures nests { NestsSo options.now.define_components graph.now (names_of asked.now.packages.entries) result }
-    ensures circle { IfErr result
-        (TellsCircle options.now.define_components graph.now asked.now outers.now definitions.now) }
+    ensures refused { IfErr result IsOfSize }
 {
     match bytes_of(graph, asked, outers, definitions, options) {
         Ok(bytes) => Ok(bytes),
-        Err(fault) => Err(circle_told(
-            graph,
-            asked,
-            outers,
-            definitions,
-            options.define_components,
-            fault,
-        )),
+        Err(fault) => Err(size_told(fault)),
     }
 }
 
@@ -143,9 +146,11 @@ fn bytes_asked(
     asked: &mut Asked,
     outers: &Outers,
 ) -> Result<(Vec<u8>, Vec<Definition>), Refusal>
-    requires { CopiesStand asked.old.types asked.old.definitions.items }
+    requires copies { CopiesStand asked.old.types asked.old.definitions.items }
+    requires packages { PackagesStand asked.old.types asked.old.packages.entries }
     ensures means { IfOk result (λ p. PreparedMeans graph.now asked.old outers.now options.now p.0.items) }
     ensures imports { IfOk result (λ p. PreparedImports graph.now asked.old outers.now options.now p.0.items) }
+    ensures waits { OnOk result (PreparedWaits graph.now asked.old outers.now options.now) }
     ensures apart { OnOk result (IsPrepared graph.now asked.old outers.now → HasNoneAlike options.now graph.now) }
     ensures ready { IfOk result (λ p. PreparedHands graph.now asked.old asked.new outers.now p.1.items) }
     ensures refused { IfErr result (RefusesPrepared graph.now asked.old outers.now options.now) }
@@ -154,6 +159,14 @@ fn bytes_asked(
     graph.types().see_acyclic();
     let alloc = graph.alloc();
     let definitions = written_definitions(alloc, &mut asked.types, &asked.definitions)?;
+    check_circles(
+        &mut asked.types,
+        graph,
+        outers,
+        &asked.packages,
+        &definitions,
+        options.define_components,
+    )?;
     let bytes = bytes_told(graph, asked, outers, &definitions, options)?;
     check_names(
         alloc,
@@ -178,8 +191,9 @@ fn encoded_asked(
     requires prepared { IsPrepared graph.now asked.old outers.now }
     ensures means { IfOk result (λ e. MeansNested graph.now options.now e.bytes.items) }
     ensures imports { IfOk result (λ e. MeansImported graph.now options.now e.bytes.items) }
+    ensures waits { OnOk result (waiting_cause options.now graph.now ≡ None) }
     ensures apart { OnOk result (HasNoneAlike options.now graph.now) }
-    ensures refused { IfErr result (λ e. HasNoneUnwritten options.now graph.now → IsRefusedFor options.now graph.now e) }
+    ensures refused { IfErr result (λ e. HasNoneFound options.now graph.now → IsRefusedFor options.now graph.now e) }
     ensures number { IfOk result (λ e. e.types.number ≡ number) }
     ensures world { IfOk result (λ e. HasTrueWorld graph.now e.types e.world) }
 {

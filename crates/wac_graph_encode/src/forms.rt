@@ -1,9 +1,9 @@
 //! Definitions in the forms in which they are written.
 
-ghost use Rattle.std.specs.Prelude.{◌∷◌, [], IfOk, IfSome};
+ghost use Rattle.std.specs.Prelude.{◌∷◌, [], IfOk, IfSome, OnOk};
 ghost use Rattle.wac_types_base.specs.Collection.{Stands, Grows};
 ghost use Rattle.wac_graph_asks.specs.AskedUses.{CopiesStand};
-ghost use Rattle.wac_graph_encode.specs.Formed.{FormsAll, FormsMore, FormsOne, IsFormOf};
+ghost use Rattle.wac_graph_encode.specs.Formed.{FormsAll, FormsMore, FormsOne, IsFormOf, KeepsCopies};
 
 use std::alloc::{AllocError, Global};
 use wac_graph_asks::asks::Definition;
@@ -38,6 +38,7 @@ fn formed(
 ) -> Result<Definition, AllocError>
     requires { IfSome definition.now.copy (Stands types.old) }
     ensures forms { FormsOne types.old types.new definition.now result }
+    ensures stands { IfOk result (λ d. IfSome d.copy (Stands types.new)) }
     ensures grows { Grows types.old types.new }
 {
     let copy = form_of(alloc, types, definition.copy)?;
@@ -59,6 +60,7 @@ fn push_formed(
 ) -> Result<(), AllocError>
     requires { IfSome definition.now.copy (Stands types.old) }
     ensures forms { FormsMore types.old types.new (definition.now ∷ []) written.old.items written.new.items result }
+    ensures stand { OnOk result (KeepsCopies types.old types.new written.old.items written.new.items) }
     ensures grows { Grows types.old types.new }
 {
     let definition = formed(alloc, types, definition)?;
@@ -75,6 +77,7 @@ fn push_all_formed(
 ) -> Result<(), AllocError>
     requires { CopiesStand types.old definitions.now }
     ensures forms { FormsMore types.old types.new definitions.now written.old.items written.new.items result }
+    ensures stand { OnOk result (KeepsCopies types.old types.new written.old.items written.new.items) }
     ensures grows { Grows types.old types.new }
 {
     types.see_acyclic();
@@ -92,6 +95,7 @@ pub(crate) fn written_definitions(
 ) -> Result<Vec<Definition>, AllocError>
     requires { CopiesStand types.old definitions.now }
     ensures forms { FormsAll types.old types.new definitions.now result }
+    ensures stand { IfOk result (λ v. CopiesStand types.new v.items) }
     ensures grows { Grows types.old types.new }
 {
     let mut written = Vec::new(alloc);

@@ -3,5 +3,4 @@ pub mod Origins
 pub mod Listing
 pub mod Tied
 pub mod Noted
-pub mod Unwritten
 pub mod Wired

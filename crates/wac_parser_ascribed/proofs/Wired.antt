@@ -48,7 +48,6 @@ use Rattle.wac_parser_ascribed.specs.Tied.{place_of, bytes_of, handed_tag, IsAsc
 use Rattle.wac_parser_ascribed.proofs.Origins.{has_states, node_of, origin_is}
 use Rattle.wac_parser_ascribed.proofs.Places.{at_place, place_is}
 use Rattle.wac_parser_ascribed.proofs.Noted.{placed, keys}
-use Rattle.wac_parser_ascribed.proofs.Unwritten.{unwritten_same, circular_same}
 use Rattle.wac_parser_ascribed.proofs.Tied.{ms, ms_apart, asker, alike, not_passed, passed_is}
 
 -- ---- lists
@@ -240,8 +239,6 @@ module _ (g : Graph) (sound : IsGraph g) (acyclic : IsAcyclic g.types) {places :
     keys = keys g sound acyclic s b ps said;
     alike = alike g sound acyclic s b ps said;
     cause = λ define. sym (tied.cause define) ∙ keeps.cause define;
-    unwritten = λ define. unwritten_same who (place_of nodes) (composition_of g) (composition s) (alike g sound acyclic s b ps said) define _ _ outers;
-    circular = circular_same who (place_of nodes) (composition_of g) (composition s) (alike g sound acyclic s b ps said) spelled outers;
     large = λ h. (large_alike _ _ (alike g sound acyclic s b ps said)).0 ((large_renamed who (place_of nodes) (composition_of g)).0 h);
     handed = λ k p made. let id = package_stands g sound acyclic k p made in ap bytes_of (b.packages id.0 p id.1);
     names = λ define validate. sym (tied.names define validate) ∙ keeps.names define validate;

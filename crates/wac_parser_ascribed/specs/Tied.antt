@@ -9,8 +9,7 @@ use Rattle.wac_graph_bytes.specs.Wirings.{Tag, OfBytes, Instantiation, Wiring, S
 use Rattle.wac_graph_core.specs.Graph.{Graph, IsGraph, instantiated}
 use Rattle.wac_composition.specs.Alike.{IsAlike}
 use Rattle.wac_composition.specs.Asks.{asks_of}
-use Rattle.wac_composition.specs.Circular.{IsCircular}
-use Rattle.wac_composition.specs.Conflicts.{first_cause, name_cause, unwritable_cause}
+use Rattle.wac_composition.specs.Conflicts.{first_cause, name_cause}
 use Rattle.wac_composition.specs.Large.{IsLarge}
 use Rattle.wac_composition.specs.OuterImports.{outer_imports}
 use Rattle.wac_composition.specs.OuterLaws.{AreMet}
@@ -92,11 +91,6 @@ pub record IsAscribed (g : Graph) (at : Places) (s : State) : Type 0 where
   pub alike : IsAlike (renamed asker number (composition_of g)) (composition s)
   pub cause : (define : Bool)
       → first_cause define (composition s) ≡ option_map (cause_renamed asker) (first_cause define (composition_of g))
-  pub unwritten : (define : Bool)
-      → unwritable_cause define (composition s) (outer_imports (asks_of (composition s)))
-      ≡ option_map (cause_renamed asker) (unwritable_cause define (composition_of g)
-      (outer_imports (asks_of (composition_of g))))
-  pub circular : (define : Bool) (n : Name) → IsCircular define (composition_of g) n → IsCircular define (composition s) n
   pub large : IsLarge (composition_of g) → IsLarge (composition s)
   pub handed : (k : ℕ) (p : Packaged) → instantiated g k ≡ Some p
       → bytes_of (package_under s.packages (package_key p)) ≡ p.bytes

@@ -24,7 +24,7 @@ use Rattle.wac_composition.specs.Asks.{asks_of}
 use Rattle.wac_composition.specs.Conflicts.{dependency_name}
 use Rattle.wac_composition.specs.Wired.{composed_wiring}
 use Rattle.wac_composition.specs.Classes.{spelling}
-use Rattle.wac_composition.proofs.Merged.{merged_met}
+use Rattle.wac_composition.proofs.Merged.{all_met}
 use Rattle.wac_graph_asks.specs.Graphs.{composition_of}
 use Rattle.wac_graph_asks.specs.Wirings.{IsGraphWiring, asked_trees, written_tree}
 use Rattle.wac_graph_asks.proofs.Origins.{package_stands}
@@ -166,7 +166,7 @@ pub of_world : (g : Graph) (options : EncodeOptions) (types : Collection) (world
 unfolding HasResolvedWorld
 of_world g options types world sound acyclic free true_ = λ d ps r at e b.
     let a = ascribed d ps r g at e sound acyclic b in
-    record { met = a.met (merged_met (composition_of g) free.clashing.conflict); states = record { stands = true_.stands; states = true_.states ∙ sym a.world } }
+    record { met = a.met (all_met options.define_components (composition_of g) free.cause); states = record { stands = true_.stands; states = true_.states ∙ sym a.world } }
 
 pub all_worlds : {E : Type 0} (g : Graph) (options : EncodeOptions) (r : Result Encoded E) → IsGraph g → IsAcyclic g.types → OnOk r (IsFree options g) → IfOk r (λ e. HasTrueWorld g e.types e.world) → IfOk r (λ e. HasResolvedWorld g e.types e.world)
 all_worlds g options (Ok e) sound acyclic free true_ = of_world g options e.types e.world sound acyclic free true_

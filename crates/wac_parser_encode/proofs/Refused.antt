@@ -14,10 +14,9 @@ use Rattle.wac_graph_asks.specs.Graphs.{composition_of}
 use Rattle.wac_graph_causes.specs.declared.errors.EncodeError.{EncodeError}
 use Rattle.wac_graph_causes.specs.declared.errors.ValidationFault.{ValidationFault}
 use Rattle.wac_graph_causes.specs.Implicit.{IsKeyOf}
-use Rattle.wac_graph_causes.specs.Unwritable.{unwritten_cause}
 use Rattle.wac_graph_causes.specs.Sizes.{IsTooLarge}
 use Rattle.wac_graph_encode.specs.declared.options.EncodeOptions.{EncodeOptions}
-use Rattle.wac_graph_encode.specs.Refused.{HasNoneUnwritten, IsErrorFor, IsFree, IsUnwritable}
+use Rattle.wac_graph_encode.specs.Refused.{cause_in, IsErrorFor, IsFree}
 use Rattle.wac_parser_refusals.specs.declared.error.Error.{Error}
 use Rattle.wac_parser_refusals.specs.Causes.{Fault}
 use Rattle.wac_parser_refusals.specs.Views.{cause_of}
@@ -29,7 +28,7 @@ use Rattle.wac_parser_resolve.proofs.Askers.{askers_placed}
 use Rattle.wac_parser_ascribed.specs.Tied.{IsAscribed, IsPlaced}
 use Rattle.wac_parser_ascribed.proofs.Wired.{ascribed}
 use Rattle.wac_parser_encode.specs.Processing.{IsProcessed}
-use Rattle.wac_parser_encode.specs.Refused.{CanBeWritten, IsFault, IsFirst, IsOfSize, AreFirstAlike, TellsCause, RefusesResolved, TellsFirst, TellsAnywhere, fault_in}
+use Rattle.wac_parser_encode.specs.Refused.{CanBeEncoded, IsFirst, IsOfSize, AreFirstAlike, TellsCause, RefusesResolved, TellsFirst, TellsAnywhere, fault_in}
 
 -- ---- places of askers
 
@@ -89,11 +88,6 @@ module _ (options : EncodeOptions) (g : Graph) (at : Places) (s : State) (tied :
   alike_told : (x : cause.Cause ℕ) → name_cause options.define_components options.validate (composition_of g) ≡ Some x → AreFirstAlike options.define_components options.validate s (cause_said (cause_renamed tied.asker x))
   alike_told x e = ap (option_map cause_said) (tied.names options.define_components options.validate ∙ ap (option_map (cause_renamed tied.asker)) e)
 
-  -- a type of the graph that cannot be written is one of the document's, and so is a circle
-  unwritten_told : (n : List ℕ) → IsUnwritable options g n → IsFault options.define_components options.validate s (Fault.TypeCannotBeWritten n) (record { fault = Fault.TypeCannotBeWritten n; span = None })
-  unwritten_told n (inl first) = inl (said (cause.Unwritable n) first)
-  unwritten_told n (inr (none, circle)) = inr (tied.unwritten options.define_components ∙ ap (option_map (cause_renamed tied.asker)) none, tied.circular options.define_components n circle, refl)
-
   -- a graph that is too large is a document's that is
   too_large_told : IsTooLarge g → IsOfSize s (record { fault = Fault.TooLarge; span = None })
   too_large_told (inl large) = (inl (tied.large large), refl)
@@ -104,7 +98,7 @@ module _ (options : EncodeOptions) (g : Graph) (at : Places) (s : State) (tied :
   told (EncodeError.ImplicitImportConflict import filled key n) h = implicit_told (string_bytes n) import filled key h.0 h.1
   told (EncodeError.ExplicitImportConflict n first second) h = explicit_told (string_bytes n) first second h
   told (EncodeError.ImportTypeMergeConflict n first second source) h = merge_failed (string_bytes n) first second h
-  told (EncodeError.TypeCannotBeWritten n) h = unwritten_told (string_bytes n) h
+  told (EncodeError.TypeCannotBeWritten n) h = said (cause.Unwritable (string_bytes n)) h
   told EncodeError.TooLarge h = too_large_told h
   told (EncodeError.ValidationFailure (ValidationFault.ImportNames m n)) h = alike_told (cause.ImportNames (string_bytes m) (string_bytes n)) h
   told (EncodeError.ValidationFailure (ValidationFault.ExportNames m n)) h = alike_told (cause.ExportNames (string_bytes m) (string_bytes n)) h
@@ -145,12 +139,12 @@ refuses g h options at e f same is all = subst (TellsFirst h options at) (sym is
 
 -- ---- where nothing is refused
 
-can_be_written : (g : Graph) (options : EncodeOptions) → IsGraph g → IsAcyclic g.types → HasNoneUnwritten options g → CanBeWritten g options
-unfolding CanBeWritten
-can_be_written g options sound acyclic written = λ at d ps r q b.
+can_be_encoded : (g : Graph) (options : EncodeOptions) → IsGraph g → IsAcyclic g.types → cause_in options g ≡ None → CanBeEncoded g options
+unfolding CanBeEncoded
+can_be_encoded g options sound acyclic free = λ at d ps r q b.
     let tied = ascribed d ps r g at q sound acyclic b in
-    tied.unwritten options.define_components ∙ ap (option_map (cause_renamed tied.asker)) written
+    tied.cause options.define_components ∙ ap (option_map (cause_renamed tied.asker)) free
 
-pub written_processed : {A E : Type 0} (g : Graph) (old new : EncodeOptions) (r : Result A E) → IsProcessed old new → IsGraph g → IsAcyclic g.types → OnOk r (IsFree new g) → OnOk r (CanBeWritten g old)
-written_processed g old new (Ok a) is sound acyclic free = can_be_written g old sound acyclic (subst (λ (define : Bool). unwritten_cause define g ≡ None) is.define free.written)
-written_processed g old new (Err e) is sound acyclic free = tt
+pub free_processed : {A E : Type 0} (g : Graph) (old new : EncodeOptions) (r : Result A E) → IsProcessed old new → IsGraph g → IsAcyclic g.types → OnOk r (IsFree new g) → OnOk r (CanBeEncoded g old)
+free_processed g old new (Ok a) is sound acyclic free = can_be_encoded g old sound acyclic (subst (λ (define : Bool). first_cause define (composition_of g) ≡ None) is.define free.cause)
+free_processed g old new (Err e) is sound acyclic free = tt

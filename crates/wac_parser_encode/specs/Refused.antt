@@ -1,17 +1,14 @@
--- Why a resolved document is not encoded: the first cause that stands against what it says, with its places. And of one that is
--- encoded each type can be written.
+-- Why a resolved document is not encoded: the first cause that stands against what it says, with its places. And against one
+-- that is encoded none stands.
 use Rattle.std.specs.Prelude.{◌≡◌, ◌⊎◌, ◌≤◌, ◌^◌, Bool, List, Option, Some, None, Ok, length, option_map, string_bytes}
 use Rattle.wac_types_base.specs.declared.item.ExternKind.{ExternKind}
 use Rattle.wac_types_base.specs.Entries.{Name}
 use Rattle.wac_types_base.specs.Stated.{Stated}
 use Rattle.wac_types_names.specs.Keys.{Key, owned_key}
 use Rattle.wac_graph_core.specs.Graph.{Graph}
-use Rattle.wac_composition.specs.Asks.{asks_of}
-use Rattle.wac_composition.specs.Circular.{IsCircular}
 use Rattle.wac_composition.specs.Conflicts as cause
-use Rattle.wac_composition.specs.Conflicts.{first_cause, name_cause, unwritable_cause}
+use Rattle.wac_composition.specs.Conflicts.{first_cause, name_cause}
 use Rattle.wac_composition.specs.Large.{IsLarge}
-use Rattle.wac_composition.specs.OuterImports.{outer_imports}
 use Rattle.wac_graph_causes.specs.declared.errors.EncodeError.{EncodeError}
 use Rattle.wac_graph_causes.specs.declared.errors.ValidationFault.{ValidationFault}
 use Rattle.wac_graph_encode.specs.declared.options.EncodeOptions.{EncodeOptions}
@@ -57,14 +54,6 @@ module _ (define : Bool) (s : State) where
   abbrev pub IsFirst : Cause → Type 0
   IsFirst c = option_map cause_said (first_cause define (composition s)) ≡ Some c
 
-  -- the first type of what is said that cannot be written by itself
-  abbrev pub unwritten_said : Option (cause.Cause Asker)
-  unwritten_said = unwritable_cause define (composition s) (outer_imports (asks_of (composition s)))
-
-  -- Under this name imports use each other in a circle, though each type can be written by itself; that has no place.
-  abbrev pub IsOfCircle : Name → Cause → Type 0
-  IsOfCircle n c = (unwritten_said ≡ None) × IsCircular define (composition s) n × (c.span ≡ None)
-
 -- a package that is handed in has more bytes than a size of 32 bits counts
 abbrev pub HasLargeHanded : State → Type 0
 HasLargeHanded s = (k : Key) × (2 ^ 32 ≤ length (bytes_of (package_under s.packages k)))
@@ -80,7 +69,6 @@ module _ (define validate : Bool) (s : State) where
 
   abbrev pub IsFault : Fault → Cause → Type 0
   IsFault (Fault.ValidationFailure kind m n) c = AreFirstAlike c
-  IsFault (Fault.TypeCannotBeWritten n) c = IsFirst define s c ⊎ IsOfCircle define s n c
   IsFault Fault.TooLarge c = IsOfSize s c
   IsFault f c = IsFirst define s c
 
@@ -107,6 +95,6 @@ RefusesResolved g at options e = TellsFirst g options at (cause_of e)
 
 -- ---- where nothing is refused
 
--- Where the graph holds what a document says, each type of it can be written by itself.
-unfoldable pub CanBeWritten : Graph → EncodeOptions → Type 0
-CanBeWritten g options = (at : Places) → OfEach g at (λ s. unwritten_said options.define_components s ≡ None)
+-- Where the graph holds what a document says, no cause stands against encoding that.
+unfoldable pub CanBeEncoded : Graph → EncodeOptions → Type 0
+CanBeEncoded g options = (at : Places) → OfEach g at (λ s. first_cause options.define_components (composition s) ≡ None)

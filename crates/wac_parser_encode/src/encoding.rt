@@ -9,7 +9,7 @@ ghost use Rattle.wac_parser_refusals.specs.Views.{cause_of};
 ghost use Rattle.wac_parser_resolve.specs.Resolved.{Places, graph_of, places_of};
 ghost use Rattle.wac_parser_encode.specs.Processing.{IsProcessed};
 ghost use Rattle.wac_parser_encode.specs.Meaning.{HasResolvedWorld, ImportsResolved, MeansResolved};
-ghost use Rattle.wac_parser_encode.specs.Refused.{CanBeWritten, RefusesResolved, TellsAnywhere, alike_fault, fault_in};
+ghost use Rattle.wac_parser_encode.specs.Refused.{CanBeEncoded, RefusesResolved, TellsAnywhere, alike_fault, fault_in};
 
 use std::alloc::{AllocError, Global};
 use wac_graph_bytes::Processor;
@@ -116,7 +116,7 @@ fn encoded_bytes(graph: &CompositionGraph, options: EncodeOptions) -> Result<Vec
     ensures ascribed { IfOk result (λ bytes. MeansResolved graph.now options bytes.items) }
     ensures imports { IfOk result (λ bytes. MeansImported graph.now options bytes.items) }
     ensures imported { IfOk result (λ bytes. ImportsResolved graph.now options bytes.items) }
-    ensures free { OnOk result (CanBeWritten graph.now options) }
+    ensures free { OnOk result (CanBeEncoded graph.now options) }
     ensures acyclic { IfErr result IsNoCycle }
     ensures refused { IfErr result (TellsAnywhere graph.now options) }
 {
@@ -141,7 +141,7 @@ fn encoded_world(
     ensures number { IfOk result (λ e. e.types.number ≡ numbers.1) }
     ensures world { IfOk result (λ e. HasTrueWorld graph.now e.types e.world) }
     ensures resolved { IfOk result (λ e. HasResolvedWorld graph.now e.types e.world) }
-    ensures free { OnOk result (CanBeWritten graph.now options) }
+    ensures free { OnOk result (CanBeEncoded graph.now options) }
     ensures acyclic { IfErr result IsNoCycle }
     ensures refused { IfErr result (TellsAnywhere graph.now options) }
 {
@@ -167,7 +167,7 @@ pub trait EncodeResolution {
         ensures ascribed { IfOk result (λ bytes. MeansResolved (graph self.now) options bytes.items) }
         ensures imports { IfOk result (λ bytes. MeansImported (graph self.now) options bytes.items) }
         ensures imported { IfOk result (λ bytes. ImportsResolved (graph self.now) options bytes.items) }
-        ensures free { OnOk result (CanBeWritten (graph self.now) options) }
+        ensures free { OnOk result (CanBeEncoded (graph self.now) options) }
         ensures refused { IfErr result (RefusesResolved (graph self.now) (places self.now) options) };
 
     /// The component of the graph, and the world that is true of it, in a collection of the second number. The first is
@@ -180,7 +180,7 @@ pub trait EncodeResolution {
         ensures number { IfOk result (λ e. e.types.number ≡ numbers.1) }
         ensures world { IfOk result (λ e. HasTrueWorld (graph self.now) e.types e.world) }
         ensures resolved { IfOk result (λ e. HasResolvedWorld (graph self.now) e.types e.world) }
-        ensures free { OnOk result (CanBeWritten (graph self.now) options) }
+        ensures free { OnOk result (CanBeEncoded (graph self.now) options) }
         ensures refused { IfErr result (RefusesResolved (graph self.now) (places self.now) options) };
 }
 

@@ -13,7 +13,7 @@ use Rattle.wac_composition.specs.Composition.{Placed, Composition}
 use Rattle.wac_composition.specs.Asks.{ByName, ToFill, ToUse, Ask, used_by, used_by_definition, explicit_ask, filled_asks, asked_for, named_asks, asks_to_use, asks_of}
 use Rattle.wac_composition.specs.Classes.{class}
 use Rattle.wac_composition.specs.Conflicts.{Cause}
-use Rattle.wac_composition.specs.Against.{IsUnmerged, StandsAgainst, asked_twice, import_unmerged, ask_unmerged, alias_of_value, outer_import, in_circle, definition, imported_package}
+use Rattle.wac_composition.specs.Against.{IsUnmerged, StandsAgainst, asked_twice, import_unmerged, ask_unmerged, alias_of_value, outer_import, outer_in_circle, circle_in_definition, circle_in_package, definition, imported_package}
 use Rattle.wac_composition.proofs.Closures.{filter_among}
 use Rattle.wac_composition.proofs.Lists.{among_flat, mapped_among}
 use Rattle.wac_parser_resolve.specs.Ascribed.{Asker, by_import, by_instance, by_definition, numbered, placed_import, placed_definition, composition}
@@ -177,7 +177,9 @@ module _ (g : State) (alone : AskNothing g) where
   asked_so define x (ask_unmerged a b u k) = of_others define a b u
   asked_so define x (alias_of_value n y m k) = tt
   asked_so define x (outer_import n y m k) = tt
-  asked_so define x (in_circle n y m k) = tt
+  asked_so define x (outer_in_circle n y m k) = tt
+  asked_so define x (circle_in_definition n y m k) = tt
+  asked_so define x (circle_in_package n y m k) = tt
   asked_so define x (definition d m k) = tt
   asked_so define x (imported_package n y m k) = tt
 

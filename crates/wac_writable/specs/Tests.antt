@@ -10,7 +10,7 @@ use Rattle.wac_types_base.specs.Record.{Collection}
 use Rattle.wac_types_base.specs.Entries.{Name}
 use Rattle.wac_types_base.specs.Collection.{Stands}
 use Rattle.wac_types_base.specs.Stated.{Stated, Used, stated_of, world_of}
-use Rattle.wac_composition.specs.Writable.{is_given, item_in, given_in, stands_as, unwritable, as_defined}
+use Rattle.wac_composition.specs.Writable.{holder, is_given, item_in, given_in, stands_as, unwritable, as_defined}
 use Rattle.wac_composition.specs.Writable.{Holder as Held}
 use Rattle.wac_composition.specs.NotWritten.{component_holder, ComponentFails}
 use Rattle.wac_graph_scopes.specs.declared.parts.Use.{Use}
@@ -150,6 +150,10 @@ abbrev pub TellsPackage : Test → WorldId → Bool → Type 0
 TellsPackage t w b =
     Stands t.types.now (ItemKind.Component w) → (n : Name) (h : Held)
     → b ≡ item_unwritable t.types.now t.is_outer n (ItemKind.Component w) h
+
+-- whether an item that stands cannot be written where nothing stands beside it
+abbrev pub TellsAlone : Test → Item → Bool → Type 0
+TellsAlone t x b = Stands t.types.now x.kind → b ≡ item_unwritable t.types.now t.is_outer x.name.now x.kind (holder [] [])
 
 -- ---- uses
 

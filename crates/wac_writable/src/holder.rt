@@ -279,6 +279,13 @@ impl Holder {
         Ok(())
     }
 
+    /// What stands where nothing does.
+    pub fn empty(alloc: Global) -> Self
+        ensures { (c : Collection) → Holds c result (holder [] []) }
+    {
+        Holder::new(alloc)
+    }
+
     /// What stands in an interface.
     pub fn of_interface(alloc: Global, types: &Types, id: InterfaceId) -> Result<Self, AllocError>
         ensures { IfOk result (λ s. Holds types.now s (interface_holder (stated_of types.now (ItemKind.Instance id)))) }

@@ -11,7 +11,7 @@ ghost use Rattle.wac_writable.specs.Items.{IsSimple, module_unwritable};
 ghost use Rattle.wac_writable.specs.Tests.{TellsFound, TellsOf, TellsUngiven, TellsTested, TellsExports, TellsInterface};
 ghost use Rattle.wac_writable.specs.Tests.{is_tested, wrapped_in, stands_in, TellsGivenBy};
 ghost use Rattle.wac_writable.specs.Tests.{TellsImports, TellsWorldExports, TellsItems, TellsItemsOfWorld, TellsWorld};
-ghost use Rattle.wac_writable.specs.Tests.{TellsFirst, TellsOuter, TellsWrapped, TellsDefinition, TellsPackage};
+ghost use Rattle.wac_writable.specs.Tests.{TellsAlone, TellsFirst, TellsOuter, TellsWrapped, TellsDefinition, TellsPackage};
 ghost use Rattle.wac_writable.specs.Givers.{TellsImported, TellsAdded, TellsUse, TellsAt, TellsDirect, TellsNeeded};
 ghost use Rattle.wac_writable.specs.Givers.{TellsWorldUses, TellsUsesOfImports, TellsUsesOfExports, TellsAllUses};
 ghost use Rattle.wac_writable.specs.Givers.{TellsUsesOfWorld, TellsWrappedUses};
@@ -715,4 +715,12 @@ pub fn is_unwritable_package(test: Test<'_>, world: WorldId) -> Result<bool, All
 {
     test.types.see_acyclic();
     world_fails(test, world)
+}
+
+/// Whether an item cannot be written where nothing stands beside it.
+pub fn is_unwritable_alone(test: Test<'_>, item: Item<'_>) -> Result<bool, AllocError>
+    ensures { IfOk result (TellsFound test.entry (TellsAlone test.entry item.entry)) }
+{
+    let mut holder = Holder::empty(test.alloc);
+    item_fails(test, &mut holder, item)
 }

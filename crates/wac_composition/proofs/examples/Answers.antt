@@ -91,3 +91,7 @@ returns-clause-circle_of_values c = refl
 pub returns-clause-circle_with_resource : goal.returns-clause-circle_with_resource
 unfolding read_version version_of version_cmp semver_on_literals
 returns-clause-circle_with_resource c = refl
+
+pub returns-clause-circle_inside : goal.returns-clause-circle_inside
+unfolding read_version version_of version_cmp semver_on_literals
+returns-clause-circle_inside c = refl

@@ -1,6 +1,7 @@
-use Rattle.std.proofs.lemmas.Result.{on_ok_weaker}
+use Rattle.wac_graph_encode.specs.Refused.{HasNoneFound}
 use Rattle.wac_graph_encode.proofs.Forming.{copies_stand}
 use Rattle.wac_graph_encode.proofs.Preparing.{prepared}
+use Rattle.wac_graph_encode.proofs.Refusing.{is_free}
 use Rattle.wac_graph_scopes.proofs.RefusedLaws.{if_err_map}
 use Rattle.wac_graph_encode.proofs.encode.encoded_first.Goals as goal
 
@@ -11,7 +12,9 @@ pub encoded_asked-requires-clause-prepared : goal.encoded_asked-requires-clause-
 encoded_asked-requires-clause-prepared c = prepared c.args.graph.now c.in_ok-asked.asked c.outers_checked.new.asked c.in_ok-outers.outers c.in_ok-asked.ensures c.in_ok-outers.ensures.keeps c.in_ok-outers.ensures.outers
 
 pub returns-clause-free : goal.returns-clause-free
-returns-clause-free c = on_ok_weaker c.encoded_asked.result (λ apart. record { clashing = c.in_ok-outers.ensures.free c.in_ok-asked.ensures; written = c.in_ok-outers.ensures.written c.in_ok-asked.ensures; alike = apart }) c.encoded_asked.ensures.apart
+returns-clause-free c =
+    let found : HasNoneFound c.args.options.now c.args.graph.now = record { clashing = c.in_ok-outers.ensures.free c.in_ok-asked.ensures; written = c.in_ok-outers.ensures.written c.in_ok-asked.ensures } in
+    is_free c.args.options.now c.args.graph.now c.encoded_asked.result found c.encoded_asked.ensures.waits c.encoded_asked.ensures.apart
 
 pub returns-clause-refused : goal.returns-clause-refused
-returns-clause-refused c = if_err_map c.encoded_asked.result (λ e h. h (c.in_ok-outers.ensures.written c.in_ok-asked.ensures)) c.encoded_asked.ensures.refused
+returns-clause-refused c = if_err_map c.encoded_asked.result (λ e h. h (record { clashing = c.in_ok-outers.ensures.free c.in_ok-asked.ensures; written = c.in_ok-outers.ensures.written c.in_ok-asked.ensures })) c.encoded_asked.ensures.refused

@@ -15,4 +15,7 @@ loop-definition-preserved c =
     let i = c.loop-definition.definition-index in
     let at = get-place c.args.definitions.now i x c.loop-definition-test.true c.definition-item.is in
     next_formed c.args.types.now c.loop-definition.types c.push_formed.new.types c.args.definitions.now c.args.written.now.items c.loop-definition.written.items c.push_formed.new.written.items i x at
-    c.loop-definition.invariant c.in_ok-push_formed.ensures.grows c.in_ok-push_formed.ensures.forms
+    c.loop-definition.invariant c.in_ok-push_formed.ensures.grows c.in_ok-push_formed.ensures.stand c.in_ok-push_formed.ensures.forms
+
+pub returns-clause-stand : goal.returns-clause-stand
+returns-clause-stand c = c.loop-definition.invariant.stand

@@ -1,0 +1,6 @@
+use Rattle.std.proofs.Common.{sym, ◌∙◌}
+use Rattle.wac_graph_scopes.proofs.PartLaws.{imports_missing}
+use Rattle.wac_graph_causes.proofs.circles.imports_of.Goals as goal
+
+pub returns-then-not-has : goal.returns-then-not-has
+returns-then-not-has c = c.new.ensures ∙ sym (imports_missing c.args.types.now c.args.world (λ s. absurd (cc (c.if-not-has.ensures.1 s))))

@@ -1,0 +1,46 @@
+//! The names of the imports that are asked under names.
+
+ghost use Rattle.std.specs.Prelude.{IfOk, OnOk};
+ghost use Rattle.wac_graph_causes.specs.Spelling.{AreCalled, NotesCalled};
+
+use crate::order::text_of;
+use std::alloc::{AllocError, Global};
+use wac_graph_scopes::imports::Called;
+use wac_graph_scopes::parts::import_at;
+use wac_types_base::{NamedMap, Text, Types, WorldId};
+use wac_writable::maps::insert_under;
+
+/// Keeps the name of the import that is called so.
+fn add_called(
+    alloc: Global,
+    types: &Types,
+    world: WorldId,
+    called: &Called,
+    kept: &mut NamedMap<Text>,
+) -> Result<(), AllocError>
+    ensures { OnOk result (NotesCalled types.now world called.now kept.old kept.new) }
+{
+    match import_at(types, world, called.at) {
+        Some(import) => {
+            let name = text_of(alloc, import.name)?;
+            insert_under(alloc, kept, called.name.as_str(), name)
+        }
+        None => Ok(()),
+    }
+}
+
+/// The names of the imports that are called so, by the names under which they are asked.
+pub(crate) fn names_called(
+    alloc: Global,
+    types: &Types,
+    world: WorldId,
+    called: &[Called],
+) -> Result<NamedMap<Text>, AllocError>
+    ensures { IfOk result (λ m. AreCalled types.now world called.now m) }
+{
+    let mut kept = NamedMap::new(alloc);
+    for one in called {
+        add_called(alloc, types, world, one, &mut kept)?;
+    }
+    Ok(kept)
+}
