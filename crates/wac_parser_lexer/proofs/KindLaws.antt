@@ -34,10 +34,6 @@ marked b c = cond (eqb b 34) (Some k.String) (cond (eqb b 47) (cond (eqb c 47) (
 class_of : List ℕ → Option Token
 class_of w = cond (is_first (get_or w 0 0)) (Some (named w)) (marked (get_or w 0 0) (get_or w 1 0))
 
-true_or : (a : Bool) → (a || true) ≡ true
-true_or true = refl
-true_or false = refl
-
 or_true : (a b : Bool) → b ≡ true → (a || b) ≡ true
 or_true true b h = refl
 or_true false b h = h
