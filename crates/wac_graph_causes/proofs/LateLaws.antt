@@ -24,12 +24,13 @@ use Rattle.wac_composition.specs.Writable.{has_items}
 use Rattle.wac_composition.specs.Circles.{beside, interfaces_in, stands_in, under, written_from, written_names}
 use Rattle.wac_graph_scopes.specs.Parts.{imports_of}
 use Rattle.wac_graph_scopes.proofs.PartLaws.{imports_there, imports_missing}
+use Rattle.wac_writable.proofs.HolderLaws.{has_put}
 use Rattle.wac_writable.proofs.PartsStated.{stands_or_not}
 use Rattle.wac_graph_causes.specs.declared.late.Late.{Late}
 use Rattle.wac_graph_causes.specs.declared.standing.Standing.{Standing}
 use Rattle.wac_graph_causes.specs.Late.{AddsLate, AreLate, interface_items, is_interface_item, late_in, world_written, written_after, written_beside}
 use Rattle.wac_graph_causes.specs.Standing.{spelled_in}
-use Rattle.wac_graph_causes.proofs.Orders.{has_last, has_put}
+use Rattle.wac_graph_causes.proofs.Orders.{has_last}
 
 -- ---- imports that are interfaces
 

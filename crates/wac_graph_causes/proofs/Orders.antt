@@ -1,8 +1,8 @@
 -- What an item uses of imports, name by name, and imports that are put in order.
 use Rattle.std.specs.Prelude.{option_map, if◌then◌else◌}
 use Rattle.std.specs.List.{fold, cons_option}
-use Rattle.std.specs.Bool.{Decides}
-use Rattle.std.specs.Cmp.Lexicographic.{pointwise, bytes_decides}
+use Rattle.std.specs.Cmp.Lexicographic.{pointwise}
+use Rattle.std.proofs.Math.Bool.{or-false}
 use Rattle.std.proofs.lemmas.List.{append-nil, append_assoc}
 use Rattle.std.proofs.lemmas.List.Elements.{filter_map-append}
 use Rattle.std.proofs.lemmas.List.Sums.{fold-append}
@@ -17,6 +17,7 @@ use Rattle.wac_types_base.proofs.Loops.{names-with_values}
 use Rattle.wac_types_base.proofs.Stating.{value_with}
 use Rattle.wac_composition.specs.Circles.{used_by, put, written_names}
 use Rattle.wac_graph_scopes.specs.Parts.{interface_in}
+use Rattle.wac_writable.proofs.HolderLaws.{has_append, has_put}
 use Rattle.wac_writable.proofs.PartsStated.{identifier_is}
 use Rattle.wac_graph_causes.specs.declared.order.Sources.{Sources}
 use Rattle.wac_graph_causes.specs.declared.order.Order.{Order}
@@ -24,39 +25,8 @@ use Rattle.wac_graph_causes.specs.Orders.{AddsUsed, IsBegun, Puts, PutsAll, name
 
 -- ---- names among names
 
-or_false : (b : Bool) → (b || false) ≡ b
-or_false true = refl
-or_false false = refl
-
-or_through : (a b c : Bool) → (a || (b || c)) ≡ ((a || b) || c)
-or_through true b c = refl
-or_through false b c = refl
-
 pub has_last : (ns : List Name) (n m : Name) → has_name (ns ++ n ∷ []) m ≡ (has_name ns m || pointwise ◌==◌ m n)
-has_last [] n m = or_false (pointwise ◌==◌ m n)
-has_last (x ∷ ns) n m = ap (λ b. pointwise ◌==◌ m x || b) (has_last ns n m) ∙ or_through (pointwise ◌==◌ m x) (has_name ns m) (pointwise ◌==◌ m n)
-
-or_true : (b : Bool) → (b || true) ≡ true
-or_true true = refl
-or_true false = refl
-
-test_same : (ns : List Name) (n m : Name) → has_name ns n ≡ true → (has_name ns m || pointwise ◌==◌ m n) ≡ has_name ns m
-test_same ns n m h = go (bytes_decides m n)
-  where
-    go : Decides (pointwise ◌==◌ m n) (m ≡ n) → (has_name ns m || pointwise ◌==◌ m n) ≡ has_name ns m
-    go d = by (pointwise ◌==◌ m n) refl
-      where
-        by : (b : Bool) → pointwise ◌==◌ m n ≡ b → (has_name ns m || b) ≡ has_name ns m
-        by true e = or_true (has_name ns m) ∙ sym (ap (has_name ns) (d.0 e) ∙ h)
-        by false e = or_false (has_name ns m)
-
--- a name that is put among others is there, and nothing else
-pub has_put : (ns : List Name) (n m : Name) → has_name (put_name ns n) m ≡ (has_name ns m || pointwise ◌==◌ m n)
-has_put ns n m = go (has_name ns n) refl
-  where
-    go : (b : Bool) → has_name ns n ≡ b → has_name (if b then ns else ns ++ n ∷ []) m ≡ (has_name ns m || pointwise ◌==◌ m n)
-    go true e = sym (test_same ns n m e)
-    go false e = has_last ns n m
+has_last ns n m = has_append ns (n ∷ []) m ∙ ap (λ b. has_name ns m || b) (or-false (pointwise ◌==◌ m n))
 
 -- ---- what is used
 

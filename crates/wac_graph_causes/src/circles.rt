@@ -219,20 +219,11 @@ fn add_packages(
 }
 
 /// All that is written beside what may wait for it: of outer imports, of definitions, and of packages that are imported.
+#[derive(Drop)]
 struct Written {
     outers: Vec<Late>,
     definitions: Vec<Late>,
     packages: Vec<Late>,
-}
-
-impl Drop for Written {
-    fn drop(self) {
-        let Written {
-            outers: _,
-            definitions: _,
-            packages: _,
-        } = self;
-    }
 }
 
 /// Those of packages that are imported, where components are not defined.

@@ -59,11 +59,11 @@ not_before (y ∷ ys) (suc i) x d e (inr m) = not_before ys i x d.1 e m
 
 -- ---- names
 
-has_append : (ms ns : List Name) (n : Name) → has_name (ms ++ ns) n ≡ (has_name ms n || has_name ns n)
+pub has_append : (ms ns : List Name) (n : Name) → has_name (ms ++ ns) n ≡ (has_name ms n || has_name ns n)
 has_append [] ns n = refl
 has_append (m ∷ ms) ns n = ap (λ b. pointwise ◌==◌ n m || b) (has_append ms ns n) ∙ sym (or_assoc (pointwise ◌==◌ n m) (has_name ms n) (has_name ns n))
 
-has_put : (ms : List Name) (m n : Name) → has_name (put_name ms m) n ≡ (has_name ms n || pointwise ◌==◌ n m)
+pub has_put : (ms : List Name) (m n : Name) → has_name (put_name ms m) n ≡ (has_name ms n || pointwise ◌==◌ n m)
 has_put ms m n = by (has_name ms m) refl
   where
     there : (b : Bool) → pointwise ◌==◌ n m ≡ b → has_name ms m ≡ true → has_name ms n ≡ (has_name ms n || b)
