@@ -12,7 +12,7 @@ use Rattle.wac_types_base.specs.Collection.{Shape, interface}
 use Rattle.wac_types_base.specs.Stated.{Stated, row, folded_row, with_names, names, filled, Used, names_used, used_places, interface_of, Kind, IsFunction, IsInstance, IsComponent, IsModule, IsValue, IsResource, IsFunctionType, IsValueType, IsInterface, IsWorld, IsModuleType, kind_of, as_type, uses_from, only_places, parts_at, exports_of, uses_of, identifier_of, is_interface}
 use Rattle.wac_types_base.specs.Tree.{tree}
 use Rattle.wac_types_fit.proofs.TreeLaws.{Fits-refl}
-use Rattle.wac_composition.specs.Classes.{is_instance}
+use Rattle.wac_composition.specs.Classes.{is_instance_kind}
 use Rattle.wac_composition.specs.Tests.{fits}
 use Rattle.wac_composition.specs.Merging.{is_plain, is_wit, Merge, both, merged_with, merged_exports, has_use, merged_interface, rebuilt, if_kind, merge_at, merge, Asked, narrower, in_family, kept_from, kept}
 use Rattle.wac_composition.specs.Again.{IsWell, well_instance, well_interface, no_interface, Asking_twice}
@@ -65,8 +65,8 @@ module _ (i : Option Name) (us : List Used) (es : List (Name × Stated)) where
   interface_merge y = λ j.
       option_map (λ xs. interface_of i (first_uses us (filled es) j ++ more_uses (first_uses us (filled es) j) y) (xs ++ filter (λ (f : Name × Stated). is_none (value_at (parts_exports j) f.0)) (exports_of y))) (merged_exports (parts_exports j) (exports_of y))
 
-  pub merge_made : (y : Stated) → merge (interface_of i us es) y ≡ if_kind (is_instance (kind_of y)) (merged_of i us es y)
-  merge_made y = ap (if_kind (is_instance (kind_of y))) (interface_merge y)
+  pub merge_made : (y : Stated) → merge (interface_of i us es) y ≡ if_kind (is_instance_kind (kind_of y)) (merged_of i us es y)
+  merge_made y = ap (if_kind (is_instance_kind (kind_of y))) (interface_merge y)
 
   pub merge_typed : (y : Stated) → merge (as_type (interface_of i us es)) y ≡ if_kind (is_interface (kind_of y)) (option_map as_type (merged_of i us es y))
   merge_typed y = ap (λ o. if_kind (is_interface (kind_of y)) (option_map as_type o)) (interface_merge y)
@@ -75,7 +75,7 @@ module _ (i : Option Name) (us : List Used) (es : List (Name × Stated)) where
 rebuilt_same : (s : Shape) (ts : Wholes Shape) → rebuilt s (folded_row merge_at ts) ≡ node s ts
 rebuilt_same s ts = ap (λ os. node s (row os)) (folded_firsts merge_at ts) ∙ ap (node s) (row_again ts)
 
-pub merge_other : (x y : Stated) → is_instance (kind_of x) ≡ false → is_interface (kind_of x) ≡ false → merge x y ≡ if_kind (fits x y && fits y x) (Some x)
+pub merge_other : (x y : Stated) → is_instance_kind (kind_of x) ≡ false → is_interface (kind_of x) ≡ false → merge x y ≡ if_kind (fits x y && fits y x) (Some x)
 merge_other (node s ts) y g h = merge_flat (folded_row merge_at ts) s y g h ∙ ap (λ x. if_kind (fits x y && fits y x) (Some x)) (rebuilt_same s ts)
 
 -- ---- merged exports by their names
@@ -198,8 +198,8 @@ has_both us y u m = go (has_use us u.name) refl
 
 -- the one has what the other has, name by name
 data Holds : Stated → Stated → Type 0 where
-  of_equal : {w a : Stated} → is_instance (kind_of w) ≡ false → is_interface (kind_of w) ≡ false → (fits w a && fits a w) ≡ true → Holds w a
-  of_instances : {w a : Stated} → is_instance (kind_of w) ≡ true → is_instance (kind_of a) ≡ true → ((u : Used) → Among u (uses_of a) → has_use (uses_of w) u.name ≡ true)
+  of_equal : {w a : Stated} → is_instance_kind (kind_of w) ≡ false → is_interface (kind_of w) ≡ false → (fits w a && fits a w) ≡ true → Holds w a
+  of_instances : {w a : Stated} → is_instance_kind (kind_of w) ≡ true → is_instance_kind (kind_of a) ≡ true → ((u : Used) → Among u (uses_of a) → has_use (uses_of w) u.name ≡ true)
       → ((n : Name) (y : Stated) → value_at (exports_of a) n ≡ Some y → is_none (value_at (exports_of w) n) ≡ false)
       → ((n : Name) (x y : Stated) → value_at (exports_of w) n ≡ Some x → value_at (exports_of a) n ≡ Some y → Holds x y) → Holds w a
   of_interfaces : {w a : Stated} → is_interface (kind_of w) ≡ true → is_interface (kind_of a) ≡ true → ((u : Used) → Among u (uses_of a) → has_use (uses_of w) u.name ≡ true)
@@ -215,7 +215,7 @@ Names_all w a = (n : Name) (y : Stated) → value_at (exports_of a) n ≡ Some y
 abbrev Exports_hold : Stated → Stated → Type 0
 Exports_hold w a = (n : Name) (x y : Stated) → value_at (exports_of w) n ≡ Some x → value_at (exports_of a) n ≡ Some y → Holds x y
 
-pub no_both : (k : Kind) → is_instance k ≡ true → is_interface k ≡ true → ⊥
+pub no_both : (k : Kind) → is_instance_kind k ≡ true → is_interface k ≡ true → ⊥
 no_both IsInstance a b = true≢false (sym b)
 no_both IsFunction a b = true≢false (sym a)
 no_both IsComponent a b = true≢false (sym a)
@@ -251,7 +251,7 @@ holds_merge w a (well_instance e d each) (of_instances g h u n f) =
     let i = identifier_of w in
     ap (λ x. merge x a) e ∙ merge_made i (uses_of w) (exports_of w) a ∙ ap (λ b. if_kind b (merged_of i (uses_of w) (exports_of w) a)) h
     ∙ same_again w a d u n (λ m x y p q. holds_merge x y (each m x (value_among (exports_of w) m x p)) (f m x y p q)) ∙ ap Some (sym e)
-holds_merge w a (well_interface e d each) (of_instances g h u n f) = absurd (true≢false (sym g ∙ ap (λ x. is_instance (kind_of x)) e))
+holds_merge w a (well_interface e d each) (of_instances g h u n f) = absurd (true≢false (sym g ∙ ap (λ x. is_instance_kind (kind_of x)) e))
 holds_merge w a (no_interface b c) (of_instances g h u n f) = absurd (true≢false (sym g ∙ b))
 holds_merge w a (well_interface e d each) (of_interfaces g h u n f) =
     let i = identifier_of w in
@@ -271,7 +271,7 @@ there_is es n x e = ap is_none e
 holds_itself : (x : Stated) → IsWell x → Holds x x
 holds_itself x (no_interface g h) = of_equal g h (equal_itself x)
 holds_itself x (well_instance e d each) =
-    let k : is_instance (kind_of x) ≡ true = ap (λ w. is_instance (kind_of w)) e in
+    let k : is_instance_kind (kind_of x) ≡ true = ap (λ w. is_instance_kind (kind_of w)) e in
     of_instances k k (λ u m. has_own (uses_of x) u m) (λ n y q. there_is (exports_of x) n y q)
     (λ n y z p q. subst (Holds y) (same_Some _ _ (sym p ∙ q)) (holds_itself y (each n y (value_among (exports_of x) n y p))))
 holds_itself x (well_interface e d each) =
@@ -414,7 +414,7 @@ module _ (w b : Stated) (dw : AreDistinct (names_of (exports_of w))) (db : AreDi
     old_exports : Exports_hold made a
     old_exports n x y p v = old_holds a g f n x y (ap (λ l. value_at l n) (sym exports_are) ∙ p) v
 
-  instance_keeps : is_instance (kind_of w) ≡ true → (a : Stated) → Holds w a → Holds made a
+  instance_keeps : is_instance_kind (kind_of w) ≡ true → (a : Stated) → Holds w a → Holds made a
   instance_keeps k a (of_equal g h e) = absurd (true≢false (sym k ∙ g))
   instance_keeps k a (of_instances g h u n f) = of_instances refl h (old_uses a u n f) (old_names a u n f) (old_exports a u n f)
   instance_keeps k a (of_interfaces g h u n f) = absurd (no_both (kind_of w) k g)
@@ -424,13 +424,13 @@ module _ (w b : Stated) (dw : AreDistinct (names_of (exports_of w))) (db : AreDi
   interface_keeps k a (of_interfaces g h u n f) = of_interfaces refl h (old_uses a u n f) (old_names a u n f) (old_exports a u n f)
   interface_keeps k a (of_instances g h u n f) = absurd (no_both (kind_of w) g k)
 
-  instances_merge : is_instance (kind_of w) ≡ true → is_instance (kind_of b) ≡ true → Merges w b made
+  instances_merge : is_instance_kind (kind_of w) ≡ true → is_instance_kind (kind_of b) ≡ true → Merges w b made
   instances_merge k h = record { well = well_instance made_is made_distinct made_well; new = of_instances refl h new_uses new_names new_exports; old = instance_keeps k }
 
   interfaces_merge : is_interface (kind_of w) ≡ true → is_interface (kind_of b) ≡ true → Merges w b (as_type made)
   interfaces_merge k h = record { well = well_interface (ap as_type made_is) made_distinct made_well; new = of_interfaces refl h new_uses new_names new_exports; old = interface_keeps k }
 
-pub entries_of : (b : Stated) → (is_instance (kind_of b) ≡ true) ⊎ (is_interface (kind_of b) ≡ true) → IsWell b → AreDistinct (names_of (exports_of b)) × WellEntries b
+pub entries_of : (b : Stated) → (is_instance_kind (kind_of b) ≡ true) ⊎ (is_interface (kind_of b) ≡ true) → IsWell b → AreDistinct (names_of (exports_of b)) × WellEntries b
 entries_of b k (well_instance e d h) = (d, h)
 entries_of b k (well_interface e d h) = (d, h)
 entries_of b (inl k) (no_interface g h) = absurd (true≢false (sym k ∙ g))
@@ -441,10 +441,10 @@ merge_step w (no_interface g h) b v z m =
     let i = if_is (fits w b && fits b w) (Some w) z (sym (merge_other w b g h) ∙ m) in
     subst (Merges w b) (same_Some _ _ i.1) (record { well = no_interface g h; new = of_equal g h i.0; old = λ a o. o })
 merge_step w (well_instance e d each) b v z m =
-    let i = if_is (is_instance (kind_of b)) (merged_of (identifier_of w) (uses_of w) (exports_of w) b) z (sym (merge_made (identifier_of w) (uses_of w) (exports_of w) b) ∙ ap (λ x. merge x b) (sym e) ∙ m) in
+    let i = if_is (is_instance_kind (kind_of b)) (merged_of (identifier_of w) (uses_of w) (exports_of w) b) z (sym (merge_made (identifier_of w) (uses_of w) (exports_of w) b) ∙ ap (λ x. merge x b) (sym e) ∙ m) in
     let r = mapped-some (λ xs. interface_of (identifier_of w) (uses_of w ++ more_uses (uses_of w) b) (xs ++ more_exports (exports_of w) b)) (merged_exports (merging (exports_of w)) (exports_of b)) z i.1 in
     let y = entries_of b (inl i.0) v in
-    subst (Merges w b) r.2 (instances_merge w b d y.0 each y.1 (λ n x u t k l q. merge_step x (each n x k) u (y.1 n u l) t q) r.0 r.1 (ap (λ x. is_instance (kind_of x)) e) i.0)
+    subst (Merges w b) r.2 (instances_merge w b d y.0 each y.1 (λ n x u t k l q. merge_step x (each n x k) u (y.1 n u l) t q) r.0 r.1 (ap (λ x. is_instance_kind (kind_of x)) e) i.0)
 merge_step w (well_interface e d each) b v z m =
     let i = if_is (is_interface (kind_of b)) (option_map as_type (merged_of (identifier_of w) (uses_of w) (exports_of w) b)) z (sym (merge_typed (identifier_of w) (uses_of w) (exports_of w) b) ∙ ap (λ x. merge x b) (sym e) ∙ m) in
     let t = mapped-some as_type (merged_of (identifier_of w) (uses_of w) (exports_of w) b) z i.1 in

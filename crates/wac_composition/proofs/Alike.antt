@@ -1,16 +1,16 @@
 -- The order of arguments does not matter.
-use Rattle.std.specs.Prelude.{cond, not, filter, is_some, map, option_map, if◌then◌else◌}
+use Rattle.std.specs.Prelude.{not, filter, is_some, map, option_map, if◌then◌else◌}
 use Rattle.std.specs.List.{list_any, flat_map}
 use Rattle.std.proofs.Common.{◌≡◌, List, [], ◌∷◌, ◌++◌, Bool, true, false, None, refl, ap, ◌∙◌}
-use Rattle.wac_types_base.specs.Entries.{Name, names_of}
-use Rattle.wac_types_base.specs.Stated.{Stated, imports_of, world_of}
-use Rattle.wac_types_names.specs.Keys.{Key}
+use Rattle.wac_types_base.specs.Entries.{names_of}
+use Rattle.wac_types_base.specs.Stated.{imports_of, world_of}
+use Rattle.wac_types_names.specs.Keys.{Key, same_key}
 use Rattle.wac_composition.specs.Composition.{Made, Composition}
-use Rattle.wac_composition.specs.Asks.{ToFill, Ask, used_by, used_by_definition, explicit_ask, filled_asks, asked_for, named_asks, asks_of}
+use Rattle.wac_composition.specs.Asks.{ToFill, used_by, used_by_definition, explicit_ask, filled_asks, asked_for, named_asks, asks_of}
 use Rattle.wac_composition.specs.Classes.{spelling}
 use Rattle.wac_composition.specs.OuterImports.{outer_imports}
 use Rattle.std.specs.Option.{option_or}
-use Rattle.wac_composition.specs.Conflicts.{ImportNames, ExportNames, first_found, dependency_name, same_key, each_once, dependencies_of, implicit_conflict, merge_conflict, circle_cause, cause_at, placed, late_unwritable, written_forms, outers_written, unwritable_cause, first_cause, twins, alike, name_cause}
+use Rattle.wac_composition.specs.Conflicts.{ImportNames, ExportNames, first_found, dependency_name, each_once, dependencies_of, implicit_conflict, merge_conflict, circle_cause, cause_at, placed, late_unwritable, written_forms, outers_written, unwritable_cause, first_cause, twins, alike, name_cause}
 use Rattle.wac_composition.specs.Writable.{outer_unwritable, definition_unwritable, package_unwritable, alias_unwritable}
 use Rattle.wac_composition.specs.Circles.{written_inside}
 use Rattle.wac_types_written.specs.Written.{without_uses}

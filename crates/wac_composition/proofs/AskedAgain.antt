@@ -16,9 +16,10 @@ use Rattle.wac_types_base.proofs.Lists.{among_mapped}
 use Rattle.wac_types_names.specs.Tracks.{before_at, version_of}
 use Rattle.wac_types_names.specs.Versions.{version_cmp}
 use Rattle.wac_types_names.proofs.VersionOrder.{greater_trans, not_above_self}
-use Rattle.wac_composition.specs.Names.{track_number, numbers_agree, tracks_agree, same_track, compatible, is_greater, later_version, is_later, greatest, is_interface_name}
+use Rattle.wac_composition.specs.Names.{track_number, numbers_agree, tracks_agree, same_track, compatible, is_greater, later_version, is_later, greatest}
+use Rattle.wac_types_names.specs.InterfaceNames.{is_interface_name}
 use Rattle.wac_composition.specs.Asks.{Ask}
-use Rattle.wac_composition.specs.Classes.{is_instance, same_text, identifier_asked, joined, class, Linked, itself, joined_to, spelled, spelling}
+use Rattle.wac_composition.specs.Classes.{same_text, identifier_asked, class, Linked, itself, joined_to, spelled, spelling, is_instance_kind, akin}
 use Rattle.wac_composition.specs.Merging.{Asked, kept}
 use Rattle.wac_composition.specs.OuterImports.{asked_in}
 use Rattle.wac_composition.specs.Again.{IsWell, KeepsClasses, Asked_again}
@@ -182,9 +183,9 @@ module _ {A : Type 0} where
       (λ p k. let r = mapped_among pair_in xs p k in subst (λ (q : Asked). IsWell q.1) (sym r.2) (v r.0 r.1))
       ∙ ap kept (sym (map-append pair_in xs ys))
 
-  class_filter : (asks : List (Ask A)) (c : Ask A) → Among c asks → class asks c ≡ filter (λ d. list_any (joined d) (class asks c)) asks
+  class_filter : (asks : List (Ask A)) (c : Ask A) → Among c asks → class asks c ≡ filter (λ d. list_any (akin d) (class asks c)) asks
   class_filter asks c there =
-      class_is asks c ∙ sym (closed joined asks joined_itself turned c there) ∙ ap (λ ms. filter (λ d. list_any (joined d) ms) asks) (sym (class_is asks c))
+      class_is asks c ∙ sym (closed akin asks joined_itself turned c there) ∙ ap (λ ms. filter (λ d. list_any (akin d) ms) asks) (sym (class_is asks c))
 
   module _ (before after : List (Ask A)) (a b : Ask A) (there : Among b before) (names : b.name ≡ a.name) (items : b.item ≡ a.item) where
     abbrev pub asks : List (Ask A)
@@ -194,14 +195,14 @@ module _ {A : Type 0} where
     more = before ++ a ∷ after
 
     same_asked : identifier_asked b ≡ identifier_asked a
-    same_asked = λ j. if is_instance (kind_of (items j)) && is_interface_name (names j) then identifier_of (items j) else None
+    same_asked = λ j. if is_instance_kind (kind_of (items j)) && is_interface_name (names j) then identifier_of (items j) else None
 
-    joined_twin : (d : Ask A) → joined d a ≡ true → joined d b ≡ true
+    joined_twin : (d : Ask A) → akin d a ≡ true → akin d b ≡ true
     joined_twin d e = (λ j. compatible d.name (names j) || same_text (identifier_asked d) (same_asked j)) ∙ e
 
     module _ (c : Ask A) (own : Among c asks) where
       abbrev pub P : Ask A → Bool
-      P d = list_any (joined d) (class asks c)
+      P d = list_any (akin d) (class asks c)
 
       passes_twin : P b ≡ P a
       passes_twin = λ j. list_any (λ x. compatible (names j) x.name || same_text (same_asked j) (identifier_asked x)) (class asks c)
@@ -209,16 +210,16 @@ module _ {A : Type 0} where
       in_class : (d : Ask A) → Among d asks → P d ≡ true → Among d (class asks c)
       in_class d m p = subst (Among d) (sym (class_filter asks c own)) (among_filter P asks d m p)
 
-      spread : (e d : Ask A) → Among e more → P e ≡ true → joined d e ≡ true → P d ≡ true
+      spread : (e d : Ask A) → Among e more → P e ≡ true → akin d e ≡ true → P d ≡ true
       spread e d m p j = elim (among_fewer before after a e m) [
-        | inl k ↦ among_any (joined d) (class asks c) e (in_class e k p) j
+        | inl k ↦ among_any (akin d) (class asks c) e (in_class e k p) j
         | inr q ↦
             let p_twin : P b ≡ true = passes_twin ∙ ap P (sym q) ∙ p in
-            among_any (joined d) (class asks c) b (in_class b (among_first before after b there) p_twin) (joined_twin d (subst (λ x. joined d x ≡ true) q j))
+            among_any (akin d) (class asks c) b (in_class b (among_first before after b there) p_twin) (joined_twin d (subst (λ x. akin d x ≡ true) q j))
       ]
 
       linked_passes : (d : Ask A) → Linked more c d → Among d more × (P d ≡ true)
-      linked_passes d itself = (among_more before after a c own, among_any (joined c) (class asks c) c (class_itself asks c own) (joined_itself c))
+      linked_passes d itself = (among_more before after a c own, among_any (akin c) (class asks c) c (class_itself asks c own) (joined_itself c))
       linked_passes f (joined_to e d l n j) = let r = linked_passes e l in (n, spread e d r.0 r.1 j)
 
       more_linked : (d : Ask A) → Linked asks c d → Linked more c d
@@ -229,12 +230,12 @@ module _ {A : Type 0} where
       own_more = among_more before after a c own
 
       class_more : class more c ≡ filter P more
-      class_more = class_filter more c own_more ∙ filter_same (λ d. list_any (joined d) (class more c)) P more
-          (λ d m e. let x = any_among (joined d) (class more c) e in
+      class_more = class_filter more c own_more ∙ filter_same (λ d. list_any (akin d) (class more c)) P more
+          (λ d m e. let x = any_among (akin d) (class more c) e in
           let l = linked_passes x.0 (in_class_linked more c x.0 own_more x.1) in
           spread x.0 d l.0 l.1 x.2)
-          (λ d m e. let x = any_among (joined d) (class asks c) e in
-          among_any (joined d) (class more c) x.0 (linked_in_class more c x.0 own_more (more_linked x.0 (in_class_linked asks c x.0 own x.1))) x.2)
+          (λ d m e. let x = any_among (akin d) (class asks c) e in
+          among_any (akin d) (class more c) x.0 (linked_in_class more c x.0 own_more (more_linked x.0 (in_class_linked asks c x.0 own x.1))) x.2)
 
       pub parts_asks : class asks c ≡ filter P before ++ filter P after
       parts_asks = class_filter asks c own ∙ filter_append P before after

@@ -18,7 +18,7 @@ use Rattle.wac_nesting.specs.Given.{HasNone, HasTree, IsDefinition, Gives, Provi
 use Rattle.wac_nesting.proofs.Given.{project_tree}
 use Rattle.wac_composition.specs.Composition.{Origin, imported, projected, defined, Placed, Made, Composition}
 use Rattle.wac_composition.specs.Asks.{ToFill, Ask, explicit_ask, filled_asks, named_asks, asks_of}
-use Rattle.wac_composition.specs.Classes.{is_instance, spelling}
+use Rattle.wac_composition.specs.Classes.{spelling, is_instance_kind}
 use Rattle.wac_composition.specs.OuterImports.{outer_imports}
 use Rattle.wac_types_written.specs.Written.{bare_world, formed_at, is_type, found_in, written_definition}
 use Rattle.wac_composition.specs.Worlds.{then_in, final_type, source_of, exported_type, world_exports, used_world, composed_world}
@@ -113,7 +113,7 @@ made_maps i is es = made_world i is es ∙ (λ j. Tree.component (fields_of (sym
 same_maps : {is es js fs : Fields} → Tree.component is es ≡ Tree.component js fs → (is ≡ js) × (es ≡ fs)
 same_maps e = (cc, cc)
 
-no_type : (k : Kind) → is_instance k ≡ true → is_type k ≡ true → ⊥
+no_type : (k : Kind) → is_instance_kind k ≡ true → is_type k ≡ true → ⊥
 no_type Kind.IsFunction a b = true≢false (sym a)
 no_type Kind.IsInstance a b = true≢false (sym b)
 no_type Kind.IsComponent a b = true≢false (sym a)
@@ -127,7 +127,7 @@ no_type Kind.IsWorld a b = true≢false (sym a)
 no_type Kind.IsModuleType a b = true≢false (sym a)
 
 -- an instance that is straight
-straight_instance : (x : Stated) (xs : Fields) → IsStraight x → tree x ≡ Tree.instance xs → (is_instance (kind_of x) ≡ true) × ((n : Name) (y : Stated) → Among (n, y) (exports_of x) → IsStraight y)
+straight_instance : (x : Stated) (xs : Fields) → IsStraight x → tree x ≡ Tree.instance xs → (is_instance_kind (kind_of x) ≡ true) × ((n : Name) (y : Stated) → Among (n, y) (exports_of x) → IsStraight y)
 straight_instance x xs (an_instance e h) q = (e, h)
 straight_instance x xs (no_instance f) q = absurd (f xs q)
 
@@ -203,7 +203,7 @@ module _ {A : Type 0} (tag_of : Key → Tag) (c : Composition A ℕ) (met : AreM
   }
 
   -- what is no definition is given as it is
-  given_same : (o : Origin ℕ) (x : Stated) → HasType c o x → is_instance (kind_of x) ≡ true → given_as o x ≡ x
+  given_same : (o : Origin ℕ) (x : Stated) → HasType c o x → is_instance_kind (kind_of x) ≡ true → given_as o x ≡ x
   given_same o x (of_import i m) k = refl
   given_same o x (of_instance j m e) k = refl
   given_same o x (of_export p y n z h i e) k = refl
@@ -219,7 +219,7 @@ module _ {A : Type 0} (tag_of : Key → Tag) (c : Composition A ℕ) (met : AreM
 
   -- of an instance that comes from an import
   final_export : (o : Origin ℕ) (x item : Stated) (n : Name) (y : Stated) → HasTree outs (IsMade c) (source_of asks o) (tree item) → Fits (tree item) (tree x) → IsStraight item → final_type asks o ≡ Some item
-      → is_instance (kind_of x) ≡ true → value_at (exports_of x) n ≡ Some y → Export o x item n y
+      → is_instance_kind (kind_of x) ≡ true → value_at (exports_of x) n ≡ Some y → Export o x item n y
   final_export o x item n y has f s q k e =
       let i = fits_instance (tree item) (fields_of (exports_of x)) (subst (Fits (tree item)) (instance_tree x k) f) in
       let t = straight_instance item i.0 s i.1 in
@@ -237,7 +237,7 @@ module _ {A : Type 0} (tag_of : Key → Tag) (c : Composition A ℕ) (met : AreM
 
   -- of an instance of the composition
   made_export : (o : Origin ℕ) (x item : Stated) (n : Name) (y : Stated) → HasTree outs (IsMade c) (source_of asks o) (tree item) → final_type asks o ≡ None → x ≡ item
-      → is_instance (kind_of x) ≡ true → value_at (exports_of x) n ≡ Some y → Export o x item n y
+      → is_instance_kind (kind_of x) ≡ true → value_at (exports_of x) n ≡ Some y → Export o x item n y
   made_export o x item n y has q same k e = record {
     one = y;
     has = project_tree outs (IsMade c) (source_of asks o) (fields_of (exports_of x)) n (tree y) (subst (HasTree outs (IsMade c) (source_of asks o)) (ap tree (sym same) ∙ instance_tree x k) has) (has_field (exports_of x) n y e);
@@ -246,7 +246,7 @@ module _ {A : Type 0} (tag_of : Key → Tag) (c : Composition A ℕ) (met : AreM
     straight = λ r. absurd (none-some _ (sym (ap (λ p. then_in p n) q) ∙ r));
   }
 
-  exported_stands : (o : Origin ℕ) (x : Stated) (n : Name) (y : Stated) → HasType c o x → Stands o x → is_instance (kind_of x) ≡ true → value_at (exports_of x) n ≡ Some y → Stands (projected o n) y
+  exported_stands : (o : Origin ℕ) (x : Stated) (n : Name) (y : Stated) → HasType c o x → Stands o x → is_instance_kind (kind_of x) ≡ true → value_at (exports_of x) n ≡ Some y → Stands (projected o n) y
   exported_stands o x n y h s k e = done (go (final_type asks o) refl)
     where
       fit : Fits (tree s.item) (tree x)

@@ -13,7 +13,7 @@ use Rattle.wac_types_fit.specs.Ordered.{AllInOrder}
 use Rattle.wac_types_fit.specs.Meets.{FitsAll, Clash}
 use Rattle.wac_types_fit.proofs.Looking.{looked-has, has-looked, in_order-at, given}
 use Rattle.wac_types_fit.proofs.Meeting.{FitsAll-left, FitsAll-right, mapped-some}
-use Rattle.wac_composition.specs.Classes.{is_instance}
+use Rattle.wac_composition.specs.Classes.{is_instance_kind}
 use Rattle.wac_composition.specs.Tests.{fits}
 use Rattle.wac_composition.specs.Merging.{Merge, both, merged_with, merged_exports, has_use, merged_interface, rebuilt, if_kind, same_tree_as, merge_at, merge, Asked, narrower, in_family, kept_from, kept}
 use Rattle.wac_composition.specs.Regular.{IsFlat, IsFlatItem, Regular, flat, an_instance, an_interface, AreRegular}
@@ -66,7 +66,7 @@ item_same (core_module is es) u f h = absurd f
 -- ---- what is compared as it is
 
 module _ (os : List (Option (Stated × Merge))) where
-  pub merge_flat : (s : Shape) (y : Stated) → is_instance (shape_kind s) ≡ false → is_interface (shape_kind s) ≡ false → merge_at s os y ≡ same_tree_as (rebuilt s os) y
+  pub merge_flat : (s : Shape) (y : Stated) → is_instance_kind (shape_kind s) ≡ false → is_interface (shape_kind s) ≡ false → merge_at s os y ≡ same_tree_as (rebuilt s os) y
   merge_flat (primitive p) y g h = refl
   merge_flat tuple y g h = refl
   merge_flat list y g h = refl
@@ -151,7 +151,7 @@ instances_clash xs ys n x y a b c t o (instance_fits {xs = ws} f) (instance_fits
 types_clash : (t u : Tree) → Clash t u → Clash (type_item t) (type_item u)
 types_clash t u c w o (type_fits {t = v} f) (type_fits g) = c v o f g
 
-not_given : (xs : Fields) (y : Stated) → Regular y → is_instance (kind_of y) ≡ false → Clash (instance xs) (tree y)
+not_given : (xs : Fields) (y : Stated) → Regular y → is_instance_kind (kind_of y) ≡ false → Clash (instance xs) (tree y)
 not_given xs y (flat a b f) e t o (instance_fits {xs = ws} h) g = instance_item (tree y) ws f g
 not_given xs y (an_instance a d r) e t o h g = absurd (true≢false (sym a ∙ e))
 not_given xs y (an_interface a d r) e t o (instance_fits {xs = ws} h) g = no ws (fields_of (exports_of y)) (subst (Fits (instance ws)) (item_tree y a) g)
@@ -251,7 +251,7 @@ drop_clashes (u ∷ us) (Some x ∷ os) h = drop_clashes us os h.1
 abbrev EachRegular : Stated → Type 0
 EachRegular x = AreDistinct (names_of (exports_of x)) × ((n : Name) (y : Stated) → value_at (exports_of x) n ≡ Some y → Regular y)
 
-instance_regular : (y : Stated) → is_instance (kind_of y) ≡ true → Regular y → EachRegular y
+instance_regular : (y : Stated) → is_instance_kind (kind_of y) ≡ true → Regular y → EachRegular y
 instance_regular y e (an_instance a d k) = (d, k)
 instance_regular y e (flat a b f) = absurd (true≢false (sym e ∙ a))
 instance_regular y e (an_interface a d k) = (d, k)
@@ -276,12 +276,12 @@ maps_clash i us es ts y h r q e =
     instances_clash (exports_at (interface i us es) os) (exports_of y) l.name l.first l.second (ap (λ xs. value_at xs l.name) same ∙ own) l.there (l.clash (r.1 l.name l.first own) (q.1 l.name l.second l.there))
 
 merge_at_clashes : (s : Shape) (ts : Wholes Shape) → RowClashes (folded_row merge_at ts) → ClashesBoth (node s ts) (merge_at s (folded_row merge_at ts))
-merge_at_clashes (interface i us es) ts h r y q e = go (is_instance (kind_of y)) refl e
+merge_at_clashes (interface i us es) ts h r y q e = go (is_instance_kind (kind_of y)) refl e
   where
     own : tree (node (interface i us es) ts) ≡ instance (fields_of (exports_at (interface i us es) (folded_row merge_at ts)))
     own = interface_tree i us es (folded_row merge_at ts) ts (folded_firsts merge_at ts)
 
-    go : (b : Bool) → is_instance (kind_of y) ≡ b → if_kind b (merged_interface (parts_at (interface i us es) (folded_row merge_at ts)) y) ≡ None → Clash (tree (node (interface i us es) ts)) (tree y)
+    go : (b : Bool) → is_instance_kind (kind_of y) ≡ b → if_kind b (merged_interface (parts_at (interface i us es) (folded_row merge_at ts)) y) ≡ None → Clash (tree (node (interface i us es) ts)) (tree y)
     go true k e = clash_along own (instance_tree y k) (maps_clash i us es ts y h (instance_regular (node (interface i us es) ts) refl r) (instance_regular y k q) e)
     go false k e = clash_along own refl (not_given (fields_of (exports_at (interface i us es) (folded_row merge_at ts))) y q k)
 merge_at_clashes (type_of (interface i us es)) ts h r y q e = go (is_interface (kind_of y)) refl e
@@ -399,7 +399,7 @@ module _ (i : Option Name) (us : List (Name × Option Name)) (es : List Name) (t
   rest = filter (λ (f : Name × Stated). is_none (value_at p.exports f.0)) (exports_of y)
 
   abbrev Is : Stated → Type 0
-  Is z = (is_instance (kind_of z) ≡ true) × (is_interface (kind_of (as_type z)) ≡ true) × EachRegular z × EachRegular (as_type z)
+  Is z = (is_instance_kind (kind_of z) ≡ true) × (is_interface (kind_of (as_type z)) ≡ true) × EachRegular z × EachRegular (as_type z)
 
   module _ (h : AllRegular p.exports) (r : EachRegular (node (interface i us es) ts)) (q : EachRegular y) (xs : List (Name × Stated)) (e : merged_exports p.exports (exports_of y) ≡ Some xs) where
     own : (n : Name) (x : Stated) → Among (n, x) (first_parts p.exports) → Regular x
@@ -463,7 +463,7 @@ same_regular s ts y z r e =
 
 merge_at_regular : (s : Shape) (ts : Wholes Shape) → RowRegular (folded_row merge_at ts) → RegularBoth (node s ts) (merge_at s (folded_row merge_at ts))
 merge_at_regular (interface i us es) ts h r y q z e =
-    let b = if_is (is_instance (kind_of y)) (merged_interface (parts_at (interface i us es) (folded_row merge_at ts)) y) z e in
+    let b = if_is (is_instance_kind (kind_of y)) (merged_interface (parts_at (interface i us es) (folded_row merge_at ts)) y) z e in
     let w = interface_each i us es ts y z (names_regular es (drop (length us) (folded_row merge_at ts)) (drop_regular us (folded_row merge_at ts) h)) (instance_regular (node (interface i us es) ts) refl r) (instance_regular y b.0 q) b.1 in
     an_instance w.0 w.2.0 w.2.1
 merge_at_regular (type_of (interface i us es)) ts h r y q z e =

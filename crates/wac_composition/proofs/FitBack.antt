@@ -12,7 +12,7 @@ use Rattle.wac_types_base.specs.Fits.{HasField, at_first, at_later, Covers, Fits
 use Rattle.wac_types_fit.specs.Ordered.{IsBelow, InOrder, AllInOrder}
 use Rattle.wac_types_fit.proofs.Looking.{cmp_refl, in_order-at, above}
 use Rattle.wac_types_fit.proofs.Ordering.{tree_in_order}
-use Rattle.wac_composition.specs.Tests.{same_core_import, same_core_export, field_is, passes, gives_all, is_given, covers, fit, tests, fits}
+use Rattle.wac_composition.specs.Tests.{same_core_import, same_core_export, field_is, passes, gives_all, covers, fit, tests, fits, are_given}
 use Rattle.wac_composition.proofs.TestLaws.{Tells, trees_tell, imports_tell, exports_tell}
 use Rattle.wac_composition.proofs.Closures.{among_any}
 use Rattle.wac_composition.proofs.FitLaws.{fits_is}
@@ -62,7 +62,7 @@ field_found p n x (field m t ys) o (at_later q) e = by (bytes_eq n m) refl (fiel
     by false d r = r
 field_found p n x no_fields o q e = elim q [ ]
 
-given_back : (xs ys : Fields) → AllInOrder xs → AllInOrder ys → EachSays xs → FieldsFit ys xs → is_given (tests xs) ys ≡ true
+given_back : (xs ys : Fields) → AllInOrder xs → AllInOrder ys → EachSays xs → FieldsFit ys xs → are_given (tests xs) ys ≡ true
 given_back no_fields ys a b h none_asked = refl
 given_back (field n t xs) ys a b h (one_asked {t = u} q f r) =
     both_true (field_found (fit t false) n u ys b q (h.0 false u a.1 (in_order-at n u ys b q) f)) (given_back xs ys a.2 b h.1 r)

@@ -9,7 +9,7 @@ use Rattle.wac_types_base.specs.Entries.{Name, value_at}
 use Rattle.wac_types_base.specs.Graph.{Among}
 use Rattle.wac_types_base.specs.Tree.{Tree, rigid, instance, component, core_module, handle_own, handle_borrow, type_item, Fields, no_fields, field}
 use Rattle.wac_types_base.specs.Fits.{HasField, at_first, at_later, Covers, Fits, rigid_fits, own_fits, borrow_fits, instance_fits, component_fits, module_fits, type_fits, FieldsFit, none_asked, one_asked}
-use Rattle.wac_composition.specs.Tests.{same_core_import, same_core_export, field_is, passes, gives_all, is_given, covers, fit, tests}
+use Rattle.wac_composition.specs.Tests.{same_core_import, same_core_export, field_is, passes, gives_all, covers, fit, tests, are_given}
 use Rattle.wac_composition.proofs.TestLaws.{Tells, trees_tell, imports_tell, exports_tell}
 use Rattle.wac_names.proofs.NameKinds.{or_parts}
 
@@ -70,10 +70,10 @@ field_look : (p : Tree → Bool) (n : Name) (ys : Fields) → field_is p n ys �
 field_look p n no_fields e = absurd (cc e)
 field_look p n (field m t ys) e = field_by p n m t ys (bytes_eq n m) (field_look p n ys) refl e
 
-given : (xs ys : Fields) → EachTold xs → is_given (tests xs) ys ≡ true → FieldsFit ys xs
+given : (xs ys : Fields) → EachTold xs → are_given (tests xs) ys ≡ true → FieldsFit ys xs
 given no_fields ys h e = none_asked
 given (field n t xs) ys h e =
-    let f = and_parts (field_is (fit t false) n ys) (is_given (tests xs) ys) e in
+    let f = and_parts (field_is (fit t false) n ys) (are_given (tests xs) ys) e in
     let l = field_look (fit t false) n ys f.0 in
     one_asked l.1 (h.0 false l.0 l.2) (given xs ys h.1 f.1)
 
@@ -90,10 +90,10 @@ mutual
   told (instance xs) true (instance ys) e = instance_fits (gives xs ys (each_told xs) e)
   told (instance xs) false (instance ys) e = instance_fits (given xs ys (each_told xs) e)
   told (component is es) true (component js fs) e =
-      let f = and_parts (is_given (tests is) js) (gives_all (tests es) fs) e in
+      let f = and_parts (are_given (tests is) js) (gives_all (tests es) fs) e in
       component_fits (given is js (each_told is) f.0) (gives es fs (each_told es) f.1)
   told (component is es) false (component js fs) e =
-      let f = and_parts (gives_all (tests is) js) (is_given (tests es) fs) e in
+      let f = and_parts (gives_all (tests is) js) (are_given (tests es) fs) e in
       component_fits (gives is js (each_told is) f.0) (given es fs (each_told es) f.1)
   told (core_module is es) true (core_module js fs) e =
       let f = and_parts (covers same_core_import js is) (covers same_core_export es fs) e in

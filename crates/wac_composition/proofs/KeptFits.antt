@@ -17,7 +17,7 @@ use Rattle.wac_types_fit.proofs.Looking.{looked-has, has-looked, all_given, look
 use Rattle.wac_types_fit.proofs.Ordering.{tree_in_order, AllInOrder-put}
 use Rattle.wac_types_fit.proofs.TreeLaws.{Fits-refl}
 use Rattle.wac_composition.specs.Names.{has_track}
-use Rattle.wac_composition.specs.Classes.{is_instance, spelled}
+use Rattle.wac_composition.specs.Classes.{spelled, is_instance_kind}
 use Rattle.wac_composition.specs.Tests.{fits}
 use Rattle.wac_composition.specs.Merging.{Merge, both, merged_with, merged_exports, has_use, merged_interface, rebuilt, if_kind, same_tree_as, merge_at, merge, Asked, narrower, in_family, kept_from, kept, identified_by, identified}
 use Rattle.wac_composition.specs.Asks.{Ask}
@@ -98,7 +98,7 @@ pub interface_tree : {A : Type 0} (i : Option Name) (us : List (Name × Option N
 interface_tree i us es os ts e = ap instance (fields_behind es us os ts e)
 
 -- an instance is of its exports
-pub instance_tree : (y : Stated) → is_instance (kind_of y) ≡ true → tree y ≡ instance (fields_of (exports_of y))
+pub instance_tree : (y : Stated) → is_instance_kind (kind_of y) ≡ true → tree y ≡ instance (fields_of (exports_of y))
 instance_tree (node (interface i us es) ts) e = interface_tree i us es (only_places ts) ts (only_firsts ts)
 instance_tree (node (primitive p) ts) e = absurd (true≢false (sym e))
 instance_tree (node tuple ts) e = absurd (true≢false (sym e))
@@ -122,7 +122,7 @@ instance_tree (node (own_of s) ts) e = absurd (true≢false (sym e))
 instance_tree (node (borrow_of s) ts) e = absurd (true≢false (sym e))
 instance_tree (node (type_of s) ts) e = absurd (typed s e)
   where
-    typed : (s : Shape) → is_instance (shape_kind (type_of s)) ≡ true → ⊥
+    typed : (s : Shape) → is_instance_kind (shape_kind (type_of s)) ≡ true → ⊥
     typed (interface i us es) e = true≢false (sym e)
     typed (primitive p) e = true≢false (sym e)
     typed tuple e = true≢false (sym e)
@@ -426,7 +426,7 @@ met {t = t} {u = u} {m' = m'} {t' = t'} a b c h =
 merge_at_fits : (s : Shape) (ts : Wholes Shape) → RowFits (folded_row merge_at ts) → (y z : Stated) → merge_at s (folded_row merge_at ts) y ≡ Some z → Meet z (node s ts) y
 merge_at_fits (interface i us es) ts h y z e =
     let os = folded_row merge_at ts in
-    let b = if_is (is_instance (kind_of y)) (merged_interface (parts_at (interface i us es) os) y) z e in
+    let b = if_is (is_instance_kind (kind_of y)) (merged_interface (parts_at (interface i us es) os) y) z e in
     let f = merged_fits (parts_at (interface i us es) os) y z (names_fit es (drop (length us) os) (drop_fits us os h)) b.1 in
     met f.tree_is (interface_tree i us es os ts (folded_firsts merge_at ts)) (instance_tree y b.0) f.meet
 merge_at_fits (type_of (interface i us es)) ts h y z e =
@@ -544,9 +544,9 @@ kept_fits asks z e a m = fits_each (tree z) asks (kept_meets asks z e).fits a m
 pub identified_tree : (n : Name) (as_ : List Asked) (x : Stated) → tree (identified n as_ x) ≡ tree x
 identified_tree n [] x = refl
 identified_tree n (a ∷ []) x = refl
-identified_tree n (a ∷ b ∷ as_) x = go (is_instance (kind_of x)) refl (has_track n)
+identified_tree n (a ∷ b ∷ as_) x = go (is_instance_kind (kind_of x)) refl (has_track n)
   where
-    go : (i : Bool) → is_instance (kind_of x) ≡ i → (t : Bool) → tree (identified_by (i && t) n x) ≡ tree x
+    go : (i : Bool) → is_instance_kind (kind_of x) ≡ i → (t : Bool) → tree (identified_by (i && t) n x) ≡ tree x
     go false e t = refl
     go true e false = refl
     go true e true = made_tree (Some n) (uses_of x) (exports_of x) ∙ sym (instance_tree x e)

@@ -22,3 +22,4 @@ pub mod Against
 pub mod OutersAgain
 pub mod Lists
 pub mod Sizes
+pub mod SameWiring

@@ -12,7 +12,7 @@ use Rattle.wac_types_base.specs.Fits.{Fits}
 use Rattle.wac_composition.specs.Composition.{Composition}
 use Rattle.wac_composition.specs.OuterLaws.{AreMet}
 use Rattle.wac_composition.specs.Asks.{Asking, ByName, ToFill, ToUse, Ask, asks_of}
-use Rattle.wac_composition.specs.Classes.{joined, class, spelled, spelling}
+use Rattle.wac_composition.specs.Classes.{class, spelled, spelling, akin}
 use Rattle.wac_composition.specs.Merging.{kept, identified}
 use Rattle.wac_composition.specs.OuterImports.{asked_in, outer_of, outer_imports}
 use Rattle.wac_composition.specs.Conflicts.{implicit_conflict, merge_cause, merge_fails, those_in, merge_conflict, first_cause}
@@ -56,14 +56,14 @@ module _ {A : Type 0} where
     class_by_names : (a : Ask A) → Among a asks → filter (names_in (class asks a)) asks ≡ class asks a
     class_by_names a there =
         let one = names_in (class asks a) in
-        let two = λ (b : Ask A). list_any (joined b) (class asks a) in
+        let two = λ (b : Ask A). list_any (akin b) (class asks a) in
         filter_same one two asks
-        (λ b m e. let c = any_among (λ (c : Ask A). bytes_eq b.name c.name) (class asks a) e in among_any (joined b) (class asks a) c.0 c.1 (joined_by_name b c.0 ((bytes_eq-Decides b.name c.0.name).0 c.2)))
+        (λ b m e. let c = any_among (λ (c : Ask A). bytes_eq b.name c.name) (class asks a) e in among_any (akin b) (class asks a) c.0 c.1 (joined_by_name b c.0 ((bytes_eq-Decides b.name c.0.name).0 c.2)))
         (λ b m e. among_any (λ (c : Ask A). bytes_eq b.name c.name) (class asks a) b (subst (Among b) (is) (among_filter two asks b m e)) ((bytes_eq-Decides b.name b.name).1 refl))
         ∙ is
       where
-        is : filter (λ (b : Ask A). list_any (joined b) (class asks a)) asks ≡ class asks a
-        is = subst (λ cs. filter (λ (b : Ask A). list_any (joined b) cs) asks ≡ cs) (sym (class_is asks a)) (closed joined asks itself turned a there)
+        is : filter (λ (b : Ask A). list_any (akin b) (class asks a)) asks ≡ class asks a
+        is = subst (λ cs. filter (λ (b : Ask A). list_any (akin b) cs) asks ≡ cs) (sym (class_is asks a)) (closed akin asks itself turned a there)
 
     -- an ask of a class's name is of the class
     of_class : (a b : Ask A) → Among a asks → Among b asks → names_in (class asks a) b ≡ true → class asks b ≡ class asks a

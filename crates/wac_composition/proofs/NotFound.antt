@@ -14,7 +14,7 @@ use Rattle.wac_types_base.specs.Stated.{Stated, folded, folded_row, places_of, w
 use Rattle.wac_types_base.specs.Tree.{tree}
 use Rattle.wac_composition.specs.Tests.{same_tree}
 use Rattle.wac_types_written.specs.Written.{is_type}
-use Rattle.wac_composition.specs.Writable.{Holder, is_resource, is_fresh, root_of, is_given, stated_at, value_fails, Test, Needed, Found, some_unnamed, Item, plain, some_fails, used_of, interface_fails, type_items, needed_from, below_use, below_items, all_needed, stands_as, is_given_by, use_fails, with_roots, holder, world_holder, world_fails, any_value, simple, found_interface, found_at, unwritable, item_in, writable_module, given_in, has_items}
+use Rattle.wac_composition.specs.Writable.{Holder, is_resource, is_fresh, root_of, is_given, stated_at, value_fails, Needed, Found, some_unnamed, Item, plain, some_fails, used_of, interface_fails, type_items, needed_from, below_items, all_needed, stands_as, is_given_by, use_fails, with_roots, holder, world_holder, world_fails, any_value, simple, found_interface, found_at, unwritable, item_in, writable_module, given_in, has_items, WritingTest, needs_of_use}
 use Rattle.wac_composition.specs.NotWritten.{IsGiven, HasRoot, Dangles, Needs, a_use, under_use, under_item, IsImported, type_exports, component_holder, CannotBeWritten, a_value, core_items, module_as_type, renamed, an_alias, a_function, a_function_type, a_value_type, an_instance, an_interface, a_component, a_world, ItemsFail, unnamed, an_item, ComponentFails, unnamed_use, not_imported, not_added, an_import, an_export}
 use Rattle.wac_composition.proofs.Closures.{filter_among}
 use Rattle.wac_composition.proofs.KeptFits.{folded_firsts}
@@ -164,7 +164,7 @@ module _ (o : Bool) where
 
 -- the uses below an interface, as they are listed
 abbrev listed : List (Used × Found) → List Item → List Needed
-listed us es = flat_map below_use us ++ below_items es
+listed us es = flat_map needs_of_use us ++ below_items es
 
 need_by : (us : List Used) (es : List (Name × Stated)) (w : Used) (vs : List Used) (xs : List (Name × Stated)) → (Needs vs xs w → Needs us es w) → (m : Needed) → m.by ≡ w → IsNeeded vs xs m → IsNeeded us es m
 need_by us es w vs xs f m e h = record { needs = subst (Needs us es) (sym e) (f (subst (Needs vs xs) e h.needs)); named = h.named; types = h.types }
@@ -180,7 +180,7 @@ module _ (us : List (Used × Found)) (es : List Item) (fu : UsesFound us) (fe : 
   listed_directly u a (Some k) q m (inl e) =
       subst (IsNeeded (only_uses us) (plain es)) (sym e) (record { needs = a_use (among_mapped (λ w. w.0) us u a); named = q; types = (fu u a).types })
 
-  listed_use : (u : Used × Found) → Among u us → (m : Needed) → Among m (below_use u) → IsNeeded (only_uses us) (plain es) m
+  listed_use : (u : Used × Found) → Among u us → (m : Needed) → Among m (needs_of_use u) → IsNeeded (only_uses us) (plain es) m
   listed_use u a m n = elim (among_split m u.1.uses (needed_from u (identifier_of u.0.interface)) n) [
     | inl b ↦
         let h = (fu u a).only m b in
@@ -194,8 +194,8 @@ module _ (us : List (Used × Found)) (es : List Item) (fu : UsesFound us) (fe : 
       need_by (only_uses us) (plain es) m.by (uses_of e.1.0) (exports_of e.1.0) (λ w. under_item e.0 e.1.0 (among_mapped (λ e. (e.0, e.1.0)) es e a) h.0 w) m refl h.1
 
   listed_needed : (m : Needed) → Among m (listed us es) → IsNeeded (only_uses us) (plain es) m
-  listed_needed m n = elim (among_split m (flat_map below_use us) (below_items es) n) [
-    | inl b ↦ let a = among_flat below_use us m b in listed_use a.0 a.1 m a.2
+  listed_needed m n = elim (among_split m (flat_map needs_of_use us) (below_items es) n) [
+    | inl b ↦ let a = among_flat needs_of_use us m b in listed_use a.0 a.1 m a.2
     | inr b ↦ let a = among_flat (λ e. e.1.1.uses) es m b in listed_item a.0 a.1 m a.2
   ]
 
@@ -203,11 +203,11 @@ module _ (us : List (Used × Found)) (es : List Item) (fu : UsesFound us) (fe : 
   widened : (ms : List Needed) → ((m : Needed) → Among m ms → Among m (listed us es)) → (u : Used) (n : Name) → IsListed ms u n → IsListed (listed us es) u n
   widened ms f u n l = record { one = l.one; there = f l.one l.there; called = l.called; by = l.by }
 
-  in_uses : (u : Used × Found) → Among u us → (m : Needed) → Among m (below_use u) → Among m (listed us es)
-  in_uses u a m n = Among-left m (flat_map below_use us) (below_items es) (flat_among below_use us u m a n)
+  in_uses : (u : Used × Found) → Among u us → (m : Needed) → Among m (needs_of_use u) → Among m (listed us es)
+  in_uses u a m n = Among-left m (flat_map needs_of_use us) (below_items es) (flat_among needs_of_use us u m a n)
 
   in_items : (e : Item) → Among e es → (m : Needed) → Among m e.1.1.uses → Among m (listed us es)
-  in_items e a m n = Among-right m (flat_map below_use us) (below_items es) (flat_among (λ e. e.1.1.uses) es e m a n)
+  in_items e a m n = Among-right m (flat_map needs_of_use us) (below_items es) (flat_among (λ e. e.1.1.uses) es e m a n)
 
   direct : (u : Used × Found) → Among u us → (n : Name) → identifier_of u.0.interface ≡ Some n → IsListed (listed us es) u.0 n
   direct u a n e =
@@ -255,7 +255,7 @@ module _ (p : Parts Found) (fu : UsesFound p.uses) (fi : ItemsFound p.imports) (
   ]
 
   all_listed : all_needed p ≡ listed p.uses (p.imports ++ p.exports)
-  all_listed = ap (λ l. flat_map below_use p.uses ++ l) (sym (below_both p.imports p.exports))
+  all_listed = ap (λ l. flat_map needs_of_use p.uses ++ l) (sym (below_both p.imports p.exports))
 
   -- what an import has
   imported_decides : (u : Used) (n : Name) → Decides (is_given_by (value_at p.imports n) u) (IsImported (plain p.imports) n u)
@@ -418,7 +418,7 @@ module _ (o : Bool) (h : Holder) (n : Name) where
 no_types : (o : Bool) (x : Stated) → has_items (kind_of x) ≡ false → Decides false (TypesFail o x)
 no_types o x e = (λ q. absurd (true≢false (sym q)), λ t. absurd (true≢false (sym t.0 ∙ e)))
 
-simply : (x : Stated) (t : Test) → has_items (kind_of x) ≡ false → ((o : Bool) (h : Holder) (n : Name) → Decides (t n h o) (CannotBeWritten o h n x)) → IsFound x (simple t)
+simply : (x : Stated) (t : WritingTest) → has_items (kind_of x) ≡ false → ((o : Bool) (h : Holder) (n : Name) → Decides (t n h o) (CannotBeWritten o h n x)) → IsFound x (simple t)
 simply x t e d = record {
   test = d;
   types = λ o. no_types o x e;

@@ -16,14 +16,14 @@ use Rattle.wac_types_base.specs.Fits.{Fits}
 use Rattle.wac_types_names.specs.Tracks.{before_at, version_of}
 use Rattle.wac_composition.specs.Names.{track_number, numbers_agree, tracks_agree, same_track, compatible, is_later, greatest}
 use Rattle.wac_composition.specs.Asks.{Ask}
-use Rattle.wac_composition.specs.Classes.{same_text, identifier_asked, joined, near, within_steps, class, spelled, spelling}
+use Rattle.wac_composition.specs.Classes.{same_text, identifier_asked, near, within_steps, class, spelled, spelling, akin}
 use Rattle.wac_composition.specs.Merging.{kept, identified}
 use Rattle.wac_composition.specs.OuterImports.{asked_in, with_new, outer_of, outers_from, outer_imports}
 use Rattle.wac_composition.proofs.KeptFits.{outer_fits}
 use Rattle.wac_composition.proofs.Closures.{steps, reached, reached_within, reached_itself, reached_next, reached_same}
 use Rattle.wac_names.proofs.NameKinds.{or_parts, or_left}
 
--- ---- asks are joined to themselves, and both ways
+-- ---- asks are akin to themselves, and both ways
 
 names_itself : (n : Name) → bytes_eq n n ≡ true
 names_itself n = (bytes_eq-Decides n n).1 refl
@@ -62,15 +62,15 @@ text_turned (Some m) (Some n) e = names_turned m n e
 text_turned None u e = absurd (cc e)
 text_turned (Some m) None e = absurd (cc e)
 
--- asks of one name are joined
-pub joined_by_name : {A : Type 0} (a b : Ask A) → a.name ≡ b.name → joined a b ≡ true
+-- asks of one name are akin
+pub joined_by_name : {A : Type 0} (a b : Ask A) → a.name ≡ b.name → akin a b ≡ true
 joined_by_name a b e =
     or_left (compatible a.name b.name) (same_text (identifier_asked a) (identifier_asked b)) (or_left (bytes_eq a.name b.name) (same_track a.name b.name) ((bytes_eq-Decides a.name b.name).1 e))
 
-pub itself : {A : Type 0} (a : Ask A) → joined a a ≡ true
+pub itself : {A : Type 0} (a : Ask A) → akin a a ≡ true
 itself a = joined_by_name a a refl
 
-pub turned : {A : Type 0} (a b : Ask A) → joined a b ≡ true → joined b a ≡ true
+pub turned : {A : Type 0} (a b : Ask A) → akin a b ≡ true → akin b a ≡ true
 turned a b e = elim (or_parts (compatible a.name b.name) (same_text (identifier_asked a) (identifier_asked b)) e) [
   | inl h ↦ or_left (compatible b.name a.name) (same_text (identifier_asked b) (identifier_asked a)) (compatible_turned a.name b.name h)
   | inr h ↦ or_right (compatible b.name a.name) (same_text (identifier_asked b) (identifier_asked a)) (text_turned (identifier_asked a) (identifier_asked b) h)
@@ -79,28 +79,28 @@ turned a b e = elim (or_parts (compatible a.name b.name) (same_text (identifier_
 -- ---- classes
 
 module _ {A : Type 0} (asks : List (Ask A)) where
-  steps_are : (k : ℕ) (ms : List (Ask A)) → within_steps k asks ms ≡ steps joined asks k ms
+  steps_are : (k : ℕ) (ms : List (Ask A)) → within_steps k asks ms ≡ steps akin asks k ms
   steps_are zero ms = refl
   steps_are (suc k) ms = steps_are k (near asks ms)
 
-  pub class_is : (a : Ask A) → class asks a ≡ reached joined asks itself turned a
+  pub class_is : (a : Ask A) → class asks a ≡ reached akin asks itself turned a
   unfolding reached
   class_is a = steps_are (length asks) (a ∷ [])
 
   -- asks of one class have one class
   pub class_same : (a b : Ask A) → Among a asks → Among b (class asks a) → class asks a ≡ class asks b
-  class_same a b there m = class_is a ∙ reached_same joined asks itself turned a b there (subst (Among b) (class_is a) m) ∙ sym (class_is b)
+  class_same a b there m = class_is a ∙ reached_same akin asks itself turned a b there (subst (Among b) (class_is a) m) ∙ sym (class_is b)
 
   pub within : (a b : Ask A) → Among a asks → Among b (class asks a) → Among b asks
-  within a b there m = reached_within joined asks itself turned a b there (subst (Among b) (class_is a) m)
+  within a b there m = reached_within akin asks itself turned a b there (subst (Among b) (class_is a) m)
 
   pub class_itself : (a : Ask A) → Among a asks → Among a (class asks a)
-  class_itself a there = subst (Among a) (sym (class_is a)) (reached_itself joined asks itself turned a there)
+  class_itself a there = subst (Among a) (sym (class_is a)) (reached_itself akin asks itself turned a there)
 
   -- asks of one name have one class
   pub class_by_name : (a b : Ask A) → Among a asks → Among b asks → a.name ≡ b.name → class asks a ≡ class asks b
   class_by_name a b there m e =
-      class_same a b there (subst (Among b) (sym (class_is a)) (reached_next joined asks itself turned a b a there m (reached_itself joined asks itself turned a there) (joined_by_name b a (sym e))))
+      class_same a b there (subst (Among b) (sym (class_is a)) (reached_next akin asks itself turned a b a there m (reached_itself akin asks itself turned a there) (joined_by_name b a (sym e))))
 
   -- ---- spellings
 
@@ -240,10 +240,10 @@ module _ {A : Type 0} (asks : List (Ask A)) where
       let b = all m y f in
       let c = spelled_among (class asks a.0) a.0 (class_itself a.0 a.1) in
       let d = spelled_among (class asks b.0) b.0 (class_itself b.0 b.1) in
-      let near_ : joined c.0 d.0 ≡ true = or_left (compatible c.0.name d.0.name) (same_text (identifier_asked c.0) (identifier_asked d.0)) (subst (λ k. compatible k d.0.name ≡ true) (sym (c.2 ∙ sym a.3)) (subst (λ k. compatible n k ≡ true) (sym (d.2 ∙ sym b.3)) h)) in
+      let near_ : akin c.0 d.0 ≡ true = or_left (compatible c.0.name d.0.name) (same_text (identifier_asked c.0) (identifier_asked d.0)) (subst (λ k. compatible k d.0.name ≡ true) (sym (c.2 ∙ sym a.3)) (subst (λ k. compatible n k ≡ true) (sym (d.2 ∙ sym b.3)) h)) in
       let cs = within a.0 c.0 a.1 c.1 in
       let ds = within b.0 d.0 b.1 d.1 in
-      let same = class_same d.0 c.0 ds (subst (Among c.0) (sym (class_is d.0)) (reached_next joined asks itself turned d.0 c.0 d.0 ds cs (reached_itself joined asks itself turned d.0 ds) near_)) in
+      let same = class_same d.0 c.0 ds (subst (Among c.0) (sym (class_is d.0)) (reached_next akin asks itself turned d.0 c.0 d.0 ds cs (reached_itself akin asks itself turned d.0 ds) near_)) in
       a.3 ∙ ap spelled (class_same a.0 c.0 a.1 c.1 ∙ sym same ∙ sym (class_same b.0 d.0 b.1 d.1)) ∙ sym b.3
 
   -- the spelling of an asked name is that of its class

@@ -8,7 +8,7 @@ use Rattle.wac_types_base.specs.Graph.{Among}
 use Rattle.wac_types_base.specs.Stated.{Stated, kind_of, interface_of, as_type, uses_of, exports_of, identifier_of}
 use Rattle.wac_composition.specs.Names.{has_track}
 use Rattle.wac_composition.specs.Asks.{Ask}
-use Rattle.wac_composition.specs.Classes.{is_instance, class, spelled}
+use Rattle.wac_composition.specs.Classes.{class, spelled, is_instance_kind}
 use Rattle.wac_composition.specs.Merging.{Asked, kept, identified_by, identified}
 use Rattle.wac_composition.specs.OuterImports.{with_new, asked_in, outer_of, outers_from, outer_imports}
 use Rattle.wac_composition.specs.Again.{IsWell, well_instance, well_interface, no_interface, Asked_by_identifier}
@@ -18,16 +18,16 @@ use Rattle.wac_composition.proofs.AskedAgain.{among_first, among_more, spelled_a
 
 -- ---- what is identified so states the same
 
-instance_again : (x : Stated) (n : Name) → IsWell x → identifier_of x ≡ Some n → is_instance (kind_of x) ≡ true → interface_of (Some n) (uses_of x) (exports_of x) ≡ x
+instance_again : (x : Stated) (n : Name) → IsWell x → identifier_of x ≡ Some n → is_instance_kind (kind_of x) ≡ true → interface_of (Some n) (uses_of x) (exports_of x) ≡ x
 instance_again x n (well_instance e d h) i k = ap (λ o. interface_of o (uses_of x) (exports_of x)) (sym i) ∙ sym e
-instance_again x n (well_interface e d h) i k = absurd (true≢false (sym k ∙ ap (λ y. is_instance (kind_of y)) e))
+instance_again x n (well_interface e d h) i k = absurd (true≢false (sym k ∙ ap (λ y. is_instance_kind (kind_of y)) e))
 instance_again x n (no_interface e f) i k = absurd (true≢false (sym k ∙ e))
 
-identified_again : (x : Stated) (n : Name) → IsWell x → identifier_of x ≡ Some n → identified_by (is_instance (kind_of x) && has_track n) n x ≡ x
-identified_again x n w i = go (is_instance (kind_of x) && has_track n) refl
+identified_again : (x : Stated) (n : Name) → IsWell x → identifier_of x ≡ Some n → identified_by (is_instance_kind (kind_of x) && has_track n) n x ≡ x
+identified_again x n w i = go (is_instance_kind (kind_of x) && has_track n) refl
   where
-    go : (b : Bool) → (is_instance (kind_of x) && has_track n) ≡ b → identified_by b n x ≡ x
-    go true e = instance_again x n w i (and_parts (is_instance (kind_of x)) (has_track n) e).0
+    go : (b : Bool) → (is_instance_kind (kind_of x) && has_track n) ≡ b → identified_by b n x ≡ x
+    go true e = instance_again x n w i (and_parts (is_instance_kind (kind_of x)) (has_track n) e).0
     go false e = refl
 
 -- what is found already is not added

@@ -6,17 +6,17 @@ use Rattle.std.proofs.lemmas.List.{map-append}
 use Rattle.std.proofs.Common.{◌≡◌, ℕ, zero, suc, List, [], ◌∷◌, ◌++◌, map, length, Bool, true, false, Option, Some, None, refl, sym, ap, ◌∙◌}
 use Rattle.wac_types_base.specs.Entries.{Name, names_of, value_at}
 use Rattle.wac_types_base.specs.Stated.{Stated, imports_of, identifier_of, world_of}
-use Rattle.wac_types_names.specs.Keys.{Key}
+use Rattle.wac_types_names.specs.Keys.{Key, same_key}
 use Rattle.wac_graph_bytes.specs.Wirings.{Source, Absent, Outer, Inst, Projection, Bundle, Definition, project, rename}
 use Rattle.wac_composition.specs.Composition.{Origin, imported, instance, projected, defined, Placed, Made, Composition}
 use Rattle.wac_composition.specs.Asks.{Asking, ByName, ToFill, ToUse, Ask, used_by, used_by_definition, explicit_ask, filled_asks, asked_for, named_asks, asks_of}
 use Rattle.wac_composition.specs.Names.{greatest}
-use Rattle.wac_composition.specs.Classes.{joined, near, within_steps, class, spelled, spelling}
+use Rattle.wac_composition.specs.Classes.{near, within_steps, class, spelled, spelling, akin}
 use Rattle.wac_composition.specs.Merging.{kept, identified}
 use Rattle.wac_composition.specs.OuterImports.{with_new, asked_in, outer_of, outers_from, outer_imports}
 use Rattle.wac_composition.specs.Circles.{written_inside}
 use Rattle.std.specs.Option.{option_or}
-use Rattle.wac_composition.specs.Conflicts.{Cause, Unwritable, ImportNames, ExportNames, first_found, dependency_name, same_key, each_once, dependencies_of, implicit_with, implicit_by, circle_cause, implicit_conflict, merge_cause, merge_fails, those_in, merge_conflict, cause_at, placed, unwritable_cause, late_unwritable, written_forms, outers_written, first_cause, twins, alike, import_names, name_cause}
+use Rattle.wac_composition.specs.Conflicts.{Cause, Unwritable, ImportNames, ExportNames, first_found, dependency_name, each_once, dependencies_of, implicit_with, implicit_by, circle_cause, implicit_conflict, merge_cause, merge_fails, those_in, merge_conflict, cause_at, placed, unwritable_cause, late_unwritable, written_forms, outers_written, first_cause, twins, alike, import_names, name_cause}
 use Rattle.wac_composition.specs.Writable.{outer_unwritable, definition_unwritable, package_unwritable, alias_unwritable}
 use Rattle.wac_types_written.specs.Written.{without_uses, written_definition}
 use Rattle.wac_composition.specs.Worlds.{then_in, final_type, source_of, world_exports, composed_world}
@@ -73,8 +73,8 @@ module _ {A B : Type 0} (f : A → B) where
 
   near_renamed : (asks ms : List (Ask A)) → near (map as_asked asks) (map as_asked ms) ≡ map as_asked (near asks ms)
   near_renamed asks ms =
-      filter_mapped as_asked (λ b. list_any (joined b) (map as_asked ms)) asks
-      ∙ (λ i. map as_asked (filter (λ a. any_mapped as_asked (joined (as_asked a)) ms i) asks))
+      filter_mapped as_asked (λ b. list_any (akin b) (map as_asked ms)) asks
+      ∙ (λ i. map as_asked (filter (λ a. any_mapped as_asked (akin (as_asked a)) ms i) asks))
 
   steps_renamed : (k : ℕ) (asks ms : List (Ask A)) → within_steps k (map as_asked asks) (map as_asked ms) ≡ map as_asked (within_steps k asks ms)
   steps_renamed zero asks ms = refl

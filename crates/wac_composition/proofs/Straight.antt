@@ -10,7 +10,7 @@ use Rattle.wac_types_base.specs.Tree.{Tree, Fields, tree}
 use Rattle.wac_types_base.specs.Fits.{Fits, instance_fits}
 use Rattle.wac_composition.specs.Names.{has_track}
 use Rattle.wac_composition.specs.Asks.{Ask}
-use Rattle.wac_composition.specs.Classes.{is_instance, class, spelled}
+use Rattle.wac_composition.specs.Classes.{class, spelled, is_instance_kind}
 use Rattle.wac_composition.specs.Tests.{fits}
 use Rattle.wac_composition.specs.Merging.{Merge, merged_with, merged_exports, has_use, merged_interface, merge_at, merge, Asked, narrower, in_family, kept_from, kept, identified_by, identified}
 use Rattle.wac_composition.specs.OuterImports.{asked_in, outer_of, outer_imports}
@@ -28,15 +28,15 @@ use Rattle.wac_types_base.proofs.Made.{made_exports}
 fitted : (t : Tree) (xs : Fields) → Fits (Tree.instance xs) t → (ys : Fields) × (t ≡ Tree.instance ys)
 fitted t xs (instance_fits {ys = ys} f) = (ys, refl)
 
-no_tree : (x : Stated) → IsStraight x → is_instance (kind_of x) ≡ false → (xs : Fields) → tree x ≡ Tree.instance xs → ⊥
+no_tree : (x : Stated) → IsStraight x → is_instance_kind (kind_of x) ≡ false → (xs : Fields) → tree x ≡ Tree.instance xs → ⊥
 no_tree x (an_instance e h) k xs q = true≢false (sym e ∙ k)
 no_tree x (no_instance f) k xs q = f xs q
 
 -- what fits a straight type that is no instance is straight
-straight_below : (x z : Stated) → IsStraight x → is_instance (kind_of x) ≡ false → Fits (tree z) (tree x) → IsStraight z
+straight_below : (x z : Stated) → IsStraight x → is_instance_kind (kind_of x) ≡ false → Fits (tree z) (tree x) → IsStraight z
 straight_below x z s k f = no_instance (λ zs e. let i = fitted (tree x) zs (subst (λ t. Fits t (tree x)) e f) in no_tree x s k i.0 i.1)
 
-instance_shape : (s : Shape) → is_instance (shape_kind s) ≡ true → (i : Option Name) × (us : List (Name × Option Name)) × (es : List Name) × (s ≡ interface i us es)
+instance_shape : (s : Shape) → is_instance_kind (shape_kind s) ≡ true → (i : Option Name) × (us : List (Name × Option Name)) × (es : List Name) × (s ≡ interface i us es)
 instance_shape (interface i us es) e = (i, us, es, refl)
 instance_shape (primitive p) e = absurd (true≢false (sym e))
 instance_shape tuple e = absurd (true≢false (sym e))
@@ -82,7 +82,7 @@ instance_shape (type_of (interface i us es)) e = absurd (true≢false (sym e))
 instance_shape (type_of (type_of s)) e = absurd (true≢false (sym e))
 
 -- the exports of a straight instance
-straight_exports : (x : Stated) → is_instance (kind_of x) ≡ true → IsStraight x → (n : Name) (y : Stated) → Among (n, y) (exports_of x) → IsStraight y
+straight_exports : (x : Stated) → is_instance_kind (kind_of x) ≡ true → IsStraight x → (n : Name) (y : Stated) → Among (n, y) (exports_of x) → IsStraight y
 straight_exports x k (an_instance e h) = h
 straight_exports x k (no_instance f) = absurd (f _ (instance_tree x k))
 
@@ -137,7 +137,7 @@ module _ (i : Option Name) (us : List (Name × Option Name)) (es : List Name) (t
   abbrev uses : List Used
   uses = map (λ u. u.0) p.uses ++ filter (λ (u : Used). not (has_use (map (λ v. v.0) p.uses) u.name)) (uses_of y)
 
-  module _ (h : RowStraight (folded_row merge_at ts)) (r : IsStraight (node (interface i us es) ts)) (q : IsStraight y) (k : is_instance (kind_of y) ≡ true) where
+  module _ (h : RowStraight (folded_row merge_at ts)) (r : IsStraight (node (interface i us es) ts)) (q : IsStraight y) (k : is_instance_kind (kind_of y) ≡ true) where
     own : (n : Name) (x : Stated) → Among (n, x) (first_parts p.exports) → IsStraight x
     own n x a = straight_exports (node (interface i us es) ts) refl r n x (subst (Among (n, x)) (own_exports i us es ts) a)
 
@@ -155,10 +155,10 @@ module _ (i : Option Name) (us : List (Name × Option Name)) (es : List Name) (t
 
 interface_straight : (i : Option Name) (us : List (Name × Option Name)) (es : List Name) (ts : Wholes Shape) → RowStraight (folded_row merge_at ts) → StraightBoth (node (interface i us es) ts) (merge_at (interface i us es) (folded_row merge_at ts))
 interface_straight i us es ts h r y q z e =
-    let b = if_is (is_instance (kind_of y)) (merged_interface (parts_at (interface i us es) (folded_row merge_at ts)) y) z e in
+    let b = if_is (is_instance_kind (kind_of y)) (merged_interface (parts_at (interface i us es) (folded_row merge_at ts)) y) z e in
     made i us es ts y h r q b.0 z b.1
 
-straight_at : (s : Shape) (ts : Wholes Shape) → RowStraight (folded_row merge_at ts) → IsStraight (node s ts) → (y : Stated) → IsStraight y → (z : Stated) → merge (node s ts) y ≡ Some z → (b : Bool) → is_instance (shape_kind s) ≡ b → IsStraight z
+straight_at : (s : Shape) (ts : Wholes Shape) → RowStraight (folded_row merge_at ts) → IsStraight (node s ts) → (y : Stated) → IsStraight y → (z : Stated) → merge (node s ts) y ≡ Some z → (b : Bool) → is_instance_kind (shape_kind s) ≡ b → IsStraight z
 straight_at s ts h r y q z e false k = straight_below (node s ts) z r k (merge_fits (node s ts) y z e).fits.0
 straight_at s ts h r y q z e true k =
     let f = instance_shape s k in
@@ -166,7 +166,7 @@ straight_at s ts h r y q z e true k =
 
 mutual
   merge_straight : (x : Stated) → StraightBoth x (merge x)
-  merge_straight (node s ts) r y q z e = straight_at s ts (row_straight ts) r y q z e (is_instance (shape_kind s)) refl
+  merge_straight (node s ts) r y q z e = straight_at s ts (row_straight ts) r y q z e (is_instance_kind (shape_kind s)) refl
 
   row_straight : (ts : Wholes Shape) → RowStraight (folded_row merge_at ts)
   row_straight no_more = tt
@@ -203,9 +203,9 @@ kept_straight (a ∷ asks) z h e = from_straight (a ∷ []) a.1 asks z (h a (inl
 identified_straight : (n : Name) (as_ : List Asked) (x : Stated) → IsStraight x → IsStraight (identified n as_ x)
 identified_straight n [] x s = s
 identified_straight n (a ∷ []) x s = s
-identified_straight n (a ∷ b ∷ as_) x s = go (is_instance (kind_of x)) refl (has_track n)
+identified_straight n (a ∷ b ∷ as_) x s = go (is_instance_kind (kind_of x)) refl (has_track n)
   where
-    go : (i : Bool) → is_instance (kind_of x) ≡ i → (t : Bool) → IsStraight (identified_by (i && t) n x)
+    go : (i : Bool) → is_instance_kind (kind_of x) ≡ i → (t : Bool) → IsStraight (identified_by (i && t) n x)
     go false k t = s
     go true k false = s
     go true k true = an_instance refl (λ m y a. straight_exports x k s m y (subst (Among (m, y)) (made_exports (Some n) (uses_of x) (exports_of x)) a))

@@ -4,7 +4,7 @@ use Rattle.wac_types_base.specs.Entries.{Name, AreDistinct, names_of}
 use Rattle.wac_types_base.specs.Graph.{Among}
 use Rattle.wac_types_base.specs.Stated.{Stated, kind_of, interface_of, as_type, exports_of, uses_of, identifier_of, is_interface}
 use Rattle.wac_composition.specs.Asks.{Ask}
-use Rattle.wac_composition.specs.Classes.{is_instance, class, spelling}
+use Rattle.wac_composition.specs.Classes.{class, spelling, is_instance_kind}
 use Rattle.wac_composition.specs.Merging.{Asked, kept}
 use Rattle.wac_composition.specs.OuterImports.{asked_in, outer_imports}
 
@@ -14,7 +14,7 @@ pub data IsWell : Stated → Type 0 where
       → AreDistinct (names_of (exports_of x)) → ((n : Name) (y : Stated) → Among (n, y) (exports_of x) → IsWell y) → IsWell x
   well_interface : {x : Stated} → x ≡ as_type (interface_of (identifier_of x) (uses_of x) (exports_of x))
       → AreDistinct (names_of (exports_of x)) → ((n : Name) (y : Stated) → Among (n, y) (exports_of x) → IsWell y) → IsWell x
-  no_interface : {x : Stated} → is_instance (kind_of x) ≡ false → is_interface (kind_of x) ≡ false → IsWell x
+  no_interface : {x : Stated} → is_instance_kind (kind_of x) ≡ false → is_interface (kind_of x) ≡ false → IsWell x
 
 -- what several asks keep does not change where one of them is asked again
 abbrev pub Asking_twice : Type 0

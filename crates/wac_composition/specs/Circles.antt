@@ -45,15 +45,15 @@ module _ (stands : Name → Bool) where
 -- asked under a name
 
 module _ (spell : Name → Name) (imports : List (Name × Stated)) where
-  abbrev pub used_by : Option Stated → List Name
-  used_by None = []
-  used_by (Some x) = filter_map (λ i. option_map spell (identifier_of i)) (used_inside x)
+  abbrev pub used_names : Option Stated → List Name
+  used_names None = []
+  used_names (Some x) = filter_map (λ i. option_map spell (identifier_of i)) (used_inside x)
 
   -- behind those that are written: this import, behind those that it uses and for which it waits
   abbrev pub put : ℕ → (waiting written : List Name) → Name → List Name
   put zero ws ns n = ns
   put (suc k) ws ns n =
-      if has_name ws n || has_name ns n then ns else fold (put k (n ∷ ws)) ns (used_by (value_at imports n)) ++ n ∷ []
+      if has_name ws n || has_name ns n then ns else fold (put k (n ∷ ws)) ns (used_names (value_at imports n)) ++ n ∷ []
 
   abbrev pub written_names : List Name
   written_names = fold (put (length imports) []) [] (names_of imports)

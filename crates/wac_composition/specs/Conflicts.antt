@@ -1,12 +1,12 @@
 -- Why a composition cannot be written: the first cause in order.
-use Rattle.std.specs.Prelude.{◌+◌, ◌==◌, ℕ, Bool, true, false, nat_le, ◌&&◌, List, [], ◌∷◌, ◌++◌, map, Option, Some, None, is_some, option_map, filter, find, bytes_eq, codes, if◌then◌else◌}
+use Rattle.std.specs.Prelude.{◌+◌, ℕ, Bool, true, false, nat_le, ◌&&◌, List, [], ◌∷◌, ◌++◌, map, Option, Some, None, is_some, option_map, filter, find, bytes_eq, codes, if◌then◌else◌}
 use Rattle.std.specs.Option.{option_or}
 use Rattle.std.specs.List.{list_any, flat_map}
 use Rattle.semver.specs.Parse.{Parts}
 use Rattle.semver.specs.Identifiers.{parts_text}
 use Rattle.wac_types_base.specs.Entries.{Name, names_of}
 use Rattle.wac_types_base.specs.Stated.{Stated}
-use Rattle.wac_types_names.specs.Keys.{Key}
+use Rattle.wac_types_names.specs.Keys.{Key, same_key}
 use Rattle.wac_composition.specs.Composition.{Placed, Made, Composition}
 use Rattle.wac_composition.specs.Asks.{Asking, ByName, ToFill, Ask, asks_of}
 use Rattle.wac_composition.specs.Classes.{class, spelling}
@@ -15,7 +15,6 @@ use Rattle.wac_composition.specs.OuterImports.{asked_in, outer_imports}
 use Rattle.wac_types_written.specs.Written.{written_definition}
 use Rattle.wac_composition.specs.Writable.{holder, unwritable, outer_unwritable, definition_unwritable, package_unwritable, alias_unwritable}
 use Rattle.wac_composition.specs.Circles.{interfaces_written, written_inside}
-use Rattle.wac_composition.specs.Tests.{options_agree}
 
 pub data Cause (A : Type 0) : Type 0 where
   -- an instance's import that is not given has exactly the name of an import
@@ -43,12 +42,6 @@ version_name (Some p) = codes "@{>=" ++ (parts_text p ++ codes "}")
 
 abbrev pub dependency_name : Key → Name
 dependency_name k = codes "unlocked-dep=<" ++ (k.0 ++ (version_name k.1 ++ codes ">"))
-
-abbrev pub same_parts : Parts → Parts → Bool
-same_parts p q = (p.0 == q.0) && (p.1 == q.1) && (p.2 == q.2) && bytes_eq p.3 q.3 && bytes_eq p.4 q.4
-
-abbrev pub same_key : Key → Key → Bool
-same_key j k = bytes_eq j.0 k.0 && options_agree same_parts j.1 k.1
 
 abbrev pub each_once : {A I : Type 0} → List Key → List (Made A I) → List (Name × Stated)
 each_once seen [] = []

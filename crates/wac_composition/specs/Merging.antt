@@ -6,7 +6,7 @@ use Rattle.wac_types_base.specs.Collection.{Shape, interface, world, module_type
 use Rattle.wac_types_base.specs.Stated.{Stated, Kind, IsFunction, IsResource, IsValueType, Parts, parts_at, Used, folded, any_place, kind_of, over, interface_of, as_type, exports_of, uses_of, identifier_of, is_interface}
 use Rattle.wac_composition.specs.Names.{has_track}
 use Rattle.wac_composition.specs.Tests.{same, fits}
-use Rattle.wac_composition.specs.Classes.{is_instance}
+use Rattle.wac_composition.specs.Classes.{is_instance_kind}
 
 -- ---- the plain family: nothing reachable is a component, a world or a module, or has an identifier, a use or an owner
 
@@ -61,7 +61,7 @@ is_called (Some m) n = bytes_eq m n
 
 abbrev pub is_wit : Name → Stated → Bool
 is_wit n x =
-    is_instance (kind_of x) && is_called (identifier_of x) n && list_all (λ e. is_wit_kind (kind_of e.1)) (exports_of x)
+    is_instance_kind (kind_of x) && is_called (identifier_of x) n && list_all (λ e. is_wit_kind (kind_of e.1)) (exports_of x)
     && list_all (λ u. is_some (identifier_of u.interface)) (uses_of x)
     && list_all (λ e. list_all (λ o. list_any (same o) (reached x)) (owners e.1)) (exports_of x)
 
@@ -105,7 +105,7 @@ abbrev pub same_tree_as : Stated → Merge
 same_tree_as x y = if_kind (fits x y && fits y x) (Some x)
 
 abbrev pub merge_at : Shape → List (Option (Stated × Merge)) → Merge
-merge_at (interface i us es) os y = if_kind (is_instance (kind_of y)) (merged_interface (parts_at (interface i us es) os) y)
+merge_at (interface i us es) os y = if_kind (is_instance_kind (kind_of y)) (merged_interface (parts_at (interface i us es) os) y)
 merge_at (type_of (interface i us es)) os y =
     if_kind (is_interface (kind_of y)) (option_map as_type (merged_interface (parts_at (interface i us es) os) y))
 merge_at s os y = same_tree_as (rebuilt s os) y
@@ -142,5 +142,5 @@ identified_by true n x = interface_of (Some n) (uses_of x) (exports_of x)
 identified_by false n x = x
 
 abbrev pub identified : Name → List Asked → Stated → Stated
-identified n (a ∷ b ∷ as_) x = identified_by (is_instance (kind_of x) && has_track n) n x
+identified n (a ∷ b ∷ as_) x = identified_by (is_instance_kind (kind_of x) && has_track n) n x
 identified n as_ x = x

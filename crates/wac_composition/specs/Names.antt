@@ -1,11 +1,10 @@
 -- Tests of names: version tracks, and names of interfaces.
-use Rattle.std.specs.Prelude.{◌==◌, ℕ, Bool, true, false, ◌&&◌, ◌||◌, List, [], ◌∷◌, length, nat_lt, Option, Some, None, is_some, bytes_eq, if◌then◌else◌}
+use Rattle.std.specs.Prelude.{◌==◌, ℕ, Bool, true, false, ◌&&◌, ◌||◌, List, [], ◌∷◌, length, nat_lt, Option, Some, None, bytes_eq, if◌then◌else◌}
 use Rattle.std.specs.declared.cmp.Ordering.{Ordering}
 use Rattle.semver.specs.Parse.{Parts}
 use Rattle.wac_types_base.specs.Entries.{Name}
-use Rattle.wac_types_names.specs.Tracks.{read_version, before_at, version_of}
+use Rattle.wac_types_names.specs.Tracks.{before_at, version_of}
 use Rattle.wac_types_names.specs.Versions.{version_cmp}
-use Rattle.wac_names.specs.NameTests.{path_test, pair_test}
 
 -- What names the track of a version: its major number, or where that is 0 its minor number. A version with a pre-release
 -- is on no track, and neither is one of 0.0.
@@ -52,11 +51,3 @@ is_later m n = same_track m n && later_version (version_of m) (version_of n)
 abbrev pub greatest : Name → List Name → Name
 greatest m [] = m
 greatest m (n ∷ ns) = greatest (if is_later n m then n else m) ns
-
--- ---- names of interfaces
-
-abbrev pub version_test : List ℕ → Bool
-version_test text = is_some (read_version text)
-
-abbrev pub is_interface_name : Name → Bool
-is_interface_name n = path_test n || pair_test 64 path_test version_test n

@@ -49,7 +49,7 @@ Outer_fits A = (asks : List (Ask A)) (n : Name) (x : Stated) → outer_of asks �
 abbrev pub Classes_are_linked : Type 0 → Type 0
 Classes_are_linked A = (asks : List (Ask A)) (a b : Ask A) → Among a asks → Among b (class asks a) ↔ Linked asks a b
 
--- being linked is an equivalence of asks, so it is the smallest one in which joined asks are equal
+-- being linked is an equivalence of asks, so it is the smallest one in which akin asks are equal
 abbrev pub Links_turn : Type 0 → Type 0
 Links_turn A = (asks : List (Ask A)) (a b : Ask A) → Among a asks → Linked asks a b → Linked asks b a
 

@@ -10,7 +10,7 @@ use Rattle.wac_graph_bytes.specs.Wirings.{Tag, IsOrdered}
 use Rattle.wac_nesting.specs.Given.{World, IsDefinition, IsBound, IsTrueWorld}
 use Rattle.wac_composition.specs.Composition.{Origin, imported, projected, defined, Placed, Made, Composition}
 use Rattle.wac_composition.specs.Asks.{Ask, asks_of}
-use Rattle.wac_composition.specs.Classes.{is_instance}
+use Rattle.wac_composition.specs.Classes.{is_instance_kind}
 use Rattle.wac_types_written.specs.Written.{is_type, written_definition}
 use Rattle.wac_composition.specs.Worlds.{composed_world}
 use Rattle.wac_composition.specs.Wired.{composed_wiring}
@@ -28,7 +28,7 @@ maps_of x = record { imports = fields_of (imports_of x); exports = fields_of (ex
 
 -- What has the tree of an instance is one, and so is all that it exports: aliases are of values and resources.
 pub data IsStraight : Stated → Type 0 where
-  an_instance : {x : Stated} → is_instance (kind_of x) ≡ true
+  an_instance : {x : Stated} → is_instance_kind (kind_of x) ≡ true
       → ((n : Name) (y : Stated) → Among (n, y) (exports_of x) → IsStraight y) → IsStraight x
   no_instance : {x : Stated} → ((xs : Fields) → tree x ≡ Tree.instance xs → ⊥) → IsStraight x
 
@@ -38,7 +38,7 @@ pub data IsStraight : Stated → Type 0 where
 pub data HasType {A : Type 0} (c : Composition A ℕ) : Origin ℕ → Stated → Type 0 where
   of_import : (i : Placed A) → Among i c.imports → HasType c (imported i.name) i.item
   of_instance : (k : ℕ) (m : Made A ℕ) → slice_get c.made k ≡ Some m → HasType c (Origin.instance k) (instance_type m.world)
-  of_export : (o : Origin ℕ) (x : Stated) (n : Name) (y : Stated) → HasType c o x → is_instance (kind_of x) ≡ true
+  of_export : (o : Origin ℕ) (x : Stated) (n : Name) (y : Stated) → HasType c o x → is_instance_kind (kind_of x) ≡ true
       → value_at (exports_of x) n ≡ Some y → HasType c (projected o n) y
   of_definition : (x : Stated) → is_type (kind_of x) ≡ true → IsDefinition (tree (written_definition x))
       → HasType c (defined x) x

@@ -179,30 +179,30 @@ abbrev mutual
 
 -- ---- fitting. `fit a true b`: a fits b; `fit a false b`: b fits a
 
-abbrev pub Test : Type 0
-Test = Bool → Tree → Bool
+abbrev pub FitTest : Type 0
+FitTest = Bool → Tree → Bool
 
 -- what the map has under a name, if that is so
 abbrev pub field_is : (Tree → Bool) → Name → Fields → Bool
 field_is p n no_fields = false
 field_is p n (field m t xs) = if bytes_eq n m then p t else field_is p n xs
 
-abbrev pub passes : Option Test → Bool → Tree → Bool
+abbrev pub passes : Option FitTest → Bool → Tree → Bool
 passes None b t = false
 passes (Some p) b t = p b t
 
 -- each field of the second is one of the first, that fits
-abbrev pub gives_all : List (Name × Test) → Fields → Bool
+abbrev pub gives_all : List (Name × FitTest) → Fields → Bool
 gives_all ts no_fields = true
 gives_all ts (field n u ys) = passes (value_at ts n) true u && gives_all ts ys
 
 -- each field of the first is one of the second, that fits it
-abbrev pub is_given : List (Name × Test) → Fields → Bool
-is_given ts ys = list_all (λ t. field_is (t.1 false) t.0 ys) ts
+abbrev pub are_given : List (Name × FitTest) → Fields → Bool
+are_given ts ys = list_all (λ t. field_is (t.1 false) t.0 ys) ts
 
-abbrev pub fields_fit : Bool → List (Name × Test) → Fields → Bool
+abbrev pub fields_fit : Bool → List (Name × FitTest) → Fields → Bool
 fields_fit true = gives_all
-fields_fit false = is_given
+fields_fit false = are_given
 
 -- each member of the second is one of the first
 abbrev pub covers : {A : Type 0} → (A → A → Bool) → List A → List A → Bool
@@ -213,7 +213,7 @@ covers_by true p xs ys = covers p xs ys
 covers_by false p xs ys = covers p ys xs
 
 abbrev mutual
-  pub fit : Tree → Test
+  pub fit : Tree → FitTest
   fit (instance xs) b (instance ys) = fields_fit b (tests xs) ys
   fit (component is es) b (component js fs) = fields_fit (not b) (tests is) js && fields_fit b (tests es) fs
   fit (core_module is es) b (core_module js fs) = covers_by (not b) same_core_import is js && covers_by b same_core_export es fs
@@ -223,7 +223,7 @@ abbrev mutual
   fit (rigid s r) b (rigid t q) = same_label s t && same_row r q
   fit _ b _ = false
 
-  pub tests : Fields → List (Name × Test)
+  pub tests : Fields → List (Name × FitTest)
   tests no_fields = []
   tests (field n t xs) = (n, fit t) ∷ tests xs
 

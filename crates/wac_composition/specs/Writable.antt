@@ -126,8 +126,8 @@ module _ (h : Holder) where
 -- ---- items
 
 -- A test asks for an item's name, what holds it, and whether it stands in an outer import.
-abbrev pub Test : Type 0
-Test = Name → Holder → Bool → Bool
+abbrev pub WritingTest : Type 0
+WritingTest = Name → Holder → Bool → Bool
 
 -- a use, the identifier of its interface, and the test of that interface's types alone
 pub record Needed : Type 0 where
@@ -137,7 +137,7 @@ pub record Needed : Type 0 where
 
 -- what is found of each place: its test; the test of its type exports alone; the uses below it
 pub record Found : Type 0 where
-  pub test : Test
+  pub test : WritingTest
   pub types : Bool → Bool
   pub uses : List Needed
 
@@ -169,15 +169,15 @@ abbrev pub needed_from : Used × Found → Option Name → List Needed
 needed_from u None = []
 needed_from u (Some n) = record { name = n; by = u.0; types = u.1.types } ∷ []
 
-abbrev pub below_use : Used × Found → List Needed
-below_use u = u.1.uses ++ needed_from u (identifier_of u.0.interface)
+abbrev pub needs_of_use : Used × Found → List Needed
+needs_of_use u = u.1.uses ++ needed_from u (identifier_of u.0.interface)
 
 abbrev pub below_items : List Item → List Needed
 below_items es = flat_map (λ e. e.1.1.uses) es
 
 -- what a component type and its items use
 abbrev pub all_needed : Parts Found → List Needed
-all_needed p = flat_map below_use p.uses ++ (below_items p.imports ++ below_items p.exports)
+all_needed p = flat_map needs_of_use p.uses ++ (below_items p.imports ++ below_items p.exports)
 
 -- what is used stands there, a resource as itself
 abbrev pub stands_as : Option Stated → Option Stated → Bool
@@ -211,14 +211,14 @@ any_value h [] = false
 any_value h (None ∷ os) = any_value h os
 any_value h (Some x ∷ os) = value_fails h x.0 || any_value h os
 
-abbrev pub simple : Test → Found
+abbrev pub simple : WritingTest → Found
 simple t = record { test = t; types = λ outer. false; uses = [] }
 
 abbrev pub found_interface : Parts Found → Found
 found_interface p = record {
   test = λ n h outer. interface_fails (used_of p) p.exports outer;
   types = interface_fails (used_of p) (type_items p.exports);
-  uses = flat_map below_use p.uses ++ below_items p.exports;
+  uses = flat_map needs_of_use p.uses ++ below_items p.exports;
 }
 
 abbrev pub found_at : Shape → List (Option (Stated × Found)) → Found
@@ -238,7 +238,7 @@ found_at (type_of s) os = simple (λ n h outer. value_fails h (stated_at s os))
 -- a value item
 found_at s os = simple (λ n h outer. true)
 
-abbrev pub unwritable : Stated → Test
+abbrev pub unwritable : Stated → WritingTest
 unwritable x = (folded found_at x).test
 
 -- ---- at the root

@@ -62,7 +62,7 @@ pub fn names_are_compatible()
 {}
 
 /// The asks that are one outer import with an ask are those that are linked to it, and being linked is
-/// an equivalence: so classes are those of the smallest equivalence in which joined asks are equal.
+/// an equivalence: so classes are those of the smallest equivalence in which akin asks are equal.
 pub fn classes_are_linked<A>()
     ensures linked { Classes_are_linked A }
     ensures turned { Links_turn A }

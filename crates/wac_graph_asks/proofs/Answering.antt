@@ -46,7 +46,7 @@ use Rattle.wac_graph_asks.specs.Asked.{IsAsked, IsAskedOnce}
 use Rattle.wac_graph_asks.specs.AskedUses.{HasSame}
 use Rattle.wac_graph_asks.specs.Classed.{AreLabels, AreSpellings}
 use Rattle.wac_graph_asks.specs.Takes.{AreSound, AreTaken, TakesAll, AreMerged, IfConflict, RefusesAll, HasNoneLabelled, conflict_in, ConflictsFor, HasNoConflict}
-use Rattle.wac_graph_asks.specs.Imported.{AreImports, AreClassed, AddsImports, AreCalled, AddsNames, OutersOf}
+use Rattle.wac_graph_asks.specs.Imported.{AreImports, AreClassed, AddsImports, AreCalled, OutersOf, AddsAllNames}
 use Rattle.wac_graph_asks.specs.Outers.{IsCalled, AreOuters, AnswersOuters}
 use Rattle.wac_graph_asks.proofs.Asking.{asks_kept}
 use Rattle.wac_graph_asks.proofs.Importing.{imports_stay}
@@ -112,7 +112,7 @@ classed_still c d g held classes a =
     }
 
 outers_made : (c mid d : Collection) (held : List HeldAsk) (classes : Classes) (taken : List (ℕ × Taken)) (o : Outers) → Grows c mid → TakesAll c held classes.labels.items mid taken
-    → AddsImports mid held classes taken d (imports_of d o.world) → AddsNames held classes.labels.items (keys_of taken) o.called.items → Stands d (ItemKind.Component o.world) → OutersOf c held classes d o
+    → AddsImports mid held classes taken d (imports_of d o.world) → AddsAllNames held classes.labels.items (keys_of taken) o.called.items → Stands d (ItemKind.Component o.world) → OutersOf c held classes d o
 outers_made c mid d held classes taken o g takes adds names stands sound a =
     let labels = classes.labels.items in
     let same = asks_kept c mid g held a.stand in
@@ -123,7 +123,7 @@ outers_made c mid d held classes taken o g takes adds names stands sound a =
     (subst (λ asks. AreImports d asks labels (each_label labels) (imports_of d o.world)) same imports) (names many t.keys) stands
 
 pub outers_so : {E : Type 0} (r : Result Outers E) (c mid d : Collection) (held : List HeldAsk) (classes : Classes) (taken : List (ℕ × Taken)) → Grows c mid → TakesAll c held classes.labels.items mid taken
-    → IfOk r (λ o. AddsImports mid held classes taken d (imports_of d o.world)) → IfOk r (λ o. AddsNames held classes.labels.items (keys_of taken) o.called.items) → IfOk r (λ o. Stands d (ItemKind.Component o.world)) → IfOk r (OutersOf c held classes d)
+    → IfOk r (λ o. AddsImports mid held classes taken d (imports_of d o.world)) → IfOk r (λ o. AddsAllNames held classes.labels.items (keys_of taken) o.called.items) → IfOk r (λ o. Stands d (ItemKind.Component o.world)) → IfOk r (OutersOf c held classes d)
 outers_so (Ok o) c mid d held classes taken g takes imports names stands = outers_made c mid d held classes taken o g takes imports names stands
 outers_so (Err e) c mid d held classes taken g takes imports names stands = tt
 

@@ -1,51 +1,18 @@
 -- Names of interfaces, and the identifier of an instance that is asked under one.
-use Rattle.std.proofs.Common.{◌≡◌, suc, ◌+◌, Bool, true, false, true≢false, Option, Some, None, Result, Ok, Err, refl, sym, ap, ◌∙◌, inl, inr, arith, length, slice_get}
-use Rattle.std.specs.Prelude.{◌&&◌, ◌⊎◌, is_some, IsSome, if◌then◌else◌}
-use Rattle.std.specs.Bool.{Decides}
-use Rattle.std.specs.Result.{result_ok}
-use Rattle.std.proofs.lemmas.Bool.{or_right}
-use Rattle.semver.specs.Parse.{Parts, version_parts}
-use Rattle.wac_names.specs.ComponentNames.{IsPath, IsVersion, IsInterfaceName}
-use Rattle.wac_names.specs.NameTests.{path_test, pair_test}
-use Rattle.wac_names.proofs.NameForms.{pair_decides}
-use Rattle.wac_names.proofs.NameKinds.{or_parts, or_left, path_decides, path_lacks}
+use Rattle.std.proofs.Common.{◌≡◌, Bool, true, false, Option, Some, None, refl, sym, ap, ◌∙◌, inl, inr, slice_get}
+use Rattle.std.specs.Prelude.{◌&&◌, if◌then◌else◌}
 use Rattle.wac_types_base.specs.declared.item.ItemKind.{ItemKind}
 use Rattle.wac_types_base.specs.declared.item.«Type».{«Type» as TypeKind}
 use Rattle.wac_types_base.specs.declared.ids.InterfaceId.{InterfaceId}
 use Rattle.wac_types_base.specs.declared.defined.Interface.{Interface}
 use Rattle.wac_types_base.specs.Entries.{Name}
 use Rattle.wac_types_base.specs.Record.{Collection}
-use Rattle.wac_types_base.specs.Graph.{whole, grow, node, no_more}
-use Rattle.wac_types_base.specs.Collection.{Stands, IsAcyclic, depth, rows, item_node, unfolding_of, interface_entry, alias}
-use Rattle.wac_types_base.specs.Stated.{kind_of, stated_in, stated_of, identifier_of}
+use Rattle.wac_types_base.specs.Collection.{Stands, IsAcyclic, item_node, interface_entry}
+use Rattle.wac_types_base.specs.Stated.{kind_of, stated_of, identifier_of}
 use Rattle.wac_types_base.proofs.Slots.{entry_at-is}
 use Rattle.wac_types_base.proofs.Telling.{item_kind, kind_stated, stated_step}
-use Rattle.wac_types_base.proofs.Lists.{not_some}
-use Rattle.wac_types_names.specs.Tracks.{read_version}
-use Rattle.wac_composition.specs.Names.{version_test, is_interface_name}
-use Rattle.wac_composition.specs.Classes.{is_instance}
-use Rattle.wac_writable.proofs.PartsStated.{stands_or_not, no_unfolding, stated_nothing}
-
--- ---- names of interfaces
-
-version_told : (text : Name) → Decides (version_test text) (IsVersion text)
-unfolding read_version
-version_told text = go (version_parts text) refl
-  where
-    go : (r : Result Parts _) → version_parts text ≡ r → Decides (is_some (result_ok (version_parts text))) (IsVersion text)
-    go (Ok p) e = (λ h. (p, e), λ h. ap (λ r. is_some (result_ok r)) e)
-    go (Err f) e = (λ h. absurd (true≢false (sym h ∙ ap (λ r. is_some (result_ok r)) e)), λ h. absurd (cc (sym e ∙ h.1)))
-
-pub interface_named : (n : Name) → Decides (is_interface_name n) (IsInterfaceName n)
-interface_named n =
-    let path = path_decides n in
-    let pair = pair_decides 64 path_test version_test IsPath IsVersion path_decides version_told path_lacks n in (
-      λ e. elim (or_parts (path_test n) (pair_test 64 path_test version_test n) e) [ inl h ↦ inl (path.0 h) | inr h ↦ inr (pair.0 h) ],
-      λ h. elim h [
-        | inl j ↦ or_left (path_test n) (pair_test 64 path_test version_test n) (path.1 j)
-        | inr j ↦ or_right (path_test n) (pair_test 64 path_test version_test n) (pair.1 j)
-      ],
-    )
+use Rattle.wac_composition.specs.Classes.{is_instance_kind}
+use Rattle.wac_writable.proofs.PartsStated.{stands_or_not, stated_nothing}
 
 -- ---- identifiers
 
@@ -57,10 +24,10 @@ unfolding item_node
 identifier_is c a id i at own = ap identifier_of (stated_step c a (ItemKind.Instance id) (interface_entry i) (entry_at-is interface_entry c.number c.interfaces id.collection id.index i at own))
 
 -- the identifier of an instance is asked under the name of an interface
-pub asked_instance : (c : Collection) → IsAcyclic c → (id : InterfaceId) (b : Bool) → (if is_instance (kind_of (stated_of c (ItemKind.Instance id))) && b then identifier_of (stated_of c (ItemKind.Instance id)) else None) ≡ (if b then identifier_of (stated_of c (ItemKind.Instance id)) else None)
+pub asked_instance : (c : Collection) → IsAcyclic c → (id : InterfaceId) (b : Bool) → (if is_instance_kind (kind_of (stated_of c (ItemKind.Instance id))) && b then identifier_of (stated_of c (ItemKind.Instance id)) else None) ≡ (if b then identifier_of (stated_of c (ItemKind.Instance id)) else None)
 asked_instance c a id b = elim (stands_or_not c (ItemKind.Instance id)) [
-  | inl s ↦ ap (λ k. if is_instance k && b then identifier_of (stated_of c (ItemKind.Instance id)) else None) (kind_stated c a (ItemKind.Instance id) s)
-  | inr n ↦ ap (λ t. if is_instance (kind_of t) && b then identifier_of t else None) (stated_nothing c (ItemKind.Instance id) n) ∙ go b (identifier_of (stated_of c (ItemKind.Instance id))) (no_identifier c (ItemKind.Instance id) n)
+  | inl s ↦ ap (λ k. if is_instance_kind k && b then identifier_of (stated_of c (ItemKind.Instance id)) else None) (kind_stated c a (ItemKind.Instance id) s)
+  | inr n ↦ ap (λ t. if is_instance_kind (kind_of t) && b then identifier_of t else None) (stated_nothing c (ItemKind.Instance id) n) ∙ go b (identifier_of (stated_of c (ItemKind.Instance id))) (no_identifier c (ItemKind.Instance id) n)
 ]
   where
     go : (b : Bool) (o : Option Name) → o ≡ None → None ≡ (if b then o else None)
@@ -72,13 +39,13 @@ abbrev pub IsNoInstance : ItemKind → Type 0
 IsNoInstance (ItemKind.Instance id) = ⊥
 IsNoInstance k = Unit {0}
 
-pub asked_other : (c : Collection) → IsAcyclic c → (k : ItemKind) (b : Bool) → IsNoInstance k → (if is_instance (kind_of (stated_of c k)) && b then identifier_of (stated_of c k) else None) ≡ None
+pub asked_other : (c : Collection) → IsAcyclic c → (k : ItemKind) (b : Bool) → IsNoInstance k → (if is_instance_kind (kind_of (stated_of c k)) && b then identifier_of (stated_of c k) else None) ≡ None
 asked_other c a k b other_kind = elim (stands_or_not c k) [
-  | inl s ↦ ap (λ j. if is_instance j && b then identifier_of (stated_of c k) else None) (kind_stated c a k s) ∙ ap (λ j. if j && b then identifier_of (stated_of c k) else None) (other k other_kind)
-  | inr n ↦ ap (λ t. if is_instance (kind_of t) && b then identifier_of t else None) (stated_nothing c k n)
+  | inl s ↦ ap (λ j. if is_instance_kind j && b then identifier_of (stated_of c k) else None) (kind_stated c a k s) ∙ ap (λ j. if j && b then identifier_of (stated_of c k) else None) (other k other_kind)
+  | inr n ↦ ap (λ t. if is_instance_kind (kind_of t) && b then identifier_of t else None) (stated_nothing c k n)
 ]
   where
-    other : (k : ItemKind) → IsNoInstance k → is_instance (item_kind k) ≡ false
+    other : (k : ItemKind) → IsNoInstance k → is_instance_kind (item_kind k) ≡ false
     other (ItemKind.Ty (TypeKind.Resource r)) h = refl
     other (ItemKind.Ty (TypeKind.Func f)) h = refl
     other (ItemKind.Ty (TypeKind.Value v)) h = refl

@@ -1,4 +1,4 @@
--- Asks that are joined with the first of each of their words are together exactly where they are linked.
+-- Asks that are akin with the first of each of their words are together exactly where they are linked.
 use Rattle.std.proofs.Common.{◌≡◌, ℕ, ◌+◌, ◌<◌, true, List, [], ◌∷◌, ◌++◌, map, Option, Some, None, inl, inr, refl, sym, ap, subst, ◌∙◌, arith, length, length-append, slice_get}
 use Rattle.std.proofs.lemmas.List.{length-map}
 use Rattle.std.specs.Prelude.{◌⊎◌, option_map}
@@ -14,7 +14,7 @@ use Rattle.wac_types_base.proofs.Walking.{slice_get-Among}
 use Rattle.wac_types_base.proofs.Lists.{there_is}
 use Rattle.wac_types_names.specs.Tracks.{lookup_key, AreCompatible}
 use Rattle.wac_composition.specs.Asks.{Ask}
-use Rattle.wac_composition.specs.Classes.{same_text, identifier_asked, joined, Linked, itself, joined_to}
+use Rattle.wac_composition.specs.Classes.{same_text, identifier_asked, Linked, itself, joined_to, akin}
 use Rattle.wac_composition.specs.Names.{compatible}
 use Rattle.wac_composition.proofs.ClassLaws.{links_turn, links_go_on}
 use Rattle.wac_composition.proofs.NameLaws.{compatible_is}
@@ -28,7 +28,7 @@ use Rattle.wac_graph_asks.proofs.Firsts.{AreFirsts, no_firsts, joins_keep, first
 
 -- ---- places in lists
 
--- ---- asks are joined where they share a word
+-- ---- asks are akin where they share a word
 
 abbrev BothHave : (Words → Option Name) → Words → Words → Type 0
 BothHave word v w = (x : Name) × (word v ≡ Some x) × (word w ≡ Some x)
@@ -51,7 +51,7 @@ on_track None x e = absurd (none-some x e)
 on_track (Some t) x e = (t.1, ap Some (λ i. (same_Some t.0 x e i, t.1)))
 
 module _ {A : Type 0} (a b : Ask A) where
-  pub shares_word : joined a b ≡ true → ShareWord (words_of a) (words_of b)
+  pub shares_word : akin a b ≡ true → ShareWord (words_of a) (words_of b)
   shares_word e = elim (or_parts (compatible a.name b.name) (same_text (identifier_asked a) (identifier_asked b)) e) [
     | inl h ↦ by_name (compatible_is a.name b.name h)
     | inr h ↦ inr (inr (same_texts (identifier_asked a) (identifier_asked b) h))
@@ -61,7 +61,7 @@ module _ {A : Type 0} (a b : Ask A) where
       by_name (inl h) = inl (a.name, refl, ap Some (sym h))
       by_name (inr h) = inr (inl (h.0, ap (option_map (λ (t : Name × Parts). t.0)) h.3, ap (option_map (λ (t : Name × Parts). t.0)) h.4))
 
-  pub joined_by_word : ShareWord (words_of a) (words_of b) → joined a b ≡ true
+  pub joined_by_word : ShareWord (words_of a) (words_of b) → akin a b ≡ true
   joined_by_word (inl h) = or_left (compatible a.name b.name) (same_text (identifier_asked a) (identifier_asked b)) (is_compatible a.name b.name (inl (same_Some a.name b.name (h.1 ∙ sym h.2))))
   joined_by_word (inr (inl h)) =
       let p = on_track (lookup_key a.name) h.0 h.1 in
@@ -112,7 +112,7 @@ module _ {A : Type 0} (asks : List (Ask A)) (ws : List Words) (are : ws ≡ map 
 
 -- ---- so far
 
--- the asks so far are joined: the first of each word is known, and together are only linked ones
+-- the asks so far are akin: the first of each word is known, and together are only linked ones
 pub record SoFar (ws : List Words) (n : ℕ) (names tracks identifiers : List (Name × ℕ)) (labels : List ℕ) : Type 0 where
   pub as_many : length labels ≡ n
   pub by_name : AreFirsts (word_at name_word ws) n names labels

@@ -23,7 +23,7 @@ use Rattle.wac_composition.proofs.Closures.{any_among}
 use Rattle.wac_merging.specs.Labelled.{with_label, each_label}
 use Rattle.wac_graph_asks.specs.declared.asks.Ask.{Ask as HeldAsk}
 use Rattle.wac_graph_asks.specs.Joining.{label_at}
-use Rattle.wac_graph_asks.specs.Imported.{NamesAsk, AddsName, AddsNames}
+use Rattle.wac_graph_asks.specs.Imported.{NamesAsk, AddsName, AddsAllNames}
 
 -- ---- each label is among the labels
 
@@ -122,7 +122,7 @@ module _ (held : List HeldAsk) (labels : List ℕ) where
             subst (λ (x : HeldAsk). Among x.name (map (λ (x : Called). x.name) old ++ ask.name ∷ [])) own (last_among (map (λ (x : Called). x.name) old) ask.name)
       ])
 
-  pub called_all : (keys : List ℕ) (at : ℕ) (called : List Called) → length held ≤ at → CalledSoFar keys at called → AddsNames held labels keys called
+  pub called_all : (keys : List ℕ) (at : ℕ) (called : List Called) → length held ≤ at → CalledSoFar keys at called → AddsAllNames held labels keys called
   called_all keys at called le h many are =
       let k = h many are in
       record { each = k.each; all = λ a m. let p = slice_get-Among held a m in let lt = p.1 in k.all p.0 a (omega (arith, lt, le)) p.2 }

@@ -19,7 +19,7 @@ use Rattle.wac_types_base.proofs.Lists.{there_is}
 use Rattle.wac_types_names.specs.Tracks.{lookup_key, IsLater}
 use Rattle.wac_types_names.specs.Versions.{version_cmp}
 use Rattle.wac_composition.specs.Asks.{Ask}
-use Rattle.wac_composition.specs.Classes.{joined, Linked, itself, class, spelled}
+use Rattle.wac_composition.specs.Classes.{Linked, itself, class, spelled, akin}
 use Rattle.wac_composition.specs.Names.{is_greater, is_later, greatest}
 use Rattle.wac_composition.proofs.ClassLaws.{in_class_linked, linked_in_class, links_turn, links_go_on}
 use Rattle.wac_composition.proofs.OuterClasses.{class_is, itself as joined_itself, turned}
@@ -176,10 +176,10 @@ greatest_again m ns = go (is_later m m)
 
 module _ {A : Type 0} (asks : List (Ask A)) (a : Ask A) (there : Among a asks) where
   abbrev in_class : Ask A → Bool
-  in_class b = list_any (joined b) (class asks a)
+  in_class b = list_any (akin b) (class asks a)
 
   class_filtered : filter in_class asks ≡ class asks a
-  class_filtered = subst (λ ms. filter (λ b. list_any (joined b) ms) asks ≡ ms) (sym (class_is asks a)) (closed joined asks joined_itself turned a there)
+  class_filtered = subst (λ ms. filter (λ b. list_any (akin b) ms) asks ≡ ms) (sym (class_is asks a)) (closed akin asks joined_itself turned a there)
 
   linked_passes : (b : Ask A) → Among b asks → Linked asks a b → in_class b ≡ true
   linked_passes b m l = (filter_among in_class asks b (subst (Among b) (sym (class_filtered)) (linked_in_class asks a b there l))).1

@@ -86,8 +86,8 @@ module _ (c : Collection) where
 
   -- ---- all
 
-  abbrev pub ItemsStand : List HeldAsk → Type 0
-  ItemsStand asks = (a : HeldAsk) → Among a asks → Stands c a.item
+  abbrev pub AskedStand : List HeldAsk → Type 0
+  AskedStand asks = (a : HeldAsk) → Among a asks → Stands c a.item
 
   abbrev pub CopiesStand : List Definition → Type 0
   CopiesStand ds = (d : Definition) → Among d ds → IfSome d.copy (Stands c)
@@ -102,6 +102,6 @@ module _ (c : Collection) where
 
 -- what asks and definitions use is asked, without what is asked before
 pub record AreUses (a : Asked) (uses : List HeldAsk) : Type 0 where
-  pub stand : ItemsStand a.types uses
+  pub stand : AskedStand a.types uses
   pub once : IsAskedOnce (uses_of_asks (asks_in a.types a.asks.items) ++ uses_of_copies a.types a.definitions.items)
       (asks_in a.types uses)

@@ -101,11 +101,11 @@ AddsName keys label n old new =
     Among label keys → (at : ℕ) × (slice_get keys at ≡ Some label) × (new ≡ old ++ record { name = n; at = at } ∷ [])
 
 -- where there is one key for each label, all names are added
-abbrev pub AddsNames : (held : List HeldAsk) (labels keys : List ℕ) → List Called → Type 0
-AddsNames held labels keys called = length labels ≡ length held → keys ≡ each_label labels → AreCalled held labels called
+abbrev pub AddsAllNames : (held : List HeldAsk) (labels keys : List ℕ) → List Called → Type 0
+AddsAllNames held labels keys called = length labels ≡ length held → keys ≡ each_label labels → AreCalled held labels called
 
 abbrev pub CallsNames : (held : List HeldAsk) → Classes → List (ℕ × Taken) → List Called → Type 0
-CallsNames held classes taken called = AddsNames held classes.labels.items (keys_of taken) called
+CallsNames held classes taken called = AddsAllNames held classes.labels.items (keys_of taken) called
 
 -- ---- both
 

@@ -14,9 +14,9 @@ ghost use Rattle.wac_graph_asks.specs.Asked.{package_ids, HasCopy, IsHeld, Adds,
 ghost use Rattle.wac_graph_asks.specs.AskedNodes.{held_ask, unbound_asks, imports_ask, instances_ask, all_defined};
 ghost use Rattle.wac_graph_asks.specs.AskedNodes.{import_asks, definitions_at, AsksInstance, CopiesWorld, AddsNodes};
 ghost use Rattle.wac_graph_asks.specs.AskedNodes.{NamesFirst, AreFirstNames, name_in};
-ghost use Rattle.wac_graph_asks.specs.AskedUses.{NotesUse, AskedBelow, AllSeenAsked, AddsUses, AreUses};
+ghost use Rattle.wac_graph_asks.specs.AskedUses.{NotesUse, AskedBelow, AllSeenAsked, AddsUses, AreUses, AskedStand};
 ghost use Rattle.wac_graph_asks.specs.AskedUses.{with_used, used_directly, used_by_world, used_by_exports};
-ghost use Rattle.wac_graph_asks.specs.AskedUses.{ItemsStand, CopiesStand, uses_of_asks, uses_of_copies};
+ghost use Rattle.wac_graph_asks.specs.AskedUses.{CopiesStand, uses_of_asks, uses_of_copies};
 
 use crate::nodes::{Arguments, import_name, kind_of, node_at, package_of, world_at};
 use indexmap::{IndexMap, IndexSet};
@@ -496,7 +496,7 @@ fn ask_uses_of_asks(
     asks: &[Ask],
     all: &mut UseAsks,
 ) -> Result<(), AllocError>
-    requires stand { ItemsStand types.now asks.now }
+    requires stand { AskedStand types.now asks.now }
     requires seen { AllSeenAsked types.now all.old }
     ensures { OnOk result (AddsUses types.now all.old all.new (uses_of_asks (asks_in types.now asks.now))) }
 {
@@ -536,7 +536,7 @@ impl UseAsks {
 
 /// The asks of used interfaces, by those that use them.
 fn uses_asked(alloc: Global, asked: &Asked) -> Result<Vec<Ask>, AllocError>
-    requires items { ItemsStand asked.now.types asked.now.asks.items }
+    requires items { AskedStand asked.now.types asked.now.asks.items }
     requires copies { CopiesStand asked.now.types asked.now.definitions.items }
     ensures { IfOk result (λ uses. AreUses asked.now uses.items) }
 {

@@ -10,7 +10,7 @@ ghost use Rattle.wac_merging.specs.Kept.{Spells};
 ghost use Rattle.wac_graph_asks.specs.Asked.{KeepsAsked};
 ghost use Rattle.wac_graph_asks.specs.Named.{SpellsClass};
 ghost use Rattle.wac_graph_asks.specs.Takes.{ConflictsFor, HasNoConflict, HasNoneLabelled, IfConflict, IsNoConflict, Merges, MergesLabelled};
-ghost use Rattle.wac_graph_asks.specs.Imported.{AddsImport, AddsImports, AddsName, AddsNames, CallsNames, ImportsAlone};
+ghost use Rattle.wac_graph_asks.specs.Imported.{AddsImport, AddsImports, AddsName, CallsNames, ImportsAlone, AddsAllNames};
 ghost use Rattle.wac_graph_asks.specs.Imported.{MakesImports, MakesWorld, OutersOf, RefusesIn};
 ghost use Rattle.wac_graph_asks.specs.Outers.{AnswersOuters, HasImportsAlone};
 
@@ -107,7 +107,7 @@ fn push_names_called(
     called: &mut Vec<Called>,
 ) -> Result<(), AllocError>
     requires { called.old.items ≡ [] }
-    ensures { OnOk result (AddsNames asks.now labels.now (keys_of taken.now.entries) called.new.items) }
+    ensures { OnOk result (AddsAllNames asks.now labels.now (keys_of taken.now.entries) called.new.items) }
 {
     for (at, ask) in asks.iter().enumerate() {
         push_name_called(taken, place_at(labels, at), &ask.name, called)?;
@@ -122,7 +122,7 @@ fn names_called(
     labels: &[usize],
     taken: &IndexMap<usize, Taken>,
 ) -> Result<Vec<Called>, AllocError>
-    ensures { IfOk result (λ called. AddsNames asks.now labels.now (keys_of taken.now.entries) called.items) }
+    ensures { IfOk result (λ called. AddsAllNames asks.now labels.now (keys_of taken.now.entries) called.items) }
 {
     let mut called = Vec::new(alloc);
     push_names_called(asks, labels, taken, &mut called)?;

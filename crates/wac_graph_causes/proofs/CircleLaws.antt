@@ -36,10 +36,10 @@ use Rattle.wac_graph_asks.specs.AskedUses.{CopiesStand}
 use Rattle.wac_graph_causes.specs.declared.errors.Unwritten.{Unwritten}
 use Rattle.wac_graph_causes.specs.declared.late.Late.{Late}
 use Rattle.wac_graph_causes.specs.Alike.{dependency_of}
-use Rattle.wac_graph_causes.specs.Circling.{AddsOuters, PackagesStand, form_in, forms_in, held_cause, held_outers, late_cause, package_in, packages_in, packages_unless, under_name}
+use Rattle.wac_graph_causes.specs.Circling.{AddsOuters, PackagesStand, form_in, forms_in, held_cause, held_outers, late_cause, package_in, packages_in, under_name, imported_packages}
 use Rattle.wac_graph_causes.specs.Inside.{world_imports}
 use Rattle.wac_graph_causes.specs.Late.{AddsLate, AreLate, late_in, world_written}
-use Rattle.wac_graph_causes.specs.Spelling.{AreCalled}
+use Rattle.wac_graph_causes.specs.Spelling.{SpellsAll}
 use Rattle.wac_graph_causes.specs.Standing.{spelled_in}
 use Rattle.wac_graph_causes.specs.Unwritable.{TellsUnwritable}
 use Rattle.wac_graph_causes.proofs.FirstCauses.{cause_next, cause_nowhere, cause_there, named_if}
@@ -191,7 +191,7 @@ module _ (c d : Collection) (g : Grows c d) where
       ap (λ x. (dependency_of h p.0, x) ∷ packages_in h d ps) (stated_kept c d g (ItemKind.Component p.1) (stand p (inl refl)))
       ∙ ap (λ l. package_in h c p.0 p.1 ∷ l) (packages_kept h ps (λ q m. stand q (inr m)))
 
-  pub unless_kept : (define : Bool) (h : Graph) (ps : List (PackageId × WorldId)) → PackagesStand c ps → packages_unless define h d ps ≡ packages_unless define h c ps
+  pub unless_kept : (define : Bool) (h : Graph) (ps : List (PackageId × WorldId)) → PackagesStand c ps → imported_packages define h d ps ≡ imported_packages define h c ps
   unless_kept true h ps stand = refl
   unless_kept false h ps stand = packages_kept h ps stand
 
@@ -212,7 +212,7 @@ module _ (c d : Collection) (g : Grows c d) where
 
 -- ---- outer imports
 
-pub outers_added : (old mid new : Collection) (g : Grows old mid) (o : Outers) (es : List (Name × Name)) (imports : List (Name × ItemKind)) → imports ≡ imports_of old o.world → ItemsStand old imports → AreCalled old o.world o.called.items es
+pub outers_added : (old mid new : Collection) (g : Grows old mid) (o : Outers) (es : List (Name × Name)) (imports : List (Name × ItemKind)) → imports ≡ imports_of old o.world → ItemsStand old imports → SpellsAll old o.world o.called.items es
     → (x y z : List Late) → AddsLate old mid x y (world_written old es o.world) → AddsLate mid new y z (flat_map written_inside (stated_items mid imports)) → AddsOuters old new o x z
 outers_added old mid new g o es imports are stand called x y z f h asks outers =
     adds_as old new x z _ (held_outers asks old o.world)

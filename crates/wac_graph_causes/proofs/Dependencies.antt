@@ -1,15 +1,11 @@
 -- The names under which packages are imported: those of a graph's composition, each once.
-use Rattle.std.specs.Prelude.{◌&&◌, ◌||◌, bytes_eq, codes, filter_map, map}
+use Rattle.std.specs.Prelude.{◌||◌, codes, filter_map, map}
 use Rattle.std.specs.Bool.{Decides, one_answer}
 use Rattle.std.specs.List.{cons_option, list_any}
-use Rattle.std.specs.Cmp.Derive.{both_true}
-use Rattle.std.proofs.Common.{◌≡◌, ◌==◌, ℕ, Bool, true, false, true≢false, List, [], ◌∷◌, ◌++◌, append_assoc, take, slice_get, ◌+◌, Option, Some, None, IsSome, refl, sym, ap, subst, ◌∙◌, inl, inr}
-use Rattle.std.proofs.lemmas.Bool.{and_parts}
+use Rattle.std.proofs.Common.{◌≡◌, ℕ, Bool, true, false, true≢false, List, [], ◌∷◌, ◌++◌, append_assoc, take, slice_get, ◌+◌, Option, Some, None, IsSome, refl, sym, ap, ◌∙◌, inl, inr}
 use Rattle.std.proofs.lemmas.List.{append-nil}
 use Rattle.std.proofs.lemmas.Option.{same_Some}
-use Rattle.std.proofs.lemmas.Slice.Eq.{bytes_eq-Decides}
-use Rattle.std.proofs.lemmas.Bool.Decides.{Decides-eqb, Decides-like}
-use Rattle.semver.specs.Parse.{Parts}
+use Rattle.std.proofs.lemmas.Bool.Decides.{Decides-like}
 use Rattle.wac_types_base.specs.declared.item.ItemKind.{ItemKind}
 use Rattle.wac_types_base.specs.Entries.{Name, names_of}
 use Rattle.wac_types_base.specs.Graph.{Among}
@@ -18,7 +14,8 @@ use Rattle.wac_types_base.proofs.Lists.{joined}
 use Rattle.wac_types_base.proofs.Loops.{mapped_next, names-with_values, map-get, map-map}
 use Rattle.wac_types_base.proofs.Looked.{take-one_more}
 use Rattle.wac_types_names.specs.Packaged.{Packaged}
-use Rattle.wac_types_names.specs.Keys.{Key, package_key}
+use Rattle.wac_types_names.specs.Keys.{Key, package_key, same_key}
+use Rattle.wac_types_names.proofs.KeyTests.{keys_decide}
 use Rattle.wac_graph_core.specs.declared.ids.PackageId.{PackageId}
 use Rattle.wac_graph_core.specs.contracts.ids.PackageIdPartialEq.TheImpl.{eq-value}
 use Rattle.wac_graph_core.specs.Nodes.{NodeData}
@@ -26,8 +23,7 @@ use Rattle.wac_graph_core.specs.Graph.{Graph, IsGraph, package_of, package_if}
 use Rattle.wac_composition.specs.Composition.{Made}
 use Rattle.wac_composition.specs.Asks.{asks_of}
 use Rattle.wac_composition.specs.OuterImports.{outer_imports}
-use Rattle.wac_composition.specs.Tests.{options_agree}
-use Rattle.wac_composition.specs.Conflicts.{version_name, dependency_name, same_parts, same_key, each_once, dependencies_of, import_names}
+use Rattle.wac_composition.specs.Conflicts.{version_name, dependency_name, each_once, dependencies_of, import_names}
 use Rattle.wac_graph_scopes.specs.Parts.{imports_of}
 use Rattle.wac_graph_asks.specs.declared.asks.Asked.{Asked}
 use Rattle.wac_graph_asks.specs.declared.outers.Outers.{Outers}
@@ -38,47 +34,7 @@ use Rattle.wac_graph_causes.specs.Alike.{AreHeld, dependency_of, package_name, d
 use Rattle.wac_graph_causes.specs.Unwritable.{package_world, dependency_at}
 use Rattle.wac_graph_asks.proofs.NodeAsks.{same_id}
 
--- ---- keys are the same
-
-parts_only : (p q : Parts) → same_parts p q ≡ true → p ≡ q
-parts_only p q e =
-    let a = and_parts ((p.0 == q.0) && (p.1 == q.1) && (p.2 == q.2) && bytes_eq p.3 q.3) (bytes_eq p.4 q.4) e in
-    let b = and_parts ((p.0 == q.0) && (p.1 == q.1) && (p.2 == q.2)) (bytes_eq p.3 q.3) a.0 in
-    let c = and_parts ((p.0 == q.0) && (p.1 == q.1)) (p.2 == q.2) b.0 in
-    let d = and_parts (p.0 == q.0) (p.1 == q.1) c.0 in
-    let major = (Decides-eqb p.0 q.0).0 d.0 in
-    let minor = (Decides-eqb p.1 q.1).0 d.1 in
-    let patch = (Decides-eqb p.2 q.2).0 c.1 in
-    let pre = (bytes_eq-Decides p.3 q.3).0 b.1 in
-    let build = (bytes_eq-Decides p.4 q.4).0 a.1 in
-    λ i. (major i, minor i, patch i, pre i, build i)
-
-parts_itself : (p : Parts) → same_parts p p ≡ true
-parts_itself p =
-    both_true (both_true (both_true (both_true ((Decides-eqb p.0 p.0).1 refl) ((Decides-eqb p.1 p.1).1 refl)) ((Decides-eqb p.2 p.2).1 refl)) ((bytes_eq-Decides p.3 p.3).1 refl)) ((bytes_eq-Decides p.4 p.4).1 refl)
-
-versions_only : (o p : Option Parts) → options_agree same_parts o p ≡ true → o ≡ p
-versions_only None None e = refl
-versions_only (Some x) (Some y) e = ap Some (parts_only x y e)
-versions_only None (Some y) e = absurd (cc e)
-versions_only (Some x) None e = absurd (cc e)
-
-versions_itself : (o : Option Parts) → options_agree same_parts o o ≡ true
-versions_itself None = refl
-versions_itself (Some x) = parts_itself x
-
-keys_only : (j k : Key) → same_key j k ≡ true → j ≡ k
-keys_only j k e =
-    let h = and_parts (bytes_eq j.0 k.0) (options_agree same_parts j.1 k.1) e in
-    let name = (bytes_eq-Decides j.0 k.0).0 h.0 in
-    let version = versions_only j.1 k.1 h.1 in
-    λ i. (name i, version i)
-
-keys_itself : (k : Key) → same_key k k ≡ true
-keys_itself k = both_true ((bytes_eq-Decides k.0 k.0).1 refl) (versions_itself k.1)
-
-keys_decide : (j k : Key) → Decides (same_key j k) (j ≡ k)
-keys_decide j k = (keys_only j k, λ e. subst (λ (x : Key). same_key j x ≡ true) e (keys_itself j))
+-- ---- ids
 
 ids_decide : (i j : PackageId) → Decides (eq-value.it i j) (i ≡ j)
 ids_decide i j = ((same_id i j).0, (same_id i j).1)

@@ -15,13 +15,13 @@ use Rattle.wac_types_base.specs.Parts.{identifier_in}
 use Rattle.wac_types_base.specs.Stated.{Stated, stated_of, identifier_of}
 use Rattle.wac_types_base.proofs.Loops.{names-with_values}
 use Rattle.wac_types_base.proofs.Stating.{value_with}
-use Rattle.wac_composition.specs.Circles.{used_by, put, written_names}
+use Rattle.wac_composition.specs.Circles.{put, written_names, used_names}
 use Rattle.wac_graph_scopes.specs.Parts.{interface_in}
 use Rattle.wac_writable.proofs.HolderLaws.{has_append, has_put}
 use Rattle.wac_writable.proofs.PartsStated.{identifier_is}
 use Rattle.wac_graph_causes.specs.declared.order.Sources.{Sources}
 use Rattle.wac_graph_causes.specs.declared.order.Order.{Order}
-use Rattle.wac_graph_causes.specs.Orders.{AddsUsed, IsBegun, Puts, PutsAll, names_used, spell_in, stated_in}
+use Rattle.wac_graph_causes.specs.Orders.{AddsUsed, IsBegun, Puts, PutsAll, spell_in, interfaces_stated, import_names_of}
 
 -- ---- names among names
 
@@ -31,7 +31,7 @@ has_last ns n m = has_append ns (n ∷ []) m ∙ ap (λ b. has_name ns m || b) (
 -- ---- what is used
 
 module _ (s : Sources) where
-  used_append : (xs ys : List Stated) → names_used s (xs ++ ys) ≡ names_used s xs ++ names_used s ys
+  used_append : (xs ys : List Stated) → import_names_of s (xs ++ ys) ≡ import_names_of s xs ++ import_names_of s ys
   used_append xs ys = filter_map-append (λ i. option_map (spell_in s) (identifier_of i)) xs ys
 
   pub adds_none : (old : List Name) → AddsUsed s [] old old
@@ -39,12 +39,12 @@ module _ (s : Sources) where
 
   pub adds_both : (xs ys : List Stated) (a b c : List Name) → AddsUsed s xs a b → AddsUsed s ys b c → AddsUsed s (xs ++ ys) a c
   adds_both xs ys a b c f g =
-      g ∙ ap (λ l. l ++ names_used s ys) f ∙ append_assoc a (names_used s xs) (names_used s ys) ∙ ap (λ l. a ++ l) (sym (used_append xs ys))
+      g ∙ ap (λ l. l ++ import_names_of s ys) f ∙ append_assoc a (import_names_of s xs) (import_names_of s ys) ∙ ap (λ l. a ++ l) (sym (used_append xs ys))
 
   pub adds_as : (xs ys : List Stated) (a b : List Name) → xs ≡ ys → AddsUsed s xs a b → AddsUsed s ys a b
-  adds_as xs ys a b e f = f ∙ ap (λ l. a ++ names_used s l) e
+  adds_as xs ys a b e f = f ∙ ap (λ l. a ++ import_names_of s l) e
 
-  one_named : (x : Stated) (o : Option Name) → identifier_of x ≡ o → names_used s (x ∷ []) ≡ cons_option (option_map (spell_in s) o) []
+  one_named : (x : Stated) (o : Option Name) → identifier_of x ≡ o → import_names_of s (x ∷ []) ≡ cons_option (option_map (spell_in s) o) []
   one_named x o e = ap (λ p. cons_option (option_map (spell_in s) p) []) e
 
   module _ (acyclic : IsAcyclic s.types.now) (id : InterfaceId) (a : List Name) where
@@ -55,11 +55,11 @@ module _ (s : Sources) where
     no_use e = sym (append-nil a) ∙ ap (λ l. a ++ l) (sym (one_named (stated_of s.types.now (ItemKind.Instance id)) None (identifier_is s.types.now acyclic id ∙ sym e)))
 
   -- what the import of a name uses
-  pub needs_there : (n : Name) (k : ItemKind) → value_at s.interfaces.now n ≡ Some k → used_by (spell_in s) (stated_in s) (Some (stated_of s.types.now k)) ≡ used_by (spell_in s) (stated_in s) (value_at (stated_in s) n)
-  needs_there n k e = ap (used_by (spell_in s) (stated_in s)) (sym (value_with (stated_of s.types.now) s.interfaces.now n ∙ ap (option_map (stated_of s.types.now)) e))
+  pub needs_there : (n : Name) (k : ItemKind) → value_at s.interfaces.now n ≡ Some k → used_names (spell_in s) (interfaces_stated s) (Some (stated_of s.types.now k)) ≡ used_names (spell_in s) (interfaces_stated s) (value_at (interfaces_stated s) n)
+  needs_there n k e = ap (used_names (spell_in s) (interfaces_stated s)) (sym (value_with (stated_of s.types.now) s.interfaces.now n ∙ ap (option_map (stated_of s.types.now)) e))
 
-  pub needs_none : (n : Name) → value_at s.interfaces.now n ≡ None → [] ≡ used_by (spell_in s) (stated_in s) (value_at (stated_in s) n)
-  needs_none n e = ap (used_by (spell_in s) (stated_in s)) (sym (value_with (stated_of s.types.now) s.interfaces.now n ∙ ap (option_map (stated_of s.types.now)) e))
+  pub needs_none : (n : Name) → value_at s.interfaces.now n ≡ None → [] ≡ used_names (spell_in s) (interfaces_stated s) (value_at (interfaces_stated s) n)
+  needs_none n e = ap (used_names (spell_in s) (interfaces_stated s)) (sym (value_with (stated_of s.types.now) s.interfaces.now n ∙ ap (option_map (stated_of s.types.now)) e))
 
 -- ---- the order
 
@@ -89,7 +89,7 @@ module _ (s : Sources) where
   begun_stays zero n o e ws h = (h, refl)
   begun_stays (suc k) n o e ws h = (h, go (has_name ws n || has_name o.written.items n) (sym (h n) ∙ e))
     where
-      go : (b : Bool) → b ≡ true → o.written.items ≡ (if b then o.written.items else fold (put (spell_in s) (stated_in s) k (n ∷ ws)) o.written.items (used_by (spell_in s) (stated_in s) (value_at (stated_in s) n)) ++ n ∷ [])
+      go : (b : Bool) → b ≡ true → o.written.items ≡ (if b then o.written.items else fold (put (spell_in s) (interfaces_stated s) k (n ∷ ws)) o.written.items (used_names (spell_in s) (interfaces_stated s) (value_at (interfaces_stated s) n)) ++ n ∷ [])
       go true q = refl
       go false q = absurd (true≢false (sym q))
 
@@ -100,11 +100,11 @@ module _ (s : Sources) where
   put_more k xs x a b c f g ws h =
       let r = f ws h in
       let t = g ws r.0 in
-      (t.0, t.1 ∙ ap (λ l. put (spell_in s) (stated_in s) k ws l x) r.1 ∙ sym (fold-append (put (spell_in s) (stated_in s) k ws) a.written.items xs (x ∷ [])))
+      (t.0, t.1 ∙ ap (λ l. put (spell_in s) (interfaces_stated s) k ws l x) r.1 ∙ sym (fold-append (put (spell_in s) (interfaces_stated s) k ws) a.written.items xs (x ∷ [])))
 
   -- an import that is begun is put behind what it uses
   module _ (k : ℕ) (n : Name) (o a b c : Order) (new : has_name o.begun n ≡ false) (begun : a.begun ≡ put_name o.begun n) (same : a.written.items ≡ o.written.items)
-      (needs : List Name) (are : needs ≡ used_by (spell_in s) (stated_in s) (value_at (stated_in s) n)) (all : PutsAll s k needs a b) (kept : c.begun ≡ b.begun) (last : c.written.items ≡ b.written.items ++ n ∷ []) where
+      (needs : List Name) (are : needs ≡ used_names (spell_in s) (interfaces_stated s) (value_at (interfaces_stated s) n)) (all : PutsAll s k needs a b) (kept : c.begun ≡ b.begun) (last : c.written.items ≡ b.written.items ++ n ∷ []) where
     waits : (ws : List Name) → IsBegun s ws o → IsBegun s (n ∷ ws) a
     waits ws h m =
         ap (λ l. has_name l m) begun ∙ has_put o.begun n m ∙ ap (λ t. t || pointwise ◌==◌ m n) (h m)
@@ -119,26 +119,26 @@ module _ (s : Sources) where
     put_behind ws h =
         let r = all (n ∷ ws) (waits ws h) in (
           stands ws r.0,
-          last ∙ ap (λ l. l ++ n ∷ []) (r.1 ∙ ap (fold (put (spell_in s) (stated_in s) k (n ∷ ws)) a.written.items) are ∙ ap (λ l. fold (put (spell_in s) (stated_in s) k (n ∷ ws)) l (used_by (spell_in s) (stated_in s) (value_at (stated_in s) n))) same)
+          last ∙ ap (λ l. l ++ n ∷ []) (r.1 ∙ ap (fold (put (spell_in s) (interfaces_stated s) k (n ∷ ws)) a.written.items) are ∙ ap (λ l. fold (put (spell_in s) (interfaces_stated s) k (n ∷ ws)) l (used_names (spell_in s) (interfaces_stated s) (value_at (interfaces_stated s) n))) same)
               ∙ go ws (has_name ws n || has_name o.written.items n) (sym (h n) ∙ new),
         )
       where
         go : (ws : List Name) (t : Bool) → t ≡ false
-            → fold (put (spell_in s) (stated_in s) k (n ∷ ws)) o.written.items (used_by (spell_in s) (stated_in s) (value_at (stated_in s) n)) ++ n ∷ []
-            ≡ (if t then o.written.items else fold (put (spell_in s) (stated_in s) k (n ∷ ws)) o.written.items (used_by (spell_in s) (stated_in s) (value_at (stated_in s) n)) ++ n ∷ [])
+            → fold (put (spell_in s) (interfaces_stated s) k (n ∷ ws)) o.written.items (used_names (spell_in s) (interfaces_stated s) (value_at (interfaces_stated s) n)) ++ n ∷ []
+            ≡ (if t then o.written.items else fold (put (spell_in s) (interfaces_stated s) k (n ∷ ws)) o.written.items (used_names (spell_in s) (interfaces_stated s) (value_at (interfaces_stated s) n)) ++ n ∷ [])
         go ws true q = absurd (true≢false q)
         go ws false q = refl
 
   -- all of them, from nothing on
-  pub all_put : (k : ℕ) (ns : List Name) (a b : Order) → PutsAll s k ns a b → a.begun ≡ [] → a.written.items ≡ [] → k ≡ length ns → ns ≡ names_of s.interfaces.now → b.written.items ≡ written_names (spell_in s) (stated_in s)
+  pub all_put : (k : ℕ) (ns : List Name) (a b : Order) → PutsAll s k ns a b → a.begun ≡ [] → a.written.items ≡ [] → k ≡ length ns → ns ≡ names_of s.interfaces.now → b.written.items ≡ written_names (spell_in s) (interfaces_stated s)
   all_put k ns a b f begun none len are =
-      let names : ns ≡ names_of (stated_in s) = are ∙ sym (names-with_values (stated_of s.types.now) s.interfaces.now) in
+      let names : ns ≡ names_of (interfaces_stated s) = are ∙ sym (names-with_values (stated_of s.types.now) s.interfaces.now) in
       let r = f [] (λ m. ap (λ l. has_name l m) begun ∙ sym (ap (λ l. has_name l m) none)) in
-      r.1 ∙ (λ i. fold (put (spell_in s) (stated_in s) (counted names i) []) (none i) (names i))
+      r.1 ∙ (λ i. fold (put (spell_in s) (interfaces_stated s) (counted names i) []) (none i) (names i))
     where
       same_length : (xs : List (Name × Stated)) → length (names_of xs) ≡ length xs
       same_length [] = refl
       same_length (x ∷ xs) = ap suc (same_length xs)
 
-      counted : ns ≡ names_of (stated_in s) → k ≡ length (stated_in s)
-      counted names = len ∙ ap length names ∙ same_length (stated_in s)
+      counted : ns ≡ names_of (interfaces_stated s) → k ≡ length (interfaces_stated s)
+      counted names = len ∙ ap length names ∙ same_length (interfaces_stated s)

@@ -14,7 +14,7 @@ use Rattle.wac_composition.specs.Asks.{Ask}
 use Rattle.wac_composition.specs.Classes.{class, spelled, spelling}
 use Rattle.wac_graph_scopes.specs.declared.imports.Called.{Called}
 use Rattle.wac_graph_asks.specs.Outers.{AreOuters}
-use Rattle.wac_graph_causes.specs.Spelling.{AreCalled, AreKept, NotesCalled, Spells}
+use Rattle.wac_graph_causes.specs.Spelling.{NotesCalled, Spells, SpellsSeen, SpellsAll}
 use Rattle.wac_graph_causes.specs.Standing.{spelled_in}
 
 -- of what is found under a name after something is put under one
@@ -34,7 +34,7 @@ put_stays es n m v h = elim (name_tested m n) [
     put_there es n v = ap is_some (put_is es n v)
 
 module _ (c : Collection) (world : WorldId) (called : List Called) where
-  pub kept_none : (es : List (Name × Name)) → es ≡ [] → AreKept c world [] called es
+  pub kept_none : (es : List (Name × Name)) → es ≡ [] → SpellsSeen c world [] called es
   kept_none es e spell h = record {
     so = λ n m is. absurd (nothing n m (sym (ap (λ l. value_at l n) e) ∙ is));
     named = λ n m is. absurd (nothing n m (sym (ap (λ l. value_at l n) e) ∙ is));
@@ -44,7 +44,7 @@ module _ (c : Collection) (world : WorldId) (called : List Called) where
       nothing : (n m : Name) → None ≡ Some m → ⊥
       nothing n m q = true≢false (sym (ap is_some q))
 
-  pub kept_more : (i : ℕ) (one : Called) → slice_get called i ≡ Some one → (old new : List (Name × Name)) → NotesCalled c world one old new → AreKept c world (take i called) called old → AreKept c world (take (i + 1) called) called new
+  pub kept_more : (i : ℕ) (one : Called) → slice_get called i ≡ Some one → (old new : List (Name × Name)) → NotesCalled c world one old new → SpellsSeen c world (take i called) called old → SpellsSeen c world (take (i + 1) called) called new
   kept_more i one at old new notes h spell spelled_so =
       let there = spelled_so one (among-get called i one at) in
       let is = notes (spell one.name, there.0) there.1 in
@@ -70,7 +70,7 @@ module _ (c : Collection) (world : WorldId) (called : List Called) where
 
 -- ---- what is asked
 
-module _ (asks : List (Ask ℕ)) (c : Collection) (world : WorldId) (called : List Called) (outers : AreOuters asks c world called) (es : List (Name × Name)) (kept : AreCalled c world called es) where
+module _ (asks : List (Ask ℕ)) (c : Collection) (world : WorldId) (called : List Called) (outers : AreOuters asks c world called) (es : List (Name × Name)) (kept : SpellsAll c world called es) where
   known : Spells (spelling asks) called es
   known = kept (spelling asks) (λ one m. outers.called_there one m)
 

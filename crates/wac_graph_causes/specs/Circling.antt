@@ -49,9 +49,9 @@ abbrev pub packages_in : Graph → Collection → List (PackageId × WorldId) �
 packages_in g c ps = map (λ p. package_in g c p.0 p.1) ps
 
 -- none where components are defined
-abbrev pub packages_unless : (define : Bool) → Graph → Collection → List (PackageId × WorldId) → List (Name × Stated)
-packages_unless true g c ps = []
-packages_unless false g c ps = packages_in g c ps
+abbrev pub imported_packages : (define : Bool) → Graph → Collection → List (PackageId × WorldId) → List (Name × Stated)
+imported_packages true g c ps = []
+imported_packages false g c ps = packages_in g c ps
 
 abbrev pub PackagesStand : Collection → List (PackageId × WorldId) → Type 0
 PackagesStand c ps = (p : PackageId × WorldId) → Among p ps → Stands c (ItemKind.Component p.1)
@@ -72,7 +72,7 @@ module _ (define : Bool) (g : Graph) where
     pub outers : (asks : List (Ask ℕ)) → AreOuters asks old o.world o.called.items
         → AreLate new all.outers.items (held_outers asks old o.world)
     pub definitions : AreLate new all.definitions.items (flat_map written_inside (forms_in old ds))
-    pub packages : AreLate new all.packages.items (flat_map written_inside (packages_unless define g old ps))
+    pub packages : AreLate new all.packages.items (flat_map written_inside (imported_packages define g old ps))
 
 -- ---- what is told
 
@@ -126,7 +126,7 @@ module _ (define : Bool) (g : Graph) (c : Collection) (o : Outers) (ps : List (P
   abbrev pub held_circle : List (Ask ℕ) → Option (Cause ℕ)
   held_circle asks =
       first_late (held_outers asks c o.world) (flat_map written_inside (forms_in c ds))
-      (flat_map written_inside (packages_unless define g c ps))
+      (flat_map written_inside (imported_packages define g c ps))
 
   -- so it is of all asks whose outer imports these are
   abbrev pub IfOuters : (List (Ask ℕ) → Type 0) → Type 0

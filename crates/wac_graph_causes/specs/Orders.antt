@@ -29,16 +29,16 @@ module _ (s : Sources) where
   spell_in = spelled_in s.spelled.now
 
   -- the interfaces that are imported, as stated types
-  abbrev pub stated_in : List (Name × Stated)
-  stated_in = stated_items s.types.now s.interfaces.now
+  abbrev pub interfaces_stated : List (Name × Stated)
+  interfaces_stated = stated_items s.types.now s.interfaces.now
 
   -- the names of the imports that give these interfaces
-  abbrev pub names_used : List Stated → List Name
-  names_used xs = filter_map (λ i. option_map spell_in (identifier_of i)) xs
+  abbrev pub import_names_of : List Stated → List Name
+  import_names_of xs = filter_map (λ i. option_map spell_in (identifier_of i)) xs
 
   -- these names are added behind the others
   abbrev pub AddsUsed : List Stated → (old new : List Name) → Type 0
-  AddsUsed xs old new = new ≡ old ++ names_used xs
+  AddsUsed xs old new = new ≡ old ++ import_names_of xs
 
   -- the name of the one that is used at a place
   abbrev pub AddsUseAt : InterfaceId → ℕ → (old new : List Name) → Type 0
@@ -56,7 +56,7 @@ module _ (s : Sources) where
   PutsSo f old new = (waiting : List Name) → IsBegun waiting old → IsBegun waiting new × (new.written.items ≡ f waiting old.written.items)
 
   abbrev pub Puts : ℕ → Name → (old new : Order) → Type 0
-  Puts depth n old new = PutsSo (λ ws ns. put spell_in stated_in depth ws ns n) old new
+  Puts depth n old new = PutsSo (λ ws ns. put spell_in interfaces_stated depth ws ns n) old new
 
   abbrev pub PutsAll : ℕ → List Name → (old new : Order) → Type 0
-  PutsAll depth names old new = PutsSo (λ ws ns. fold (put spell_in stated_in depth ws) ns names) old new
+  PutsAll depth names old new = PutsSo (λ ws ns. fold (put spell_in interfaces_stated depth ws) ns names) old new

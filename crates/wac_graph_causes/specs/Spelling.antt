@@ -24,8 +24,8 @@ module _ (c : Collection) (world : WorldId) where
   NotesCalled one old new = (x : Name × ItemKind) → slice_get (imports_of c world) one.at ≡ Some x → new ≡ put_entry old one.name x.0
 
   -- so it is by each spelling that is the imports'
-  abbrev pub AreKept : (seen all : List Called) → List (Name × Name) → Type 0
-  AreKept seen all es = (spell : Name → Name) → AreSpelled spell all → Spells spell seen es
+  abbrev pub SpellsSeen : (seen all : List Called) → List (Name × Name) → Type 0
+  SpellsSeen seen all es = (spell : Name → Name) → AreSpelled spell all → Spells spell seen es
 
-  abbrev pub AreCalled : List Called → List (Name × Name) → Type 0
-  AreCalled called es = AreKept called called es
+  abbrev pub SpellsAll : List Called → List (Name × Name) → Type 0
+  SpellsAll called es = SpellsSeen called called es

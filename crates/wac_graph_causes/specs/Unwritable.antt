@@ -91,18 +91,18 @@ abbrev pub outer_cause : List (Name × Stated) → Option (Cause ℕ)
 outer_cause os = first_unwritable (outer_unwritable os) os
 
 -- where what is found is true, and the outer imports' world has its imports alone
-abbrev pub IfOuters : Asked → Outers → Findings → Type 0 → Type 0
-IfOuters asked outers found P = KnowsAll asked.types found → HasImportsAlone asked.types outers.world → P
+abbrev pub IfFound : Asked → Outers → Findings → Type 0 → Type 0
+IfFound asked outers found P = KnowsAll asked.types found → HasImportsAlone asked.types outers.world → P
 
 -- it tells the import at this place
 abbrev pub TellsImport : Collection → WorldId → ℕ → Unwritten → Type 0
 TellsImport c w at e = (x : Name × ItemKind) → slice_get (imports_of c w) at ≡ Some x → TellsName x.0 e
 
 abbrev pub OutersPass : Asked → Outers → Findings → Type 0
-OutersPass asked outers found = IfOuters asked outers found (outer_cause (outers_in asked outers) ≡ None)
+OutersPass asked outers found = IfFound asked outers found (outer_cause (outers_in asked outers) ≡ None)
 
 abbrev pub TellsOuterCause : Asked → Outers → Findings → Unwritten → Type 0
-TellsOuterCause asked outers found e = IfOuters asked outers found (TellsUnwritable (outer_cause (outers_in asked outers)) e)
+TellsOuterCause asked outers found e = IfFound asked outers found (TellsUnwritable (outer_cause (outers_in asked outers)) e)
 
 -- ---- definitions
 

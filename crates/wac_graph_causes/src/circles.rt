@@ -10,7 +10,7 @@ ghost use Rattle.wac_graph_scopes.specs.Parts.{imports_of};
 ghost use Rattle.wac_writable.specs.Unnamed.{KnowsAll};
 ghost use Rattle.wac_graph_asks.specs.AskedUses.{CopiesStand};
 ghost use Rattle.wac_graph_causes.specs.Late.{AddsLate, AreLate, world_written};
-ghost use Rattle.wac_graph_causes.specs.Circling.{AddsOuters, AreHeldLate, PackagesStand, forms_in, package_in, packages_in, packages_unless, under_name};
+ghost use Rattle.wac_graph_causes.specs.Circling.{AddsOuters, AreHeldLate, PackagesStand, forms_in, package_in, packages_in, under_name, imported_packages};
 ghost use Rattle.wac_graph_causes.specs.Circling.{LatePass, LatePasses, PassLate, PassWritten, CirclesPass};
 ghost use Rattle.wac_graph_causes.specs.Circling.{TellsLate, TellsLateAt, TellsHeld, TellsWritten, TellsCircle};
 
@@ -235,7 +235,7 @@ fn written_packages(
 ) -> Result<Vec<Late>, AllocError>
     requires { PackagesStand types.old packages.now.entries }
     ensures late { IfOk result (λ v. AreLate types.new v.items
-        (flat_map written_inside (packages_unless define_components graph.now types.old packages.now.entries))) }
+        (flat_map written_inside (imported_packages define_components graph.now types.old packages.now.entries))) }
     ensures grows { Grows types.old types.new }
 {
     types.see_acyclic();

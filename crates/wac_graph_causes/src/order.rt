@@ -4,8 +4,8 @@ ghost use Rattle.std.specs.Prelude.{◌≡◌, ◌∷◌, [], ◌++◌, IfOk, On
 ghost use Rattle.wac_types_base.specs.declared.item.ItemKind.{ItemKind};
 ghost use Rattle.wac_types_base.specs.Stated.{stated_of};
 ghost use Rattle.wac_graph_scopes.specs.Parts.{uses_of, exports_of};
-ghost use Rattle.wac_composition.specs.Circles.{used_inside, used_by, written_names};
-ghost use Rattle.wac_graph_causes.specs.Orders.{AddsUsed, AddsUseAt, Puts, PutsAll, interfaces_used, spell_in, stated_in, used_in_items};
+ghost use Rattle.wac_composition.specs.Circles.{used_inside, written_names, used_names};
+ghost use Rattle.wac_graph_causes.specs.Orders.{AddsUsed, AddsUseAt, Puts, PutsAll, interfaces_used, spell_in, used_in_items, interfaces_stated};
 ghost use Rattle.wac_types_base.specs.Entries.{names_of, put_name, value_at};
 
 use crate::standing::spelled;
@@ -116,8 +116,8 @@ fn add_needs_of_exports(
 
 /// The names of the imports that the import of a name uses.
 fn needs_of(sources: Sources<'_>, name: &str) -> Result<Vec<Text>, AllocError>
-    ensures { IfOk result (λ v. v.items ≡ used_by (spell_in sources.entry) (stated_in sources.entry)
-        (value_at (stated_in sources.entry) name.now)) }
+    ensures { IfOk result (λ v. v.items ≡ used_names (spell_in sources.entry) (interfaces_stated sources.entry)
+        (value_at (interfaces_stated sources.entry) name.now)) }
 {
     let mut names = Vec::new(sources.alloc);
     if let Some(kind) = sources.interfaces.get(name) {
@@ -188,7 +188,7 @@ fn names_of(alloc: Global, interfaces: &NamedMap<ItemKind>) -> Result<Vec<Text>,
 
 /// The imports in the order in which they are written, by their names.
 pub(crate) fn written_names(sources: Sources<'_>) -> Result<Vec<Text>, AllocError>
-    ensures { IfOk result (λ v. v.items ≡ written_names (spell_in sources.entry) (stated_in sources.entry)) }
+    ensures { IfOk result (λ v. v.items ≡ written_names (spell_in sources.entry) (interfaces_stated sources.entry)) }
 {
     let names = names_of(sources.alloc, sources.interfaces)?;
     let mut order = Order {

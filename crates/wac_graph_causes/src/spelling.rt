@@ -1,7 +1,7 @@
 //! The names of the imports that are asked under names.
 
 ghost use Rattle.std.specs.Prelude.{IfOk, OnOk};
-ghost use Rattle.wac_graph_causes.specs.Spelling.{AreCalled, NotesCalled};
+ghost use Rattle.wac_graph_causes.specs.Spelling.{NotesCalled, SpellsAll};
 
 use crate::order::text_of;
 use std::alloc::{AllocError, Global};
@@ -36,7 +36,7 @@ pub(crate) fn names_called(
     world: WorldId,
     called: &[Called],
 ) -> Result<NamedMap<Text>, AllocError>
-    ensures { IfOk result (λ m. AreCalled types.now world called.now m) }
+    ensures { IfOk result (λ m. SpellsAll types.now world called.now m) }
 {
     let mut kept = NamedMap::new(alloc);
     for one in called {

@@ -29,7 +29,7 @@ use Rattle.wac_graph_asks.specs.Outers.{AreOuters}
 use Rattle.wac_graph_asks.proofs.Asking.{world_kept}
 use Rattle.wac_graph_asks.proofs.Lasting.{outers_stay}
 use Rattle.wac_graph_causes.specs.declared.errors.Unwritten.{Unwritten}
-use Rattle.wac_graph_causes.specs.Circling.{CirclesPass, PackagesStand, TellsCircle, first_late, forms_in, held_circle, held_outers, packages_in, packages_unless}
+use Rattle.wac_graph_causes.specs.Circling.{CirclesPass, PackagesStand, TellsCircle, first_late, forms_in, held_circle, held_outers, packages_in, imported_packages}
 use Rattle.wac_graph_causes.specs.Unwritable.{TellsUnwritable, dependency_at, outers_of, package_world}
 use Rattle.wac_graph_causes.proofs.CircleLaws.{named}
 use Rattle.wac_graph_causes.proofs.Dependencies.{packages_listed}
@@ -106,7 +106,7 @@ module _ (g : Graph) (sound : IsGraph g) (acyclic : IsAcyclic g.types) (a : Aske
     held : AreOuters (asks_of (composition_of g)) c o.world o.called.items
     held = outers_stay (asks_of (composition_of g)) a.types c h.acyclic grows o.world o.called.items h.outers
 
-    unless_defined : (define : Bool) → packages_unless define g c a.packages.entries ≡ dependencies_of define (composition_of g)
+    unless_defined : (define : Bool) → imported_packages define g c a.packages.entries ≡ dependencies_of define (composition_of g)
     unless_defined true = refl
     unless_defined false =
         packages_are g c a.packages.entries (λ id w m. world_kept g a.types c grows id w (h.worlds id w m))

@@ -31,7 +31,7 @@ use Rattle.wac_graph_scopes.specs.Parts.{exports_of as exports_in, imports_of}
 use Rattle.wac_graph_scopes.specs.declared.imports.Called.{Called}
 use Rattle.wac_graph_scopes.proofs.PartLaws.{exports_there}
 use Rattle.wac_graph_scopes.proofs.WritingLaws.{value_here}
-use Rattle.wac_composition.specs.Classes.{is_instance as one_of}
+use Rattle.wac_composition.specs.Classes.{is_instance_kind as one_of}
 use Rattle.wac_composition.specs.Composition.{Origin, imported, instance, projected, defined}
 use Rattle.wac_composition.specs.Asks.{asks_of}
 use Rattle.wac_composition.specs.Worlds.{final_type, then_in}

@@ -18,7 +18,7 @@ use Rattle.wac_graph_bytes.specs.Writing.{sections_for, sections_fit}
 use Rattle.wac_graph_bytes.proofs.Written.{IsWhole, sections_entries, sections_small}
 use Rattle.wac_graph_core.specs.Graph.{Graph, IsGraph, instantiated}
 use Rattle.wac_graph_asks.specs.Wirings.{asked_trees}
-use Rattle.wac_graph_encode.specs.Standing.{by_number, number_in, Denotes, IsExported, IsFinished, IsInstanceOf, IsListed}
+use Rattle.wac_graph_encode.specs.Standing.{by_number, number_in, IsExported, IsFinished, IsInstanceOf, IsListed, StandsFor}
 use Rattle.wac_graph_encode.specs.Encoding.{as_written, tag_of, IsImportedIn, IsInstantiated, MeansGraph}
 use Rattle.wac_graph_encode.specs.Finished.{AreSpelled}
 use Rattle.wac_graph_encode.proofs.Sources.{IsAsked, asks_renamed, asks_weaker}
@@ -57,7 +57,7 @@ pub record IsReadBeside (define : Bool) (g : Graph) (l : Listed) : Type 0 where
 
 -- its sources ask what is imported
 pub record AsksImported (g : Graph) : Type 0 where
-  pub nodes : (k : ℕ) (s : Source ℕ) → Denotes g k s → IsAsked g s
+  pub nodes : (k : ℕ) (s : Source ℕ) → StandsFor g k s → IsAsked g s
   pub instances : (k : ℕ) (p : Packaged) (x : Instantiation ℕ) → instantiated g k ≡ Some p → IsInstanceOf g k p x → (n : Name) → IsAsked g (x.args n)
 
 module _ (define : Bool) (g : Graph) (sound : IsGraph g) (asks : AsksImported g) (w : Worlds) (asked : List (Name × Tree)) (es : List CodeEntry) (once : AreDistinct (names_of asked)) (done : IsFinished g w define asked es)

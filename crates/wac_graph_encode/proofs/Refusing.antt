@@ -17,7 +17,7 @@ use Rattle.wac_graph_causes.specs.Alike.{IsAlike}
 use Rattle.wac_graph_causes.specs.Unwritable.{TellsUnwritable, TellsUnwritten, unwritten_cause}
 use Rattle.wac_graph_causes.specs.Sizes.{Confirms, TellsLarge}
 use Rattle.wac_graph_encode.specs.declared.options.EncodeOptions.{EncodeOptions}
-use Rattle.wac_graph_encode.specs.Refused.{cause_in, HasNoneAlike, HasNoneClashing, HasNoneFound, IsFree, IsOfSize, IsRefusedFor, IsToldFor, waiting_cause}
+use Rattle.wac_graph_encode.specs.Refused.{cause_in, HasNoneAlike, HasNoneClashing, HasNoneFound, IsFree, IsRefusedFor, IsToldFor, waiting_cause, IsOfSizeOrMemory}
 
 module _ (options : EncodeOptions) (g : Graph) where
   abbrev conflicts : Option (Cause ℕ)
@@ -79,7 +79,7 @@ module _ (options : EncodeOptions) (g : Graph) where
   circle_refused Unwritten.TooLarge none t = tt
   circle_refused Unwritten.Memory none t = tt
 
-  pub size_refused : (f : Unwritten) → IsOfSize f → IsRefusedFor options g (unwritten_refusal f)
+  pub size_refused : (f : Unwritten) → IsOfSizeOrMemory f → IsRefusedFor options g (unwritten_refusal f)
   size_refused (Unwritten.TypeCannotBeWritten n) h = absurd h
   size_refused Unwritten.TooLarge h = tt
   size_refused Unwritten.Memory h = tt

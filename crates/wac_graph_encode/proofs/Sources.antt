@@ -27,7 +27,7 @@ use Rattle.wac_graph_asks.specs.Graphs.{composition_of, origin_of}
 use Rattle.wac_graph_asks.specs.Outers.{IsOuters}
 use Rattle.wac_graph_asks.specs.Wirings.{asked_trees, written_tree}
 use Rattle.wac_graph_asks.proofs.Origins.{argument_is, import_stated, made_among, made_of}
-use Rattle.wac_graph_encode.specs.Standing.{spelled, Denotes, IsInstanceOf}
+use Rattle.wac_graph_encode.specs.Standing.{spelled, IsInstanceOf, StandsFor}
 use Rattle.wac_graph_encode.proofs.RootedOuters.{ask_at, asked_there}
 
 -- ---- what a source asks
@@ -67,7 +67,7 @@ module _ (g : Graph) (sound : IsGraph g) (finite_types : IsAcyclic g.types) (c :
   asked_named a m = ap (λ (o : Option Stated). is_some (option_map tree o)) (is.met a m).there
 
   -- what a node stands for
-  pub denoted_asks : (k : ℕ) (s : Source ℕ) → Denotes g k s → IsAsked g s
+  pub denoted_asks : (k : ℕ) (s : Source ℕ) → StandsFor g k s → IsAsked g s
   denoted_asks k s (wired.imported x n at role) = asked_named (ask_at g sound finite_types c acyclic world called is k x n) (asked_there g sound finite_types c acyclic world called is k x n at role)
   denoted_asks k s (wired.instance x at role) = tt
   denoted_asks k s (wired.defined x at role) = tt

@@ -23,7 +23,7 @@ use Rattle.wac_graph_scopes.specs.declared.imports.SortIndex.{SortIndex}
 use Rattle.wac_graph_encode.specs.declared.root.Counts.{Counts}
 use Rattle.wac_graph_asks.specs.Wirings.{written_tree}
 use Rattle.wac_graph_encode.specs.Standing.{by_number, spelled, IsExported, IsWritten, IsFinished}
-use Rattle.wac_graph_encode.specs.Writing.{AllStand, IsExportOf, AddsExports}
+use Rattle.wac_graph_encode.specs.Writing.{IsExportOf, AddsExports, AllAreWritten}
 use Rattle.wac_graph_encode.proofs.WritingLaws.{names_among}
 
 steps_more : (w : Worlds) (st : State) (xs ys : List Entry) → steps w st (xs ++ ys) ≡ (steps w st xs >>= λ m. steps w m ys)
@@ -77,7 +77,7 @@ module _ (g : Graph) (is : IsGraph g) (worlds : Worlds) (define : Bool) (asked :
         are = (record { name = refl; source = a.source; denotes = a.denotes; written = a.written; is = refl }, rest.are);
       }
 
-  all_listed : AllStand g nodes → (k : ℕ) → IsSome (instantiated g k) → Among k h.order
+  all_listed : AllAreWritten g nodes → (k : ℕ) → IsSome (instantiated g k) → Among k h.order
   all_listed all k there = go (node_at g k) refl there
     where
       go : (o : Option NodeData) → node_at g k ≡ o → IsSome (package_made g o) → Among k h.order
@@ -93,7 +93,7 @@ module _ (g : Graph) (is : IsGraph g) (worlds : Worlds) (define : Bool) (asked :
           made None q t = absurd (cc (subst (λ (o : Option PackageId). IsSome (package_if g o)) q t))
           made (Some id) q t = (is.nodes k x e).only id q
 
-  pub exports_finished : (new : List CodeEntry) → AllStand g nodes → AddsExports nodes g.exports es new → IsFinished g worlds define asked new
+  pub exports_finished : (new : List CodeEntry) → AllAreWritten g nodes → AddsExports nodes g.exports es new → IsFinished g worlds define asked new
   exports_finished new all x =
       let a = along g.exports x.entries h.state (λ s i m e. e) x.are in
       record {

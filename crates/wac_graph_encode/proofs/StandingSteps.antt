@@ -31,11 +31,11 @@ use Rattle.wac_graph_core.specs.Graph as graph
 use Rattle.wac_graph_core.specs.Graph.{Graph, IsGraph, GivesExport, node_at}
 use Rattle.wac_graph_core.specs.GraphWiring as wired
 use Rattle.wac_graph_scopes.specs.declared.imports.SortIndex.{SortIndex}
-use Rattle.wac_composition.specs.Classes.{is_instance}
+use Rattle.wac_composition.specs.Classes.{is_instance_kind}
 use Rattle.wac_graph_encode.specs.declared.root.Counts.{Counts}
 use Rattle.wac_graph_encode.specs.Standing as standing
 use Rattle.wac_graph_scopes.specs.Items.{sort_of}
-use Rattle.wac_graph_encode.specs.Standing.{number_in, by_number, Denotes, StandsAt, IsOuterAt, IsPackageAt, IsListed, IsWritten, CountsOne}
+use Rattle.wac_graph_encode.specs.Standing.{number_in, by_number, StandsAt, IsOuterAt, IsPackageAt, IsListed, IsWritten, CountsOne, StandsFor}
 use Rattle.wac_types_fit.proofs.Items.{Among-last}
 use Rattle.wac_graph_encode.proofs.StandingNumbers.{by_number_on, project_named, named_number}
 use Rattle.wac_graph_encode.proofs.StandingTrees.{Gives, Sorts, gives_export, sorts}
@@ -67,7 +67,7 @@ instance_sort (ItemKind.Component w) e = absurd (cc e)
 instance_sort (ItemKind.Module m) e = absurd (cc e)
 instance_sort (ItemKind.Value v) e = absurd (cc e)
 
-instance_kind : (k : ItemKind) → graph.is_instance k ≡ true → is_instance (item_kind k) ≡ true
+instance_kind : (k : ItemKind) → graph.is_instance k ≡ true → is_instance_kind (item_kind k) ≡ true
 instance_kind (ItemKind.Ty t) e = absurd (cc e)
 instance_kind (ItemKind.Func f) e = absurd (cc e)
 instance_kind (ItemKind.Instance i) e = refl
@@ -129,7 +129,7 @@ index_is worlds es st c s h reads = h s ∙ sym (counted worlds es st s reads)
 
 -- ---- named nodes
 
-pub named : (g : Graph) (k : ℕ) (s : Source ℕ) → Denotes g k s → IsNamed s
+pub named : (g : Graph) (k : ℕ) (s : Source ℕ) → StandsFor g k s → IsNamed s
 named g k s (wired.imported x n at role) = tt
 named g k s (wired.instance x at role) = tt
 named g k s (wired.defined x at role) = tt
@@ -166,8 +166,8 @@ module _ (g : Graph) (is : IsGraph g) (finite : IsFinite g.types) (worlds : Worl
     one : graph.is_instance a.node.item_kind ≡ true
     one = ap (λ (y : NodeData). graph.is_instance y.item_kind) (sym from_is) ∙ gives.one
 
-    kind_is : is_instance (kind_of (stated_of g.types a.node.item_kind)) ≡ true
-    kind_is = ap is_instance (kind_stated g.types finite a.node.item_kind (is.nodes i a.node a.there).item) ∙ instance_kind a.node.item_kind one
+    kind_is : is_instance_kind (kind_of (stated_of g.types a.node.item_kind)) ≡ true
+    kind_is = ap is_instance_kind (kind_stated g.types finite a.node.item_kind (is.nodes i a.node a.there).item) ∙ instance_kind a.node.item_kind one
 
     exported : value_at (exports_of (stated_of g.types a.node.item_kind)) n ≡ Some (stated_of g.types x.item_kind)
     exported = ap (λ (y : NodeData). value_at (exports_of (stated_of g.types y.item_kind)) n) (sym from_is) ∙ gives.export ∙ ap (λ (y : NodeData). Some (stated_of g.types y.item_kind)) to_is

@@ -21,7 +21,7 @@ use Rattle.wac_graph_bytes.specs.declared.value.Sort.TheVariants as sort
 use Rattle.wac_graph_bytes.specs.Typing.{export_named, as_func, as_sort, item_of_sort, type_in}
 use Rattle.wac_graph_scopes.proofs.FieldLaws.{same_look}
 use Rattle.wac_graph_scopes.proofs.UsedLaws.{root_of}
-use Rattle.wac_composition.specs.Classes.{is_instance}
+use Rattle.wac_composition.specs.Classes.{is_instance_kind}
 use Rattle.wac_composition.specs.Sound.{fields_of}
 use Rattle.wac_composition.proofs.KeptFits.{fields_looked, instance_tree}
 use Rattle.wac_graph_scopes.specs.Items.{sort_of}
@@ -101,7 +101,7 @@ pub record Gives (n : Name) (t : Tree) (y : Stated) : Type 0 where
   pub ordered : InOrder part
   pub fits : Fits part (tree y)
 
-pub gives_export : (t : Tree) (x y : Stated) (n : Name) → is_instance (kind_of x) ≡ true → InOrder t → Fits t (tree x) → value_at (exports_of x) n ≡ Some y → Gives n t y
+pub gives_export : (t : Tree) (x y : Stated) (n : Name) → is_instance_kind (kind_of x) ≡ true → InOrder t → Fits t (tree x) → value_at (exports_of x) n ≡ Some y → Gives n t y
 gives_export t x y n one order fits at =
     let f = fits_instance t (fields_of (exports_of x)) (subst (Fits t) (instance_tree x one) fits) in
     let h : HasField n (tree y) (fields_of (exports_of x)) = looked-has n (tree y) (fields_of (exports_of x)) (fields_looked (exports_of x) n ∙ ap (option_map tree) at) in
@@ -115,7 +115,7 @@ gives_export t x y n one order fits at =
     }
 
 -- what a type exports that fits another fits what that exports
-pub exports_fit : (a x : Stated) (n : Name) (m y : Stated) → is_instance (kind_of a) ≡ true → is_instance (kind_of x) ≡ true → InOrder (tree a) → Fits (tree a) (tree x)
+pub exports_fit : (a x : Stated) (n : Name) (m y : Stated) → is_instance_kind (kind_of a) ≡ true → is_instance_kind (kind_of x) ≡ true → InOrder (tree a) → Fits (tree a) (tree x)
     → value_at (exports_of a) n ≡ Some m → value_at (exports_of x) n ≡ Some y → Fits (tree m) (tree y)
 exports_fit a x n m y own one order fits at asked =
     let g = gives_export (tree a) x y n one order fits asked in

@@ -21,7 +21,7 @@ use Rattle.wac_types_base.proofs.Looked.{among-get}
 use Rattle.wac_graph_core.proofs.WiringLaws.{once, same_instance}
 use Rattle.wac_graph_asks.specs.Wirings.{IsGraphWiring, asked_trees, written_tree}
 use Rattle.wac_graph_encode.specs.Encoding.{as_written, dependency_tag, tag_of, tagged}
-use Rattle.wac_graph_encode.specs.Standing.{number_in, by_number, spelled, Denotes, IsListed, IsExported, IsFinished}
+use Rattle.wac_graph_encode.specs.Standing.{number_in, by_number, spelled, IsListed, IsExported, IsFinished, StandsFor}
 use Rattle.wac_graph_encode.proofs.StandingNumbers.{later}
 
 -- ---- places in two lists that go together
@@ -68,7 +68,7 @@ number_of (i ∷ is) d (suc j) k e =
 -- what is exported under a name is what its node denotes
 abbrev ExportIs : Graph → List ℕ → Option ℕ → Option (Source ℕ) → Type 0
 ExportIs g order None o = o ≡ None
-ExportIs g order (Some k) o = (s : Source ℕ) × Denotes g k s × (o ≡ Some (by_number order s))
+ExportIs g order (Some k) o = (s : Source ℕ) × StandsFor g k s × (o ≡ Some (by_number order s))
 
 exported_at : (g : Graph) (worlds : Worlds) (define : Bool) (order : List ℕ) (es : List (Name × ℕ)) (xs : List (Name × Source ℕ)) → AllZip (IsExported g worlds define order) es xs → (n : Name) → ExportIs g order (value_at es n) (value_at xs n)
 exported_at g worlds define order [] [] z n = refl
@@ -123,7 +123,7 @@ pub record IsTaggedAs (g : Graph) (define : Bool) (V : Wiring ℕ) (k : ℕ) (p 
 pub record IsTaggedWiring (g : Graph) (define : Bool) (V : Wiring ℕ) : Type 0 where
   pub instances : (k : ℕ) (p : Packaged) → instantiated g k ≡ Some p → IsTaggedAs g define V k p
   pub no_other : (k : ℕ) → instantiated g k ≡ None → V.at k ≡ None
-  pub exported : (n : Name) (k : ℕ) → value_at g.exports n ≡ Some k → Denotes g k (V.exports n)
+  pub exported : (n : Name) (k : ℕ) → value_at g.exports n ≡ Some k → StandsFor g k (V.exports n)
   pub no_export : (n : Name) → value_at g.exports n ≡ None → V.exports n ≡ Absent
 
 pub tagged_wiring : (define : Bool) (g : Graph) (W : Wiring ℕ) → IsGraphWiring g W → IsTaggedWiring g define (as_written define g W)

@@ -15,7 +15,7 @@ use Rattle.wac_graph_core.specs.contracts.ids.NodeIdPartialEq.TheImpl as node
 use Rattle.wac_graph_scopes.specs.Parts.{imports_of}
 use Rattle.wac_graph_scopes.specs.declared.imports.Called.{Called}
 use Rattle.wac_graph_asks.specs.declared.asks.Definition.{Definition}
-use Rattle.wac_graph_encode.specs.Worlds.{AreCalledTypes, AreDefinitionTypes, IsCalledType, IsDefinitionType, TellsCalled, TellsDefinition, told_called, told_definition}
+use Rattle.wac_graph_encode.specs.Worlds.{AreCalledTypes, AreDefinitionTypes, IsCalledType, IsDefinitionType, TellsCalled, told_called, told_definition, NotesDefinition}
 use Rattle.wac_graph_encode.proofs.Entries.{same_node}
 use Rattle.wac_graph_encode.proofs.Nesting.{inserted_among}
 use Rattle.wac_graph_encode.proofs.WritingLaws.{value_put}
@@ -100,7 +100,7 @@ before_defined before x k item t = (t.0, Among-left t.0 before (x ∷ []) t.1, t
 pub defined_none : AreDefinitionTypes [] []
 defined_none = record { sound = λ k item m. absurd m; all = λ x m s. absurd m }
 
-pub defined_more : (before : List Definition) (x : Definition) (old new : List (ℕ × ItemKind)) → TellsDefinition x old new → AreDefinitionTypes before old → AreDefinitionTypes (before ++ x ∷ []) new
+pub defined_more : (before : List Definition) (x : Definition) (old new : List (ℕ × ItemKind)) → NotesDefinition x old new → AreDefinitionTypes before old → AreDefinitionTypes (before ++ x ∷ []) new
 defined_more before x old new tells are = by_copy x.copy refl
   where
     by_copy : (o : Option ItemKind) → x.copy ≡ o → AreDefinitionTypes (before ++ x ∷ []) new

@@ -31,7 +31,7 @@ use Rattle.wac_graph_encode.specs.declared.instances.Wired.{Wired}
 use Rattle.wac_graph_encode.specs.declared.instances.Standing.{Standing}
 use Rattle.wac_graph_asks.specs.Reads.{AreArguments}
 use Rattle.wac_graph_encode.specs.Standing.{IsGivenAt, argument, outer}
-use Rattle.wac_graph_encode.specs.Writing.{IsNeeded, AddsCalled, AreCalled, AddsEntry, AddsExport, AddsExports, AddsGiven, AddsNeeded, IsExportOf, exported_as, GivesUnder, by_node, by_import, AreGivenUnder, AreGivenAt, IsSameRoot, KeepsNodes, AddsOnly, AllStand, Below, UpToOne, WrittenSo, noted}
+use Rattle.wac_graph_encode.specs.Writing.{IsNeeded, AddsCalled, AreCalled, AddsEntry, AddsExport, AddsExports, AddsGiven, AddsNeeded, IsExportOf, exported_as, GivesUnder, by_node, by_import, AreGivenUnder, AreGivenAt, IsSameRoot, KeepsNodes, AddsOnly, Below, UpToOne, WrittenSo, noted, AllAreWritten}
 use Rattle.wac_graph_encode.proofs.Entries.{same_node, found_among, none_among}
 use Rattle.wac_types_fit.proofs.Items.{Among-last}
 use Rattle.wac_graph_encode.proofs.StandingNumbers.{zip_map, zip_more}
@@ -228,7 +228,7 @@ wrote_more ids rest left node old mid new before is writes keeps stands = record
   ];
 }
 
-pub wrote_all : (rest : List ℕ) (old w : Wired) → WroteUpTo (finite.keys old.graph.now.nodes) rest old w → rest ≡ [] → AllStand w.graph.now (noted w)
+pub wrote_all : (rest : List ℕ) (old w : Wired) → WroteUpTo (finite.keys old.graph.now.nodes) rest old w → rest ≡ [] → AllAreWritten w.graph.now (noted w)
 wrote_all rest old w done none k there = by_node (node_at old.graph.now k) refl (subst (λ (g : _). ContainsNode g.now k) done.keeps.same.graph there)
   where
     by_node : (o : Option NodeData) → node_at old.graph.now k ≡ o → IsSome o → Among k (names_of (noted w))

@@ -58,9 +58,9 @@ module _ (options : EncodeOptions) (g : Graph) where
   HasNoneAlike = alike_cause options.define_components options.validate g ≡ None
 
 -- something was too large, or memory was short
-abbrev pub IsOfSize : Unwritten → Type 0
-IsOfSize (Unwritten.TypeCannotBeWritten n) = ⊥
-IsOfSize e = Unit {0}
+abbrev pub IsOfSizeOrMemory : Unwritten → Type 0
+IsOfSizeOrMemory (Unwritten.TypeCannotBeWritten n) = ⊥
+IsOfSizeOrMemory e = Unit {0}
 
 -- no import is asked by its name and by an instance, and none conflict
 pub record HasNoneClashing (g : Graph) : Type 0 where

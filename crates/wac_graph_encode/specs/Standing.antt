@@ -57,8 +57,8 @@ module _ (g : Graph) where
   spelled = spelling (asks_of (composition_of g))
 
   -- what a node stands for
-  abbrev pub Denotes : ℕ → Source ℕ → Type 0
-  Denotes = wired.Denotes spelled (written_tree g) g
+  abbrev pub StandsFor : ℕ → Source ℕ → Type 0
+  StandsFor = wired.Denotes spelled (written_tree g) g
 
   abbrev pub IsInstanceOf : ℕ → Packaged → Instantiation ℕ → Type 0
   IsInstanceOf = wired.IsInstance spelled (written_tree g) g
@@ -81,7 +81,7 @@ module _ (g : Graph) where
       pub there : node_at g k ≡ Some node
       pub sort : sort_of node.item_kind ≡ Some p.sort
       pub source : Source ℕ
-      pub denotes : Denotes k source
+      pub denotes : StandsFor k source
       pub written : Uses (λ i. Among i order) source
       pub meaning : Meaning
       pub at : slice_get (space p.sort st.scope) p.index ≡ Some meaning
@@ -139,7 +139,7 @@ module _ (g : Graph) where
       pub record IsExported (order : List ℕ) (x : Name × ℕ) (e : Name × Source ℕ) : Type 0 where
         pub name : e.0 ≡ x.0
         pub source : Source ℕ
-        pub denotes : Denotes x.1 source
+        pub denotes : StandsFor x.1 source
         pub written : Uses (λ i. Among i order) source
         pub is : e.1 ≡ by_number order source
 

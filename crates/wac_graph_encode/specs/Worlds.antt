@@ -110,8 +110,8 @@ abbrev pub told_definition : Definition → Option ItemKind → List (ℕ × Ite
 told_definition x None es = es
 told_definition x (Some item) es = insert_entry node.eq-value.it es x.node item
 
-abbrev pub TellsDefinition : Definition → List (ℕ × ItemKind) → List (ℕ × ItemKind) → Type 0
-TellsDefinition x old new = new ≡ told_definition x x.copy old
+abbrev pub NotesDefinition : Definition → List (ℕ × ItemKind) → List (ℕ × ItemKind) → Type 0
+NotesDefinition x old new = new ≡ told_definition x x.copy old
 
 -- ---- exports
 
@@ -148,6 +148,6 @@ with_import None es = es
 with_import (Some e) es = put_entry es e.0 e.1
 
 -- the world is made of these
-abbrev pub IsMadeOf : (old new : Collection) → (imports exports : List (Name × ItemKind)) → WorldId → Type 0
-IsMadeOf old new imports exports w =
+abbrev pub IsWorldMade : (old new : Collection) → (imports exports : List (Name × ItemKind)) → WorldId → Type 0
+IsWorldMade old new imports exports w =
     IsOf new (world_of None [] (stated_items old imports) (stated_items old exports)) (ItemKind.Component w)

@@ -181,8 +181,8 @@ abbrev pub UpToOne : List ℕ → (ℕ → ℕ) → ℕ → Type 0
 UpToOne nodes rank k = (j : ℕ) × Among j nodes × (rank k ≤ rank j)
 
 -- all nodes stand
-abbrev pub AllStand : Graph → List (ℕ × SortIndex) → Type 0
-AllStand g nodes = (k : ℕ) → ContainsNode g k → Among k (names_of nodes)
+abbrev pub AllAreWritten : Graph → List (ℕ × SortIndex) → Type 0
+AllAreWritten g nodes = (k : ℕ) → ContainsNode g k → Among k (names_of nodes)
 
 -- ---- the whole
 

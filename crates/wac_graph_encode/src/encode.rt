@@ -11,7 +11,7 @@ ghost use Rattle.wac_graph_causes.specs.Acyclic.{IsNoCycle};
 ghost use Rattle.wac_graph_causes.specs.Circling.{PackagesStand};
 ghost use Rattle.wac_graph_encode.specs.Encoding.{HasTrueWorld};
 ghost use Rattle.wac_graph_encode.specs.Worlds.{IsToHandOut};
-ghost use Rattle.wac_graph_encode.specs.Refused.{HasNoneAlike, HasNoneClashing, HasNoneFound, HasNoneUnwritten, IsErrorFor, IsFree, IsOfSize, IsRefusedFor};
+ghost use Rattle.wac_graph_encode.specs.Refused.{HasNoneAlike, HasNoneClashing, HasNoneFound, HasNoneUnwritten, IsErrorFor, IsFree, IsRefusedFor, IsOfSizeOrMemory};
 ghost use Rattle.wac_graph_encode.specs.Refused.{IsToldFor, waiting_cause};
 ghost use Rattle.wac_graph_encode.specs.Finished.{AreSpelled, IsPrepared, MeansAsked, MeansImported, MeansNested, MeansWired, NestsSo, NestsWired};
 ghost use Rattle.wac_graph_encode.specs.Finished.{PreparedHands, PreparedImports, PreparedMeans, PreparedWaits, RefusesPrepared};
@@ -95,7 +95,7 @@ fn bytes_of(
 /// What writing refused of a composition against which no cause stands: no type of it is known that is not written, and no
 /// contract says so. Then want of memory is told in the end.
 fn size_told(fault: Unwritten) -> Unwritten
-    ensures { IsOfSize result }
+    ensures { IsOfSizeOrMemory result }
 {
     match fault {
         Unwritten::TypeCannotBeWritten { name: _ } => Unwritten::TooLarge,
@@ -114,7 +114,7 @@ fn bytes_told(
 ) -> Result<Vec<u8>, Unwritten>
     ensures means { MeansAsked graph.now asked.now outers.now definitions.now options.now result }
     ensures nests { NestsSo options.now.define_components graph.now (names_of asked.now.packages.entries) result }
-    ensures refused { IfErr result IsOfSize }
+    ensures refused { IfErr result IsOfSizeOrMemory }
 {
     match bytes_of(graph, asked, outers, definitions, options) {
         Ok(bytes) => Ok(bytes),

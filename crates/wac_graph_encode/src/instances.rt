@@ -9,7 +9,7 @@ ghost use Rattle.wac_graph_scopes.specs.Parts.{imports_of};
 ghost use Rattle.wac_graph_asks.specs.Reads.{AreArguments};
 ghost use Rattle.wac_graph_scopes.specs.Items.{sort_of};
 ghost use Rattle.wac_graph_encode.specs.Beginning.{IsBare};
-ghost use Rattle.wac_graph_encode.specs.Writing.{Finishes, AddsArgument, AddsCalled, AddsEntry, AddsExport, AddsExports, AddsGiven, AddsNeeded, AddsOnly, AllStand, AreCalled, AreGivenIn, Below, GivesUnder, IfYes, IsAliasAt, IsSameRoot, KeepsNodes, KeepsWritten, PassesAll, UpTo, UpToOne, WritesInstance, WritesNode, exported_as, noted, NestsNoMore};
+ghost use Rattle.wac_graph_encode.specs.Writing.{Finishes, AddsArgument, AddsCalled, AddsEntry, AddsExport, AddsExports, AddsGiven, AddsNeeded, AddsOnly, AreCalled, AreGivenIn, Below, GivesUnder, IfYes, IsAliasAt, IsSameRoot, KeepsNodes, KeepsWritten, PassesAll, UpTo, UpToOne, WritesInstance, WritesNode, exported_as, noted, NestsNoMore, AllAreWritten};
 
 use crate::labels::names_of_nodes;
 use crate::root::{Root, push_entry};
@@ -279,7 +279,7 @@ fn push_exports(
     nodes: &IndexMap<NodeId, SortIndex>,
     entries: &mut Vec<Entry>,
 ) -> Result<(), AllocError>
-    requires { AllStand graph.now nodes.now.entries }
+    requires { AllAreWritten graph.now nodes.now.entries }
     ensures { OnOk result (AddsExports nodes.now.entries graph.now.exports entries.old.items entries.new.items) }
 {
     graph.see_sound();
@@ -508,7 +508,7 @@ impl<'a> Wired<'a> {
     fn write_nodes(&mut self) -> Result<(), Unwritten>
         ensures writes { KeepsWritten self.old self.new result }
         ensures keeps { OnOk result (KeepsNodes self.old self.new) }
-        ensures all { OnOk result (AllStand self.new.graph.now (noted self.new)) }
+        ensures all { OnOk result (AllAreWritten self.new.graph.now (noted self.new)) }
     {
         let depth = node_count(self.graph).saturating_add(1);
         for node in self.graph.node_ids() {

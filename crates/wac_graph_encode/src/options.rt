@@ -14,7 +14,12 @@ pub struct EncodeOptions {
     pub processor: Option<Processor>,
 }
 
+/// Packages are nested, names are tested, and no processor is named.
 impl Default for EncodeOptions {
+    ghost use Rattle.std.specs.Prelude.{◌≡◌, None, true};
+
+    ghost is_default = { λ o. o ≡ record { define_components = true; validate = true; processor = None } };
+
     fn default() -> Self {
         EncodeOptions {
             define_components: true,

@@ -10,8 +10,8 @@ ghost use Rattle.wac_graph_core.specs.Edges.{HasAlias};
 ghost use Rattle.wac_graph_core.specs.Graph.{ContainsNode};
 ghost use Rattle.wac_graph_scopes.specs.Parts.{exports_of, imports_of};
 ghost use Rattle.wac_graph_encode.specs.Encoding.{HasTrueWorld};
-ghost use Rattle.wac_graph_encode.specs.Worlds.{AddsExported, AreCalledTypes, AreCopies, AreDefinitionTypes, AreExported, IsToHandOut};
-ghost use Rattle.wac_graph_encode.specs.Worlds.{IsMadeOf, IsUsedWorld, KnowsFinals, TellsCalled, TellsCopied, TellsDefinition, TellsExported, TellsFinal, with_import};
+ghost use Rattle.wac_graph_encode.specs.Worlds.{AddsExported, AreCalledTypes, AreCopies, AreDefinitionTypes, AreExported, IsToHandOut, IsWorldMade, NotesDefinition};
+ghost use Rattle.wac_graph_encode.specs.Worlds.{IsUsedWorld, KnowsFinals, TellsCalled, TellsCopied, TellsExported, TellsFinal, with_import};
 
 use crate::copying::Copies;
 use crate::without_uses::handed_out;
@@ -79,7 +79,7 @@ fn tell_definition(
     definition: &Definition,
     told: &mut IndexMap<NodeId, ItemKind>,
 ) -> Result<(), AllocError>
-    ensures { OnOk result (TellsDefinition definition.now told.old.entries told.new.entries) }
+    ensures { OnOk result (NotesDefinition definition.now told.old.entries told.new.entries) }
 {
     match definition.copy {
         Some(copy) => {
@@ -345,7 +345,7 @@ fn add_world_of(
 ) -> Result<WorldId, AllocError>
     requires imports { ItemsStand types.old imports }
     requires exports { ItemsStand types.old exports }
-    ensures world { IfOk result (IsMadeOf types.old types.new imports exports) }
+    ensures world { IfOk result (IsWorldMade types.old types.new imports exports) }
     ensures grows { Grows types.old types.new }
 {
     let world = types.add_world(World {

@@ -17,7 +17,7 @@ use Rattle.wac_types_base.proofs.Standing.{interface_found}
 use Rattle.wac_types_base.proofs.Telling.{item_kind, kind_stated}
 use Rattle.wac_types_merge.specs.declared.family.Family.{Family}
 use Rattle.wac_types_merge.specs.Families.{IsUnnamedIn, uses_of as uses_held, UsesUnnamed, HasMore, IsPlainItem, IsWitInterface, IsWitItem}
-use Rattle.wac_composition.specs.Classes.{is_instance}
+use Rattle.wac_composition.specs.Classes.{is_instance_kind}
 use Rattle.wac_composition.specs.Merging.{is_plain, is_called, is_wit}
 use Rattle.wac_merging.specs.Families.{family_by, family_stated, NamesUses, Family_is_stated, Unnamed_is_of_none}
 use Rattle.wac_merging.proofs.Plainness.{plain_stated, stated_plain}
@@ -26,8 +26,8 @@ use Rattle.wac_merging.proofs.Wit.{instance_wit, wit_instance, wit_named}
 first_of : (a b c d e : Bool) → (a && b && c && d && e) ≡ true → a ≡ true
 first_of a b c d e h = (and_parts a b (and_parts (a && b) c (and_parts (a && b && c) d (and_parts (a && b && c && d) e h).0).0).0).0
 
-pub wit_kind : (n : Name) (x : Stated) → is_wit n x ≡ true → is_instance (kind_of x) ≡ true
-wit_kind n x e = first_of (is_instance (kind_of x)) _ _ _ _ e
+pub wit_kind : (n : Name) (x : Stated) → is_wit n x ≡ true → is_instance_kind (kind_of x) ≡ true
+wit_kind n x e = first_of (is_instance_kind (kind_of x)) _ _ _ _ e
 
 second_of : (a b c d e : Bool) → (a && b && c && d && e) ≡ true → b ≡ true
 second_of a b c d e h = (and_parts a b (and_parts (a && b) c (and_parts (a && b && c) d (and_parts (a && b && c && d) e h).0).0).0).1
@@ -37,8 +37,8 @@ wit_called n x e = second_of _ (is_called (identifier_of x) n) _ _ _ e
 
 module _ (c : Collection) (a : IsAcyclic c) (n : Name) where
   -- what is no instance is not identified by the name asked
-  not_wit : (k : ItemKind) → Stands c k → is_instance (item_kind k) ≡ false → is_wit n (stated_of c k) ≡ false
-  not_wit k s e = false_from_ne_true (is_wit n (stated_of c k)) (λ w. true≢false (sym (wit_kind n (stated_of c k) w) ∙ ap (λ i. is_instance i) (kind_stated c a k s) ∙ e))
+  not_wit : (k : ItemKind) → Stands c k → is_instance_kind (item_kind k) ≡ false → is_wit n (stated_of c k) ≡ false
+  not_wit k s e = false_from_ne_true (is_wit n (stated_of c k)) (λ w. true≢false (sym (wit_kind n (stated_of c k) w) ∙ ap (λ i. is_instance_kind i) (kind_stated c a k s) ∙ e))
 
   not_plain : (k : ItemKind) → Stands c k → (IsPlainItem c k → ⊥) → is_plain (stated_of c k) ≡ false
   not_plain k s h = false_from_ne_true (is_plain (stated_of c k)) (λ e. h (stated_plain c a k s e))
@@ -97,7 +97,7 @@ module _ (c : Collection) (a : IsAcyclic c) (n : Name) where
   same_wit (ItemKind.Module t) s named w = absurd w
   same_wit (ItemKind.Value t) s named w = absurd w
 
-  no_type : (t : TypeKind) → is_instance (item_kind (ItemKind.Ty t)) ≡ false
+  no_type : (t : TypeKind) → is_instance_kind (item_kind (ItemKind.Ty t)) ≡ false
   no_type (TypeKind.Resource r) = refl
   no_type (TypeKind.Func r) = refl
   no_type (TypeKind.Value r) = refl

@@ -14,7 +14,7 @@ use Rattle.wac_types_base.specs.Stated.{Stated}
 use Rattle.wac_types_base.proofs.Looked.{among-get}
 use Rattle.wac_types_base.proofs.Lists.{among_split}
 use Rattle.wac_composition.specs.Asks.{Ask}
-use Rattle.wac_composition.specs.Classes.{joined, Linked, class}
+use Rattle.wac_composition.specs.Classes.{Linked, class, akin}
 use Rattle.wac_composition.specs.OuterImports.{with_new, outer_of, outers_from}
 use Rattle.wac_composition.proofs.Closures.{any_among, among_any, filter_among, among_filter, closed}
 use Rattle.wac_composition.proofs.OuterClasses.{itself, turned, class_is, class_itself, class_by_spelling, spelled_outer}
@@ -106,10 +106,10 @@ module _ {A : Type 0} where
   module _ (asks : List (Ask A)) (labels : List ℕ) (c : LabelClasses asks labels) where
     -- the class of an ask, as a test
     abbrev in_class : Ask A → Ask A → Bool
-    in_class a b = list_any (joined b) (class asks a)
+    in_class a b = list_any (akin b) (class asks a)
 
     class_test : (a : Ask A) → Among a asks → class asks a ≡ filter (in_class a) asks
-    class_test a there = class_is asks a ∙ sym (closed joined asks itself turned a there) ∙ ap (λ ms. filter (λ b. list_any (joined b) ms) asks) (sym (class_is asks a))
+    class_test a there = class_is asks a ∙ sym (closed akin asks itself turned a there) ∙ ap (λ ms. filter (λ b. list_any (akin b) ms) asks) (sym (class_is asks a))
 
     -- the ask and the label at a place
     pub record IsAt (a : Ask A) (l : ℕ) : Type 0 where

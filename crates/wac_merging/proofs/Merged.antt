@@ -13,7 +13,7 @@ use Rattle.wac_types_merge.specs.declared.family.Family.{Family}
 use Rattle.wac_types_merge.specs.Interfaces.{renamed}
 use Rattle.wac_types_merge.specs.Imports.{IsNarrower}
 use Rattle.wac_types_merge.proofs.Renaming.{same_renamed}
-use Rattle.wac_composition.specs.Classes.{is_instance}
+use Rattle.wac_composition.specs.Classes.{is_instance_kind}
 use Rattle.wac_composition.specs.Tests.{fits}
 use Rattle.wac_composition.specs.Merging.{merge, identified_by}
 use Rattle.wac_composition.proofs.FitBack.{fits_decides}
@@ -104,8 +104,8 @@ refused_is_stated c Family.Wit a b m (inr h) = absurd (wit_no h.0)
 -- ---- spellings
 
 pub spelled_is_stated : Spelled_is_stated
-spelled_is_stated c d j k n acyclic s h = h.stated ∙ go (is_instance (kind_of (stated_of c j))) refl
+spelled_is_stated c d j k n acyclic s h = h.stated ∙ go (is_instance_kind (kind_of (stated_of c j))) refl
   where
-    go : (b : Bool) → is_instance (kind_of (stated_of c j)) ≡ b → renamed n (stated_of c j) ≡ identified_by b n (stated_of c j)
+    go : (b : Bool) → is_instance_kind (kind_of (stated_of c j)) ≡ b → renamed n (stated_of c j) ≡ identified_by b n (stated_of c j)
     go true e = ap (renamed n) (instance_made (stated_of c j) e (stated_made c acyclic j s))
-    go false e = sym (same_renamed c n acyclic j s (λ i is. true≢false (sym (ap (λ k. is_instance (item_kind k)) is) ∙ sym (ap (λ l. is_instance l) (kind_stated c acyclic j s)) ∙ e)))
+    go false e = sym (same_renamed c n acyclic j s (λ i is. true≢false (sym (ap (λ k. is_instance_kind (item_kind k)) is) ∙ sym (ap (λ l. is_instance_kind l) (kind_stated c acyclic j s)) ∙ e)))

@@ -30,7 +30,7 @@ use Rattle.wac_types_fit.proofs.Looking.{looked-has}
 use Rattle.wac_types_fit.proofs.Items.{looked_in, exports_inside, found_inside}
 use Rattle.wac_types_fit.proofs.Unfolded.{primitive_tree, own_tree, borrow_tree, defined_tree, alias_tree, root_tree, source_tree, func_tree, fields_in, instance_tree, component_tree, module_tree, type_func, type_value, type_interface, type_world, type_module, interface_size}
 use Rattle.wac_types_merge.proofs.Clashing.{plain_has}
-use Rattle.wac_composition.specs.Classes.{is_instance}
+use Rattle.wac_composition.specs.Classes.{is_instance_kind}
 use Rattle.wac_composition.specs.Again.{IsWell}
 use Rattle.wac_composition.proofs.Clashing.{value_among}
 use Rattle.wac_composition.proofs.Again.{entries_of}
@@ -108,9 +108,9 @@ module _ (c : Collection) (a : IsAcyclic c) where
   RegularBelow n = (j : ItemKind) → size_of c j < n → Stands c j → IsWell (stated_of c j) → IsPlain (tree_in c j) → Regular (stated_of c j)
 
   -- what is no interface
-  flat_regular : (k : ItemKind) → Stands c k → is_instance (item_kind k) ≡ false → is_interface (item_kind k) ≡ false → IsFlatItem (tree_in c k) → Regular (stated_of c k)
+  flat_regular : (k : ItemKind) → Stands c k → is_instance_kind (item_kind k) ≡ false → is_interface (item_kind k) ≡ false → IsFlatItem (tree_in c k) → Regular (stated_of c k)
   unfolding tree_in
-  flat_regular k s g h f = let e = kind_stated c a k s in flat (ap (λ i. is_instance i) e ∙ g) (ap (λ i. is_interface i) e ∙ h) f
+  flat_regular k s g h f = let e = kind_stated c a k s in flat (ap (λ i. is_instance_kind i) e ∙ g) (ap (λ i. is_interface i) e ∙ h) f
 
   -- the exports of an interface
   module _ (n : ℕ) (i : InterfaceId) (x : Interface) (at : slice_get c.interfaces i.index ≡ Some x) (own : i.collection ≡ c.number) (s : Stands c (ItemKind.Instance i)) (lt : size_of c (ItemKind.Instance i) < suc n) (plain : IsPlain (tree_in c (ItemKind.Instance i))) (below : RegularBelow n) where
@@ -135,7 +135,7 @@ module _ (c : Collection) (a : IsAcyclic c) where
   regular_below zero k lt s w plain = absurd (omega arith)
   regular_below (suc n) (ItemKind.Instance i) lt s w plain =
       let f = interface_found c i s in
-      let kind : is_instance (kind_of (stated_of c (ItemKind.Instance i))) ≡ true = ap (λ k. is_instance k) (kind_stated c a (ItemKind.Instance i) s) in
+      let kind : is_instance_kind (kind_of (stated_of c (ItemKind.Instance i))) ≡ true = ap (λ k. is_instance_kind k) (kind_stated c a (ItemKind.Instance i) s) in
       let e = entries_of (stated_of c (ItemKind.Instance i)) (inl kind) w in
       an_instance kind e.0 (export_regular n i f.value f.at f.own s lt plain (regular_below n) e.1)
   regular_below (suc n) (ItemKind.Ty (TypeKind.Interface i)) lt s w plain =

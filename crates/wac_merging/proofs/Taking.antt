@@ -22,7 +22,7 @@ use Rattle.wac_types_merge.specs.Steps.{HasClash, LieOutside}
 use Rattle.wac_types_merge.proofs.Plain.{family_plain, plain_meet}
 use Rattle.wac_types_merge.proofs.Asking.{joint_first, joint_second}
 use Rattle.wac_composition.specs.Names.{has_track}
-use Rattle.wac_composition.specs.Classes.{is_instance}
+use Rattle.wac_composition.specs.Classes.{is_instance_kind}
 use Rattle.wac_composition.specs.Merging.{is_plain, is_wit, merge, narrower, Asked, in_family, kept_from, kept, identified_by, identified}
 use Rattle.wac_composition.specs.Again.{IsWell}
 use Rattle.wac_composition.proofs.KeptFits.{append_nil}
@@ -284,7 +284,7 @@ taken_stays c d asks several k f g t =
 
 -- ---- the outer import
 
-two_asks : (n : Name) (asks : List Asked) (x : Stated) → 2 ≤ length asks → identified n asks x ≡ identified_by (is_instance (kind_of x) && has_track n) n x
+two_asks : (n : Name) (asks : List Asked) (x : Stated) → 2 ≤ length asks → identified n asks x ≡ identified_by (is_instance_kind (kind_of x) && has_track n) n x
 two_asks n [] x h = absurd (omega (arith, h))
 two_asks n (a ∷ []) x h = absurd (omega (arith, h))
 two_asks n (a ∷ b ∷ asks) x h = refl
@@ -297,7 +297,7 @@ one_ask n (a ∷ b ∷ asks) x h = absurd (h (omega arith))
 off_track : (n : Name) (asks : List Asked) (x : Stated) → has_track n ≡ false → identified n asks x ≡ x
 off_track n [] x h = refl
 off_track n (a ∷ []) x h = refl
-off_track n (a ∷ b ∷ asks) x h = ap (λ b. identified_by b n x) (ap (λ t. is_instance (kind_of x) && t) h ∙ by (is_instance (kind_of x)))
+off_track n (a ∷ b ∷ asks) x h = ap (λ b. identified_by b n x) (ap (λ t. is_instance_kind (kind_of x) && t) h ∙ by (is_instance_kind (kind_of x)))
   where
     by : (i : Bool) → (i && false) ≡ false
     by true = refl
@@ -310,7 +310,7 @@ kept_is_identified c asks several n k f t (inr e) = off_track n asks (stated_of 
 pub spelled_is_identified : Spelled_is_identified
 spelled_is_identified c d asks several n k r f acyclic t l e h =
     two_asks n asks (stated_of c k) (t.counted.0 l)
-    ∙ ap (λ b. identified_by b n (stated_of c k)) (ap (λ t. is_instance (kind_of (stated_of c k)) && t) e ∙ by (is_instance (kind_of (stated_of c k))))
+    ∙ ap (λ b. identified_by b n (stated_of c k)) (ap (λ t. is_instance_kind (kind_of (stated_of c k)) && t) e ∙ by (is_instance_kind (kind_of (stated_of c k))))
     ∙ sym (spelled_is_stated c d k r n acyclic t.stands h)
   where
     by : (i : Bool) → (i && true) ≡ i

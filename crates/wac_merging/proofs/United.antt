@@ -11,7 +11,7 @@ use Rattle.wac_types_base.proofs.Adding.{Among-left}
 use Rattle.wac_types_fit.proofs.Meeting.{mapped-some}
 use Rattle.wac_types_merge.specs.Interfaces.{new_in, joined}
 use Rattle.wac_types_merge.specs.United.{by_name, AreBoth, Unites, the_first, of_instances, ExportsUnite, none_united, one_alone, one_united}
-use Rattle.wac_composition.specs.Classes.{is_instance}
+use Rattle.wac_composition.specs.Classes.{is_instance_kind}
 use Rattle.wac_composition.specs.Tests.{fits}
 use Rattle.wac_composition.specs.Merging.{both, merged_with, merged_exports, has_use, merge}
 use Rattle.wac_composition.proofs.KeptFits.{both_is, if_is}
@@ -21,7 +21,7 @@ use Rattle.wac_types_base.proofs.Lists.{bytes_turned}
 
 -- ---- kinds
 
-instance_by : (k : Kind) → is_instance k ≡ true → k ≡ IsInstance
+instance_by : (k : Kind) → is_instance_kind k ≡ true → k ≡ IsInstance
 instance_by IsInstance e = refl
 instance_by IsFunction e = absurd (true≢false (sym e))
 instance_by IsComponent e = absurd (true≢false (sym e))
@@ -103,20 +103,20 @@ abbrev EachMade : List (Name × Stated) → Type 0
 EachMade es = (n : Name) (y : Stated) → Among (n, y) es → IsMade y
 
 -- the parts of an instance, or of the type of one
-exports_made : (x : Stated) → (is_instance (kind_of x) ≡ true) ⊎ (is_interface (kind_of x) ≡ true) → IsMade x → EachMade (exports_of x)
+exports_made : (x : Stated) → (is_instance_kind (kind_of x) ≡ true) ⊎ (is_interface (kind_of x) ≡ true) → IsMade x → EachMade (exports_of x)
 exports_made x k (made_instance e d h) = h
 exports_made x k (made_interface e d h) = h
 exports_made x (inl k) (made_other g h) = absurd (true≢false (sym k ∙ g))
 exports_made x (inr k) (made_other g h) = absurd (true≢false (sym k ∙ h))
 
-pub instance_made : (x : Stated) → is_instance (kind_of x) ≡ true → IsMade x → x ≡ interface_of (identifier_of x) (uses_of x) (exports_of x)
+pub instance_made : (x : Stated) → is_instance_kind (kind_of x) ≡ true → IsMade x → x ≡ interface_of (identifier_of x) (uses_of x) (exports_of x)
 instance_made x k (made_instance e d h) = e
 instance_made x k (made_interface e d h) = absurd (no_both (kind_of x) k (ap (λ y. is_interface (kind_of y)) e))
 instance_made x k (made_other g h) = absurd (true≢false (sym k ∙ g))
 
 interface_made : (x : Stated) → is_interface (kind_of x) ≡ true → IsMade x → x ≡ as_type (interface_of (identifier_of x) (uses_of x) (exports_of x))
 interface_made x k (made_interface e d h) = e
-interface_made x k (made_instance e d h) = absurd (no_both (kind_of x) (ap (λ y. is_instance (kind_of y)) e) k)
+interface_made x k (made_instance e d h) = absurd (no_both (kind_of x) (ap (λ y. is_instance_kind (kind_of y)) e) k)
 interface_made x k (made_other g h) = absurd (true≢false (sym k ∙ h))
 
 -- what is merged of two interfaces
@@ -130,10 +130,10 @@ merged_is t u y e =
     let r = mapped-some (λ xs. interface_of (identifier_of t) (uses_of t ++ more_uses (uses_of t) u) (xs ++ more_exports (exports_of t) u)) (merged_exports (merging (exports_of t)) (exports_of u)) y e in
     record { exports = r.0; merged = r.1; is = sym r.2 }
 
-instances_merged : (t u z : Stated) → is_instance (kind_of t) ≡ true → IsMade t → merge t u ≡ Some z → (is_instance (kind_of u) ≡ true) × MergedOf t u z
+instances_merged : (t u z : Stated) → is_instance_kind (kind_of t) ≡ true → IsMade t → merge t u ≡ Some z → (is_instance_kind (kind_of u) ≡ true) × MergedOf t u z
 instances_merged t u z k w e =
     let own = instance_made t k w in
-    let i = if_is (is_instance (kind_of u)) (merged_of (identifier_of t) (uses_of t) (exports_of t) u) z (sym (merge_made (identifier_of t) (uses_of t) (exports_of t) u) ∙ ap (λ x. merge x u) (sym own) ∙ e) in
+    let i = if_is (is_instance_kind (kind_of u)) (merged_of (identifier_of t) (uses_of t) (exports_of t) u) z (sym (merge_made (identifier_of t) (uses_of t) (exports_of t) u) ∙ ap (λ x. merge x u) (sym own) ∙ e) in
     (i.0, merged_is t u z i.1)
 
 interfaces_merged : (t u z : Stated) → is_interface (kind_of t) ≡ true → IsMade t → merge t u ≡ Some z → (is_interface (kind_of u) ≡ true) × (y : Stated) × (z ≡ as_type y) × MergedOf t u y
@@ -145,9 +145,9 @@ interfaces_merged t u z k w e =
 
 -- of neither kind the first is merged
 first_merged : (t u z : Stated) → (AreBoth t u → ⊥) → IsMade t → merge t u ≡ Some z → z ≡ t
-first_merged t u z other w e = by (is_instance (kind_of t)) refl (is_interface (kind_of t)) refl
+first_merged t u z other w e = by (is_instance_kind (kind_of t)) refl (is_interface (kind_of t)) refl
   where
-    by : (a : Bool) → is_instance (kind_of t) ≡ a → (b : Bool) → is_interface (kind_of t) ≡ b → z ≡ t
+    by : (a : Bool) → is_instance_kind (kind_of t) ≡ a → (b : Bool) → is_interface (kind_of t) ≡ b → z ≡ t
     by true p b q =
         let m = instances_merged t u z p w e in
         absurd (other (inl (instance_by (kind_of t) p, instance_by (kind_of u) m.0)))
@@ -173,9 +173,9 @@ mutual
   unites_is : (t u v z : Stated) → IsMade t → IsMade v → Unites t u v → merge t u ≡ Some z → z ≡ v
   unites_is t u v z wt wv (the_first a b other) e = first_merged t u z other wt e
   unites_is t u v z wt wv (of_instances a b d (inl both) kind id us es each is) e =
-      let k : is_instance (kind_of t) ≡ true = ap (λ i. is_instance i) both.0 in
+      let k : is_instance_kind (kind_of t) ≡ true = ap (λ i. is_instance_kind i) both.0 in
       let m = (instances_merged t u z k wt e).1 in
-      let l : is_instance (kind_of v) ≡ true = ap (λ i. is_instance i) kind ∙ k in
+      let l : is_instance_kind (kind_of v) ≡ true = ap (λ i. is_instance_kind i) kind ∙ k in
       let fs = exports_unite (exports_of u) (exports_of t) es m.exports (exports_made t (inl k) wt) (left_made v es (new_in (exports_of t) (exports_of u)) is (exports_made v (inl l) wv)) each m.merged in
       united_parts t u v es id us is z m fs ∙ sym (instance_made v l wv)
   unites_is t u v z wt wv (of_instances a b d (inr both) kind id us es each is) e =

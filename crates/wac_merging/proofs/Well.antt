@@ -18,7 +18,7 @@ use Rattle.wac_types_base.proofs.Telling.{item_kind, kind_stated, stated_step}
 use Rattle.wac_types_base.proofs.Made.{made_exports}
 use Rattle.wac_types_fit.proofs.Items.{exports_inside}
 use Rattle.wac_types_fit.proofs.Unfolded.{interface_size}
-use Rattle.wac_composition.specs.Classes.{is_instance}
+use Rattle.wac_composition.specs.Classes.{is_instance_kind}
 use Rattle.wac_composition.specs.Again.{IsWell, well_instance, well_interface, no_interface}
 use Rattle.wac_composition.proofs.Again.{made_uses}
 use Rattle.wac_merging.specs.Named.{Stated_are_well}
@@ -29,7 +29,7 @@ use Rattle.wac_merging.specs.Named.{Stated_are_well}
 pub data MadeWith (D : List Name → Type 0) : Stated → Type 0 where
   made_instance : {x : Stated} → x ≡ interface_of (identifier_of x) (uses_of x) (exports_of x) → D (names_of (exports_of x)) → ((n : Name) (y : Stated) → Among (n, y) (exports_of x) → MadeWith D y) → MadeWith D x
   made_interface : {x : Stated} → x ≡ as_type (interface_of (identifier_of x) (uses_of x) (exports_of x)) → D (names_of (exports_of x)) → ((n : Name) (y : Stated) → Among (n, y) (exports_of x) → MadeWith D y) → MadeWith D x
-  made_other : {x : Stated} → is_instance (kind_of x) ≡ false → is_interface (kind_of x) ≡ false → MadeWith D x
+  made_other : {x : Stated} → is_instance_kind (kind_of x) ≡ false → is_interface (kind_of x) ≡ false → MadeWith D x
 
 abbrev pub AnyNames : List Name → Type 0
 AnyNames ns = Unit {0}
@@ -103,10 +103,10 @@ module _ (c : Collection) (acyclic : IsAcyclic c) where
         let less = inside.1 in
         subst (MadeWith D) (sym r.2) (below r.0 (omega (arith, lt, less)) inside.0)
 
-    by_kind : (k : ItemKind) → Stands c k → is_instance (item_kind k) ≡ false → is_interface (item_kind k) ≡ false → MadeWith D (stated_of c k)
+    by_kind : (k : ItemKind) → Stands c k → is_instance_kind (item_kind k) ≡ false → is_interface (item_kind k) ≡ false → MadeWith D (stated_of c k)
     by_kind k s a b =
         let e = kind_stated c acyclic k s in
-        made_other (ap (λ i. is_instance i) e ∙ a) (ap (λ i. is_interface i) e ∙ b)
+        made_other (ap (λ i. is_instance_kind i) e ∙ a) (ap (λ i. is_interface i) e ∙ b)
 
     made_below : (n : ℕ) → MadeBelow n
     made_below zero k lt s = absurd (omega arith)

@@ -23,7 +23,7 @@ use Rattle.wac_types_base.proofs.Telling.{item_kind, kind_stated}
 use Rattle.wac_types_fit.proofs.Items.{exports_inside}
 use Rattle.wac_types_merge.specs.Families.{IsUnnamedIn, UsesSuch, IsWitExport, IsForeign, AreWitExports, IsWitInterface}
 use Rattle.wac_types_merge.proofs.Families.{use_inside, entry_of, unnamed_there, all_named}
-use Rattle.wac_composition.specs.Classes.{is_instance}
+use Rattle.wac_composition.specs.Classes.{is_instance_kind}
 use Rattle.wac_composition.specs.Tests.{same}
 use Rattle.wac_composition.specs.Merging.{is_wit_kind, is_called, is_wit, owners, reached}
 use Rattle.wac_composition.proofs.Closures.{any_among, among_any}
@@ -210,7 +210,7 @@ module _ (c : Collection) (a : IsAcyclic c) (i : InterfaceId) (s : Stands c (Ite
     pub instance_wit : (n : Name) → (IsUnnamedIn c (values_of x.uses) → ⊥) → IsWitInterface c n i (Some x) → is_wit n t ≡ true
     instance_wit n h w =
         both_true (both_true (both_true (both_true
-        (ap (λ k. is_instance k) (kind_stated c a (ItemKind.Instance i) s))
+        (ap (λ k. is_instance_kind k) (kind_stated c a (ItemKind.Instance i) s))
         (ap (λ o. is_called o n) (named_as ∙ w.0) ∙ (bytes_eq-Decides n n).1 refl))
         (exports_wit w.1))
         (uses_named h))
@@ -225,7 +225,7 @@ module _ (c : Collection) (a : IsAcyclic c) (i : InterfaceId) (s : Stands c (Ite
 
     tested : (n : Name) → is_wit n t ≡ true → Tested n
     tested n e =
-        let kind = is_instance (kind_of t) in
+        let kind = is_instance_kind (kind_of t) in
         let called = is_called (identifier_of t) n in
         let kinds = list_all (λ (e : Name × Stated). has_wit_kind e.1) (exports_of t) in
         let uses = list_all (λ (u : Used). is_named_use u.interface) (uses_of t) in

@@ -12,7 +12,7 @@ use Rattle.wac_types_merge.specs.Interfaces.{MeetIn, ClashIn}
 use Rattle.wac_types_merge.specs.Imports.{IsNarrower, NeitherFits, IsSpelled}
 use Rattle.wac_types_merge.specs.Steps.{HasClash, LieOutside}
 use Rattle.wac_types_merge.specs.United.{UnitesIn}
-use Rattle.wac_composition.specs.Classes.{is_instance}
+use Rattle.wac_composition.specs.Classes.{is_instance_kind}
 use Rattle.wac_composition.specs.Merging.{merge, narrower, identified_by}
 use Rattle.wac_composition.specs.Again.{IsWell}
 
@@ -82,4 +82,4 @@ Refused_is_stated = (c : Collection) (f : Family) (a b : ItemKind) → AreKeepab
 -- an instance under another identifier is made of its other parts; anything else stays
 abbrev pub Spelled_is_stated : Type 0
 Spelled_is_stated = (c d : Collection) (j k : ItemKind) (n : Name) → IsAcyclic c → Stands c j → IsSpelled c j d n k
-    → stated_of d k ≡ identified_by (is_instance (kind_of (stated_of c j))) n (stated_of c j)
+    → stated_of d k ≡ identified_by (is_instance_kind (kind_of (stated_of c j))) n (stated_of c j)

@@ -30,7 +30,7 @@ use Rattle.wac_parser_resolve.specs.Proper.{AreProper, Proper}
 use Rattle.wac_parser_resolve.proofs.Documents.{resolved_are_wired}
 use Rattle.wac_parser_resolve.proofs.ProperCollections.{collections_are_proper}
 use Rattle.wac_parser_resolve.proofs.Ordered.{known, numbered_at, stay}
-use Rattle.wac_parser_ascribed.specs.Tied.{bytes_of, handed_tag}
+use Rattle.wac_parser_ascribed.specs.Tied.{handed_tag, handed_bytes}
 use Rattle.wac_parser_encode.specs.Meaning.{AreTrueOf, IsWorldOf, MeansAscribed}
 use Rattle.wac_workspace.specs.declared.entries.Entry.{Entry}
 use Rattle.wac_workspace.specs.declared.output.Output.{Output}
@@ -82,7 +82,7 @@ module _ (es : List Entry) (packages : List Package) (zip : AllZip IsEntryOf es 
       record {
         which = q.0;
         there = there;
-        tagged = ap (λ o. OfBytes (bytes_of o)) p.content_is ∙ ap OfBytes (sym q.2.bytes);
+        tagged = ap (λ o. OfBytes (handed_bytes o)) p.content_is ∙ ap OfBytes (sym q.2.bytes);
         says = q.2.world ∙ ap maps_of p.world;
         among = among-get packages (A.number k) q.0 there;
       }
@@ -159,9 +159,9 @@ said_of options es source bytes d s target document resolves define means =
     subst (λ q. AreAscribedBytes q bytes) (ap (λ e. resolved e (handed es)) same ∙ resolves) m.meant.ascribed
 
 -- what its world is
-world_of : (es : List Entry) (source : List ℕ) (next : ℕ) (o : Output) (d : Document) (s : State) (target : Option Stated) → IsDocument source d → resolved d (handed es) ≡ Ok (s, target) → IsOutput next (handed es) source o → IsWorldOf s o.types o.world
+world_of : (es : List Entry) (source : List ℕ) (next : ℕ) (define : Bool) (o : Output) (d : Document) (s : State) (target : Option Stated) → IsDocument source d → resolved d (handed es) ≡ Ok (s, target) → IsOutput next (handed es) source define o → IsWorldOf s o.types o.world
 unfolding IsComposition
-world_of es source next o d s target document resolves out =
+world_of es source next define o d s target document resolves out =
     let c : IsComposition (Ok (s, target)) o.types o.world = subst (λ q. IsComposition q o.types o.world) (ap (λ e. resolved e (handed es)) (same_document source out.tree d out.read document) ∙ resolves) out.composed in
     c.0
 
@@ -197,7 +197,7 @@ one_call old new packages s zip (hands_in m none adds) = record {
   entries = more_entries old.packages new.packages packages m true _ zip adds refl refl (λ l. refl);
 }
 one_call old new packages step zip (composes source options o d s target define document resolves composed means) =
-    let world = world_of old.packages source old.next o d s target document resolves composed.output in
+    let world = world_of old.packages source old.next true o d s target document resolves composed.output in
     let kept = composed.kept in
     record {
       step = composes_so old.packages packages zip d s target resolves world.met o.bytes.items (world_in o.types o.world) (λ h. kept.bytes (handed_there old.packages packages zip o.bytes.items h)) (ap maps_of world.states.states)

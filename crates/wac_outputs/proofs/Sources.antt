@@ -6,10 +6,10 @@ use Rattle.wac_types_base.specs.declared.item.ItemKind.{ItemKind}
 use Rattle.wac_types_base.specs.Entries.{Name}
 use Rattle.wac_types_base.specs.Stated.{Stated, stated_of}
 use Rattle.wac_types_base.specs.Tree.{Tree, Fields, instance}
-use Rattle.wac_types_names.specs.Keys.{Key}
+use Rattle.wac_types_names.specs.Keys.{Key, same_key}
 use Rattle.wac_graph_bytes.specs.Wirings.{Source, Absent, Outer, Inst, Projection, Bundle, Definition}
 use Rattle.wac_nesting.specs.Given.{World, HasTree, Gives, Provides, States}
-use Rattle.wac_parser_declare.specs.Scope.{is_key, package_under}
+use Rattle.wac_parser_declare.specs.Scope.{package_under}
 use Rattle.wac_parser_resolve.specs.Ascribing.{worlds_of}
 use Rattle.wac_workspace.specs.declared.entries.Entry.{Entry}
 use Rattle.wac_workspace.specs.Packages.{key_of}
@@ -45,9 +45,9 @@ pub record IsPlaced (es : List Entry) (k : Key) (w : Stated) : Type 0 where
 
 pub placed : (es : List Entry) (k : Key) (w : Stated) → package_under (worlds_of (handed es)) k ≡ Some w → IsPlaced es k w
 placed [] k w e = absurd (none-some _ e)
-placed (x ∷ xs) k w e = go (is_key k (key_of x)) refl (placed xs k w) e
+placed (x ∷ xs) k w e = go (same_key k (key_of x)) refl (placed xs k w) e
   where
-    go : (b : Bool) → is_key k (key_of x) ≡ b → (package_under (worlds_of (handed xs)) k ≡ Some w → IsPlaced xs k w) → cond b (Some (content x).world) (package_under (worlds_of (handed xs)) k) ≡ Some w → IsPlaced (x ∷ xs) k w
+    go : (b : Bool) → same_key k (key_of x) ≡ b → (package_under (worlds_of (handed xs)) k ≡ Some w → IsPlaced xs k w) → cond b (Some (content x).world) (package_under (worlds_of (handed xs)) k) ≡ Some w → IsPlaced (x ∷ xs) k w
     go true q rest f = record {
       entry = x;
       there = ap (λ b. slice_get (x ∷ xs) (cond b zero (suc (place_under xs k)))) q;

@@ -6,7 +6,7 @@ use Rattle.wac_types_base.specs.declared.item.ItemKind.{ItemKind}
 use Rattle.wac_types_base.specs.Record.{Collection}
 use Rattle.wac_types_base.specs.Graph.{Among}
 use Rattle.wac_types_base.specs.Stated.{Stated, stated_of}
-use Rattle.wac_types_names.specs.Keys.{Key}
+use Rattle.wac_types_names.specs.Keys.{Key, same_key}
 use Rattle.wac_graph_bytes.specs.Typing.{Worlds}
 use Rattle.wac_nesting.specs.Given.{World}
 use Rattle.wac_nesting.specs.Steps.{Add, AreSteps, AreTrue, Ascribed, Compose, IsLeaf, Other, Package, Step, after_all}
@@ -16,7 +16,6 @@ use Rattle.wac_composition.specs.Sound.{maps_of}
 use Rattle.wac_composition.specs.Wired.{composed_wiring}
 use Rattle.wac_graph_encode.specs.declared.options.EncodeOptions.{EncodeOptions}
 use Rattle.wac_parser_tree.specs.Trees.{Document}
-use Rattle.wac_parser_declare.specs.Scope.{is_key}
 use Rattle.wac_parser_resolve.specs.Ascribing.{State}
 use Rattle.wac_parser_resolve.specs.Ascribed.{Asker, composition}
 use Rattle.wac_parser_resolve.specs.Meeting.{resolved}
@@ -36,7 +35,7 @@ world_in c w = maps_of (stated_of c (ItemKind.Component w))
 -- the place of the package of a key
 abbrev pub place_under : List Entry → Key → ℕ
 place_under [] k = zero
-place_under (e ∷ es) k = if is_key k (key_of e) then zero else suc (place_under es k)
+place_under (e ∷ es) k = if same_key k (key_of e) then zero else suc (place_under es k)
 
 abbrev pub place_if : List Entry → Option (Made Asker ℕ) → ℕ
 place_if es None = zero

@@ -13,6 +13,8 @@ pub use Rattle.wac_parser_tree.specs.Trees
 pub use Rattle.wac_parser_tree.specs.Views
 pub use Rattle.wac_parser_tree.specs.Accessors
 pub use Rattle.wac_parser_tree.specs.Segments
+pub use Rattle.wac_parser_tree.specs.Bare
+pub use Rattle.wac_parser_tree.specs.Named
 pub use Rattle.wac_parser_grammar.specs.Places
 pub use Rattle.wac_parser_grammar.specs.Faults
 pub use Rattle.wac_parser_grammar.specs.Ahead

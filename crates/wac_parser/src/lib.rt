@@ -49,7 +49,8 @@ pub mod laws {
     };
     pub use wac_parser_print::examples as printed_examples;
     pub use wac_parser_resolve::{
-        askers_have_places, documents_are_wired, examples as ascribed_examples, packages_are_known,
-        packages_stay, refusals_stand, stated_types_are_proper, wirings_are_ordered,
+        askers_have_places, documents_are_wired, documents_mean_their_trees,
+        examples as ascribed_examples, packages_are_known, packages_stay, refusals_stand,
+        stated_types_are_proper, wirings_are_ordered,
     };
 }

@@ -7,7 +7,7 @@ use Rattle.wac_types_base.specs.Graph.{Among}
 use Rattle.wac_types_base.proofs.Replacing.{same_number, number_same}
 use Rattle.wac_parser_resolve.specs.Holding.{InTurn}
 use Rattle.wac_parser_resolve.proofs.Turns.{slice_among, turn_within}
-use Rattle.wac_parser_ascribed.specs.Tied.{place_of, beside}
+use Rattle.wac_parser_ascribed.specs.Tied.{place_of, partner}
 
 pub other_number : (j k : ℕ) → (j ≡ k → ⊥) → (j == k) ≡ false
 other_number j k h = false_from_ne_true (j == k) (λ e. h (same_number j k e))
@@ -30,22 +30,22 @@ at_place (j ∷ js) k m = by (j == k) refl m (at_place js k)
     by false e (inl same) rest = absurd (cc (sym e ∙ number_same j k (sym same)))
     by false e (inr m) rest = rest m
 
--- ---- what stands beside
+-- ---- what stands partner
 
-pub beside_none : {A : Type 0} (js : List ℕ) (xs : List A) (k : ℕ) → (Among k js → ⊥) → beside js xs k ≡ None
+pub beside_none : {A : Type 0} (js : List ℕ) (xs : List A) (k : ℕ) → (Among k js → ⊥) → partner js xs k ≡ None
 beside_none [] xs k h = refl
 beside_none (j ∷ js) [] k h = refl
-beside_none (j ∷ js) (x ∷ xs) k h = ap (λ b. cond b (Some x) (beside js xs k)) (other_number j k (λ e. h (inl (sym e)))) ∙ beside_none js xs k (λ m. h (inr m))
+beside_none (j ∷ js) (x ∷ xs) k h = ap (λ b. cond b (Some x) (partner js xs k)) (other_number j k (λ e. h (inl (sym e)))) ∙ beside_none js xs k (λ m. h (inr m))
 
--- each stands beside its own
-pub turn_beside : {A : Type 0} (R : A → ℕ → Type 0) (xs : List A) (js : List ℕ) → AreDistinct js → InTurn R xs js → InTurn (λ x k. R x k × (beside js xs k ≡ Some x)) xs js
+-- each stands partner its own
+pub turn_beside : {A : Type 0} (R : A → ℕ → Type 0) (xs : List A) (js : List ℕ) → AreDistinct js → InTurn R xs js → InTurn (λ x k. R x k × (partner js xs k ≡ Some x)) xs js
 turn_beside R [] [] d t = tt
 turn_beside R [] (j ∷ js) d t = absurd t
 turn_beside R (x ∷ xs) [] d t = absurd t
 turn_beside {A} R (x ∷ xs) (j ∷ js) d t = (
-  (t.0, ap (λ b. cond b (Some x) (beside js xs j)) (number_same j j refl)),
-  turn_within (λ y k. R y k × (beside js xs k ≡ Some y)) (λ y k. R y k × (beside (j ∷ js) (x ∷ xs) k ≡ Some y)) xs js
-      (λ y k m r. (r.0, ap (λ b. cond b (Some x) (beside js xs k)) (other_number j k (λ e. d.0 (subst (λ n. Among n js) (sym e) m))) ∙ r.1))
+  (t.0, ap (λ b. cond b (Some x) (partner js xs j)) (number_same j j refl)),
+  turn_within (λ y k. R y k × (partner js xs k ≡ Some y)) (λ y k. R y k × (partner (j ∷ js) (x ∷ xs) k ≡ Some y)) xs js
+      (λ y k m r. (r.0, ap (λ b. cond b (Some x) (partner js xs k)) (other_number j k (λ e. d.0 (subst (λ n. Among n js) (sym e) m))) ∙ r.1))
       (turn_beside R xs js d.1 t.1),
 )
 

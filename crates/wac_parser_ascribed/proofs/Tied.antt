@@ -22,7 +22,7 @@ use Rattle.wac_graph_asks.specs.Graphs.{item_of, item_at, origin_of, arguments_t
 use Rattle.wac_graph_asks.proofs.Origins.{alias_is, argument_is, made_of, value_mapped}
 use Rattle.wac_parser_tree.specs.Trees.{Span}
 use Rattle.wac_parser_declare.specs.Packages.{Content}
-use Rattle.wac_parser_resolve.specs.Ascribed.{Asker, by_import, by_definition, origin_in, argument_in, made_in, numbered, placed_import, placed_definition, alias_in, exported_in, composition}
+use Rattle.wac_parser_resolve.specs.Ascribed.{Asker, by_import, by_definition, origin_in, argument_in, made_in, numbered, placed_import, placed_definition, alias_in, composition, said_export}
 use Rattle.wac_parser_resolve.specs.Ascribing.{Origin, imported, instance, projected, defined, Denoted, Made, Import, Bound, State, own_name}
 use Rattle.wac_parser_resolve.specs.Holding.{InTurn, HasItem, IsNode, Denotes, IsMade, IsNamed}
 use Rattle.wac_parser_resolve.specs.InDocuments.{IsBuilt}
@@ -32,7 +32,7 @@ use Rattle.wac_parser_resolve.specs.Said.{IsAsked, IsDeclared}
 use Rattle.wac_parser_resolve.proofs.Nodes.{instance_role}
 use Rattle.wac_parser_resolve.proofs.Sound.{Sound, HasThat}
 use Rattle.wac_parser_resolve.proofs.Turns.{slice_among, turn_back, turn_map, turn_within}
-use Rattle.wac_parser_ascribed.specs.Tied.{place_of, beside, asker_by, asker_of}
+use Rattle.wac_parser_ascribed.specs.Tied.{place_of, asker_by, asker_of, partner}
 use Rattle.wac_parser_ascribed.proofs.Places.{place_is, beside_none, turn_beside, turn_named, turn_mapped}
 use Rattle.wac_parser_ascribed.proofs.Listing.{Makes, made_in_turn}
 use Rattle.wac_parser_ascribed.proofs.Origins.{has_states, item_there, item_is, origin_back}
@@ -103,12 +103,12 @@ module _ (g : Graph) (sound : IsGraph g) (acyclic : IsAcyclic g.types) {places :
   abbrev import_made : ℕ × NodeData → Option (Placed ℕ)
   import_made e = import_by g e.0 e.1 e.1.role
 
-  one_import : (i : Import) (k : ℕ) → ((e : ℕ × Span) × (e.0 ≡ k) × IsAsked g places.ids i e) × (beside ks s.imports k ≡ Some i) → Makes g.nodes import_made IsPlacedImport i k
+  one_import : (i : Import) (k : ℕ) → ((e : ℕ × Span) × (e.0 ≡ k) × IsAsked g places.ids i e) × (partner ks s.imports k ≡ Some i) → Makes g.nodes import_made IsPlacedImport i k
   one_import i k r =
       let a = r.0.2 in
       let x = a.import.node in
       let at : node_at g k ≡ Some x = subst (λ j. node_at g j ≡ Some x) r.0.1 a.import.there in
-      let by_it : asker k ≡ by_import i = ap (λ (o : Option Import). asker_by o (beside ms s.made k)) r.1 in
+      let by_it : asker k ≡ by_import i = ap (λ (o : Option Import). asker_by o (partner ms s.made k)) r.1 in
       let item : item_of g x ≡ i.item = item_there g k x i.item at (subst (λ j. HasItem g j i.item) r.0.1 a.item) in
       record {
         node = x;
@@ -146,8 +146,8 @@ module _ (g : Graph) (sound : IsGraph g) (acyclic : IsAcyclic g.types) {places :
   one_definition d k a =
       let x = a.definition.node in
       let at = a.definition.there in
-      let no_import : beside ks s.imports k ≡ None = beside_none ks s.imports k (defined_no_import k x at a.definition.role) in
-      let no_instance : beside ms s.made k ≡ None = beside_none ms s.made k (defined_no_instance k x at a.definition.role) in
+      let no_import : partner ks s.imports k ≡ None = beside_none ks s.imports k (defined_no_import k x at a.definition.role) in
+      let no_instance : partner ms s.made k ≡ None = beside_none ms s.made k (defined_no_instance k x at a.definition.role) in
       let by_it : asker k ≡ by_definition = λ j. asker_by (no_import j) (no_instance j) in
       let name : first_export g.exports k ≡ d.0 = first_named g.exports k d.0 a.definition.first in
       let item : item_of g x ≡ d.1 = item_there g k x d.1 at a.item in
@@ -231,7 +231,7 @@ module _ (g : Graph) (sound : IsGraph g) (acyclic : IsAcyclic g.types) {places :
 
   -- ---- exports
 
-  one_export : (x : Name × Bound) (e : Name × ℕ) → HasThat s x.1.denoted → IsNamed g ms x e → (e.0, origin_renamed number (origin_of g e.1), item_at g e.1) ≡ exported_in x
+  one_export : (x : Name × Bound) (e : Name × ℕ) → HasThat s x.1.denoted → IsNamed g ms x e → (e.0, origin_renamed number (origin_of g e.1), item_at g e.1) ≡ said_export x
   one_export x e has n =
       let d = n.denotes in
       let from = origin_back g sound acyclic ms ms_apart x.1.denoted.origin e.1 d.node (has_states g s x.1.denoted.origin x.1.denoted.item e.1 has d.item) in
@@ -239,7 +239,7 @@ module _ (g : Graph) (sound : IsGraph g) (acyclic : IsAcyclic g.types) {places :
       λ j. (n.name j, from j, item j)
 
   all_exports : (xs : List (Name × Bound)) (es : List (Name × ℕ)) → ((x : Name × Bound) → Among x xs → HasThat s x.1.denoted) → InTurn (IsNamed g ms) xs es
-      → map (λ (e : Name × c.Origin ℕ × Stated). (e.0, origin_renamed number e.1, e.2)) (map (λ (e : Name × ℕ). (e.0, origin_of g e.1, item_at g e.1)) es) ≡ map exported_in xs
+      → map (λ (e : Name × c.Origin ℕ × Stated). (e.0, origin_renamed number e.1, e.2)) (map (λ (e : Name × ℕ). (e.0, origin_of g e.1, item_at g e.1)) es) ≡ map said_export xs
   all_exports [] [] h t = refl
   all_exports [] (e ∷ es) h t = absurd t
   all_exports (x ∷ xs) [] h t = absurd t
@@ -290,12 +290,12 @@ module _ (g : Graph) (sound : IsGraph g) (acyclic : IsAcyclic g.types) {places :
   abbrev instance_made : ℕ × NodeData → Option (c.Made ℕ ℕ)
   instance_made e = made_with g e.0 (package_if g e.1.of)
 
-  pub one_instance : (i k : ℕ) (m : Made) (e : ℕ × Span) → e.0 ≡ k → slice_get ms i ≡ Some k → slice_get s.made i ≡ Some m → beside ms s.made k ≡ Some m → IsMade g ms m e → Makes g.nodes instance_made IsSameAs (made_in i m) k
+  pub one_instance : (i k : ℕ) (m : Made) (e : ℕ × Span) → e.0 ≡ k → slice_get ms i ≡ Some k → slice_get s.made i ≡ Some m → partner ms s.made k ≡ Some m → IsMade g ms m e → Makes g.nodes instance_made IsSameAs (made_in i m) k
   one_instance i k m e same place here next a =
       let is : instantiated g k ≡ Some a.of = subst (λ j. instantiated g j ≡ Some a.of) same a.is in
       let x = instance_role g sound k (subst IsSome (sym is) refl) in
       let made : package_if g x.0.of ≡ Some a.of = ap (package_made g) (sym x.1) ∙ is in
-      let no_import : beside ks s.imports k ≡ None = beside_none ks s.imports k (instance_no_import k (slice_among ms i k place)) in
+      let no_import : partner ks s.imports k ≡ None = beside_none ks s.imports k (instance_no_import k (slice_among ms i k place)) in
       record {
         node = x.0;
         at = x.1;
@@ -321,7 +321,7 @@ module _ (g : Graph) (sound : IsGraph g) (acyclic : IsAcyclic g.types) {places :
   all_numbered : (j : ℕ) (xs : List Made) (js : List ℕ)
       → ((i k : ℕ) → slice_get js i ≡ Some k → slice_get ms (i + j) ≡ Some k)
       → ((i : ℕ) (m : Made) → slice_get xs i ≡ Some m → slice_get s.made (i + j) ≡ Some m)
-      → InTurn (λ m k. ((e : ℕ × Span) × (e.0 ≡ k) × IsMade g ms m e) × (beside ms s.made k ≡ Some m)) xs js
+      → InTurn (λ m k. ((e : ℕ × Span) × (e.0 ≡ k) × IsMade g ms m e) × (partner ms s.made k ≡ Some m)) xs js
       → InTurn (Makes g.nodes instance_made IsSameAs) (numbered j xs) js
   all_numbered j [] [] p q t = tt
   all_numbered j [] (k ∷ js) p q t = absurd t

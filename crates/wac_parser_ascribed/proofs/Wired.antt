@@ -44,7 +44,7 @@ use Rattle.wac_parser_resolve.proofs.Ordered.{numbered_is, numbered_at, export_i
 use Rattle.wac_parser_resolve.proofs.Rooted.{AreFound, both_found}
 use Rattle.wac_parser_resolve.proofs.Sound.{Sound, statements_sound}
 use Rattle.wac_composition.proofs.Sizes.{large_alike, large_renamed}
-use Rattle.wac_parser_ascribed.specs.Tied.{place_of, bytes_of, handed_tag, IsAscribed, IsTagged, Graphs_are_ascribed}
+use Rattle.wac_parser_ascribed.specs.Tied.{place_of, handed_tag, IsAscribed, IsTagged, Graphs_are_ascribed, handed_bytes}
 use Rattle.wac_parser_ascribed.proofs.Origins.{has_states, node_of, origin_is}
 use Rattle.wac_parser_ascribed.proofs.Places.{at_place, place_is}
 use Rattle.wac_parser_ascribed.proofs.Noted.{placed, keys}
@@ -228,7 +228,7 @@ module _ (g : Graph) (sound : IsGraph g) (acyclic : IsAcyclic g.types) {places :
           let y = is.instances k p made in
           let id = package_stands g sound acyclic k p made in
           let tag : x.tag ≡ handed_tag s.packages (package_key p) =
-          ap (λ (z : Instantiation ℕ). z.tag) (same_Some _ _ (sym at ∙ y.1)) ∙ y.2.tag ∙ sym (ap (λ o. OfBytes (bytes_of o)) (b.packages id.0 p id.1)) in
+          ap (λ (z : Instantiation ℕ). z.tag) (same_Some _ _ (sym at ∙ y.1)) ∙ y.2.tag ∙ sym (ap (λ o. OfBytes (handed_bytes o)) (b.packages id.0 p id.1)) in
           at ∙ (λ l. Some (record { tag = tag l; args = x.args }))
 
   pub is_ascribed : IsAscribed g places s
@@ -240,7 +240,7 @@ module _ (g : Graph) (sound : IsGraph g) (acyclic : IsAcyclic g.types) {places :
     alike = alike g sound acyclic s b ps said;
     cause = λ define. sym (tied.cause define) ∙ keeps.cause define;
     large = λ h. (large_alike _ _ (alike g sound acyclic s b ps said)).0 ((large_renamed who (place_of nodes) (composition_of g)).0 h);
-    handed = λ k p made. let id = package_stands g sound acyclic k p made in ap bytes_of (b.packages id.0 p id.1);
+    handed = λ k p made. let id = package_stands g sound acyclic k p made in ap handed_bytes (b.packages id.0 p id.1);
     names = λ define validate. sym (tied.names define validate) ∙ keeps.names define validate;
     world = sym tied.world ∙ keeps.world;
     met = met_moved;

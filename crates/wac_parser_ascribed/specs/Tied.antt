@@ -35,10 +35,10 @@ place_of [] k = zero
 place_of (j ∷ js) k = if j == k then zero else suc (place_of js k)
 
 -- what stands at that place of another list
-abbrev pub beside : {A : Type 0} → List ℕ → List A → ℕ → Option A
-beside [] xs k = None
-beside (j ∷ js) [] k = None
-beside (j ∷ js) (x ∷ xs) k = if j == k then Some x else beside js xs k
+abbrev pub partner : {A : Type 0} → List ℕ → List A → ℕ → Option A
+partner [] xs k = None
+partner (j ∷ js) [] k = None
+partner (j ∷ js) (x ∷ xs) k = if j == k then Some x else partner js xs k
 
 abbrev pub asker_by : Option Import → Option Made → Asker
 asker_by (Some i) m = by_import i
@@ -47,7 +47,7 @@ asker_by None None = by_definition
 
 -- who asks in the document what a node asks, where these nodes are its imports and its instances
 abbrev pub asker_of : (imports instances : List ℕ) → State → ℕ → Asker
-asker_of imports instances s k = asker_by (beside imports s.imports k) (beside instances s.made k)
+asker_of imports instances s k = asker_by (partner imports s.imports k) (partner instances s.made k)
 
 -- the places that are told of the node are those of the one who asks
 abbrev pub IsPlaced : Places → ℕ → Asker → Type 0
@@ -57,13 +57,13 @@ IsPlaced at k by_definition = Unit {0}
 
 -- ---- the packages handed in
 
-abbrev pub bytes_of : Option Content → List ℕ
-bytes_of None = []
-bytes_of (Some x) = x.bytes
+abbrev pub handed_bytes : Option Content → List ℕ
+handed_bytes None = []
+handed_bytes (Some x) = x.bytes
 
 -- an instance is made of the bytes that were handed in under its key
 abbrev pub handed_tag : List (Key × Content) → Key → Tag
-handed_tag ps k = OfBytes (bytes_of (package_under ps k))
+handed_tag ps k = OfBytes (handed_bytes (package_under ps k))
 
 -- the wiring that a document ascribes over the packages that are handed in, where they are nested
 abbrev pub ascribed_wiring : State → Wiring ℕ
@@ -93,7 +93,7 @@ pub record IsAscribed (g : Graph) (at : Places) (s : State) : Type 0 where
       → first_cause define (composition s) ≡ option_map (cause_renamed asker) (first_cause define (composition_of g))
   pub large : IsLarge (composition_of g) → IsLarge (composition s)
   pub handed : (k : ℕ) (p : Packaged) → instantiated g k ≡ Some p
-      → bytes_of (package_under s.packages (package_key p)) ≡ p.bytes
+      → handed_bytes (package_under s.packages (package_key p)) ≡ p.bytes
   pub names : (define validate : Bool)
       → name_cause define validate (composition s)
       ≡ option_map (cause_renamed asker) (name_cause define validate (composition_of g))

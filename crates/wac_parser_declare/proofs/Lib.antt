@@ -19,3 +19,7 @@ pub mod InWorlds
 pub mod RowWords
 pub mod RefusedRows
 pub mod Standing
+pub mod AlikeScopes
+pub mod AlikeTypes
+pub mod AlikeBodies
+pub mod AlikeWorlds

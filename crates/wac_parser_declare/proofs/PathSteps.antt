@@ -19,7 +19,7 @@ use Rattle.wac_parser_declare.specs.Holding.{Holds}
 use Rattle.wac_parser_declare.specs.InPaths.{AWorld, IsWorldIn}
 use Rattle.wac_parser_declare.specs.Packages.{HoldsIf}
 use Rattle.wac_parser_declare.specs.Worlds.{world_by}
-use Rattle.wac_parser_declare.specs.Scope.{Path, definitions, foreign_export, joined, own_export, own_path, package_path, path_span, path_text}
+use Rattle.wac_parser_declare.specs.Scope.{Path, definitions, foreign_export, own_export, own_path, package_path, path_span, path_text, passed_text}
 
 -- ---- segments
 
@@ -54,9 +54,9 @@ given_none [] new g = refl
 given_none (x ∷ xs) new g = absurd (cc g.value)
 
 -- the text of one segment more
-pub joined_more : (i : Segment) (is : List Segment) (j : Segment) → joined ((i ∷ is) ++ j ∷ []) ≡ joined (i ∷ is) ++ (codes "/" ++ j.0)
+pub joined_more : (i : Segment) (is : List Segment) (j : Segment) → passed_text ((i ∷ is) ++ j ∷ []) ≡ passed_text (i ∷ is) ++ (codes "/" ++ j.0)
 joined_more i [] j = refl
-joined_more i (k ∷ is) j = ap (λ (w : Name). i.0 ++ (codes "/" ++ w)) (joined_more k is j) ∙ sym (appended i.0 (joined (k ∷ is)) (codes "/" ++ j.0))
+joined_more i (k ∷ is) j = ap (λ (w : Name). i.0 ++ (codes "/" ++ w)) (joined_more k is j) ∙ sym (appended i.0 (passed_text (k ∷ is)) (codes "/" ++ j.0))
   where
     appended : (a b c : Name) → (a ++ (codes "/" ++ b)) ++ c ≡ a ++ (codes "/" ++ (b ++ c))
     appended [] b c = refl
@@ -71,7 +71,7 @@ slash_more (b ∷ text) next = ap (λ (w : Name). b ∷ w) (slash_more text next
 pub record IsPassed (c : Collection) (p : Name) (all : Answer Stated) (text : Name) (k : ItemKind) (left : List Segment) : Type 0 where
   pub first : Segment
   pub others : List Segment
-  pub text_is : joined (first ∷ others) ≡ text
+  pub text_is : passed_text (first ∷ others) ≡ text
   pub rest : all ≡ package_path p (first ∷ others) (stated_of c k) left
 
 module _ (c : Collection) (p : Name) (all : Answer Stated) (text : Name) (k : ItemKind) (i : Segment) (left : List Segment) (h : IsPassed c p all text k (i ∷ left)) where

@@ -1,12 +1,12 @@
 -- What names and paths mean.
-use Rattle.std.specs.Prelude.{Bool, true, false, ◌&&◌, ◌||◌, ◌==◌, cond, List, [], ◌∷◌, ◌++◌, Option, Some, None, is_some, option_map, codes, filter_map, Result, Ok, Err, ⊤}
+use Rattle.std.specs.Prelude.{Bool, true, false, ◌&&◌, ◌==◌, cond, List, [], ◌∷◌, ◌++◌, Option, Some, None, is_some, option_map, codes, filter_map, Err, ⊤}
 use Rattle.std.specs.Cmp.Lexicographic.{pointwise}
-use Rattle.semver.specs.Parse.{Parts, version_parts}
+use Rattle.semver.specs.Parse.{Parts}
 use Rattle.semver.specs.Identifiers.{parts_text}
 use Rattle.wac_types_base.specs.Entries.{Name, value_at}
 use Rattle.wac_types_base.specs.Stated.{Stated, Kind, IsInstance, IsComponent, IsWorld, kind_of, desc, exports_of, as_type}
-use Rattle.wac_types_names.specs.Keys.{Key}
-use Rattle.wac_names.specs.NameTests.{pair_test, path_test}
+use Rattle.wac_types_names.specs.Keys.{Key, same_key}
+use Rattle.wac_types_names.specs.InterfaceNames.{is_interface_name}
 use Rattle.wac_parser_tree.specs.Trees as t
 use Rattle.wac_parser_tree.specs.Trees.{Span}
 use Rattle.wac_parser_tree.specs.Segments.{Segment, segment_spans, package_name_span}
@@ -58,19 +58,10 @@ pub record Context : Type 0 where
   pub packages : List (Key × Stated)
   pub root : Scope
 
-abbrev pub same_version : Option Parts → Option Parts → Bool
-same_version None None = true
-same_version (Some v) (Some w) =
-    (v.0 == w.0) && ((v.1 == w.1) && ((v.2 == w.2) && (pointwise ◌==◌ v.3 w.3 && pointwise ◌==◌ v.4 w.4)))
-same_version v w = false
-
-abbrev pub is_key : Key → Key → Bool
-is_key a b = pointwise ◌==◌ a.0 b.0 && same_version a.1 b.1
-
 -- what the first package of this key has
 abbrev pub package_under : {V : Type 0} → List (Key × V) → Key → Option V
 package_under [] k = None
-package_under (p ∷ ps) k = cond (is_key k p.0) (Some p.1) (package_under ps k)
+package_under (p ∷ ps) k = cond (same_key k p.0) (Some p.1) (package_under ps k)
 
 abbrev pub world_of_package : List (Key × Stated) → Key → Span → Answer Stated
 world_of_package ps k s = present (package_under ps k) (UnknownPackage k.0) s
@@ -80,16 +71,6 @@ abbrev pub is_instance_or_component : Kind → Bool
 is_instance_or_component IsInstance = true
 is_instance_or_component IsComponent = true
 is_instance_or_component k = false
-
-abbrev pub is_version : Name → Bool
-is_version text = by (version_parts text)
-  where
-    by : {E : Type 0} → Result Parts E → Bool
-    by (Ok v) = true
-    by (Err e) = false
-
-abbrev pub is_interface_name : Name → Bool
-is_interface_name n = path_test n || pair_test 64 path_test is_version n
 
 abbrev pub only_export : List (Name × Stated) → Option Stated
 only_export (e ∷ []) = cond (is_interface_name e.0 && is_instance_or_component (kind_of e.1)) (Some (as_type e.1)) None
@@ -118,10 +99,10 @@ abbrev pub world_path : t.WorldRef → Path
 world_path (t.WorldRef.package_path p) = in_package p
 world_path (t.WorldRef.ident i) = at_root i
 
-abbrev pub joined : List Segment → Name
-joined [] = []
-joined (i ∷ []) = i.0
-joined (i ∷ is) = i.0 ++ (codes "/" ++ joined is)
+abbrev pub passed_text : List Segment → Name
+passed_text [] = []
+passed_text (i ∷ []) = i.0
+passed_text (i ∷ is) = i.0 ++ (codes "/" ++ passed_text is)
 
 -- further segments are exports
 abbrev pub own_export : Name → Stated → Segment → Answer Stated
@@ -136,7 +117,7 @@ foreign_export p passed x i = present (value_at (exports_of x) i.0) (PackageMiss
 
 abbrev pub package_path : Name → List Segment → Stated → List Segment → Answer Stated
 package_path p passed x [] = pure x
-package_path p passed x (i ∷ is) = foreign_export p (joined passed) x i >>= λ y. package_path p (passed ++ i ∷ []) y is
+package_path p passed x (i ∷ is) = foreign_export p (passed_text passed) x i >>= λ y. package_path p (passed ++ i ∷ []) y is
 
 -- a segment as a name
 abbrev pub segment_ident : Segment → t.Ident

@@ -39,8 +39,8 @@ interface_added world kind stand s x = do
   unless_clear (has stand n) (DuplicateWorldItem kind n world) s
   pure (stand ++ (n, untyped x) ∷ [])
 
-abbrev pub interface_item : Context → Name → ExternKind → Items → Path → Answer Items
-interface_item c world kind stand p = interface_at c p >>= interface_added world kind stand (path_span p)
+abbrev pub interface_at_path : Context → Name → ExternKind → Items → Path → Answer Items
+interface_at_path c world kind stand p = interface_at c p >>= interface_added world kind stand (path_span p)
 
 -- one more item: a named item's duplicate comes before its type, another's after
 abbrev pub world_item : Context → Scope → Name → ExternKind → Items → t.WorldItemPath → Answer Items
@@ -48,8 +48,8 @@ world_item c ns world kind stand (t.WorldItemPath.named i) = do
   unless_clear (has stand i.id.string) (DuplicateWorldItem kind i.id.string world) i.id.span
   x ← extern_type c ns i.ty
   pure (stand ++ (i.id.string, x) ∷ [])
-world_item c ns world kind stand (t.WorldItemPath.package_path p) = interface_item c world kind stand (in_package p)
-world_item c ns world kind stand (t.WorldItemPath.ident i) = interface_item c world kind stand (at_root i)
+world_item c ns world kind stand (t.WorldItemPath.package_path p) = interface_at_path c world kind stand (in_package p)
+world_item c ns world kind stand (t.WorldItemPath.ident i) = interface_at_path c world kind stand (at_root i)
 
 -- the types of a world are imports
 abbrev pub importing : Name → Holder

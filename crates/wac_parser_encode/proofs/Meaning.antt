@@ -42,10 +42,10 @@ use Rattle.wac_parser_resolve.specs.InDocuments.{IsBuilt}
 use Rattle.wac_parser_resolve.specs.Resolved.{Places}
 use Rattle.wac_parser_resolve.proofs.Instances.{among_named}
 use Rattle.wac_parser_resolve.proofs.Turns.{turn_back, turn_on}
-use Rattle.wac_parser_ascribed.specs.Tied.{IsAscribed, IsTagged, bytes_of, handed_tag, ascribed_wiring}
+use Rattle.wac_parser_ascribed.specs.Tied.{IsAscribed, IsTagged, handed_tag, ascribed_wiring, handed_bytes}
 use Rattle.wac_parser_ascribed.proofs.Wired.{ascribed}
 use Rattle.wac_parser_encode.specs.Processing.{IsProcessed}
-use Rattle.wac_parser_encode.specs.Meaning.{AreTrueAs, AreTrueOf, HasResolvedWorld, HaveDependencyNames, ImportsAscribed, ImportsIn, ImportsResolved, MeansIn, MeansAscribed, MeansResolved, dependency_tag}
+use Rattle.wac_parser_encode.specs.Meaning.{AreTrueAs, AreTrueOf, HasResolvedWorld, ImportsAscribed, ImportsIn, ImportsResolved, MeansIn, MeansAscribed, MeansResolved, imported_tag, CanBeImported}
 
 -- an instance of the package was said
 record IsSaid (g : Graph) (ms : List ℕ) (s : State) (p : Packaged) : Type 0 where
@@ -66,7 +66,7 @@ module _ (g : Graph) (sound : IsGraph g) (acyclic : IsAcyclic g.types) (places :
       ∙ sym (tree_stated g.types acyclic (ItemKind.Instance p.instance_type) stands.instance)
 
   tag_is : (k : ℕ) (p : Packaged) → instantiated g k ≡ Some p → OfBytes p.bytes ≡ handed_tag s.packages (package_key p)
-  tag_is k p e = let id = package_stands g sound acyclic k p e in sym (ap (λ o. OfBytes (bytes_of o)) (b.packages id.0 p id.1))
+  tag_is k p e = let id = package_stands g sound acyclic k p e in sym (ap (λ o. OfBytes (handed_bytes o)) (b.packages id.0 p id.1))
 
   -- of the package that an instance is of
   one_true : (tag : Key → Tag) (worlds : Worlds) → AreTrueAs tag s worlds → (p : Packaged) (m : Made) (x : ℕ × Span) (id : PackageId) → Among m s.made → (a : IsMade g ms m x) → a.of ≡ p → package_of g id ≡ Some p
@@ -102,15 +102,15 @@ module _ (g : Graph) (sound : IsGraph g) (acyclic : IsAcyclic g.types) (places :
       by_some tied worlds bytes (h worlds (true_of_graph worlds are)) (has_wiring (spelling (asks_of (composition_of g))) (written_tree g) g sound (asked_trees g))
 
 module _ (g : Graph) (sound : IsGraph g) (acyclic : IsAcyclic g.types) (places : Places) (s : State) (b : IsBuilt g places s) where
-  true_of_imports : (worlds : Worlds) → AreTrueAs dependency_tag s worlds → graph.AreTrueOf false g worlds
-  true_of_imports worlds h = record { each = λ k p e. true_at g sound acyclic places s b dependency_tag worlds h k p e }
+  true_of_imports : (worlds : Worlds) → AreTrueAs imported_tag s worlds → graph.AreTrueOf false g worlds
+  true_of_imports worlds h = record { each = λ k p e. true_at g sound acyclic places s b imported_tag worlds h k p e }
 
-  names_of_graph : HaveDependencyNames s → graph.HaveDependencyNames g
+  names_of_graph : CanBeImported s → graph.HaveDependencyNames g
   names_of_graph h p made =
       let m = made_at g sound acyclic places s b made.0 p made.1 in
       subst (λ k. IsDependency (dependency_name k)) (sym m.is.key ∙ ap package_key m.of) (h m.made m.among)
 
-  tagged : (W : Wiring ℕ) → IsGraphWiring g W → IsTagged dependency_tag g W (graph.with_dependencies g W)
+  tagged : (W : Wiring ℕ) → IsGraphWiring g W → IsTagged imported_tag g W (graph.with_dependencies g W)
   tagged W is = record {
     outers = λ n. refl;
     instances = λ k p x made at.
@@ -130,7 +130,7 @@ module _ (g : Graph) (sound : IsGraph g) (acyclic : IsAcyclic g.types) (places :
   by_imports tied worlds bytes m w = record {
     meant = m.meant;
     means = m.means;
-    same = same_trans (composed_wiring dependency_tag (composition s)) (graph.with_dependencies g w.0) m.meant (tied.tagged dependency_tag w.0 (graph.with_dependencies g w.0) w.1 (tagged w.0 w.1)) (m.same w.0 w.1);
+    same = same_trans (composed_wiring imported_tag (composition s)) (graph.with_dependencies g w.0) m.meant (tied.tagged imported_tag w.0 (graph.with_dependencies g w.0) w.1 (tagged w.0 w.1)) (m.same w.0 w.1);
     packages = imported m.means.last.listed.imports m.packages;
   }
 

@@ -139,12 +139,19 @@ refuses g h options at e f same is all = subst (TellsFirst h options at) (sym is
 
 -- ---- where nothing is refused
 
-can_be_encoded : (g : Graph) (options : EncodeOptions) → IsGraph g → IsAcyclic g.types → cause_in options g ≡ None → CanBeEncoded g options
+can_be_encoded : (g : Graph) (options : EncodeOptions) → IsGraph g → IsAcyclic g.types → first_cause options.define_components (composition_of g) ≡ None
+    → name_cause options.define_components options.validate (composition_of g) ≡ None → CanBeEncoded g options
 unfolding CanBeEncoded
-can_be_encoded g options sound acyclic free = λ at d ps r q b.
+can_be_encoded g options sound acyclic free unlike = λ at d ps r q b.
     let tied = ascribed d ps r g at q sound acyclic b in
-    tied.cause options.define_components ∙ ap (option_map (cause_renamed tied.asker)) free
+    record {
+      cause = tied.cause options.define_components ∙ ap (option_map (cause_renamed tied.asker)) free;
+      alike = tied.names options.define_components options.validate ∙ ap (option_map (cause_renamed tied.asker)) unlike;
+    }
 
 pub free_processed : {A E : Type 0} (g : Graph) (old new : EncodeOptions) (r : Result A E) → IsProcessed old new → IsGraph g → IsAcyclic g.types → OnOk r (IsFree new g) → OnOk r (CanBeEncoded g old)
-free_processed g old new (Ok a) is sound acyclic free = can_be_encoded g old sound acyclic (subst (λ (define : Bool). first_cause define (composition_of g) ≡ None) is.define free.cause)
+free_processed g old new (Ok a) is sound acyclic free = can_be_encoded g old sound acyclic
+    (subst (λ (define : Bool). first_cause define (composition_of g) ≡ None) is.define free.cause)
+    (subst (λ (define : Bool). name_cause define old.validate (composition_of g) ≡ None) is.define
+    (subst (λ (validate : Bool). name_cause new.define_components validate (composition_of g) ≡ None) is.validate free.alike))
 free_processed g old new (Err e) is sound acyclic free = tt

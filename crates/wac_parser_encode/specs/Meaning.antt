@@ -52,24 +52,24 @@ MeansResolved g options bytes = options.define_components ≡ true
 
 -- ---- with packages imported
 
-abbrev pub dependency_tag : Key → Tag
-dependency_tag k = OfDependency (dependency_name k)
+abbrev pub imported_tag : Key → Tag
+imported_tag k = OfDependency (dependency_name k)
 
 -- each package that is instantiated has a name under which it can be imported
-abbrev pub HaveDependencyNames : State → Type 0
-HaveDependencyNames s = (m : Made) → Among m s.made → IsDependency (dependency_name m.key)
+abbrev pub CanBeImported : State → Type 0
+CanBeImported s = (m : Made) → Among m s.made → IsDependency (dependency_name m.key)
 
 -- In these worlds the bytes mean the wiring that is ascribed, and import each package under that name, as a component of its
 -- stated world.
 pub record ImportsIn (s : State) (worlds : Worlds) (bytes : List ℕ) : Type 0 where
   pub meant : Wiring ℕ
   pub means : Means worlds bytes meant
-  pub same : Same (composed_wiring dependency_tag (composition s)) meant
+  pub same : Same (composed_wiring imported_tag (composition s)) meant
   pub packages : (m : Made) → Among m s.made → Among (dependency_name m.key, tree m.world) means.last.listed.imports
 
 abbrev pub ImportsAscribed : State → List ℕ → Type 0
 ImportsAscribed s bytes =
-    HaveDependencyNames s → (worlds : Worlds) → AreTrueAs dependency_tag s worlds → ImportsIn s worlds bytes
+    CanBeImported s → (worlds : Worlds) → AreTrueAs imported_tag s worlds → ImportsIn s worlds bytes
 
 -- Where packages are imported, so it is of each document that the graph is built from.
 unfoldable pub ImportsResolved : Graph → EncodeOptions → List ℕ → Type 0

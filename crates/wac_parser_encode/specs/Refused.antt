@@ -18,7 +18,7 @@ use Rattle.wac_parser_refusals.specs.Causes.{Cause, Fault}
 use Rattle.wac_parser_refusals.specs.Views.{anywhere, at_place, cause_of}
 use Rattle.wac_parser_declare.specs.Packages.{Content}
 use Rattle.wac_parser_declare.specs.Scope.{package_under}
-use Rattle.wac_parser_ascribed.specs.Tied.{bytes_of}
+use Rattle.wac_parser_ascribed.specs.Tied.{handed_bytes}
 use Rattle.wac_parser_resolve.specs.Ascribed.{Asker, cause_said, composition}
 use Rattle.wac_parser_resolve.specs.Ascribing.{State}
 use Rattle.wac_parser_resolve.specs.InDocuments.{IsBuilt}
@@ -56,7 +56,7 @@ module _ (define : Bool) (s : State) where
 
 -- a package that is handed in has more bytes than a size of 32 bits counts
 abbrev pub HasLargeHanded : State → Type 0
-HasLargeHanded s = (k : Key) × (2 ^ 32 ≤ length (bytes_of (package_under s.packages k)))
+HasLargeHanded s = (k : Key) × (2 ^ 32 ≤ length (handed_bytes (package_under s.packages k)))
 
 -- what is said is too large: its composition is, or a package; that has no place
 abbrev pub IsOfSize : State → Cause → Type 0
@@ -67,15 +67,15 @@ module _ (define validate : Bool) (s : State) where
   abbrev pub AreFirstAlike : Cause → Type 0
   AreFirstAlike c = option_map cause_said (name_cause define validate (composition s)) ≡ Some c
 
-  abbrev pub IsFault : Fault → Cause → Type 0
-  IsFault (Fault.ValidationFailure kind m n) c = AreFirstAlike c
-  IsFault Fault.TooLarge c = IsOfSize s c
-  IsFault f c = IsFirst define s c
+  abbrev pub IsToldFault : Fault → Cause → Type 0
+  IsToldFault (Fault.ValidationFailure kind m n) c = AreFirstAlike c
+  IsToldFault Fault.TooLarge c = IsOfSize s c
+  IsToldFault f c = IsFirst define s c
 
   -- it is the first cause, with its fields and its place; want of memory may always be answered
   abbrev pub TellsCause : Option Cause → Type 0
   TellsCause None = Unit {0}
-  TellsCause (Some c) = IsFault c.fault c
+  TellsCause (Some c) = IsToldFault c.fault c
 
 -- so it is of what each document says that the graph holds, where that stands at these places
 abbrev pub OfEach : Graph → Places → (State → Type 0) → Type 0
@@ -95,6 +95,11 @@ RefusesResolved g at options e = TellsFirst g options at (cause_of e)
 
 -- ---- where nothing is refused
 
--- Where the graph holds what a document says, no cause stands against encoding that.
+-- no cause stands against encoding what is said, and no names are alike
+pub record HasNoCause (define validate : Bool) (s : State) : Type 0 where
+  pub cause : first_cause define (composition s) ≡ None
+  pub alike : name_cause define validate (composition s) ≡ None
+
+-- so it is of what each document says that the graph holds
 unfoldable pub CanBeEncoded : Graph → EncodeOptions → Type 0
-CanBeEncoded g options = (at : Places) → OfEach g at (λ s. first_cause options.define_components (composition s) ≡ None)
+CanBeEncoded g options = (at : Places) → OfEach g at (HasNoCause options.define_components options.validate)

@@ -7,7 +7,7 @@ use Rattle.wac_types_base.specs.Record.{Collection}
 use Rattle.wac_types_base.specs.Collection.{Stands}
 use Rattle.wac_types_base.specs.Entries.{Name, has_name, names_of}
 use Rattle.wac_types_base.specs.Stated.{Stated, imports_of, instance_type, stated_of}
-use Rattle.wac_types_names.specs.Keys.{Key}
+use Rattle.wac_types_names.specs.Keys.{Key, same_key}
 use Rattle.wac_graph_core.specs.declared.package.Place.{Place}
 use Rattle.wac_graph_core.specs.declared.ids.PackageId.{PackageId}
 use Rattle.wac_graph_core.specs.Graph.{Graph, IsGraph}
@@ -18,7 +18,7 @@ use Rattle.wac_parser_refusals.specs.Causes.{Answer, Fault, ◌>>◌, present, p
 use Rattle.wac_parser_refusals.specs.Outcomes.{IsHeld, IsOutcome, IsRefusal, Refuses}
 use Rattle.wac_parser_refusals.proofs.Outcomes.{memory_refusal}
 use Rattle.wac_parser_declare.specs.Packages.{Content, SamePackages, world_if}
-use Rattle.wac_parser_declare.specs.Scope.{is_key, package_under}
+use Rattle.wac_parser_declare.specs.Scope.{package_under}
 use Rattle.wac_parser_resolve.specs.declared.board.Board.{Board}
 use Rattle.wac_parser_resolve.specs.declared.packages.GraphTypes.{GraphTypes}
 use Rattle.wac_parser_resolve.specs.declared.root.Root.{Root}
@@ -55,7 +55,7 @@ known_within g h within same k =
 -- the world of a package, among those of all
 world_under : (ps : List (Key × Content)) (k : Key) → package_under (worlds_of ps) k ≡ world_if (package_under ps k)
 world_under [] k = refl
-world_under (p ∷ ps) k = by_test (is_key k p.0) (world_under ps k)
+world_under (p ∷ ps) k = by_test (same_key k p.0) (world_under ps k)
   where
     by_test : (b : Bool) → package_under (worlds_of ps) k ≡ world_if (package_under ps k) → cond b (Some p.1.world) (package_under (worlds_of ps) k) ≡ world_if (cond b (Some p.1) (package_under ps k))
     by_test true h = refl

@@ -1,17 +1,11 @@
 -- What a package defines, by its world.
 use Rattle.std.specs.Prelude.{filter_map}
-use Rattle.std.proofs.Common.{◌≡◌, ◌<◌, ◌≤◌, ◌==◌, ◌⊎◌, Bool, true, false, ◌&&◌, ◌||◌, if◌then◌else◌, cond, List, [], ◌∷◌, length, Option, Some, None, Result, Ok, Err, option_map, slice_get, refl, sym, ap, subst, ◌∙◌, inl, inr, true≢false, arith}
+use Rattle.std.proofs.Common.{◌≡◌, ◌==◌, Bool, true, false, ◌&&◌, if◌then◌else◌, cond, List, [], ◌∷◌, length, Option, Some, None, option_map, slice_get, refl, sym, ap, subst, ◌∙◌, inl, inr, arith}
 use Rattle.std.specs.Bool.{Decides, one_answer}
-use Rattle.std.specs.List.{after_first, before_first, cons_option, position_or_len}
-use Rattle.std.proofs.lemmas.Bool.{and_from, and_parts, cases_lt, lt-ltb, ltb-true}
-use Rattle.semver.specs.declared.Error.{Error}
-use Rattle.semver.specs.Parse.{Parts, version_parts}
-use Rattle.wac_names.specs.ComponentNames.{IsInterfaceName, IsName, IsVersion}
-use Rattle.wac_names.specs.NameTests.{pair_test, path_test}
+use Rattle.std.specs.List.{cons_option}
+use Rattle.wac_names.specs.ComponentNames.{IsName}
 use Rattle.wac_names.specs.declared.names.NameKind.{NameKind}
 use Rattle.wac_names.specs.declared.names.NameKind.TheVariants as kind
-use Rattle.wac_names.proofs.NameForms.{place_le}
-use Rattle.wac_names.proofs.NameKinds.{no_version, path_alone, path_decides, version_decides}
 use Rattle.std.specs.Option.{option_and_then}
 use Rattle.std.specs.Cmp.Lexicographic.{pointwise, bytes_decides}
 use Rattle.wac_types_base.specs.Graph.{Among}
@@ -26,7 +20,9 @@ use Rattle.wac_types_base.specs.Stated.{Stated, as_type, exports_of, kind_of, st
 use Rattle.wac_types_base.proofs.Telling.{item_kind, kind_stated}
 use Rattle.wac_parser_declare.specs.Holding.{Holds}
 use Rattle.wac_parser_declare.specs.Packages.{HoldsIf}
-use Rattle.wac_parser_declare.specs.Scope.{definition_by, definitions, is_instance_or_component, is_interface_name, is_version, only_export}
+use Rattle.wac_parser_declare.specs.Scope.{definition_by, definitions, is_instance_or_component, only_export}
+use Rattle.wac_types_names.specs.InterfaceNames.{is_interface_name}
+use Rattle.wac_types_names.proofs.InterfaceTests.{interface_told}
 use Rattle.wac_parser_declare.proofs.InWorlds.{interface_typed, world_typed}
 use Rattle.wac_parser_declare.proofs.Kept.{value_at-with_values}
 use Rattle.wac_parser_resolve.specs.Knowing.{IsDefinedBy, IsDefinedIn, IsTypeOf}
@@ -68,58 +64,6 @@ module _ (f : Stated → Option Stated) where
   meant_value (e ∷ es) n distinct = tested e es n distinct.0 (meant_value es n distinct.1) (pointwise ◌==◌ n e.0) refl
 
 -- ---- names of interfaces
-
-module _ (text : Name) where
-  version_told : Decides (is_version text) (IsVersion text)
-  version_told = told (version_parts text) refl
-    where
-      told : (r : Result Parts Error) → version_parts text ≡ r → Decides (is_version text) (IsVersion text)
-      told (Ok p) e = (λ h. (p, e), λ h. rw e refl)
-      told (Err f) e =
-          let no : is_version text ≡ false = rw e refl in
-          (λ h. absurd (cc (h, no)), λ h. absurd (cc (h.1, e)))
-
-module _ (text : Name) where
-  abbrev test : Bool
-  test = pair_test 64 path_test is_version text
-
-  behind_told : (lt : position_or_len (λ b. b == 64) text < length text) → IsInterfaceName text → test ≡ true
-  behind_told lt named =
-      let front = before_first (λ b. b == 64) text in
-      let behind = after_first (λ b. b == 64) text in
-      let p : path_test front ≡ true = sure (path_test front) (λ e. true≢false (sym ((no_version text lt (λ h. true≢false (sym ((path_decides front).1 h) ∙ e))).1 named))) in
-      let v : is_version behind ≡ true = sure (is_version behind) (λ e. true≢false (sym ((version_decides text lt false ((path_decides front).0 p) (other e)).1 named))) in
-      and_from _ _ (lt-ltb _ _ lt) (and_from _ _ p v)
-    where
-      sure : (b : Bool) → (b ≡ false → ⊥) → b ≡ true
-      sure true h = refl
-      sure false h = absurd (h refl)
-
-      other : is_version (after_first (λ b. b == 64) text) ≡ false → Decides false (IsVersion (after_first (λ b. b == 64) text))
-      other e = (λ h. absurd (cc h), λ h. sym e ∙ (version_told (after_first (λ b. b == 64) text)).1 h)
-
-  by_place : path_test text ≡ false → IsInterfaceName text → (position_or_len (λ b. b == 64) text < length text) ⊎ (length text ≤ position_or_len (λ b. b == 64) text) → test ≡ true
-  by_place e named (inl lt) = behind_told lt named
-  by_place e named (inr ge) =
-      let none : Decides false (IsInterfaceName text) = path_alone text false (omega (arith, ge, place_le 64 text)) ((λ h. absurd (cc h), λ h. sym e ∙ (path_decides text).1 h)) in
-      absurd (true≢false (sym (none.1 named)))
-
-  -- it is the name of an interface where the test says so
-  pub interface_told : Decides (is_interface_name text) (IsInterfaceName text)
-  interface_told = (to (path_test text) refl, from (path_test text) refl)
-    where
-      to : (b : Bool) → path_test text ≡ b → is_interface_name text ≡ true → IsInterfaceName text
-      to true e h = inl ((path_decides text).0 e)
-      to false e h =
-          let t : test ≡ true = sym (ap (λ (b : Bool). b || test) e) ∙ h in
-          let a = and_parts _ _ t in
-          let lt = ltb-true (position_or_len (λ b. b == 64) text) (length text) a.0 in
-          let p = and_parts _ _ a.1 in
-          (version_decides text lt true ((path_decides (before_first (λ b. b == 64) text)).0 p.0) (λ h. (version_told (after_first (λ b. b == 64) text)).0 p.1, λ h. refl)).0 refl
-
-      from : (b : Bool) → path_test text ≡ b → IsInterfaceName text → is_interface_name text ≡ true
-      from true e named = ap (λ (b : Bool). b || test) e
-      from false e named = ap (λ (b : Bool). b || test) e ∙ by_place e named (cases_lt (position_or_len (λ b. b == 64) text) (length text))
 
 -- as it is told of a name
 pub interface_named : (text : Name) (o : Option NameKind) (b : Bool) → Decides b (o ≡ Some kind.Interface) → ((k : NameKind) → (o ≡ Some k → IsName k text) × (IsName k text → o ≡ Some k)) → b ≡ is_interface_name text

@@ -21,7 +21,7 @@ use Rattle.wac_composition.proofs.Lists.{mapped_among}
 use Rattle.wac_parser_declare.specs.Packages.{Content}
 use Rattle.wac_parser_resolve.specs.Ascribing.{Origin, imported, instance, projected, defined, Denoted, Made, State}
 use Rattle.wac_parser_resolve.specs.Denoting.{compared_by}
-use Rattle.wac_parser_resolve.specs.Ascribed.{Asker, origin_in, made_in, placed_import, placed_definition, exported_in, composition}
+use Rattle.wac_parser_resolve.specs.Ascribed.{Asker, origin_in, made_in, placed_import, placed_definition, composition, said_export}
 use Rattle.wac_parser_resolve.specs.Saying.{statements}
 use Rattle.wac_parser_resolve.specs.Meeting.{resolved, target}
 use Rattle.wac_parser_resolve.specs.Laws.{Documents_are_wired, Resolved_are_wired}
@@ -68,7 +68,7 @@ module _ (ps : List (Key × Content)) (g : State) (sound : Sound ps g) (regular 
     given = λ k m n o x e v w. let r = numbered_is zero g.made k m e in
         is_given k r.made n x (sound.made k r.made r.there) (ap (λ (y : c.Made Asker ℕ). value_at (imports_of y.world) n) (sym r.is) ∙ w) (value_at r.made.arguments n) refl o
         (sym (argument_is r.made.arguments n) ∙ ap (λ (y : c.Made Asker ℕ). value_at y.arguments n) (sym r.is) ∙ v);
-    exported = λ n o x m. let a = mapped_among exported_in g.exports (n, o, x) m in
+    exported = λ n o x m. let a = mapped_among said_export g.exports (n, o, x) m in
         subst (λ (e : Name × c.Origin ℕ × Stated). HasType (composition g) e.1 e.2) (sym a.2) (has_type a.0.1.denoted.origin a.0.1.denoted.item (sound.exports a.0 a.1));
     straight = regular.straight;
   }

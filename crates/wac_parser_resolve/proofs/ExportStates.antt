@@ -39,7 +39,7 @@ use Rattle.wac_parser_resolve.specs.declared.spans.Spans.{Spans}
 use Rattle.wac_parser_resolve.specs.declared.exports.Definition.{Definition}
 use Rattle.wac_parser_resolve.specs.declared.exports.ExportName.{ExportName}
 use Rattle.wac_parser_resolve.specs.declared.state.State.{State as Held}
-use Rattle.wac_parser_resolve.specs.Ascribing.{Bound, Denoted, Import, State, defined, imported, is_definition, is_projection, own_name, same_origin, speak_of}
+use Rattle.wac_parser_resolve.specs.Ascribing.{Bound, Denoted, Import, State, defined, imported, is_projection, own_name, same_origin, speak_of, is_own_definition}
 use Rattle.wac_parser_resolve.specs.Denoting.{instance_identifier, spoken}
 use Rattle.wac_parser_resolve.specs.Holding.{AreNamed, Denotes, HasItem, InTurn, IsNamed, Says}
 use Rattle.wac_parser_resolve.specs.InStatements.{DenotesOn}
@@ -229,7 +229,7 @@ module _ (d : Denoted) (helped : Bool) (n : t.Ident) where
   -- ---- step by step
 
   module _ {A : Type 0} (rest : Answer A) where
-    conflict_by : (o : Option Bound) (x : Bound) (e : Refusal) → o ≡ Some x → is_definition x.denoted.origin ≡ true → Refuses e (ExportConflict n.string (desc x.denoted.item) x.span helped) n.span
+    conflict_by : (o : Option Bound) (x : Bound) (e : Refusal) → o ≡ Some x → is_own_definition x.denoted.origin ≡ true → Refuses e (ExportConflict n.string (desc x.denoted.item) x.span helped) n.span
         → IsRefusal (no_definition n helped o >> rest) e
     conflict_by o x e is def r =
         subst (λ (p : Option Bound). IsRefusal (no_definition n helped p >> rest) e) (sym is)

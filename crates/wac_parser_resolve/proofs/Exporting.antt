@@ -1,20 +1,16 @@
 -- Exports: the names that they may have, definitions, where things were exported last, and what is said behind an export.
-use Rattle.std.specs.Prelude.{Result, bytes_eq, option_map, unwrap_or}
-use Rattle.std.proofs.Common.{◌≡◌, ℕ, List, [], ◌∷◌, ◌++◌, Bool, true, false, ◌&&◌, ◌||◌, ◌==◌, if◌then◌else◌, Option, Some, None, IsSome, is_some, Ok, Err, inl, inr, refl, sym, ap, subst, ◌∙◌}
-use Rattle.std.specs.List.{position_or_len, before_first, after_first}
-use Rattle.std.specs.Prelude.{length, nat_lt}
+use Rattle.std.specs.Prelude.{bytes_eq, option_map, unwrap_or}
+use Rattle.std.proofs.Common.{◌≡◌, ℕ, List, [], ◌∷◌, ◌++◌, Bool, true, false, ◌==◌, if◌then◌else◌, Option, Some, None, IsSome, is_some, inl, inr, refl, sym, ap, subst, ◌∙◌}
 use Rattle.std.specs.Cmp.Lexicographic.{bytes_decides}
 use Rattle.std.proofs.lemmas.Bool.{or_left, or_right, false_from_ne_true, and_from}
-use Rattle.semver.specs.Parse.{Parts, version_parts}
 use Rattle.wac_types_base.specs.declared.item.«Type».{«Type» as TypeKind}
 use Rattle.wac_types_base.specs.Entries.{Name, AreDistinct, value_at}
 use Rattle.wac_types_base.specs.Graph.{Among}
 use Rattle.wac_types_base.proofs.Replacing.{same_number, number_same}
-use Rattle.wac_types_names.specs.Tracks.{read_version}
 use Rattle.wac_names.specs.declared.names.NameKind.TheVariants as kind
-use Rattle.wac_names.specs.NameTests.{plain_test, path_test}
+use Rattle.wac_names.specs.NameTests.{plain_test}
 use Rattle.wac_names.proofs.NameKinds.{plain_decides, or_parts}
-use Rattle.wac_composition.specs.Names.{is_interface_name, version_test}
+use Rattle.wac_types_names.specs.InterfaceNames.{is_interface_name}
 use Rattle.wac_graph_core.specs.Nodes.{NodeData, Role}
 use Rattle.wac_graph_core.specs.Defining.{DefinesType}
 use Rattle.wac_graph_core.specs.Exporting.{IsExportName}
@@ -22,41 +18,27 @@ use Rattle.wac_graph_core.specs.Graph.{Graph, IsGraph, node_at}
 use Rattle.wac_parser_tree.specs.Trees.{Span}
 use Rattle.wac_parser_declare.specs.declared.scope.Binding.{Binding}
 use Rattle.wac_parser_declare.specs.Holding.{meant_by, scope_of}
-use Rattle.wac_parser_declare.specs.Scope as scope
 use Rattle.wac_parser_declare.specs.Scope.{Meant}
 use Rattle.wac_parser_declare.proofs.Kept.{value_at-with_values}
 use Rattle.wac_parser_resolve.specs.Ascribing as stated
-use Rattle.wac_parser_resolve.specs.Ascribing.{Origin, imported, instance, projected, defined, Denoted, Bound, State, is_definition, root_scope, same_origin}
+use Rattle.wac_parser_resolve.specs.Ascribing.{Origin, imported, instance, projected, defined, Bound, State, root_scope, same_origin, is_own_definition}
 use Rattle.std.specs.Option.{option_or}
 use Rattle.wac_parser_resolve.specs.Holding.{AreNamed, InTurn, IsNode}
 use Rattle.wac_parser_resolve.specs.InExports.{IsBoundTo, IsDefined, is_defined}
 use Rattle.wac_parser_resolve.specs.Later.{first_name}
 use Rattle.wac_parser_resolve.specs.Said.{IsNoted, last_noted}
 use Rattle.wac_parser_resolve.specs.Saying.{is_exportable, last_span}
-use Rattle.wac_parser_resolve.proofs.Defined.{interface_told}
+use Rattle.wac_types_names.proofs.InterfaceTests.{interface_told}
 use Rattle.wac_parser_resolve.proofs.Nodes.{RoleTold, same_node, told_role}
 use Rattle.wac_parser_resolve.proofs.Rooted.{AreFound, both_found}
 use Rattle.wac_parser_resolve.proofs.Turns.{one_place}
 
 -- ---- names of exports
 
-version_same : (text : Name) → scope.is_version text ≡ version_test text
-unfolding read_version
-version_same text = go (version_parts text) refl
-  where
-    go : (r : Result Parts _) → version_parts text ≡ r → scope.is_version text ≡ version_test text
-    go (Ok p) e = rw e refl
-    go (Err x) e = rw e refl
-
-interface_same : (n : Name) → scope.is_interface_name n ≡ is_interface_name n
-interface_same n =
-    ap (λ (b : Bool). path_test n || (nat_lt (position_or_len (λ b. b == 64) n) (length n) && (path_test (before_first (λ b. b == 64) n) && b)))
-    (version_same (after_first (λ b. b == 64) n))
-
 -- the name of an export, by the test of documents
 pub exportable : (n : Name) → IsExportName n → is_exportable n ≡ true
 exportable n (kind.Plain, k, is) = or_left (plain_test n) (is_interface_name n) ((plain_decides n).1 is)
-exportable n (kind.Interface, k, is) = or_right (plain_test n) (is_interface_name n) (sym (interface_same n) ∙ (interface_told n).1 is)
+exportable n (kind.Interface, k, is) = or_right (plain_test n) (is_interface_name n) ((interface_told n).1 is)
 exportable n (kind.Dependency, k, is) = absurd k
 exportable n (kind.Url, k, is) = absurd k
 exportable n (kind.Hash, k, is) = absurd k
@@ -64,7 +46,7 @@ exportable n (kind.Hash, k, is) = absurd k
 pub unexportable : (n : Name) → (IsExportName n → ⊥) → is_exportable n ≡ false
 unexportable n h = false_from_ne_true (is_exportable n) (λ e. elim (or_parts (plain_test n) (is_interface_name n) e) [
   | inl p ↦ h (kind.Plain, tt, (plain_decides n).0 p)
-  | inr i ↦ h (kind.Interface, tt, (interface_told n).0 (interface_same n ∙ i))
+  | inr i ↦ h (kind.Interface, tt, (interface_told n).0 i)
 ])
 
 -- ---- one node is one thing
@@ -177,13 +159,13 @@ module _ (g : Graph) (ms : List ℕ) (s : State) (nodes : List (Name × ℕ)) (n
       by_found (Some b) f = absurd (cc (sym (ap is_some f.item.there) ∙ gone))
 
   -- a definition is one by its origin
-  defined_by : (o : Origin) (r : Role) → RoleTold o r → r ≡ Role.Defined → is_definition o ≡ true
+  defined_by : (o : Origin) (r : Role) → RoleTold o r → r ≡ Role.Defined → is_own_definition o ≡ true
   defined_by (imported m) r t e = absurd (cc (t, e))
   defined_by (instance i) r t e = absurd (cc (t, e))
   defined_by (projected o m) r t e = absurd (cc (t, e))
   defined_by (defined m x) r t e = refl
 
-  undefined_by : (o : Origin) (r : Role) → RoleTold o r → (r ≡ Role.Defined → ⊥) → is_definition o ≡ false
+  undefined_by : (o : Origin) (r : Role) → RoleTold o r → (r ≡ Role.Defined → ⊥) → is_own_definition o ≡ false
   undefined_by (imported m) r t h = refl
   undefined_by (instance i) r t h = refl
   undefined_by (projected o m) r t h = refl

@@ -38,7 +38,7 @@ use Rattle.wac_parser_resolve.specs.declared.state.State.{State as Held}
 use Rattle.wac_parser_resolve.specs.Ascribing.{Denoted, Import, State, bound, imported}
 use Rattle.std.specs.Option.{option_or}
 use Rattle.wac_parser_resolve.specs.Holding.{Denotes, HasItem, InTurn}
-use Rattle.wac_parser_resolve.specs.InStatements.{NotesImport, import_cause, import_of}
+use Rattle.wac_parser_resolve.specs.InStatements.{NotesImport, import_cause, says_import}
 use Rattle.wac_parser_resolve.specs.Later.{IsWithin, Later}
 use Rattle.wac_parser_resolve.specs.Said.{AreAsked, IsAsked, IsSaid, last_noted}
 use Rattle.wac_parser_resolve.specs.Saying.{asked, ended, import_called, inside_test, is_bracketed_name, is_exportable, is_extern_name, not_imported, with_import}
@@ -223,7 +223,7 @@ module _ (own : t.PackageName) (b : Held) (s : State) (said : IsSaid own b s) (x
   -- the graph refuses it
   refused_by : (o : Option Import) (c : Bool) (e : Refusal) → import_called s.imports n.string ≡ o → is_extern_name n.string ≡ c
       → IsRefusal (not_imported o n (is_none x.name) >> (unless_clear (not c) (InvalidExternName n.string ExternKind.Import) n.span >> bound (with_import s one) x.id here)) e
-      → IsRefusal (import_of s x n item) e
+      → IsRefusal (says_import s x n item) e
   refused_by o c e called valid r =
       subst (λ (p : Option Import). IsRefusal (not_imported p n (is_none x.name) >> (unless_clear (not (is_extern_name n.string)) (InvalidExternName n.string ExternKind.Import) n.span >> bound (with_import s one) x.id here)) e) (sym called)
       (subst (λ (d : Bool). IsRefusal (not_imported o n (is_none x.name) >> (unless_clear (not d) (InvalidExternName n.string ExternKind.Import) n.span >> bound (with_import s one) x.id here)) e) (sym valid) r)
@@ -232,7 +232,7 @@ module _ (own : t.PackageName) (b : Held) (s : State) (said : IsSaid own b s) (x
   no_cause (Refusal.Named f) h = subst IsMemory (sym h) tt
   no_cause Refusal.Memory h = tt
 
-  pub import_refused : IsGraph g → (fault : ImportError) (e : Refusal) → ImportRefused g n.string fault → Names e (import_cause b.imports.noted.items n.span (is_none x.name) fault) → IsRefusal (import_of s x n item) e
+  pub import_refused : IsGraph g → (fault : ImportError) (e : Refusal) → ImportRefused g n.string fault → Names e (import_cause b.imports.noted.items n.span (is_none x.name) fault) → IsRefusal (says_import s x n item) e
   import_refused sound (ImportError.ImportAlreadyExists m k) e r names =
       let c = called_in g b.ids.noted.items n.string sound k r.1 s.imports b.imports.noted.items said.imports.are (rises_apart (names_of b.imports.noted.items) said.imports.rising) (said.imports.all k n.string r.1) in
       let one_told = told e (record { fault = DuplicateExternName (string_bytes m) ExternKind.Import (unwrap_or (last_noted b.imports.noted.items k) n.span) (is_none x.name); span = Some n.span }) names in
@@ -243,7 +243,7 @@ module _ (own : t.PackageName) (b : Held) (s : State) (said : IsSaid own b s) (x
       let one_told = told e (record { fault = InvalidExternName (string_bytes m) ExternKind.Import; span = Some n.span }) names in
       refused_by None false e (none_called g b.ids.noted.items n.string r.1 s.imports b.imports.noted.items said.imports.are) (no_extern_name n.string r.2)
       (subst (λ (z : Name). Tells (cause_in e) (record { fault = InvalidExternName z ExternKind.Import; span = Some n.span })) r.0 one_told)
-  import_refused sound ImportError.Memory e r names = memory_refusal (import_of s x n item) e (no_cause e names)
+  import_refused sound ImportError.Memory e r names = memory_refusal (says_import s x n item) e (no_cause e names)
 
   -- it is there
   module _ (h : Graph) (k : ℕ) (made : Imports g h n.string kind k) where
@@ -344,7 +344,7 @@ module _ (own : t.PackageName) (b : Held) (s : State) (said : IsSaid own b s) (x
     pub import_said : (a : Held) → NotesImport (with_types b (with_graph b.board.types h)) a k n.span x.id.span → IsSaid own a (with_import s one)
     import_said a notes = subst (λ (z : Held). IsSaid own z (with_import s one)) (sym notes.rest) (said_noted a notes.imports notes.ids)
 
-    pub import_outcome : (H : State → ⊤ → Type 0) (r : Result ⊤ Refusal) → IsOutcome H (bound (with_import s one) x.id here) r → IsOutcome H (import_of s x n item) r
+    pub import_outcome : (H : State → ⊤ → Type 0) (r : Result ⊤ Refusal) → IsOutcome H (bound (with_import s one) x.id here) r → IsOutcome H (says_import s x n item) r
     import_outcome H r o =
         subst (λ (p : Option Import). IsOutcome H (not_imported p n (is_none x.name) >> (unless_clear (not (is_extern_name n.string)) (InvalidExternName n.string ExternKind.Import) n.span >> bound (with_import s one) x.id here)) r)
         (sym (none_called g ids n.string made.none s.imports noted said.imports.are))
@@ -360,7 +360,7 @@ helped_by f (Some a) false e = refl
 
 -- what follows the name of an import
 abbrev pub import_behind : State → t.ImportStatement → t.Ident → Answer State
-import_behind s x n = asked s x.ty >>= λ item. import_of s x n (promote item)
+import_behind s x n = asked s x.ty >>= λ item. says_import s x n (promote item)
 
 pub ident_is : (i : t.Ident) (text : Name) (at : Span) → text ≡ i.string → at ≡ i.span → ◌≡◌ {A = t.Ident} (record { string = text; span = at }) i
 ident_is i text at e f = λ j. record { string = e j; span = f j }

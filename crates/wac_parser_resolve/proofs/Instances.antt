@@ -20,7 +20,7 @@ use Rattle.wac_graph_core.proofs.NodeSteps.{new_at}
 use Rattle.wac_parser_tree.specs.Trees.{Span}
 use Rattle.wac_parser_resolve.specs.Ascribing.{State}
 use Rattle.wac_parser_resolve.specs.Holding.{Denotes, HasItem, IsMade, Says}
-use Rattle.wac_parser_resolve.specs.InInstances.{SaysMade, bare}
+use Rattle.wac_parser_resolve.specs.InInstances.{SaysMade, just_made}
 use Rattle.wac_parser_resolve.specs.Knowing.{IsPackage}
 use Rattle.wac_parser_resolve.specs.Later.{IsMore, Later}
 use Rattle.wac_parser_resolve.proofs.Growing.{Later-instance}
@@ -114,7 +114,7 @@ module _ (g h : Graph) (is : IsGraph g) (id : PackageId) (i : ℕ) (s : Instanti
     same_package : held_as.held ≡ s.of
     same_package = let e : Some held_as.held ≡ Some s.of = sym held_as.there ∙ s.is in cc e
 
-    new_made : IsMade h ns (bare k w at) (i, at)
+    new_made : IsMade h ns (just_made k w at) (i, at)
     new_made = record {
       of = s.of;
       is = made_here;
@@ -143,10 +143,10 @@ module _ (g h : Graph) (is : IsGraph g) (id : PackageId) (i : ℕ) (s : Instanti
     argument_back : (j a : ℕ) (n : Name) → HasArgument h.edges j n a → HasArgument g.edges j n a
     argument_back j a n x = subst (Among (argument_edge a j n)) edges x
 
-    pub instance_says : SaysMade h noted i names st (bare k w at)
+    pub instance_says : SaysMade h noted i names st (just_made k w at)
     instance_says = record {
       rising = subst Rises (sym (names_more noted (i, at))) (rises_more ms i says.rising below);
-      made = turn_more (IsMade h ns) st.made noted (bare k w at) (i, at)
+      made = turn_more (IsMade h ns) st.made noted (just_made k w at) (i, at)
           (turn_map (IsMade g ms) (IsMade h ns) (λ m e a. made_on g h later ms ns more m e (λ b n x. argument_back e.0 b n x) a) st.made noted says.made) new_made;
       all = λ j x. subst (Among j) (sym (names_more noted (i, at))) (all_at j (instance_by j (node_at h j) refl x));
       aliases = record {

@@ -11,7 +11,7 @@ use Rattle.wac_types_base.specs.Collection.{IsAcyclic}
 use Rattle.wac_types_base.specs.Stated.{Stated, kind_of, exports_of, stated_of, desc}
 use Rattle.wac_types_base.proofs.Standing.{interface_found}
 use Rattle.wac_types_base.proofs.Telling.{item_kind, kind_stated}
-use Rattle.wac_composition.specs.Classes.{is_instance}
+use Rattle.wac_composition.specs.Classes.{is_instance_kind}
 use Rattle.wac_graph_core.specs.Nodes.{NodeData}
 use Rattle.wac_graph_core.specs.Graph as graph
 use Rattle.wac_graph_core.specs.Graph.{Graph, IsOfKind, exported_in, item_export}
@@ -42,7 +42,7 @@ module _ (g : Graph) (k : ℕ) where
 
 -- ---- instances
 
-kind_by : (x : ItemKind) → is_instance (item_kind x) ≡ graph.is_instance x
+kind_by : (x : ItemKind) → is_instance_kind (item_kind x) ≡ graph.is_instance x
 kind_by (ItemKind.Ty (TypeKind.Resource r)) = refl
 kind_by (ItemKind.Ty (TypeKind.Func f)) = refl
 kind_by (ItemKind.Ty (TypeKind.Value v)) = refl
@@ -73,8 +73,8 @@ instance_by (ItemKind.Value v) e = absurd (cc e)
 
 module _ (c : Collection) (a : IsAcyclic c) where
   -- what is stated is an instance where the item is one
-  pub is_one : (t : Stated) (x : ItemKind) → Holds c t x → is_instance (kind_of t) ≡ graph.is_instance x
-  is_one t x h = ap is_instance (sym (ap kind_of h.same) ∙ kind_stated c a x h.stands) ∙ kind_by x
+  pub is_one : (t : Stated) (x : ItemKind) → Holds c t x → is_instance_kind (kind_of t) ≡ graph.is_instance x
+  is_one t x h = ap is_instance_kind (sym (ap kind_of h.same) ∙ kind_stated c a x h.stands) ∙ kind_by x
 
   instance_export : (i : InterfaceId) (t : Stated) → Holds c t (ItemKind.Instance i) → (n : Name) → value_at (exports_of t) n ≡ option_map (stated_of c) (item_export c (ItemKind.Instance i) n)
   instance_export i t h n =
@@ -92,11 +92,11 @@ module _ (c : Collection) (a : IsAcyclic c) where
 -- ---- an operation that asks for an instance
 
 module _ (t : Stated) (o : InstanceOperation) (s : Span) where
-  pub passes_one : {A B : Type 0} (h : A → B → Type 0) (q : Answer A) (b : B) → is_instance (kind_of t) ≡ true → IsHeld h q b → IsHeld h (unless_clear (not (is_instance (kind_of t))) (NotAnInstance (desc t) o) s >> q) b
+  pub passes_one : {A B : Type 0} (h : A → B → Type 0) (q : Answer A) (b : B) → is_instance_kind (kind_of t) ≡ true → IsHeld h q b → IsHeld h (unless_clear (not (is_instance_kind (kind_of t))) (NotAnInstance (desc t) o) s >> q) b
   passes_one h q b e x = subst (λ (y : Bool). IsHeld h (unless_clear (not y) (NotAnInstance (desc t) o) s >> q) b) (sym e) x
 
-  pub passes_refused : {A : Type 0} (q : Answer A) (f : Refusal) → is_instance (kind_of t) ≡ true → IsRefusal q f → IsRefusal (unless_clear (not (is_instance (kind_of t))) (NotAnInstance (desc t) o) s >> q) f
+  pub passes_refused : {A : Type 0} (q : Answer A) (f : Refusal) → is_instance_kind (kind_of t) ≡ true → IsRefusal q f → IsRefusal (unless_clear (not (is_instance_kind (kind_of t))) (NotAnInstance (desc t) o) s >> q) f
   passes_refused q f e x = subst (λ (y : Bool). IsRefusal (unless_clear (not y) (NotAnInstance (desc t) o) s >> q) f) (sym e) x
 
-  pub none_refused : {A : Type 0} (q : Answer A) (f : Refusal) → is_instance (kind_of t) ≡ false → Refuses f (NotAnInstance (desc t) o) s → IsRefusal (unless_clear (not (is_instance (kind_of t))) (NotAnInstance (desc t) o) s >> q) f
+  pub none_refused : {A : Type 0} (q : Answer A) (f : Refusal) → is_instance_kind (kind_of t) ≡ false → Refuses f (NotAnInstance (desc t) o) s → IsRefusal (unless_clear (not (is_instance_kind (kind_of t))) (NotAnInstance (desc t) o) s >> q) f
   none_refused q f e x = subst (λ (y : Bool). IsRefusal (unless_clear (not y) (NotAnInstance (desc t) o) s >> q) f) (sym e) x

@@ -1,12 +1,8 @@
 -- What is known of packages, while a collection grows and packages are registered.
-use Rattle.std.proofs.Common.{◌≡◌, ◌==◌, ℕ, zero, suc, Bool, true, false, cond, List, [], ◌∷◌, ◌++◌, Option, Some, None, IsSome, Result, Ok, Err, IfOk, OnErr, OnOk, slice_get, slice_set, refl, sym, ap, subst, ◌∙◌}
+use Rattle.std.proofs.Common.{◌≡◌, ℕ, zero, suc, Bool, true, false, cond, List, [], ◌∷◌, ◌++◌, Option, Some, None, IsSome, Result, Ok, Err, IfOk, OnErr, OnOk, slice_get, slice_set, refl, sym, ap, subst, ◌∙◌}
 use Rattle.std.specs.Coded.{coded_option, coded×}
 use Rattle.std.specs.FinMap as map
 use Rattle.std.specs.Option.{option_or}
-use Rattle.std.specs.Cmp.Lexicographic.{pointwise, bytes_decides}
-use Rattle.std.proofs.lemmas.Bool.{and_from, and_parts}
-use Rattle.std.proofs.lemmas.Bool.Decides.{Decides-eqb}
-use Rattle.semver.specs.Parse.{Parts}
 use Rattle.wac_types_base.specs.declared.item.ItemKind.{ItemKind}
 use Rattle.wac_types_base.specs.declared.ids.WorldId.{WorldId}
 use Rattle.wac_types_base.specs.Record.{Collection}
@@ -17,7 +13,8 @@ use Rattle.wac_types_base.specs.Stated.{Stated, stated_of}
 use Rattle.wac_types_base.proofs.Stating.{stated_kept}
 use Rattle.wac_types_names.specs.Packaged.{Packaged}
 use Rattle.wac_types_names.specs.contracts.package.Package as package_row
-use Rattle.wac_types_names.specs.Keys.{Key, package_key}
+use Rattle.wac_types_names.specs.Keys.{Key, package_key, same_key}
+use Rattle.wac_types_names.proofs.KeyTests.{key_same, key_refl}
 use Rattle.wac_graph_core.specs.declared.ids.PackageId.{PackageId}
 use Rattle.wac_graph_core.specs.declared.package.Place.{Place}
 use Rattle.wac_graph_core.specs.declared.edge.Edge.{Edge}
@@ -33,51 +30,10 @@ use Rattle.wac_parser_refusals.specs.declared.refusal.Refusal.{Refusal}
 use Rattle.wac_parser_refusals.specs.Causes.{Fault, present}
 use Rattle.wac_parser_refusals.specs.Outcomes.{IsHeld, IsRefusal, Refuses}
 use Rattle.wac_parser_declare.specs.Packages.{Content, SamePackages}
-use Rattle.wac_parser_declare.specs.Scope.{is_key, same_version}
 use Rattle.wac_parser_resolve.specs.declared.packages.GraphTypes.{GraphTypes}
-use Rattle.wac_parser_resolve.specs.Knowing.{Gets, IsPackage, SameContents, all_known, beside, content_of, handed_under, held_under, known_of, wiring_of, content_in}
+use Rattle.wac_parser_resolve.specs.Knowing.{Gets, IsPackage, SameContents, all_known, content_of, handed_under, held_under, known_of, wiring_of, content_in, node_rest}
 use Rattle.wac_parser_resolve.specs.Keeping.{Keeps}
 use Rattle.wac_parser_resolve.proofs.Keeping.{Keeps-enlarged, keeping, put_there}
-
--- ---- keys
-
-version_same : (v w : Option Parts) → same_version v w ≡ true → v ≡ w
-version_same None None e = refl
-version_same None (Some w) e = absurd (cc e)
-version_same (Some v) None e = absurd (cc e)
-version_same (Some v) (Some w) e =
-    let a = and_parts (v.0 == w.0) _ e in
-    let b = and_parts (v.1 == w.1) _ a.1 in
-    let c = and_parts (v.2 == w.2) _ b.1 in
-    let d = and_parts (pointwise ◌==◌ v.3 w.3) _ c.1 in
-    let major : v.0 ≡ w.0 = (Decides-eqb v.0 w.0).0 a.0 in
-    let minor : v.1 ≡ w.1 = (Decides-eqb v.1 w.1).0 b.0 in
-    let patch : v.2 ≡ w.2 = (Decides-eqb v.2 w.2).0 c.0 in
-    let pre : v.3 ≡ w.3 = (bytes_decides v.3 w.3).0 d.0 in
-    let build : v.4 ≡ w.4 = (bytes_decides v.4 w.4).0 d.1 in
-    λ j. Some (major j, minor j, patch j, pre j, build j)
-
-pub key_same : (a b : Key) → is_key a b ≡ true → a ≡ b
-key_same a b e =
-    let p = and_parts (pointwise ◌==◌ a.0 b.0) _ e in
-    let names : a.0 ≡ b.0 = (bytes_decides a.0 b.0).0 p.0 in
-    let versions : a.1 ≡ b.1 = version_same a.1 b.1 p.1 in
-    λ j. (names j, versions j)
-
-bytes_same : (xs : List ℕ) → pointwise ◌==◌ xs xs ≡ true
-bytes_same xs = (bytes_decides xs xs).1 refl
-
-number_same : (n : ℕ) → (n == n) ≡ true
-number_same n = (Decides-eqb n n).1 refl
-
-version_refl : (v : Option Parts) → same_version v v ≡ true
-version_refl None = refl
-version_refl (Some v) =
-    and_from (v.0 == v.0) _ (number_same v.0) (and_from (v.1 == v.1) _ (number_same v.1)
-    (and_from (v.2 == v.2) _ (number_same v.2) (and_from (pointwise ◌==◌ v.3 v.3) _ (bytes_same v.3) (bytes_same v.4))))
-
-pub key_refl : (a : Key) → is_key a a ≡ true
-key_refl a = and_from (pointwise ◌==◌ a.0 a.0) _ (bytes_same a.0) (version_refl a.1)
 
 -- ---- places
 
@@ -88,21 +44,21 @@ pub record IsFound (c : Collection) (k : Key) (ps : List Place) (w : Content) : 
   pub there : slice_get ps at ≡ Some place
   pub held : Packaged
   pub is : place.held ≡ Some held
-  pub key : is_key k (package_key held) ≡ true
+  pub key : same_key k (package_key held) ≡ true
   pub world : content_of c held ≡ w
 
 module _ (c : Collection) (k : Key) where
   further : (p : Place) (ps : List Place) (w : Content) → IsFound c k ps w → IsFound c k (p ∷ ps) w
   further p ps w f = record { at = suc f.at; place = f.place; there = f.there; held = f.held; is = f.is; key = f.key; world = f.world }
 
-  keyed_found : (p : Place) (ps : List Place) (w : Content) → (content_in c ps k ≡ Some w → IsFound c k ps w) → (q : Packaged) (b : Bool) → p.held ≡ Some q → is_key k (package_key q) ≡ b
+  keyed_found : (p : Place) (ps : List Place) (w : Content) → (content_in c ps k ≡ Some w → IsFound c k ps w) → (q : Packaged) (b : Bool) → p.held ≡ Some q → same_key k (package_key q) ≡ b
       → option_or (cond b (Some (content_of c q)) None) (content_in c ps k) ≡ Some w → IsFound c k (p ∷ ps) w
   keyed_found p ps w rest q true is key e = let same : content_of c q ≡ w = cc e in record { at = zero; place = p; there = refl; held = q; is = is; key = key; world = same }
   keyed_found p ps w rest q false is key e = further p ps w (rest e)
 
   held_found : (p : Place) (ps : List Place) (w : Content) → (content_in c ps k ≡ Some w → IsFound c k ps w) → (o : Option Packaged) → p.held ≡ o → option_or (held_under c k o) (content_in c ps k) ≡ Some w → IsFound c k (p ∷ ps) w
   held_found p ps w rest None is e = further p ps w (rest e)
-  held_found p ps w rest (Some q) is e = keyed_found p ps w rest q (is_key k (package_key q)) is refl e
+  held_found p ps w rest (Some q) is e = keyed_found p ps w rest q (same_key k (package_key q)) is refl e
 
   pub world_found : (ps : List Place) (w : Content) → content_in c ps k ≡ Some w → IsFound c k ps w
   world_found [] w e = absurd (cc e)
@@ -112,7 +68,7 @@ module _ (c : Collection) (k : Key) where
   neither None p e = e
   neither (Some w) p e = absurd (cc e)
 
-  pub no_world : (ps : List Place) (i : ℕ) (p : Place) (q : Packaged) → content_in c ps k ≡ None → slice_get ps i ≡ Some p → p.held ≡ Some q → is_key k (package_key q) ≡ true → ⊥
+  pub no_world : (ps : List Place) (i : ℕ) (p : Place) (q : Packaged) → content_in c ps k ≡ None → slice_get ps i ≡ Some p → p.held ≡ Some q → same_key k (package_key q) ≡ true → ⊥
   no_world [] i p q e at is key = cc at
   no_world (x ∷ ps) zero p q e at is key =
       let same : x ≡ p = cc at in
@@ -164,7 +120,7 @@ world_kept c d g (p ∷ ps) s k =
   where
     here : (o : Option Packaged) → p.held ≡ o → held_under d k o ≡ held_under c k o
     here None is = refl
-    here (Some q) is = ap (λ (t : Content). cond (is_key k (package_key q)) (Some t) None) (content_kept c d g q (s zero p q refl is))
+    here (Some q) is = ap (λ (t : Content). cond (same_key k (package_key q)) (Some t) None) (content_kept c d g q (s zero p q refl is))
 
 -- ---- graphs
 
@@ -190,8 +146,8 @@ known_package g s id p k at key = found (known_of g k) refl
     h : Held g.places id p
     h = held_in g.places id p at
 
-    keyed : is_key k (package_key p) ≡ true
-    keyed = subst (λ (x : Key). is_key x (package_key p) ≡ true) key (key_refl (package_key p))
+    keyed : same_key k (package_key p) ≡ true
+    keyed = subst (λ (x : Key). same_key x (package_key p) ≡ true) key (key_refl (package_key p))
 
     found : (o : Option Content) → known_of g k ≡ o → o ≡ Some (content_of g.types p)
     found None is = absurd (no_world g.types k g.places id.place h.place p is h.there h.held keyed)
@@ -241,7 +197,7 @@ known_registered g h p id r =
         none_behind (Some w) = refl
     put_other qs (put_free f) k none = world_set_other g.types k g.places id.place f.place (held_place id.generation p) f.there f.free.empty none
 
--- ---- what is beside types and packages
+-- ---- what is node_rest types and packages
 
 pair_same : {A B : Type 0} {a c : A} {b d : B} → a ≡ c → b ≡ d → ◌≡◌ {A = A × B} (a, b) (c, d)
 pair_same p q = cc (p, q)
@@ -263,11 +219,11 @@ module _ (g h : Graph) (s : IsGraph g) (keeps : Keeps g h) where
   pub instances_kept : (k : ℕ) → instantiated h k ≡ instantiated g k
   instances_kept k = ap (λ m. package_made h (map.get m k)) keeps.nodes ∙ made_same k (node_at g k) refl
 
-  pub beside_kept : (k : ℕ) → beside h k ≡ beside g k
+  pub beside_kept : (k : ℕ) → node_rest h k ≡ node_rest g k
   beside_kept k = ap (coded× graph_row.the_row.coded (coded_option package_row.the_row.coded)).code (pair_same wiring_same (instances_kept k))
 
 -- and back
-module _ (g h : Graph) (same : (k : ℕ) → beside h k ≡ beside g k) where
+module _ (g h : Graph) (same : (k : ℕ) → node_rest h k ≡ node_rest g k) where
   both_back : (k : ℕ) → ◌≡◌ {A = Graph × Option Packaged} (wiring_of h, instantiated h k) (wiring_of g, instantiated g k)
   both_back k = (coded× graph_row.the_row.coded (coded_option package_row.the_row.coded)).inj (wiring_of h, instantiated h k) (wiring_of g, instantiated g k) (same k)
 
@@ -336,15 +292,15 @@ module _ (g h i j : Graph) (p : Packaged) (world : WorldId) (k : Key) (w : State
       let two = known_enlarged h i t then in
       record {
         own = ap (known_of j) (sym keyed) ∙ got.own ∙ ap Some content_is;
-        others = λ l apart. got.others l (ap (is_key l) keyed ∙ apart) ∙ two.same l ∙ one.same l;
+        others = λ l apart. got.others l (ap (same_key l) keyed ∙ apart) ∙ two.same l ∙ one.same l;
       }
 
 -- packages are known as before where a package that was handed in was registered
 pub known_more : (g : GraphTypes) (h : Graph) (k : Key) (w : Content) → IsGraph g.graph → Keeps g.graph h → Gets g.graph h k w → known_of g.graph k ≡ None → handed_under g k ≡ Some w
     → SamePackages (all_known g) (all_known (record { graph = h; packages = g.packages }))
-known_more g h k w s keeps gets none handed = record { same = λ l. tested l (is_key l k) refl; rest = beside_kept g.graph h s keeps }
+known_more g h k w s keeps gets none handed = record { same = λ l. tested l (same_key l k) refl; rest = beside_kept g.graph h s keeps }
   where
-    tested : (l : Key) (b : Bool) → is_key l k ≡ b → option_or (known_of h l) (handed_under g l) ≡ option_or (known_of g.graph l) (handed_under g l)
+    tested : (l : Key) (b : Bool) → same_key l k ≡ b → option_or (known_of h l) (handed_under g l) ≡ option_or (known_of g.graph l) (handed_under g l)
     tested l false apart = ap (λ (o : Option Content). option_or o (handed_under g l)) (gets.others l apart)
     tested l true same =
         let now : option_or (known_of h k) (handed_under g k) ≡ Some w = ap (λ (o : Option Content). option_or o (handed_under g k)) gets.own in

@@ -53,3 +53,8 @@ pub mod MeetingStates
 pub mod Documented
 pub mod Alone
 pub mod Askers
+pub mod AlikeStates
+pub mod AlikeExpressions
+pub mod AlikeStatements
+pub mod AlikeTargets
+pub mod AlikeAscribed

@@ -34,10 +34,10 @@ use Rattle.wac_parser_refusals.specs.Views.{Names, maybe_at}
 use Rattle.wac_parser_refusals.proofs.Outcomes.{memory_refusal}
 use Rattle.wac_parser_declare.proofs.Members.{told}
 use Rattle.wac_parser_resolve.specs.declared.targets.Target.{Target}
-use Rattle.wac_parser_resolve.specs.Giving.{given_by}
+use Rattle.wac_parser_resolve.specs.Giving.{gives_of}
 use Rattle.wac_types_base.specs.Parts.{imports_in_world}
 use Rattle.wac_parser_resolve.specs.InTargets.{AreAllNoted, AreInstancesMet, AreStatementsMet, IsAnswerOf, IsTold, all_pass, asked_in, export_at, export_test, filled_test, fit_in, import_test, instance_test, is_passed_in, item_in, lacks_export, node_item, package_imports, passes_or, path_of, statement_by, statement_test, tells_mismatch}
-use Rattle.wac_parser_resolve.specs.Meeting.{import_by}
+use Rattle.wac_parser_resolve.specs.Meeting.{import_met}
 use Rattle.wac_parser_resolve.specs.Targeting.{Gives, IsInstanceMet, IsPassed, IsStatementMet}
 use Rattle.wac_parser_resolve.proofs.TargetMet.{node_package, passed_has}
 use Rattle.wac_parser_resolve.specs.Said.{last_noted}
@@ -91,15 +91,15 @@ module _ (f : Fault) (s : Option Span) where
 -- ---- imports
 
 module _ (t : Target) (c : Collection) (n : Name) (k : ItemKind) (s : Option Span) where
-  pub import_lacks : (e : Refusal) → None ≡ given_by t n → Names e (maybe_at (ImportNotInTarget n t.path.now.string.now) s) → IsRefusal (import_test t c (asked_in c n k s)) e
+  pub import_lacks : (e : Refusal) → None ≡ gives_of t n → Names e (maybe_at (ImportNotInTarget n t.path.now.string.now) s) → IsRefusal (import_test t c (asked_in c n k s)) e
   import_lacks e is m =
-      subst (λ (o : Option ItemKind). IsRefusal (import_by (path_of t) (asked_in c n k s) (option_map (stated_of c) o)) e) is
+      subst (λ (o : Option ItemKind). IsRefusal (import_met (path_of t) (asked_in c n k s) (option_map (stated_of c) o)) e) is
       (told e (record { fault = ImportNotInTarget n t.path.now.string.now; span = s }) m)
 
-  pub import_fits : IsAcyclic c → (i : ItemKind) (r : Result ⊤ Refusal) → Some i ≡ given_by t n → Stands c i
+  pub import_fits : IsAcyclic c → (i : ItemKind) (r : Result ⊤ Refusal) → Some i ≡ gives_of t n → Stands c i
       → IsTold (passes_or (fit_in c (promoted i) k) (TargetMismatch ExternKind.Import n t.path.now.string.now) s) r → IsTold (import_test t c (asked_in c n k s)) r
   import_fits a i r is stands h =
-      subst (λ (o : Option ItemKind). IsTold (import_by (path_of t) (asked_in c n k s) (option_map (stated_of c) o)) r) is
+      subst (λ (o : Option ItemKind). IsTold (import_met (path_of t) (asked_in c n k s) (option_map (stated_of c) o)) r) is
       (subst (λ (x : Stated). IsTold (passes_or (fits x (stated_of c k)) (TargetMismatch ExternKind.Import n t.path.now.string.now) s) r) (promote_stated i c a stands) h)
 
 pub node_item_is : (g : Graph) (k : ℕ) (i : ItemKind) → IsOfKind g k (λ x. x ≡ i) → node_item g k ≡ stated_of g.types i

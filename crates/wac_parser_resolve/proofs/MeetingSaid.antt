@@ -35,12 +35,12 @@ use Rattle.wac_parser_declare.proofs.Exports.{component_imports}
 use Rattle.wac_parser_declare.proofs.Members.{told}
 use Rattle.wac_parser_resolve.specs.declared.targets.Target.{Target}
 use Rattle.wac_parser_resolve.specs.Ascribing.{Bound, Denoted, Import, Made, State}
-use Rattle.wac_parser_resolve.specs.Giving.{given_by}
+use Rattle.wac_parser_resolve.specs.Giving.{gives_of}
 use Rattle.wac_parser_resolve.specs.Holding.{ArePassed, HasItem, InTurn, IsMade, Says}
 use Rattle.wac_types_base.specs.Parts.{imports_in_world}
 use Rattle.wac_parser_resolve.specs.InTargets.{IsFaultOf, IsTargetFor, IsTold, all_pass, export_at, export_test, filled_test, import_test, instance_test, is_passed_in, item_in, node_item, package_imports, passes_or, path_of, statement_by, statement_test}
 use Rattle.wac_parser_resolve.specs.Meeting as stated
-use Rattle.wac_parser_resolve.specs.Meeting.{Wanted, export_by, import_by, refuse_at, uses_are_named, wanted, wanted_by_instance, wanted_by_statement}
+use Rattle.wac_parser_resolve.specs.Meeting.{Wanted, refuse_at, uses_are_named, wanted, wanted_by_instance, wanted_by_statement, export_met, import_met}
 use Rattle.wac_parser_resolve.specs.Said.{AreAsked, AreExported, IsAsked}
 use Rattle.wac_parser_resolve.specs.Saying.{export_span}
 use Rattle.wac_parser_resolve.proofs.Giving.{among_has}
@@ -122,12 +122,12 @@ module _ (g : Graph) (ms : List ℕ) (i : ℕ) (as_ : List (Name × Denoted)) (a
 
 -- ---- the tests of what was said
 
-module _ (g : Graph) (is : IsGraph g) (acyclic : IsAcyclic g.types) (tg : Target) (p : t.PackagePath) (path : p ≡ path_of tg) (s : State) (w : Stated) (gives : (n : Name) → stated.given_by w n ≡ option_map (stated_of g.types) (given_by tg n)) where
+module _ (g : Graph) (is : IsGraph g) (acyclic : IsAcyclic g.types) (tg : Target) (p : t.PackagePath) (path : p ≡ path_of tg) (s : State) (w : Stated) (gives : (n : Name) → stated.given_by w n ≡ option_map (stated_of g.types) (gives_of tg n)) where
   abbrev wants : Wanted → Answer ⊤
-  wants a = import_by p a (stated.given_by w a.name)
+  wants a = import_met p a (stated.given_by w a.name)
 
   wants_same : (a : Wanted) → wants a ≡ import_test tg g.types a
-  wants_same a = ap (import_by p a) (gives a.name) ∙ ap (λ (q : t.PackagePath). import_by q a (option_map (stated_of g.types) (given_by tg a.name))) path
+  wants_same a = ap (import_met p a) (gives a.name) ∙ ap (λ (q : t.PackagePath). import_met q a (option_map (stated_of g.types) (gives_of tg a.name))) path
 
   item_same : (k : ℕ) (x : Stated) → HasItem g k x → node_item g k ≡ x
   item_same k x h = ap (item_in g) h.there ∙ h.kind.same
@@ -190,7 +190,7 @@ module _ (g : Graph) (is : IsGraph g) (acyclic : IsAcyclic g.types) (tg : Target
   clear_same false f u = refl
 
   module _ (ms : List ℕ) (apart : AreDistinct ms) (spans : List (ℕ × Span)) (exported : AreExported g ms spans s.exports) where
-    exports_by : (e : Name × ItemKind) (o : Option Bound) (q : Option ℕ) → value_at s.exports e.0 ≡ o → AreFound g ms o q → export_by s p e.0 (stated_of g.types e.1) o ≡ export_at tg g spans e q
+    exports_by : (e : Name × ItemKind) (o : Option Bound) (q : Option ℕ) → value_at s.exports e.0 ≡ o → AreFound g ms o q → export_met s p e.0 (stated_of g.types e.1) o ≡ export_at tg g spans e q
     exports_by e None None at f =
         ap (λ (x : t.PackagePath). refuse (MissingTargetExport e.0 (desc (stated_of g.types e.1)) x.string) x.span) path
     exports_by e None (Some k) at f = absurd f
@@ -203,11 +203,11 @@ module _ (g : Graph) (is : IsGraph g) (acyclic : IsAcyclic g.types) (tg : Target
         ∙ ap (λ (y : Stated). passes_or (fits y x) c (Some (export_span s b))) (sym (item_same k b.denoted.item f.item))
         ∙ ap (passes_or (fits (node_item g k) x) c) (sym (noted_span g is ms apart s spans exported.noted e.0 b at k f))
 
-    exports_same : (es : List (Name × ItemKind)) → all_pass (λ e. export_by s p e.0 e.1 (value_at s.exports e.0)) (with_values (stated_of g.types) es) ≡ all_pass (export_test tg g spans) es
+    exports_same : (es : List (Name × ItemKind)) → all_pass (λ e. export_met s p e.0 e.1 (value_at s.exports e.0)) (with_values (stated_of g.types) es) ≡ all_pass (export_test tg g spans) es
     exports_same [] = refl
     exports_same (e ∷ es) =
-        pass_first (λ e. export_by s p e.0 e.1 (value_at s.exports e.0)) (e.0, stated_of g.types e.1) (with_values (stated_of g.types) es)
-        ∙ ap (λ (q : Answer ⊤). q >> all_pass (λ e. export_by s p e.0 e.1 (value_at s.exports e.0)) (with_values (stated_of g.types) es))
+        pass_first (λ e. export_met s p e.0 e.1 (value_at s.exports e.0)) (e.0, stated_of g.types e.1) (with_values (stated_of g.types) es)
+        ∙ ap (λ (q : Answer ⊤). q >> all_pass (λ e. export_met s p e.0 e.1 (value_at s.exports e.0)) (with_values (stated_of g.types) es))
         (exports_by e (value_at s.exports e.0) (value_at g.exports e.0) refl (both_found g ms s.exports g.exports e.0 exported.are))
         ∙ ap (λ (q : Answer ⊤). export_test tg g spans e >> q) (exports_same es) ∙ sym (pass_first (export_test tg g spans) e es)
 
@@ -222,7 +222,7 @@ module _ (g : Graph) (acyclic : IsAcyclic g.types) (w : WorldId) (x : World) (at
   unnamed_refused e none named = by (uses_are_named target) (uses_unnamed g.types acyclic w x at own has none)
     where
       rest : Answer ⊤
-      rest = each (λ u a. import_by p a (stated.given_by target a.name)) tt (wanted s) >> each (λ u e. export_by s p e.0 e.1 (value_at s.exports e.0)) tt (exports_of target)
+      rest = each (λ u a. import_met p a (stated.given_by target a.name)) tt (wanted s) >> each (λ u e. export_met s p e.0 e.1 (value_at s.exports e.0)) tt (exports_of target)
 
       by : (b : Bool) → b ≡ false → IsRefusal ((if b then pure tt else refuse_at (TypeCannotBeWritten p.string) None) >> rest) e
       by true n = absurd (cc n)
@@ -252,9 +252,9 @@ module _ (g : Graph) (is : IsGraph g) (acyclic : IsAcyclic g.types) (tg : Target
 
   met_same : stated.target_met s p w ≡ ((statements >> instances) >> exports)
   met_same =
-      let asks = each (λ u a. import_by p a (stated.given_by w a.name)) tt (wanted s) in
-      named_same (asks >> each (λ u e. export_by s p e.0 e.1 (value_at s.exports e.0)) tt (exports_of w)) (uses_are_named w) of.named
-      ∙ ap (λ (xs : List (Name × Stated)). asks >> each (λ u e. export_by s p e.0 e.1 (value_at s.exports e.0)) tt xs) of.exports
+      let asks = each (λ u a. import_met p a (stated.given_by w a.name)) tt (wanted s) in
+      named_same (asks >> each (λ u e. export_met s p e.0 e.1 (value_at s.exports e.0)) tt (exports_of w)) (uses_are_named w) of.named
+      ∙ ap (λ (xs : List (Name × Stated)). asks >> each (λ u e. export_met s p e.0 e.1 (value_at s.exports e.0)) tt xs) of.exports
       ∙ ap (λ (q : Answer ⊤). asks >> q) (exports_same g is acyclic tg p of.path s w of.gives (names_of ms) (rises_apart (names_of ms) says.rising) spans exported es)
       ∙ ap (λ (q : Answer ⊤). q >> exports) (wanted_same g is acyclic tg p of.path s w of.gives is_ ids_ ms names asked says)
 

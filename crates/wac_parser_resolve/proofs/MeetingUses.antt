@@ -22,7 +22,7 @@ use Rattle.wac_types_base.proofs.Standing.{interface_found}
 use Rattle.wac_types_base.proofs.Telling.{item_kind, kind_stated, stated_step}
 use Rattle.wac_types_base.proofs.Used.{interface_uses_stand, world_imports_stand, world_uses_stand}
 use Rattle.wac_types_fit.specs.Targets.{target_import}
-use Rattle.wac_composition.specs.Classes.{is_instance}
+use Rattle.wac_composition.specs.Classes.{is_instance_kind}
 use Rattle.wac_parser_declare.proofs.Exports.{component_imports}
 use Rattle.wac_parser_declare.proofs.Kept.{value_at-with_values}
 use Rattle.std.specs.Option.{option_or}
@@ -69,14 +69,14 @@ module _ (c : Collection) (a : IsAcyclic c) where
 
   -- an import's uses, where it is an instance
   abbrev uses_if : Stated → List Used
-  uses_if t = if is_instance (kind_of t) then uses_of t else []
+  uses_if t = if is_instance_kind (kind_of t) then uses_of t else []
 
   instance_uses_if : (i : InterfaceId) → Stands c (ItemKind.Instance i) → InTurn IsUse (uses_of (stated_of c (ItemKind.Instance i))) (instance_uses c (ItemKind.Instance i))
   instance_uses_if i s =
       let f = interface_found c i s in
       subst (λ (is : List InterfaceId). InTurn IsUse (uses_of (stated_of c (ItemKind.Instance i))) is) (sym (ap uses_in f.at)) (interface_uses i f.value f.at f.own)
 
-  by_kind : (k : ItemKind) → Stands c k → InTurn IsUse (if is_instance (item_kind k) then uses_of (stated_of c k) else []) (instance_uses c k)
+  by_kind : (k : ItemKind) → Stands c k → InTurn IsUse (if is_instance_kind (item_kind k) then uses_of (stated_of c k) else []) (instance_uses c k)
   by_kind (ItemKind.Ty (TypeKind.Resource r)) s = tt
   by_kind (ItemKind.Ty (TypeKind.Func r)) s = tt
   by_kind (ItemKind.Ty (TypeKind.Value r)) s = tt
@@ -91,7 +91,7 @@ module _ (c : Collection) (a : IsAcyclic c) where
 
   import_uses : (k : ItemKind) → Stands c k → InTurn IsUse (uses_if (stated_of c k)) (instance_uses c k)
   import_uses k s =
-      subst (λ j. InTurn IsUse (if is_instance j then uses_of (stated_of c k) else []) (instance_uses c k)) (sym (kind_stated c a k s)) (by_kind k s)
+      subst (λ j. InTurn IsUse (if is_instance_kind j then uses_of (stated_of c k) else []) (instance_uses c k)) (sym (kind_stated c a k s)) (by_kind k s)
 
   all_import_uses : (es : List (Name × ItemKind)) → ((k : ItemKind) → Among k (values_of es) → Stands c k)
       → InTurn IsUse (flat_map (λ (e : Name × Stated). uses_if e.1) (with_values (stated_of c) es)) (all_uses c (values_of es))

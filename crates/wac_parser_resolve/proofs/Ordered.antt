@@ -22,7 +22,7 @@ use Rattle.wac_parser_declare.specs.Scope.{package_under}
 use Rattle.wac_parser_resolve.specs.Ascribing.{Origin, imported, instance, projected, defined, Denoted, Made, Bound, State, worlds_of}
 use Rattle.wac_parser_resolve.specs.Saying.{statements}
 use Rattle.wac_parser_resolve.specs.Meeting.{target, resolved}
-use Rattle.wac_parser_resolve.specs.Ascribed.{Asker, origin_in, argument_in, made_in, numbered, exported_in, composition, unless_cause, ascribed}
+use Rattle.wac_parser_resolve.specs.Ascribed.{Asker, origin_in, argument_in, made_in, numbered, composition, unless_cause, ascribed, said_export}
 use Rattle.wac_parser_resolve.specs.Laws.{Packages_are_known, Packages_stay, Wirings_are_ordered}
 use Rattle.wac_parser_resolve.proofs.Answers.{err_ok, ok_of, then_ok, ok_is}
 use Rattle.wac_parser_resolve.proofs.Numbers.{Below, slice_below, slice_there}
@@ -74,12 +74,12 @@ argument_is (a ∷ as_) n = go (argument_is as_ n) (pointwise ◌==◌ n a.0)
     go rest false = rest
 
 -- what is exported under a name
-pub export_is : (es : List (Name × Bound)) (n : Name) → value_at (map (λ (e : Name × c.Origin ℕ × Stated). (e.0, e.1)) (map exported_in es)) n ≡ option_map (λ (b : Bound). origin_in b.denoted.origin) (value_at es n)
+pub export_is : (es : List (Name × Bound)) (n : Name) → value_at (map (λ (e : Name × c.Origin ℕ × Stated). (e.0, e.1)) (map said_export es)) n ≡ option_map (λ (b : Bound). origin_in b.denoted.origin) (value_at es n)
 export_is [] n = refl
 export_is (e ∷ es) n = go (export_is es n) (pointwise ◌==◌ n e.0)
   where
-    go : value_at (map (λ (e : Name × c.Origin ℕ × Stated). (e.0, e.1)) (map exported_in es)) n ≡ option_map (λ (b : Bound). origin_in b.denoted.origin) (value_at es n) → (b : Bool)
-        → (if b then Some (origin_in e.1.denoted.origin) else value_at (map (λ (e : Name × c.Origin ℕ × Stated). (e.0, e.1)) (map exported_in es)) n) ≡ option_map (λ (b : Bound). origin_in b.denoted.origin) (if b then Some e.1 else value_at es n)
+    go : value_at (map (λ (e : Name × c.Origin ℕ × Stated). (e.0, e.1)) (map said_export es)) n ≡ option_map (λ (b : Bound). origin_in b.denoted.origin) (value_at es n) → (b : Bool)
+        → (if b then Some (origin_in e.1.denoted.origin) else value_at (map (λ (e : Name × c.Origin ℕ × Stated). (e.0, e.1)) (map said_export es)) n) ≡ option_map (λ (b : Bound). origin_in b.denoted.origin) (if b then Some e.1 else value_at es n)
     go rest true = refl
     go rest false = rest
 

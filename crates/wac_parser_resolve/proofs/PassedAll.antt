@@ -17,7 +17,7 @@ use Rattle.wac_parser_resolve.specs.Ascribing.{Denoted, State}
 use Rattle.wac_parser_resolve.specs.Denoting as stated
 use Rattle.wac_parser_resolve.specs.Denoting.{argument_fits, given_names}
 use Rattle.wac_parser_resolve.specs.Holding.{InTurn, IsGiven}
-use Rattle.wac_parser_resolve.specs.InInstances.{SaysMade, bare, with_argument, with_arguments}
+use Rattle.wac_parser_resolve.specs.InInstances.{SaysMade, just_made, with_argument, with_arguments}
 use Rattle.wac_parser_resolve.proofs.Giving.{has_not}
 
 -- what is held was answered
@@ -59,10 +59,10 @@ module _ (g : Graph) (noted : List (ℕ × Span)) (i : ℕ) (names : List (Name 
     pub left : List stated.Given
     pub all : gs ≡ done ++ left
     pub given : InTurn (IsGiven g ms) left xs
-    pub says : SaysMade h noted i names s (with_arguments (bare k w at) done)
+    pub says : SaysMade h noted i names s (with_arguments (just_made k w at) done)
     pub rest : each f tt gs ≡ each f tt left
 
-  pub passed_first : (h : Graph) (xs : List Given) → SaysMade h noted i names s (bare k w at) → InTurn (IsGiven g ms) gs xs → ArePassedSo h xs
+  pub passed_first : (h : Graph) (xs : List Given) → SaysMade h noted i names s (just_made k w at) → InTurn (IsGiven g ms) gs xs → ArePassedSo h xs
   passed_first h xs says given = record { done = []; left = gs; all = refl; given = given; says = says; rest = refl }
 
   module _ (h : Graph) (x : Given) (xs : List Given) (apart : AreDistinct (given_names gs)) (so : ArePassedSo h (x ∷ xs)) where
@@ -91,13 +91,13 @@ module _ (g : Graph) (noted : List (ℕ × Span)) (i : ℕ) (names : List (Name 
               ap (λ (ns : List Name). has_name ns a.name) (argument_names so.done) ∙ has_not (given_names so.done) a.name (apart_from so.done a l distinct);
         }
 
-    pub passed_step : (j : Graph) (n : IsNext) → SaysMade j noted i names s (with_argument (with_arguments (bare k w at) so.done) n.one) → f tt n.one ≡ Ok tt → ArePassedSo j xs
+    pub passed_step : (j : Graph) (n : IsNext) → SaysMade j noted i names s (with_argument (with_arguments (just_made k w at) so.done) n.one) → f tt n.one ≡ Ok tt → ArePassedSo j xs
     passed_step j n says ok = record {
       done = so.done ++ n.one ∷ [];
       left = n.left;
       all = so.all ∙ ap (λ (ys : List stated.Given). so.done ++ ys) n.is ∙ sym (append_assoc so.done (n.one ∷ []) n.left);
       given = n.others;
-      says = subst (λ (as_ : List (Name × Denoted)). SaysMade j noted i names s (record (bare k w at) { arguments = as_ })) (sym (arguments_more so.done n.one)) says;
+      says = subst (λ (as_ : List (Name × Denoted)). SaysMade j noted i names s (record (just_made k w at) { arguments = as_ })) (sym (arguments_more so.done n.one)) says;
       rest = so.rest ∙ ap (each f tt) n.is ∙ ap (λ (r : Answer ⊤). r >>= λ u. each f u n.left) ok;
     }
 
@@ -105,13 +105,13 @@ module _ (g : Graph) (noted : List (ℕ × Span)) (i : ℕ) (names : List (Name 
     passed_stops n e r =
         subst (λ (q : Answer ⊤). IsRefusal q e) (sym (so.rest ∙ ap (each f tt) n.is)) (then_refused (λ u. each f u n.left) (f tt n.one) e r)
 
-  pub passed_end : (h : Graph) → ArePassedSo h [] → IsHeld (λ (u v : ⊤). SaysMade h noted i names s (with_arguments (bare k w at) gs)) (each f tt gs) (tt {0})
+  pub passed_end : (h : Graph) → ArePassedSo h [] → IsHeld (λ (u v : ⊤). SaysMade h noted i names s (with_arguments (just_made k w at) gs)) (each f tt gs) (tt {0})
   passed_end h so = by so.left refl so.given
     where
-      by : (l : List stated.Given) → so.left ≡ l → InTurn (IsGiven g ms) l [] → IsHeld (λ (u v : ⊤). SaysMade h noted i names s (with_arguments (bare k w at) gs)) (each f tt gs) (tt {0})
+      by : (l : List stated.Given) → so.left ≡ l → InTurn (IsGiven g ms) l [] → IsHeld (λ (u v : ⊤). SaysMade h noted i names s (with_arguments (just_made k w at) gs)) (each f tt gs) (tt {0})
       by [] e t =
-          subst (λ (q : Answer ⊤). IsHeld (λ (u v : ⊤). SaysMade h noted i names s (with_arguments (bare k w at) gs)) q (tt {0})) (sym (so.rest ∙ ap (each f tt) e))
-          (subst (λ (ys : List stated.Given). SaysMade h noted i names s (with_arguments (bare k w at) ys)) (sym (so.all ∙ ap (λ (ys : List stated.Given). so.done ++ ys) e ∙ append-nil so.done)) so.says)
+          subst (λ (q : Answer ⊤). IsHeld (λ (u v : ⊤). SaysMade h noted i names s (with_arguments (just_made k w at) gs)) q (tt {0})) (sym (so.rest ∙ ap (each f tt) e))
+          (subst (λ (ys : List stated.Given). SaysMade h noted i names s (with_arguments (just_made k w at) ys)) (sym (so.all ∙ ap (λ (ys : List stated.Given). so.done ++ ys) e ∙ append-nil so.done)) so.says)
       by (a ∷ l) e t = absurd t
 
   -- the next of a list that stands in the code

@@ -7,7 +7,7 @@ use Rattle.wac_types_base.specs.Graph.{Wholes, node, no_more, more, hole, Among}
 use Rattle.wac_types_base.specs.Collection.{Shape, primitive, tuple, list, fixed_size_list, option, result, variant, record_of, flags, enum, alias, stream, future, resource, resource_alias, func, interface, world, module_type, type_of, borrow_of, own_of}
 use Rattle.wac_types_base.specs.Stated.{Stated, places_in, with_names, names, filled, leaf, over, func_of, Used, names_used, used_places, interface_of, world_of, as_type, own, borrow, untyped, untyped_shape, shape_kind, uses_from, Parts, parts_at, only_places, exports_of, imports_of, uses_of, instance_type, places_of}
 use Rattle.wac_types_base.specs.Tree.{Tree, Fields, trees, tree, tree_at}
-use Rattle.wac_composition.specs.Classes.{is_instance}
+use Rattle.wac_composition.specs.Classes.{is_instance_kind}
 use Rattle.wac_composition.specs.Sound.{IsStraight, an_instance, no_instance}
 use Rattle.wac_composition.proofs.Lists.{mapped_among}
 use Rattle.wac_types_base.proofs.Made.{row_places}
@@ -244,11 +244,11 @@ mutual
 
 mutual
   pub straight : (x : Stated) → Proper x → IsStraight x
-  straight (node s ts) p = go (places_straight ts (λ y m. below (node s ts) y p m)) (is_instance (shape_kind s)) refl
+  straight (node s ts) p = go (places_straight ts (λ y m. below (node s ts) y p m)) (is_instance_kind (shape_kind s)) refl
     where
-      go : ((y : Stated) → Among (Some y) (places_in ts) → IsStraight y) → (b : Bool) → is_instance (shape_kind s) ≡ b → IsStraight (node s ts)
+      go : ((y : Stated) → Among (Some y) (places_in ts) → IsStraight y) → (b : Bool) → is_instance_kind (shape_kind s) ≡ b → IsStraight (node s ts)
       go rest true e = an_instance e (λ n y m. rest y (exports_among (node s ts) (n, y) m))
-      go rest false e = no_instance (no_tree (node s ts) p (λ q. true≢false (sym (ap is_instance q) ∙ e)))
+      go rest false e = no_instance (no_tree (node s ts) p (λ q. true≢false (sym (ap is_instance_kind q) ∙ e)))
 
   places_straight : (ts : Wholes Shape) → AllPlaces (places_in ts) → (y : Stated) → Among (Some y) (places_in ts) → IsStraight y
   places_straight no_more h y m = absurd m

@@ -9,17 +9,18 @@ use Rattle.wac_types_base.specs.Entries.{Name, value_at}
 use Rattle.wac_types_base.specs.Collection as s
 use Rattle.wac_types_base.specs.Stated.{Stated, Kind, IsFunction, IsInstance, IsComponent, IsModule, IsValue, IsResource, IsFunctionType, IsValueType, IsInterface, IsWorld, IsModuleType, kind_of, desc, untyped, as_type, own, leaf, Used, interface_of, world_of, exports_of, imports_of, identifier_of, is_interface}
 use Rattle.wac_types_base.proofs.Lists.{from_filtered}
-use Rattle.wac_types_names.specs.Keys.{Key}
+use Rattle.wac_types_names.specs.Keys.{Key, same_key}
 use Rattle.wac_parser_tree.specs.Trees as t
 use Rattle.wac_parser_tree.specs.Trees.{Span}
 use Rattle.wac_parser_tree.specs.Segments.{Segment, segment_spans, package_name_span}
 use Rattle.wac_parser_refusals.specs.Causes.{Answer, Fault, ◌>>=◌, pure, unless_clear, present, each, UnknownPackage, PackageMissingExport, PackagePathMissingExport, UndefinedInterfaceType, NotInterfaceValueType, UseConflict, NotInterface, DuplicateResourceConstructor, DuplicateResourceMethod, DuplicateWorldItem, WorldIncludeConflict}
-use Rattle.wac_parser_declare.specs.Scope.{Scope, Context, Meant, Path, in_package, at_root, has, named, taken, bind, is_key, package_under, world_of_package, is_interface_name, is_instance_or_component, only_export, definition_by, definitions, use_path, world_path, joined, own_path, package_path, segment_ident, from_root, from_definitions, path_item, at_path, path_text, path_span, identifier}
+use Rattle.wac_parser_declare.specs.Scope.{Scope, Context, Meant, Path, in_package, at_root, has, named, taken, bind, package_under, world_of_package, is_instance_or_component, only_export, definition_by, definitions, use_path, world_path, own_path, package_path, segment_ident, from_root, from_definitions, path_item, at_path, path_text, path_span, identifier, passed_text}
+use Rattle.wac_types_names.specs.InterfaceNames.{is_interface_name}
 use Rattle.wac_parser_declare.specs.Declarations.{function, func_ref, variant_decl, record_decl, flags_decl, enum_decl, type_alias}
 use Rattle.wac_parser_declare.specs.Bodies.{Items, Body, no_body, Holder, usable, local_name, with_use, is_used, use_one, interface_at, use_types, with_item, add_type, method_name, constructor_name, method_kind, self_of, add_constructor, has_method, add_method, resource_method, resource_decl, added, item_type}
 use Rattle.wac_parser_declare.specs.Interfaces.{export_item, exporting, interface_body, inline_interface, interface_decl}
 use Rattle.wac_parser_declare.specs.Interfaces as i
-use Rattle.wac_parser_declare.specs.Worlds.{extern_by, extern_type, with_identifier, interface_item, world_item, importing, with_imports, with_exports, world_part, world_by, world_at, with_name, renaming, has_colon, or_itself, include_at, include_one, is_empty, left_for_exports, unmet, include_world, world_body, world_include, world_decl, type_statement}
+use Rattle.wac_parser_declare.specs.Worlds.{extern_by, extern_type, with_identifier, world_item, importing, with_imports, with_exports, world_part, world_by, world_at, with_name, renaming, has_colon, or_itself, include_at, include_one, is_empty, left_for_exports, unmet, include_world, world_body, world_include, world_decl, type_statement, interface_at_path}
 use Rattle.std.specs.Option.{option_or}
 use Rattle.wac_parser_resolve.specs.Proper.{Proper, AreProper}
 use Rattle.wac_parser_resolve.proofs.Answers.{err_ok, ok_of, then_ok, ok_is, each_keeps}
@@ -32,7 +33,7 @@ use Rattle.wac_parser_resolve.proofs.ProperTypes.{typed_is, ScopeProper, named_p
 
 pub under_proper : (ps : List (Key × Stated)) (k : Key) (w : Stated) → AreProper ps → package_under ps k ≡ Some w → Proper w
 under_proper [] k w h e = absurd (none-some _ e)
-under_proper (p ∷ ps) k w h e = go (under_proper ps k w (λ q m. h q (inr m))) (is_key k p.0) e
+under_proper (p ∷ ps) k w h e = go (under_proper ps k w (λ q m. h q (inr m))) (same_key k p.0) e
   where
     go : (package_under ps k ≡ Some w → Proper w) → (b : Bool) → cond b (Some p.1) (package_under ps k) ≡ Some w → Proper w
     go rest true q = subst Proper (same_Some _ _ q) (h p (inl refl))
@@ -87,7 +88,7 @@ own_path_proper parent x (g ∷ is) y h e =
 package_path_proper : (p : Name) (passed : List Segment) (x : Stated) (is : List Segment) (y : Stated) → Proper x → Ok y ≡ package_path p passed x is → Proper y
 package_path_proper p passed x [] y h e = subst Proper (sym (ok_is y x e)) h
 package_path_proper p passed x (g ∷ is) y h e =
-    let f : Fault = PackageMissingExport p g.0 (Some (desc x)) (joined passed) in
+    let f : Fault = PackageMissingExport p g.0 (Some (desc x)) (passed_text passed) in
     let a = ok_of (present (value_at (exports_of x) g.0) f g.1) _ y e in
     package_path_proper p (passed ++ g ∷ []) a.0 is y (item_proper (exports_of x) g.0 a.0 (exports_proper x h) (present_is (value_at (exports_of x) g.0) f g.1 a.0 (sym a.1))) a.2
 
@@ -272,7 +273,7 @@ extern_proper g ns (t.ExternType.ident i) y h k e =
 extern_proper g ns (t.ExternType.func f) y h k e = free_proper ns k f y e
 extern_proper g ns (t.ExternType.interface d) y h k e = inline_proper g d y h e
 
-world_interface_proper : (g : Context) (w : Name) (kind : ExternKind) (stand r : Items) (p : Path) → ContextProper g → AllItems stand → Ok r ≡ interface_item g w kind stand p → AllItems r
+world_interface_proper : (g : Context) (w : Name) (kind : ExternKind) (stand r : Items) (p : Path) → ContextProper g → AllItems stand → Ok r ≡ interface_at_path g w kind stand p → AllItems r
 world_interface_proper g w kind stand r p h k e =
     let a = ok_of (interface_at g p) _ r e in
     let n = ok_of (with_identifier w (identifier_of a.0)) _ r a.2 in

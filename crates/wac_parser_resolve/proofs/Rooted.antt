@@ -8,7 +8,7 @@ use Rattle.wac_types_base.specs.Record.{Collection}
 use Rattle.wac_types_base.specs.Collection.{IsAcyclic}
 use Rattle.wac_types_base.specs.Entries.{Name, value_at}
 use Rattle.wac_types_base.specs.Stated.{Stated, desc, exports_of, kind_of, stated_of}
-use Rattle.wac_composition.specs.Classes.{is_instance}
+use Rattle.wac_composition.specs.Classes.{is_instance_kind}
 use Rattle.wac_graph_core.specs.Graph as graph
 use Rattle.wac_graph_core.specs.Graph.{Graph, IsOfKind, item_export, node_at}
 use Rattle.wac_parser_refusals.specs.declared.refusal.Refusal.{Refusal}
@@ -76,14 +76,14 @@ module _ (c : Collection) (a : IsAcyclic c) (t : Stated) (o : InstanceOperation)
   held_one false id e h = absurd (cc e)
 
   pub instance_held : (id : InterfaceId) → Holds c t (ItemKind.Instance id) → IsHeld (λ u i. Holds c t (ItemKind.Instance i)) (asks_instance t o s) id
-  instance_held id h = held_one (is_instance (kind_of t)) id (is_one c a t (ItemKind.Instance id) h) h
+  instance_held id h = held_one (is_instance_kind (kind_of t)) id (is_one c a t (ItemKind.Instance id) h) h
 
   refused_one : (b : Bool) (e : Refusal) → b ≡ false → Refuses e (NotAnInstance (desc t) o) s → IsRefusal (unless_clear (not b) (NotAnInstance (desc t) o) s) e
   refused_one true e q r = absurd (cc q)
   refused_one false e q r = r
 
   pub instance_refused : (x : ItemKind) (e : Refusal) → Holds c t x → ((i : InterfaceId) → x ≡ ItemKind.Instance i → ⊥) → Refuses e (NotAnInstance (desc t) o) s → IsRefusal (asks_instance t o s) e
-  instance_refused x e h n r = refused_one (is_instance (kind_of t)) e (is_one c a t x h ∙ other_by x n) r
+  instance_refused x e h n r = refused_one (is_instance_kind (kind_of t)) e (is_one c a t x h ∙ other_by x n) r
 
 -- the first of two is refused
 pub first_refused : {A B : Type 0} (q : Answer A) (r : Answer B) (e : Refusal) → IsRefusal q e → IsRefusal (q >> r) e

@@ -10,7 +10,7 @@ use Rattle.wac_types_base.specs.Entries.{Name, value_at, names_of, has_name}
 use Rattle.wac_types_base.specs.Graph.{Among}
 use Rattle.wac_types_base.specs.Stated.{Stated, kind_of, desc, exports_of, imports_of, instance_type, promote}
 use Rattle.wac_types_names.specs.Keys.{Key}
-use Rattle.wac_composition.specs.Classes.{is_instance}
+use Rattle.wac_composition.specs.Classes.{is_instance_kind}
 use Rattle.wac_composition.specs.Tests.{fits}
 use Rattle.wac_parser_tree.specs.Trees as t
 use Rattle.wac_parser_tree.specs.Trees.{Span}
@@ -34,7 +34,7 @@ Packages = List (Key × Content)
 pub data Has (g : State) : Origin → Stated → Type 0 where
   an_import : (i : Import) → Among i g.imports → Has g (imported i.name) i.item
   an_instance : (k : ℕ) (m : Made) → slice_get g.made k ≡ Some m → Has g (instance k) (instance_type m.world)
-  an_export : (o : Origin) (x : Stated) (n : Name) (y : Stated) → Has g o x → is_instance (kind_of x) ≡ true → value_at (exports_of x) n ≡ Some y → Has g (projected o n) y
+  an_export : (o : Origin) (x : Stated) (n : Name) (y : Stated) → Has g o x → is_instance_kind (kind_of x) ≡ true → value_at (exports_of x) n ≡ Some y → Has g (projected o n) y
   a_definition : (n : Name) (x : Stated) → Among (n, x) g.definitions → Has g (defined n x) x
 
 abbrev pub HasThat : State → Denoted → Type 0
@@ -127,17 +127,17 @@ first_ok : {A B : Type 0} (r : Answer A) (q : Answer B) (b : B) → Ok b ≡ (r 
 first_ok (Ok a) q b e = (a, refl)
 first_ok (Err c) q b e = absurd (err_ok c b e)
 
-is_one : {A : Type 0} (d : Denoted) (o : InstanceOperation) (s : Span) (q : Answer A) (r : A) → Ok r ≡ (needs_instance d o s >> q) → is_instance (kind_of d.item) ≡ true
-is_one d o s q r e = not_false (is_instance (kind_of d.item)) (clear_is (not (is_instance (kind_of d.item))) (NotAnInstance (desc d.item) o) s q r e)
+is_one : {A : Type 0} (d : Denoted) (o : InstanceOperation) (s : Span) (q : Answer A) (r : A) → Ok r ≡ (needs_instance d o s >> q) → is_instance_kind (kind_of d.item) ≡ true
+is_one d o s q r e = not_false (is_instance_kind (kind_of d.item)) (clear_is (not (is_instance_kind (kind_of d.item))) (NotAnInstance (desc d.item) o) s q r e)
 
-export_has : (g : State) (d : Denoted) (n : Name) (o : Option Stated) (s : Span) (e : Denoted) → HasThat g d → is_instance (kind_of d.item) ≡ true → value_at (exports_of d.item) n ≡ o → Ok e ≡ export_by d n o s → HasThat g e
+export_has : (g : State) (d : Denoted) (n : Name) (o : Option Stated) (s : Span) (e : Denoted) → HasThat g d → is_instance_kind (kind_of d.item) ≡ true → value_at (exports_of d.item) n ≡ o → Ok e ≡ export_by d n o s → HasThat g e
 export_has g d n None s e h k v q = absurd (err_ok _ e q)
 export_has g d n (Some x) s e h k v q = subst (HasThat g) (sym (ok_is e (projection d n x) q)) (an_export d.origin d.item n x h k v)
 
-named_has : (g : State) (d : Denoted) (n : Name) (s : Span) (e : Denoted) → HasThat g d → is_instance (kind_of d.item) ≡ true → Ok e ≡ export_named d n s → HasThat g e
+named_has : (g : State) (d : Denoted) (n : Name) (s : Span) (e : Denoted) → HasThat g d → is_instance_kind (kind_of d.item) ≡ true → Ok e ≡ export_named d n s → HasThat g e
 named_has g d n s e h k q = export_has g d n (value_at (exports_of d.item) n) s e h k refl q
 
-access_has : (g : State) (d : Denoted) (p : t.PostfixExpr) (e : Denoted) → HasThat g d → is_instance (kind_of d.item) ≡ true → Ok e ≡ access_by d p → HasThat g e
+access_has : (g : State) (d : Denoted) (p : t.PostfixExpr) (e : Denoted) → HasThat g d → is_instance_kind (kind_of d.item) ≡ true → Ok e ≡ access_by d p → HasThat g e
 access_has g d (t.PostfixExpr.access a) e h k q = named_has g d (matched a.id.string (names_of (exports_of d.item))) a.span e h k q
 access_has g d (t.PostfixExpr.named_access a) e h k q = named_has g d a.string.value a.span e h k q
 
@@ -241,7 +241,7 @@ module _ (ps : Packages) where
       let rest = accesses_denotes (postfix_span x) u.0.0 u.0.1 xs r one.comes.sound one.has u.2 in
       record { comes = comes_then g u.0.0 r.0 one.comes rest.comes; has = rest.has }
 
-  spread_one_more : (g : State) (s : Span) (d : Denoted) → HasThat g d → is_instance (kind_of d.item) ≡ true → (q r : State × List Given) (n : Name) → GivesAll g q → spread_given s d q n ≡ Ok r → GivesAll g r
+  spread_one_more : (g : State) (s : Span) (d : Denoted) → HasThat g d → is_instance_kind (kind_of d.item) ≡ true → (q r : State × List Given) (n : Name) → GivesAll g q → spread_given s d q n ≡ Ok r → GivesAll g r
   spread_one_more g s d b k q r n h e =
       let u = ok_of (spoken q.0 (export_named d n s)) _ r (sym e) in
       let one = said_denotes q.0 q.0 (export_named d n s) u.0 (comes_here q.0 h.comes.sound)
@@ -250,7 +250,7 @@ module _ (ps : Packages) where
       subst (GivesAll g) (sym (ok_is r (u.0.0, q.1 ++ last ∷ []) u.2))
       (record { comes = comes_then g q.0 u.0.0 h.comes one.comes; there = all_last u.0.0 q.1 last (all_more q.0 u.0.0 q.1 one.comes.grows h.there) one.has })
 
-  spread_there : (g : State) (s : Span) (d : Denoted) → HasThat g d → is_instance (kind_of d.item) ≡ true → (q r : State × List Given) (ns : List Name) → GivesAll g q → Ok r ≡ spread_all s d q ns → GivesAll g r
+  spread_there : (g : State) (s : Span) (d : Denoted) → HasThat g d → is_instance_kind (kind_of d.item) ≡ true → (q r : State × List Given) (ns : List Name) → GivesAll g q → Ok r ≡ spread_all s d q ns → GivesAll g r
   spread_there g s d b k q r [] h e = absurd (err_ok _ r e)
   spread_there g s d b k q r (n ∷ ns) h e = each_keeps (spread_given s d) (GivesAll g) (spread_one_more g s d b k) q r (n ∷ ns) h e
 
@@ -430,13 +430,13 @@ module _ (ps : Packages) where
         grows = w;
       })
 
-  left_one : (g : State) (dots : Span) (d : Denoted) → HasThat g d → is_instance (kind_of d.item) ≡ true → (k l : State) (n : Name) → Comes g k → export_one dots d k n ≡ Ok l → Comes g l
+  left_one : (g : State) (dots : Span) (d : Denoted) → HasThat g d → is_instance_kind (kind_of d.item) ≡ true → (k l : State) (n : Name) → Comes g k → export_one dots d k n ≡ Ok l → Comes g l
   left_one g dots d b i k l n c q =
       let a = ok_of (export_named d n dots) _ l (sym q) in
       let has = named_has k d n dots a.0 (has_more g k c.grows d.origin d.item b) i (sym a.1) in
       comes_then g k l c (exported_sound a.0 false k (record { string = n; span = dots }) l c.sound has a.2)
 
-  export_left_sound : (g : State) (s dots : Span) (d : Denoted) (ns : List Name) (h : State) → Sound ps g → HasThat g d → is_instance (kind_of d.item) ≡ true → Ok h ≡ export_left g s dots d ns → Sound ps h
+  export_left_sound : (g : State) (s dots : Span) (d : Denoted) (ns : List Name) (h : State) → Sound ps g → HasThat g d → is_instance_kind (kind_of d.item) ≡ true → Ok h ≡ export_left g s dots d ns → Sound ps h
   export_left_sound g s dots d [] h f b i e = absurd (err_ok _ h e)
   export_left_sound g s dots d (n ∷ ns) h f b i e = (each_keeps (export_one dots d) (Comes g) (left_one g dots d b i) g h (n ∷ ns) (comes_here g f) e).sound
 

@@ -10,7 +10,7 @@ use Rattle.wac_types_base.specs.Collection.{IsAcyclic}
 use Rattle.wac_types_base.specs.Graph.{Among}
 use Rattle.wac_types_base.specs.Stated.{Stated, kind_of, exports_of, stated_of}
 use Rattle.wac_types_base.proofs.Lists.{among_last as last_or}
-use Rattle.wac_composition.specs.Classes.{is_instance}
+use Rattle.wac_composition.specs.Classes.{is_instance_kind}
 use Rattle.wac_graph_core.specs.declared.ids.PackageId.{PackageId}
 use Rattle.wac_graph_core.specs.declared.edge.Label.{Label}
 use Rattle.wac_graph_core.specs.Nodes.{NodeData, Role, plain_node}
@@ -71,7 +71,7 @@ module _ (g : Graph) (is : IsGraph g) (noted : List (ℕ × Span)) (names : List
   -- what is told of an export of the instance
   pub record Told (h : Graph) (k : ℕ) : Type 0 where
     pub item : Stated
-    pub one : is_instance (kind_of d.item) ≡ true
+    pub one : is_instance_kind (kind_of d.item) ≡ true
     pub at : value_at (exports_of d.item) n ≡ Some item
     pub said : Says h noted names (speak_of s (projection d n item))
     pub denotes : Denotes h ms (projection d n item) k
@@ -146,7 +146,7 @@ module _ (g : Graph) (is : IsGraph g) (noted : List (ℕ × Span)) (names : List
     instance_back j x = instance_by j (node_at h j) refl x
 
     record Item : Type 0 where
-      one : is_instance (kind_of d.item) ≡ true
+      one : is_instance_kind (kind_of d.item) ≡ true
       kind : IsOfKind g i (λ x. graph.is_instance x ≡ true)
       at : value_at (exports_of d.item) n ≡ Some (stated_of g.types made.item)
 

@@ -14,7 +14,7 @@ use Rattle.wac_types_base.specs.Graph.{Among}
 use Rattle.wac_types_base.proofs.Replacing.{same_number}
 use Rattle.wac_types_base.specs.Stated.{Stated, desc, exports_of, kind_of, stated_of}
 use Rattle.wac_types_fit.proofs.Items.{Among-last}
-use Rattle.wac_composition.specs.Classes.{is_instance}
+use Rattle.wac_composition.specs.Classes.{is_instance_kind}
 use Rattle.wac_composition.proofs.Closures.{filter_among}
 use Rattle.wac_graph_core.specs.Graph.{Graph}
 use Rattle.wac_parser_tree.specs.Trees as t
@@ -138,7 +138,7 @@ are_left gs q ns ks is d = record {
 
 -- ---- where an instance is asked for, and is there
 
-pub needs_same : {A : Type 0} (d : Denoted) (o : InstanceOperation) (s : Span) (q : Answer A) → is_instance (kind_of d.item) ≡ true → (needs_instance d o s >> q) ≡ q
+pub needs_same : {A : Type 0} (d : Denoted) (o : InstanceOperation) (s : Span) (q : Answer A) → is_instance_kind (kind_of d.item) ≡ true → (needs_instance d o s >> q) ≡ q
 needs_same d o s q e = ap (λ (b : Bool). unless_clear (not b) (NotAnInstance (desc d.item) o) s >> q) e
 
 pub held_to : {A B C : Type 0} (h : A → B → Type 0) (k : A → C → Type 0) (q : Answer A) (b : B) (c : C) → IsHeld h q b → ((a : A) → h a b → k a c) → IsHeld k q c

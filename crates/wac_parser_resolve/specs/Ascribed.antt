@@ -51,8 +51,8 @@ placed_definition d = record { by = by_definition; name = d.0; item = d.1 }
 abbrev pub alias_in : Denoted → Name × Stated
 alias_in d = (unwrap_or (own_name d.origin) [], d.item)
 
-abbrev pub exported_in : Name × Bound → Name × c.Origin ℕ × Stated
-exported_in e = (e.0, origin_in e.1.denoted.origin, e.1.denoted.item)
+abbrev pub said_export : Name × Bound → Name × c.Origin ℕ × Stated
+said_export e = (e.0, origin_in e.1.denoted.origin, e.1.denoted.item)
 
 abbrev pub composition : State → Composition Asker ℕ
 composition g = record {
@@ -60,7 +60,7 @@ composition g = record {
   made = numbered 0 g.made;
   definitions = map placed_definition g.definitions;
   aliases = map alias_in g.aliases;
-  exports = map exported_in g.exports;
+  exports = map said_export g.exports;
 }
 
 -- ---- why it cannot be written, as the document's fault

@@ -103,9 +103,9 @@ own_name (projected o n) = Some n
 own_name (instance k) = None
 own_name (defined n x) = None
 
-abbrev pub is_definition : Origin → Bool
-is_definition (defined n x) = true
-is_definition o = false
+abbrev pub is_own_definition : Origin → Bool
+is_own_definition (defined n x) = true
+is_own_definition o = false
 
 -- two are one thing
 abbrev pub same_origin : Origin → Origin → Bool

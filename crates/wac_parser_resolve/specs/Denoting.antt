@@ -5,7 +5,7 @@ use Rattle.wac_types_base.specs.Entries.{Name, value_at, names_of, has_name}
 use Rattle.wac_types_base.specs.Stated.{Stated, Kind, IsInstance, kind_of, desc, exports_of, imports_of, identifier_of, instance_type}
 use Rattle.wac_types_names.specs.Keys.{Key}
 use Rattle.wac_composition.specs.Tests.{fits}
-use Rattle.wac_composition.specs.Classes.{is_instance}
+use Rattle.wac_composition.specs.Classes.{is_instance_kind}
 use Rattle.wac_types_written.specs.Written.{written_definition}
 use Rattle.wac_parser_tree.specs.Trees as t
 use Rattle.wac_parser_tree.specs.Trees.{Span}
@@ -20,7 +20,7 @@ use Rattle.wac_parser_resolve.specs.Ascribing.{Origin, instance, defined, Denote
 
 -- an operation asks for an instance
 abbrev pub asks_instance : Stated → InstanceOperation → Span → Answer ⊤
-asks_instance x o s = unless_clear (not (is_instance (kind_of x))) (NotAnInstance (desc x) o) s
+asks_instance x o s = unless_clear (not (is_instance_kind (kind_of x))) (NotAnInstance (desc x) o) s
 
 abbrev pub needs_instance : Denoted → InstanceOperation → Span → Answer ⊤
 needs_instance d o s = asks_instance d.item o s

@@ -5,5 +5,5 @@ use Rattle.wac_parser_resolve.specs.declared.targets.Target.{Target}
 use Rattle.wac_parser_resolve.specs.Targeting.{Gives}
 
 -- under the name of an import: an implicit interface, else an import
-abbrev pub given_by : Target → Gives
-given_by t = target_import (shown t.implicit.now.entries) t.imports.now
+abbrev pub gives_of : Target → Gives
+gives_of t = target_import (shown t.implicit.now.entries) t.imports.now

@@ -7,7 +7,7 @@ use Rattle.wac_types_base.specs.Record.{Collection}
 use Rattle.wac_types_base.specs.Entries.{AreDistinct, Name, has_name, names_of, value_at}
 use Rattle.wac_types_base.specs.Graph.{Among}
 use Rattle.wac_types_base.specs.Stated.{exports_of, imports_of, kind_of, stated_of}
-use Rattle.wac_composition.specs.Classes.{is_instance}
+use Rattle.wac_composition.specs.Classes.{is_instance_kind}
 use Rattle.wac_graph_core.specs.Graph.{Graph}
 use Rattle.wac_parser_tree.specs.Trees as t
 use Rattle.wac_parser_tree.specs.Trees.{Span}
@@ -75,7 +75,7 @@ pub record AreLeft (gs : List stated.Given) (ns : List Name) : Type 0 where
 abbrev pub IsExportGiven : Name → Graph → ℕ → Span → Graph → Result Given Refusal → Type 0
 IsExportGiven n g i at h r = (noted : List (ℕ × Span)) (names : List (Name × ℕ)) (s : State) (d : Denoted) → Says g noted names s
     → Denotes g (names_of noted) d i
-    → is_instance (kind_of d.item) ≡ true
+    → is_instance_kind (kind_of d.item) ≡ true
     → IsOutcome (λ p one. Says h noted names p.0
     × IsGiven h (names_of noted) (record { name = n; denoted = p.1; span = at }) one) (spoken s (export_named d n at)) r
 
@@ -90,7 +90,7 @@ abbrev pub GivesExports : List Name → Graph → ℕ → Span → List Given �
 GivesExports ns g i at xs h ys r =
     (noted : List (ℕ × Span)) (names : List (Name × ℕ)) (q : State × List stated.Given) (d : Denoted)
     → SaysGiven g noted names xs q
-    → Denotes g (names_of noted) d i → is_instance (kind_of d.item) ≡ true → AreLeft q.1 ns
+    → Denotes g (names_of noted) d i → is_instance_kind (kind_of d.item) ≡ true → AreLeft q.1 ns
     → IsOutcome (λ p u. SaysGiven h noted names ys p) (each (spread_given at d) q ns) r
 
 abbrev pub Spreads : Ident → Graph → List (Name × ℕ) → WorldId → List Given → Graph → List Given → Result ⊤ Refusal → Type 0

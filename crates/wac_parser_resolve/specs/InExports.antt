@@ -6,7 +6,7 @@ use Rattle.wac_types_base.specs.declared.item.ItemKind.{ItemKind}
 use Rattle.wac_types_base.specs.declared.ids.InterfaceId.{InterfaceId}
 use Rattle.wac_types_base.specs.Entries.{Name, names_of, value_at}
 use Rattle.wac_types_base.specs.Stated.{exports_of, kind_of, stated_of}
-use Rattle.wac_composition.specs.Classes.{is_instance}
+use Rattle.wac_composition.specs.Classes.{is_instance_kind}
 use Rattle.wac_graph_core.specs.declared.errors.ExportError.{ExportError}
 use Rattle.wac_graph_core.specs.Nodes.{NodeData, Role}
 use Rattle.wac_graph_core.specs.Graph.{Graph, node_at}
@@ -21,7 +21,7 @@ use Rattle.wac_parser_declare.specs.Holding.{scope_of}
 use Rattle.wac_parser_resolve.specs.declared.exports.Definition.{Definition}
 use Rattle.wac_parser_resolve.specs.declared.exports.ExportName.{ExportName}
 use Rattle.wac_parser_resolve.specs.declared.state.State.{State as Held}
-use Rattle.wac_parser_resolve.specs.Ascribing.{Bound, Denoted, State, is_definition, root_scope, speak_of}
+use Rattle.wac_parser_resolve.specs.Ascribing.{Bound, Denoted, State, root_scope, speak_of, is_own_definition}
 use Rattle.wac_parser_resolve.specs.Holding.{AreNamed, Denotes}
 use Rattle.wac_parser_resolve.specs.Said.{IsSaid, last_noted}
 use Rattle.wac_parser_resolve.specs.Saying.{export_as, export_one, exported}
@@ -35,13 +35,13 @@ IsDefined g k = (x : NodeData) × (node_at g k ≡ Some x) × (x.role ≡ Role.D
 -- what is bound is a definition
 abbrev pub is_defined : Option Bound → Bool
 is_defined None = false
-is_defined (Some b) = is_definition b.denoted.origin
+is_defined (Some b) = is_own_definition b.denoted.origin
 
 -- the definition that is bound, and where its name was given
 pub record IsBoundTo (g : Graph) (ms : List ℕ) (o : Option Bound) (d : Definition) : Type 0 where
   pub bound : Bound
   pub is : o ≡ Some bound
-  pub defines : is_definition bound.denoted.origin ≡ true
+  pub defines : is_own_definition bound.denoted.origin ≡ true
   pub denotes : Denotes g ms bound.denoted d.node
   pub span : d.span ≡ bound.span
 
@@ -101,5 +101,5 @@ export_each ns dots s d = each (export_one dots d) s ns
 -- what is said of exports of an instance
 abbrev pub SaysOfInstance : (State → Denoted → Answer State) → Held → ℕ → Held → Result ⊤ Refusal → Type 0
 SaysOfInstance f old k new r =
-    (own : t.PackageName) (s : State) (d : Denoted) → IsSaid own old s → DenotesOn old d k → is_instance (kind_of d.item) ≡ true
+    (own : t.PackageName) (s : State) (d : Denoted) → IsSaid own old s → DenotesOn old d k → is_instance_kind (kind_of d.item) ≡ true
     → IsOutcome (λ q u. IsSaid own new q) (f s d) r

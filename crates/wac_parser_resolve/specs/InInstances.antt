@@ -51,13 +51,13 @@ IsPrimary e root b c r = (s : State) → IsOn root b s → IsOutcome (Denoting r
 
 -- ---- the package
 
-abbrev pub key_of : t.PackageName → Key
-key_of p = (p.name, p.version)
+abbrev pub named_key : t.PackageName → Key
+named_key p = (p.name, p.version)
 
 -- the package of the name that a `new` says
 abbrev pub IsNewPackage : PackageName → Root → Board → Board → Result PackageId Refusal → Type 0
 IsNewPackage p root b c r = (s : State) → IsOn root b s
-    → IsOutcome (λ w id. IsOn root c s × IsPackage c.types.graph (key_of (view_package_name p)) w id)
+    → IsOutcome (λ w id. IsOn root c s × IsPackage c.types.graph (named_key (view_package_name p)) w id)
     (stated.new_package s (view_package_name p)) r
 
 -- ---- arguments
@@ -111,8 +111,8 @@ abbrev pub with_arguments : Made → List stated.Given → Made
 with_arguments m gs = record m { arguments = map (λ (a : stated.Given). (a.name, a.denoted)) gs }
 
 -- nothing is passed to an instance yet
-abbrev pub bare : Key → Stated → Span → Made
-bare k w at = record { key = k; world = w; arguments = []; span = at }
+abbrev pub just_made : Key → Stated → Span → Made
+just_made k w at = record { key = k; world = w; arguments = []; span = at }
 
 -- one argument is passed
 abbrev pub Passes : Graph → ℕ → Given → Graph → Result ⊤ Refusal → Type 0
@@ -125,14 +125,14 @@ Passes g i one h r =
 abbrev pub PassesAll : Graph → ℕ → List Given → Graph → Result ⊤ Refusal → Type 0
 PassesAll g i xs h r =
     (noted : List (ℕ × Span)) (names : List (Name × ℕ)) (s : State) (k : Key) (w : Stated) (at : Span) (gs : List stated.Given)
-    → SaysMade g noted i names s (bare k w at) → AreGiven g (names_of (noted ++ (i, at) ∷ [])) gs xs
-    → IsOutcome (λ u v. SaysMade h noted i names s (with_arguments (bare k w at) gs)) (each (argument_fits k w) tt gs) r
+    → SaysMade g noted i names s (just_made k w at) → AreGiven g (names_of (noted ++ (i, at) ∷ [])) gs xs
+    → IsOutcome (λ u v. SaysMade h noted i names s (with_arguments (just_made k w at) gs)) (each (argument_fits k w) tt gs) r
 
 -- an instance of the package is made
 abbrev pub Instantiated : Graph → PackageId → Graph → ℕ → Type 0
 Instantiated g id h i = (noted : List (ℕ × Span)) (names : List (Name × ℕ)) (s : State) (k : Key) (w : Stated) (at : Span)
     → Says g noted names s → IsPackage g k w id
-    → SaysMade h noted i names s (bare k w at) × HasItem h i (instance_type w)
+    → SaysMade h noted i names s (just_made k w at) × HasItem h i (instance_type w)
 
 -- ---- the instance
 
@@ -144,7 +144,7 @@ IsWhole n c w xs r = (gs : List stated.Given) → names_given xs ≡ stated.give
 
 abbrev pub IsFinished : NewExpr → Root → Board → PackageId → List Given → Board → Result ℕ Refusal → Type 0
 IsFinished n root b id xs c r = (s : State) (w : Stated) (gs : List stated.Given) → IsOn root b s
-    → IsPackage b.types.graph (key_of (view_package_name n.«package»)) w id
+    → IsPackage b.types.graph (named_key (view_package_name n.«package»)) w id
     → AreGiven b.types.graph (instances_of b) gs xs
     → IsOutcome (Denoting root c) (finished s (view_package_name n.«package») w gs
     (stated.is_filled (t.arguments (map view_instantiation_argument n.arguments.items)))) r

@@ -121,8 +121,8 @@ IsImportNamed i k at old new r =
     → DenotesOn old d k → IsOutcome (λ q u. IsSaid own new q) (bound s (view_ident i) d) r
 
 -- an import of this name and item
-abbrev pub import_of : State → t.ImportStatement → t.Ident → Stated → Answer State
-import_of g x n item = do
+abbrev pub says_import : State → t.ImportStatement → t.Ident → Stated → Answer State
+says_import g x n item = do
   not_imported (import_called g.imports n.string) n (is_none x.name)
   unless_clear (not (is_extern_name n.string)) (InvalidExternName n.string ExternKind.Import) n.span
   bound (with_import g (record { name = n.string; item = item; span = n.span; id_span = x.id.span })) x.id
@@ -130,7 +130,7 @@ import_of g x n item = do
 
 abbrev pub AddsImport : ImportStatement → Name → Span → ItemKind → Held → Held → Result ⊤ Refusal → Type 0
 AddsImport x n at k old new r = (own : t.PackageName) (item : Stated) → Holds old.board.types.graph.types item k
-    → SaysNext old new (λ s. import_of s (view_import_statement x) (record { string = n; span = at }) item) r own
+    → SaysNext old new (λ s. says_import s (view_import_statement x) (record { string = n; span = at }) item) r own
 
 -- ---- declarations
 

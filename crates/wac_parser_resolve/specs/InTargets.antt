@@ -38,10 +38,10 @@ use Rattle.wac_parser_resolve.specs.declared.targets.Asked.{Asked}
 use Rattle.wac_parser_resolve.specs.declared.targets.Place.{Place}
 use Rattle.wac_parser_resolve.specs.declared.targets.Target.{Target}
 use Rattle.wac_parser_resolve.specs.Ascribing.{State}
-use Rattle.wac_parser_resolve.specs.Giving.{given_by}
+use Rattle.wac_parser_resolve.specs.Giving.{gives_of}
 use Rattle.wac_parser_resolve.specs.Holding.{Says}
 use Rattle.wac_parser_resolve.specs.Meeting as stated
-use Rattle.wac_parser_resolve.specs.Meeting.{Wanted, import_by, refuse_at, uses_are_named}
+use Rattle.wac_parser_resolve.specs.Meeting.{Wanted, refuse_at, uses_are_named, import_met}
 use Rattle.wac_parser_resolve.specs.Said.{AreAsked, AreExported, IsSaid, last_noted}
 use Rattle.wac_parser_resolve.specs.Saying.{statement}
 use Rattle.wac_parser_resolve.specs.Targeting.{AreExportsMet, Gives, IsInstanceMet, IsStatementMet}
@@ -93,7 +93,7 @@ path_of t = view_package_path t.path.now
 
 -- the test of what is imported, by what the target gives
 abbrev pub import_test : Target → Collection → Wanted → Answer ⊤
-import_test t c a = import_by (path_of t) a (option_map (stated_of c) (given_by t a.name))
+import_test t c a = import_met (path_of t) a (option_map (stated_of c) (gives_of t a.name))
 
 abbrev pub asked_in : Collection → Name → ItemKind → Option Span → Wanted
 asked_in c n k s = record { name = n; item = stated_of c k; span = s }
@@ -196,7 +196,7 @@ pub record AreNotedMet (g : Graph) (given : Gives) (is ms : List (ℕ × Span)) 
 
 -- the same of what the code has noted
 abbrev pub NotedIsMet : Target → Graph → Spans → Spans → List (Name × ItemKind) → Type 0
-NotedIsMet tg g imports instances es = AreNotedMet g (given_by tg) imports.noted.items instances.noted.items es
+NotedIsMet tg g imports instances es = AreNotedMet g (gives_of tg) imports.noted.items instances.noted.items es
 
 -- ---- the target
 
@@ -204,7 +204,7 @@ NotedIsMet tg g imports instances es = AreNotedMet g (given_by tg) imports.noted
 pub record IsTargetFor (tg : Target) (c : Collection) (es : List (Name × ItemKind)) (p : t.PackagePath)
     (w : Stated) : Type 0 where
   pub path : p ≡ path_of tg
-  pub gives : (n : Name) → stated.given_by w n ≡ option_map (stated_of c) (given_by tg n)
+  pub gives : (n : Name) → stated.given_by w n ≡ option_map (stated_of c) (gives_of tg n)
   pub named : uses_are_named w ≡ true
   pub exports : exports_of w ≡ with_values (stated_of c) es
 

@@ -14,7 +14,7 @@ use Rattle.wac_types_base.specs.Stated.{Stated, exports_of, kind_of, stated_of}
 use Rattle.wac_types_names.specs.declared.package.BorrowedPackageKey.{BorrowedPackageKey}
 use Rattle.wac_types_names.specs.Packaged.{Packaged}
 use Rattle.wac_types_names.specs.contracts.package.Package as package_row
-use Rattle.wac_types_names.specs.Keys.{Key, borrowed_key, package_key}
+use Rattle.wac_types_names.specs.Keys.{Key, borrowed_key, package_key, same_key}
 use Rattle.wac_graph_core.specs.declared.ids.PackageId.{PackageId}
 use Rattle.wac_graph_core.specs.declared.package.Place.{Place}
 use Rattle.wac_graph_core.specs.Graph.{Graph, instantiated, package_of}
@@ -24,7 +24,7 @@ use Rattle.wac_parser_refusals.specs.Causes.{UnknownPackage, present}
 use Rattle.wac_parser_refusals.specs.Outcomes.{IsOutcome}
 use Rattle.wac_parser_tree.specs.Trees.{Span}
 use Rattle.wac_parser_declare.specs.Packages.{Content, HoldsIf, Known, world_if}
-use Rattle.wac_parser_declare.specs.Scope.{definition_by, definitions, is_key, only_export}
+use Rattle.wac_parser_declare.specs.Scope.{definition_by, definitions, only_export}
 use Rattle.wac_parser_resolve.specs.declared.packages.GraphTypes.{GraphTypes}
 use Rattle.wac_parser_resolve.specs.declared.packages.PackageRef.{PackageRef}
 
@@ -37,7 +37,7 @@ content_of c p = record { world = stated_of c (ItemKind.Component p.ty); bytes =
 -- what a package has that has the key
 abbrev pub held_under : Collection → Key → Option Packaged → Option Content
 held_under c k None = None
-held_under c k (Some p) = cond (is_key k (package_key p)) (Some (content_of c p)) None
+held_under c k (Some p) = cond (same_key k (package_key p)) (Some (content_of c p)) None
 
 abbrev pub content_in : Collection → List Place → Key → Option Content
 content_in c [] k = None
@@ -49,7 +49,7 @@ known_of g = content_in g.types g.places
 -- the package of this key has this, each other what it had
 pub record Gets (old new : Graph) (key : Key) (x : Content) : Type 0 where
   pub own : known_of new key ≡ Some x
-  pub others : (k : Key) → is_key k key ≡ false → known_of new k ≡ known_of old k
+  pub others : (k : Key) → same_key k key ≡ false → known_of new k ≡ known_of old k
 
 -- the package of an id has this key and this world
 pub record IsPackage (g : Graph) (k : Key) (w : Stated) (id : PackageId) : Type 0 where
@@ -71,7 +71,7 @@ abbrev pub handed_content : PackageRef → Option Content
 handed_content p = cond (is_some (item_node p.types.now (ItemKind.Component p.«package».now.ty))) (Some (lent_content p)) None
 
 abbrev pub handed_under : GraphTypes → Key → Option Content
-handed_under g k = option_and_then handed_content (get_by (λ key. is_key k (borrowed_key key)) g.packages.now)
+handed_under g k = option_and_then handed_content (get_by (λ key. same_key k (borrowed_key key)) g.packages.now)
 
 abbrev pub with_handed : Option Content → Key → List (Key × Content) → List (Key × Content)
 with_handed None k ps = ps
@@ -89,19 +89,19 @@ handed_list m = handed_entries m.entries
 abbrev pub known_in : GraphTypes → Key → Option Content
 known_in g k = option_or (known_of g.graph k) (handed_under g k)
 
--- ---- what is beside them
+-- ---- what is node_rest them
 
 -- a graph's nodes, edges and exports
 abbrev pub wiring_of : Graph → Graph
 wiring_of g = record { types = empty 0; nodes = g.nodes; edges = g.edges; exports = g.exports; places = [] }
 
 -- these, and the package that a node is an instance of, as a ghost value
-abbrev pub beside : Graph → ℕ → Gv
-beside g k = (coded× graph_row.the_row.coded (coded_option package_row.the_row.coded)).code (wiring_of g, instantiated g k)
+abbrev pub node_rest : Graph → ℕ → Gv
+node_rest g k = (coded× graph_row.the_row.coded (coded_option package_row.the_row.coded)).code (wiring_of g, instantiated g k)
 
 -- what is known of packages, and all else that the graph holds
 abbrev pub all_known : GraphTypes → Known
-all_known g = record { packages = known_in g; rest = beside g.graph }
+all_known g = record { packages = known_in g; rest = node_rest g.graph }
 
 -- the package of each key has what it had
 pub record SameContents (f g : Key → Option Content) : Type 0 where

@@ -1,5 +1,6 @@
 -- What holds of each ascribed composition.
-use Rattle.std.specs.Prelude.{◌≡◌, ℕ, Bool, Option, List, Some, Ok, slice_get}
+use Rattle.std.specs.Prelude.{◌≡◌, ℕ, Bool, Option, List, Some, Ok, Err, is_ok, slice_get}
+use Rattle.wac_types_base.specs.Graph.{Among}
 use Rattle.wac_types_base.specs.Stated.{Stated}
 use Rattle.wac_types_names.specs.Keys.{Key}
 use Rattle.wac_graph_bytes.specs.Wirings.{Tag, IsOrdered}
@@ -8,7 +9,11 @@ use Rattle.wac_composition.specs.Composition.{Placed, Composition}
 use Rattle.wac_composition.specs.OuterLaws.{AreMet}
 use Rattle.wac_composition.specs.Sound.{IsWired}
 use Rattle.wac_composition.specs.Wired.{composed_wiring}
+use Rattle.wac_composition.specs.Worlds.{composed_world}
 use Rattle.wac_parser_tree.specs.Trees as t
+use Rattle.wac_parser_tree.specs.Bare.{bare}
+use Rattle.wac_parser_tree.specs.Named.{packages_named}
+use Rattle.wac_parser_refusals.specs.Causes.{Answer}
 use Rattle.wac_parser_declare.specs.Packages.{Content}
 use Rattle.wac_parser_declare.specs.Scope.{package_under}
 use Rattle.wac_parser_resolve.specs.Ascribing.{State, worlds_of}
@@ -43,3 +48,29 @@ Resolved_are_wired = (d : t.Document) (ps : List (Key × Content)) (r : State ×
 abbrev pub Documents_are_wired : Type 0
 Documents_are_wired = (d : t.Document) (ps : List (Key × Content)) (define : Bool) (x : Composition Asker ℕ × Option Stated)
     → AreProper (worlds_of ps) → Ok x ≡ ascribed define d ps → (tag_of : Key → Tag) → IsWired tag_of x.0
+
+-- ---- what a document's meaning depends on
+
+-- the packages that a document names have the same worlds in both
+abbrev pub NamesTheSame : t.Document → List (Key × Content) → List (Key × Content) → Type 0
+NamesTheSame d ps qs =
+    (k : Key) → Among k (packages_named d) → package_under (worlds_of ps) k ≡ package_under (worlds_of qs) k
+
+-- both are accepted, with one wiring, one world and one target, or both are refused
+abbrev pub AreWiredAlike : Answer (Composition Asker ℕ × Option Stated) → Answer (Composition Asker ℕ × Option Stated) → Type 0
+AreWiredAlike (Ok x) (Ok y) = ((tag_of : Key → Tag) → composed_wiring tag_of x.0 ≡ composed_wiring tag_of y.0)
+    × (composed_world x.0 ≡ composed_world y.0)
+    × (x.1 ≡ y.1)
+AreWiredAlike (Err a) (Err b) = Unit {0}
+AreWiredAlike x y = ⊥
+
+-- whether a document is accepted depends only on its tree without spans and doc comments, and on the worlds of the packages that
+-- it names
+abbrev pub Acceptance_is_of_trees : Type 0
+Acceptance_is_of_trees = (d e : t.Document) (ps qs : List (Key × Content))
+    → bare d ≡ bare e → NamesTheSame d ps qs → is_ok (resolved d ps) ≡ is_ok (resolved e qs)
+
+-- and so do its wiring, its world and its target
+abbrev pub Wiring_is_of_trees : Type 0
+Wiring_is_of_trees = (d e : t.Document) (ps qs : List (Key × Content)) (define : Bool)
+    → bare d ≡ bare e → NamesTheSame d ps qs → AreWiredAlike (ascribed define d ps) (ascribed define e qs)

@@ -6,7 +6,7 @@ use Rattle.wac_types_base.specs.Entries.{Name, value_at, put_entry}
 use Rattle.wac_types_base.specs.Stated.{Stated, Kind, IsWorld, Used, kind_of, desc, promote, untyped, exports_of, imports_of, uses_of, identifier_of}
 use Rattle.wac_types_names.specs.Keys.{Key}
 use Rattle.wac_composition.specs.Tests.{fits}
-use Rattle.wac_composition.specs.Classes.{is_instance}
+use Rattle.wac_composition.specs.Classes.{is_instance_kind}
 use Rattle.wac_parser_tree.specs.Trees as t
 use Rattle.wac_parser_tree.specs.Trees.{Span}
 use Rattle.wac_parser_refusals.specs.Causes.{Answer, Fault, ◌>>=◌, ◌>>◌, pure, refuse, unless_clear, each, NotWorld, TypeCannotBeWritten, ImportNotInTarget, TargetMismatch, MissingTargetExport}
@@ -20,7 +20,7 @@ use Rattle.wac_parser_resolve.specs.Saying.{export_span, statements}
 
 -- the uses of a world and of its imported instances
 abbrev pub implicit_uses : Stated → List Used
-implicit_uses w = uses_of w ++ flat_map (λ e. if is_instance (kind_of e.1) then uses_of e.1 else []) (imports_of w)
+implicit_uses w = uses_of w ++ flat_map (λ e. if is_instance_kind (kind_of e.1) then uses_of e.1 else []) (imports_of w)
 
 abbrev pub put_named : List (Name × Stated) → Stated → Option Name → List (Name × Stated)
 put_named es x None = es
@@ -61,14 +61,14 @@ wanted g = map wanted_by_statement g.imports ++ flat_map wanted_by_instance g.ma
 abbrev pub refuse_at : Fault → Option Span → Answer ⊤
 refuse_at f s = Err (record { fault = f; span = s })
 
-abbrev pub import_by : t.PackagePath → Wanted → Option Stated → Answer ⊤
-import_by p a None = refuse_at (ImportNotInTarget a.name p.string) a.span
-import_by p a (Some x) =
+abbrev pub import_met : t.PackagePath → Wanted → Option Stated → Answer ⊤
+import_met p a None = refuse_at (ImportNotInTarget a.name p.string) a.span
+import_met p a (Some x) =
     if fits (promote x) a.item then pure tt else refuse_at (TargetMismatch ExternKind.Import a.name p.string) a.span
 
-abbrev pub export_by : State → t.PackagePath → Name → Stated → Option Bound → Answer ⊤
-export_by g p n x None = refuse (MissingTargetExport n (desc x) p.string) p.span
-export_by g p n x (Some e) =
+abbrev pub export_met : State → t.PackagePath → Name → Stated → Option Bound → Answer ⊤
+export_met g p n x None = refuse (MissingTargetExport n (desc x) p.string) p.span
+export_met g p n x (Some e) =
     unless_clear (not (fits e.denoted.item (promote x))) (TargetMismatch ExternKind.Export n p.string) (export_span g e)
 
 abbrev pub uses_are_named : Stated → Bool
@@ -78,15 +78,15 @@ uses_are_named w = list_all (λ (u : Used). is_some (identifier_of u.interface))
 abbrev pub target_met : State → t.PackagePath → Stated → Answer ⊤
 target_met g p w = do
   if uses_are_named w then pure tt else refuse_at (TypeCannotBeWritten p.string) None
-  each (λ u a. import_by p a (given_by w a.name)) tt (wanted g)
-  each (λ u e. export_by g p e.0 e.1 (value_at g.exports e.0)) tt (exports_of w)
+  each (λ u a. import_met p a (given_by w a.name)) tt (wanted g)
+  each (λ u e. export_met g p e.0 e.1 (value_at g.exports e.0)) tt (exports_of w)
 
-abbrev pub world_by : Kind → t.PackagePath → Stated → Answer Stated
-world_by IsWorld p x = pure (untyped x)
-world_by k p x = refuse (NotWorld p.string (desc x)) p.span
+abbrev pub target_by : Kind → t.PackagePath → Stated → Answer Stated
+target_by IsWorld p x = pure (untyped x)
+target_by k p x = refuse (NotWorld p.string (desc x)) p.span
 
 abbrev pub target_world : State → t.PackagePath → Answer Stated
-target_world g p = path_item (context g) p >>= λ x. world_by (kind_of x) p x
+target_world g p = path_item (context g) p >>= λ x. target_by (kind_of x) p x
 
 abbrev pub target : State → Option t.PackagePath → Answer (Option Stated)
 target g None = pure None

@@ -3,8 +3,8 @@ use Rattle.std.specs.Prelude.{◌≡◌, [], ◌∷◌, Ok, codes}
 use Rattle.wac_composition.specs.Composition as c
 use Rattle.wac_composition.specs.Examples.{plain_func, func_of_number, named_instance, passing, newer, wider}
 use Rattle.wac_parser_refusals.specs.Causes.{MissingInstantiationArg, MismatchedInstantiationArg, InstantiationArgMergeFailure, UndefinedName, UnknownPackage, ImportConflict, ExportRequiresAs}
-use Rattle.wac_parser_resolve.specs.Rows.{sp, key, plain_package, refusal, said, handed, from_g_to_h, one_instance, nothing_given, one_into_another}
-use Rattle.wac_parser_resolve.specs.Rows.{two_versions, versions, unknown_name, own_package, asked_and_filled, no_name_to_export, named_by_identifier, identified, exporting_identified}
+use Rattle.wac_parser_resolve.specs.Rows.{sp, key, plain_package, refusal, said, handed, from_g_to_h, one_instance, nothing_given, one_into_another, interface_name}
+use Rattle.wac_parser_resolve.specs.Rows.{two_versions, versions, unknown_name, own_package, asked_and_filled, no_name_to_export, named_by_identifier, exporting_identified}
 
 -- one outer import, one instance, one export
 abbrev pub Says_one : Type 0
@@ -53,4 +53,4 @@ Says_no_name = said no_name_to_export handed ≡ refusal ExportRequiresAs 20 15
 
 abbrev pub Says_identified : Type 0
 Says_identified = said named_by_identifier exporting_identified
-    ≡ Ok ([], (key (codes "s:s"), []) ∷ [], (identified, c.projected (c.instance 0) identified) ∷ [])
+    ≡ Ok ([], (key (codes "s:s"), []) ∷ [], (interface_name, c.projected (c.instance 0) interface_name) ∷ [])

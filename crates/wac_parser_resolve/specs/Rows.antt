@@ -53,8 +53,8 @@ access_at n m a =
     suc_of : ℕ → ℕ
     suc_of k = suc k
 
-abbrev pub export_as : t.Expr → Name → ℕ → t.Statement
-export_as e n a = t.Statement.export (record { docs = []; expr = e; options = t.ExportOptions.rename (text_at n a 3) })
+abbrev pub export_renamed : t.Expr → Name → ℕ → t.Statement
+export_renamed e n a = t.Statement.export (record { docs = []; expr = e; options = t.ExportOptions.rename (text_at n a 3) })
 
 abbrev pub plain_export : t.Expr → t.Statement
 plain_export e = t.Statement.export (record { docs = []; expr = e; options = t.ExportOptions.none })
@@ -95,7 +95,7 @@ said d ps = summary (ascribed true d ps)
 abbrev pub one_instance : t.Document
 one_instance =
     document (codes "m:m") (let_at (codes "x") 17 (new_at 21 15 (codes "p:p") 25 (fill_at 31 ∷ []))
-    ∷ export_as (access_at (codes "x") (codes "g") 45) (codes "g") 52 ∷ [])
+    ∷ export_renamed (access_at (codes "x") (codes "g") 45) (codes "g") 52 ∷ [])
 
 -- package m:m; let x = new p:p {};
 abbrev pub nothing_given : t.Document
@@ -107,7 +107,7 @@ one_into_another = document (codes "v:v")
     (let_at (codes "x") 17 (new_at 21 15 (codes "p:p") 25 (fill_at 31 ∷ []))
     ∷ let_at (codes "y") 42 (new_at 46 18 (codes "q:q") 50 (t.InstantiationArgument.named
     (t.named_argument (t.InstantiationArgumentName.ident (id_at (codes "g") 56 1)) (access_at (codes "x") (codes "g") 59)) ∷ []))
-    ∷ export_as (access_at (codes "y") (codes "h") 73) (codes "h") 80 ∷ [])
+    ∷ export_renamed (access_at (codes "y") (codes "h") 73) (codes "h") 80 ∷ [])
 
 -- package w:w; let x = new c:x { ... }; let y = new c:y { ... };
 abbrev pub two_versions : t.Document
@@ -151,8 +151,8 @@ named_by_identifier = document (codes "c:c")
     (let_at (codes "x") 17 (new_at 21 15 (codes "s:s") 25 (fill_at 31 ∷ []))
     ∷ plain_export (access_at (codes "x") (codes "i") 45) ∷ [])
 
-abbrev pub identified : Name
-identified = codes "a:b/i@1.0.0"
+abbrev pub interface_name : Name
+interface_name = codes "a:b/i@1.0.0"
 
 abbrev pub exporting_identified : List (Key × Content)
-exporting_identified = plain_package (codes "s:s") (world_of None [] [] ((identified, named_instance identified []) ∷ [])) ∷ []
+exporting_identified = plain_package (codes "s:s") (world_of None [] [] ((interface_name, named_instance interface_name []) ∷ [])) ∷ []

@@ -6,7 +6,7 @@ use Rattle.wac_types_base.specs.Stated.{Stated, Kind, IsInstance, IsComponent, k
 use Rattle.wac_types_names.specs.Keys.{Key}
 use Rattle.std.specs.List.{list_any}
 use Rattle.wac_names.specs.NameTests.{plain_test, behind_test}
-use Rattle.wac_composition.specs.Names.{is_interface_name}
+use Rattle.wac_types_names.specs.InterfaceNames.{is_interface_name}
 use Rattle.wac_parser_tree.specs.Trees as t
 use Rattle.wac_parser_tree.specs.Trees.{Span}
 use Rattle.wac_parser_refusals.specs.declared.error.InstanceOperation.{InstanceOperation}
@@ -17,7 +17,7 @@ use Rattle.wac_parser_declare.specs.Scope.{named, path_item}
 use Rattle.wac_parser_declare.specs.Declarations.{free}
 use Rattle.wac_parser_declare.specs.Interfaces.{inline_interface}
 use Rattle.wac_parser_declare.specs.Worlds.{type_statement}
-use Rattle.wac_parser_resolve.specs.Ascribing.{Origin, imported, defined, Denoted, Import, Bound, State, start, root_scope, context, bound, own_name, is_definition, same_origin, speak_of}
+use Rattle.wac_parser_resolve.specs.Ascribing.{Origin, imported, defined, Denoted, Import, Bound, State, start, root_scope, context, bound, own_name, same_origin, speak_of, is_own_definition}
 use Rattle.std.specs.Option.{option_or}
 use Rattle.wac_parser_resolve.specs.Denoting.{denote, export_named, instance_identifier, needs_instance}
 
@@ -142,7 +142,7 @@ declared_id (t.TypeStatement.ty d) = type_id d
 abbrev pub no_definition : t.Ident → Bool → Option Bound → Answer ⊤
 no_definition n helped None = pure tt
 no_definition n helped (Some b) =
-    unless_clear (is_definition b.denoted.origin) (ExportConflict n.string (desc b.denoted.item) b.span helped) n.span
+    unless_clear (is_own_definition b.denoted.origin) (ExportConflict n.string (desc b.denoted.item) b.span helped) n.span
 
 abbrev pub new_export : State → t.Ident → Bool → Option Bound → Answer ⊤
 new_export g n helped None = pure tt

@@ -9,7 +9,7 @@ ghost use Rattle.wac_parser_resolve.specs.declared.root.Root.{Root};
 ghost use Rattle.wac_parser_resolve.specs.InExpressions.{AreAccesses, IsAccess, IsMeantFor};
 ghost use Rattle.wac_parser_resolve.specs.InInstances.{IsExpression, IsFinished, IsNamedGiven, IsNewInstance, IsNewPackage, IsPrimary, IsWhole, TakesArgument, TakesArguments, instances_of};
 ghost use Rattle.wac_parser_resolve.specs.Later.{Inner, IsMore, IsWithin};
-ghost use Rattle.wac_parser_resolve.specs.Passing.{IsLater};
+ghost use Rattle.wac_parser_resolve.specs.Passing.{IsTakenLater};
 ghost use Rattle.wac_parser_resolve.specs.Standing.{AreThere};
 
 use crate::arguments::{
@@ -254,7 +254,7 @@ fn argument(
     requires world { Stands board.old.types.graph.types (ItemKind.Component world) }
     requires given { AreThere board.old.types.graph given.old.items }
     ensures given { OnOk result (AreThere board.new.types.graph given.new.items) }
-    ensures later { OnOk result (IsLater one.now → given.new.items ≡ given.old.items) }
+    ensures later { OnOk result (IsTakenLater one.now → given.new.items ≡ given.old.items) }
     ensures inner { Inner board.old.types.graph board.new.types.graph }
     ensures more { OnOk result (IsMore (instances_of board.old) (instances_of board.new)) }
     ensures outcome { TakesArgument one.now root.entry board.old world is_last given.old.items board.new given.new.items result }

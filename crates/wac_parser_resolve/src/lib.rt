@@ -19,7 +19,7 @@ ghost use Rattle.wac_types_base.specs.declared.item.ItemKind.{ItemKind};
 ghost use Rattle.wac_types_base.specs.Record.{Collection};
 ghost use Rattle.wac_types_base.specs.Stated.{stated_of};
 ghost use Rattle.wac_parser_resolve.specs.Askers.{Definitions_ask_nothing, Askers_have_places};
-ghost use Rattle.wac_parser_resolve.specs.Laws.{Packages_are_known, Packages_stay, Wirings_are_ordered, Documents_are_wired, Resolved_are_wired};
+ghost use Rattle.wac_parser_resolve.specs.Laws.{Packages_are_known, Packages_stay, Wirings_are_ordered, Documents_are_wired, Resolved_are_wired, Acceptance_is_of_trees, Wiring_is_of_trees};
 ghost use Rattle.wac_parser_resolve.specs.Proper.{Proper};
 ghost use Rattle.wac_parser_resolve.specs.Refused.{Refusals_stand};
 ghost use Rattle.wac_parser_resolve.specs.RowLaws.{Says_one, Says_missing, Says_passed, Says_mismatched, Says_merged, Says_unmerged};
@@ -70,6 +70,13 @@ pub fn stated_types_are_proper()
 pub fn documents_are_wired()
     ensures accepted { Documents_are_wired }
     ensures resolved { Resolved_are_wired }
+{}
+
+/// Whether a document is accepted, and its wiring, world and target, depend only on its tree without spans and doc comments, and
+/// on the worlds of the packages that it names.
+pub fn documents_mean_their_trees()
+    ensures accepted { Acceptance_is_of_trees }
+    ensures wired { Wiring_is_of_trees }
 {}
 
 /// A document whose statements can be said is refused for a cause that stands against its composition, or for names that

@@ -14,7 +14,7 @@ ghost use Rattle.wac_graph_core.specs.Graph.{ContainsPackage, PackageStands};
 ghost use Rattle.wac_graph_core.specs.Packages.{NoKey, Registers, key_of};
 ghost use Rattle.wac_graph_core.specs.Types.{Enlarges};
 ghost use Rattle.wac_parser_declare.specs.Packages.{SamePackages};
-ghost use Rattle.wac_parser_declare.specs.Scope as scope;
+ghost use Rattle.wac_types_names.specs.InterfaceNames.{is_interface_name};
 ghost use Rattle.wac_parser_resolve.specs.Keeping.{Keeps};
 ghost use Rattle.wac_parser_resolve.specs.Knowing.{Gets, IsDefinedBy, IsDefinedIn, IsOnlyExport, IsPackage, IsPackageOf, IsTypeOf, SameContents};
 ghost use Rattle.wac_types_base.specs.Stated.{stated_world};
@@ -178,7 +178,7 @@ fn is_interface(name: Option<NameKind>) -> bool
 
 /// Whether a text is the name of an interface.
 fn is_interface_name(alloc: Global, text: &str) -> Result<bool, AllocError>
-    ensures { IfOk result (λ b. b ≡ scope.is_interface_name text.now) }
+    ensures { IfOk result (λ b. b ≡ is_interface_name text.now) }
 {
     Ok(is_interface(component_name(alloc, text)?))
 }

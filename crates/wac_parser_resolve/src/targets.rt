@@ -9,7 +9,7 @@ ghost use Rattle.wac_types_fit.specs.TargetSteps.{AllStand, GivesStanding};
 ghost use Rattle.wac_graph_core.specs.Graph.{ContainsNode};
 ghost use Rattle.wac_parser_refusals.specs.Outcomes.{Refuses};
 ghost use Rattle.wac_parser_refusals.specs.Views.{Names};
-ghost use Rattle.wac_parser_resolve.specs.Giving.{given_by};
+ghost use Rattle.wac_parser_resolve.specs.Giving.{gives_of};
 ghost use Rattle.wac_parser_resolve.specs.InTargets.{AreAllNoted, AreExportsTested, AreFilledTested, AreInstancesMet, AreInstancesTested, AreStatementsMet, AreStatementsTested};
 ghost use Rattle.wac_parser_resolve.specs.InTargets.{IsAnswerOf, IsExportTested, IsFaultOf, IsFilledTested, IsFitTested, IsImportTested, IsInstanceTested, IsStatementTested};
 ghost use Rattle.wac_parser_resolve.specs.InTargets.{NotedIsMet, NotedMeets, NotedMeetsWorld, StandNoted, is_passed_in, lacks_export, lacks_import, mismatched_at, tells_mismatch};
@@ -138,7 +138,7 @@ impl<'p, 's, 'i, 't> Target<'p, 's, 'i, 't> {
 
     /// What the target gives under the name of an import: an implicit interface, else an import.
     fn given(&self, name: &str) -> Option<ItemKind>
-        ensures { result ≡ given_by self.now name.now }
+        ensures { result ≡ gives_of self.now name.now }
     {
         match self.implicit.get(name).copied() {
             Some(kind) => Some(kind),
@@ -162,9 +162,9 @@ impl<'p, 's, 'i, 't> Target<'p, 's, 'i, 't> {
 
     /// An import is one of the target's, and the target's fits it.
     fn import_met(&self, types: &Types, asked: Asked<'_>) -> Outcome<()>
-        requires given { GivesStanding types.now (given_by self.now) }
+        requires given { GivesStanding types.now (gives_of self.now) }
         requires asked { Stands types.now asked.kind }
-        ensures ok { OnOk result (IsImportMet types.now (given_by self.now) asked.entry.name.now asked.entry.kind) }
+        ensures ok { OnOk result (IsImportMet types.now (gives_of self.now) asked.entry.name.now asked.entry.kind) }
         ensures outcome { IsImportTested self.now types.now asked.entry result }
     {
         let place = Place {
@@ -181,9 +181,9 @@ impl<'p, 's, 'i, 't> Target<'p, 's, 'i, 't> {
 
     /// An import that a statement asks.
     fn explicit_met(&self, graph: &CompositionGraph, node: NodeId, span: SourceSpan) -> Outcome<()>
-        requires given { GivesStanding graph.now.types (given_by self.now) }
+        requires given { GivesStanding graph.now.types (gives_of self.now) }
         requires node { ContainsNode graph.now node }
-        ensures ok { OnOk result (IsStatementMet graph.now (given_by self.now) node) }
+        ensures ok { OnOk result (IsStatementMet graph.now (gives_of self.now) node) }
         ensures outcome { IsStatementTested self.now graph.now node span result }
     {
         match graph.get_import_name(node) {
@@ -207,10 +207,10 @@ impl<'p, 's, 'i, 't> Target<'p, 's, 'i, 't> {
         name: &str,
         kind: ItemKind,
     ) -> Outcome<()>
-        requires given { GivesStanding graph.now.types (given_by self.now) }
+        requires given { GivesStanding graph.now.types (gives_of self.now) }
         requires instance { ContainsNode graph.now instance }
         requires kind { Stands graph.now.types kind }
-        ensures ok { OnOk result (IsFilledMet graph.now (given_by self.now) instance name.now kind) }
+        ensures ok { OnOk result (IsFilledMet graph.now (gives_of self.now) instance name.now kind) }
         ensures outcome { IsFilledTested self.now graph.now instance name.now kind result }
     {
         if is_passed(graph, instance, name) {
@@ -231,10 +231,10 @@ impl<'p, 's, 'i, 't> Target<'p, 's, 'i, 't> {
         instance: NodeId,
         imports: &NamedMap<ItemKind>,
     ) -> Outcome<()>
-        requires given { GivesStanding graph.now.types (given_by self.now) }
+        requires given { GivesStanding graph.now.types (gives_of self.now) }
         requires instance { ContainsNode graph.now instance }
         requires imports { AllStand graph.now.types imports.now }
-        ensures ok { OnOk result (AreFilledMet graph.now (given_by self.now) instance imports.now) }
+        ensures ok { OnOk result (AreFilledMet graph.now (gives_of self.now) instance imports.now) }
         ensures outcome { AreFilledTested self.now graph.now instance imports.now result }
     {
         for at in 0..imports.len() {
@@ -247,9 +247,9 @@ impl<'p, 's, 'i, 't> Target<'p, 's, 'i, 't> {
     /// The imports that a node asks, where it is an instance.
     #[tactic(auto, using(crate::proofs::TargetMet::instance))]
     fn instance_met(&self, graph: &CompositionGraph, node: NodeId) -> Outcome<()>
-        requires given { GivesStanding graph.now.types (given_by self.now) }
+        requires given { GivesStanding graph.now.types (gives_of self.now) }
         requires node { ContainsNode graph.now node }
-        ensures ok { OnOk result (IsInstanceMet graph.now (given_by self.now) node) }
+        ensures ok { OnOk result (IsInstanceMet graph.now (gives_of self.now) node) }
         ensures outcome { IsInstanceTested self.now graph.now node result }
     {
         graph.see_sound();
@@ -265,9 +265,9 @@ impl<'p, 's, 'i, 't> Target<'p, 's, 'i, 't> {
 
     /// The imports of statements, which are noted with the places of their names, in order.
     fn statements_met(&self, graph: &CompositionGraph, imports: &Spans) -> Outcome<()>
-        requires given { GivesStanding graph.now.types (given_by self.now) }
+        requires given { GivesStanding graph.now.types (gives_of self.now) }
         requires imports { StandNoted graph.now imports.now.noted.items }
-        ensures ok { OnOk result (AreStatementsMet graph.now (given_by self.now) imports.now.noted.items) }
+        ensures ok { OnOk result (AreStatementsMet graph.now (gives_of self.now) imports.now.noted.items) }
         ensures outcome { AreStatementsTested self.now graph.now imports.now.noted.items result }
     {
         for (node, span) in imports.entries() {
@@ -278,9 +278,9 @@ impl<'p, 's, 'i, 't> Target<'p, 's, 'i, 't> {
 
     /// The imports of instances, which are noted, in order.
     fn instances_met(&self, graph: &CompositionGraph, instances: &Spans) -> Outcome<()>
-        requires given { GivesStanding graph.now.types (given_by self.now) }
+        requires given { GivesStanding graph.now.types (gives_of self.now) }
         requires instances { StandNoted graph.now instances.now.noted.items }
-        ensures ok { OnOk result (AreInstancesMet graph.now (given_by self.now) instances.now.noted.items) }
+        ensures ok { OnOk result (AreInstancesMet graph.now (gives_of self.now) instances.now.noted.items) }
         ensures outcome { AreInstancesTested self.now graph.now instances.now.noted.items result }
     {
         for (node, _) in instances.entries() {
@@ -343,7 +343,7 @@ impl<'p, 's, 'i, 't> Target<'p, 's, 'i, 't> {
         spans: &Spans,
         exports: &NamedMap<ItemKind>,
     ) -> Outcome<()>
-        requires given { GivesStanding graph.now.types (given_by self.now) }
+        requires given { GivesStanding graph.now.types (gives_of self.now) }
         requires imports { StandNoted graph.now imports.now.noted.items }
         requires instances { StandNoted graph.now instances.now.noted.items }
         requires exports { AllStand graph.now.types exports.now }

@@ -23,6 +23,7 @@ pub use Rattle.wac_types_names.specs.Lending
 pub use Rattle.wac_types_names.specs.Packaged
 pub use Rattle.wac_types_names.specs.Viewed
 pub use Rattle.wac_types_names.specs.Keys
+pub use Rattle.wac_types_names.specs.InterfaceNames
 pub use Rattle.wac_types_names.specs.Packages
 pub use Rattle.wac_types_fit.specs.Ordered
 pub use Rattle.wac_types_fit.specs.Trees

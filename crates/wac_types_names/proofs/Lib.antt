@@ -8,3 +8,5 @@ pub mod Lent
 pub mod TrackLaws
 pub mod Copied
 pub mod Defining
+pub mod InterfaceTests
+pub mod KeyTests

@@ -1,5 +1,6 @@
 -- Keys of packages: a name, and perhaps a version.
-use Rattle.std.specs.Prelude.{Option, string_bytes}
+use Rattle.std.specs.Prelude.{Bool, true, false, ◌&&◌, ◌==◌, Option, Some, None, string_bytes}
+use Rattle.std.specs.Cmp.Lexicographic.{pointwise}
 use Rattle.std.specs.Option.{option_map}
 use Rattle.semver.specs.Parse.{Parts}
 use Rattle.semver.specs.Identifiers.{parts_of}
@@ -11,6 +12,17 @@ use Rattle.wac_types_names.specs.Packaged.{Packaged}
 -- a name and a version
 abbrev pub Key : Type 0
 Key = Name × Option Parts
+
+-- two versions are one
+abbrev pub same_version : Option Parts → Option Parts → Bool
+same_version None None = true
+same_version (Some v) (Some w) =
+    (v.0 == w.0) && ((v.1 == w.1) && ((v.2 == w.2) && (pointwise ◌==◌ v.3 w.3 && pointwise ◌==◌ v.4 w.4)))
+same_version v w = false
+
+-- two keys are one
+abbrev pub same_key : Key → Key → Bool
+same_key a b = pointwise ◌==◌ a.0 b.0 && same_version a.1 b.1
 
 abbrev pub owned_key : PackageKey → Key
 owned_key k = (string_bytes k.name, option_map parts_of k.version)

@@ -8,3 +8,4 @@ pub mod Packaged
 pub mod Viewed
 pub mod Keys
 pub mod Packages
+pub mod InterfaceNames

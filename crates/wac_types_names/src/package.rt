@@ -72,10 +72,11 @@ impl Package {
         ensures grows { Grows types.old.types.now types.new.types.now }
         ensures same_reference { types.new.types.ghost_name ≡ types.old.types.ghost_name }
     {
-        let interface = interface_of(alloc, types.types(), world)?;
+        types.types().see_acyclic();
         let definitions = definitions_of(alloc, types.types(), world)?;
         let name = String::from_str(alloc, name)?;
         let version = copy_version(version)?;
+        let interface = interface_of(alloc, types.types(), world)?;
         let instance_type = types.add_interface(interface)?;
         Ok(Package {
             name,

@@ -1,6 +1,6 @@
 //! Items, with their worlds in a form.
 
-ghost use Rattle.std.specs.Prelude.{IfOk, OnOk};
+ghost use Rattle.std.specs.Prelude.{◌≡◌, IfOk, OnOk, Some, slice_get};
 ghost use Rattle.wac_types_base.specs.declared.item.ItemKind.{ItemKind as Kind};
 ghost use Rattle.wac_types_base.specs.declared.item.«Type».{«Type» as TypeKind};
 ghost use Rattle.wac_types_base.specs.Collection.{Grows, Stands};
@@ -14,7 +14,8 @@ use crate::maps::use_of;
 use crate::worlds::{WorldForm, add_formed_world};
 use std::alloc::{AllocError, Global};
 use wac_types_base::{
-    Interface, InterfaceId, ItemKind, NamedMap, Text, Type, Types, UsedType, WorldId, copy_text,
+    Interface, InterfaceId, ItemKind, NamedMap, Text, Type, Types, UsedType, World, WorldId,
+    copy_text,
 };
 
 /// What becomes of items.
@@ -68,7 +69,37 @@ fn form_uses(
     Ok(all)
 }
 
-/// What becomes of an interface: one of what its parts became.
+/// One interface of what the parts of another became.
+#[cycle(forms)]
+fn interface_of_parts(
+    types: &mut Types,
+    alloc: Global,
+    id: InterfaceId,
+    own: &Interface,
+    worlds: WorldForm,
+    forms: &mut Forms,
+) -> Result<InterfaceId, AllocError>
+    requires entry { slice_get types.old.interfaces id.index ≡ Some own.now }
+    requires number { id.collection ≡ types.old.number }
+    requires forms { AreForms (maker worlds) types.old forms.old }
+    ensures formed { IfOk result (λ i. IsFormedOf (maker worlds) types.old types.new (Kind.Instance id) (Kind.Instance i)) }
+    ensures forms { OnOk result (AreForms (maker worlds) types.new forms.new) }
+    ensures grows { Grows types.old types.new }
+{
+    types.see_acyclic();
+    let uses = form_uses(types, alloc, &own.uses, worlds, forms)?;
+    let exports = form_items(types, alloc, &own.exports, worlds, forms)?;
+    let name = copy_text(&own.id)?;
+    types.see_acyclic();
+    let form = types.add_interface(Interface {
+        id: name,
+        uses,
+        exports,
+    })?;
+    Ok(form)
+}
+
+/// What becomes of an interface.
 #[cycle(forms)]
 fn new_interface(
     types: &mut Types,
@@ -85,15 +116,7 @@ fn new_interface(
 {
     types.see_acyclic();
     let own = types.interface(id).copy(alloc)?;
-    let uses = form_uses(types, alloc, &own.uses, worlds, forms)?;
-    let exports = form_items(types, alloc, &own.exports, worlds, forms)?;
-    let name = copy_text(&own.id)?;
-    types.see_acyclic();
-    let form = types.add_interface(Interface {
-        id: name,
-        uses,
-        exports,
-    })?;
+    let form = interface_of_parts(types, alloc, id, &own, worlds, forms)?;
     Ok(form)
 }
 
@@ -121,7 +144,33 @@ fn form_interface(
     Ok(form)
 }
 
-/// What becomes of a world: one of what its parts became.
+/// One world of what the parts of another became.
+#[cycle(forms)]
+fn world_of_parts(
+    types: &mut Types,
+    alloc: Global,
+    id: WorldId,
+    own: &World,
+    worlds: WorldForm,
+    forms: &mut Forms,
+) -> Result<WorldId, AllocError>
+    requires entry { slice_get types.old.worlds id.index ≡ Some own.now }
+    requires number { id.collection ≡ types.old.number }
+    requires forms { AreForms (maker worlds) types.old forms.old }
+    ensures formed { IfOk result (λ w. IsFormedOf (maker worlds) types.old types.new (Kind.Component id) (Kind.Component w)) }
+    ensures forms { OnOk result (AreForms (maker worlds) types.new forms.new) }
+    ensures grows { Grows types.old types.new }
+{
+    types.see_acyclic();
+    let uses = form_uses(types, alloc, &own.uses, worlds, forms)?;
+    let imports = form_items(types, alloc, &own.imports, worlds, forms)?;
+    let exports = form_items(types, alloc, &own.exports, worlds, forms)?;
+    let name = copy_text(&own.id)?;
+    let form = add_formed_world(types, alloc, worlds, name, &uses, imports, exports)?;
+    Ok(form)
+}
+
+/// What becomes of a world.
 #[cycle(forms)]
 fn new_world(
     types: &mut Types,
@@ -138,11 +187,7 @@ fn new_world(
 {
     types.see_acyclic();
     let own = types.world(id).copy(alloc)?;
-    let uses = form_uses(types, alloc, &own.uses, worlds, forms)?;
-    let imports = form_items(types, alloc, &own.imports, worlds, forms)?;
-    let exports = form_items(types, alloc, &own.exports, worlds, forms)?;
-    let name = copy_text(&own.id)?;
-    let form = add_formed_world(types, alloc, worlds, name, &uses, imports, exports)?;
+    let form = world_of_parts(types, alloc, id, &own, worlds, forms)?;
     Ok(form)
 }
 

@@ -14,7 +14,7 @@ use Rattle.wac_parser_declare.specs.Packages.{Content}
 use Rattle.wac_parser_resolve.specs.declared.packages.PackageRef.{PackageRef}
 use Rattle.wac_parser_resolve.specs.Knowing.{content_of, handed_content, handed_entries, with_handed}
 use Rattle.wac_parser_resolve.proofs.Handing.{KeyEq}
-use Rattle.wac_parser_resolve.proofs.Knowing.{key_same}
+use Rattle.wac_types_names.proofs.KeyTests.{key_same}
 use Rattle.wac_workspace.specs.declared.entries.Entry.{Entry}
 use Rattle.wac_workspace.specs.Getting.{IsRefTo}
 use Rattle.wac_workspace.specs.Packages.{key_of, AreApart}

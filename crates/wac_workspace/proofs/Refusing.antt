@@ -5,19 +5,19 @@ use Rattle.wac_workspace.specs.declared.output.Output.{Output}
 use Rattle.wac_workspace.specs.declared.errors.ComposeError.{ComposeError}
 use Rattle.wac_workspace.specs.declared.errors.ComposeError.TheVariants as error
 use Rattle.wac_workspace.specs.Packages.{Held, HasKey}
-use Rattle.wac_workspace.specs.Composing.{IsMeantBy, IsOutput, IsTried, IsRefused}
-use Rattle.wac_workspace.specs.Resolving.{Handed, handed, IsAccepted}
+use Rattle.wac_workspace.specs.Composing.{CanBeComposed, IsMeantBy, IsOutput, IsRefused}
+use Rattle.wac_workspace.specs.Resolving.{Handed, handed}
 use Rattle.wac_workspace.specs.Steps.{IsUnregistered}
 
-tried : (next : ℕ) (ps : Handed) (source : List ℕ) (o : Output) → IsOutput next ps source o → IsTried next ps source IsAccepted
-tried next ps source o h = record { tree = h.tree; read = h.read; room = h.room; late = h.accepted }
+tried : (next : ℕ) (ps : Handed) (source : List ℕ) (define : Bool) (o : Output) → IsOutput next ps source define o → CanBeComposed next ps source define
+tried next ps source define o h = record { tree = h.tree; read = h.read; room = h.room; accepted = h.accepted }
 
-pub unregistered : (w : Held) (source : List ℕ) (define : Bool) (o : Output) (e : ComposeError) → define ≡ true → IsOutput w.next (handed w.packages) source o → IsMeantBy (handed w.packages) source o.bytes.items → IsUnregistered w o e → IsRefused w source define e
+pub unregistered : (w : Held) (source : List ℕ) (define : Bool) (o : Output) (e : ComposeError) → define ≡ true → IsOutput w.next (handed w.packages) source define o → IsMeantBy (handed w.packages) source o.bytes.items → IsUnregistered w o e → IsRefused w source define e
 unregistered w source define o (error.Parse x) d h means f = absurd f
 unregistered w source define o error.NumbersExhausted d h means f = absurd f
 unregistered w source define o (error.Resolution x) d h means f = absurd f
 unregistered w source define o (error.Target x) d h means f = absurd f
-unregistered w source define o error.KeyTaken d h means f = (d, tried w.next (handed w.packages) source o h, (h.tree, h.read, subst (λ (k : Key). HasKey w.packages k) h.key f))
+unregistered w source define o error.KeyTaken d h means f = (d, tried w.next (handed w.packages) source define o h, (h.tree, h.read, subst (λ (k : Key). HasKey w.packages k) h.key f))
 unregistered w source define o error.BytesTaken d h means f =
-    (d, tried w.next (handed w.packages) source o h, (h.tree, h.read, λ k. f.0 (subst (λ (k : Key). HasKey w.packages k) (sym h.key) k)), (o.bytes.items, f.1, means))
+    (d, tried w.next (handed w.packages) source define o h, (h.tree, h.read, λ k. f.0 (subst (λ (k : Key). HasKey w.packages k) (sym h.key) k)), (o.bytes.items, f.1, means))
 unregistered w source define o error.Memory d h means f = tt

@@ -1,5 +1,5 @@
 -- What is answered of a document over packages.
-use Rattle.std.specs.Prelude.{IfErr}
+use Rattle.std.specs.Prelude.{IfErr, OnOk}
 use Rattle.std.proofs.Common.{◌≡◌, ℕ, Bool, List, Option, Some, None, Result, Ok, Err, IfOk, true, false, refl, sym, subst, ◌∙◌, inl, inr}
 use Rattle.wac_types_base.specs.declared.ids.WorldId.{WorldId}
 use Rattle.wac_types_base.specs.Entries.{Name}
@@ -10,9 +10,12 @@ use Rattle.wac_graph_encode.specs.declared.options.Encoded.{Encoded}
 use Rattle.wac_graph_encode.specs.Finished.{MeansImported, MeansNested}
 use Rattle.wac_parser_tree.specs.Trees as t
 use Rattle.wac_parser_refusals.specs.declared.error.Error.{Error}
-use Rattle.wac_parser_refusals.specs.Causes.{Cause}
+use Rattle.wac_parser_refusals.specs.Causes.{Answer, Cause, ◌>>=◌, ◌>>◌, pure}
 use Rattle.wac_parser_refusals.specs.Outcomes.{IsHeld, IsMemory}
 use Rattle.wac_parser_refusals.specs.Views.{cause_of}
+use Rattle.wac_composition.specs.Composition.{Composition}
+use Rattle.wac_composition.specs.Conflicts.{first_cause, name_cause}
+use Rattle.wac_parser_resolve.specs.Ascribed.{Asker, ascribed, composition, unless_cause}
 use Rattle.wac_parser_resolve.specs.Ascribing.{State}
 use Rattle.wac_parser_resolve.specs.InDocuments.{HoldsAll, IsBuilt, IsErrorOf}
 use Rattle.wac_parser_resolve.specs.InTargets.{HoldsTarget}
@@ -20,19 +23,27 @@ use Rattle.wac_parser_resolve.specs.Meeting.{resolved}
 use Rattle.wac_parser_resolve.specs.Resolved.{Places}
 use Rattle.wac_types_base.specs.Record.{Collection}
 use Rattle.wac_parser_encode.specs.Meaning.{HasResolvedWorld, ImportsResolved, MeansResolved}
-use Rattle.wac_parser_encode.specs.Refused.{TellsCause, TellsFirst}
+use Rattle.wac_parser_encode.specs.Refused.{CanBeEncoded, HasNoCause, TellsCause, TellsFirst}
 use Rattle.wac_workspace.specs.Composing.{ImportsSaid, AreAscribedBytes, AreImportingBytes, IsImporting, IsMeant, MeansSaid}
 use Rattle.wac_workspace.specs.declared.output.Output.{Output}
 use Rattle.wac_workspace.specs.declared.errors.ComposeError.{ComposeError}
 use Rattle.wac_workspace.specs.declared.errors.ComposeError.TheVariants as error
 use Rattle.wac_workspace.specs.Faults.{IsResolving}
 use Rattle.wac_workspace.specs.Resolving.{FailsIf, Handed, Resolves, IsAccepted, IsComposition, IsGraphOf, IsLate, IsOfResolving, IsTargetUnmet, NamesFirst}
-use Rattle.wac_workspace.specs.Steps.{FailsIn, IsAfterwards, IsUnmet, MeetsTarget}
+use Rattle.wac_workspace.specs.Steps.{FailsIn, IsAfterwards, IsUnmet, MeetsTargetOf}
 use Rattle.wac_workspace.specs.Targets.{Meets, MeetsIf}
 
-pub accepted : {B : Type 0} (holds : State × Option Stated → B → Type 0) (q : Resolves) (b : B) → IsHeld holds q b → IsAccepted q
-accepted holds (Ok s) b h = tt
-accepted holds (Err c) b h = absurd h
+-- a document that is resolved, and what it says has no cause
+ascribed_is : (define : Bool) (d : t.Document) (ps : Handed) (s : State × Option Stated) → resolved d ps ≡ Ok s → HasNoCause define true s.0 → IsAccepted (ascribed define d ps)
+ascribed_is define d ps s is none = subst (λ (q : Resolves). IsAccepted (q >>= after)) (sym is)
+    (subst (λ o. IsAccepted (unless_cause o >> (unless_cause (name_cause define true (composition s.0)) >> said s))) (sym none.cause)
+    (subst (λ o. IsAccepted (unless_cause o >> said s)) (sym none.alike) tt))
+  where
+    said : State × Option Stated → Answer (Composition Asker ℕ × Option Stated)
+    said r = pure (composition r.0, r.1)
+
+    after : State × Option Stated → Answer (Composition Asker ℕ × Option Stated)
+    after r = unless_cause (first_cause define (composition r.0)) >> (unless_cause (name_cause define true (composition r.0)) >> said r)
 
 -- a graph that is built is the document's
 pub graph_held : {B : Type 0} (graph : B → Graph) (places : B → Places) (target : B → Option WorldId) (q : Resolves) (b : B) (g : Graph) → g ≡ graph b
@@ -82,7 +93,7 @@ module _ (d : t.Document) (ps : Handed) (g : Graph) (at : Places) (s : State) (b
   failing (Some w) (Some t) is held f =
       record { types = f.types; world = f.world; states = f.states d ps (s, Some w) at is built; unmet = subst (λ (x : Stated). Meets x (stated_world f.types f.world) → ⊥) held.same f.unmet }
 
-meeting : (g : Graph) (types : Collection) (world : WorldId) (o : Option Stated) (t : Option WorldId) → HoldsTarget g.types o t → MeetsTarget g t types world → MeetsIf o (stated_world types world)
+meeting : (g : Graph) (types : Collection) (world : WorldId) (o : Option Stated) (t : Option WorldId) → HoldsTarget g.types o t → MeetsTargetOf g t types world → MeetsIf o (stated_world types world)
 meeting g types world None None held m = tt
 meeting g types world None (Some t) held m = absurd held
 meeting g types world (Some w) None held m = absurd held
@@ -107,6 +118,18 @@ module _ {B : Type 0} (graph : B → Graph) (places : B → Places) (target : B 
       → IsHeld (λ s (b : B). HoldsAll s (graph b) (places b) (target b)) (resolved d ps) b → IfErr r (IsAfterwards (graph b) (places b) (target b) options) → IfErr r (IsLate options.define_components (resolved d ps))
   late_afterwards d ps b options (Ok a) validate built h = tt
   late_afterwards d ps b options (Err e) validate built h = late_of d ps b options e validate (resolved d ps) refl built h
+
+  -- what is encoded has no cause
+  free_of : (d : t.Document) (ps : Handed) (b : B) (options : EncodeOptions) → options.validate ≡ true → (q : Resolves) → resolved d ps ≡ q
+      → IsHeld (λ s (b : B). HoldsAll s (graph b) (places b) (target b)) q b → CanBeEncoded (graph b) options → IsAccepted (ascribed options.define_components d ps)
+  unfolding CanBeEncoded
+  free_of d ps b options validate (Err c) is built h = absurd built
+  free_of d ps b options validate (Ok s) is built h = ascribed_is options.define_components d ps s is (subst (λ (v : Bool). HasNoCause options.define_components v s.0) validate (h (places b) d ps s is built.0))
+
+  pub accepted : {A E : Type 0} (d : t.Document) (ps : Handed) (b : B) (options : EncodeOptions) (r : Result A E) → options.validate ≡ true
+      → IsHeld (λ s (b : B). HoldsAll s (graph b) (places b) (target b)) (resolved d ps) b → OnOk r (CanBeEncoded (graph b) options) → OnOk r (IsAccepted (ascribed options.define_components d ps))
+  accepted d ps b options (Ok a) validate built h = free_of d ps b options validate (resolved d ps) refl built h
+  accepted d ps b options (Err e) validate built h = tt
 
 -- the bytes of a graph that holds what is resolved
 pub meant : {E : Type 0} (d : t.Document) (ps : Handed) (g : Graph) (r : Result Encoded E) (options : EncodeOptions) → IsGraphOf (resolved d ps) g → IfOk r (λ e. MeansNested g options e.bytes.items)
@@ -140,7 +163,7 @@ importing_named a b q xs ys same bytes h = λ define. subst (λ (zs : List ℕ).
 -- the world of a graph that holds what is resolved, which meets its target
 module _ {B : Type 0} (graph : B → Graph) (places : B → Places) (target : B → Option WorldId) where
   pub composed : {E : Type 0} (d : t.Document) (ps : Handed) (b : B) (r : Result Encoded E) → IsHeld (λ s (b : B). HoldsAll s (graph b) (places b) (target b)) (resolved d ps) b
-      → IfOk r (λ e. HasResolvedWorld (graph b) e.types e.world) → IfOk r (λ e. MeetsTarget (graph b) (target b) e.types e.world) → IfOk r (λ e. IsComposition (resolved d ps) e.types e.world)
+      → IfOk r (λ e. HasResolvedWorld (graph b) e.types e.world) → IfOk r (λ e. MeetsTargetOf (graph b) (target b) e.types e.world) → IfOk r (λ e. IsComposition (resolved d ps) e.types e.world)
   unfolding HasResolvedWorld IsComposition
   composed d ps b (Err f) built world met = tt
   composed d ps b (Ok e) built world met = by (resolved d ps) refl built

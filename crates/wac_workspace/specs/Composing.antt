@@ -13,6 +13,7 @@ use Rattle.wac_parser_grammar.specs.Documents.{document}
 use Rattle.wac_parser_grammar.specs.Reads.{read_source}
 use Rattle.wac_parser_grammar.specs.Faults.{fault_of}
 use Rattle.wac_parser_resolve.specs.InDocuments.{IsErrorOf}
+use Rattle.wac_parser_resolve.specs.Ascribed.{ascribed}
 use Rattle.wac_parser_resolve.specs.Meeting.{resolved}
 use Rattle.wac_parser_encode.specs.Meaning.{ImportsAscribed, MeansAscribed}
 use Rattle.wac_workspace.specs.declared.output.Output.{Output}
@@ -53,12 +54,12 @@ abbrev pub RegistersIf : (define : Bool) → Held → Held → Output → Type 0
 RegistersIf true old new o = Registers old (record new { next = old.next }) o
 RegistersIf false old new o = new.packages ≡ old.packages
 
--- The source is a document that these packages resolve, and the output has its directive's key and its world, which meets the
--- target that is named, under the last of the next three numbers.
-pub record IsOutput (next : ℕ) (ps : Handed) (source : List ℕ) (o : Output) : Type 0 where
+-- The source is a document against which no cause stands over these packages, and the output has its directive's key and its
+-- world, which meets the target that is named, under the last of the next three numbers.
+pub record IsOutput (next : ℕ) (ps : Handed) (source : List ℕ) (define : Bool) (o : Output) : Type 0 where
   pub tree : Document
   pub read : IsDocument source tree
-  pub accepted : IsAccepted (resolved tree ps)
+  pub accepted : IsAccepted (ascribed define tree ps)
   pub room : next + 3 ≤ greatest
   pub key : output_key o ≡ directive_key tree
   pub number : o.types.number ≡ next + 2
@@ -121,7 +122,7 @@ ImportsSource options ps source bytes = options.define_components ≡ false → 
 
 -- The source is composed: three numbers are taken, and the output is kept.
 pub record ComposesSource (old new : Held) (source : List ℕ) (define : Bool) (o : Output) : Type 0 where
-  pub output : IsOutput old.next (handed old.packages) source o
+  pub output : IsOutput old.next (handed old.packages) source define o
   pub next : new.next ≡ old.next + 3
   pub kept : RegistersIf define old new o
 
@@ -135,6 +136,13 @@ pub record IsTried (next : ℕ) (ps : Handed) (source : List ℕ) (P : Resolves 
 -- the document that the source is has a key of this kind
 abbrev pub WithKey : List ℕ → (Key → Type 0) → Type 0
 WithKey source P = (d : Document) × IsDocument source d × P (directive_key d)
+
+-- the source is a document against which no cause stands, and there are three more numbers
+pub record CanBeComposed (next : ℕ) (ps : Handed) (source : List ℕ) (define : Bool) : Type 0 where
+  pub tree : Document
+  pub read : IsDocument source tree
+  pub room : next + 3 ≤ greatest
+  pub accepted : IsAccepted (ascribed define tree ps)
 
 -- the graph holds what the document says that the source is
 abbrev pub IsGraphed : Handed → List ℕ → Graph → Type 0
@@ -164,8 +172,10 @@ MeansHanded w source = (bytes : List ℕ) × HasHanded w.packages bytes × IsMea
 -- The causes of a refusal, in their order: that of the source, its key, its bytes.
 abbrev pub IsRefused : Held → List ℕ → (define : Bool) → ComposeError → Type 0
 IsRefused w source define error.KeyTaken =
-    (define ≡ true) × IsTried w.next (handed w.packages) source IsAccepted × WithKey source (HasKey w.packages)
+    (define ≡ true) × CanBeComposed w.next (handed w.packages) source define × WithKey source (HasKey w.packages)
 IsRefused w source define error.BytesTaken =
-    (define ≡ true) × IsTried w.next (handed w.packages) source IsAccepted × WithKey source (λ k. HasKey w.packages k → ⊥)
+    (define ≡ true)
+    × CanBeComposed w.next (handed w.packages) source define
+    × WithKey source (λ k. HasKey w.packages k → ⊥)
     × MeansHanded w source
 IsRefused w source define e = IsUnmade w.next (handed w.packages) source define e

@@ -13,6 +13,7 @@ use Rattle.wac_parser_refusals.specs.Causes.{Answer}
 use Rattle.wac_parser_refusals.specs.Outcomes.{IsHeld, Tells}
 use Rattle.wac_parser_refusals.specs.Views.{cause_of}
 use Rattle.wac_parser_declare.specs.Packages.{Content}
+use Rattle.wac_parser_resolve.specs.Ascribed.{ascribed}
 use Rattle.wac_parser_resolve.specs.Ascribing.{State}
 use Rattle.wac_parser_resolve.specs.InDocuments.{IsBuilt, IsErrorOf}
 use Rattle.wac_parser_resolve.specs.declared.packages.PackageRef.{PackageRef}
@@ -51,9 +52,13 @@ abbrev pub IsGraphOf : Resolves → Graph → Type 0
 IsGraphOf q g = IsHeld (λ (s : State × Option Stated) (g : Graph). (at : Places) × IsBuilt g at s.0) q g
 
 -- no cause stands against the document
-abbrev pub IsAccepted : Resolves → Type 0
-IsAccepted (Ok s) = Unit {0}
+abbrev pub IsAccepted : {A : Type 0} → Answer A → Type 0
+IsAccepted (Ok x) = Unit {0}
 IsAccepted (Err c) = ⊥
+
+-- nor against encoding what it says over packages that are lent, with components defined or not
+abbrev pub Accepts : {S : Type 0} → (define : Bool) → Document → IndexMap BorrowedPackageKey PackageRef S → Type 0
+Accepts define d ps = IsAccepted (ascribed define d (handed_list ps))
 
 -- The error names the first cause that stands against the document; where none does, the first one that stands against encoding
 -- what it says, with components defined or not, and with names tested.

@@ -48,9 +48,9 @@ IsUnmet t w error.Memory = Unit {0}
 IsUnmet t w e = ⊥
 
 -- the component of a graph meets the target, if there is one
-abbrev pub MeetsTarget : Graph → Option WorldId → Collection → WorldId → Type 0
-MeetsTarget g None types world = Unit {0}
-MeetsTarget g (Some t) types world = Meets (stated_world g.types t) (stated_world types world)
+abbrev pub MeetsTargetOf : Graph → Option WorldId → Collection → WorldId → Type 0
+MeetsTargetOf g None types world = Unit {0}
+MeetsTargetOf g (Some t) types world = Meets (stated_world g.types t) (stated_world types world)
 
 -- a world states what the graph holds, and does not meet the target
 pub record FailsTargetIn (g : Graph) (target : WorldId) : Type 0 where

@@ -13,11 +13,12 @@ ghost use Rattle.wac_parser_resolve.specs.Resolved.{graph_of, places_of, target_
 ghost use Rattle.wac_parser_resolve.specs.Targeting.{IsTarget};
 ghost use Rattle.wac_graph_encode.specs.Finished.{MeansImported, MeansNested};
 ghost use Rattle.wac_parser_encode.specs.Meaning.{HasResolvedWorld, ImportsResolved, MeansResolved};
+ghost use Rattle.wac_parser_encode.specs.Refused.{CanBeEncoded};
 ghost use Rattle.wac_workspace.specs.Composing.{greatest, ImportsSaid, ImportsSource, IsUnmade, IsOutput, IsGraphed, IsUnresolved, MeansSaid, MeansSource};
 ghost use Rattle.wac_workspace.specs.Packages.{AreApart};
 ghost use Rattle.wac_workspace.specs.View.{HasWorld};
-ghost use Rattle.wac_workspace.specs.Resolving.{handed, says, IsGraphOf, IsAccepted, IsComposition, IsLate, IsOfResolving};
-ghost use Rattle.wac_workspace.specs.Steps.{AreNext, IsPair, IsEncoded, IsUnmet, IsAfterwards, IsNamedOutput, IsOf, IsUnencoded, MeetsTarget};
+ghost use Rattle.wac_workspace.specs.Resolving.{handed, says, Accepts, IsGraphOf, IsComposition, IsLate, IsOfResolving};
+ghost use Rattle.wac_workspace.specs.Steps.{AreNext, IsPair, IsEncoded, IsUnmet, IsAfterwards, IsNamedOutput, IsOf, IsUnencoded, MeetsTargetOf};
 ghost use Rattle.wac_types_base.specs.Stated.{stated_world};
 ghost use Rattle.wac_workspace.specs.Targets.{Meets};
 
@@ -159,7 +160,8 @@ fn encode_resolved<'d, D: Drop>(
     ensures ascribed { IfOk result (λ e. MeansResolved (graph_of resolution.entry) options e.bytes.items) }
     ensures imported { IfOk result (λ e. ImportsResolved (graph_of resolution.entry) options e.bytes.items) }
     ensures resolved { IfOk result (λ e. HasResolvedWorld (graph_of resolution.entry) e.types e.world) }
-    ensures target { IfOk result (λ e. MeetsTarget (graph_of resolution.entry) (target_of resolution.entry) e.types e.world) }
+    ensures free { OnOk result (CanBeEncoded (graph_of resolution.entry) options) }
+    ensures target { IfOk result (λ e. MeetsTargetOf (graph_of resolution.entry) (target_of resolution.entry) e.types e.world) }
     ensures late { IfErr result
         (IsAfterwards (graph_of resolution.entry) (places_of resolution.entry) (target_of resolution.entry) options) }
 {
@@ -185,7 +187,7 @@ fn encode_document(
     ensures means { IfOk result (λ e. MeansSaid options (says (view_document document.now) «packages».now) e.bytes.items) }
     ensures imports { IfOk result
         (λ e. ImportsSaid options (says (view_document document.now) «packages».now) e.bytes.items) }
-    ensures accepted { IfOk result (λ _. IsAccepted (says (view_document document.now) «packages».now)) }
+    ensures accepted { OnOk result (Accepts options.define_components (view_document document.now) «packages».now) }
     ensures composed { IfOk result (λ e. IsComposition (says (view_document document.now) «packages».now) e.types e.world) }
     ensures late { IfErr result (IsLate options.define_components (says (view_document document.now) «packages».now)) }
 {
@@ -238,7 +240,7 @@ fn compose_document(
         (λ r. MeansSaid options (says (view_document document.now) «packages».now) r.0.bytes.items) }
     ensures imports { IfOk result
         (λ r. ImportsSaid options (says (view_document document.now) «packages».now) r.0.bytes.items) }
-    ensures accepted { IfOk result (λ _. IsAccepted (says (view_document document.now) «packages».now)) }
+    ensures accepted { OnOk result (Accepts options.define_components (view_document document.now) «packages».now) }
     ensures composed { IfOk result
         (λ r. IsComposition (says (view_document document.now) «packages».now) r.0.types r.0.world) }
     ensures after { IfOk result (λ r. r.1 ≡ next + 3) }
@@ -293,7 +295,7 @@ trait ComposeDocument: Sized + Drop {
         ensures output { IfOk result (λ r. IsOf next (stated self.now).directive.«package» r.0) }
         ensures means { IfOk result (λ r. MeansSaid options (says (stated self.now) «packages».now) r.0.bytes.items) }
         ensures imports { IfOk result (λ r. ImportsSaid options (says (stated self.now) «packages».now) r.0.bytes.items) }
-        ensures accepted { IfOk result (λ _. IsAccepted (says (stated self.now) «packages».now)) }
+        ensures accepted { OnOk result (Accepts options.define_components (stated self.now) «packages».now) }
         ensures composed { IfOk result (λ r. IsComposition (says (stated self.now) «packages».now) r.0.types r.0.world) }
         ensures after { IfOk result (λ r. r.1 ≡ next + 3) }
         ensures refused { IfErr result
@@ -333,7 +335,7 @@ fn compose_whole<D: ComposeDocument>(
     ensures output { IfOk result (λ r. IsOf next (D.stated document).directive.«package» r.0) }
     ensures means { IfOk result (λ r. MeansSaid options (says (D.stated document) «packages».now) r.0.bytes.items) }
     ensures imports { IfOk result (λ r. ImportsSaid options (says (D.stated document) «packages».now) r.0.bytes.items) }
-    ensures accepted { IfOk result (λ _. IsAccepted (says (D.stated document) «packages».now)) }
+    ensures accepted { OnOk result (Accepts options.define_components (D.stated document) «packages».now) }
     ensures composed { IfOk result (λ r. IsComposition (says (D.stated document) «packages».now) r.0.types r.0.world) }
     ensures after { IfOk result (λ r. r.1 ≡ next + 3) }
     ensures refused { IfErr result (IsUnencoded next options.define_components (says (D.stated document) «packages».now)) }
@@ -363,7 +365,7 @@ fn compose_source(
     next: u64,
     options: EncodeOptions,
 ) -> Result<(Output, u64), ComposeError>
-    ensures output { IfOk result (λ r. IsOutput next (handed_list «packages».now) source.now r.0) }
+    ensures output { IfOk result (λ r. IsOutput next (handed_list «packages».now) source.now options.define_components r.0) }
     ensures means { IfOk result (λ r. MeansSource options (handed_list «packages».now) source.now r.0.bytes.items) }
     ensures imports { IfOk result (λ r. ImportsSource options (handed_list «packages».now) source.now r.0.bytes.items) }
     ensures after { IfOk result (λ r. r.1 ≡ next + 3) }
@@ -383,7 +385,7 @@ fn compose_over(
 ) -> Result<(Output, u64), ComposeError>
     requires worlds { All HasWorld entries.now }
     requires apart { AreApart entries.now }
-    ensures output { IfOk result (λ r. IsOutput next (handed entries.now) source.now r.0) }
+    ensures output { IfOk result (λ r. IsOutput next (handed entries.now) source.now options.define_components r.0) }
     ensures means { IfOk result (λ r. MeansSource options (handed entries.now) source.now r.0.bytes.items) }
     ensures imports { IfOk result (λ r. ImportsSource options (handed entries.now) source.now r.0.bytes.items) }
     ensures after { IfOk result (λ r. r.1 ≡ next + 3) }

@@ -113,8 +113,8 @@ abbrev pub import_unwritable : Test → Held → Name × ItemKind → Bool
 import_unwritable t h e = item_unwritable t.types.now t.is_outer e.0 e.1 h
 
 -- the place of the first import that cannot be written in what the holder has
-abbrev pub TellsFirst : Test → Holder → WorldId → Option ℕ → Type 0
-TellsFirst t s w o =
+abbrev pub TellsFirstUnwritten : Test → Holder → WorldId → Option ℕ → Type 0
+TellsFirstUnwritten t s w o =
     KnowsAll t.types.now t.unnamed.now → (h : Held) → Holds t.types.now s h
     → IsFirst (import_unwritable t h) (imports_in t.types.now w) o
 

@@ -8,10 +8,10 @@ ghost use Rattle.wac_types_base.specs.Collection.{Stands};
 ghost use Rattle.wac_writable.specs.Holders.{Keeps, resource_in};
 ghost use Rattle.wac_writable.specs.Values.{IsHandleOf, TellsRoot, TellsUnused, TellsValue, TellsPlaces, value_in_slot};
 ghost use Rattle.wac_writable.specs.Items.{IsSimple, module_unwritable};
-ghost use Rattle.wac_writable.specs.Tests.{TellsFound, TellsOf, TellsUngiven, TellsTested, TellsExports, TellsInterface};
+ghost use Rattle.wac_writable.specs.Tests.{TellsFound, TellsOf, TellsUngiven, TellsTested, TellsExports, TellsInterface, TellsFirstUnwritten};
 ghost use Rattle.wac_writable.specs.Tests.{is_tested, wrapped_in, stands_in, TellsGivenBy};
 ghost use Rattle.wac_writable.specs.Tests.{TellsImports, TellsWorldExports, TellsItems, TellsItemsOfWorld, TellsWorld};
-ghost use Rattle.wac_writable.specs.Tests.{TellsAlone, TellsFirst, TellsOuter, TellsWrapped, TellsDefinition, TellsPackage};
+ghost use Rattle.wac_writable.specs.Tests.{TellsAlone, TellsOuter, TellsWrapped, TellsDefinition, TellsPackage};
 ghost use Rattle.wac_writable.specs.Givers.{TellsImported, TellsAdded, TellsUse, TellsAt, TellsDirect, TellsNeeded};
 ghost use Rattle.wac_writable.specs.Givers.{TellsWorldUses, TellsUsesOfImports, TellsUsesOfExports, TellsAllUses};
 ghost use Rattle.wac_writable.specs.Givers.{TellsUsesOfWorld, TellsWrappedUses};
@@ -637,7 +637,7 @@ fn first_that_fails(
     holder: &mut Holder,
     world: WorldId,
 ) -> Result<Option<usize>, AllocError>
-    ensures { IfOk result (TellsFirst test.entry holder.old world) }
+    ensures { IfOk result (TellsFirstUnwritten test.entry holder.old world) }
 {
     for at in 0..import_count(test.types, world) {
         if let Some(item) = import_at(test.types, world, at) {

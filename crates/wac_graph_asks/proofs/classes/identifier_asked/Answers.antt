@@ -2,8 +2,8 @@ use Rattle.std.proofs.Common.{Bool, None, sym, ap, ◌∙◌}
 use Rattle.std.specs.Prelude.{◌&&◌, if◌then◌else◌}
 use Rattle.wac_types_base.specs.declared.item.ItemKind.{ItemKind}
 use Rattle.wac_types_base.specs.Stated.{kind_of, stated_of, identifier_of}
-use Rattle.wac_composition.specs.Names.{is_interface_name}
-use Rattle.wac_composition.specs.Classes.{is_instance}
+use Rattle.wac_types_names.specs.InterfaceNames.{is_interface_name}
+use Rattle.wac_composition.specs.Classes.{is_instance_kind}
 use Rattle.wac_graph_asks.proofs.Identified.{asked_other, asked_instance, no_instance}
 use Rattle.wac_graph_asks.proofs.classes.identifier_asked.Goals as goal
 
@@ -19,4 +19,4 @@ returns-then-branch c =
     c.identifier.ensures
     ∙ ap (λ (b : Bool). if b then identifier_of (stated_of t id) else None) named
     ∙ sym (asked_instance t c.see_acyclic.ensures c.in-Instance.id (is_interface_name c.args.ask.now.name))
-    ∙ ap (λ (k : ItemKind). if is_instance (kind_of (stated_of t k)) && is_interface_name c.args.ask.now.name then identifier_of (stated_of t k) else None) (sym c.in-Instance.is)
+    ∙ ap (λ (k : ItemKind). if is_instance_kind (kind_of (stated_of t k)) && is_interface_name c.args.ask.now.name then identifier_of (stated_of t k) else None) (sym c.in-Instance.is)

@@ -1,6 +1,6 @@
 use Rattle.std.proofs.Common.{subst}
 use Rattle.wac_types_base.proofs.Loops.{get-place, take-all}
-use Rattle.wac_graph_causes.specs.Spelling.{AreKept}
+use Rattle.wac_graph_causes.specs.Spelling.{SpellsSeen}
 use Rattle.wac_graph_causes.proofs.SpellingLaws.{kept_more, kept_none}
 use Rattle.wac_graph_causes.proofs.spelling.names_called.Goals as goal
 
@@ -17,4 +17,4 @@ loop-one-preserved c =
 pub returns : goal.returns
 returns c =
     let called = c.args.called.now in
-    subst (λ l. AreKept c.args.types.now c.args.world l called c.loop-one.kept) (take-all called c.loop-one.one-index c.loop-one-test.false) c.loop-one.invariant
+    subst (λ l. SpellsSeen c.args.types.now c.args.world l called c.loop-one.kept) (take-all called c.loop-one.one-index c.loop-one-test.false) c.loop-one.invariant

@@ -9,7 +9,7 @@ use Rattle.wac_parser_refusals.proofs.Outcomes.{refused_outcome}
 use Rattle.wac_parser_resolve.specs.declared.arguments.Given.{Given}
 use Rattle.wac_parser_resolve.specs.Denoting.{argument_fits}
 use Rattle.wac_parser_resolve.specs.Holding.{InTurn, IsGiven}
-use Rattle.wac_parser_resolve.specs.InInstances.{SaysMade, bare, with_argument, with_arguments}
+use Rattle.wac_parser_resolve.specs.InInstances.{SaysMade, just_made, with_argument, with_arguments}
 use Rattle.wac_parser_resolve.proofs.Accesses.{held_any}
 use Rattle.wac_parser_resolve.proofs.Growing.{Inner-refl, Inner-trans, within_refl, within_trans}
 use Rattle.wac_parser_resolve.proofs.PassedAll.{ArePassedSo, answered, passed_at, passed_end, passed_first, passed_next, passed_step, passed_stops}
@@ -38,7 +38,7 @@ loop-one-preserved c = record {
       let left = drop (c.loop-one.one-index + 1) c.deref-one-items.result.now in
       let so = passed_at g noted c.args.instance names s k w at gs c.loop-one.graph c.deref-one-items.result.now c.loop-one.one-index x c.loop-one-test.true c.one-item.is (c.loop-one.invariant.rest noted names s k w at gs says given) in
       let next = passed_next g noted c.args.instance names s k w at gs c.loop-one.graph x left given.apart so in
-      let m = with_arguments (bare k w at) so.done in
+      let m = with_arguments (just_made k w at) so.done in
       let held = c.in_ok-pass.ensures.outcome noted names s m next.one so.says (given_stays g c.loop-one.graph c.loop-one.invariant.inner.later ms ms (λ i j e. e) next.one x next.given) next.new in
       passed_step g noted c.args.instance names s k w at gs c.loop-one.graph x left given.apart so c.pass.new.graph next
       (held_any (argument_fits k w (tt {0}) next.one) (λ (v : ⊤). SaysMade c.pass.new.graph noted c.args.instance names s (with_argument m next.one)) (tt {0}) held)
@@ -53,9 +53,9 @@ returns-in_err-pass-clause-outcome c noted names s k w at gs says given =
     let left = drop (c.loop-one.one-index + 1) c.deref-one-items.result.now in
     let so = passed_at g noted c.args.instance names s k w at gs c.loop-one.graph c.deref-one-items.result.now c.loop-one.one-index x c.loop-one-test.true c.one-item.is (c.loop-one.invariant.rest noted names s k w at gs says given) in
     let next = passed_next g noted c.args.instance names s k w at gs c.loop-one.graph x left given.apart so in
-    let m = with_arguments (bare k w at) so.done in
+    let m = with_arguments (just_made k w at) so.done in
     let r = c.in_err-pass.ensures.outcome noted names s m next.one so.says (given_stays g c.loop-one.graph c.loop-one.invariant.inner.later ms ms (λ i j e. e) next.one x next.given) next.new in
-    refused_outcome (λ (u v : ⊤). SaysMade c.pass.new.graph noted c.args.instance names s (with_arguments (bare k w at) gs)) (each (argument_fits k w) (tt {0}) gs) _ _ c.from_residual.ensures.1
+    refused_outcome (λ (u v : ⊤). SaysMade c.pass.new.graph noted c.args.instance names s (with_arguments (just_made k w at) gs)) (each (argument_fits k w) (tt {0}) gs) _ _ c.from_residual.ensures.1
     (passed_stops g noted c.args.instance names s k w at gs c.loop-one.graph x left given.apart so next c.in_err-pass.field-0.0 r)
 
 pub returns-clause-outcome : goal.returns-clause-outcome

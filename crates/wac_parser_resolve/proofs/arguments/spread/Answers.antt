@@ -6,7 +6,7 @@ use Rattle.wac_types_base.specs.Record.{Collection}
 use Rattle.wac_types_base.specs.Collection.{IsAcyclic}
 use Rattle.wac_types_base.specs.Entries.{names_of, texts_of, value_at}
 use Rattle.wac_types_base.specs.Stated.{exports_of, kind_of}
-use Rattle.wac_composition.specs.Classes.{is_instance}
+use Rattle.wac_composition.specs.Classes.{is_instance_kind}
 use Rattle.wac_parser_tree.specs.Views.{view_ident}
 use Rattle.wac_parser_refusals.specs.declared.error.InstanceOperation.{InstanceOperation}
 use Rattle.wac_parser_refusals.specs.Causes.{Answer, ◌>>◌, SpreadInstantiationNoMatch}
@@ -35,7 +35,7 @@ returns-then-is_empty-clause-outcome c noted q says =
     (c.in_ok-node.ensures.outcome ms q.0 says.0.root)
     (λ d dn.
     let h = held_any (asks_instance d.item InstanceOperation.Spread i.span) (λ (x : InterfaceId). Holds g.types d.item (ItemKind.Instance x)) c.in_ok-interface.interface (c.in_ok-interface.ensures.outcome d.item dn.item) in
-    let one : is_instance (kind_of d.item) ≡ true = is_one g.types acyclic d.item (ItemKind.Instance c.in_ok-interface.interface) h in
+    let one : is_instance_kind (kind_of d.item) ≡ true = is_one g.types acyclic d.item (ItemKind.Instance c.in_ok-interface.interface) h in
     let names : texts_of c.in_ok-names.names.items ≡ left_names q.1 ns d.item =
     c.in_ok-names.ensures.names ∙ ap (λ (x : Collection). names_left c.args.given.now.items x c.args.world c.in_ok-interface.interface) c.types-2.ensures
     ∙ left_same g ms q.1 c.args.given.now.items d.item c.args.world c.in_ok-interface.interface says.1 h in
@@ -56,7 +56,7 @@ returns-clause-outcome c noted q says =
     (c.in_ok-node.ensures.outcome ms q.0 says.0.root)
     (λ d dn.
     let h = held_any (asks_instance d.item InstanceOperation.Spread i.span) (λ (x : InterfaceId). Holds g.types d.item (ItemKind.Instance x)) c.in_ok-interface.interface (c.in_ok-interface.ensures.outcome d.item dn.item) in
-    let one : is_instance (kind_of d.item) ≡ true = is_one g.types acyclic d.item (ItemKind.Instance c.in_ok-interface.interface) h in
+    let one : is_instance_kind (kind_of d.item) ≡ true = is_one g.types acyclic d.item (ItemKind.Instance c.in_ok-interface.interface) h in
     let same : texts_of c.in_ok-names.names.items ≡ left_names q.1 ns d.item =
     c.in_ok-names.ensures.names ∙ ap (λ (x : Collection). names_left c.args.given.now.items x c.args.world c.in_ok-interface.interface) c.types-2.ensures
     ∙ left_same g ms q.1 c.args.given.now.items d.item c.args.world c.in_ok-interface.interface says.1 h in

@@ -26,7 +26,7 @@ use Rattle.wac_parser_resolve.specs.Denoting.{accesses, add_given, denote, finis
 use Rattle.wac_parser_resolve.specs.Holding.{AreGiven, Denotes, IsGiven}
 use Rattle.wac_parser_resolve.specs.InArguments.{SaysGiven, imported_by, inferred_given}
 use Rattle.wac_parser_resolve.specs.InExpressions.{SaysThat}
-use Rattle.wac_parser_resolve.specs.InInstances.{Denoting, HasGiven, IsOn, IsOneGiven, instances_of, key_of, named_given}
+use Rattle.wac_parser_resolve.specs.InInstances.{Denoting, HasGiven, IsOn, IsOneGiven, instances_of, named_given, named_key}
 use Rattle.wac_parser_resolve.specs.Knowing.{IsPackage}
 use Rattle.wac_parser_resolve.proofs.Alike.{Alike, alike_accesses, alike_spreads, outcome_with}
 use Rattle.wac_parser_resolve.proofs.Boards.{imports_later, on_within}
@@ -290,7 +290,7 @@ instance-returns-in_err-arguments-clause-outcome u c s on =
     let root = c.args.root in
     let mid = c.new_package.new.board in
     let D = Denoting root c.arguments.new.board in
-    let k = key_of p in
+    let k = named_key p in
     let after : List Name → Stated → Answer (State × Denoted) = λ ns w. stated.arguments s ns [] as_ >>= λ r. each (spread_one ns) r (spreads_of as_) >>= λ q. finished q.0 p w q.1 (is_filled as_) in
     let H : Stated → PackageId → Type 0 = λ w id. IsOn root mid s × IsPackage mid.types.graph k w id in
     let world = c.world_of-world.result in
@@ -313,7 +313,7 @@ instance-returns-in_err-spreads-clause-outcome u c s on =
     let mid = c.new_package.new.board in
     let b = c.arguments.new.board in
     let g = c.spreads.new.graph in
-    let k = key_of p in
+    let k = named_key p in
     let after : List Name → Stated → Answer (State × Denoted) = λ ns w. stated.arguments s ns [] as_ >>= λ r. each (spread_one ns) r (spreads_of as_) >>= λ q. finished q.0 p w q.1 (is_filled as_) in
     let H : Stated → PackageId → Type 0 = λ w id. IsOn root mid s × IsPackage mid.types.graph k w id in
     let world = c.world_of-world.result in
@@ -342,7 +342,7 @@ instance-returns-clause-outcome u c s on =
     let mid = c.new_package.new.board in
     let b = c.arguments.new.board in
     let g = c.spreads.new.graph in
-    let k = key_of p in
+    let k = named_key p in
     let after : List Name → Stated → Answer (State × Denoted) = λ ns w. stated.arguments s ns [] as_ >>= λ r. each (spread_one ns) r (spreads_of as_) >>= λ q. finished q.0 p w q.1 (is_filled as_) in
     let H : Stated → PackageId → Type 0 = λ w id. IsOn root mid s × IsPackage mid.types.graph k w id in
     let world = c.world_of-world.result in

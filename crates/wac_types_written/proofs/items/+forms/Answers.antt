@@ -1,4 +1,4 @@
-use Rattle.std.proofs.Common.{◌≡◌, ◌≤◌, ◌+◌, ◌∙◌, ap, arith, length, subst, sym, take, []}
+use Rattle.std.proofs.Common.{refl, Some, ◌≡◌, ◌≤◌, ◌+◌, ◌∙◌, ap, arith, length, subst, sym, take, []}
 use Rattle.std.specs.Prelude.{string_bytes}
 use Rattle.wac_types_base.specs.declared.item.«Type».{«Type» as TypeKind}
 use Rattle.wac_types_base.specs.declared.item.ItemKind.{ItemKind}
@@ -180,143 +180,131 @@ new_interface-returns-in_err-own-clause-grows t c = Grows-refl c.args.types.now 
 pub new_world-returns-in_err-own-clause-grows : goal.new_world-returns-in_err-own-clause-grows
 new_world-returns-in_err-own-clause-grows t c = Grows-refl c.args.types.now c.see_acyclic.ensures
 
-pub new_interface-form_uses-requires : goal.new_interface-form_uses-requires
-new_interface-form_uses-requires t c =
+pub interface_of_parts-form_uses-requires : goal.interface_of_parts-form_uses-requires
+interface_of_parts-form_uses-requires t c =
     let types = c.args.types.now in
-    let i = c.interface.ensures in
-    let x = c.interface.result.now in
-    let s = parts_size types i.acyclic c.args.id x i.entry i.own in
-    let e = ap (λ us. row_size types (used us)) (ap (λ (y : Interface). y.uses) c.in_ok-own.ensures) in
-    (omega (arith, s, e, c.decreases), (subst (UsesStand types) (sym (ap (λ (y : Interface). y.uses) c.in_ok-own.ensures)) (interface_uses_stand types i.acyclic c.args.id x i.entry i.own), c.requires.forms))
+    let x = c.args.own.now in
+    let s = parts_size types c.see_acyclic.ensures c.args.id x c.requires.entry c.requires.number in
+    (omega (arith, s, c.decreases), (interface_uses_stand types c.see_acyclic.ensures c.args.id x c.requires.entry c.requires.number, c.requires.forms))
 
-pub new_interface-form_items-requires : goal.new_interface-form_items-requires
-new_interface-form_items-requires t c =
+pub interface_of_parts-form_items-requires : goal.interface_of_parts-form_items-requires
+interface_of_parts-form_items-requires t c =
     let types = c.args.types.now in
-    let i = c.interface.ensures in
-    let x = c.interface.result.now in
+    let x = c.args.own.now in
     let g = c.in_ok-uses.ensures.grows in
-    let s = parts_size types i.acyclic c.args.id x i.entry i.own in
-    let stand : ItemsStand types c.in_ok-own.own.exports = subst (ItemsStand types) (sym (ap (λ (y : Interface). y.exports) c.in_ok-own.ensures)) (interface_exports_stand types i.acyclic c.args.id x i.entry i.own) in
-    let e = ap (λ xs. row_size types (items xs)) (ap (λ (y : Interface). y.exports) c.in_ok-own.ensures) in
-    let k = items_size_kept types c.form_uses.new.types g c.in_ok-own.own.exports stand in
-    (omega (arith, s, e, k, c.decreases), (items_stand_kept types c.form_uses.new.types g c.in_ok-own.own.exports stand, c.in_ok-uses.ensures.forms))
+    let s = parts_size types c.see_acyclic.ensures c.args.id x c.requires.entry c.requires.number in
+    let stand : ItemsStand types x.exports = interface_exports_stand types c.see_acyclic.ensures c.args.id x c.requires.entry c.requires.number in
+    let k = items_size_kept types c.form_uses.new.types g x.exports stand in
+    (omega (arith, s, k, c.decreases), (items_stand_kept types c.form_uses.new.types g x.exports stand, c.in_ok-uses.ensures.forms))
 
-pub new_interface-returns-in_err-name-clause-grows : goal.new_interface-returns-in_err-name-clause-grows
-new_interface-returns-in_err-name-clause-grows t c = Grows-trans c.args.types.now c.form_uses.new.types c.form_items.new.types c.in_ok-uses.ensures.grows c.in_ok-exports.ensures.grows
+pub interface_of_parts-returns-in_err-name-clause-grows : goal.interface_of_parts-returns-in_err-name-clause-grows
+interface_of_parts-returns-in_err-name-clause-grows t c = Grows-trans c.args.types.now c.form_uses.new.types c.form_items.new.types c.in_ok-uses.ensures.grows c.in_ok-exports.ensures.grows
 
-pub new_interface-add_interface-requires : goal.new_interface-add_interface-requires
-new_interface-add_interface-requires t c =
+pub interface_of_parts-add_interface-requires : goal.interface_of_parts-add_interface-requires
+interface_of_parts-add_interface-requires t c =
     interface_children c.form_items.new.types (record { id = c.in_ok-name.name; uses = c.in_ok-uses.uses; exports = c.in_ok-exports.exports })
     (uses_stand_kept c.form_uses.new.types c.form_items.new.types c.in_ok-exports.ensures.grows c.in_ok-uses.uses c.in_ok-uses.ensures.formed.stand) c.in_ok-exports.ensures.formed.stand
 
-pub new_interface-returns-in_err-exports-clause-grows : goal.new_interface-returns-in_err-exports-clause-grows
-new_interface-returns-in_err-exports-clause-grows t c = Grows-trans c.args.types.now c.form_uses.new.types c.form_items.new.types c.in_ok-uses.ensures.grows c.in_err-exports.ensures.grows
+pub interface_of_parts-returns-in_err-exports-clause-grows : goal.interface_of_parts-returns-in_err-exports-clause-grows
+interface_of_parts-returns-in_err-exports-clause-grows t c = Grows-trans c.args.types.now c.form_uses.new.types c.form_items.new.types c.in_ok-uses.ensures.grows c.in_err-exports.ensures.grows
 
-pub new_interface-returns-in_err-form-clause-grows : goal.new_interface-returns-in_err-form-clause-grows
-new_interface-returns-in_err-form-clause-grows t c =
+pub interface_of_parts-returns-in_err-form-clause-grows : goal.interface_of_parts-returns-in_err-form-clause-grows
+interface_of_parts-returns-in_err-form-clause-grows t c =
     Grows-trans c.args.types.now c.form_uses.new.types c.add_interface.new.self c.in_ok-uses.ensures.grows (Grows-trans c.form_uses.new.types c.form_items.new.types c.add_interface.new.self c.in_ok-exports.ensures.grows c.in_err-form.ensures.grows)
 
-pub new_interface-returns-clause-formed : goal.new_interface-returns-clause-formed
-new_interface-returns-clause-formed t c =
+pub interface_of_parts-returns-clause-formed : goal.interface_of_parts-returns-clause-formed
+interface_of_parts-returns-clause-formed t c =
     let types = c.args.types.now in
-    let i = c.interface.ensures in
-    let x = c.interface.result.now in
+    let x = c.args.own.now in
     let e = c.in_ok-form.ensures in
     interface_added c.form_items.new.types c.add_interface.new.self e.grows (record { id = c.in_ok-name.name; uses = c.in_ok-uses.uses; exports = c.in_ok-exports.exports }) c.in_ok-form.form
     (formed (maker c.args.worlds) (stated_of types (ItemKind.Instance c.args.id))) e.added e.id
-    (interface_formed (maker c.args.worlds) types i.acyclic c.form_uses.new.types c.form_items.new.types c.add_interface.new.self c.in_ok-uses.ensures.grows c.in_ok-exports.ensures.grows e.grows c.args.id x i.entry i.own
-    c.in_ok-name.name c.in_ok-own.own.uses c.in_ok-uses.uses c.in_ok-own.own.exports c.in_ok-exports.exports (c.in_ok-name.ensures ∙ ap (λ (y : Interface). y.id) c.in_ok-own.ensures)
-    ((ap (λ (y : Interface). y.uses) c.in_ok-own.ensures)) ((ap (λ (y : Interface). y.exports) c.in_ok-own.ensures))
-    (subst (UsesStand types) (sym (ap (λ (y : Interface). y.uses) c.in_ok-own.ensures)) (interface_uses_stand types i.acyclic c.args.id c.interface.result.now i.entry i.own))
-    (subst (ItemsStand types) (sym (ap (λ (y : Interface). y.exports) c.in_ok-own.ensures)) (interface_exports_stand types i.acyclic c.args.id c.interface.result.now i.entry i.own))
+    (interface_formed (maker c.args.worlds) types c.see_acyclic.ensures c.form_uses.new.types c.form_items.new.types c.add_interface.new.self c.in_ok-uses.ensures.grows c.in_ok-exports.ensures.grows e.grows c.args.id x c.requires.entry c.requires.number
+    c.in_ok-name.name x.uses c.in_ok-uses.uses x.exports c.in_ok-exports.exports (c.in_ok-name.ensures)
+    refl refl
+    (interface_uses_stand types c.see_acyclic.ensures c.args.id x c.requires.entry c.requires.number)
+    (interface_exports_stand types c.see_acyclic.ensures c.args.id x c.requires.entry c.requires.number)
     c.in_ok-uses.ensures.formed c.in_ok-exports.ensures.formed)
 
-pub new_interface-returns-clause-forms : goal.new_interface-returns-clause-forms
-new_interface-returns-clause-forms t c = forms_kept (maker c.args.worlds) c.form_items.new.types c.add_interface.new.self c.in_ok-form.ensures.grows c.form_items.new.forms c.in_ok-exports.ensures.forms
+pub interface_of_parts-returns-clause-forms : goal.interface_of_parts-returns-clause-forms
+interface_of_parts-returns-clause-forms t c = forms_kept (maker c.args.worlds) c.form_items.new.types c.add_interface.new.self c.in_ok-form.ensures.grows c.form_items.new.forms c.in_ok-exports.ensures.forms
 
-pub new_interface-returns-clause-grows : goal.new_interface-returns-clause-grows
-new_interface-returns-clause-grows t c =
+pub interface_of_parts-returns-clause-grows : goal.interface_of_parts-returns-clause-grows
+interface_of_parts-returns-clause-grows t c =
     Grows-trans c.args.types.now c.form_uses.new.types c.add_interface.new.self c.in_ok-uses.ensures.grows (Grows-trans c.form_uses.new.types c.form_items.new.types c.add_interface.new.self c.in_ok-exports.ensures.grows c.in_ok-form.ensures.grows)
 
-pub new_world-form_uses-requires : goal.new_world-form_uses-requires
-new_world-form_uses-requires t c =
+pub world_of_parts-form_uses-requires : goal.world_of_parts-form_uses-requires
+world_of_parts-form_uses-requires t c =
     let types = c.args.types.now in
-    let i = c.world.ensures in
-    let x = c.world.result.now in
-    let s = world_parts_size types i.acyclic c.args.id x i.entry i.own in
-    let e = ap (λ us. row_size types (used us)) (ap (λ (y : World). y.uses) c.in_ok-own.ensures) in
-    (omega (arith, s, e, c.decreases), (subst (UsesStand types) (sym (ap (λ (y : World). y.uses) c.in_ok-own.ensures)) (world_uses_stand types i.acyclic c.args.id x i.entry i.own), c.requires.forms))
+    let x = c.args.own.now in
+    let s = world_parts_size types c.see_acyclic.ensures c.args.id x c.requires.entry c.requires.number in
+    (omega (arith, s, c.decreases), (world_uses_stand types c.see_acyclic.ensures c.args.id x c.requires.entry c.requires.number, c.requires.forms))
 
-pub new_world-form_items-requires : goal.new_world-form_items-requires
-new_world-form_items-requires t c =
+pub world_of_parts-form_items-requires : goal.world_of_parts-form_items-requires
+world_of_parts-form_items-requires t c =
     let types = c.args.types.now in
-    let i = c.world.ensures in
-    let x = c.world.result.now in
+    let x = c.args.own.now in
     let g = c.in_ok-uses.ensures.grows in
-    let s = world_parts_size types i.acyclic c.args.id x i.entry i.own in
-    let stand : ItemsStand types c.in_ok-own.own.imports = subst (ItemsStand types) (sym (ap (λ (y : World). y.imports) c.in_ok-own.ensures)) (world_imports_stand types i.acyclic c.args.id x i.entry i.own) in
-    let e = ap (λ xs. row_size types (items xs)) (ap (λ (y : World). y.imports) c.in_ok-own.ensures) in
-    let k = items_size_kept types c.form_uses.new.types g c.in_ok-own.own.imports stand in
-    (omega (arith, s, e, k, c.decreases), (items_stand_kept types c.form_uses.new.types g c.in_ok-own.own.imports stand, c.in_ok-uses.ensures.forms))
+    let s = world_parts_size types c.see_acyclic.ensures c.args.id x c.requires.entry c.requires.number in
+    let stand : ItemsStand types x.imports = world_imports_stand types c.see_acyclic.ensures c.args.id x c.requires.entry c.requires.number in
+    let k = items_size_kept types c.form_uses.new.types g x.imports stand in
+    (omega (arith, s, k, c.decreases), (items_stand_kept types c.form_uses.new.types g x.imports stand, c.in_ok-uses.ensures.forms))
 
-pub new_world-form_items-requires-2 : goal.new_world-form_items-requires-2
-new_world-form_items-requires-2 t c =
+pub world_of_parts-form_items-requires-2 : goal.world_of_parts-form_items-requires-2
+world_of_parts-form_items-requires-2 t c =
     let types = c.args.types.now in
-    let i = c.world.ensures in
-    let x = c.world.result.now in
+    let x = c.args.own.now in
     let g = Grows-trans types c.form_uses.new.types c.form_items.new.types c.in_ok-uses.ensures.grows c.in_ok-imports.ensures.grows in
-    let s = world_parts_size types i.acyclic c.args.id x i.entry i.own in
-    let stand : ItemsStand types c.in_ok-own.own.exports = subst (ItemsStand types) (sym (ap (λ (y : World). y.exports) c.in_ok-own.ensures)) (world_exports_stand types i.acyclic c.args.id x i.entry i.own) in
-    let e = ap (λ xs. row_size types (items xs)) (ap (λ (y : World). y.exports) c.in_ok-own.ensures) in
-    let k = items_size_kept types c.form_items.new.types g c.in_ok-own.own.exports stand in
-    (omega (arith, s, e, k, c.decreases), (items_stand_kept types c.form_items.new.types g c.in_ok-own.own.exports stand, c.in_ok-imports.ensures.forms))
+    let s = world_parts_size types c.see_acyclic.ensures c.args.id x c.requires.entry c.requires.number in
+    let stand : ItemsStand types x.exports = world_exports_stand types c.see_acyclic.ensures c.args.id x c.requires.entry c.requires.number in
+    let k = items_size_kept types c.form_items.new.types g x.exports stand in
+    (omega (arith, s, k, c.decreases), (items_stand_kept types c.form_items.new.types g x.exports stand, c.in_ok-imports.ensures.forms))
 
-pub new_world-add_formed_world-requires-clause-uses : goal.new_world-add_formed_world-requires-clause-uses
-new_world-add_formed_world-requires-clause-uses t c = uses_stand_kept c.form_uses.new.types c.form_items-2.new.types (Grows-trans c.form_uses.new.types c.form_items.new.types c.form_items-2.new.types c.in_ok-imports.ensures.grows c.in_ok-exports.ensures.grows) c.in_ok-uses.uses c.in_ok-uses.ensures.formed.stand
+pub world_of_parts-add_formed_world-requires-clause-uses : goal.world_of_parts-add_formed_world-requires-clause-uses
+world_of_parts-add_formed_world-requires-clause-uses t c = uses_stand_kept c.form_uses.new.types c.form_items-2.new.types (Grows-trans c.form_uses.new.types c.form_items.new.types c.form_items-2.new.types c.in_ok-imports.ensures.grows c.in_ok-exports.ensures.grows) c.in_ok-uses.uses c.in_ok-uses.ensures.formed.stand
 
-pub new_world-add_formed_world-requires-clause-imports : goal.new_world-add_formed_world-requires-clause-imports
-new_world-add_formed_world-requires-clause-imports t c = items_stand_kept c.form_items.new.types c.form_items-2.new.types c.in_ok-exports.ensures.grows c.in_ok-imports.imports c.in_ok-imports.ensures.formed.stand
+pub world_of_parts-add_formed_world-requires-clause-imports : goal.world_of_parts-add_formed_world-requires-clause-imports
+world_of_parts-add_formed_world-requires-clause-imports t c = items_stand_kept c.form_items.new.types c.form_items-2.new.types c.in_ok-exports.ensures.grows c.in_ok-imports.imports c.in_ok-imports.ensures.formed.stand
 
-pub new_world-add_formed_world-requires-clause-exports : goal.new_world-add_formed_world-requires-clause-exports
-new_world-add_formed_world-requires-clause-exports t c = c.in_ok-exports.ensures.formed.stand
+pub world_of_parts-add_formed_world-requires-clause-exports : goal.world_of_parts-add_formed_world-requires-clause-exports
+world_of_parts-add_formed_world-requires-clause-exports t c = c.in_ok-exports.ensures.formed.stand
 
-pub new_world-returns-in_err-imports-clause-grows : goal.new_world-returns-in_err-imports-clause-grows
-new_world-returns-in_err-imports-clause-grows t c = Grows-trans c.args.types.now c.form_uses.new.types c.form_items.new.types c.in_ok-uses.ensures.grows c.in_err-imports.ensures.grows
+pub world_of_parts-returns-in_err-imports-clause-grows : goal.world_of_parts-returns-in_err-imports-clause-grows
+world_of_parts-returns-in_err-imports-clause-grows t c = Grows-trans c.args.types.now c.form_uses.new.types c.form_items.new.types c.in_ok-uses.ensures.grows c.in_err-imports.ensures.grows
 
-pub new_world-returns-in_err-exports-clause-grows : goal.new_world-returns-in_err-exports-clause-grows
-new_world-returns-in_err-exports-clause-grows t c =
+pub world_of_parts-returns-in_err-exports-clause-grows : goal.world_of_parts-returns-in_err-exports-clause-grows
+world_of_parts-returns-in_err-exports-clause-grows t c =
     Grows-trans c.args.types.now c.form_uses.new.types c.form_items-2.new.types c.in_ok-uses.ensures.grows (Grows-trans c.form_uses.new.types c.form_items.new.types c.form_items-2.new.types c.in_ok-imports.ensures.grows c.in_err-exports.ensures.grows)
 
-pub new_world-returns-in_err-name-clause-grows : goal.new_world-returns-in_err-name-clause-grows
-new_world-returns-in_err-name-clause-grows t c =
+pub world_of_parts-returns-in_err-name-clause-grows : goal.world_of_parts-returns-in_err-name-clause-grows
+world_of_parts-returns-in_err-name-clause-grows t c =
     Grows-trans c.args.types.now c.form_uses.new.types c.form_items-2.new.types c.in_ok-uses.ensures.grows (Grows-trans c.form_uses.new.types c.form_items.new.types c.form_items-2.new.types c.in_ok-imports.ensures.grows c.in_ok-exports.ensures.grows)
 
-pub new_world-returns-in_err-form-clause-grows : goal.new_world-returns-in_err-form-clause-grows
-new_world-returns-in_err-form-clause-grows t c =
+pub world_of_parts-returns-in_err-form-clause-grows : goal.world_of_parts-returns-in_err-form-clause-grows
+world_of_parts-returns-in_err-form-clause-grows t c =
     Grows-trans c.args.types.now c.form_uses.new.types c.add_formed_world.new.types c.in_ok-uses.ensures.grows
     (Grows-trans c.form_uses.new.types c.form_items.new.types c.add_formed_world.new.types c.in_ok-imports.ensures.grows
     (Grows-trans c.form_items.new.types c.form_items-2.new.types c.add_formed_world.new.types c.in_ok-exports.ensures.grows c.in_err-form.ensures.grows))
 
-pub new_world-returns-clause-formed : goal.new_world-returns-clause-formed
-new_world-returns-clause-formed t c =
+pub world_of_parts-returns-clause-formed : goal.world_of_parts-returns-clause-formed
+world_of_parts-returns-clause-formed t c =
     let types = c.args.types.now in
-    let i = c.world.ensures in
-    let x = c.world.result.now in
+    let x = c.args.own.now in
     subst (λ y. IsOf c.add_formed_world.new.types y (ItemKind.Component c.in_ok-form.form))
-    (world_formed (maker c.args.worlds) types i.acyclic c.form_uses.new.types c.form_items.new.types c.form_items-2.new.types c.add_formed_world.new.types c.in_ok-uses.ensures.grows c.in_ok-imports.ensures.grows c.in_ok-exports.ensures.grows c.args.id x i.entry i.own
-    c.in_ok-name.name c.in_ok-own.own.uses c.in_ok-uses.uses c.in_ok-own.own.imports c.in_ok-imports.imports c.in_ok-own.own.exports c.in_ok-exports.exports (c.in_ok-name.ensures ∙ ap (λ (y : World). y.id) c.in_ok-own.ensures)
-    ((ap (λ (y : World). y.uses) c.in_ok-own.ensures)) ((ap (λ (y : World). y.imports) c.in_ok-own.ensures)) ((ap (λ (y : World). y.exports) c.in_ok-own.ensures))
-    (subst (UsesStand types) (sym (ap (λ (y : World). y.uses) c.in_ok-own.ensures)) (world_uses_stand types i.acyclic c.args.id c.world.result.now i.entry i.own))
-    (subst (ItemsStand types) (sym (ap (λ (y : World). y.imports) c.in_ok-own.ensures)) (world_imports_stand types i.acyclic c.args.id c.world.result.now i.entry i.own))
-    (subst (ItemsStand types) (sym (ap (λ (y : World). y.exports) c.in_ok-own.ensures)) (world_exports_stand types i.acyclic c.args.id c.world.result.now i.entry i.own))
+    (world_formed (maker c.args.worlds) types c.see_acyclic.ensures c.form_uses.new.types c.form_items.new.types c.form_items-2.new.types c.add_formed_world.new.types c.in_ok-uses.ensures.grows c.in_ok-imports.ensures.grows c.in_ok-exports.ensures.grows c.args.id x c.requires.entry c.requires.number
+    c.in_ok-name.name x.uses c.in_ok-uses.uses x.imports c.in_ok-imports.imports x.exports c.in_ok-exports.exports (c.in_ok-name.ensures)
+    refl refl refl
+    (world_uses_stand types c.see_acyclic.ensures c.args.id x c.requires.entry c.requires.number)
+    (world_imports_stand types c.see_acyclic.ensures c.args.id x c.requires.entry c.requires.number)
+    (world_exports_stand types c.see_acyclic.ensures c.args.id x c.requires.entry c.requires.number)
     c.in_ok-uses.ensures.formed c.in_ok-imports.ensures.formed c.in_ok-exports.ensures.formed)
     c.in_ok-form.ensures.world
 
-pub new_world-returns-clause-forms : goal.new_world-returns-clause-forms
-new_world-returns-clause-forms t c = forms_kept (maker c.args.worlds) c.form_items-2.new.types c.add_formed_world.new.types c.in_ok-form.ensures.grows c.form_items-2.new.forms c.in_ok-exports.ensures.forms
+pub world_of_parts-returns-clause-forms : goal.world_of_parts-returns-clause-forms
+world_of_parts-returns-clause-forms t c = forms_kept (maker c.args.worlds) c.form_items-2.new.types c.add_formed_world.new.types c.in_ok-form.ensures.grows c.form_items-2.new.forms c.in_ok-exports.ensures.forms
 
-pub new_world-returns-clause-grows : goal.new_world-returns-clause-grows
-new_world-returns-clause-grows t c =
+pub world_of_parts-returns-clause-grows : goal.world_of_parts-returns-clause-grows
+world_of_parts-returns-clause-grows t c =
     Grows-trans c.args.types.now c.form_uses.new.types c.add_formed_world.new.types c.in_ok-uses.ensures.grows
     (Grows-trans c.form_uses.new.types c.form_items.new.types c.add_formed_world.new.types c.in_ok-imports.ensures.grows
     (Grows-trans c.form_items.new.types c.form_items-2.new.types c.add_formed_world.new.types c.in_ok-exports.ensures.grows c.in_ok-form.ensures.grows))
@@ -376,3 +364,13 @@ form_type-returns-in_default-clause-formed t c =
 
 pub form_type-returns-in_default-clause-grows : goal.form_type-returns-in_default-clause-grows
 form_type-returns-in_default-clause-grows t c = Grows-refl c.args.types.now c.see_acyclic.ensures
+
+pub new_interface-interface_of_parts-requires : goal.new_interface-interface_of_parts-requires
+new_interface-interface_of_parts-requires t c =
+    let i = c.interface.ensures in
+    (omega (arith, c.decreases), (i.entry ∙ ap Some (sym c.in_ok-own.ensures), (i.own, c.requires.forms)))
+
+pub new_world-world_of_parts-requires : goal.new_world-world_of_parts-requires
+new_world-world_of_parts-requires t c =
+    let i = c.world.ensures in
+    (omega (arith, c.decreases), (i.entry ∙ ap Some (sym c.in_ok-own.ensures), (i.own, c.requires.forms)))

@@ -23,6 +23,12 @@ decreases-form_interface l = 6 * size_of l.types.now (ItemKind.Instance l.id) + 
 abbrev pub decreases-new_interface : goal.decreases-new_interface
 decreases-new_interface l = 6 * size_of l.types.now (ItemKind.Instance l.id) + 2
 
+abbrev pub decreases-interface_of_parts : goal.decreases-interface_of_parts
+decreases-interface_of_parts l = 6 * size_of l.types.now (ItemKind.Instance l.id) + 1
+
+abbrev pub decreases-world_of_parts : goal.decreases-world_of_parts
+decreases-world_of_parts l = 6 * size_of l.types.now (ItemKind.Component l.id) + 1
+
 abbrev pub decreases-form_world : goal.decreases-form_world
 decreases-form_world l = 6 * size_of l.types.now (ItemKind.Component l.id) + 3
 

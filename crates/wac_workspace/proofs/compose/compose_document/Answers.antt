@@ -1,9 +1,14 @@
-use Rattle.std.proofs.Common.{ap}
+use Rattle.std.proofs.Common.{Bool, ap, subst}
 use Rattle.wac_parser_tree.specs.Views.{view_document}
 use Rattle.wac_parser_resolve.specs.Knowing.{handed_list}
 use Rattle.wac_parser_resolve.specs.Meeting.{resolved}
+use Rattle.wac_workspace.specs.Resolving.{Accepts}
 use Rattle.wac_workspace.proofs.Resolved.{composed_named, importing_named, meant_named}
 use Rattle.wac_workspace.proofs.compose.compose_document.Goals as goal
+
+pub returns-clause-accepted : goal.returns-clause-accepted
+returns-clause-accepted c =
+    subst (λ (define : Bool). Accepts define (view_document c.args.document.now) c.args.«packages».now) c.validated.ensures.define c.in_ok-encoded.ensures.accepted
 
 pub returns-clause-means : goal.returns-clause-means
 returns-clause-means c =

@@ -9,7 +9,7 @@ use Rattle.wac_parser_resolve.specs.InDocuments.{HoldsAll, IsErrorOf}
 use Rattle.wac_parser_resolve.specs.Resolved.{graph_of, places_of, target_of}
 use Rattle.wac_parser_resolve.specs.Knowing.{handed_list}
 use Rattle.wac_parser_resolve.specs.Meeting.{resolved}
-use Rattle.wac_workspace.proofs.Resolved.{composed, graph_held, importing, late_afterwards, late_resolving, meant}
+use Rattle.wac_workspace.proofs.Resolved.{accepted, composed, graph_held, importing, late_afterwards, late_resolving, meant}
 use Rattle.wac_workspace.proofs.compose.encode_document.Goals as goal
 
 pub returns-in_err-resolution-clause-late : goal.returns-in_err-resolution-clause-late
@@ -28,6 +28,14 @@ returns-clause-late c =
     let r = c.in_ok-resolution.resolution in
     let built = subst (λ (d : Document). IsHeld (λ (s : State × Option Stated) b. HoldsAll s (graph_of b) (places_of b) (target_of b)) (resolved (view_document d) ps) r) c.new.ensures c.in_ok-resolution.ensures.outcome in
     late_afterwards graph_of places_of target_of d ps r c.args.options c.encode_resolved.result c.requires.validate built c.encode_resolved.ensures.late
+
+pub returns-clause-accepted : goal.returns-clause-accepted
+returns-clause-accepted c =
+    let ps = handed_list c.args.«packages».now in
+    let d = view_document c.args.document.now in
+    let r = c.in_ok-resolution.resolution in
+    let built = subst (λ (d : Document). IsHeld (λ (s : State × Option Stated) b. HoldsAll s (graph_of b) (places_of b) (target_of b)) (resolved (view_document d) ps) r) c.new.ensures c.in_ok-resolution.ensures.outcome in
+    accepted graph_of places_of target_of d ps r c.args.options c.encode_resolved.result c.requires.validate built c.encode_resolved.ensures.free
 
 pub returns-clause-means : goal.returns-clause-means
 returns-clause-means c =

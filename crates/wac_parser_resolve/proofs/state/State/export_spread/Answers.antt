@@ -5,7 +5,7 @@ use Rattle.wac_types_base.specs.declared.ids.InterfaceId.{InterfaceId}
 use Rattle.wac_types_base.specs.Collection.{IsAcyclic}
 use Rattle.wac_types_base.specs.Entries.{Name, names_of, texts_of, value_at}
 use Rattle.wac_types_base.specs.Stated.{exports_of, kind_of}
-use Rattle.wac_composition.specs.Classes.{is_instance}
+use Rattle.wac_composition.specs.Classes.{is_instance_kind}
 use Rattle.wac_parser_refusals.specs.declared.error.InstanceOperation.{InstanceOperation}
 use Rattle.wac_parser_refusals.specs.Causes.{Answer, SpreadExportNoEffect}
 use Rattle.wac_parser_refusals.specs.Outcomes.{IsOutcome, IsRefusal}
@@ -30,7 +30,7 @@ returns-then-is_empty-clause-outcome c own s d said dn spoken =
     let i = c.in_ok-interface.interface in
     let left : List Name = filter (λ n. not (is_some (value_at s.exports n))) (names_of (exports_of d.item)) in
     let h = held_any (asks_instance d.item InstanceOperation.Spread at) (λ (x : InterfaceId). Holds g.types d.item (ItemKind.Instance x)) i (c.in_ok-interface.ensures.outcome d.item dn.item) in
-    let one : is_instance (kind_of d.item) ≡ true = is_one g.types acyclic d.item (ItemKind.Instance i) h in
+    let one : is_instance_kind (kind_of d.item) ≡ true = is_one g.types acyclic d.item (ItemKind.Instance i) h in
     let names : texts_of c.in_ok-names.names.items ≡ left = c.in_ok-names.ensures ∙ left_is g (names_of b.board.instances.noted.items) s.exports d.item i said.exports.are h in
     subst (λ (r : Answer State). IsRefusal r c.named.result) (sym (needs_same d InstanceOperation.Spread at (export_left s at c.args.dots d left) one))
     (none_left s at c.args.dots d left c.named.result
@@ -47,7 +47,7 @@ returns-clause-outcome c own s d said dn spoken =
     let i = c.in_ok-interface.interface in
     let left : List Name = filter (λ n. not (is_some (value_at s.exports n))) (names_of (exports_of d.item)) in
     let h = held_any (asks_instance d.item InstanceOperation.Spread at) (λ (x : InterfaceId). Holds g.types d.item (ItemKind.Instance x)) i (c.in_ok-interface.ensures.outcome d.item dn.item) in
-    let one : is_instance (kind_of d.item) ≡ true = is_one g.types acyclic d.item (ItemKind.Instance i) h in
+    let one : is_instance_kind (kind_of d.item) ≡ true = is_one g.types acyclic d.item (ItemKind.Instance i) h in
     let names : texts_of c.in_ok-names.names.items ≡ left = c.in_ok-names.ensures ∙ left_is g (names_of b.board.instances.noted.items) s.exports d.item i said.exports.are h in
     let some = some_texts c.in_ok-names.names.items (λ e. not_zero (vec_len c.in_ok-names.names) c.is_empty.result c.is_empty.ensures c.if-is_empty.false (omega (arith, e, c.in_ok-names.names.ok))) in
     subst (λ (r : Answer State). IsOutcome (λ (q : State) (u : ⊤). IsSaid own c.export_all.new.self q) r c.export_all.result)

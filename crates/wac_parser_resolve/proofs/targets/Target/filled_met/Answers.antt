@@ -1,6 +1,6 @@
 use Rattle.std.proofs.Common.{arith, refl}
 use Rattle.wac_parser_refusals.proofs.Outcomes.{refused_outcome}
-use Rattle.wac_parser_resolve.specs.Giving.{given_by}
+use Rattle.wac_parser_resolve.specs.Giving.{gives_of}
 use Rattle.wac_parser_resolve.specs.InTargets.{all_pass, filled_test}
 use Rattle.wac_parser_resolve.specs.Targeting.{IsFilledMet}
 use Rattle.wac_parser_resolve.proofs.Meeting.{Passed, all_passed, next_passes, next_refused}
@@ -17,7 +17,7 @@ loop-at-init c = record { below = λ i h. absurd (omega (arith, h)); rest = refl
 
 pub loop-at-preserved : goal.loop-at-preserved
 loop-at-preserved c = record {
-  below = below_next (IsFilledMet c.args.graph.now (given_by c.args.self.now) c.args.instance)
+  below = below_next (IsFilledMet c.args.graph.now (gives_of c.args.self.now) c.args.instance)
       c.args.imports.now c.loop-at.at c.entry.result.0.now c.entry.result.1.now c.entry.ensures c.loop-at.invariant.below c.in_ok-filled_one.ensures.ok;
   rest = next_passes (filled_test c.args.self.now c.args.graph.now c.args.instance) c.args.imports.now c.loop-at.at (c.entry.result.0.now, c.entry.result.1.now) c.entry.ensures c.loop-at.invariant.rest
       c.in_ok-filled_one.ensures.outcome;
@@ -31,7 +31,7 @@ returns-in_err-filled_one-clause-outcome c =
 
 pub returns-clause-ok : goal.returns-clause-ok
 returns-clause-ok c =
-    below_all (IsFilledMet c.args.graph.now (given_by c.args.self.now) c.args.instance)
+    below_all (IsFilledMet c.args.graph.now (gives_of c.args.self.now) c.args.instance)
     c.args.imports.now c.loop-at.at (omega (arith, c.len-at-end.ensures.len, c.loop-at-test.false)) c.loop-at.invariant.below
 
 pub returns-clause-outcome : goal.returns-clause-outcome

@@ -5,7 +5,7 @@ use Rattle.wac_types_base.proofs.Loops.{get-place}
 use Rattle.wac_parser_lexer.specs.declared.span.SourceSpan.{SourceSpan as Span}
 use Rattle.wac_parser_refusals.specs.Outcomes.{IsHeld}
 use Rattle.wac_parser_refusals.proofs.Outcomes.{refused_outcome}
-use Rattle.wac_parser_resolve.specs.Giving.{given_by}
+use Rattle.wac_parser_resolve.specs.Giving.{gives_of}
 use Rattle.wac_parser_resolve.specs.InTargets.{IsTold, AreStatementsMet, all_pass, statement_test}
 use Rattle.wac_parser_resolve.specs.Targeting.{IsStatementMet}
 use Rattle.wac_parser_resolve.proofs.Meeting.{Passed, all_passed, come_next, next_passes, next_refused, none_to_come, noted_among}
@@ -28,7 +28,7 @@ loop-node-preserved c =
     let x = c.loop-node-item.result in
     let at = get-place xs c.loop-node.node-index x c.loop-node-test.true c.loop-node-item.is in
     record {
-      come = come_next (IsStatementMet c.args.graph.now (given_by c.args.self.now)) xs c.loop-node.node-index x.0 x.1 at c.loop-node.invariant.come c.in_ok-explicit_met.ensures.ok;
+      come = come_next (IsStatementMet c.args.graph.now (gives_of c.args.self.now)) xs c.loop-node.node-index x.0 x.1 at c.loop-node.invariant.come c.in_ok-explicit_met.ensures.ok;
       rest = next_passes (statement_test c.args.self.now c.args.graph.now) xs c.loop-node.node-index x at c.loop-node.invariant.rest c.in_ok-explicit_met.ensures.outcome;
     }
 
@@ -43,8 +43,8 @@ returns-in_err-explicit_met-clause-outcome c =
 
 pub returns-clause-ok : goal.returns-clause-ok
 returns-clause-ok c =
-    subst (AreStatementsMet c.args.graph.now (given_by c.args.self.now)) (c.deref-node-items.ensures.value ∙ c.entries.ensures.entries)
-    (none_to_come (IsStatementMet c.args.graph.now (given_by c.args.self.now)) c.deref-node-items.result.now c.loop-node.node-index (omega (arith, c.loop-node-test.false)) c.loop-node.invariant.come)
+    subst (AreStatementsMet c.args.graph.now (gives_of c.args.self.now)) (c.deref-node-items.ensures.value ∙ c.entries.ensures.entries)
+    (none_to_come (IsStatementMet c.args.graph.now (gives_of c.args.self.now)) c.deref-node-items.result.now c.loop-node.node-index (omega (arith, c.loop-node-test.false)) c.loop-node.invariant.come)
 
 pub returns-clause-outcome : goal.returns-clause-outcome
 returns-clause-outcome c =

@@ -4,13 +4,13 @@ use Rattle.wac_types_base.proofs.Adding.{Grows-refl}
 use Rattle.wac_types_names.proofs.package.Package.from_world.Goals as goal
 
 pub returns-in_err-interface-clause-grows : goal.returns-in_err-interface-clause-grows
-returns-in_err-interface-clause-grows c = Grows-refl c.args.types.now.types.now (subst IsAcyclic c.types.ensures c.interface_of.ensures.acyclic)
+returns-in_err-interface-clause-grows c = Grows-refl c.args.types.now.types.now (subst IsAcyclic c.types.ensures c.see_acyclic.ensures)
 
 pub returns-in_err-definitions-clause-grows : goal.returns-in_err-definitions-clause-grows
-returns-in_err-definitions-clause-grows c = Grows-refl c.args.types.now.types.now (subst IsAcyclic c.types.ensures c.interface_of.ensures.acyclic)
+returns-in_err-definitions-clause-grows c = Grows-refl c.args.types.now.types.now (subst IsAcyclic c.types.ensures c.see_acyclic.ensures)
 
 pub returns-in_err-name-clause-grows : goal.returns-in_err-name-clause-grows
-returns-in_err-name-clause-grows c = Grows-refl c.args.types.now.types.now (subst IsAcyclic c.types.ensures c.interface_of.ensures.acyclic)
+returns-in_err-name-clause-grows c = Grows-refl c.args.types.now.types.now (subst IsAcyclic c.types.ensures c.see_acyclic.ensures)
 
 pub returns-in_err-version-clause-grows : goal.returns-in_err-version-clause-grows
-returns-in_err-version-clause-grows c = Grows-refl c.args.types.now.types.now (subst IsAcyclic c.types.ensures c.interface_of.ensures.acyclic)
+returns-in_err-version-clause-grows c = Grows-refl c.args.types.now.types.now (subst IsAcyclic c.types.ensures c.see_acyclic.ensures)
