@@ -2,11 +2,11 @@
 use Rattle.std.specs.Prelude.{◌==◌, ◌⊎◌, cond, filter, is_none, not, drop, option_map, if◌then◌else◌, ◌&&◌}
 use Rattle.std.proofs.lemmas.Option.{none-some, same_Some}
 use Rattle.std.specs.Cmp.Lexicographic.{pointwise, bytes_decides}
-use Rattle.std.proofs.Common.{◌≡◌, ℕ, zero, suc, List, [], ◌∷◌, ◌++◌, append_assoc, map, length, Bool, true, false, true≢false, Option, Some, None, inl, inr, refl, sym, ap, subst, ◌∙◌}
+use Rattle.std.proofs.Common.{◌≡◌, List, [], ◌∷◌, ◌++◌, append_assoc, map, length, Bool, true, false, true≢false, Option, Some, None, inl, inr, refl, sym, ap, subst, ◌∙◌}
 use Rattle.wac_types_base.specs.Entries.{Name, AreDistinct, names_of, value_at}
 use Rattle.wac_types_base.specs.Graph.{Wholes, node, no_more, more, hole, Among}
 use Rattle.wac_types_base.specs.Collection.{Shape, primitive, tuple, list, fixed_size_list, option, result, variant, record_of, flags, enum, alias, stream, future, resource, resource_alias, func, interface, world, module_type, type_of, borrow_of, own_of}
-use Rattle.wac_types_base.specs.Stated.{Stated, row, folded_row, places_in, with_names, names, filled, names_used, used_places, interface_of, shape_kind, kind_of, Used, uses_of, Parts, parts_at, only_places, first_parts, exports_of, as_type, is_interface}
+use Rattle.wac_types_base.specs.Stated.{Stated, row, folded_row, interface_of, shape_kind, kind_of, Used, uses_of, Parts, parts_at, only_places, first_parts, exports_of, as_type, is_interface}
 use Rattle.wac_types_base.specs.Tree.{Tree, rigid, instance, component, core_module, handle_own, handle_borrow, type_item, Fields, tree}
 use Rattle.wac_types_base.specs.Fits.{Fits, rigid_fits, own_fits, borrow_fits, instance_fits, type_fits, FieldsFit}
 use Rattle.wac_types_fit.specs.Ordered.{AllInOrder}
@@ -24,6 +24,7 @@ use Rattle.wac_composition.proofs.KeptFits.{fields_looked, folded_firsts, export
 use Rattle.wac_composition.proofs.Closures.{filter_among}
 use Rattle.std.proofs.lemmas.List.{map-append}
 use Rattle.wac_types_base.proofs.Made.{only_firsts, exports_are, made_exports}
+use Rattle.wac_composition.proofs.MergeRows.{EachEntry, EachPlace, names_each, drop_each}
 
 -- ---- flat trees
 
@@ -173,10 +174,6 @@ not_typed xs y (an_instance a d r) e t o (type_fits {t = v} h) g = no v (fields_
 abbrev pub ClashesBoth : Stated → Merge → Type 0
 ClashesBoth x m = Regular x → (y : Stated) → Regular y → m y ≡ None → Clash (tree x) (tree y)
 
-abbrev AllClash : List (Name × (Stated × Merge)) → Type 0
-AllClash [] = Unit {0}
-AllClash (e ∷ es) = ClashesBoth e.1.0 e.1.1 × AllClash es
-
 record Refused (es : List (Name × (Stated × Merge))) (fs : List (Name × Stated)) : Type 0 where
   name : Name
   first : Stated
@@ -189,7 +186,7 @@ refused_with : (m : Merge) (x : Stated) (o : Option Stated) → merged_with m x 
 refused_with m x None e = absurd (none-some _ (sym e))
 refused_with m x (Some y) e = (y, refl, e)
 
-refused_all : (es : List (Name × (Stated × Merge))) (fs : List (Name × Stated)) → AllClash es → merged_exports es fs ≡ None → Refused es fs
+refused_all : (es : List (Name × (Stated × Merge))) (fs : List (Name × Stated)) → EachEntry ClashesBoth es → merged_exports es fs ≡ None → Refused es fs
 refused_all [] fs h e = absurd (none-some _ (sym e))
 refused_all (e ∷ es) fs h q = go (λ r. refused_all es fs h.1 r) (merged_with e.1.1 e.1.0 (value_at fs e.0)) refl (merged_exports es fs) refl q
   where
@@ -231,23 +228,6 @@ interface_none p y e = map_none _ (merged_exports p.exports (exports_of y)) e
 
 -- ---- all kinds
 
-abbrev RowClashes : List (Option (Stated × Merge)) → Type 0
-RowClashes [] = Unit {0}
-RowClashes (None ∷ os) = RowClashes os
-RowClashes (Some x ∷ os) = ClashesBoth x.0 x.1 × RowClashes os
-
-names_clash : (ns : List Name) (os : List (Option (Stated × Merge))) → RowClashes os → AllClash (with_names ns os)
-names_clash [] os h = tt
-names_clash (n ∷ ns) [] h = tt
-names_clash (n ∷ ns) (None ∷ os) h = names_clash ns os h
-names_clash (n ∷ ns) (Some x ∷ os) h = (h.0, names_clash ns os h.1)
-
-drop_clashes : {U : Type 0} (us : List U) (os : List (Option (Stated × Merge))) → RowClashes os → RowClashes (drop (length us) os)
-drop_clashes [] os h = h
-drop_clashes (u ∷ us) [] h = tt
-drop_clashes (u ∷ us) (None ∷ os) h = drop_clashes us os h
-drop_clashes (u ∷ us) (Some x ∷ os) h = drop_clashes us os h.1
-
 abbrev EachRegular : Stated → Type 0
 EachRegular x = AreDistinct (names_of (exports_of x)) × ((n : Name) (y : Stated) → value_at (exports_of x) n ≡ Some y → Regular y)
 
@@ -265,17 +245,17 @@ clash_along : {t u t' u' : Tree} → t' ≡ t → u' ≡ u → Clash t u → Cla
 clash_along {u = u} {t' = t'} a b c = subst (Clash t') (sym b) (subst (λ w. Clash w u) (sym a) c)
 
 -- the maps of two interfaces whose merging is refused
-maps_clash : (i : Option Name) (us : List (Name × Option Name)) (es : List Name) (ts : Wholes Shape) (y : Stated) → RowClashes (folded_row merge_at ts)
+maps_clash : (i : Option Name) (us : List (Name × Option Name)) (es : List Name) (ts : Wholes Shape) (y : Stated) → EachPlace ClashesBoth (folded_row merge_at ts)
     → EachRegular (node (interface i us es) ts) → EachRegular y → merged_interface (parts_at (interface i us es) (folded_row merge_at ts)) y ≡ None
     → Clash (instance (fields_of (exports_at (interface i us es) (folded_row merge_at ts)))) (instance (fields_of (exports_of y)))
 maps_clash i us es ts y h r q e =
     let os = folded_row merge_at ts in
-    let l = refused_all (parts_at (interface i us es) os).exports (exports_of y) (names_clash es (drop (length us) os) (drop_clashes us os h)) (interface_none (parts_at (interface i us es) os) y e) in
+    let l = refused_all (parts_at (interface i us es) os).exports (exports_of y) (names_each ClashesBoth es (drop (length us) os) (drop_each ClashesBoth us os h)) (interface_none (parts_at (interface i us es) os) y e) in
     let same = own_exports i us es ts in
     let own : value_at (exports_of (node (interface i us es) ts)) l.name ≡ Some l.first = value_there (exports_of (node (interface i us es) ts)) l.name l.first r.0 (subst (Among (l.name, l.first)) same l.among) in
     instances_clash (exports_at (interface i us es) os) (exports_of y) l.name l.first l.second (ap (λ xs. value_at xs l.name) same ∙ own) l.there (l.clash (r.1 l.name l.first own) (q.1 l.name l.second l.there))
 
-merge_at_clashes : (s : Shape) (ts : Wholes Shape) → RowClashes (folded_row merge_at ts) → ClashesBoth (node s ts) (merge_at s (folded_row merge_at ts))
+merge_at_clashes : (s : Shape) (ts : Wholes Shape) → EachPlace ClashesBoth (folded_row merge_at ts) → ClashesBoth (node s ts) (merge_at s (folded_row merge_at ts))
 merge_at_clashes (interface i us es) ts h r y q e = go (is_instance_kind (kind_of y)) refl e
   where
     own : tree (node (interface i us es) ts) ≡ instance (fields_of (exports_at (interface i us es) (folded_row merge_at ts)))
@@ -302,7 +282,7 @@ mutual
   pub merge_clashes : (x : Stated) → ClashesBoth x (merge x)
   merge_clashes (node s ts) r y q e = merge_at_clashes s ts (row_clashes ts) r y q e
 
-  row_clashes : (ts : Wholes Shape) → RowClashes (folded_row merge_at ts)
+  row_clashes : (ts : Wholes Shape) → EachPlace ClashesBoth (folded_row merge_at ts)
   row_clashes no_more = tt
   row_clashes (hole ts) = row_clashes ts
   row_clashes (more t ts) = (merge_clashes t, row_clashes ts)
@@ -364,10 +344,6 @@ first_names_of (e ∷ es) = ap (λ l. e.0 ∷ l) (first_names_of es)
 abbrev RegularBoth : Stated → Merge → Type 0
 RegularBoth x m = Regular x → (y : Stated) → Regular y → (z : Stated) → m y ≡ Some z → Regular z
 
-abbrev AllRegular : List (Name × (Stated × Merge)) → Type 0
-AllRegular [] = Unit {0}
-AllRegular (e ∷ es) = RegularBoth e.1.0 e.1.1 × AllRegular es
-
 pub merged_names : (es : List (Name × (Stated × Merge))) (fs xs : List (Name × Stated)) → merged_exports es fs ≡ Some xs → names_of xs ≡ names_of es
 merged_names [] fs xs e = ap names_of (sym (same_Some _ _ e))
 merged_names (e ∷ es) fs xs q =
@@ -378,7 +354,7 @@ with_regular : (x : Stated) (m : Merge) (o : Option Stated) (z : Stated) → Reg
 with_regular x m None z h r k e = subst Regular (same_Some _ _ e) r
 with_regular x m (Some y) z h r k e = h r y (k y refl) z e
 
-merged_regular : (es : List (Name × (Stated × Merge))) (fs xs : List (Name × Stated)) → AllRegular es → merged_exports es fs ≡ Some xs → ((n : Name) (x : Stated) → Among (n, x) (first_parts es) → Regular x)
+merged_regular : (es : List (Name × (Stated × Merge))) (fs xs : List (Name × Stated)) → EachEntry RegularBoth es → merged_exports es fs ≡ Some xs → ((n : Name) (x : Stated) → Among (n, x) (first_parts es) → Regular x)
     → ((n : Name) (y : Stated) → value_at fs n ≡ Some y → Regular y) → (n : Name) (z : Stated) → Among (n, z) xs → Regular z
 merged_regular [] fs xs h e a b n z m = absurd (subst (Among (n, z)) (sym (same_Some _ _ e)) m)
 merged_regular (e ∷ es) fs xs h q a b n z m =
@@ -401,7 +377,7 @@ module _ (i : Option Name) (us : List (Name × Option Name)) (es : List Name) (t
   abbrev Is : Stated → Type 0
   Is z = (is_instance_kind (kind_of z) ≡ true) × (is_interface (kind_of (as_type z)) ≡ true) × EachRegular z × EachRegular (as_type z)
 
-  module _ (h : AllRegular p.exports) (r : EachRegular (node (interface i us es) ts)) (q : EachRegular y) (xs : List (Name × Stated)) (e : merged_exports p.exports (exports_of y) ≡ Some xs) where
+  module _ (h : EachEntry RegularBoth p.exports) (r : EachRegular (node (interface i us es) ts)) (q : EachRegular y) (xs : List (Name × Stated)) (e : merged_exports p.exports (exports_of y) ≡ Some xs) where
     own : (n : Name) (x : Stated) → Among (n, x) (first_parts p.exports) → Regular x
     own n x k = r.1 n x (value_there (exports_of (node (interface i us es) ts)) n x r.0 (subst (Among (n, x)) (own_exports i us es ts) k))
 
@@ -432,28 +408,11 @@ module _ (i : Option Name) (us : List (Name × Option Name)) (es : List Name) (t
         let made = made_exports p.identifier uses (xs ++ rest) in
         (subst (λ l. AreDistinct (names_of l)) (sym made) distinct, λ n w k. each n w (ap (λ l. value_at l n) (sym made) ∙ k))
 
-  interface_each : (z : Stated) → AllRegular p.exports → EachRegular (node (interface i us es) ts) → EachRegular y → merged_interface p y ≡ Some z → Is z
+  interface_each : (z : Stated) → EachEntry RegularBoth p.exports → EachRegular (node (interface i us es) ts) → EachRegular y → merged_interface p y ≡ Some z → Is z
   interface_each z h r q e =
       let m = mapped-some (λ (xs : List (Name × Stated)). interface_of p.identifier uses (xs ++ rest)) (merged_exports p.exports (exports_of y)) z e in
       let whole = made_each h r q m.0 m.1 in
       subst Is m.2 (refl, refl, whole, whole)
-
-abbrev RowRegular : List (Option (Stated × Merge)) → Type 0
-RowRegular [] = Unit {0}
-RowRegular (None ∷ os) = RowRegular os
-RowRegular (Some x ∷ os) = RegularBoth x.0 x.1 × RowRegular os
-
-names_regular : (ns : List Name) (os : List (Option (Stated × Merge))) → RowRegular os → AllRegular (with_names ns os)
-names_regular [] os h = tt
-names_regular (n ∷ ns) [] h = tt
-names_regular (n ∷ ns) (None ∷ os) h = names_regular ns os h
-names_regular (n ∷ ns) (Some x ∷ os) h = (h.0, names_regular ns os h.1)
-
-drop_regular : {U : Type 0} (us : List U) (os : List (Option (Stated × Merge))) → RowRegular os → RowRegular (drop (length us) os)
-drop_regular [] os h = h
-drop_regular (u ∷ us) [] h = tt
-drop_regular (u ∷ us) (None ∷ os) h = drop_regular us os h
-drop_regular (u ∷ us) (Some x ∷ os) h = drop_regular us os h.1
 
 same_regular : (s : Shape) (ts : Wholes Shape) (y z : Stated) → Regular (node s ts) → same_tree_as (rebuilt s (folded_row merge_at ts)) y ≡ Some z → Regular z
 same_regular s ts y z r e =
@@ -461,15 +420,15 @@ same_regular s ts y z r e =
     let same : x ≡ node s ts = ap (λ os. node s (row os)) (folded_firsts merge_at ts) ∙ ap (node s) (row_again ts) in
     subst Regular (sym same ∙ same_Some _ _ (if_is (fits x y && fits y x) (Some x) z e).1) r
 
-merge_at_regular : (s : Shape) (ts : Wholes Shape) → RowRegular (folded_row merge_at ts) → RegularBoth (node s ts) (merge_at s (folded_row merge_at ts))
+merge_at_regular : (s : Shape) (ts : Wholes Shape) → EachPlace RegularBoth (folded_row merge_at ts) → RegularBoth (node s ts) (merge_at s (folded_row merge_at ts))
 merge_at_regular (interface i us es) ts h r y q z e =
     let b = if_is (is_instance_kind (kind_of y)) (merged_interface (parts_at (interface i us es) (folded_row merge_at ts)) y) z e in
-    let w = interface_each i us es ts y z (names_regular es (drop (length us) (folded_row merge_at ts)) (drop_regular us (folded_row merge_at ts) h)) (instance_regular (node (interface i us es) ts) refl r) (instance_regular y b.0 q) b.1 in
+    let w = interface_each i us es ts y z (names_each RegularBoth es (drop (length us) (folded_row merge_at ts)) (drop_each RegularBoth us (folded_row merge_at ts) h)) (instance_regular (node (interface i us es) ts) refl r) (instance_regular y b.0 q) b.1 in
     an_instance w.0 w.2.0 w.2.1
 merge_at_regular (type_of (interface i us es)) ts h r y q z e =
     let b = if_is (is_interface (kind_of y)) (option_map as_type (merged_interface (parts_at (interface i us es) (folded_row merge_at ts)) y)) z e in
     let m = mapped-some as_type (merged_interface (parts_at (interface i us es) (folded_row merge_at ts)) y) z b.1 in
-    let w = interface_each i us es ts y m.0 (names_regular es (drop (length us) (folded_row merge_at ts)) (drop_regular us (folded_row merge_at ts) h)) (interface_regular (node (type_of (interface i us es)) ts) refl r) (interface_regular y b.0 q) m.1 in
+    let w = interface_each i us es ts y m.0 (names_each RegularBoth es (drop (length us) (folded_row merge_at ts)) (drop_each RegularBoth us (folded_row merge_at ts) h)) (interface_regular (node (type_of (interface i us es)) ts) refl r) (interface_regular y b.0 q) m.1 in
     subst Regular m.2 (an_interface w.1 w.3.0 w.3.1)
 merge_at_regular s ts h (flat a b f) y q z e = same_regular s ts y z (flat a b f) (sym (merge_flat (folded_row merge_at ts) s y a b) ∙ e)
 merge_at_regular s ts h (an_instance a d k) y q z e = absurd (true≢false (sym a))
@@ -479,7 +438,7 @@ mutual
   merge_regular : (x : Stated) → RegularBoth x (merge x)
   merge_regular (node s ts) r y q z e = merge_at_regular s ts (row_regular ts) r y q z e
 
-  row_regular : (ts : Wholes Shape) → RowRegular (folded_row merge_at ts)
+  row_regular : (ts : Wholes Shape) → EachPlace RegularBoth (folded_row merge_at ts)
   row_regular no_more = tt
   row_regular (hole ts) = row_regular ts
   row_regular (more t ts) = (merge_regular t, row_regular ts)

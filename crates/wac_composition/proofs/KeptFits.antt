@@ -26,6 +26,7 @@ use Rattle.wac_composition.specs.OuterLaws.{trees_asked, Kept_is_meet}
 use Rattle.wac_composition.specs.Sound.{fields_of}
 use Rattle.wac_composition.proofs.FitLaws.{fits_is}
 use Rattle.wac_types_base.proofs.Made.{firsts, first_names, only_firsts, row_places, names_filled}
+use Rattle.wac_composition.proofs.MergeRows.{EachEntry, EachPlace, names_each, drop_each}
 
 -- ---- the map that named items are
 
@@ -181,10 +182,6 @@ typed_meet m t u h = record {
 abbrev pub MeetsBoth : Stated → Merge → Type 0
 MeetsBoth x m = (y z : Stated) → m y ≡ Some z → Meet z x y
 
-abbrev AllFit : List (Name × (Stated × Merge)) → Type 0
-AllFit [] = Unit {0}
-AllFit (e ∷ es) = MeetsBoth e.1.0 e.1.1 × AllFit es
-
 pub both_is : {A B C : Type 0} (f : A → B → C) (a : Option A) (b : Option B) (c : C) → both f a b ≡ Some c → (x : A) × (y : B) × (a ≡ Some x) × (b ≡ Some y) × (f x y ≡ c)
 both_is f (Some x) (Some y) c e = (x, y, refl, refl, same_Some _ _ e)
 both_is f (Some x) None c e = absurd (none-some _ e)
@@ -196,7 +193,7 @@ record Merged (es : List (Name × (Stated × Merge))) (fs xs : List (Name × Sta
   in_both : (n : Name) (x y : Stated) → value_at (first_parts es) n ≡ Some x → value_at fs n ≡ Some y → (z : Stated) × (value_at xs n ≡ Some z) × Meet z x y
   others : (n : Name) → value_at (first_parts es) n ≡ None → value_at xs n ≡ None
 
-merged_all : (es : List (Name × (Stated × Merge))) (fs xs : List (Name × Stated)) → AllFit es → merged_exports es fs ≡ Some xs → Merged es fs xs
+merged_all : (es : List (Name × (Stated × Merge))) (fs xs : List (Name × Stated)) → EachEntry MeetsBoth es → merged_exports es fs ≡ Some xs → Merged es fs xs
 merged_all [] fs xs h e =
     subst (Merged [] fs) (same_Some _ _ e) (record { alone = λ n x q. absurd (none-some _ q); in_both = λ n x y q r. absurd (none-some _ q); others = λ n q. refl })
 merged_all (e ∷ es) fs xs h q =
@@ -322,7 +319,7 @@ record MeetsTrees (p : Parts Merge) (y z : Stated) : Type 0 where
   tree_is : tree z ≡ instance (fields_of made)
   meet : IsMeet (instance (fields_of made)) (instance (fields_of (first_parts p.exports)) ∷ instance (fields_of (exports_of y)) ∷ [])
 
-merged_fits : (p : Parts Merge) (y z : Stated) → AllFit p.exports → merged_interface p y ≡ Some z → MeetsTrees p y z
+merged_fits : (p : Parts Merge) (y z : Stated) → EachEntry MeetsBoth p.exports → merged_interface p y ≡ Some z → MeetsTrees p y z
 merged_fits p y z h e =
     let uses = map (λ u. u.0) p.uses ++ filter (λ (u : Used). not (has_use (map (λ v. v.0) p.uses) u.name)) (uses_of y) in
     let rest = filter (λ (f : Name × Stated). is_none (value_at p.exports f.0)) (exports_of y) in
@@ -335,23 +332,6 @@ merged_fits p y z h e =
     }
 
 -- ---- all kinds
-
-abbrev RowFits : List (Option (Stated × Merge)) → Type 0
-RowFits [] = Unit {0}
-RowFits (None ∷ os) = RowFits os
-RowFits (Some x ∷ os) = MeetsBoth x.0 x.1 × RowFits os
-
-names_fit : (ns : List Name) (os : List (Option (Stated × Merge))) → RowFits os → AllFit (with_names ns os)
-names_fit [] os h = tt
-names_fit (n ∷ ns) [] h = tt
-names_fit (n ∷ ns) (None ∷ os) h = names_fit ns os h
-names_fit (n ∷ ns) (Some x ∷ os) h = (h.0, names_fit ns os h.1)
-
-drop_fits : {U : Type 0} (us : List U) (os : List (Option (Stated × Merge))) → RowFits os → RowFits (drop (length us) os)
-drop_fits [] os h = h
-drop_fits (u ∷ us) [] h = tt
-drop_fits (u ∷ us) (None ∷ os) h = drop_fits us os h
-drop_fits (u ∷ us) (Some x ∷ os) h = drop_fits us os h.1
 
 pub row_again : (ts : Wholes Shape) → row (places_in ts) ≡ ts
 row_again no_more = refl
@@ -423,17 +403,17 @@ met : {m t u m' t' u' : Tree} → m' ≡ m → t' ≡ t → u' ≡ u → IsMeet 
 met {t = t} {u = u} {m' = m'} {t' = t'} a b c h =
     subst (λ w. IsMeet m' (t' ∷ w ∷ [])) (sym c) (subst (λ w. IsMeet m' (w ∷ u ∷ [])) (sym b) (subst (λ w. IsMeet w (t ∷ u ∷ [])) (sym a) h))
 
-merge_at_fits : (s : Shape) (ts : Wholes Shape) → RowFits (folded_row merge_at ts) → (y z : Stated) → merge_at s (folded_row merge_at ts) y ≡ Some z → Meet z (node s ts) y
+merge_at_fits : (s : Shape) (ts : Wholes Shape) → EachPlace MeetsBoth (folded_row merge_at ts) → (y z : Stated) → merge_at s (folded_row merge_at ts) y ≡ Some z → Meet z (node s ts) y
 merge_at_fits (interface i us es) ts h y z e =
     let os = folded_row merge_at ts in
     let b = if_is (is_instance_kind (kind_of y)) (merged_interface (parts_at (interface i us es) os) y) z e in
-    let f = merged_fits (parts_at (interface i us es) os) y z (names_fit es (drop (length us) os) (drop_fits us os h)) b.1 in
+    let f = merged_fits (parts_at (interface i us es) os) y z (names_each MeetsBoth es (drop (length us) os) (drop_each MeetsBoth us os h)) b.1 in
     met f.tree_is (interface_tree i us es os ts (folded_firsts merge_at ts)) (instance_tree y b.0) f.meet
 merge_at_fits (type_of (interface i us es)) ts h y z e =
     let os = folded_row merge_at ts in
     let b = if_is (is_interface (kind_of y)) (option_map as_type (merged_interface (parts_at (interface i us es) os) y)) z e in
     let m = mapped-some as_type (merged_interface (parts_at (interface i us es) os) y) z b.1 in
-    let f = merged_fits (parts_at (interface i us es) os) y m.0 (names_fit es (drop (length us) os) (drop_fits us os h)) m.1 in
+    let f = merged_fits (parts_at (interface i us es) os) y m.0 (names_each MeetsBoth es (drop (length us) os) (drop_each MeetsBoth us os h)) m.1 in
     let own : tree (node (type_of (interface i us es)) ts) ≡ type_item (instance (fields_of (exports_at (interface i us es) os))) = ap type_item (interface_tree i us es os ts (folded_firsts merge_at ts)) in
     met (ap tree (sym m.2) ∙ typed_tree m.0 ∙ ap type_item f.tree_is) own (item_tree y b.0)
     (typed_meet (instance (fields_of f.made)) (instance (fields_of (exports_at (interface i us es) os))) (instance (fields_of (exports_of y))) f.meet)
@@ -483,7 +463,7 @@ mutual
   pub merge_fits : (x : Stated) → MeetsBoth x (merge x)
   merge_fits (node s ts) y z e = merge_at_fits s ts (row_fits ts) y z e
 
-  row_fits : (ts : Wholes Shape) → RowFits (folded_row merge_at ts)
+  row_fits : (ts : Wholes Shape) → EachPlace MeetsBoth (folded_row merge_at ts)
   row_fits no_more = tt
   row_fits (hole ts) = row_fits ts
   row_fits (more t ts) = (merge_fits t, row_fits ts)

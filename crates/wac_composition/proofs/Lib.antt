@@ -23,3 +23,4 @@ pub mod OutersAgain
 pub mod Lists
 pub mod Sizes
 pub mod SameWiring
+pub mod MergeRows

@@ -5,7 +5,7 @@ use Rattle.std.proofs.Common.{◌≡◌, List, [], ◌∷◌, ◌++◌, map, len
 use Rattle.wac_types_base.specs.Entries.{Name, value_at}
 use Rattle.wac_types_base.specs.Graph.{Wholes, node, no_more, more, hole, Among}
 use Rattle.wac_types_base.specs.Collection.{Shape, primitive, tuple, list, fixed_size_list, option, result, variant, record_of, flags, enum, alias, stream, future, resource, resource_alias, func, interface, world, module_type, type_of, borrow_of, own_of}
-use Rattle.wac_types_base.specs.Stated.{Stated, folded_row, with_names, interface_of, shape_kind, kind_of, Used, uses_of, Parts, parts_at, first_parts, exports_of}
+use Rattle.wac_types_base.specs.Stated.{Stated, folded_row, interface_of, shape_kind, kind_of, Used, uses_of, Parts, parts_at, first_parts, exports_of}
 use Rattle.wac_types_base.specs.Tree.{Tree, Fields, tree}
 use Rattle.wac_types_base.specs.Fits.{Fits, instance_fits}
 use Rattle.wac_composition.specs.Names.{has_track}
@@ -21,6 +21,7 @@ use Rattle.wac_composition.proofs.Closures.{filter_among}
 use Rattle.wac_composition.proofs.OuterClasses.{within, outer_of_ask}
 use Rattle.wac_types_fit.proofs.Meeting.{mapped-some}
 use Rattle.wac_types_base.proofs.Made.{made_exports}
+use Rattle.wac_composition.proofs.MergeRows.{EachEntry, EachPlace, names_each, drop_each}
 
 -- ---- what is no instance by its kind is none by its tree
 
@@ -91,32 +92,11 @@ straight_exports x k (no_instance f) = absurd (f _ (instance_tree x k))
 abbrev StraightBoth : Stated → Merge → Type 0
 StraightBoth x m = IsStraight x → (y : Stated) → IsStraight y → (z : Stated) → m y ≡ Some z → IsStraight z
 
-abbrev AllStraight : List (Name × (Stated × Merge)) → Type 0
-AllStraight [] = Unit {0}
-AllStraight (e ∷ es) = StraightBoth e.1.0 e.1.1 × AllStraight es
-
-abbrev RowStraight : List (Option (Stated × Merge)) → Type 0
-RowStraight [] = Unit {0}
-RowStraight (None ∷ os) = RowStraight os
-RowStraight (Some x ∷ os) = StraightBoth x.0 x.1 × RowStraight os
-
-names_straight : (ns : List Name) (os : List (Option (Stated × Merge))) → RowStraight os → AllStraight (with_names ns os)
-names_straight [] os h = tt
-names_straight (n ∷ ns) [] h = tt
-names_straight (n ∷ ns) (None ∷ os) h = names_straight ns os h
-names_straight (n ∷ ns) (Some x ∷ os) h = (h.0, names_straight ns os h.1)
-
-drop_straight : {U : Type 0} (us : List U) (os : List (Option (Stated × Merge))) → RowStraight os → RowStraight (drop (length us) os)
-drop_straight [] os h = h
-drop_straight (u ∷ us) [] h = tt
-drop_straight (u ∷ us) (None ∷ os) h = drop_straight us os h
-drop_straight (u ∷ us) (Some x ∷ os) h = drop_straight us os h.1
-
 with_straight : (x : Stated) (m : Merge) (o : Option Stated) (z : Stated) → StraightBoth x m → IsStraight x → ((y : Stated) → o ≡ Some y → IsStraight y) → merged_with m x o ≡ Some z → IsStraight z
 with_straight x m None z h r k e = subst IsStraight (same_Some _ _ e) r
 with_straight x m (Some y) z h r k e = h r y (k y refl) z e
 
-merged_straight : (es : List (Name × (Stated × Merge))) (fs xs : List (Name × Stated)) → AllStraight es → merged_exports es fs ≡ Some xs → ((n : Name) (x : Stated) → Among (n, x) (first_parts es) → IsStraight x)
+merged_straight : (es : List (Name × (Stated × Merge))) (fs xs : List (Name × Stated)) → EachEntry StraightBoth es → merged_exports es fs ≡ Some xs → ((n : Name) (x : Stated) → Among (n, x) (first_parts es) → IsStraight x)
     → ((n : Name) (y : Stated) → value_at fs n ≡ Some y → IsStraight y) → (n : Name) (z : Stated) → Among (n, z) xs → IsStraight z
 merged_straight [] fs xs h e a b n z m = absurd (subst (Among (n, z)) (sym (same_Some _ _ e)) m)
 merged_straight (e ∷ es) fs xs h q a b n z m =
@@ -137,13 +117,13 @@ module _ (i : Option Name) (us : List (Name × Option Name)) (es : List Name) (t
   abbrev uses : List Used
   uses = map (λ u. u.0) p.uses ++ filter (λ (u : Used). not (has_use (map (λ v. v.0) p.uses) u.name)) (uses_of y)
 
-  module _ (h : RowStraight (folded_row merge_at ts)) (r : IsStraight (node (interface i us es) ts)) (q : IsStraight y) (k : is_instance_kind (kind_of y) ≡ true) where
+  module _ (h : EachPlace StraightBoth (folded_row merge_at ts)) (r : IsStraight (node (interface i us es) ts)) (q : IsStraight y) (k : is_instance_kind (kind_of y) ≡ true) where
     own : (n : Name) (x : Stated) → Among (n, x) (first_parts p.exports) → IsStraight x
     own n x a = straight_exports (node (interface i us es) ts) refl r n x (subst (Among (n, x)) (own_exports i us es ts) a)
 
     each : (xs : List (Name × Stated)) → merged_exports p.exports (exports_of y) ≡ Some xs → (n : Name) (w : Stated) → Among (n, w) (xs ++ rest) → IsStraight w
     each xs m n w a = elim (among_append xs rest (n, w) a) [
-      | inl c ↦ merged_straight p.exports (exports_of y) xs (names_straight es (drop (length us) (folded_row merge_at ts)) (drop_straight us (folded_row merge_at ts) h)) m own
+      | inl c ↦ merged_straight p.exports (exports_of y) xs (names_each StraightBoth es (drop (length us) (folded_row merge_at ts)) (drop_each StraightBoth us (folded_row merge_at ts) h)) m own
           (λ j x s. straight_exports y k q j x (value_among (exports_of y) j x s)) n w c
       | inr c ↦ straight_exports y k q n w (filter_among (λ (f : Name × Stated). is_none (value_at p.exports f.0)) (exports_of y) (n, w) c).0
     ]
@@ -153,12 +133,12 @@ module _ (i : Option Name) (us : List (Name × Option Name)) (es : List Name) (t
         let m = mapped-some (λ (xs : List (Name × Stated)). interface_of p.identifier uses (xs ++ rest)) (merged_exports p.exports (exports_of y)) z s in
         subst IsStraight m.2 (an_instance refl (λ n w a. each m.0 m.1 n w (subst (Among (n, w)) (made_exports p.identifier uses (m.0 ++ rest)) a)))
 
-interface_straight : (i : Option Name) (us : List (Name × Option Name)) (es : List Name) (ts : Wholes Shape) → RowStraight (folded_row merge_at ts) → StraightBoth (node (interface i us es) ts) (merge_at (interface i us es) (folded_row merge_at ts))
+interface_straight : (i : Option Name) (us : List (Name × Option Name)) (es : List Name) (ts : Wholes Shape) → EachPlace StraightBoth (folded_row merge_at ts) → StraightBoth (node (interface i us es) ts) (merge_at (interface i us es) (folded_row merge_at ts))
 interface_straight i us es ts h r y q z e =
     let b = if_is (is_instance_kind (kind_of y)) (merged_interface (parts_at (interface i us es) (folded_row merge_at ts)) y) z e in
     made i us es ts y h r q b.0 z b.1
 
-straight_at : (s : Shape) (ts : Wholes Shape) → RowStraight (folded_row merge_at ts) → IsStraight (node s ts) → (y : Stated) → IsStraight y → (z : Stated) → merge (node s ts) y ≡ Some z → (b : Bool) → is_instance_kind (shape_kind s) ≡ b → IsStraight z
+straight_at : (s : Shape) (ts : Wholes Shape) → EachPlace StraightBoth (folded_row merge_at ts) → IsStraight (node s ts) → (y : Stated) → IsStraight y → (z : Stated) → merge (node s ts) y ≡ Some z → (b : Bool) → is_instance_kind (shape_kind s) ≡ b → IsStraight z
 straight_at s ts h r y q z e false k = straight_below (node s ts) z r k (merge_fits (node s ts) y z e).fits.0
 straight_at s ts h r y q z e true k =
     let f = instance_shape s k in
@@ -168,7 +148,7 @@ mutual
   merge_straight : (x : Stated) → StraightBoth x (merge x)
   merge_straight (node s ts) r y q z e = straight_at s ts (row_straight ts) r y q z e (is_instance_kind (shape_kind s)) refl
 
-  row_straight : (ts : Wholes Shape) → RowStraight (folded_row merge_at ts)
+  row_straight : (ts : Wholes Shape) → EachPlace StraightBoth (folded_row merge_at ts)
   row_straight no_more = tt
   row_straight (hole ts) = row_straight ts
   row_straight (more t ts) = (merge_straight t, row_straight ts)

@@ -1,10 +1,12 @@
 -- Names, paths and packages say the same whatever the spans are, and over packages that are the same where they are named.
-use Rattle.std.specs.Prelude.{ℕ, ◌+◌, ◌==◌, Bool, true, false, cond, if◌then◌else◌, List, [], ◌∷◌, ◌++◌, length, Option, Some, None, is_some, option_map}
+use Rattle.std.specs.Prelude.{ℕ, ◌+◌, ◌==◌, Bool, true, false, cond, List, [], ◌∷◌, ◌++◌, length, Option, Some, None, is_some, option_map}
 use Rattle.std.specs.Cmp.Lexicographic.{pointwise}
 use Rattle.std.proofs.Common.{◌≡◌, refl, sym, ap, ◌∙◌, subst, inl}
 use Rattle.std.proofs.lemmas.List.{map-append}
 use Rattle.wac_types_base.specs.Entries.{Name, value_at, with_values}
 use Rattle.wac_types_base.specs.Stated.{Stated, desc, exports_of}
+use Rattle.wac_types_base.proofs.Standing.{is_some-option_map}
+use Rattle.wac_types_base.proofs.Stating.{value_with}
 use Rattle.wac_types_names.specs.Keys.{Key}
 use Rattle.wac_parser_tree.specs.Trees as t
 use Rattle.wac_parser_tree.specs.Bare.{nowhere, bare_ident, bare_package_name, bare_package_path, bare_use_path, bare_world_ref}
@@ -22,23 +24,11 @@ bare_meant m = record { item = m.item; span = nowhere }
 abbrev pub bare_scope : Scope → Scope
 bare_scope ns = with_values bare_meant ns
 
-pub value_read : {T U : Type 0} (f : T → U) (xs : List (Name × T)) (n : Name) → value_at (with_values f xs) n ≡ option_map f (value_at xs n)
-value_read f [] n = refl
-value_read f (x ∷ xs) n = go (pointwise ◌==◌ n x.0) (value_read f xs n)
-  where
-    go : (b : Bool) → value_at (with_values f xs) n ≡ option_map f (value_at xs n) → (if b then Some (f x.1) else value_at (with_values f xs) n) ≡ option_map f (if b then Some x.1 else value_at xs n)
-    go true e = refl
-    go false e = e
-
-some_read : {T U : Type 0} (f : T → U) (o : Option T) → is_some (option_map f o) ≡ is_some o
-some_read f None = refl
-some_read f (Some x) = refl
-
 pub has_read : {T U : Type 0} (f : T → U) (xs : List (Name × T)) (n : Name) → has (with_values f xs) n ≡ has xs n
-has_read f xs n = ap is_some (value_read f xs n) ∙ some_read f (value_at xs n)
+has_read f xs n = ap is_some (value_with f xs n) ∙ is_some-option_map f (value_at xs n)
 
 pub meant_alike : (ns : Scope) (i : t.Ident) → IsAlike itself bare_meant (meant ns i) (meant (bare_scope ns) (bare_ident i))
-meant_alike ns i = subst (λ (o : Option Meant). IsAlike itself bare_meant (meant ns i) (present o (UndefinedName i.string) nowhere)) (sym (value_read bare_meant ns i.string)) (go (value_at ns i.string))
+meant_alike ns i = subst (λ (o : Option Meant). IsAlike itself bare_meant (meant ns i) (present o (UndefinedName i.string) nowhere)) (sym (value_with bare_meant ns i.string)) (go (value_at ns i.string))
   where
     go : (o : Option Meant) → IsAlike itself bare_meant (present o (UndefinedName i.string) i.span) (present (option_map bare_meant o) (UndefinedName i.string) nowhere)
     go None = neither _ _
@@ -52,7 +42,7 @@ taken_alike None i = both tt
 taken_alike (Some m) i = neither _ _
 
 pub bind_alike : (ns : Scope) (i : t.Ident) (x : Stated) → IsAlike itself bare_scope (bind ns i x) (bind (bare_scope ns) (bare_ident i) x)
-bind_alike ns i x = subst (λ (o : Option Meant). IsAlike itself bare_scope (bind ns i x) (taken o (bare_ident i) >> pure after)) (sym (value_read bare_meant ns i.string))
+bind_alike ns i x = subst (λ (o : Option Meant). IsAlike itself bare_scope (bind ns i x) (taken o (bare_ident i) >> pure after)) (sym (value_with bare_meant ns i.string))
     (next_alike (taken_alike (value_at ns i.string) i) (subst (λ (ms : Scope). IsAlike itself bare_scope (pure (ns ++ one ∷ [])) (pure ms)) (map-append (λ (e : Name × Meant). (e.0, bare_meant e.1)) ns (one ∷ [])) (both (ns ++ one ∷ []))))
   where
     one : Name × Meant
@@ -99,7 +89,7 @@ from_root_alike c qs m n [] = neither _ _
 from_root_alike c qs m n (w ∷ ws) = then_alike _ _ (named_somewhere c.root w _ _) (λ y. own_path_alike w y (m + length w + 1) (n + length w + 1) ws)
   where
     named_somewhere : (ns : Scope) (w : Name) (s z : t.Span) → AreSame (named ns (record { string = w; span = s })) (named (bare_scope ns) (record { string = w; span = z }))
-    named_somewhere ns w s z = then_alike (λ (m : Meant). pure m.item) (λ (m : Meant). pure m.item) (subst (λ (o : Option Meant). IsAlike itself bare_meant (present (value_at ns w) (UndefinedName w) s) (present o (UndefinedName w) z)) (sym (value_read bare_meant ns w)) (go (value_at ns w))) (λ m. both m.item)
+    named_somewhere ns w s z = then_alike (λ (m : Meant). pure m.item) (λ (m : Meant). pure m.item) (subst (λ (o : Option Meant). IsAlike itself bare_meant (present (value_at ns w) (UndefinedName w) s) (present o (UndefinedName w) z)) (sym (value_with bare_meant ns w)) (go (value_at ns w))) (λ m. both m.item)
       where
         go : (o : Option Meant) → IsAlike itself bare_meant (present o (UndefinedName w) s) (present (option_map bare_meant o) (UndefinedName w) z)
         go None = neither _ _

@@ -5,6 +5,7 @@ use Rattle.std.proofs.Common.{◌≡◌, refl, sym, ap, ◌∙◌, subst}
 use Rattle.std.proofs.lemmas.List.{map-append}
 use Rattle.wac_types_base.specs.Entries.{Name, value_at, names_of}
 use Rattle.wac_types_base.specs.Stated.{Stated, kind_of, promote, exports_of}
+use Rattle.wac_types_base.proofs.Stating.{value_with}
 use Rattle.wac_types_names.specs.Keys.{Key}
 use Rattle.wac_parser_tree.specs.Trees as t
 use Rattle.wac_parser_tree.specs.Trees.{Span}
@@ -18,7 +19,7 @@ use Rattle.wac_parser_declare.specs.Scope.{Scope, Context, named, path_item}
 use Rattle.wac_parser_declare.specs.Declarations.{free}
 use Rattle.wac_parser_declare.specs.Interfaces.{inline_interface}
 use Rattle.wac_parser_declare.specs.Worlds.{type_statement}
-use Rattle.wac_parser_declare.proofs.AlikeScopes.{value_read, has_read, named_alike, IsSameIn, AreSameIn, bare_context, path_alike}
+use Rattle.wac_parser_declare.proofs.AlikeScopes.{has_read, named_alike, IsSameIn, AreSameIn, bare_context, path_alike}
 use Rattle.wac_parser_declare.proofs.AlikeTypes.{free_alike}
 use Rattle.wac_parser_declare.proofs.AlikeBodies.{inline_alike}
 use Rattle.wac_parser_declare.proofs.AlikeWorlds.{type_statement_alike}
@@ -137,7 +138,7 @@ module _ (ps qs : List (Key × Content)) where
 
   declaration_alike : (g : State) (i : t.Ident) (x : Stated) → IsSaidAlike ps qs (declaration (over ps g) i x) (declaration (bare_over qs g) (bare_ident i) x)
   declaration_alike g i x = next_alike (clear_alike (not (is_extern_name i.string)) _ _ _ _) (next_alike
-      (subst (λ (o : Option Bound). AreSame (not_exported (over ps g) (value_at g.exports i.string) i) (not_exported (bare_over qs g) o (bare_ident i))) (sym (value_read bare_bound g.exports i.string)) (not_exported_alike (over ps g) (bare_over qs g) (value_at g.exports i.string) i))
+      (subst (λ (o : Option Bound). AreSame (not_exported (over ps g) (value_at g.exports i.string) i) (not_exported (bare_over qs g) o (bare_ident i))) (sym (value_with bare_bound g.exports i.string)) (not_exported_alike (over ps g) (bare_over qs g) (value_at g.exports i.string) i))
       (subst (λ (es : List (Name × Bound)). IsSaidAlike ps qs (bound (over ps (with_definition g i x)) i d) (bound (record (bare_over qs g) { definitions = g.definitions ++ (i.string, x) ∷ []; exports = es }) (bare_ident i) d))
       (more_bare bare_bound g.exports (i.string, record { denoted = d; span = i.span })) (bound_alike ps qs (with_definition g i x) i d)))
     where
@@ -148,8 +149,8 @@ module _ (ps qs : List (Key × Content)) where
 
   exported_alike : (d : Denoted) (helped : Bool) (g : State) (n : t.Ident) → IsSaidAlike ps qs (exported d helped (over ps g) n) (exported d helped (bare_over qs g) (bare_ident n))
   exported_alike d helped g n =
-      next_alike (subst (λ (o : Option Bound). AreSame (no_definition n helped (value_at g.root n.string)) (no_definition (bare_ident n) helped o)) (sym (value_read bare_bound g.root n.string)) (no_definition_alike n helped (value_at g.root n.string)))
-      (next_alike (subst (λ (o : Option Bound). AreSame (new_export (over ps g) n helped (value_at g.exports n.string)) (new_export (bare_over qs g) (bare_ident n) helped o)) (sym (value_read bare_bound g.exports n.string)) (new_export_alike (over ps g) (bare_over qs g) n helped (value_at g.exports n.string)))
+      next_alike (subst (λ (o : Option Bound). AreSame (no_definition n helped (value_at g.root n.string)) (no_definition (bare_ident n) helped o)) (sym (value_with bare_bound g.root n.string)) (no_definition_alike n helped (value_at g.root n.string)))
+      (next_alike (subst (λ (o : Option Bound). AreSame (new_export (over ps g) n helped (value_at g.exports n.string)) (new_export (bare_over qs g) (bare_ident n) helped o)) (sym (value_with bare_bound g.exports n.string)) (new_export_alike (over ps g) (bare_over qs g) n helped (value_at g.exports n.string)))
       (next_alike (clear_alike (not (is_exportable n.string)) _ _ _ _)
       (subst (λ (h : State). IsSaidAlike ps qs (pure (with_exports h (g.exports ++ e ∷ []))) (pure (with_exports (speak_of (bare_over qs g) d) (bare_exports g.exports ++ (n.string, bare_bound e.1) ∷ [])))) (sym (spoken_over ps qs g d))
       (subst (λ (h : State). IsSaidAlike ps qs (pure (over ps (with_exports (speak_of g d) (g.exports ++ e ∷ [])))) (pure (with_exports h (bare_exports g.exports ++ (n.string, bare_bound e.1) ∷ [])))) (sym (spoken_bare ps qs g d))

@@ -4,6 +4,7 @@ use Rattle.std.specs.List.{list_any}
 use Rattle.std.proofs.Common.{◌≡◌, refl, sym, ap, ◌∙◌, subst}
 use Rattle.std.proofs.lemmas.List.{map-append}
 use Rattle.wac_types_base.specs.Entries.{Name, value_at, with_values}
+use Rattle.wac_types_base.proofs.Stating.{value_with}
 use Rattle.wac_types_names.specs.Keys.{Key}
 use Rattle.wac_parser_tree.specs.Trees as t
 use Rattle.wac_parser_tree.specs.Bare.{nowhere, bare_ident, bare_package_name}
@@ -11,7 +12,7 @@ use Rattle.wac_parser_refusals.specs.Causes.{Answer, pure, present, UndefinedNam
 use Rattle.wac_parser_refusals.proofs.Alike.{IsAlike, both, neither, itself, AreSame, first, then_alike, next_alike}
 use Rattle.wac_parser_declare.specs.Packages.{Content}
 use Rattle.wac_parser_declare.specs.Scope.{Scope, Context, bind}
-use Rattle.wac_parser_declare.proofs.AlikeScopes.{bare_meant, bare_scope, value_read, bind_alike, bare_context}
+use Rattle.wac_parser_declare.proofs.AlikeScopes.{bare_meant, bare_scope, bind_alike, bare_context}
 use Rattle.wac_parser_resolve.specs.Ascribing.{Denoted, Made, Import, Bound, State, meant_by, root_scope, worlds_of, context, denoted_by, bound, is_projection, same_origin, speak_of}
 use Rattle.wac_parser_resolve.specs.Denoting.{spoken}
 
@@ -62,7 +63,7 @@ more_bare f es e = map-append (λ (x : Name × _). (x.0, f x.1)) es (e ∷ [])
 -- ---- steps
 
 pub denoted_alike : (g h : State) (i : t.Ident) → h.root ≡ bare_exports g.root → AreSame (denoted_by g i) (denoted_by h (bare_ident i))
-denoted_alike g h i e = subst (λ (o : Option Bound). AreSame (denoted_by g i) (present (option_map (λ b. b.denoted) o) (UndefinedName i.string) nowhere)) (sym (ap (λ (es : List (Name × Bound)). value_at es i.string) e ∙ value_read bare_bound g.root i.string)) (go (value_at g.root i.string))
+denoted_alike g h i e = subst (λ (o : Option Bound). AreSame (denoted_by g i) (present (option_map (λ b. b.denoted) o) (UndefinedName i.string) nowhere)) (sym (ap (λ (es : List (Name × Bound)). value_at es i.string) e ∙ value_with bare_bound g.root i.string)) (go (value_at g.root i.string))
   where
     go : (o : Option Bound) → AreSame (present (option_map (λ b. b.denoted) o) (UndefinedName i.string) i.span) (present (option_map (λ b. b.denoted) (option_map bare_bound o)) (UndefinedName i.string) nowhere)
     go None = neither _ _

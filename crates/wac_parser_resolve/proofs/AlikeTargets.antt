@@ -6,6 +6,7 @@ use Rattle.std.proofs.lemmas.List.{map-append}
 use Rattle.wac_types_base.specs.declared.item.ExternKind.{ExternKind}
 use Rattle.wac_types_base.specs.Entries.{Name, value_at}
 use Rattle.wac_types_base.specs.Stated.{Stated, Kind, IsFunction, IsInstance, IsComponent, IsModule, IsValue, IsResource, IsFunctionType, IsValueType, IsInterface, IsWorld, IsModuleType, kind_of, promote, untyped, exports_of, imports_of}
+use Rattle.wac_types_base.proofs.Stating.{value_with}
 use Rattle.wac_types_names.specs.Keys.{Key}
 use Rattle.wac_composition.specs.Tests.{fits}
 use Rattle.wac_parser_tree.specs.Trees as t
@@ -16,7 +17,7 @@ use Rattle.wac_parser_refusals.specs.Causes.{Answer, pure, each, TypeCannotBeWri
 use Rattle.wac_parser_refusals.proofs.Alike.{IsAlike, both, neither, itself, AreSame, first, then_alike, next_alike, clear_alike, each_alike, each_same, front_holds, back_holds}
 use Rattle.wac_parser_declare.specs.Packages.{Content}
 use Rattle.wac_parser_declare.specs.Scope.{path_item}
-use Rattle.wac_parser_declare.proofs.AlikeScopes.{value_read, IsSameIn, AreSameIn, path_alike}
+use Rattle.wac_parser_declare.proofs.AlikeScopes.{IsSameIn, AreSameIn, path_alike}
 use Rattle.wac_parser_resolve.specs.Ascribing.{Import, Made, Bound, State, worlds_of, context}
 use Rattle.wac_parser_resolve.specs.Meeting.{given_by, Wanted, wanted_by_statement, wanted_by_instance, wanted, refuse_at, uses_are_named, target_met, target, resolved, target_by, export_met, import_met}
 use Rattle.wac_parser_resolve.proofs.AlikeStates.{bare_bound, bare_asked, bare_made, bare_exports, over, bare_over}
@@ -91,7 +92,7 @@ module _ (ps qs : List (Key × Content)) where
       (each_same {f = itself} {g = itself} _ _ (λ u e. exported_alike e) tt (exports_of w)))
     where
       exported_alike : (e : Name × Stated) → AreSame (export_met (over ps g) p e.0 e.1 (value_at g.exports e.0)) (export_met (bare_over qs g) (bare_package_path p) e.0 e.1 (value_at (bare_exports g.exports) e.0))
-      exported_alike e = subst (λ (o : Option Bound). AreSame (export_met (over ps g) p e.0 e.1 (value_at g.exports e.0)) (export_met (bare_over qs g) (bare_package_path p) e.0 e.1 o)) (sym (value_read bare_bound g.exports e.0))
+      exported_alike e = subst (λ (o : Option Bound). AreSame (export_met (over ps g) p e.0 e.1 (value_at g.exports e.0)) (export_met (bare_over qs g) (bare_package_path p) e.0 e.1 o)) (sym (value_with bare_bound g.exports e.0))
           (export_by_alike (over ps g) (bare_over qs g) p e.0 e.1 (value_at g.exports e.0))
 
   target_alike : (g : State) (o : Option t.PackagePath) → AreHeld (in_target o) → AreSame (target (over ps g) o) (target (bare_over qs g) (option_map bare_package_path o))

@@ -147,7 +147,7 @@ pub last_own : (xs : List (ℕ × Span)) (k : ℕ) (at : Span) → last_noted (x
 last_own [] k at = ap (λ (b : Bool). option_or None (if b then Some at else None)) (number_same k k refl)
 last_own (x ∷ xs) k at = ap (λ (o : Option Span). option_or o (if x.0 == k then Some x.1 else None)) (last_own xs k at)
 
-last_none : (xs : List (ℕ × Span)) (k : ℕ) → (Among k (names_of xs) → ⊥) → last_noted xs k ≡ None
+pub last_none : (xs : List (ℕ × Span)) (k : ℕ) → (Among k (names_of xs) → ⊥) → last_noted xs k ≡ None
 last_none [] k not_so = refl
 last_none (x ∷ xs) k not_so =
     ap (λ (o : Option Span). option_or o (if x.0 == k then Some x.1 else None)) (last_none xs k (λ m. not_so (inr m)))
