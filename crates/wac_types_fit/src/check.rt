@@ -7,7 +7,7 @@ ghost use Rattle.wac_types_base.specs.Collection.{Stands};
 ghost use Rattle.wac_types_fit.specs.Frames.{Step, Disagree};
 ghost use Rattle.wac_types_fit.specs.Errors.{IfMismatch, IfSaid};
 ghost use Rattle.wac_types_fit.specs.Words.{Called, ItemsCalled, InstanceCalled, WorldCalled, NamedCalled, AreCalled};
-ghost use Rattle.wac_types_fit.specs.Trees.{tree_in, Fit, SameTree, OneOrApart, IsInside};
+ghost use Rattle.wac_types_fit.specs.Trees.{tree_in, Fit, SameTree, OneOrApart};
 ghost use Rattle.wac_types_fit.specs.Checking.{HasPair, IsTrueOf, OnlyTrue, AreInside, GivesName, GivesAll, NameDisagrees, ItemsDisagree, IsFlat};
 
 use crate::cache::{Cache, knows, remember};
@@ -17,321 +17,328 @@ use crate::values::{same_funcs, same_resources, same_values};
 use std::alloc::Global;
 use wac_types_base::{ExternKind, InterfaceId, ItemKind, NamedMap, Type, Types, WorldId};
 
+/// A collection whose items are given and one whose items are asked. Turned, the given ones are those that a refusal calls
+/// expected.
+#[derive(Clone, Copy)]
+pub(crate) struct Sides<'a> {
+    pub given: &'a Types,
+    pub asked: &'a Types,
+    pub turned: bool,
+}
+
+/// An item under its name.
+#[derive(Clone, Copy)]
+pub(crate) struct Item<'a> {
+    pub name: &'a str,
+    pub kind: ItemKind,
+}
+
+/// The imports or the exports of an item.
+#[derive(Clone, Copy)]
+struct Inside<'a> {
+    of: ItemKind,
+    items: &'a NamedMap<ItemKind>,
+}
+
 /// Two items that do not fit.
-fn differ(
-    alloc: Global,
-    turned: bool,
-    a: ItemKind,
-    at: &Types,
-    b: ItemKind,
-    bt: &Types,
-) -> Result<(), SubtypeError>
-    requires given { Stands at.now a }
-    requires asked { Stands bt.now b }
-    requires apart { Disagree [] (tree_in at.now a) (tree_in bt.now b) }
-    ensures yes { OnOk result (Fit at.now a bt.now b) }
-    ensures no { IfMismatch result (λ ss. Disagree ss (tree_in at.now a) (tree_in bt.now b)) }
-    ensures words { IfSaid result (λ ss e f. AreCalled turned (Called at.now a ss) (Called bt.now b ss) e f) }
+fn differ(sides: Sides<'_>, alloc: Global, a: ItemKind, b: ItemKind) -> Result<(), SubtypeError>
+    requires given { Stands sides.given.now a }
+    requires asked { Stands sides.asked.now b }
+    requires apart { Disagree [] (tree_in sides.given.now a) (tree_in sides.asked.now b) }
+    ensures yes { OnOk result (Fit sides.entry.given.now a sides.entry.asked.now b) }
+    ensures no { IfMismatch result (λ ss. Disagree ss (tree_in sides.entry.given.now a) (tree_in sides.entry.asked.now b)) }
+    ensures words { IfSaid result (λ ss e f. AreCalled sides.entry.turned (Called sides.entry.given.now a ss)
+        (Called sides.entry.asked.now b ss) e f) }
 {
-    Err(mismatch(alloc, turned, Some(a.desc(at)), Some(b.desc(bt))))
+    Err(mismatch(
+        alloc,
+        sides.turned,
+        Some(a.desc(sides.given)),
+        Some(b.desc(sides.asked)),
+    ))
 }
 
 /// Two items without parts of their own that fit where they have one tree.
 fn alike(
+    sides: Sides<'_>,
     alloc: Global,
-    turned: bool,
     same: bool,
     a: ItemKind,
-    at: &Types,
     b: ItemKind,
-    bt: &Types,
 ) -> Result<(), SubtypeError>
-    requires given { Stands at.now a }
-    requires asked { Stands bt.now b }
+    requires given { Stands sides.given.now a }
+    requires asked { Stands sides.asked.now b }
     requires flat { IsFlat a }
-    requires tested { IsTrue same ↔ SameTree at.now a bt.now b }
-    ensures yes { OnOk result (Fit at.now a bt.now b) }
-    ensures no { IfMismatch result (λ ss. Disagree ss (tree_in at.now a) (tree_in bt.now b)) }
-    ensures words { IfSaid result (λ ss e f. AreCalled turned (Called at.now a ss) (Called bt.now b ss) e f) }
+    requires tested { IsTrue same ↔ SameTree sides.given.now a sides.asked.now b }
+    ensures yes { OnOk result (Fit sides.entry.given.now a sides.entry.asked.now b) }
+    ensures no { IfMismatch result (λ ss. Disagree ss (tree_in sides.entry.given.now a) (tree_in sides.entry.asked.now b)) }
+    ensures words { IfSaid result (λ ss e f. AreCalled sides.entry.turned (Called sides.entry.given.now a ss)
+        (Called sides.entry.asked.now b ss) e f) }
 {
-    at.see_acyclic();
+    sides.given.see_acyclic();
     if same {
         Ok(())
     } else {
-        differ(alloc, turned, a, at, b, bt)
+        differ(sides, alloc, a, b)
     }
 }
 
 /// Whether `a` fits `b`. A pair that is found to fit is remembered.
 #[cycle(fits)]
 pub(crate) fn fits(
+    sides: Sides<'_>,
     alloc: Global,
     cache: &mut Cache,
-    turned: bool,
     a: ItemKind,
-    at: &Types,
     b: ItemKind,
-    bt: &Types,
 ) -> Result<(), SubtypeError>
-    requires given { Stands at.now a }
-    requires asked { Stands bt.now b }
-    requires apart { OneOrApart at.now bt.now }
-    requires cache { IsTrueOf at.now bt.now cache.old.keys }
-    ensures yes { OnOk result (Fit at.now a bt.now b) }
-    ensures no { IfMismatch result (λ ss. Disagree ss (tree_in at.now a) (tree_in bt.now b)) }
-    ensures words { IfSaid result (λ ss e f. AreCalled turned (Called at.now a ss) (Called bt.now b ss) e f) }
+    requires given { Stands sides.given.now a }
+    requires asked { Stands sides.asked.now b }
+    requires apart { OneOrApart sides.given.now sides.asked.now }
+    requires cache { IsTrueOf sides.given.now sides.asked.now cache.old.keys }
+    ensures yes { OnOk result (Fit sides.entry.given.now a sides.entry.asked.now b) }
+    ensures no { IfMismatch result (λ ss. Disagree ss (tree_in sides.entry.given.now a) (tree_in sides.entry.asked.now b)) }
+    ensures words { IfSaid result (λ ss e f. AreCalled sides.entry.turned (Called sides.entry.given.now a ss)
+        (Called sides.entry.asked.now b ss) e f) }
     ensures remembered { OnOk result (HasPair cache.new.keys a b) }
-    ensures only { OnlyTrue at.now bt.now cache.old.keys cache.new.keys }
-    ensures cache { IsTrueOf at.now bt.now cache.new.keys }
+    ensures only { OnlyTrue sides.entry.given.now sides.entry.asked.now cache.old.keys cache.new.keys }
+    ensures cache { IsTrueOf sides.entry.given.now sides.entry.asked.now cache.new.keys }
 {
-    at.see_acyclic();
-    bt.see_acyclic();
+    sides.given.see_acyclic();
+    sides.asked.see_acyclic();
     if knows(cache, a, b) {
         return Ok(());
     }
-    match unfolded(alloc, cache, turned, a, at, b, bt) {
-        Err(fault) => Err(fault),
-        Ok(()) => match remember(cache, a, b) {
-            Ok(()) => Ok(()),
-            Err(_) => Err(SubtypeError::Memory),
-        },
+    unfolded(sides, alloc, cache, a, b)?;
+    match remember(cache, a, b) {
+        Ok(()) => Ok(()),
+        Err(_) => Err(SubtypeError::Memory),
     }
 }
 
 /// Whether `a` fits `b`, by what both are.
 #[cycle(fits)]
 fn unfolded(
+    sides: Sides<'_>,
     alloc: Global,
     cache: &mut Cache,
-    turned: bool,
     a: ItemKind,
-    at: &Types,
     b: ItemKind,
-    bt: &Types,
 ) -> Result<(), SubtypeError>
-    requires given { Stands at.now a }
-    requires asked { Stands bt.now b }
-    requires apart { OneOrApart at.now bt.now }
-    requires cache { IsTrueOf at.now bt.now cache.old.keys }
-    ensures yes { OnOk result (Fit at.now a bt.now b) }
-    ensures no { IfMismatch result (λ ss. Disagree ss (tree_in at.now a) (tree_in bt.now b)) }
-    ensures words { IfSaid result (λ ss e f. AreCalled turned (Called at.now a ss) (Called bt.now b ss) e f) }
-    ensures only { OnlyTrue at.now bt.now cache.old.keys cache.new.keys }
-    ensures cache { IsTrueOf at.now bt.now cache.new.keys }
+    requires given { Stands sides.given.now a }
+    requires asked { Stands sides.asked.now b }
+    requires apart { OneOrApart sides.given.now sides.asked.now }
+    requires cache { IsTrueOf sides.given.now sides.asked.now cache.old.keys }
+    ensures yes { OnOk result (Fit sides.entry.given.now a sides.entry.asked.now b) }
+    ensures no { IfMismatch result (λ ss. Disagree ss (tree_in sides.entry.given.now a) (tree_in sides.entry.asked.now b)) }
+    ensures words { IfSaid result (λ ss e f. AreCalled sides.entry.turned (Called sides.entry.given.now a ss)
+        (Called sides.entry.asked.now b ss) e f) }
+    ensures only { OnlyTrue sides.entry.given.now sides.entry.asked.now cache.old.keys cache.new.keys }
+    ensures cache { IsTrueOf sides.entry.given.now sides.entry.asked.now cache.new.keys }
 {
-    at.see_acyclic();
-    bt.see_acyclic();
-    match a {
-        ItemKind::Ty(x) => match b {
-            ItemKind::Ty(y) => types_fit(alloc, cache, turned, x, at, y, bt),
-            _ => differ(alloc, turned, a, at, b, bt),
-        },
-        ItemKind::Func(f) => match b {
-            ItemKind::Func(g) => alike(alloc, turned, same_funcs(f, at, g, bt), a, at, b, bt),
-            _ => differ(alloc, turned, a, at, b, bt),
-        },
-        ItemKind::Instance(i) => match b {
-            ItemKind::Instance(j) => instances_fit(alloc, cache, turned, i, at, j, bt),
-            _ => differ(alloc, turned, a, at, b, bt),
-        },
-        ItemKind::Component(i) => match b {
-            ItemKind::Component(j) => worlds_fit(alloc, cache, turned, i, at, j, bt),
-            _ => differ(alloc, turned, a, at, b, bt),
-        },
-        ItemKind::Module(i) => match b {
-            ItemKind::Module(j) => modules_fit(alloc, turned, at.module_type(i), bt.module_type(j)),
-            _ => differ(alloc, turned, a, at, b, bt),
-        },
-        ItemKind::Value(x) => match b {
-            ItemKind::Value(y) => alike(alloc, turned, same_values(x, at, y, bt), a, at, b, bt),
-            _ => differ(alloc, turned, a, at, b, bt),
-        },
+    sides.given.see_acyclic();
+    sides.asked.see_acyclic();
+    match (a, b) {
+        (ItemKind::Ty(x), ItemKind::Ty(y)) => types_fit(sides, alloc, cache, x, y),
+        (ItemKind::Func(f), ItemKind::Func(g)) => {
+            let same = same_funcs(f, sides.given, g, sides.asked);
+            alike(sides, alloc, same, a, b)
+        }
+        (ItemKind::Instance(i), ItemKind::Instance(j)) => instances_fit(sides, alloc, cache, i, j),
+        (ItemKind::Component(i), ItemKind::Component(j)) => worlds_fit(sides, alloc, cache, i, j),
+        (ItemKind::Module(i), ItemKind::Module(j)) => {
+            let given = sides.given.module_type(i);
+            let asked = sides.asked.module_type(j);
+            modules_fit(alloc, sides.turned, given, asked)
+        }
+        (ItemKind::Value(x), ItemKind::Value(y)) => {
+            let same = same_values(x, sides.given, y, sides.asked);
+            alike(sides, alloc, same, a, b)
+        }
+        _ => differ(sides, alloc, a, b),
     }
 }
 
 /// Whether a type item fits another, by what both are.
 #[cycle(fits)]
 fn types_fit(
+    sides: Sides<'_>,
     alloc: Global,
     cache: &mut Cache,
-    turned: bool,
     a: Type,
-    at: &Types,
     b: Type,
-    bt: &Types,
 ) -> Result<(), SubtypeError>
-    requires given { Stands at.now (ItemKind.Ty a) }
-    requires asked { Stands bt.now (ItemKind.Ty b) }
-    requires apart { OneOrApart at.now bt.now }
-    requires cache { IsTrueOf at.now bt.now cache.old.keys }
-    ensures yes { OnOk result (Fit at.now (ItemKind.Ty a) bt.now (ItemKind.Ty b)) }
-    ensures no { IfMismatch result (λ ss. Disagree ss (tree_in at.now (ItemKind.Ty a)) (tree_in bt.now (ItemKind.Ty b))) }
-    ensures words { IfSaid result (λ ss e f. AreCalled turned (Called at.now (ItemKind.Ty a) ss)
-        (Called bt.now (ItemKind.Ty b) ss) e f) }
-    ensures only { OnlyTrue at.now bt.now cache.old.keys cache.new.keys }
-    ensures cache { IsTrueOf at.now bt.now cache.new.keys }
+    requires given { Stands sides.given.now (ItemKind.Ty a) }
+    requires asked { Stands sides.asked.now (ItemKind.Ty b) }
+    requires apart { OneOrApart sides.given.now sides.asked.now }
+    requires cache { IsTrueOf sides.given.now sides.asked.now cache.old.keys }
+    ensures yes { OnOk result (Fit sides.entry.given.now (ItemKind.Ty a) sides.entry.asked.now (ItemKind.Ty b)) }
+    ensures no { IfMismatch result (λ ss. Disagree ss (tree_in sides.entry.given.now (ItemKind.Ty a))
+        (tree_in sides.entry.asked.now (ItemKind.Ty b))) }
+    ensures words { IfSaid result (λ ss e f. AreCalled sides.entry.turned (Called sides.entry.given.now (ItemKind.Ty a) ss)
+        (Called sides.entry.asked.now (ItemKind.Ty b) ss) e f) }
+    ensures only { OnlyTrue sides.entry.given.now sides.entry.asked.now cache.old.keys cache.new.keys }
+    ensures cache { IsTrueOf sides.entry.given.now sides.entry.asked.now cache.new.keys }
 {
-    at.see_acyclic();
-    bt.see_acyclic();
+    sides.given.see_acyclic();
+    sides.asked.see_acyclic();
     let (given, asked) = (ItemKind::Ty(a), ItemKind::Ty(b));
-    match a {
-        Type::Resource(r) => match b {
-            Type::Resource(s) => {
-                let same = same_resources(r, at, s, bt);
-                alike(alloc, turned, same, given, at, asked, bt)
-            }
-            _ => differ(alloc, turned, given, at, asked, bt),
-        },
-        Type::Func(f) => match b {
-            Type::Func(g) => {
-                let same = same_funcs(f, at, g, bt);
-                alike(alloc, turned, same, given, at, asked, bt)
-            }
-            _ => differ(alloc, turned, given, at, asked, bt),
-        },
-        Type::Value(x) => match b {
-            Type::Value(y) => {
-                let same = same_values(x, at, y, bt);
-                alike(alloc, turned, same, given, at, asked, bt)
-            }
-            _ => differ(alloc, turned, given, at, asked, bt),
-        },
-        Type::Interface(i) => match b {
-            Type::Interface(j) => instances_fit(alloc, cache, turned, i, at, j, bt),
-            _ => differ(alloc, turned, given, at, asked, bt),
-        },
-        Type::World(i) => match b {
-            Type::World(j) => worlds_fit(alloc, cache, turned, i, at, j, bt),
-            _ => differ(alloc, turned, given, at, asked, bt),
-        },
-        Type::Module(i) => match b {
-            Type::Module(j) => modules_fit(alloc, turned, at.module_type(i), bt.module_type(j)),
-            _ => differ(alloc, turned, given, at, asked, bt),
-        },
+    match (a, b) {
+        (Type::Resource(r), Type::Resource(s)) => {
+            let same = same_resources(r, sides.given, s, sides.asked);
+            alike(sides, alloc, same, given, asked)
+        }
+        (Type::Func(f), Type::Func(g)) => {
+            let same = same_funcs(f, sides.given, g, sides.asked);
+            alike(sides, alloc, same, given, asked)
+        }
+        (Type::Value(x), Type::Value(y)) => {
+            let same = same_values(x, sides.given, y, sides.asked);
+            alike(sides, alloc, same, given, asked)
+        }
+        (Type::Interface(i), Type::Interface(j)) => instances_fit(sides, alloc, cache, i, j),
+        (Type::World(i), Type::World(j)) => worlds_fit(sides, alloc, cache, i, j),
+        (Type::Module(i), Type::Module(j)) => {
+            let given = sides.given.module_type(i);
+            let asked = sides.asked.module_type(j);
+            modules_fit(alloc, sides.turned, given, asked)
+        }
+        _ => differ(sides, alloc, given, asked),
     }
 }
 
 /// Whether an instance fits another.
 #[cycle(fits)]
 fn instances_fit(
+    sides: Sides<'_>,
     alloc: Global,
     cache: &mut Cache,
-    turned: bool,
     a: InterfaceId,
-    at: &Types,
     b: InterfaceId,
-    bt: &Types,
 ) -> Result<(), SubtypeError>
-    requires given { Stands at.now (ItemKind.Instance a) }
-    requires asked { Stands bt.now (ItemKind.Instance b) }
-    requires apart { OneOrApart at.now bt.now }
-    requires cache { IsTrueOf at.now bt.now cache.old.keys }
-    ensures yes { OnOk result (Fit at.now (ItemKind.Instance a) bt.now (ItemKind.Instance b)) }
-    ensures no { IfMismatch result (λ ss. Disagree ss (tree_in at.now (ItemKind.Instance a))
-        (tree_in bt.now (ItemKind.Instance b))) }
-    ensures words { IfSaid result (λ ss e f. AreCalled turned (InstanceCalled at.now a ss) (InstanceCalled bt.now b ss) e f) }
-    ensures only { OnlyTrue at.now bt.now cache.old.keys cache.new.keys }
-    ensures cache { IsTrueOf at.now bt.now cache.new.keys }
+    requires given { Stands sides.given.now (ItemKind.Instance a) }
+    requires asked { Stands sides.asked.now (ItemKind.Instance b) }
+    requires apart { OneOrApart sides.given.now sides.asked.now }
+    requires cache { IsTrueOf sides.given.now sides.asked.now cache.old.keys }
+    ensures yes { OnOk result (Fit sides.entry.given.now (ItemKind.Instance a) sides.entry.asked.now (ItemKind.Instance b)) }
+    ensures no { IfMismatch result (λ ss. Disagree ss (tree_in sides.entry.given.now (ItemKind.Instance a))
+        (tree_in sides.entry.asked.now (ItemKind.Instance b))) }
+    ensures words { IfSaid result (λ ss e f. AreCalled sides.entry.turned (InstanceCalled sides.entry.given.now a ss)
+        (InstanceCalled sides.entry.asked.now b ss) e f) }
+    ensures only { OnlyTrue sides.entry.given.now sides.entry.asked.now cache.old.keys cache.new.keys }
+    ensures cache { IsTrueOf sides.entry.given.now sides.entry.asked.now cache.new.keys }
 {
-    let given = at.interface(a);
-    let asked = bt.interface(b);
+    let given = sides.given.interface(a);
+    let asked = sides.asked.interface(b);
+    let given_items = Inside {
+        of: ItemKind::Instance(a),
+        items: &given.exports,
+    };
+    let asked_items = Inside {
+        of: ItemKind::Instance(b),
+        items: &asked.exports,
+    };
     items_fit(
+        sides,
         alloc,
         cache,
-        turned,
         ExternKind::Export,
-        ItemKind::Instance(a),
-        &given.exports,
-        at,
-        ItemKind::Instance(b),
-        &asked.exports,
-        bt,
+        given_items,
+        asked_items,
     )
 }
 
 /// Whether a component fits another: its imports the other way round, and its exports.
 #[cycle(fits)]
 fn worlds_fit(
+    sides: Sides<'_>,
     alloc: Global,
     cache: &mut Cache,
-    turned: bool,
     a: WorldId,
-    at: &Types,
     b: WorldId,
-    bt: &Types,
 ) -> Result<(), SubtypeError>
-    requires given { Stands at.now (ItemKind.Component a) }
-    requires asked { Stands bt.now (ItemKind.Component b) }
-    requires apart { OneOrApart at.now bt.now }
-    requires cache { IsTrueOf at.now bt.now cache.old.keys }
-    ensures yes { OnOk result (Fit at.now (ItemKind.Component a) bt.now (ItemKind.Component b)) }
-    ensures no { IfMismatch result (λ ss. Disagree ss (tree_in at.now (ItemKind.Component a))
-        (tree_in bt.now (ItemKind.Component b))) }
-    ensures words { IfSaid result (λ ss e f. AreCalled turned (WorldCalled at.now a ss) (WorldCalled bt.now b ss) e f) }
-    ensures only { OnlyTrue at.now bt.now cache.old.keys cache.new.keys }
-    ensures cache { IsTrueOf at.now bt.now cache.new.keys }
+    requires given { Stands sides.given.now (ItemKind.Component a) }
+    requires asked { Stands sides.asked.now (ItemKind.Component b) }
+    requires apart { OneOrApart sides.given.now sides.asked.now }
+    requires cache { IsTrueOf sides.given.now sides.asked.now cache.old.keys }
+    ensures yes { OnOk result (Fit sides.entry.given.now (ItemKind.Component a) sides.entry.asked.now
+        (ItemKind.Component b)) }
+    ensures no { IfMismatch result (λ ss. Disagree ss (tree_in sides.entry.given.now (ItemKind.Component a))
+        (tree_in sides.entry.asked.now (ItemKind.Component b))) }
+    ensures words { IfSaid result (λ ss e f. AreCalled sides.entry.turned (WorldCalled sides.entry.given.now a ss)
+        (WorldCalled sides.entry.asked.now b ss) e f) }
+    ensures only { OnlyTrue sides.entry.given.now sides.entry.asked.now cache.old.keys cache.new.keys }
+    ensures cache { IsTrueOf sides.entry.given.now sides.entry.asked.now cache.new.keys }
 {
-    let given = at.world(a);
-    let asked = bt.world(b);
-    match items_fit(
+    let given = sides.given.world(a);
+    let asked = sides.asked.world(b);
+    let turned = Sides {
+        given: sides.asked,
+        asked: sides.given,
+        turned: !sides.turned,
+    };
+    let given_imports = Inside {
+        of: ItemKind::Component(a),
+        items: &given.imports,
+    };
+    let asked_imports = Inside {
+        of: ItemKind::Component(b),
+        items: &asked.imports,
+    };
+    items_fit(
+        turned,
         alloc,
         cache,
-        !turned,
         ExternKind::Import,
-        ItemKind::Component(b),
-        &asked.imports,
-        bt,
-        ItemKind::Component(a),
-        &given.imports,
-        at,
-    ) {
-        Err(fault) => Err(fault),
-        Ok(()) => items_fit(
-            alloc,
-            cache,
-            turned,
-            ExternKind::Export,
-            ItemKind::Component(a),
-            &given.exports,
-            at,
-            ItemKind::Component(b),
-            &asked.exports,
-            bt,
-        ),
-    }
+        asked_imports,
+        given_imports,
+    )?;
+    let given_exports = Inside {
+        of: ItemKind::Component(a),
+        items: &given.exports,
+    };
+    let asked_exports = Inside {
+        of: ItemKind::Component(b),
+        items: &asked.exports,
+    };
+    items_fit(
+        sides,
+        alloc,
+        cache,
+        ExternKind::Export,
+        given_exports,
+        asked_exports,
+    )
 }
 
 /// Whether each of the items asked has one of its name that fits.
 #[cycle(fits)]
 fn items_fit(
+    sides: Sides<'_>,
     alloc: Global,
     cache: &mut Cache,
-    turned: bool,
     side: ExternKind,
-    a: ItemKind,
-    given: &NamedMap<ItemKind>,
-    at: &Types,
-    b: ItemKind,
-    asked: &NamedMap<ItemKind>,
-    bt: &Types,
+    given: Inside<'_>,
+    asked: Inside<'_>,
 ) -> Result<(), SubtypeError>
-    requires given { AreInside at.now a given.now }
-    requires asked { AreInside bt.now b asked.now }
-    requires apart { OneOrApart at.now bt.now }
-    requires cache { IsTrueOf at.now bt.now cache.old.keys }
-    ensures yes { OnOk result (GivesAll at.now given.now bt.now asked.now) }
-    ensures no { IfMismatch result (ItemsDisagree side at.now given.now bt.now asked.now) }
-    ensures words { IfSaid result (λ ss e f. AreCalled turned (ItemsCalled at.now side given.now ss)
-        (ItemsCalled bt.now side asked.now ss) e f) }
-    ensures only { OnlyTrue at.now bt.now cache.old.keys cache.new.keys }
-    ensures cache { IsTrueOf at.now bt.now cache.new.keys }
+    requires given { AreInside sides.given.now given.of given.items.now }
+    requires asked { AreInside sides.asked.now asked.of asked.items.now }
+    requires apart { OneOrApart sides.given.now sides.asked.now }
+    requires cache { IsTrueOf sides.given.now sides.asked.now cache.old.keys }
+    ensures yes { OnOk result (GivesAll sides.entry.given.now given.entry.items.now sides.entry.asked.now
+        asked.entry.items.now) }
+    ensures no { IfMismatch result (ItemsDisagree side sides.entry.given.now given.entry.items.now sides.entry.asked.now
+        asked.entry.items.now) }
+    ensures words { IfSaid result (λ ss e f. AreCalled sides.entry.turned
+        (ItemsCalled sides.entry.given.now side given.entry.items.now ss)
+        (ItemsCalled sides.entry.asked.now side asked.entry.items.now ss) e f) }
+    ensures only { OnlyTrue sides.entry.given.now sides.entry.asked.now cache.old.keys cache.new.keys }
+    ensures cache { IsTrueOf sides.entry.given.now sides.entry.asked.now cache.new.keys }
 {
-    for index in 0..asked.len() {
-        let (name, kind) = asked.entry(index);
-        match item_fits(alloc, cache, turned, side, a, given, at, b, name, *kind, bt) {
-            Ok(()) => {}
-            Err(fault) => return Err(fault),
-        }
+    for index in 0..asked.items.len() {
+        let (name, kind) = asked.items.entry(index);
+        let item = Item { name, kind: *kind };
+        item_fits(sides, alloc, cache, side, given, item)?;
     }
     Ok(())
 }
@@ -339,37 +346,40 @@ fn items_fit(
 /// Whether there is an item of this name that fits.
 #[cycle(fits)]
 fn item_fits(
+    sides: Sides<'_>,
     alloc: Global,
     cache: &mut Cache,
-    turned: bool,
     side: ExternKind,
-    a: ItemKind,
-    given: &NamedMap<ItemKind>,
-    at: &Types,
-    b: ItemKind,
-    name: &str,
-    kind: ItemKind,
-    bt: &Types,
+    given: Inside<'_>,
+    asked: Item<'_>,
 ) -> Result<(), SubtypeError>
-    requires given { AreInside at.now a given.now }
-    requires asked { IsInside bt.now kind b }
-    requires apart { OneOrApart at.now bt.now }
-    requires cache { IsTrueOf at.now bt.now cache.old.keys }
-    ensures yes { OnOk result (GivesName at.now given.now bt.now name.now kind) }
-    ensures no { IfMismatch result (NameDisagrees side at.now given.now bt.now name.now kind) }
-    ensures words { IfSaid result (λ ss e f. AreCalled turned (ItemsCalled at.now side given.now ss)
-        (NamedCalled bt.now side name.now kind ss) e f) }
-    ensures only { OnlyTrue at.now bt.now cache.old.keys cache.new.keys }
-    ensures cache { IsTrueOf at.now bt.now cache.new.keys }
+    requires given { AreInside sides.given.now given.of given.items.now }
+    requires asked { Stands sides.asked.now asked.kind }
+    requires apart { OneOrApart sides.given.now sides.asked.now }
+    requires cache { IsTrueOf sides.given.now sides.asked.now cache.old.keys }
+    ensures yes { OnOk result (GivesName sides.entry.given.now given.entry.items.now sides.entry.asked.now
+        asked.entry.name.now asked.entry.kind) }
+    ensures no { IfMismatch result (NameDisagrees side sides.entry.given.now given.entry.items.now sides.entry.asked.now
+        asked.entry.name.now asked.entry.kind) }
+    ensures words { IfSaid result (λ ss e f. AreCalled sides.entry.turned
+        (ItemsCalled sides.entry.given.now side given.entry.items.now ss)
+        (NamedCalled sides.entry.asked.now side asked.entry.name.now asked.entry.kind ss) e f) }
+    ensures only { OnlyTrue sides.entry.given.now sides.entry.asked.now cache.old.keys cache.new.keys }
+    ensures cache { IsTrueOf sides.entry.given.now sides.entry.asked.now cache.new.keys }
 {
-    match given.get(name) {
+    match given.items.get(asked.name) {
         None => {
-            let fault = mismatch(alloc, turned, None, Some(kind.desc(bt)));
-            Err(within(alloc, side, name, fault))
+            let fault = mismatch(
+                alloc,
+                sides.turned,
+                None,
+                Some(asked.kind.desc(sides.asked)),
+            );
+            Err(within(alloc, side, asked.name, fault))
         }
-        Some(found) => match fits(alloc, cache, turned, *found, at, kind, bt) {
+        Some(found) => match fits(sides, alloc, cache, *found, asked.kind) {
             Ok(()) => Ok(()),
-            Err(fault) => Err(within(alloc, side, name, fault)),
+            Err(fault) => Err(within(alloc, side, asked.name, fault)),
         },
     }
 }

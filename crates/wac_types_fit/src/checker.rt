@@ -10,7 +10,7 @@ ghost use Rattle.wac_types_fit.specs.Checking.{HasPair, IsTrueOf, OnlyTrue};
 ghost use Rattle.wac_types_fit.specs.Directions.{direction_of};
 
 use crate::cache::Cache;
-use crate::check::fits;
+use crate::check::{Sides, fits};
 use crate::errors::SubtypeError;
 use std::alloc::Global;
 use wac_types_base::{ItemKind, Types};
@@ -109,6 +109,11 @@ impl<'a> SubtypeChecker<'a> {
         ensures same_reference { self.new.cache.ghost_name ≡ self.old.cache.ghost_name }
     {
         let turned = self.directions % 2 == 1;
-        fits(self.alloc, self.cache, turned, a, at, b, bt)
+        let sides = Sides {
+            given: at,
+            asked: bt,
+            turned,
+        };
+        fits(sides, self.alloc, self.cache, a, b)
     }
 }

@@ -172,8 +172,6 @@ pub(crate) fn modules_fit(
 {
     see_distinct(given);
     see_distinct(asked);
-    match imports_fit(alloc, !turned, &asked.imports, &given.imports) {
-        Err(fault) => Err(fault),
-        Ok(()) => exports_fit(alloc, turned, &given.exports, &asked.exports),
-    }
+    imports_fit(alloc, !turned, &asked.imports, &given.imports)?;
+    exports_fit(alloc, turned, &given.exports, &asked.exports)
 }

@@ -18,7 +18,7 @@ ghost use Rattle.wac_types_fit.specs.Targets.{Report, target_import, ImportDiffe
 ghost use Rattle.wac_types_fit.specs.TargetSteps.{mismatches, name_if, entry_if, PairChecked, ImportChecked, ExportChecked, KindStands, GivesStanding, AllStand};
 
 use crate::cache::{Cache, new_cache};
-use crate::check::fits;
+use crate::check::{Item, Sides, fits};
 use crate::errors::SubtypeError;
 use indexmap::IndexMap;
 use std::alloc::{AllocError, Global};
@@ -239,151 +239,143 @@ fn add_fault(
     }
 }
 
-/// Adds an item of this name where `a` does not fit `b`.
-fn add_mismatch(
-    alloc: Global,
-    cache: &mut Cache,
-    types: &Types,
-    side: ExternKind,
-    name: &str,
-    a: ItemKind,
-    b: ItemKind,
-    found: &mut Vec<(String, ExternKind, SubtypeError)>,
-) -> Result<(), AllocError>
-    requires given { Stands types.now a }
-    requires asked { Stands types.now b }
-    requires cache { IsTrueOf types.now types.now cache.old.keys }
-    ensures checked { OnOk result
-        (PairChecked types.now a b side name.now (mismatches found.old.items) (mismatches found.new.items)) }
-    ensures cache { IsTrueOf types.now types.now cache.new.keys }
-{
-    let turned = matches!(side, ExternKind::Import);
-    match fits(alloc, cache, turned, a, types, b, types) {
-        Ok(()) => Ok(()),
-        Err(fault) => add_fault(alloc, side, name, fault, found),
-    }
+/// The pairs that are known to fit, and the items that were found not to.
+#[derive(Drop)]
+struct Comparison {
+    cache: Cache,
+    found: Vec<(String, ExternKind, SubtypeError)>,
 }
 
-/// Adds an import that does not fit what the target gives.
-fn check_import(
-    alloc: Global,
-    cache: &mut Cache,
-    types: &Types,
-    given: Option<ItemKind>,
-    name: &str,
-    kind: ItemKind,
-    found: &mut Vec<(String, ExternKind, SubtypeError)>,
-) -> Result<(), AllocError>
-    requires given { KindStands types.now given }
-    requires asked { Stands types.now kind }
-    requires cache { IsTrueOf types.now types.now cache.old.keys }
-    ensures checked { OnOk result
-        (ImportChecked types.now given name.now kind (mismatches found.old.items) (mismatches found.new.items)) }
-    ensures cache { IsTrueOf types.now types.now cache.new.keys }
-{
-    match given {
-        None => Ok(()),
-        Some(given) => {
-            let given = given.promote();
-            add_mismatch(
-                alloc,
-                cache,
-                types,
-                ExternKind::Import,
-                name,
-                given,
-                kind,
-                found,
-            )
+impl Comparison {
+    /// Adds an item that does not fit the one asked.
+    fn add_mismatch(
+        &mut self,
+        types: &Types,
+        alloc: Global,
+        side: ExternKind,
+        given: ItemKind,
+        asked: Item<'_>,
+    ) -> Result<(), AllocError>
+        requires given { Stands types.now given }
+        requires asked { Stands types.now asked.kind }
+        requires cache { IsTrueOf types.now types.now self.old.cache.keys }
+        ensures checked { OnOk result (PairChecked types.now given asked.entry.kind side asked.entry.name.now
+            (mismatches self.old.found.items) (mismatches self.new.found.items)) }
+        ensures cache { IsTrueOf types.now types.now self.new.cache.keys }
+    {
+        let sides = Sides {
+            given: types,
+            asked: types,
+            turned: matches!(side, ExternKind::Import),
+        };
+        match fits(sides, alloc, &mut self.cache, given, asked.kind) {
+            Ok(()) => Ok(()),
+            Err(fault) => add_fault(alloc, side, asked.name, fault, &mut self.found),
         }
     }
-}
 
-/// Adds an export of the target that the component's does not fit.
-fn check_export(
-    alloc: Global,
-    cache: &mut Cache,
-    types: &Types,
-    given: Option<ItemKind>,
-    name: &str,
-    kind: ItemKind,
-    found: &mut Vec<(String, ExternKind, SubtypeError)>,
-) -> Result<(), AllocError>
-    requires given { KindStands types.now given }
-    requires asked { Stands types.now kind }
-    requires cache { IsTrueOf types.now types.now cache.old.keys }
-    ensures checked { OnOk result
-        (ExportChecked types.now given name.now kind (mismatches found.old.items) (mismatches found.new.items)) }
-    ensures cache { IsTrueOf types.now types.now cache.new.keys }
-{
-    match given {
-        None => Ok(()),
-        Some(given) => {
-            let kind = kind.promote();
-            add_mismatch(
-                alloc,
-                cache,
-                types,
-                ExternKind::Export,
-                name,
-                given,
-                kind,
-                found,
-            )
+    /// Adds an import that does not fit what the target gives.
+    fn check_import(
+        &mut self,
+        types: &Types,
+        alloc: Global,
+        given: Option<ItemKind>,
+        asked: Item<'_>,
+    ) -> Result<(), AllocError>
+        requires given { KindStands types.now given }
+        requires asked { Stands types.now asked.kind }
+        requires cache { IsTrueOf types.now types.now self.old.cache.keys }
+        ensures checked { OnOk result (ImportChecked types.now given asked.entry.name.now asked.entry.kind
+            (mismatches self.old.found.items) (mismatches self.new.found.items)) }
+        ensures cache { IsTrueOf types.now types.now self.new.cache.keys }
+    {
+        match given {
+            None => Ok(()),
+            Some(given) => {
+                let given = given.promote();
+                self.add_mismatch(types, alloc, ExternKind::Import, given, asked)
+            }
         }
     }
-}
 
-/// Adds the imports of the component that do not fit what the target gives.
-fn check_imports(
-    alloc: Global,
-    cache: &mut Cache,
-    types: &Types,
-    implicit: &IndexMap<&str, ItemKind>,
-    target: &World,
-    imports: &NamedMap<ItemKind>,
-    found: &mut Vec<(String, ExternKind, SubtypeError)>,
-) -> Result<(), AllocError>
-    requires given { GivesStanding types.now (target_import (shown implicit.now.entries) target.now.imports) }
-    requires asked { AllStand types.now imports.now }
-    requires cache { IsTrueOf types.now types.now cache.old.keys }
-    ensures checked { OnOk result (Differing (ImportDiffers types.now
-        (target_import (shown implicit.now.entries) target.now.imports))
-        (ImportLeads types.now (target_import (shown implicit.now.entries) target.now.imports)) ExternKind.Import imports.now
-        (mismatches found.old.items) (mismatches found.new.items)) }
-    ensures cache { IsTrueOf types.now types.now cache.new.keys }
-{
-    for at in 0..imports.len() {
-        let (name, kind) = imports.entry(at);
-        let given = given_import(implicit, target, name);
-        check_import(alloc, cache, types, given, name, *kind, found)?;
+    /// Adds an export of the target that the component's does not fit.
+    fn check_export(
+        &mut self,
+        types: &Types,
+        alloc: Global,
+        given: Option<ItemKind>,
+        asked: Item<'_>,
+    ) -> Result<(), AllocError>
+        requires given { KindStands types.now given }
+        requires asked { Stands types.now asked.kind }
+        requires cache { IsTrueOf types.now types.now self.old.cache.keys }
+        ensures checked { OnOk result (ExportChecked types.now given asked.entry.name.now asked.entry.kind
+            (mismatches self.old.found.items) (mismatches self.new.found.items)) }
+        ensures cache { IsTrueOf types.now types.now self.new.cache.keys }
+    {
+        match given {
+            None => Ok(()),
+            Some(given) => {
+                let asked = Item {
+                    name: asked.name,
+                    kind: asked.kind.promote(),
+                };
+                self.add_mismatch(types, alloc, ExternKind::Export, given, asked)
+            }
+        }
     }
-    Ok(())
-}
 
-/// Adds the exports of the target that those of the component do not fit.
-fn check_exports(
-    alloc: Global,
-    cache: &mut Cache,
-    types: &Types,
-    component: &World,
-    exports: &NamedMap<ItemKind>,
-    found: &mut Vec<(String, ExternKind, SubtypeError)>,
-) -> Result<(), AllocError>
-    requires given { GivesStanding types.now (value_at component.now.exports) }
-    requires asked { AllStand types.now exports.now }
-    requires cache { IsTrueOf types.now types.now cache.old.keys }
-    ensures checked { OnOk result (Differing (ExportDiffers types.now (value_at component.now.exports))
-        (ExportLeads types.now (value_at component.now.exports)) ExternKind.Export exports.now (mismatches found.old.items)
-        (mismatches found.new.items)) }
-    ensures cache { IsTrueOf types.now types.now cache.new.keys }
-{
-    for at in 0..exports.len() {
-        let (name, kind) = exports.entry(at);
-        let given = component.exports.get(name).copied();
-        check_export(alloc, cache, types, given, name, *kind, found)?;
+    /// Adds the imports of the component that do not fit what the target gives.
+    fn check_imports(
+        &mut self,
+        types: &Types,
+        alloc: Global,
+        implicit: &IndexMap<&str, ItemKind>,
+        target: &World,
+        imports: &NamedMap<ItemKind>,
+    ) -> Result<(), AllocError>
+        requires given { GivesStanding types.now (target_import (shown implicit.now.entries) target.now.imports) }
+        requires asked { AllStand types.now imports.now }
+        requires cache { IsTrueOf types.now types.now self.old.cache.keys }
+        ensures checked { OnOk result (Differing (ImportDiffers types.now
+            (target_import (shown implicit.now.entries) target.now.imports))
+            (ImportLeads types.now (target_import (shown implicit.now.entries) target.now.imports)) ExternKind.Import
+            imports.now (mismatches self.old.found.items) (mismatches self.new.found.items)) }
+        ensures cache { IsTrueOf types.now types.now self.new.cache.keys }
+    {
+        for at in 0..imports.len() {
+            let (name, kind) = imports.entry(at);
+            let given = given_import(implicit, target, name);
+            let asked = Item { name, kind: *kind };
+            self.check_import(types, alloc, given, asked)?;
+        }
+        Ok(())
     }
-    Ok(())
+
+    /// Adds the exports of the target that those of the component do not fit.
+    fn check_exports(
+        &mut self,
+        types: &Types,
+        alloc: Global,
+        component: &World,
+        exports: &NamedMap<ItemKind>,
+    ) -> Result<(), AllocError>
+        requires given { GivesStanding types.now (value_at component.now.exports) }
+        requires asked { AllStand types.now exports.now }
+        requires cache { IsTrueOf types.now types.now self.old.cache.keys }
+        ensures checked { OnOk result (Differing (ExportDiffers types.now (value_at component.now.exports))
+            (ExportLeads types.now (value_at component.now.exports)) ExternKind.Export exports.now
+            (mismatches self.old.found.items) (mismatches self.new.found.items)) }
+        ensures cache { IsTrueOf types.now types.now self.new.cache.keys }
+    {
+        for at in 0..exports.len() {
+            let (name, kind) = exports.entry(at);
+            let given = component.exports.get(name).copied();
+            let asked = Item { name, kind: *kind };
+            self.check_export(types, alloc, given, asked)?;
+        }
+        Ok(())
+    }
 }
 
 /// The report, by what the target imports implicitly.
@@ -402,29 +394,16 @@ fn report_of(
     requires exports { AllStand types.now target.now.exports }
     ensures { IfOk result (IsReport types.now target.now component.now) }
 {
-    let mut cache = new_cache(alloc);
-    let mut found = Vec::new(alloc);
-    check_imports(
-        alloc,
-        &mut cache,
-        types,
-        implicit,
-        target,
-        &component.imports,
-        &mut found,
-    )?;
-    check_exports(
-        alloc,
-        &mut cache,
-        types,
-        component,
-        &target.exports,
-        &mut found,
-    )?;
+    let mut comparison = Comparison {
+        cache: new_cache(alloc),
+        found: Vec::new(alloc),
+    };
+    comparison.check_imports(types, alloc, implicit, target, &component.imports)?;
+    comparison.check_exports(types, alloc, component, &target.exports)?;
     Ok(TargetValidationReport {
         imports_not_in_target: lacking_imports(alloc, implicit, target, &component.imports)?,
         missing_exports: missing_exports(alloc, component, &target.exports)?,
-        mismatched_types: found,
+        mismatched_types: comparison.found,
     })
 }
 
@@ -447,11 +426,9 @@ pub fn validate_target(
 {
     let wanted = types.world(target);
     let own = types.world(component);
-    match wanted.implicit_imported_interfaces(alloc, types) {
-        Err(fault) => Err(fault),
-        Ok(implicit) => match report_of(alloc, types, &implicit, wanted, own) {
-            Ok(report) => Ok(answer_of(report)),
-            Err(_) => Err(TargetError::Memory),
-        },
+    let implicit = wanted.implicit_imported_interfaces(alloc, types)?;
+    match report_of(alloc, types, &implicit, wanted, own) {
+        Ok(report) => Ok(answer_of(report)),
+        Err(_) => Err(TargetError::Memory),
     }
 }

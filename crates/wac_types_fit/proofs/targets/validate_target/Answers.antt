@@ -8,8 +8,8 @@ implicit_imported_interfaces-requires c = world_children c.args.types.now c.worl
 
 pub report_of-requires-clause-given_imports : goal.report_of-requires-clause-given_imports
 report_of-requires-clause-given_imports c =
-    target_standing c.args.types.now (shown c.in-Ok.implicit.entries) c.world-wanted.result.now.imports
-    (implicit_stand c.args.types.now c.world-wanted.ensures.acyclic c.world-wanted.result.now (world_children c.args.types.now c.world-wanted.ensures.acyclic c.args.target c.world-wanted.result.now c.world-wanted.ensures.entry c.world-wanted.ensures.own) (shown c.in-Ok.implicit.entries) c.in-Ok.ensures.ok)
+    target_standing c.args.types.now (shown c.in_ok-implicit.implicit.entries) c.world-wanted.result.now.imports
+    (implicit_stand c.args.types.now c.world-wanted.ensures.acyclic c.world-wanted.result.now (world_children c.args.types.now c.world-wanted.ensures.acyclic c.args.target c.world-wanted.result.now c.world-wanted.ensures.entry c.world-wanted.ensures.own) (shown c.in_ok-implicit.implicit.entries) c.in_ok-implicit.ensures.ok)
     (λ n j m. (world_imports_inside c.args.types.now c.world-wanted.ensures.acyclic c.args.target c.world-wanted.result.now c.requires.target c.world-wanted.ensures.entry c.world-wanted.ensures.own n j m).0)
 
 pub report_of-requires-clause-imports : goal.report_of-requires-clause-imports
