@@ -1,7 +1,12 @@
 //! Texts and bytes that a manifest gives.
 
+ghost use Rattle.std.specs.Prelude.{string_bytes};
+ghost use Rattle.serde_json.specs.View.{view};
+ghost use Rattle.wac_manifest.specs.Manifests.{bytes_in, digits as digits_in, digits_of_text, form as form_in, named_form as named, text_in};
+ghost use Rattle.wac_manifest.specs.Views.{bytes_view, form_view, text_view, Reads};
+
 use crate::error::ManifestError;
-use crate::members::{Members, text_of};
+use crate::members::text_of;
 use hex::FromHexError;
 use serde_json::Value;
 use std::alloc::Global;
@@ -20,10 +25,7 @@ pub enum BytesData {
     Bytes(Vec<u8>),
 }
 
-/// The ways in which data stands in a manifest.
-const FORMS: [&str; 3] = ["file", "text", "hex"];
-
-/// One of the ways.
+/// One of the ways in which data stands in a manifest.
 #[derive(Clone, Copy)]
 enum Form<'a> {
     File(&'a str),
@@ -31,23 +33,41 @@ enum Form<'a> {
     Hex(&'a str),
 }
 
+/// The form of data of this name.
+fn named_form<'a>(name: &str, text: &'a str) -> Result<Form<'a>, ManifestError>
+    ensures { Reads form_view (named name.now text.now) result }
+{
+    if name == "file" {
+        Ok(Form::File(text))
+    } else if name == "text" {
+        Ok(Form::Text(text))
+    } else if name == "hex" {
+        Ok(Form::Hex(text))
+    } else {
+        Err(ManifestError::Bad)
+    }
+}
+
 /// The form of data, and its text.
-fn form_of(value: &Value) -> Result<Form<'_>, ManifestError> {
-    let members = Members::of(value, &FORMS)?;
-    if !members.is_single() {
+fn form_of(value: &Value) -> Result<Form<'_>, ManifestError>
+    ensures { Reads form_view (form_in (view value.now)) result }
+{
+    let Some(object) = value.as_object() else {
+        return Err(ManifestError::Bad);
+    };
+    if object.len() != 1 {
         return Err(ManifestError::Bad);
     }
-    if let Some(path) = members.find("file") {
-        return Ok(Form::File(text_of(path)?));
-    }
-    if let Some(text) = members.find("text") {
-        return Ok(Form::Text(text_of(text)?));
-    }
-    Ok(Form::Hex(text_of(members.get("hex")?)?))
+    let Some((name, value)) = object.first_key_value() else {
+        return Err(ManifestError::Bad);
+    };
+    named_form(name.as_str(), text_of(value)?)
 }
 
 /// The bytes of an even number of hexadecimal digits.
-fn digits(alloc: Global, text: &str) -> Result<Vec<u8>, ManifestError> {
+fn digits(alloc: Global, text: &str) -> Result<Vec<u8>, ManifestError>
+    ensures { Reads (λ v. v.items) (digits_in text.now) result }
+{
     match hex::decode(alloc, text) {
         Ok(bytes) => Ok(bytes),
         Err(FromHexError::OutOfMemory) => Err(ManifestError::Memory),
@@ -56,7 +76,9 @@ fn digits(alloc: Global, text: &str) -> Result<Vec<u8>, ManifestError> {
 }
 
 /// The text of an even number of hexadecimal digits.
-fn digits_text(alloc: Global, text: &str) -> Result<String, ManifestError> {
+fn digits_text(alloc: Global, text: &str) -> Result<String, ManifestError>
+    ensures { Reads string_bytes (digits_of_text text.now) result }
+{
     let bytes = digits(alloc, text)?;
     match std::str::from_utf8(&bytes) {
         Ok(text) => Ok(String::from_str(alloc, text)?),
@@ -65,7 +87,9 @@ fn digits_text(alloc: Global, text: &str) -> Result<String, ManifestError> {
 }
 
 /// The text that a value gives.
-pub(crate) fn text_data(alloc: Global, value: &Value) -> Result<TextData, ManifestError> {
+pub(crate) fn text_data(alloc: Global, value: &Value) -> Result<TextData, ManifestError>
+    ensures { Reads text_view (text_in (view value.now)) result }
+{
     match form_of(value)? {
         Form::File(path) => Ok(TextData::File(String::from_str(alloc, path)?)),
         Form::Text(text) => Ok(TextData::Text(String::from_str(alloc, text)?)),
@@ -74,7 +98,9 @@ pub(crate) fn text_data(alloc: Global, value: &Value) -> Result<TextData, Manife
 }
 
 /// The bytes that a value gives.
-pub(crate) fn bytes_data(alloc: Global, value: &Value) -> Result<BytesData, ManifestError> {
+pub(crate) fn bytes_data(alloc: Global, value: &Value) -> Result<BytesData, ManifestError>
+    ensures { Reads bytes_view (bytes_in (view value.now)) result }
+{
     match form_of(value)? {
         Form::File(path) => Ok(BytesData::File(String::from_str(alloc, path)?)),
         Form::Text(text) => Ok(BytesData::Bytes(Vec::from_slice(alloc, text.as_bytes())?)),

@@ -14,12 +14,22 @@ pub enum ManifestError {
 }
 
 impl From<AllocError> for ManifestError {
+    ghost use Rattle.std.specs.Prelude.{◌≡◌};
+    ghost use Rattle.wac_manifest.specs.declared.error.ManifestError.{ManifestError};
+
+    ghost from_gives = { λ _ e. e ≡ ManifestError.Memory };
+
     fn from(_: AllocError) -> Self {
         ManifestError::Memory
     }
 }
 
 impl<T: Drop> From<AllocFailed<T>> for ManifestError {
+    ghost use Rattle.std.specs.Prelude.{◌≡◌};
+    ghost use Rattle.wac_manifest.specs.declared.error.ManifestError.{ManifestError};
+
+    ghost from_gives = { λ _ e. e ≡ ManifestError.Memory };
+
     fn from(_: AllocFailed<T>) -> Self {
         ManifestError::Memory
     }

@@ -1,5 +1,12 @@
 //! What manifests say.
 
+ghost use Rattle.std.specs.Prelude.{codes, map, option_map};
+ghost use Rattle.semver.specs.Identifiers.{parts_of};
+ghost use Rattle.serde_json.specs.Read.{read};
+ghost use Rattle.serde_json.specs.View.{view};
+ghost use Rattle.wac_manifest.specs.Manifests.{component, key_in, list, may, must, says_composing, says_plugging, source, version, version_in};
+ghost use Rattle.wac_manifest.specs.Views.{component_view, composing_view, key_view, plugging_view, source_view, Reads};
+
 use crate::data::{BytesData, TextData, bytes_data, text_data};
 use crate::error::ManifestError;
 use crate::members::{Members, text_of};
@@ -64,7 +71,9 @@ const COMPOSE: [&str; 3] = ["components", "sources", "import"];
 const PLUG: [&str; 5] = ["components", "name", "plugs", "socket", "out"];
 
 /// The version that a text spells.
-fn version_of(alloc: Global, text: &str) -> Result<Version, ManifestError> {
+fn version_of(alloc: Global, text: &str) -> Result<Version, ManifestError>
+    ensures { Reads parts_of (version text.now) result }
+{
     match Version::parse(alloc, text) {
         Ok(version) => Ok(version),
         Err(error) => {
@@ -81,7 +90,9 @@ fn maybe_version(
     alloc: Global,
     members: Members<'_>,
     name: &str,
-) -> Result<Option<Version>, ManifestError> {
+) -> Result<Option<Version>, ManifestError>
+    ensures { Reads (option_map parts_of) (may version_in name.now (view members.entry.object.now)) result }
+{
     match members.find(name) {
         None => Ok(None),
         Some(value) => Ok(Some(version_of(alloc, text_of(value)?)?)),
@@ -89,7 +100,9 @@ fn maybe_version(
 }
 
 /// The component that a value says.
-fn component_of(alloc: Global, value: &Value) -> Result<Component, ManifestError> {
+fn component_of(alloc: Global, value: &Value) -> Result<Component, ManifestError>
+    ensures { Reads component_view (component (view value.now)) result }
+{
     let members = Members::of(value, &COMPONENT)?;
     Ok(Component {
         name: members.text(alloc, "name")?,
@@ -101,7 +114,9 @@ fn component_of(alloc: Global, value: &Value) -> Result<Component, ManifestError
 }
 
 /// The components that a member lists.
-fn components(alloc: Global, members: Members<'_>) -> Result<Vec<Component>, ManifestError> {
+fn components(alloc: Global, members: Members<'_>) -> Result<Vec<Component>, ManifestError>
+    ensures { Reads (λ v. map component_view v.items) (must (list component) (codes "components") (view members.entry.object.now)) result }
+{
     let mut all = Vec::new(alloc);
     for value in members.list("components")? {
         all.push(component_of(alloc, value)?)?;
@@ -110,7 +125,9 @@ fn components(alloc: Global, members: Members<'_>) -> Result<Vec<Component>, Man
 }
 
 /// The source that a value says.
-fn source_of(alloc: Global, value: &Value) -> Result<Source, ManifestError> {
+fn source_of(alloc: Global, value: &Value) -> Result<Source, ManifestError>
+    ensures { Reads source_view (source (view value.now)) result }
+{
     let members = Members::of(value, &SOURCE)?;
     Ok(Source {
         source: text_data(alloc, members.get("source")?)?,
@@ -119,7 +136,9 @@ fn source_of(alloc: Global, value: &Value) -> Result<Source, ManifestError> {
 }
 
 /// The sources that a member lists.
-fn sources(alloc: Global, members: Members<'_>) -> Result<Vec<Source>, ManifestError> {
+fn sources(alloc: Global, members: Members<'_>) -> Result<Vec<Source>, ManifestError>
+    ensures { Reads (λ v. map source_view v.items) (must (list source) (codes "sources") (view members.entry.object.now)) result }
+{
     let mut all = Vec::new(alloc);
     for value in members.list("sources")? {
         all.push(source_of(alloc, value)?)?;
@@ -128,7 +147,9 @@ fn sources(alloc: Global, members: Members<'_>) -> Result<Vec<Source>, ManifestE
 }
 
 /// The key that a value spells, as `name` or `name@version`.
-fn key_of(alloc: Global, value: &Value) -> Result<Key, ManifestError> {
+fn key_of(alloc: Global, value: &Value) -> Result<Key, ManifestError>
+    ensures { Reads key_view (key_in (view value.now)) result }
+{
     let text = text_of(value)?;
     match text.split_once('@') {
         None => Ok(Key {
@@ -143,7 +164,9 @@ fn key_of(alloc: Global, value: &Value) -> Result<Key, ManifestError> {
 }
 
 /// The keys that a member lists.
-fn keys(alloc: Global, members: Members<'_>, name: &str) -> Result<Vec<Key>, ManifestError> {
+fn keys(alloc: Global, members: Members<'_>, name: &str) -> Result<Vec<Key>, ManifestError>
+    ensures { Reads (λ v. map key_view v.items) (must (list key_in) name.now (view members.entry.object.now)) result }
+{
     let mut all = Vec::new(alloc);
     for value in members.list(name)? {
         all.push(key_of(alloc, value)?)?;
@@ -152,7 +175,9 @@ fn keys(alloc: Global, members: Members<'_>, name: &str) -> Result<Vec<Key>, Man
 }
 
 /// The value that a text is.
-fn value_of(alloc: Global, text: &str) -> Result<Value, ManifestError> {
+fn value_of(alloc: Global, text: &str) -> Result<Value, ManifestError>
+    ensures { Reads view (read text.now) result }
+{
     match Value::from_str(alloc, text) {
         Ok(value) => Ok(value),
         Err(error) => {
@@ -166,7 +191,9 @@ fn value_of(alloc: Global, text: &str) -> Result<Value, ManifestError> {
 
 impl ComposeManifest {
     /// The manifest that a text is: `{"components": [..], "sources": [..], "import": true or false or absent}`.
-    pub fn read(alloc: Global, text: &str) -> Result<Self, ManifestError> {
+    pub fn read(alloc: Global, text: &str) -> Result<Self, ManifestError>
+        ensures { Reads composing_view (says_composing text.now) result }
+    {
         let value = value_of(alloc, text)?;
         let members = Members::of(&value, &COMPOSE)?;
         Ok(ComposeManifest {
@@ -179,7 +206,9 @@ impl ComposeManifest {
 
 impl PlugManifest {
     /// The manifest that a text is: `{"components": [..], "name": .., "plugs": [..], "socket": .., "out": path or absent}`.
-    pub fn read(alloc: Global, text: &str) -> Result<Self, ManifestError> {
+    pub fn read(alloc: Global, text: &str) -> Result<Self, ManifestError>
+        ensures { Reads plugging_view (says_plugging text.now) result }
+    {
         let value = value_of(alloc, text)?;
         let members = Members::of(&value, &PLUG)?;
         Ok(PlugManifest {

@@ -20,17 +20,12 @@ use Rattle.wac_parser_resolve.specs.Resolved.{Places, import_place, asker_place}
 use Rattle.wac_parser_resolve.specs.Said.{IsAsked, last_noted}
 use Rattle.wac_parser_resolve.proofs.Sound.{Sound}
 use Rattle.wac_parser_resolve.proofs.Turns.{turn_back}
+use Rattle.wac_parser_resolve.proofs.Importing.{last_none}
 use Rattle.wac_parser_ascribed.specs.Tied.{asker_by, IsPlaced, partner}
-use Rattle.wac_parser_ascribed.proofs.Places.{beside_none, other_number, turn_beside, turn_named}
+use Rattle.wac_parser_ascribed.proofs.Places.{beside_none, turn_beside, turn_named}
 use Rattle.wac_parser_ascribed.proofs.Tied.{asker, instance_no_import, ks, ks_apart, ms, ms_apart}
 
 -- ---- what is noted of a node
-
-none_noted : (es : List (ℕ × Span)) (k : ℕ) → (Among k (names_of es) → ⊥) → last_noted es k ≡ None
-none_noted [] k h = refl
-none_noted (x ∷ es) k h =
-    ap (λ o. option_or o (cond (x.0 == k) (Some x.1) None)) (none_noted es k (λ m. h (inr m)))
-    ∙ ap (λ b. cond b (Some x.1) None) (other_number x.0 k (λ e. h (inl (sym e))))
 
 name_there : (es : List (ℕ × Span)) (e : ℕ × Span) → Among e es → Among e.0 (names_of es)
 name_there [] e m = absurd m
@@ -40,7 +35,7 @@ name_there (x ∷ es) e (inr m) = inr (name_there es e m)
 noted_is : (es : List (ℕ × Span)) (e : ℕ × Span) → AreDistinct (names_of es) → Among e es → last_noted es e.0 ≡ Some e.1
 noted_is [] e d m = absurd m
 noted_is (x ∷ es) e d (inl q) =
-    ap (λ o. option_or o (cond (x.0 == e.0) (Some x.1) None)) (none_noted es e.0 (λ m. d.0 (subst (λ k. Among k (names_of es)) (ap (λ (y : ℕ × Span). y.0) q) m)))
+    ap (λ o. option_or o (cond (x.0 == e.0) (Some x.1) None)) (last_none es e.0 (λ m. d.0 (subst (λ k. Among k (names_of es)) (ap (λ (y : ℕ × Span). y.0) q) m)))
     ∙ ap (λ b. cond b (Some x.1) None) (number_same x.0 e.0 (ap (λ (y : ℕ × Span). y.0) (sym q))) ∙ ap (λ (y : ℕ × Span). Some y.1) (sym q)
 noted_is (x ∷ es) e d (inr m) = ap (λ o. option_or o (cond (x.0 == e.0) (Some x.1) None)) (noted_is es e d.1 m)
 
@@ -73,7 +68,7 @@ module _ (g : Graph) (sound : IsGraph g) (acyclic : IsAcyclic g.types) {places :
       let n = noted_beside (IsAsked g places.ids) s.imports places.imports k i b.imports.are q in
       let here : last_noted places.imports k ≡ Some i.span = ap (last_noted places.imports) (sym n.2) ∙ noted_is places.imports n.0 (ks_apart g sound acyclic s b ps said) n.1 ∙ ap Some n.3.span in
       let id : last_noted places.ids k ≡ Some i.id_span = ap (last_noted places.ids) (sym n.2) ∙ n.3.id in
-      let other : last_noted places.instances k ≡ None = none_noted places.instances k (λ m. apart k m (subst (λ j. Among j imports) n.2 (name_there places.imports n.0 n.1))) in
+      let other : last_noted places.instances k ≡ None = last_none places.instances k (λ m. apart k m (subst (λ j. Among j imports) n.2 (name_there places.imports n.0 n.1))) in
       (ap span_or_none here, λ j. span_or_none (option_or (other j) (id j)))
 
   of_instance : (k : ℕ) (m : Made) → partner instances s.made k ≡ Some m → asker_place places k ≡ m.span
