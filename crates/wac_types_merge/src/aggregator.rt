@@ -152,13 +152,11 @@ fn take_ask(
             add_first(alloc, imports, name, asked, family)?;
             Ok(())
         }
-        Some(at) => match merged_import(alloc, own, &imports[at], name, asked, family) {
-            Err(fault) => Err(fault),
-            Ok(after) => {
-                replace_import(imports, at, after);
-                Ok(())
-            }
-        },
+        Some(at) => {
+            let after = merged_import(alloc, own, &imports[at], name, asked, family)?;
+            replace_import(imports, at, after);
+            Ok(())
+        }
     }
 }
 
@@ -181,13 +179,11 @@ impl TypeAggregator {
             types: mut own,
             mut imports,
         } = self;
-        match take_ask(alloc, &mut own, &mut imports, name, types, kind) {
-            Err(fault) => Err(fault),
-            Ok(()) => Ok(TypeAggregator {
-                types: own,
-                imports,
-            }),
-        }
+        take_ask(alloc, &mut own, &mut imports, name, types, kind)?;
+        Ok(TypeAggregator {
+            types: own,
+            imports,
+        })
     }
 }
 
@@ -206,10 +202,7 @@ pub fn aggregate_all(
     let mut all = TypeAggregator::new(alloc, number);
     for index in 0..asks.len() {
         let (name, types, kind) = asks[index];
-        all = match all.with_ask(alloc, name, types, kind) {
-            Ok(more) => more,
-            Err(fault) => return Err(fault),
-        };
+        all = all.with_ask(alloc, name, types, kind)?;
     }
     Ok(all)
 }

@@ -18,6 +18,13 @@ use wac_types_base::{ExternKind, Interface, InterfaceId, ItemKind, NamedMap, Typ
 use wac_types_fit::SubtypeError;
 use wac_types_fit::errors::within;
 
+/// Two instances whose items are merged.
+#[derive(Clone, Copy)]
+struct Instances {
+    kept: ItemKind,
+    asked: ItemKind,
+}
+
 /// The first of two items that are no instances, where it fits the second.
 fn unmerged(alloc: Global, own: &Types, a: ItemKind, b: ItemKind) -> Result<ItemKind, SubtypeError>
     requires kept { Stands own.now a }
@@ -27,10 +34,8 @@ fn unmerged(alloc: Global, own: &Types, a: ItemKind, b: ItemKind) -> Result<Item
     ensures met { IfOk result (MeetIn own.now a b own.now) }
     ensures clash { IfClash result (ClashIn own.now a b) }
 {
-    match fits_in(alloc, own, a, b) {
-        Ok(()) => Ok(a),
-        Err(fault) => Err(fault),
-    }
+    fits_in(alloc, own, a, b)?;
+    Ok(a)
 }
 
 /// The greatest item that fits both. It is added to the collection.
@@ -51,10 +56,10 @@ pub(crate) fn merge(
     own.see_acyclic();
     match a {
         ItemKind::Instance(i) => match b {
-            ItemKind::Instance(j) => match merge_instances(alloc, own, i, j) {
-                Ok(id) => Ok(ItemKind::Instance(id)),
-                Err(fault) => Err(fault),
-            },
+            ItemKind::Instance(j) => {
+                let id = merge_instances(alloc, own, i, j)?;
+                Ok(ItemKind::Instance(id))
+            }
             _ => unmerged(alloc, own, a, b),
         },
         ItemKind::Ty(x) => match b {
@@ -78,10 +83,10 @@ fn merge_types(alloc: Global, own: &mut Types, a: Type, b: Type) -> Result<ItemK
     own.see_acyclic();
     match a {
         Type::Interface(i) => match b {
-            Type::Interface(j) => match merge_instances(alloc, own, i, j) {
-                Ok(id) => Ok(ItemKind::Ty(Type::Interface(id))),
-                Err(fault) => Err(fault),
-            },
+            Type::Interface(j) => {
+                let id = merge_instances(alloc, own, i, j)?;
+                Ok(ItemKind::Ty(Type::Interface(id)))
+            }
             _ => unmerged(alloc, own, ItemKind::Ty(a), ItemKind::Ty(b)),
         },
         _ => unmerged(alloc, own, ItemKind::Ty(a), ItemKind::Ty(b)),
@@ -132,13 +137,14 @@ fn merge_copies(
     ensures grows { Grows own.old own.new }
 {
     own.see_acyclic();
-    let (kept, asked) = (ItemKind::Instance(a), ItemKind::Instance(b));
-    match merge_items(alloc, own, kept, &first.exports, asked, &second.exports) {
-        Err(fault) => Err(fault),
-        Ok(both) => match add_joined(alloc, own, first, second, both) {
-            Ok(id) => Ok(id),
-            Err(_) => Err(SubtypeError::Memory),
-        },
+    let instances = Instances {
+        kept: ItemKind::Instance(a),
+        asked: ItemKind::Instance(b),
+    };
+    let both = merge_items(alloc, own, instances, &first.exports, &second.exports)?;
+    match add_joined(alloc, own, first, second, both) {
+        Ok(id) => Ok(id),
+        Err(_) => Err(SubtypeError::Memory),
     }
 }
 
@@ -167,15 +173,14 @@ fn push_item(
 fn merge_items(
     alloc: Global,
     own: &mut Types,
-    a: ItemKind,
+    instances: Instances,
     kept: &NamedMap<ItemKind>,
-    b: ItemKind,
     asked: &NamedMap<ItemKind>,
 ) -> Result<NamedMap<ItemKind>, SubtypeError>
-    requires first { Stands own.old a }
-    requires second { Stands own.old b }
-    requires kept { AreInside own.old a kept.now }
-    requires asked { AreInside own.old b asked.now }
+    requires first { Stands own.old instances.kept }
+    requires second { Stands own.old instances.asked }
+    requires kept { AreInside own.old instances.kept kept.now }
+    requires asked { AreInside own.old instances.asked asked.now }
     ensures joined { IfOk result (AreJoined own.old asked.now own.new kept.now) }
     ensures united { IfOk result (ItemsUnite own.old asked.now own.new kept.now) }
     ensures clash { IfClash result (ItemsClash own.old kept.now asked.now) }
@@ -186,13 +191,8 @@ fn merge_items(
     for index in 0..kept.len() {
         let (name, kind) = kept.entry(index);
         let other = asked.get(name).copied();
-        match merge_item(alloc, own, a, *kind, b, name, other) {
-            Err(fault) => return Err(fault),
-            Ok(item) => match push_item(alloc, &mut both, name, item) {
-                Ok(()) => {}
-                Err(fault) => return Err(fault),
-            },
-        }
+        let item = merge_item(alloc, own, instances, name, *kind, other)?;
+        push_item(alloc, &mut both, name, item)?;
     }
     Ok(both)
 }
@@ -202,14 +202,13 @@ fn merge_items(
 fn merge_item(
     alloc: Global,
     own: &mut Types,
-    a: ItemKind,
-    kind: ItemKind,
-    b: ItemKind,
+    instances: Instances,
     name: &str,
+    kind: ItemKind,
     other: Option<ItemKind>,
 ) -> Result<ItemKind, SubtypeError>
-    requires kept { IsInside own.old kind a }
-    requires asked { SlotInside own.old other b }
+    requires kept { IsInside own.old kind instances.kept }
+    requires asked { SlotInside own.old other instances.asked }
     ensures joined { IfOk result (JoinedIn own.old kind other own.new) }
     ensures united { IfOk result (OtherUnites own.old kind other own.new) }
     ensures clash { IfClash result (OtherClash own.old kind other) }

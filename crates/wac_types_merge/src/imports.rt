@@ -188,11 +188,7 @@ pub(crate) fn merged_import(
     ensures grows { OnOk result (Grows own.old own.new) }
 {
     let both = joint_family(before.family, family);
-    match kept_of(alloc, own, both, before.kind, asked) {
-        Err(fault) => Err(fault),
-        Ok(kept) => match spelled_import(alloc, own, before.name.as_str(), name, kept, both) {
-            Ok(import) => Ok(import),
-            Err(_) => Err(AggregateError::Memory),
-        },
-    }
+    let kept = kept_of(alloc, own, both, before.kind, asked)?;
+    let import = spelled_import(alloc, own, before.name.as_str(), name, kept, both)?;
+    Ok(import)
 }

@@ -13,8 +13,7 @@ use crate::maps::types_of;
 use crate::uses::used_by;
 use std::alloc::{AllocError, Global};
 use wac_types_base::{
-    Interface, InterfaceId, ItemKind, NamedMap, Text, Types, UsedType, World, WorldId, copy_text,
-    copy_uses,
+    Interface, InterfaceId, ItemKind, NamedMap, Types, World, WorldId, copy_text, copy_uses,
 };
 
 /// An interface with its type exports only.
@@ -98,25 +97,28 @@ fn add_all(
     Ok(())
 }
 
-/// A world of these uses, imports and exports as a component type.
+/// A world as a component type.
 pub(crate) fn add_component_type(
     types: &mut Types,
     alloc: Global,
-    id: Option<Text>,
-    uses: &NamedMap<UsedType>,
-    imports: &NamedMap<ItemKind>,
-    exports: NamedMap<ItemKind>,
+    world: World,
 ) -> Result<WorldId, AllocError>
-    requires uses { UsesStand types.old uses.now }
-    requires imports { ItemsStand types.old imports.now }
-    requires exports { ItemsStand types.old exports }
-    ensures world { IfOk result (IsComponentOf types.old types.new id uses.now imports.now exports) }
+    requires uses { UsesStand types.old world.uses }
+    requires imports { ItemsStand types.old world.imports }
+    requires exports { ItemsStand types.old world.exports }
+    ensures world { IfOk result (IsComponentOf types.old types.new world.id world.uses world.imports world.exports) }
     ensures grows { Grows types.old types.new }
 {
     types.see_acyclic();
-    let used = used_by(types, alloc, uses, imports, &exports)?;
-    let mut all = missing(types, alloc, &used, imports)?;
-    add_all(imports, alloc, &mut all)?;
+    let World {
+        id,
+        uses,
+        imports,
+        exports,
+    } = world;
+    let used = used_by(types, alloc, &uses, &imports, &exports)?;
+    let mut all = missing(types, alloc, &used, &imports)?;
+    add_all(&imports, alloc, &mut all)?;
     let world = types.add_world(World {
         id,
         uses: NamedMap::new(alloc),

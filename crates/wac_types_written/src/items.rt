@@ -166,7 +166,13 @@ fn world_of_parts(
     let imports = form_items(types, alloc, &own.imports, worlds, forms)?;
     let exports = form_items(types, alloc, &own.exports, worlds, forms)?;
     let name = copy_text(&own.id)?;
-    let form = add_formed_world(types, alloc, worlds, name, &uses, imports, exports)?;
+    let world = World {
+        id: name,
+        uses,
+        imports,
+        exports,
+    };
+    let form = add_formed_world(types, alloc, worlds, world)?;
     Ok(form)
 }
 
@@ -317,9 +323,13 @@ fn wrap(
     types.see_acyclic();
     let mut exports = NamedMap::new(alloc);
     exports.push(name.into_string(), item)?;
-    let uses = NamedMap::new(alloc);
-    let imports = NamedMap::new(alloc);
-    let world = add_component_type(types, alloc, None, &uses, &imports, exports)?;
+    let world = World {
+        id: None,
+        uses: NamedMap::new(alloc),
+        imports: NamedMap::new(alloc),
+        exports,
+    };
+    let world = add_component_type(types, alloc, world)?;
     Ok(ItemKind::Ty(Type::World(world)))
 }
 

@@ -8,7 +8,7 @@ ghost use Rattle.wac_types_written.specs.Written.{bare_world};
 
 use crate::components::add_component_type;
 use std::alloc::{AllocError, Global};
-use wac_types_base::{ItemKind, NamedMap, Text, Types, UsedType, World, WorldId};
+use wac_types_base::{NamedMap, Types, World, WorldId};
 
 /// The form in which worlds are made again.
 #[derive(Clone, Copy)]
@@ -19,21 +19,19 @@ pub(crate) enum WorldForm {
     WithoutUses,
 }
 
-/// A world of these imports and exports, without the uses.
-fn add_bare_world(
-    types: &mut Types,
-    alloc: Global,
-    id: Option<Text>,
-    uses: &NamedMap<UsedType>,
-    imports: NamedMap<ItemKind>,
-    exports: NamedMap<ItemKind>,
-) -> Result<WorldId, AllocError>
-    requires imports { ItemsStand types.old imports }
-    requires exports { ItemsStand types.old exports }
-    ensures world { IfOk result (IsMadeOf bare_world types.old types.new id uses.now imports exports) }
+/// A world without its uses.
+fn add_bare_world(types: &mut Types, alloc: Global, world: World) -> Result<WorldId, AllocError>
+    requires imports { ItemsStand types.old world.imports }
+    requires exports { ItemsStand types.old world.exports }
+    ensures world { IfOk result (IsMadeOf bare_world types.old types.new world.id world.uses world.imports world.exports) }
     ensures grows { Grows types.old types.new }
 {
-    let _ = uses;
+    let World {
+        id,
+        uses: _,
+        imports,
+        exports,
+    } = world;
     let world = types.add_world(World {
         id,
         uses: NamedMap::new(alloc),
@@ -43,29 +41,26 @@ fn add_bare_world(
     Ok(world)
 }
 
-/// A world of these uses, imports and exports.
+/// A world in a form.
 pub(crate) fn add_formed_world(
     types: &mut Types,
     alloc: Global,
-    worlds: WorldForm,
-    id: Option<Text>,
-    uses: &NamedMap<UsedType>,
-    imports: NamedMap<ItemKind>,
-    exports: NamedMap<ItemKind>,
+    form: WorldForm,
+    world: World,
 ) -> Result<WorldId, AllocError>
-    requires uses { UsesStand types.old uses.now }
-    requires imports { ItemsStand types.old imports }
-    requires exports { ItemsStand types.old exports }
-    ensures world { IfOk result (IsMadeOf (maker worlds) types.old types.new id uses.now imports exports) }
+    requires uses { UsesStand types.old world.uses }
+    requires imports { ItemsStand types.old world.imports }
+    requires exports { ItemsStand types.old world.exports }
+    ensures world { IfOk result (IsMadeOf (maker form) types.old types.new world.id world.uses world.imports world.exports) }
     ensures grows { Grows types.old types.new }
 {
-    match worlds {
+    match form {
         WorldForm::ComponentType => {
-            let world = add_component_type(types, alloc, id, uses, &imports, exports)?;
+            let world = add_component_type(types, alloc, world)?;
             Ok(world)
         }
         WorldForm::WithoutUses => {
-            let world = add_bare_world(types, alloc, id, uses, imports, exports)?;
+            let world = add_bare_world(types, alloc, world)?;
             Ok(world)
         }
     }

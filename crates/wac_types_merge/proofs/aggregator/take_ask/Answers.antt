@@ -1,4 +1,5 @@
 use Rattle.std.proofs.Common.{Some, refl, ap, subst, ◌∙◌}
+use Rattle.std.proofs.lemmas.Result.{err_from_is_err_and}
 use Rattle.wac_types_base.specs.Collection.{Stands}
 use Rattle.wac_types_names.specs.Tracks.{AreCompatible}
 use Rattle.wac_types_merge.specs.declared.family.Import.{Import}
@@ -40,26 +41,26 @@ returns-in_ok-add_first-in-None-clause-sound c =
     (none_on_track c.as_slice.result.now ms c.args.name.now c.in_ok-place_on.field-0 c.as_slice.ensures.value c.in-None.is c.in_ok-place_on.ensures)
     c.in_ok-add_first-in-None.ensures refl c.in_ok-asked.ensures.copied c.family_of-family.ensures
 
-pub returns-in-Ok-clause-asked : goal.returns-in-Ok-clause-asked
-returns-in-Ok-clause-asked c =
+pub returns-in_ok-after-in-Some-clause-asked : goal.returns-in_ok-after-in-Some-clause-asked
+returns-in_ok-after-in-Some-clause-asked c =
     let ms = c.args.imports.now.items in
     let p = found_on_track c.as_slice.result.now ms c.args.name.now c.in_ok-place_on.field-0 c.in-Some.at c.as_slice.ensures.value c.in-Some.is c.in_ok-place_on.ensures in
     let is = same_import ms c.in-Some.at p.0 c.index.result.now p.1 c.index.ensures in
     asked_again (imports_in c.args.own.now ms) (imports_in c.merged_import.new.own c.replace_import.new.imports.items) (ask_for c.args.name.now c.args.types.now c.args.kind) c.see_acyclic.ensures c.requires.stands c.requires.sound
     c.copy_item.new.to c.in_ok-asked.asked c.in_ok-asked.ensures.copied c.copy_item.ensures.grows c.in-Some.at c.index.result.now (p.1 ∙ ap Some is) (subst (λ (m : Import). AreCompatible m.name c.args.name.now) is p.2)
-    c.family_of-family.result c.family_of-family.ensures c.in-Ok.after c.in-Ok.ensures.grows c.in-Ok.ensures.merged c.replace_import.ensures (λ u. absurd (cc (c.if-uses_unnamed.ensures.1 u)))
+    c.family_of-family.result c.family_of-family.ensures c.in_ok-after-in-Some.after c.in_ok-after-in-Some.ensures.grows c.in_ok-after-in-Some.ensures.merged c.replace_import.ensures (λ u. absurd (cc (c.if-uses_unnamed.ensures.1 u)))
 
-pub returns-in-Ok-clause-sound : goal.returns-in-Ok-clause-sound
-returns-in-Ok-clause-sound c =
+pub returns-in_ok-after-in-Some-clause-sound : goal.returns-in_ok-after-in-Some-clause-sound
+returns-in_ok-after-in-Some-clause-sound c =
     let ms = c.args.imports.now.items in
     let p = found_on_track c.as_slice.result.now ms c.args.name.now c.in_ok-place_on.field-0 c.in-Some.at c.as_slice.ensures.value c.in-Some.is c.in_ok-place_on.ensures in
     let is = same_import ms c.in-Some.at p.0 c.index.result.now p.1 c.index.ensures in
     again_sound (imports_in c.args.own.now ms) (imports_in c.merged_import.new.own c.replace_import.new.imports.items) (ask_for c.args.name.now c.args.types.now c.args.kind) c.see_acyclic.ensures c.requires.stands c.requires.sound
     c.copy_item.new.to c.in_ok-asked.asked c.in_ok-asked.ensures.copied c.copy_item.ensures.grows c.in-Some.at c.index.result.now (p.1 ∙ ap Some is) (subst (λ (m : Import). AreCompatible m.name c.args.name.now) is p.2)
-    c.family_of-family.result c.family_of-family.ensures c.in-Ok.after c.in-Ok.ensures.grows c.in-Ok.ensures.merged c.replace_import.ensures
+    c.family_of-family.result c.family_of-family.ensures c.in_ok-after-in-Some.after c.in_ok-after-in-Some.ensures.grows c.in_ok-after-in-Some.ensures.merged c.replace_import.ensures
 
-pub returns-in-Err-clause-refused : goal.returns-in-Err-clause-refused
-returns-in-Err-clause-refused c =
+pub returns-in_err-after-in-Some-clause-refused : goal.returns-in_err-after-in-Some-clause-refused
+returns-in_err-after-in-Some-clause-refused c =
     let ms = c.args.imports.now.items in
     let old = imports_in c.args.own.now ms in
     let new = imports_in c.merged_import.new.own ms in
@@ -67,7 +68,9 @@ returns-in-Err-clause-refused c =
     let p = found_on_track c.as_slice.result.now ms c.args.name.now c.in_ok-place_on.field-0 c.in-Some.at c.as_slice.ensures.value c.in-Some.is c.in_ok-place_on.ensures in
     let is = same_import ms c.in-Some.at p.0 c.index.result.now p.1 c.index.ensures in
     let f = joint c.index.result.now.family c.family_of-family.result in
-    refused_as c.in-Err.fault (HasClash c.copy_item.new.to f c.index.result.now.kind c.in_ok-asked.asked) (HaveNoCommon old a) (LieOutside c.copy_item.new.to f c.index.result.now.kind c.in_ok-asked.asked) (AreOutside old a) ⊥ (UsesUnnamed c.args.types.now c.args.kind)
+    let q = err_from_is_err_and c.from_residual-in_err-after-in-Some.result c.from_residual-in_err-after-in-Some.ensures.1 in
+    rw (q.1, q.2)
+    (refused_as c.in_err-after-in-Some.field-0.0 (HasClash c.copy_item.new.to f c.index.result.now.kind c.in_ok-asked.asked) (HaveNoCommon old a) (LieOutside c.copy_item.new.to f c.index.result.now.kind c.in_ok-asked.asked) (AreOutside old a) ⊥ (UsesUnnamed c.args.types.now c.args.kind)
     (no_common old new a c.see_acyclic.ensures c.requires.stands c.requires.sound c.copy_item.new.to c.in_ok-asked.asked c.in_ok-asked.ensures.copied c.copy_item.ensures.grows c.in-Some.at c.index.result.now (p.1 ∙ ap Some is) (subst (λ (m : Import). AreCompatible m.name c.args.name.now) is p.2) c.family_of-family.result c.family_of-family.ensures)
     (outside old new a c.see_acyclic.ensures c.requires.stands c.requires.sound c.copy_item.new.to c.in_ok-asked.asked c.in_ok-asked.ensures.copied c.copy_item.ensures.grows c.in-Some.at c.index.result.now (p.1 ∙ ap Some is) (subst (λ (m : Import). AreCompatible m.name c.args.name.now) is p.2) c.family_of-family.result c.family_of-family.ensures)
-    (λ x. absurd x) c.in-Err.ensures.refused
+    (λ x. absurd x) c.in_err-after-in-Some.ensures.refused)

@@ -1,4 +1,5 @@
 use Rattle.std.proofs.Common.{Some, [], take, refl, sym, ap, subst, ◌∙◌, arith}
+use Rattle.std.proofs.lemmas.Result.{err_from_is_err_and}
 use Rattle.wac_types_base.specs.declared.item.«Type».{«Type» as TypeKind}
 use Rattle.wac_types_base.specs.declared.item.ItemKind.{ItemKind}
 use Rattle.wac_types_base.specs.Collection.{Stands}
@@ -63,14 +64,16 @@ merge_types-merge_instances-requires t c =
     let r = interface_type_size c.args.own.now c.see_acyclic.ensures c.args.b c.in-Interface-b.j c.in-Interface-b.is c.requires.asked in
     (omega (arith, s, r, c.decreases), (interface_type_stands c.args.own.now c.args.a c.in-Interface.i c.in-Interface.is c.requires.kept, interface_type_stands c.args.own.now c.args.b c.in-Interface-b.j c.in-Interface-b.is c.requires.asked))
 
-pub merge_types-returns-in-Ok-clause-met : goal.merge_types-returns-in-Ok-clause-met
-merge_types-returns-in-Ok-clause-met t c =
-    typed_meet c.args.own.now c.merge_instances.new.own c.see_acyclic.ensures c.merge_instances.ensures.grows.acyclic c.args.a c.args.b c.in-Interface.i c.in-Interface-b.j c.in-Ok.id c.in-Interface.is c.in-Interface-b.is c.requires.kept c.requires.asked c.in-Ok.ensures.met
+pub merge_types-returns-in_ok-id-in-Interface-b-clause-met : goal.merge_types-returns-in_ok-id-in-Interface-b-clause-met
+merge_types-returns-in_ok-id-in-Interface-b-clause-met t c =
+    typed_meet c.args.own.now c.merge_instances.new.own c.see_acyclic.ensures c.merge_instances.ensures.grows.acyclic c.args.a c.args.b c.in-Interface.i c.in-Interface-b.j c.in_ok-id-in-Interface-b.id c.in-Interface.is c.in-Interface-b.is c.requires.kept c.requires.asked c.in_ok-id-in-Interface-b.ensures.met
 
-pub merge_types-returns-in-Err-clause-clash : goal.merge_types-returns-in-Err-clause-clash
-merge_types-returns-in-Err-clause-clash t c ss e =
-    typed_clash c.args.own.now (ItemKind.Ty c.args.a) (ItemKind.Ty c.args.b) (ItemKind.Instance c.in-Interface.i) (ItemKind.Instance c.in-Interface-b.j)
-    (interface_type_is c.args.own.now c.see_acyclic.ensures c.args.a c.in-Interface.i c.in-Interface.is c.requires.kept) (interface_type_is c.args.own.now c.see_acyclic.ensures c.args.b c.in-Interface-b.j c.in-Interface-b.is c.requires.asked) (c.in-Err.ensures.clash ss e)
+pub merge_types-returns-in_err-id-in-Interface-b-clause-clash : goal.merge_types-returns-in_err-id-in-Interface-b-clause-clash
+merge_types-returns-in_err-id-in-Interface-b-clause-clash t c =
+    let p = err_from_is_err_and c.from_residual.result c.from_residual.ensures.1 in
+    rw (p.1, p.2)
+    (λ ss e. typed_clash c.args.own.now (ItemKind.Ty c.args.a) (ItemKind.Ty c.args.b) (ItemKind.Instance c.in-Interface.i) (ItemKind.Instance c.in-Interface-b.j)
+    (interface_type_is c.args.own.now c.see_acyclic.ensures c.args.a c.in-Interface.i c.in-Interface.is c.requires.kept) (interface_type_is c.args.own.now c.see_acyclic.ensures c.args.b c.in-Interface-b.j c.in-Interface-b.is c.requires.asked) (c.in_err-id-in-Interface-b.ensures.clash ss e))
 
 pub merge_copies-merge_items-requires : goal.merge_copies-merge_items-requires
 merge_copies-merge_items-requires t c =
@@ -94,16 +97,18 @@ merge_copies-add_joined-requires t c =
     let g = c.merge_items.ensures.grows in
     let d = c.merge_items.new.own in
     record {
-      names = names_joined c.args.own.now c.args.second.now.exports d c.args.first.now.exports c.in-Ok.both c.in-Ok.ensures.joined;
-      both = joined_stand c.args.own.now c.args.second.now.exports d c.args.first.now.exports c.in-Ok.both c.in-Ok.ensures.joined;
+      names = names_joined c.args.own.now c.args.second.now.exports d c.args.first.now.exports c.in_ok-both.both c.in_ok-both.ensures.joined;
+      both = joined_stand c.args.own.now c.args.second.now.exports d c.args.first.now.exports c.in_ok-both.both c.in_ok-both.ensures.joined;
       exports = exports_kept c.args.own.now d g c.args.second.now.exports (exports_stand c.args.own.now c.see_acyclic.ensures c.args.b c.args.second.now c.requires.asked);
       uses = uses_kept c.args.own.now d g c.args.first.now.uses (uses_stand c.args.own.now c.see_acyclic.ensures c.args.a c.args.first.now c.requires.kept);
       more_uses = uses_kept c.args.own.now d g c.args.second.now.uses (uses_stand c.args.own.now c.see_acyclic.ensures c.args.b c.args.second.now c.requires.asked);
     }
 
-pub merge_copies-returns-in-Err-clause-clash : goal.merge_copies-returns-in-Err-clause-clash
-merge_copies-returns-in-Err-clause-clash t c ss e =
-    instances_clash c.args.own.now c.see_acyclic.ensures c.args.a c.args.b c.args.first.now c.args.second.now c.requires.kept c.requires.asked (c.in-Err.ensures.clash ss e)
+pub merge_copies-returns-in_err-both-clause-clash : goal.merge_copies-returns-in_err-both-clause-clash
+merge_copies-returns-in_err-both-clause-clash t c =
+    let p = err_from_is_err_and c.from_residual.result c.from_residual.ensures.1 in
+    rw (p.1, p.2)
+    (λ ss e. instances_clash c.args.own.now c.see_acyclic.ensures c.args.a c.args.b c.args.first.now c.args.second.now c.requires.kept c.requires.asked (c.in_err-both.ensures.clash ss e))
 
 pub merge_item-returns-in-Err-clause-clash : goal.merge_item-returns-in-Err-clause-clash
 merge_item-returns-in-Err-clause-clash t c ss e =
@@ -125,12 +130,12 @@ merge_instances-merge_copies-requires t c = (
   ),
 )
 
-pub merge_copies-returns-in-Ok-add_joined-clause-met : goal.merge_copies-returns-in-Ok-add_joined-clause-met
-merge_copies-returns-in-Ok-add_joined-clause-met t c =
+pub merge_copies-returns-in-Ok-clause-met : goal.merge_copies-returns-in-Ok-clause-met
+merge_copies-returns-in-Ok-clause-met t c =
     let g = c.merge_items.ensures.grows in
     let h = c.add_joined.ensures.grows in
-    instances_meet c.args.own.now c.merge_items.new.own c.add_joined.new.own c.see_acyclic.ensures h.acyclic g h (Grows-trans c.args.own.now c.merge_items.new.own c.add_joined.new.own g h) c.args.a c.args.b c.in-Ok-add_joined.id
-    c.args.first.now c.args.second.now c.in-Ok.both c.requires.kept c.requires.asked c.in-Ok-add_joined.ensures.added c.in-Ok.ensures.joined
+    instances_meet c.args.own.now c.merge_items.new.own c.add_joined.new.own c.see_acyclic.ensures h.acyclic g h (Grows-trans c.args.own.now c.merge_items.new.own c.add_joined.new.own g h) c.args.a c.args.b c.in-Ok.id
+    c.args.first.now c.args.second.now c.in_ok-both.both c.requires.kept c.requires.asked c.in-Ok.ensures.added c.in_ok-both.ensures.joined
 
 pub merge_items-loop-index-init : goal.merge_items-loop-index-init
 merge_items-loop-index-init t c = record {
@@ -145,14 +150,14 @@ merge_items-merge_item-requires t c =
     let k = c.entry.result.1.now in
     let own = c.args.own.now in
     let g = c.loop-index.invariant.grows in
-    let sa = size_kept own c.loop-index.own g c.args.a c.requires.first in
-    let sb = size_kept own c.loop-index.own g c.args.b c.requires.second in
+    let sa = size_kept own c.loop-index.own g c.args.instances.kept c.requires.first in
+    let sb = size_kept own c.loop-index.own g c.args.instances.asked c.requires.second in
     let m = among-get c.args.kept.now c.loop-index.index (n, k) c.entry.ensures in
     let o = c.copied-other.result in (
       omega (arith, sa, sb, c.decreases),
       (
-        inside_kept own c.loop-index.own g k c.args.a c.requires.first (c.requires.kept n k m),
-        slot_inside_kept own c.loop-index.own g o c.args.b c.requires.second (found_inside_slot own c.args.b c.args.asked.now c.requires.asked n o (sym (c.copied-other.ensures ∙ c.get.ensures))),
+        inside_kept own c.loop-index.own g k c.args.instances.kept c.requires.first (c.requires.kept n k m),
+        slot_inside_kept own c.loop-index.own g o c.args.instances.asked c.requires.second (found_inside_slot own c.args.instances.asked c.args.asked.now c.requires.asked n o (sym (c.copied-other.ensures ∙ c.get.ensures))),
       ),
     )
 
@@ -171,44 +176,48 @@ merge_items-loop-index-preserved t c =
     let o = c.copied-other.result in
     let is = c.copied-other.ensures ∙ c.get.ensures in
     let inside = c.requires.kept n k (among-get c.args.kept.now c.loop-index.index (n, k) c.entry.ensures) in
-    let other = slot_stands own o c.args.b (found_inside_slot own c.args.b c.args.asked.now c.requires.asked n o (sym is)) in
-    let item = joined_before own d k o e c.in-Ok.item g inside.0 other c.in-Ok.ensures.joined in
+    let other = slot_stands own o c.args.instances.asked (found_inside_slot own c.args.instances.asked c.args.asked.now c.requires.asked n o (sym is)) in
+    let item = joined_before own d k o e c.in_ok-item.item g inside.0 other c.in_ok-item.ensures.joined in
     record {
-      joined = joined_more own c.args.asked.now d e c.args.kept.now c.loop-index.both c.push_item.new.items c.loop-index.index n k c.in-Ok.item c.entry.ensures c.merge_item.ensures.grows c.loop-index.invariant.joined
-          (subst (λ p. JoinedIn own k p e c.in-Ok.item) is item) c.in-Ok-push_item.ensures.ok;
-      united = united_more own c.args.asked.now d e c.args.kept.now c.loop-index.both c.push_item.new.items c.loop-index.index n k c.in-Ok.item c.entry.ensures c.merge_item.ensures.grows
+      joined = joined_more own c.args.asked.now d e c.args.kept.now c.loop-index.both c.push_item.new.items c.loop-index.index n k c.in_ok-item.item c.entry.ensures c.merge_item.ensures.grows c.loop-index.invariant.joined
+          (subst (λ p. JoinedIn own k p e c.in_ok-item.item) is item) c.in_ok-push_item.ensures.ok;
+      united = united_more own c.args.asked.now d e c.args.kept.now c.loop-index.both c.push_item.new.items c.loop-index.index n k c.in_ok-item.item c.entry.ensures c.merge_item.ensures.grows
           (joined_stand own c.args.asked.now d (take c.loop-index.index c.args.kept.now) c.loop-index.both c.loop-index.invariant.joined) c.loop-index.invariant.united
-          (subst (λ p. OtherUnites own k p e c.in-Ok.item) is (other_before own d k o e c.in-Ok.item g inside.0 other c.in-Ok.ensures.united)) c.in-Ok-push_item.ensures.ok;
+          (subst (λ p. OtherUnites own k p e c.in_ok-item.item) is (other_before own d k o e c.in_ok-item.item g inside.0 other c.in_ok-item.ensures.united)) c.in_ok-push_item.ensures.ok;
       grows = Grows-trans own d e g c.merge_item.ensures.grows;
     }
 
-pub merge_items-returns-in-Err-clause-clash : goal.merge_items-returns-in-Err-clause-clash
-merge_items-returns-in-Err-clause-clash t c ss e =
+pub merge_items-returns-in_err-item-clause-clash : goal.merge_items-returns-in_err-item-clause-clash
+merge_items-returns-in_err-item-clause-clash t c =
+    let p = err_from_is_err_and c.from_residual.result c.from_residual.ensures.1 in
     let n = c.entry.result.0.now in
     let k = c.entry.result.1.now in
     let own = c.args.own.now in
     let m = among-get c.args.kept.now c.loop-index.index (n, k) c.entry.ensures in
     let o = c.copied-other.result in
     let is = c.copied-other.ensures ∙ c.get.ensures in
-    clash_at own c.loop-index.own c.args.kept.now c.args.asked.now n k o c.loop-index.invariant.grows (among-value_at c.args.kept.now n k c.len-index-end.ensures.distinct m) is (c.requires.kept n k m).0
-    (slot_stands own o c.args.b (found_inside_slot own c.args.b c.args.asked.now c.requires.asked n o (sym is))) (c.in-Err.ensures.clash ss e)
+    rw (p.1, p.2)
+    (λ ss e. clash_at own c.loop-index.own c.args.kept.now c.args.asked.now n k o c.loop-index.invariant.grows (among-value_at c.args.kept.now n k c.len-index-end.ensures.distinct m) is (c.requires.kept n k m).0
+    (slot_stands own o c.args.instances.asked (found_inside_slot own c.args.instances.asked c.args.asked.now c.requires.asked n o (sym is))) (c.in_err-item.ensures.clash ss e))
 
-pub merge_items-returns-in-Err-push_item-clause-clash : goal.merge_items-returns-in-Err-push_item-clause-clash
-merge_items-returns-in-Err-push_item-clause-clash t c ss e = absurd (c.in-Err-push_item.ensures.clash ss e)
+pub merge_items-returns-in_err-push_item-clause-clash : goal.merge_items-returns-in_err-push_item-clause-clash
+merge_items-returns-in_err-push_item-clause-clash t c =
+    let p = err_from_is_err_and c.from_residual-in_err-push_item.result c.from_residual-in_err-push_item.ensures.1 in
+    rw (p.1, p.2) (λ ss e. absurd (c.in_err-push_item.ensures.clash ss e))
 
 pub merge_item-merge-requires : goal.merge_item-merge-requires
 merge_item-merge-requires t c =
     let r = c.requires.1.1 in
-    let other = subst (λ o. SlotInside c.args.own.now o c.args.b) c.in-Some.is r.1 in
+    let other = subst (λ o. SlotInside c.args.own.now o c.args.instances.asked) c.in-Some.is r.1 in
     let less = r.0.1 in
     let more = other.1 in
     (omega (arith, c.requires.1.0, less, more), (r.0.0, other.0))
 
 -- ---- the stated type of what is made
 
-pub merge-returns-in-Ok-clause-united : goal.merge-returns-in-Ok-clause-united
-merge-returns-in-Ok-clause-united t c =
-    both_instances c.args.own.now c.merge_instances.new.own c.see_acyclic.ensures c.in-Ok.ensures.grows.acyclic c.in-Ok.ensures.grows c.args.a c.args.b c.in-Instance.i c.in-Instance-b.j c.in-Ok.id c.in-Instance.is c.in-Instance-b.is c.requires.kept c.requires.asked c.in-Ok.ensures.united
+pub merge-returns-in_ok-id-in-Instance-b-clause-united : goal.merge-returns-in_ok-id-in-Instance-b-clause-united
+merge-returns-in_ok-id-in-Instance-b-clause-united t c =
+    both_instances c.args.own.now c.merge_instances.new.own c.see_acyclic.ensures c.in_ok-id-in-Instance-b.ensures.grows.acyclic c.in_ok-id-in-Instance-b.ensures.grows c.args.a c.args.b c.in-Instance.i c.in-Instance-b.j c.in_ok-id-in-Instance-b.id c.in-Instance.is c.in-Instance-b.is c.requires.kept c.requires.asked c.in_ok-id-in-Instance-b.ensures.united
 
 pub merge-returns-in_default-b-clause-united : goal.merge-returns-in_default-b-clause-united
 merge-returns-in_default-b-clause-united t c =
@@ -225,9 +234,9 @@ merge-returns-in_default-clause-united t c =
     if_ok c.unmerged-in_default.result _ _ c.unmerged-in_default.ensures.first (λ k e. first_unites c.args.own.now c.see_acyclic.ensures c.args.a c.args.b k
     (first_other c.args.own.now c.see_acyclic.ensures c.args.a c.args.b c.requires.kept c.in_default.not-Instance (λ i. c.in_default.not-Ty (TypeKind.Interface i))) e)
 
-pub merge_types-returns-in-Ok-clause-united : goal.merge_types-returns-in-Ok-clause-united
-merge_types-returns-in-Ok-clause-united t c =
-    both_types c.args.own.now c.merge_instances.new.own c.see_acyclic.ensures c.in-Ok.ensures.grows.acyclic c.in-Ok.ensures.grows c.args.a c.args.b c.in-Interface.i c.in-Interface-b.j c.in-Ok.id c.in-Interface.is c.in-Interface-b.is c.requires.kept c.requires.asked c.in-Ok.ensures.united
+pub merge_types-returns-in_ok-id-in-Interface-b-clause-united : goal.merge_types-returns-in_ok-id-in-Interface-b-clause-united
+merge_types-returns-in_ok-id-in-Interface-b-clause-united t c =
+    both_types c.args.own.now c.merge_instances.new.own c.see_acyclic.ensures c.in_ok-id-in-Interface-b.ensures.grows.acyclic c.in_ok-id-in-Interface-b.ensures.grows c.args.a c.args.b c.in-Interface.i c.in-Interface-b.j c.in_ok-id-in-Interface-b.id c.in-Interface.is c.in-Interface-b.is c.requires.kept c.requires.asked c.in_ok-id-in-Interface-b.ensures.united
 
 pub merge_types-returns-in_default-b-clause-united : goal.merge_types-returns-in_default-b-clause-united
 merge_types-returns-in_default-b-clause-united t c =
@@ -239,10 +248,10 @@ merge_types-returns-in_default-clause-united t c =
     if_ok c.unmerged-in_default.result _ _ c.unmerged-in_default.ensures.first (λ k e. first_unites c.args.own.now c.see_acyclic.ensures (ItemKind.Ty c.args.a) (ItemKind.Ty c.args.b) k
     (first_other c.args.own.now c.see_acyclic.ensures (ItemKind.Ty c.args.a) (ItemKind.Ty c.args.b) c.requires.kept (no_instance c.args.a) (λ i is. c.in_default.not-Interface i (same_type c.args.a (TypeKind.Interface i) is))) e)
 
-pub merge_copies-returns-in-Ok-add_joined-clause-united : goal.merge_copies-returns-in-Ok-add_joined-clause-united
-merge_copies-returns-in-Ok-add_joined-clause-united t c = record {
-  both = c.in-Ok.both;
-  at = c.in-Ok-add_joined.ensures.added;
-  united = united_kept c.args.own.now c.args.second.now.exports c.merge_items.new.own c.add_joined.new.own c.args.first.now.exports c.in-Ok.both c.add_joined.ensures.grows
-      (joined_stand c.args.own.now c.args.second.now.exports c.merge_items.new.own c.args.first.now.exports c.in-Ok.both c.in-Ok.ensures.joined) c.in-Ok.ensures.united;
+pub merge_copies-returns-in-Ok-clause-united : goal.merge_copies-returns-in-Ok-clause-united
+merge_copies-returns-in-Ok-clause-united t c = record {
+  both = c.in_ok-both.both;
+  at = c.in-Ok.ensures.added;
+  united = united_kept c.args.own.now c.args.second.now.exports c.merge_items.new.own c.add_joined.new.own c.args.first.now.exports c.in_ok-both.both c.add_joined.ensures.grows
+      (joined_stand c.args.own.now c.args.second.now.exports c.merge_items.new.own c.args.first.now.exports c.in_ok-both.both c.in_ok-both.ensures.joined) c.in_ok-both.ensures.united;
 }

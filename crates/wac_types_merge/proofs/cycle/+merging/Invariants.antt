@@ -18,10 +18,10 @@ abbrev pub decreases-merge_copies : goal.decreases-merge_copies
 decreases-merge_copies l = 8 * (size_of l.own.now (ItemKind.Instance l.a) + size_of l.own.now (ItemKind.Instance l.b)) + 2
 
 abbrev pub decreases-merge_items : goal.decreases-merge_items
-decreases-merge_items l = 8 * (size_of l.own.now l.a + size_of l.own.now l.b) + 1
+decreases-merge_items l = 8 * (size_of l.own.now l.instances.kept + size_of l.own.now l.instances.asked) + 1
 
 abbrev pub decreases-merge_item : goal.decreases-merge_item
-decreases-merge_item l = 8 * (size_of l.own.now l.a + size_of l.own.now l.b)
+decreases-merge_item l = 8 * (size_of l.own.now l.instances.kept + size_of l.own.now l.instances.asked)
 
 -- the items so far are joined
 abbrev pub invariant-merge_items-loop-index : goal.invariant-merge_items-loop-index

@@ -4,17 +4,14 @@ use Rattle.wac_types_base.specs.declared.item.«Type».{«Type» as TypeKind}
 use Rattle.wac_types_base.specs.declared.item.ItemKind.{ItemKind}
 use Rattle.wac_types_base.specs.declared.ids.InterfaceId.{InterfaceId}
 use Rattle.wac_types_base.specs.declared.defined.UsedType.{UsedType}
-use Rattle.wac_types_base.specs.declared.defined.Interface.{Interface}
-use Rattle.wac_types_base.specs.declared.defined.World.{World}
-use Rattle.wac_types_base.specs.Collection.{Stands, items, size_of, used}
+use Rattle.wac_types_base.specs.Collection.{Stands, size_of}
 use Rattle.wac_types_base.specs.Entries.{IsNew, Name}
 use Rattle.wac_types_base.specs.Stated.{stated_of}
 use Rattle.wac_types_base.proofs.Adding.{Grows-refl, Grows-trans}
 use Rattle.wac_types_base.proofs.Looked.{among-get, among-take}
 use Rattle.wac_types_base.proofs.Loops.{take-all}
 use Rattle.wac_types_base.proofs.Slots.{stands_typed_interface, stands_typed_world}
-use Rattle.wac_types_base.proofs.Telling.{row_size}
-use Rattle.wac_types_written.specs.Forms.{AreFormed, IsOf, ItemsStand, UsesFormed, UsesStand, maker}
+use Rattle.wac_types_written.specs.Forms.{AreFormed, IsOf, ItemsStand, UsesFormed, maker}
 use Rattle.wac_types_written.specs.Written.{formed}
 use Rattle.wac_types_written.proofs.Adding.{interface_added}
 use Rattle.wac_types_written.proofs.Forming.{interface_formed, interface_type_formed, interface_type_size, item_name_new, other_item, other_type, items_next, items_none, use_name_new, uses_next, uses_none, world_formed, world_parts_size, world_type_formed, world_type_size}

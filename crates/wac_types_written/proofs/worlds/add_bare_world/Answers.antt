@@ -8,7 +8,7 @@ use Rattle.wac_types_written.proofs.worlds.add_bare_world.Goals as goal
 
 pub add_world-requires : goal.add_world-requires
 add_world-requires c =
-    world_children c.args.types.now (record { id = c.args.id; uses = c.new.result; imports = c.args.imports; exports = c.args.exports })
+    world_children c.args.types.now (record { id = c.args.world.id; uses = c.new.result; imports = c.args.world.imports; exports = c.args.world.exports })
     (subst (UsesStand c.args.types.now) (sym c.new.ensures) (λ u m. absurd m)) c.requires.imports c.requires.exports
 
 pub returns-clause-world : goal.returns-clause-world
@@ -16,6 +16,6 @@ returns-clause-world c =
     let old = c.args.types.now in
     let new = c.add_world.new.self in
     let e = c.in_ok-world.ensures in
-    world_added old new e.grows (record { id = c.args.id; uses = c.new.result; imports = c.args.imports; exports = c.args.exports }) c.in_ok-world.world
-    (world_of c.args.id [] (stated_items old c.args.imports) (stated_items old c.args.exports)) e.added e.id
-    (λ j. world_of c.args.id (stated_uses new (c.new.ensures j)) (items_kept old new e.grows c.args.imports c.requires.imports j) (items_kept old new e.grows c.args.exports c.requires.exports j))
+    world_added old new e.grows (record { id = c.args.world.id; uses = c.new.result; imports = c.args.world.imports; exports = c.args.world.exports }) c.in_ok-world.world
+    (world_of c.args.world.id [] (stated_items old c.args.world.imports) (stated_items old c.args.world.exports)) e.added e.id
+    (λ j. world_of c.args.world.id (stated_uses new (c.new.ensures j)) (items_kept old new e.grows c.args.world.imports c.requires.imports j) (items_kept old new e.grows c.args.world.exports c.requires.exports j))
