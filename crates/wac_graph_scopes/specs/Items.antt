@@ -25,6 +25,7 @@ use Rattle.wac_graph_bytes.specs.Views.{before, declarations_of}
 use Rattle.wac_graph_scopes.specs.declared.scope.KnownTypes.{KnownTypes}
 use Rattle.wac_graph_scopes.specs.declared.items.ItemScope.{ItemScope}
 use Rattle.wac_graph_scopes.specs.declared.items.Around.{Around}
+use Rattle.wac_graph_scopes.specs.declared.items.PlacedInterface.{PlacedInterface}
 use Rattle.wac_graph_scopes.specs.declared.parts.Item.{Item}
 use Rattle.wac_graph_scopes.specs.declared.parts.Use.{Use}
 use Rattle.wac_graph_scopes.specs.declared.used.UsedIndex.{UsedIndex}
@@ -256,10 +257,14 @@ ExportsUsed c id used item k old new r =
     (w : Worlds) (outer : List Scope) (i : Inside) → IsItemScope w c outer i old → Stands c item → IsUsedKind item
     → IsTypeItem w (i.here ∷ outer) 0 (tree_in c item) k → IfOk r (MayExport w c outer i (exports_of c id) used.name.now new)
 
-abbrev pub TakesUse : {E : Type 0} → Collection → Around → InterfaceId → Use → ItemScope → ItemScope → Result Bool E → Type 0
-TakesUse c a id used old new r = (w : Worlds) (outer : List Scope) (i : Inside) → IsItemScope w c outer i old
-    → AreUsed w c (i.here ∷ outer) a.depth a.used.now.all.items
-    → IfOk r (MayExport w c outer i (exports_of c id) used.name.now new)
+-- what is used around the interface stands in the scopes
+abbrev pub StandsAround : Worlds → List Scope → PlacedInterface → Type 0
+StandsAround w outer p = AreAround w p.types.now outer p.around.depth p.around.used.now.all.items
+
+abbrev pub TakesUse : {E : Type 0} → PlacedInterface → Use → ItemScope → ItemScope → Result Bool E → Type 0
+TakesUse p used old new r = (w : Worlds) (outer : List Scope) (i : Inside) → IsItemScope w p.types.now outer i old
+    → AreUsed w p.types.now (i.here ∷ outer) p.around.depth p.around.used.now.all.items
+    → IfOk r (MayExport w p.types.now outer i (exports_of p.types.now p.id) used.name.now new)
 
 -- the items of an interface whose names these are, each with its tree
 abbrev pub WritesSome : Worlds → Collection → List Scope → InterfaceId → ItemScope → List Name → Type 0
@@ -271,26 +276,23 @@ pub record UsesTaken (w : Worlds) (c : Collection) (outer : List Scope) (id : In
   pub writing : WritesSome w c outer id s given
   pub before_it : (n : Name) → Among n given → Among n (take at (names_of (uses_of c id)))
 
-abbrev pub TakesAt : {U E : Type 0} → Collection → Around → InterfaceId → ℕ → ItemScope → List Name → ItemScope → List Name
-    → Result U E → Type 0
-TakesAt c a id at old before_names new names r = (w : Worlds) (outer : List Scope)
-    → AreAround w c outer a.depth a.used.now.all.items → UsesTaken w c outer id at old before_names
-    → IfOk r (λ _. UsesTaken w c outer id (at + 1) new names)
+abbrev pub TakesAt : {U E : Type 0} → PlacedInterface → ℕ → ItemScope → List Name → ItemScope → List Name → Result U E → Type 0
+TakesAt p at old before_names new names r = (w : Worlds) (outer : List Scope) → StandsAround w outer p
+    → UsesTaken w p.types.now outer p.id at old before_names
+    → IfOk r (λ _. UsesTaken w p.types.now outer p.id (at + 1) new names)
 
 abbrev pub GrowsBy : Name → List Name → List Name → Type 0
 GrowsBy n old new = (m : Name) → Among m new → Among m old ⊎ (m ≡ n)
 
-abbrev pub TakesNamed : {U E : Type 0} → Collection → Around → InterfaceId → Use → ItemScope → List Name → ItemScope → List Name
-    → Result U E → Type 0
-TakesNamed c a id used old before_names new names r = (w : Worlds) (outer : List Scope)
-    → AreAround w c outer a.depth a.used.now.all.items → WritesSome w c outer id old before_names
-    → (Among used.name.now before_names → ⊥)
-    → IfOk r (λ _. WritesSome w c outer id new names × GrowsBy used.name.now before_names names)
-
-abbrev pub BeginsInstance : {E : Type 0} → Collection → Around → InterfaceId → ItemScope → ItemScope → Result (List Name) E
+abbrev pub TakesNamed : {U E : Type 0} → PlacedInterface → Use → ItemScope → List Name → ItemScope → List Name → Result U E
     → Type 0
-BeginsInstance c a id old new r = (w : Worlds) (outer : List Scope) → AreAround w c outer a.depth a.used.now.all.items
-    → WritesSome w c outer id old [] → IfOk r (WritesSome w c outer id new)
+TakesNamed p used old before_names new names r = (w : Worlds) (outer : List Scope) → StandsAround w outer p
+    → WritesSome w p.types.now outer p.id old before_names → (Among used.name.now before_names → ⊥)
+    → IfOk r (λ _. WritesSome w p.types.now outer p.id new names × GrowsBy used.name.now before_names names)
+
+abbrev pub BeginsInstance : {E : Type 0} → PlacedInterface → ItemScope → ItemScope → Result (List Name) E → Type 0
+BeginsInstance p old new r = (w : Worlds) (outer : List Scope) → StandsAround w outer p
+    → WritesSome w p.types.now outer p.id old [] → IfOk r (WritesSome w p.types.now outer p.id new)
 
 abbrev pub KeepsWriting : {U E : Type 0} → Collection → InterfaceId → ItemScope → List Name → ItemScope → List Name → Result U E
     → Type 0
@@ -400,27 +402,27 @@ pub record ItemsWritten (w : Worlds) (c : Collection) (outer : List Scope) (id :
   pub writing : WritesSome w c outer id s given
   pub all_before : (n : Name) → Among n (take at (names_of (exports_of c id))) → Among n given
 
-abbrev pub WritesOtherAt : {U E : Type 0} → Collection → Around → InterfaceId → ℕ → ItemScope → List Name → ItemScope → List Name
-    → Result U E → Type 0
-WritesOtherAt c a id at old before_names new names r =
-    Stands c (ItemKind.Instance id) → (w : Worlds) (outer : List Scope) → AreAround w c outer a.depth a.used.now.all.items
-    → ItemsWritten w c outer id at old before_names → IfOk r (λ _. ItemsWritten w c outer id (at + 1) new names)
-
-abbrev pub WritesOthers : {U E : Type 0} → Collection → Around → InterfaceId → ItemScope → List Name → ItemScope → List Name
-    → Result U E → Type 0
-WritesOthers c a id old before_names new names r =
-    Stands c (ItemKind.Instance id) → (w : Worlds) (outer : List Scope) → AreAround w c outer a.depth a.used.now.all.items
-    → WritesSome w c outer id old before_names → IfOk r (λ _. ItemsWritten w c outer id (length (exports_of c id)) new names)
-
-abbrev pub WritesInstance : {E : Type 0} → Collection → Around → InterfaceId → ItemScope → Result (Vec Declaration Global) E
+abbrev pub WritesOtherAt : {U E : Type 0} → PlacedInterface → ℕ → ItemScope → List Name → ItemScope → List Name → Result U E
     → Type 0
-WritesInstance c a id old r =
-    Stands c (ItemKind.Instance id) → (w : Worlds) (outer : List Scope) → AreAround w c outer a.depth a.used.now.all.items
-    → WritesSome w c outer id old []
-    → IfOk r (λ v. StatesInstance w outer (tree_in c (ItemKind.Instance id)) (declarations_of v.items))
+WritesOtherAt p at old before_names new names r =
+    Stands p.types.now (ItemKind.Instance p.id) → (w : Worlds) (outer : List Scope) → StandsAround w outer p
+    → ItemsWritten w p.types.now outer p.id at old before_names
+    → IfOk r (λ _. ItemsWritten w p.types.now outer p.id (at + 1) new names)
+
+abbrev pub WritesOthers : {U E : Type 0} → PlacedInterface → ItemScope → List Name → ItemScope → List Name → Result U E → Type 0
+WritesOthers p old before_names new names r =
+    Stands p.types.now (ItemKind.Instance p.id) → (w : Worlds) (outer : List Scope) → StandsAround w outer p
+    → WritesSome w p.types.now outer p.id old before_names
+    → IfOk r (λ _. ItemsWritten w p.types.now outer p.id (length (exports_of p.types.now p.id)) new names)
+
+abbrev pub WritesInstance : {E : Type 0} → PlacedInterface → ItemScope → Result (Vec Declaration Global) E → Type 0
+WritesInstance p old r =
+    Stands p.types.now (ItemKind.Instance p.id) → (w : Worlds) (outer : List Scope) → StandsAround w outer p
+    → WritesSome w p.types.now outer p.id old []
+    → IfOk r (λ v. StatesInstance w outer (tree_in p.types.now (ItemKind.Instance p.id)) (declarations_of v.items))
 
 -- in every world and whatever stands around, the declarations state the interface
-abbrev pub MakesInstance : {E : Type 0} → Collection → Around → InterfaceId → Result (Vec Declaration Global) E → Type 0
-MakesInstance c a id r =
-    Stands c (ItemKind.Instance id) → (w : Worlds) (outer : List Scope) → AreAround w c outer a.depth a.used.now.all.items
-    → IfOk r (λ v. StatesInstance w outer (tree_in c (ItemKind.Instance id)) (declarations_of v.items))
+abbrev pub MakesInstance : {E : Type 0} → PlacedInterface → Result (Vec Declaration Global) E → Type 0
+MakesInstance p r =
+    Stands p.types.now (ItemKind.Instance p.id) → (w : Worlds) (outer : List Scope) → StandsAround w outer p
+    → IfOk r (λ v. StatesInstance w outer (tree_in p.types.now (ItemKind.Instance p.id)) (declarations_of v.items))

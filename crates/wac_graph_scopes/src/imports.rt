@@ -29,7 +29,7 @@ use crate::parts::{
     world_use_count, world_use_named,
 };
 use crate::scope::KnownTypes;
-use crate::used::{UsedIndex, UsedTypes};
+use crate::used::{TypeName, UsedIndex, UsedTypes};
 use crate::value::{define_apart, fits_in};
 use std::alloc::{AllocError, Global};
 use std::mem;
@@ -293,20 +293,19 @@ impl ImportScope {
         &self,
         alloc: Global,
         all: Importing<'_>,
-        identifier: &str,
-        name: &str,
+        name: TypeName<'_>,
         item: ItemKind,
     ) -> Result<Option<u32>, WriteError>
-        ensures { FindsSource all.entry name.now item self.now result }
+        ensures { FindsSource all.entry name.entry.name.now item self.now result }
     {
         all.types.see_acyclic();
-        let Some(at) = self.found.get(identifier) else {
+        let Some(at) = self.found.get(name.identifier) else {
             return Ok(None);
         };
         let Some(instance) = instance_index(self.places.as_slice(), *at) else {
             return Ok(None);
         };
-        let given = gives(alloc, all, *at, name, item)?;
+        let given = gives(alloc, all, *at, name.name, item)?;
         if given { Ok(Some(instance)) } else { Ok(None) }
     }
 
@@ -314,18 +313,16 @@ impl ImportScope {
     fn add_used(
         &mut self,
         alloc: Global,
-        identifier: &str,
-        name: &str,
-        instance: u32,
-        item: ItemKind,
         types: &Types,
+        instance: u32,
+        name: TypeName<'_>,
+        item: ItemKind,
     ) -> Result<u32, WriteError>
-        ensures { (world : WorldId) → AddsUsed types.now world instance name.now item self.old self.new result }
+        ensures { (world : WorldId) → AddsUsed types.now world instance name.entry.name.now item self.old self.new result }
     {
         types.see_acyclic();
-        let index = self.scope.add_alias(alloc, instance, name)?;
-        self.used
-            .insert(identifier, name, UsedIndex { item, index })?;
+        let index = self.scope.add_alias(alloc, instance, name.name)?;
+        self.used.insert(name, UsedIndex { item, index })?;
         Ok(index)
     }
 
@@ -342,10 +339,14 @@ impl ImportScope {
         let Some(identifier) = identifier(all.types, used.interface) else {
             return Err(WriteError::Unwritable);
         };
-        let found = find_used(alloc, all.types, &self.used, identifier, used.there, item)?;
+        let name = TypeName {
+            identifier,
+            name: used.there,
+        };
+        let found = find_used(alloc, all.types, &self.used, name, item)?;
         match found {
             Some(index) => Ok(Some(index)),
-            None => self.alias_new(alloc, all, identifier, used.there, item),
+            None => self.alias_new(alloc, all, name, item),
         }
     }
 
@@ -354,17 +355,15 @@ impl ImportScope {
         &mut self,
         alloc: Global,
         all: Importing<'_>,
-        identifier: &str,
-        name: &str,
+        name: TypeName<'_>,
         item: ItemKind,
     ) -> Result<Option<u32>, WriteError>
         ensures { AliasesUse all.entry item self.old self.new result }
     {
-        let source = self.source_of(alloc, all, identifier, name, item)?;
+        let source = self.source_of(alloc, all, name, item)?;
         match source {
             Some(instance) => {
-                let types = all.types;
-                let index = self.add_used(alloc, identifier, name, instance, item, types)?;
+                let index = self.add_used(alloc, all.types, instance, name, item)?;
                 Ok(Some(index))
             }
             None => Ok(None),

@@ -25,7 +25,7 @@ use crate::parts::{
     root_name, taken, use_at, use_count, world_of,
 };
 use crate::scope::{TypeScope, next_of};
-use crate::used::UsedTypes;
+use crate::used::{TypeName, UsedIndex, UsedTypes};
 use crate::value::{define_value, fits_in, note_resource, note_value, push_func};
 use crate::worlds::component_type;
 use std::alloc::{AllocError, Global};
@@ -52,6 +52,14 @@ pub struct ItemScope {
 pub struct Around<'a> {
     pub used: &'a UsedTypes,
     pub depth: u32,
+}
+
+/// An interface whose instance type is written, and what stands around it.
+#[derive(Clone, Copy)]
+struct PlacedInterface<'a> {
+    types: &'a Types,
+    around: Around<'a>,
+    id: InterfaceId,
 }
 
 impl<'a> Around<'a> {
@@ -222,14 +230,13 @@ pub(crate) fn find_used(
     alloc: Global,
     types: &Types,
     all: &UsedTypes,
-    identifier: &str,
-    name: &str,
+    name: TypeName<'_>,
     item: ItemKind,
 ) -> Result<Option<u32>, WriteError>
     ensures { FindsUsed types.now all.now.all.items item result }
 {
     types.see_acyclic();
-    match all.get(identifier, name) {
+    match all.get(name) {
         Some(used) => {
             let fits = fits_in(alloc, types, used.item, item)?;
             if fits { Ok(Some(used.index)) } else { Ok(None) }
@@ -269,7 +276,11 @@ fn alias_around(
     let Some(identifier) = identifier(types, used.interface) else {
         return Err(WriteError::Unwritable);
     };
-    let found = find_used(alloc, types, around.used, identifier, used.there, item)?;
+    let name = TypeName {
+        identifier,
+        name: used.there,
+    };
+    let found = find_used(alloc, types, around.used, name, item)?;
     match found {
         Some(index) => {
             let alias = scope.add_outer(around.depth, index)?;
@@ -286,19 +297,18 @@ fn export_used(
     types: &Types,
     id: InterfaceId,
     used: Use<'_>,
-    item: ItemKind,
-    alias: u32,
+    alias: UsedIndex,
 ) -> Result<bool, WriteError>
-    ensures { ExportsUsed types.now id used.entry item alias scope.old scope.new result }
+    ensures { ExportsUsed types.now id used.entry alias.item alias.index scope.old scope.new result }
 {
-    let is_taken = exports_taken(alloc, types, id, used.name, item)?;
+    let is_taken = exports_taken(alloc, types, id, used.name, alias.item)?;
     if !is_taken {
-        scope.note(alloc, types, item, alias)?;
+        scope.note(alloc, types, alias.item, alias.index)?;
         return Ok(false);
     }
     let text = String::from_str(alloc, used.name)?;
-    let own = scope.types.export_type(text, alias)?;
-    scope.note(alloc, types, item, own)?;
+    let own = scope.types.export_type(text, alias.index)?;
+    scope.note(alloc, types, alias.item, own)?;
     Ok(true)
 }
 
@@ -306,19 +316,20 @@ fn export_used(
 fn take_use(
     alloc: Global,
     scope: &mut ItemScope,
-    types: &Types,
-    around: Around<'_>,
-    id: InterfaceId,
+    all: PlacedInterface<'_>,
     used: Use<'_>,
 ) -> Result<bool, WriteError>
-    ensures { TakesUse types.now around.entry id used.entry scope.old scope.new result }
+    ensures { TakesUse all.entry used.entry scope.old scope.new result }
 {
-    let Some(item) = taken(types, used) else {
+    let Some(item) = taken(all.types, used) else {
         return Ok(false);
     };
-    let found = alias_around(alloc, scope, types, around, used, item)?;
+    let found = alias_around(alloc, scope, all.types, all.around, used, item)?;
     match found {
-        Some(alias) => export_used(alloc, scope, types, id, used, item, alias),
+        Some(index) => {
+            let alias = UsedIndex { item, index };
+            export_used(alloc, scope, all.types, all.id, used, alias)
+        }
         None => Ok(false),
     }
 }
@@ -336,17 +347,15 @@ pub(crate) fn add_name(alloc: Global, names: &mut Names, name: &str) -> Result<(
 fn take_use_at(
     alloc: Global,
     scope: &mut ItemScope,
-    types: &Types,
-    around: Around<'_>,
-    id: InterfaceId,
+    all: PlacedInterface<'_>,
     at: usize,
     given: &mut Names,
 ) -> Result<(), WriteError>
-    requires { AreDistinct (names_of (uses_of types.now id)) }
-    ensures { TakesAt types.now around.entry id at scope.old given.old scope.new given.new result }
+    requires { AreDistinct (names_of (uses_of all.types.now all.id)) }
+    ensures { TakesAt all.entry at scope.old given.old scope.new given.new result }
 {
-    match use_at(types, id, at) {
-        Some(used) => take_named(alloc, scope, types, around, id, used, given),
+    match use_at(all.types, all.id, at) {
+        Some(used) => take_named(alloc, scope, all, used, given),
         None => Ok(()),
     }
 }
@@ -355,15 +364,13 @@ fn take_use_at(
 fn take_named(
     alloc: Global,
     scope: &mut ItemScope,
-    types: &Types,
-    around: Around<'_>,
-    id: InterfaceId,
+    all: PlacedInterface<'_>,
     used: Use<'_>,
     given: &mut Names,
 ) -> Result<(), WriteError>
-    ensures { TakesNamed types.now around.entry id used.entry scope.old given.old scope.new given.new result }
+    ensures { TakesNamed all.entry used.entry scope.old given.old scope.new given.new result }
 {
-    let is_exported = take_use(alloc, scope, types, around, id, used)?;
+    let is_exported = take_use(alloc, scope, all, used)?;
     if is_exported {
         Ok(add_name(alloc, given, used.name)?)
     } else {
@@ -375,16 +382,14 @@ fn take_named(
 fn take_uses(
     alloc: Global,
     scope: &mut ItemScope,
-    types: &Types,
-    around: Around<'_>,
-    id: InterfaceId,
+    all: PlacedInterface<'_>,
 ) -> Result<Names, WriteError>
-    ensures { BeginsInstance types.now around.entry id scope.old scope.new result }
+    ensures { BeginsInstance all.entry scope.old scope.new result }
 {
     let mut given = Names::new(alloc);
-    let count = use_count(types, id);
+    let count = use_count(all.types, all.id);
     for at in 0..count {
-        take_use_at(alloc, scope, types, around, id, at, &mut given)?;
+        take_use_at(alloc, scope, all, at, &mut given)?;
     }
     Ok(given)
 }
@@ -513,18 +518,16 @@ fn other_at<'a>(types: &'a Types, id: InterfaceId, given: &Names, at: usize) -> 
 fn export_other_at(
     alloc: Global,
     scope: &mut ItemScope,
-    types: &Types,
-    around: Around<'_>,
-    id: InterfaceId,
+    all: PlacedInterface<'_>,
     at: usize,
     given: &mut Names,
 ) -> Result<(), WriteError>
-    requires { AreDistinct (names_of (exports_of types.now id)) }
-    ensures { WritesOtherAt types.now around.entry id at scope.old given.old scope.new given.new result }
+    requires { AreDistinct (names_of (exports_of all.types.now all.id)) }
+    ensures { WritesOtherAt all.entry at scope.old given.old scope.new given.new result }
 {
-    match other_at(types, id, given, at) {
+    match other_at(all.types, all.id, given, at) {
         Some(item) => {
-            export_item(alloc, scope, types, around, item)?;
+            export_item(alloc, scope, all.types, all.around, item)?;
             Ok(add_name(alloc, given, item.name)?)
         }
         None => Ok(()),
@@ -536,16 +539,14 @@ fn export_other_at(
 fn export_others(
     alloc: Global,
     scope: &mut ItemScope,
-    types: &Types,
-    around: Around<'_>,
-    id: InterfaceId,
+    all: PlacedInterface<'_>,
     given: &mut Names,
 ) -> Result<(), WriteError>
-    ensures { WritesOthers types.now around.entry id scope.old given.old scope.new given.new result }
+    ensures { WritesOthers all.entry scope.old given.old scope.new given.new result }
 {
-    let count = export_count(types, id);
+    let count = export_count(all.types, all.id);
     for at in 0..count {
-        export_other_at(alloc, scope, types, around, id, at, given)?;
+        export_other_at(alloc, scope, all, at, given)?;
     }
     Ok(())
 }
@@ -554,14 +555,12 @@ fn export_others(
 fn begin_instance(
     alloc: Global,
     scope: &mut ItemScope,
-    types: &Types,
-    around: Around<'_>,
-    id: InterfaceId,
+    all: PlacedInterface<'_>,
 ) -> Result<Names, WriteError>
-    ensures { BeginsInstance types.now around.entry id scope.old scope.new result }
+    ensures { BeginsInstance all.entry scope.old scope.new result }
 {
-    let mut given = take_uses(alloc, scope, types, around, id)?;
-    export_resources(alloc, scope, types, id, &mut given)?;
+    let mut given = take_uses(alloc, scope, all)?;
+    export_resources(alloc, scope, all.types, all.id, &mut given)?;
     Ok(given)
 }
 
@@ -570,30 +569,23 @@ fn begin_instance(
 fn write_instance(
     alloc: Global,
     scope: &mut ItemScope,
-    types: &Types,
-    around: Around<'_>,
-    id: InterfaceId,
+    all: PlacedInterface<'_>,
 ) -> Result<Vec<Declaration>, WriteError>
-    ensures { WritesInstance types.now around.entry id scope.old result }
+    ensures { WritesInstance all.entry scope.old result }
 {
-    types.see_acyclic();
-    let mut given = begin_instance(alloc, scope, types, around, id)?;
-    export_others(alloc, scope, types, around, id, &mut given)?;
+    all.types.see_acyclic();
+    let mut given = begin_instance(alloc, scope, all)?;
+    export_others(alloc, scope, all, &mut given)?;
     Ok(scope.take_declarations(alloc))
 }
 
 /// The declarations of an instance type.
 #[cycle(types)]
-fn instance_type(
-    alloc: Global,
-    types: &Types,
-    around: Around<'_>,
-    id: InterfaceId,
-) -> Result<Vec<Declaration>, WriteError>
-    ensures { MakesInstance types.now around.entry id result }
+fn instance_type(alloc: Global, all: PlacedInterface<'_>) -> Result<Vec<Declaration>, WriteError>
+    ensures { MakesInstance all.entry result }
 {
     let mut scope = ItemScope::new(alloc);
-    write_instance(alloc, &mut scope, types, around, id)
+    write_instance(alloc, &mut scope, all)
 }
 
 /// The index of the type of an instance, which is written.
@@ -609,7 +601,12 @@ fn push_instance_type(
     ensures entry { MakesItem types.now scope.old scope.new result }
 {
     let inner = around.deeper()?;
-    let declarations = instance_type(alloc, types, inner, id)?;
+    let all = PlacedInterface {
+        types,
+        around: inner,
+        id,
+    };
+    let declarations = instance_type(alloc, all)?;
     scope.add_type(Declaration::InstanceType(declarations))
 }
 

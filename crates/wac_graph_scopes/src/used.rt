@@ -14,6 +14,13 @@ pub struct UsedIndex {
     pub index: u32,
 }
 
+/// The name of a type of an interface: that of the interface, and its own there.
+#[derive(Clone, Copy)]
+pub struct TypeName<'a> {
+    pub identifier: &'a str,
+    pub name: &'a str,
+}
+
 /// Types of interfaces that stand in a scope, by the interfaces' identifiers and by their names there.
 #[derive(Drop)]
 pub struct UsedTypes {
@@ -23,14 +30,13 @@ pub struct UsedTypes {
     found: IndexMap<String, IndexMap<String, usize>>,
 }
 
-/// The place under these names.
+/// The place under a name.
 fn place_in(
     found: &IndexMap<String, IndexMap<String, usize>>,
-    identifier: &str,
-    name: &str,
+    name: TypeName<'_>,
 ) -> Option<usize> {
-    match found.get(identifier) {
-        Some(names) => match names.get(name) {
+    match found.get(name.identifier) {
+        Some(names) => match names.get(name.name) {
             Some(at) => Some(*at),
             None => None,
         },
@@ -38,21 +44,20 @@ fn place_in(
     }
 }
 
-/// Adds a place under these names.
+/// Adds a place under a name.
 fn add_place(
     alloc: Global,
     found: &mut IndexMap<String, IndexMap<String, usize>>,
-    identifier: &str,
-    name: &str,
+    name: TypeName<'_>,
     at: usize,
 ) -> Result<(), AllocError> {
-    let name = String::from_str(alloc, name)?;
-    match found.get_mut(identifier) {
+    let own = String::from_str(alloc, name.name)?;
+    match found.get_mut(name.identifier) {
         Some(names) => {
-            let _ = names.insert(name, at)?;
+            let _ = names.insert(own, at)?;
             Ok(())
         }
-        None => add_first(alloc, found, identifier, name, at),
+        None => add_first(alloc, found, name.identifier, own, at),
     }
 }
 
@@ -81,11 +86,11 @@ impl UsedTypes {
         UsedTypes { alloc, all, found }
     }
 
-    /// The type of that name of the interface with that identifier.
-    pub fn get(&self, identifier: &str, name: &str) -> Option<UsedIndex>
+    /// The type of that name.
+    pub fn get(&self, name: TypeName<'_>) -> Option<UsedIndex>
         ensures { IfSome result (λ u. Among u self.now.all.items) }
     {
-        match place_in(&self.found, identifier, name) {
+        match place_in(&self.found, name) {
             Some(at) => self.used_at(at),
             None => None,
         }
@@ -102,16 +107,11 @@ impl UsedTypes {
     }
 
     /// Adds a type.
-    pub fn insert(
-        &mut self,
-        identifier: &str,
-        name: &str,
-        used: UsedIndex,
-    ) -> Result<(), AllocError>
+    pub fn insert(&mut self, name: TypeName<'_>, used: UsedIndex) -> Result<(), AllocError>
         ensures { OnOk result (self.new.all.items ≡ self.old.all.items ++ used ∷ []) }
     {
         let at = self.all.len();
-        add_place(self.alloc, &mut self.found, identifier, name, at)?;
+        add_place(self.alloc, &mut self.found, name, at)?;
         self.all.push(used)?;
         Ok(())
     }

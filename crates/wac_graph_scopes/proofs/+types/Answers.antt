@@ -40,13 +40,13 @@ items::push_instance_type-returns-clause-states m c stands w outer i h are =
 
 pub items::instance_type-returns : goal.items::instance_type-returns
 items::instance_type-returns m c stands w outer around =
-    let types = c.args.types.now in
-    c.write_instance.ensures stands w outer around (writes_none w types outer c.args.id c.new-scope.result (c.new-scope.ensures w types outer))
+    let types = c.args.all.types.now in
+    c.write_instance.ensures stands w outer around (writes_none w types outer c.args.all.id c.new-scope.result (c.new-scope.ensures w types outer))
 
 pub items::write_instance-returns : goal.items::write_instance-returns
 items::write_instance-returns m c stands w outer around k =
-    let types = c.args.types.now in
-    let id = c.args.id in
+    let types = c.args.all.types.now in
+    let id = c.args.all.id in
     let es = exports_of types id in
     let o = c.in_ok-export_others.ensures stands w outer around (c.in_ok-given.ensures w outer around k) in
     let x = interface_found types id stands in
@@ -56,14 +56,14 @@ items::write_instance-returns m c stands w outer around k =
 
 pub items::export_others-returns : goal.items::export_others-returns
 items::export_others-returns m c stands w outer around k =
-    let types = c.args.types.now in
-    let end : c.loop-at.at ≡ length (exports_of types c.args.id) = omega (arith, c.loop-at-test.false, c.export_count-count.ensures.len) in
-    subst (λ (n : ℕ). ItemsWritten w types outer c.args.id n c.loop-at.scope c.loop-at.given) end (c.loop-at.invariant stands w outer around k)
+    let types = c.args.all.types.now in
+    let end : c.loop-at.at ≡ length (exports_of types c.args.all.id) = omega (arith, c.loop-at-test.false, c.export_count-count.ensures.len) in
+    subst (λ (n : ℕ). ItemsWritten w types outer c.args.all.id n c.loop-at.scope c.loop-at.given) end (c.loop-at.invariant stands w outer around k)
 
 pub items::export_other_at-returns-in_ok-add_name-in-Some : goal.items::export_other_at-returns-in_ok-add_name-in-Some
 items::export_other_at-returns-in_ok-add_name-in-Some m c stands w outer around o =
-    let types = c.args.types.now in
-    let es = exports_of types c.args.id in
+    let types = c.args.all.types.now in
+    let es = exports_of types c.args.all.id in
     let item = c.in-Some.item in
     let n = item.name.now in
     let given = c.args.given.now in
@@ -84,7 +84,7 @@ items::export_other_at-returns-in_ok-add_name-in-Some m c stands w outer around 
 pub items::export_other_at-returns-in-None : goal.items::export_other_at-returns-in-None
 items::export_other_at-returns-in-None m c stands w outer around o = record {
   writing = o.writing;
-  all_before = λ p a. elim (take_or p (names_of (exports_of c.args.types.now c.args.id)) c.args.at a) [ inl old ↦ o.all_before p old | inr at ↦ among_has c.args.given.now p (c.in-None.ensures.none p at) ];
+  all_before = λ p a. elim (take_or p (names_of (exports_of c.args.all.types.now c.args.all.id)) c.args.at a) [ inl old ↦ o.all_before p old | inr at ↦ among_has c.args.given.now p (c.in-None.ensures.none p at) ];
 }
 
 pub items::export_item-returns : goal.items::export_item-returns

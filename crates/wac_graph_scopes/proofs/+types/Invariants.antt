@@ -6,7 +6,7 @@ use Rattle.wac_types_base.specs.Collection.{Stands, size_of}
 use Rattle.wac_graph_scopes.specs.Parts.{imports_of}
 use Rattle.wac_graph_scopes.specs.Imports.{IsNewAt, names_at, WritesWorld, ExportsWritten}
 use Rattle.wac_graph_bytes.specs.Typing.{Worlds, Scope}
-use Rattle.wac_graph_scopes.specs.Items.{AreAround, WritesSome, ItemsWritten}
+use Rattle.wac_graph_scopes.specs.Items.{StandsAround, WritesSome, ItemsWritten}
 use Rattle.wac_graph_scopes.proofs.+types.Given as goal
 
 abbrev pub decreases-imports::ImportScope::describe : goal.decreases-imports::ImportScope::describe
@@ -46,20 +46,20 @@ abbrev pub decreases-items::export_item : goal.decreases-items::export_item
 decreases-items::export_item l = 16 * size_of l.types.now l.item.kind + 7
 
 abbrev pub decreases-items::export_other_at : goal.decreases-items::export_other_at
-decreases-items::export_other_at l = 16 * size_of l.types.now (ItemKind.Instance l.id) + 0
+decreases-items::export_other_at l = 16 * size_of l.all.types.now (ItemKind.Instance l.all.id) + 0
 
 abbrev pub invariant-items::export_others-loop-at : goal.invariant-items::export_others-loop-at
-invariant-items::export_others-loop-at l = Stands l.types (ItemKind.Instance l.id) → (w : Worlds) (outer : List Scope) → AreAround w l.types outer l.around.depth l.around.used.now.all.items
-    → WritesSome w l.types outer l.id l.fn.scope l.fn.given → ItemsWritten w l.types outer l.id l.at l.scope l.given
+invariant-items::export_others-loop-at l = Stands l.all.types.now (ItemKind.Instance l.all.id) → (w : Worlds) (outer : List Scope) → StandsAround w outer l.all
+    → WritesSome w l.all.types.now outer l.all.id l.fn.scope l.fn.given → ItemsWritten w l.all.types.now outer l.all.id l.at l.scope l.given
 
 abbrev pub decreases-items::export_others : goal.decreases-items::export_others
-decreases-items::export_others l = 16 * size_of l.types.now (ItemKind.Instance l.id) + 1
+decreases-items::export_others l = 16 * size_of l.all.types.now (ItemKind.Instance l.all.id) + 1
 
 abbrev pub decreases-items::write_instance : goal.decreases-items::write_instance
-decreases-items::write_instance l = 16 * size_of l.types.now (ItemKind.Instance l.id) + 2
+decreases-items::write_instance l = 16 * size_of l.all.types.now (ItemKind.Instance l.all.id) + 2
 
 abbrev pub decreases-items::instance_type : goal.decreases-items::instance_type
-decreases-items::instance_type l = 16 * size_of l.types.now (ItemKind.Instance l.id) + 3
+decreases-items::instance_type l = 16 * size_of l.all.types.now (ItemKind.Instance l.all.id) + 3
 
 abbrev pub decreases-items::push_component_type : goal.decreases-items::push_component_type
 decreases-items::push_component_type l = 16 * size_of l.types.now (ItemKind.Component l.id) + 5

@@ -6,8 +6,8 @@ use Rattle.wac_graph_scopes.proofs.items.take_named.Goals as goal
 
 pub returns-in_ok-add_name : goal.returns-in_ok-add_name
 returns-in_ok-add_name c w outer around k fresh =
-    let types = c.args.types.now in
-    let es = exports_of types c.args.id in
+    let types = c.args.all.types.now in
+    let es = exports_of types c.args.all.id in
     let n = c.args.used.name.now in
     let a = subst (MayExport w types outer k.inside es n c.take_use.new.scope) c.if-is_exported.true (c.in_ok-is_exported.ensures w outer k.inside k.stands (around k.inside.here)) in (
       writes_more w types outer [] es [] c.args.given.now c.args.scope.now c.take_use.new.scope k n a.0 c.add_name.new.names a.1 a.2 fresh c.in_ok-add_name.ensures,
@@ -16,8 +16,8 @@ returns-in_ok-add_name c w outer around k fresh =
 
 pub returns-else-is_exported : goal.returns-else-is_exported
 returns-else-is_exported c w outer around k fresh =
-    let types = c.args.types.now in
-    let es = exports_of types c.args.id in
+    let types = c.args.all.types.now in
+    let es = exports_of types c.args.all.id in
     let n = c.args.used.name.now in
     let a = subst (MayExport w types outer k.inside es n c.take_use.new.scope) c.if-is_exported.false (c.in_ok-is_exported.ensures w outer k.inside k.stands (around k.inside.here)) in
     (writes_on w types outer [] es [] c.args.given.now c.args.scope.now c.take_use.new.scope k a.0 a.1, λ m among. inl among)

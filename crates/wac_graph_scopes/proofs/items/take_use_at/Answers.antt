@@ -9,7 +9,7 @@ use Rattle.wac_graph_scopes.proofs.items.take_use_at.Goals as goal
 
 pub returns-in-Some : goal.returns-in-Some
 returns-in-Some c w outer around k =
-    let names = names_of (uses_of c.args.types.now c.args.id) in
+    let names = names_of (uses_of c.args.all.types.now c.args.all.id) in
     let n = c.in-Some.used.name.now in
     let at = c.args.at in
     let fresh : Among n c.args.given.now → ⊥ = λ m. distinct-before names at n c.requires c.in-Some.ensures.name (k.before_it n m) in
@@ -23,5 +23,5 @@ returns-in-Some c w outer around k =
 
 pub returns-in-None : goal.returns-in-None
 returns-in-None c w outer around k =
-    let names = names_of (uses_of c.args.types.now c.args.id) in
+    let names = names_of (uses_of c.args.all.types.now c.args.all.id) in
     record { writing = k.writing; before_it = λ m among. take_more m names c.args.at (k.before_it m among) }

@@ -9,6 +9,6 @@ returns c w outer around k = (c.loop-at.invariant w outer around k).writing
 
 pub loop-at-init : goal.loop-at-init
 loop-at-init c w outer around k = record {
-  writing = subst (WritesSome w c.args.types.now outer c.args.id c.args.scope.now) (sym c.new-given.ensures) k;
+  writing = subst (WritesSome w c.args.all.types.now outer c.args.all.id c.args.scope.now) (sym c.new-given.ensures) k;
   before_it = λ n m. absurd (subst (λ (l : List Name). Among n l) c.new-given.ensures m);
 }

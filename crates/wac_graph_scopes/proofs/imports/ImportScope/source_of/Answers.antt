@@ -18,5 +18,5 @@ returns-then-given c stands used w outer imported exported h =
     let a = h.placed c.in-Some.at.now g.import_is.0 (ItemKind.Instance g.interface) p g.import_is.1 place in (
       t,
       (Item g.import_is.0 sort.Instance t, a.means, refl),
-      export_tree types c.see_acyclic.ensures g.interface c.args.name.now (tree_in types c.args.item) g.export_is,
+      export_tree types c.see_acyclic.ensures g.interface c.args.name.name.now (tree_in types c.args.item) g.export_is,
     )
