@@ -60,28 +60,10 @@ abbrev pub GivesTwo : Result Value AllocError → Result Value AllocError →
     (Data → Data → Data) → Result Value AllocError → Type 0
 GivesTwo one other f r = (x y : Data) → Gives one x → Gives other y → Gives r (f x y)
 
-abbrev pub GivesThree : Result Value AllocError → Result Value AllocError → Result Value AllocError →
-    (Data → Data → Data → Data) → Result Value AllocError → Type 0
-GivesThree one other last f r = (x y z : Data) → Gives one x → Gives other y → Gives last z → Gives r (f x y z)
-
-abbrev pub GivesFour : Result Value AllocError → Result Value AllocError → Result Value AllocError → Result Value AllocError →
-    (Data → Data → Data → Data → Data) → Result Value AllocError → Type 0
-GivesFour one other more last f r =
-    (w x y z : Data) → Gives one w → Gives other x → Gives more y → Gives last z → Gives r (f w x y z)
-
--- objects of two to four members, by their names
+-- an object of two members, by their names
 abbrev pub two : List ℕ → List ℕ → Data → Data → Data
 two first second x y = object_of ((first, x) ∷ (second, y) ∷ [])
 
-abbrev pub three : List ℕ → List ℕ → List ℕ → Data → Data → Data → Data
-three first second third x y z = object_of ((first, x) ∷ (second, y) ∷ (third, z) ∷ [])
-
-abbrev pub four : List ℕ → List ℕ → List ℕ → List ℕ → Data → Data → Data → Data → Data
-four first second third fourth w x y z = object_of ((first, w) ∷ (second, x) ∷ (third, y) ∷ (fourth, z) ∷ [])
-
--- where a form stands, then its members
+-- where a form stands, then its member
 abbrev pub placed : SourceSpan → List ℕ → Data → Data
 placed at name x = two (codes "span") name (span at) x
-
-abbrev pub placed_both : SourceSpan → List ℕ → List ℕ → Data → Data → Data
-placed_both at first second x y = three (codes "span") first second (span at) x y

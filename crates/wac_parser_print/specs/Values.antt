@@ -25,18 +25,12 @@ docs xs = array_of doc_comment xs
 abbrev pub docs_of : List DocComment → List t.DocComment
 docs_of cs = map view_doc_comment cs
 
--- doc comments, the identifier that is declared, then the members of a form
+-- doc comments, the identifier that is declared, then the member of a form
 abbrev pub documented : List t.DocComment → List ℕ → Data → Data
 documented cs name x = object_of ((codes "docs", docs cs) ∷ (name, x) ∷ [])
 
-abbrev pub documented_both : List t.DocComment → List ℕ → List ℕ → Data → Data → Data
-documented_both cs first second x y = object_of ((codes "docs", docs cs) ∷ (first, x) ∷ (second, y) ∷ [])
-
 abbrev pub decl : List t.DocComment → t.Ident → List ℕ → Data → Data
-decl cs i name x = documented_both cs (codes "id") name (ident i) x
-
-abbrev pub decl_both : List t.DocComment → t.Ident → List ℕ → List ℕ → Data → Data → Data
-decl_both cs i first second x y = object_of ((codes "docs", docs cs) ∷ (codes "id", ident i) ∷ (first, x) ∷ (second, y) ∷ [])
+decl cs i name x = object_of ((codes "docs", docs cs) ∷ (codes "id", ident i) ∷ (name, x) ∷ [])
 
 abbrev pub identified : t.Ident → List ℕ → Data → Data
 identified i name x = object_of ((codes "id", ident i) ∷ (name, x) ∷ [])

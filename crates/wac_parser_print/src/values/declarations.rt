@@ -9,11 +9,8 @@ ghost use Rattle.wac_parser_tree.specs.Views.{view_resource_decl, view_resource_
 ghost use Rattle.wac_parser_print.specs.Objects.{Gives, or_null};
 ghost use Rattle.wac_parser_print.specs.Values as values;
 
-use super::members::variant;
-use super::objects::{
-    Valued, array, declaration, declaration_of_both, documented, documented_both, ident, span,
-    truth,
-};
+use super::members::{Object, variant};
+use super::objects::{Valued, array, declaration, documented, ident, span, truth};
 use super::types::{func_type, ty};
 use serde_json::Value;
 use std::alloc::{AllocError, Global};
@@ -150,26 +147,30 @@ pub(crate) fn type_alias(alloc: Global, alias: &TypeAlias<'_>) -> Result<Value, 
 pub(crate) fn constructor(alloc: Global, constructor: &Constructor<'_>) -> Result<Value, AllocError>
     ensures { IfOk result (λ v. view v ≡ values.constructor (view_constructor constructor.now)) }
 {
+    let docs = array(alloc, &constructor.docs);
     let span = span(alloc, constructor.span);
     let params = array(alloc, &constructor.params);
-    documented_both(alloc, &constructor.docs, "span", span, "params", params)
+    Object::new(alloc)
+        .with("docs", docs)
+        .with("span", span)
+        .with("params", params)
+        .into_value()
 }
 
 #[tactic(auto, unfolding(crate::specs::Values::method))]
 pub(crate) fn method(alloc: Global, method: &Method<'_>) -> Result<Value, AllocError>
     ensures { IfOk result (λ v. view v ≡ values.method (view_method method.now)) }
 {
+    let docs = array(alloc, &method.docs);
+    let id = ident(alloc, &method.id);
     let is_static = truth(method.is_static);
     let ty = func_type(alloc, &method.ty);
-    declaration_of_both(
-        alloc,
-        &method.docs,
-        &method.id,
-        "isStatic",
-        is_static,
-        "ty",
-        ty,
-    )
+    Object::new(alloc)
+        .with("docs", docs)
+        .with("id", id)
+        .with("isStatic", is_static)
+        .with("ty", ty)
+        .into_value()
 }
 
 impl<'a> Valued for ResourceMethod<'a> {

@@ -10,10 +10,8 @@ ghost use Rattle.wac_parser_print.specs.Views.{view_arguments};
 ghost use Rattle.wac_parser_print.specs.Objects.{Gives};
 ghost use Rattle.wac_parser_print.specs.Values as values;
 
-use super::members::{pair, variant};
-use super::objects::{
-    Valued, array, ident, package_name, placed, placed_both, span, string_literal,
-};
+use super::members::{Object, pair, variant};
+use super::objects::{Valued, array, ident, package_name, placed, span, string_literal};
 use serde_json::Value;
 use std::alloc::{AllocError, Global};
 use wac_parser_tree::{
@@ -80,9 +78,14 @@ pub(crate) fn argument_name(
 pub(crate) fn expr(alloc: Global, expr: &Expr<'_>) -> Result<Value, AllocError>
     ensures { IfOk result (λ v. view v ≡ values.expr (view_expr expr.now)) }
 {
+    let at = span(alloc, expr.span);
     let primary = primary_expr(alloc, &expr.primary);
     let postfix = array(alloc, &expr.postfix);
-    placed_both(alloc, expr.span, "primary", primary, "postfix", postfix)
+    Object::new(alloc)
+        .with("span", at)
+        .with("primary", primary)
+        .with("postfix", postfix)
+        .into_value()
 }
 
 #[cycle(expr)]
@@ -111,9 +114,14 @@ pub(crate) fn nested_expr(alloc: Global, nested: &NestedExpr<'_>) -> Result<Valu
 pub(crate) fn new_expr(alloc: Global, made: &NewExpr<'_>) -> Result<Value, AllocError>
     ensures { IfOk result (λ v. view v ≡ values.new_expr (view_new_expr made.now)) }
 {
+    let at = span(alloc, made.span);
     let package = package_name(alloc, &made.package);
     let arguments = arguments(alloc, &made.arguments);
-    placed_both(alloc, made.span, "package", package, "arguments", arguments)
+    Object::new(alloc)
+        .with("span", at)
+        .with("package", package)
+        .with("arguments", arguments)
+        .into_value()
 }
 
 #[cycle(expr)]

@@ -9,10 +9,8 @@ ghost use Rattle.wac_parser_print.specs.Objects.{Gives, or_null};
 ghost use Rattle.wac_parser_print.specs.Values as values;
 
 use super::declarations::item_type_decl;
-use super::members::variant;
-use super::objects::{
-    Valued, array, declaration, documented_both, ident, identified, package_path,
-};
+use super::members::{Object, variant};
+use super::objects::{Valued, array, declaration, ident, identified, package_path};
 use super::types::func_type_ref;
 use serde_json::Value;
 use std::alloc::{AllocError, Global};
@@ -59,9 +57,14 @@ impl<'a> Valued for UseItem<'a> {
 pub(crate) fn use_type(alloc: Global, item: &Use<'_>) -> Result<Value, AllocError>
     ensures { IfOk result (λ v. view v ≡ values.use_type (view_use item.now)) }
 {
+    let docs = array(alloc, &item.docs);
     let path = use_path(alloc, &item.path);
     let items = array(alloc, &item.items);
-    documented_both(alloc, &item.docs, "path", path, "items", items)
+    Object::new(alloc)
+        .with("docs", docs)
+        .with("path", path)
+        .with("items", items)
+        .into_value()
 }
 
 #[tactic(auto, unfolding(crate::specs::Values::interface_export))]

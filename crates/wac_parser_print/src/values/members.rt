@@ -1,29 +1,26 @@
 //! Objects, member by member. What is made of a value for which there was no memory has none either.
 
 ghost use Rattle.serde_json.specs.Data.{Data, Members, object, no_members};
-ghost use Rattle.wac_parser_print.specs.Objects.{Gives, GivesFour, GivesMember, GivesMembers, GivesThree, GivesTwo};
+ghost use Rattle.wac_parser_print.specs.Objects.{Gives, GivesMember, GivesMembers, GivesTwo};
 ghost use Rattle.wac_parser_print.specs.Objects as objects;
 
 use serde_json::{Map, Value, put};
 use std::alloc::{AllocError, Global};
 
-/// Members of an object.
-type Found = Result<Map<String, Value>, AllocError>;
-
-/// No member.
-pub(crate) fn none(alloc: Global) -> Found
-    ensures { GivesMembers result no_members }
-{
-    Ok(Map::new(alloc))
+/// An object that is being made: its members, where there was memory for them.
+#[derive(Drop)]
+pub(crate) struct Object {
+    alloc: Global,
+    members: Result<Map<String, Value>, AllocError>,
 }
 
 /// These members and one more.
-pub(crate) fn added(
+fn added(
     alloc: Global,
-    members: Found,
+    members: Result<Map<String, Value>, AllocError>,
     name: &str,
     value: Result<Value, AllocError>,
-) -> Found
+) -> Result<Map<String, Value>, AllocError>
     ensures { GivesMember members name.now value result }
 {
     let value = value?;
@@ -32,13 +29,34 @@ pub(crate) fn added(
     Ok(members)
 }
 
-/// The object of these members.
-pub(crate) fn object_of(members: Found) -> Result<Value, AllocError>
-    ensures { (ms : Members) → GivesMembers members ms → Gives result (object ms) }
-{
-    match members {
-        Ok(members) => Ok(Value::Object(members)),
-        Err(fault) => Err(fault),
+impl Object {
+    /// An object with no member.
+    pub(crate) fn new(alloc: Global) -> Self
+        ensures { GivesMembers result.members no_members }
+    {
+        Object {
+            alloc,
+            members: Ok(Map::new(alloc)),
+        }
+    }
+
+    /// The object with one member more.
+    pub(crate) fn with(self, name: &str, value: Result<Value, AllocError>) -> Self
+        ensures { GivesMember self.members name.now value result.members }
+    {
+        let Object { alloc, members } = self;
+        Object {
+            alloc,
+            members: added(alloc, members, name, value),
+        }
+    }
+
+    /// The object as a value.
+    pub(crate) fn into_value(self) -> Result<Value, AllocError>
+        ensures { (ms : Members) → GivesMembers self.members ms → Gives result (object ms) }
+    {
+        let Object { alloc: _, members } = self;
+        Ok(Value::Object(members?))
     }
 }
 
@@ -50,7 +68,7 @@ pub(crate) fn variant(
 ) -> Result<Value, AllocError>
     ensures { (x : Data) → Gives contents x → Gives result (objects.variant name.now x) }
 {
-    object_of(added(alloc, none(alloc), name, contents))
+    Object::new(alloc).with(name, contents).into_value()
 }
 
 /// An object of two members.
@@ -63,43 +81,8 @@ pub(crate) fn pair(
 ) -> Result<Value, AllocError>
     ensures { GivesTwo one other (objects.two first.now second.now) result }
 {
-    let members = added(alloc, none(alloc), first, one);
-    object_of(added(alloc, members, second, other))
-}
-
-/// An object of three members.
-pub(crate) fn triple(
-    alloc: Global,
-    first: &str,
-    one: Result<Value, AllocError>,
-    second: &str,
-    other: Result<Value, AllocError>,
-    third: &str,
-    last: Result<Value, AllocError>,
-) -> Result<Value, AllocError>
-    ensures { GivesThree one other last (objects.three first.now second.now third.now) result }
-{
-    let members = added(alloc, none(alloc), first, one);
-    let members = added(alloc, members, second, other);
-    object_of(added(alloc, members, third, last))
-}
-
-/// An object of four members.
-pub(crate) fn quadruple(
-    alloc: Global,
-    first: &str,
-    one: Result<Value, AllocError>,
-    second: &str,
-    other: Result<Value, AllocError>,
-    third: &str,
-    more: Result<Value, AllocError>,
-    fourth: &str,
-    last: Result<Value, AllocError>,
-) -> Result<Value, AllocError>
-    ensures { GivesFour one other more last (objects.four first.now second.now third.now fourth.now) result }
-{
-    let members = added(alloc, none(alloc), first, one);
-    let members = added(alloc, members, second, other);
-    let members = added(alloc, members, third, more);
-    object_of(added(alloc, members, fourth, last))
+    Object::new(alloc)
+        .with(first, one)
+        .with(second, other)
+        .into_value()
 }

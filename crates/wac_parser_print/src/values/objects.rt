@@ -7,12 +7,12 @@ ghost use Rattle.serde_json.specs.Data.{Data, boolean, string};
 ghost use Rattle.serde_json.specs.View.{view};
 ghost use Rattle.wac_parser_tree.specs.Trees as t;
 ghost use Rattle.wac_parser_tree.specs.Views.{view_doc_comment, view_extern_name, view_ident, view_package_name, view_package_path, view_string};
-ghost use Rattle.wac_parser_print.specs.Objects.{Gives, GivesOf, GivesTwo, array_of};
+ghost use Rattle.wac_parser_print.specs.Objects.{Gives, GivesOf, array_of};
 ghost use Rattle.wac_parser_print.specs.Objects as objects;
 ghost use Rattle.wac_parser_print.specs.Values.{docs_of};
 ghost use Rattle.wac_parser_print.specs.Values as values;
 
-use super::members::{added, none, object_of, pair, quadruple, triple, variant};
+use super::members::{Object, pair, variant};
 use semver::Version;
 use serde_json::{Value, json};
 use std::alloc::{AllocError, Global};
@@ -120,20 +120,6 @@ pub(crate) fn documented(
     pair(alloc, "docs", array(alloc, docs), name, value)
 }
 
-/// Doc comments, and two members more.
-pub(crate) fn documented_both(
-    alloc: Global,
-    docs: &Vec<DocComment<'_>>,
-    first: &str,
-    one: Result<Value, AllocError>,
-    second: &str,
-    other: Result<Value, AllocError>,
-) -> Result<Value, AllocError>
-    ensures { GivesTwo one other (values.documented_both (docs_of docs.now.items) first.now second.now) result }
-{
-    triple(alloc, "docs", array(alloc, docs), first, one, second, other)
-}
-
 /// Doc comments, the identifier that is declared, and one member more.
 pub(crate) fn declaration(
     alloc: Global,
@@ -144,24 +130,11 @@ pub(crate) fn declaration(
 ) -> Result<Value, AllocError>
     ensures { GivesOf value (values.decl (docs_of docs.now.items) (view_ident id.now) name.now) result }
 {
-    documented_both(alloc, docs, "id", ident(alloc, id), name, value)
-}
-
-/// Doc comments, the identifier that is declared, and two members more.
-pub(crate) fn declaration_of_both(
-    alloc: Global,
-    docs: &Vec<DocComment<'_>>,
-    id: &Ident<'_>,
-    first: &str,
-    one: Result<Value, AllocError>,
-    second: &str,
-    other: Result<Value, AllocError>,
-) -> Result<Value, AllocError>
-    ensures { GivesTwo one other (values.decl_both (docs_of docs.now.items) (view_ident id.now) first.now second.now) result }
-{
-    let docs = array(alloc, docs);
-    let id = ident(alloc, id);
-    quadruple(alloc, "docs", docs, "id", id, first, one, second, other)
+    Object::new(alloc)
+        .with("docs", array(alloc, docs))
+        .with("id", ident(alloc, id))
+        .with(name, value)
+        .into_value()
 }
 
 /// An identifier, and one member more.
@@ -188,20 +161,6 @@ pub(crate) fn placed(
     pair(alloc, "span", span(alloc, at), name, value)
 }
 
-/// Where a form stands, and two members more.
-pub(crate) fn placed_both(
-    alloc: Global,
-    at: SourceSpan,
-    first: &str,
-    one: Result<Value, AllocError>,
-    second: &str,
-    other: Result<Value, AllocError>,
-) -> Result<Value, AllocError>
-    ensures { GivesTwo one other (objects.placed_both at first.now second.now) result }
-{
-    triple(alloc, "span", span(alloc, at), first, one, second, other)
-}
-
 #[tactic(auto, unfolding(crate::specs::Values::package_name))]
 pub(crate) fn package_name(alloc: Global, name: &PackageName<'_>) -> Result<Value, AllocError>
     ensures { IfOk result (λ v. view v ≡ values.package_name (view_package_name name.now)) }
@@ -210,35 +169,30 @@ pub(crate) fn package_name(alloc: Global, name: &PackageName<'_>) -> Result<Valu
     let own = Value::try_from_str(alloc, name.name);
     let version = version(alloc, &name.version);
     let at = span(alloc, name.span);
-    quadruple(
-        alloc, "string", string, "name", own, "version", version, "span", at,
-    )
+    Object::new(alloc)
+        .with("string", string)
+        .with("name", own)
+        .with("version", version)
+        .with("span", at)
+        .into_value()
 }
 
 #[tactic(auto, unfolding(crate::specs::Values::package_path))]
 pub(crate) fn package_path(alloc: Global, path: &PackagePath<'_>) -> Result<Value, AllocError>
     ensures { IfOk result (λ v. view v ≡ values.package_path (view_package_path path.now)) }
 {
-    let members = added(alloc, none(alloc), "span", span(alloc, path.span));
-    let members = added(
-        alloc,
-        members,
-        "string",
-        Value::try_from_str(alloc, path.string),
-    );
-    let members = added(
-        alloc,
-        members,
-        "name",
-        Value::try_from_str(alloc, path.name),
-    );
-    let members = added(
-        alloc,
-        members,
-        "segments",
-        Value::try_from_str(alloc, path.segments),
-    );
-    object_of(added(alloc, members, "version", version(alloc, &path.version)))
+    let at = span(alloc, path.span);
+    let string = Value::try_from_str(alloc, path.string);
+    let name = Value::try_from_str(alloc, path.name);
+    let segments = Value::try_from_str(alloc, path.segments);
+    let version = version(alloc, &path.version);
+    Object::new(alloc)
+        .with("span", at)
+        .with("string", string)
+        .with("name", name)
+        .with("segments", segments)
+        .with("version", version)
+        .into_value()
 }
 
 #[tactic(auto, unfolding(crate::specs::Values::extern_name))]

@@ -12,10 +12,9 @@ ghost use Rattle.wac_parser_print.specs.Values as values;
 use super::declarations::type_decl;
 use super::exprs::expr;
 use super::interfaces::{inline_interface, interface_decl};
-use super::members::{pair, variant};
+use super::members::{Object, pair, variant};
 use super::objects::{
-    Valued, array, declaration, declaration_of_both, documented_both, extern_name, ident,
-    package_name, package_path, span,
+    Valued, array, declaration, extern_name, ident, package_name, package_path, span,
 };
 use super::types::func_type;
 use super::worlds::world_decl;
@@ -54,17 +53,16 @@ pub(crate) fn import_statement(
 ) -> Result<Value, AllocError>
     ensures { IfOk result (λ v. view v ≡ values.import_statement (view_import_statement statement.now)) }
 {
+    let docs = array(alloc, &statement.docs);
+    let id = ident(alloc, &statement.id);
     let name = import_name(alloc, &statement.name);
     let ty = import_type(alloc, &statement.ty);
-    declaration_of_both(
-        alloc,
-        &statement.docs,
-        &statement.id,
-        "name",
-        name,
-        "ty",
-        ty,
-    )
+    Object::new(alloc)
+        .with("docs", docs)
+        .with("id", id)
+        .with("name", name)
+        .with("ty", ty)
+        .into_value()
 }
 
 #[tactic(auto, unfolding(crate::specs::Values::let_statement))]
@@ -99,9 +97,14 @@ pub(crate) fn export_statement(
 ) -> Result<Value, AllocError>
     ensures { IfOk result (λ v. view v ≡ values.export_statement (view_export_statement statement.now)) }
 {
+    let docs = array(alloc, &statement.docs);
     let expr = expr(alloc, &statement.expr);
     let options = export_options(alloc, &statement.options);
-    documented_both(alloc, &statement.docs, "expr", expr, "options", options)
+    Object::new(alloc)
+        .with("docs", docs)
+        .with("expr", expr)
+        .with("options", options)
+        .into_value()
 }
 
 #[tactic(auto, unfolding(crate::specs::Values::type_statement))]
@@ -159,14 +162,12 @@ pub(crate) fn package_directive(
 pub(crate) fn document(alloc: Global, document: &Document<'_>) -> Result<Value, AllocError>
     ensures { IfOk result (λ v. view v ≡ values.document (view_document document.now)) }
 {
+    let docs = array(alloc, &document.docs);
     let directive = package_directive(alloc, &document.directive);
     let statements = array(alloc, &document.statements);
-    documented_both(
-        alloc,
-        &document.docs,
-        "directive",
-        directive,
-        "statements",
-        statements,
-    )
+    Object::new(alloc)
+        .with("docs", docs)
+        .with("directive", directive)
+        .with("statements", statements)
+        .into_value()
 }

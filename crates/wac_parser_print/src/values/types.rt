@@ -11,7 +11,7 @@ ghost use Rattle.wac_parser_print.specs.Objects as objects;
 ghost use Rattle.wac_parser_print.specs.Values.{with_span};
 ghost use Rattle.wac_parser_print.specs.Values as values;
 
-use super::members::{triple, variant};
+use super::members::{Object, variant};
 use super::objects::{Valued, array, ident, identified, span, truth};
 use serde_json::{Value, json};
 use std::alloc::{AllocError, Global};
@@ -126,7 +126,11 @@ pub(crate) fn result_type(
 ) -> Result<Value, AllocError>
     ensures { GivesTwo ok err (values.result_of at) result }
 {
-    let types = triple(alloc, "ok", ok, "err", err, "span", span(alloc, at));
+    let types = Object::new(alloc)
+        .with("ok", ok)
+        .with("err", err)
+        .with("span", span(alloc, at))
+        .into_value();
     variant(alloc, "result", types)
 }
 
@@ -183,9 +187,11 @@ pub(crate) fn func_type(alloc: Global, ty: &FuncType<'_>) -> Result<Value, Alloc
     let is_async = truth(ty.is_async);
     let params = array(alloc, &ty.params);
     let results = result_list(alloc, &ty.results);
-    triple(
-        alloc, "isAsync", is_async, "params", params, "results", results,
-    )
+    Object::new(alloc)
+        .with("isAsync", is_async)
+        .with("params", params)
+        .with("results", results)
+        .into_value()
 }
 
 #[tactic(auto, unfolding(crate::specs::Values::func_type_ref))]

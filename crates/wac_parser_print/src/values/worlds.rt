@@ -10,10 +10,8 @@ ghost use Rattle.wac_parser_print.specs.Values as values;
 
 use super::declarations::item_type_decl;
 use super::interfaces::{inline_interface, use_type};
-use super::members::{pair, variant};
-use super::objects::{
-    Valued, array, declaration, documented, documented_both, ident, identified, package_path,
-};
+use super::members::{Object, pair, variant};
+use super::objects::{Valued, array, declaration, documented, ident, identified, package_path};
 use super::types::func_type;
 use serde_json::Value;
 use std::alloc::{AllocError, Global};
@@ -102,9 +100,14 @@ impl<'a> Valued for WorldIncludeItem<'a> {
 pub(crate) fn world_include(alloc: Global, include: &WorldInclude<'_>) -> Result<Value, AllocError>
     ensures { IfOk result (λ v. view v ≡ values.world_include (view_world_include include.now)) }
 {
+    let docs = array(alloc, &include.docs);
     let world = world_ref(alloc, &include.world);
     let items = array(alloc, &include.with);
-    documented_both(alloc, &include.docs, "world", world, "with", items)
+    Object::new(alloc)
+        .with("docs", docs)
+        .with("world", world)
+        .with("with", items)
+        .into_value()
 }
 
 impl<'a> Valued for WorldItem<'a> {

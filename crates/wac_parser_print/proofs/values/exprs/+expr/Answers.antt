@@ -11,13 +11,13 @@ pub expr-returns : goal.expr-returns
 unfolding expr
 expr-returns t c =
     let e : view_expr c.args.expr.now ≡ tree.expr c.args.expr.now.span (view_primary_expr c.args.expr.now.primary) (map view_postfix_expr c.args.expr.now.postfix.items) = search (rules, the_lemmas) in
-    rw e (c.placed_both.ensures _ _ c.primary_expr-primary.ensures c.array-postfix.ensures)
+    rw e (c.into_value.ensures _ (c.with-3.ensures _ _ (c.with-2.ensures _ _ (c.with.ensures _ _ c.new.ensures c.span-at.ensures) c.primary_expr-primary.ensures) c.array-postfix.ensures))
 
 pub new_expr-returns : goal.new_expr-returns
 unfolding new_expr
 new_expr-returns t c =
     let e : view_new_expr c.args.made.now ≡ tree.new_expr c.args.made.now.span (view_package_name c.args.made.now.«package») (tree.arguments (map view_instantiation_argument c.args.made.now.arguments.items)) = search (rules, the_lemmas) in
-    rw e (c.placed_both.ensures _ _ c.package_name-package.ensures c.arguments-arguments.ensures)
+    rw e (c.into_value.ensures _ (c.with-3.ensures _ _ (c.with-2.ensures _ _ (c.with.ensures _ _ c.new.ensures c.span-at.ensures) c.package_name-package.ensures) c.arguments-arguments.ensures))
 
 pub named_argument-returns : goal.named_argument-returns
 unfolding named_argument

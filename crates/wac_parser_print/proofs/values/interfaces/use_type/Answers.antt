@@ -3,4 +3,4 @@ use Rattle.wac_parser_print.proofs.values.interfaces.use_type.Goals as goal
 
 pub returns : goal.returns
 unfolding use_type
-returns c = c.documented_both.ensures _ _ c.use_path-path.ensures c.array-items.ensures
+returns c = c.into_value.ensures _ (c.with-3.ensures _ _ (c.with-2.ensures _ _ (c.with.ensures _ _ c.new.ensures c.array-docs.ensures) c.use_path-path.ensures) c.array-items.ensures)

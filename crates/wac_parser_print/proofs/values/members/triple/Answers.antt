@@ -1,5 +1,0 @@
-use Rattle.serde_json.specs.Data.{no_members}
-use Rattle.wac_parser_print.proofs.values.members.triple.Goals as goal
-
-pub returns : goal.returns
-returns c x y z p q r = c.object_of.ensures _ (c.added.ensures _ z (c.added-members-2.ensures _ y (c.added-members.ensures no_members x c.none.ensures p) q) r)
