@@ -105,14 +105,12 @@ pub fn kept_next(
 {
     types.see_acyclic();
     let joint = joint_family(family, asked_family);
-    match kept_of(alloc, types, joint, before.item, asked) {
-        Ok(item) => Ok(Kept {
-            several: true,
-            item,
-            family: Some(joint),
-        }),
-        Err(fault) => Err(fault),
-    }
+    let item = kept_of(alloc, types, joint, before.item, asked)?;
+    Ok(Kept {
+        several: true,
+        item,
+        family: Some(joint),
+    })
 }
 
 /// The outer import of what is kept: an instance that several ask for on a track is identified by the spelling.
