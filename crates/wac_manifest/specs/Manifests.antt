@@ -51,6 +51,7 @@ abbrev pub ◌>>=◌ : {A B : Type 0} → Option A → (A → Option B) → Opti
 None >>= f = None
 (Some x) >>= f = f x
 
+-- each member has one of these names
 abbrev pub only : List Text → Members → Bool
 only ns no_members = true
 only ns (member n d ms) = list_any (bytes_eq n) ns && only ns ms
