@@ -1,10 +1,10 @@
 -- Edges of dependencies that are added one after another.
-use Rattle.std.proofs.Common.{◌≡◌, ◌⊎◌, ℕ, ◌+◌, ◌<◌, ◌≤◌, true, List, [], ◌∷◌, ◌++◌, length, take, get_or, sym, ap, subst, ◌∙◌, inl, inr}
+use Rattle.std.proofs.Common.{◌≡◌, ◌⊎◌, ℕ, ◌+◌, ◌<◌, ◌≤◌, List, [], ◌∷◌, ◌++◌, length, take, get_or, sym, ap, subst, ◌∙◌, inl, inr}
 use Rattle.wac_types_base.specs.Graph.{Among}
 use Rattle.wac_types_base.proofs.Lists.{last_among}
 use Rattle.std.proofs.lemmas.List.{take_more, take_all}
 use Rattle.wac_graph_core.specs.declared.edge.Edge.{Edge}
-use Rattle.wac_graph_core.specs.Edges.{has, IsMadeOf, AddsEach}
+use Rattle.wac_graph_core.specs.Edges.{IsMadeOf, AddsEach}
 use Rattle.wac_graph_core.proofs.Found.{Among-front}
 use Rattle.wac_graph_core.proofs.Walks.{has-push, has-kept, has_pushed}
 use Rattle.wac_types_fit.proofs.Items.{Among-last}

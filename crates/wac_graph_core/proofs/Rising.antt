@@ -3,7 +3,7 @@ use Rattle.std.specs.Prelude.{T}
 use Rattle.std.specs.FinMap as finite
 use Rattle.std.specs.FinMap.{is_sorted}
 use Rattle.std.specs.Ordering.{nat_cmp}
-use Rattle.std.proofs.Common.{◌≡◌, ℕ, ◌<◌, Bool, true, false, cond, List, [], ◌∷◌, ◌++◌, map, filter, Some, refl, sym, ap, subst, ◌∙◌, inl, inr, arith}
+use Rattle.std.proofs.Common.{◌≡◌, ℕ, ◌<◌, Bool, true, false, cond, List, [], ◌∷◌, ◌++◌, map, filter, Some, refl, sym, subst, inl, inr, arith}
 use Rattle.wac_types_base.specs.Entries.{AreDistinct}
 use Rattle.wac_types_base.specs.Graph.{Among}
 use Rattle.wac_types_base.proofs.Lists.{among_last, among_mapped, among_filtered}

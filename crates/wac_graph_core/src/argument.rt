@@ -8,15 +8,13 @@ ghost use Rattle.wac_graph_core.specs.Graph.{ContainsNode, IsArgument, IsStatedI
 ghost use Rattle.wac_graph_core.specs.Steps.{NodeFits, SetsArgument, UnsetsArgument};
 ghost use Rattle.wac_graph_core.specs.Refusals.{ArgumentRefused, LacksImport, TellsMismatch, NodeMismatches, WrittenFits, WrittenMismatches};
 
-use crate::edge::{
-    Edge, Follow, Label, add_edge, find_argument, is_among, reached_from, remove_argument,
-};
+use crate::edge::{Edge, Follow, add_edge, find_argument, is_among, reached_from, remove_argument};
 use crate::errors::InstantiationArgumentError;
 use crate::graph::CompositionGraph;
 use crate::ids::NodeId;
 use std::alloc::{AllocError, Global};
 use wac_types_base::copy::copy_item;
-use wac_types_base::{ItemKind, Text, Types};
+use wac_types_base::{ItemKind, Types};
 use wac_types_fit::{SubtypeChecker, SubtypeError, new_cache};
 use wac_types_names::Package;
 use wac_types_written::written_definition;
@@ -158,10 +156,7 @@ impl CompositionGraph {
         ensures refused { IfErr result (λ e. ArgumentRefused self.old instantiation name.now argument e) }
         ensures kept { OnErr result (self.new ≡ self.old) }
     {
-        let item = match self.argument_item(instantiation, name) {
-            Ok(item) => item,
-            Err(fault) => return Err(fault),
-        };
+        let item = self.argument_item(instantiation, name)?;
         let own = String::from_str(self.alloc, name)?;
         if let Some(passed) = find_argument(&self.edges, instantiation, name) {
             if passed.index() == argument.index() {
@@ -172,12 +167,8 @@ impl CompositionGraph {
                 name: own,
             });
         }
-        let fault = self.node_mismatch(argument, item)?;
-        match fault {
-            None => {}
-            Some(source) => {
-                return Err(InstantiationArgumentError::ArgumentTypeMismatch { name: own, source });
-            }
+        if let Some(source) = self.node_mismatch(argument, item)? {
+            return Err(InstantiationArgumentError::ArgumentTypeMismatch { name: own, source });
         }
         let seen = reached_from(self.alloc, &self.edges, Follow::Flow, instantiation)?;
         if is_among(seen.as_slice(), argument) {
@@ -186,12 +177,7 @@ impl CompositionGraph {
             });
         }
         self.edges.reserve(1)?;
-        let text = Text::new(own);
-        let edge = Edge {
-            from: argument,
-            to: instantiation,
-            label: Label::Argument(text),
-        };
+        let edge = Edge::argument(argument, instantiation, own);
         add_edge(&mut self.edges, edge);
         Ok(())
     }
@@ -208,10 +194,7 @@ impl CompositionGraph {
         ensures refused { IfErr result (λ e. LacksImport self.old instantiation name.now e) }
         ensures kept { OnErr result (self.new ≡ self.old) }
     {
-        let _item = match self.argument_item(instantiation, name) {
-            Ok(item) => item,
-            Err(fault) => return Err(fault),
-        };
+        self.argument_item(instantiation, name)?;
         remove_argument(&mut self.edges, argument, instantiation, name);
         Ok(())
     }

@@ -131,10 +131,7 @@ impl CompositionGraph {
         ensures refused { IfErr result (λ e. DefineRefused self.old name.now ty e) }
         ensures kept { OnErr result (self.new ≡ self.old) }
     {
-        let own = match self.definable(name, ty) {
-            Ok(own) => own,
-            Err(fault) => return Err(fault),
-        };
+        let own = self.definable(name, ty)?;
         self.see_sound();
         self.types.see_acyclic();
         let told = Text::new(String::from_str(self.alloc, name)?);

@@ -1,6 +1,6 @@
 //! The edges between nodes, and what is reached over them.
 
-ghost use Rattle.std.specs.Prelude.{◌≡◌, ◌∷◌, [], not, option_map, ◌==◌, ◌<◌, ◌≤◌, ◌≢◌, ◌+◌, ◌⊎◌, length, take, drop, filter, ℕ, IfOk, IfSome, IfNone, nat_eq, vec_len, vec_capacity};
+ghost use Rattle.std.specs.Prelude.{◌≡◌, ◌∷◌, [], not, option_map, ◌==◌, ◌<◌, ◌≤◌, ◌≢◌, ◌+◌, ◌⊎◌, length, take, drop, filter, ℕ, IfOk, IfSome, IfNone, nat_eq, string_bytes, vec_len, vec_capacity};
 ghost use Rattle.wac_types_base.specs.Entries.{Name};
 ghost use Rattle.wac_types_base.specs.Graph.{Among};
 ghost use Rattle.wac_graph_core.specs.Edges.{follows, has, IsReached, AreEdges, HasAlias, HasArgument, argument_edge, Stays};
@@ -44,6 +44,17 @@ impl Label {
 }
 
 impl Edge {
+    /// The edge of an argument: the node is passed to the instantiation under the name.
+    pub(crate) fn argument(node: NodeId, instantiation: NodeId, name: String) -> Edge
+        ensures { result ≡ argument_edge node instantiation (string_bytes name) }
+    {
+        Edge {
+            from: node,
+            to: instantiation,
+            label: Label::Argument(Text::new(name)),
+        }
+    }
+
     /// The same edge again.
     pub(crate) fn copy(&self) -> Result<Edge, AllocError>
         ensures { IfOk result (λ edge. edge ≡ self.now) }

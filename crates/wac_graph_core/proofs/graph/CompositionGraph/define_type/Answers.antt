@@ -26,10 +26,10 @@ invariant_of-self-2 c =
     let node : c.defined-node.result ≡ defined_node c.args.ty c.args.name.now = c.defined-node.ensures ∙ ap (defined_node c.args.ty) (c.new-told.ensures ∙ c.in_ok-from_str.ensures.ok) in
     let nodes : c.insert.new.self ≡ map.insert c.self.inside.nodes k (defined_node c.args.ty c.args.name.now) = c.in_ok-id.ensures.added ∙ ap (map.insert c.self.inside.nodes k) node in
     let exports : c.push_reserved.new.self.items ≡ c.self.inside.exports.items ++ (c.args.name.now, k) ∷ [] =
-    c.push_reserved.ensures.items ∙ ap (λ xs. xs ++ (c.new-text.result, k) ∷ []) c.in_ok-reserve.ensures.items ∙ ap (λ m. c.self.inside.exports.items ++ (m, k) ∷ []) (c.new-text.ensures ∙ c.in-Ok.ensures.found.named) in
-    let may = subst (λ g. MayDefine g c.args.name.now c.args.ty (string_bytes c.in-Ok.own)) (sym c.self.view_is) c.in-Ok.ensures.found in
+    c.push_reserved.ensures.items ∙ ap (λ xs. xs ++ (c.new-text.result, k) ∷ []) c.in_ok-reserve.ensures.items ∙ ap (λ m. c.self.inside.exports.items ++ (m, k) ∷ []) (c.new-text.ensures ∙ c.in_ok-own.ensures.found.named) in
+    let may = subst (λ g. MayDefine g c.args.name.now c.args.ty (string_bytes c.in_ok-own.own)) (sym c.self.view_is) c.in_ok-own.ensures.found in
     let made = defined_by (graph c.self.inside) k c.args.ty c.args.name.now c.in_ok-id.ensures.free c.in_ok-sources.sources.items c.in_ok-targets.targets.items used users c.depend_on.new.edges.items c.depended_by.new.edges.items first second
-    c.insert.new.self c.push_reserved.new.self.items (string_bytes c.in-Ok.own) nodes exports may (subst (λ (g : Graph). Stands g.types (ItemKind.Ty c.args.ty)) (sym c.self.view_is) c.requires) c.self.invariant.0 in
+    c.insert.new.self c.push_reserved.new.self.items (string_bytes c.in_ok-own.own) nodes exports may (subst (λ (g : Graph). Stands g.types (ItemKind.Ty c.args.ty)) (sym c.self.view_is) c.requires) c.self.invariant.0 in
     (made, subst (ReachBelow c.self.inside.types c.insert.new.self) (sym (c.len-self-inside.ensures.value ∙ ap length c.defined_types.ensures.rest)) (ReachBelow-all c.self.inside.types c.see_acyclic.ensures c.insert.new.self (items_stand _ made)))
 
 pub returns-clause-defined : goal.returns-clause-defined
@@ -45,8 +45,8 @@ returns-clause-defined c =
     let node : c.defined-node.result ≡ defined_node c.args.ty c.args.name.now = c.defined-node.ensures ∙ ap (defined_node c.args.ty) (c.new-told.ensures ∙ c.in_ok-from_str.ensures.ok) in
     let nodes : c.insert.new.self ≡ map.insert c.self.inside.nodes k (defined_node c.args.ty c.args.name.now) = c.in_ok-id.ensures.added ∙ ap (map.insert c.self.inside.nodes k) node in
     let exports : c.push_reserved.new.self.items ≡ c.self.inside.exports.items ++ (c.args.name.now, k) ∷ [] =
-    c.push_reserved.ensures.items ∙ ap (λ xs. xs ++ (c.new-text.result, k) ∷ []) c.in_ok-reserve.ensures.items ∙ ap (λ m. c.self.inside.exports.items ++ (m, k) ∷ []) (c.new-text.ensures ∙ c.in-Ok.ensures.found.named) in
-    let may = subst (λ g. MayDefine g c.args.name.now c.args.ty (string_bytes c.in-Ok.own)) (sym c.self.view_is) c.in-Ok.ensures.found in
+    c.push_reserved.ensures.items ∙ ap (λ xs. xs ++ (c.new-text.result, k) ∷ []) c.in_ok-reserve.ensures.items ∙ ap (λ m. c.self.inside.exports.items ++ (m, k) ∷ []) (c.new-text.ensures ∙ c.in_ok-own.ensures.found.named) in
+    let may = subst (λ g. MayDefine g c.args.name.now c.args.ty (string_bytes c.in_ok-own.own)) (sym c.self.view_is) c.in_ok-own.ensures.found in
     subst (λ g. DefinesType g (record (graph c.self.inside) { nodes = c.insert.new.self; edges = c.depended_by.new.edges.items; exports = c.push_reserved.new.self.items }) c.args.name.now c.args.ty k) c.self.view_is
     (define_step (graph c.self.inside) k c.args.ty c.args.name.now c.in_ok-id.ensures.free c.in_ok-sources.sources.items c.in_ok-targets.targets.items used users c.depend_on.new.edges.items c.depended_by.new.edges.items first second
-    c.insert.new.self c.push_reserved.new.self.items (string_bytes c.in-Ok.own) c.in_ok-id.ensures.above nodes exports may)
+    c.insert.new.self c.push_reserved.new.self.items (string_bytes c.in_ok-own.own) c.in_ok-id.ensures.above nodes exports may)
