@@ -97,10 +97,8 @@ impl Prints {
         }
         let label = label_print(types.defined_type(id));
         let print = self.of_places(types, ItemKind::Value(ValueType::Defined(id)), label)?;
-        match self.found.insert(id, print) {
-            Ok(_) => Ok(print),
-            Err(_) => Err(AllocError),
-        }
+        let _ = self.found.insert(id, print)?;
+        Ok(print)
     }
 
     /// The number of a list, and of what stands in the places of a kind behind it.

@@ -1,5 +1,5 @@
 -- After each accepted ask, each track has one import: the meet of its asks, under the greatest name.
-use Rattle.std.proofs.Common.{◌≡◌, ℕ, zero, suc, ◌+◌, ◌<◌, ◌≤◌, take, drop, get_or, List, [], ◌∷◌, ◌++◌, map, length, Option, Some, None, IsSome, refl, sym, ap, subst, ◌∙◌, ◌⊎◌, inl, inr, arith}
+use Rattle.std.proofs.Common.{◌≡◌, ℕ, zero, suc, ◌+◌, ◌≤◌, take, drop, List, [], ◌∷◌, ◌++◌, map, length, Option, Some, None, IsSome, refl, sym, ap, subst, ◌∙◌, ◌⊎◌, inl, inr, arith}
 use Rattle.std.specs.Prelude.{slice_get, slice_set}
 use Rattle.wac_types_base.specs.declared.item.ItemKind.{ItemKind}
 use Rattle.wac_types_base.specs.declared.ids.InterfaceId.{InterfaceId}
@@ -25,12 +25,11 @@ use Rattle.wac_types_merge.specs.declared.family.Family.{Family}
 use Rattle.wac_types_merge.specs.declared.family.Import.{Import}
 use Rattle.wac_types_merge.specs.Families.{HasMore, IsUnplain, IsPlainItem, IsWitInterface, IsWitItem, joint}
 use Rattle.wac_types_merge.specs.Imports.{Imports, AreSound, AreApart, IsIdentified}
-use Rattle.wac_types_merge.specs.Merging.{Ask, ask_for, tree_asked, HasFamily, FirstAsked, AskedAgain, IsAsked, IsRefused}
+use Rattle.wac_types_merge.specs.Merging.{Ask, tree_asked, HasFamily, FirstAsked, AskedAgain, IsAsked, IsRefused}
 use Rattle.wac_types_merge.specs.Lists.{AllPlain, AllWit, LieIn, IsImportOf, Merges, none_yet, AreAsked, one_more_asked, Lent, ask_of, asks_of, AsksStand, IsListRefused}
 use Rattle.wac_types_merge.proofs.Grown.{tree_kept, stated_kept, copied_tree}
 use Rattle.wac_types_merge.proofs.Tracks.{not_later, greater_before, greater_asked, greater_still, greater_than_asked, on_track_with, same_or_not, one_place, Elsewhere, set_among, set_there, other_there}
 use Rattle.wac_types_base.proofs.Looked.{among-get}
-use Rattle.wac_types_base.proofs.Used.{place_or}
 use Rattle.wac_types_base.proofs.Lists.{among_split, last_among}
 
 -- ---- those of a list
@@ -284,13 +283,3 @@ lent_among (y ∷ xs) x (inr m) = inr (lent_among xs x m)
 
 pub lent_stands : (xs : List Lent) (i : ℕ) (x : Lent) → slice_get xs i ≡ Some x → AsksStand (asks_of xs) → Stands (ask_of x).types (ask_of x).kind
 lent_stands xs i x at h = h (ask_of x) (lent_among xs x (among-get xs i x at))
-
--- the parts of an ask, each looked up by itself
-pub same_ask : (xs : List Lent) (i : ℕ) (d e f : Lent) → i < length xs → ask_for (get_or xs i d).0.now (get_or xs i e).1.now (get_or xs i f).2 ≡ ask_of (get_or xs i d)
-same_ask xs i d e f lt =
-    let p = place_or xs i d lt in
-    let q = place_or xs i e lt in
-    let r = place_or xs i f lt in
-    let second : get_or xs i e ≡ get_or xs i d = cc (p, q) in
-    let third : get_or xs i f ≡ get_or xs i d = cc (p, r) in
-    ap (λ (x : Lent). ask_for (get_or xs i d).0.now x.1.now (get_or xs i f).2) second ∙ ap (λ (x : Lent). ask_for (get_or xs i d).0.now (get_or xs i d).1.now x.2) third

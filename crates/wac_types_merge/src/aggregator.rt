@@ -200,8 +200,7 @@ pub fn aggregate_all(
     ensures refused { IfErr result (IsListRefused number (asks_of asks.now)) }
 {
     let mut all = TypeAggregator::new(alloc, number);
-    for index in 0..asks.len() {
-        let (name, types, kind) = asks[index];
+    for &(name, types, kind) in asks {
         all = all.with_ask(alloc, name, types, kind)?;
     }
     Ok(all)

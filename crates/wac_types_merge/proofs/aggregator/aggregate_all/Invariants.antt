@@ -3,9 +3,9 @@ use Rattle.wac_types_merge.specs.Lists.{Merges, AreAsked, none_yet, asks_of}
 use Rattle.wac_types_merge.proofs.aggregator.aggregate_all.Given as goal
 
 -- the asks so far, in a collection of the number given
-abbrev pub invariant-loop-index : goal.invariant-loop-index
-invariant-loop-index l = record {
-  merged : Merges (asks_of (take l.index l.asks)) l.all;
+abbrev pub invariant-loop-name : goal.invariant-loop-name
+invariant-loop-name l = record {
+  merged : Merges (asks_of (take l.name-index l.asks)) l.all;
   number : l.all.types.number ≡ l.number;
-  asked : AreAsked (none_yet l.number) (asks_of (take l.index l.asks)) l.all;
+  asked : AreAsked (none_yet l.number) (asks_of (take l.name-index l.asks)) l.all;
 }
