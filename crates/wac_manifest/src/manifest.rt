@@ -115,7 +115,8 @@ fn component_of(alloc: Global, value: &Value) -> Result<Component, ManifestError
 
 /// The components that a member lists.
 fn components(alloc: Global, members: Members<'_>) -> Result<Vec<Component>, ManifestError>
-    ensures { Reads (λ v. map component_view v.items) (must (list component) (codes "components") (view members.entry.object.now)) result }
+    ensures { Reads (λ v. map component_view v.items)
+        (must (list component) (codes "components") (view members.entry.object.now)) result }
 {
     let mut all = Vec::new(alloc);
     for value in members.list("components")? {
@@ -137,7 +138,8 @@ fn source_of(alloc: Global, value: &Value) -> Result<Source, ManifestError>
 
 /// The sources that a member lists.
 fn sources(alloc: Global, members: Members<'_>) -> Result<Vec<Source>, ManifestError>
-    ensures { Reads (λ v. map source_view v.items) (must (list source) (codes "sources") (view members.entry.object.now)) result }
+    ensures { Reads (λ v. map source_view v.items)
+        (must (list source) (codes "sources") (view members.entry.object.now)) result }
 {
     let mut all = Vec::new(alloc);
     for value in members.list("sources")? {

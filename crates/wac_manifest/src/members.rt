@@ -105,7 +105,8 @@ impl<'a> Members<'a> {
 
     /// Whether a member is there and true.
     pub(crate) fn is_set(self, name: &str) -> Result<bool, ManifestError>
-        ensures { Reads (λ b. b) (option_map (λ b. unwrap_or b false) (may as_bool name.now (view self.entry.object.now))) result }
+        ensures { Reads (λ b. b)
+            (option_map (λ b. unwrap_or b false) (may as_bool name.now (view self.entry.object.now))) result }
     {
         match self.find(name) {
             None => Ok(false),

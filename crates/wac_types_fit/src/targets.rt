@@ -43,7 +43,11 @@ impl Model for TargetValidationReport {
 
     ghost Value = { Report };
 
-    ghost view = { λ r. record { imports_not_in_target = texts_of r.imports_not_in_target.items; missing_exports = entries_of r.missing_exports.items; mismatched_types = mismatches r.mismatched_types.items } };
+    ghost view = { λ r. record {
+      imports_not_in_target = texts_of r.imports_not_in_target.items;
+      missing_exports = entries_of r.missing_exports.items;
+      mismatched_types = mismatches r.mismatched_types.items;
+    } };
 }
 
 /// Whether a component meets a target world, and if not the report.
