@@ -233,16 +233,16 @@ fn add_export(
     finals: &Finals,
     copies: &mut Copies,
     exports: &mut NamedMap<ItemKind>,
-    name: &str,
-    node: NodeId,
+    export: (&str, NodeId),
 ) -> Result<(), AllocError>
-    requires there { ContainsNode graph.now node }
+    requires there { ContainsNode graph.now export.1 }
     requires finals { KnowsFinals graph.now types.old finals.now }
     requires copies { AreCopies graph.now.types types.old copies.old }
-    ensures adds { OnOk result (AddsExported graph.now types.new name.now node exports.old exports.new) }
+    ensures adds { OnOk result (AddsExported graph.now types.new export.entry.0.now export.entry.1 exports.old exports.new) }
     ensures copies { AreCopies graph.now.types types.new copies.new }
     ensures grows { Grows types.old types.new }
 {
+    let (name, node) = export;
     let told = exported_type(graph, types, finals, copies, node)?;
     match told {
         Some(item) => insert_under(graph.alloc(), exports, name, item),
@@ -267,7 +267,8 @@ fn add_exports(
     graph.see_sound();
     types.see_acyclic();
     for (name, node) in graph.exports() {
-        add_export(graph, types, finals, copies, exports, name.as_str(), *node)?;
+        let export = (name.as_str(), *node);
+        add_export(graph, types, finals, copies, exports, export)?;
     }
     Ok(())
 }
