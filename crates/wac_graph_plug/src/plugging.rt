@@ -1,6 +1,6 @@
 //! Plugging packages into a socket.
 
-ghost use Rattle.std.specs.Prelude.{◌≡◌, ◌⊎◌, ◌||◌, All, OnOk, OnErr, IfOk, IfErr};
+ghost use Rattle.std.specs.Prelude.{◌≡◌, ◌⊎◌, All, OnOk, OnErr, IfOk, IfErr};
 ghost use Rattle.wac_types_base.specs.Collection.{Stands};
 ghost use Rattle.wac_types_base.specs.Entries.{Name, AreDistinct, names_of, texts_of};
 ghost use Rattle.wac_types_base.specs.Graph.{Among};
@@ -75,10 +75,7 @@ fn pass_all(
     ensures grown { Grown graph.old graph.new }
 {
     for one in matches {
-        match pass(graph, socket, plug, one) {
-            Ok(()) => {}
-            Err(fault) => return Err(fault),
-        }
+        pass(graph, socket, plug, one)?;
     }
     Ok(())
 }
@@ -115,10 +112,7 @@ fn export_all(
     ensures grown { Grown graph.old graph.new }
 {
     for name in names {
-        match export_one(graph, socket, name.as_str()) {
-            Ok(()) => {}
-            Err(fault) => return Err(fault),
-        }
+        export_one(graph, socket, name.as_str())?;
     }
     Ok(())
 }
@@ -155,10 +149,8 @@ fn plug_one(
         return Ok(false);
     }
     let source = graph.instantiate(plug)?;
-    match pass_all(graph, instance, source, matches.as_slice()) {
-        Ok(()) => Ok(true),
-        Err(fault) => Err(fault),
-    }
+    pass_all(graph, instance, source, matches.as_slice())?;
+    Ok(true)
 }
 
 /// Plugs each of these, in turn. Whether one has a match.
@@ -178,18 +170,10 @@ fn plug_each(
 {
     let mut happened = false;
     for plug in plugs {
-        match plug_one(alloc, graph, socket, *plug, instance) {
-            Ok(yes) => happened = either(happened, yes),
-            Err(fault) => return Err(fault),
-        }
+        let yes = plug_one(alloc, graph, socket, *plug, instance)?;
+        happened = happened || yes;
     }
     Ok(happened)
-}
-
-fn either(a: bool, b: bool) -> bool
-    ensures { result ≡ (a || b) }
-{
-    a || b
 }
 
 /// The names of a world's exports.
@@ -237,18 +221,11 @@ pub fn plug(
     graph.types().see_acyclic();
     let names = export_names(alloc, graph.types(), graph[socket].ty())?;
     let instance = graph.instantiate(socket)?;
-    let happened = match plug_each(alloc, graph, socket, plugs.as_slice(), instance) {
-        Ok(happened) => happened,
-        Err(fault) => return Err(fault),
-    };
+    let happened = plug_each(alloc, graph, socket, plugs.as_slice(), instance)?;
     if !happened {
         return Err(PlugError::NoPlugHappened);
     }
-    match export_all(graph, instance, names.as_slice()) {
-        Ok(()) => {
-            graph.see_sound();
-            Ok(())
-        }
-        Err(fault) => Err(fault),
-    }
+    export_all(graph, instance, names.as_slice())?;
+    graph.see_sound();
+    Ok(())
 }

@@ -1,4 +1,5 @@
 use Rattle.std.proofs.Common.{◌≡◌, ◌⊎◌, ap, subst, ◌∙◌}
+use Rattle.std.proofs.lemmas.Result.{err_from_is_err_and}
 use Rattle.wac_types_base.specs.Collection.{IsAcyclic}
 use Rattle.wac_types_base.specs.Entries.{names_of, texts_of, AreDistinct}
 use Rattle.wac_types_base.specs.Graph.{Among}
@@ -29,8 +30,8 @@ pub plug_each-requires-clause-instance : goal.plug_each-requires-clause-instance
 plug_each-requires-clause-instance c =
     instance_there c.args.graph.now c.instantiate.new.self c.args.socket c.in_ok-instance.instance c.in_ok-instance.ensures.instantiated
 
-pub returns-in-Err-clause-refused : goal.returns-in-Err-clause-refused
-returns-in-Err-clause-refused c =
+pub returns-in_err-happened-clause-refused : goal.returns-in_err-happened-clause-refused
+returns-in_err-happened-clause-refused c =
     let g = c.args.graph.now in
     let first = c.instantiate.new.self in
     let second = c.plug_each.new.graph in
@@ -38,12 +39,13 @@ returns-in-Err-clause-refused c =
     let ids = c.args.plugs.items in
     let made = c.in_ok-instance.ensures.instantiated in
     let grown = Grown-instance g first c.args.socket s made in
-    let stopped : (c.in-Err.fault ≡ PlugError.Memory) ⊎ StopsAll first second c.args.socket ids s c.in-Err.fault =
-    subst (λ l. (c.in-Err.fault ≡ PlugError.Memory) ⊎ StopsAll first second c.args.socket l s c.in-Err.fault) c.as_slice.ensures.value c.in-Err.ensures.stopped in
-    refused_stop g first second c.args.socket ids s made c.in-Err.fault stopped
+    let stopped : (c.in_err-happened.field-0.0 ≡ PlugError.Memory) ⊎ StopsAll first second c.args.socket ids s c.in_err-happened.field-0.0 =
+    subst (λ l. (c.in_err-happened.field-0.0 ≡ PlugError.Memory) ⊎ StopsAll first second c.args.socket l s c.in_err-happened.field-0.0) c.as_slice.ensures.value c.in_err-happened.ensures.stopped in
+    let p = err_from_is_err_and c.from_residual-in_err-happened.result c.from_residual-in_err-happened.ensures.1 in
+    rw (p.1, p.2) (refused_stop g first second c.args.socket ids s made c.in_err-happened.field-0.0 stopped)
 
-pub returns-in-Err-clause-cause : goal.returns-in-Err-clause-cause
-returns-in-Err-clause-cause c =
+pub returns-in_err-happened-clause-cause : goal.returns-in_err-happened-clause-cause
+returns-in_err-happened-clause-cause c =
     let g = c.args.graph.now in
     let first = c.instantiate.new.self in
     let second = c.plug_each.new.graph in
@@ -51,13 +53,14 @@ returns-in-Err-clause-cause c =
     let ids = c.args.plugs.items in
     let made = c.in_ok-instance.ensures.instantiated in
     let grown = Grown-instance g first c.args.socket s made in
-    let stopped : (c.in-Err.fault ≡ PlugError.Memory) ⊎ StopsAll first second c.args.socket ids s c.in-Err.fault =
-    subst (λ l. (c.in-Err.fault ≡ PlugError.Memory) ⊎ StopsAll first second c.args.socket l s c.in-Err.fault) c.as_slice.ensures.value c.in-Err.ensures.stopped in
+    let stopped : (c.in_err-happened.field-0.0 ≡ PlugError.Memory) ⊎ StopsAll first second c.args.socket ids s c.in_err-happened.field-0.0 =
+    subst (λ l. (c.in_err-happened.field-0.0 ≡ PlugError.Memory) ⊎ StopsAll first second c.args.socket l s c.in_err-happened.field-0.0) c.as_slice.ensures.value c.in_err-happened.ensures.stopped in
     let acyclic = subst IsAcyclic c.types.ensures c.see_acyclic.ensures in
-    cause_stop g first second c.args.socket ids s made c.see_sound.ensures acyclic c.in-Err.fault stopped
+    let p = err_from_is_err_and c.from_residual-in_err-happened.result c.from_residual-in_err-happened.ensures.1 in
+    rw (p.1, p.2) (cause_stop g first second c.args.socket ids s made c.see_sound.ensures acyclic c.in_err-happened.field-0.0 stopped)
 
-pub returns-in-Err-clause-grown : goal.returns-in-Err-clause-grown
-returns-in-Err-clause-grown c =
+pub returns-in_err-happened-clause-grown : goal.returns-in_err-happened-clause-grown
+returns-in_err-happened-clause-grown c =
     let g = c.args.graph.now in
     let first = c.instantiate.new.self in
     let second = c.plug_each.new.graph in
@@ -76,8 +79,8 @@ returns-then-not-happened-clause-refused c =
     let ids = c.args.plugs.items in
     let made = c.in_ok-instance.ensures.instantiated in
     let grown = Grown-instance g first c.args.socket s made in
-    let plugged : PlugsAll first second c.args.socket ids s c.in-Ok.happened = subst (λ l. PlugsAll first second c.args.socket l s c.in-Ok.happened) c.as_slice.ensures.value c.in-Ok.ensures.plugged in
-    refused_none g first second c.args.socket ids s made c.in-Ok.happened plugged c.if-not-happened.true
+    let plugged : PlugsAll first second c.args.socket ids s c.in_ok-happened.happened = subst (λ l. PlugsAll first second c.args.socket l s c.in_ok-happened.happened) c.as_slice.ensures.value c.in_ok-happened.ensures.plugged in
+    refused_none g first second c.args.socket ids s made c.in_ok-happened.happened plugged c.if-not-happened.true
 
 pub returns-then-not-happened-clause-grown : goal.returns-then-not-happened-clause-grown
 returns-then-not-happened-clause-grown c =
@@ -106,8 +109,8 @@ export_all-requires c =
     HasExport-grown first second c.plug_each.ensures.grown s n
     (name_has g first c.args.socket s c.see_sound.ensures acyclic made (subst AreDistinct names c.in_ok-names.ensures.distinct) n (subst (Among n) (ap texts_of c.as_slice-2.ensures.value ∙ names) at))
 
-pub returns-in-Ok-export_all-clause-plugged : goal.returns-in-Ok-export_all-clause-plugged
-returns-in-Ok-export_all-clause-plugged c =
+pub returns-clause-plugged : goal.returns-clause-plugged
+returns-clause-plugged c =
     let g = c.args.graph.now in
     let first = c.instantiate.new.self in
     let second = c.plug_each.new.graph in
@@ -115,15 +118,15 @@ returns-in-Ok-export_all-clause-plugged c =
     let ids = c.args.plugs.items in
     let made = c.in_ok-instance.ensures.instantiated in
     let grown = Grown-instance g first c.args.socket s made in
-    let plugged : PlugsAll first second c.args.socket ids s c.in-Ok.happened = subst (λ l. PlugsAll first second c.args.socket l s c.in-Ok.happened) c.as_slice.ensures.value c.in-Ok.ensures.plugged in
+    let plugged : PlugsAll first second c.args.socket ids s c.in_ok-happened.happened = subst (λ l. PlugsAll first second c.args.socket l s c.in_ok-happened.happened) c.as_slice.ensures.value c.in_ok-happened.ensures.plugged in
     let world = world_is g c.args.socket c.index.result.now c.types-2.result.now c.ty.result c.index.ensures c.ty.ensures c.types-2.ensures in
     let names : texts_of c.in_ok-names.names.items ≡ socket_exports g c.args.socket = c.in_ok-names.ensures.names ∙ ap (λ w. names_of (exports_of w)) world in
     let exported : ExportsAll s (socket_exports g c.args.socket) second c.export_all.new.graph =
-    subst (λ l. ExportsAll s l second c.export_all.new.graph) (ap texts_of c.as_slice-2.ensures.value ∙ names) c.in-Ok-export_all.ensures.exported in
-    plugs_whole g first second c.export_all.new.graph c.args.socket ids s c.in-Ok.happened made plugged c.if-not-happened.false exported
+    subst (λ l. ExportsAll s l second c.export_all.new.graph) (ap texts_of c.as_slice-2.ensures.value ∙ names) c.in_ok-export_all.ensures.exported in
+    plugs_whole g first second c.export_all.new.graph c.args.socket ids s c.in_ok-happened.happened made plugged c.if-not-happened.false exported
 
-pub returns-in-Ok-export_all-clause-wired : goal.returns-in-Ok-export_all-clause-wired
-returns-in-Ok-export_all-clause-wired c =
+pub returns-clause-wired : goal.returns-clause-wired
+returns-clause-wired c =
     let g = c.args.graph.now in
     let first = c.instantiate.new.self in
     let second = c.plug_each.new.graph in
@@ -131,16 +134,16 @@ returns-in-Ok-export_all-clause-wired c =
     let ids = c.args.plugs.items in
     let made = c.in_ok-instance.ensures.instantiated in
     let grown = Grown-instance g first c.args.socket s made in
-    let plugged : PlugsAll first second c.args.socket ids s c.in-Ok.happened = subst (λ l. PlugsAll first second c.args.socket l s c.in-Ok.happened) c.as_slice.ensures.value c.in-Ok.ensures.plugged in
+    let plugged : PlugsAll first second c.args.socket ids s c.in_ok-happened.happened = subst (λ l. PlugsAll first second c.args.socket l s c.in_ok-happened.happened) c.as_slice.ensures.value c.in_ok-happened.ensures.plugged in
     let world = world_is g c.args.socket c.index.result.now c.types-2.result.now c.ty.result c.index.ensures c.ty.ensures c.types-2.ensures in
     let names : texts_of c.in_ok-names.names.items ≡ socket_exports g c.args.socket = c.in_ok-names.ensures.names ∙ ap (λ w. names_of (exports_of w)) world in
     let exported : ExportsAll s (socket_exports g c.args.socket) second c.export_all.new.graph =
-    subst (λ l. ExportsAll s l second c.export_all.new.graph) (ap texts_of c.as_slice-2.ensures.value ∙ names) c.in-Ok-export_all.ensures.exported in
+    subst (λ l. ExportsAll s l second c.export_all.new.graph) (ap texts_of c.as_slice-2.ensures.value ∙ names) c.in_ok-export_all.ensures.exported in
     let acyclic = subst IsAcyclic c.types.ensures c.see_acyclic.ensures in
-    λ fresh. is_plugged g c.export_all.new.graph c.args.socket ids c.see_sound.ensures c.see_sound-in-Ok-export_all.ensures acyclic fresh (plugs_whole g first second c.export_all.new.graph c.args.socket ids s c.in-Ok.happened made plugged c.if-not-happened.false exported)
+    λ fresh. is_plugged g c.export_all.new.graph c.args.socket ids c.see_sound.ensures c.see_sound-2.ensures acyclic fresh (plugs_whole g first second c.export_all.new.graph c.args.socket ids s c.in_ok-happened.happened made plugged c.if-not-happened.false exported)
 
-pub returns-in-Ok-export_all-clause-grown : goal.returns-in-Ok-export_all-clause-grown
-returns-in-Ok-export_all-clause-grown c =
+pub returns-clause-grown : goal.returns-clause-grown
+returns-clause-grown c =
     let g = c.args.graph.now in
     let first = c.instantiate.new.self in
     let second = c.plug_each.new.graph in
@@ -150,8 +153,8 @@ returns-in-Ok-export_all-clause-grown c =
     let grown = Grown-instance g first c.args.socket s made in
     Grown-trans g second c.export_all.new.graph (Grown-trans g first second grown c.plug_each.ensures.grown) c.export_all.ensures.grown
 
-pub returns-clause-refused : goal.returns-clause-refused
-returns-clause-refused c =
+pub returns-in_err-export_all-clause-refused : goal.returns-in_err-export_all-clause-refused
+returns-in_err-export_all-clause-refused c =
     let g = c.args.graph.now in
     let first = c.instantiate.new.self in
     let second = c.plug_each.new.graph in
@@ -159,15 +162,16 @@ returns-clause-refused c =
     let ids = c.args.plugs.items in
     let made = c.in_ok-instance.ensures.instantiated in
     let grown = Grown-instance g first c.args.socket s made in
-    let plugged : PlugsAll first second c.args.socket ids s c.in-Ok.happened = subst (λ l. PlugsAll first second c.args.socket l s c.in-Ok.happened) c.as_slice.ensures.value c.in-Ok.ensures.plugged in
+    let plugged : PlugsAll first second c.args.socket ids s c.in_ok-happened.happened = subst (λ l. PlugsAll first second c.args.socket l s c.in_ok-happened.happened) c.as_slice.ensures.value c.in_ok-happened.ensures.plugged in
     let world = world_is g c.args.socket c.index.result.now c.types-2.result.now c.ty.result c.index.ensures c.ty.ensures c.types-2.ensures in
     let names : texts_of c.in_ok-names.names.items ≡ socket_exports g c.args.socket = c.in_ok-names.ensures.names ∙ ap (λ w. names_of (exports_of w)) world in
-    let stops : StopsExporting s (socket_exports g c.args.socket) c.in-Err-export_all.fault second c.export_all.new.graph =
-    subst (λ l. StopsExporting s l c.in-Err-export_all.fault second c.export_all.new.graph) (ap texts_of c.as_slice-2.ensures.value ∙ names) c.in-Err-export_all.ensures.stopped in
-    refused_export g first second c.export_all.new.graph c.args.socket ids s c.in-Ok.happened made plugged c.if-not-happened.false c.in-Err-export_all.fault stops
+    let stops : StopsExporting s (socket_exports g c.args.socket) c.in_err-export_all.field-0.0 second c.export_all.new.graph =
+    subst (λ l. StopsExporting s l c.in_err-export_all.field-0.0 second c.export_all.new.graph) (ap texts_of c.as_slice-2.ensures.value ∙ names) c.in_err-export_all.ensures.stopped in
+    let p = err_from_is_err_and c.from_residual-in_err-export_all.result c.from_residual-in_err-export_all.ensures.1 in
+    rw (p.1, p.2) (refused_export g first second c.export_all.new.graph c.args.socket ids s c.in_ok-happened.happened made plugged c.if-not-happened.false c.in_err-export_all.field-0.0 stops)
 
-pub returns-clause-cause : goal.returns-clause-cause
-returns-clause-cause c =
+pub returns-in_err-export_all-clause-cause : goal.returns-in_err-export_all-clause-cause
+returns-in_err-export_all-clause-cause c =
     let g = c.args.graph.now in
     let first = c.instantiate.new.self in
     let second = c.plug_each.new.graph in
@@ -175,15 +179,16 @@ returns-clause-cause c =
     let ids = c.args.plugs.items in
     let made = c.in_ok-instance.ensures.instantiated in
     let grown = Grown-instance g first c.args.socket s made in
-    let plugged : PlugsAll first second c.args.socket ids s c.in-Ok.happened = subst (λ l. PlugsAll first second c.args.socket l s c.in-Ok.happened) c.as_slice.ensures.value c.in-Ok.ensures.plugged in
+    let plugged : PlugsAll first second c.args.socket ids s c.in_ok-happened.happened = subst (λ l. PlugsAll first second c.args.socket l s c.in_ok-happened.happened) c.as_slice.ensures.value c.in_ok-happened.ensures.plugged in
     let world = world_is g c.args.socket c.index.result.now c.types-2.result.now c.ty.result c.index.ensures c.ty.ensures c.types-2.ensures in
     let names : texts_of c.in_ok-names.names.items ≡ socket_exports g c.args.socket = c.in_ok-names.ensures.names ∙ ap (λ w. names_of (exports_of w)) world in
-    let stops : StopsExporting s (socket_exports g c.args.socket) c.in-Err-export_all.fault second c.export_all.new.graph =
-    subst (λ l. StopsExporting s l c.in-Err-export_all.fault second c.export_all.new.graph) (ap texts_of c.as_slice-2.ensures.value ∙ names) c.in-Err-export_all.ensures.stopped in
-    cause_export g first second c.export_all.new.graph c.args.socket ids s c.in-Ok.happened made plugged c.if-not-happened.false c.in-Err-export_all.fault stops
+    let stops : StopsExporting s (socket_exports g c.args.socket) c.in_err-export_all.field-0.0 second c.export_all.new.graph =
+    subst (λ l. StopsExporting s l c.in_err-export_all.field-0.0 second c.export_all.new.graph) (ap texts_of c.as_slice-2.ensures.value ∙ names) c.in_err-export_all.ensures.stopped in
+    let p = err_from_is_err_and c.from_residual-in_err-export_all.result c.from_residual-in_err-export_all.ensures.1 in
+    rw (p.1, p.2) (cause_export g first second c.export_all.new.graph c.args.socket ids s c.in_ok-happened.happened made plugged c.if-not-happened.false c.in_err-export_all.field-0.0 stops)
 
-pub returns-clause-grown : goal.returns-clause-grown
-returns-clause-grown c =
+pub returns-in_err-export_all-clause-grown : goal.returns-in_err-export_all-clause-grown
+returns-in_err-export_all-clause-grown c =
     let g = c.args.graph.now in
     let first = c.instantiate.new.self in
     let second = c.plug_each.new.graph in
