@@ -215,17 +215,17 @@ fn foreign_step(
     types: &Types,
     kind: ItemKind,
     passed: &str,
-    segment: &str,
-    span: SourceSpan,
+    next: &Ident<'_>,
 ) -> Outcome<ItemKind>
     requires { Stands types.now kind }
-    ensures outcome { IsForeignExport types.now path.now.name.now passed.now kind (segment.now, span) result }
+    ensures outcome { IsForeignExport types.now path.now.name.now passed.now kind (next.now.string.now, next.now.span) result }
     ensures stands { IfOk result (Stands types.now) }
 {
     types.see_acyclic();
-    match export_of(types, kind, segment) {
-        Some(next) => Ok(next),
-        None => Err(foreign_missing(path, alloc, Some(kind.desc(types)), passed, segment, span)),
+    let Ident { string, span } = *next;
+    match export_of(types, kind, string) {
+        Some(item) => Ok(item),
+        None => Err(foreign_missing(path, alloc, Some(kind.desc(types)), passed, string, span)),
     }
 }
 
@@ -245,7 +245,11 @@ fn foreign_rest(
     let mut kind = kind;
     let mut passed = String::from_str(alloc, first)?;
     for (segment, span) in segments {
-        kind = foreign_step(path, alloc, types, kind, passed.as_str(), segment, span)?;
+        let next = Ident {
+            string: segment,
+            span,
+        };
+        kind = foreign_step(path, alloc, types, kind, passed.as_str(), &next)?;
         passed.push_str("/")?;
         passed.push_str(segment)?;
     }
