@@ -191,10 +191,8 @@ pub fn read(alloc: Global, bytes: &[u8]) -> Result<Reading, ReadError> {
 
 /// Adds an item to a list.
 fn keep<T: Drop>(list: &mut Vec<T>, item: T) -> Result<(), ReadError> {
-    match list.push(item) {
-        Ok(()) => Ok(()),
-        Err(_) => Err(ReadError::Memory),
-    }
+    list.push(item)?;
+    Ok(())
 }
 
 fn new_scope(alloc: Global, kind: Kind, left: u32) -> Scope {
@@ -310,10 +308,8 @@ impl Spaces {
             text,
             exports,
         };
-        match keep(&mut self.nodes, node) {
-            Ok(()) => Ok(number),
-            Err(fault) => Err(fault),
-        }
+        keep(&mut self.nodes, node)?;
+        Ok(number)
     }
 
     fn kind_of(&self, ty: usize) -> Kind {
