@@ -4,6 +4,7 @@ pub mod Numbers
 pub mod Sound
 pub mod Ordered
 pub mod Growing
+pub mod Calling
 pub mod Fresh
 pub mod SoundGraph
 pub mod Turns

@@ -32,7 +32,7 @@ use Rattle.wac_parser_refusals.specs.Causes.{Answer, Cause, Fault, ◌>>=◌, ea
 use Rattle.wac_parser_refusals.specs.Views.{Names, anywhere, maybe_at}
 use Rattle.wac_parser_refusals.specs.Outcomes.{IsOutcome}
 use Rattle.wac_parser_declare.specs.Holding.{Holds}
-use Rattle.wac_parser_resolve.specs.declared.spans.Spans.{Spans}
+use Rattle.wac_parser_resolve.specs.declared.targets.Noted.{Noted}
 use Rattle.wac_parser_resolve.specs.declared.state.State.{State as Held}
 use Rattle.wac_parser_resolve.specs.declared.targets.Asked.{Asked}
 use Rattle.wac_parser_resolve.specs.declared.targets.Place.{Place}
@@ -195,8 +195,12 @@ pub record AreNotedMet (g : Graph) (given : Gives) (is ms : List (ℕ × Span)) 
   pub exports : AreExportsMet g es
 
 -- the same of what the code has noted
-abbrev pub NotedIsMet : Target → Graph → Spans → Spans → List (Name × ItemKind) → Type 0
-NotedIsMet tg g imports instances es = AreNotedMet g (gives_of tg) imports.noted.items instances.noted.items es
+abbrev pub NotedIsMet : Target → Graph → Noted → List (Name × ItemKind) → Type 0
+NotedIsMet tg g noted es = AreNotedMet g (gives_of tg) noted.imports.now.noted.items noted.instances.now.noted.items es
+
+-- the code has noted each import and each instance
+abbrev pub IsAllNoted : Graph → Noted → Type 0
+IsAllNoted g noted = AreAllNoted g noted.imports.now.noted.items noted.instances.now.noted.items
 
 -- ---- the target
 
@@ -218,8 +222,9 @@ MeetsTarget tg g imports instances spans es r =
     → IsTold (stated.target_met s p w) r
 
 -- what is noted meets the target
-abbrev pub NotedMeets : Target → Graph → Spans → Spans → Spans → List (Name × ItemKind) → Result ⊤ Refusal → Type 0
-NotedMeets tg g imports instances spans es r = MeetsTarget tg g imports.noted.items instances.noted.items spans.noted.items es r
+abbrev pub NotedMeets : Target → Graph → Noted → List (Name × ItemKind) → Result ⊤ Refusal → Type 0
+NotedMeets tg g noted es r =
+    MeetsTarget tg g noted.imports.now.noted.items noted.instances.now.noted.items noted.exports.now.noted.items es r
 
 abbrev pub IsFaultOf : PackagePath → TargetError → Refusal → Type 0
 IsFaultOf p TargetError.Memory e = e ≡ Refusal.Memory
@@ -233,9 +238,9 @@ IsTargetMet p g imports instances exports w r = (ids : List (ℕ × Span)) (name
     → IsTold (stated.target_met s (view_package_path p) (stated_of g.types (ItemKind.Component w))) r
 
 -- what is noted meets the world
-abbrev pub NotedMeetsWorld : PackagePath → Graph → Spans → Spans → Spans → WorldId → Result ⊤ Refusal → Type 0
-NotedMeetsWorld p g imports instances exports w r =
-    IsTargetMet p g imports.noted.items instances.noted.items exports.noted.items w r
+abbrev pub NotedMeetsWorld : PackagePath → Graph → Noted → WorldId → Result ⊤ Refusal → Type 0
+NotedMeetsWorld p g noted w r =
+    IsTargetMet p g noted.imports.now.noted.items noted.instances.now.noted.items noted.exports.now.noted.items w r
 
 -- ---- in a document
 
@@ -253,7 +258,8 @@ abbrev pub AreNotedAll : Held → Type 0
 AreNotedAll b = AreAllNoted b.board.types.graph b.imports.noted.items b.board.instances.noted.items
 
 abbrev pub StateMeets : PackagePath → Held → WorldId → Result ⊤ Refusal → Type 0
-StateMeets p b w r = NotedMeetsWorld p b.board.types.graph b.imports b.board.instances b.exports w r
+StateMeets p b w r =
+    IsTargetMet p b.board.types.graph b.imports.noted.items b.board.instances.noted.items b.exports.noted.items w r
 
 abbrev pub IsWorldHeld : Collection → Stated → WorldId → Type 0
 IsWorldHeld c w id = Holds c w (ItemKind.Component id)

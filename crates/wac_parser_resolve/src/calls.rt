@@ -91,10 +91,7 @@ pub(crate) fn instantiate(graph: &mut CompositionGraph, id: PackageId) -> Result
     ensures within { IsWithin graph.old graph.new }
 {
     graph.see_sound();
-    match graph.instantiate(id) {
-        Ok(node) => Ok(node),
-        Err(fault) => Err(fault),
-    }
+    graph.instantiate(id)
 }
 
 /// A refusal of an argument that a package has no import for.
@@ -157,10 +154,7 @@ pub(crate) fn import(
     ensures before { IsGraph graph.old }
 {
     graph.see_sound();
-    match graph.import(name, kind) {
-        Ok(node) => Ok(node),
-        Err(fault) => Err(fault),
-    }
+    graph.import(name, kind)
 }
 
 /// Exports a node.
@@ -177,10 +171,7 @@ pub(crate) fn export(
     ensures before { IsGraph graph.old }
 {
     graph.see_sound();
-    match graph.export(node, name) {
-        Ok(()) => Ok(()),
-        Err(fault) => Err(fault),
-    }
+    graph.export(node, name)
 }
 
 /// Defines a type.
@@ -198,10 +189,7 @@ pub(crate) fn define(
     ensures before { IsGraph graph.old }
 {
     graph.see_sound();
-    match graph.define_type(name, ty) {
-        Ok(node) => Ok(node),
-        Err(fault) => Err(fault),
-    }
+    graph.define_type(name, ty)
 }
 
 /// Gives a node a name, where it has none.
@@ -218,8 +206,5 @@ pub(crate) fn name_once(
     if graph[node].name().is_some() {
         return Ok(());
     }
-    match graph.set_node_name(node, name) {
-        Ok(()) => Ok(()),
-        Err(fault) => Err(fault),
-    }
+    graph.set_node_name(node, name)
 }

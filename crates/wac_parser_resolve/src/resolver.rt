@@ -19,7 +19,7 @@ use crate::packages::{GraphTypes, Packages};
 use crate::spans::Spans;
 use crate::state::State;
 use crate::statements::{item_at, say_statements};
-use crate::targets::target_met;
+use crate::targets::{Noted, target_met};
 use std::alloc::Global;
 use wac_graph_core::{CompositionGraph, NodeId};
 use wac_parser_lexer::SourceSpan;
@@ -181,15 +181,12 @@ fn state_met(
     ensures ok { OnOk result (AreNotedAll state.now → IsMet state.now.board.types.graph world) }
     ensures outcome { StateMeets path.now state.now world result }
 {
-    target_met(
-        alloc,
-        &state.board.types.graph,
-        &state.imports,
-        &state.board.instances,
-        &state.exports,
-        path,
-        world,
-    )
+    let noted = Noted {
+        imports: &state.imports,
+        instances: &state.board.instances,
+        exports: &state.exports,
+    };
+    target_met(alloc, &state.board.types.graph, noted, path, world)
 }
 
 /// The directive's world, which what was said so far has to meet.
@@ -358,10 +355,8 @@ pub trait ResolveDocument: Sized {
         ensures target { IfOk result (λ r. IsTarget (graph_of r) (target_of r)) }
         ensures outcome { IsResolved graph_of places_of target_of (stated self.now) «packages».now result }
     {
-        match self.say(alloc, &*packages, number) {
-            Ok(said) => Ok(with_document(self, said)),
-            Err(fault) => Err(fault),
-        }
+        let said = self.say(alloc, &*packages, number)?;
+        Ok(with_document(self, said))
     }
 }
 

@@ -10,8 +10,8 @@ ghost use Rattle.wac_graph_core.specs.Graph.{ContainsNode};
 ghost use Rattle.wac_parser_refusals.specs.Outcomes.{Refuses};
 ghost use Rattle.wac_parser_refusals.specs.Views.{Names};
 ghost use Rattle.wac_parser_resolve.specs.Giving.{gives_of};
-ghost use Rattle.wac_parser_resolve.specs.InTargets.{AreAllNoted, AreExportsTested, AreFilledTested, AreInstancesMet, AreInstancesTested, AreStatementsMet, AreStatementsTested};
-ghost use Rattle.wac_parser_resolve.specs.InTargets.{IsAnswerOf, IsExportTested, IsFaultOf, IsFilledTested, IsFitTested, IsImportTested, IsInstanceTested, IsStatementTested};
+ghost use Rattle.wac_parser_resolve.specs.InTargets.{AreExportsTested, AreFilledTested, AreInstancesMet, AreInstancesTested, AreStatementsMet, AreStatementsTested};
+ghost use Rattle.wac_parser_resolve.specs.InTargets.{IsAllNoted, IsAnswerOf, IsExportTested, IsFaultOf, IsFilledTested, IsFitTested, IsImportTested, IsInstanceTested, IsStatementTested};
 ghost use Rattle.wac_parser_resolve.specs.InTargets.{NotedIsMet, NotedMeets, NotedMeetsWorld, StandNoted, is_passed_in, lacks_export, lacks_import, mismatched_at, tells_mismatch};
 ghost use Rattle.wac_parser_resolve.specs.Targeting.{AreExportsMet, AreFilledMet, IsExportMet, IsFilledMet, IsImportMet, IsInstanceMet, IsMet, IsStatementMet};
 
@@ -33,6 +33,14 @@ struct Target<'p, 's, 'i, 't> {
     path: &'p PackagePath<'s>,
     implicit: &'i IndexMap<&'t str, ItemKind>,
     imports: &'t NamedMap<ItemKind>,
+}
+
+/// Where imports, instances and exports are named, in the order in which they were said.
+#[derive(Clone, Copy)]
+pub(crate) struct Noted<'n> {
+    pub(crate) imports: &'n Spans,
+    pub(crate) instances: &'n Spans,
+    pub(crate) exports: &'n Spans,
 }
 
 /// Something that a document imports: its name, its item, and where a statement asks it.
@@ -338,23 +346,21 @@ impl<'p, 's, 'i, 't> Target<'p, 's, 'i, 't> {
     fn met(
         &self,
         graph: &CompositionGraph,
-        imports: &Spans,
-        instances: &Spans,
-        spans: &Spans,
+        noted: Noted<'_>,
         exports: &NamedMap<ItemKind>,
     ) -> Outcome<()>
         requires given { GivesStanding graph.now.types (gives_of self.now) }
-        requires imports { StandNoted graph.now imports.now.noted.items }
-        requires instances { StandNoted graph.now instances.now.noted.items }
+        requires imports { StandNoted graph.now noted.imports.now.noted.items }
+        requires instances { StandNoted graph.now noted.instances.now.noted.items }
         requires exports { AllStand graph.now.types exports.now }
-        ensures ok { OnOk result (NotedIsMet self.now graph.now imports.now instances.now exports.now) }
-        ensures outcome { NotedMeets self.now graph.now imports.now instances.now spans.now exports.now result }
+        ensures ok { OnOk result (NotedIsMet self.now graph.now noted.entry exports.now) }
+        ensures outcome { NotedMeets self.now graph.now noted.entry exports.now result }
     {
         graph.see_sound();
         graph.types().see_acyclic();
-        self.statements_met(graph, imports)?;
-        self.instances_met(graph, instances)?;
-        self.exports_met(graph, spans, exports)
+        self.statements_met(graph, noted.imports)?;
+        self.instances_met(graph, noted.instances)?;
+        self.exports_met(graph, noted.exports, exports)
     }
 }
 
@@ -378,21 +384,18 @@ fn implicit_fault(alloc: Global, path: &PackagePath<'_>, fault: TargetError) -> 
 }
 
 /// Tests a document's graph against its target: first the imports of statements, then those of instances, then the exports.
-/// `imports`, `instances` and `exports` tell where these are named, in the order in which they were said.
 pub(crate) fn target_met(
     alloc: Global,
     graph: &CompositionGraph,
-    imports: &Spans,
-    instances: &Spans,
-    exports: &Spans,
+    noted: Noted<'_>,
     path: &PackagePath<'_>,
     world: WorldId,
 ) -> Outcome<()>
     requires world { Stands graph.now.types (ItemKind.Component world) }
-    requires imports { StandNoted graph.now imports.now.noted.items }
-    requires instances { StandNoted graph.now instances.now.noted.items }
-    ensures ok { OnOk result (AreAllNoted graph.now imports.now.noted.items instances.now.noted.items → IsMet graph.now world) }
-    ensures outcome { NotedMeetsWorld path.now graph.now imports.now instances.now exports.now world result }
+    requires imports { StandNoted graph.now noted.imports.now.noted.items }
+    requires instances { StandNoted graph.now noted.instances.now.noted.items }
+    ensures ok { OnOk result (IsAllNoted graph.now noted.entry → IsMet graph.now world) }
+    ensures outcome { NotedMeetsWorld path.now graph.now noted.entry world result }
 {
     let types = graph.types();
     let wanted = types.world(world);
@@ -405,7 +408,7 @@ pub(crate) fn target_met(
                 implicit: &implicit,
                 imports: &wanted.imports,
             };
-            target.met(graph, imports, instances, exports, &wanted.exports)
+            target.met(graph, noted, &wanted.exports)
         }
     }
 }

@@ -13,17 +13,17 @@ returns-clause-ok c =
 
 pub returns-clause-outcome : goal.returns-clause-outcome
 returns-clause-outcome c ids names s p w of asked says exported =
-    exports_told c.args.graph.now c.see_sound.ensures (subst IsAcyclic c.types.ensures c.see_acyclic.ensures) c.args.self.now c.args.exports.now s p w of c.args.imports.now.noted.items ids
-    c.args.instances.now.noted.items names c.args.spans.now.noted.items asked says exported c.exports_met.result c.in_ok-statements_met.ensures.outcome c.in_ok-instances_met.ensures.outcome c.exports_met.ensures.outcome
+    exports_told c.args.graph.now c.see_sound.ensures (subst IsAcyclic c.types.ensures c.see_acyclic.ensures) c.args.self.now c.args.exports.now s p w of c.args.noted.imports.now.noted.items ids
+    c.args.noted.instances.now.noted.items names c.args.noted.exports.now.noted.items asked says exported c.exports_met.result c.in_ok-statements_met.ensures.outcome c.in_ok-instances_met.ensures.outcome c.exports_met.ensures.outcome
 
 pub returns-in_err-instances_met-clause-outcome : goal.returns-in_err-instances_met-clause-outcome
 returns-in_err-instances_met-clause-outcome c ids names s p w of asked says exported =
     refused_outcome Passed (target_met s p w) _ _ c.from_residual-in_err-instances_met.ensures.1
-    (instances_refused c.args.graph.now c.see_sound.ensures (subst IsAcyclic c.types.ensures c.see_acyclic.ensures) c.args.self.now c.args.exports.now s p w of c.args.imports.now.noted.items ids
-    c.args.instances.now.noted.items names c.args.spans.now.noted.items asked says exported c.in_err-instances_met.field-0.0 c.in_ok-statements_met.ensures.outcome c.in_err-instances_met.ensures.outcome)
+    (instances_refused c.args.graph.now c.see_sound.ensures (subst IsAcyclic c.types.ensures c.see_acyclic.ensures) c.args.self.now c.args.exports.now s p w of c.args.noted.imports.now.noted.items ids
+    c.args.noted.instances.now.noted.items names c.args.noted.exports.now.noted.items asked says exported c.in_err-instances_met.field-0.0 c.in_ok-statements_met.ensures.outcome c.in_err-instances_met.ensures.outcome)
 
 pub returns-in_err-statements_met-clause-outcome : goal.returns-in_err-statements_met-clause-outcome
 returns-in_err-statements_met-clause-outcome c ids names s p w of asked says exported =
     refused_outcome Passed (target_met s p w) _ _ c.from_residual.ensures.1
-    (statements_refused c.args.graph.now c.see_sound.ensures (subst IsAcyclic c.types.ensures c.see_acyclic.ensures) c.args.self.now c.args.exports.now s p w of c.args.imports.now.noted.items ids
-    c.args.instances.now.noted.items names c.args.spans.now.noted.items asked says exported c.in_err-statements_met.field-0.0 c.in_err-statements_met.ensures.outcome)
+    (statements_refused c.args.graph.now c.see_sound.ensures (subst IsAcyclic c.types.ensures c.see_acyclic.ensures) c.args.self.now c.args.exports.now s p w of c.args.noted.imports.now.noted.items ids
+    c.args.noted.instances.now.noted.items names c.args.noted.exports.now.noted.items asked says exported c.in_err-statements_met.field-0.0 c.in_err-statements_met.ensures.outcome)
