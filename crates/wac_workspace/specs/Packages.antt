@@ -1,5 +1,7 @@
 -- A workspace: the next number, and the packages in the order in which they came.
 use Rattle.std.specs.Prelude.{◌≡◌, ℕ, List, [], ◌∷◌, ◌++◌, true, false, Bool}
+use Rattle.std.specs.Option.{option_copied, option_map}
+use Rattle.semver.specs.Identifiers.{parts_of}
 use Rattle.wac_types_base.specs.declared.ids.WorldId.{WorldId}
 use Rattle.wac_types_base.specs.declared.item.ItemKind.{ItemKind}
 use Rattle.wac_types_base.specs.Record.{Collection}
@@ -9,6 +11,7 @@ use Rattle.wac_types_base.specs.Stated.{stated_of}
 use Rattle.wac_types_names.specs.Keys.{Key, package_key}
 use Rattle.wac_types_names.specs.Packages.{AddsInterfaceOf, DefinitionsOf}
 use Rattle.wac_workspace.specs.declared.entries.Entry.{Entry}
+use Rattle.wac_workspace.specs.declared.entries.Parts.{Parts}
 
 pub record Held : Type 0 where
   pub next : ℕ
@@ -50,6 +53,16 @@ pub record PackageParts : Type 0 where
   pub types : Collection
   pub world : WorldId
   pub number : ℕ
+
+-- the parts as the code hands them on
+abbrev pub parts_in : Parts → PackageParts
+parts_in p = record {
+  key = (p.name.now, option_map parts_of (option_copied p.version));
+  bytes = p.bytes.items;
+  types = p.types.now;
+  world = p.world;
+  number = p.number;
+}
 
 -- The package has that key and those bytes, and in a collection of its own, under that number, a copy of the world, which states
 -- the same; its definitions and the interface of its instances are those of the copy.

@@ -1,6 +1,6 @@
 //! Adding packages to a workspace.
 
-use crate::entries::{holds_bytes, holds_handed, holds_key, make_entry, output_entry};
+use crate::entries::{Parts, holds_bytes, holds_handed, holds_key, make_entry, output_entry};
 use crate::errors::{AddPackageError, ComposeError};
 use crate::output::Output;
 use crate::workspace::Workspace;
@@ -82,9 +82,15 @@ impl Workspace {
         let Some(after) = self.next.checked_add(1) else {
             return Err(AddPackageError::NumbersExhausted);
         };
-        let entry = make_entry(
-            self.alloc, self.next, name, version, bytes, types, world, true,
-        )?;
+        let parts = Parts {
+            types,
+            world,
+            number: self.next,
+            name,
+            version,
+            bytes,
+        };
+        let entry = make_entry(parts, self.alloc, true)?;
         self.entries.push(entry)?;
         self.next = after;
         Ok(())

@@ -6,7 +6,7 @@ ghost use Rattle.std.specs.Iterator.{item_count};
 ghost use Rattle.semver.specs.Identifiers.{parts_of};
 ghost use Rattle.wac_types_base.specs.declared.item.ItemKind.{ItemKind};
 ghost use Rattle.wac_types_base.specs.Collection.{Stands};
-ghost use Rattle.wac_workspace.specs.Packages.{key_of, AreApart, IsUnder, HasKey, HasBytes, HasHanded, IsEntryMade};
+ghost use Rattle.wac_workspace.specs.Packages.{key_of, parts_in, AreApart, IsUnder, HasKey, HasBytes, HasHanded, IsEntryMade};
 ghost use Rattle.wac_workspace.specs.Resolving.{handed};
 ghost use Rattle.wac_parser_resolve.specs.Knowing.{handed_list};
 ghost use Rattle.wac_workspace.specs.View.{HasWorld};
@@ -66,28 +66,36 @@ impl Entry {
     }
 }
 
-/// An entry of these bytes, under this key, with a copy of the world in a collection of this number.
+/// What an entry is made of: its key, its bytes, a world of a collection, and the number that its own collection has.
+#[derive(Drop)]
+pub(crate) struct Parts<'p> {
+    pub(crate) types: &'p Types,
+    pub(crate) world: WorldId,
+    pub(crate) number: u64,
+    pub(crate) name: &'p str,
+    pub(crate) version: Option<&'p Version>,
+    pub(crate) bytes: Vec<u8>,
+}
+
+/// An entry of these parts, with a copy of the world.
 pub(crate) fn make_entry(
+    parts: Parts<'_>,
     alloc: Global,
-    number: u64,
-    name: &str,
-    version: Option<&Version>,
-    bytes: Vec<u8>,
-    types: &Types,
-    world: WorldId,
     is_handed: bool,
 ) -> Result<Entry, AllocError>
-    requires { Stands types.now (ItemKind.Component world) }
-    ensures made { IfOk result (IsEntryMade (record {
-      key = (name.now, option_map parts_of (option_copied version.entry));
-      bytes = bytes.items;
-      types = types.now;
-      world = world;
-      number = number;
-    })) }
+    requires { Stands parts.types.now (ItemKind.Component parts.world) }
+    ensures made { IfOk result (IsEntryMade (parts_in parts.entry)) }
     ensures origin { IfOk result (λ e. e.is_handed ≡ is_handed) }
     ensures world { IfOk result HasWorld }
 {
+    let Parts {
+        types,
+        world,
+        number,
+        name,
+        version,
+        bytes,
+    } = parts;
     let mut copy = Types::new(alloc, number);
     let mut adding = copy.adding();
     let world = copy_world(alloc, types, world, &mut adding)?;
@@ -106,21 +114,15 @@ pub(crate) fn output_entry(alloc: Global, output: &Output) -> Result<Entry, Allo
     ensures origin { IfOk result (λ e. e.is_handed ≡ false) }
     ensures world { IfOk result HasWorld }
 {
-    let name = output.name.as_str();
-    let version = output.version.as_ref();
-    let number = output.types.number();
-    let bytes = Vec::from_slice(alloc, &output.bytes)?;
-    let types = &output.types;
-    make_entry(
-        alloc,
-        number,
-        name,
-        version,
-        bytes,
-        types,
-        output.world,
-        false,
-    )
+    let parts = Parts {
+        types: &output.types,
+        world: output.world,
+        number: output.types.number(),
+        name: output.name.as_str(),
+        version: output.version.as_ref(),
+        bytes: Vec::from_slice(alloc, &output.bytes)?,
+    };
+    make_entry(parts, alloc, false)
 }
 
 /// The package of a key.
