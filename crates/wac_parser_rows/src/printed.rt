@@ -25,10 +25,8 @@ fn print_document(
     unit: &str,
 ) -> Result<Vec<u8>, PrintError> {
     let mut printer = DocumentPrinter::new(Vec::new(alloc), source, Some(unit));
-    match printer.document(document) {
-        Ok(()) => Ok(printer.into_writer()),
-        Err(fault) => Err(fault),
-    }
+    printer.document(document)?;
+    Ok(printer.into_writer())
 }
 
 impl<'s> PrintDocument for Document<'s> {
