@@ -25,8 +25,10 @@ fn print_document(
     unit: &str,
 ) -> Result<Vec<u8>, PrintError> {
     let mut printer = DocumentPrinter::new(Vec::new(alloc), source, Some(unit));
-    printer.document(document)?;
-    Ok(printer.into_writer())
+    match printer.document(document) {
+        Ok(()) => Ok(printer.into_writer()),
+        Err(fault) => Err(fault),
+    }
 }
 
 impl<'s> PrintDocument for Document<'s> {
