@@ -5,7 +5,7 @@ ghost use Rattle.wac_texts.specs.Worlds.{HasWorld};
 
 use crate::components::add_components;
 use crate::documents::PrintDocument;
-use crate::sources::{composed, put_output, put_sources};
+use crate::sources::{put_composed, put_sources};
 use crate::stop::{Stop, bad_manifest, not_parsed, plain, with_text};
 use std::alloc::Global;
 use wac_manifest::{ComposeManifest, Key, PlugManifest};
@@ -96,8 +96,15 @@ pub(crate) fn plug<F: Files, W: ByteSink>(
     let name = manifest.name.as_str();
     let source = plugging_text(alloc, &workspace, name, &manifest.plugs, &manifest.socket)?;
     let path = manifest.out.as_ref().map(|path| path.as_str());
-    let output = composed(source.as_str(), alloc, &mut workspace, true)?;
-    put_output(alloc, files, out, path, &output)
+    put_composed(
+        source.as_str(),
+        alloc,
+        &mut workspace,
+        files,
+        out,
+        path,
+        true,
+    )
 }
 
 /// The printed text of a source.

@@ -94,7 +94,7 @@ fn refused(source: &str, alloc: Global, fault: ComposeError) -> Stop {
 }
 
 /// Composes a text.
-pub(crate) fn composed(
+fn composed(
     source: &str,
     alloc: Global,
     workspace: &mut Workspace,
@@ -111,17 +111,20 @@ pub(crate) fn composed(
     }
 }
 
-/// Writes an output: to a file where there is a path.
-pub(crate) fn put_output<F: Files, W: ByteSink>(
+/// Composes a text, and writes what comes of it: to a file where there is a path.
+pub(crate) fn put_composed<F: Files, W: ByteSink>(
+    source: &str,
     alloc: Global,
+    workspace: &mut Workspace,
     files: &mut F,
     out: &mut W,
     path: Option<&str>,
-    output: &Output,
+    define: bool,
 ) -> Result<(), Stop> {
+    let output = composed(source, alloc, workspace, define)?;
     match path {
-        None => put_line(alloc, out, output),
-        Some(path) => put_file(alloc, files, out, path, output),
+        None => put_line(alloc, out, &output),
+        Some(path) => put_file(alloc, files, out, path, &output),
     }
 }
 
@@ -137,8 +140,7 @@ pub(crate) fn put_sources<F: Files, W: ByteSink>(
     for source in sources {
         let text = load_text(alloc, files, source.source)?;
         let path = source.out.as_ref().map(|path| path.as_str());
-        let output = composed(text.as_str(), alloc, workspace, define)?;
-        put_output(alloc, files, out, path, &output)?;
+        put_composed(text.as_str(), alloc, workspace, files, out, path, define)?;
     }
     Ok(())
 }
