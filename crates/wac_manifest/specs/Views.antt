@@ -51,7 +51,7 @@ plugging_view m = record {
   out = option_map string_bytes m.out;
 }
 
--- what is read, seen so, is what is said; it is refused as bad exactly where nothing is said
+-- what is read, seen so, is what is said; it is refused as bad only where nothing is said
 abbrev pub Reads : {A B : Type 0} → (A → B) → Option B → Result A ManifestError → Type 0
 Reads v o (Ok x) = o ≡ Some (v x)
 Reads v o (Err ManifestError.Bad) = o ≡ None

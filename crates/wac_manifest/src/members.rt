@@ -1,9 +1,8 @@
 //! The members of a JSON object.
 
-ghost use Rattle.std.specs.Prelude.{◌≡◌, map, option_map, string_bytes};
+ghost use Rattle.std.specs.Prelude.{◌≡◌, bytes_eq, false, map, option_map, string_bytes};
 ghost use Rattle.std.specs.List.{list_any};
 ghost use Rattle.std.specs.Option.{unwrap_or};
-ghost use Rattle.std.specs.Prelude.{bytes_eq, false};
 ghost use Rattle.serde_json.specs.Find.{get, as_array, as_bool, as_str};
 ghost use Rattle.serde_json.specs.View.{items_view, view};
 ghost use Rattle.wac_manifest.specs.Manifests.{may, must, object_of};
