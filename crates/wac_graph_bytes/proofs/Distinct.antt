@@ -2,11 +2,10 @@
 use Rattle.std.proofs.Common.{◌≡◌, Bool, true, false, List, [], ◌∷◌, refl, sym, ap, ◌∙◌, inl, inr}
 use Rattle.std.specs.Prelude.{not}
 use Rattle.std.specs.Bool.{Decides}
-use Rattle.std.proofs.lemmas.Bool.{and_from, and_parts}
+use Rattle.std.proofs.lemmas.Bool.{and_from, and_parts, not-true}
 use Rattle.std.proofs.lemmas.Slice.Eq.{bytes_eq-Decides}
 use Rattle.wac_types_base.specs.Entries.{Name, AreDistinct}
 use Rattle.wac_types_base.specs.Graph.{Among}
-use Rattle.wac_types_base.proofs.Lists.{not_true}
 use Rattle.wac_graph_bytes.specs.Typing.{same_name, same_pair, is_new, are_distinct, distinct_names}
 
 true_false : true ≡ false → ⊥
@@ -25,7 +24,7 @@ module _ {K : Type 0} (same : K → K → Bool) (decides : (a b : K) → Decides
   new_is n [] e a = a
   new_is n (m ∷ ns) e a =
       let p = and_parts (not (same n m)) (is_new same n ns) e in
-      elim a [ inl h ↦ true_false (sym ((decides n m).1 h) ∙ not_true (same n m) p.0) | inr b ↦ new_is n ns p.1 b ]
+      elim a [ inl h ↦ true_false (sym ((decides n m).1 h) ∙ not-true (same n m) p.0) | inr b ↦ new_is n ns p.1 b ]
 
   pub distinct_by : (ns : List K) → Decides (are_distinct same ns) (AreDistinct ns)
   distinct_by [] = (λ e. tt, λ d. refl)

@@ -1,15 +1,15 @@
 -- Names that are known to be there.
 use Rattle.std.proofs.Common.{◌≡◌, ◌==◌, ◌||◌, ℕ, Bool, true, false, List, [], ◌∷◌, ◌++◌, Option, Some, None, cond, refl, ap, ◌∙◌, inl, inr}
 use Rattle.std.specs.Cmp.Lexicographic.{pointwise}
+use Rattle.std.proofs.Math.Bool.{or-true}
 use Rattle.wac_types_base.specs.Entries.{Name, has_name, put_name, value_at}
-use Rattle.wac_types_base.proofs.Telling.{or_true}
 use Rattle.wac_types_fit.proofs.Items.{value_at-among, Among-last}
 use Rattle.wac_graph_core.specs.Named.{HasNames}
 use Rattle.wac_graph_core.proofs.Found.{same_name}
 
 last_there : (ns : List Name) (m : Name) → has_name (ns ++ m ∷ []) m ≡ true
 last_there [] m = ap (λ b. b || false) (same_name m)
-last_there (l ∷ ns) m = ap (λ b. pointwise ◌==◌ m l || b) (last_there ns m) ∙ or_true (pointwise ◌==◌ m l)
+last_there (l ∷ ns) m = ap (λ b. pointwise ◌==◌ m l || b) (last_there ns m) ∙ or-true (pointwise ◌==◌ m l)
 
 or_kept : (a b c : Bool) → (b ≡ true → c ≡ true) → (a || b) ≡ true → (a || c) ≡ true
 or_kept true b c k h = refl

@@ -1,11 +1,11 @@
 -- Nodes that are removed one by one, and what a removal keeps.
 use Rattle.std.proofs.Common.{◌≡◌, ◌≢◌, ℕ, ◌+◌, ◌<◌, ◌≤◌, Bool, true, false, not, ◌==◌, List, [], ◌∷◌, ◌++◌, Option, Some, None, IsSome, cond, filter, length, take, get_or, refl, sym, ap, subst, ◌∙◌, inl, inr}
 use Rattle.std.proofs.lemmas.List.{take_more, take_all}
-use Rattle.std.proofs.lemmas.Bool.{cases_eq}
+use Rattle.std.proofs.lemmas.Bool.{cases_eq, not-true}
 use Rattle.std.specs.FinMap as map
 use Rattle.wac_types_base.specs.Entries.{Name, names_of, AreDistinct}
 use Rattle.wac_types_base.specs.Graph.{Among}
-use Rattle.wac_types_base.proofs.Lists.{among_filtered, not_true}
+use Rattle.wac_types_base.proofs.Lists.{among_filtered}
 use Rattle.wac_graph_core.specs.declared.edge.Edge.{Edge}
 use Rattle.wac_graph_core.specs.declared.edge.Follow.{Follow}
 use Rattle.wac_graph_core.specs.declared.ids.PackageId.{PackageId}
@@ -84,7 +84,7 @@ AreExports-staying m xs gone is =
       distinct = distinct_in (stays_exported gone) xs is.distinct;
       stand = λ n k at.
           let f = among_filtered (stays_exported gone) xs (n, k) at in
-          subst IsSome (sym (stays_at m gone k (not_true (has gone k) f.1))) (is.stand n k f.0);
+          subst IsSome (sym (stays_at m gone k (not-true (has gone k) f.1))) (is.stand n k f.0);
       named = λ k x n at told.
           let s = stayed m gone k x at in
           passes (stays_exported gone) xs (n, k) (false_not (has gone k) s.0) (is.named k x n s.1 told);

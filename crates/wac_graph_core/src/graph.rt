@@ -64,7 +64,14 @@ impl Model for CompositionGraph {
 
     ghost Value = { Graph };
 
-    ghost coded = { code_by (Collection × (map.FinMap nat_cmp NodeData × (List Edge × (List (List ℕ × ℕ) × List Place)))) (coded× types_row.the_row.coded (coded× (map.code coded_ℕ node_row.the_row.coded) (coded× (coded_list edge_row.the_row.coded) (coded× (coded_list (coded× (coded_list coded_ℕ) coded_ℕ)) (coded_list place_row.the_row.coded))))) (λ g. (g.types, (g.nodes, (g.edges, (g.exports, g.places))))) (λ p. record { types = p.0; nodes = p.1.0; edges = p.1.1.0; exports = p.1.1.1.0; places = p.1.1.1.1 }) (λ _. refl) };
+    ghost coded = { code_by
+        (Collection × (map.FinMap nat_cmp NodeData × (List Edge × (List (List ℕ × ℕ) × List Place))))
+        (coded× types_row.the_row.coded (coded× (map.code coded_ℕ node_row.the_row.coded)
+        (coded× (coded_list edge_row.the_row.coded)
+        (coded× (coded_list (coded× (coded_list coded_ℕ) coded_ℕ)) (coded_list place_row.the_row.coded)))))
+        (λ g. (g.types, (g.nodes, (g.edges, (g.exports, g.places)))))
+        (λ p. record { types = p.0; nodes = p.1.0; edges = p.1.1.0; exports = p.1.1.1.0; places = p.1.1.1.1 })
+        (λ _. refl) };
 
     ghost use Rattle.wac_graph_core.specs.View.{graph, IsSound};
 

@@ -1,4 +1,4 @@
--- Handles of resources, and answers passed on.
+-- Handles of resources.
 use Rattle.std.proofs.Common.{◌≡◌, ℕ, List, [], ◌∷◌, take, Option, Some, None, Result, Ok, Err, refl, sym, ap, ◌∙◌, subst}
 use Rattle.std.specs.Prelude.{IfOk, slice_get}
 use Rattle.wac_types_base.specs.declared.ids.ResourceId.{ResourceId}
@@ -24,12 +24,6 @@ use Rattle.wac_graph_scopes.specs.Scopes.{IsScope, AnswersType, AnswersValue, An
 use Rattle.wac_graph_scopes.proofs.ScopeLaws.{Goes-refl}
 use Rattle.wac_graph_scopes.proofs.FormLaws.{own_reads, borrow_reads, index_reads}
 use Rattle.wac_graph_scopes.proofs.ValueLaws.{value_defined}
-
--- ---- answers
-
-pub if_ok_map : {T E : Type 0} {P Q : T → Type 0} (r : Result T E) → ((x : T) → P x → Q x) → IfOk r P → IfOk r Q
-if_ok_map (Ok x) f h = f x h
-if_ok_map (Err e) f h = tt
 
 pub take_zero : {X : Type 0} (xs : List X) → take 0 xs ≡ []
 take_zero [] = refl

@@ -3,6 +3,7 @@ use Rattle.std.proofs.Common.{◌≡◌, ℕ, zero, suc, ◌+◌, List, [], ◌�
 use Rattle.std.specs.Prelude.{String, IfOk, Result}
 use Rattle.std.specs.Global.{Global}
 use Rattle.std.proofs.lemmas.List.{length_push}
+use Rattle.std.proofs.lemmas.Result.{IfOk-weaker}
 use Rattle.wac_types_base.specs.Record.{Collection}
 use Rattle.wac_types_base.specs.Graph.{Among}
 use Rattle.wac_types_base.specs.Entries.{Name}
@@ -25,7 +26,6 @@ use Rattle.wac_graph_scopes.specs.declared.items.ItemScope.{ItemScope}
 use Rattle.wac_graph_scopes.specs.declared.used.UsedIndex.{UsedIndex}
 use Rattle.wac_graph_scopes.specs.Scopes.{Extends, AreKnown, IsScope, Exchanges, Goes}
 use Rattle.wac_graph_scopes.specs.Items.{IsItemScope, ItemsGo, ExportsItem, IsTypeItem, AreUsed, AreAround, HasType, adds_core, HasCore, count_of, with_count, HasItem, GivesItem, IsInstanceAt}
-use Rattle.wac_graph_scopes.proofs.HandleLaws.{if_ok_map}
 use Rattle.wac_graph_scopes.proofs.ScopeLaws.{Extends-refl, Extends-trans, Extends-one, type_added, scope_at}
 
 -- ---- what stands on
@@ -237,7 +237,7 @@ module _ (w : Worlds) (c : Collection) (outer : List Scope) where
       → ((m : Meaning) → declared w outer i (before (Alias (alias.Outer sort.Ty depth k)) End) ≡ Some (adds_inside sort.Ty m i) → IfOk r (HasType w c outer i m u)) → IfOk r (GivesItem w c outer i t u)
   outer_aliased i depth k t u r a adds =
       let b = bind_some (found_at (i.here ∷ outer) depth sort.Ty k) (type_tree w) a.there a.reads in
-      if_ok_map r (λ own h. record { after = adds_inside sort.Ty b.0 i; goes = h.goes; index = last_meaning i b.0 own t a.there h.index b.2 a.item }) (adds b.0 (outer_reads i depth k b.0 b.1))
+      IfOk-weaker r _ _ (λ own h. record { after = adds_inside sort.Ty b.0 i; goes = h.goes; index = last_meaning i b.0 own t a.there h.index b.2 a.item }) (adds b.0 (outer_reads i depth k b.0 b.1))
 
   export_reads : (i : Inside) (k : ℕ) (n : String Global) (m : Meaning) (t u x : Tree) → found (i.here ∷ outer) sort.Instance k ≡ Some m → item_tree w m ≡ Some t → export_named (string_bytes n) t ≡ Some u → type_in u ≡ Some x
       → declared w outer i (before (Alias (alias.Export sort.Ty k n)) End) ≡ Some (adds_inside sort.Ty (Part m sort.Ty (string_bytes n)) i)
@@ -254,4 +254,4 @@ module _ (w : Worlds) (c : Collection) (outer : List Scope) where
       let m = Part a.0 sort.Ty (string_bytes n) in
       let reads : type_tree w m ≡ Some x =
       ap (λ (o : Option Tree). o >>= export_named (string_bytes n) >>= type_in) a.2 ∙ ap (λ (o : Option Tree). o >>= type_in) named ∙ is in
-      if_ok_map r (λ own h. record { after = adds_inside sort.Ty m i; goes = h.goes; index = last_meaning i m own u x h.index reads of }) (adds m (export_reads i k n a.0 t u x a.1 a.2 named is))
+      IfOk-weaker r _ _ (λ own h. record { after = adds_inside sort.Ty m i; goes = h.goes; index = last_meaning i m own u x h.index reads of }) (adds m (export_reads i k n a.0 t u x a.1 a.2 named is))

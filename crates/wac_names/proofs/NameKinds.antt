@@ -9,10 +9,11 @@ use Rattle.std.proofs.lemmas.List.Sums.{passes_at_first, split_at_first}
 use Rattle.std.proofs.lemmas.List.{take-append-drop, append_cancel_left}
 use Rattle.std.proofs.Math.Seq.{take-append_seam}
 use Rattle.std.specs.Char.{is_ascii_lowercase, is_ascii_uppercase, is_ascii_digit}
-use Rattle.std.proofs.lemmas.Bool.{and_from, and_parts}
+use Rattle.std.proofs.lemmas.Bool.{and_from, and_parts, or_right}
 use Rattle.std.proofs.lemmas.List.{append-nil}
 use Rattle.std.proofs.lemmas.List.Folds.{list_all-append}
 use Rattle.std.proofs.lemmas.Bool.Decides.{Decides-eqb}
+use Rattle.std.proofs.lemmas.Result.{IfOk-weaker}
 use Rattle.wac_names.specs.declared.names.NameKind.{NameKind}
 use Rattle.wac_names.specs.declared.names.NameKind.TheVariants as kind
 use Rattle.wac_names.specs.ComponentNames.{lower_or_digit, upper_or_digit, lower_word, upper_word, word_test, IsWord, IsJoined, IsPair, IsBehind, IsLabel, IsInside, IsPlainName, IsPath, IsVersion, IsInterfaceName, IsDependency, IsName}
@@ -27,10 +28,6 @@ or_parts false b e = inr e
 pub or_left : (a b : Bool) → a ≡ true → (a || b) ≡ true
 or_left true b e = refl
 or_left false b e = absurd cc
-
-or_right : (a b : Bool) → b ≡ true → (a || b) ≡ true
-or_right true b e = refl
-or_right false b e = e
 
 -- ---- which bytes stand in which names
 
@@ -385,16 +382,12 @@ module _ (text : List ℕ) (lt : position_or_len (λ b. b == 64) text < length t
   pub no_version : (IsPath front → ⊥) → Decides false (IsInterfaceName text)
   no_version h = (λ e. absurd cc, λ q. elim q [ inl j ↦ absurd (no_path j) | inr j ↦ absurd (h (subst IsPath (parts_are j).0 j.left)) ])
 
-pub ok_map : {T E : Type 0} {P Q : T → Type 0} (r : Result T E) → ((x : T) → P x → Q x) → IfOk r P → IfOk r Q
-ok_map (Ok x) h p = h x p
-ok_map (Err e) h p = tt
-
 -- a path and a version
 pub with_version : {E : Type 0} (text path bytes version : List ℕ) (b : Bool) (r : Result Bool E) → (position_or_len (λ b. b == 64) text < length text) × (path ≡ before_first (λ b. b == 64) text) × (version ≡ after_first (λ b. b == 64) text)
     → bytes ≡ path → b ≡ path_test bytes → b ≡ true → IfOk r (λ b. Decides b (IsVersion version)) → IfOk r (λ b. Decides b (IsInterfaceName text))
 with_version text path bytes version b r p same test holds v =
     let at : IsPath (before_first (λ b. b == 64) text) = (path_decides (before_first (λ b. b == 64) text)).0 (ap path_test (sym (same ∙ p.1)) ∙ sym test ∙ holds) in
-    ok_map r (λ b d. version_decides text p.0 b at (subst (λ (t : List ℕ). Decides b (IsVersion t)) p.2 d)) v
+    IfOk-weaker r _ _ (λ b d. version_decides text p.0 b at (subst (λ (t : List ℕ). Decides b (IsVersion t)) p.2 d)) v
 
 pub without_path : (text path bytes version : List ℕ) (b : Bool) → (position_or_len (λ b. b == 64) text < length text) × (path ≡ before_first (λ b. b == 64) text) × (version ≡ after_first (λ b. b == 64) text)
     → bytes ≡ path → b ≡ path_test bytes → b ≡ false → Decides false (IsInterfaceName text)

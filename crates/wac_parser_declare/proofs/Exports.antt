@@ -21,8 +21,8 @@ use Rattle.wac_types_base.proofs.GraphLemmas.{value_of}
 use Rattle.wac_types_base.proofs.Made.{drop_firsts, exports_are, first_names, only_firsts, row_places}
 use Rattle.wac_types_base.proofs.Slots.{entry_at-is}
 use Rattle.wac_types_base.proofs.Telling.{stated_step, entry_from, labelled_kind}
+use Rattle.wac_types_base.proofs.Stating.{value_with}
 use Rattle.wac_parser_declare.specs.InUses.{AreExports, IsExport, stated_interface}
-use Rattle.wac_parser_declare.proofs.Kept.{value_at-with_values}
 
 -- ---- interfaces and worlds
 
@@ -200,4 +200,4 @@ module _ (c : Collection) (a : IsAcyclic c) where
 
 pub export_in : (c : Collection) (k : ItemKind) (n : Name) (found : Option (List (Name × ItemKind))) (o : Option ItemKind) → AreExports c k found → value_at (unwrap_or found []) n ≡ o → IsExport c k n o
 export_in c k n found o are is =
-    sym (ap (λ es. value_at es n) are ∙ value_at-with_values (stated_of c) (unwrap_or found []) n ∙ ap (option_map (stated_of c)) is)
+    sym (ap (λ es. value_at es n) are ∙ value_with (stated_of c) (unwrap_or found []) n ∙ ap (option_map (stated_of c)) is)

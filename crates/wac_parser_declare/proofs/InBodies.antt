@@ -14,7 +14,7 @@ use Rattle.wac_types_base.specs.Collection.{Grows, IsAcyclic, Stands, item_node}
 use Rattle.wac_types_base.specs.Entries.{Name, with_values, value_at}
 use Rattle.wac_types_base.specs.Stated.{Stated, Used, borrow, leaf, own, stated_of, stated_use}
 use Rattle.wac_types_base.proofs.Telling.{stated_step}
-use Rattle.wac_types_base.proofs.Stating.{stated_kept}
+use Rattle.wac_types_base.proofs.Stating.{stated_kept, value_with}
 use Rattle.wac_parser_tree.specs.Trees as t
 use Rattle.wac_parser_tree.specs.Trees.{Span}
 use Rattle.wac_parser_refusals.specs.declared.refusal.Refusal.{Refusal}
@@ -29,7 +29,7 @@ use Rattle.wac_parser_declare.specs.Held.{BodyStands, stated_body}
 use Rattle.wac_parser_declare.specs.Holding.{AddsNew, ItemsStand, UsesStand, meant_by, scope_of, self_params, stated_if}
 use Rattle.wac_parser_declare.specs.InBodies.{is_method, receiver_of}
 use Rattle.wac_parser_declare.specs.Scope.{Meant, Scope, bind, has, taken}
-use Rattle.wac_parser_declare.proofs.Kept.{labelled_holds, scope-kept, value_at-with_values, with_values-more, with_values-same}
+use Rattle.wac_parser_declare.proofs.Kept.{labelled_holds, scope-kept, with_values-more, with_values-same}
 use Rattle.wac_parser_declare.proofs.Members.{has-with_values}
 use Rattle.wac_parser_lexer.proofs.SymbolLaws.{neither}
 
@@ -46,7 +46,7 @@ module _ {A : Type 0} (b : Bool) (f : Fault) (s : Span) (q : Answer A) where
 
 module _ (c : Collection) (bs : List (Name × Binding)) (i : t.Ident) where
   meant_at : (o : Option Binding) → value_at bs i.string ≡ o → value_at (scope_of c bs) i.string ≡ option_map (meant_by c) o
-  meant_at o at = value_at-with_values (meant_by c) bs i.string ∙ ap (option_map (meant_by c)) at
+  meant_at o at = value_with (meant_by c) bs i.string ∙ ap (option_map (meant_by c)) at
 
   pub bound_refused : (x : Stated) (b : Binding) (e : Refusal) → value_at bs i.string ≡ Some b → Refuses e (DuplicateName i.string b.span) i.span → IsRefusal (bind (scope_of c bs) i x) e
   bound_refused x b e at r = subst (λ (o : Option Meant). IsRefusal (taken o i >> Ok (scope_of c bs ++ (i.string, record { item = x; span = i.span }) ∷ [])) e) (sym (meant_at (Some b) at)) r

@@ -9,6 +9,7 @@ use Rattle.wac_types_base.specs.Record.{Collection}
 use Rattle.wac_types_base.specs.Entries.{Name, value_at, with_values}
 use Rattle.wac_types_base.specs.Stated.{Stated, exports_of, imports_of, stated_of}
 use Rattle.wac_types_base.proofs.Standing.{is_some-option_map}
+use Rattle.wac_types_base.proofs.Stating.{value_with}
 use Rattle.wac_parser_tree.specs.Trees as t
 use Rattle.wac_parser_tree.specs.Trees.{Span}
 use Rattle.wac_parser_tree.specs.Accessors.{world_ref_name}
@@ -24,14 +25,14 @@ use Rattle.wac_parser_declare.specs.InIncludes.{AreNow, HasExports, HasImports, 
 use Rattle.wac_parser_declare.specs.Scope.{Path, has, path_text, world_path}
 use Rattle.wac_parser_declare.specs.Worlds.{has_colon, include_at, include_items, include_one, is_empty, left_for_exports, or_itself, renaming, unmet}
 use Rattle.wac_parser_declare.proofs.InBodies.{absent_outcome, there_refused}
-use Rattle.wac_parser_declare.proofs.Kept.{value_at-with_values, with_values-more}
+use Rattle.wac_parser_declare.proofs.Kept.{with_values-more}
 
 module _ (c : Collection) where
   abbrev at_now : List (Name × ItemKind) → Items
   at_now es = with_values (stated_of c) es
 
   pub has_now : (es : List (Name × ItemKind)) (n : Name) → has (at_now es) n ≡ is_some (value_at es n)
-  has_now es n = ap is_some (value_at-with_values (stated_of c) es n) ∙ is_some-option_map (stated_of c) (value_at es n)
+  has_now es n = ap is_some (value_with (stated_of c) es n) ∙ is_some-option_map (stated_of c) (value_at es n)
 
   -- ---- one item
 

@@ -142,14 +142,6 @@ module _ {V T : Type 0} where
   with_values-more f [] n v = refl
   with_values-more f (e ∷ es) n v = ap (λ xs. (e.0, f e.1) ∷ xs) (with_values-more f es n v)
 
-  value_by : (f : V → T) (b : Bool) (v : V) (o : Option V) → (if b then Some (f v) else option_map f o) ≡ option_map f (if b then Some v else o)
-  value_by f true v o = refl
-  value_by f false v o = refl
-
-  pub value_at-with_values : (f : V → T) (es : List (Name × V)) (n : Name) → value_at (with_values f es) n ≡ option_map f (value_at es n)
-  value_at-with_values f [] n = refl
-  value_at-with_values f (e ∷ es) n = ap (λ o. if pointwise ◌==◌ n e.0 then Some (f e.1) else o) (value_at-with_values f es n) ∙ value_by f (pointwise ◌==◌ n e.0) e.1 (value_at es n)
-
   -- one more entry, while the collection grew
   pub AreEntries-more : (P Q : V → Type 0) (f g : V → T) → ((v : V) → P v → Q v) → ((v : V) → P v → g v ≡ f v) → (ts : List (Name × T)) (es : List (Name × V)) (n : Name) (t : T) (v : V)
       → AreEntries P f ts es → Q v → g v ≡ t → AreEntries Q g (ts ++ (n, t) ∷ []) (es ++ (n, v) ∷ [])

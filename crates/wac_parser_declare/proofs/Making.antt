@@ -14,6 +14,7 @@ use Rattle.wac_types_base.specs.Entries.{Name, names_of, value_at, with_values}
 use Rattle.wac_types_base.specs.Stated.{Stated, desc, filled, kind_of, names, names_used, over, stated_of, used_places, stated_use}
 use Rattle.wac_types_base.proofs.Slots.{stands_typed_func, stands_typed_interface}
 use Rattle.wac_types_base.proofs.Telling.{item_kind, kind_stated, untyped_stated}
+use Rattle.wac_types_base.proofs.Stating.{value_with}
 use Rattle.wac_parser_tree.specs.Trees as t
 use Rattle.wac_parser_tree.specs.Trees.{Span}
 use Rattle.wac_parser_refusals.specs.declared.refusal.Refusal.{Refusal}
@@ -29,7 +30,7 @@ use Rattle.wac_parser_declare.specs.Scope.{Meant, meant}
 use Rattle.wac_parser_declare.specs.Worlds.{extern_by}
 use Rattle.wac_parser_declare.specs.Bodies as stated
 use Rattle.wac_parser_declare.proofs.InBodies.{body-kept}
-use Rattle.wac_parser_declare.proofs.Kept.{entry_holds, value_at-with_values}
+use Rattle.wac_parser_declare.proofs.Kept.{entry_holds}
 
 -- ---- what is made of a body
 
@@ -151,13 +152,13 @@ module _ (c : Collection) (names root : List (Name × Binding)) (i : t.Ident) wh
   pub meant_in_body : (b : Binding) → value_at names i.string ≡ Some b → IsHeld (λ m d. meant_by c d ≡ m) (meant (scope_of c names ++ scope_of c root) i) b
   meant_in_body b is =
       subst (λ (o : Option Meant). IsHeld (λ m d. meant_by c d ≡ m) (present o (UndefinedName i.string) i.span) b)
-      (sym (in_front (scope_of c names) (scope_of c root) i.string (meant_by c b) (value_at-with_values (meant_by c) names i.string ∙ ap (option_map (meant_by c)) is))) refl
+      (sym (in_front (scope_of c names) (scope_of c root) i.string (meant_by c b) (value_with (meant_by c) names i.string ∙ ap (option_map (meant_by c)) is))) refl
 
   pub meant_at_root : (r : Result Binding Refusal) → value_at names i.string ≡ None → IsOutcome (λ b d. d ≡ b) (present (value_at root i.string) (UndefinedName i.string) i.span) r
       → IsOutcome (λ m d. meant_by c d ≡ m) (meant (scope_of c names ++ scope_of c root) i) r
   meant_at_root r none o =
       subst (λ (p : Option Meant). IsOutcome (λ m d. meant_by c d ≡ m) (present p (UndefinedName i.string) i.span) r)
-      (sym (behind (scope_of c names) (scope_of c root) i.string (value_at-with_values (meant_by c) names i.string ∙ ap (option_map (meant_by c)) none) ∙ value_at-with_values (meant_by c) root i.string))
+      (sym (behind (scope_of c names) (scope_of c root) i.string (value_with (meant_by c) names i.string ∙ ap (option_map (meant_by c)) none) ∙ value_with (meant_by c) root i.string))
       (by (value_at root i.string) r o)
     where
       by : (p : Option Binding) (r : Result Binding Refusal) → IsOutcome (λ b d. d ≡ b) (present p (UndefinedName i.string) i.span) r → IsOutcome (λ m d. meant_by c d ≡ m) (present (option_map (meant_by c) p) (UndefinedName i.string) i.span) r

@@ -24,14 +24,14 @@ use Rattle.wac_parser_declare.specs.Declarations.{add_member, member, no_borrow,
 use Rattle.wac_parser_refusals.specs.Outcomes.{IsHeld, IsRefusal, Refuses, Tells}
 use Rattle.wac_parser_declare.specs.Holding.{AddsNew, IsValue, IsValueIf, IsFunc, NamesStand, AreEntries, EachStands, ValueStands, AreNamedValues, AreCases, scope_of, self_params, stated_value, stated_if}
 use Rattle.wac_parser_refusals.proofs.Outcomes.{then_refused, after_refused}
-use Rattle.wac_parser_declare.proofs.Kept.{entry_holds, children, both_stand, named_values_stand, option_stands, option_places, IsValueIf-kept, StandsIf-kept, scope-kept, stated_if-kept, AreEntries-kept, EachStands-more, with_values-more, value_at-with_values}
+use Rattle.wac_parser_declare.proofs.Kept.{entry_holds, children, both_stand, named_values_stand, option_stands, option_places, IsValueIf-kept, StandsIf-kept, scope-kept, stated_if-kept, AreEntries-kept, EachStands-more, with_values-more}
 use Rattle.wac_types_base.proofs.Standing.{is_some-option_map}
-use Rattle.wac_types_base.proofs.Stating.{stated_kept}
+use Rattle.wac_types_base.proofs.Stating.{stated_kept, value_with}
 
 -- ---- names
 
 pub has-with_values : {V T : Type 0} (f : V → T) (es : List (Name × V)) (n : Name) → has (with_values f es) n ≡ is_some (value_at es n)
-has-with_values f es n = ap is_some (value_at-with_values f es n) ∙ is_some-option_map f (value_at es n)
+has-with_values f es n = ap is_some (value_with f es n) ∙ is_some-option_map f (value_at es n)
 
 -- ---- one more member
 

@@ -12,6 +12,7 @@ use Rattle.wac_types_base.specs.Entries.{Name, value_at}
 use Rattle.wac_types_base.specs.Stated.{Stated, stated_of, kind_of, desc}
 use Rattle.wac_types_base.proofs.Telling.{item_kind, kind_stated, untyped_stated, primitive_node}
 use Rattle.wac_types_base.proofs.Slots.{stands_typed_value}
+use Rattle.wac_types_base.proofs.Stating.{value_with}
 use Rattle.wac_parser_tree.specs.Trees as t
 use Rattle.wac_parser_tree.specs.Trees.{Span}
 use Rattle.wac_parser_refusals.specs.declared.refusal.Refusal.{Refusal}
@@ -21,7 +22,7 @@ use Rattle.wac_parser_declare.specs.Scope.{Meant, Scope, named}
 use Rattle.wac_parser_declare.specs.ValueTypes.{maybe_value, value_by, borrow_by, of_one, of_maybe, of_two, of_all, some_of, primitive}
 use Rattle.wac_parser_refusals.specs.Outcomes.{IsHeld, IsRefusal, IsOutcome, Refuses}
 use Rattle.wac_parser_declare.specs.Holding.{IsValue, IsValueIf, AreValues, NamesStand, BindingStands, stated_if, meant_by, scope_of}
-use Rattle.wac_parser_declare.proofs.Kept.{entry_holds, labelled_holds, children, values_stand, option_places, value_places, Holds-kept, IsValueIf-kept, AreValues-kept, found_stands, value_at-with_values}
+use Rattle.wac_parser_declare.proofs.Kept.{entry_holds, labelled_holds, children, values_stand, option_places, value_places, Holds-kept, IsValueIf-kept, AreValues-kept, found_stands}
 use Rattle.wac_parser_refusals.proofs.Outcomes.{memory_refusal}
 
 -- ---- names
@@ -40,7 +41,7 @@ meant_in c o f s = present (option_map (meant_by c) o) f s >>= λ m. Ok m.item
 pub named_found : (c : Collection) (bs : List (Name × Binding)) (i : t.Ident) (b : Binding) → IsHeld (λ x y. y ≡ x) (sought bs i) b → named (scope_of c bs) i ≡ Ok (stated_of c b.kind)
 unfolding meant_in
 named_found c bs i b h =
-    ap (λ o. present o (UndefinedName i.string) i.span >>= λ m. Ok m.item) (value_at-with_values (meant_by c) bs i.string)
+    ap (λ o. present o (UndefinedName i.string) i.span >>= λ m. Ok m.item) (value_with (meant_by c) bs i.string)
     ∙ ap (λ o. meant_in c o (UndefinedName i.string) i.span) (is_found (value_at bs i.string) (UndefinedName i.string) i.span b h)
 
 refused_in : (c : Collection) (o : Option Binding) (f : Fault) (s : Span) (e : Refusal) → IsRefusal (present o f s) e → IsRefusal (meant_in c o f s) e
@@ -51,7 +52,7 @@ refused_in c (Some b) f s e h = h
 pub named_refused : (c : Collection) (bs : List (Name × Binding)) (i : t.Ident) (e : Refusal) → IsRefusal (sought bs i) e → IsRefusal (named (scope_of c bs) i) e
 unfolding meant_in
 named_refused c bs i e h =
-    subst (λ (o : Option Meant). IsRefusal (present o (UndefinedName i.string) i.span >>= λ m. Ok m.item) e) (sym (value_at-with_values (meant_by c) bs i.string))
+    subst (λ (o : Option Meant). IsRefusal (present o (UndefinedName i.string) i.span >>= λ m. Ok m.item) e) (sym (value_with (meant_by c) bs i.string))
     (refused_in c (value_at bs i.string) (UndefinedName i.string) i.span e h)
 
 pub binding_stands : (c : Collection) (bs : List (Name × Binding)) (i : t.Ident) (b : Binding) → NamesStand c bs → IsHeld (λ x y. y ≡ x) (sought bs i) b → Stands c b.kind

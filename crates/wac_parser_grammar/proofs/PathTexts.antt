@@ -5,12 +5,10 @@ use Rattle.std.proofs.lemmas.List.{append-nil, get_or_append_left}
 use Rattle.std.proofs.lemmas.List.Sums.{position_or_len_is}
 use Rattle.std.proofs.Math.Seq.{take-append_seam, drop-append-add, get_or-append_seam}
 use Rattle.std.specs.List.{position_or_len}
+use Rattle.wac_parser_lexer.proofs.FirstLaws.{apart}
 use Rattle.wac_parser_lexer.specs.Words.{IsNames, IsPath, IsPackageName, IsPackagePath}
 use Rattle.wac_parser_lexer.proofs.WordLaws.{Lacks, ident_lacks_at, ident_lacks_slash, names_lacks, path_lacks_at}
 use Rattle.wac_parser_grammar.specs.Names.{before, behind_first}
-
-apart : (a b : ℕ) → a ≢ b → eqb a b ≡ false
-apart a b h = grind (arith, nat_tests)
 
 under : (a b : ℕ) → a < b → ltb a b ≡ true
 under a b h = grind (arith, nat_tests)

@@ -1,6 +1,7 @@
 -- What has a plain form is taken by the rule, where what follows can't go on with it.
 use Rattle.std.proofs.Common.{◌≡◌, ℕ, zero, suc, ◌≤◌, inl, inr, true, false, List, [], ◌∷◌, Option, Some, None, Result, refl, ap, subst, sym, ◌∙◌, arith}
 use Rattle.std.proofs.Math.Nat.{le-max_left, le-max_right}
+use Rattle.std.proofs.lemmas.Bool.{false_from_ne_true}
 use Rattle.semver.specs.declared.error.Error.{Error}
 use Rattle.wac_parser_lexer.specs.declared.span.SourceSpan.{SourceSpan}
 use Rattle.wac_parser_lexer.specs.declared.token.Token.{Token}
@@ -17,7 +18,6 @@ use Rattle.wac_parser_grammar.specs.FormDepths.{levels, levels_of, levels_in, En
 use Rattle.wac_parser_grammar.proofs.Exact.{Begins, found_same}
 use Rattle.wac_parser_grammar.proofs.TypeLaws.{ty_begins}
 use Rattle.wac_parser_grammar.proofs.TableLaws.{apart}
-use Rattle.wac_parser_lexer.proofs.FindLaws.{not_true}
 
 -- ---- the next token
 
@@ -174,7 +174,7 @@ borrow_back id span s r h =
 
 module _ (depth : ℕ) (inner : Rule t.Ty) (back : (s : Input) (x : t.Ty) (r : Input) → levels x ≤ depth → Ty x s r → Ends k.OpenAngle r → inner.Is x s r) (begins : Begins v.type_first inner) where
   no_token : (l : Token) (s : Input) (x : t.Ty) (r : Input) → is_any v.type_first (Some l) ≡ false → inner.Is x s r → sees l s ≡ false
-  no_token l s x r e is = not_true (sees l s) (λ f. apart l v.type_first s e f (begins.begins s x r is))
+  no_token l s x r e is = false_from_ne_true (sees l s) (λ f. apart l v.type_first s e f (begins.begins s x r is))
 
   further_back : (ts : t.Tys) (m r e : Input) (span : t.Span) → levels_of ts ≤ depth → FurtherTys ts m r → At k.CloseAngle span r e
       → (a : Input) × (behind k.CloseAngle true).Is tt m a × IsListOf inner.Is k.CloseAngle true (untys ts) a r

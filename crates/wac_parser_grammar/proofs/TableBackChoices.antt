@@ -1,5 +1,6 @@
 -- Choices by the next token, and parts in braces, for what has a plain form.
 use Rattle.std.proofs.Common.{◌≡◌, inl, inr, Bool, true, false, List, [], ◌∷◌, Option, Some, None, refl, subst, cond}
+use Rattle.std.proofs.lemmas.Bool.{false_from_ne_true}
 use Rattle.wac_parser_lexer.specs.declared.token.Token.{Token}
 use Rattle.wac_parser_lexer.specs.declared.token.Token.TheVariants as k
 use Rattle.wac_parser_lexer.specs.Items.{Input}
@@ -15,7 +16,6 @@ use Rattle.wac_parser_grammar.proofs.TableLaws.{apart}
 use Rattle.wac_parser_grammar.proofs.TableBack.{sees_at, any_at, ends_at, optional_here, optional_past}
 use Rattle.wac_parser_grammar.proofs.TableBackFuncs.{list_taken}
 use Rattle.wac_parser_grammar.proofs.TableBackResources.{row_taken}
-use Rattle.wac_parser_lexer.proofs.FindLaws.{not_true}
 
 -- ---- choices
 
@@ -30,7 +30,7 @@ only k s h = one (is_token k (next_token s)) h
 
 -- where one of some tokens comes next, none other does
 pub other : (k : Token) (ks : List Token) (s : Input) → is_any ks (Some k) ≡ false → sees_any ks s ≡ true → sees k s ≡ false
-other k ks s h begun = not_true (sees k s) (λ f. apart k ks s h f begun)
+other k ks s h begun = false_from_ne_true (sees k s) (λ f. apart k ks s h f begun)
 
 neither : (b c : Bool) → b ≡ false → c ≡ false → cond b true (cond c true false) ≡ false
 neither false false g h = refl

@@ -1,5 +1,6 @@
 -- What has the plain form of a declaration of a type is taken by the rule.
 use Rattle.std.proofs.Common.{◌≡◌, ◌⊎◌, inl, inr, Bool, true, false, List, [], ◌∷◌, Option, Some, None, refl, subst, sym, cond}
+use Rattle.std.proofs.lemmas.Bool.{false_from_ne_true}
 use Rattle.wac_parser_lexer.specs.declared.token.Token.TheVariants as k
 use Rattle.wac_parser_lexer.specs.Items.{Input}
 use Rattle.wac_parser_tree.specs.Trees as t
@@ -19,7 +20,6 @@ use Rattle.wac_parser_grammar.proofs.DeclLaws.{variant_case_begins, field_begins
 use Rattle.wac_parser_grammar.proofs.TableLaws.{apart}
 use Rattle.wac_parser_grammar.proofs.TableBack.{sees_at, any_at, ends_at, optional_here, optional_past, ident_back, value_type_back}
 use Rattle.wac_parser_grammar.proofs.TableBackFuncs.{list_taken, named_type_back, func_type_back, func_begun}
-use Rattle.wac_parser_lexer.proofs.FindLaws.{not_true}
 
 module _ {X : Type 0} (p : Rule X) (F : X → Part) (Fits : X → Type 0) (Stops : Input → Type 0)
     (back : (s : Input) (x : X) (r : Input) → Fits x → F x s r → Stops r → p.Is x s r) (begins : Begins (k.Ident ∷ []) p)
@@ -113,7 +113,7 @@ type_alias_kind_back s (t.TypeAliasKind.func x) r fits h e =
 type_alias_kind_back s (t.TypeAliasKind.ty ty) r fits h e =
     let is = value_type_back s ty r fits h e.0 in
     let begun = value_type_begins.begins s ty r is in
-    (false, s, (sym (not_true (sees_any v.func_first s) (no_func s begun)), refl), inr (refl, (true, s, (sym begun, refl), inl (refl, (ty, r, is, (refl, refl))))))
+    (false, s, (sym (false_from_ne_true (sees_any v.func_first s) (no_func s begun)), refl), inr (refl, (true, s, (sym begun, refl), inl (refl, (ty, r, is, (refl, refl))))))
 
 pub type_alias_back : (s : Input) (x : t.TypeAlias) (r : Input) → KindFits x.kind → TypeAlias x s r → d.type_alias.Is x s r
 unfolding d.type_alias n.docs same_token

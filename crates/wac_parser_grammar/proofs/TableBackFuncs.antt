@@ -1,5 +1,6 @@
 -- What has the plain form of a type of a function is taken by the rule.
 use Rattle.std.proofs.Common.{◌≡◌, inl, inr, Bool, true, false, List, [], ◌∷◌, Some, refl, ap, subst, sym, ◌∙◌}
+use Rattle.std.proofs.lemmas.Bool.{false_from_ne_true}
 use Rattle.wac_parser_lexer.specs.declared.token.Token.{Token}
 use Rattle.wac_parser_lexer.specs.declared.token.Token.TheVariants as k
 use Rattle.wac_parser_lexer.specs.Items.{Input}
@@ -13,7 +14,6 @@ use Rattle.wac_parser_grammar.proofs.Exact.{Begins}
 use Rattle.wac_parser_grammar.proofs.TypeLaws.{value_type_begins, named_type_begins}
 use Rattle.wac_parser_grammar.proofs.TableLaws.{apart}
 use Rattle.wac_parser_grammar.proofs.TableBack.{seen, any_at, ends_at, optional_here, optional_past, behind_end, behind_comma, ident_back, value_type_back}
-use Rattle.wac_parser_lexer.proofs.FindLaws.{not_true}
 
 -- ---- lists
 
@@ -36,7 +36,7 @@ module _ {X : Type 0} (p : Rule X) (F : X → Part) (Fits : X → Type 0) (Stops
       let rest = further_taken xs h.2.0 r e span fits.1 h.2.2 at in (
         h.0,
         behind_comma until h.1.0 m h.0 apart_comma h.1.1,
-        (not_true (sees until h.0) (λ f. apart until first h.0 apart_end f (begins.begins h.0 x h.2.0 is)), h.2.0, is, rest.0, rest.1, rest.2),
+        (false_from_ne_true (sees until h.0) (λ f. apart until first h.0 apart_end f (begins.begins h.0 x h.2.0 is)), h.2.0, is, rest.0, rest.1, rest.2),
       )
 
   pub list_taken : (xs : List X) (s r e : Input) (span : t.Span) → AllFit Fits xs → Separated F xs s r → At until span r e → IsListOf p.Is until true xs s r
@@ -44,7 +44,7 @@ module _ {X : Type 0} (p : Rule X) (F : X → Part) (Fits : X → Type 0) (Stops
   list_taken (x ∷ xs) s r e span fits h at =
       let is = back s x h.0 fits.0 h.1 (further_stops xs h.0 r e span h.2 at) in
       let rest = further_taken xs h.0 r e span fits.1 h.2 at in
-      (not_true (sees until s) (λ f. apart until first s apart_end f (begins.begins s x h.0 is)), h.0, is, rest.0, rest.1, rest.2)
+      (false_from_ne_true (sees until s) (λ f. apart until first s apart_end f (begins.begins s x h.0 is)), h.0, is, rest.0, rest.1, rest.2)
 
 -- ---- functions
 

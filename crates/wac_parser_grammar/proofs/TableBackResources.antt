@@ -1,5 +1,6 @@
 -- What has the plain form of a resource is taken by the rule.
 use Rattle.std.proofs.Common.{◌≡◌, inl, inr, Bool, true, false, List, [], ◌∷◌, Some, refl, ap, subst, sym, ◌∙◌}
+use Rattle.std.proofs.lemmas.Bool.{false_from_ne_true}
 use Rattle.wac_parser_lexer.specs.declared.token.Token.{Token}
 use Rattle.wac_parser_lexer.specs.declared.token.Token.TheVariants as k
 use Rattle.wac_parser_lexer.specs.Items.{Input}
@@ -17,7 +18,6 @@ use Rattle.wac_parser_grammar.proofs.DeclLaws.{resource_method_begins}
 use Rattle.wac_parser_grammar.proofs.TableLaws.{apart}
 use Rattle.wac_parser_grammar.proofs.TableBack.{seen, sees_at, any_at, ends_at, ident_back}
 use Rattle.wac_parser_grammar.proofs.TableBackFuncs.{params_back, func_type_back, func_begun}
-use Rattle.wac_parser_lexer.proofs.FindLaws.{not_true}
 
 none_by : (b : Bool) (m : Input) → (choose b (pure tt) (choose false comma (pure tt))).Is tt m m
 none_by true m = inl (refl, (refl, refl))
@@ -33,7 +33,7 @@ module _ {X : Type 0} (p : Rule X) (F : X → Part) (Fits : X → Type 0) (first
   row_taken [] s r e span fits h at = let P : Input → Type 0 = λ (i : Input). sees until i ≡ true in (subst P h (seen until span r e at), h)
   row_taken (x ∷ xs) s r e span fits h at =
       let is = back s x h.0 fits.0 h.1 in
-      (not_true (sees until s) (λ f. apart until first s apart_end f (begins.begins s x h.0 is)), h.0, is, h.0, behind_none until h.0, row_taken xs h.0 r e span fits.1 h.2 at)
+      (false_from_ne_true (sees until s) (λ f. apart until first s apart_end f (begins.begins s x h.0 is)), h.0, is, h.0, behind_none until h.0, row_taken xs h.0 r e span fits.1 h.2 at)
 
 pub constructor_back : (s : Input) (x : t.Constructor) (r : Input) → AllFit NamedFits x.params → Constructor x s r → d.constructor.Is x s r
 unfolding d.constructor n.docs
@@ -45,7 +45,7 @@ unfolding d.static_mark same_token
 static_back true x s m r h f = (true, s, (sym (seen k.StaticKeyword h.0 s m h.1), refl), inl (refl, (h.0, m, h.1, (refl, refl))))
 static_back false x s m r h f =
     let begun = func_begun x.is_async m f.0 f.2.0 f.2.1.0 f.1 f.2.1.1 in
-    let unseen = not_true (sees k.StaticKeyword m) (λ g. apart k.StaticKeyword v.func_first m refl g begun) in
+    let unseen = false_from_ne_true (sees k.StaticKeyword m) (λ g. apart k.StaticKeyword v.func_first m refl g begun) in
     (false, s, (sym (ap (sees k.StaticKeyword) (sym h) ∙ unseen), refl), inr (refl, (refl, h)))
 
 pub method_back : (s : Input) (x : t.Method) (r : Input) → FuncFits x.ty → Method x s r → d.method.Is x s r

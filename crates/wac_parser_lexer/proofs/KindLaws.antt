@@ -1,12 +1,13 @@
 -- The kind of the longest token at a place is only one.
 use Rattle.std.proofs.Common.{◌≡◌, ◌≢◌, ℕ, zero, suc, ◌≤◌, ◌⊎◌, inl, inr, Bool, true, false, ◌&&◌, ◌||◌, not, cond, eqb, List, [], ◌∷◌, ◌++◌, length, take, get_or, Option, Some, None, refl, ap, sym, subst, ◌∙◌, arith, eq-eqb}
-use Rattle.std.proofs.lemmas.Bool.{and_parts}
+use Rattle.std.proofs.lemmas.Bool.{and_parts, or_right}
 use Rattle.std.proofs.lemmas.Option.{same_Some}
 use Rattle.std.proofs.Math.Seq.{take-append_seam}
 use Rattle.std.specs.List.{list_all}
 use Rattle.std.specs.Str.{bytes_eq}
 use Rattle.std.proofs.lemmas.Slice.Eq.{bytes_eq-Decides}
 use Rattle.std.proofs.lemmas.Bool.Decides.{nat_tests}
+use Rattle.wac_parser_lexer.proofs.FirstLaws.{apart}
 use Rattle.wac_parser_lexer.specs.declared.token.Token.{Token}
 use Rattle.wac_parser_lexer.specs.declared.token.Token.TheVariants as k
 use Rattle.wac_parser_lexer.specs.Words.{is_lower, is_upper, is_digit, is_version_byte, IsRun, IsWord, Joined, one, more, Followed, Suffixed, IsLabel, IsIdent, IsNames, IsPath, IsVersion, IsPackageName, IsPackagePath, IsString, IsLineComment, IsBlockComment}
@@ -34,13 +35,9 @@ marked b c = cond (eqb b 34) (Some k.String) (cond (eqb b 47) (cond (eqb c 47) (
 class_of : List ℕ → Option Token
 class_of w = cond (is_first (get_or w 0 0)) (Some (named w)) (marked (get_or w 0 0) (get_or w 1 0))
 
-or_true : (a b : Bool) → b ≡ true → (a || b) ≡ true
-or_true true b h = refl
-or_true false b h = h
-
 has_by : (x b : ℕ) (v w : List ℕ) → (has x v ≡ true → has x (v ++ w) ≡ true) → (eqb b x || has x v) ≡ true → (t : Bool) → eqb b x ≡ t → (eqb b x || has x (v ++ w)) ≡ true
 has_by x b v w goes h true e = rw e refl
-has_by x b v w goes h false e = let k : has x v ≡ true = rw e at h in or_true (eqb b x) (has x (v ++ w)) (goes k)
+has_by x b v w goes h false e = let k : has x v ≡ true = rw e at h in or_right (eqb b x) (has x (v ++ w)) (goes k)
 
 has_append : (x : ℕ) (v w : List ℕ) → has x v ≡ true → has x (v ++ w) ≡ true
 unfolding has
@@ -50,7 +47,7 @@ has_append x (b ∷ v) w h = has_by x b v w (has_append x v w) h (eqb b x) refl
 has_at : (x : ℕ) (v w : List ℕ) → has x (v ++ x ∷ w) ≡ true
 unfolding has
 has_at x [] w = rw (eq-eqb x x refl) refl
-has_at x (b ∷ v) w = or_true (eqb b x) (has x (v ++ x ∷ w)) (has_at x v w)
+has_at x (b ∷ v) w = or_right (eqb b x) (has x (v ++ x ∷ w)) (has_at x v w)
 
 lacks_has : (x : ℕ) (w : List ℕ) → Lacks x w → has x w ≡ false
 unfolding has
@@ -59,9 +56,6 @@ lacks_has x (b ∷ w) h =
     let first : b ≢ x = h zero (omega arith) in
     let test : eqb b x ≡ false = apart b x first in
     rw test (lacks_has x w (λ i l. h (suc i) (omega arith)))
-  where
-    apart : (a b : ℕ) → a ≢ b → eqb a b ≡ false
-    apart a b h = grind (arith, nat_tests)
 
 -- ---- the first byte
 

@@ -1,6 +1,6 @@
 -- What is skipped begins with a blank or a slash, and a blank is no doc comment.
 use Rattle.std.proofs.Common.{◌≡◌, ◌≢◌, ℕ, ◌+◌, ◌<◌, inl, inr, Bool, true, false, not, eqb, List, [], ◌∷◌, ◌++◌, length, take, drop, get_or, Option, Some, None, is_some, Result, refl, ap, sym, ◌∙◌, arith, length-drop, get_or-drop}
-use Rattle.std.proofs.lemmas.Bool.{and_parts}
+use Rattle.std.proofs.lemmas.Bool.{and_parts, not-true}
 use Rattle.std.specs.List.{list_all}
 use Rattle.wac_parser_lexer.specs.declared.span.SourceSpan.{SourceSpan}
 use Rattle.wac_parser_lexer.specs.declared.token.Token.{Token}
@@ -16,14 +16,10 @@ use Rattle.wac_parser_lexer.proofs.KeywordLaws.{same_first}
 
 -- ---- a comment begins with a slash
 
-opposite : (a : Bool) → not a ≡ true → a ≡ false
-opposite true h = cc
-opposite false h = refl
-
 -- no entry of a table is of a kind that none of its entries is of
 pub table_lacks : (p : Token → Bool) (table : List (List ℕ × Token)) → list_all (λ entry. not (p entry.1)) table ≡ true → (kind : Token) (w : List ℕ) → Spells table kind w → p kind ≡ false
 table_lacks p [] h kind w s = absurd s
-table_lacks p (entry ∷ table) h kind w (inl s) = ap p s.1 ∙ opposite (p entry.1) (and_parts (not (p entry.1)) _ h).0
+table_lacks p (entry ∷ table) h kind w (inl s) = ap p s.1 ∙ not-true (p entry.1) (and_parts (not (p entry.1)) _ h).0
 table_lacks p (entry ∷ table) h kind w (inr s) = table_lacks p table (and_parts (not (p entry.1)) _ h).1 kind w s
 
 no_comment_spelled : (kind : Token) (w : List ℕ) → Spells spellings kind w → is_comment kind ≡ false

@@ -300,7 +300,8 @@ impl<'a> Model for Lexer<'a> {
 
     ghost view = { λ l. input_at l.source.now l.at l.last };
 
-    ghost invariant = { λ l. IsReady l.source.now l.at l.last (found_by l.next.token l.next.fault l.next.span) l.next.rest l.next.bare };
+    ghost invariant = { λ l. IsReady l.source.now l.at l.last
+        (found_by l.next.token l.next.fault l.next.span) l.next.rest l.next.bare };
 }
 
 impl<'a> Lexer<'a> {

@@ -30,7 +30,12 @@ impl<'a, W: ByteSink + Drop> Model for DocumentPrinter<'a, W> {
 
     ghost Value = { Printer };
 
-    ghost view = { λ p. record { layout = record { source = p.source.now; space = p.space.now }; failed = p.failed; written = W.contents p.writer; calls = W.calls p.writer } };
+    ghost view = { λ p. record {
+      layout = record { source = p.source.now; space = p.space.now };
+      failed = p.failed;
+      written = W.contents p.writer;
+      calls = W.calls p.writer;
+    } };
 }
 
 /// The part of a source at a span, as far as the source goes.

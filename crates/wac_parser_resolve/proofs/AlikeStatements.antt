@@ -23,9 +23,10 @@ use Rattle.wac_parser_declare.proofs.AlikeScopes.{has_read, named_alike, IsSameI
 use Rattle.wac_parser_declare.proofs.AlikeTypes.{free_alike}
 use Rattle.wac_parser_declare.proofs.AlikeBodies.{inline_alike}
 use Rattle.wac_parser_declare.proofs.AlikeWorlds.{type_statement_alike}
+use Rattle.wac_parser_declare.proofs.Kept.{with_values-more}
 use Rattle.wac_parser_resolve.specs.Ascribing.{imported, defined, Denoted, Import, Bound, State, start, root_scope, worlds_of, context, bound, speak_of, is_own_definition}
 use Rattle.wac_parser_resolve.specs.Saying.{is_exportable, is_extern_name, asked, identified, written_name, told_name, import_name, import_called, not_imported, with_import, import_statement, not_exported, with_definition, declaration, type_id, declared_id, no_definition, new_export, exported, export_name, export_one, export_left, export_as, expr_span, statement, statements}
-use Rattle.wac_parser_resolve.proofs.AlikeStates.{bare_bound, bare_asked, bare_exports, over, bare_over, scope_bare, context_bare, more_bare, IsSaidAlike, bound_alike, spoken_over, spoken_bare}
+use Rattle.wac_parser_resolve.proofs.AlikeStates.{bare_bound, bare_asked, bare_exports, over, bare_over, scope_bare, context_bare, IsSaidAlike, bound_alike, spoken_over, spoken_bare}
 use Rattle.wac_parser_resolve.proofs.AlikeExpressions.{needs_alike, export_named_alike, denote_alike}
 
 -- ---- names
@@ -140,7 +141,7 @@ module _ (ps qs : List (Key × Content)) where
   declaration_alike g i x = next_alike (clear_alike (not (is_extern_name i.string)) _ _ _ _) (next_alike
       (subst (λ (o : Option Bound). AreSame (not_exported (over ps g) (value_at g.exports i.string) i) (not_exported (bare_over qs g) o (bare_ident i))) (sym (value_with bare_bound g.exports i.string)) (not_exported_alike (over ps g) (bare_over qs g) (value_at g.exports i.string) i))
       (subst (λ (es : List (Name × Bound)). IsSaidAlike ps qs (bound (over ps (with_definition g i x)) i d) (bound (record (bare_over qs g) { definitions = g.definitions ++ (i.string, x) ∷ []; exports = es }) (bare_ident i) d))
-      (more_bare bare_bound g.exports (i.string, record { denoted = d; span = i.span })) (bound_alike ps qs (with_definition g i x) i d)))
+      (with_values-more bare_bound g.exports i.string (record { denoted = d; span = i.span })) (bound_alike ps qs (with_definition g i x) i d)))
     where
       d : Denoted
       d = record { origin = defined i.string x; item = x }
@@ -154,7 +155,7 @@ module _ (ps qs : List (Key × Content)) where
       (next_alike (clear_alike (not (is_exportable n.string)) _ _ _ _)
       (subst (λ (h : State). IsSaidAlike ps qs (pure (with_exports h (g.exports ++ e ∷ []))) (pure (with_exports (speak_of (bare_over qs g) d) (bare_exports g.exports ++ (n.string, bare_bound e.1) ∷ [])))) (sym (spoken_over ps qs g d))
       (subst (λ (h : State). IsSaidAlike ps qs (pure (over ps (with_exports (speak_of g d) (g.exports ++ e ∷ [])))) (pure (with_exports h (bare_exports g.exports ++ (n.string, bare_bound e.1) ∷ [])))) (sym (spoken_bare ps qs g d))
-      (subst (λ (es : List (Name × Bound)). IsSaidAlike ps qs (pure (over ps (with_exports (speak_of g d) (g.exports ++ e ∷ [])))) (pure (with_exports (bare_over qs (speak_of g d)) es))) (more_bare bare_bound g.exports e)
+      (subst (λ (es : List (Name × Bound)). IsSaidAlike ps qs (pure (over ps (with_exports (speak_of g d) (g.exports ++ e ∷ [])))) (pure (with_exports (bare_over qs (speak_of g d)) es))) (with_values-more bare_bound g.exports e.0 e.1)
       (both (with_exports (speak_of g d) (g.exports ++ e ∷ []))))))))
     where
       e : Name × Bound

@@ -2,7 +2,6 @@
 use Rattle.std.specs.Prelude.{Bool, true, false, not, ◌||◌, if◌then◌else◌, List, [], ◌∷◌, ◌++◌, map, Option, Some, None, option_map}
 use Rattle.std.specs.List.{list_any}
 use Rattle.std.proofs.Common.{◌≡◌, refl, sym, ap, ◌∙◌, subst}
-use Rattle.std.proofs.lemmas.List.{map-append}
 use Rattle.wac_types_base.specs.Entries.{Name, value_at, with_values}
 use Rattle.wac_types_base.proofs.Stating.{value_with}
 use Rattle.wac_types_names.specs.Keys.{Key}
@@ -13,6 +12,7 @@ use Rattle.wac_parser_refusals.proofs.Alike.{IsAlike, both, neither, itself, Are
 use Rattle.wac_parser_declare.specs.Packages.{Content}
 use Rattle.wac_parser_declare.specs.Scope.{Scope, Context, bind}
 use Rattle.wac_parser_declare.proofs.AlikeScopes.{bare_meant, bare_scope, bind_alike, bare_context}
+use Rattle.wac_parser_declare.proofs.Kept.{with_values-more}
 use Rattle.wac_parser_resolve.specs.Ascribing.{Denoted, Made, Import, Bound, State, meant_by, root_scope, worlds_of, context, denoted_by, bound, is_projection, same_origin, speak_of}
 use Rattle.wac_parser_resolve.specs.Denoting.{spoken}
 
@@ -56,10 +56,6 @@ context_bare qs c g own root =
     made : t.PackageName → Scope → Context
     made p ms = record { own = p; packages = worlds_of qs; root = ms }
 
--- one more at the end
-pub more_bare : {T : Type 0} (f : T → T) (es : List (Name × T)) (e : Name × T) → with_values f (es ++ e ∷ []) ≡ with_values f es ++ (e.0, f e.1) ∷ []
-more_bare f es e = map-append (λ (x : Name × _). (x.0, f x.1)) es (e ∷ [])
-
 -- ---- steps
 
 pub denoted_alike : (g h : State) (i : t.Ident) → h.root ≡ bare_exports g.root → AreSame (denoted_by g i) (denoted_by h (bare_ident i))
@@ -79,7 +75,7 @@ module _ (ps qs : List (Key × Content)) where
   pub bound_alike : (g : State) (i : t.Ident) (d : Denoted) → IsSaidAlike (bound (over ps g) i d) (bound (bare_over qs g) (bare_ident i) d)
   bound_alike g i d = next_alike
       (subst (λ (ms : Scope). IsAlike itself bare_scope (bind (root_scope g) i d.item) (bind ms (bare_ident i) d.item)) (sym (scope_bare g.root)) (bind_alike (root_scope g) i d.item))
-      (subst (λ (es : List (Name × Bound)). IsSaidAlike (pure (over ps (with_root (g.root ++ e ∷ [])))) (pure (record (bare_over qs g) { root = es }))) (more_bare bare_bound g.root e) (both (with_root (g.root ++ e ∷ []))))
+      (subst (λ (es : List (Name × Bound)). IsSaidAlike (pure (over ps (with_root (g.root ++ e ∷ [])))) (pure (record (bare_over qs g) { root = es }))) (with_values-more bare_bound g.root e.0 e.1) (both (with_root (g.root ++ e ∷ []))))
     where
       e : Name × Bound
       e = (i.string, record { denoted = d; span = i.span })

@@ -14,6 +14,7 @@ use Rattle.wac_types_base.proofs.Telling.{item_kind, kind_stated, stated_step}
 use Rattle.wac_types_base.proofs.Slots.{entry_at-is}
 use Rattle.std.specs.Prelude.{List, option_map, Ok, Err}
 use Rattle.wac_types_base.specs.Entries.{Name, value_at}
+use Rattle.wac_types_base.proofs.Stating.{value_with}
 use Rattle.wac_parser_tree.specs.Trees as t
 use Rattle.wac_parser_refusals.specs.declared.refusal.Refusal.{Refusal}
 use Rattle.wac_parser_refusals.specs.Causes.{Answer, ◌>>=◌, UndefinedName, present, pure}
@@ -21,7 +22,7 @@ use Rattle.wac_parser_refusals.specs.Outcomes.{IsHeld, IsRefusal, Refuses}
 use Rattle.wac_parser_declare.specs.declared.scope.Binding.{Binding}
 use Rattle.wac_parser_declare.specs.Holding.{BindingStands, Holds, NamesStand, meant_by, scope_of}
 use Rattle.wac_parser_declare.specs.Scope.{Meant, named}
-use Rattle.wac_parser_declare.proofs.Kept.{found_stands, value_at-with_values}
+use Rattle.wac_parser_declare.proofs.Kept.{found_stands}
 use Rattle.wac_parser_resolve.specs.InStatements.{identifier_of}
 use Rattle.wac_parser_resolve.specs.Saying.{identified}
 
@@ -67,7 +68,7 @@ held_map H K (Err e) b c f x = absurd x
 
 module _ (c : Collection) (bs : List (Name × Binding)) (i : t.Ident) where
   meant_at : (o : Option Binding) → value_at bs i.string ≡ o → value_at (scope_of c bs) i.string ≡ option_map (meant_by c) o
-  meant_at o e = value_at-with_values (meant_by c) bs i.string ∙ ap (option_map (meant_by c)) e
+  meant_at o e = value_with (meant_by c) bs i.string ∙ ap (option_map (meant_by c)) e
 
   pub named_held : (b : Binding) → NamesStand c bs → value_at bs i.string ≡ Some b → IsHeld (Holds c) (named (scope_of c bs) i) b.kind
   named_held b s e =

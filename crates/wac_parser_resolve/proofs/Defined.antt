@@ -8,6 +8,7 @@ use Rattle.wac_names.specs.declared.names.NameKind.{NameKind}
 use Rattle.wac_names.specs.declared.names.NameKind.TheVariants as kind
 use Rattle.std.specs.Option.{option_and_then}
 use Rattle.std.specs.Cmp.Lexicographic.{pointwise, bytes_decides}
+use Rattle.wac_types_base.proofs.Stating.{value_with}
 use Rattle.wac_types_base.specs.Graph.{Among}
 use Rattle.wac_types_base.specs.Entries.{AreDistinct, Name, names_of, value_at}
 use Rattle.wac_types_base.specs.declared.item.ItemKind.{ItemKind}
@@ -24,7 +25,6 @@ use Rattle.wac_parser_declare.specs.Scope.{definition_by, definitions, is_instan
 use Rattle.wac_types_names.specs.InterfaceNames.{is_interface_name}
 use Rattle.wac_types_names.proofs.InterfaceTests.{interface_told}
 use Rattle.wac_parser_declare.proofs.InWorlds.{interface_typed, world_typed}
-use Rattle.wac_parser_declare.proofs.Kept.{value_at-with_values}
 use Rattle.wac_parser_resolve.specs.Knowing.{IsDefinedBy, IsDefinedIn, IsTypeOf}
 
 module _ (f : Stated → Option Stated) where
@@ -160,7 +160,7 @@ module _ (c : Collection) (a : IsAcyclic c) where
     meant_at o at =
         ap (λ (xs : List (Name × Stated)). value_at (meant_in (λ x. definition_by (kind_of x) x) xs) n) is
         ∙ meant_value (λ x. definition_by (kind_of x) x) (at_now es) n (subst AreDistinct (sym (names_now es)) distinct)
-        ∙ ap (option_and_then (λ x. definition_by (kind_of x) x)) (value_at-with_values (stated_of c) es n ∙ ap (option_map (stated_of c)) at)
+        ∙ ap (option_and_then (λ x. definition_by (kind_of x) x)) (value_with (stated_of c) es n ∙ ap (option_map (stated_of c)) at)
       where
         names_now : (fs : List (Name × ItemKind)) → names_of (at_now fs) ≡ names_of fs
         names_now [] = refl

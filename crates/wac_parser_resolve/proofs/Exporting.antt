@@ -19,10 +19,10 @@ use Rattle.wac_parser_tree.specs.Trees.{Span}
 use Rattle.wac_parser_declare.specs.declared.scope.Binding.{Binding}
 use Rattle.wac_parser_declare.specs.Holding.{meant_by, scope_of}
 use Rattle.wac_parser_declare.specs.Scope.{Meant}
-use Rattle.wac_parser_declare.proofs.Kept.{value_at-with_values}
 use Rattle.wac_parser_resolve.specs.Ascribing as stated
 use Rattle.wac_parser_resolve.specs.Ascribing.{Origin, imported, instance, projected, defined, Bound, State, root_scope, same_origin, is_own_definition}
 use Rattle.std.specs.Option.{option_or}
+use Rattle.wac_types_base.proofs.Stating.{value_with}
 use Rattle.wac_parser_resolve.specs.Holding.{AreNamed, InTurn, IsNode}
 use Rattle.wac_parser_resolve.specs.InExports.{IsBoundTo, IsDefined, is_defined}
 use Rattle.wac_parser_resolve.specs.Later.{first_name}
@@ -181,7 +181,7 @@ module _ (g : Graph) (ms : List ℕ) (s : State) (nodes : List (Name × ℕ)) (n
   module _ (names : List (Name × Binding)) (scoped : scope_of g.types names ≡ root_scope s) where
     meant_same : option_map (meant_by g.types) (value_at names n) ≡ option_map stated.meant_by (value_at s.root n)
     meant_same =
-        sym (value_at-with_values (meant_by g.types) names n) ∙ ap (λ (es : List (Name × Meant)). value_at es n) scoped ∙ value_at-with_values stated.meant_by s.root n
+        sym (value_with (meant_by g.types) names n) ∙ ap (λ (es : List (Name × Meant)). value_at es n) scoped ∙ value_with stated.meant_by s.root n
 
     pub no_binding : value_at names n ≡ None → is_defined (value_at s.root n) ≡ false
     no_binding e = by_meant (value_at s.root n) (sym (ap (option_map (meant_by g.types)) e) ∙ meant_same)

@@ -1,6 +1,7 @@
 -- What the items of nodes state.
 use Rattle.std.proofs.Common.{◌≡◌, ℕ, List, Bool, true, false, not, Option, Some, refl, sym, ap, subst, ◌∙◌}
 use Rattle.std.specs.Prelude.{option_map}
+use Rattle.wac_types_base.proofs.Stating.{value_with}
 use Rattle.wac_types_base.specs.declared.item.ItemKind.{ItemKind}
 use Rattle.wac_types_base.specs.declared.item.«Type».{«Type» as TypeKind}
 use Rattle.wac_types_base.specs.declared.ids.InterfaceId.{InterfaceId}
@@ -22,7 +23,6 @@ use Rattle.wac_parser_refusals.specs.Outcomes.{IsHeld, IsRefusal, Refuses}
 use Rattle.wac_parser_tree.specs.Trees.{Span}
 use Rattle.wac_parser_declare.specs.Holding.{Holds}
 use Rattle.wac_parser_declare.proofs.Exports.{instance_exports}
-use Rattle.wac_parser_declare.proofs.Kept.{value_at-with_values}
 use Rattle.wac_parser_resolve.specs.Holding.{HasItem}
 
 -- ---- one item
@@ -80,7 +80,7 @@ module _ (c : Collection) (a : IsAcyclic c) where
   instance_export i t h n =
       let x = interface_found c i h.stands in
       sym (ap (λ (u : Stated). value_at (exports_of u) n) h.same) ∙ ap (λ (es : List (Name × Stated)). value_at es n) (instance_exports c a i x.value x.at x.own)
-      ∙ value_at-with_values (stated_of c) x.value.exports n ∙ sym (ap (λ (o : Option Interface). option_map (stated_of c) (exported_in o n)) x.at)
+      ∙ value_with (stated_of c) x.value.exports n ∙ sym (ap (λ (o : Option Interface). option_map (stated_of c) (exported_in o n)) x.at)
 
   -- an export of an instance, as it is stated
   pub export_stated : (t : Stated) (x : ItemKind) → Holds c t x → graph.is_instance x ≡ true → (n : Name) → value_at (exports_of t) n ≡ option_map (stated_of c) (item_export c x n)

@@ -24,8 +24,8 @@ use Rattle.wac_types_base.proofs.Used.{interface_uses_stand, world_imports_stand
 use Rattle.wac_types_fit.specs.Targets.{target_import}
 use Rattle.wac_composition.specs.Classes.{is_instance_kind}
 use Rattle.wac_parser_declare.proofs.Exports.{component_imports}
-use Rattle.wac_parser_declare.proofs.Kept.{value_at-with_values}
 use Rattle.std.specs.Option.{option_or}
+use Rattle.wac_types_base.proofs.Stating.{value_with}
 use Rattle.wac_parser_resolve.specs.Holding.{InTurn}
 use Rattle.wac_parser_resolve.specs.Meeting as stated
 use Rattle.wac_parser_resolve.specs.Meeting.{by_identifier, implicit_interfaces, implicit_uses, put_named, uses_are_named}
@@ -190,6 +190,6 @@ module _ (c : Collection) (a : IsAcyclic c) where
     gives_same fs e n =
         ap (λ (es : List (Name × Stated)). option_or (value_at es n) (value_at (imports_of world) n)) (listed_of (implicit_uses world) (ids.implicit_interfaces c x) [] fs world_implicit e).list
         ∙ ap (λ (es : List (Name × Stated)). option_or (value_at (with_values (stated_of c) fs) n) (value_at es n)) (component_imports c a w x at own)
-        ∙ ap (λ (o : Option Stated). option_or o (value_at (with_values (stated_of c) x.imports) n)) (value_at-with_values (stated_of c) fs n)
-        ∙ ap (option_or (option_map (stated_of c) (value_at fs n))) (value_at-with_values (stated_of c) x.imports n)
+        ∙ ap (λ (o : Option Stated). option_or o (value_at (with_values (stated_of c) x.imports) n)) (value_with (stated_of c) fs n)
+        ∙ ap (option_or (option_map (stated_of c) (value_at fs n))) (value_with (stated_of c) x.imports n)
         ∙ either_of (value_at fs n) (value_at x.imports n)

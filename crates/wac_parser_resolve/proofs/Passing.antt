@@ -5,6 +5,7 @@ use Rattle.std.specs.FinMap as map
 use Rattle.std.specs.Cmp.Lexicographic.{pointwise, bytes_decides}
 use Rattle.std.proofs.lemmas.Option.{same_Some}
 use Rattle.std.proofs.lemmas.Bool.{false_from_ne_true}
+use Rattle.wac_types_base.proofs.Stating.{value_with}
 use Rattle.wac_types_base.specs.declared.item.ItemKind.{ItemKind}
 use Rattle.wac_types_base.specs.declared.ids.WorldId.{WorldId}
 use Rattle.wac_types_base.specs.declared.defined.World.{World}
@@ -37,7 +38,6 @@ use Rattle.wac_parser_refusals.specs.Causes.{◌>>=◌, MismatchedInstantiationA
 use Rattle.wac_parser_refusals.specs.Outcomes.{IsHeld, IsRefusal, Refuses}
 use Rattle.wac_parser_declare.specs.Holding.{Holds}
 use Rattle.wac_parser_declare.proofs.Exports.{component_imports}
-use Rattle.wac_parser_declare.proofs.Kept.{value_at-with_values}
 use Rattle.wac_parser_resolve.specs.declared.arguments.Given.{Given}
 use Rattle.wac_parser_resolve.specs.Ascribing.{Origin, imported, instance, projected, defined, Denoted, Made, State}
 use Rattle.wac_parser_resolve.specs.Denoting as stated
@@ -101,7 +101,7 @@ module _ (c : Collection) (a : IsAcyclic c) (t : Stated) (w : WorldId) (h : Hold
   import_by None at s own n = absurd (cc s)
   import_by (Some x) at s own n =
       sym (ap (λ (u : Stated). value_at (imports_of u) n) h.same) ∙ ap (λ (es : List (Name × Stated)). value_at es n) (component_imports c a w x at own)
-      ∙ value_at-with_values (stated_of c) x.imports n
+      ∙ value_with (stated_of c) x.imports n
 
   -- an import of a component, as it is stated
   pub import_stated : (n : Name) → value_at (imports_of t) n ≡ option_map (stated_of c) (item_import c w n)

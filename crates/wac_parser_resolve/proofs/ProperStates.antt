@@ -10,6 +10,7 @@ use Rattle.wac_types_base.specs.Collection as s
 use Rattle.wac_types_base.specs.Collection.{Shape}
 use Rattle.wac_types_base.specs.Stated.{Stated, Kind, IsFunction, IsInstance, IsComponent, IsModule, IsValue, IsResource, IsFunctionType, IsValueType, IsInterface, IsWorld, IsModuleType, shape_kind, type_kind, kind_of, exports_of, imports_of, identifier_of, promote, promote_by, folded_row}
 use Rattle.wac_types_base.specs.Tree.{tree}
+use Rattle.wac_types_base.proofs.Stating.{value_with}
 use Rattle.wac_nesting.specs.Given.{IsDefinition}
 use Rattle.wac_composition.specs.Composition as c
 use Rattle.wac_composition.specs.Composition.{Placed, Composition}
@@ -23,7 +24,6 @@ use Rattle.wac_parser_refusals.specs.declared.error.InstanceOperation.{InstanceO
 use Rattle.wac_parser_refusals.specs.Causes.{Answer, pure, unless_clear, present, each, InvalidExternName, ExportRequiresAs, FillArgumentNotLast}
 use Rattle.wac_parser_declare.specs.Scope.{Meant, bind}
 use Rattle.wac_parser_declare.specs.Worlds.{type_statement}
-use Rattle.wac_parser_declare.proofs.Kept.{value_at-with_values}
 use Rattle.wac_parser_resolve.specs.Ascribing.{Origin, imported, defined, Denoted, Made, Import, Bound, State, start, meant_by, root_scope, context, denoted_by, bound, is_projection, same_origin, speak_of, worlds_of}
 use Rattle.wac_parser_tree.specs.Accessors.{argument_name_span as argument_span, postfix_expr_span as postfix_span, primary_expr_span as primary_span}
 use Rattle.wac_parser_resolve.specs.Denoting.{Given, needs_instance, export_named, access_by, spoken as spoken_of, access, accesses, add_given, inferred_name, argument_name, left_names, spread_given, spread_all, spread_one, spreads_of, argument_fits, complete, is_filled, is_last, with_made, finished, new_package, denote, primary, nested, new_instance, arguments, one_argument, named_argument}
@@ -177,7 +177,7 @@ module _ (ps : Packages) (packages : AreProper (worlds_of ps)) where
     has_proper o x (a_definition n y m) = (f.definitions (n, y) m).is
 
     root_proper : ScopeProper (root_scope g)
-    root_proper n m e = go (value_at g.root n) refl (sym (value_at-with_values meant_by g.root n) ∙ e)
+    root_proper n m e = go (value_at g.root n) refl (sym (value_with meant_by g.root n) ∙ e)
       where
         go : (o : Option Bound) → value_at g.root n ≡ o → option_map meant_by o ≡ Some m → Proper m.item
         go None q r = absurd (none-some _ r)

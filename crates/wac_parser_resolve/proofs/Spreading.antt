@@ -3,6 +3,7 @@ use Rattle.std.specs.Prelude.{⊤, ◌==◌, Result, filter, is_some, option_map
 use Rattle.std.proofs.Common.{◌≡◌, ℕ, ◌+◌, ◌<◌, ◌≤◌, List, [], ◌∷◌, ◌++◌, map, get_or, drop, length, Bool, true, false, not, ◌&&◌, if◌then◌else◌, Option, Some, None, None, Ok, Err, inl, inr, refl, sym, ap, subst, ◌∙◌, arith}
 use Rattle.std.proofs.lemmas.List.{append-nil, append_assoc, drop_more, drop_all}
 use Rattle.std.proofs.lemmas.List.Elements.{filter_agree}
+use Rattle.wac_types_base.proofs.Stating.{value_with}
 use Rattle.wac_types_base.specs.declared.item.ItemKind.{ItemKind}
 use Rattle.wac_types_base.specs.declared.ids.InterfaceId.{InterfaceId}
 use Rattle.wac_types_base.specs.declared.ids.WorldId.{WorldId}
@@ -28,7 +29,6 @@ use Rattle.wac_parser_refusals.specs.Outcomes.{IsHeld, IsOutcome, IsRefusal, Ref
 use Rattle.wac_parser_refusals.proofs.Outcomes.{then_refused}
 use Rattle.wac_parser_declare.specs.Holding.{Holds}
 use Rattle.wac_parser_declare.proofs.Exports.{instance_exports}
-use Rattle.wac_parser_declare.proofs.Kept.{value_at-with_values}
 use Rattle.wac_parser_declare.proofs.Loops.{step_by as go_on}
 use Rattle.wac_parser_resolve.specs.declared.arguments.Given.{Given}
 use Rattle.wac_parser_resolve.specs.Ascribing.{Denoted, State}
@@ -181,7 +181,7 @@ pub exports_by : (c : Collection) → IsAcyclic c → (i : InterfaceId) (x : Int
 exports_by c a i x at own gn ns =
     filter_agree (λ (n : Name). not (has_name gn n) && is_some (value_at x.exports n)) (λ n. not (has_name gn n) && is_some (value_at (exports_of (stated_of c (ItemKind.Instance i))) n))
     (λ n. ap (λ (b : Bool). not (has_name gn n) && b)
-    (mapped_some (stated_of c) (value_at x.exports n) ∙ ap is_some (sym (value_at-with_values (stated_of c) x.exports n) ∙ ap (λ (es : List (Name × Stated)). value_at es n) (sym (instance_exports c a i x at own))))) ns
+    (mapped_some (stated_of c) (value_at x.exports n) ∙ ap is_some (sym (value_with (stated_of c) x.exports n) ∙ ap (λ (es : List (Name × Stated)). value_at es n) (sym (instance_exports c a i x at own))))) ns
 
 -- what is left is what is stated to be left
 pub left_same : (g : Graph) (ms : List ℕ) (gs : List stated.Given) (xs : List Given) (t : Stated) (w : WorldId) (i : InterfaceId) → AreGiven g ms gs xs → Holds g.types t (ItemKind.Instance i)

@@ -42,13 +42,14 @@ use Rattle.wac_parser_resolve.proofs.Nodes.{denotes_stays, item_stays, node_stay
 use Rattle.wac_parser_resolve.proofs.Staying.{says_stay}
 use Rattle.wac_parser_resolve.proofs.Turns.{turn_map}
 use Rattle.std.specs.Prelude.{option_map, is_some, ⊤, false}
+use Rattle.wac_types_base.proofs.Stating.{value_with}
 use Rattle.wac_types_base.specs.Entries.{put_entry}
 use Rattle.wac_types_base.proofs.Looked.{put_entry-new}
 use Rattle.wac_types_base.proofs.Lists.{no_value}
 use Rattle.wac_parser_refusals.specs.Causes.{◌>>◌, pure}
 use Rattle.wac_parser_refusals.specs.Outcomes.{IsHeld}
 use Rattle.wac_parser_declare.specs.Scope.{Meant, Scope, bind, taken}
-use Rattle.wac_parser_declare.proofs.Kept.{EachStands-more, value_at-with_values, with_values-more}
+use Rattle.wac_parser_declare.proofs.Kept.{EachStands-more, with_values-more}
 use Rattle.wac_parser_resolve.specs.Ascribing as stated
 use Rattle.wac_parser_resolve.specs.Ascribing.{bound}
 use Rattle.wac_parser_resolve.proofs.Items.{of_item}
@@ -365,7 +366,7 @@ module _ (own : t.PackageName) (b : Held) (s : State) (said : IsSaid own b s) (d
       by : (o : Option Bound) (p : Option ℕ) → value_at s.root i.string ≡ o → value_at b.nodes i.string ≡ p → AreFound g ms o p → is_some p ≡ false
       by None None x y f = refl
       by None (Some j) x y f = absurd f
-      by (Some z) p x y f = absurd (cc (sym e ∙ value_at-with_values stated.meant_by s.root i.string ∙ ap (option_map stated.meant_by) x))
+      by (Some z) p x y f = absurd (cc (sym e ∙ value_with stated.meant_by s.root i.string ∙ ap (option_map stated.meant_by) x))
 
   said_named : IsOfKind g k (λ x. x ≡ kind) → value_at (root_scope s) i.string ≡ None → IsSaid own (with_names (b.names ++ (i.string, binding) ∷ []) (b.nodes ++ (i.string, k) ∷ [])) named_so
   said_named kept e =

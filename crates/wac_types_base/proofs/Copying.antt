@@ -12,9 +12,7 @@ use Rattle.wac_types_base.specs.declared.item.ValueType.{ValueType}
 use Rattle.wac_types_base.specs.declared.item.«Type».{«Type» as TypeKind}
 use Rattle.wac_types_base.specs.declared.defined.DefinedType.{DefinedType}
 use Rattle.wac_types_base.specs.declared.defined.Resource.{Resource}
-use Rattle.wac_types_base.specs.declared.defined.ResourceAlias.{ResourceAlias}
 use Rattle.wac_types_base.specs.declared.defined.FuncType.{FuncType}
-use Rattle.wac_types_base.specs.declared.defined.UsedType.{UsedType}
 use Rattle.wac_types_base.specs.declared.defined.Interface.{Interface}
 use Rattle.wac_types_base.specs.declared.defined.World.{World}
 use Rattle.wac_types_base.specs.declared.core_types.ModuleType.{ModuleType}
@@ -24,12 +22,11 @@ use Rattle.wac_types_base.specs.declared.ids.FuncTypeId.{FuncTypeId}
 use Rattle.wac_types_base.specs.declared.ids.InterfaceId.{InterfaceId}
 use Rattle.wac_types_base.specs.declared.ids.WorldId.{WorldId}
 use Rattle.wac_types_base.specs.declared.ids.ModuleTypeId.{ModuleTypeId}
-use Rattle.wac_types_base.specs.Entries.{Name, values_of, with_values}
 use Rattle.wac_types_base.specs.Record.{Collection}
 use Rattle.wac_types_base.specs.Graph.{Whole, Wholes, node, skip, wholes_by, close, grow, whole, Among}
-use Rattle.wac_types_base.specs.Collection.{Shape, Entry, Slot, SlotStands, HasChildren, item_node, labelled, Stands, depth, IsAcyclic, unfolding_of, Grows, defined_entry, resource_entry, func_entry, interface_entry, world_entry, module_entry, value_slot, option_slot, slots_in, slots_of, primitive, type_of, own_of, borrow_of, use_names, used, items}
+use Rattle.wac_types_base.specs.Collection.{Shape, Entry, Slot, SlotStands, HasChildren, item_node, labelled, Stands, depth, IsAcyclic, unfolding_of, Grows, defined_entry, resource_entry, func_entry, interface_entry, world_entry, module_entry, slots_in, slots_of, primitive, type_of, own_of, borrow_of}
 use Rattle.wac_types_base.specs.Copying.{IsCopy, SlotsCopied, none_copied, hole_copied, place_copied}
-use Rattle.wac_types_base.specs.Copies.{copy_or, copied_ids, defined_id, resource_id, func_id, interface_id, world_id, module_id, value_copy, option_copy, type_copy, kind_copy, Knows, defined_copy, resource_copy, func_copy, used_copy, interface_copy, world_copy, defined_at, resource_at, func_at, interface_at, world_at, module_at, EachCopied, AreCopies, HasNone, KnowsPlaces}
+use Rattle.wac_types_base.specs.Copies.{copy_or, copied_ids, defined_id, resource_id, func_id, interface_id, world_id, module_id, value_copy, type_copy, kind_copy, Knows, defined_copy, resource_copy, func_copy, interface_copy, world_copy, defined_at, resource_at, func_at, interface_at, world_at, module_at, EachCopied, AreCopies, HasNone, KnowsPlaces}
 use Rattle.wac_types_base.proofs.GraphLemmas.{value_of, is_there, no_depth, grow-extends, whole-extends}
 use Rattle.wac_types_base.proofs.Walking.{child_smaller, slice_get-Among}
 use Rattle.wac_types_base.proofs.Standing.{defined_found, resource_found, func_found, interface_found, world_found, module_found}

@@ -92,10 +92,6 @@ none_test (Some x) false e = (λ h. absurd (cc h), λ h. absurd (h x refl))
 pub joined : {X Y : Type 0} (a b : X × Y) → a.0 ≡ b.0 → a.1 ≡ b.1 → a ≡ b
 joined a b p q = λ i. (p i, q i)
 
-pub not_true : (b : Bool) → not b ≡ true → b ≡ false
-not_true false e = refl
-not_true true e = absurd (cc e)
-
 -- ---- names
 
 pub name_tested : (m n : Name) → ((m ≡ n) × (pointwise ◌==◌ m n ≡ true)) ⊎ ((m ≢ n) × (pointwise ◌==◌ m n ≡ false))

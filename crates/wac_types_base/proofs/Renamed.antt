@@ -1,5 +1,5 @@
 -- Entries with other ids, and a collection under another number: each id that stands keeps its unfolding.
-use Rattle.std.proofs.Common.{◌≡◌, ℕ, zero, suc, ◌+◌, ◌<◌, List, [], ◌∷◌, ◌++◌, map, length, Option, Some, None, IsSome, refl, sym, ap, subst, ◌∙◌, slice_get, arith, ◌==◌, nat_eq, length-append}
+use Rattle.std.proofs.Common.{◌≡◌, ℕ, zero, suc, ◌+◌, List, [], ◌∷◌, ◌++◌, map, Option, Some, None, IsSome, refl, sym, ap, subst, ◌∙◌, slice_get, ◌==◌, nat_eq, length-append}
 use Rattle.std.proofs.lemmas.List.{length-map}
 use Rattle.std.proofs.Math.Path.{fun_ext}
 use Rattle.std.specs.Option.{option_map}
@@ -25,14 +25,14 @@ use Rattle.wac_types_base.specs.declared.ids.WorldId.{WorldId}
 use Rattle.wac_types_base.specs.declared.ids.ModuleTypeId.{ModuleTypeId}
 use Rattle.wac_types_base.specs.Entries.{Name, values_of, with_values}
 use Rattle.wac_types_base.specs.Record.{Collection}
-use Rattle.wac_types_base.specs.Graph.{Whole, Wholes, node, hole, more, wholes_by, whole}
-use Rattle.wac_types_base.specs.Collection.{Shape, Entry, Slot, item_node, entry_at, labelled, Stands, rows, depth, IsAcyclic, unfolding_of, defined_entry, resource_entry, func_entry, interface_entry, world_entry, module_entry, value_node, type_node, value_slot, option_slot, primitive, type_of, own_of, borrow_of, use_names, used, items}
+use Rattle.wac_types_base.specs.Graph.{Whole, Wholes, wholes_by, whole}
+use Rattle.wac_types_base.specs.Collection.{Shape, Entry, Slot, item_node, entry_at, labelled, Stands, rows, depth, IsAcyclic, unfolding_of, defined_entry, resource_entry, func_entry, interface_entry, world_entry, module_entry, value_node, type_node, value_slot, option_slot, type_of, own_of, borrow_of, use_names, used, items}
 use Rattle.wac_types_base.specs.Copying.{IsCopy}
-use Rattle.wac_types_base.specs.Renaming.{Renaming, value_renamed, option_renamed, type_renamed, kind_renamed, defined_renamed, alias_renamed, resource_renamed, func_renamed, used_renamed, interface_renamed, world_renamed, under, kind_under, renumbered}
+use Rattle.wac_types_base.specs.Renaming.{Renaming, value_renamed, option_renamed, type_renamed, kind_renamed, defined_renamed, resource_renamed, func_renamed, used_renamed, interface_renamed, world_renamed, under, kind_under, renumbered}
 use Rattle.wac_types_base.specs.Copies.{copy_or, copied_ids, HasNone}
 use Rattle.wac_types_base.proofs.GraphLemmas.{value_of, is_there, both-some, skip-some, grow-some}
 use Rattle.wac_types_base.proofs.Adding.{guarded-some, option_map-some, labelled-some}
-use Rattle.wac_types_base.proofs.Standing.{Found, defined_found, resource_found, func_found, interface_found, world_found, module_found}
+use Rattle.wac_types_base.proofs.Standing.{defined_found, resource_found, func_found, interface_found, world_found, module_found}
 use Rattle.wac_types_base.proofs.Slots.{entry_at-is, stands_borrow, stands_own, stands_typed_func, stands_typed_value, stands_typed_interface, stands_typed_world, stands_typed_module}
 use Rattle.wac_types_base.proofs.Loops.{map-map, map-append, map-get, map_same, names-with_values, values-with_values}
 use Rattle.wac_types_base.proofs.Replacing.{labelled_there}

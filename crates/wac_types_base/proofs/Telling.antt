@@ -2,6 +2,7 @@
 use Rattle.std.proofs.Common.{◌≡◌, ℕ, zero, suc, ◌<◌, ◌≤◌, List, [], ◌∷◌, map, length, Option, Some, None, IsSome, Bool, true, false, ◌||◌, slice_get, refl, sym, ap, subst, ◌∙◌, arith, inl, inr}
 use Rattle.std.specs.Prelude.{codes}
 use Rattle.std.specs.Option.{option_map}
+use Rattle.std.proofs.Math.Bool.{or-true}
 use Rattle.wac_types_base.specs.declared.item.PrimitiveType.{PrimitiveType}
 use Rattle.wac_types_base.specs.declared.item.ValueType.{ValueType}
 use Rattle.wac_types_base.specs.declared.item.«Type».{«Type» as TypeKind}
@@ -149,10 +150,6 @@ pub borrows_in_places : (c : Collection) (x : DefinedType) → contains_borrow (
 unfolding contains_borrow
 borrows_in_places c x = borrows_defined x (folded_row borrows_at (row (map (option_map (stated_of c)) (defined_entry x).1))) ∙ any_slots c (defined_entry x).1
 
-pub or_true : (b : Bool) → (b || true) ≡ true
-or_true true = refl
-or_true false = refl
-
 pub slot_with : (c : Collection) (xs : List Slot) (i : ℕ) (j : ItemKind) → slice_get xs i ≡ Some (Some j) → contains_borrow (stated_of c j) ≡ true → any_slot c xs ≡ true
 slot_with c [] i j e h = absurd (cc e)
 slot_with c (None ∷ xs) zero j e h = absurd (cc e)
@@ -160,7 +157,7 @@ slot_with c (Some k ∷ xs) zero j e h =
     let is : k ≡ j = cc e in
     ap (λ b. b || any_slot c xs) (ap (λ k. contains_borrow (stated_of c k)) is ∙ h)
 slot_with c (None ∷ xs) (suc i) j e h = slot_with c xs i j e h
-slot_with c (Some k ∷ xs) (suc i) j e h = ap (λ b. contains_borrow (stated_of c k) || b) (slot_with c xs i j e h) ∙ or_true (contains_borrow (stated_of c k))
+slot_with c (Some k ∷ xs) (suc i) j e h = ap (λ b. contains_borrow (stated_of c k) || b) (slot_with c xs i j e h) ∙ or-true (contains_borrow (stated_of c k))
 
 pub slots_without : (c : Collection) (xs : List Slot) → ((i : ℕ) (j : ItemKind) → i < length xs → slice_get xs i ≡ Some (Some j) → contains_borrow (stated_of c j) ≡ false) → any_slot c xs ≡ false
 slots_without c [] h = refl

@@ -71,10 +71,7 @@ fn add_used_by<'a>(
 {
     for kind in imports {
         if let ItemKind::Instance(id) = *kind {
-            match add_used(types, found, types.interface(id).uses.values()) {
-                Ok(()) => {}
-                Err(fault) => return Err(fault),
-            }
+            add_used(types, found, types.interface(id).uses.values())?;
         }
     }
     Ok(())
@@ -96,13 +93,8 @@ impl World {
             → by_identifier types.now [] (implicit_interfaces types.now self.now) ≡ None) }
     {
         let mut found = IndexMap::new(alloc);
-        match add_used(types, &mut found, self.uses.values()) {
-            Ok(()) => {}
-            Err(fault) => return Err(fault),
-        }
-        match add_used_by(types, &mut found, self.imports.values()) {
-            Ok(()) => Ok(found),
-            Err(fault) => Err(fault),
-        }
+        add_used(types, &mut found, self.uses.values())?;
+        add_used_by(types, &mut found, self.imports.values())?;
+        Ok(found)
     }
 }

@@ -370,7 +370,8 @@ impl Index<DefinedTypeId> for Types {
 
     ghost can_index = { λ c id. Stands c (ItemKind.Value (ValueType.Defined id)) };
 
-    ghost index_gives = { λ c id found. (slice_get c.defined_types id.index ≡ Some found) × (id.collection ≡ c.number) × IsAcyclic c };
+    ghost index_gives = { λ c id found. (slice_get c.defined_types id.index ≡ Some found)
+        × (id.collection ≡ c.number) × IsAcyclic c };
 
     fn index(&self, id: DefinedTypeId) -> &DefinedType {
         self.defined_type(id)
@@ -387,7 +388,8 @@ impl Index<ResourceId> for Types {
 
     ghost can_index = { λ c id. Stands c (ItemKind.Ty (TypeKind.Resource id)) };
 
-    ghost index_gives = { λ c id found. (slice_get c.resources id.index ≡ Some found) × (id.collection ≡ c.number) × IsAcyclic c };
+    ghost index_gives = { λ c id found. (slice_get c.resources id.index ≡ Some found)
+        × (id.collection ≡ c.number) × IsAcyclic c };
 
     fn index(&self, id: ResourceId) -> &Resource {
         self.resource(id)
@@ -403,7 +405,8 @@ impl Index<FuncTypeId> for Types {
 
     ghost can_index = { λ c id. Stands c (ItemKind.Func id) };
 
-    ghost index_gives = { λ c id found. (slice_get c.func_types id.index ≡ Some found) × (id.collection ≡ c.number) × IsAcyclic c };
+    ghost index_gives = { λ c id found. (slice_get c.func_types id.index ≡ Some found)
+        × (id.collection ≡ c.number) × IsAcyclic c };
 
     fn index(&self, id: FuncTypeId) -> &FuncType {
         self.func_type(id)
@@ -419,7 +422,8 @@ impl Index<InterfaceId> for Types {
 
     ghost can_index = { λ c id. Stands c (ItemKind.Instance id) };
 
-    ghost index_gives = { λ c id found. (slice_get c.interfaces id.index ≡ Some found) × (id.collection ≡ c.number) × IsAcyclic c };
+    ghost index_gives = { λ c id found. (slice_get c.interfaces id.index ≡ Some found)
+        × (id.collection ≡ c.number) × IsAcyclic c };
 
     fn index(&self, id: InterfaceId) -> &Interface {
         self.interface(id)
@@ -435,7 +439,8 @@ impl Index<WorldId> for Types {
 
     ghost can_index = { λ c id. Stands c (ItemKind.Component id) };
 
-    ghost index_gives = { λ c id found. (slice_get c.worlds id.index ≡ Some found) × (id.collection ≡ c.number) × IsAcyclic c };
+    ghost index_gives = { λ c id found. (slice_get c.worlds id.index ≡ Some found)
+        × (id.collection ≡ c.number) × IsAcyclic c };
 
     fn index(&self, id: WorldId) -> &World {
         self.world(id)
@@ -451,7 +456,8 @@ impl Index<ModuleTypeId> for Types {
 
     ghost can_index = { λ c id. Stands c (ItemKind.Module id) };
 
-    ghost index_gives = { λ c id found. (slice_get c.modules id.index ≡ Some found) × (id.collection ≡ c.number) × IsAcyclic c };
+    ghost index_gives = { λ c id found. (slice_get c.modules id.index ≡ Some found)
+        × (id.collection ≡ c.number) × IsAcyclic c };
 
     fn index(&self, id: ModuleTypeId) -> &ModuleType {
         self.module_type(id)

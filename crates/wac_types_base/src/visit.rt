@@ -86,17 +86,11 @@ fn visit_kind<E, F: FnMut(&Types, DefinedTypeId) -> Result<(), E>>(
     ensures visited { IsVisited (call_with F.step types.now) types.now kind visitor.old result visitor.new }
 {
     types.see_acyclic();
-    match visit_own(types, kind, visitor) {
-        Ok(()) => {}
-        Err(fault) => return Err(fault),
-    }
+    visit_own(types, kind, visitor)?;
     let mut at = types.skipped(kind);
     while let Some(place) = types.place(kind, at) {
         if let Some(child) = place {
-            match visit_kind(types, child, visitor) {
-                Ok(()) => {}
-                Err(fault) => return Err(fault),
-            }
+            visit_kind(types, child, visitor)?;
         }
         at += 1;
     }

@@ -1,9 +1,9 @@
 -- Keys of packages: a name, and perhaps a version.
-use Rattle.std.specs.Prelude.{Bool, true, false, ◌&&◌, ◌==◌, Option, Some, None, string_bytes}
+use Rattle.std.specs.Prelude.{ℕ, List, ◌∷◌, ◌++◌, Bool, true, false, ◌&&◌, ◌==◌, Option, Some, None, string_bytes}
 use Rattle.std.specs.Cmp.Lexicographic.{pointwise}
 use Rattle.std.specs.Option.{option_map}
 use Rattle.semver.specs.Parse.{Parts}
-use Rattle.semver.specs.Identifiers.{parts_of}
+use Rattle.semver.specs.Identifiers.{parts_of, parts_text}
 use Rattle.wac_types_base.specs.Entries.{Name}
 use Rattle.wac_types_names.specs.declared.package.PackageKey.{PackageKey}
 use Rattle.wac_types_names.specs.declared.package.BorrowedPackageKey.{BorrowedPackageKey}
@@ -12,6 +12,15 @@ use Rattle.wac_types_names.specs.Packaged.{Packaged}
 -- a name and a version
 abbrev pub Key : Type 0
 Key = Name × Option Parts
+
+-- a name, and the version behind `@` if there is one
+abbrev pub with_version : Name → Option Parts → List ℕ
+with_version name None = name
+with_version name (Some version) = name ++ 64 ∷ parts_text version
+
+-- a key as a text
+abbrev pub key_text : Key → List ℕ
+key_text k = with_version k.0 k.1
 
 -- two versions are one
 abbrev pub same_version : Option Parts → Option Parts → Bool

@@ -77,7 +77,8 @@ pub trait NameMapIntern {
         ensures found { IfOk result (λ o. IfSome o (λ k. text_of self.now k ≡ Some text.now)) }
         ensures absent { result ≡ Ok None → (k : Self.Key) → text_of self.now k ≢ Some text.now };
 
-    ghost one_text: { (i : Self) (k l : Self.Key) (s t : List ℕ) → text_of i k ≡ Some s → text_of i l ≡ Some t → (Self.Key.Eq.eq k l ≡ true) ↔ (s ≡ t) };
+    ghost one_text: { (i : Self) (k l : Self.Key) (s t : List ℕ) → text_of i k ≡ Some s → text_of i l ≡ Some t
+        → (Self.Key.Eq.eq k l ≡ true) ↔ (s ≡ t) };
 
     ghost clone_text: { (i : Self) (k l : Self.Key) → Self.Key.is_clone k l → text_of i l ≡ text_of i k };
 }

@@ -228,6 +228,11 @@ impl<'a> BorrowedPackageKey<'a> {
 }
 
 impl fmt::Display for BorrowedPackageKey<'_> {
+    ghost use Rattle.std.specs.Prelude.{Some};
+    ghost use Rattle.wac_types_names.specs.Keys.{borrowed_key, key_text};
+
+    ghost output = { λ k. Some (key_text (borrowed_key k)) };
+
     fn fmt<W: fmt::Write>(&self, f: &mut fmt::Formatter<W>) -> fmt::Result {
         f.write_str(self.name)?;
         match self.version {
@@ -238,6 +243,11 @@ impl fmt::Display for BorrowedPackageKey<'_> {
 }
 
 impl fmt::Display for PackageKey {
+    ghost use Rattle.std.specs.Prelude.{Some};
+    ghost use Rattle.wac_types_names.specs.Keys.{key_text, owned_key};
+
+    ghost output = { λ k. Some (key_text (owned_key k)) };
+
     fn fmt<W: fmt::Write>(&self, f: &mut fmt::Formatter<W>) -> fmt::Result {
         fmt::Display::fmt(&self.borrowed_key(), f)
     }

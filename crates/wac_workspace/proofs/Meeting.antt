@@ -18,7 +18,7 @@ use Rattle.wac_types_base.specs.Implicit as ids
 use Rattle.wac_types_base.specs.Fits.{Fits}
 use Rattle.wac_types_base.proofs.Lists.{among_mapped, no_entries}
 use Rattle.wac_types_base.proofs.Standing.{Found, world_found}
-use Rattle.wac_types_base.proofs.Stating.{stated_kept}
+use Rattle.wac_types_base.proofs.Stating.{stated_kept, value_with}
 use Rattle.wac_types_base.proofs.Telling.{promote_stated}
 use Rattle.wac_types_fit.specs.Targets.{AreFaults, AreThose, Differing, ExportDiffers, ImportDiffers, IsEmptyReport, IsLacking, IsReport, Leading, Mismatched, Report, Tells, first_is, first_is_not, none_left, target_import}
 use Rattle.wac_types_fit.specs.Trees.{Fit, tree_in}
@@ -28,7 +28,6 @@ use Rattle.wac_types_fit.proofs.Reports.{implicit_stand, target_standing, world_
 use Rattle.wac_composition.specs.Tests.{fits}
 use Rattle.wac_composition.proofs.FitBack.{fits_decides}
 use Rattle.wac_parser_declare.proofs.Exports.{component_exports, component_imports}
-use Rattle.wac_parser_declare.proofs.Kept.{value_at-with_values}
 use Rattle.wac_graph_core.specs.Graph.{Graph}
 use Rattle.wac_parser_resolve.specs.Meeting.{given_by, uses_are_named}
 use Rattle.wac_parser_resolve.specs.Targeting.{IsTarget}
@@ -123,7 +122,7 @@ module _ (c : Collection) (a : IsAcyclic c) (target world : WorldId) (x y : Worl
   target_exports = component_exports c a target x at_target own_target
 
   exported : (n : Name) → value_at (exports_of (stated_world c world)) n ≡ option_map (stated_of c) (value_at y.exports n)
-  exported n = ap (λ es. value_at es n) world_exports ∙ value_at-with_values (stated_of c) y.exports n
+  exported n = ap (λ es. value_at es n) world_exports ∙ value_with (stated_of c) y.exports n
 
   export_stands : (e : Name × ItemKind) → Among e x.exports → Stands c e.1
   export_stands e m = (world_exports_inside c a target x target_stands at_target own_target e.0 e.1 m).0

@@ -10,7 +10,6 @@ use Rattle.wac_graph_bytes.specs.Views.{declarations_of}
 use Rattle.wac_graph_scopes.specs.declared.used.UsedTypes.{UsedTypes}
 use Rattle.wac_graph_scopes.specs.Parts.{exports_of}
 use Rattle.wac_graph_scopes.specs.Items.{Describes, ItemsWritten, StatesInstance}
-use Rattle.wac_graph_scopes.proofs.HandleLaws.{if_ok_map}
 use Rattle.wac_graph_scopes.proofs.PartLaws.{exports_there, name_at}
 use Rattle.wac_graph_scopes.proofs.ItemLaws.{used_deeper, export_follows}
 use Rattle.wac_graph_scopes.proofs.WritingLaws.{writes_none, writes_more, states_instance, instance_described, interface_stands, instance_reads, component_reads, type_given, instance_declared, component_declared, described_entry, no_entry, take_or, all_taken, put_there, put_keeps, among_has, value_here}
@@ -25,7 +24,7 @@ use Rattle.wac_graph_scopes.specs.Imports.{WritesWorld, MayDescribeIn, ExportsWr
 use Rattle.wac_graph_scopes.specs.Items.{StatesComponent}
 use Rattle.wac_graph_scopes.proofs.OrderLaws.{distinct-left, distinct-right}
 use Rattle.wac_graph_scopes.proofs.ImportLaws.{written, world_describes, world_exports, no_name_at, name_added, next_new, next_names, all_named, others_new, ordered_names, states_component, component_described, world_stands}
-use Rattle.std.proofs.lemmas.Result.{err_from_is_err_and}
+use Rattle.std.proofs.lemmas.Result.{err_from_is_err_and, IfOk-weaker}
 use Rattle.wac_graph_scopes.proofs.RefusedLaws.{interface_unsaid, world_unsaid}
 use Rattle.wac_graph_scopes.proofs.+types.Goals as goal
 
@@ -36,7 +35,7 @@ items::push_instance_type-returns-clause-states m c stands w outer i h are =
     let inner = c.in_ok-inner.inner in
     let deep = used_deeper w types (i.here ∷ outer) c.args.around.depth inner.depth c.args.around.used.now.all.items inner.used.now.all.items c.in_ok-inner.ensures.depth (ap (λ (u : UsedTypes). u.all.items) c.in_ok-inner.ensures.used) are in
     let reads = c.in_ok-declarations.ensures stands w (i.here ∷ outer) deep in
-    if_ok_map c.add_type.result (λ k a. type_given w types outer i t c.add_type.new.self k a) (c.add_type.ensures.adds w types outer i (Known t) h (instance_reads w outer i c.in_ok-declarations.declarations t reads))
+    IfOk-weaker c.add_type.result _ _ (λ k a. type_given w types outer i t c.add_type.new.self k a) (c.add_type.ensures.adds w types outer i (Known t) h (instance_reads w outer i c.in_ok-declarations.declarations t reads))
 
 pub items::instance_type-returns : goal.items::instance_type-returns
 items::instance_type-returns m c stands w outer around =
@@ -92,7 +91,7 @@ items::export_item-returns m c stands w outer i h are =
     let types = c.args.types.now in
     let n = c.args.item.name.now in
     let d = c.in_ok-description.ensures.describes w outer i h are in
-    if_ok_map c.export_described.result (λ u e. export_follows w types outer i d.after n (tree_in types c.args.item.kind) c.describe.new.scope c.export_described.new.scope d.goes e)
+    IfOk-weaker c.export_described.result _ _ (λ u e. export_follows w types outer i d.after n (tree_in types c.args.item.kind) c.describe.new.scope c.export_described.new.scope d.goes e)
     (c.export_described.ensures w outer d.after d.goes.stands stands d.sorted (d.reads n))
 
 pub items::describe-returns-in-Some-clause-describes : goal.items::describe-returns-in-Some-clause-describes
@@ -120,7 +119,7 @@ items::push_component_type-returns-clause-states m c stands w outer i h =
     let types = c.args.types.now in
     let t = tree_in types (ItemKind.Component c.args.id) in
     let reads = c.in_ok-declarations.ensures stands w (i.here ∷ outer) in
-    if_ok_map c.add_type.result (λ k a. type_given w types outer i t c.add_type.new.self k a) (c.add_type.ensures.adds w types outer i (Known t) h (component_reads w outer i c.in_ok-declarations.declarations t reads))
+    IfOk-weaker c.add_type.result _ _ (λ k a. type_given w types outer i t c.add_type.new.self k a) (c.add_type.ensures.adds w types outer i (Known t) h (component_reads w outer i c.in_ok-declarations.declarations t reads))
 
 pub items::describe-returns-in-Some-clause-own : goal.items::describe-returns-in-Some-clause-own
 items::describe-returns-in-Some-clause-own m c own w outer i h = (c.in_ok-index.index, c.described.ensures ∙ described_entry c.args.kind c.in_ok-index.index own, c.in_ok-index.ensures.entry w outer i h)
@@ -142,7 +141,7 @@ items::push_component_type-returns-clause-entry m c w outer i h = c.add_type.ens
 pub imports::ImportScope::describe-returns-clause-describes : goal.imports::ImportScope::describe-returns-clause-describes
 imports::ImportScope::describe-returns-clause-describes m c world n w outer i imported exported h =
     let types = c.args.types.now in
-    if_ok_map c.describe.result (λ d a. world_describes w types outer world imported exported i c.args.self.now c.describe.new.scope h n c.args.kind d a)
+    IfOk-weaker c.describe.result _ _ (λ d a. world_describes w types outer world imported exported i c.args.self.now c.describe.new.scope h n c.args.kind d a)
     (c.describe.ensures.describes w outer h.goes.writing.inside h.goes.writing.stands h.goes.used)
 
 pub imports::ImportScope::describe_import-returns-in-Some : goal.imports::ImportScope::describe_import-returns-in-Some
@@ -171,7 +170,7 @@ imports::ImportScope::write_import-returns-in_ok-description-in-Some m c w outer
     let n = import.name.now in
     let entry = c.in-Some.ensures.entry in
     let d = c.in_ok-description-in-Some.ensures w outer h.writing.inside imported exported (written w types outer world imported exported c.args.self.now h) in
-    if_ok_map c.import_placed.result (λ u a. subst (λ (l : List Name). WritesWorld w types outer world c.import_placed.new.self l exported) (name_added is c.args.at n import.kind imported entry) a)
+    IfOk-weaker c.import_placed.result _ _ (λ u a. subst (λ (l : List Name). WritesWorld w types outer world c.import_placed.new.self l exported) (name_added is c.args.at n import.kind imported entry) a)
     (c.import_placed.ensures w outer h.writing.inside imported exported c.import_count-count.ensures.distinct c.in-Some.ensures.inside.0 entry (new n (name_at is c.args.at n import.kind entry)) d)
 
 pub imports::ImportScope::export-returns : goal.imports::ImportScope::export-returns
@@ -181,7 +180,7 @@ imports::ImportScope::export-returns m c w outer imported exported stands is new
     let n = c.args.item.name.now in
     let k = (c.in_ok-prepare.ensures w outer h.writing.inside imported exported (written w types outer world imported exported c.args.self.now h)).goes in
     let i = k.writing.inside in
-    if_ok_map c.export_item.result (λ u e. world_exports w types outer world imported exported c.prepare.new.self c.export_item.new.scope k n (tree_in types c.args.item.kind) (exported ++ n ∷ []) is e new (sym (put_name-new exported n new)))
+    IfOk-weaker c.export_item.result _ _ (λ u e. world_exports w types outer world imported exported c.prepare.new.self c.export_item.new.scope k n (tree_in types c.args.item.kind) (exported ++ n ∷ []) is e new (sym (put_name-new exported n new)))
     (c.export_item.ensures stands w outer i k.writing.stands k.used)
 
 pub worlds::write_imports-loop-at-preserved : goal.worlds::write_imports-loop-at-preserved

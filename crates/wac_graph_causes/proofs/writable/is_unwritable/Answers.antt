@@ -1,7 +1,6 @@
 use Rattle.std.proofs.Common.{[], refl, inl}
-use Rattle.std.proofs.lemmas.Result.{on_ok_weaker}
+use Rattle.std.proofs.lemmas.Result.{on_ok_weaker, IfOk-weaker}
 use Rattle.wac_composition.specs.Writable.{holder}
-use Rattle.wac_graph_scopes.proofs.HandleLaws.{if_ok_map}
 use Rattle.wac_graph_causes.proofs.DefinitionCauses.{copy_told, rest_told}
 use Rattle.wac_graph_causes.proofs.writable.is_unwritable.Goals as goal
 
@@ -15,12 +14,12 @@ returns-in-None-clause-keeps c =
 
 pub returns-in-Some-clause-tells : goal.returns-in-Some-clause-tells
 returns-in-Some-clause-tells c =
-    if_ok_map c.is_unwritable_definition.result
+    IfOk-weaker c.is_unwritable_definition.result _ _
     (λ b tells knows has os beside. copy_told c.args.types.now c.args.asked.now c.args.definition.now has c.args.outers.now os beside c.as_str-name.result.now c.as_str-name.ensures b c.in-Some.kind c.in-Some.is (tells knows))
     c.is_unwritable_definition.ensures.fails
 
 pub returns-in-None-clause-tells : goal.returns-in-None-clause-tells
 returns-in-None-clause-tells c =
-    if_ok_map c.is_unwritable_definition-in-None.result
+    IfOk-weaker c.is_unwritable_definition-in-None.result _ _
     (λ b tells knows has os beside. rest_told c.args.types.now c.args.asked.now c.args.definition.now has c.args.outers.now os beside c.as_str-name.result.now c.as_str-name.ensures b c.in-None.is tells)
     c.is_unwritable_definition-in-None.ensures.simple

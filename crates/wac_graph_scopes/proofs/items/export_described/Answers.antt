@@ -1,11 +1,11 @@
 use Rattle.std.proofs.Common.{◌≡◌, ◌∷◌, refl, ap, ◌∙◌, string_bytes}
+use Rattle.std.proofs.lemmas.Result.{IfOk-weaker}
 use Rattle.wac_types_base.specs.Entries.{Name}
 use Rattle.wac_types_base.specs.Tree.{Tree}
 use Rattle.wac_graph_bytes.specs.declared.value.Sort.{Sort}
 use Rattle.wac_types_fit.specs.Trees.{tree_in}
 use Rattle.wac_graph_bytes.specs.Counting.{description_sort}
 use Rattle.wac_graph_bytes.specs.Typing.{Item, exports_inside, described}
-use Rattle.wac_graph_scopes.proofs.HandleLaws.{if_ok_map}
 use Rattle.wac_graph_scopes.proofs.WritingLaws.{export_declared, exported_item, noted_item}
 use Rattle.wac_graph_scopes.proofs.items.export_described.Goals as goal
 
@@ -20,5 +20,5 @@ returns c w outer i h stands sorted e =
     let x : Sort × Tree = (description_sort d, t) in
     let reads = ap (λ (p : Name). described w (i.here ∷ outer) p d) same ∙ e in
     let a = c.in_ok-index.ensures w types outer i (exports_inside m x i) (Item m (description_sort d) t) h (export_declared w types outer i c.in_ok-text.text d x reads) refl in
-    if_ok_map c.note.result (λ u s. exported_item w types outer i m n t (description_sort d) c.note.new.self same s)
+    IfOk-weaker c.note.result _ _ (λ u s. exported_item w types outer i m n t (description_sort d) c.note.new.self same s)
     (c.note.ensures w outer (exports_inside m x i) a.stands (noted_item w types outer i m c.args.item.kind d c.in_ok-index.index stands sorted a.index))

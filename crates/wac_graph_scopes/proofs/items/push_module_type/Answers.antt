@@ -2,8 +2,7 @@ use Rattle.std.proofs.Common.{Some, inl, inr, sym, ap, ◌∙◌}
 use Rattle.wac_types_base.specs.declared.item.ItemKind.{ItemKind}
 use Rattle.wac_types_fit.specs.Trees.{tree_in}
 use Rattle.wac_types_fit.proofs.Unfolded.{module_tree}
-use Rattle.std.proofs.lemmas.Result.{err_from_is_err_and}
-use Rattle.wac_graph_scopes.proofs.HandleLaws.{if_ok_map}
+use Rattle.std.proofs.lemmas.Result.{err_from_is_err_and, IfOk-weaker}
 use Rattle.wac_graph_scopes.proofs.RefusedLaws.{if_err_map}
 use Rattle.wac_graph_scopes.proofs.WritingLaws.{core_reads, core_given}
 use Rattle.wac_graph_scopes.proofs.items.push_module_type.Goals as goal
@@ -14,7 +13,7 @@ returns-clause-states c w outer i h =
     let t = tree_in types (ItemKind.Module c.args.id) in
     let m = c.module_type.result.now in
     let reads = c.in_ok-declarations.ensures.written ∙ ap Some (sym (module_tree types c.module_type.ensures.acyclic c.args.id m c.module_type.ensures.entry c.module_type.ensures.own)) in
-    if_ok_map c.add_core.result (λ k a. core_given w types outer i t c.add_core.new.self k a) (c.add_core.ensures.adds w types outer i t h (core_reads w outer i c.in_ok-declarations.declarations t reads))
+    IfOk-weaker c.add_core.result _ _ (λ k a. core_given w types outer i t c.add_core.new.self k a) (c.add_core.ensures.adds w types outer i t h (core_reads w outer i c.in_ok-declarations.declarations t reads))
 
 pub returns-in_err-declarations-clause-refused : goal.returns-in_err-declarations-clause-refused
 returns-in_err-declarations-clause-refused c stands =

@@ -1,9 +1,9 @@
 use Rattle.std.proofs.Common.{◌+◌, take, sym, subst, inl, inr}
+use Rattle.std.proofs.lemmas.Result.{IfOk-weaker}
 use Rattle.wac_types_base.specs.Graph.{Among}
 use Rattle.wac_types_base.specs.Entries.{Name, names_of}
 use Rattle.wac_types_base.proofs.Looked.{distinct-before}
 use Rattle.wac_graph_scopes.specs.Parts.{uses_of}
-use Rattle.wac_graph_scopes.proofs.HandleLaws.{if_ok_map}
 use Rattle.wac_graph_scopes.proofs.WritingLaws.{take_more, take_last}
 use Rattle.wac_graph_scopes.proofs.items.take_use_at.Goals as goal
 
@@ -13,7 +13,7 @@ returns-in-Some c w outer around k =
     let n = c.in-Some.used.name.now in
     let at = c.args.at in
     let fresh : Among n c.args.given.now → ⊥ = λ m. distinct-before names at n c.requires c.in-Some.ensures.name (k.before_it n m) in
-    if_ok_map c.take_named.result (λ u p. record {
+    IfOk-weaker c.take_named.result _ _ (λ u p. record {
       writing = p.0;
       before_it = λ m among. elim (p.1 m among) [
         | inl old ↦ take_more m names at (k.before_it m old)

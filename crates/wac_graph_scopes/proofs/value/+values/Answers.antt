@@ -1,6 +1,6 @@
 use Rattle.std.specs.Prelude.{IfSome}
 use Rattle.std.proofs.Common.{◌≡◌, ◌∷◌, ◌+◌, ◌<◌, Some, take, refl, sym, ap, subst, ◌∙◌, arith}
-use Rattle.std.proofs.lemmas.Result.{err_from_is_err_and}
+use Rattle.std.proofs.lemmas.Result.{err_from_is_err_and, IfOk-weaker}
 use Rattle.wac_types_base.specs.declared.item.ItemKind.{ItemKind}
 use Rattle.wac_types_base.specs.declared.item.ValueType.{ValueType}
 use Rattle.wac_types_base.specs.Collection.{Stands, size_of, slots_of, StandsIf}
@@ -15,7 +15,7 @@ use Rattle.wac_graph_bytes.specs.Typing.{value_of}
 use Rattle.wac_graph_scopes.specs.Forms.{entry_of}
 use Rattle.wac_graph_scopes.specs.Scopes.{AnswersPlaces}
 use Rattle.wac_graph_scopes.proofs.ValueLaws.{value_of_tree, value_there, value_written, value_remembered, places_none, places_next, trees_next, trees_all}
-use Rattle.wac_graph_scopes.proofs.HandleLaws.{if_ok_map, take_zero, place_none, place_some}
+use Rattle.wac_graph_scopes.proofs.HandleLaws.{take_zero, place_none, place_some}
 use Rattle.wac_graph_scopes.proofs.RefusedLaws.{if_err_map, alias_refused, place_refused}
 use Rattle.wac_graph_scopes.proofs.value.+values.Goals as goal
 
@@ -29,7 +29,7 @@ push_value-returns-clause-writes t c w outer i h =
     let types = c.args.types.now in
     let v = c.resolve_value_type-end.result in
     let same = same_tree types c.see_acyclic.ensures (ItemKind.Value v) (ItemKind.Value c.args.ty) c.resolve_value_type-end.ensures.stands c.requires c.resolve_value_type-end.ensures.tree in
-    if_ok_map c.push_resolved.result (λ b a. value_of_tree w types outer i (tree_in types (ItemKind.Value v)) (tree_in types (ItemKind.Value c.args.ty)) c.push_resolved.new.scope b same a) (c.push_resolved.ensures.writes w outer i h)
+    IfOk-weaker c.push_resolved.result _ _ (λ b a. value_of_tree w types outer i (tree_in types (ItemKind.Value v)) (tree_in types (ItemKind.Value c.args.ty)) c.push_resolved.new.scope b same a) (c.push_resolved.ensures.writes w outer i h)
 
 pub push_resolved-push_own-requires : goal.push_resolved-push_own-requires
 push_resolved-push_own-requires t c = subst (λ v. Stands c.args.types.now (ItemKind.Value v)) c.in-Own.is c.requires.stands
@@ -53,17 +53,17 @@ push_resolved-returns-in-Primitive-clause-writes t c w outer i h =
 pub push_resolved-returns-in-Own-clause-writes : goal.push_resolved-returns-in-Own-clause-writes
 push_resolved-returns-in-Own-clause-writes t c w outer i h =
     let types = c.args.types.now in
-    if_ok_map c.push_own.result (λ b a. value_of_tree w types outer i (tree_in types (ItemKind.Value (ValueType.Own c.in-Own.id))) (tree_in types (ItemKind.Value c.args.ty)) c.push_own.new.scope b (ap (λ v. tree_in types (ItemKind.Value v)) (sym c.in-Own.is)) a) (c.push_own.ensures.writes w outer i h)
+    IfOk-weaker c.push_own.result _ _ (λ b a. value_of_tree w types outer i (tree_in types (ItemKind.Value (ValueType.Own c.in-Own.id))) (tree_in types (ItemKind.Value c.args.ty)) c.push_own.new.scope b (ap (λ v. tree_in types (ItemKind.Value v)) (sym c.in-Own.is)) a) (c.push_own.ensures.writes w outer i h)
 
 pub push_resolved-returns-in-Borrow-clause-writes : goal.push_resolved-returns-in-Borrow-clause-writes
 push_resolved-returns-in-Borrow-clause-writes t c w outer i h =
     let types = c.args.types.now in
-    if_ok_map c.push_borrow.result (λ b a. value_of_tree w types outer i (tree_in types (ItemKind.Value (ValueType.Borrow c.in-Borrow.id))) (tree_in types (ItemKind.Value c.args.ty)) c.push_borrow.new.scope b (ap (λ v. tree_in types (ItemKind.Value v)) (sym c.in-Borrow.is)) a) (c.push_borrow.ensures.writes w outer i h)
+    IfOk-weaker c.push_borrow.result _ _ (λ b a. value_of_tree w types outer i (tree_in types (ItemKind.Value (ValueType.Borrow c.in-Borrow.id))) (tree_in types (ItemKind.Value c.args.ty)) c.push_borrow.new.scope b (ap (λ v. tree_in types (ItemKind.Value v)) (sym c.in-Borrow.is)) a) (c.push_borrow.ensures.writes w outer i h)
 
 pub push_resolved-returns-in-Defined-clause-writes : goal.push_resolved-returns-in-Defined-clause-writes
 push_resolved-returns-in-Defined-clause-writes t c w outer i h =
     let types = c.args.types.now in
-    if_ok_map c.push_defined.result (λ b a. value_of_tree w types outer i (tree_in types (ItemKind.Value (ValueType.Defined c.in-Defined.id))) (tree_in types (ItemKind.Value c.args.ty)) c.push_defined.new.scope b (ap (λ v. tree_in types (ItemKind.Value v)) (sym c.in-Defined.is)) a) (c.push_defined.ensures.writes w outer i h)
+    IfOk-weaker c.push_defined.result _ _ (λ b a. value_of_tree w types outer i (tree_in types (ItemKind.Value (ValueType.Defined c.in-Defined.id))) (tree_in types (ItemKind.Value c.args.ty)) c.push_defined.new.scope b (ap (λ v. tree_in types (ItemKind.Value v)) (sym c.in-Defined.is)) a) (c.push_defined.ensures.writes w outer i h)
 
 pub push_defined-define_entry-requires : goal.push_defined-define_entry-requires
 push_defined-define_entry-requires t c = (omega (arith, c.decreases), c.requires.stands)

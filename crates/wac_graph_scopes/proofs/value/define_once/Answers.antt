@@ -1,10 +1,10 @@
 use Rattle.std.proofs.Common.{◌∷◌, subst}
 use Rattle.std.specs.Prelude.{IfSome}
+use Rattle.std.proofs.lemmas.Result.{IfOk-weaker}
 use Rattle.wac_types_base.specs.declared.item.ItemKind.{ItemKind}
 use Rattle.wac_types_base.specs.declared.item.ValueType.{ValueType}
 use Rattle.wac_types_fit.specs.Trees.{tree_in}
 use Rattle.wac_graph_scopes.specs.Scopes.{StandsFor}
-use Rattle.wac_graph_scopes.proofs.HandleLaws.{if_ok_map}
 use Rattle.wac_graph_scopes.proofs.UsedLaws.{type_there, type_answered}
 use Rattle.wac_graph_scopes.proofs.value.define_once.Goals as goal
 
@@ -17,5 +17,5 @@ returns-in-Some-clause-writes c w outer i h =
 pub returns-in-None-clause-writes : goal.returns-in-None-clause-writes
 returns-in-None-clause-writes c w outer i h =
     let types = c.args.types.now in
-    if_ok_map c.define_entry.result (λ k a. type_answered w types outer i (tree_in types (ItemKind.Value (ValueType.Defined c.args.id))) c.define_entry.new.scope k a)
+    IfOk-weaker c.define_entry.result _ _ (λ k a. type_answered w types outer i (tree_in types (ItemKind.Value (ValueType.Defined c.args.id))) c.define_entry.new.scope k a)
     (c.define_entry.ensures.writes w outer i c.requires.no_alias (c.known_index.ensures.keeps w outer i h))

@@ -1,4 +1,5 @@
 use Rattle.std.proofs.Common.{Some, sym, ap, subst, ◌∙◌}
+use Rattle.std.proofs.lemmas.Result.{IfOk-weaker}
 use Rattle.wac_types_base.specs.declared.item.ItemKind.{ItemKind}
 use Rattle.wac_types_base.specs.declared.item.ValueType.{ValueType}
 use Rattle.wac_types_base.specs.Collection.{Stands}
@@ -6,7 +7,6 @@ use Rattle.wac_types_base.specs.Resolving.{IsNoAlias}
 use Rattle.wac_types_fit.specs.Trees.{tree_in}
 use Rattle.wac_types_fit.proofs.Unfolded.{primitive_tree}
 use Rattle.wac_graph_bytes.specs.declared.value.ValueType.TheVariants.{Primitive}
-use Rattle.wac_graph_scopes.proofs.HandleLaws.{if_ok_map}
 use Rattle.wac_graph_scopes.proofs.ValueLaws.{value_there}
 use Rattle.wac_graph_scopes.proofs.UsedLaws.{type_answered, type_of_tree, primitive_defined}
 use Rattle.wac_graph_scopes.proofs.value.define_plain.Goals as goal
@@ -40,7 +40,7 @@ returns-in-Own-clause-writes c w outer i h =
     let types = c.args.types.now in
     let own = tree_in types (ItemKind.Value (ValueType.Own c.in-Own.id)) in
     let s = c.define_own.new.scope in
-    if_ok_map c.define_own.result (λ k a. type_of_tree w types outer i own (tree_in types (ItemKind.Value c.args.ty)) s k (ap (λ v. tree_in types (ItemKind.Value v)) (sym c.in-Own.is)) (type_answered w types outer i own s k a))
+    IfOk-weaker c.define_own.result _ _ (λ k a. type_of_tree w types outer i own (tree_in types (ItemKind.Value c.args.ty)) s k (ap (λ v. tree_in types (ItemKind.Value v)) (sym c.in-Own.is)) (type_answered w types outer i own s k a))
     (c.define_own.ensures.writes w outer i h)
 
 pub returns-in-Borrow-clause-writes : goal.returns-in-Borrow-clause-writes
@@ -48,7 +48,7 @@ returns-in-Borrow-clause-writes c w outer i h =
     let types = c.args.types.now in
     let borrow = tree_in types (ItemKind.Value (ValueType.Borrow c.in-Borrow.id)) in
     let s = c.define_borrow.new.scope in
-    if_ok_map c.define_borrow.result (λ k a. type_of_tree w types outer i borrow (tree_in types (ItemKind.Value c.args.ty)) s k (ap (λ v. tree_in types (ItemKind.Value v)) (sym c.in-Borrow.is)) (type_answered w types outer i borrow s k a))
+    IfOk-weaker c.define_borrow.result _ _ (λ k a. type_of_tree w types outer i borrow (tree_in types (ItemKind.Value c.args.ty)) s k (ap (λ v. tree_in types (ItemKind.Value v)) (sym c.in-Borrow.is)) (type_answered w types outer i borrow s k a))
     (c.define_borrow.ensures.writes w outer i h)
 
 pub returns-in-Defined-clause-writes : goal.returns-in-Defined-clause-writes
@@ -56,4 +56,4 @@ returns-in-Defined-clause-writes c w outer i h =
     let types = c.args.types.now in
     let defined = tree_in types (ItemKind.Value (ValueType.Defined c.in-Defined.id)) in
     let s = c.define_anew.new.scope in
-    if_ok_map c.define_anew.result (λ k a. type_of_tree w types outer i defined (tree_in types (ItemKind.Value c.args.ty)) s k (ap (λ v. tree_in types (ItemKind.Value v)) (sym c.in-Defined.is)) a) (c.define_anew.ensures.writes w outer i h)
+    IfOk-weaker c.define_anew.result _ _ (λ k a. type_of_tree w types outer i defined (tree_in types (ItemKind.Value c.args.ty)) s k (ap (λ v. tree_in types (ItemKind.Value v)) (sym c.in-Defined.is)) a) (c.define_anew.ensures.writes w outer i h)

@@ -1,5 +1,5 @@
 use Rattle.std.proofs.Common.{sym}
-use Rattle.wac_names.proofs.NameKinds.{ok_map}
+use Rattle.std.proofs.lemmas.Result.{IfOk-weaker}
 use Rattle.wac_types_base.specs.Collection.{Stands}
 use Rattle.wac_parser_declare.proofs.Exports.{component_exports}
 use Rattle.wac_parser_declare.proofs.Kept.{found_stands}
@@ -17,7 +17,7 @@ pub returns-in-Some : goal.returns-in-Some
 returns-in-Some c =
     let d = c.args.types.now in
     let w = c.world.ensures in
-    ok_map c.definition_of.result
+    IfOk-weaker c.definition_of.result _ _
     (λ o h. exported_defines d w.acyclic c.args.world c.world.result.now.exports (component_exports d w.acyclic c.args.world c.world.result.now w.entry w.own) c.see_distinct.ensures c.args.name.now
     c.in-Some.item.now o (sym c.in-Some.ensures) h)
     c.definition_of.ensures

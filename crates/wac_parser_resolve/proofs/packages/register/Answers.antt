@@ -1,5 +1,5 @@
 use Rattle.std.proofs.Common.{ap, subst, sym, ◌∙◌}
-use Rattle.wac_names.proofs.NameKinds.{ok_map}
+use Rattle.std.proofs.lemmas.Result.{IfOk-weaker}
 use Rattle.wac_types_base.specs.declared.item.ItemKind.{ItemKind}
 use Rattle.wac_types_base.specs.declared.ids.WorldId.{WorldId}
 use Rattle.wac_types_base.specs.Stated.{stated_of}
@@ -14,7 +14,7 @@ pub returns-clause-registered : goal.returns-clause-registered
 returns-clause-registered c =
     let first = c.in_ok-world.ensures in
     let made = c.in_ok-package.ensures in
-    ok_map c.add_package.result
+    IfOk-weaker c.add_package.result _ _
     (λ id reg. package_registered c.args.graph.now c.copy_world.new.graph c.make_package.new.graph c.add_package.new.graph c.in_ok-package.«package» c.in_ok-world.world (key_of c.args.name.now c.args.version) (stated_handed c.args.handed)
     c.see_sound.ensures c.see_sound-2.ensures first.enlarges made.enlarges first.stands (first.copied ∙ ap (λ (w : WorldId). stated_of c.args.handed.types.now (ItemKind.Component w)) c.ty.ensures) made.world made.key c.args.handed.«package».now.bytes (made.bytes ∙ (c.in_ok-bytes.ensures.items ∙ c.bytes.ensures)) id reg)
     c.add_package.ensures.registered

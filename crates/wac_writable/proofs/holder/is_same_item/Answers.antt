@@ -1,5 +1,5 @@
 use Rattle.std.proofs.Common.{refl}
-use Rattle.wac_graph_scopes.proofs.HandleLaws.{if_ok_map}
+use Rattle.std.proofs.lemmas.Result.{IfOk-weaker}
 use Rattle.wac_writable.proofs.ItemLaws.{same_itself, no_fit, back_fits}
 use Rattle.wac_writable.proofs.holder.is_same_item.Goals as goal
 
@@ -10,4 +10,4 @@ pub returns-then-not-branch : goal.returns-then-not-branch
 returns-then-not-branch c s t = no_fit c.args.types.now c.args.a c.args.b c.in_ok-fits.field-0 c.if-not-branch.true (c.in_ok-fits.ensures s t)
 
 pub returns : goal.returns
-returns c = if_ok_map c.fits-2.result (λ y d s t. back_fits c.args.types.now c.args.a c.args.b c.in_ok-fits.field-0 y c.if-not-branch.false (c.in_ok-fits.ensures s t) (d t s)) c.fits-2.ensures
+returns c = IfOk-weaker c.fits-2.result _ _ (λ y d s t. back_fits c.args.types.now c.args.a c.args.b c.in_ok-fits.field-0 y c.if-not-branch.false (c.in_ok-fits.ensures s t) (d t s)) c.fits-2.ensures

@@ -1,12 +1,12 @@
 use Rattle.std.proofs.Common.{◌+◌, ◌||◌, ◌++◌, false, true≢false, inl, inr, refl, sym, ap, ◌∙◌, subst, arith}
 use Rattle.std.specs.Bool.{Decides}
 use Rattle.std.proofs.lemmas.Bool.Decides.{Decides-at, not_from_Decides}
+use Rattle.std.proofs.lemmas.Result.{IfOk-weaker}
 use Rattle.wac_types_base.specs.declared.item.ItemKind.{ItemKind}
 use Rattle.wac_types_base.specs.Collection.{size_of}
 use Rattle.wac_types_base.specs.Stated.{stated_of, uses_of, imports_of, exports_of, stated_world}
 use Rattle.wac_composition.specs.NotWritten.{component_holder, unnamed_use}
 use Rattle.wac_graph_scopes.specs.Parts.{exports_of as exports_in, uses_of as uses_in, world_uses_of as world_uses_in, imports_of as imports_in, world_exports_of as world_exports_in}
-use Rattle.wac_graph_scopes.proofs.HandleLaws.{if_ok_map}
 use Rattle.wac_writable.specs.Holders.{Keeps}
 use Rattle.wac_writable.specs.Items.{item_unwritable}
 use Rattle.wac_writable.specs.Tests.{used_of, ungiven_unwritable, tested_unwritable, exports_unwritable, some_ungiven, some_unwritable}
@@ -51,7 +51,7 @@ exports_fail-loop-at-preserved t c = elim c.match-export_at.branch [
 pub item_fails-returns-in-Some-clause-fails : goal.item_fails-returns-in-Some-clause-fails
 item_fails-returns-in-Some-clause-fails t c =
     let C = c.args.test.types.now in
-    if_ok_map c.interface_fails.result (λ b f ka s h w. f ka
+    IfOk-weaker c.interface_fails.result _ _ (λ b f ka s h w. f ka
     ∙ interface_item C c.see_acyclic.ensures c.args.test.is_outer c.args.item.kind c.in-Some.id c.args.item.name.now h c.in-Some.ensures.kind s) c.interface_fails.ensures
 
 pub item_fails-returns-in-Some-clause-simple : goal.item_fails-returns-in-Some-clause-simple
@@ -63,7 +63,7 @@ item_fails-returns-in-Some-world_of-clause-simple t c = if_ok_all c.world_fails.
 pub item_fails-returns-in-Some-world_of-clause-fails : goal.item_fails-returns-in-Some-world_of-clause-fails
 item_fails-returns-in-Some-world_of-clause-fails t c =
     let C = c.args.test.types.now in
-    if_ok_map c.world_fails.result (λ b f ka s h w.
+    IfOk-weaker c.world_fails.result _ _ (λ b f ka s h w.
     world_item C c.see_acyclic.ensures c.args.test.is_outer c.args.item.kind c.in-Some-world_of.id c.args.item.name.now h b c.in-Some-world_of.ensures.kind s (f ka)) c.world_fails.ensures
 
 -- ---- a used interface
@@ -111,7 +111,7 @@ use_itself_fails-returns-then-branch t c ka k = (
 
 pub use_itself_fails-returns : goal.use_itself_fails-returns
 use_itself_fails-returns t c =
-    if_ok_map c.types_fail.result (λ b f ka k.
+    IfOk-weaker c.types_fail.result _ _ (λ b f ka k.
     let x = f ka k in (
       by_types c.args.test c.args.used (imports_by c.args.test.types.now c.args.giver.now.world) c.in-Some.name.now b
           (identifier_is c.args.test.types.now c.see_acyclic.ensures c.args.used.interface ∙ sym c.in-Some.ensures) (not_from_Decides _ c.in_ok-gives.ensures c.if-branch.false) x.0,
@@ -133,7 +133,7 @@ use_fails-returns-then-is_new t c =
     let u = c.args.used in
     let m = c.use_itself_fails.new.giver in
     let d = record m { seen = c.insert.new.self } in
-    if_ok_map c.uses_fail.result (λ b f ka k.
+    IfOk-weaker c.uses_fail.result _ _ (λ b f ka k.
     let x = c.in_ok-use_itself_fails.ensures ka (knows_after T _ 0 c.args.giver.now c.args.giver.now (omega arith) k (goes_nowhere T _ c.args.giver.now k)) in
     let g = x.1 c.if-branch.false in
     let y = f ka (knows_new T u c.args.giver.now m k g d refl refl c.in_ok-is_new.ensures.keys) in
@@ -387,7 +387,7 @@ all_uses_fail-returns t c =
     let T = c.args.test in
     let x = stated_world T.types.now c.args.id in
     let n = size_of T.types.now (ItemKind.Component c.args.id) in
-    if_ok_map c.uses_of_exports_fail.result (λ b f ka k.
+    IfOk-weaker c.uses_of_exports_fail.result _ _ (λ b f ka k.
     let v = c.in_ok-world_uses_fail.ensures ka k in
     let y = tells_after T c.args.giver.now c.world_uses_fail.new.giver c.uses_of_imports_fail.new.giver n n (λ is. SomeItem T.is_outer is (imports_of x)) _ ka k (omega arith) (v.1 c.if-branch.false) c.in_ok-uses_of_imports_fail.ensures in
     let z = tells_after T c.args.giver.now c.uses_of_imports_fail.new.giver c.uses_of_exports_fail.new.giver n n (λ is. SomeItem T.is_outer is (exports_of x)) b ka k (omega arith) (y.1 c.if-branch-2.false) f in
@@ -396,7 +396,7 @@ all_uses_fail-returns t c =
 pub uses_of_world_fail-returns : goal.uses_of_world_fail-returns
 uses_of_world_fail-returns t c =
     let T = c.args.test in
-    if_ok_map c.all_uses_fail.result (λ b f ka.
+    IfOk-weaker c.all_uses_fail.result _ _ (λ b f ka.
     subst (λ w. Decides b (WorldNeeds T.is_outer (imports_by T.types.now w) (stated_world T.types.now c.args.id))) c.new-giver.ensures.world
     (f ka (knows_none T _ c.new-giver.result c.new-giver.ensures.seen c.new-giver.ensures.fine)).0) c.all_uses_fail.ensures
 
@@ -410,11 +410,11 @@ all_items_fail-returns-then-branch t c ka h w =
 pub all_items_fail-returns : goal.all_items_fail-returns
 all_items_fail-returns t c =
     let C = c.args.test.types.now in
-    if_ok_map c.world_exports_fail.result (λ b f ka h w. f ka h (c.in_ok-imports_fail.ensures.keeps C (inl refl) h w)
+    IfOk-weaker c.world_exports_fail.result _ _ (λ b f ka h w. f ka h (c.in_ok-imports_fail.ensures.keeps C (inl refl) h w)
     ∙ sym (ap (λ b. b || some_unwritable C c.args.test.is_outer h (world_exports_in C c.args.id)) (sym (c.in_ok-imports_fail.ensures.fails ka h w) ∙ c.if-branch.false))) c.world_exports_fail.ensures
 
 pub items_of_world_fail-returns : goal.items_of_world_fail-returns
-items_of_world_fail-returns t c = if_ok_map c.all_items_fail.result (λ b f ka. f ka (component_holder (stated_world c.args.test.types.now c.args.id)) (filled_holds c.args.test.types.now c.in_ok-holder.holder _ c.in_ok-holder.ensures)) c.all_items_fail.ensures
+items_of_world_fail-returns t c = IfOk-weaker c.all_items_fail.result _ _ (λ b f ka. f ka (component_holder (stated_world c.args.test.types.now c.args.id)) (filled_holds c.args.test.types.now c.in_ok-holder.holder _ c.in_ok-holder.ensures)) c.all_items_fail.ensures
 
 -- ---- a world
 
@@ -427,6 +427,6 @@ world_fails-returns-then-branch t c ka = always (needed_fails c.args.test.is_out
 pub world_fails-returns : goal.world_fails-returns
 world_fails-returns t c =
     let T = c.args.test in
-    if_ok_map c.items_of_world_fail.result (λ b f ka.
+    IfOk-weaker c.items_of_world_fail.result _ _ (λ b f ka.
     items_left T.is_outer (stated_world T.types.now c.args.id) b (sym (c.is_found_of_world.ensures ka) ∙ c.if-is_found_of_world.false) (not_from_Decides _ (c.in_ok-uses_of_world_fail.ensures ka) c.if-branch.false)
     (Decides-at b _ (f ka) (world_items_decide T.types.now c.see_acyclic.ensures T.is_outer c.args.id))) c.items_of_world_fail.ensures

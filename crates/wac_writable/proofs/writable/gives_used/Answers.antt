@@ -1,5 +1,5 @@
 use Rattle.std.proofs.Common.{sym, ◌∙◌}
-use Rattle.wac_graph_scopes.proofs.HandleLaws.{if_ok_map}
+use Rattle.std.proofs.lemmas.Result.{IfOk-weaker}
 use Rattle.wac_writable.proofs.GivenLaws.{takes_nothing, gives_nothing, gives_by}
 use Rattle.wac_writable.proofs.writable.gives_used.Goals as goal
 
@@ -13,5 +13,5 @@ returns-in_default-interface_of c s =
 pub returns : goal.returns
 returns c =
     let C = c.args.test.types.now in
-    if_ok_map c.stands_for.result (λ b f s. f
+    IfOk-weaker c.stands_for.result _ _ (λ b f s. f
     ∙ sym (gives_by C c.see_acyclic.ensures c.args.used c.args.import c.in-Some.item c.in-Some-interface_of.id c.export_named-2.result c.in-Some.ensures.value c.in-Some-interface_of.ensures.kind s c.export_named-2.ensures.value)) c.stands_for.ensures

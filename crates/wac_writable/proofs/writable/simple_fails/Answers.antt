@@ -1,6 +1,6 @@
 use Rattle.std.proofs.Common.{◌∙◌}
+use Rattle.std.proofs.lemmas.Result.{IfOk-weaker}
 use Rattle.wac_types_base.specs.declared.item.ItemKind.{ItemKind}
-use Rattle.wac_graph_scopes.proofs.HandleLaws.{if_ok_map}
 use Rattle.wac_writable.proofs.SimpleLaws.{of_kind, func_unwritable, value_unwritable, module_item, no_simple_instance, no_simple_component}
 use Rattle.wac_writable.proofs.writable.simple_fails.Goals as goal
 
@@ -9,7 +9,7 @@ returns-in-Func-clause-fails c =
     let C = c.args.test.types.now in
     let o = c.args.test.is_outer in
     let n = c.args.item.name.now in
-    if_ok_map c.places_fail.result (λ b f i s h w. of_kind C o n h c.args.item.kind (ItemKind.Func c.in-Func.id) b c.in-Func.is s
+    IfOk-weaker c.places_fail.result _ _ (λ b f i s h w. of_kind C o n h c.args.item.kind (ItemKind.Func c.in-Func.id) b c.in-Func.is s
     (λ t. f t h w ∙ func_unwritable C c.see_acyclic.ensures o n h c.in-Func.id t)) c.places_fail.ensures.fails
 
 pub returns-in-Instance-clause-fails : goal.returns-in-Instance-clause-fails

@@ -1,6 +1,6 @@
 use Rattle.std.proofs.Common.{subst}
 use Rattle.std.specs.Bool.{Decides}
-use Rattle.wac_graph_scopes.proofs.HandleLaws.{if_ok_map}
+use Rattle.std.proofs.lemmas.Result.{IfOk-weaker}
 use Rattle.wac_writable.specs.Uses.{NeededBy}
 use Rattle.wac_writable.specs.Givers.{imports_by, instance_of}
 use Rattle.wac_writable.proofs.GiverLaws.{knows_none}
@@ -9,6 +9,6 @@ use Rattle.wac_writable.proofs.writable.wrapped_uses_fail.Goals as goal
 pub returns : goal.returns
 returns c =
     let T = c.args.test in
-    if_ok_map c.uses_fail.result (λ b f ka.
+    IfOk-weaker c.uses_fail.result _ _ (λ b f ka.
     subst (λ w. Decides b (NeededBy T.is_outer (imports_by T.types.now w) (instance_of T.types.now c.args.id))) c.new-giver.ensures.world
     (f ka (knows_none T _ c.new-giver.result c.new-giver.ensures.seen c.new-giver.ensures.fine)).0) c.uses_fail.ensures

@@ -1,5 +1,5 @@
 use Rattle.std.proofs.Common.{sym, subst, ◌∙◌}
-use Rattle.wac_types_base.proofs.Lists.{not_true}
+use Rattle.std.proofs.lemmas.Bool.{not-true}
 use Rattle.wac_graph_core.specs.NodeMaps.{NoImport}
 use Rattle.wac_graph_core.specs.Slots.{nodes_in}
 use Rattle.wac_graph_core.specs.Noted.{HasNotes}
@@ -9,5 +9,5 @@ use Rattle.wac_graph_core.proofs.nodes.Nodes.lacks_import.Goals as goal
 pub returns-in-Some : goal.returns-in-Some
 returns-in-Some c = λ h.
     let known = subst (λ o. HasNotes o (nodes_in c.self.inside.slots.items)) c.in-Some.is c.self.invariant in
-    let away = sym c.contains.ensures ∙ not_true c.contains.result h in
+    let away = sym c.contains.ensures ∙ not-true c.contains.result h in
     subst (λ m. NoImport m c.args.name.now) c.self.view_is (import_away c.in-Some.noted (nodes_in c.self.inside.slots.items) known c.args.name.now away)

@@ -1,4 +1,4 @@
-use Rattle.wac_names.proofs.NameKinds.{ok_map}
+use Rattle.std.proofs.lemmas.Result.{IfOk-weaker}
 use Rattle.wac_graph_core.proofs.Reached.{unmarked_closed, used_those}
 use Rattle.wac_graph_core.proofs.nodes.Nodes.used_by.Goals as goal
 
@@ -7,5 +7,5 @@ mark_reached-requires c = record { stands = c.requires; closed = unmarked_closed
 
 pub returns : goal.returns
 returns c =
-    ok_map c.marked.result (λ v those.
+    IfOk-weaker c.marked.result _ _ (λ v those.
     used_those c.args.types.now c.args.self.now c.args.ty c.new-marks.result c.mark_reached.new.marks v.items c.new-marks.ensures c.in_ok-mark_reached.ensures.gathers those) c.marked.ensures

@@ -1,9 +1,9 @@
 use Rattle.std.proofs.Common.{sym, ap, subst}
+use Rattle.std.proofs.lemmas.Result.{IfOk-weaker}
 use Rattle.wac_types_base.specs.declared.item.ItemKind.{ItemKind}
 use Rattle.wac_graph_scopes.specs.declared.items.ItemScope.{ItemScope}
 use Rattle.wac_graph_scopes.specs.declared.scope.TypeScope.{TypeScope}
 use Rattle.wac_graph_scopes.specs.Scopes.{IsEntryIn}
-use Rattle.wac_graph_scopes.proofs.HandleLaws.{if_ok_map}
 use Rattle.wac_graph_scopes.proofs.ItemLaws.{item_exchanged}
 use Rattle.wac_graph_scopes.proofs.ImportLaws.{world_apart}
 use Rattle.wac_graph_scopes.proofs.RefusedLaws.{if_err_map, type_refused_kept}
@@ -17,7 +17,7 @@ returns-clause-describes c world w col outer from imported exported h known =
     let mid = c.describe_type-description.new.scope in
     let held = c.exchange.new.other in
     let x = item_exchanged w col types outer i s.scope c.exchange.new.self c.args.other.now held c.exchange.ensures.exchanges h.goes.writing.stands known in
-    if_ok_map c.describe_type-description.result
+    IfOk-weaker c.describe_type-description.result _ _
     (λ d a. world_apart w col outer world imported exported types from s mid c.exchange-2.new.self held c.exchange-2.new.other h (ItemKind.Ty c.args.ty) d a x.1 c.exchange-2.ensures.exchanges)
     (c.describe_type-description.ensures.describes w outer i x.0)
 
@@ -34,6 +34,6 @@ returns-clause-own c own w col outer i h known =
     let types = c.args.types.now in
     let s = c.args.self.now in
     let x = item_exchanged w col types outer i s.scope c.exchange.new.self c.args.other.now c.exchange.new.other c.exchange.ensures.exchanges h known in
-    if_ok_map c.describe_type-description.result
+    IfOk-weaker c.describe_type-description.result _ _
     (λ d e. (e.0, e.1, subst (λ (t : TypeScope). IsEntryIn w outer t.declarations.items e.0) (sym c.exchange-2.ensures.scope) e.2))
     (c.describe_type-description.ensures.own own w outer i x.0)

@@ -1,8 +1,8 @@
 use Rattle.std.proofs.Common.{sym, subst}
 use Rattle.std.specs.Bool.{Decides}
 use Rattle.std.proofs.lemmas.Option.{none-some}
+use Rattle.std.proofs.lemmas.Result.{IfOk-weaker}
 use Rattle.wac_composition.specs.NotWritten.{IsImported}
-use Rattle.wac_graph_scopes.proofs.HandleLaws.{if_ok_map}
 use Rattle.wac_writable.specs.Tests.{used_of}
 use Rattle.wac_writable.specs.Givers.{imports_by}
 use Rattle.wac_writable.proofs.UseLaws.{tells_no}
@@ -12,7 +12,7 @@ use Rattle.wac_writable.proofs.writable.Giver.gives.Goals as goal
 pub returns-in-Some-import_named : goal.returns-in-Some-import_named
 returns-in-Some-import_named c =
     let T = c.args.test in
-    if_ok_map c.gives_used.result (λ b f.
+    IfOk-weaker c.gives_used.result _ _ (λ b f.
     subst (λ w. Decides b (IsImported (imports_by T.types.now w) c.args.name.now (used_of T.types.now c.args.used))) (sym c.in-Some.is)
     (import_gives T.types.now c.see_acyclic.ensures c.in-Some.world c.args.name.now c.args.used c.in-Some-import_named.import b c.in-Some-import_named.ensures.value (f c.in-Some-import_named.ensures.stands))) c.gives_used.ensures
 
