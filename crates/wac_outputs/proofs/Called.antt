@@ -40,7 +40,7 @@ use Rattle.wac_workspace.specs.Resolving.{handed, IsComposition}
 use Rattle.wac_nesting.proofs.Carry.{carries}
 use Rattle.wac_outputs.specs.Calls.{AreCalls, none_yet, then_call, IsCall, hands_in, composes, keeps, IsEntryOf, Outputs_are_as_ascribed, ascribed_over, place_if, place_under, world_in}
 use Rattle.wac_outputs.proofs.Sources.{more_provides, more_states, placed}
-use Rattle.wac_outputs.proofs.Zips.{zip_at, zip_back, zip_last}
+use Rattle.wac_workspace.proofs.Zips.{zip_at, zip_back, zip_last}
 
 -- ---- one composed source
 

@@ -1,3 +1,2 @@
-pub mod Zips
 pub mod Sources
 pub mod Called

@@ -1,9 +1,13 @@
 //! Plugging as a text.
 
-ghost use Rattle.std.specs.Prelude.{◌≡◌, ◌↔◌, All, IsTrue, IfOk, IfErr, OnOk, map};
+ghost use Rattle.std.specs.Prelude.{◌≡◌, ◌≢◌, ◌↔◌, ◌++◌, [], All, IsTrue, IfOk, IfErr, OnOk, map, option_map, string_bytes};
+ghost use Rattle.std.specs.List.{concat};
+ghost use Rattle.wac_types_base.specs.Stated.{exports_of};
+ghost use Rattle.wac_types_names.specs.Keys.{borrowed_key};
 ghost use Rattle.wac_graph_plug.specs.Plans.{world_in, WorldStands};
 ghost use Rattle.wac_texts.specs.declared.plugging.PlugTextError.{PlugTextError};
-ghost use Rattle.wac_texts.specs.Plugs.{IsReadable, AreReadable, IsSpelled, world_of, CanBePlugged, PlugTextRefused, text_error};
+ghost use Rattle.wac_texts.specs.Plugs.{IsReadable, AreReadable, IsSpelled, world_of, CanBePlugged, PlugTextRefused, Plugs, text_error};
+ghost use Rattle.wac_texts.specs.Plugs.{argument_text, directive_text, exports_text, planned_text, plug_at, plugs_text, socket_text};
 ghost use Rattle.wac_texts.specs.Worlds.{HasWorld};
 
 use crate::spelling::{has_byte, is_package_name, is_spellable};
@@ -11,6 +15,7 @@ use std::alloc::{AllocError, AllocFailed, Global};
 use thiserror::Error;
 use wac_graph_plug::{Argument, Plan, PlanError, WorldIn, plan_of};
 use wac_parser_resolve::PackageRef;
+use wac_types_names::BorrowedPackageKey;
 
 /// Why no text plugs packages.
 #[derive(Debug, Drop, Error)]
@@ -74,7 +79,8 @@ fn test_names(
     socket: PackageRef<'_>,
 ) -> Result<(), PlugTextError>
     ensures readable { OnOk result (AreReadable name.now plugs.now socket.entry) }
-    ensures refused { IfErr result (λ e. (e ≡ PlugTextError.NameNotReadable) × (AreReadable name.now plugs.now socket.entry → ⊥)) }
+    ensures refused { IfErr result
+        (λ e. (e ≡ PlugTextError.NameNotReadable) × (AreReadable name.now plugs.now socket.entry → ⊥)) }
 {
     if !is_package_name(name) || !is_readable(socket) {
         return Err(PlugTextError::NameNotReadable);
@@ -141,7 +147,7 @@ fn planned(
 ) -> Result<Plan, PlugTextError>
     requires plugs { All HasWorld plugs.now }
     requires socket { HasWorld socket }
-    ensures plugged { OnOk result (CanBePlugged name.now plugs.now socket.entry) }
+    ensures plugged { IfOk result (CanBePlugged name.now plugs.now socket.entry) }
     ensures refused { IfErr result (PlugTextRefused name.now plugs.now socket.entry) }
 {
     test_names(name, plugs, socket)?;
@@ -151,24 +157,49 @@ fn planned(
     Ok(plan)
 }
 
+/// The statement that instantiates a plug.
+fn write_plug(
+    text: &mut String,
+    number: usize,
+    plug: Option<&PackageRef<'_>>,
+) -> Result<(), AllocError>
+    ensures { OnOk result
+        (string_bytes text.new ≡ string_bytes text.old ++ plug_at number (option_map (λ p. p.now) plug.entry)) }
+{
+    let Some(plug) = plug else {
+        return Ok(());
+    };
+    let key = plug.package.key();
+    write!(text, "let plug{number} = new {key} {{ ... }};\n\n")
+}
+
 /// The statements that instantiate the plugs.
-fn write_plugs(text: &mut String, plan: &Plan, plugs: &[PackageRef<'_>]) -> Result<(), AllocError> {
+fn write_plugs(text: &mut String, plan: &Plan, plugs: &[PackageRef<'_>]) -> Result<(), AllocError>
+    ensures { OnOk result (string_bytes text.new ≡ string_bytes text.old ++ plugs_text 0 plugs.now plan.now.plugs.items) }
+{
     for (number, at) in plan.plugs.iter().enumerate() {
-        if let Some(plug) = plugs.get(*at) {
-            let key = plug.package.key();
-            write!(text, "let plug{number} = new {key} {{ ... }};\n\n")?;
-        }
+        write_plug(text, number, plugs.get(*at))?;
     }
     Ok(())
 }
 
+/// An argument of the socket.
+fn write_argument(text: &mut String, argument: &Argument) -> Result<(), AllocError>
+    ensures { OnOk result (string_bytes text.new ≡ string_bytes text.old ++ argument_text argument.now) }
+{
+    let import = argument.given.import.as_str();
+    let export = argument.given.export.as_str();
+    let plug = argument.plug;
+    write!(text, "    \"{import}\": plug{plug}[\"{export}\"],\n")
+}
+
 /// The arguments of the socket.
-fn write_arguments(text: &mut String, plan: &Plan) -> Result<(), AllocError> {
+fn write_arguments(text: &mut String, plan: &Plan) -> Result<(), AllocError>
+    ensures { OnOk result
+        (string_bytes text.new ≡ string_bytes text.old ++ concat (map argument_text plan.now.arguments.items)) }
+{
     for argument in &plan.arguments {
-        let import = argument.given.import.as_str();
-        let export = argument.given.export.as_str();
-        let plug = argument.plug;
-        write!(text, "    \"{import}\": plug{plug}[\"{export}\"],\n")?;
+        write_argument(text, argument)?;
     }
     Ok(())
 }
@@ -176,8 +207,55 @@ fn write_arguments(text: &mut String, plan: &Plan) -> Result<(), AllocError> {
 /// Whether a package has exports.
 fn has_exports(package: PackageRef<'_>) -> bool
     requires { HasWorld «package» }
+    ensures { IsTrue result ↔ (exports_of (world_of «package».entry) ≢ []) }
 {
     !package.types.world(package.package.ty()).exports.is_empty()
+}
+
+/// The directive of the document.
+fn directive(alloc: Global, name: &str) -> Result<String, AllocError>
+    ensures { IfOk result (λ text. string_bytes text ≡ directive_text name.now) }
+{
+    format!(in alloc; "package {name};\n\n")
+}
+
+/// The socket's statement up to its arguments.
+fn write_socket(text: &mut String, key: BorrowedPackageKey<'_>) -> Result<(), AllocError>
+    ensures { OnOk result (string_bytes text.new ≡ string_bytes text.old ++ socket_text (borrowed_key key.entry)) }
+{
+    write!(text, "let socket = new {key} {{\n")
+}
+
+/// The export of the socket's exports, if it has some.
+fn write_exports(text: &mut String, socket: PackageRef<'_>) -> Result<(), AllocError>
+    requires { HasWorld socket }
+    ensures { OnOk result
+        (string_bytes text.new ≡ string_bytes text.old ++ exports_text (exports_of (world_of socket.entry))) }
+{
+    if has_exports(socket) {
+        text.push_str("\nexport socket...;\n")?;
+    }
+    Ok(())
+}
+
+/// The text of a plan.
+fn planned_text(
+    alloc: Global,
+    name: &str,
+    plan: &Plan,
+    plugs: &[PackageRef<'_>],
+    socket: PackageRef<'_>,
+) -> Result<String, AllocError>
+    requires socket { HasWorld socket }
+    ensures { IfOk result (λ text. string_bytes text ≡ planned_text name.now plugs.now socket.entry plan.now) }
+{
+    let mut text = directive(alloc, name)?;
+    write_plugs(&mut text, plan, plugs)?;
+    write_socket(&mut text, socket.package.key())?;
+    write_arguments(&mut text, plan)?;
+    text.push_str("    ...\n};\n")?;
+    write_exports(&mut text, socket)?;
+    Ok(text)
 }
 
 /// The text of a document that plugs plugs into a socket: it instantiates each plug with a match, passes what matches to the
@@ -190,18 +268,9 @@ pub fn plug_text(
 ) -> Result<String, PlugTextError>
     requires plugs { All HasWorld plugs.now }
     requires socket { HasWorld socket }
-    ensures plugged { OnOk result (CanBePlugged name.now plugs.now socket.entry) }
+    ensures plugged { IfOk result (λ text. Plugs name.now plugs.now socket.entry (string_bytes text)) }
     ensures refused { IfErr result (PlugTextRefused name.now plugs.now socket.entry) }
 {
     let plan = planned(alloc, name, plugs, socket)?;
-    let mut text = format!(in alloc; "package {name};\n\n")?;
-    write_plugs(&mut text, &plan, plugs)?;
-    let key = socket.package.key();
-    write!(text, "let socket = new {key} {{\n")?;
-    write_arguments(&mut text, &plan)?;
-    text.push_str("    ...\n};\n")?;
-    if has_exports(socket) {
-        text.push_str("\nexport socket...;\n")?;
-    }
-    Ok(text)
+    Ok(planned_text(alloc, name, &plan, plugs, socket)?)
 }

@@ -5,3 +5,4 @@ pub mod Refusing
 pub mod Resolved
 pub mod Searching
 pub mod StreamLaws
+pub mod Zips

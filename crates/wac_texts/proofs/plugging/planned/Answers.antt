@@ -27,7 +27,6 @@ returns-clause-plugged c =
     let worlds = ap (map world_in) c.deref.ensures.value ∙ c.in_ok-worlds.ensures.worlds in
     record {
       readable = c.in_ok-test_names.ensures.readable;
-      plan = plan;
       planned = subst (λ s. IsPlan (map world_of c.args.plugs.now) s plan) c.world_of.ensures.world (subst (λ ps. IsPlan ps (world_in c.world_of.result) plan) worlds c.in_ok-plan.ensures.plan);
       spelled = subst (All IsSpelled) c.deref-2.ensures.value c.in_ok-test_arguments.ensures.spelled;
     }

@@ -1,5 +1,5 @@
-use Rattle.std.proofs.Common.{◌≡◌, sym, ap, ◌∙◌}
-use Rattle.wac_types_base.specs.Entries.{value_at, put_entry}
+use Rattle.std.proofs.Common.{ap, ◌∙◌}
+use Rattle.wac_types_base.specs.Entries.{value_at}
 use Rattle.wac_types_base.proofs.Lists.{put_else, put_is}
 use Rattle.wac_texts.proofs.files.MemoryFilesFiles.write.Goals as goal
 
