@@ -1,5 +1,5 @@
 -- Components that are added one after another.
-use Rattle.std.proofs.Common.{◌≡◌, List, [], ◌∷◌, ◌++◌, Option, refl, subst, sym}
+use Rattle.std.proofs.Common.{List, [], ◌∷◌, ◌++◌, Option, refl, subst}
 use Rattle.wac_manifest.specs.declared.manifest.Component.{Component}
 use Rattle.wac_workspace.specs.declared.entries.Entry.{Entry}
 use Rattle.wac_texts.specs.Files.{Stored}

@@ -6,7 +6,7 @@ use Rattle.wac_types_names.specs.Keys.{Key}
 use Rattle.wac_manifest.specs.declared.data.BytesData.{BytesData}
 use Rattle.wac_manifest.specs.declared.manifest.Component.{Component}
 use Rattle.wac_workspace.specs.declared.entries.Entry.{Entry}
-use Rattle.wac_workspace.specs.Packages.{PackageParts, AddsPackage}
+use Rattle.wac_workspace.specs.Packages.{PackageParts, AddsPackage, HasBytes}
 use Rattle.wac_texts.specs.Files.{Stored, Has}
 use Rattle.wac.specs.declared.components.Added.{Added}
 
@@ -15,11 +15,12 @@ abbrev pub IsBytesOf : Option Stored → BytesData → List ℕ → Type 0
 IsBytesOf files (BytesData.Bytes given) bytes = bytes ≡ given.items
 IsBytesOf files (BytesData.File path) bytes = Has files (string_bytes path) (Some bytes)
 
--- one more package, handed in, of this key and these bytes
+-- one more package, handed in, of this key and these bytes, which no package had
 pub record AddsHanded (k : Key) (bs : List ℕ) (old new : List Entry) : Type 0 where
   pub parts : PackageParts
   pub key : parts.key ≡ k
   pub bytes : parts.bytes ≡ bs
+  pub fresh : HasBytes old bs → ⊥
   pub added : AddsPackage old new true parts
 
 abbrev pub component_key : Component → Key

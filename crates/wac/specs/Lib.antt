@@ -4,5 +4,6 @@ pub use Rattle.wac_texts.specs.Worlds
 pub use Rattle.wac_texts.specs.Plugs
 pub mod Adding
 pub mod Loading
+pub mod Running
 pub mod Telling
 pub mod Words

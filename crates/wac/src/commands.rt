@@ -1,11 +1,13 @@
 //! What the program can be asked to do.
 
-ghost use Rattle.std.specs.Prelude.{All, IfOk};
+ghost use Rattle.std.specs.Prelude.{All, IfOk, OnOk, string_bytes};
+ghost use Rattle.std.specs.List.{AllZip};
 ghost use Rattle.wac_texts.specs.Worlds.{HasWorld};
+ghost use Rattle.wac.specs.Running.{ComposesManifest, FormatsTo, IsFound, IsPrintOf, PlugsFound, PlugsManifest, outside};
 
 use crate::components::add_components;
 use crate::documents::PrintDocument;
-use crate::sources::{put_composed, put_sources};
+use crate::sources::{Wanted, path_of, put_composed, put_sources};
 use crate::stop::{Stop, bad_manifest, not_parsed, plain, with_text};
 use std::alloc::Global;
 use wac_manifest::{ComposeManifest, Key, PlugManifest};
@@ -22,7 +24,10 @@ pub(crate) fn compose<F: Files, W: ByteSink>(
     text: &str,
     files: &mut F,
     out: &mut W,
-) -> Result<(), Stop> {
+) -> Result<(), Stop>
+    ensures { OnOk result (ComposesManifest text.now
+        (outside (F.stored files.old) (W.contents out.old)) (outside (F.stored files.new) (W.contents out.new))) }
+{
     let manifest = match ComposeManifest::read(alloc, text) {
         Ok(manifest) => manifest,
         Err(fault) => return Err(bad_manifest(alloc, fault)),
@@ -35,7 +40,8 @@ pub(crate) fn compose<F: Files, W: ByteSink>(
 
 /// The package of a key.
 fn find<'a>(alloc: Global, workspace: &'a Workspace, key: &Key) -> Result<PackageRef<'a>, Stop>
-    ensures { IfOk result HasWorld }
+    ensures world { IfOk result HasWorld }
+    ensures found { IfOk result (IsFound workspace.now.packages key.now) }
 {
     let name = key.name.as_str();
     let version = key.version.as_ref();
@@ -54,7 +60,8 @@ fn find_all<'a>(
     workspace: &'a Workspace,
     keys: &[Key],
 ) -> Result<Vec<PackageRef<'a>>, Stop>
-    ensures { IfOk result (λ found. All HasWorld found.items) }
+    ensures worlds { IfOk result (λ found. All HasWorld found.items) }
+    ensures found { IfOk result (λ found. AllZip (IsFound workspace.now.packages) keys.now found.items) }
 {
     let mut found = Vec::new(alloc);
     for key in keys {
@@ -70,7 +77,10 @@ fn plugging_text(
     name: &str,
     plugs: &[Key],
     socket: &Key,
-) -> Result<String, Stop> {
+) -> Result<String, Stop>
+    ensures { IfOk result
+        (λ text. PlugsFound workspace.now.packages name.now plugs.now socket.now (string_bytes text)) }
+{
     let plugs = find_all(alloc, workspace, plugs)?;
     let socket = find(alloc, workspace, socket)?;
     match plug_text(alloc, name, &plugs, socket) {
@@ -86,7 +96,10 @@ pub(crate) fn plug<F: Files, W: ByteSink>(
     text: &str,
     files: &mut F,
     out: &mut W,
-) -> Result<(), Stop> {
+) -> Result<(), Stop>
+    ensures { OnOk result (PlugsManifest text.now
+        (outside (F.stored files.old) (W.contents out.old)) (outside (F.stored files.new) (W.contents out.new))) }
+{
     let manifest = match PlugManifest::read(alloc, text) {
         Ok(manifest) => manifest,
         Err(fault) => return Err(bad_manifest(alloc, fault)),
@@ -95,23 +108,18 @@ pub(crate) fn plug<F: Files, W: ByteSink>(
     add_components(alloc, files, &mut workspace, manifest.components)?;
     let name = manifest.name.as_str();
     let source = plugging_text(alloc, &workspace, name, &manifest.plugs, &manifest.socket)?;
-    let path = manifest.out.as_ref().map(|path| path.as_str());
-    put_composed(
-        source.as_str(),
-        alloc,
-        &mut workspace,
-        files,
-        out,
-        path,
-        true,
-    )
+    let path = path_of(&manifest.out);
+    let wanted = Wanted { define: true, path };
+    put_composed(source.as_str(), alloc, &mut workspace, files, out, wanted)
 }
 
 /// The printed text of a source.
 fn printed<'s, D: ParseDocument<'s> + PrintDocument>(
     source: &'s str,
     alloc: Global,
-) -> Result<Vec<u8>, Stop> {
+) -> Result<Vec<u8>, Stop>
+    ensures { IfOk result (λ text. IsPrintOf D.view D.rule D.printed source.now text.items) }
+{
     match D::parse(alloc, source) {
         Ok(document) => document.print(alloc, source),
         Err(fault) => Err(not_parsed(alloc, &fault)),
@@ -119,7 +127,9 @@ fn printed<'s, D: ParseDocument<'s> + PrintDocument>(
 }
 
 /// Prints a document.
-pub(crate) fn format<W: ByteSink>(alloc: Global, source: &str, out: &mut W) -> Result<(), Stop> {
+pub(crate) fn format<W: ByteSink>(alloc: Global, source: &str, out: &mut W) -> Result<(), Stop>
+    ensures { OnOk result (FormatsTo source.now (W.contents out.old) (W.contents out.new)) }
+{
     let text = printed::<Document<'_>>(source, alloc)?;
     match write_bytes(out, &text) {
         Ok(()) => Ok(()),

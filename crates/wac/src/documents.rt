@@ -1,5 +1,9 @@
 //! What a run asks of documents.
 
+ghost use Rattle.std.specs.Prelude.{◌≡◌, ℕ, List, IfOk};
+ghost use Rattle.wac_parser_tree.specs.Views.{view_document};
+ghost use Rattle.wac.specs.Running.{printed_over};
+
 use crate::stop::{Stop, key_taken};
 use std::alloc::Global;
 use wac_parser_print::DocumentPrinter;
@@ -25,12 +29,18 @@ impl<'s> NameDocument for Document<'s> {
 
 /// Documents that are printed.
 pub(crate) trait PrintDocument: Sized {
+    // the printed text over a source
+    ghost printed: { Self → List ℕ → List ℕ };
+
     /// The printed text of the document over its source.
-    fn print(&self, alloc: Global, source: &str) -> Result<Vec<u8>, Stop>;
+    fn print(&self, alloc: Global, source: &str) -> Result<Vec<u8>, Stop>
+        ensures { IfOk result (λ text. text.items ≡ printed self.now source.now) };
 }
 
 /// The printed text of a document over its source.
-fn print_document(document: &Document<'_>, alloc: Global, source: &str) -> Result<Vec<u8>, Stop> {
+fn print_document(document: &Document<'_>, alloc: Global, source: &str) -> Result<Vec<u8>, Stop>
+    ensures { IfOk result (λ text. text.items ≡ printed_over (view_document document.now) source.now) }
+{
     let mut printer = DocumentPrinter::new(Vec::new(alloc), source, None);
     match printer.document(document) {
         Ok(()) => Ok(printer.into_writer()),
@@ -39,6 +49,11 @@ fn print_document(document: &Document<'_>, alloc: Global, source: &str) -> Resul
 }
 
 impl<'s> PrintDocument for Document<'s> {
+    ghost use Rattle.wac_parser_tree.specs.Views.{view_document};
+    ghost use Rattle.wac.specs.Running.{printed_over};
+
+    ghost printed = { λ d source. printed_over (view_document d) source };
+
     fn print(&self, alloc: Global, source: &str) -> Result<Vec<u8>, Stop> {
         print_document(self, alloc, source)
     }

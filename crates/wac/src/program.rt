@@ -1,9 +1,13 @@
 //! The run of the program.
 
-ghost use Rattle.std.specs.Prelude.{◌≡◌, ◌≤◌, ◌⊎◌, ◌↔◌, map, IsSome};
+ghost use Rattle.std.specs.Prelude.{◌≡◌, ◌≤◌, ◌⊎◌, ◌↔◌, List, [], ◌∷◌, codes, map, IsSome, IfSome, IfOk, OnOk, string_bytes};
 ghost use Rattle.std.specs.Io.KnownBytes.{Appends};
 ghost use Rattle.wac_streams.specs.Calls.{FailedOnce};
-ghost use Rattle.wac.specs.Words.{IsCommand, Asks, usage};
+ghost use Rattle.wac_types_base.specs.Entries.{Name};
+ghost use Rattle.wac_workspace.specs.Reading.{ToEnd};
+ghost use Rattle.wac.specs.declared.program.Command.{Command};
+ghost use Rattle.wac.specs.Running.{DoesAt, IsTextAt, Runs, outside};
+ghost use Rattle.wac.specs.Words.{IsCommand, Asks, usage, word_of};
 
 use crate::commands::{compose, format, plug};
 use crate::components::{read_file, text_of};
@@ -36,7 +40,8 @@ enum Command {
 
 /// The command of a word.
 fn command_of(word: &str) -> Option<Command>
-    ensures { IsSome result ↔ IsCommand word.now }
+    ensures known { IsSome result ↔ IsCommand word.now }
+    ensures command { IfSome result (λ command. word.now ≡ word_of command) }
 {
     match word {
         "compose" => Some(Command::Compose),
@@ -48,7 +53,8 @@ fn command_of(word: &str) -> Option<Command>
 
 /// The command of the words, and its file.
 fn asked<'a>(words: &[&'a str]) -> Option<(Command, &'a str)>
-    ensures { IsSome result ↔ Asks (map (λ word. word.now) words.now) }
+    ensures known { IsSome result ↔ Asks (map (λ word. word.now) words.now) }
+    ensures words { IfSome result (λ a. map (λ word. word.now) words.now ≡ word_of a.0 ∷ a.1.now ∷ []) }
 {
     match words {
         [word, path] => match command_of(word) {
@@ -72,7 +78,9 @@ fn unread(alloc: Global, fault: StreamError) -> Stop {
 }
 
 /// What the input has.
-fn read_input<R: ByteSource>(alloc: Global, input: &mut R) -> Result<Vec<u8>, Stop> {
+fn read_input<R: ByteSource>(alloc: Global, input: &mut R) -> Result<Vec<u8>, Stop>
+    ensures { IfOk result (λ bytes. ToEnd (R.remaining input.old) (R.remaining input.new) bytes.items) }
+{
     match read_source(alloc, input) {
         Ok(bytes) => Ok(bytes),
         Err(fault) => Err(unread(alloc, fault)),
@@ -85,7 +93,10 @@ fn text_at<F: Files, R: ByteSource>(
     path: &str,
     input: &mut R,
     files: &F,
-) -> Result<String, Stop> {
+) -> Result<String, Stop>
+    ensures { IfOk result
+        (λ text. IsTextAt (R.remaining input.old) (R.remaining input.new) (F.stored files.now) path.now (string_bytes text)) }
+{
     let bytes = if path == "-" {
         read_input(alloc, input)?
     } else {
@@ -102,7 +113,10 @@ fn done<F: Files, R: ByteSource, O: ByteSink>(
     input: &mut R,
     files: &mut F,
     out: &mut O,
-) -> Result<(), Stop> {
+) -> Result<(), Stop>
+    ensures { OnOk result (DoesAt (word_of command) (R.remaining input.old) (R.remaining input.new) path.now
+        (outside (F.stored files.old) (O.contents out.old)) (outside (F.stored files.new) (O.contents out.new))) }
+{
     let text = text_at(alloc, path, input, files)?;
     match command {
         Command::Compose => compose(alloc, text.as_str(), files, out),
@@ -162,6 +176,8 @@ pub fn run<F: Files, R: ByteSource, O: ByteSink, E: ByteSink>(
     ensures usage { result ≡ 2 → Appends (E.contents err.old) (E.contents err.new) usage }
     ensures idle { result ≡ 2 → (input.new ≡ input.old) × (files.new ≡ files.old) × (out.new ≡ out.old) }
     ensures quiet { result ≡ 0 → err.new ≡ err.old }
+    ensures done { result ≡ 0 → Runs (map (λ word. word.now) words.now) (R.remaining input.old) (R.remaining input.new)
+        (outside (F.stored files.old) (O.contents out.old)) (outside (F.stored files.new) (O.contents out.new)) }
 {
     let Some((command, path)) = asked(words) else {
         return misused(err);

@@ -1,8 +1,9 @@
 //! Sources that are composed, and the lines of their outputs.
 
-ghost use Rattle.std.specs.Prelude.{OnOk, OnErr};
+ghost use Rattle.std.specs.Prelude.{◌≡◌, Some, None, IfOk, OnOk, OnErr, option_map, string_bytes};
 ghost use Rattle.std.specs.Io.KnownBytes.{Appends};
 ghost use Rattle.wac_streams.specs.Calls.{FailedOnce};
+ghost use Rattle.wac.specs.Running.{Composes, Keeps, Puts, PutsSources, head_of, line_of, outside};
 
 use crate::components::load_text;
 use crate::documents::NameDocument;
@@ -15,9 +16,6 @@ use wac_texts::{Files, FilesError};
 use wac_types_names::BorrowedPackageKey;
 use wac_workspace::{ByteSink, ComposeError, EncodeOptions, Output, Workspace, write_bytes};
 
-/// How many bytes are printed at once.
-const PIECE: usize = 4096;
-
 /// Writes a text.
 pub(crate) fn put<W: ByteSink>(out: &mut W, text: &str) -> Result<(), Stop>
     ensures whole { OnOk result (Appends (W.contents out.old) (W.contents out.new) text.now) }
@@ -29,17 +27,10 @@ pub(crate) fn put<W: ByteSink>(out: &mut W, text: &str) -> Result<(), Stop>
     }
 }
 
-/// Writes bytes in hexadecimal.
-fn put_digits<W: ByteSink>(alloc: Global, out: &mut W, bytes: &[u8]) -> Result<(), Stop> {
-    for piece in bytes.chunks(PIECE) {
-        let digits = hex::encode(alloc, piece)?;
-        put(out, digits.as_str())?;
-    }
-    Ok(())
-}
-
 /// The name, the version and the length of an output.
-fn head_of(alloc: Global, output: &Output) -> Result<String, AllocError> {
+fn head_of(alloc: Global, output: &Output) -> Result<String, AllocError>
+    ensures { IfOk result (λ text. string_bytes text ≡ head_of output.now) }
+{
     let key = BorrowedPackageKey::from_name_and_version(
         output.name.as_str(),
         output.version.as_ref(),
@@ -48,13 +39,14 @@ fn head_of(alloc: Global, output: &Output) -> Result<String, AllocError> {
     format!(in alloc; "{key} {length}")
 }
 
-/// Writes the line of an output that no file has.
-fn put_line<W: ByteSink>(alloc: Global, out: &mut W, output: &Output) -> Result<(), Stop> {
+/// Writes the line of an output that no file has, its bytes in hexadecimal.
+fn put_line<W: ByteSink>(alloc: Global, out: &mut W, output: &Output) -> Result<(), Stop>
+    ensures { OnOk result (Appends (W.contents out.old) (W.contents out.new) (line_of None output.now)) }
+{
     let head = head_of(alloc, output)?;
-    put(out, head.as_str())?;
-    put(out, " ")?;
-    put_digits(alloc, out, &output.bytes)?;
-    put(out, "\n")
+    let digits = hex::encode(alloc, output.bytes.as_slice())?;
+    let line = format!(in alloc; "{head} {digits}\n")?;
+    put(out, line.as_str())
 }
 
 /// Writes the component of an output to a file, and then its line.
@@ -64,15 +56,18 @@ fn put_file<F: Files, W: ByteSink>(
     out: &mut W,
     path: &str,
     output: &Output,
-) -> Result<(), Stop> {
+) -> Result<(), Stop>
+    ensures kept { OnOk result (Keeps (Some path.now) output.now.bytes.items (F.stored files.old) (F.stored files.new)) }
+    ensures line { OnOk result (Appends (W.contents out.old) (W.contents out.new) (line_of (Some path.now) output.now)) }
+{
     match files.write(alloc, path, &output.bytes) {
         Ok(()) => {}
         Err(FilesError::Memory) => return Err(Stop::Memory),
         Err(FilesError::Failed) => return Err(cannot_write(alloc, path)),
     }
     let head = head_of(alloc, output)?;
-    put(out, head.as_str())?;
-    put(out, "\n")
+    let line = format!(in alloc; "{head}\n")?;
+    put(out, line.as_str())
 }
 
 /// What is told of a source whose key is there already.
@@ -99,7 +94,9 @@ fn composed(
     alloc: Global,
     workspace: &mut Workspace,
     define: bool,
-) -> Result<Output, Stop> {
+) -> Result<Output, Stop>
+    ensures { IfOk result (Composes define source.now workspace.old workspace.new) }
+{
     let options = EncodeOptions {
         define_components: define,
         validate: true,
@@ -111,20 +108,39 @@ fn composed(
     }
 }
 
-/// Composes a text, and writes what comes of it: to a file where there is a path.
+/// How a text is composed, and where its component goes: to a file where there is a path.
+#[derive(Clone, Copy)]
+pub(crate) struct Wanted<'a> {
+    pub define: bool,
+    pub path: Option<&'a str>,
+}
+
+/// Composes a text, and writes what comes of it.
 pub(crate) fn put_composed<F: Files, W: ByteSink>(
     source: &str,
     alloc: Global,
     workspace: &mut Workspace,
     files: &mut F,
     out: &mut W,
-    path: Option<&str>,
-    define: bool,
-) -> Result<(), Stop> {
-    let output = composed(source, alloc, workspace, define)?;
-    match path {
+    wanted: Wanted<'_>,
+) -> Result<(), Stop>
+    ensures { OnOk result (Puts wanted.entry.define (option_map (λ p. p.now) wanted.entry.path) source.now workspace.old workspace.new
+        (outside (F.stored files.old) (W.contents out.old)) (outside (F.stored files.new) (W.contents out.new))) }
+{
+    let output = composed(source, alloc, workspace, wanted.define)?;
+    match wanted.path {
         None => put_line(alloc, out, &output),
         Some(path) => put_file(alloc, files, out, path, &output),
+    }
+}
+
+/// The path of an output, if it has one.
+pub(crate) fn path_of(path: &Option<String>) -> Option<&str>
+    ensures { option_map (λ p. p.now) result ≡ option_map string_bytes path.now }
+{
+    match path {
+        None => None,
+        Some(path) => Some(path.as_str()),
     }
 }
 
@@ -136,11 +152,15 @@ pub(crate) fn put_sources<F: Files, W: ByteSink>(
     out: &mut W,
     sources: Vec<Source>,
     define: bool,
-) -> Result<(), Stop> {
+) -> Result<(), Stop>
+    ensures { OnOk result (PutsSources define sources.items workspace.old workspace.new
+        (outside (F.stored files.old) (W.contents out.old)) (outside (F.stored files.new) (W.contents out.new))) }
+{
     for source in sources {
         let text = load_text(alloc, files, source.source)?;
-        let path = source.out.as_ref().map(|path| path.as_str());
-        put_composed(text.as_str(), alloc, workspace, files, out, path, define)?;
+        let path = path_of(&source.out);
+        let wanted = Wanted { define, path };
+        put_composed(text.as_str(), alloc, workspace, files, out, wanted)?;
     }
     Ok(())
 }
