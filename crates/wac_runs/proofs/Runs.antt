@@ -1,6 +1,7 @@
 -- A run's components and sources are calls of a workspace.
-use Rattle.std.specs.List.{AllZip}
-use Rattle.std.specs.Prelude.{◌≡◌, ℕ, Bool, true, false, not, List, [], ◌∷◌, ◌++◌, All, Option, Some, Result, Ok, Err}
+use Rattle.std.specs.List.{AllByRecursion, AllZip}
+use Rattle.std.proofs.lemmas.List.Elements.{All-cons, All-nil}
+use Rattle.std.specs.Prelude.{◌≡◌, ℕ, Bool, true, not, List, [], ◌∷◌, ◌++◌, All, Option, Ok, Err}
 use Rattle.std.proofs.Common.{refl, sym, ap, subst, ◌∙◌, inl, inr}
 use Rattle.wac_types_base.specs.Graph.{Among}
 use Rattle.wac_types_base.specs.Stated.{Stated}
@@ -85,10 +86,10 @@ record Composing (sources : List Source) (first old last : Held) (outputs : List
   pub steps : List Step
   pub calls : AreCalls first steps last
   pub stays : Stays old.packages last.packages
-  pub kept : All (IsKept last.packages) outputs
+  pub kept : AllByRecursion (IsKept last.packages) outputs
 
 composing : (define : Bool) → define ≡ true → (sources : List Source) (first old last : Held) (before after : Outside) (steps : List Step) → AreCalls first steps old
-    → (puts : PutsSources define sources old last before after) → Composing sources first old last (outputs_of sources puts)
+    → (puts : PutsSources define sources old last before after) → Composing sources first old last (outputs_of define sources old last before after puts)
 composing define nested [] first old last before after steps calls puts = record {
   steps = steps;
   calls = subst (λ w. AreCalls first steps w) (sym puts.0) calls;
@@ -116,23 +117,22 @@ composing define nested (s ∷ sources) first old last before after steps calls 
           bytes = added.made.bytes;
           world = ap maps_of added.made.states;
         },
-        more.kept
+        more.kept,
       );
     }
 
 -- ---- runs
 
 -- what is kept of outputs is what the steps leave
-left : (steps : List Step) (last : Held) → AllZip IsEntryOf last.packages (after_all [] steps) → (os : List Output) → All (IsKept last.packages) os → All (IsLeft steps) os
-left steps last zip [] kept = tt
+left : (steps : List Step) (last : Held) → AllZip IsEntryOf last.packages (after_all [] steps) → (os : List Output) → AllByRecursion (IsKept last.packages) os → All (IsLeft steps) os
+left steps last zip [] kept = All-nil (IsLeft steps)
 left steps last zip (o ∷ os) kept =
     let k = kept.0 in
     let i = slice_get-Among last.packages k.entry k.there in
     let p = zip_at IsEntryOf last.packages (after_all [] steps) i.0 k.entry zip i.2 in
-    (
-      record { which = p.0; there = among-get (after_all [] steps) i.0 p.0 p.1; bytes = p.2.bytes ∙ k.bytes; world = p.2.world ∙ k.world },
-      left steps last zip os kept.1
-    )
+    All-cons (IsLeft steps) o os
+    (record { which = p.0; there = among-get (after_all [] steps) i.0 p.0 p.1; bytes = p.2.bytes ∙ k.bytes; world = p.2.world ∙ k.world })
+    (left steps last zip os kept.1)
 
 pub runs : Runs_are_as_ascribed
 runs source before after run nested =

@@ -1,5 +1,5 @@
 -- The outputs of a run, and what they mean through every level of nesting.
-use Rattle.std.specs.Prelude.{◌≡◌, ℕ, Bool, false, List, [], ◌∷◌, All}
+use Rattle.std.specs.Prelude.{◌≡◌, ℕ, Bool, false, not, List, [], ◌∷◌, All}
 use Rattle.wac_types_base.specs.Graph.{Among}
 use Rattle.wac_nesting.specs.Steps.{Package, Step, after_all}
 use Rattle.wac_manifest.specs.declared.manifest.Source.{Source}
@@ -9,9 +9,9 @@ use Rattle.wac_outputs.specs.Calls.{AreAsAscribed, AreCalls, world_in}
 use Rattle.wac.specs.Running.{ComposesManifest, Outside, PutsSources}
 
 -- the outputs of sources that are composed one after another
-pub outputs_of : {define : Bool} (sources : List Source) {old new : Held} {before after : Outside} → PutsSources define sources old new before after → List Output
-outputs_of [] puts = []
-outputs_of (s ∷ sources) puts = puts.2.2.output ∷ outputs_of sources puts.3
+abbrev pub outputs_of : (define : Bool) (sources : List Source) (old new : Held) (before after : Outside) → PutsSources define sources old new before after → List Output
+outputs_of define [] old new before after puts = []
+outputs_of define (s ∷ sources) old new before after puts = puts.2.2.output ∷ outputs_of define sources puts.0 new puts.1 after puts.3
 
 -- the bytes and the world of an output are those of a package that the steps leave
 pub record IsLeft (steps : List Step) (o : Output) : Type 0 where
@@ -28,7 +28,7 @@ pub record IsAsAscribed {source : List ℕ} {before after : Outside} (run : Comp
   pub steps : List Step
   pub calls : AreCalls first steps run.last
   pub ascribed : AreAsAscribed steps run.last
-  pub outputs : All (IsLeft steps) (outputs_of run.manifest.sources.items run.puts)
+  pub outputs : All (IsLeft steps) (outputs_of (not run.manifest.«import») run.manifest.sources.items run.added run.last before after run.puts)
 
 -- so it is of each run that composes with its packages nested
 abbrev pub Runs_are_as_ascribed : Type 0
