@@ -2,10 +2,12 @@
 use Rattle.std.specs.List.{AllByRecursion, AllZip}
 use Rattle.std.proofs.lemmas.List.Elements.{All-cons, All-nil}
 use Rattle.std.specs.Prelude.{◌≡◌, ℕ, Bool, true, not, List, [], ◌∷◌, ◌++◌, All, Option, Ok, Err}
-use Rattle.std.proofs.Common.{refl, sym, ap, subst, ◌∙◌, inl, inr}
+use Rattle.std.proofs.Common.{refl, sym, ap, subst, ◌∙◌}
 use Rattle.wac_types_base.specs.Graph.{Among}
 use Rattle.wac_types_base.specs.Stated.{Stated}
 use Rattle.wac_types_base.proofs.Walking.{slice_get-Among}
+use Rattle.wac_types_base.proofs.Adding.{Among-left}
+use Rattle.wac_types_base.proofs.Lists.{last_among}
 use Rattle.wac_types_base.proofs.Looked.{among-get}
 use Rattle.wac_composition.specs.Sound.{maps_of}
 use Rattle.wac_manifest.specs.declared.manifest.Component.{Component}
@@ -47,15 +49,6 @@ adds files (x ∷ xs) first old new steps calls all =
 -- packages stay when others come
 abbrev Stays : (old new : List Entry) → Type 0
 Stays old new = (e : Entry) → Among e old → Among e new
-
-among_left : {A : Type 0} (x : A) (xs ys : List A) → Among x xs → Among x (xs ++ ys)
-among_left x [] ys m = absurd m
-among_left x (z ∷ xs) ys (inl e) = inl e
-among_left x (z ∷ xs) ys (inr m) = inr (among_left x xs ys m)
-
-among_last : {A : Type 0} (xs : List A) (x : A) → Among x (xs ++ x ∷ [])
-among_last [] x = inl refl
-among_last (z ∷ xs) x = inr (among_last xs x)
 
 -- a package of the bytes and the world of the output stands there
 record IsKept (es : List Entry) (o : Output) : Type 0 where
@@ -109,11 +102,11 @@ composing define nested (s ∷ sources) first old last before after steps calls 
     record {
       steps = more.steps;
       calls = more.calls;
-      stays = λ e m. more.stays e (subst (Among e) (sym added.«packages») (among_left e old.packages _ m));
+      stays = λ e m. more.stays e (subst (Among e) (sym added.«packages») (Among-left e old.packages _ m));
       kept = (
         record {
           entry = added.entry;
-          there = more.stays added.entry (subst (Among added.entry) (sym added.«packages») (among_last old.packages added.entry));
+          there = more.stays added.entry (subst (Among added.entry) (sym added.«packages») (last_among old.packages added.entry));
           bytes = added.made.bytes;
           world = ap maps_of added.made.states;
         },
