@@ -1,5 +1,5 @@
 -- Worlds of packages, and those that documents declare.
-use Rattle.std.specs.Prelude.{◌≡◌, ℕ, Some}
+use Rattle.std.specs.Prelude.{◌≡◌, ◌⊎◌, ℕ, Some}
 use Rattle.wac_types_base.specs.declared.ids.WorldId.{WorldId}
 use Rattle.wac_types_base.specs.declared.item.ItemKind.{ItemKind}
 use Rattle.wac_types_base.specs.declared.item.«Type».{«Type» as TypeKind}
@@ -10,6 +10,8 @@ use Rattle.wac_types_base.specs.Entries.{Name, value_at}
 use Rattle.wac_graph_core.specs.Graph.{Graph, node_at}
 use Rattle.wac_graph_core.specs.Nodes.{NodeData, Role}
 use Rattle.wac_parser_resolve.specs.declared.packages.PackageRef.{PackageRef}
+use Rattle.wac_texts.specs.declared.declared.Declares.{Declares}
+use Rattle.wac_texts.specs.declared.declared.DeclaredWorldError.{DeclaredWorldError}
 
 -- the graph has a definition of the world under that name
 pub record IsDefined (g : Graph) (name : Name) (world : WorldId) : Type 0 where
@@ -20,6 +22,13 @@ pub record IsDefined (g : Graph) (name : Name) (world : WorldId) : Type 0 where
   pub defined : found.role ≡ Role.Defined
   pub item : found.item_kind ≡ ItemKind.Ty (TypeKind.World world)
   pub stands : Stands g.types (ItemKind.Component world)
+
+-- why no world is given: the document declares nothing under the name, or something else, or the graph defines no such world
+abbrev pub IsNotGiven : Graph → Declares → (name : Name) → DeclaredWorldError → Type 0
+IsNotGiven g declares name DeclaredWorldError.NotDeclared =
+    (declares ≡ Declares.Nothing) ⊎ ((w : WorldId) → IsDefined g name w → ⊥)
+IsNotGiven g declares name DeclaredWorldError.NotWorld = declares ≡ Declares.Other
+IsNotGiven g declares name DeclaredWorldError.Memory = ⊥
 
 -- a copy of a world that the graph defines under that name, in a collection of this number
 pub record IsDeclared (g : Graph) (name : Name) (number : ℕ) (types : Collection) (world : WorldId) : Type 0 where

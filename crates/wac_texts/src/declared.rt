@@ -1,10 +1,12 @@
 //! Worlds that documents declare.
 
-ghost use Rattle.std.specs.Prelude.{◌≡◌, IfOk, IfSome};
+ghost use Rattle.std.specs.Prelude.{◌≡◌, IfOk, IfErr, IfSome, None};
+ghost use Rattle.wac_types_base.specs.declared.ids.WorldId.{WorldId};
 ghost use Rattle.wac_types_base.specs.declared.item.ItemKind.{ItemKind};
+ghost use Rattle.wac_types_base.specs.declared.item.«Type».{«Type» as TypeKind};
 ghost use Rattle.wac_graph_core.specs.Nodes.{Role};
 ghost use Rattle.wac_parser_resolve.specs.Resolved.{graph_of};
-ghost use Rattle.wac_texts.specs.Worlds.{IsDefined, IsDeclared};
+ghost use Rattle.wac_texts.specs.Worlds.{IsDefined, IsDeclared, IsNotGiven};
 
 use std::alloc::{AllocError, Global};
 use thiserror::Error;
@@ -98,7 +100,8 @@ impl<'s> DeclareDocument for Document<'s> {
 
 /// The type that a node defines.
 fn defined_type(node: &Node) -> Option<Type>
-    ensures { IfSome result (λ t. (node.now.role ≡ Role.Defined) × (node.now.item_kind ≡ ItemKind.Ty t)) }
+    ensures some { IfSome result (λ t. (node.now.role ≡ Role.Defined) × (node.now.item_kind ≡ ItemKind.Ty t)) }
+    ensures none { result ≡ None → (t : TypeKind) → node.now.role ≡ Role.Defined → node.now.item_kind ≡ ItemKind.Ty t → ⊥ }
 {
     match node.item_kind() {
         ItemKind::Ty(ty) => match node.kind() {
@@ -111,7 +114,8 @@ fn defined_type(node: &Node) -> Option<Type>
 
 /// The world that a definition of this name has in a graph.
 fn defined_world(graph: &CompositionGraph, name: &str) -> Option<WorldId>
-    ensures { IfSome result (IsDefined graph.now name.now) }
+    ensures some { IfSome result (IsDefined graph.now name.now) }
+    ensures none { result ≡ None → (w : WorldId) → IsDefined graph.now name.now w → ⊥ }
 {
     graph.see_sound();
     let node = graph.get_export(name)?;
@@ -130,7 +134,8 @@ pub fn world_in(
     declares: Declares,
     name: &str,
 ) -> Result<WorldId, DeclaredWorldError>
-    ensures { IfOk result (IsDefined graph.now name.now) }
+    ensures defined { IfOk result (IsDefined graph.now name.now) }
+    ensures refused { IfErr result (IsNotGiven graph.now declares name.now) }
 {
     match declares {
         Declares::Nothing => Err(DeclaredWorldError::NotDeclared),
