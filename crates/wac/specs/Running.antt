@@ -28,6 +28,7 @@ use Rattle.wac_manifest.specs.Views.{composing_view, key_view, plugging_view}
 use Rattle.wac_texts.specs.Files.{Stored, Has, KeepsOthers}
 use Rattle.wac_texts.specs.Plugs.{Plugs}
 use Rattle.wac.specs.Adding.{AddsComponents}
+use Rattle.wac.specs.declared.sources.Wanted.{Wanted}
 use Rattle.wac.specs.Loading.{IsTextOf}
 
 -- ---- outputs
@@ -71,6 +72,10 @@ pub record Puts (define : Bool) (path : Option Name) (source : List ℕ) (old ne
   pub kept : Keeps path output.bytes.items before.files after.files
   pub line : Appends before.printed after.printed (line_of path output)
 
+-- so is one that is wanted so
+abbrev pub PutsWanted : Wanted → (source : List ℕ) → (old new : Held) → (before after : Outside) → Type 0
+PutsWanted wanted source old new before after = Puts wanted.define (option_map (λ p. p.now) wanted.path) source old new before after
+
 abbrev pub path_of : Source → Option Name
 path_of s = option_map string_bytes s.out
 
@@ -87,10 +92,10 @@ PutsSources define (s ∷ ss) old new before after =
 
 -- ---- texts
 
--- the text is that of the file, or for `-` all that the input had
+-- the text is that of the file, and the input is left, or for `-` it is all that the input had
 abbrev pub IsTextAt : (had left : Option (List ℕ)) → Option Stored → Name → List ℕ → Type 0
 IsTextAt had left files path source =
-    ((path ≡ codes "-") × ToEnd had left source) ⊎ ((path ≢ codes "-") × Has files path (Some source))
+    ((path ≡ codes "-") × ToEnd had left source) ⊎ ((path ≢ codes "-") × Has files path (Some source) × (left ≡ had))
 
 -- ---- runs
 

@@ -3,7 +3,7 @@
 ghost use Rattle.std.specs.Prelude.{◌≡◌, Some, None, IfOk, OnOk, OnErr, option_map, string_bytes};
 ghost use Rattle.std.specs.Io.KnownBytes.{Appends};
 ghost use Rattle.wac_streams.specs.Calls.{FailedOnce};
-ghost use Rattle.wac.specs.Running.{Composes, Keeps, Puts, PutsSources, head_of, line_of, outside};
+ghost use Rattle.wac.specs.Running.{Composes, Keeps, PutsSources, PutsWanted, head_of, line_of, outside};
 
 use crate::components::load_text;
 use crate::documents::NameDocument;
@@ -124,7 +124,7 @@ pub(crate) fn put_composed<F: Files, W: ByteSink>(
     out: &mut W,
     wanted: Wanted<'_>,
 ) -> Result<(), Stop>
-    ensures { OnOk result (Puts wanted.entry.define (option_map (λ p. p.now) wanted.entry.path) source.now workspace.old workspace.new
+    ensures { OnOk result (PutsWanted wanted.entry source.now workspace.old workspace.new
         (outside (F.stored files.old) (W.contents out.old)) (outside (F.stored files.new) (W.contents out.new))) }
 {
     let output = composed(source, alloc, workspace, wanted.define)?;

@@ -13,6 +13,10 @@ use Rattle.wac_parser_resolve.specs.declared.packages.PackageRef.{PackageRef}
 use Rattle.wac_texts.specs.declared.declared.Declares.{Declares}
 use Rattle.wac_texts.specs.declared.declared.DeclaredWorldError.{DeclaredWorldError}
 
+-- the node defines the type
+abbrev pub DefinesType : NodeData → TypeKind → Type 0
+DefinesType n t = (n.role ≡ Role.Defined) × (n.item_kind ≡ ItemKind.Ty t)
+
 -- the graph has a definition of the world under that name
 pub record IsDefined (g : Graph) (name : Name) (world : WorldId) : Type 0 where
   pub node : ℕ

@@ -1,12 +1,11 @@
 //! Worlds that documents declare.
 
-ghost use Rattle.std.specs.Prelude.{◌≡◌, IfOk, IfErr, IfSome, None};
+ghost use Rattle.std.specs.Prelude.{◌≡◌, IfOk, IfErr, IfSome, OnOk, None};
 ghost use Rattle.wac_types_base.specs.declared.ids.WorldId.{WorldId};
-ghost use Rattle.wac_types_base.specs.declared.item.ItemKind.{ItemKind};
 ghost use Rattle.wac_types_base.specs.declared.item.«Type».{«Type» as TypeKind};
-ghost use Rattle.wac_graph_core.specs.Nodes.{Role};
 ghost use Rattle.wac_parser_resolve.specs.Resolved.{graph_of};
-ghost use Rattle.wac_texts.specs.Worlds.{IsDefined, IsDeclared, IsNotGiven};
+ghost use Rattle.wac_texts.specs.declared.declared.Declares.{Declares};
+ghost use Rattle.wac_texts.specs.Worlds.{DefinesType, IsDefined, IsDeclared, IsNotGiven};
 
 use std::alloc::{AllocError, Global};
 use thiserror::Error;
@@ -100,8 +99,8 @@ impl<'s> DeclareDocument for Document<'s> {
 
 /// The type that a node defines.
 fn defined_type(node: &Node) -> Option<Type>
-    ensures some { IfSome result (λ t. (node.now.role ≡ Role.Defined) × (node.now.item_kind ≡ ItemKind.Ty t)) }
-    ensures none { result ≡ None → (t : TypeKind) → node.now.role ≡ Role.Defined → node.now.item_kind ≡ ItemKind.Ty t → ⊥ }
+    ensures some { IfSome result (DefinesType node.now) }
+    ensures none { result ≡ None → (t : TypeKind) → DefinesType node.now t → ⊥ }
 {
     match node.item_kind() {
         ItemKind::Ty(ty) => match node.kind() {
@@ -135,6 +134,7 @@ pub fn world_in(
     name: &str,
 ) -> Result<WorldId, DeclaredWorldError>
     ensures defined { IfOk result (IsDefined graph.now name.now) }
+    ensures declared { OnOk result (declares ≡ Declares.World) }
     ensures refused { IfErr result (IsNotGiven graph.now declares name.now) }
 {
     match declares {
